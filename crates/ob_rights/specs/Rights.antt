@@ -1,0 +1,18 @@
+-- Access masks as sets of bits.
+use Rattle.std.specs.Prelude.{ℕ, Bool, ◌==◌, bit_and, IsBitSet}
+use Rattle.ob_rights.specs.declared.kind.Kind.{Kind}
+use Rattle.ob_rights.specs.declared.kind.Kind.TheVariants.{Event, Mutex, Semaphore}
+
+-- each bit of the one mask is a bit of the other
+abbrev pub IsWithin : ℕ → ℕ → Type 0
+IsWithin asked held = (bit : ℕ) → IsBitSet asked bit → IsBitSet held bit
+
+-- the same, as a test
+abbrev pub within : ℕ → ℕ → Bool
+within asked held = bit_and held asked == asked
+
+-- the rights of each kind: DELETE, READ_CONTROL, WRITE_DAC, WRITE_OWNER, SYNCHRONIZE, and the kind's own two low bits
+abbrev pub all_access : Kind → ℕ
+all_access Event = 0x1F0003
+all_access Mutex = 0x1F0001
+all_access Semaphore = 0x1F0003
