@@ -1,6 +1,8 @@
 ghost use Rattle.std.specs.Prelude.{◌≡◌};
 ghost use Rattle.ob_rights.specs.Fault.{code_of};
+ghost use Rattle.ob_rights.specs.declared.fault.Fault.TheVariants.{Memory};
 
+use std::alloc::{AllocError, AllocFailed};
 use thiserror::Error;
 
 /// Why a call is refused. A refused call changes nothing, unless the call says otherwise.
@@ -43,6 +45,22 @@ pub enum Fault {
     /// `ERROR_NOT_ENOUGH_MEMORY` (8): memory ran out.
     #[error("memory ran out")]
     Memory,
+}
+
+impl From<AllocError> for Fault {
+    ghost from_gives = { λ _ fault. fault ≡ Memory };
+
+    fn from(_: AllocError) -> Fault {
+        Fault::Memory
+    }
+}
+
+impl<T: Drop> From<AllocFailed<T>> for Fault {
+    ghost from_gives = { λ _ fault. fault ≡ Memory };
+
+    fn from(_: AllocFailed<T>) -> Fault {
+        Fault::Memory
+    }
 }
 
 /// The Win32 number of a refusal.
