@@ -1,6 +1,7 @@
 -- Access masks as sets of bits.
 use Rattle.std.specs.Prelude.{ℕ, Bool, ◌==◌, bit_and, IsBitSet}
 use Rattle.ob_rights.specs.declared.kind.Kind.{Kind}
+use Rattle.ob_rights.specs.declared.rights.Rights.{Rights}
 use Rattle.ob_rights.specs.declared.kind.Kind.TheVariants.{Event, Mutex, Semaphore}
 
 -- each bit of the one mask is a bit of the other
@@ -12,7 +13,7 @@ abbrev pub within : ℕ → ℕ → Bool
 within asked held = bit_and held asked == asked
 
 -- the rights of each kind: DELETE, READ_CONTROL, WRITE_DAC, WRITE_OWNER, SYNCHRONIZE, and the kind's own two low bits
-abbrev pub all_access : Kind → ℕ
-all_access Event = 0x1F0003
-all_access Mutex = 0x1F0001
-all_access Semaphore = 0x1F0003
+abbrev pub all_access : Kind → Rights
+all_access Event = record { 0 = 0x1F0003 }
+all_access Mutex = record { 0 = 0x1F0001 }
+all_access Semaphore = record { 0 = 0x1F0003 }

@@ -66,7 +66,7 @@ pub fn within(asked: Rights, held: Rights) -> bool
 
 /// All rights that an object of a kind has: the kind's `ALL_ACCESS`.
 pub fn all_access(kind: Kind) -> Rights
-    ensures { result.0 ≡ all_access kind }
+    ensures { result ≡ all_access kind }
 {
     match kind {
         Kind::Event | Kind::Semaphore => Rights::EVENT_ALL_ACCESS,
