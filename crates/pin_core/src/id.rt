@@ -1,7 +1,7 @@
 /// The name of an object for its whole life: its slot, and the slot's generation when it was made.
 ///
 /// Two objects never have one Id: a slot that is given again has a higher generation.
-#[derive(Clone, Copy, Debug, PartialEq, Eq, Hash)]
+#[derive(Clone, Copy, Debug, PartialEq, Eq, Hash, Default)]
 pub struct Id {
     /// The slot's number, from 0.
     pub slot: u32,

@@ -1,0 +1,5 @@
+pub mod Counts
+pub mod Groups
+pub mod Moves
+pub mod Holding
+pub mod Schedules

@@ -1,0 +1,9 @@
+pub mod Shapes
+pub mod Words
+pub mod Descrs
+pub mod Reasons
+pub mod Holds
+pub mod Grouped
+pub mod Worlds
+pub mod Events
+pub mod Safety
