@@ -1,0 +1,84 @@
+-- The body of an object: when it is signaled for a thread, and what each call makes of it. A later kind adds a line to each.
+use Rattle.std.specs.Prelude.{ℕ, Bool, true, false, Result, Err}
+use Rattle.ob_rights.specs.declared.fault.Fault.{Fault}
+use Rattle.ob_rights.specs.declared.fault.Fault.TheVariants as fault
+use Rattle.ob_rights.specs.declared.kind.Kind.{Kind}
+use Rattle.ob_rights.specs.declared.kind.Kind.TheVariants as kind
+use Rattle.ob_body.specs.declared.body.Body.{Body}
+use Rattle.ob_body.specs.declared.body.Body.TheVariants.{Event, Mutex, Semaphore}
+use Rattle.ob_body.specs.Event as event
+use Rattle.ob_body.specs.Mutex as mutex
+use Rattle.ob_body.specs.Semaphore as semaphore
+
+abbrev pub kind_of : Body → Kind
+kind_of (Event e) = kind.Event
+kind_of (Mutex m) = kind.Mutex
+kind_of (Semaphore s) = kind.Semaphore
+
+-- whether a wait of the thread may take it
+abbrev pub is_signaled : ℕ → Body → Bool
+is_signaled thread (Event e) = e.set
+is_signaled thread (Mutex m) = mutex.is_signaled thread m
+is_signaled thread (Semaphore s) = semaphore.is_signaled s
+
+-- whether it is a mutex whose owner ended
+abbrev pub is_abandoned : Body → Bool
+is_abandoned (Event e) = false
+is_abandoned (Mutex m) = m.abandoned
+is_abandoned (Semaphore s) = false
+
+-- whether the thread may take it once more: not where it owns a mutex as often as the limit lets
+abbrev pub has_room : ℕ → ℕ → Body → Bool
+has_room limit thread (Event e) = true
+has_room limit thread (Mutex m) = mutex.has_room limit thread m
+has_room limit thread (Semaphore s) = true
+
+-- after a wait of the thread took it
+abbrev pub after_acquire : ℕ → Body → Body
+after_acquire thread (Event e) = Event (event.after_acquire e)
+after_acquire thread (Mutex m) = Mutex (mutex.after_acquire thread m)
+after_acquire thread (Semaphore s) = Semaphore (semaphore.after_acquire s)
+
+abbrev pub after_set : Body → Body
+after_set (Event e) = Event (event.after_set e)
+after_set (Mutex m) = Mutex m
+after_set (Semaphore s) = Semaphore s
+
+abbrev pub after_reset : Body → Body
+after_reset (Event e) = Event (event.after_reset e)
+after_reset (Mutex m) = Mutex m
+after_reset (Semaphore s) = Semaphore s
+
+-- the answer to a release of a semaphore by a count, and what it leaves
+abbrev pub post_answer : ℕ → Body → Result ℕ Fault
+post_answer count (Event e) = Err fault.Handle
+post_answer count (Mutex m) = Err fault.Handle
+post_answer count (Semaphore s) = semaphore.post_answer count s
+
+abbrev pub after_post : ℕ → Body → Body
+after_post count (Event e) = Event e
+after_post count (Mutex m) = Mutex m
+after_post count (Semaphore s) = Semaphore (semaphore.after_post count s)
+
+-- the answer to a thread's release of a mutex, and what it leaves
+abbrev pub unlock_answer : ℕ → Body → Result (Unit {0}) Fault
+unlock_answer thread (Event e) = Err fault.Handle
+unlock_answer thread (Mutex m) = mutex.unlock_answer thread m
+unlock_answer thread (Semaphore s) = Err fault.Handle
+
+abbrev pub after_unlock : ℕ → Body → Body
+after_unlock thread (Event e) = Event e
+after_unlock thread (Mutex m) = Mutex (mutex.after_unlock thread m)
+after_unlock thread (Semaphore s) = Semaphore s
+
+-- after the thread ended
+abbrev pub after_abandon : ℕ → Body → Body
+after_abandon thread (Event e) = Event e
+after_abandon thread (Mutex m) = Mutex (mutex.after_abandon thread m)
+after_abandon thread (Semaphore s) = Semaphore s
+
+-- after its last handle and its last wait are gone
+abbrev pub after_clear_owner : Body → Body
+after_clear_owner (Event e) = Event e
+after_clear_owner (Mutex m) = Mutex (mutex.after_clear_owner m)
+after_clear_owner (Semaphore s) = Semaphore s

@@ -1,0 +1,6 @@
+pub mod Event
+pub mod MutexState
+pub mod Mutex
+pub mod SemaphoreState
+pub mod Semaphore
+pub mod Body

@@ -1,0 +1,192 @@
+ghost use Rattle.std.specs.Prelude.{◌≡◌, ◌<◌, ◌≤◌, true};
+ghost use Rattle.ob_body.specs.Body as spec;
+ghost use Rattle.ob_body.specs.Mutex as mutex;
+
+use crate::event::Event;
+use crate::mutex::{Mutex, RECURSION_MAX};
+use crate::semaphore::{COUNT_MAX, Semaphore};
+use ob_rights::{Fault, Kind};
+
+/// What an object is now. Threads are numbered from 1.
+#[derive(Clone, Copy, Debug, PartialEq, Eq)]
+pub enum Body {
+    /// Set or not set.
+    Event(Event),
+    /// Owned by a thread or by none.
+    Mutex(Mutex),
+    /// A count up to a maximum.
+    Semaphore(Semaphore),
+}
+
+impl Body {
+    /// An event, reset by hand or not, set or not ([CreateEvent]).
+    ///
+    /// [CreateEvent]: https://learn.microsoft.com/windows/win32/api/synchapi/nf-synchapi-createeventa
+    pub fn new_event(manual: bool, set: bool) -> Body
+        ensures { result ≡ Body.Event (record { manual = manual; set = set }) }
+    {
+        Body::Event(Event { manual, set })
+    }
+
+    /// A mutex that the owner owns once, or that nobody owns ([CreateMutex]).
+    ///
+    /// [CreateMutex]: https://learn.microsoft.com/windows/win32/api/synchapi/nf-synchapi-createmutexa
+    pub fn new_mutex(owner: Option<u32>) -> Body
+        ensures { result ≡ Body.Mutex (mutex.opening owner) }
+    {
+        Body::Mutex(Mutex::new(owner))
+    }
+
+    /// A semaphore with a first count, from 0 to its maximum ([CreateSemaphore]).
+    ///
+    /// [CreateSemaphore]: https://learn.microsoft.com/windows/win32/api/winbase/nf-winbase-createsemaphorea
+    pub fn new_semaphore(initial: u32, max: u32) -> Body
+        requires some { 0 < max }
+        requires within { initial ≤ max }
+        requires countable { max ≤ COUNT_MAX }
+        ensures { result ≡ Body.Semaphore (record { count = initial; maximum = max }) }
+    {
+        Body::Semaphore(Semaphore::new(initial, max))
+    }
+
+    /// The object's kind.
+    pub fn kind(&self) -> Kind
+        ensures { result ≡ spec.kind_of self.now }
+    {
+        match self {
+            Body::Event(_) => Kind::Event,
+            Body::Mutex(_) => Kind::Mutex,
+            Body::Semaphore(_) => Kind::Semaphore,
+        }
+    }
+
+    /// Whether a wait of this thread is satisfied by it ([Wait Functions]): an event that is set, a
+    /// semaphore with a count above 0, a mutex that nobody or this thread owns.
+    ///
+    /// [Wait Functions]: https://learn.microsoft.com/windows/win32/sync/wait-functions
+    pub fn signaled_for(&self, thread: u32) -> bool
+        ensures { result ≡ spec.is_signaled thread self.now }
+    {
+        match self {
+            Body::Event(event) => event.set,
+            Body::Mutex(mutex) => mutex.signaled_for(thread),
+            Body::Semaphore(semaphore) => semaphore.is_signaled(),
+        }
+    }
+
+    /// Whether this thread may acquire it once more: false exactly for a mutex that the thread owns
+    /// `max_recursion` times or more (*profile*).
+    pub fn has_room(&self, thread: u32, max_recursion: u32) -> bool
+        ensures { result ≡ spec.has_room max_recursion thread self.now }
+    {
+        match self {
+            Body::Mutex(mutex) => mutex.has_room(thread, max_recursion),
+            Body::Event(_) | Body::Semaphore(_) => true,
+        }
+    }
+
+    /// What a satisfied wait of this thread does, and whether it was an abandoned mutex: an event that
+    /// isn't reset by hand is reset, a semaphore's count falls by 1, and the thread owns a mutex once
+    /// more, which is no longer abandoned.
+    pub fn acquire(&mut self, thread: u32) -> bool
+        requires signaled { spec.is_signaled thread self.old ≡ true }
+        requires room { spec.has_room RECURSION_MAX thread self.old ≡ true }
+        ensures was_abandoned { result ≡ spec.is_abandoned self.old }
+        ensures value { self.new ≡ spec.after_acquire thread self.old }
+    {
+        match self {
+            Body::Event(event) => {
+                event.acquire();
+                false
+            }
+            Body::Mutex(mutex) => mutex.acquire(thread),
+            Body::Semaphore(semaphore) => {
+                semaphore.acquire();
+                false
+            }
+        }
+    }
+
+    /// Sets an event ([SetEvent]).
+    ///
+    /// [SetEvent]: https://learn.microsoft.com/windows/win32/api/synchapi/nf-synchapi-setevent
+    pub fn set(&mut self)
+        requires event { spec.kind_of self.old ≡ Kind.Event }
+        ensures { self.new ≡ spec.after_set self.old }
+    {
+        match self {
+            Body::Event(event) => event.set(),
+            _ => unreachable!(),
+        }
+    }
+
+    /// Resets an event ([ResetEvent]).
+    ///
+    /// [ResetEvent]: https://learn.microsoft.com/windows/win32/api/synchapi/nf-synchapi-resetevent
+    pub fn reset(&mut self)
+        requires event { spec.kind_of self.old ≡ Kind.Event }
+        ensures { self.new ≡ spec.after_reset self.old }
+    {
+        match self {
+            Body::Event(event) => event.reset(),
+            _ => unreachable!(),
+        }
+    }
+
+    /// Raises a semaphore's count, and gives the count before ([ReleaseSemaphore]).
+    ///
+    /// [`Fault::Posts`] (298) where the count would pass the maximum; then nothing changes.
+    ///
+    /// [ReleaseSemaphore]: https://learn.microsoft.com/windows/win32/api/synchapi/nf-synchapi-releasesemaphore
+    pub fn post(&mut self, count: u32) -> Result<u32, Fault>
+        requires semaphore { spec.kind_of self.old ≡ Kind.Semaphore }
+        ensures answer { result ≡ spec.post_answer count self.old }
+        ensures value { self.new ≡ spec.after_post count self.old }
+    {
+        match self {
+            Body::Semaphore(semaphore) => semaphore.post(count),
+            _ => unreachable!(),
+        }
+    }
+
+    /// Releases a mutex once; after as many releases as acquisitions nobody owns it ([ReleaseMutex]).
+    ///
+    /// [`Fault::NotOwner`] (288) where the thread doesn't own it; then nothing changes.
+    ///
+    /// [ReleaseMutex]: https://learn.microsoft.com/windows/win32/api/synchapi/nf-synchapi-releasemutex
+    pub fn unlock(&mut self, thread: u32) -> Result<(), Fault>
+        requires mutex { spec.kind_of self.old ≡ Kind.Mutex }
+        ensures answer { result ≡ spec.unlock_answer thread self.old }
+        ensures value { self.new ≡ spec.after_unlock thread self.old }
+    {
+        match self {
+            Body::Mutex(mutex) => mutex.unlock(thread),
+            _ => unreachable!(),
+        }
+    }
+
+    /// Takes a mutex from a thread that ended: where the thread owns it, nobody does, and it is abandoned
+    /// ([Mutex Objects]). Another thread's mutex, and one that nobody owns, stay as they are.
+    ///
+    /// [Mutex Objects]: https://learn.microsoft.com/windows/win32/sync/mutex-objects
+    pub fn abandon(&mut self, thread: u32)
+        requires mutex { spec.kind_of self.old ≡ Kind.Mutex }
+        ensures { self.new ≡ spec.after_abandon thread self.old }
+    {
+        match self {
+            Body::Mutex(mutex) => mutex.abandon(thread),
+            _ => unreachable!(),
+        }
+    }
+
+    /// Takes a mutex from its owner without abandoning it, once no handle and no wait names it (*profile*).
+    pub fn clear_owner(&mut self)
+        requires mutex { spec.kind_of self.old ≡ Kind.Mutex }
+        ensures { self.new ≡ spec.after_clear_owner self.old }
+    {
+        match self {
+            Body::Mutex(mutex) => mutex.clear_owner(),
+            _ => unreachable!(),
+        }
+    }
+}

@@ -1,0 +1,17 @@
+//! What an event, a mutex and a semaphore are to a thread that waits: when a body is signaled, and what a wait takes.
+//!
+//! A [`Body`] is the part of an object that calls change. Each kind stands in a module of its own, and
+//! [`Body`] is no more than the choice among them. No call takes memory.
+#![tactic(auto)]
+
+mod body;
+mod event;
+mod mutex;
+mod semaphore;
+#[cfg(test)]
+mod tests;
+
+pub use body::Body;
+pub use event::Event;
+pub use mutex::{Mutex, RECURSION_MAX};
+pub use semaphore::{COUNT_MAX, Semaphore};

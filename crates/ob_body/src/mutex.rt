@@ -1,0 +1,120 @@
+ghost use Rattle.std.specs.Prelude.{◌≡◌, ◌<◌, true};
+ghost use Rattle.ob_body.specs.Mutex as spec;
+
+use ob_rights::Fault;
+use std::marker::Model;
+
+/// The greatest number of times that a thread may own a mutex at once (*profile*; Windows counts in a LONG).
+pub const RECURSION_MAX: u32 = 2_147_483_647;
+
+/// The body of a mutex ([Mutex Objects]).
+///
+/// [Mutex Objects]: https://learn.microsoft.com/windows/win32/sync/mutex-objects
+#[derive(Clone, Copy, Debug, PartialEq, Eq)]
+pub struct Mutex {
+    owner: Option<u32>,
+    recursion: u32,
+    abandoned: bool,
+}
+
+impl Model for Mutex {
+    ghost use Rattle.ob_body.specs.MutexState.{MutexState, IsPossible};
+
+    ghost Value = { MutexState };
+
+    ghost view = { λ m. record { owner = m.owner; recursion = m.recursion; abandoned = m.abandoned } };
+
+    ghost invariant = { λ m. IsPossible m.owner m.recursion };
+
+    ghost inverse = { λ m. record { owner = m.owner; recursion = m.recursion; abandoned = m.abandoned } };
+}
+
+impl Mutex {
+    /// A mutex owned once by a thread, or by none.
+    pub(crate) fn new(owner: Option<u32>) -> Mutex
+        ensures { result ≡ spec.opening owner }
+    {
+        Mutex {
+            owner,
+            recursion: if owner.is_some() { 1 } else { 0 },
+            abandoned: false,
+        }
+    }
+
+    /// Whether no thread owns it, or this one does.
+    pub(crate) fn signaled_for(&self, thread: u32) -> bool
+        ensures { result ≡ spec.is_signaled thread self.now }
+    {
+        match self.owner {
+            Some(owner) => owner == thread,
+            None => true,
+        }
+    }
+
+    /// Whether the thread may own it once more, where it may own it `max_recursion` times.
+    pub(crate) fn has_room(&self, thread: u32, max_recursion: u32) -> bool
+        ensures { result ≡ spec.has_room max_recursion thread self.now }
+    {
+        match self.owner {
+            Some(owner) => owner != thread || self.recursion < max_recursion,
+            None => true,
+        }
+    }
+
+    /// Owned by the thread once more; whether it was abandoned.
+    pub(crate) fn acquire(&mut self, thread: u32) -> bool
+        requires room { spec.has_room RECURSION_MAX thread self.old ≡ true }
+        ensures was_abandoned { result ≡ self.old.abandoned }
+        ensures value { self.new ≡ spec.after_acquire thread self.old }
+    {
+        let was_abandoned = self.abandoned;
+        match self.owner {
+            Some(owner) => {
+                if owner == thread {
+                    self.recursion += 1;
+                    self.abandoned = false;
+                }
+            }
+            None => {
+                self.owner = Some(thread);
+                self.recursion = 1;
+                self.abandoned = false;
+            }
+        }
+        was_abandoned
+    }
+
+    /// Owned by the thread once less.
+    pub(crate) fn unlock(&mut self, thread: u32) -> Result<(), Fault>
+        ensures answer { result ≡ spec.unlock_answer thread self.old }
+        ensures value { self.new ≡ spec.after_unlock thread self.old }
+    {
+        if self.owner != Some(thread) {
+            return Err(Fault::NotOwner);
+        }
+        self.recursion -= 1;
+        if self.recursion == 0 {
+            self.owner = None;
+        }
+        Ok(())
+    }
+
+    /// Without owner and abandoned, where the thread owns it.
+    pub(crate) fn abandon(&mut self, thread: u32)
+        ensures { self.new ≡ spec.after_abandon thread self.old }
+    {
+        if self.owner == Some(thread) {
+            self.owner = None;
+            self.recursion = 0;
+            self.abandoned = true;
+        }
+    }
+
+    /// Without owner.
+    pub(crate) fn clear_owner(&mut self)
+        ensures { self.new ≡ spec.after_clear_owner self.old }
+    {
+        self.owner = None;
+        self.recursion = 0;
+    }
+}
