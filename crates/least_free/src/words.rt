@@ -1,0 +1,90 @@
+// Bits of one word, and of a row of words.
+ghost use Rattle.std.specs.Prelude.{◌≡◌, ◌≢◌, ℕ, ◌+◌, ◌*◌, ◌/◌, ◌%◌, ◌<◌, ◌≤◌, length, slice_index, true, false, [], ◌∷◌, ◌++◌, OnOk, OnErr};
+ghost use Rattle.std.specs.Int.{bit_at};
+ghost use Rattle.least_free.specs.Bits.{bit};
+
+use std::alloc::AllocError;
+
+pub(crate) fn lowest(word: u64) -> usize
+    requires { 0 < word }
+    ensures within { result < 64 }
+    ensures set { bit_at word result ≡ 1 }
+    ensures least { (i : ℕ) → i < result → bit_at word i ≡ 0 }
+{
+    word.trailing_zeros() as usize
+}
+
+pub(crate) fn with_bit(word: u64, k: usize) -> u64
+    requires { k < 64 }
+    ensures here { bit_at result k ≡ 1 }
+    ensures others { (i : ℕ) → i ≢ k → bit_at result i ≡ bit_at word i }
+{
+    word | 1 << k
+}
+
+pub(crate) fn without_bit(word: u64, k: usize) -> u64
+    requires { k < 64 }
+    ensures here { bit_at result k ≡ 0 }
+    ensures others { (i : ℕ) → i ≢ k → bit_at result i ≡ bit_at word i }
+{
+    word & !(1 << k)
+}
+
+/// The lowest bit of word `w`, by its place in the row.
+pub(crate) fn lowest_in(words: &Vec<u64>, w: usize) -> usize
+    requires w_in_range { w < length words.now.items }
+    requires fits { length words.now.items ≤ 1024 }
+    requires some { 0 < slice_index words.now.items w }
+    ensures within { result / 64 ≡ w }
+    ensures set { bit words.now.items result ≡ 1 }
+    ensures least { (k : ℕ) → 64 * w ≤ k → k < result → bit words.now.items k ≡ 0 }
+{
+    64 * w + lowest(words[w])
+}
+
+/// Sets bit `n` of the row.
+pub(crate) fn set(words: &mut Vec<u64>, n: usize)
+    requires { n / 64 < length words.old.items }
+    ensures here { bit words.new.items n ≡ 1 }
+    ensures others { (k : ℕ) → k ≢ n → bit words.new.items k ≡ bit words.old.items k }
+    ensures len { length words.new.items ≡ length words.old.items }
+    ensures words { (w : ℕ) → w ≢ n / 64 → slice_index words.new.items w ≡ slice_index words.old.items w }
+    ensures some { 0 < slice_index words.new.items (n / 64) }
+{
+    words[n / 64] = with_bit(words[n / 64], n % 64);
+}
+
+/// Clears bit `n` of the row, and tells whether its word has no bit then.
+pub(crate) fn clear(words: &mut Vec<u64>, n: usize) -> bool
+    requires { n / 64 < length words.old.items }
+    ensures here { bit words.new.items n ≡ 0 }
+    ensures others { (k : ℕ) → k ≢ n → bit words.new.items k ≡ bit words.old.items k }
+    ensures len { length words.new.items ≡ length words.old.items }
+    ensures words { (w : ℕ) → w ≢ n / 64 → slice_index words.new.items w ≡ slice_index words.old.items w }
+    ensures empty { result ≡ true → slice_index words.new.items (n / 64) ≡ 0 }
+    ensures some { result ≡ false → 0 < slice_index words.new.items (n / 64) }
+{
+    words[n / 64] = without_bit(words[n / 64], n % 64);
+    words[n / 64] == 0
+}
+
+#[tactic(auto, using(crate::proofs::RowLemmas::pushed_none))]
+/// Adds an empty word to a row, and where the row above has no bit for it, a word there too.
+pub(crate) fn add_word(upper: &mut Vec<u64>, lower: &mut Vec<u64>) -> Result<(), AllocError>
+    requires upper_fits { length upper.old.items ≤ 16 }
+    requires lower_fits { length lower.old.items < 1024 }
+    requires room { length lower.old.items ≤ 64 * length upper.old.items }
+    ensures ok { OnOk result (lower.new.items ≡ lower.old.items ++ 0 ∷ []) }
+    ensures err { OnErr result (lower.new.items ≡ lower.old.items) }
+    ensures upper_words { (w : ℕ) → slice_index upper.new.items w ≡ slice_index upper.old.items w }
+    ensures upper_few { length upper.new.items ≤ 16 }
+    ensures room { length lower.new.items ≤ 64 * length upper.new.items }
+{
+    if lower.len() < 64 * upper.len() {
+        lower.push(0)?;
+        return Ok(());
+    }
+    upper.push(0)?;
+    lower.push(0)?;
+    Ok(())
+}
