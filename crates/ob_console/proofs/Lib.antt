@@ -1,0 +1,10 @@
+pub mod Cuts
+pub mod Fieldless
+pub mod Digits
+pub mod Texts
+pub mod Written
+pub mod Lines
+pub mod Going
+pub mod Advancing
+pub mod Feeding
+pub mod Reading

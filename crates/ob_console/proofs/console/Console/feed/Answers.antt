@@ -1,0 +1,34 @@
+use Rattle.std.proofs.Common.{ℕ, List, [], ◌++◌, refl, subst, sym, arith}
+use Rattle.ob_console.specs.Printed.{line_end}
+use Rattle.ob_console.specs.Sessions.{ConsoleState, Advances, IsFed}
+use Rattle.ob_console.proofs.Advancing.{part_advances}
+use Rattle.ob_console.proofs.Feeding.{fed_line, fed_rest, cut_short, rest_within, behind_shorter}
+use Rattle.ob_console.proofs.console.Console.feed.Goals as goal
+
+pub returns-in-Err-clause-err : goal.returns-in-Err-clause-err
+returns-in-Err-clause-err g c =
+    let one = c.in-Err.ensures.advances in
+    cut_short c.args.self.now c.loop-end.self c.line.new.self c.args.block.now c.loop-end.rest.now (g.W.Sink.taken c.args.sink.now) (g.W.Sink.taken c.loop-end.sink) (g.W.Sink.taken c.line.new.sink) one.0
+    c.loop-end.invariant.fed c.in-Some.ensures.within
+    (subst (λ (end : List ℕ). Advances c.loop-end.self (end ++ line_end) one.0 c.line.new.self) c.in-Some.ensures.before one.1) one.2
+
+pub loop-end-preserved : goal.loop-end-preserved
+loop-end-preserved g c =
+    let one = c.in-Ok.ensures.advances in
+    record {
+      fed = subst (λ (rest : List ℕ). IsFed c.args.self.now c.line.new.self c.args.block.now rest (g.W.Sink.taken c.args.sink.now) (g.W.Sink.taken c.line.new.sink)) (sym c.in-Some.ensures.behind)
+          (fed_line c.args.self.now c.loop-end.self c.line.new.self c.args.block.now c.loop-end.rest.now (g.W.Sink.taken c.args.sink.now) (g.W.Sink.taken c.loop-end.sink) (g.W.Sink.taken c.line.new.sink) one.0
+          c.loop-end.invariant.fed c.in-Some.ensures.within
+          (subst (λ (end : List ℕ). Advances c.loop-end.self (end ++ line_end) one.0 c.line.new.self) c.in-Some.ensures.before one.1) one.2);
+      lines = rw c.in-Some.ensures.behind (omega (arith, c.loop-end.invariant.lines, c.in-Ok.ensures.lines, behind_shorter c.loop-end.rest.now c.in-Some.ensures.within));
+      calls = omega (arith, c.loop-end.invariant.calls, c.in-Ok.ensures.calls);
+      faults = omega (arith, c.loop-end.invariant.faults, c.in-Ok.ensures.faults);
+    }
+
+pub returns-clause-ok : goal.returns-clause-ok
+returns-clause-ok g c =
+    let now : ConsoleState = record { state = c.self.inside.manager; pending = c.self.inside.output; held = c.self.inside.held; lines = c.self.inside.lines } in
+    let new : ConsoleState = record now { held = c.extend.new.self } in
+    fed_rest c.args.self.now now new c.args.block.now c.loop-end.rest.now (g.W.Sink.taken c.args.sink.now) (g.W.Sink.taken c.loop-end.sink)
+    (subst (λ (console : ConsoleState). IsFed c.args.self.now console c.args.block.now c.loop-end.rest.now (g.W.Sink.taken c.args.sink.now) (g.W.Sink.taken c.loop-end.sink)) (sym c.self.view_is) c.loop-end.invariant.fed)
+    (part_advances now new c.loop-end.rest.now (rest_within c.loop-end.rest.now c.in_default.ensures.none) refl refl c.extend.ensures) refl

@@ -1,0 +1,10 @@
+pub mod Words
+pub mod WordsLeft
+pub mod Grammar
+pub mod Accounts
+pub mod Printed
+pub mod Runs
+pub mod Devices
+pub mod Pending
+pub mod Held
+pub mod Sessions

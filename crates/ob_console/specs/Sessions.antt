@@ -1,0 +1,56 @@
+-- A console between two blocks of its input.
+use Rattle.std.specs.Prelude.{◌≡◌, ℕ, ◌+◌, List, ◌++◌, Option, Result, length, MatchResult}
+use Rattle.std.specs.List.{concat}
+use Rattle.ob_manager.specs.declared.limits.Limits.{Limits}
+use Rattle.ob_manager.specs.State.{State, opening}
+use Rattle.ob_console.specs.declared.output.NotWritten.{NotWritten}
+use Rattle.ob_console.specs.Pending.{Pending}
+use Rattle.ob_console.specs.Runs.{Run, Splits, AnswersAll}
+use Rattle.ob_console.specs.Held.{capped}
+use Rattle.ob_console.specs.Devices.{Writes, Begins}
+
+pub record ConsoleState : Type 0 where
+  pub state : State  -- the manager's
+  pub pending : Pending  -- answers that are not yet written
+  pub held : Option (List ℕ)  -- the beginning of the next line
+  pub lines : ℕ  -- how many lines have ended
+
+-- the console has answered the complete lines of this input with this output, and holds what came of the next
+pub record Session (limits : Limits) (input output : List ℕ) (console : ConsoleState) : Type 0 where
+  pub lines : List (List ℕ)
+  pub rest : List ℕ
+  pub outputs : List (List ℕ)
+  pub splits : Splits input lines rest
+  pub run : Run (opening limits) 1 lines outputs console.state
+  pub whole : output ≡ concat outputs
+  pub counted : console.lines ≡ length lines
+  pub held : console.held ≡ capped rest
+
+-- from the one console to the other these bytes came, and these were printed
+abbrev pub Advances : ConsoleState → List ℕ → List ℕ → ConsoleState → Type 0
+Advances old bytes printed new = (limits : Limits) (input output : List ℕ) → Session limits input output old → Session limits (input ++ bytes) (output ++ printed) new
+
+-- What was to be written is written or pending, or its beginning is written where the sink failed.
+abbrev pub IsWritten : Result (Unit {0}) NotWritten → List ℕ → List ℕ → List ℕ → List ℕ → Type 0
+IsWritten result before after whole pending = MatchResult result (λ _. Writes before after whole pending) (λ _. Begins before after whole)
+
+-- the console took the front of a block, up to this rest, and what it printed is written or pending
+pub record IsFed (old new : ConsoleState) (block rest taken_before taken : List ℕ) : Type 0 where
+  pub front : List ℕ
+  pub printed : List ℕ
+  pub whole : front ++ rest ≡ block
+  pub advances : Advances old front printed new
+  pub written : Writes taken_before taken (old.pending.bytes ++ printed) new.pending.bytes
+
+-- the sink failed while the console took a block: the beginning of what it printed for the front of the block is written
+pub record IsCutShort (old new : ConsoleState) (block taken_before taken : List ℕ) : Type 0 where
+  pub front : List ℕ
+  pub rest : List ℕ
+  pub printed : List ℕ
+  pub whole : front ++ rest ≡ block
+  pub advances : Advances old front printed new
+  pub written : Begins taken_before taken (old.pending.bytes ++ printed)
+
+-- where the input ends here, these bytes are what is still printed
+abbrev pub Finishes : ConsoleState → List ℕ → Type 0
+Finishes console printed = (limits : Limits) (input output : List ℕ) → Session limits input output console → AnswersAll limits input (output ++ printed)

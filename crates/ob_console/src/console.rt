@@ -1,0 +1,155 @@
+ghost use Rattle.std.specs.Prelude.{◌≡◌, ◌+◌, ◌<◌, ◌≤◌, ◌^◌, ◌++◌, ◌⊎◌, ◌≢◌, All, [], None, Some, List, ℕ, IfOk, OnOk, OnErr, length};
+ghost use Rattle.ob_manager.specs.State.{opening};
+ghost use Rattle.ob_console.specs.Runs.{Prints, IsWithin, AnswersAll};
+ghost use Rattle.ob_console.specs.Printed.{line_end};
+ghost use Rattle.ob_console.specs.Sessions.{Advances, IsWritten, Session, Finishes, IsFed, IsCutShort};
+
+use crate::act::Act;
+use crate::answer::{answer_to, bad_line};
+use crate::device::Sink;
+use crate::held::HeldLine;
+use crate::output::{NotWritten, Output};
+use crate::words::cut;
+use ob_manager::{Limits, Manager};
+use ob_rights::Fault;
+use std::alloc::Global;
+use std::marker::Model;
+
+/// A manager, and what a script has of it so far.
+#[derive(Drop)]
+pub struct Console {
+    manager: Manager,
+    output: Output,
+    held: HeldLine,
+    lines: u128,
+}
+
+impl Model for Console {
+    ghost use Rattle.ob_console.specs.Sessions.{ConsoleState};
+
+    ghost Value = { ConsoleState };
+
+    ghost view = { λ console. record { state = console.manager; pending = console.output; held = console.held; lines = console.lines } };
+}
+
+impl Console {
+    /// No line has come. Takes all the memory that it will need, other than that of the manager's calls.
+    pub fn new(alloc: Global, limits: Limits, writes: u64) -> Result<Console, Fault>
+        ensures { IfOk result (λ console. console ≡ record { state = opening limits; pending = record { bytes = []; writes_left = writes }; held = Some []; lines = 0 }) }
+    {
+        let manager = Manager::new(alloc, limits)?;
+        let output = Output::new(alloc, writes)?;
+        Ok(Console {
+            manager,
+            output,
+            held: HeldLine::new(),
+            lines: 0,
+        })
+    }
+
+    /// Does what a line asks, and prints its answer.
+    fn answer<W: Sink>(&mut self, sink: &mut W, act: Act) -> Result<(), NotWritten>
+        requires { self.old.lines < 2 ^ 127 }
+        ensures prints { (printed : List ℕ) × Prints self.old.state (self.old.lines + 1) act printed self.new.state
+            × IsWritten result (W.taken sink.old) (W.taken sink.new) (self.old.pending.bytes ++ printed) self.new.pending.bytes }
+        ensures lines { self.new.lines ≡ self.old.lines + 1 }
+        ensures held { self.new.held ≡ self.old.held }
+        ensures calls { W.calls sink.new + self.new.pending.writes_left ≡ W.calls sink.old + self.old.pending.writes_left }
+        ensures faults { W.faults sink.old ≤ W.faults sink.new }
+        ensures cause { OnErr result ((W.faults sink.old < W.faults sink.new) ⊎ (self.new.pending.writes_left ≡ 0)) }
+    {
+        self.lines += 1;
+        let answer = match act {
+            Act::Nothing => return Ok(()),
+            Act::Bad => bad_line(self.lines),
+            Act::Ask(call) => answer_to(self.manager.apply(&call)),
+        };
+        self.output.put(sink, answer.as_slice())?;
+        Ok(())
+    }
+
+    /// A line ends with these bytes, which come before its line feed.
+    fn line<W: Sink>(&mut self, sink: &mut W, end: &[u8]) -> Result<(), NotWritten>
+        requires few { self.old.lines < 2 ^ 127 }
+        requires within { IsWithin end.now }
+        ensures advances { (printed : List ℕ) × Advances self.old (end.now ++ line_end) printed self.new
+            × IsWritten result (W.taken sink.old) (W.taken sink.new) (self.old.pending.bytes ++ printed) self.new.pending.bytes }
+        ensures lines { self.new.lines ≡ self.old.lines + 1 }
+        ensures calls { W.calls sink.new + self.new.pending.writes_left ≡ W.calls sink.old + self.old.pending.writes_left }
+        ensures faults { W.faults sink.old ≤ W.faults sink.new }
+        ensures cause { OnErr result ((W.faults sink.old < W.faults sink.new) ⊎ (self.new.pending.writes_left ≡ 0)) }
+    {
+        let act = self.held.take(end);
+        self.answer(sink, act)
+    }
+
+    #[tactic(auto, using(crate::proofs::Feeding::fed_nothing, crate::proofs::Feeding::before_within))]
+    /// A block of the input comes: answers each line that ends in it, and keeps what comes behind the last.
+    fn feed<W: Sink>(&mut self, sink: &mut W, block: &[u8]) -> Result<(), NotWritten>
+        requires { self.old.lines + length block.now < 2 ^ 127 }
+        ensures ok { OnOk result (IsFed self.old self.new block.now [] (W.taken sink.old) (W.taken sink.new)) }
+        ensures err { OnErr result (IsCutShort self.old self.new block.now (W.taken sink.old) (W.taken sink.new)) }
+        ensures lines { self.new.lines ≤ self.old.lines + length block.now }
+        ensures calls { W.calls sink.new + self.new.pending.writes_left ≡ W.calls sink.old + self.old.pending.writes_left }
+        ensures faults { W.faults sink.old ≤ W.faults sink.new }
+        ensures cause { OnErr result ((W.faults sink.old < W.faults sink.new) ⊎ (self.new.pending.writes_left ≡ 0)) }
+    {
+        let mut rest = block;
+        while let Some((end, behind)) = cut(b'\n', rest) {
+            match self.line(sink, end) {
+                Ok(()) => rest = behind,
+                Err(fault) => return Err(fault),
+            }
+        }
+        self.held.extend(rest);
+        Ok(())
+    }
+
+    /// A block of the input comes: answers each line that ends in it, and writes the answers.
+    pub fn take<W: Sink>(&mut self, sink: &mut W, block: &[u8]) -> Result<(), NotWritten>
+        requires { self.old.lines + length block.now < 2 ^ 127 }
+        ensures ok { OnOk result (IsFed self.old self.new block.now [] (W.taken sink.old) (W.taken sink.new)) }
+        ensures written { OnOk result (self.new.pending.bytes ≡ []) }
+        ensures err { OnErr result (IsCutShort self.old self.new block.now (W.taken sink.old) (W.taken sink.new)) }
+        ensures lines { self.new.lines ≤ self.old.lines + length block.now }
+        ensures calls { W.calls sink.new + self.new.pending.writes_left ≡ W.calls sink.old + self.old.pending.writes_left }
+        ensures faults { W.faults sink.old ≤ W.faults sink.new }
+        ensures cause { OnErr result ((W.faults sink.old < W.faults sink.new) ⊎ (self.new.pending.writes_left ≡ 0)) }
+    {
+        match self.feed(sink, block) {
+            Ok(()) => self.output.flush(sink),
+            Err(fault) => Err(fault),
+        }
+    }
+
+    /// Answers a last line without a line feed.
+    fn last_line<W: Sink>(&mut self, sink: &mut W) -> Result<(), NotWritten>
+        requires { self.old.lines < 2 ^ 127 }
+        ensures finishes { (printed : List ℕ) × Finishes self.old printed
+            × IsWritten result (W.taken sink.old) (W.taken sink.new) (self.old.pending.bytes ++ printed) self.new.pending.bytes }
+        ensures calls { W.calls sink.new + self.new.pending.writes_left ≡ W.calls sink.old + self.old.pending.writes_left }
+        ensures faults { W.faults sink.old ≤ W.faults sink.new }
+        ensures cause { OnErr result ((W.faults sink.old < W.faults sink.new) ⊎ (self.new.pending.writes_left ≡ 0)) }
+    {
+        if self.held.is_empty() {
+            return Ok(());
+        }
+        let act = self.held.act();
+        self.answer(sink, act)
+    }
+
+    /// The input ends: answers a last line without a line feed, and writes what is printed.
+    pub fn finish<W: Sink>(&mut self, sink: &mut W) -> Result<(), NotWritten>
+        requires { self.old.lines < 2 ^ 127 }
+        ensures finishes { (printed : List ℕ) × Finishes self.old printed
+            × IsWritten result (W.taken sink.old) (W.taken sink.new) (self.old.pending.bytes ++ printed) [] }
+        ensures calls { W.calls sink.new + self.new.pending.writes_left ≡ W.calls sink.old + self.old.pending.writes_left }
+        ensures faults { W.faults sink.old ≤ W.faults sink.new }
+        ensures cause { OnErr result ((W.faults sink.old < W.faults sink.new) ⊎ (self.new.pending.writes_left ≡ 0)) }
+    {
+        match self.last_line(sink) {
+            Ok(()) => self.output.flush(sink),
+            Err(fault) => Err(fault),
+        }
+    }
+}

@@ -1,0 +1,87 @@
+ghost use Rattle.std.specs.Prelude.{◌≡◌, ◌↔◌, [], Some, IsTrue};
+ghost use Rattle.ob_console.specs.Held.{act_of_held, more_held};
+
+use crate::act::Act;
+use crate::grammar::act_of;
+use arrayvec::ArrayVec;
+use std::marker::Model;
+
+/// The beginning of a line whose end has not come. A line that is too long for any act is not kept.
+#[derive(Drop)]
+pub struct HeldLine {
+    bytes: ArrayVec<u8, 4097>,
+    is_long: bool,
+}
+
+impl Model for HeldLine {
+    ghost use Rattle.std.specs.Prelude.{ℕ, List, Option};
+    ghost use Rattle.ob_console.specs.Held.{held_of};
+
+    ghost Value = { Option (List ℕ) };
+
+    ghost view = { λ line. held_of line.is_long line.bytes.items };
+}
+
+impl HeldLine {
+    /// Nothing has come.
+    pub fn new() -> HeldLine
+        ensures { result ≡ Some [] }
+    {
+        HeldLine {
+            bytes: ArrayVec::new(),
+            is_long: false,
+        }
+    }
+
+    /// Whether nothing has come.
+    pub fn is_empty(&self) -> bool
+        ensures { IsTrue result ↔ (self.now ≡ Some []) }
+    {
+        !self.is_long && self.bytes.is_empty()
+    }
+
+    /// More of the line.
+    pub fn extend(&mut self, part: &[u8])
+        ensures { self.new ≡ more_held self.old part.now }
+    {
+        if self.is_long {
+            return;
+        }
+        if self.bytes.try_extend_from_slice(part).is_err() {
+            self.is_long = true;
+        }
+    }
+
+    /// What the line is, if it ends here.
+    pub fn act(&self) -> Act
+        ensures { result ≡ act_of_held self.now }
+    {
+        if self.is_long {
+            return Act::Bad;
+        }
+        act_of(self.bytes.as_slice())
+    }
+
+    /// The next line.
+    pub fn clear(&mut self)
+        ensures { self.new ≡ Some [] }
+    {
+        self.bytes.clear();
+        self.is_long = false;
+    }
+
+    /// What the line is, which ends with these bytes; then the next line begins.
+    #[tactic(auto, using(crate::proofs::Texts::act_of_capped))]
+    pub fn take(&mut self, end: &[u8]) -> Act
+        ensures act { result ≡ act_of_held (more_held self.old end.now) }
+        ensures next { self.new ≡ Some [] }
+    {
+        if self.is_empty() {
+            return act_of(end);
+        }
+        self.extend(end);
+        let act = self.act();
+        self.clear();
+        act
+    }
+}

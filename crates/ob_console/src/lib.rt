@@ -1,0 +1,31 @@
+//! The console: reads a script, makes the calls of its lines, and prints their answers.
+//!
+//! [`run`] works over any [`Source`] and [`Sink`], whose bytes its contract names; [`Wired`] makes a reader or a writer
+//! of std one.
+//!
+//! ```text
+//! let mut source = Wired::new(rt.stdin());
+//! let mut sink = Wired::new(rt.stdout());
+//! run(rt.alloc(), Limits::default(), &mut source, &mut sink)
+//! ```
+#![tactic(auto)]
+
+mod account;
+mod act;
+mod answer;
+mod console;
+mod device;
+mod grammar;
+mod held;
+mod numbers;
+mod output;
+mod script;
+#[cfg(test)]
+mod tests;
+mod wired;
+mod words;
+
+pub use account::Account;
+pub use device::{Sink, Source, Trouble};
+pub use script::{CALLS_MOST, RunFault, run, run_bounded};
+pub use wired::Wired;

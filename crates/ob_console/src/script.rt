@@ -1,0 +1,93 @@
+ghost use Rattle.std.specs.Prelude.{◌≡◌, ◌+◌, ◌<◌, ◌≤◌, ◌++◌, ◌⊎◌, List, ℕ, IfOk, OnOk, IsErrOf, vec_len};
+ghost use Rattle.ob_console.specs.Runs.{IsEnded};
+
+use crate::console::Console;
+use crate::device::{Sink, Source, Trouble};
+use ob_manager::Limits;
+use std::alloc::{AllocError, Global};
+
+/// Why a run ended before the whole input was answered.
+#[derive(Clone, Copy, Debug, PartialEq, Eq)]
+pub enum RunFault {
+    /// Memory was wanting at the start; nothing was read or written.
+    Memory,
+    /// The source failed, or one read more than may be made was needed.
+    Read,
+    /// The sink failed, took no byte, or needed one write more than may be made.
+    Write,
+}
+
+/// How many bytes are read at once, at most.
+const BLOCK: usize = 65536;
+
+/// How many reads, and how many writes, [`run`] makes at most.
+pub const CALLS_MOST: u64 = 1_000_000_000;
+
+/// Runs a script: reads blocks to the end of the input, answers each line, and writes all answers to a block before it
+/// reads on. Takes memory only at its start, but for the manager's calls.
+pub fn run<R: Source, W: Sink>(
+    alloc: Global,
+    limits: Limits,
+    reader: &mut R,
+    writer: &mut W,
+) -> Result<(), RunFault>
+    ensures answers { (input output : List ℕ) × (R.given reader.new ≡ R.given reader.old ++ input) × (W.taken writer.new ≡ W.taken writer.old ++ output)
+        × IsEnded result limits input output }
+    ensures ended { OnOk result (R.HasEnded reader.new) }
+    ensures memory { IsErrOf result RunFault.Memory → (R.calls reader.new ≡ R.calls reader.old) × (W.calls writer.new ≡ W.calls writer.old) }
+    ensures read { IsErrOf result RunFault.Read → (R.faults reader.old < R.faults reader.new) ⊎ (R.calls reader.new ≡ R.calls reader.old + CALLS_MOST) }
+    ensures write { IsErrOf result RunFault.Write → (W.faults writer.old < W.faults writer.new) ⊎ (W.calls writer.new ≡ W.calls writer.old + CALLS_MOST) }
+    ensures reads { R.calls reader.new ≤ R.calls reader.old + CALLS_MOST }
+    ensures writes { W.calls writer.new ≤ W.calls writer.old + CALLS_MOST }
+{
+    run_bounded(alloc, limits, CALLS_MOST, CALLS_MOST, reader, writer)
+}
+
+/// [`run`], with at most so many reads and so many writes.
+pub fn run_bounded<R: Source, W: Sink>(
+    alloc: Global,
+    limits: Limits,
+    reads: u64,
+    writes: u64,
+    reader: &mut R,
+    writer: &mut W,
+) -> Result<(), RunFault>
+    ensures answers { (input output : List ℕ) × (R.given reader.new ≡ R.given reader.old ++ input) × (W.taken writer.new ≡ W.taken writer.old ++ output)
+        × IsEnded result limits input output }
+    ensures ended { OnOk result (R.HasEnded reader.new) }
+    ensures memory { IsErrOf result RunFault.Memory → (R.calls reader.new ≡ R.calls reader.old) × (W.calls writer.new ≡ W.calls writer.old) }
+    ensures read { IsErrOf result RunFault.Read → (R.faults reader.old < R.faults reader.new) ⊎ (R.calls reader.new ≡ R.calls reader.old + reads) }
+    ensures write { IsErrOf result RunFault.Write → (W.faults writer.old < W.faults writer.new) ⊎ (W.calls writer.new ≡ W.calls writer.old + writes) }
+    ensures reads { R.calls reader.new ≤ R.calls reader.old + reads }
+    ensures writes { W.calls writer.new ≤ W.calls writer.old + writes }
+{
+    let Ok(mut console) = Console::new(alloc, limits, writes) else {
+        return Err(RunFault::Memory);
+    };
+    let Ok(mut block) = zeros(alloc, BLOCK) else {
+        return Err(RunFault::Memory);
+    };
+    for i in 0..reads {
+        let _turn = i;
+        match reader.read(&mut block) {
+            Ok(0) => match console.finish(writer) {
+                Ok(()) => return Ok(()),
+                Err(_) => return Err(RunFault::Write),
+            },
+            Ok(count) => match console.take(writer, &block[..count]) {
+                Ok(()) => {}
+                Err(_) => return Err(RunFault::Write),
+            },
+            Err(Trouble::Interrupted) => {}
+            Err(Trouble::Failed) => return Err(RunFault::Read),
+        }
+    }
+    Err(RunFault::Read)
+}
+
+/// So many bytes, each 0.
+fn zeros(alloc: Global, count: usize) -> Result<Vec<u8>, AllocError>
+    ensures { IfOk result (λ bytes. vec_len bytes ≡ count) }
+{
+    vec![in alloc; 0u8; count]
+}

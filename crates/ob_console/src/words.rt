@@ -1,0 +1,71 @@
+ghost use Rattle.std.specs.Prelude.{◌≡◌, ◌<◌, [], ◌∷◌, length, IfSome, IfNone, IsSome, ◌↔◌, MatchOption};
+ghost use Rattle.std.specs.List.{after_first, before_first, position_or_len};
+ghost use Rattle.memchr.specs.Find.{is_byte};
+ghost use Rattle.ob_console.specs.Words.{words_of};
+
+use memchr::memchr;
+use std::marker::Model;
+
+/// The words of a text that are left: what stands between single spaces. A clause sees them as a list.
+#[derive(Drop)]
+pub struct Words<'a> {
+    rest: Option<&'a [u8]>,
+}
+
+impl<'a> Model for Words<'a> {
+    ghost use Rattle.std.specs.Prelude.{ℕ, List};
+    ghost use Rattle.ob_console.specs.WordsLeft.{words_left};
+
+    ghost Value = { List (List ℕ) };
+
+    ghost view = { λ words. words_left words.rest };
+}
+
+impl<'a> Words<'a> {
+    /// The words of a text.
+    pub fn of(text: &'a [u8]) -> Words<'a>
+        ensures { result ≡ words_of text.now }
+    {
+        Words { rest: Some(text) }
+    }
+
+    /// The next word.
+    pub fn next(&mut self) -> Option<&'a [u8]>
+        ensures { MatchOption result (self.old ≡ []) (λ word. self.old ≡ word.now ∷ self.new) }
+    {
+        let rest = self.rest?;
+        match cut(b' ', rest) {
+            Some((word, tail)) => {
+                self.rest = Some(tail);
+                Some(word)
+            }
+            None => {
+                self.rest = None;
+                Some(rest)
+            }
+        }
+    }
+
+    /// Some where no word is left.
+    pub fn end(self) -> Option<()>
+        ensures { IsSome result ↔ (self.entry ≡ []) }
+    {
+        match self.rest {
+            Some(_) => None,
+            None => Some(()),
+        }
+    }
+}
+
+/// What stands before and behind the first such byte.
+#[tactic(auto, using(crate::proofs::Cuts::first_place, crate::proofs::Cuts::no_place))]
+pub fn cut(byte: u8, text: &[u8]) -> Option<(&[u8], &[u8])>
+    ensures within { IfSome result (λ _. position_or_len (is_byte byte) text.now < length text.now) }
+    ensures before { IfSome result (λ parts. parts.0.now ≡ before_first (is_byte byte) text.now) }
+    ensures behind { IfSome result (λ parts. parts.1.now ≡ after_first (is_byte byte) text.now) }
+    ensures none { IfNone result (position_or_len (is_byte byte) text.now ≡ length text.now) }
+{
+    let at = memchr(byte, text)?;
+    let (before, rest) = text.split_at(at);
+    Some((before, &rest[1..]))
+}

@@ -1,0 +1,5 @@
+pub mod Places
+pub mod EntryCounts
+pub mod Heads
+pub mod Changes
+pub mod States
