@@ -75,6 +75,12 @@ pin-safe w r s e safe inside live room = record {
         let lt : pins w x < w.shape.max_pins = subst (λ (z : ℕ). pins w z < w.shape.max_pins) same room in omega arith
     room_more x false e = let c = count-with_hold (sits_at x) (next_copy w r s) w.holders in let zero : weight (s == x) ≡ 0 = ap weight e in let o = safe.room x in omega arith
 
+-- a release takes one triple: a count falls where it counts it
+pub release-count : (w : WorldState) (r : ℕ) (id : Id) → IsSafe w → 0 < copies w r id → (p : Hold → Bool)
+    → tally p (drop_first (is_hold (last_copy w r id)) w.holders) + weight (p (last_copy w r id)) ≡ tally p w.holders
+release-count w r id safe have p = count-drop p (is_hold (last_copy w r id)) (p (last_copy w r id)) w.holders (λ x e. ap p (same_of_hold (last_copy w r id) x e))
+    (let e = safe.numbered r id (copies w r id) in let f = there_once (copies w r id) have in omega arith)
+
 pub release-safe : (w : WorldState) (r : ℕ) (id : Id) → IsSafe w → 0 < copies w r id → IsSafe (after w (Release r id))
 release-safe w r id safe have = record {
   wide = safe.wide;
@@ -86,16 +92,10 @@ release-safe w r id safe have = record {
   below = safe.below;
 }
   where
-    there : 0 < times w (last_copy w r id)
-    there = let e = safe.numbered r id (copies w r id) in let f = there_once (copies w r id) have in omega arith
-
-    goes : (p : Hold → Bool) → tally p (drop_first (is_hold (last_copy w r id)) w.holders) + weight (p (last_copy w r id)) ≡ tally p w.holders
-    goes p = count-drop p (is_hold (last_copy w r id)) (p (last_copy w r id)) w.holders (λ x e. ap p (same_of_hold (last_copy w r id) x e)) there
-
     numbered_less : (q : ℕ) (i : Id) (k : ℕ) (b : Bool) → is_copy q i (last_copy w r id) ≡ b
         → tally (is_hold (hold_of q i k)) (drop_first (is_hold (last_copy w r id)) w.holders) ≡ weight (nat_lt 0 k && nat_le k (tally (is_copy q i) (drop_first (is_hold (last_copy w r id)) w.holders)))
     numbered_less q i k true e = let x = same_of_copy q i (last_copy w r id) e in
-        let c = goes (is_copy q i) in let h = goes (is_hold (hold_of q i k)) in
+        let c = release-count w r id safe have (is_copy q i) in let h = release-count w r id safe have (is_hold (hold_of q i k)) in
         let same : copies w r id ≡ copies w q i = (λ j. copies w (x.0 j) (x.1 j)) in
         let one : weight (is_copy q i (last_copy w r id)) ≡ 1 = ap weight e in
         let here : weight (is_hold (hold_of q i k) (last_copy w r id)) ≡ weight (copies w q i == k) = (λ j. weight (e j && (same j == k))) in
@@ -103,7 +103,7 @@ release-safe w r id safe have = record {
         let some_left : 0 < copies w q i = omega arith in
         one_less (copies w q i) k _ some_left (ap (λ (n : ℕ). tally (is_hold (hold_of q i k)) (drop_first (is_hold (last_copy w r id)) w.holders) + n) (sym here) ∙ (h ∙ safe.numbered q i k))
         ∙ ap (λ (n : ℕ). weight (nat_lt 0 k && nat_le k n)) fewer
-    numbered_less q i k false e = let c = goes (is_copy q i) in let h = goes (is_hold (hold_of q i k)) in
+    numbered_less q i k false e = let c = release-count w r id safe have (is_copy q i) in let h = release-count w r id safe have (is_hold (hold_of q i k)) in
         let zero : weight (is_copy q i (last_copy w r id)) ≡ 0 = ap weight e in
         let none : weight (is_hold (hold_of q i k) (last_copy w r id)) ≡ 0 = (λ j. weight (e j && (copies w r id == k))) in
         let still : tally (is_copy q i) (drop_first (is_hold (last_copy w r id)) w.holders) ≡ copies w q i = omega arith in

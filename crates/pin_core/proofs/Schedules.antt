@@ -12,6 +12,7 @@ use Rattle.pin_core.specs.declared.holders.Hold.{Hold}
 use Rattle.pin_core.specs.declared.event.Event.{Event}
 use Rattle.pin_core.specs.declared.event.Event.TheVariants.{Load, Pin, Release, ReadDescr, StoreDescr, Publish, CloseSlot, Reclaim}
 use Rattle.pin_core.specs.declared.event.Reason.{Reason}
+use Rattle.pin_core.specs.Descrs.{same_descr}
 use Rattle.pin_core.specs.Holds.{tally, weight, sits_at, is_copy, is_hold}
 use Rattle.pin_core.specs.Worlds.{WorldState, opening_slot, opening_of, at, pins, copies, times, word_at, given_as}
 use Rattle.pin_core.specs.Events.{is_phase, same_word, check, refusal, after, after_all, IsSchedule, IsFirstRefused}
@@ -118,6 +119,15 @@ word_is_itself x = grind (arith, common_steps)
 
 pub may_pin : (w : WorldState) (r s : ℕ) → s < w.shape.slots → (at w s).phase ≡ Live → pins w s < w.shape.max_pins → refusal w (Pin r s (word_at w s)) ≡ None
 may_pin w r s a b c = may _ _ _ (lt_test s w.shape.slots a) (may _ _ _ (word_is_itself (word_at w s)) (may _ _ _ (ap (λ (p : Phase). is_phase p Live) b) (may _ _ _ (lt_test (pins w s) w.shape.max_pins c) refl)))
+
+descr_is_itself : (d : Descr) → same_descr d d ≡ true
+descr_is_itself d = grind (arith, common_steps)
+
+pub may_load : (w : WorldState) (r s : ℕ) → s < w.shape.slots → refusal w (Load r s) ≡ None
+may_load w r s a = may _ _ _ (lt_test s w.shape.slots a) refl
+
+pub may_read : (w : WorldState) (r : ℕ) (id : Id) → id.slot < w.shape.slots → 0 < copies w r id → refusal w (ReadDescr r id (at w id.slot).descr) ≡ None
+may_read w r id a b = may _ _ _ (lt_test id.slot w.shape.slots a) (may _ _ _ (lt_test 0 (copies w r id) b) (may _ _ _ (descr_is_itself (at w id.slot).descr) refl))
 
 pub may_release : (w : WorldState) (r : ℕ) (id : Id) → id.slot < w.shape.slots → 0 < copies w r id → refusal w (Release r id) ≡ None
 may_release w r id a b = may _ _ _ (lt_test id.slot w.shape.slots a) (may _ _ _ (lt_test 0 (copies w r id) b) refl)

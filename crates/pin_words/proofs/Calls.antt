@@ -1,0 +1,122 @@
+-- What the calls of readers and of the keeper need of the steps.
+use Rattle.std.proofs.Common.{◌≡◌, ◌≢◌, ◌⊎◌, inl, inr, ⊎_elim, ℕ, ◌+◌, ◌*◌, ◌<◌, ◌≤◌, nat_lt, Bool, true, false, List, [], ◌∷◌, ◌++◌, length, get_or, zero, suc, Some, None, sym, refl, ap, ◌∙◌, subst, arith}
+use Rattle.std.proofs.lemmas.Grind.{common_steps}
+use mathlib.Core.Option.{none}
+use Rattle.atomic_table.specs.Table.{step, Allows}
+use Rattle.pin_core.specs.declared.word.Word.{Word}
+use Rattle.pin_core.specs.declared.id.Id.{Id}
+use Rattle.pin_core.specs.declared.descr.Descr.{Descr}
+use Rattle.pin_core.specs.declared.word.Phase.{Phase}
+use Rattle.pin_core.specs.declared.word.Phase.TheVariants.{Free, Live, Retired, Closing}
+use Rattle.pin_core.specs.declared.shape.Shape.{Shape}
+use Rattle.pin_core.specs.declared.world.Slot.{Slot}
+use Rattle.pin_core.specs.Words.{decoded}
+use Rattle.pin_core.specs.Descrs as descr_code
+use Rattle.pin_core.specs.Holds.{tally, weight, drop_first}
+use Rattle.pin_core.specs.Worlds.{opening_slot, slot_of}
+use Rattle.pin_core.specs.Safety.{rank_of}
+use Rattle.pin_core.proofs.Counts.{count-snoc, count-drop-le}
+use Rattle.pin_words.specs.declared.view.Look.{Look}
+use Rattle.pin_words.specs.declared.view.KeeperView.{KeeperView}
+use Rattle.pin_words.specs.declared.view.ReaderView.{ReaderView}
+use Rattle.pin_words.specs.declared.view.View.{View}
+use Rattle.pin_words.specs.Views.{M, Of, on, view, is_id, id_in, reader_got, reader_released, keeper_stored, reader_of, keeper_of, IsReaders, IsKeepers}
+use Rattle.pin_words.specs.Shown.{Shown}
+use Rattle.pin_words.specs.Plays.{Behind, Tells, got_view, released, noted, stored}
+use Rattle.pin_words.specs.declared.fault.Verdict.TheVariants.{Unborn, Stale, PinsFull, Go}
+use Rattle.pin_words.specs.Verdicts.{verdict_of}
+use Rattle.std.specs.Prelude.{Result, Err}
+use Rattle.pin_words.specs.declared.fault.Verdict.{Verdict}
+use Rattle.pin_words.specs.declared.fault.PinFault.{PinFault}
+use Rattle.pin_words.specs.declared.fault.PinFault.TheVariants as fault
+use Rattle.pin_words.specs.Tries.{WasStale, Tries, Answers}
+use Rattle.pin_words.proofs.ReaderSteps.{notes-step}
+use Rattle.pin_words.proofs.KeeperSteps.{stores-step}
+
+pub go-means : (max : ℕ) (id : Id) (w : Word) → verdict_of max id w ≡ Go → (w.phase ≡ Live) × (w.generation ≡ id.generation) × (w.pins ≢ max)
+go-means max id w e = grind (arith, common_steps)
+
+pub slot-known : (xs ys : List Slot) (i : ℕ) (y : Slot) → xs ≡ ys → i < length ys → y ≡ get_or ys i y → y ≡ slot_of xs i
+slot-known xs ys i y same inside is = is ∙ (get_or_any ys i y opening_slot inside ∙ ap (λ (z : List Slot). get_or z i opening_slot) (sym same))
+  where
+    get_or_any : (ys : List Slot) (i : ℕ) (a b : Slot) → i < length ys → get_or ys i a ≡ get_or ys i b
+    get_or_any [] i a b h = absurd (omega arith)
+    get_or_any (z ∷ zs) zero a b h = refl
+    get_or_any (z ∷ zs) (suc i) a b h = get_or_any zs i a b (omega arith)
+
+pub released-one : (n : ℕ) (m m' : M) (id : Id) → IsReaders m → released (step 0 id.slot 1 0 none) m n m' → 0 < tally (is_id id) (reader_of m.0).held
+    → IsReaders m' × (reader_of m'.0 ≡ reader_released (reader_of m.0) id)
+released-one n m m' id reads did have =
+    let r = reader_of m.0 in
+    let tells : Tells r id.slot n = subst (λ (v : View). Of v.reader (λ r. Tells r id.slot n)) (ap (λ (z : M). z.0) reads) did.1 in
+    let now : m' ≡ (view None (Some (reader_released r (id_in id.slot n))), []) =
+    did.0 ∙ ap (λ (z : M). (view z.0.keeper (on (λ r. reader_released r (id_in id.slot n)) z.0.reader), z.1)) reads in
+    let gen = (tells.held id have refl).0 in
+    (now ∙ ap (λ (z : M). (view None (Some (reader_of z.0)), [])) (sym now), ap (λ (z : M). reader_of z.0) now ∙ λ c. reader_released r record { slot = id.slot; generation = gen c })
+
+-- what an exchange that won leaves to its caller
+pub got-one : (n : ℕ) (m m' : M) (id : Id) → IsReaders m → m' ≡ (got_view m.0 id.slot n, m.1) → (decoded n).generation ≡ id.generation → IsReaders m' × (reader_of m'.0 ≡ reader_got (reader_of m.0) id n)
+got-one n m m' id reads did gen =
+    let now : m' ≡ (view None (Some (reader_got (reader_of m.0) (id_in id.slot n) n)), []) = did ∙ ap (λ (z : M). (got_view z.0 id.slot n, z.1)) reads in
+    (now ∙ ap (λ (z : M). (view None (Some (reader_of z.0)), [])) (sym now), ap (λ (z : M). reader_of z.0) now ∙ λ c. reader_got (reader_of m.0) record { slot = id.slot; generation = gen c } n)
+
+-- what a store leaves to its caller
+pub stored-one : (n : ℕ) (m m' : M) (s w : ℕ) (d : Descr) → IsKeepers m → ((k : KeeperView) (i : ℕ) (e : Descr) → m.0.keeper ≡ Some k → w ≡ k.shape.slots + i → descr_code.IsGiven e → n ≡ descr_code.encoded e → m' ≡ (view (Some (keeper_stored k i e)) m.0.reader, m.1))
+    → w ≡ (keeper_of m.0).shape.slots + s → descr_code.IsGiven d → n ≡ descr_code.encoded d → IsKeepers m' × (keeper_of m'.0 ≡ keeper_stored (keeper_of m.0) s d)
+stored-one n m m' s w d mine did is valid n-is =
+    let now : m' ≡ (view (Some (keeper_stored (keeper_of m.0) s d)) None, []) = did (keeper_of m.0) s d (ap (λ (z : M). z.0.keeper) mine) is valid n-is ∙ ap (λ (z : M). (view (Some (keeper_stored (keeper_of m.0) s d)) z.0.reader, z.1)) mine in
+    (now ∙ ap (λ (z : M). (view (Some (keeper_of z.0)) None, [])) (sym now), ap (λ (z : M). keeper_of z.0) now)
+
+pub stores-there : (key : Shape) (slots id i x : ℕ) (me : M) (v : KeeperView) (d : Descr) (k : Shape) → key ≡ k → me.0.keeper ≡ Some v → i < k.slots → (slot_of v.slots i).phase ≡ Free → descr_code.IsGiven d → x ≡ descr_code.encoded d
+    → Allows (Shown key) slots id me (k.slots + i) (λ _. x) (λ _. stored (step slots (k.slots + i) x 0 none) me x)
+stores-there key slots id i x me v d k same is inside free descr-given x-is = subst (λ (z : Shape). Allows (Shown z) slots id me (k.slots + i) (λ _. x) (λ _. stored (step slots (k.slots + i) x 0 none) me x)) (sym same) (stores-step k slots id i x me v d is inside free descr-given x-is)
+
+pub notes-there : (key : Shape) (slots id : ℕ) (me : M) (r : ReaderView) (y : Id) (k : Shape) → key ≡ k → me.0.reader ≡ Some r → y.slot < k.slots → 0 < tally (is_id y) r.held
+    → Allows (Shown key) slots id me (k.slots + y.slot) (λ n. n) (noted (step slots (k.slots + y.slot) 0 0 none) me)
+notes-there key slots id me r y k same is inside have = subst (λ (z : Shape). Allows (Shown z) slots id me (k.slots + y.slot) (λ n. n) (noted (step slots (k.slots + y.slot) 0 0 none) me)) (sym same) (notes-step k slots id y.slot me r y is refl inside have)
+
+-- a held Id is one of these, or the new one
+pub inside-more : (n : ℕ) (id : Id) (xs : List Id) → id.slot < n → ((x : Id) → 0 < tally (is_id x) xs → x.slot < n) → (x : Id) → 0 < tally (is_id x) (xs ++ id ∷ []) → x.slot < n
+inside-more n id xs lt all x have = cases (is_id x id) refl
+  where
+    cases : (b : Bool) → is_id x id ≡ b → x.slot < n
+    cases true e = let same : id.slot ≡ x.slot = grind (arith, common_steps) in omega arith
+    cases false e = let c = count-snoc (is_id x) xs id in let off : weight (is_id x id) ≡ 0 = ap weight e in all x (omega arith)
+
+pub inside-less : (n : ℕ) (id : Id) (xs : List Id) → ((x : Id) → 0 < tally (is_id x) xs → x.slot < n) → (x : Id) → 0 < tally (is_id x) (drop_first (is_id id) xs) → x.slot < n
+inside-less n id xs all x have = let le = count-drop-le (is_id x) (is_id id) xs in all x (omega arith)
+
+pub id-inside : (n : ℕ) (id : Id) (xs ys : List Id) → ys ≡ xs → 0 < tally (is_id id) ys → ((x : Id) → 0 < tally (is_id x) xs → x.slot < n) → id.slot < n
+id-inside n id xs ys same have all = all id (subst (λ (z : List Id). 0 < tally (is_id id) z) same have)
+
+age-stale : (max : ℕ) (id : Id) (g n : ℕ) (p : Phase) (b : Word) → g * 4 + rank_of p ≤ b.generation * 4 + rank_of b.phase → (p ≡ Retired → b.phase ≡ Retired) → verdict_of max id record { generation = g; phase = p; pins = n } ≡ Stale → verdict_of max id b ≡ Stale
+age-stale max id g n Retired b le last e = let r : b.phase ≡ Retired = last refl in grind (arith, common_steps)
+age-stale max id g n Free b le last e = grind (arith, common_steps)
+age-stale max id g n Live b le last e = grind (arith, common_steps)
+age-stale max id g n Closing b le last e = grind (arith, common_steps)
+
+-- what was stale is stale at each later word
+pub stays-stale : (max : ℕ) (id : Id) (ls : List Look) (n : ℕ) → WasStale max id ls → Behind ls id.slot n → verdict_of max id (decoded n) ≡ Stale
+stays-stale max id [] n h b = absurd h
+stays-stale max id (l ∷ ls) n h b = ⊎_elim (λ (t : (l.slot ≡ id.slot) × (verdict_of max id (decoded l.word) ≡ Stale)). age-stale max id (decoded l.word).generation (decoded l.word).pins (decoded l.word).phase (decoded n) (b.0 t.0).0 (b.0 t.0).1 t.1) (λ (t : WasStale max id ls). stays-stale max id ls n t b.1) h
+
+-- what a reader found stale it never pins again
+pub stale-answers : (r r' : ReaderView) (id : Id) (res : Result (Unit {0}) PinFault) → Tries r id res r' → id.slot < r.shape.slots → WasStale r.shape.max_pins id r.looks → (res ≡ Err fault.Stale) ⊎ (res ≡ Err fault.HeldFull)
+stale-answers r r' id res t inside was = ⊎_elim
+    (λ (full : 16 ≤ length r.held). inr (t.full inside full).0)
+    (λ (room : length r.held < 16). let tried = t.tried inside room in
+    inl (answer (verdict_of r.shape.max_pins id (decoded tried.0)) (stays-stale r.shape.max_pins id r.looks tried.0 was tried.1.looks) tried.0 tried.2))
+    (split (length r.held))
+  where
+    split : (n : ℕ) → (16 ≤ n) ⊎ (n < 16)
+    split n = cases (nat_lt n 16) refl
+      where
+        cases : (b : Bool) → nat_lt n 16 ≡ b → (16 ≤ n) ⊎ (n < 16)
+        cases true e = inr (let h : n < 16 = grind (arith, common_steps) in h)
+        cases false e = inl (let h : 16 ≤ n = grind (arith, common_steps) in h)
+
+    answer : (v : Verdict) → v ≡ Stale → (n : ℕ) → Answers v r id n res r' → res ≡ Err fault.Stale
+    answer Unborn e n a = absurd (let x : Unborn ≡ Stale = e in cc)
+    answer Stale e n a = a.0
+    answer PinsFull e n a = absurd (let x : PinsFull ≡ Stale = e in cc)
+    answer Go e n a = absurd (let x : Go ≡ Stale = e in cc)

@@ -1,0 +1,9 @@
+pub mod Bits
+pub mod Holdings
+pub mod Steps
+pub mod ReaderSteps
+pub mod KeeperSteps
+pub mod Reseated
+pub mod Calls
+pub mod Locking
+pub mod LawOfSteps

@@ -1,0 +1,5 @@
+use Rattle.pin_words.proofs.Locking.{as-any}
+use Rattle.pin_words.proofs.locked.LockedPinsPinKeeper.reclaim.Goals as goal
+
+pub returns : goal.returns
+returns c = as-any c.args.self.now c.reclaim.new.self c.args.slot c.reclaim.result c.reclaim.ensures

@@ -1,0 +1,46 @@
+-- What the calls of readers and of the keeper answer.
+use Rattle.std.specs.Prelude.{◌≡◌, ◌≢◌, ◌⊎◌, ℕ, ◌<◌, ◌≤◌, nat_lt, if◌then◌else◌, List, [], ◌∷◌, length, Result, Ok, Err}
+use Rattle.pin_core.specs.declared.id.Id.{Id}
+use Rattle.pin_core.specs.Words.{decoded}
+use Rattle.pin_core.specs.Worlds.{slot_of}
+use Rattle.pin_words.specs.declared.fault.Verdict.{Verdict}
+use Rattle.pin_words.specs.declared.fault.Verdict.TheVariants.{Unborn, Stale, PinsFull, Go}
+use Rattle.pin_words.specs.declared.fault.PinFault.{PinFault}
+use Rattle.pin_words.specs.declared.fault.PinFault.TheVariants as fault
+use Rattle.pin_words.specs.declared.pin_keeper.Reclaim.{Reclaim}
+use Rattle.pin_words.specs.declared.pin_keeper.Reclaim.TheVariants.{Freed, Retired, Held}
+use Rattle.pin_words.specs.declared.view.Look.{Look}
+use Rattle.pin_words.specs.declared.view.KeeperView.{KeeperView}
+use Rattle.pin_words.specs.declared.view.ReaderView.{ReaderView}
+use Rattle.pin_words.specs.Verdicts.{verdict_of}
+use Rattle.pin_words.specs.Views.{reader_looked, reader_got, keeper_looked, keeper_reclaimed}
+use Rattle.pin_words.specs.Plays.{Tells, Meets}
+
+-- what follows a first look that found the word n: at Go one exchange, which finds the word m
+abbrev pub Answers : Verdict → ReaderView → Id → ℕ → Result (Unit {0}) PinFault → ReaderView → Type 0
+Answers Unborn r id n res r' = (res ≡ Err fault.Unborn) × (r' ≡ reader_looked r id.slot n)
+Answers Stale r id n res r' = (res ≡ Err fault.Stale) × (r' ≡ reader_looked r id.slot n)
+Answers PinsFull r id n res r' = (res ≡ Err fault.PinsFull) × (r' ≡ reader_looked r id.slot n)
+Answers Go r id n res r' = (m : ℕ) × (m ≡ n → (res ≡ Ok tt) × (r' ≡ reader_got (reader_looked r id.slot n) id m))
+    × (m ≢ n → (res ≡ Err (fault.Busy (decoded m))) × (r' ≡ reader_looked (reader_looked r id.slot n) id.slot m))
+
+-- the answer of one try to pin, with the reader's view before and after
+pub record Tries (r : ReaderView) (id : Id) (res : Result (Unit {0}) PinFault) (r' : ReaderView) : Type 0 where
+  pub no_slot : r.shape.slots ≤ id.slot → (res ≡ Err fault.NoSuchSlot) × (r' ≡ r)
+  pub full : id.slot < r.shape.slots → 16 ≤ length r.held → (res ≡ Err fault.HeldFull) × (r' ≡ r)
+  pub tried : id.slot < r.shape.slots → length r.held < 16 → (n : ℕ) × Tells r id.slot n × Answers (verdict_of r.shape.max_pins id (decoded n)) r id n res r'
+
+-- some look found the Id stale
+abbrev pub WasStale : ℕ → Id → List Look → Type 0
+WasStale max_pins id [] = ⊥
+WasStale max_pins id (l ∷ ls) = ((l.slot ≡ id.slot) × (verdict_of max_pins id (decoded l.word) ≡ Stale)) ⊎ WasStale max_pins id ls
+
+-- the answer of one reclaim, which found the word n
+abbrev pub Reclaims : KeeperView → ℕ → Reclaim → KeeperView → Type 0
+Reclaims k s res k' = (n : ℕ) × ((decoded n).pins ≤ k.shape.max_pins)
+    × ((decoded n).pins ≡ 0 → (k' ≡ keeper_reclaimed k s n) × (res ≡ (if nat_lt (slot_of k.slots s).generation k.shape.max_gen then Freed else Retired)))
+    × (0 < (decoded n).pins → (k' ≡ keeper_looked k s n) × (res ≡ Held (decoded n).pins))
+
+-- one look at the slot s by a reader that meets the keeper
+abbrev pub Met : KeeperView → ReaderView → ℕ → ReaderView → Type 0
+Met k r s r' = (n : ℕ) × (r' ≡ reader_looked r s n) × Tells r s n × Meets k r s n

@@ -1,0 +1,51 @@
+ghost use Rattle.std.specs.Prelude.{◌≡◌};
+ghost use Rattle.pin_words.specs.Verdicts.{verdict_of};
+
+use pin_core::{Id, Phase, Word};
+
+/// Why a pin is refused. No refusal changes what is held. They are tested in the order 1, 6, 2, 3, 5, 4.
+#[derive(Clone, Copy, Debug, PartialEq, Eq)]
+pub enum PinFault {
+    /// 1: there is no such slot.
+    NoSuchSlot,
+    /// 2: the Id isn't published yet.
+    Unborn,
+    /// 3: the Id's object is given up. It stays so.
+    Stale,
+    /// 4: the word changed between the look and the exchange.
+    Busy {
+        /// The word that the exchange found.
+        seen: Word,
+    },
+    /// 5: the slot has as many pins as it may have.
+    PinsFull,
+    /// 6: the reader holds 16 copies already.
+    HeldFull,
+}
+
+/// What a word says of an Id that is to be pinned.
+#[derive(Clone, Copy, Debug, PartialEq, Eq)]
+pub(crate) enum Verdict {
+    Unborn,
+    Stale,
+    PinsFull,
+    Go,
+}
+
+pub(crate) fn judge(max_pins: u32, id: Id, word: Word) -> Verdict
+    ensures { result ≡ verdict_of max_pins id word }
+{
+    let born = word.phase == Phase::Retired || id.generation <= word.generation;
+    if !born || (word.phase == Phase::Free && word.generation == id.generation) {
+        Verdict::Unborn
+    } else if id.generation < word.generation
+        || word.phase == Phase::Closing
+        || word.phase == Phase::Retired
+    {
+        Verdict::Stale
+    } else if word.pins == max_pins {
+        Verdict::PinsFull
+    } else {
+        Verdict::Go
+    }
+}

@@ -1,0 +1,253 @@
+ghost use Rattle.std.specs.Prelude.{◌≡◌, ◌+◌, ◌≤◌, length};
+ghost use Rattle.pin_core.specs.Events.{reclaimed};
+ghost use Rattle.pin_words.specs.Views.{IsKeepers, keeper_of};
+
+use crate::pin_keeper::{PinKeeper, Reclaim};
+use crate::plays::{
+    Apart, Blank, Closes, Gives, Looks, PinRule, Publishing, Reclaiming, Storing, Together,
+};
+use crate::reader::Reader;
+use crate::view::View;
+use atomic_table::{Seat, Shared};
+use pin_core::{Descr, Phase, Shape, Slot, Word};
+use std::marker::Model;
+use std::mem;
+
+/// Who publishes, closes and reclaims slots. There is one for each [`Pins`](crate::Pins).
+#[derive(Drop)]
+pub struct Keeper<'a> {
+    shared: &'a Shared<(), View, Shape, PinRule>,
+    shape: Shape,
+    seat: Seat<(), View>,
+    slots: Vec<Slot>,
+    ghost keyed: { shared.now.key ≡ shape },
+    ghost wide: { shared.now.table_id.words ≡ shape.slots + shape.slots },
+    ghost some: { 1 ≤ shape.slots },
+    ghost seated: { seat.table_id ≡ shared.now.table_id },
+    ghost keeps: { IsKeepers seat.me },
+    ghost shaped: { (keeper_of seat.me.0).shape ≡ shape },
+    ghost knows: { (keeper_of seat.me.0).slots ≡ slots.items },
+    ghost long: { length slots.items ≡ shape.slots },
+}
+
+impl<'a> Model for Keeper<'a> {
+    ghost use Rattle.pin_words.specs.Seats.{KeeperSeat};
+    ghost use Rattle.pin_words.specs.Views.{keeper_of};
+
+    ghost Value = { KeeperSeat };
+
+    ghost view = { λ k. record { table = k.seat.table_id; view = keeper_of k.seat.me.0 } };
+}
+
+// Free becomes live, and live becomes closing, by one bit each.
+const LIVE: u64 = 1073741824;
+
+const CLOSES: u64 = 2147483648;
+
+impl<'a> Keeper<'a> {
+    ghost use Rattle.std.specs.Prelude.{◌≡◌, ◌+◌, ◌<◌, ◌≤◌, length};
+    ghost use Rattle.pin_core.specs.declared.word.Phase.TheVariants.{Free, Live, Closing};
+    ghost use Rattle.pin_core.specs.Descrs.{IsGiven};
+    ghost use Rattle.pin_core.specs.Worlds.{slot_of};
+    ghost use Rattle.pin_words.specs.Views.{IsKeepers, keeper_of, keeper_stored, keeper_published, keeper_closed, keeper_gave, reader_given};
+    ghost use Rattle.pin_words.specs.Tries.{Reclaims, Met};
+
+    pub(crate) fn of_parts(
+        shared: &'a Shared<(), View, Shape, PinRule>,
+        shape: Shape,
+        seat: Seat<(), View>,
+        slots: Vec<Slot>,
+    ) -> Keeper<'a>
+        requires keyed { shared.now.key ≡ shape }
+        requires wide { shared.now.table_id.words ≡ shape.slots + shape.slots }
+        requires some { 1 ≤ shape.slots }
+        requires seated { seat.table_id ≡ shared.now.table_id }
+        requires keeps { IsKeepers seat.me }
+        requires shaped { (keeper_of seat.me.0).shape ≡ shape }
+        requires knows { (keeper_of seat.me.0).slots ≡ slots.items }
+        requires long { length slots.items ≡ shape.slots }
+        ensures { result ≡ record { table = seat.table_id; view = keeper_of seat.me.0 } }
+    {
+        Keeper {
+            shared,
+            shape,
+            seat,
+            slots,
+        }
+    }
+
+    /// The phase of a slot.
+    pub fn phase(&self, slot: u32) -> Phase
+        requires { slot < self.now.view.shape.slots }
+        ensures { result ≡ (slot_of self.now.view.slots slot).phase }
+    {
+        self.slots[slot as usize].phase
+    }
+
+    /// The generation of a slot, from 1.
+    pub fn generation(&self, slot: u32) -> u32
+        requires { slot < self.now.view.shape.slots }
+        ensures { result ≡ (slot_of self.now.view.slots slot).generation }
+    {
+        self.slots[slot as usize].generation
+    }
+
+    /// Stores the descriptor of a free slot: one store.
+    pub fn store_descr(&mut self, slot: u32, descr: Descr)
+        requires slot { slot < self.old.view.shape.slots }
+        requires free { (slot_of self.old.view.slots slot).phase ≡ Free }
+        requires given { IsGiven descr }
+        ensures view { self.new.view ≡ keeper_stored self.old.view slot descr }
+        ensures table { self.new.table ≡ self.old.table }
+    {
+        let place = self.shape.slots as usize + slot as usize;
+        self.shared
+            .store::<Storing>(&mut self.seat, place, descr.encode());
+        let was = self.slots[slot as usize];
+        self.slots[slot as usize] = Slot { descr, ..was };
+    }
+
+    /// Publishes a free slot with its descriptor, so that it is live: one or.
+    pub fn publish(&mut self, slot: u32)
+        requires slot { slot < self.old.view.shape.slots }
+        requires free { (slot_of self.old.view.slots slot).phase ≡ Free }
+        ensures view { self.new.view ≡ keeper_published self.old.view slot }
+        ensures table { self.new.table ≡ self.old.table }
+    {
+        self.shared
+            .fetch_or::<Publishing>(&mut self.seat, slot as usize, LIVE);
+        let was = self.slots[slot as usize];
+        self.slots[slot as usize] = Slot {
+            phase: Phase::Live,
+            ..was
+        };
+    }
+
+    /// Gives a live slot up, so that it is closing: one or, which leaves the pins.
+    pub fn close_slot(&mut self, slot: u32)
+        requires slot { slot < self.old.view.shape.slots }
+        requires live { (slot_of self.old.view.slots slot).phase ≡ Live }
+        ensures view { self.new.view ≡ keeper_closed self.old.view slot }
+        ensures table { self.new.table ≡ self.old.table }
+    {
+        self.shared
+            .fetch_or::<Closes>(&mut self.seat, slot as usize, CLOSES);
+        let was = self.slots[slot as usize];
+        self.slots[slot as usize] = Slot {
+            phase: Phase::Closing,
+            ..was
+        };
+    }
+
+    /// Takes a closing slot back by one exchange, which is also a look: [`Reclaim::Held`] with the number of
+    /// pins exactly where the word that it found has some.
+    pub fn reclaim(&mut self, slot: u32) -> Reclaim
+        requires slot { slot < self.old.view.shape.slots }
+        requires closing { (slot_of self.old.view.slots slot).phase ≡ Closing }
+        ensures reclaims { Reclaims self.old.view slot result self.new.view }
+        ensures table { self.new.table ≡ self.old.table }
+    {
+        let was = self.slots[slot as usize];
+        let next = reclaimed(self.shape.max_gen, was);
+        let expected = Word {
+            generation: was.generation,
+            phase: Phase::Closing,
+            pins: 0,
+        };
+        let becomes = Word {
+            generation: next.generation,
+            phase: next.phase,
+            pins: 0,
+        };
+        let found = self.shared.compare_exchange::<Reclaiming>(
+            &mut self.seat,
+            slot as usize,
+            expected.encode(),
+            becomes.encode(),
+        );
+        let pins = Word::decode(found).pins;
+        if pins > 0 {
+            return Reclaim::Held { pins };
+        }
+        self.slots[slot as usize] = next;
+        if was.generation < self.shape.max_gen {
+            Reclaim::Freed
+        } else {
+            Reclaim::Retired
+        }
+    }
+
+    /// One look at the slot for a reader of the same pins, whose seat is joined to the keeper's meanwhile: what
+    /// the reader holds there is the keeper's present slot, and the notes are of what was published.
+    pub fn meet(&mut self, reader: &mut Reader<'a>, slot: u32)
+        requires slot { slot < self.old.view.shape.slots }
+        requires same { reader.old.table ≡ self.old.table }
+        ensures look { Met self.old.view reader.old.view slot reader.new.view }
+        ensures view { self.new.view ≡ self.old.view }
+        ensures table { (self.new.table ≡ self.old.table) × (reader.new.table ≡ reader.old.table) }
+    {
+        let blank = self.shared.split_seat::<Blank>(&mut self.seat);
+        let seat = mem::replace(&mut reader.seat, blank);
+        self.shared.join_seat::<Together>(&mut self.seat, seat);
+        self.shared.load::<Looks>(&mut self.seat, slot as usize);
+        reader.seat = self.shared.split_seat::<Apart>(&mut self.seat);
+    }
+
+    /// A further reader, of the next number, which holds nothing.
+    pub fn reader(&mut self) -> Reader<'a>
+        ensures view { self.new.view ≡ keeper_gave self.old.view }
+        ensures reader { result.view ≡ reader_given self.old.view }
+        ensures table { (self.new.table ≡ self.old.table) × (result.table ≡ self.old.table) }
+    {
+        let seat = self.shared.split_seat::<Gives>(&mut self.seat);
+        Reader::of_parts(self.shared, self.shape, seat)
+    }
+}
+
+// The slot as it opens again, or ends.
+pub(crate) fn reclaimed(max_gen: u32, was: Slot) -> Slot
+    ensures { result ≡ reclaimed max_gen was }
+{
+    if was.generation < max_gen {
+        Slot {
+            generation: was.generation + 1,
+            phase: Phase::Free,
+            ..was
+        }
+    } else {
+        Slot {
+            phase: Phase::Retired,
+            ..was
+        }
+    }
+}
+
+impl<'a> PinKeeper for Keeper<'a> {
+    ghost use Rattle.pin_words.specs.Keepers.{state_of};
+
+    ghost kept = { λ k. state_of k.view };
+
+    fn phase(&self, slot: u32) -> Phase {
+        Keeper::phase(self, slot)
+    }
+
+    fn generation(&self, slot: u32) -> u32 {
+        Keeper::generation(self, slot)
+    }
+
+    fn store_descr(&mut self, slot: u32, descr: Descr) {
+        Keeper::store_descr(self, slot, descr);
+    }
+
+    fn publish(&mut self, slot: u32) {
+        Keeper::publish(self, slot);
+    }
+
+    fn close_slot(&mut self, slot: u32) {
+        Keeper::close_slot(self, slot);
+    }
+
+    fn reclaim(&mut self, slot: u32) -> Reclaim {
+        Keeper::reclaim(self, slot)
+    }
+}

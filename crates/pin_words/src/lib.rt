@@ -1,0 +1,30 @@
+//! The running pins: two words a slot, one keeper, and readers that pin slots without a lock.
+//!
+//! A [`Reader`] pins an Id by one look at the slot's word and one exchange, so that the object stays where it
+//! is until the reader releases it; the [`Keeper`] gives a slot up, and reclaims it once nobody holds it. Each
+//! call is at most two atomic steps, and each step is one event of `pin_core`: [`law_of_steps`] ties them.
+//! [`LockedPins`] is the same for one holder under a lock, with plain counts, and [`PinKeeper`] what is said of
+//! both keepers.
+//!
+//! Atomic steps are sequentially consistent. The words are changed only here, and pins are taken only through
+//! readers. A reader that is dropped with pins keeps its slots out of use.
+#![tactic(auto)]
+
+mod fault;
+mod keeper;
+mod law;
+mod locked;
+mod pin_keeper;
+mod pins;
+mod plays;
+mod reader;
+mod view;
+
+pub use fault::PinFault;
+pub use keeper::Keeper;
+pub use law::law_of_steps;
+pub use locked::LockedPins;
+pub use pin_keeper::{PinKeeper, Reclaim};
+pub use pins::{Opening, Pins};
+pub use reader::Reader;
+pub use view::{KeeperView, Look, Note, ReaderView, View};

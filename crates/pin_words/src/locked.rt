@@ -1,0 +1,285 @@
+ghost use Rattle.std.specs.Prelude.{◌≡◌, ◌≤◌, ◌<◌, ℕ, length, count_by};
+ghost use Rattle.pin_core.specs.declared.id.Id.{Id};
+ghost use Rattle.pin_core.specs.Shapes.{IsWithinLimits};
+ghost use Rattle.pin_core.specs.Holds.{tally};
+ghost use Rattle.pin_words.specs.Views.{is_id, sits};
+
+use crate::fault::{PinFault, Verdict, judge};
+use crate::keeper::reclaimed;
+use crate::pin_keeper::{PinKeeper, Reclaim};
+use crate::reader::{copies_of, forget};
+use arrayvec::ArrayVec;
+use ob_rights::{Fault, Kind};
+use pin_core::{Descr, Id, Phase, Shape, Slot, Word};
+use std::alloc::Global;
+use std::marker::Model;
+
+/// A keeper under a lock, with one holder of at most 16 copies.
+#[derive(Drop)]
+pub struct LockedPins {
+    shape: Shape,
+    slots: Vec<Slot>,
+    held: ArrayVec<Id, 16>,
+    ghost within: { IsWithinLimits shape },
+    ghost long: { length slots.items ≡ shape.slots },
+    ghost room: { (s : ℕ) → tally (sits s) held.items ≤ shape.max_pins },
+    ghost inside: { (x : Id) → 0 < tally (is_id x) held.items → x.slot < shape.slots },
+}
+
+impl Model for LockedPins {
+    ghost use Rattle.pin_words.specs.Keepers.{KeeperState, locked};
+
+    ghost Value = { KeeperState };
+
+    ghost view = { λ p. locked p.shape p.slots.items p.held.items };
+}
+
+fn pins_at(held: &[Id], slot: u32) -> usize
+    ensures { result ≡ count_by (sits slot) held.now }
+{
+    held.iter().filter(|h| h.slot == slot).count()
+}
+
+impl LockedPins {
+    ghost use Rattle.std.specs.Prelude.{◌≡◌, ◌<◌, ◌≤◌, ◌↔◌, [], ◌∷◌, ◌++◌, length, replicate, slice_set, false, None, IsTrue, IfOk, IfErr};
+    ghost use Rattle.ob_rights.specs.declared.fault.Fault.TheVariants.{Memory};
+    ghost use Rattle.pin_core.specs.declared.word.Phase.TheVariants.{Free, Live, Closing};
+    ghost use Rattle.pin_core.specs.Shapes.{IsWithinLimits};
+    ghost use Rattle.pin_core.specs.Descrs.{IsGiven};
+    ghost use Rattle.pin_core.specs.Holds.{tally};
+    ghost use Rattle.pin_core.specs.Worlds.{opening_slot, slot_of};
+    ghost use Rattle.pin_words.specs.Views.{is_id, sits};
+    ghost use Rattle.pin_words.specs.Keepers.{locked, with_slots, with_held, word_of, stored, published, closed, released, Tries, ReclaimsLocked};
+
+    /// New pins: each slot is free at generation 1 with the descriptor of an event that is reset by itself, and
+    /// nothing is held. [`Fault::Memory`] (8) where memory ran out.
+    pub fn new(alloc: Global, shape: Shape) -> Result<LockedPins, Fault>
+        requires { IsWithinLimits shape }
+        ensures ok { IfOk result (λ p. p ≡ locked shape (replicate shape.slots opening_slot) []) }
+        ensures err { IfErr result (λ e. e ≡ Memory) }
+    {
+        let opening = Slot {
+            generation: 1,
+            phase: Phase::Free,
+            descr: Descr {
+                kind: Kind::Event,
+                manual: false,
+                max: 0,
+            },
+        };
+        let Ok(slots) = vec![in alloc; opening; shape.slots as usize] else {
+            return Err(Fault::Memory);
+        };
+        Ok(LockedPins {
+            shape,
+            slots,
+            held: ArrayVec::new(),
+        })
+    }
+
+    /// The phase of a slot.
+    pub fn phase(&self, slot: u32) -> Phase
+        requires { slot < self.now.shape.slots }
+        ensures { result ≡ (slot_of self.now.slots slot).phase }
+    {
+        self.slot(slot).phase
+    }
+
+    /// The generation of a slot, from 1.
+    pub fn generation(&self, slot: u32) -> u32
+        requires { slot < self.now.shape.slots }
+        ensures { result ≡ (slot_of self.now.slots slot).generation }
+    {
+        self.slot(slot).generation
+    }
+
+    /// Pins the slot of an Id once more, by the slot as it is. It is refused as a reader is, and never with
+    /// [`PinFault::Busy`].
+    pub fn try_pin(&mut self, id: Id) -> Result<(), PinFault>
+        ensures { Tries self.old id result self.new }
+    {
+        if id.slot >= self.shape.slots {
+            return Err(PinFault::NoSuchSlot);
+        }
+        if self.is_full() {
+            return Err(PinFault::HeldFull);
+        }
+        match judge(self.shape.max_pins, id, self.word(id.slot)) {
+            Verdict::Unborn => Err(PinFault::Unborn),
+            Verdict::Stale => Err(PinFault::Stale),
+            Verdict::PinsFull => Err(PinFault::PinsFull),
+            Verdict::Go => {
+                self.take(id);
+                Ok(())
+            }
+        }
+    }
+
+    /// Lets one copy of a held Id go.
+    pub fn release(&mut self, id: Id)
+        requires { 0 < tally (is_id id) self.old.held }
+        ensures { self.new ≡ released self.old id }
+    {
+        forget(&mut self.held, id);
+    }
+
+    /// The descriptor of the slot of a held Id.
+    pub fn descr(&self, id: Id) -> Descr
+        requires { 0 < tally (is_id id) self.now.held }
+        ensures { result ≡ (slot_of self.now.slots id.slot).descr }
+    {
+        self.slots[id.slot as usize].descr
+    }
+
+    /// Whether the holder has a copy of the Id.
+    pub fn holds(&self, id: Id) -> bool
+        ensures { IsTrue result ↔ (0 < tally (is_id id) self.now.held) }
+    {
+        copies_of(self.held.as_slice(), id) > 0
+    }
+
+    /// Stores the descriptor of a free slot.
+    pub fn store_descr(&mut self, slot: u32, descr: Descr)
+        requires slot { slot < self.old.shape.slots }
+        requires free { (slot_of self.old.slots slot).phase ≡ Free }
+        requires given { IsGiven descr }
+        ensures { self.new ≡ stored self.old slot descr }
+    {
+        let was = self.slot(slot);
+        self.set_slot(slot, Slot { descr, ..was });
+    }
+
+    /// Publishes a free slot with its descriptor, so that it is live.
+    pub fn publish(&mut self, slot: u32)
+        requires slot { slot < self.old.shape.slots }
+        requires free { (slot_of self.old.slots slot).phase ≡ Free }
+        ensures { self.new ≡ published self.old slot }
+    {
+        let was = self.slot(slot);
+        self.set_slot(
+            slot,
+            Slot {
+                phase: Phase::Live,
+                ..was
+            },
+        );
+    }
+
+    /// Gives a live slot up, so that it is closing.
+    pub fn close_slot(&mut self, slot: u32)
+        requires slot { slot < self.old.shape.slots }
+        requires live { (slot_of self.old.slots slot).phase ≡ Live }
+        ensures { self.new ≡ closed self.old slot }
+    {
+        let was = self.slot(slot);
+        self.set_slot(
+            slot,
+            Slot {
+                phase: Phase::Closing,
+                ..was
+            },
+        );
+    }
+
+    /// Takes a closing slot back: [`Reclaim::Held`] with their number exactly where copies are held.
+    pub fn reclaim(&mut self, slot: u32) -> Reclaim
+        requires slot { slot < self.old.shape.slots }
+        requires closing { (slot_of self.old.slots slot).phase ≡ Closing }
+        ensures { ReclaimsLocked self.old slot result self.new }
+    {
+        let pins = self.pins(slot);
+        if pins > 0 {
+            return Reclaim::Held { pins };
+        }
+        let was = self.slot(slot);
+        let next = reclaimed(self.shape.max_gen, was);
+        self.set_slot(slot, next);
+        if was.generation < self.shape.max_gen {
+            return Reclaim::Freed;
+        }
+        Reclaim::Retired
+    }
+
+    fn slot(&self, slot: u32) -> Slot
+        requires { slot < self.now.shape.slots }
+        ensures { result ≡ slot_of self.now.slots slot }
+    {
+        self.slots[slot as usize]
+    }
+
+    fn set_slot(&mut self, slot: u32, to: Slot)
+        requires { slot < self.old.shape.slots }
+        ensures set { self.new ≡ with_slots self.old (slice_set self.old.slots slot to) }
+        ensures unlisted { self.old.published ≡ None }
+    {
+        self.slots[slot as usize] = to;
+    }
+
+    fn is_full(&self) -> bool
+        ensures full { IsTrue result → 16 ≤ length self.now.held }
+        ensures room { result ≡ false → length self.now.held < 16 }
+    {
+        self.held.is_full()
+    }
+
+    // The copies that are held of the slot.
+    fn pins(&self, slot: u32) -> u32
+        ensures count { result ≡ tally (sits slot) self.now.held }
+        ensures room { result ≤ self.now.shape.max_pins }
+    {
+        let pins = pins_at(self.held.as_slice(), slot);
+        let most = self.shape.max_pins as usize;
+        prove!(pins <= most);
+        pins as u32
+    }
+
+    fn word(&self, slot: u32) -> Word
+        requires { slot < self.now.shape.slots }
+        ensures word { result ≡ word_of self.now slot }
+        ensures room { tally (sits slot) self.now.held ≤ self.now.shape.max_pins }
+    {
+        let was = self.slot(slot);
+        Word {
+            generation: was.generation,
+            phase: was.phase,
+            pins: self.pins(slot),
+        }
+    }
+
+    fn take(&mut self, id: Id)
+        requires slot { id.slot < self.old.shape.slots }
+        requires few { tally (sits id.slot) self.old.held < self.old.shape.max_pins }
+        requires room { length self.old.held < 16 }
+        ensures { self.new ≡ with_held self.old (self.old.held ++ id ∷ []) }
+    {
+        self.held.push(id);
+    }
+}
+
+impl PinKeeper for LockedPins {
+    ghost kept = { λ k. k };
+
+    fn phase(&self, slot: u32) -> Phase {
+        LockedPins::phase(self, slot)
+    }
+
+    fn generation(&self, slot: u32) -> u32 {
+        LockedPins::generation(self, slot)
+    }
+
+    fn store_descr(&mut self, slot: u32, descr: Descr) {
+        LockedPins::store_descr(self, slot, descr);
+    }
+
+    fn publish(&mut self, slot: u32) {
+        LockedPins::publish(self, slot);
+    }
+
+    fn close_slot(&mut self, slot: u32) {
+        LockedPins::close_slot(self, slot);
+    }
+
+    fn reclaim(&mut self, slot: u32) -> Reclaim {
+        LockedPins::reclaim(self, slot)
+    }
+}

@@ -1,0 +1,114 @@
+ghost use Rattle.std.specs.Prelude.{◌≡◌, ◌≤◌, ◌+◌, []};
+ghost use Rattle.pin_words.specs.Views.{opening_view};
+
+use crate::keeper::Keeper;
+use crate::plays::PinRule;
+use crate::reader::Reader;
+use crate::view::View;
+use atomic_table::{Seat, Table};
+use ob_rights::{Fault, Kind};
+use pin_core::{Descr, Phase, Shape, Slot};
+use std::alloc::Global;
+use std::marker::Model;
+
+/// The words of the slots: a pin word and a descriptor word each. They live as long as the keeper and readers.
+#[derive(Drop)]
+pub struct Pins {
+    table: Table<(), View, Shape, PinRule, Global>,
+    shape: Shape,
+    ghost keyed: { table.shared.key ≡ shape },
+    ghost wide: { table.shared.table_id.words ≡ shape.slots + shape.slots },
+    ghost some: { 1 ≤ shape.slots },
+}
+
+impl Model for Pins {
+    ghost use Rattle.pin_words.specs.Seats.{TableState};
+
+    ghost Value = { TableState };
+
+    ghost view = { λ p. record { table = p.table.shared.table_id; shape = p.shape } };
+}
+
+/// The right to start with new pins, once.
+#[derive(Drop)]
+pub struct Opening {
+    seat: Seat<(), View>,
+    shape: Shape,
+    alloc: Global,
+    ghost opens: { seat.me ≡ (opening_view shape, []) },
+}
+
+impl Model for Opening {
+    ghost use Rattle.pin_words.specs.Seats.{TableState};
+
+    ghost Value = { TableState };
+
+    ghost view = { λ o. record { table = o.seat.table_id; shape = o.shape } };
+}
+
+// The word of a free slot at the first generation, without pins.
+const FIRST: u64 = 4294967296;
+
+impl Pins {
+    ghost use Rattle.std.specs.Prelude.{◌≡◌, IfOk, IfErr};
+    ghost use Rattle.ob_rights.specs.declared.fault.Fault.TheVariants.{Memory};
+    ghost use Rattle.pin_core.specs.Shapes.{IsWithinLimits};
+
+    /// New pins: each slot is free at generation 1 with the descriptor of an event that is reset by itself.
+    ///
+    /// [`Fault::Memory`] (8) where memory ran out.
+    pub fn new(alloc: Global, shape: Shape) -> Result<(Pins, Opening), Fault>
+        requires { IsWithinLimits shape }
+        ensures ok { IfOk result (λ r. (r.0.shape ≡ shape) × (r.1 ≡ r.0)) }
+        ensures err { IfErr result (λ e. e ≡ Memory) }
+    {
+        let Ok(mut words) = vec![in alloc; FIRST; shape.slots as usize] else {
+            return Err(Fault::Memory);
+        };
+        let Ok(descrs) = vec![in alloc; 0; shape.slots as usize] else {
+            return Err(Fault::Memory);
+        };
+        let Ok(()) = words.extend_from_slice(descrs.as_slice()) else {
+            return Err(Fault::Memory);
+        };
+        let Ok((table, seat)) = Table::of_words(alloc, words.as_slice(), &shape) else {
+            return Err(Fault::Memory);
+        };
+        Ok((Pins { table, shape }, Opening { seat, shape, alloc }))
+    }
+}
+
+impl Opening {
+    ghost use Rattle.std.specs.Prelude.{◌≡◌, IfOk, IfErr};
+    ghost use Rattle.pin_words.specs.Views.{opening_keeper, keeper_gave, reader_given};
+
+    /// The keeper, and reader 1. Where memory ran out the right to start comes back.
+    pub fn start<'a>(self, pins: &'a Pins) -> Result<(Keeper<'a>, Reader<'a>), Opening>
+        requires { self ≡ pins.now }
+        ensures keeper { IfOk result (λ r. (r.0.table ≡ self.table) × (r.0.view ≡ keeper_gave (opening_keeper self.shape))) }
+        ensures reader { IfOk result (λ r. (r.1.table ≡ self.table) × (r.1.view ≡ reader_given (opening_keeper self.shape))) }
+        ensures err { IfErr result (λ o. o ≡ self) }
+    {
+        let opening = Slot {
+            generation: 1,
+            phase: Phase::Free,
+            descr: Descr {
+                kind: Kind::Event,
+                manual: false,
+                max: 0,
+            },
+        };
+        let Ok(slots) = vec![in self.alloc; opening; self.shape.slots as usize] else {
+            return Err(self);
+        };
+        let Opening {
+            seat,
+            shape,
+            alloc: _,
+        } = self;
+        let shared = &pins.table.shared;
+        let mut keeper = Keeper::of_parts(shared, shape, seat, slots);
+        let reader = keeper.reader();
+        Ok((keeper, reader))
+    }
+}

@@ -1,0 +1,217 @@
+ghost use Rattle.std.specs.Prelude.{◌≡◌, ◌+◌, ◌<◌, ◌≤◌, position, count_by};
+ghost use Rattle.pin_core.specs.declared.id.Id.{Id};
+ghost use Rattle.pin_core.specs.Holds.{tally, drop_first};
+ghost use Rattle.pin_words.specs.Views.{IsReaders, reader_of, is_id};
+
+use crate::fault::{PinFault, Verdict, judge};
+use crate::plays::{Looks, Noting, PinRule, Pinning, Releasing};
+use crate::view::View;
+use arrayvec::ArrayVec;
+use atomic_table::{Seat, Shared};
+use pin_core::{Descr, Id, Shape, Word};
+use std::marker::Model;
+use std::sync::Wait;
+
+fn place_of(held: &[Id], id: Id) -> Option<usize>
+    ensures { result ≡ position (is_id id) held.now }
+{
+    held.iter()
+        .position(|h| h.slot == id.slot && h.generation == id.generation)
+}
+
+pub(crate) fn copies_of(held: &[Id], id: Id) -> usize
+    ensures { result ≡ count_by (is_id id) held.now }
+{
+    held.iter()
+        .filter(|h| h.slot == id.slot && h.generation == id.generation)
+        .count()
+}
+
+pub(crate) fn forget(held: &mut ArrayVec<Id, 16>, id: Id)
+    ensures { held.new.items ≡ drop_first (is_id id) held.old.items }
+{
+    if let Some(place) = place_of(held.as_slice(), id) {
+        held.remove(place);
+    }
+}
+
+/// Who pins slots. It holds at most 16 copies, and its calls take no memory and no lock.
+#[derive(Drop)]
+pub struct Reader<'a> {
+    pub(crate) shared: &'a Shared<(), View, Shape, PinRule>,
+    shape: Shape,
+    pub(crate) seat: Seat<(), View>,
+    held: ArrayVec<Id, 16>,
+    ghost keyed: { shared.now.key ≡ shape },
+    ghost wide: { shared.now.table_id.words ≡ shape.slots + shape.slots },
+    ghost seated: { seat.table_id ≡ shared.now.table_id },
+    ghost reads: { IsReaders seat.me },
+    ghost shaped: { (reader_of seat.me.0).shape ≡ shape },
+    ghost holds: { (reader_of seat.me.0).held ≡ held.items },
+    ghost inside: { (x : Id) → 0 < tally (is_id x) held.items → x.slot < shape.slots },
+}
+
+impl<'a> Model for Reader<'a> {
+    ghost use Rattle.pin_words.specs.Seats.{ReaderState};
+    ghost use Rattle.pin_words.specs.Views.{reader_of};
+
+    ghost Value = { ReaderState };
+
+    ghost view = { λ r. record { table = r.seat.table_id; view = reader_of r.seat.me.0 } };
+}
+
+impl<'a> Reader<'a> {
+    ghost use Rattle.std.specs.Prelude.{◌≡◌, ◌≢◌, ◌+◌, ◌<◌, ◌≤◌, ◌↔◌, [], length, IsTrue, Err};
+    ghost use Rattle.pin_core.specs.declared.word.Word.{Word};
+    ghost use Rattle.pin_core.specs.declared.shape.Shape.{Shape};
+    ghost use Rattle.pin_core.specs.Words.{decoded};
+    ghost use Rattle.pin_core.specs.Holds.{tally};
+    ghost use Rattle.pin_words.specs.declared.view.ReaderView.{ReaderView};
+    ghost use Rattle.pin_words.specs.declared.fault.Verdict.TheVariants as verdict;
+    ghost use Rattle.pin_words.specs.declared.fault.PinFault.TheVariants as fault;
+    ghost use Rattle.pin_words.specs.Verdicts.{verdict_of};
+    ghost use Rattle.pin_words.specs.Views.{M, is_id, view, reader_looked, reader_got, reader_released, reader_noted};
+    ghost use Rattle.pin_words.specs.Plays.{Tells};
+    ghost use Rattle.pin_words.specs.Tries.{Tries};
+
+    pub(crate) fn of_parts(
+        shared: &'a Shared<(), View, Shape, PinRule>,
+        shape: Shape,
+        seat: Seat<(), View>,
+    ) -> Reader<'a>
+        requires keyed { shared.now.key ≡ shape }
+        requires wide { shared.now.table_id.words ≡ shape.slots + shape.slots }
+        requires seated { seat.table_id ≡ shared.now.table_id }
+        requires reads { IsReaders seat.me }
+        requires shaped { (reader_of seat.me.0).shape ≡ shape }
+        requires empty { (reader_of seat.me.0).held ≡ [] }
+        ensures { result ≡ record { table = seat.table_id; view = reader_of seat.me.0 } }
+    {
+        Reader {
+            shared,
+            shape,
+            seat,
+            held: ArrayVec::new(),
+        }
+    }
+
+    // One look at the slot.
+    fn look(&mut self, slot: u32) -> u64
+        requires { slot < self.old.view.shape.slots }
+        ensures view { self.new.view ≡ reader_looked self.old.view slot result }
+        ensures tells { Tells self.old.view slot result }
+        ensures table { self.new.table ≡ self.old.table }
+    {
+        self.shared.load::<Looks>(&mut self.seat, slot as usize)
+    }
+
+    // One more pin where the word is still `found`.
+    fn take(&mut self, id: Id, found: u64) -> u64
+        requires slot { id.slot < self.old.view.shape.slots }
+        requires go { verdict_of self.old.view.shape.max_pins id (decoded found) ≡ verdict.Go }
+        requires room { length self.old.view.held < 16 }
+        ensures won { result ≡ found → self.new.view ≡ reader_got self.old.view id found }
+        ensures lost { result ≢ found → self.new.view ≡ reader_looked self.old.view id.slot result }
+        ensures table { self.new.table ≡ self.old.table }
+    {
+        let seen = self
+            .shared
+            .compare_exchange::<Pinning>(&mut self.seat, id.slot as usize, found, found + 1);
+        if seen == found {
+            self.held.push(id);
+        }
+        seen
+    }
+
+    /// Pins the slot of an Id once more: at most one look and one exchange.
+    ///
+    /// Refused, in this order: 1 where there is no such slot; 6 where 16 copies are held; then, by the word
+    /// that the look found, 2 where the Id isn't published yet, 3 where its object is given up, which stays so,
+    /// and 5 where the slot has all its pins; 4 where the exchange found another word.
+    pub fn try_pin(&mut self, id: Id) -> Result<(), PinFault>
+        ensures tries { Tries self.old.view id result self.new.view }
+        ensures table { self.new.table ≡ self.old.table }
+    {
+        if id.slot >= self.shape.slots {
+            return Err(PinFault::NoSuchSlot);
+        }
+        if self.held.is_full() {
+            return Err(PinFault::HeldFull);
+        }
+        let found = self.look(id.slot);
+        match judge(self.shape.max_pins, id, Word::decode(found)) {
+            Verdict::Unborn => Err(PinFault::Unborn),
+            Verdict::Stale => Err(PinFault::Stale),
+            Verdict::PinsFull => Err(PinFault::PinsFull),
+            Verdict::Go => {
+                let seen = self.take(id, found);
+                if seen == found {
+                    Ok(())
+                } else {
+                    Err(PinFault::Busy {
+                        seen: Word::decode(seen),
+                    })
+                }
+            }
+        }
+    }
+
+    /// Pins as [`try_pin`](Reader::try_pin) does, again and again while it answers [`PinFault::Busy`].
+    pub fn pin<R: Wait>(&mut self, rt: &R, id: Id) -> Result<(), PinFault>
+        ensures last { (r : ReaderView) × Tries r id result self.new.view }
+        ensures settled { (w : Word) → result ≢ Err (fault.Busy w) }
+        ensures table { self.new.table ≡ self.old.table }
+    {
+        for _ in rt.forever() {
+            match self.try_pin(id) {
+                Err(PinFault::Busy { .. }) => {}
+                settled => return settled,
+            }
+        }
+        unreachable!()
+    }
+
+    /// Lets one copy of a held Id go, and with the last the note of its descriptor.
+    pub fn release(&mut self, id: Id)
+        requires { 0 < tally (is_id id) self.old.view.held }
+        ensures view { self.new.view ≡ reader_released self.old.view id }
+        ensures table { self.new.table ≡ self.old.table }
+    {
+        self.shared
+            .fetch_sub::<Releasing>(&mut self.seat, id.slot as usize, 1);
+        forget(&mut self.held, id);
+    }
+
+    /// The descriptor that was published with a held Id.
+    pub fn descr(&mut self, id: Id) -> Descr
+        requires { 0 < tally (is_id id) self.old.view.held }
+        ensures view { self.new.view ≡ reader_noted self.old.view id result }
+        ensures table { self.new.table ≡ self.old.table }
+    {
+        let place = self.shape.slots as usize + id.slot as usize;
+        let word = self.shared.load::<Noting>(&mut self.seat, place);
+        match Descr::decode(word) {
+            Some(descr) => descr,
+            None => unreachable!(),
+        }
+    }
+
+    /// Whether it holds a copy of the Id.
+    pub fn holds(&self, id: Id) -> bool
+        ensures { IsTrue result ↔ (0 < tally (is_id id) self.now.view.held) }
+    {
+        copies_of(self.held.as_slice(), id) > 0
+    }
+
+    /// The Ids that it holds, one for each copy.
+    pub fn held(&self) -> &[Id]
+        ensures { result.now ≡ self.now.view.held }
+    {
+        self.held.as_slice()
+    }
+
+    /// Ends a reader that holds nothing.
+    pub fn finish(self)
+        requires { self.view.held ≡ [] }
+    {}
+}
