@@ -76,6 +76,13 @@ impl<'a> Keeper<'a> {
         }
     }
 
+    /// How many slots there are.
+    pub fn slots(&self) -> u32
+        ensures { result ≡ self.now.view.shape.slots }
+    {
+        self.shape.slots
+    }
+
     /// The phase of a slot.
     pub fn phase(&self, slot: u32) -> Phase
         requires { slot < self.now.view.shape.slots }

@@ -77,6 +77,13 @@ impl LockedPins {
         })
     }
 
+    /// How many slots there are.
+    pub fn slots(&self) -> u32
+        ensures { result ≡ self.now.shape.slots }
+    {
+        self.shape.slots
+    }
+
     /// The phase of a slot.
     pub fn phase(&self, slot: u32) -> Phase
         requires { slot < self.now.shape.slots }

@@ -200,7 +200,7 @@ impl<'a> Reader<'a> {
     pub fn holds(&self, id: Id) -> bool
         ensures { IsTrue result ↔ (0 < tally (is_id id) self.now.view.held) }
     {
-        copies_of(self.held.as_slice(), id) > 0
+        copies_of(self.held(), id) > 0
     }
 
     /// The Ids that it holds, one for each copy.

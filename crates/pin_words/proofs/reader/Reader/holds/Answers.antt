@@ -6,5 +6,5 @@ use Rattle.pin_words.specs.Views.{is_id}
 use Rattle.pin_words.proofs.reader.Reader.holds.Goals as goal
 
 pub returns : goal.returns
-returns c = let e : c.copies_of.result ≡ tally (is_id c.args.id) c.args.self.now.view.held = c.copies_of.ensures ∙ (tally-count (is_id c.args.id) _ ∙ ap (tally (is_id c.args.id)) (c.as_slice.ensures.value ∙ (sym c.self.inside.holds ∙ ap (λ w. w.view.held) c.self.view_is))) in
+returns c = let e : c.copies_of.result ≡ tally (is_id c.args.id) c.args.self.now.view.held = c.copies_of.ensures ∙ (tally-count (is_id c.args.id) _ ∙ ap (tally (is_id c.args.id)) c.held.ensures) in
     grind (arith, common_steps, e)
