@@ -1,0 +1,107 @@
+-- One more wait at the end.
+use Rattle.std.proofs.Common.{◌≡◌, ℕ, zero, suc, ◌<◌, ◌≤◌, List, [], ◌∷◌, ◌++◌, length, Option, Some, None, refl, ap, ◌∙◌, sym, subst, arith, get_or, set, Bool, true, false, inl, inr}
+use Rattle.std.specs.List.{list_any}
+use Rattle.std.specs.Prelude.{◌==◌, ◌⊎◌}
+use Rattle.std.proofs.lemmas.List.{get_or_past, get_or-set_same, get_or-set_other, get_or_append_left, get_or_push, length_push}
+use Rattle.std.proofs.lemmas.Bool.{cases_eq, cases_lt}
+use Rattle.std.proofs.lemmas.Bool.Decides.{nat_tests}
+use Rattle.pin_core.specs.declared.id.Id.{Id}
+use Rattle.ob_waits.specs.declared.wait.Mode.{Mode}
+use Rattle.ob_waits.specs.declared.wait.Wait.{Wait}
+use Rattle.ob_waits.specs.declared.wait.State.TheVariants.{Pending}
+use Rattle.ob_waits.specs.Rules.{thread_of, IsWaitable, WaitWaitable, Within}
+use Rattle.ob_waits.specs.Rows.{IsRow, row_of}
+use Rattle.ob_waits.specs.Waits.{nowhere, is_pending, names_slot, number_of}
+use Rattle.ob_waits.specs.Roster.{Roster, AreThreads, IsRight, HasPlace, with_number, IsTracked}
+use Rattle.ob_waits.proofs.TrackedLaws.{number_found, has_wait, given_some}
+
+-- a thread without a wait owns none
+alone_owns : (ws : List (Option Wait)) (threads : List ℕ) (t n : ℕ) → get_or ws 0 None ≡ None → AreThreads ws threads → number_of t ws ≡ None → thread_of (get_or ws n None) ≡ Some t → ⊥
+alone_owns ws threads t n none a alone own =
+    let some = given_some ws n t none own in
+    let at = a.all n t own in
+    let found = number_found ws threads t a (omega (arith, at)) in
+    cc (found, alone)
+
+-- some element passes
+any_at : {A : Type 0} (p : A → Bool) (d : A) (xs : List A) → list_any p xs ≡ true → (i : ℕ) × (i < length xs) × (p (get_or xs i d) ≡ true)
+any_at p d [] h = absurd (cc)
+any_at p d (x ∷ xs) h = by (p x) refl (any_at p d xs)
+  where
+    by : (b : Bool) → p x ≡ b → (list_any p xs ≡ true → (i : ℕ) × (i < length xs) × (p (get_or xs i d) ≡ true)) → (i : ℕ) × (i < length (x ∷ xs)) × (p (get_or (x ∷ xs) i d) ≡ true)
+    by true is rest = (zero, omega arith, is)
+    by false is rest = let r = rest (grind (arith, h, is)) in (suc r.0, (let lt = r.1 in omega arith), r.2)
+
+module _ (ws : List (Option Wait)) (w : Wait) where
+  -- each number's wait is what it was, or the new one, or none
+  by_number : (P : ℕ → Option Wait → Type 0) → ((n : ℕ) → n < length ws → P n (get_or ws n None)) → P (length ws) (Some w) → ((n : ℕ) → length ws < n → P n None) → (n : ℕ) → P n (get_or (ws ++ Some w ∷ []) n None)
+  by_number P old new past n = elim (cases_lt n (length ws)) [
+    | inl lt ↦ subst (λ x. P n x) (sym (get_or_append_left ws (Some w ∷ []) None n lt)) (old n lt)
+    | inr le ↦ elim (cases_eq n (length ws)) [
+      | inl same ↦ subst (λ i. P i (get_or (ws ++ Some w ∷ []) i None)) (sym same) (subst (λ x. P (length ws) x) (sym (get_or_push ws (Some w) None (length ws) refl)) new)
+      | inr other ↦ subst (λ x. P n x) (sym (get_or_past (ws ++ Some w ∷ []) n None (omega (arith, length_push ws (Some w))))) (past n (omega arith))
+    ]
+  ]
+
+-- The theorem: a wait of a thread that had none, for which the roster has a place, is tracked.
+pub tracked_added : (limit : ℕ) (ws : List (Option Wait)) (r r' : Roster) (n t : ℕ) (mode : Mode) (ids : List Id) → length ws ≡ n → 0 < n → n ≤ limit → IsWaitable mode ids → number_of t ws ≡ None →
+    IsTracked limit ws r → IsRight ws r' → HasPlace r' t ids n → IsTracked limit (ws ++ Some (record { thread = t; state = Pending mode ids }) ∷ []) (with_number r' t n)
+tracked_added limit ws r r' n t mode ids len some below waitable alone k right place = record {
+  limit_fits = k.limit_fits;
+  few = omega (arith, length_push ws (Some w));
+  zero_has_none = get_or_append_left ws (Some w ∷ []) None 0 (omega arith) ∙ k.zero_has_none;
+  kept = record {
+    each = by_number ws w (λ m x. WaitWaitable x) (λ m lt. k.kept.each m) waitable (λ m past. tt);
+    one_each = one_each;
+  };
+  right = record {
+    threads = record { right = threads_right; all = threads_all };
+    rows = record {
+      order_row = row_more r'.order right.rows.order_row;
+      order_all = record { each = λ m h. by_number ws w (λ i x. is_pending x ≡ true → Within i r'.order) (λ i lt g. right.rows.order_all.each i g) (λ g. subst (λ i. Within i r'.order) (sym len) place.order_place) (λ i past g. absurd (cc)) m h };
+      index_rows = record { each = λ s. row_more (row_of r'.index s) (right.rows.index_rows.each s) };
+      index_all = λ s. record { each = λ m h. by_number ws w (λ i x. names_slot s x ≡ true → Within i (row_of r'.index s)) (λ i lt g. (right.rows.index_all s).each i g) (λ g. named s g) (λ i past g. absurd (cc)) m h };
+    };
+  };
+}
+  where
+    w : Wait
+    w = record { thread = t; state = Pending mode ids }
+
+    ours : (m u : ℕ) → thread_of (get_or (ws ++ Some w ∷ []) m None) ≡ Some u → (thread_of (get_or ws m None) ≡ Some u × (m < length ws)) ⊎ ((m ≡ length ws) × (u ≡ t))
+    ours m u = by_number ws w (λ i x. thread_of x ≡ Some u → (thread_of (get_or ws i None) ≡ Some u × (i < length ws)) ⊎ ((i ≡ length ws) × (u ≡ t))) (λ i lt g. inl (g, lt)) (λ g. inr (refl, (let e : Some t ≡ Some u = g in cc))) (λ i past g. absurd (cc)) m
+
+    alone_here : (m u : ℕ) → thread_of (get_or ws m None) ≡ Some u → u ≡ t → ⊥
+    alone_here m u own same = alone_owns ws r'.threads t m k.zero_has_none right.threads alone (own ∙ ap Some same)
+
+    one_each : (i j u : ℕ) → thread_of (get_or (ws ++ Some w ∷ []) i None) ≡ Some u → thread_of (get_or (ws ++ Some w ∷ []) j None) ≡ Some u → i ≡ j
+    one_each i j u p q = elim (ours i u p) [
+      | inl a ↦ elim (ours j u q) [ inl b ↦ k.kept.one_each i j u a.0 b.0 | inr b ↦ absurd (alone_here i u a.0 b.1) ]
+      | inr a ↦ elim (ours j u q) [ inl b ↦ absurd (alone_here j u b.0 a.1) | inr b ↦ a.0 ∙ sym b.0 ]
+    ]
+
+    threads_right : (u : ℕ) → 0 < get_or (set r'.threads t n) u 0 → thread_of (get_or (ws ++ Some w ∷ []) (get_or (set r'.threads t n) u 0) None) ≡ Some u
+    threads_right u above = elim (cases_eq u t) [
+      | inl same ↦
+          let number : get_or (set r'.threads t n) u 0 ≡ n = ap (λ v. get_or (set r'.threads t n) v 0) same ∙ get_or-set_same r'.threads t n 0 place.thread_place in
+          ap (λ i. thread_of (get_or (ws ++ Some w ∷ []) i None)) number ∙ ap thread_of (get_or_push ws (Some w) None n len) ∙ ap Some (sym same)
+      | inr other ↦
+          let number : get_or (set r'.threads t n) u 0 ≡ get_or r'.threads u 0 = get_or-set_other r'.threads t u n 0 other in
+          let own = right.threads.right u (omega (arith, number)) in
+          ap (λ i. thread_of (get_or (ws ++ Some w ∷ []) i None)) number ∙ ap thread_of (get_or_append_left ws (Some w ∷ []) None (get_or r'.threads u 0) (has_wait ws (get_or r'.threads u 0) u own)) ∙ own
+    ]
+
+    threads_all : (m u : ℕ) → thread_of (get_or (ws ++ Some w ∷ []) m None) ≡ Some u → get_or (set r'.threads t n) u 0 ≡ m
+    threads_all m u p = elim (ours m u p) [
+      | inl a ↦ get_or-set_other r'.threads t u n 0 (alone_here m u a.0) ∙ right.threads.all m u a.0
+      | inr a ↦ ap (λ v. get_or (set r'.threads t n) v 0) a.1 ∙ get_or-set_same r'.threads t n 0 place.thread_place ∙ sym len ∙ sym a.0
+    ]
+
+    row_more : (row : List ℕ) → IsRow (length ws) row → IsRow (length (ws ++ Some w ∷ [])) row
+    row_more row h = record { rising = h.rising; below = λ i in'. let le = h.below i in' in omega (arith, length_push ws (Some w)) }
+
+    named : (s : ℕ) → names_slot s (Some w) ≡ true → Within (length ws) (row_of r'.index s)
+    named s g =
+        let found = any_at (λ (id : Id). id.slot == s) nowhere ids g in
+        let same : (get_or ids found.0 nowhere).slot ≡ s = grind (arith, nat_tests, found.2) in
+        subst (λ i. Within i (row_of r'.index s)) (sym len) (subst (λ x. Within n (row_of r'.index x)) same (place.index_place found.0 found.1))

@@ -1,0 +1,9 @@
+pub mod Settling
+pub mod ListedLaws
+pub mod Keeping
+pub mod RowLaws
+pub mod IndexLaws
+pub mod RosterLaws
+pub mod TrackedLaws
+pub mod BlockLaws
+pub mod AddedLaws

@@ -1,0 +1,259 @@
+-- Taking makes nothing signaled, so a pass over the waits in order settles them, and what it leaves is settled.
+use Rattle.std.proofs.Common.{◌≡◌, ℕ, zero, suc, ◌+◌, ◌<◌, ◌≤◌, List, [], ◌∷◌, length, Option, Some, None, refl, ap, ◌∙◌, sym, subst, arith, get_or, set, Bool, true, false, cond, inl, inr, ltb}
+use Rattle.std.specs.Prelude.{count_by, sum_by}
+use Rattle.std.specs.List.{position_or_len, list_all}
+use Rattle.std.proofs.lemmas.List.{length-set, get_or_past, get_or-set_same, get_or-set_other}
+use Rattle.std.proofs.lemmas.Bool.{cases_eq, cases_lt, lt-ltb, le-ltb}
+use Rattle.std.proofs.lemmas.Bool.Decides.{nat_tests}
+use Rattle.std.proofs.lemmas.List.Sums.{sum_by-set, count_by-le-length, get_or-le-sum_by, fails_before_first, passes_at_first, position_or_len_is}
+use Rattle.pin_core.specs.declared.id.Id.{Id}
+use Rattle.ob_body.specs.declared.body.Body.{Body}
+use Rattle.ob_body.proofs.Effects.{signaled_before, room_after_acquire}
+use Rattle.ob_waits.specs.declared.wait.Mode.{Mode}
+use Rattle.ob_waits.specs.declared.wait.Mode.TheVariants.{Any, All}
+use Rattle.ob_waits.specs.declared.wait.Wait.{Wait}
+use Rattle.ob_waits.specs.declared.wait.State.{State}
+use Rattle.ob_waits.specs.declared.wait.State.TheVariants.{Pending, Answered}
+use Rattle.ob_waits.specs.Objects.{slot_signaled, slot_room, slot_acquired}
+use Rattle.ob_waits.specs.Rules.{IsSettled, IsRising, Covers}
+use Rattle.ob_waits.specs.Waits.{nowhere, is_signaled, first_signaled, list_ready, state_ready, is_ready, first_ready, Scene, with_acquired, with_all_acquired, bodies_after, code_of, answered_wait, effect, effect_of, effect_at, settled_within, settled, passed, is_pending, state_pending}
+
+-- no object is signaled that was not, for any thread
+pub record IsLess (bodies after : List (Option Body)) : Type 0 where
+  pub each : (t : ℕ) (id : Id) → is_signaled t after id ≡ true → is_signaled t bodies id ≡ true
+
+less_trans : (a b c : List (Option Body)) → IsLess a b → IsLess b c → IsLess a c
+less_trans a b c ab bc = record { each = λ t id h. ab.each t id (bc.each t id h) }
+
+less_slot : (u t : ℕ) (x : Option Body) → slot_signaled t (slot_acquired u x) ≡ true → slot_signaled t x ≡ true
+less_slot u t None h = h
+less_slot u t (Some b) h = signaled_before u t b h
+
+less_one : (u : ℕ) (bodies : List (Option Body)) (i : Id) → IsLess bodies (with_acquired u bodies i)
+less_one u bodies i = record {
+  each = λ t id h. elim (cases_eq id.slot i.slot) [
+    | inl same ↦ elim (cases_lt i.slot (length bodies)) [
+      | inl lt ↦ rw same (less_slot u t (get_or bodies i.slot None) (rw (same, get_or-set_same bodies i.slot (slot_acquired u (get_or bodies i.slot None)) None lt) at h))
+      | inr le ↦ absurd (beyond t id same le h)
+    ]
+    | inr other ↦ rw (get_or-set_other bodies i.slot id.slot (slot_acquired u (get_or bodies i.slot None)) None other) at h
+  ];
+}
+  where
+    beyond : (t : ℕ) (id : Id) → id.slot ≡ i.slot → length bodies ≤ i.slot → is_signaled t (with_acquired u bodies i) id ≡ true → ⊥
+    beyond t id same le h =
+        let past : get_or (with_acquired u bodies i) id.slot None ≡ None = get_or_past (with_acquired u bodies i) id.slot None (simp length-set (omega arith)) in
+        let none = ap (slot_signaled t) past in cc (none, h)
+
+less_all : (u : ℕ) (ids : List Id) (bodies : List (Option Body)) → IsLess bodies (with_all_acquired u bodies ids)
+less_all u [] bodies = record { each = λ t id h. h }
+less_all u (i ∷ ids) bodies = less_trans bodies (with_acquired u bodies i) _ (less_one u bodies i) (less_all u ids (with_acquired u bodies i))
+
+less_after : (mode : Mode) (u : ℕ) (bodies : List (Option Body)) (ids : List Id) → IsLess bodies (bodies_after mode u bodies ids)
+less_after Any u bodies ids = less_one u bodies (get_or ids (first_signaled u bodies ids) nowhere)
+less_after All u bodies ids = less_all u ids bodies
+
+-- a wait that is ready where less is signaled was ready
+all_less : (p q : Id → Bool) → ((x : Id) → q x ≡ true → p x ≡ true) → (xs : List Id) → list_all q xs ≡ true → list_all p xs ≡ true
+all_less p q less [] h = refl
+all_less p q less (x ∷ xs) h =
+    let a : p x ≡ true = less x (grind (arith, h)) in
+    let b : list_all p xs ≡ true = all_less p q less xs (grind (arith, h)) in
+    grind (arith, a, b)
+
+some_less : (p q : Id → Bool) → ((x : Id) → q x ≡ true → p x ≡ true) → (xs : List Id) → ltb (position_or_len q xs) (length xs) ≡ true → ltb (position_or_len p xs) (length xs) ≡ true
+some_less p q less xs h = elim (cases_lt (position_or_len p xs) (length xs)) [
+  | inl lt ↦ lt-ltb (position_or_len p xs) (length xs) lt
+  | inr le ↦
+      let k = position_or_len q xs in
+      let in' : k < length xs = grind (arith, nat_tests, h) in
+      let yes : p (get_or xs k nowhere) ≡ true = less (get_or xs k nowhere) (passes_at_first q xs nowhere in') in
+      let none : p (get_or xs k nowhere) ≡ false = fails_before_first p xs k nowhere (omega arith) in
+      absurd (cc (yes, none))
+]
+
+list_less : (bodies after : List (Option Body)) → IsLess bodies after → (mode : Mode) (t : ℕ) (ids : List Id) → list_ready mode t after ids ≡ true → list_ready mode t bodies ids ≡ true
+list_less bodies after l Any t ids h = some_less (is_signaled t bodies) (is_signaled t after) (λ x k. l.each t x k) ids h
+list_less bodies after l All t ids h = all_less (is_signaled t bodies) (is_signaled t after) (λ x k. l.each t x k) ids h
+
+state_less : (bodies after : List (Option Body)) → IsLess bodies after → (t : ℕ) (st : State) → state_ready t after st ≡ true → state_ready t bodies st ≡ true
+state_less bodies after l t (Pending mode ids) h = list_less bodies after l mode t ids h
+state_less bodies after l t (Answered code) h = h
+
+pub ready_less : (bodies after : List (Option Body)) → IsLess bodies after → (w : Option Wait) → is_ready after w ≡ true → is_ready bodies w ≡ true
+ready_less bodies after l None h = h
+ready_less bodies after l (Some w) h = state_less bodies after l w.thread w.state h
+
+-- taking by one thread leaves the room of the others
+pub record RoomKept (limit u : ℕ) (bodies after : List (Option Body)) : Type 0 where
+  pub room : (t : ℕ) → (t ≡ u → ⊥) → (k : ℕ) → slot_room limit t (get_or bodies k None) ≡ true → slot_room limit t (get_or after k None) ≡ true
+
+room_slot : (limit u t : ℕ) (x : Option Body) → (t ≡ u → ⊥) → slot_room limit t x ≡ true → slot_room limit t (slot_acquired u x) ≡ true
+room_slot limit u t None other h = refl
+room_slot limit u t (Some b) other h = room_after_acquire limit u t b other h
+
+room_one : (limit u : ℕ) (bodies : List (Option Body)) (i : Id) → RoomKept limit u bodies (with_acquired u bodies i)
+room_one limit u bodies i = record {
+  room = λ t other k h. elim (cases_eq k i.slot) [
+    | inl same ↦ elim (cases_lt i.slot (length bodies)) [
+      | inl lt ↦ rw (same, get_or-set_same bodies i.slot (slot_acquired u (get_or bodies i.slot None)) None lt) (room_slot limit u t (get_or bodies i.slot None) other (rw same at h))
+      | inr le ↦ ap (slot_room limit t) (get_or_past (with_acquired u bodies i) k None (simp length-set (omega arith)))
+    ]
+    | inr apart ↦ rw (get_or-set_other bodies i.slot k (slot_acquired u (get_or bodies i.slot None)) None apart) h
+  ];
+}
+
+room_all : (limit u : ℕ) (ids : List Id) (bodies : List (Option Body)) → RoomKept limit u bodies (with_all_acquired u bodies ids)
+room_all limit u [] bodies = record { room = λ t other k h. h }
+room_all limit u (i ∷ ids) bodies =
+    let a = room_one limit u bodies i in
+    let b = room_all limit u ids (with_acquired u bodies i) in
+    record { room = λ t other k h. b.room t other k (a.room t other k h) }
+
+room_after : (limit : ℕ) (mode : Mode) (u : ℕ) (bodies : List (Option Body)) (ids : List Id) → RoomKept limit u bodies (bodies_after mode u bodies ids)
+room_after limit Any u bodies ids = room_one limit u bodies (get_or ids (first_signaled u bodies ids) nowhere)
+room_after limit All u bodies ids = room_all limit u ids bodies
+
+abbrev pub pending_count : List (Option Wait) → ℕ
+pending_count waits = count_by is_pending waits
+
+pub not_true : (b : Bool) → (b ≡ true → ⊥) → b ≡ false
+not_true true h = absurd (h refl)
+not_true false h = refl
+
+state_ready_pending : (t : ℕ) (bodies : List (Option Body)) (st : State) → state_ready t bodies st ≡ true → state_pending st ≡ true
+state_ready_pending t bodies (Pending mode ids) k = refl
+state_ready_pending t bodies (Answered code) k = cc
+
+pub ready_pending : (bodies : List (Option Body)) (w : Option Wait) → is_ready bodies w ≡ true → is_pending w ≡ true
+ready_pending bodies None h = cc
+ready_pending bodies (Some w) h = state_ready_pending w.thread bodies w.state h
+
+settled_at_end : (scene : Scene) → length scene.waits ≤ first_ready scene.objects.bodies scene.waits → IsSettled scene.objects.bodies scene.waits
+settled_at_end scene le = record {
+  each = λ n. elim (cases_lt n (length scene.waits)) [
+    | inl lt ↦ fails_before_first (is_ready scene.objects.bodies) scene.waits n None (omega arith)
+    | inr past ↦ ap (is_ready scene.objects.bodies) (get_or_past scene.waits n None past)
+  ];
+}
+
+-- what an effect does: one pending wait is answered, and nothing is signaled that was not
+pub record Answers (scene after : Scene) (n : ℕ) : Type 0 where
+  pub wait : Wait
+  pub code : ℕ
+  pub waits : after.waits ≡ set scene.waits n (answered_wait wait code)
+  pub less : IsLess scene.objects.bodies after.objects.bodies
+  pub room : (limit : ℕ) → RoomKept limit wait.thread scene.objects.bodies after.objects.bodies
+  pub own : get_or scene.waits n None ≡ Some wait
+
+answered_by : (scene : Scene) (n : ℕ) (w : Wait) (st : State) → get_or scene.waits n None ≡ Some w → state_pending st ≡ true → Answers scene (effect_of scene n w st) n
+answered_by scene n w (Pending mode ids) own h = record { wait = w; code = code_of mode w.thread scene.objects.bodies ids; waits = refl; less = less_after mode w.thread scene.objects.bodies ids; room = λ limit. room_after limit mode w.thread scene.objects.bodies ids; own = own }
+answered_by scene n w (Answered code) own h = absurd (cc)
+
+answered_at : (scene : Scene) (n : ℕ) (w : Option Wait) → get_or scene.waits n None ≡ w → is_ready scene.objects.bodies w ≡ true → Answers scene (effect_at scene n w) n
+answered_at scene n None is h = absurd (cc)
+answered_at scene n (Some w) is h = answered_by scene n w w.state is (state_ready_pending w.thread scene.objects.bodies w.state h)
+
+pub answers : (scene : Scene) (n : ℕ) → is_ready scene.objects.bodies (get_or scene.waits n None) ≡ true → Answers scene (effect scene n) n
+answers scene n ready = answered_at scene n (get_or scene.waits n None) refl ready
+
+-- a number whose wait is ready is within the list, and its wait is counted as pending
+pub ready_within : (scene : Scene) (n : ℕ) → is_ready scene.objects.bodies (get_or scene.waits n None) ≡ true → n < length scene.waits
+ready_within scene n ready = elim (cases_lt n (length scene.waits)) [ inl lt ↦ lt | inr past ↦ let none = ap (is_ready scene.objects.bodies) (get_or_past scene.waits n None past) in absurd (cc (none, ready)) ]
+
+fewer : (scene : Scene) (n : ℕ) → n < length scene.waits → is_ready scene.objects.bodies (get_or scene.waits n None) ≡ true → pending_count (effect scene n).waits + 1 ≡ pending_count scene.waits
+fewer scene n in' ready =
+    let a = answers scene n ready in
+    let f : Option Wait → ℕ = λ w. cond (is_pending w) 1 0 in
+    let one : f (get_or scene.waits n None) ≡ 1 = ap {B = ℕ} (λ b. cond b 1 0) (ready_pending scene.objects.bodies (get_or scene.waits n None) ready) in
+    omega (arith, ap (sum_by f) a.waits, one, sum_by-set f scene.waits n (answered_wait a.wait a.code) None in')
+
+ready_counted : (scene : Scene) (n : ℕ) → is_ready scene.objects.bodies (get_or scene.waits n None) ≡ true → 0 < pending_count scene.waits
+ready_counted scene n ready =
+    let one : cond (is_pending (get_or scene.waits n None)) 1 0 ≡ 1 = ap {B = ℕ} (λ b. cond b 1 0) (ready_pending scene.objects.bodies (get_or scene.waits n None) ready) in
+    omega (arith, get_or-le-sum_by (λ w. cond (is_pending w) 1 0) scene.waits n None (ready_within scene n ready), one)
+
+settled_step : (P : Scene → Type 0) (n : ℕ) (scene : Scene) →
+    ((k : ℕ) → k < length scene.waits → is_ready scene.objects.bodies (get_or scene.waits k None) ≡ true → P (settled_within n (effect scene k))) →
+    (length scene.waits ≤ first_ready scene.objects.bodies scene.waits → P scene) → P (settled_within (suc n) scene)
+settled_step P n scene step stop =
+    let k = first_ready scene.objects.bodies scene.waits in
+    elim (cases_lt k (length scene.waits)) [
+      | inl lt ↦ rw (lt-ltb k (length scene.waits) lt) (step k lt (passes_at_first (is_ready scene.objects.bodies) scene.waits None lt))
+      | inr le ↦ rw (le-ltb k (length scene.waits) le) (stop le)
+    ]
+
+settled_enough : (n : ℕ) (scene : Scene) → pending_count scene.waits ≤ n → IsSettled (settled_within n scene).objects.bodies (settled_within n scene).waits
+settled_enough zero scene few = record { each = λ k. not_true _ (λ ready. omega (arith, ready_counted scene k ready)) }
+settled_enough (suc n) scene few = settled_step (λ s. IsSettled s.objects.bodies s.waits) n scene
+    (λ k lt ready. settled_enough n (effect scene k) (omega (arith, fewer scene k lt ready)))
+    (settled_at_end scene)
+
+-- The theorem: what settling leaves is settled.
+pub settled_is_settled : (scene : Scene) → IsSettled (settled scene).objects.bodies (settled scene).waits
+settled_is_settled scene = settled_enough (length scene.waits) scene (count_by-le-length is_pending scene.waits)
+
+-- a wait that is ready after an effect was ready before, and is another one
+record WasReady (scene : Scene) (n k : ℕ) : Type 0 where
+  before : is_ready scene.objects.bodies (get_or scene.waits k None) ≡ true
+  other : k ≡ n → ⊥
+
+was_ready : (scene : Scene) (n k : ℕ) → is_ready scene.objects.bodies (get_or scene.waits n None) ≡ true → is_ready (effect scene n).objects.bodies (get_or (effect scene n).waits k None) ≡ true → WasReady scene n k
+was_ready scene n k ready after =
+    let a = answers scene n ready in
+    let w : Option Wait = answered_wait a.wait a.code in
+    elim (cases_eq k n) [
+      | inl same ↦
+          let at : get_or (effect scene n).waits k None ≡ w = ap (λ ws. get_or ws k None) a.waits ∙ ap (λ i. get_or (set scene.waits n w) i None) same ∙ get_or-set_same scene.waits n w None (ready_within scene n ready) in
+          let none : is_ready (effect scene n).objects.bodies (get_or (effect scene n).waits k None) ≡ false = ap (is_ready (effect scene n).objects.bodies) at in
+          absurd (cc (none, after))
+      | inr other ↦
+          let at : get_or (effect scene n).waits k None ≡ get_or scene.waits k None = ap (λ ws. get_or ws k None) a.waits ∙ get_or-set_other scene.waits n k w None other in
+          record { before = ready_less scene.objects.bodies (effect scene n).objects.bodies a.less (get_or scene.waits k None) (subst (λ x. is_ready (effect scene n).objects.bodies x ≡ true) at after); other = other }
+    ]
+
+-- a settled scene stays
+settled_none : (fuel : ℕ) (scene : Scene) → IsSettled scene.objects.bodies scene.waits → settled_within fuel scene ≡ scene
+settled_none zero scene q = refl
+settled_none (suc n) scene q = settled_step (λ x. x ≡ scene) n scene (λ k lt ready. let none = q.each k in absurd (cc (none, ready))) (λ le. refl)
+
+-- where the wait of a number is ready and none below is, that is the first one that is ready
+first_is : (scene : Scene) (m : ℕ) → is_ready scene.objects.bodies (get_or scene.waits m None) ≡ true → ((k : ℕ) → k < m → is_ready scene.objects.bodies (get_or scene.waits k None) ≡ false) → first_ready scene.objects.bodies scene.waits ≡ m
+first_is scene m ready below = position_or_len_is (is_ready scene.objects.bodies) scene.waits m None (let lt = ready_within scene m ready in omega arith) below (λ lt. ready)
+
+settled_first : (fuel : ℕ) (scene : Scene) (m : ℕ) → is_ready scene.objects.bodies (get_or scene.waits m None) ≡ true → first_ready scene.objects.bodies scene.waits ≡ m → settled_within (suc fuel) scene ≡ settled_within fuel (effect scene m)
+settled_first fuel scene m ready first =
+    let lt : first_ready scene.objects.bodies scene.waits < length scene.waits = (let w = ready_within scene m ready in omega arith) in
+    rw (lt-ltb (first_ready scene.objects.bodies scene.waits) (length scene.waits) lt) (ap (λ k. settled_within fuel (effect scene k)) first)
+
+least_of : (m : ℕ) (ns : List ℕ) (scene : Scene) → IsRising (m ∷ ns) → Covers (m ∷ ns) scene → (k : ℕ) → k < m → is_ready scene.objects.bodies (get_or scene.waits k None) ≡ false
+least_of m ns scene rising covers k lt = not_true _ (λ ready. elim (covers.each k ready) [ inl same ↦ omega arith | inr in' ↦ omega (arith, rising.0 k in') ])
+
+-- one number of a pass, given that the pass over the others settles
+pass_step : (m : ℕ) (ns : List ℕ) (fuel : ℕ) (scene : Scene) → ((f : ℕ) (x : Scene) → Covers ns x → pending_count x.waits ≤ f → passed ns x ≡ settled_within f x) →
+    IsRising (m ∷ ns) → Covers (m ∷ ns) scene → pending_count scene.waits ≤ fuel → passed (m ∷ ns) scene ≡ settled_within fuel scene
+pass_step m ns fuel scene others rising covers few = by_ready (is_ready scene.objects.bodies (get_or scene.waits m None)) refl
+  where
+    rest : is_ready scene.objects.bodies (get_or scene.waits m None) ≡ true → Covers ns (effect scene m)
+    rest ready = record { each = λ k after. let w = was_ready scene m k ready after in elim (covers.each k w.before) [ inl same ↦ absurd (w.other same) | inr in' ↦ in' ] }
+
+    skip : is_ready scene.objects.bodies (get_or scene.waits m None) ≡ false → Covers ns scene
+    skip none = record { each = λ k ready. elim (covers.each k ready) [ inl same ↦ absurd (let e : is_ready scene.objects.bodies (get_or scene.waits m None) ≡ true = subst (λ i. is_ready scene.objects.bodies (get_or scene.waits i None) ≡ true) same ready in cc (e, none)) | inr in' ↦ in' ] }
+
+    by_fuel : (f : ℕ) → pending_count scene.waits ≤ f → is_ready scene.objects.bodies (get_or scene.waits m None) ≡ true → passed ns (effect scene m) ≡ settled_within f scene
+    by_fuel zero k ready = absurd (omega (arith, ready_counted scene m ready))
+    by_fuel (suc f) k ready =
+        others f (effect scene m) (rest ready) (omega (arith, fewer scene m (ready_within scene m ready) ready))
+        ∙ sym (settled_first f scene m ready (first_is scene m ready (least_of m ns scene rising covers)))
+
+    by_ready : (b : Bool) → is_ready scene.objects.bodies (get_or scene.waits m None) ≡ b → passed (m ∷ ns) scene ≡ settled_within fuel scene
+    by_ready true is = rw is (by_fuel fuel few is)
+    by_ready false is = rw is (others fuel scene (skip is) few)
+
+-- The theorem: one pass over numbers in order that cover all waits that are ready is settling.
+pass_settles : (ns : List ℕ) (fuel : ℕ) (scene : Scene) → IsRising ns → Covers ns scene → pending_count scene.waits ≤ fuel → passed ns scene ≡ settled_within fuel scene
+pass_settles [] fuel scene rising covers few = sym (settled_none fuel scene (record { each = λ n. not_true _ (λ ready. covers.each n ready) }))
+pass_settles (m ∷ ns) fuel scene rising covers few = pass_step m ns fuel scene (λ f x c k. pass_settles ns f x rising.1 c k) rising covers few
+
+pub covered_settles : (numbers : List ℕ) (scene : Scene) → IsRising numbers → Covers numbers scene → passed numbers scene ≡ settled scene
+covered_settles numbers scene rising covers = pass_settles numbers (length scene.waits) scene rising covers (count_by-le-length is_pending scene.waits)

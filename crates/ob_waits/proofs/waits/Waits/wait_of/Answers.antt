@@ -1,0 +1,16 @@
+use Rattle.std.proofs.Common.{◌<◌, Some, ap, sym, ◌∙◌, arith, get_or}
+use Rattle.ob_waits.specs.Waits.{number_of, WaitList}
+use Rattle.ob_waits.proofs.TrackedLaws.{number_found, number_missing}
+use Rattle.ob_waits.proofs.waits.Waits.wait_of.Goals as goal
+
+pub returns-then-number-eq0 : goal.returns-then-number-eq0
+returns-then-number-eq0 c =
+    sym (number_missing c.self.inside.live c.self.inside.roster.threads c.args.thread c.self.invariant.right.threads c.self.invariant.zero_has_none (sym c.number_of-number.ensures ∙ c.if-number-eq0.true))
+    ∙ ap (λ (l : WaitList). number_of c.args.thread l.waits) c.self.view_is
+
+pub returns : goal.returns
+returns c =
+    let some : 0 < get_or c.self.inside.roster.threads c.args.thread 0 = let e = c.number_of-number.ensures in omega (arith, e) in
+    ap Some c.number_of-number.ensures
+    ∙ sym (number_found c.self.inside.live c.self.inside.roster.threads c.args.thread c.self.invariant.right.threads some)
+    ∙ ap (λ (l : WaitList). number_of c.args.thread l.waits) c.self.view_is

@@ -1,0 +1,6 @@
+pub mod Objects
+pub mod Waits
+pub mod Rules
+pub mod Listed
+pub mod Rows
+pub mod Roster

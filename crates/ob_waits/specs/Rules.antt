@@ -1,0 +1,77 @@
+-- What waits keep, and what settling asks of them.
+use Rattle.std.specs.Prelude.{◌≡◌, ℕ, ◌⊎◌, ◌<◌, ◌≤◌, true, false, List, [], ◌∷◌, Option, Some, None, length, slice_index_or}
+use Rattle.pin_core.specs.declared.id.Id.{Id}
+use Rattle.ob_body.specs.declared.body.Body.{Body}
+use Rattle.ob_waits.specs.declared.wait.Mode.{Mode}
+use Rattle.ob_waits.specs.declared.wait.Mode.TheVariants.{All}
+use Rattle.ob_waits.specs.declared.wait.Wait.{Wait}
+use Rattle.ob_waits.specs.declared.wait.State.{State}
+use Rattle.ob_waits.specs.declared.wait.State.TheVariants.{Pending, Answered}
+use Rattle.ob_waits.specs.Objects.{slot_room}
+use Rattle.ob_waits.specs.Waits.{nowhere, Scene, is_ready, names_slot, ids_of}
+
+-- each object of a list has room for the thread
+pub record HasRoom (limit thread : ℕ) (bodies : List (Option Body)) (ids : List Id) : Type 0 where
+  pub each : (i : ℕ) → i < length ids → slot_room limit thread (slice_index_or bodies (slice_index_or ids i nowhere).slot None) ≡ true
+
+-- no two places of a list name one slot
+pub record IsDistinct (ids : List Id) : Type 0 where
+  pub apart : (i j : ℕ) → i < j → j < length ids → ((slice_index_or ids i nowhere).slot ≡ (slice_index_or ids j nowhere).slot → ⊥)
+
+-- a list that a thread may wait for: 1 to 64 objects; for all of them, each once
+pub record IsWaitable (mode : Mode) (ids : List Id) : Type 0 where
+  pub some : 0 < length ids
+  pub few : length ids ≤ 64
+  pub once : mode ≡ All → IsDistinct ids
+
+abbrev pub StateWaitable : State → Type 0
+StateWaitable (Pending mode ids) = IsWaitable mode ids
+StateWaitable (Answered code) = Unit {0}
+
+abbrev pub WaitWaitable : Option Wait → Type 0
+WaitWaitable None = Unit {0}
+WaitWaitable (Some wait) = StateWaitable wait.state
+
+abbrev pub thread_of : Option Wait → Option ℕ
+thread_of None = None
+thread_of (Some wait) = Some wait.thread
+
+-- every pending wait may be waited for, and a thread has one wait
+pub record IsKept (waits : List (Option Wait)) : Type 0 where
+  pub each : (n : ℕ) → WaitWaitable (slice_index_or waits n None)
+  pub one_each : (n m t : ℕ) → thread_of (slice_index_or waits n None) ≡ Some t → thread_of (slice_index_or waits m None) ≡ Some t → n ≡ m
+
+abbrev pub WaitHasRoom : ℕ → List (Option Body) → Option Wait → Type 0
+WaitHasRoom limit bodies None = Unit {0}
+WaitHasRoom limit bodies (Some wait) = HasRoom limit wait.thread bodies (ids_of (Some wait))
+
+-- no pending wait is for a mutex that its thread owns as often as the limit lets
+pub record WaitsHaveRoom (limit : ℕ) (bodies : List (Option Body)) (waits : List (Option Wait)) : Type 0 where
+  pub each : (n : ℕ) → WaitHasRoom limit bodies (slice_index_or waits n None)
+
+-- what settling needs of the waits and the bodies, and keeps
+pub record Fits (limit : ℕ) (bodies : List (Option Body)) (waits : List (Option Wait)) : Type 0 where
+  pub kept : IsKept waits
+  pub room : WaitsHaveRoom limit bodies waits
+
+-- no pending wait is ready
+pub record IsSettled (bodies : List (Option Body)) (waits : List (Option Wait)) : Type 0 where
+  pub each : (n : ℕ) → is_ready bodies (slice_index_or waits n None) ≡ false
+
+-- each wait that is ready names the slot
+pub record IsReadyAt (slot : ℕ) (bodies : List (Option Body)) (waits : List (Option Wait)) : Type 0 where
+  pub each : (n : ℕ) → is_ready bodies (slice_index_or waits n None) ≡ true → names_slot slot (slice_index_or waits n None) ≡ true
+
+-- a list of numbers has this one
+abbrev pub Within : ℕ → List ℕ → Type 0
+Within n [] = ⊥
+Within n (m ∷ ns) = (n ≡ m) ⊎ Within n ns
+
+-- the numbers rise
+abbrev pub IsRising : List ℕ → Type 0
+IsRising [] = Unit {0}
+IsRising (m ∷ ns) = ((k : ℕ) → Within k ns → m < k) × IsRising ns
+
+-- the numbers of all waits that are ready are there
+pub record Covers (ns : List ℕ) (scene : Scene) : Type 0 where
+  pub each : (n : ℕ) → is_ready scene.objects.bodies (slice_index_or scene.waits n None) ≡ true → Within n ns

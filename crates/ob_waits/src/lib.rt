@@ -1,0 +1,20 @@
+//! Waits: which thread waits for which objects, which wait is satisfied, with which code, and what it takes.
+#![tactic(auto)]
+
+mod blocks;
+mod bodies;
+mod ids;
+mod index;
+mod live;
+mod pass;
+mod roster;
+mod row;
+mod take;
+mod threads;
+mod wait;
+mod waits;
+
+pub use bodies::Bodies;
+pub use take::try_now;
+pub use wait::{Mode, WaitState};
+pub use waits::{WAIT_TIMEOUT, Waits};

@@ -1,0 +1,103 @@
+ghost use Rattle.std.specs.Prelude.{[], ◌≡◌, ◌<◌, length, slice_index_or, OnOk};
+ghost use Rattle.ob_waits.specs.Rows.{row_of};
+ghost use Rattle.ob_waits.specs.Roster.{IsRight, HasPlace, Leaves, with_number};
+
+use crate::index::Index;
+use crate::live::Live;
+use crate::row::Row;
+use crate::threads::Threads;
+use pin_core::Id;
+use std::alloc::{AllocError, Global};
+use std::marker::Model;
+
+/// Finds waits by their thread, in order, and by the slot of an object.
+#[derive(Drop)]
+pub(crate) struct Roster {
+    threads: Threads,
+    order: Row,
+    index: Index,
+}
+
+impl Model for Roster {
+    ghost use Rattle.ob_waits.specs.Roster as spec;
+
+    ghost Value = { spec.Roster };
+
+    ghost view = { λ r. record { threads = r.threads; order = r.order; index = r.index } };
+}
+
+impl Roster {
+    pub(crate) fn new(alloc: Global) -> Roster
+        ensures { result ≡ record { threads = []; order = []; index = [] } }
+    {
+        Roster {
+            threads: Threads::new(alloc),
+            order: Row::new(alloc),
+            index: Index::new(alloc),
+        }
+    }
+
+    /// The number of a thread's wait, or 0.
+    pub(crate) fn number_of(&self, thread: u32) -> u32
+        ensures { result ≡ slice_index_or self.now.threads thread 0 }
+    {
+        self.threads.get(thread)
+    }
+
+    /// Numbers, rising, among which are all of pending waits.
+    pub(crate) fn order(&self) -> &[u32]
+        ensures { result.now ≡ self.now.order }
+    {
+        self.order.as_slice()
+    }
+
+    /// Numbers, rising, among which are all of pending waits for an object in a slot.
+    pub(crate) fn row(&self, slot: u32) -> &[u32]
+        ensures { result.now ≡ row_of self.now.index slot }
+    {
+        self.index.row(slot)
+    }
+
+    /// Takes all memory that a thread's wait for these objects needs here.
+    pub(crate) fn make_room(
+        &mut self,
+        live: &Live,
+        thread: u32,
+        ids: &[Id],
+        number: u32,
+    ) -> Result<(), AllocError>
+        requires right { IsRight live.now self.old }
+        requires next { length live.now ≡ number }
+        ensures right { IsRight live.now self.new }
+        ensures place { OnOk result (HasPlace self.new thread ids.now number) }
+    {
+        self.threads.make_room(thread)?;
+        self.order.thin_if_due(live);
+        self.order.enter(number)?;
+        self.index.thin_all(live, ids);
+        self.index.enter_all(ids, number)?;
+        Ok(())
+    }
+
+    /// Writes the number of a thread's wait, or 0.
+    pub(crate) fn set_number(&mut self, thread: u32, number: u32)
+        requires { thread < length self.old.threads }
+        ensures { self.new ≡ with_number self.old thread number }
+    {
+        self.threads.set(thread, number);
+    }
+
+    /// Drops numbers of waits that are not pending.
+    pub(crate) fn thin(&mut self, live: &Live)
+        ensures { Leaves live.now self.old self.new }
+    {
+        self.order.thin(live);
+    }
+
+    /// Drops them from the row of a slot alone.
+    pub(crate) fn thin_row(&mut self, live: &Live, slot: u32)
+        ensures { Leaves live.now self.old self.new }
+    {
+        self.index.thin(live, slot);
+    }
+}

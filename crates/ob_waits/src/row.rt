@@ -1,0 +1,88 @@
+ghost use Rattle.std.specs.Prelude.{[], ◌≡◌, ◌≤◌, ◌<◌, ℕ, OnOk};
+ghost use Rattle.ob_waits.specs.Rows.{IsRow, ends_with, thinned, Thins};
+ghost use Rattle.ob_waits.specs.Rules.{Within};
+
+use crate::live::Live;
+use std::alloc::{AllocError, Global};
+use std::marker::Model;
+
+/// Numbers of waits, rising, among which are all of some that are pending.
+#[derive(Drop)]
+pub(crate) struct Row {
+    numbers: Vec<u32>,
+    due: usize,
+}
+
+impl Model for Row {
+    ghost use Rattle.std.specs.Prelude.{List, ℕ};
+
+    ghost Value = { List ℕ };
+
+    ghost view = { λ r. r.numbers.items };
+}
+
+fn ends_with(numbers: &[u32], number: u32) -> bool
+    ensures { result ≡ ends_with number numbers.now }
+{
+    match numbers.last() {
+        Some(last) => *last == number,
+        None => false,
+    }
+}
+
+impl Row {
+    pub(crate) fn new(alloc: Global) -> Row
+        ensures { result ≡ [] }
+    {
+        Row {
+            numbers: Vec::new(alloc),
+            due: 8,
+        }
+    }
+
+    /// The numbers.
+    pub(crate) fn as_slice(&self) -> &[u32]
+        ensures { result.now ≡ self.now }
+    {
+        self.numbers.as_slice()
+    }
+
+    /// Puts a number in that is not below any that is there.
+    pub(crate) fn enter(&mut self, number: u32) -> Result<(), AllocError>
+        requires { IsRow number self.old }
+        ensures row { IsRow number self.new }
+        ensures keeps { (k : ℕ) → Within k self.old → Within k self.new }
+        ensures entered { OnOk result (Within number self.new) }
+    {
+        if ends_with(self.numbers.as_slice(), number) {
+            return Ok(());
+        }
+        self.numbers.push(number)?;
+        Ok(())
+    }
+
+    fn drop_others(&mut self, live: &Live)
+        ensures { self.new ≡ thinned live.now self.old }
+    {
+        self.numbers.retain(|number| live.is_pending(*number));
+        self.due = self.numbers.len().saturating_mul(2).saturating_add(8);
+    }
+
+    /// Drops the numbers of waits that are not pending.
+    #[tactic(auto, using(crate::proofs::RowLaws::thins_all))]
+    pub(crate) fn thin(&mut self, live: &Live)
+        ensures { Thins live.now self.old self.new }
+    {
+        self.drop_others(live);
+    }
+
+    /// Drops them once the row has outgrown what was left the last time, so that a number costs constant time.
+    #[tactic(auto, using(crate::proofs::RowLaws::thins_none))]
+    pub(crate) fn thin_if_due(&mut self, live: &Live)
+        ensures { Thins live.now self.old self.new }
+    {
+        if self.numbers.len() >= self.due {
+            self.thin(live);
+        }
+    }
+}

@@ -1,0 +1,128 @@
+ghost use Rattle.std.specs.Prelude.{[], ◌∷◌, ◌≡◌, ◌<◌, ◌≤◌, true, None, Some, length, slice_index_or};
+ghost use Rattle.std.specs.List.{list_any, list_all};
+ghost use Rattle.ob_waits.specs.Objects.{slot_room};
+ghost use Rattle.ob_waits.specs.Waits.{nowhere, is_signaled, is_abandoned, first_signaled, list_ready, with_acquired, with_all_acquired, bodies_after, code_of, code_now, objects_now};
+ghost use Rattle.ob_waits.specs.Rules.{HasRoom, IsDistinct, IsWaitable};
+
+use crate::bodies::Bodies;
+use crate::wait::Mode;
+use ob_body::RECURSION_MAX;
+use pin_core::Id;
+
+fn is_signaled<B: Bodies>(bodies: &B, thread: u32, id: Id) -> bool
+    ensures { result ≡ is_signaled thread (B.objects bodies.now).bodies id }
+{
+    match bodies.body(id) {
+        Some(body) => body.signaled_for(thread),
+        None => false,
+    }
+}
+
+/// The index of the first object that is signaled, or the length.
+fn first_signaled<B: Bodies>(bodies: &B, thread: u32, ids: &[Id]) -> usize
+    ensures value { result ≡ first_signaled thread (B.objects bodies.now).bodies ids.now }
+    ensures bound { result ≤ length ids.now }
+{
+    for (i, id) in ids.iter().enumerate() {
+        if is_signaled(bodies, thread, *id) {
+            return i;
+        }
+    }
+    ids.len()
+}
+
+fn are_all_signaled<B: Bodies>(bodies: &B, thread: u32, ids: &[Id]) -> bool
+    ensures { result ≡ list_all (is_signaled thread (B.objects bodies.now).bodies) ids.now }
+{
+    for id in ids {
+        if !is_signaled(bodies, thread, *id) {
+            return false;
+        }
+    }
+    true
+}
+
+/// Whether a thread's wait for these objects is satisfied now.
+pub(crate) fn is_list_ready<B: Bodies>(bodies: &B, thread: u32, mode: Mode, ids: &[Id]) -> bool
+    ensures { result ≡ list_ready mode thread (B.objects bodies.now).bodies ids.now }
+{
+    match mode {
+        Mode::Any => first_signaled(bodies, thread, ids) < ids.len(),
+        Mode::All => are_all_signaled(bodies, thread, ids),
+    }
+}
+
+/// A thread acquires one object; whether that was an abandoned mutex.
+fn take_one<B: Bodies>(bodies: &mut B, thread: u32, id: Id) -> bool
+    requires signaled { is_signaled thread (B.objects bodies.old).bodies id ≡ true }
+    requires room { slot_room RECURSION_MAX thread (slice_index_or (B.objects bodies.old).bodies id.slot None) ≡ true }
+    ensures was_abandoned { result ≡ is_abandoned (B.objects bodies.old).bodies id }
+    ensures objects { B.objects bodies.new ≡ record (B.objects bodies.old) { bodies = with_acquired thread (B.objects bodies.old).bodies id } }
+{
+    let Some(mut body) = bodies.body(id) else {
+        unreachable!()
+    };
+    let was_abandoned = body.acquire(thread);
+    bodies.put(id, body);
+    was_abandoned
+}
+
+/// A thread acquires each of some objects; whether one was an abandoned mutex.
+fn take_all<B: Bodies>(bodies: &mut B, thread: u32, ids: &[Id]) -> bool
+    requires ready { list_all (is_signaled thread (B.objects bodies.old).bodies) ids.now ≡ true }
+    requires room { HasRoom RECURSION_MAX thread (B.objects bodies.old).bodies ids.now }
+    requires once { IsDistinct ids.now }
+    ensures was_abandoned { result ≡ list_any (is_abandoned (B.objects bodies.old).bodies) ids.now }
+    ensures objects { B.objects bodies.new ≡ record (B.objects bodies.old) { bodies = with_all_acquired thread (B.objects bodies.old).bodies ids.now } }
+{
+    let mut was_abandoned = false;
+    for id in ids {
+        if take_one(bodies, thread, *id) {
+            was_abandoned = true;
+        }
+    }
+    was_abandoned
+}
+
+/// What a list that is ready takes, and its code.
+pub(crate) fn take<B: Bodies>(bodies: &mut B, thread: u32, mode: Mode, ids: &[Id]) -> u32
+    requires ready { list_ready mode thread (B.objects bodies.old).bodies ids.now ≡ true }
+    requires room { HasRoom RECURSION_MAX thread (B.objects bodies.old).bodies ids.now }
+    requires waitable { IsWaitable mode ids.now }
+    ensures code { result ≡ code_of mode thread (B.objects bodies.old).bodies ids.now }
+    ensures objects { B.objects bodies.new ≡ record (B.objects bodies.old) { bodies = bodies_after mode thread (B.objects bodies.old).bodies ids.now } }
+{
+    match mode {
+        Mode::Any => {
+            let index = first_signaled(bodies, thread, ids);
+            if take_one(bodies, thread, ids[index]) {
+                return index as u32 + 128;
+            }
+            index as u32
+        }
+        Mode::All => {
+            if take_all(bodies, thread, ids) {
+                return 128;
+            }
+            0
+        }
+    }
+}
+
+/// Takes what a wait of the thread for these objects is satisfied by, where it is satisfied now, and
+/// gives its code ([Wait Functions]): for any, the least index of a signaled object, and 128 more where
+/// that is an abandoned mutex; for all, 0, or 128 where one is an abandoned mutex (*profile*). Else
+/// nothing changes.
+///
+/// [Wait Functions]: https://learn.microsoft.com/windows/win32/sync/wait-functions
+pub fn try_now<B: Bodies>(bodies: &mut B, thread: u32, mode: Mode, ids: &[Id]) -> Option<u32>
+    requires waitable { IsWaitable mode ids.now }
+    requires room { HasRoom RECURSION_MAX thread (B.objects bodies.old).bodies ids.now }
+    ensures code { result ≡ code_now mode thread (B.objects bodies.old).bodies ids.now }
+    ensures objects { B.objects bodies.new ≡ objects_now mode thread (B.objects bodies.old) ids.now }
+{
+    if !is_list_ready(bodies, thread, mode, ids) {
+        return None;
+    }
+    Some(take(bodies, thread, mode, ids))
+}

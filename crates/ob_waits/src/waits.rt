@@ -1,0 +1,200 @@
+ghost use Rattle.std.specs.Prelude.{[], ◌∷◌, ◌≡◌, false, Err, ◌≢◌, ◌+◌, ◌<◌, ◌≤◌, ◌↔◌, ℕ, true, None, Some, length, slice_index_or, OnOk, OnErr, IfOk, IfErr, IfSome, IsSome};
+ghost use Rattle.std.specs.Option.{option_map};
+ghost use Rattle.ob_waits.specs.Waits.{settled, passed, blocks_among, number_of, with_wait, with_answer, without_wait, without_thread, is_pending, code_at, state_at, ids_of, is_full};
+ghost use Rattle.ob_waits.specs.Rules.{IsWaitable, WaitsHaveRoom, IsSettled, IsReadyAt};
+
+use crate::blocks::blocks_of;
+use crate::bodies::Bodies;
+use crate::ids::Ids;
+use crate::live::Live;
+use crate::pass::pass;
+use crate::roster::Roster;
+use crate::wait::{Mode, State, Wait, WaitState};
+use ob_body::RECURSION_MAX;
+use ob_rights::Fault;
+use pin_core::Id;
+use std::alloc::{AllocError, Global};
+use std::marker::Model;
+
+/// The code of a wait that expired.
+pub const WAIT_TIMEOUT: u32 = 258;
+
+/// The waits of all threads, by their numbers.
+///
+/// Numbers rise from 1 and none is given twice; a wait that is over takes no room. A thread has one wait
+/// at a time, from [`add`](Waits::add) until its answer is taken. The tables grow with the greatest thread
+/// number and slot that a wait had.
+#[derive(Drop)]
+pub struct Waits {
+    limit: u32,
+    alloc: Global,
+    live: Live,
+    roster: Roster,
+}
+
+impl Model for Waits {
+    ghost use Rattle.ob_waits.specs.Waits.{WaitList};
+    ghost use Rattle.ob_waits.specs.Roster.{IsTracked};
+
+    ghost Value = { WaitList };
+
+    ghost view = { λ w. record { limit = w.limit; waits = w.live } };
+
+    ghost invariant = { λ w. IsTracked w.limit w.live w.roster };
+}
+
+impl Waits {
+    /// No waits yet; at most `waits` numbers may be given. Takes no memory.
+    pub fn new(alloc: Global, waits: u32) -> Waits
+        ensures { result ≡ record { limit = waits; waits = None ∷ [] } }
+    {
+        Waits {
+            limit: waits,
+            alloc,
+            live: Live::new(alloc),
+            roster: Roster::new(alloc),
+        }
+    }
+
+    /// The number of the thread's wait, pending or answered.
+    pub fn wait_of(&self, thread: u32) -> Option<u32>
+        ensures { result ≡ number_of thread self.now.waits }
+    {
+        let number = self.roster.number_of(thread);
+        if number == 0 {
+            return None;
+        }
+        Some(number)
+    }
+
+    /// How many places of pending waits name the object.
+    pub fn blocks_of(&self, id: Id) -> u64
+        ensures { result ≡ blocks_among id self.now.waits }
+    {
+        blocks_of(&self.live, self.roster.row(id.slot), id)
+    }
+
+    /// Where the wait of a number stands, and which objects it is for: none once it is answered.
+    pub fn look(&self, wait: u32) -> Option<(WaitState, &[Id])>
+        ensures state { option_map (λ r. r.0) result ≡ state_at (slice_index_or self.now.waits wait None) }
+        ensures ids { IfSome result (λ r. r.1.now ≡ ids_of (slice_index_or self.now.waits wait None)) }
+    {
+        match self.live.get(wait) {
+            Some(wait) => match &wait.state {
+                State::Pending(_, ids) => Some((WaitState::Pending, ids.as_slice())),
+                State::Answered(code) => Some((WaitState::Answered(*code), &[])),
+            },
+            None => None,
+        }
+    }
+
+    fn admit(&mut self, thread: u32, mode: Mode, ids: &[Id]) -> Result<u32, AllocError>
+        requires waitable { IsWaitable mode ids.now }
+        requires alone { number_of thread self.old.waits ≡ None }
+        requires below_limit { is_full self.old ≡ false }
+        ensures number { IfOk result (λ number. number ≡ length self.old.waits) }
+        ensures added { OnOk result (self.new ≡ with_wait self.old thread mode ids.now) }
+        ensures err { OnErr result (self.new ≡ self.old) }
+    {
+        let number = self.live.given() + 1;
+        let list = Ids::new(self.alloc, ids)?;
+        self.roster.make_room(&self.live, thread, ids, number)?;
+        self.live.push(Wait {
+            thread,
+            state: State::Pending(mode, list),
+        })?;
+        self.roster.set_number(thread, number);
+        Ok(number)
+    }
+
+    /// Gives the next number to a pending wait of a thread for 1 to 64 objects.
+    ///
+    /// [`Fault::Limit`] (1450) exactly where all numbers are given, and else [`Fault::Memory`] (8) where
+    /// memory runs out; then nothing changes.
+    pub fn add(&mut self, thread: u32, mode: Mode, ids: &[Id]) -> Result<u32, Fault>
+        requires waitable { IsWaitable mode ids.now }
+        requires alone { number_of thread self.old.waits ≡ None }
+        ensures number { IfOk result (λ number. number ≡ length self.old.waits) }
+        ensures added { OnOk result (self.new ≡ with_wait self.old thread mode ids.now) }
+        ensures err { OnErr result (self.new ≡ self.old) }
+        ensures full { (result ≡ Err Fault.Limit) ↔ (is_full self.old ≡ true) }
+        ensures memory { IfErr result (λ fault. is_full self.old ≡ false → fault ≡ Fault.Memory) }
+    {
+        if self.live.given() >= self.limit {
+            return Err(Fault::Limit);
+        }
+        match self.admit(thread, mode, ids) {
+            Ok(number) => Ok(number),
+            Err(_) => Err(Fault::Memory),
+        }
+    }
+
+    /// As long as a pending wait is satisfied, the one of least number takes effect (*profile*): it
+    /// acquires what satisfies it, is answered with its code, and its blocks leave.
+    pub fn settle<B: Bodies>(&mut self, bodies: &mut B)
+        requires { WaitsHaveRoom RECURSION_MAX (B.objects bodies.old).bodies self.old.waits }
+        ensures value { record { objects = B.objects bodies.new; waits = self.new.waits } ≡ settled (record { objects = B.objects bodies.old; waits = self.old.waits }) }
+        ensures limit { self.new.limit ≡ self.old.limit }
+        // Nothing is left to settle, and no pending wait lost its room, below any limit.
+        ensures settled { IsSettled (B.objects bodies.new).bodies self.new.waits }
+        ensures room { (limit : ℕ) → WaitsHaveRoom limit (B.objects bodies.old).bodies self.old.waits → WaitsHaveRoom limit (B.objects bodies.new).bodies self.new.waits }
+    {
+        pass(&mut self.live, bodies, self.roster.order());
+        self.roster.thin(&self.live);
+    }
+
+    /// The same as [`settle`](Waits::settle) where each wait that is satisfied names the slot of this
+    /// object, as after a change of its body in a settled state. It looks at no other wait.
+    pub fn settle_after<B: Bodies>(&mut self, bodies: &mut B, id: Id)
+        requires room { WaitsHaveRoom RECURSION_MAX (B.objects bodies.old).bodies self.old.waits }
+        requires ready { IsReadyAt id.slot (B.objects bodies.old).bodies self.old.waits }
+        ensures value { record { objects = B.objects bodies.new; waits = self.new.waits } ≡ settled (record { objects = B.objects bodies.old; waits = self.old.waits }) }
+        ensures limit { self.new.limit ≡ self.old.limit }
+        ensures settled { IsSettled (B.objects bodies.new).bodies self.new.waits }
+        ensures room { (limit : ℕ) → WaitsHaveRoom limit (B.objects bodies.old).bodies self.old.waits → WaitsHaveRoom limit (B.objects bodies.new).bodies self.new.waits }
+    {
+        pass(&mut self.live, bodies, self.roster.row(id.slot));
+        self.roster.thin_row(&self.live, id.slot);
+    }
+
+    /// Ends a pending wait without satisfying it: its answer is 258, `WAIT_TIMEOUT` ([Wait Functions]).
+    ///
+    /// [Wait Functions]: https://learn.microsoft.com/windows/win32/sync/wait-functions
+    pub fn expire(&mut self, wait: u32)
+        requires { is_pending (slice_index_or self.old.waits wait None) ≡ true }
+        ensures { self.new ≡ with_answer self.old wait WAIT_TIMEOUT }
+    {
+        self.live.answer(wait, WAIT_TIMEOUT);
+    }
+
+    /// Takes the wait of a thread away, pending or answered, if it has one.
+    pub fn drop_thread(&mut self, thread: u32)
+        ensures { self.new ≡ without_thread self.old thread }
+    {
+        let number = self.roster.number_of(thread);
+        if number == 0 {
+            return;
+        }
+        let _ = self.live.remove(number);
+        self.roster.set_number(thread, 0);
+    }
+
+    /// The code of a wait that is answered, which is over with it: its thread may wait again.
+    pub fn take_result(&mut self, wait: u32) -> u32
+        requires { IsSome (code_at (slice_index_or self.old.waits wait None)) }
+        ensures code { code_at (slice_index_or self.old.waits wait None) ≡ Some result }
+        ensures over { self.new ≡ without_wait self.old wait }
+    {
+        let Some(
+            Wait {
+                thread,
+                state: State::Answered(code),
+            },
+        ) = self.live.remove(wait)
+        else {
+            unreachable!()
+        };
+        self.roster.set_number(thread, 0);
+        code
+    }
+}
