@@ -1,0 +1,4 @@
+pub mod Places
+pub mod Inheriting
+pub mod Limits
+pub mod Counting

@@ -1,0 +1,92 @@
+-- When a table is full, and that no table outgrows its limit.
+use Rattle.std.proofs.Common.{◌≡◌, ℕ, zero, suc, ◌<◌, ◌≤◌, List, [], ◌∷◌, ◌++◌, length, Option, Some, None, refl, ap, ◌∙◌, arith, get_or, set, ⊎_elim, cond}
+use Rattle.std.specs.Prelude.{is_some}
+use Rattle.std.proofs.lemmas.Bool.{cases_lt}
+use Rattle.std.proofs.lemmas.List.{length-append, length-set}
+use Rattle.std.proofs.lemmas.List.Sums.{sum_by-cons}
+use Rattle.ob_tables.specs.declared.entry.Entry.{Entry}
+use Rattle.ob_tables.specs.Table.{free_place, with_entry}
+use Rattle.ob_tables.specs.Counts.{entries_in}
+use Rattle.ob_tables.specs.Tables.{table_of}
+use Rattle.ob_tables.proofs.Places.{with_entry_at, with_entry_end}
+
+pub entries_in-some : (x : Entry) (t : List (Option Entry)) → entries_in (Some x ∷ t) ≡ suc (entries_in t)
+entries_in-some x t = omega (arith, sum_by-cons (λ y. cond (is_some y) 1 0) (Some x) t)
+
+pub entries_in-none : (t : List (Option Entry)) → entries_in (None ∷ t) ≡ entries_in t
+entries_in-none t = omega (arith, sum_by-cons (λ y. cond (is_some y) 1 0) None t)
+
+-- there are as many entries as places, or fewer
+pub entries_in-le : (t : List (Option Entry)) → entries_in t ≤ length t
+entries_in-le [] = omega arith
+entries_in-le (None ∷ t) = omega (arith, entries_in-none t, entries_in-le t)
+entries_in-le (Some x ∷ t) = omega (arith, entries_in-some x t, entries_in-le t)
+
+-- a table without a free place has as many
+pub full_entries : (t : List (Option Entry)) → length t ≤ free_place t → entries_in t ≡ length t
+full_entries [] h = refl
+full_entries (None ∷ t) h = absurd (omega arith)
+full_entries (Some x ∷ t) h = omega (arith, entries_in-some x t, full_entries t (omega arith))
+
+-- and one with a free place has fewer
+pub short_entries : (t : List (Option Entry)) → free_place t < length t → entries_in t < length t
+short_entries [] h = absurd (omega arith)
+short_entries (None ∷ t) h = omega (arith, entries_in-none t, entries_in-le t)
+short_entries (Some x ∷ t) h = omega (arith, entries_in-some x t, short_entries t (omega arith))
+
+pub free_place-le : (t : List (Option Entry)) → free_place t ≤ length t
+free_place-le [] = omega arith
+free_place-le (None ∷ t) = omega arith
+free_place-le (Some x ∷ t) = omega (arith, free_place-le t)
+
+-- a read of a list within it does not look at the default
+same_default : {A : Type 0} (xs : List A) (i : ℕ) (d e : A) → i < length xs → get_or xs i d ≡ get_or xs i e
+same_default [] i d e lt = absurd (omega arith)
+same_default (x ∷ xs) zero d e lt = refl
+same_default (x ∷ xs) (suc i) d e lt = same_default xs i d e (omega arith)
+
+pub table_is : (ts : List (List (Option Entry))) (p : ℕ) (t : List (Option Entry)) → p < length ts → t ≡ get_or ts p t → t ≡ table_of ts p
+table_is ts p t lt is = is ∙ same_default ts p t [] lt
+
+-- each table of the list is within the limit
+pub record AreShort (ts : List (List (Option Entry))) (m : ℕ) : Type 0 where
+  pub each : (p : ℕ) → length (table_of ts p) ≤ m
+
+-- a table whose least free place is at the limit is full, and one with a lower one has room
+pub is_full : (ts : List (List (Option Entry))) (p m : ℕ) → AreShort ts m → m ≤ free_place (table_of ts p) → entries_in (table_of ts p) ≡ m
+is_full ts p m short at = let e = short.each p in let f = free_place-le (table_of ts p) in omega (arith, full_entries (table_of ts p) (omega arith))
+
+pub has_room : (ts : List (List (Option Entry))) (p m : ℕ) → AreShort ts m → free_place (table_of ts p) < m → entries_in (table_of ts p) < m
+has_room ts p m short below = let e = short.each p in ⊎_elim
+    (λ (lt : free_place (table_of ts p) < length (table_of ts p)). omega (arith, short_entries (table_of ts p) lt))
+    (λ (ge : length (table_of ts p) ≤ free_place (table_of ts p)). omega (arith, full_entries (table_of ts p) ge, free_place-le (table_of ts p)))
+    (cases_lt (free_place (table_of ts p)) (length (table_of ts p)))
+
+-- the same where `t` was read at `p`, and `n` is its least free place
+pub full_at : (ts : List (List (Option Entry))) (p m : ℕ) (t : List (Option Entry)) (n : ℕ) → AreShort ts m → p < length ts → t ≡ get_or ts p t → n ≡ free_place t → m ≤ n → entries_in (table_of ts p) ≡ m
+full_at ts p m t n short lt read is at = let same = ap free_place (table_is ts p t lt read) in is_full ts p m short (omega (arith, same))
+
+pub room_at : (ts : List (List (Option Entry))) (p m : ℕ) (t : List (Option Entry)) (n : ℕ) → AreShort ts m → p < length ts → t ≡ get_or ts p t → n ≡ free_place t → n < m → entries_in (table_of ts p) < m
+room_at ts p m t n short lt read is below = let same = ap free_place (table_is ts p t lt read) in has_room ts p m short (omega (arith, same))
+
+-- an entry below the limit keeps a table within it
+pub length-with_entry : (t : List (Option Entry)) (e : Entry) (m : ℕ) → length t ≤ m → free_place t < m → length (with_entry t e) ≤ m
+length-with_entry t e m short below = ⊎_elim
+    (λ (lt : free_place t < length t). omega (arith, ap length (with_entry_at t e lt), length-set t (free_place t) (Some e)))
+    (λ (ge : length t ≤ free_place t). let end : free_place t ≡ length t = omega (arith, free_place-le t) in
+    omega (arith, ap length (with_entry_end t e end), length-append t (Some e ∷ [])))
+    (cases_lt (free_place t) (length t))
+
+-- a table comes, or changes
+pub short_pushed : (ts : List (List (Option Entry))) (t : List (Option Entry)) (m : ℕ) → ((p : ℕ) → length (table_of ts p) ≤ m) → length t ≤ m → (p : ℕ) → length (table_of (ts ++ t ∷ []) p) ≤ m
+short_pushed [] t m each short zero = short
+short_pushed [] t m each short (suc p) = omega arith
+short_pushed (x ∷ ts) t m each short zero = each zero
+short_pushed (x ∷ ts) t m each short (suc p) = short_pushed ts t m (λ q. each (suc q)) short p
+
+pub short_set : (ts : List (List (Option Entry))) (k : ℕ) (t : List (Option Entry)) (m : ℕ) → ((p : ℕ) → length (table_of ts p) ≤ m) → length t ≤ m → (p : ℕ) → length (table_of (set ts k t) p) ≤ m
+short_set [] k t m each short p = each p
+short_set (x ∷ ts) zero t m each short zero = short
+short_set (x ∷ ts) zero t m each short (suc p) = each (suc p)
+short_set (x ∷ ts) (suc k) t m each short zero = each zero
+short_set (x ∷ ts) (suc k) t m each short (suc p) = short_set ts k t m (λ q. each (suc q)) short p

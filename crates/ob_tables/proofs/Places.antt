@@ -1,0 +1,81 @@
+-- Laws of one table: its least free place, what an entry there does, and the places that are taken.
+use Rattle.std.proofs.Common.{◌≡◌, ℕ, ◌<◌, ◌≤◌, List, [], ◌∷◌, ◌++◌, length, map, Option, Some, None, refl, ap, ◌∙◌, sym, subst, arith, get_or, set, Bool, true, false, cond, ltb}
+use Rattle.std.specs.Prelude.{is_some, IsSome, slice_get}
+use Rattle.std.proofs.lemmas.List.{map-set, map-append, length-map, length-set, length-append}
+use Rattle.std.proofs.Math.Seq.{map-set_same}
+use Rattle.least_free.specs.Taken.{least_free}
+use Rattle.least_free.proofs.TakenLemmas.{slice_get_least_free}
+use Rattle.ob_tables.specs.declared.entry.Entry.{Entry}
+use Rattle.ob_tables.specs.Table.{at, place_of, entry_at, free_place, with_entry, IsKept}
+
+-- the least number that is not taken is the least free place
+pub least_free_places : {A : Type 0} (t : List (Option A)) → least_free (map is_some t) ≡ free_place t
+least_free_places [] = refl
+least_free_places (None ∷ t) = refl
+least_free_places (Some x ∷ t) = let e : least_free (map is_some t) ≡ free_place t = least_free_places t in omega (arith, e)
+
+-- a table that is free at its end alone gets the entry there
+pub with_entry_end : (t : List (Option Entry)) (e : Entry) → free_place t ≡ length t → with_entry t e ≡ t ++ Some e ∷ []
+with_entry_end [] e h = refl
+with_entry_end (None ∷ t) e h = cc
+with_entry_end (Some x ∷ t) e h = ap (λ r. Some x ∷ r) (with_entry_end t e (omega arith))
+
+-- otherwise the entry is written at the free place
+pub with_entry_at : (t : List (Option Entry)) (e : Entry) → free_place t < length t → with_entry t e ≡ set t (free_place t) (Some e)
+with_entry_at [] e h = absurd (omega arith)
+with_entry_at (None ∷ t) e h = refl
+with_entry_at (Some x ∷ t) e h = ap (λ r. Some x ∷ r) (with_entry_at t e (omega arith))
+
+-- the least number of a table's set is its least free place, and is free
+pub least_place : (taken : List Bool) (t : List (Option Entry)) → IsKept taken t → least_free taken ≡ free_place t
+least_place taken t kept = ap least_free kept.same ∙ least_free_places t
+
+pub place_is_free : (taken : List Bool) (t : List (Option Entry)) (k : ℕ) → IsKept taken t → k ≡ least_free taken → k < length t → slice_get taken k ≡ Some false
+place_is_free taken t k kept is lt =
+    let long : length taken ≡ length t = ap length kept.same ∙ length-map t is_some in
+    subst (λ (n : ℕ). slice_get taken n ≡ Some false) (sym is) (slice_get_least_free taken (omega arith))
+
+pub placed_at : (taken : List Bool) (t : List (Option Entry)) (k : ℕ) (e : Entry) → IsKept taken t → k ≡ least_free taken → k < length t → set t k (Some e) ≡ with_entry t e
+placed_at taken t k e kept is lt =
+    let at' : free_place t ≡ k = sym (is ∙ least_place taken t kept) in
+    ap (λ (n : ℕ). set t n (Some e)) (sym at') ∙ sym (with_entry_at t e (omega arith))
+
+pub placed_last : (taken : List Bool) (t : List (Option Entry)) (k : ℕ) (e : Entry) → IsKept taken t → k ≡ least_free taken → length t ≤ k → k ≤ length taken → t ++ Some e ∷ [] ≡ with_entry t e
+placed_last taken t k e kept is past bound =
+    let long : length taken ≡ length t = ap length kept.same ∙ length-map t is_some in
+    sym (with_entry_end t e (let at' = least_place taken t kept in omega arith))
+
+-- a place changes, and the set with it
+pub kept_set : (taken taken' : List Bool) (t : List (Option Entry)) (k : ℕ) (x : Option Entry) → IsKept taken t → taken' ≡ set taken k (is_some x) → IsKept taken' (set t k x)
+kept_set taken taken' t k x kept is = record {
+  few = omega (arith, length-set t k x, kept.few);
+  same = is ∙ ap (λ (s : List Bool). set s k (is_some x)) kept.same ∙ sym (map-set is_some t k x);
+}
+
+-- an entry changes, and the set stays
+pub kept_changed : (taken : List Bool) (t : List (Option Entry)) (k : ℕ) (x : Option Entry) → IsKept taken t → is_some x ≡ is_some (get_or t k None) → IsKept taken (set t k x)
+kept_changed taken t k x kept is = record {
+  few = omega (arith, length-set t k x, kept.few);
+  same = kept.same ∙ sym (map-set_same is_some t k x None is);
+}
+
+-- an entry comes at the end
+pub kept_pushed : (taken taken' : List Bool) (t t' : List (Option Entry)) (e : Entry) → IsKept taken t → length t < 16384 → taken' ≡ taken ++ true ∷ [] → t' ≡ t ++ Some e ∷ [] → IsKept taken' t'
+kept_pushed taken taken' t t' e kept short is is' = record {
+  few = let n = ap length is' ∙ length-append t (Some e ∷ []) in omega arith;
+  same = is ∙ ap (λ (s : List Bool). s ++ true ∷ []) kept.same ∙ sym (ap (map is_some) is' ∙ map-append is_some t (Some e ∷ []));
+}
+
+is_some_of : {A : Type 0} (x : Option A) → IsSome x → is_some x ≡ true
+is_some_of None h = cc
+is_some_of (Some a) h = refl
+
+-- a value with an entry has it at its place
+pub present : (t : List (Option Entry)) (value : ℕ) → IsSome (entry_at t value) → is_some (at t (place_of value)) ≡ true
+present t value some = elim (ltb value 4) as (λ b. IsSome (cond {A = Option Entry} b None (at t (place_of value))) → is_some (at t (place_of value)) ≡ true)
+    [ true ↦ (λ h. cc) | false ↦ is_some_of (at t (place_of value)) ] some
+
+-- the last number of a set changes
+pub set_last : {A : Type 0} (xs : List A) (x y : A) → set (xs ++ x ∷ []) (length xs) y ≡ xs ++ y ∷ []
+set_last [] x y = refl
+set_last (z ∷ xs) x y = ap (λ r. z ∷ r) (set_last xs x y)

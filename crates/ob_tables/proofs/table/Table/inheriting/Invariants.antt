@@ -1,0 +1,10 @@
+use Rattle.std.proofs.Common.{◌≡◌, map, take}
+use Rattle.std.specs.Prelude.{is_some}
+use Rattle.ob_tables.specs.Inheritance.{inheritable}
+use Rattle.ob_tables.proofs.table.Table.inheriting.Given as goal
+
+abbrev pub invariant-loop-i : goal.invariant-loop-i
+invariant-loop-i l = record {
+  so_far : l.copies.items ≡ map inheritable (take l.i l.places);
+  same : l.free ≡ map is_some l.copies.items;
+}

@@ -1,0 +1,4 @@
+pub mod Table
+pub mod Inheritance
+pub mod Counts
+pub mod Tables

@@ -1,0 +1,24 @@
+//! The handle tables of all processes.
+//!
+//! A handle is a number that names an object in one process: its value says the place of an entry in the table of that
+//! process, and the entry says the object, the rights that the handle grants, and its flags ([Handles and objects]).
+//!
+//! ```text
+//! let parent = tables.add_process()?;                  // 1
+//! let handle = tables.place(parent, entry)?;           // 4
+//! tables.look(parent, handle);                         // Some(entry)
+//! let child = tables.copy_inheritable(parent)?;        // 2
+//! tables.remove(parent, handle);                       // Some(entry)
+//! ```
+//!
+//! [Handles and objects]: https://learn.microsoft.com/windows/win32/sysinfo/handles-and-objects
+#![tactic(auto)]
+
+mod entry;
+mod table;
+mod tables;
+#[cfg(test)]
+mod tests;
+
+pub use entry::Entry;
+pub use tables::Tables;

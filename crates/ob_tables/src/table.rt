@@ -1,0 +1,160 @@
+ghost use Rattle.std.specs.Prelude.{[], ◌∷◌, ◌++◌, ◌≡◌, ◌+◌, ◌<◌, ◌≤◌, IfOk, OnOk, OnErr, IsSome, length};
+ghost use Rattle.ob_tables.specs.Table.{entry_at, free_place, value_of, with_entry, without_entry, with_flags};
+ghost use Rattle.ob_tables.specs.Inheritance.{inherited};
+
+use crate::entry::{Entry, inheritable};
+use least_free::LeastFree;
+use ob_rights::HandleFlags;
+use std::alloc::{AllocError, Global};
+use std::marker::Model;
+
+/// The handle table of one process: from the outside, the list of its places.
+// A number is taken where its place has an entry, so the least free one is the least free place.
+#[derive(Drop)]
+pub(crate) struct Table {
+    places: Vec<Option<Entry>>,
+    free: LeastFree,
+}
+
+impl Model for Table {
+    ghost use Rattle.std.specs.Prelude.{List, Option};
+    ghost use Rattle.ob_tables.specs.declared.entry.Entry.{Entry};
+    ghost use Rattle.ob_tables.specs.Table.{IsKept};
+
+    ghost Value = { List (Option Entry) };
+
+    ghost view = { λ t. t.places.items };
+
+    ghost invariant = { λ t. IsKept t.free t.places.items };
+}
+
+impl Table {
+    pub(crate) fn new(alloc: Global) -> Table
+        ensures { result ≡ [] }
+    {
+        Table {
+            places: Vec::new(alloc),
+            free: LeastFree::new(alloc),
+        }
+    }
+
+    /// The places, each with its entry or with none.
+    pub(crate) fn places(&self) -> &[Option<Entry>]
+        ensures { result.now ≡ self.now }
+    {
+        self.places.as_slice()
+    }
+
+    /// The entry of a handle value, whose two lowest bits are ignored.
+    pub(crate) fn entry(&self, value: u32) -> Option<Entry>
+        ensures { result ≡ entry_at self.now value }
+    {
+        if value < 4 {
+            return None;
+        }
+        let place = value as usize / 4 - 1;
+        if place < self.places.len() {
+            self.places[place]
+        } else {
+            None
+        }
+    }
+
+    #[tactic(auto, using(crate::proofs::Places::least_free_places))]
+    /// The least place without an entry.
+    pub(crate) fn free_place(&self) -> u32
+        ensures value { result ≡ free_place self.now }
+        ensures bound { result ≤ length self.now }
+    {
+        self.free.least() as u32
+    }
+
+    /// Places an entry at the least free place, and gives its value.
+    pub(crate) fn place(&mut self, entry: Entry) -> Result<u32, AllocError>
+        requires { free_place self.old < 16384 }
+        ensures value { IfOk result (λ value. value ≡ value_of (free_place self.old)) }
+        ensures ok { OnOk result (self.new ≡ with_entry self.old entry) }
+        ensures err { OnErr result (self.new ≡ self.old) }
+    {
+        let place = self.free.least();
+        if place < self.places.len() {
+            self.free.take(place);
+            self.places[place] = Some(entry);
+            return Ok(4 * (place as u32 + 1));
+        }
+        self.places.reserve(1)?;
+        self.free.grow()?;
+        self.places.push(Some(entry))?;
+        Ok(4 * (place as u32 + 1))
+    }
+
+    /// Removes the entry of a handle value.
+    pub(crate) fn remove(&mut self, value: u32) -> Option<Entry>
+        ensures value { result ≡ entry_at self.old value }
+        ensures after { self.new ≡ without_entry self.old value }
+    {
+        let entry = self.entry(value)?;
+        let place = value as usize / 4 - 1;
+        self.free.give_back(place);
+        self.places[place] = None;
+        Some(entry)
+    }
+
+    /// Changes the flags of an entry.
+    pub(crate) fn set_flags(&mut self, value: u32, flags: HandleFlags)
+        requires { IsSome (entry_at self.old value) }
+        ensures { self.new ≡ with_flags self.old value flags }
+    {
+        let place = value as usize / 4 - 1;
+        if let Some(entry) = self.places[place] {
+            self.places[place] = Some(Entry { flags, ..entry });
+        }
+    }
+
+    /// The table of a child of a process with these places: just the inheritable entries.
+    pub(crate) fn inheriting(alloc: Global, places: &[Option<Entry>]) -> Result<Table, AllocError>
+        requires { length places.now ≤ 16384 }
+        ensures { IfOk result (λ child. child ≡ inherited places.now) }
+    {
+        let len = inherited_len(places);
+        let mut copies = Vec::with_capacity(alloc, len)?;
+        let mut free = LeastFree::new(alloc);
+        for i in 0..len {
+            let copy = inheritable(places[i]);
+            add_number(&mut free, i, copy.is_some())?;
+            copies.push(copy)?;
+        }
+        Ok(Table {
+            places: copies,
+            free,
+        })
+    }
+}
+
+/// How many places a child inherits: those up to the last inheritable entry.
+fn inherited_len(places: &[Option<Entry>]) -> usize
+    ensures value { result ≡ length (inherited places.now) }
+    ensures bound { result ≤ length places.now }
+{
+    for i in (0..places.len()).rev() {
+        if inheritable(places[i]).is_some() {
+            return i + 1;
+        }
+    }
+    0
+}
+
+#[tactic(auto, using(crate::proofs::Places::set_last))]
+/// Adds the next number to a set, taken or free.
+fn add_number(free: &mut LeastFree, number: usize, taken: bool) -> Result<(), AllocError>
+    requires next { length free.old ≡ number }
+    requires few { number < 65536 }
+    ensures { OnOk result (free.new ≡ free.old ++ taken ∷ []) }
+{
+    free.grow()?;
+    if taken {
+        return Ok(());
+    }
+    free.give_back(number);
+    Ok(())
+}

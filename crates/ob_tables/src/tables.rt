@@ -1,0 +1,170 @@
+ghost use Rattle.std.specs.Prelude.{[], ◌∷◌, ◌≡◌, ◌↔◌, ◌⊎◌, ◌+◌, ◌<◌, ◌≤◌, Err, IfErr, IfOk, OnErr, OnOk, IsSome, length};
+ghost use Rattle.ob_rights.specs.declared.fault.Fault.TheVariants.{Limit, Memory};
+ghost use Rattle.ob_tables.specs.Table.{entry_at, free_place, value_of};
+ghost use Rattle.ob_tables.specs.Counts.{entries_in};
+ghost use Rattle.ob_tables.specs.Tables.{table_of, with_child, with_entry_of, with_flags_of, with_process, without_entries, without_entry_of};
+
+use crate::entry::Entry;
+use crate::table::Table;
+use ob_rights::{Fault, HandleFlags};
+use std::alloc::Global;
+use std::marker::Model;
+
+/// The handle tables of all processes, by their numbers.
+///
+/// Process numbers go from 1 and are never given again. Handle values are 4, 8, 12 and so on, and the lowest two bits of
+/// a value that is handed in are ignored ([Kernel objects]); values 0 to 3 name nothing.
+///
+/// [Kernel objects]: https://learn.microsoft.com/windows/win32/sysinfo/kernel-objects
+#[derive(Drop)]
+pub struct Tables {
+    tables: Vec<Table>,
+    processes: u32,
+    handles: u32,
+    alloc: Global,
+}
+
+impl Model for Tables {
+    ghost use Rattle.ob_tables.specs.Tables.{HandleTables, IsBounded};
+
+    ghost Value = { HandleTables };
+
+    ghost view = { λ t. record { process_limit = t.processes; handle_limit = t.handles; tables = t.tables.items } };
+
+    ghost invariant = { λ t. IsBounded t.processes t.handles t.tables.items };
+}
+
+impl Tables {
+    /// Tables for at most `processes` process numbers, at most 65,536, and `handles` entries in each, at most 16,384.
+    /// No number is given yet. Want of memory answers 8.
+    pub fn new(alloc: Global, processes: u32, handles: u32) -> Result<Tables, Fault>
+        requires few_processes { processes ≤ 65536 }
+        requires few_handles { handles ≤ 16384 }
+        ensures ok { IfOk result (λ t. t ≡ record { process_limit = processes; handle_limit = handles; tables = [] ∷ [] }) }
+        ensures err { IfErr result (λ fault. fault ≡ Memory) }
+    {
+        let mut tables = Vec::new(alloc);
+        tables.push(Table::new(alloc))?;
+        Ok(Tables {
+            tables,
+            processes,
+            handles,
+            alloc,
+        })
+    }
+
+    /// The next process number. 1450 where the numbers are used up.
+    fn next_number(&self) -> Result<u32, Fault>
+        ensures number { IfOk result (λ process. process ≡ length self.now.tables) }
+        ensures room { OnOk result (length self.now.tables ≤ self.now.process_limit) }
+        ensures limit { IfErr result (λ fault. fault ≡ Limit) }
+        ensures used_up { OnErr result (length self.now.tables ≡ self.now.process_limit + 1) }
+    {
+        let number = self.tables.len() as u32;
+        if number > self.processes {
+            return Err(Fault::Limit);
+        }
+        Ok(number)
+    }
+
+    /// Gives the next process number, with an empty table. 1450 where the numbers are used up, and 8 for want of memory.
+    pub fn add_process(&mut self) -> Result<u32, Fault>
+        ensures number { IfOk result (λ process. process ≡ length self.old.tables) }
+        ensures ok { OnOk result (self.new ≡ record self.old { tables = with_process self.old.tables }) }
+        ensures limit { (result ≡ Err Limit) ↔ (length self.old.tables ≡ self.old.process_limit + 1) }
+        ensures refusal { IfErr result (λ fault. (fault ≡ Limit) ⊎ (fault ≡ Memory)) }
+        ensures err { OnErr result (self.new ≡ self.old) }
+    {
+        let number = self.next_number()?;
+        self.tables.push(Table::new(self.alloc))?;
+        Ok(number)
+    }
+
+    /// Gives the next process number, with a table that has just the inheritable entries of `from`, with the same values,
+    /// rights and flags, so that they are inheritable in turn ([Handle inheritance]; that they stay inheritable is this
+    /// profile's choice). 1450 where the numbers are used up, and 8 for want of memory.
+    ///
+    /// [Handle inheritance]: https://learn.microsoft.com/windows/win32/sysinfo/handle-inheritance
+    pub fn copy_inheritable(&mut self, from: u32) -> Result<u32, Fault>
+        requires { from < length self.old.tables }
+        ensures number { IfOk result (λ process. process ≡ length self.old.tables) }
+        ensures ok { OnOk result (self.new ≡ record self.old { tables = with_child self.old.tables from }) }
+        ensures limit { (result ≡ Err Limit) ↔ (length self.old.tables ≡ self.old.process_limit + 1) }
+        ensures refusal { IfErr result (λ fault. (fault ≡ Limit) ⊎ (fault ≡ Memory)) }
+        ensures err { OnErr result (self.new ≡ self.old) }
+    {
+        let number = self.next_number()?;
+        let child = Table::inheriting(self.alloc, self.tables[from as usize].places())?;
+        self.tables.push(child)?;
+        Ok(number)
+    }
+
+    /// Places an entry at the least value that the process doesn't use, and gives the value. 1450 where the process has
+    /// as many entries as it may, and 8 for want of memory.
+    pub fn place(&mut self, process: u32, entry: Entry) -> Result<u32, Fault>
+        requires { process < length self.old.tables }
+        ensures value { IfOk result (λ value. value ≡ value_of (free_place (table_of self.old.tables process))) }
+        ensures ok { OnOk result (self.new ≡ record self.old { tables = with_entry_of self.old.tables process entry }) }
+        ensures room { OnOk result (entries_in (table_of self.old.tables process) < self.old.handle_limit) }
+        ensures limit { (result ≡ Err Limit) ↔ (entries_in (table_of self.old.tables process) ≡ self.old.handle_limit) }
+        ensures refusal { IfErr result (λ fault. (fault ≡ Limit) ⊎ (fault ≡ Memory)) }
+        ensures err { OnErr result (self.new ≡ self.old) }
+    {
+        if self.tables[process as usize].free_place() >= self.handles {
+            return Err(Fault::Limit);
+        }
+        let Ok(value) = self.tables[process as usize].place(entry) else {
+            return Err(Fault::Memory);
+        };
+        Ok(value)
+    }
+
+    /// The entry of a handle.
+    pub fn look(&self, process: u32, value: u32) -> Option<Entry>
+        ensures { result ≡ entry_at (table_of self.now.tables process) value }
+    {
+        let at = process as usize;
+        if at < self.tables.len() {
+            self.tables[at].entry(value)
+        } else {
+            None
+        }
+    }
+
+    /// Removes the entry of a handle, and gives it. Where there is none nothing changes.
+    pub fn remove(&mut self, process: u32, value: u32) -> Option<Entry>
+        ensures value { result ≡ entry_at (table_of self.old.tables process) value }
+        ensures after { self.new ≡ record self.old { tables = without_entry_of self.old.tables process value } }
+    {
+        let at = process as usize;
+        if at < self.tables.len() {
+            self.tables[at].remove(value)
+        } else {
+            None
+        }
+    }
+
+    /// Gives the entry of a handle other flags.
+    pub fn set_flags(&mut self, process: u32, value: u32, flags: HandleFlags)
+        requires { IsSome (entry_at (table_of self.old.tables process) value) }
+        ensures { self.new ≡ record self.old { tables = with_flags_of self.old.tables process value flags } }
+    {
+        self.tables[process as usize].set_flags(value, flags);
+    }
+
+    /// The places of a process in rising order of their values, each with its entry or with none.
+    pub fn entries(&self, process: u32) -> &[Option<Entry>]
+        requires { process < length self.now.tables }
+        ensures { result.now ≡ table_of self.now.tables process }
+    {
+        self.tables[process as usize].places()
+    }
+
+    /// Removes all entries of a process that ends, and gives their memory back.
+    pub fn clear(&mut self, process: u32)
+        requires { process < length self.old.tables }
+        ensures { self.new ≡ record self.old { tables = without_entries self.old.tables process } }
+    {
+        self.tables[process as usize] = Table::new(self.alloc);
+    }
+}
