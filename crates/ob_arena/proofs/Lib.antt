@@ -1,0 +1,4 @@
+pub mod Steps
+pub mod RowMemory
+pub mod RowSharing
+pub mod Phasing

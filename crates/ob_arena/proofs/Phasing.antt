@@ -1,0 +1,224 @@
+-- What the phases say of the slots, and what a change of one slot does to them.
+use Rattle.std.proofs.Common.{◌≡◌, ◌∙◌, sym, ap, refl, subst, ℕ, zero, suc, ◌<◌, ◌≤◌, List, [], ◌∷◌, length, map, replicate, get_or, set, Option, Some, None, Bool, true, false, ltb, arith, inl, inr, lt-ltb, zero-add}
+use Rattle.std.specs.Prelude.{is_some, is_none, not, ◌&&◌, slice_get, IsSome}
+use Rattle.std.specs.List.{range_with_len, position_or_len}
+use Rattle.std.proofs.Math.ListN.{get_or-map}
+use Rattle.std.proofs.Math.Seq.{map-set_same}
+use Rattle.std.proofs.lemmas.Bool.{cases_lt}
+use Rattle.std.proofs.lemmas.Bool.Decides.{nat_tests}
+use Rattle.std.proofs.lemmas.List.Sums.{prefix_len-le-length, position_or_len_is, fails_before_first, passes_at_first}
+use Rattle.std.proofs.lemmas.List.FromFn.{get_or-range_with_len, length-range_with_len}
+use Rattle.std.proofs.lemmas.List.Folds.{find_at}
+use Rattle.std.proofs.lemmas.List.{ext_get_or, get_or-replicate, get_or_past, map-set, length-map, length-set, length-replicate}
+use Rattle.std.proofs.lemmas.Option.{slice_get-get_or, slice_get_past}
+use Rattle.least_free.specs.Taken.{least_free}
+use Rattle.ob_arena.specs.declared.phase.Phase.{Phase}
+use Rattle.ob_arena.specs.declared.phase.Phase.TheVariants.{Vacant, Occupied, Retired}
+use Rattle.ob_arena.specs.Phases.{is_vacant, is_occupied, is_retired, is_in_use}
+use Rattle.ob_arena.specs.Slots.{Slots, IsFilled, is_vacant_at, least_vacant, with_body, without_body, with_retired, vacant_slots}
+use Rattle.ob_arena.specs.Arena.{slots_shown, IsTied}
+
+-- a read of a list within it does not look at the default
+pub same_default : {A : Type 0} (xs : List A) (i : ℕ) (d e : A) → i < length xs → get_or xs i d ≡ get_or xs i e
+same_default [] i d e lt = absurd (omega arith)
+same_default (x ∷ xs) zero d e lt = refl
+same_default (x ∷ xs) (suc i) d e lt = same_default xs i d e (omega arith)
+
+lt_of : (a b : ℕ) → ltb a b ≡ true → a < b
+lt_of a b h = grind (arith, nat_tests)
+
+module _ {B : Type 0} (ss : List (Option B)) (ps : List Phase) (taken : List Bool) (tied : IsTied ss ps taken) where
+  pub length-phases : length ps ≡ length ss
+  length-phases = sym (length-map ps is_occupied) ∙ ap length tied.occupied ∙ length-map ss is_some
+
+  pub length-taken : length taken ≡ length ss
+  length-taken = ap length tied.in_use ∙ length-map ps is_in_use ∙ length-phases
+
+  pub occupied_at : (k : ℕ) → is_occupied (get_or ps k Vacant) ≡ is_some (get_or ss k None)
+  occupied_at k = sym (get_or-map is_occupied ps k Vacant) ∙ ap (λ (l : List Bool). get_or l k false) tied.occupied ∙ get_or-map is_some ss k None
+
+  by_phase : (p : Phase) (s : Option B) → is_occupied p ≡ is_some s → (is_none s && not (is_retired p)) ≡ is_vacant p
+  by_phase Vacant None h = refl
+  by_phase Vacant (Some x) h = cc
+  by_phase Occupied None h = cc
+  by_phase Occupied (Some x) h = refl
+  by_phase Retired None h = refl
+  by_phase Retired (Some x) h = cc
+
+  -- a slot is vacant where its phase is
+  pub vacant_phase : (k : ℕ) → is_vacant_at (slots_shown ss ps) k ≡ (ltb k (length ss) && is_vacant (get_or ps k Vacant))
+  vacant_phase k = ap (λ (b : Bool). ltb k (length ss) && b)
+      (ap (λ (r : Bool). is_none (get_or ss k None) && not r) (get_or-map is_retired ps k Vacant) ∙ by_phase (get_or ps k Vacant) (get_or ss k None) (occupied_at k))
+
+  pub vacant_within : (k : ℕ) (p : Phase) → k < length ps → p ≡ get_or ps k p → is_vacant p ≡ is_vacant_at (slots_shown ss ps) k
+  vacant_within k p lt read = ap is_vacant (read ∙ same_default ps k p Vacant lt)
+      ∙ sym (vacant_phase k ∙ ap (λ (b : Bool). b && is_vacant (get_or ps k Vacant)) (lt-ltb k (length ss) (let n = length-phases in omega arith)))
+
+  pub occupied_within : (k : ℕ) (p : Phase) → k < length ps → p ≡ get_or ps k p → is_occupied p ≡ is_some (get_or ss k None)
+  occupied_within k p lt read = ap is_occupied (read ∙ same_default ps k p Vacant lt) ∙ occupied_at k
+
+  -- what is known of a vacant slot
+  pub record IsFree (k : ℕ) : Type 0 where
+    pub within : k < length ss
+    pub none : get_or ss k None ≡ None
+    pub phase : get_or ps k Vacant ≡ Vacant
+    pub free : slice_get taken k ≡ Some false
+
+  vacant_is : (p : Phase) → is_vacant p ≡ true → p ≡ Vacant
+  vacant_is Vacant h = refl
+  vacant_is Occupied h = cc
+  vacant_is Retired h = cc
+
+  none_is : (s : Option B) → false ≡ is_some s → s ≡ None
+  none_is None h = refl
+  none_is (Some x) h = cc
+
+  free_at : (k : ℕ) → k < length ss → slice_get taken k ≡ Some (is_in_use (get_or ps k Vacant))
+  free_at k lt = slice_get-get_or taken k false (let n = length-taken in omega arith)
+      ∙ ap Some (ap (λ (l : List Bool). get_or l k false) tied.in_use ∙ get_or-map is_in_use ps k Vacant)
+
+  both_of : (a b : Bool) → (a && b) ≡ true → (a ≡ true) × (b ≡ true)
+  both_of true b h = (refl, h)
+  both_of false b h = cc
+
+  pub free_slot : (k : ℕ) → is_vacant_at (slots_shown ss ps) k ≡ true → IsFree k
+  free_slot k h =
+      let both = both_of (ltb k (length ss)) (is_vacant (get_or ps k Vacant)) (sym (vacant_phase k) ∙ h) in
+      let lt : k < length ss = lt_of k (length ss) both.0 in
+      let phase = vacant_is (get_or ps k Vacant) both.1 in
+      record {
+        within = lt;
+        none = none_is (get_or ss k None) (sym (ap is_occupied phase) ∙ occupied_at k);
+        phase = phase;
+        free = free_at k lt ∙ ap (λ (p : Phase). Some (is_in_use p)) phase;
+      }
+
+  -- what is known of a slot with a body
+  pub record IsHeld (k : ℕ) : Type 0 where
+    pub within : k < length ss
+    pub filled : IsFilled ss k
+    pub phase : get_or ps k Vacant ≡ Occupied
+
+  occupied_is : (p : Phase) → is_occupied p ≡ true → p ≡ Occupied
+  occupied_is Vacant h = cc
+  occupied_is Occupied h = refl
+  occupied_is Retired h = cc
+
+  some_of : (s : Option B) → IsSome s → (x : B) × (s ≡ Some x)
+  some_of None h = cc
+  some_of (Some x) h = (x, refl)
+
+  within_of : (k : ℕ) (x : B) → get_or ss k None ≡ Some x → k < length ss
+  within_of k x e = elim (cases_lt k (length ss)) [ inl lt ↦ lt | inr ge ↦ absurd (never (sym (get_or_past ss k None ge) ∙ e)) ]
+    where
+      never : None ≡ Some x → ⊥
+      never h = cc
+
+  pub held_slot : (k : ℕ) → IsSome (get_or ss k None) → IsHeld k
+  held_slot k h =
+      let filled = some_of (get_or ss k None) h in
+      record {
+        within = within_of k filled.0 filled.1;
+        filled = filled;
+        phase = occupied_is (get_or ps k Vacant) (occupied_at k ∙ ap is_some filled.1);
+      }
+
+  -- a body comes to a vacant slot
+  pub tied_put : (k : ℕ) (x : B) → IsFree k → IsTied (set ss k (Some x)) (set ps k Occupied) (set taken k true)
+  tied_put k x free = record {
+    few = omega (arith, length-set ss k (Some x), tied.few);
+    occupied = map-set is_occupied ps k Occupied ∙ ap (λ (l : List Bool). set l k true) tied.occupied ∙ sym (map-set is_some ss k (Some x));
+    in_use = ap (λ (l : List Bool). set l k true) tied.in_use ∙ sym (map-set is_in_use ps k Occupied);
+  }
+
+  pub shown_put : (k : ℕ) (x : B) → IsFree k → slots_shown (set ss k (Some x)) (set ps k Occupied) ≡ with_body (slots_shown ss ps) k x
+  shown_put k x free = ap (slots_shown' (set ss k (Some x))) (map-set_same is_retired ps k Occupied Vacant (sym (ap is_retired free.phase)))
+    where
+      slots_shown' : List (Option B) → List Bool → Slots B
+      slots_shown' bodies retired = record { bodies = bodies; retired = retired }
+
+  -- a body leaves its slot
+  pub tied_take : (k : ℕ) → IsHeld k → IsTied (set ss k None) (set ps k Vacant) (set taken k false)
+  tied_take k held = record {
+    few = omega (arith, length-set ss k None, tied.few);
+    occupied = map-set is_occupied ps k Vacant ∙ ap (λ (l : List Bool). set l k false) tied.occupied ∙ sym (map-set is_some ss k None);
+    in_use = ap (λ (l : List Bool). set l k false) tied.in_use ∙ sym (map-set is_in_use ps k Vacant);
+  }
+
+  pub shown_take : (k : ℕ) → IsHeld k → slots_shown (set ss k None) (set ps k Vacant) ≡ without_body (slots_shown ss ps) k
+  shown_take k held = ap (λ (retired : List Bool). record { bodies = set ss k None; retired = retired }) (map-set_same is_retired ps k Vacant Vacant (sym (ap is_retired held.phase)))
+
+  -- a body changes in its slot
+  pub tied_changed : (k : ℕ) (x : B) → IsHeld k → IsTied (set ss k (Some x)) ps taken
+  tied_changed k x held = record {
+    few = omega (arith, length-set ss k (Some x), tied.few);
+    occupied = tied.occupied ∙ sym (map-set_same is_some ss k (Some x) None (sym (ap is_some held.filled.1)));
+    in_use = tied.in_use;
+  }
+
+  -- a vacant slot is retired
+  pub tied_retire : (k : ℕ) → IsFree k → IsTied ss (set ps k Retired) (set taken k true)
+  tied_retire k free = record {
+    few = tied.few;
+    occupied = map-set_same is_occupied ps k Retired Vacant (sym (ap is_occupied free.phase)) ∙ tied.occupied;
+    in_use = ap (λ (l : List Bool). set l k true) tied.in_use ∙ sym (map-set is_in_use ps k Retired);
+  }
+
+  pub shown_retire : (k : ℕ) → slots_shown ss (set ps k Retired) ≡ with_retired (slots_shown ss ps) k
+  shown_retire k = ap (λ (retired : List Bool). record { bodies = ss; retired = retired }) (map-set is_retired ps k Retired)
+
+  -- the least number that isn't taken is the least vacant slot
+  free_is_vacant : (p : Phase) → not (is_in_use p) ≡ is_vacant p
+  free_is_vacant Vacant = refl
+  free_is_vacant Occupied = refl
+  free_is_vacant Retired = refl
+
+  vacant_taken : (k : ℕ) → k < length ss → is_vacant_at (slots_shown ss ps) k ≡ not (get_or taken k false)
+  vacant_taken k lt = vacant_phase k ∙ ap (λ (b : Bool). b && is_vacant (get_or ps k Vacant)) (lt-ltb k (length ss) lt)
+      ∙ sym (free_is_vacant (get_or ps k Vacant)) ∙ ap not (sym (ap (λ (l : List Bool). get_or l k false) tied.in_use ∙ get_or-map is_in_use ps k Vacant))
+
+  first_vacant : position_or_len (is_vacant_at (slots_shown ss ps)) (range_with_len 0 (length ss)) ≡ least_free taken
+  first_vacant =
+      let n = length-range_with_len 0 (length ss) in
+      let bound : least_free taken ≤ length taken = prefix_len-le-length (λ b. not (not b)) taken in
+      position_or_len_is (is_vacant_at (slots_shown ss ps)) (range_with_len 0 (length ss)) (least_free taken) 0 (let m = length-taken in omega arith)
+      (λ k below. let lt : k < length ss = (let m = length-taken in omega arith) in
+      ap (is_vacant_at (slots_shown ss ps)) (get_or-range_with_len 0 (length ss) k 0 lt ∙ zero-add k) ∙ vacant_taken k lt ∙ fails_before_first not taken k false below)
+      (λ below. let lt : least_free taken < length ss = omega arith in
+      ap (is_vacant_at (slots_shown ss ps)) (get_or-range_with_len 0 (length ss) (least_free taken) 0 lt ∙ zero-add (least_free taken))
+      ∙ vacant_taken (least_free taken) lt ∙ passes_at_first not taken false (let m = length-taken in omega arith))
+
+  -- and it is found, unless it is past the slots
+  pub least_found : least_free taken < length ss → least_vacant (slots_shown ss ps) ≡ Some (least_free taken)
+  least_found lt = find_at (is_vacant_at (slots_shown ss ps)) (range_with_len 0 (length ss)) ∙ ap (slice_get (range_with_len 0 (length ss))) first_vacant
+      ∙ slice_get-get_or (range_with_len 0 (length ss)) (least_free taken) 0 (let n = length-range_with_len 0 (length ss) in omega arith)
+      ∙ ap Some (get_or-range_with_len 0 (length ss) (least_free taken) 0 lt ∙ zero-add (least_free taken))
+
+  pub none_found : length ss ≤ least_free taken → least_vacant (slots_shown ss ps) ≡ None
+  none_found past = find_at (is_vacant_at (slots_shown ss ps)) (range_with_len 0 (length ss)) ∙ ap (slice_get (range_with_len 0 (length ss))) first_vacant
+      ∙ slice_get_past (range_with_len 0 (length ss)) (least_free taken) (let n = length-range_with_len 0 (length ss) in omega arith)
+
+map-replicate : {X Y : Type 0} (f : X → Y) (n : ℕ) (x : X) → map f (replicate n x) ≡ replicate n (f x)
+map-replicate f zero x = refl
+map-replicate f (suc n) x = ap (λ l. f x ∷ l) (map-replicate f n x)
+
+-- a new arena, and what is equal to the parts of one
+module _ {B : Type 0} where
+  pub retied : (ss ss' : List (Option B)) (ps ps' : List Phase) (taken taken' : List Bool) → ss' ≡ ss → ps' ≡ ps → taken' ≡ taken → IsTied ss ps taken → IsTied ss' ps' taken'
+  retied ss ss' ps ps' taken taken' es ep et tied =
+      subst (λ (l : List (Option B)). IsTied l ps' taken') (sym es) (subst (λ (l : List Phase). IsTied ss l taken') (sym ep) (subst (λ (l : List Bool). IsTied ss ps l) (sym et) tied))
+
+  pub tied_new : (n : ℕ) → n ≤ 65536 → IsTied {B = B} (replicate n None) (replicate n Vacant) (replicate n false)
+  tied_new n few = record {
+    few = let e : length (replicate {A = Option B} n None) ≡ n = length-replicate n None in omega arith;
+    occupied = map-replicate is_occupied n Vacant ∙ sym (map-replicate is_some n None);
+    in_use = sym (map-replicate is_in_use n Vacant);
+  }
+
+  pub shown_new : (n : ℕ) → slots_shown {B = B} (replicate n None) (replicate n Vacant) ≡ vacant_slots n
+  shown_new n = ap (λ (retired : List Bool). record { bodies = replicate n None; retired = retired }) (map-replicate is_retired n Vacant)
+
+-- slots that have no body
+pub all_none : {B : Type 0} (ss : List (Option B)) (n : ℕ) → length ss ≡ n → ((k : ℕ) → k < n → get_or ss k None ≡ None) → ss ≡ replicate n None
+all_none ss n long none = ext_get_or None ss (replicate n None) (long ∙ sym (length-replicate n None))
+    (λ k lt. none k (omega arith) ∙ sym (get_or-replicate n k None None (omega arith)))

@@ -1,0 +1,11 @@
+use Rattle.std.proofs.Common.{sym, subst}
+use Rattle.std.specs.Prelude.{IsSome}
+use Rattle.ob_arena.specs.Slots.{Slots, body_at}
+use Rattle.ob_arena.proofs.Phasing.{held_slot}
+use Rattle.ob_arena.proofs.arena.Arena.get.Goals as goal
+
+pub show-requires : goal.show-requires
+show-requires g c =
+    let i = c.self.inside in
+    let some = subst (λ (s : Slots g.row.B.Denot). IsSome (body_at s c.args.slot)) (sym c.self.view_is) c.requires in
+    (c.self.invariant.front, (held_slot i.row.slots i.phases.items i.free c.self.invariant.tied c.args.slot some).filled)

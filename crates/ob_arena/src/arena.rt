@@ -1,0 +1,182 @@
+ghost use Rattle.std.specs.Prelude.{◌≡◌, ◌<◌, ◌≤◌, true, length, replicate, None, Some, is_some, IsSome, IfOk};
+ghost use Rattle.std.specs.Borrow.{sem};
+ghost use Rattle.ob_arena.specs.Slots.{body_at, is_vacant_at, least_vacant, vacant_slots, with_body, with_retired, without_body};
+
+use crate::phase::Phase;
+use crate::row::{Front, Row, Title, allocate, deallocate, fits};
+use least_free::LeastFree;
+use std::alloc::{AllocError, Global};
+use std::marker::Model;
+
+/// Slots for bodies, numbered from 0: each is vacant, has a body, or is retired and never given again.
+// A number of `free` is taken where the phase of the slot isn't vacant, so the least free number is the least vacant slot.
+pub struct Arena<B> {
+    front: Front<B>,
+    row: Row<B>,
+    title: Title<B, Global>,
+    phases: Vec<Phase>,
+    free: LeastFree,
+    alloc: Global,
+}
+
+impl<B> Model for Arena<B> {
+    ghost use Rattle.ob_arena.specs.Slots.{Slots, slots_code};
+
+    ghost Value = { Slots B };
+
+    ghost coded = { slots_code B.code };
+
+    ghost use Rattle.ob_arena.specs.Arena.{slots_of, IsArena};
+
+    ghost view = { slots_of };
+
+    ghost invariant = { IsArena };
+}
+
+impl<B> Arena<B> {
+    ghost use Rattle.ob_arena.specs.ArenaLends.{lends_body};
+
+    /// An arena of `slots` slots, at most 65,536, which are all vacant.
+    pub fn new(alloc: Global, slots: u32) -> Result<Arena<B>, AllocError>
+        requires { slots ≤ 65536 }
+        ensures { IfOk result (λ arena. arena ≡ vacant_slots slots) }
+    {
+        let len = slots as usize;
+        if !fits::<B>(len) {
+            return Err(AllocError);
+        }
+        let phases = Vec::from_elem(alloc, Phase::Vacant, len)?;
+        let free = LeastFree::with_free(alloc, len)?;
+        let (front, row, title) = allocate(&alloc, len)?;
+        Ok(Arena {
+            front,
+            row,
+            title,
+            phases,
+            free,
+            alloc,
+        })
+    }
+
+    /// Puts a body into a vacant slot.
+    pub fn put(&mut self, slot: u32, body: B)
+        requires { is_vacant_at self.old slot ≡ true }
+        ensures { self.new ≡ with_body self.old slot body }
+    {
+        let at = slot as usize;
+        self.row.fill(self.front, at, body);
+        self.phases[at] = Phase::Occupied;
+        self.free.take(at);
+    }
+
+    /// The body of a slot that has one.
+    pub fn get(&self, slot: u32) -> &B
+        requires { IsSome (body_at self.now slot) }
+        ensures { body_at self.now slot ≡ Some result.now }
+    {
+        self.row.show(self.front, slot as usize)
+    }
+
+    /// The body of a slot that has one, to change.
+    pub fn get_mut(&mut self, slot: u32) -> &mut B
+        requires { IsSome (body_at self.old slot) }
+        ensures* writes_back { sem 𝓛 (lends_body B.row self.entry slot result) }
+        ensures value { body_at self.old slot ≡ Some result.now }
+    {
+        self.row.lend(self.front, slot as usize)
+    }
+
+    /// Takes the body out of a slot that has one. The slot is vacant then.
+    pub fn take(&mut self, slot: u32) -> B
+        requires { IsSome (body_at self.old slot) }
+        ensures body { body_at self.old slot ≡ Some result }
+        ensures after { self.new ≡ without_body self.old slot }
+    {
+        let at = slot as usize;
+        let body = self.row.empty(self.front, at);
+        self.phases[at] = Phase::Vacant;
+        self.free.give_back(at);
+        body
+    }
+
+    /// Whether a slot is vacant. A number past the slots names none.
+    pub fn is_vacant(&self, slot: u32) -> bool
+        ensures { result ≡ is_vacant_at self.now slot }
+    {
+        let at = slot as usize;
+        at < self.phases.len() && self.phases[at].is_vacant()
+    }
+
+    /// Retires a vacant slot.
+    pub fn retire(&mut self, slot: u32)
+        requires { is_vacant_at self.old slot ≡ true }
+        ensures { self.new ≡ with_retired self.old slot }
+    {
+        let at = slot as usize;
+        self.phases[at] = Phase::Retired;
+        self.free.take(at);
+    }
+
+    /// The least vacant slot.
+    pub fn least_vacant(&self) -> Option<u32>
+        ensures { result ≡ least_vacant self.now }
+    {
+        let at = self.free.least();
+        if at < self.phases.len() {
+            return Some(at as u32);
+        }
+        None
+    }
+
+    /// How many slots there are.
+    fn len(&self) -> u32
+        ensures value { result ≡ length self.now.bodies }
+        ensures bound { result ≤ 65536 }
+    {
+        self.phases.len() as u32
+    }
+
+    /// Whether a slot has a body.
+    fn is_occupied(&self, slot: u32) -> bool
+        ensures { result ≡ is_some (body_at self.now slot) }
+    {
+        let at = slot as usize;
+        at < self.phases.len() && self.phases[at].is_occupied()
+    }
+
+    /// Drops each body.
+    fn clear(&mut self)
+    where
+        B: Drop,
+        ensures { self.new.bodies ≡ replicate (length self.old.bodies) None }
+    {
+        for slot in 0..self.len() {
+            if self.is_occupied(slot) {
+                drop(self.take(slot));
+            }
+        }
+    }
+
+    /// Gives the memory of an arena without a body back.
+    fn destroy(self)
+        requires { self.bodies ≡ replicate (length self.bodies) None }
+    {
+        let Arena {
+            front,
+            row,
+            title,
+            phases,
+            free: _,
+            alloc,
+        } = self;
+        deallocate(&alloc, front, phases.len(), row, title);
+    }
+}
+
+impl<B: Drop> Drop for Arena<B> {
+    /// Drops each body once, and gives the memory back.
+    fn drop(mut self) {
+        self.clear();
+        self.destroy();
+    }
+}

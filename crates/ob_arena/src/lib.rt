@@ -1,0 +1,19 @@
+//! The arena that all processes share: slots in one block of memory, each vacant, with a body, or retired.
+//!
+//! A slot has no tag: a list of phases beside the block says what each slot is, and a set of numbers gives the least
+//! vacant one in a few word operations. Bodies never move while they are in the arena.
+//!
+//! ```text
+//! let mut arena = Arena::new(alloc, 64)?;
+//! let slot = arena.least_vacant();          // Some(0)
+//! arena.put(0, body);
+//! let body = arena.take(0);
+//! arena.retire(0);                          // slot 0 is never given again
+//! ```
+#![tactic(auto)]
+
+mod arena;
+mod phase;
+mod row;
+
+pub use arena::Arena;
