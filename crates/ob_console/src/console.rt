@@ -1,4 +1,4 @@
-ghost use Rattle.std.specs.Prelude.{◌≡◌, ◌+◌, ◌<◌, ◌≤◌, ◌^◌, ◌++◌, ◌⊎◌, ◌≢◌, All, [], None, Some, List, ℕ, IfOk, OnOk, OnErr, length};
+ghost use Rattle.std.specs.Prelude.{◌≡◌, ◌+◌, ◌<◌, ◌≤◌, ◌^◌, ◌++◌, ◌⊎◌, ◌≢◌, All, [], None, Some, List, ℕ, IfErr, IfOk, OnOk, OnErr, length};
 ghost use Rattle.ob_manager.specs.State.{opening};
 ghost use Rattle.ob_console.specs.Runs.{Prints, IsWithin, AnswersAll};
 ghost use Rattle.ob_console.specs.Printed.{line_end};
@@ -35,7 +35,8 @@ impl Model for Console {
 impl Console {
     /// No line has come. Takes all the memory that it will need, other than that of the manager's calls.
     pub fn new(alloc: Global, limits: Limits, writes: u64) -> Result<Console, Fault>
-        ensures { IfOk result (λ console. console ≡ record { state = opening limits; pending = record { bytes = []; writes_left = writes }; held = Some []; lines = 0 }) }
+        ensures opening { IfOk result (λ console. console ≡ record { state = opening limits; pending = record { bytes = []; writes_left = writes }; held = Some []; lines = 0 }) }
+        ensures memory { IfErr result (λ fault. fault ≡ Fault.Memory) }
     {
         let manager = Manager::new(alloc, limits)?;
         let output = Output::new(alloc, writes)?;

@@ -10,7 +10,7 @@ use Rattle.ob_console.proofs.script.run_bounded.Goals.{in-Ok-read+in-Ok-take, in
 
 pub loop-i-init : goal.loop-i-init
 loop-i-init g c =
-    let is = c.in-Ok.ensures in
+    let is = c.in-Ok.ensures.opening in
     record {
       reading = reading_begins c.args.limits c.in-Ok.console (g.R.Source.given c.args.reader.now) (g.W.Sink.taken c.args.writer.now)
           (opens c.args.limits c.in-Ok.console (ap (λ (console : ConsoleState). console.state) is) (ap (λ (console : ConsoleState). console.lines) is) (ap (λ (console : ConsoleState). console.held) is));
