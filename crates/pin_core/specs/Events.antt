@@ -2,6 +2,7 @@
 use Rattle.std.specs.Prelude.{◌≡◌, ℕ, ◌+◌, ◌-◌, ◌≤◌, ◌==◌, ◌&&◌, nat_lt, Bool, true, false, if◌then◌else◌, List, [], ◌∷◌, ◌++◌, slice_set, slice_get, take, Option, Some, None}
 use Rattle.pin_core.specs.declared.word.Word.{Word}
 use Rattle.pin_core.specs.declared.descr.Descr.{Descr}
+use Rattle.pin_core.specs.declared.id.Id.{Id}
 use Rattle.pin_core.specs.declared.word.Phase.{Phase}
 use Rattle.pin_core.specs.declared.word.Phase.TheVariants.{Free, Live, Retired, Closing}
 use Rattle.pin_core.specs.declared.world.Slot.{Slot}
@@ -26,7 +27,13 @@ abbrev pub check : Bool → Reason → Option Reason → Option Reason
 check true r later = later
 check false r later = Some r
 
--- why a slot can't be pinned at the word e
+-- why a slot isn't in the phase, why a reader holds no copy, and why a slot can't be pinned at the word e
+abbrev pub phase_refusal : WorldState → ℕ → Phase → Option Reason
+phase_refusal w s p = check (nat_lt s w.shape.slots) NoSlot (check (is_phase (at w s).phase p) WrongPhase None)
+
+abbrev pub held_refusal : WorldState → ℕ → Id → Option Reason
+held_refusal w r id = check (nat_lt id.slot w.shape.slots) NoSlot (check (nat_lt 0 (copies w r id)) NotHeld None)
+
 abbrev pub pin_refusal : WorldState → ℕ → Word → Option Reason
 pin_refusal w s e =
     check (nat_lt s w.shape.slots) NoSlot (check (same_word (word_at w s) e) WordDiffers (check (is_phase (at w s).phase Live) WrongPhase (check (nat_lt (pins w s) w.shape.max_pins) PinsFull None)))
@@ -35,12 +42,12 @@ pin_refusal w s e =
 abbrev pub refusal : WorldState → Event → Option Reason
 refusal w (Load r s) = check (nat_lt s w.shape.slots) NoSlot None
 refusal w (Pin r s e) = pin_refusal w s e
-refusal w (Release r id) = check (nat_lt id.slot w.shape.slots) NoSlot (check (nat_lt 0 (copies w r id)) NotHeld None)
+refusal w (Release r id) = held_refusal w r id
 refusal w (ReadDescr r id d) =
     check (nat_lt id.slot w.shape.slots) NoSlot (check (nat_lt 0 (copies w r id)) NotHeld (check (same_descr (at w id.slot).descr d) DescrDiffers None))
-refusal w (StoreDescr s d) = check (nat_lt s w.shape.slots) NoSlot (check (is_phase (at w s).phase Free) WrongPhase None)
-refusal w (Publish s) = check (nat_lt s w.shape.slots) NoSlot (check (is_phase (at w s).phase Free) WrongPhase None)
-refusal w (CloseSlot s) = check (nat_lt s w.shape.slots) NoSlot (check (is_phase (at w s).phase Live) WrongPhase None)
+refusal w (StoreDescr s d) = phase_refusal w s Free
+refusal w (Publish s) = phase_refusal w s Free
+refusal w (CloseSlot s) = phase_refusal w s Live
 refusal w (Reclaim s) = check (nat_lt s w.shape.slots) NoSlot (check (is_phase (at w s).phase Closing) WrongPhase (check (pins w s == 0) Pinned None))
 
 abbrev pub with_slot : WorldState → ℕ → Slot → WorldState
@@ -48,6 +55,13 @@ with_slot w s x = record { shape = w.shape; slots = slice_set w.slots s x; publi
 
 abbrev pub with_holders : WorldState → List Hold → WorldState
 with_holders w hs = record { shape = w.shape; slots = w.slots; published = w.published; holders = hs }
+
+-- the reader holds one more copy of the slot's Id; it lets the copy of highest number go
+abbrev pub held_more : WorldState → ℕ → ℕ → WorldState
+held_more w r s = with_holders w (with_hold (next_copy w r s) w.holders)
+
+abbrev pub held_less : WorldState → ℕ → Id → WorldState
+held_less w r id = with_holders w (drop_first (is_hold (last_copy w r id)) w.holders)
 
 abbrev pub in_phase : Slot → Phase → Slot
 in_phase x p = record { generation = x.generation; phase = p; descr = x.descr }
@@ -62,8 +76,8 @@ reclaimed max_gen x = if nat_lt x.generation max_gen then record { generation = 
 -- the world after an event that is possible
 abbrev pub after : WorldState → Event → WorldState
 after w (Load r s) = w
-after w (Pin r s e) = with_holders w (with_hold (next_copy w r s) w.holders)
-after w (Release r id) = with_holders w (drop_first (is_hold (last_copy w r id)) w.holders)
+after w (Pin r s e) = held_more w r s
+after w (Release r id) = held_less w r id
 after w (ReadDescr r id d) = w
 after w (StoreDescr s d) = with_slot w s (with_descr (at w s) d)
 after w (Publish s) = record { shape = w.shape; slots = slice_set w.slots s (in_phase (at w s) Live); published = w.published ++ (id_at w s, (at w s).descr) ∷ []; holders = w.holders }

@@ -44,3 +44,9 @@ drop_first p (x ∷ xs) = if p x then xs else (x ∷ drop_first p xs)
 pub record Holding : Type 0 where
   pub slots : ℕ
   pub all : List Hold
+
+abbrev pub with_one : Holding → Hold → Holding
+with_one h t = record { slots = h.slots; all = with_hold t h.all }
+
+abbrev pub without : Holding → Hold → Holding
+without h t = record { slots = h.slots; all = drop_first (is_hold t) h.all }

@@ -36,7 +36,7 @@ impl Model for Holders {
 
 impl Holders {
     ghost use Rattle.std.specs.Prelude.{◌≡◌, ◌<◌, [], IfOk, OnOk, OnErr};
-    ghost use Rattle.pin_core.specs.Holds.{tally, sits_at, is_copy, is_hold, with_hold, drop_first};
+    ghost use Rattle.pin_core.specs.Holds.{tally, sits_at, is_copy, with_one, without};
 
     pub(crate) fn new(alloc: Global, slots: u32) -> Result<Holders, AllocError>
         ensures { IfOk result (λ h. h ≡ record { slots = slots; all = [] }) }
@@ -64,7 +64,7 @@ impl Holders {
 
     pub(crate) fn add(&mut self, hold: Hold) -> Result<(), AllocError>
         requires { hold.id.slot < self.old.slots }
-        ensures ok { OnOk result (self.new ≡ record { slots = self.old.slots; all = with_hold hold self.old.all }) }
+        ensures ok { OnOk result (self.new ≡ with_one self.old hold) }
         ensures err { OnErr result (self.new ≡ self.old) }
     {
         let here = &mut self.by_slot[hold.id.slot as usize];
@@ -74,7 +74,7 @@ impl Holders {
 
     pub(crate) fn remove(&mut self, hold: Hold)
         requires { hold.id.slot < self.old.slots }
-        ensures { self.new ≡ record { slots = self.old.slots; all = drop_first (is_hold hold) self.old.all } }
+        ensures { self.new ≡ without self.old hold }
     {
         let here = &mut self.by_slot[hold.id.slot as usize];
         forget(here, hold);

@@ -15,9 +15,12 @@ ghost use Rattle.pin_core.specs.declared.event.Event.TheVariants.{Publish, ReadD
 /// The codes of words and of descriptors are inverse to each other, on all numbers of 64 bits that decode.
 pub fn law_of_codes()
     ensures words { (n : ℕ) → n < 2 ^ 64 → words.encoded (words.decoded n) ≡ n }
-    ensures decoded_words { (w : Word) → w.generation < 2 ^ 32 → w.pins < 2 ^ 30 → words.decoded (words.encoded w) ≡ w }
-    ensures descrs { (n : ℕ) (d : Descr) → descrs.decoded n ≡ Some d → (descrs.encoded d ≡ n) × descrs.IsGiven d }
-    ensures decoded_descrs { (d : Descr) → descrs.IsGiven d → descrs.decoded (descrs.encoded d) ≡ Some d }
+    ensures decoded_words { (w : Word) → w.generation < 2 ^ 32 → w.pins < 2 ^ 30
+        → words.decoded (words.encoded w) ≡ w }
+    ensures descrs { (n : ℕ) (d : Descr) → descrs.decoded n ≡ Some d
+        → (descrs.encoded d ≡ n) × descrs.IsGiven d }
+    ensures decoded_descrs { (d : Descr) → descrs.IsGiven d
+        → descrs.decoded (descrs.encoded d) ≡ Some d }
 {}
 
 /// What holds in each world that possible events lead to from the opening one, whoever made them and however
@@ -28,10 +31,13 @@ pub fn law_of_codes()
 /// descriptor that is read under a pin is the one that was published with the Id.
 pub fn law_of_schedules()
     ensures safe { (k : Shape) (es : List Event) → AreEvents k es → IsSafe (reached k es) }
-    ensures kept { (k : Shape) (es : List Event) → AreEvents k es → (h : Hold) → 0 < times (reached k es) h → StaysGiven (reached k es) h.id.slot }
-    ensures onward { (k : Shape) (es : List Event) (e : Event) → AreEvents k es → refusal (reached k es) e ≡ None
-        → (s : ℕ) → age (at (reached k es) s) ≤ age (at (after (reached k es) e) s) }
-    ensures alone { (k : Shape) (es : List Event) (s : ℕ) → AreEvents k es → refusal (reached k es) (Publish s) ≡ None → pins (reached k es) s ≡ 0 }
-    ensures shown { (k : Shape) (es : List Event) (r : ℕ) (id : Id) (d : Descr) → AreEvents k es → refusal (reached k es) (ReadDescr r id d) ≡ None
-        → given_as (reached k es) id d ≡ 1 }
+    ensures kept { (k : Shape) (es : List Event) → AreEvents k es → (h : Hold)
+        → 0 < times (reached k es) h → StaysGiven (reached k es) h.id.slot }
+    ensures onward { (k : Shape) (es : List Event) (e : Event) → AreEvents k es
+        → refusal (reached k es) e ≡ None → (s : ℕ)
+        → age (at (reached k es) s) ≤ age (at (after (reached k es) e) s) }
+    ensures alone { (k : Shape) (es : List Event) (s : ℕ) → AreEvents k es
+        → refusal (reached k es) (Publish s) ≡ None → pins (reached k es) s ≡ 0 }
+    ensures shown { (k : Shape) (es : List Event) (r : ℕ) (id : Id) (d : Descr) → AreEvents k es
+        → refusal (reached k es) (ReadDescr r id d) ≡ None → given_as (reached k es) id d ≡ 1 }
 {}

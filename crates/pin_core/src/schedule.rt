@@ -16,7 +16,8 @@ use std::alloc::Global;
 pub fn step(world: &mut World, event: &Event) -> Result<(), ReplayFault>
     ensures done { OnOk result (Can world.old event.now world.new) }
     ensures unchanged { OnErr result (world.new ≡ world.old) }
-    ensures reason { (r : Reason) → (result ≡ Err (Refused 1 r)) ↔ (refusal world.old event.now ≡ Some r) }
+    ensures reason { (r : Reason)
+        → (result ≡ Err (Refused 1 r)) ↔ (refusal world.old event.now ≡ Some r) }
     ensures memory { result ≡ Err Memory → refusal world.old event.now ≡ None }
 {
     if let Some(reason) = world.refusal(event) {
@@ -33,8 +34,10 @@ pub fn step(world: &mut World, event: &Event) -> Result<(), ReplayFault>
 /// [`ReplayFault::Refused`] names the first event that isn't possible where it stands;
 /// [`ReplayFault::Memory`] where memory ran out before.
 pub fn replay(alloc: Global, shape: Shape, events: &[Event]) -> Result<World, ReplayFault>
-    ensures ok { IfOk result (λ w. IsSchedule (opening_of shape) events.now × (w ≡ after_all (opening_of shape) events.now)) }
-    ensures refused { (n : ℕ) (r : Reason) → result ≡ Err (Refused n r) → IsFirstRefused (opening_of shape) events.now n r }
+    ensures ok { IfOk result (λ w. IsSchedule (opening_of shape) events.now
+        × (w ≡ after_all (opening_of shape) events.now)) }
+    ensures refused { (n : ℕ) (r : Reason) → result ≡ Err (Refused n r)
+        → IsFirstRefused (opening_of shape) events.now n r }
 {
     let Ok(mut world) = World::new(alloc, shape) else {
         return Err(ReplayFault::Memory);

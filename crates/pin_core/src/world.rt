@@ -45,10 +45,8 @@ impl Model for World {
 
 impl World {
     ghost use Rattle.std.specs.Prelude.{◌≡◌, ◌<◌, nat_lt, None, IfOk, OnOk, OnErr};
-    ghost use Rattle.pin_core.specs.Holds.{with_hold, drop_first, is_hold};
-    ghost use Rattle.pin_core.specs.Worlds.{opening_of, at, pins, copies, word_at, last_copy, next_copy};
-    ghost use Rattle.pin_core.specs.Events.{same_word, pin_refusal, refusal, check, is_phase, with_slot, with_holders, after};
-    ghost use Rattle.pin_core.specs.declared.event.Reason.TheVariants.{NoSlot, WrongPhase, NotHeld};
+    ghost use Rattle.pin_core.specs.Worlds.{opening_of, at, pins, copies, word_at};
+    ghost use Rattle.pin_core.specs.Events.{same_word, phase_refusal, held_refusal, pin_refusal, refusal, with_slot, held_more, held_less, after};
     ghost use Rattle.pin_core.specs.declared.event.Event.TheVariants.{Publish};
 
     /// The opening world: each slot is free at generation 1 with the descriptor of an event that is reset by
@@ -201,7 +199,7 @@ impl World {
     }
 
     fn unless(&self, slot: u32, phase: Phase) -> Option<Reason>
-        ensures { result ≡ check (nat_lt slot self.now.shape.slots) NoSlot (check (is_phase (at self.now slot).phase phase) WrongPhase None) }
+        ensures { result ≡ phase_refusal self.now slot phase }
     {
         if !self.exists(slot) {
             Some(Reason::NoSlot)
@@ -230,7 +228,7 @@ impl World {
     }
 
     fn unless_held(&self, reader: u32, id: Id) -> Option<Reason>
-        ensures { result ≡ check (nat_lt id.slot self.now.shape.slots) NoSlot (check (nat_lt 0 (copies self.now reader id)) NotHeld None) }
+        ensures { result ≡ held_refusal self.now reader id }
     {
         if !self.exists(id.slot) {
             Some(Reason::NoSlot)
@@ -273,7 +271,7 @@ impl World {
     fn hold(&mut self, reader: u32, slot: u32) -> Result<(), AllocError>
         requires slot { slot < self.old.shape.slots }
         requires room { pins self.old slot < self.old.shape.max_pins }
-        ensures ok { OnOk result (self.new ≡ with_holders self.old (with_hold (next_copy self.old reader slot) self.old.holders)) }
+        ensures ok { OnOk result (self.new ≡ held_more self.old reader slot) }
         ensures err { OnErr result (self.new ≡ self.old) }
     {
         let id = Id {
@@ -290,7 +288,7 @@ impl World {
     // The reader's last copy of the Id goes.
     fn let_go(&mut self, reader: u32, id: Id)
         requires { id.slot < self.old.shape.slots }
-        ensures { self.new ≡ with_holders self.old (drop_first (is_hold (last_copy self.old reader id)) self.old.holders) }
+        ensures { self.new ≡ held_less self.old reader id }
     {
         let copy = self.copies(reader, id) as u64;
         self.holders.remove(Hold { reader, id, copy });

@@ -85,8 +85,10 @@ impl Opening {
     /// The keeper, and reader 1. Where memory ran out the right to start comes back.
     pub fn start<'a>(self, pins: &'a Pins) -> Result<(Keeper<'a>, Reader<'a>), Opening>
         requires { self ≡ pins.now }
-        ensures keeper { IfOk result (λ r. (r.0.table ≡ self.table) × (r.0.view ≡ keeper_gave (opening_keeper self.shape))) }
-        ensures reader { IfOk result (λ r. (r.1.table ≡ self.table) × (r.1.view ≡ reader_given (opening_keeper self.shape))) }
+        ensures keeper { IfOk result (λ r. (r.0.table ≡ self.table)
+            × (r.0.view ≡ keeper_gave (opening_keeper self.shape))) }
+        ensures reader { IfOk result (λ r. (r.1.table ≡ self.table)
+            × (r.1.view ≡ reader_given (opening_keeper self.shape))) }
         ensures err { IfErr result (λ o. o ≡ self) }
     {
         let opening = Slot {

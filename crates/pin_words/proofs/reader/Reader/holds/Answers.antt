@@ -1,4 +1,4 @@
-use Rattle.std.proofs.Common.{◌≡◌, ◌∙◌, ap, sym, arith}
+use Rattle.std.proofs.Common.{◌≡◌, ◌∙◌, ap, arith}
 use Rattle.std.proofs.lemmas.Grind.{common_steps}
 use Rattle.pin_core.specs.Holds.{tally}
 use Rattle.pin_core.proofs.Counts.{tally-count}
