@@ -221,3 +221,27 @@ fn no_events_leave_the_opening_world(rt: HostRuntime) -> Result<(), Fail> {
     assert!(rt; world.exists(0) && world.slot(0).descr == AUTO_EVENT);
     Ok(())
 }
+
+// What was given serves a second try.
+fn retried(alloc: Global, events: &[Event]) -> Option<World> {
+    match replay(alloc, shape(4, 5), events) {
+        Ok(world) => Some(world),
+        Err(_) => replay(alloc, shape(4, 5), events).ok(),
+    }
+}
+
+#[test]
+fn want_of_memory_changes_nothing(rt: HostRuntime) -> Result<(), Fail> {
+    let events = [STORE, PUBLISH, LOAD, pin(0x0000000140000000), CLOSE];
+    let Some(mut world) = retried(rt.alloc(), &events[..2]) else {
+        panic!(rt; "no memory")
+    };
+    for event in &events[2..] {
+        if step(&mut world, event).is_err() {
+            assert!(rt; step(&mut world, event).is_ok());
+        }
+    }
+    assert!(rt; is_at(&world, 1, Phase::Closing, 1));
+    assert!(rt; world.published() == &[(FIRST, AUTO_EVENT)][..]);
+    Ok(())
+}
