@@ -34,7 +34,7 @@ any_at p d (x ∷ xs) h = by (p x) refl (any_at p d xs)
 
 module _ (ws : List (Option Wait)) (w : Wait) where
   -- each number's wait is what it was, or the new one, or none
-  by_number : (P : ℕ → Option Wait → Type 0) → ((n : ℕ) → n < length ws → P n (get_or ws n None)) → P (length ws) (Some w) → ((n : ℕ) → length ws < n → P n None) → (n : ℕ) → P n (get_or (ws ++ Some w ∷ []) n None)
+  pub by_number : (P : ℕ → Option Wait → Type 0) → ((n : ℕ) → n < length ws → P n (get_or ws n None)) → P (length ws) (Some w) → ((n : ℕ) → length ws < n → P n None) → (n : ℕ) → P n (get_or (ws ++ Some w ∷ []) n None)
   by_number P old new past n = elim (cases_lt n (length ws)) [
     | inl lt ↦ subst (λ x. P n x) (sym (get_or_append_left ws (Some w ∷ []) None n lt)) (old n lt)
     | inr le ↦ elim (cases_eq n (length ws)) [

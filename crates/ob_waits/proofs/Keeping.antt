@@ -78,7 +78,7 @@ pub effect_kept : (scene : Scene) (n : ℕ) → is_ready scene.objects.bodies (g
 effect_kept scene n ready k = kept_faded scene.waits (effect scene n).waits (effect_fades scene n ready) k
 
 -- an effect leaves the room of the other threads, and the waits that are pending are theirs
-room_other : (limit u : ℕ) (bodies after : List (Option Body)) (w : Option Wait) → RoomKept limit u bodies after → (thread_of w ≡ Some u → ⊥) → WaitHasRoom limit bodies w → WaitHasRoom limit after w
+pub room_other : (limit u : ℕ) (bodies after : List (Option Body)) (w : Option Wait) → RoomKept limit u bodies after → (thread_of w ≡ Some u → ⊥) → WaitHasRoom limit bodies w → WaitHasRoom limit after w
 room_other limit u bodies after None kept other room = tt
 room_other limit u bodies after (Some w) kept other room = record { each = λ i lt. kept.room w.thread (λ e. other (ap Some e)) (get_or (ids_of (Some w)) i nowhere).slot (room.each i lt) }
 

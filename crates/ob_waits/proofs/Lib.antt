@@ -7,3 +7,8 @@ pub mod RosterLaws
 pub mod TrackedLaws
 pub mod BlockLaws
 pub mod AddedLaws
+pub mod Apart
+pub mod Room
+pub mod References
+pub mod Settled
+pub mod Now

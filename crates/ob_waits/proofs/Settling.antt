@@ -49,7 +49,7 @@ less_all : (u : ℕ) (ids : List Id) (bodies : List (Option Body)) → IsLess bo
 less_all u [] bodies = record { each = λ t id h. h }
 less_all u (i ∷ ids) bodies = less_trans bodies (with_acquired u bodies i) _ (less_one u bodies i) (less_all u ids (with_acquired u bodies i))
 
-less_after : (mode : Mode) (u : ℕ) (bodies : List (Option Body)) (ids : List Id) → IsLess bodies (bodies_after mode u bodies ids)
+pub less_after : (mode : Mode) (u : ℕ) (bodies : List (Option Body)) (ids : List Id) → IsLess bodies (bodies_after mode u bodies ids)
 less_after Any u bodies ids = less_one u bodies (get_or ids (first_signaled u bodies ids) nowhere)
 less_after All u bodies ids = less_all u ids bodies
 
@@ -110,7 +110,7 @@ room_all limit u (i ∷ ids) bodies =
     let b = room_all limit u ids (with_acquired u bodies i) in
     record { room = λ t other k h. b.room t other k (a.room t other k h) }
 
-room_after : (limit : ℕ) (mode : Mode) (u : ℕ) (bodies : List (Option Body)) (ids : List Id) → RoomKept limit u bodies (bodies_after mode u bodies ids)
+pub room_after : (limit : ℕ) (mode : Mode) (u : ℕ) (bodies : List (Option Body)) (ids : List Id) → RoomKept limit u bodies (bodies_after mode u bodies ids)
 room_after limit Any u bodies ids = room_one limit u bodies (get_or ids (first_signaled u bodies ids) nowhere)
 room_after limit All u bodies ids = room_all limit u ids bodies
 
@@ -173,7 +173,7 @@ ready_counted scene n ready =
     let one : cond (is_pending (get_or scene.waits n None)) 1 0 ≡ 1 = ap {B = ℕ} (λ b. cond b 1 0) (ready_pending scene.objects.bodies (get_or scene.waits n None) ready) in
     omega (arith, get_or-le-sum_by (λ w. cond (is_pending w) 1 0) scene.waits n None (ready_within scene n ready), one)
 
-settled_step : (P : Scene → Type 0) (n : ℕ) (scene : Scene) →
+pub settled_step : (P : Scene → Type 0) (n : ℕ) (scene : Scene) →
     ((k : ℕ) → k < length scene.waits → is_ready scene.objects.bodies (get_or scene.waits k None) ≡ true → P (settled_within n (effect scene k))) →
     (length scene.waits ≤ first_ready scene.objects.bodies scene.waits → P scene) → P (settled_within (suc n) scene)
 settled_step P n scene step stop =

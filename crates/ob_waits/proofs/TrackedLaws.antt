@@ -48,7 +48,7 @@ waits_thread : (t : ℕ) (w : Option Wait) → is_waits_of t w ≡ true → thre
 waits_thread t None h = absurd (cc)
 waits_thread t (Some w) h = ap Some (grind (arith, nat_tests, h))
 
-thread_waits : (t : ℕ) (w : Option Wait) → thread_of w ≡ Some t → is_waits_of t w ≡ true
+pub thread_waits : (t : ℕ) (w : Option Wait) → thread_of w ≡ Some t → is_waits_of t w ≡ true
 thread_waits t None h = absurd (cc)
 thread_waits t (Some w) h = let e : w.thread ≡ t = cc in grind (arith, nat_tests, e)
 

@@ -10,6 +10,8 @@ mod pass;
 mod roster;
 mod row;
 mod take;
+#[cfg(test)]
+mod tests;
 mod threads;
 mod wait;
 mod waits;

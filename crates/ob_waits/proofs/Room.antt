@@ -1,0 +1,103 @@
+-- The room that settling asks of the pending waits, while waits come and go and bodies change.
+use Rattle.std.proofs.Common.{◌≡◌, ℕ, ◌≤◌, List, [], ◌∷◌, ◌++◌, length, Option, Some, None, refl, ap, ◌∙◌, sym, subst, arith, get_or, set, Bool, true, false, inl, inr, map, cond}
+use Rattle.std.proofs.lemmas.List.{length-set, length-map, get_or-map, get_or_past, get_or-set_same, get_or-set_other}
+use Rattle.std.specs.List.{position_or_len}
+use Rattle.std.proofs.lemmas.List.Sums.{fails_before_first}
+use Rattle.std.proofs.lemmas.Bool.{cases_eq, cases_lt, lt-ltb}
+use Rattle.ob_body.specs.declared.body.Body.{Body}
+use Rattle.ob_body.proofs.Effects.{room_at_more}
+use Rattle.pin_core.specs.declared.id.Id.{Id}
+use Rattle.ob_waits.specs.declared.wait.Mode.{Mode}
+use Rattle.ob_waits.specs.declared.wait.Wait.{Wait}
+use Rattle.ob_waits.specs.declared.wait.State.TheVariants.{Pending}
+use Rattle.ob_waits.specs.Objects.{slot_room}
+use Rattle.ob_waits.specs.Rules.{thread_of, HasRoom, WaitHasRoom, WaitsHaveRoom}
+use Rattle.ob_waits.specs.Waits.{nowhere, ids_of, unless_of, is_waits_of, number_of, bodies_after, answered}
+use Rattle.ob_waits.proofs.Settling.{room_after}
+use Rattle.ob_waits.proofs.Keeping.{room_other}
+use Rattle.ob_waits.proofs.TrackedLaws.{has_wait, thread_waits}
+use Rattle.ob_waits.proofs.AddedLaws.{by_number}
+
+-- one more wait, of a thread for which there is room
+pub room_added : (limit : ℕ) (bodies : List (Option Body)) (ws : List (Option Wait)) (t : ℕ) (mode : Mode) (ids : List Id) → HasRoom limit t bodies ids → WaitsHaveRoom limit bodies ws →
+    WaitsHaveRoom limit bodies (ws ++ Some (record { thread = t; state = Pending mode ids }) ∷ [])
+room_added limit bodies ws t mode ids room r = record { each = by_number ws (record { thread = t; state = Pending mode ids }) (λ n x. WaitHasRoom limit bodies x) (λ n lt. r.each n) room (λ n past. tt) }
+
+-- one wait replaced by one that has room, as by none or by an answered one
+pub room_replaced : (limit : ℕ) (bodies : List (Option Body)) (ws : List (Option Wait)) (n : ℕ) (x : Option Wait) → WaitHasRoom limit bodies x → WaitsHaveRoom limit bodies ws → WaitsHaveRoom limit bodies (set ws n x)
+room_replaced limit bodies ws n x room r = record {
+  each = λ m. elim (cases_eq m n) [
+    | inl same ↦ elim (cases_lt n (length ws)) [
+      | inl lt ↦ subst (λ y. WaitHasRoom limit bodies y) (sym (ap (λ i. get_or (set ws n x) i None) same ∙ get_or-set_same ws n x None lt)) room
+      | inr past ↦ subst (λ y. WaitHasRoom limit bodies y) (sym (get_or_past (set ws n x) m None (omega (arith, length-set ws n x)))) tt
+    ]
+    | inr other ↦ subst (λ y. WaitHasRoom limit bodies y) (sym (get_or-set_other ws n m x None other)) (r.each m)
+  ];
+}
+
+pub room_removed : (limit : ℕ) (bodies : List (Option Body)) (ws : List (Option Wait)) (n : ℕ) → WaitsHaveRoom limit bodies ws → WaitsHaveRoom limit bodies (set ws n None)
+room_removed limit bodies ws n r = room_replaced limit bodies ws n None tt r
+
+no_ids_room : (limit : ℕ) (bodies : List (Option Body)) (w : Option Wait) (code : ℕ) → WaitHasRoom limit bodies (answered w code)
+no_ids_room limit bodies None code = tt
+no_ids_room limit bodies (Some w) code = record { each = λ i lt. absurd (omega arith) }
+
+pub room_answered : (limit : ℕ) (bodies : List (Option Body)) (ws : List (Option Wait)) (n code : ℕ) → WaitsHaveRoom limit bodies ws → WaitsHaveRoom limit bodies (set ws n (answered (get_or ws n None) code))
+room_answered limit bodies ws n code r = room_replaced limit bodies ws n (answered (get_or ws n None) code) (no_ids_room limit bodies (get_or ws n None) code) r
+
+pub room_dropped : (limit : ℕ) (bodies : List (Option Body)) (ws : List (Option Wait)) (t : ℕ) → WaitsHaveRoom limit bodies ws → WaitsHaveRoom limit bodies (map (unless_of t) ws)
+room_dropped limit bodies ws t r = record {
+  each = λ n. elim (cases_lt n (length ws)) [
+    | inl lt ↦ subst (λ y. WaitHasRoom limit bodies y) (sym (get_or-map (unless_of t) ws n None None lt)) (by (get_or ws n None) (is_waits_of t (get_or ws n None)) refl (r.each n))
+    | inr past ↦ subst (λ y. WaitHasRoom limit bodies y) (sym (get_or_past (map (unless_of t) ws) n None (omega (arith, length-map ws (unless_of t))))) tt
+  ];
+}
+  where
+    by : (w : Option Wait) (b : Bool) → is_waits_of t w ≡ b → WaitHasRoom limit bodies w → WaitHasRoom limit bodies (unless_of t w)
+    by w true is room = rw is tt
+    by w false is room = rw is room
+
+-- a thread that has no wait takes something at once
+no_number : (t : ℕ) (ws : List (Option Wait)) (n : ℕ) → number_of t ws ≡ None → thread_of (get_or ws n None) ≡ Some t → ⊥
+no_number t ws n none own = elim (cases_lt (position_or_len (is_waits_of t) ws) (length ws)) [
+  | inl lt ↦ (let e : number_of t ws ≡ Some (position_or_len (is_waits_of t) ws) = ap (λ b. cond b (Some (position_or_len (is_waits_of t) ws)) None) (lt-ltb _ _ lt) in cc (e, none))
+  | inr le ↦
+      let lt = has_wait ws n t own in
+      let fails : is_waits_of t (get_or ws n None) ≡ false = fails_before_first (is_waits_of t) ws n None (omega arith) in
+      let passes = thread_waits t (get_or ws n None) own in cc (fails, passes)
+]
+
+pub room_now : (limit : ℕ) (mode : Mode) (t : ℕ) (bodies : List (Option Body)) (ids : List Id) (ws : List (Option Wait)) → number_of t ws ≡ None → WaitsHaveRoom limit bodies ws → WaitsHaveRoom limit (bodies_after mode t bodies ids) ws
+room_now limit mode t bodies ids ws none r = record { each = λ n. room_other limit t bodies (bodies_after mode t bodies ids) (get_or ws n None) (room_after limit mode t bodies ids) (no_number t ws n none) (r.each n) }
+
+-- bodies that leave the room of every thread
+pub room_changed : (limit : ℕ) (bodies after : List (Option Body)) (ws : List (Option Wait)) → ((t k : ℕ) → slot_room limit t (get_or bodies k None) ≡ true → slot_room limit t (get_or after k None) ≡ true) →
+    WaitsHaveRoom limit bodies ws → WaitsHaveRoom limit after ws
+room_changed limit bodies after ws keeps r = record { each = λ n. by (get_or ws n None) (r.each n) }
+  where
+    by : (w : Option Wait) → WaitHasRoom limit bodies w → WaitHasRoom limit after w
+    by None room = tt
+    by (Some w) room = record { each = λ i lt. keeps w.thread (get_or (ids_of (Some w)) i nowhere).slot (room.each i lt) }
+
+-- one body changed
+pub room_set : (limit : ℕ) (bodies : List (Option Body)) (ws : List (Option Wait)) (k : ℕ) (x : Option Body) → ((t : ℕ) → slot_room limit t (get_or bodies k None) ≡ true → slot_room limit t x ≡ true) →
+    WaitsHaveRoom limit bodies ws → WaitsHaveRoom limit (set bodies k x) ws
+room_set limit bodies ws k x keeps r = room_changed limit bodies (set bodies k x) ws (λ t i h. elim (cases_eq i k) [
+  | inl same ↦ elim (cases_lt k (length bodies)) [
+    | inl lt ↦ subst (λ y. slot_room limit t y ≡ true) (sym (ap (λ j. get_or (set bodies k x) j None) same ∙ get_or-set_same bodies k x None lt)) (keeps t (subst (λ j. slot_room limit t (get_or bodies j None) ≡ true) same h))
+    | inr past ↦ ap (slot_room limit t) (get_or_past (set bodies k x) i None (omega (arith, length-set bodies k x)))
+  ]
+  | inr other ↦ subst (λ y. slot_room limit t y ≡ true) (sym (get_or-set_other bodies k i x None other)) h
+]) r
+
+-- room below a limit is room below a greater one
+slot_at_more : (limit more t : ℕ) (x : Option Body) → limit ≤ more → slot_room limit t x ≡ true → slot_room more t x ≡ true
+slot_at_more limit more t None le h = refl
+slot_at_more limit more t (Some b) le h = room_at_more limit more t b le h
+
+pub rooms_at_more : (limit more : ℕ) (bodies : List (Option Body)) (ws : List (Option Wait)) → limit ≤ more → WaitsHaveRoom limit bodies ws → WaitsHaveRoom more bodies ws
+rooms_at_more limit more bodies ws le r = record { each = λ n. by (get_or ws n None) (r.each n) }
+  where
+    by : (w : Option Wait) → WaitHasRoom limit bodies w → WaitHasRoom more bodies w
+    by None room = tt
+    by (Some w) room = record { each = λ i lt. slot_at_more limit more w.thread (get_or bodies (get_or (ids_of (Some w)) i nowhere).slot None) le (room.each i lt) }

@@ -1,0 +1,60 @@
+-- A settled state stays settled while no body changes and no wait that is ready comes.
+use Rattle.std.proofs.Common.{◌≡◌, ℕ, List, [], ◌∷◌, ◌++◌, length, Option, Some, None, refl, ap, ◌∙◌, arith, get_or, set, Bool, true, false, inl, inr, map}
+use Rattle.std.proofs.lemmas.List.{length-set, length-map, get_or-map, get_or_past, get_or-set_same, get_or-set_other}
+use Rattle.std.proofs.lemmas.Bool.{cases_eq, cases_lt}
+use Rattle.ob_body.specs.declared.body.Body.{Body}
+use Rattle.pin_core.specs.declared.id.Id.{Id}
+use Rattle.ob_waits.specs.declared.wait.Mode.{Mode}
+use Rattle.ob_waits.specs.declared.wait.Wait.{Wait}
+use Rattle.ob_waits.specs.declared.wait.State.TheVariants.{Pending}
+use Rattle.ob_waits.specs.Rules.{IsSettled}
+use Rattle.ob_waits.specs.Waits.{is_ready, list_ready, answered, unless_of, is_waits_of, bodies_after}
+use Rattle.ob_waits.proofs.Settling.{not_true, less_after, ready_less}
+use Rattle.ob_waits.proofs.AddedLaws.{by_number}
+
+-- a wait that isn't ready comes
+pub settled_added : (bodies : List (Option Body)) (ws : List (Option Wait)) (t : ℕ) (mode : Mode) (ids : List Id) → list_ready mode t bodies ids ≡ false → IsSettled bodies ws →
+    IsSettled bodies (ws ++ Some (record { thread = t; state = Pending mode ids }) ∷ [])
+settled_added bodies ws t mode ids unready s = record { each = by_number ws (record { thread = t; state = Pending mode ids }) (λ n x. is_ready bodies x ≡ false) (λ n lt. s.each n) unready (λ n past. refl) }
+
+-- a thread takes something at once
+pub settled_now : (mode : Mode) (t : ℕ) (bodies : List (Option Body)) (ids : List Id) (ws : List (Option Wait)) → IsSettled bodies ws → IsSettled (bodies_after mode t bodies ids) ws
+settled_now mode t bodies ids ws s = record {
+  each = λ n. not_true _ (λ ready.
+      let before = ready_less bodies (bodies_after mode t bodies ids) (less_after mode t bodies ids) (get_or ws n None) ready in
+      let q = s.each n in cc (before, q));
+}
+
+-- a wait is replaced by one that isn't ready, as by none or by an answered one
+settled_replaced : (bodies : List (Option Body)) (ws : List (Option Wait)) (n : ℕ) (x : Option Wait) → is_ready bodies x ≡ false → IsSettled bodies ws → IsSettled bodies (set ws n x)
+settled_replaced bodies ws n x unready s = record {
+  each = λ m. elim (cases_eq m n) [
+    | inl same ↦ elim (cases_lt n (length ws)) [
+      | inl lt ↦ ap (is_ready bodies) (ap (λ i. get_or (set ws n x) i None) same ∙ get_or-set_same ws n x None lt) ∙ unready
+      | inr past ↦ ap (is_ready bodies) (get_or_past (set ws n x) m None (omega (arith, length-set ws n x)))
+    ]
+    | inr other ↦ ap (is_ready bodies) (get_or-set_other ws n m x None other) ∙ s.each m
+  ];
+}
+
+pub settled_removed : (bodies : List (Option Body)) (ws : List (Option Wait)) (n : ℕ) → IsSettled bodies ws → IsSettled bodies (set ws n None)
+settled_removed bodies ws n s = settled_replaced bodies ws n None refl s
+
+unready_answered : (bodies : List (Option Body)) (w : Option Wait) (code : ℕ) → is_ready bodies (answered w code) ≡ false
+unready_answered bodies None code = refl
+unready_answered bodies (Some w) code = refl
+
+pub settled_answered : (bodies : List (Option Body)) (ws : List (Option Wait)) (n code : ℕ) → IsSettled bodies ws → IsSettled bodies (set ws n (answered (get_or ws n None) code))
+settled_answered bodies ws n code s = settled_replaced bodies ws n (answered (get_or ws n None) code) (unready_answered bodies (get_or ws n None) code) s
+
+pub settled_dropped : (bodies : List (Option Body)) (ws : List (Option Wait)) (t : ℕ) → IsSettled bodies ws → IsSettled bodies (map (unless_of t) ws)
+settled_dropped bodies ws t s = record {
+  each = λ n. elim (cases_lt n (length ws)) [
+    | inl lt ↦ ap (is_ready bodies) (get_or-map (unless_of t) ws n None None lt) ∙ by (get_or ws n None) (is_waits_of t (get_or ws n None)) refl (s.each n)
+    | inr past ↦ ap (is_ready bodies) (get_or_past (map (unless_of t) ws) n None (omega (arith, length-map ws (unless_of t))))
+  ];
+}
+  where
+    by : (w : Option Wait) (b : Bool) → is_waits_of t w ≡ b → is_ready bodies w ≡ false → is_ready bodies (unless_of t w) ≡ false
+    by w true is h = rw is refl
+    by w false is h = rw is h
