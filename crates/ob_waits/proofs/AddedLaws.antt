@@ -8,10 +8,9 @@ use Rattle.std.proofs.lemmas.Bool.Decides.{nat_tests}
 use Rattle.pin_core.specs.declared.id.Id.{Id}
 use Rattle.ob_waits.specs.declared.wait.Mode.{Mode}
 use Rattle.ob_waits.specs.declared.wait.Wait.{Wait}
-use Rattle.ob_waits.specs.declared.wait.State.TheVariants.{Pending}
 use Rattle.ob_waits.specs.Rules.{thread_of, IsWaitable, WaitWaitable, Within}
 use Rattle.ob_waits.specs.Rows.{IsRow, row_of}
-use Rattle.ob_waits.specs.Waits.{nowhere, is_pending, names_slot, number_of}
+use Rattle.ob_waits.specs.Waits.{new_wait, nowhere, is_pending, names_slot, number_of}
 use Rattle.ob_waits.specs.Roster.{Roster, AreThreads, IsRight, HasPlace, with_number, IsTracked}
 use Rattle.ob_waits.proofs.TrackedLaws.{number_found, has_wait, given_some}
 
@@ -45,7 +44,7 @@ module _ (ws : List (Option Wait)) (w : Wait) where
 
 -- The theorem: a wait of a thread that had none, for which the roster has a place, is tracked.
 pub tracked_added : (limit : ℕ) (ws : List (Option Wait)) (r r' : Roster) (n t : ℕ) (mode : Mode) (ids : List Id) → length ws ≡ n → 0 < n → n ≤ limit → IsWaitable mode ids → number_of t ws ≡ None →
-    IsTracked limit ws r → IsRight ws r' → HasPlace r' t ids n → IsTracked limit (ws ++ Some (record { thread = t; state = Pending mode ids }) ∷ []) (with_number r' t n)
+    IsTracked limit ws r → IsRight ws r' → HasPlace r' t ids n → IsTracked limit (ws ++ Some (new_wait t mode ids) ∷ []) (with_number r' t n)
 tracked_added limit ws r r' n t mode ids len some below waitable alone k right place = record {
   limit_fits = k.limit_fits;
   few = omega (arith, length_push ws (Some w));
@@ -66,7 +65,7 @@ tracked_added limit ws r r' n t mode ids len some below waitable alone k right p
 }
   where
     w : Wait
-    w = record { thread = t; state = Pending mode ids }
+    w = new_wait t mode ids
 
     ours : (m u : ℕ) → thread_of (get_or (ws ++ Some w ∷ []) m None) ≡ Some u → (thread_of (get_or ws m None) ≡ Some u × (m < length ws)) ⊎ ((m ≡ length ws) × (u ≡ t))
     ours m u = by_number ws w (λ i x. thread_of x ≡ Some u → (thread_of (get_or ws i None) ≡ Some u × (i < length ws)) ⊎ ((i ≡ length ws) × (u ≡ t))) (λ i lt g. inl (g, lt)) (λ g. inr (refl, (let e : Some t ≡ Some u = g in cc))) (λ i past g. absurd (cc)) m

@@ -9,10 +9,9 @@ use Rattle.ob_body.proofs.Effects.{room_at_more}
 use Rattle.pin_core.specs.declared.id.Id.{Id}
 use Rattle.ob_waits.specs.declared.wait.Mode.{Mode}
 use Rattle.ob_waits.specs.declared.wait.Wait.{Wait}
-use Rattle.ob_waits.specs.declared.wait.State.TheVariants.{Pending}
 use Rattle.ob_waits.specs.Objects.{slot_room}
 use Rattle.ob_waits.specs.Rules.{thread_of, HasRoom, WaitHasRoom, WaitsHaveRoom}
-use Rattle.ob_waits.specs.Waits.{nowhere, ids_of, unless_of, is_waits_of, number_of, bodies_after, answered}
+use Rattle.ob_waits.specs.Waits.{new_wait, nowhere, ids_of, unless_of, is_waits_of, number_of, bodies_after, answered}
 use Rattle.ob_waits.proofs.Settling.{room_after}
 use Rattle.ob_waits.proofs.Keeping.{room_other}
 use Rattle.ob_waits.proofs.TrackedLaws.{has_wait, thread_waits}
@@ -20,8 +19,8 @@ use Rattle.ob_waits.proofs.AddedLaws.{by_number}
 
 -- one more wait, of a thread for which there is room
 pub room_added : (limit : ℕ) (bodies : List (Option Body)) (ws : List (Option Wait)) (t : ℕ) (mode : Mode) (ids : List Id) → HasRoom limit t bodies ids → WaitsHaveRoom limit bodies ws →
-    WaitsHaveRoom limit bodies (ws ++ Some (record { thread = t; state = Pending mode ids }) ∷ [])
-room_added limit bodies ws t mode ids room r = record { each = by_number ws (record { thread = t; state = Pending mode ids }) (λ n x. WaitHasRoom limit bodies x) (λ n lt. r.each n) room (λ n past. tt) }
+    WaitsHaveRoom limit bodies (ws ++ Some (new_wait t mode ids) ∷ [])
+room_added limit bodies ws t mode ids room r = record { each = by_number ws (new_wait t mode ids) (λ n x. WaitHasRoom limit bodies x) (λ n lt. r.each n) room (λ n past. tt) }
 
 -- one wait replaced by one that has room, as by none or by an answered one
 pub room_replaced : (limit : ℕ) (bodies : List (Option Body)) (ws : List (Option Wait)) (n : ℕ) (x : Option Wait) → WaitHasRoom limit bodies x → WaitsHaveRoom limit bodies ws → WaitsHaveRoom limit bodies (set ws n x)

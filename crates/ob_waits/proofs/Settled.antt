@@ -6,16 +6,15 @@ use Rattle.ob_body.specs.declared.body.Body.{Body}
 use Rattle.pin_core.specs.declared.id.Id.{Id}
 use Rattle.ob_waits.specs.declared.wait.Mode.{Mode}
 use Rattle.ob_waits.specs.declared.wait.Wait.{Wait}
-use Rattle.ob_waits.specs.declared.wait.State.TheVariants.{Pending}
 use Rattle.ob_waits.specs.Rules.{IsSettled}
-use Rattle.ob_waits.specs.Waits.{is_ready, list_ready, answered, unless_of, is_waits_of, bodies_after}
+use Rattle.ob_waits.specs.Waits.{new_wait, is_ready, list_ready, answered, unless_of, is_waits_of, bodies_after}
 use Rattle.ob_waits.proofs.Settling.{not_true, less_after, ready_less}
 use Rattle.ob_waits.proofs.AddedLaws.{by_number}
 
 -- a wait that isn't ready comes
 pub settled_added : (bodies : List (Option Body)) (ws : List (Option Wait)) (t : ℕ) (mode : Mode) (ids : List Id) → list_ready mode t bodies ids ≡ false → IsSettled bodies ws →
-    IsSettled bodies (ws ++ Some (record { thread = t; state = Pending mode ids }) ∷ [])
-settled_added bodies ws t mode ids unready s = record { each = by_number ws (record { thread = t; state = Pending mode ids }) (λ n x. is_ready bodies x ≡ false) (λ n lt. s.each n) unready (λ n past. refl) }
+    IsSettled bodies (ws ++ Some (new_wait t mode ids) ∷ [])
+settled_added bodies ws t mode ids unready s = record { each = by_number ws (new_wait t mode ids) (λ n x. is_ready bodies x ≡ false) (λ n lt. s.each n) unready (λ n past. refl) }
 
 -- a thread takes something at once
 pub settled_now : (mode : Mode) (t : ℕ) (bodies : List (Option Body)) (ids : List Id) (ws : List (Option Wait)) → IsSettled bodies ws → IsSettled (bodies_after mode t bodies ids) ws

@@ -171,9 +171,13 @@ pub record WaitList : Type 0 where
 abbrev pub is_full : WaitList → Bool
 is_full list = nat_lt list.limit (length list.waits)
 
+-- a wait that becomes pending
+abbrev pub new_wait : ℕ → Mode → List Id → Wait
+new_wait thread mode ids = record { thread = thread; state = Pending mode ids }
+
 -- the waits with one more, which has the next number
 abbrev pub with_wait : WaitList → ℕ → Mode → List Id → WaitList
-with_wait list thread mode ids = record list { waits = list.waits ++ Some (record { thread = thread; state = Pending mode ids }) ∷ [] }
+with_wait list thread mode ids = record list { waits = list.waits ++ Some (new_wait thread mode ids) ∷ [] }
 
 -- the wait of a number, answered
 abbrev pub answered : Option Wait → ℕ → Option Wait

@@ -2,8 +2,7 @@ use Rattle.std.proofs.Common.{◌≡◌, ◌≤◌, ◌+◌, ◌++◌, [], ◌�
 use Rattle.std.proofs.lemmas.Bool.Decides.{nat_tests}
 use Rattle.pin_core.specs.declared.id.Id.{Id}
 use Rattle.ob_waits.specs.declared.wait.Wait.{Wait}
-use Rattle.ob_waits.specs.declared.wait.State.TheVariants.{Pending}
-use Rattle.ob_waits.specs.Waits.{WaitList, number_of, is_full}
+use Rattle.ob_waits.specs.Waits.{new_wait, WaitList, number_of, is_full}
 use Rattle.ob_waits.specs.Roster.{Roster, IsTracked}
 use Rattle.ob_waits.proofs.AddedLaws.{tracked_added}
 use Rattle.ob_waits.proofs.waits.Waits.admit.Goals as goal
@@ -15,9 +14,9 @@ invariant_of-self-2 c =
     let alone : number_of c.args.thread c.self.inside.live ≡ None = subst (λ (l : WaitList). number_of c.args.thread l.waits ≡ None) (sym c.self.view_is) c.requires.alone in
     let full : is_full (record { limit = c.self.inside.limit; waits = c.self.inside.live }) ≡ false = subst (λ (l : WaitList). is_full l ≡ false) (sym c.self.view_is) c.requires.below_limit in
     let below : number ≤ c.self.inside.limit = grind (arith, nat_tests, full, len) in
-    let waits : c.push.new.self ≡ c.self.inside.live ++ Some (record { thread = c.args.thread; state = Pending c.args.mode c.args.ids.now }) ∷ [] =
-    c.in_ok-push.ensures.ok ∙ ap (λ (ids : List Id). c.self.inside.live ++ Some (record { thread = c.args.thread; state = Pending c.args.mode ids }) ∷ []) c.in_ok-list.ensures in
+    let waits : c.push.new.self ≡ c.self.inside.live ++ Some (new_wait c.args.thread c.args.mode c.args.ids.now) ∷ [] =
+    c.in_ok-push.ensures.ok ∙ ap (λ (ids : List Id). c.self.inside.live ++ Some (new_wait c.args.thread c.args.mode ids) ∷ []) c.in_ok-list.ensures in
     subst (λ (ws : List (Option Wait)). IsTracked c.self.inside.limit ws c.set_number.new.self) (sym waits)
-    (subst (λ (r : Roster). IsTracked c.self.inside.limit (c.self.inside.live ++ Some (record { thread = c.args.thread; state = Pending c.args.mode c.args.ids.now }) ∷ []) r) (sym c.set_number.ensures)
+    (subst (λ (r : Roster). IsTracked c.self.inside.limit (c.self.inside.live ++ Some (new_wait c.args.thread c.args.mode c.args.ids.now) ∷ []) r) (sym c.set_number.ensures)
     (tracked_added c.self.inside.limit c.self.inside.live c.self.inside.roster c.make_room.new.self number c.args.thread c.args.mode c.args.ids.now
     len (omega arith) below c.requires.waitable alone c.self.invariant c.in_ok-make_room.ensures.right c.in_ok-make_room.ensures.place))
