@@ -15,5 +15,7 @@
 mod arena;
 mod phase;
 mod row;
+#[cfg(test)]
+mod tests;
 
 pub use arena::Arena;

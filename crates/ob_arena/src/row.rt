@@ -10,7 +10,7 @@ ghost use Rattle.ob_arena.specs.Slots.{IsFilled};
 ghost use Rattle.ob_arena.specs.Memory.{row_owns, row_lends, title_owns};
 
 use std::alloc::{AllocError, Allocator};
-use std::marker::{Model, PhantomData};
+use std::marker::{Model, PhantomData, Send, Sync};
 use std::mem::{align_of, size_of};
 
 /// Where the row begins. It owns nothing.
@@ -30,6 +30,10 @@ impl<B> Clone for Front<B> {
 
 impl<B> Copy for Front<B> {}
 
+unsafe impl<B> Send for Front<B> {}
+
+unsafe impl<B> Sync for Front<B> {}
+
 /// The owner of the slots. It has no bytes: the arena has the pointer.
 pub(crate) struct Row<B> {
     mark: PhantomData<*const B>,
@@ -42,6 +46,10 @@ impl<B> Model for Row<B> {
 
     ghost also_shares = { λ row _ κ. row_lends B.row row.front row.slots κ };
 }
+
+unsafe impl<B: Send> Send for Row<B> {}
+
+unsafe impl<B: Sync> Sync for Row<B> {}
 
 /// The right to give the memory of `len` slots back to `alloc`. It has no bytes.
 pub(crate) struct Title<B, A: Allocator> {
@@ -56,6 +64,11 @@ impl<B, A: Allocator> Model for Title<B, A> {
 
     ghost also_shares = { λ _ _ _. ftrue };
 }
+
+unsafe impl<B, A: Allocator + Send> Send for Title<B, A> {}
+
+// A `&` to it holds nothing.
+unsafe impl<B, A: Allocator> Sync for Title<B, A> {}
 
 /// The bytes of a body.
 fn body_size<B>() -> usize
