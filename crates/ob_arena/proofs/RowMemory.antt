@@ -1,6 +1,6 @@
 -- The row of slots as memory: a slot is taken out of it, put back, or seen; and what values of no bytes, of one pointer
 -- and of three parts are to the machine.
-use Rattle.ob_arena.proofs.Steps.{◌≡◌, refl, sym, ap, subst, ◌∙◌, ℕ, zero, suc, ◌+◌, ◌*◌, ◌<◌, ◌≤◌, ◌^◌, arith, zero-mul, suc-mul, List, [], ◌∷◌, ◌++◌, length, take, drop, set, get_or, replicate, take-append-drop, length-take, drop-cons, set_split, Ura, full_share, SProp, ent, sep, emp, ex, guard, via, snd∗, id⊢, Fml, Lft, ftrue, fsep, fat, froom, Ty, Args, a_type, ty_array, dcons, dnil, bare, Val, vstruct, vcons, vnil, of_list, capped_is, size, align, capped, size-raw, align-raw, Logic, sem, fact, fact_i, Item, Goal, Seq, Step, step, prop, ‵, raw, some, ◌⊛◌, ◌$◌, ◌∵◌, !, qed, by, move, keep, skip, use0, use1, use2, pick, split, check, show, frame, fsplit, fjoin, fpick, fpack, feq_i, feq_l, rewrite, done, RattleType, Valss, Typed, Is, shows, param, bounded, layout, Laws, param_laws, part_at, Ptr, RawPtr, ptr_val, makes_shadow, nothing, peeks, Shape, Struct, within, shape, Tuple, tuple_type, part_in, part_out, Option, Some, None, type_size, El, R, el_x, elτ, Good, word}
+use Rattle.ob_arena.proofs.Steps.{◌≡◌, refl, sym, ap, subst, ◌∙◌, ℕ, zero, suc, ◌+◌, ◌*◌, ◌<◌, ◌^◌, arith, zero-mul, suc-mul, List, [], ◌∷◌, ◌++◌, length, set, get_or, replicate, Ura, full_share, SProp, ent, sep, emp, ex, guard, via, Fml, Lft, ftrue, fsep, fat, froom, Ty, Args, a_type, ty_array, dcons, dnil, bare, Val, vstruct, vcons, vnil, of_list, capped_is, size, align, capped, size-raw, align-raw, Logic, sem, fact, fact_i, Item, Goal, Seq, Step, step, prop, ‵, raw, some, ◌⊛◌, ◌$◌, ◌∵◌, !, qed, by, move, keep, skip, use0, use1, use2, pick, split, check, show, frame, fsplit, fjoin, fpick, fpack, feq_i, feq_l, rewrite, done, RattleType, Valss, Typed, Is, shows, param, bounded, layout, Laws, param_laws, part_at, Ptr, RawPtr, ptr_val, makes_shadow, nothing, peeks, Shape, Struct, within, shape, Tuple, tuple_type, part_in, part_out, Option, Some, None, type_size, El, R, el_x, elτ, Good, word}
 use denote.Struct.Declared as Declared
 use Rattle.std.proofs.alloc.Calls.{Al}
 use Rattle.ob_arena.specs.Memory.{slot, slots, slot_lent, slots_lent}
@@ -132,35 +132,33 @@ module _ (E : El) {M : Type 1} {𝓤 : Ura M} (𝓛 : Logic 𝓤) (b : ℕ) wher
   abbrev Slots : ℕ → List (Slot E) → Fml
   Slots = slots (R E) b
 
-  -- a row is cut in two, and put together again
-  cut : (xs ys : List (Slot E)) (o at : ℕ) → at ≡ length xs * s + o → ent 𝓤 (sem 𝓛 (Slots o (xs ++ ys))) (sep 𝓤 (sem 𝓛 (Slots o xs)) (sem 𝓛 (Slots at ys)))
-  cut [] ys o at e = qed 𝓛 (‵ (Slots o ys) ∷ []) ∵ rewrite ! 0 (λ (k : ℕ). ‵ (Slots k ys)) {x = at} (omega (arith, zero-mul s)) refl $ nothing ! $ done !
-  cut (x ∷ xs) ys o at e = let more : at ≡ suc (length xs) * s + o = e in qed 𝓛 (‵ (Slots o (x ∷ xs ++ ys)) ∷ []) ∵ fsplit ! $ move ! (1 ∷ []) $
-      use1 𝓛 (‵ (Slots (o + s) xs) ⊛ ‵ (Slots at ys)) (cut xs ys (o + s) at (omega (arith, suc-mul (length xs) s))) $ split ! $ move ! (2 ∷ 0 ∷ []) $ fjoin ! $ done !
+  -- the slots of a row but for the i-th
+  abbrev pub Others : ℕ → List (Slot E) → ℕ → Fml
+  Others o [] i = ftrue
+  Others o (x ∷ ss) zero = Slots (o + s) ss
+  Others o (x ∷ ss) (suc i) = fsep (slot (R E) b o x) (Others (o + s) ss i)
 
-  glue : (xs ys : List (Slot E)) (o at : ℕ) → at ≡ length xs * s + o → ent 𝓤 (sep 𝓤 (sem 𝓛 (Slots o xs)) (sem 𝓛 (Slots at ys))) (sem 𝓛 (Slots o (xs ++ ys)))
-  glue [] ys o at e = qed 𝓛 (‵ ftrue ∷ ‵ (Slots at ys) ∷ []) ∵ skip ! $ rewrite ! 0 (λ (k : ℕ). ‵ (Slots k ys)) {x = o} (omega (arith, zero-mul s)) refl $ done !
-  glue (x ∷ xs) ys o at e = let more : at ≡ suc (length xs) * s + o = e in qed 𝓛 (‵ (Slots o (x ∷ xs)) ∷ ‵ (Slots at ys) ∷ []) ∵ fsplit ! $ move ! (1 ∷ 2 ∷ []) $
-      use2 𝓛 (‵ (Slots (o + s) (xs ++ ys))) (glue xs ys (o + s) at (omega (arith, suc-mul (length xs) s))) $ move ! (1 ∷ 0 ∷ []) $ fjoin ! $ done !
+  -- where the i-th of a row that begins at o lies, and the same counted from the second on
+  first_offset : (o : ℕ) → o ≡ zero * s + o
+  first_offset o = omega (arith, zero-mul s)
 
-  module _ (o : ℕ) (ss : List (Slot E)) (i : ℕ) where
-    -- the slots but for the i-th
-    abbrev pub Others : Fml
-    Others = fsep (Slots o (take i ss)) (Slots (i * s + o + s) (drop (suc i) ss))
+  next_offset : (i o : ℕ) → i * s + (o + s) ≡ suc i * s + o
+  next_offset i o = omega (arith, suc-mul i s)
 
-    offset : i ≤ length ss → i * s + o ≡ length (take i ss) * s + o
-    offset le = let long : i ≡ length (take i ss) = omega (arith, length-take i ss) in ap (λ k. k * s + o) long
+  pub slot_out : (o : ℕ) (ss : List (Slot E)) (i : ℕ) → i < length ss → ent 𝓤 (sem 𝓛 (Slots o ss)) (sep 𝓤 (sem 𝓛 (slot (R E) b (i * s + o) (get_or ss i None))) (sem 𝓛 (Others o ss i)))
+  slot_out o [] i lt = absurd (omega arith)
+  slot_out o (x ∷ ss) zero lt = qed 𝓛 (‵ (Slots o (x ∷ ss)) ∷ []) ∵ fsplit ! $ rewrite ! 0 (λ (k : ℕ). ‵ (slot (R E) b k x)) (first_offset o) refl $ frame ! $ done !
+  slot_out o (x ∷ ss) (suc i) lt = qed 𝓛 (‵ (Slots o (x ∷ ss)) ∷ []) ∵ fsplit ! $ move ! (1 ∷ []) $
+      use1 𝓛 (‵ (slot (R E) b (i * s + (o + s)) (get_or ss i None)) ⊛ ‵ (Others (o + s) ss i)) (slot_out (o + s) ss i (omega arith)) $ split ! $
+      rewrite ! 0 (λ (k : ℕ). ‵ (slot (R E) b k (get_or ss i None))) (next_offset i o) refl $ frame ! $ move ! (1 ∷ 0 ∷ []) $ fjoin ! $ done !
 
-    pub slot_out : i < length ss → ent 𝓤 (sem 𝓛 (Slots o ss)) (sep 𝓤 (sem 𝓛 (slot (R E) b (i * s + o) (get_or ss i None))) (sem 𝓛 Others))
-    slot_out lt = qed 𝓛 (‵ (Slots o ss) ∷ []) ∵
-        rewrite ! 0 (λ (l : List (Slot E)). ‵ (Slots o l)) (sym (take-append-drop i ss) ∙ ap (λ l. take i ss ++ l) (drop-cons ss i None lt)) refl $
-        use1 𝓛 (‵ (Slots o (take i ss)) ⊛ ‵ (Slots (i * s + o) (get_or ss i None ∷ drop (suc i) ss))) (cut (take i ss) (get_or ss i None ∷ drop (suc i) ss) o (i * s + o) (offset (omega arith))) $
-        split ! $ move ! (1 ∷ []) $ fsplit ! $ move ! (2 ∷ 1 ∷ []) $ fjoin ! $ move ! (1 ∷ []) $ done !
-
-    pub slot_in : i < length ss → (x : Slot E) → ent 𝓤 (sep 𝓤 (sem 𝓛 (slot (R E) b (i * s + o) x)) (sem 𝓛 Others)) (sem 𝓛 (Slots o (set ss i x)))
-    slot_in lt x = qed 𝓛 (‵ (slot (R E) b (i * s + o) x) ∷ ‵ Others ∷ []) ∵ move ! (1 ∷ []) $ fsplit ! $ move ! (2 ∷ 1 ∷ []) $ fjoin ! $ move ! (1 ∷ 0 ∷ []) $
-        use2 𝓛 (‵ (Slots o (take i ss ++ x ∷ drop (suc i) ss))) (glue (take i ss) (x ∷ drop (suc i) ss) o (i * s + o) (offset (omega arith))) $
-        rewrite ! 0 (λ (l : List (Slot E)). ‵ (Slots o l)) (sym (set_split ss i x lt)) refl $ done !
+  pub slot_in : (o : ℕ) (ss : List (Slot E)) (i : ℕ) → i < length ss → (y : Slot E) → ent 𝓤 (sep 𝓤 (sem 𝓛 (slot (R E) b (i * s + o) y)) (sem 𝓛 (Others o ss i))) (sem 𝓛 (Slots o (set ss i y)))
+  slot_in o [] i lt y = absurd (omega arith)
+  slot_in o (x ∷ ss) zero lt y = qed 𝓛 (‵ (slot (R E) b (zero * s + o) y) ∷ ‵ (Slots (o + s) ss) ∷ []) ∵
+      rewrite ! 0 (λ (k : ℕ). ‵ (slot (R E) b k y)) (sym (first_offset o)) refl $ fjoin ! $ done !
+  slot_in o (x ∷ ss) (suc i) lt y = qed 𝓛 (‵ (slot (R E) b (suc i * s + o) y) ∷ ‵ (Others o (x ∷ ss) (suc i)) ∷ []) ∵
+      rewrite ! 0 (λ (k : ℕ). ‵ (slot (R E) b k y)) (sym (next_offset i o)) refl $ move ! (1 ∷ []) $ fsplit ! $ move ! (2 ∷ 1 ∷ []) $
+      use2 𝓛 (‵ (Slots (o + s) (set ss i y))) (slot_in (o + s) ss i (omega arith) y) $ move ! (1 ∷ 0 ∷ []) $ fjoin ! $ done !
 
   -- room for an array is a row of empty slots
   pub of_room : (n o : ℕ) → ent 𝓤 (H.room (ty_array (elτ E) n) b o) (sem 𝓛 (Slots o (replicate n None)))
@@ -176,16 +174,9 @@ module _ (E : El) {M : Type 1} {𝓤 : Ura M} (𝓛 : Logic 𝓤) (b : ℕ) wher
       use1 𝓛 (‵ (froom (ty_array (elτ E) n) b (o + s))) (to_room n (o + s)) $ move ! (1 ∷ []) $ by ! (𝓛.laws.room_cons (elτ E) n b o)
 
   -- what a `&` to the row shows of one slot
-  module _ (κ : Lft) where
-    abbrev Lent : ℕ → List (Slot E) → Fml
-    Lent o ss = slots_lent (R E) b o ss κ
-
-    lent_from : (ss : List (Slot E)) (i o at : ℕ) → i ≤ length ss → at ≡ i * s + o → ent 𝓤 (sem 𝓛 (Lent o ss)) (sem 𝓛 (Lent at (drop i ss)))
-    lent_from ss zero o at le e = let same : o ≡ at = omega (arith, zero-mul s) in subst (λ k. ent 𝓤 (sem 𝓛 (Lent o ss)) (sem 𝓛 (Lent k ss))) same (id⊢ 𝓤 _)
-    lent_from [] (suc i) o at le e = absurd (omega arith)
-    lent_from (x ∷ ss) (suc i) o at le e =
-        via 𝓤 (sem 𝓛 (Lent (o + s) ss)) (snd∗ 𝓤 (sem 𝓛 (slot_lent (R E) b o x κ)) (sem 𝓛 (Lent (o + s) ss))) (lent_from ss i (o + s) at (omega arith) (omega (arith, suc-mul i s)))
-
-    pub slot_seen : (o : ℕ) (ss : List (Slot E)) (i : ℕ) → i < length ss → ent 𝓤 (sem 𝓛 (Lent o ss)) (sem 𝓛 (slot_lent (R E) b (i * s + o) (get_or ss i None) κ))
-    slot_seen o ss i lt = qed 𝓛 (‵ (Lent o ss) ∷ []) ∵ use1 𝓛 (‵ (Lent (i * s + o) (drop i ss))) (lent_from ss i o (i * s + o) (omega arith) refl) $
-        rewrite ! 0 (λ (l : List (Slot E)). ‵ (Lent (i * s + o) l)) (drop-cons ss i None lt) refl $ fsplit ! $ keep ! (0 ∷ []) $ done !
+  pub slot_seen : (κ : Lft) (o : ℕ) (ss : List (Slot E)) (i : ℕ) → i < length ss → ent 𝓤 (sem 𝓛 (slots_lent (R E) b o ss κ)) (sem 𝓛 (slot_lent (R E) b (i * s + o) (get_or ss i None) κ))
+  slot_seen κ o [] i lt = absurd (omega arith)
+  slot_seen κ o (x ∷ ss) zero lt = qed 𝓛 (‵ (slots_lent (R E) b o (x ∷ ss) κ) ∷ []) ∵ fsplit ! $ rewrite ! 0 (λ (k : ℕ). ‵ (slot_lent (R E) b k x κ)) (first_offset o) refl $ keep ! (0 ∷ []) $ done !
+  slot_seen κ o (x ∷ ss) (suc i) lt = qed 𝓛 (‵ (slots_lent (R E) b o (x ∷ ss) κ) ∷ []) ∵ fsplit ! $ keep ! (1 ∷ []) $
+      use1 𝓛 (‵ (slot_lent (R E) b (i * s + (o + s)) (get_or ss i None) κ)) (slot_seen κ (o + s) ss i (omega arith)) $
+      rewrite ! 0 (λ (k : ℕ). ‵ (slot_lent (R E) b k (get_or ss i None) κ)) (next_offset i o) refl $ done !
