@@ -102,8 +102,12 @@ impl LeastFree {
         requires { n < length self.old }
         ensures { self.new ≡ slice_set self.old n false }
     {
-        set(&mut self.leaves, n);
-        set(&mut self.middle, n / 64);
+        if !set(&mut self.leaves, n) {
+            return;
+        }
+        if !set(&mut self.middle, n / 64) {
+            return;
+        }
         self.top = with_bit(self.top, n / 64 / 64);
     }
 

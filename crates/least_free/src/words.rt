@@ -42,16 +42,19 @@ pub(crate) fn lowest_in(words: &Vec<u64>, w: usize) -> usize
     64 * w + lowest(words[w])
 }
 
-/// Sets bit `n` of the row.
-pub(crate) fn set(words: &mut Vec<u64>, n: usize)
+/// Sets bit `n` of the row, and tells whether its word had no bit before.
+pub(crate) fn set(words: &mut Vec<u64>, n: usize) -> bool
     requires { n / 64 < length words.old.items }
     ensures here { bit words.new.items n ≡ 1 }
     ensures others { (k : ℕ) → k ≢ n → bit words.new.items k ≡ bit words.old.items k }
     ensures len { length words.new.items ≡ length words.old.items }
     ensures words { (w : ℕ) → w ≢ n / 64 → slice_index words.new.items w ≡ slice_index words.old.items w }
     ensures some { 0 < slice_index words.new.items (n / 64) }
+    ensures had { result ≡ false → 0 < slice_index words.old.items (n / 64) }
 {
-    words[n / 64] = with_bit(words[n / 64], n % 64);
+    let word = words[n / 64];
+    words[n / 64] = with_bit(word, n % 64);
+    word == 0
 }
 
 /// Clears bit `n` of the row, and tells whether its word has no bit then.
@@ -64,8 +67,9 @@ pub(crate) fn clear(words: &mut Vec<u64>, n: usize) -> bool
     ensures empty { result ≡ true → slice_index words.new.items (n / 64) ≡ 0 }
     ensures some { result ≡ false → 0 < slice_index words.new.items (n / 64) }
 {
-    words[n / 64] = without_bit(words[n / 64], n % 64);
-    words[n / 64] == 0
+    let word = without_bit(words[n / 64], n % 64);
+    words[n / 64] = word;
+    word == 0
 }
 
 #[tactic(auto, using(crate::proofs::RowLemmas::pushed_none))]

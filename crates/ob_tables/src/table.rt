@@ -1,10 +1,11 @@
-ghost use Rattle.std.specs.Prelude.{[], ◌∷◌, ◌++◌, ◌≡◌, ◌+◌, ◌<◌, ◌≤◌, IfOk, OnOk, OnErr, IsSome, length};
+ghost use Rattle.std.specs.Prelude.{[], ◌∷◌, ◌++◌, ◌≡◌, ◌⊎◌, IfErr, Some, ◌+◌, ◌<◌, ◌≤◌, IfOk, OnOk, OnErr, IsSome, length};
+ghost use Rattle.ob_rights.specs.declared.fault.Fault.TheVariants.{Limit, Memory};
 ghost use Rattle.ob_tables.specs.Table.{entry_at, free_place, value_of, with_entry, without_entry, with_flags};
 ghost use Rattle.ob_tables.specs.Inheritance.{inherited};
 
 use crate::entry::{Entry, inheritable};
 use least_free::LeastFree;
-use ob_rights::HandleFlags;
+use ob_rights::{Fault, HandleFlags};
 use std::alloc::{AllocError, Global};
 use std::marker::Model;
 
@@ -60,32 +61,40 @@ impl Table {
         }
     }
 
-    #[tactic(auto, using(crate::proofs::Places::least_free_places))]
-    /// The least place without an entry.
-    pub(crate) fn free_place(&self) -> u32
-        ensures value { result ≡ free_place self.now }
-        ensures bound { result ≤ length self.now }
-    {
-        self.free.least() as u32
-    }
-
-    /// Places an entry at the least free place, and gives its value.
-    pub(crate) fn place(&mut self, entry: Entry) -> Result<u32, AllocError>
-        requires { free_place self.old < 16384 }
+    /// Places an entry at the least free place, which has to be below the limit, and gives its value.
+    pub(crate) fn place(&mut self, entry: Entry, limit: u32) -> Result<u32, Fault>
+        requires { limit ≤ 16384 }
         ensures value { IfOk result (λ value. value ≡ value_of (free_place self.old)) }
         ensures ok { OnOk result (self.new ≡ with_entry self.old entry) }
+        ensures room { OnOk result (free_place self.old < limit) }
+        ensures refusal { IfErr result (λ fault. ((fault ≡ Limit) × (limit ≤ free_place self.old)) ⊎ ((fault ≡ Memory) × (free_place self.old < limit))) }
         ensures err { OnErr result (self.new ≡ self.old) }
     {
         let place = self.free.least();
+        if place >= limit as usize {
+            return Err(Fault::Limit);
+        }
         if place < self.places.len() {
             self.free.take(place);
             self.places[place] = Some(entry);
             return Ok(4 * (place as u32 + 1));
         }
+        let Ok(()) = self.push(entry) else {
+            return Err(Fault::Memory);
+        };
+        Ok(4 * (place as u32 + 1))
+    }
+
+    /// Adds a place with an entry.
+    fn push(&mut self, entry: Entry) -> Result<(), AllocError>
+        requires { length self.old < 16384 }
+        ensures ok { OnOk result (self.new ≡ self.old ++ Some entry ∷ []) }
+        ensures err { OnErr result (self.new ≡ self.old) }
+    {
         self.places.reserve(1)?;
         self.free.grow()?;
         self.places.push(Some(entry))?;
-        Ok(4 * (place as u32 + 1))
+        Ok(())
     }
 
     /// Removes the entry of a handle value.

@@ -110,13 +110,10 @@ impl Tables {
         ensures refusal { IfErr result (λ fault. (fault ≡ Limit) ⊎ (fault ≡ Memory)) }
         ensures err { OnErr result (self.new ≡ self.old) }
     {
-        if self.tables[process as usize].free_place() >= self.handles {
-            return Err(Fault::Limit);
+        match self.tables[process as usize].place(entry, self.handles) {
+            Ok(value) => return Ok(value),
+            Err(fault) => return Err(fault),
         }
-        let Ok(value) = self.tables[process as usize].place(entry) else {
-            return Err(Fault::Memory);
-        };
-        Ok(value)
     }
 
     /// The entry of a handle.

@@ -1,35 +1,19 @@
-use Rattle.std.proofs.Common.{arith, ◌≡◌, ◌≤◌, ◌<◌, sym, ap, subst, refl, length, length-set}
+use Rattle.std.proofs.Common.{arith, ◌≡◌, ◌≤◌, ◌<◌, refl, sym, ap, subst, length, length-set, Err, inl, inr}
+use Rattle.ob_rights.specs.declared.fault.Fault.TheVariants.{Memory}
 use Rattle.ob_tables.specs.Table.{free_place}
 use Rattle.ob_tables.specs.Counts.{entries_in}
 use Rattle.ob_tables.specs.Tables.{table_of, HandleTables}
 use Rattle.ob_tables.proofs.Limits.{full_at, room_at, length-with_entry, short_set, table_is}
 use Rattle.ob_tables.proofs.tables.Tables.place.Goals as goal
 
-pub returns-then-free_place-self-clause-limit : goal.returns-then-free_place-self-clause-limit
-returns-then-free_place-self-clause-limit c =
-    let i = c.self.inside in
-    let lt : c.args.process < length i.tables.items = subst (λ (s : HandleTables). c.args.process < length s.tables) (sym c.self.view_is) c.requires in
-    let full = full_at i.tables.items c.args.process i.handles c.index.result.now c.free_place.result (record { each = c.self.invariant.short }) lt c.index.ensures c.free_place.ensures.value c.if-free_place-self.true in
-    (λ _. subst (λ (s : HandleTables). entries_in (table_of s.tables c.args.process) ≡ s.handle_limit) c.self.view_is full, λ _. refl)
-
-pub returns-in_default-clause-limit : goal.returns-in_default-clause-limit
-returns-in_default-clause-limit c =
-    let i = c.self.inside in
-    let lt : c.args.process < length i.tables.items = subst (λ (s : HandleTables). c.args.process < length s.tables) (sym c.self.view_is) c.requires in
-    let room = subst (λ (s : HandleTables). entries_in (table_of s.tables c.args.process) < s.handle_limit) c.self.view_is
-    (room_at i.tables.items c.args.process i.handles c.index.result.now c.free_place.result (record { each = c.self.invariant.short }) lt c.index.ensures c.free_place.ensures.value c.if-free_place-self.false) in
-    (λ same. cc, λ full. absurd (omega arith))
-
-pub invariant_of-self-2 : goal.invariant_of-self-2
-invariant_of-self-2 c =
+pub invariant_of-self : goal.invariant_of-self
+invariant_of-self c =
     let i = c.self.inside in
     let t = c.index_mut.result.now in
     let lt : c.args.process < length i.tables.items = subst (λ (s : HandleTables). c.args.process < length s.tables) (sym c.self.view_is) c.requires in
     let here : t ≡ table_of i.tables.items c.args.process = table_is i.tables.items c.args.process t lt c.index_mut.ensures.value in
-    let read : c.index.result.now ≡ table_of i.tables.items c.args.process = table_is i.tables.items c.args.process c.index.result.now lt c.index.ensures in
     let was : length t ≤ i.handles = omega (arith, ap length here, c.self.invariant.short c.args.process) in
-    let below : free_place t < i.handles = omega (arith, ap free_place here, ap free_place read, c.free_place.ensures.value) in
-    let short : length c.place.new.self ≤ i.handles = omega (arith, ap length c.in-Ok.ensures.ok, length-with_entry t c.args.entry i.handles was below) in
+    let short : length c.place.new.self ≤ i.handles = omega (arith, ap length c.in-Ok.ensures.ok, length-with_entry t c.args.entry i.handles was c.in-Ok.ensures.room) in
     record {
       few_processes = c.self.invariant.few_processes;
       few_handles = c.self.invariant.few_handles;
@@ -38,14 +22,31 @@ invariant_of-self-2 c =
       short = short_set i.tables.items c.args.process c.place.new.self i.handles c.self.invariant.short short;
     }
 
-pub returns-clause-room : goal.returns-clause-room
-returns-clause-room c =
+pub returns-in-Ok-clause-room : goal.returns-in-Ok-clause-room
+returns-in-Ok-clause-room c =
     let i = c.self.inside in
+    let t = c.index_mut.result.now in
     let lt : c.args.process < length i.tables.items = subst (λ (s : HandleTables). c.args.process < length s.tables) (sym c.self.view_is) c.requires in
     subst (λ (s : HandleTables). entries_in (table_of s.tables c.args.process) < s.handle_limit) c.self.view_is
-    (room_at i.tables.items c.args.process i.handles c.index.result.now c.free_place.result (record { each = c.self.invariant.short }) lt c.index.ensures c.free_place.ensures.value c.if-free_place-self.false)
+    (room_at i.tables.items c.args.process i.handles t (free_place t) (record { each = c.self.invariant.short }) lt c.index_mut.ensures.value refl c.in-Ok.ensures.room)
 
-pub returns-clause-limit : goal.returns-clause-limit
-returns-clause-limit c =
-    let room = returns-clause-room c in
+pub returns-in-Ok-clause-limit : goal.returns-in-Ok-clause-limit
+returns-in-Ok-clause-limit c =
+    let room = returns-in-Ok-clause-room c in
     (λ same. cc, λ full. absurd (omega arith))
+
+pub returns-in-Err-clause-limit : goal.returns-in-Err-clause-limit
+returns-in-Err-clause-limit c =
+    let i = c.self.inside in
+    let t = c.index_mut.result.now in
+    let lt : c.args.process < length i.tables.items = subst (λ (s : HandleTables). c.args.process < length s.tables) (sym c.self.view_is) c.requires in
+    elim c.in-Err.ensures.refusal [
+      | inl limit ↦
+          let full : entries_in (table_of i.tables.items c.args.process) ≡ i.handles = full_at i.tables.items c.args.process i.handles t (free_place t) (record { each = c.self.invariant.short }) lt c.index_mut.ensures.value refl limit.1 in
+          (λ _. subst (λ (s : HandleTables). entries_in (table_of s.tables c.args.process) ≡ s.handle_limit) c.self.view_is full, λ _. ap Err limit.0)
+      | inr memory ↦
+          let below : entries_in (table_of i.tables.items c.args.process) < i.handles = room_at i.tables.items c.args.process i.handles t (free_place t) (record { each = c.self.invariant.short }) lt c.index_mut.ensures.value refl memory.1 in
+          let room = subst (λ (s : HandleTables). entries_in (table_of s.tables c.args.process) < s.handle_limit) c.self.view_is below in
+          let is_memory : c.in-Err.fault ≡ Memory = memory.0 in
+          (λ same. cc, λ full. absurd (omega arith))
+    ]
