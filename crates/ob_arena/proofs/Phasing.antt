@@ -9,7 +9,7 @@ use Rattle.std.proofs.lemmas.Bool.Decides.{nat_tests}
 use Rattle.std.proofs.lemmas.List.Sums.{prefix_len-le-length, position_or_len_is, fails_before_first, passes_at_first}
 use Rattle.std.proofs.lemmas.List.FromFn.{get_or-range_with_len, length-range_with_len}
 use Rattle.std.proofs.lemmas.List.Folds.{find_at}
-use Rattle.std.proofs.lemmas.List.{ext_get_or, get_or-replicate, get_or_past, map-set, length-map, length-set, length-replicate}
+use Rattle.std.proofs.lemmas.List.{ext_get_or, get_or-replicate, get_or-set_same, get_or_past, map-set, length-map, length-set, length-replicate}
 use Rattle.std.proofs.lemmas.Option.{slice_get-get_or, slice_get_past}
 use Rattle.least_free.specs.Taken.{least_free}
 use Rattle.ob_arena.specs.declared.phase.Phase.{Phase}
@@ -148,6 +148,11 @@ module _ {B : Type 0} (ss : List (Option B)) (ps : List Phase) (taken : List Boo
   pub shown_take : (k : ℕ) → IsHeld k → slots_shown (set ss k None) (set ps k Vacant) ≡ without_body (slots_shown ss ps) k
   shown_take k held = ap (λ (retired : List Bool). record { bodies = set ss k None; retired = retired }) (map-set_same is_retired ps k Vacant Vacant (sym (ap is_retired held.phase)))
 
+  pub vacant_take : (k : ℕ) → IsHeld k → (ltb k (length (set ss k None)) && is_vacant (get_or (set ps k Vacant) k Vacant)) ≡ true
+  vacant_take k held =
+      ap (λ (b : Bool). b && is_vacant (get_or (set ps k Vacant) k Vacant)) (lt-ltb k (length (set ss k None)) (let lt = held.within in omega (arith, length-set ss k None)))
+      ∙ ap is_vacant (get_or-set_same ps k Vacant Vacant (let lt = held.within in let n = length-phases in omega arith))
+
   -- a body changes in its slot
   pub tied_changed : (k : ℕ) (x : B) → IsHeld k → IsTied (set ss k (Some x)) ps taken
   tied_changed k x held = record {
@@ -222,3 +227,9 @@ module _ {B : Type 0} where
 pub all_none : {B : Type 0} (ss : List (Option B)) (n : ℕ) → length ss ≡ n → ((k : ℕ) → k < n → get_or ss k None ≡ None) → ss ≡ replicate n None
 all_none ss n long none = ext_get_or None ss (replicate n None) (long ∙ sym (length-replicate n None))
     (λ k lt. none k (omega arith) ∙ sym (get_or-replicate n k None None (omega arith)))
+
+-- a slot whose body was taken is vacant
+pub vacant_taken_from : {B : Type 0} (ss : List (Option B)) (ps : List Phase) (taken : List Bool) (tied : IsTied ss ps taken) (k : ℕ) → IsHeld ss ps taken tied k
+    → is_vacant_at (slots_shown (set ss k None) (set ps k Vacant)) k ≡ true
+vacant_taken_from ss ps taken tied k held =
+    vacant_phase (set ss k None) (set ps k Vacant) (set taken k false) (tied_take ss ps taken tied k held) k ∙ vacant_take ss ps taken tied k held

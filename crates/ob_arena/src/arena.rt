@@ -91,6 +91,7 @@ impl<B> Arena<B> {
         requires { IsSome (body_at self.old slot) }
         ensures body { body_at self.old slot ≡ Some result }
         ensures after { self.new ≡ without_body self.old slot }
+        ensures vacant { is_vacant_at self.new slot ≡ true }
     {
         let at = slot as usize;
         let body = self.row.empty(self.front, at);

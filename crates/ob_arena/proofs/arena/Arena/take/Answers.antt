@@ -1,9 +1,9 @@
 use Rattle.std.proofs.Common.{◌∙◌, refl, sym, ap, subst, length, length-set, set, List}
 use Rattle.std.specs.Prelude.{IsSome, Option}
 use Rattle.ob_arena.specs.declared.phase.Phase.TheVariants.{Vacant}
-use Rattle.ob_arena.specs.Slots.{Slots, body_at, without_body}
+use Rattle.ob_arena.specs.Slots.{Slots, body_at, is_vacant_at, without_body}
 use Rattle.ob_arena.specs.Arena.{slots_shown}
-use Rattle.ob_arena.proofs.Phasing.{held_slot, tied_take, shown_take, retied}
+use Rattle.ob_arena.proofs.Phasing.{held_slot, tied_take, shown_take, retied, vacant_taken_from}
 use Rattle.ob_arena.proofs.arena.Arena.take.Goals as goal
 
 pub empty-body-requires : goal.empty-body-requires
@@ -34,3 +34,11 @@ returns-clause-after g c =
     ap (λ (l : List (Option g.row.B.Denot)). slots_shown l (set i.phases.items c.args.slot Vacant)) c.empty-body.ensures.slots.1
     ∙ shown_take i.row.slots i.phases.items i.free c.self.invariant.tied c.args.slot held
     ∙ ap (λ (s : Slots g.row.B.Denot). without_body s c.args.slot) c.self.view_is
+
+pub returns-clause-vacant : goal.returns-clause-vacant
+returns-clause-vacant g c =
+    let i = c.self.inside in
+    let some = subst (λ (s : Slots g.row.B.Denot). IsSome (body_at s c.args.slot)) (sym c.self.view_is) c.requires in
+    let held = held_slot i.row.slots i.phases.items i.free c.self.invariant.tied c.args.slot some in
+    ap (λ (l : List (Option g.row.B.Denot)). is_vacant_at (slots_shown l (set i.phases.items c.args.slot Vacant)) c.args.slot) c.empty-body.ensures.slots.1
+    ∙ vacant_taken_from i.row.slots i.phases.items i.free c.self.invariant.tied c.args.slot held
