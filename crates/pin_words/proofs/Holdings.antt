@@ -100,3 +100,7 @@ one-descr w id d e safe a b = cases (same_descr d e) refl
     cases : (t : Bool) → same_descr d e ≡ t → d ≡ e
     cases true x = same_of_descr d e x
     cases false x = absurd (let two = count-two id d e w.published x in let once = safe.once id in omega arith)
+
+-- a copy that was just taken is there
+pub got-held : (id : Id) (held : List Id) → 0 < tally (is_id id) (held ++ id ∷ [])
+got-held id held = let c = count-snoc (is_id id) held id in let one : weight (is_id id id) ≡ 1 = ap weight (is_itself id) in omega arith

@@ -41,7 +41,7 @@ fn pins_at(held: &[Id], slot: u32) -> usize
 }
 
 impl LockedPins {
-    ghost use Rattle.std.specs.Prelude.{◌≡◌, ◌<◌, ◌≤◌, ◌↔◌, [], ◌∷◌, ◌++◌, length, replicate, slice_set, false, None, IsTrue, IfOk, IfErr};
+    ghost use Rattle.std.specs.Prelude.{◌≡◌, ◌<◌, ◌≤◌, ◌↔◌, [], ◌∷◌, ◌++◌, length, replicate, slice_set, false, None, IsTrue, OnOk, IfOk, IfErr};
     ghost use Rattle.ob_rights.specs.declared.fault.Fault.TheVariants.{Memory};
     ghost use Rattle.pin_core.specs.declared.word.Phase.TheVariants.{Free, Live, Closing};
     ghost use Rattle.pin_core.specs.Shapes.{IsWithinLimits};
@@ -103,7 +103,8 @@ impl LockedPins {
     /// Pins the slot of an Id once more, by the slot as it is. It is refused as a reader is, and never with
     /// [`PinFault::Busy`].
     pub fn try_pin(&mut self, id: Id) -> Result<(), PinFault>
-        ensures { Tries self.old id result self.new }
+        ensures tries { Tries self.old id result self.new }
+        ensures held { OnOk result (0 < tally (is_id id) self.new.held) }
     {
         if id.slot >= self.shape.slots {
             return Err(PinFault::NoSuchSlot);

@@ -61,7 +61,7 @@ impl<'a> Model for Reader<'a> {
 }
 
 impl<'a> Reader<'a> {
-    ghost use Rattle.std.specs.Prelude.{◌≡◌, ◌≢◌, ◌+◌, ◌<◌, ◌≤◌, ◌↔◌, [], length, IsTrue, Err};
+    ghost use Rattle.std.specs.Prelude.{◌≡◌, ◌≢◌, ◌+◌, ◌<◌, ◌≤◌, ◌↔◌, [], length, IsTrue, OnOk, Err};
     ghost use Rattle.pin_core.specs.declared.word.Word.{Word};
     ghost use Rattle.pin_core.specs.declared.shape.Shape.{Shape};
     ghost use Rattle.pin_core.specs.Words.{decoded};
@@ -130,6 +130,7 @@ impl<'a> Reader<'a> {
     /// and 5 where the slot has all its pins; 4 where the exchange found another word.
     pub fn try_pin(&mut self, id: Id) -> Result<(), PinFault>
         ensures tries { Tries self.old.view id result self.new.view }
+        ensures held { OnOk result (0 < tally (is_id id) self.new.view.held) }
         ensures table { self.new.table ≡ self.old.table }
     {
         if id.slot >= self.shape.slots {
@@ -159,6 +160,7 @@ impl<'a> Reader<'a> {
     /// Pins as [`try_pin`](Reader::try_pin) does, again and again while it answers [`PinFault::Busy`].
     pub fn pin<R: Wait>(&mut self, rt: &R, id: Id) -> Result<(), PinFault>
         ensures last { (r : ReaderView) × Tries r id result self.new.view }
+        ensures held { OnOk result (0 < tally (is_id id) self.new.view.held) }
         ensures settled { (w : Word) → result ≢ Err (fault.Busy w) }
         ensures table { self.new.table ≡ self.old.table }
     {
