@@ -4,7 +4,6 @@ use Rattle.std.proofs.lemmas.List.{length-set, get_or_past, get_or-set_same, get
 use Rattle.std.proofs.lemmas.Bool.{cases_eq, cases_lt}
 use Rattle.ob_body.specs.declared.body.Body.{Body}
 use Rattle.ob_waits.specs.declared.wait.Wait.{Wait}
-use Rattle.ob_waits.specs.Objects.{Objects}
 use Rattle.ob_waits.specs.Rules.{WaitWaitable, thread_of, IsKept, WaitHasRoom, WaitsHaveRoom, Fits}
 use Rattle.ob_waits.specs.Waits.{nowhere, is_ready, Scene, answered_wait, effect, passed, is_pending, names_slot, ids_of}
 use Rattle.ob_waits.proofs.Settling.{Answers, answers, ready_within, RoomKept}
@@ -106,11 +105,6 @@ effect_room limit scene n ready k r = record {
 pub effect_fits : (limit : ℕ) (scene : Scene) (n : ℕ) → is_ready scene.objects.bodies (get_or scene.waits n None) ≡ true → Fits limit scene.objects.bodies scene.waits → Fits limit (effect scene n).objects.bodies (effect scene n).waits
 effect_fits limit scene n ready k = record { kept = effect_kept scene n ready k.kept; room = effect_room limit scene n ready k.kept k.room }
 
--- the same where the scene after the effect stands in variables
-pub fits_after : (limit n : ℕ) (objects objects' : Objects) (waits waits' : List (Option Wait)) → ◌≡◌ {A = Scene} (record { objects = objects'; waits = waits' }) (effect (record { objects = objects; waits = waits }) n) →
-    is_ready objects.bodies (get_or waits n None) ≡ true → Fits limit objects.bodies waits → Fits limit objects'.bodies waits'
-fits_after limit n objects objects' waits waits' is ready k = subst (λ (x : Scene). Fits limit x.objects.bodies x.waits) (sym is) (effect_fits limit (record { objects = objects; waits = waits }) n ready k)
-
 -- a pass keeps it
 pub passed_fits : (limit : ℕ) (ns : List ℕ) (scene : Scene) → Fits limit scene.objects.bodies scene.waits → Fits limit (passed ns scene).objects.bodies (passed ns scene).waits
 passed_fits limit [] scene k = k
@@ -119,3 +113,15 @@ passed_fits limit (n ∷ ns) scene k = by (is_ready scene.objects.bodies (get_or
     by : (b : Bool) → is_ready scene.objects.bodies (get_or scene.waits n None) ≡ b → ((s : Scene) → Fits limit s.objects.bodies s.waits → Fits limit (passed ns s).objects.bodies (passed ns s).waits) → Fits limit (passed (n ∷ ns) scene).objects.bodies (passed (n ∷ ns) scene).waits
     by true ready rest = rw ready (rest (effect scene n) (effect_fits limit scene n ready k))
     by false ready rest = rw ready (rest scene k)
+
+-- the same where the scene after it stands in variables
+pub fits_passed : (limit : ℕ) (ns : List ℕ) (scene after : Scene) → after ≡ passed ns scene → Fits limit scene.objects.bodies scene.waits → Fits limit after.objects.bodies after.waits
+fits_passed limit ns scene after is k = subst (λ (x : Scene). Fits limit x.objects.bodies x.waits) (sym is) (passed_fits limit ns scene k)
+
+-- a pass over one number and then over the others
+pub passed_more : (n : ℕ) (ns : List ℕ) (scene : Scene) → passed ns (passed (n ∷ []) scene) ≡ passed (n ∷ ns) scene
+passed_more n ns scene = by (is_ready scene.objects.bodies (get_or scene.waits n None)) refl
+  where
+    by : (b : Bool) → is_ready scene.objects.bodies (get_or scene.waits n None) ≡ b → passed ns (passed (n ∷ []) scene) ≡ passed (n ∷ ns) scene
+    by true ready = rw ready refl
+    by false ready = rw ready refl

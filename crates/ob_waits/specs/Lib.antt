@@ -1,3 +1,4 @@
+pub mod Ids
 pub mod Objects
 pub mod Waits
 pub mod Rules

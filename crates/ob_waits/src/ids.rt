@@ -4,10 +4,17 @@ use pin_core::Id;
 use std::alloc::{AllocError, Global};
 use std::marker::Model;
 
+/// A list that takes no memory of its own where it has one element, as most waits' lists do.
+#[derive(Drop)]
+enum Rows {
+    One([Id; 1]),
+    More(Vec<Id>),
+}
+
 /// The objects of one wait, at most 64, in the order in which they were listed.
 #[derive(Drop)]
 pub struct Ids {
-    rows: Vec<Id>,
+    rows: Rows,
 }
 
 impl Model for Ids {
@@ -16,9 +23,11 @@ impl Model for Ids {
 
     ghost Value = { List Id };
 
-    ghost view = { λ s. s.rows.items };
+    ghost use Rattle.ob_waits.specs.Ids.{listed_ids};
 
-    ghost invariant = { λ s. length s.rows.items ≤ 64 };
+    ghost view = { λ s. listed_ids s.rows };
+
+    ghost invariant = { λ s. length (listed_ids s.rows) ≤ 64 };
 }
 
 impl Ids {
@@ -27,8 +36,13 @@ impl Ids {
         requires { length ids.now ≤ 64 }
         ensures { IfOk result (λ s. s ≡ ids.now) }
     {
+        if let [id] = ids {
+            return Ok(Ids {
+                rows: Rows::One([*id]),
+            });
+        }
         Ok(Ids {
-            rows: Vec::from_slice(alloc, ids)?,
+            rows: Rows::More(Vec::from_slice(alloc, ids)?),
         })
     }
 
@@ -37,6 +51,9 @@ impl Ids {
         ensures value { result.now ≡ self.now }
         ensures few { length result.now ≤ 64 }
     {
-        self.rows.as_slice()
+        match &self.rows {
+            Rows::One(id) => id,
+            Rows::More(ids) => ids.as_slice(),
+        }
     }
 }
