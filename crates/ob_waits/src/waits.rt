@@ -1,7 +1,7 @@
 ghost use Rattle.std.specs.Prelude.{[], ◌∷◌, ◌≡◌, false, Err, ◌≢◌, ◌+◌, ◌<◌, ◌≤◌, ◌↔◌, ℕ, true, None, Some, length, slice_index_or, OnOk, OnErr, IfOk, IfErr, IfSome, IsSome};
 ghost use Rattle.std.specs.Option.{option_map};
 ghost use Rattle.ob_waits.specs.Waits.{settled, passed, blocks_among, number_of, with_wait, with_answer, without_wait, without_thread, is_pending, code_at, state_at, ids_of, is_full};
-ghost use Rattle.ob_waits.specs.Rules.{IsWaitable, WaitsHaveRoom, IsSettled, IsReadyAt};
+ghost use Rattle.ob_waits.specs.Rules.{IsKept, IsWaitable, WaitsHaveRoom, IsSettled, IsReadyAt};
 
 use crate::blocks::blocks_of;
 use crate::bodies::Bodies;
@@ -58,7 +58,9 @@ impl Waits {
 
     /// The number of the thread's wait, pending or answered.
     pub fn wait_of(&self, thread: u32) -> Option<u32>
-        ensures { result ≡ number_of thread self.now.waits }
+        ensures number { result ≡ number_of thread self.now.waits }
+        // Whatever the waits are: each thread has one, and each that is pending may be waited for.
+        ensures kept { IsKept self.now.waits }
     {
         let number = self.roster.number_of(thread);
         if number == 0 {

@@ -16,7 +16,7 @@ invariant_of-self g c =
     let ready = ready_now c.args.mode t objects.bodies ids c.in-Some.code c.in-Some.ensures.code in
     let taken = c.try_now.ensures.objects ∙ taken_now c.args.mode t objects ids ready in
     subst (λ (o : Objects). WaitsHaveRoom 2147483647 o.bodies ws × IsSettled o.bodies ws) (sym taken)
-    (room_now 2147483647 c.args.mode t objects.bodies ids ws (sym c.in-None.ensures) c.self.invariant.0, settled_now c.args.mode t objects.bodies ids ws c.self.invariant.1)
+    (room_now 2147483647 c.args.mode t objects.bodies ids ws (sym c.in-None.ensures.number) c.self.invariant.0, settled_now c.args.mode t objects.bodies ids ws c.self.invariant.1)
 
 pub invariant_of-self-2 : goal.invariant_of-self-2
 invariant_of-self-2 g c =
