@@ -1,0 +1,17 @@
+//! The names of objects: which text names what.
+//!
+//! ```text
+//! let name = parse(b"Global\\A", 1)?;               // "A" in the global namespace
+//! let same = parse(b"A", 0)?;                       // the same name: session 0 is the global namespace
+//! ```
+#![tactic(auto)]
+
+mod name;
+mod parser;
+mod space;
+#[cfg(test)]
+mod tests;
+
+pub use name::NameRef;
+pub use parser::parse;
+pub use space::Space;
