@@ -1,15 +1,15 @@
 -- A console advances line by line, and what it has written is the beginning of an answer to its input.
-use Rattle.std.proofs.Common.{◌≡◌, ◌≢◌, ℕ, ◌+◌, List, [], ◌∷◌, ◌++◌, length, Option, Some, None, true, false, cond, refl, ap, sym, subst, ◌∙◌, arith}
+use Rattle.std.proofs.Common.{◌≡◌, ℕ, ◌+◌, List, [], ◌∷◌, ◌++◌, length, Option, Some, None, true, false, cond, refl, ap, sym, subst, ◌∙◌, arith}
 use Rattle.std.specs.Prelude.{nat_le}
 use Rattle.std.specs.List.{concat}
 use Rattle.std.proofs.lemmas.List.{append_assoc, append-nil, length-append}
 use Rattle.std.proofs.lemmas.List.Folds.{concat-append}
 use Rattle.ob_manager.specs.declared.limits.Limits.{Limits}
-use Rattle.ob_manager.specs.State.{State, opening}
+use Rattle.ob_manager.specs.State.{opening}
 use Rattle.ob_console.specs.declared.act.Act.{Act}
 use Rattle.ob_console.specs.Grammar.{act_of}
 use Rattle.ob_console.specs.Printed.{line_end}
-use Rattle.ob_console.specs.Runs.{Prints, Run, Splits, IsWithin, IsOutput, AnswersLines, AnswersAll, AnswersPart, last_line}
+use Rattle.ob_console.specs.Runs.{Prints, Run, Splits, IsWithin, AnswersLines, AnswersAll, AnswersPart, last_line}
 use Rattle.ob_console.specs.Held.{capped, more_held, act_of_held}
 use Rattle.ob_console.specs.Sessions.{ConsoleState, Session, Advances, Finishes}
 use Rattle.ob_console.proofs.Texts.{act_of_capped, more_capped}

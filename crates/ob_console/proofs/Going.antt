@@ -1,12 +1,7 @@
 -- Runs go on.
-use Rattle.std.proofs.Common.{◌≡◌, ℕ, ◌+◌, List, [], ◌∷◌, ◌++◌, length, refl, ap, sym, subst, ◌∙◌, arith, Ok, Err, Result}
-use Rattle.ob_rights.specs.declared.fault.Fault.{Fault}
-use Rattle.ob_manager.specs.declared.reply.Reply.{Reply}
-use Rattle.ob_manager.specs.declared.reply.Reply.TheVariants.{Refused}
-use Rattle.ob_manager.specs.declared.call.Call.{Call}
+use Rattle.std.proofs.Common.{◌≡◌, ℕ, ◌+◌, List, [], ◌∷◌, ◌++◌, length, refl, subst, arith}
 use Rattle.ob_manager.specs.State.{State}
-use Rattle.ob_manager.specs.Calls.{Outcome}
-use Rattle.ob_manager.specs.Steps.{Step, does, outcome_of, final}
+use Rattle.ob_manager.specs.Steps.{does, outcome_of, final}
 use Rattle.ob_console.specs.declared.act.Act.{Act}
 use Rattle.ob_console.specs.declared.act.Act.TheVariants.{Nothing, Bad, Ask}
 use Rattle.ob_console.specs.Grammar.{act_of}

@@ -1,10 +1,8 @@
 -- What a capped text is.
-use Rattle.std.proofs.Common.{◌≡◌, ℕ, ◌+◌, ◌-◌, ◌<◌, ◌≤◌, List, ◌++◌, length, take, get_or, arith, inl, inr, refl, ap, sym, ◌∙◌, Option, Some, None, Bool, true, false, cond, eqb}
-use Rattle.std.specs.Prelude.{nat_le}
+use Rattle.std.proofs.Common.{◌≡◌, ℕ, ◌+◌, ◌-◌, ◌<◌, ◌≤◌, List, ◌++◌, length, take, get_or, arith, inl, inr, ap, sym, ◌∙◌, Some, None, true, false, cond, eqb}
 use Rattle.std.proofs.lemmas.Bool.Decides.{nat_tests}
 use Rattle.std.proofs.lemmas.Bool.{cases_lt}
 use Rattle.std.proofs.lemmas.List.{length-append, length-take}
-use Rattle.ob_console.specs.declared.act.Act.{Act}
 use Rattle.ob_console.specs.declared.act.Act.TheVariants.{Bad}
 use Rattle.ob_console.specs.Grammar.{act_of, act_of_text, text_of}
 use Rattle.ob_console.specs.Held.{capped, more_held, act_of_held}

@@ -1,7 +1,6 @@
 -- The grammar of a script: what each line is.
-use Rattle.std.specs.Prelude.{◌≡◌, ℕ, ◌-◌, ◌==◌, ◌||◌, nat_lt, nat_le, Bool, List, [], ◌∷◌, Option, Some, None, if◌then◌else◌, length, codes, slice_index, take}
+use Rattle.std.specs.Prelude.{ℕ, ◌-◌, ◌==◌, ◌||◌, nat_lt, List, [], ◌∷◌, Option, Some, None, if◌then◌else◌, length, codes, slice_index, take}
 use Rattle.std.specs.Str.{bytes_eq}
-use Rattle.pin_core.specs.declared.id.Id.{Id}
 use Rattle.ob_manager.specs.declared.call.Call.{Call}
 use Rattle.ob_manager.specs.declared.call.Call.TheVariants.{Spawn, MakeEvent, CloseHandle, Counts}
 use Rattle.ob_console.specs.declared.act.Act.{Act}

@@ -1,5 +1,5 @@
 -- A run of a script: the lines of an input, and what is printed for them.
-use Rattle.std.specs.Prelude.{◌≡◌, ◌≢◌, ℕ, ◌+◌, ◌==◌, List, [], ◌∷◌, ◌++◌, if◌then◌else◌, length, All, Result, Ok, Err}
+use Rattle.std.specs.Prelude.{◌≡◌, ◌≢◌, ℕ, ◌+◌, List, [], ◌∷◌, ◌++◌, All, Result, Ok, Err}
 use Rattle.std.specs.List.{concat, flat_map}
 use Rattle.ob_manager.specs.declared.limits.Limits.{Limits}
 use Rattle.ob_manager.specs.declared.reply.Reply.{Reply}

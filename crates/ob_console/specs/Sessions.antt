@@ -1,5 +1,5 @@
 -- A console between two blocks of its input.
-use Rattle.std.specs.Prelude.{◌≡◌, ℕ, ◌+◌, List, ◌++◌, Option, Result, length, MatchResult}
+use Rattle.std.specs.Prelude.{◌≡◌, ℕ, List, ◌++◌, Option, Result, length, MatchResult}
 use Rattle.std.specs.List.{concat}
 use Rattle.ob_manager.specs.declared.limits.Limits.{Limits}
 use Rattle.ob_manager.specs.State.{State, opening}

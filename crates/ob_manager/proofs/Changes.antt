@@ -1,6 +1,6 @@
 -- Each small change keeps the facts of each group.
-use Rattle.std.proofs.Common.{◌≡◌, ℕ, ◌+◌, ◌<◌, ◌≤◌, List, [], ◌∷◌, ◌++◌, length, Option, Some, None, Ok, refl, ap, ◌∙◌, sym, subst, arith, get_or, set, Bool, cond, inl, inr}
-use Rattle.std.specs.Prelude.{count_by, is_some, IfSome}
+use Rattle.std.proofs.Common.{◌≡◌, ℕ, ◌+◌, ◌<◌, ◌≤◌, List, [], ◌∷◌, ◌++◌, length, Option, Some, None, Ok, refl, ap, ◌∙◌, sym, subst, arith, get_or, set, cond, inl, inr}
+use Rattle.std.specs.Prelude.{is_some, IfSome}
 use Rattle.std.proofs.lemmas.List.{length-map, length-set, length-append, get_or-set_same, get_or-set_other}
 use Rattle.std.proofs.lemmas.Bool.{cases_eq, cases_lt}
 use Rattle.std.proofs.lemmas.Option.{IfSome_then}
@@ -9,7 +9,7 @@ use Rattle.std.proofs.lemmas.List.Sums.{sum_by-set}
 use Rattle.pin_core.specs.declared.id.Id.{Id}
 use Rattle.ob_manager.specs.declared.object.Entry.{Entry}
 use Rattle.ob_manager.specs.declared.limits.Limits.{Limits}
-use Rattle.ob_manager.specs.Handles.{HandleTables, table_of, handles_among, entry_at, entries_in, free_place, with_entry, without_entry}
+use Rattle.ob_manager.specs.Handles.{HandleTables, table_of, entry_at, entries_in, free_place, with_entry, without_entry}
 use Rattle.ob_manager.specs.State.{State}
 use Rattle.ob_manager.specs.Calls.{vacant}
 use Rattle.ob_manager.specs.Kept.{heads, head_of, IsHead, LivesKept, ObjectsKept, HandlesKept}

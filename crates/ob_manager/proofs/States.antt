@@ -1,5 +1,5 @@
 -- What a manager keeps is kept by each small change of the state, and what is settled is settled.
-use Rattle.std.proofs.Common.{◌≡◌, ℕ, zero, suc, [], ◌+◌, ◌<◌, ◌≤◌, List, ◌∷◌, length, Option, Some, None, Ok, refl, ap, ◌∙◌, sym, subst, arith, get_or, set, map, cond, eqb, true, false}
+use Rattle.std.proofs.Common.{◌≡◌, ℕ, zero, suc, [], ◌+◌, ◌<◌, ◌≤◌, List, ◌∷◌, length, Option, Some, None, Ok, refl, ap, ◌∙◌, sym, subst, arith, get_or, set, map}
 use Rattle.std.specs.Prelude.{replicate, IfSome, is_some}
 use Rattle.std.proofs.lemmas.List.{length-set, length-map, length-append, length-replicate, map-set, get_or-set_same, ext_get_or}
 use Rattle.std.proofs.Math.ListN.{get_or-map}
@@ -8,14 +8,14 @@ use Rattle.pin_core.specs.declared.id.Id.{Id}
 use Rattle.pin_core.specs.declared.descr.Descr.{Descr}
 use Rattle.ob_rights.specs.declared.rights.Rights.{Rights}
 use Rattle.ob_body.specs.declared.body.Body.{Body}
-use Rattle.ob_manager.specs.declared.object.ObjectBody.TheVariants.{Live, Ended}
+use Rattle.ob_manager.specs.declared.object.ObjectBody.TheVariants.{Live}
 use Rattle.ob_manager.specs.declared.object.Entry.{Entry}
 use Rattle.ob_manager.specs.declared.object.Object.{Object}
 use Rattle.ob_manager.specs.declared.limits.Limits.{Limits}
-use Rattle.ob_manager.specs.Handles.{HandleTables, entry_at, table_of, entries_in, handles_among}
+use Rattle.ob_manager.specs.Handles.{HandleTables, entry_at, table_of, entries_in}
 use Rattle.ob_manager.specs.State.{State, ended_at, settled, opening, with_process, with_object, with_entry, without_entry}
 use Rattle.ob_manager.specs.Calls.{vacant}
-use Rattle.ob_manager.specs.Kept.{heads, head_of, IsHead, IsObject, LivesKept, ObjectsKept, HandlesKept, IsKept, IsSettled}
+use Rattle.ob_manager.specs.Kept.{heads, head_of, IsHead, IsObject, ObjectsKept, HandlesKept, IsKept, IsSettled}
 use Rattle.ob_manager.proofs.Places.{none_at, none_some}
 use Rattle.ob_manager.proofs.Heads.{heads-map, head-ended, heads_none, count_none}
 use Rattle.ob_manager.proofs.Changes as changes

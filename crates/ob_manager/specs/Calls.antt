@@ -1,18 +1,17 @@
 -- What each call answers, and the state after it. The tests stand in the order in which they are made; the first that fails
 -- is the refusal, and a refusal changes nothing.
-use Rattle.std.specs.Prelude.{◌≡◌, ℕ, ◌==◌, nat_lt, nat_le, Bool, true, false, Option, Some, None, Result, Ok, Err, if◌then◌else◌, slice_index_or, length}
+use Rattle.std.specs.Prelude.{ℕ, nat_lt, nat_le, Bool, true, false, Option, Some, None, Result, Ok, Err, if◌then◌else◌, slice_index_or, length}
 use Rattle.pin_core.specs.declared.id.Id.{Id}
 use Rattle.pin_core.specs.declared.descr.Descr.{Descr}
 use Rattle.ob_rights.specs.declared.fault.Fault.{Fault}
 use Rattle.ob_rights.specs.declared.fault.Fault.TheVariants as fault
 use Rattle.ob_rights.specs.declared.kind.Kind.TheVariants as kind
 use Rattle.ob_rights.specs.Rights.{all_access}
-use Rattle.ob_body.specs.declared.body.Body.{Body}
 use Rattle.ob_body.specs.declared.body.Body.TheVariants as body
 use Rattle.ob_manager.specs.declared.object.Entry.{Entry}
 use Rattle.ob_manager.specs.declared.object.Object.{Object}
 use Rattle.ob_manager.specs.declared.reply.Reply.{Reply}
-use Rattle.ob_manager.specs.declared.reply.Reply.TheVariants.{Spawned, Made, Closed, CountsAre, Refused}
+use Rattle.ob_manager.specs.declared.reply.Reply.TheVariants.{Spawned, Made, Closed, CountsAre}
 use Rattle.ob_manager.specs.Handles.{is_id, entry_at, table_of, entries_in, free_place, free_handle}
 use Rattle.ob_manager.specs.State.{State, handles_of, hold_of, settled, with_process, with_object, with_entry, without_entry}
 

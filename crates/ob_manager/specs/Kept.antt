@@ -5,7 +5,7 @@ use Rattle.pin_core.specs.declared.id.Id.{Id}
 use Rattle.ob_manager.specs.declared.limits.Limits.{Limits}
 use Rattle.ob_manager.specs.declared.object.Object.{Object}
 use Rattle.ob_manager.specs.Handles.{HandleTables, table_of, handles_among, entries_in}
-use Rattle.ob_manager.specs.State.{State, Name, ended_at}
+use Rattle.ob_manager.specs.State.{State, ended_at}
 
 -- the Id of a slot's object
 abbrev pub head_of : Option Object → Option Id

@@ -1,5 +1,5 @@
 -- One step of a manager, for each call.
-use Rattle.std.specs.Prelude.{◌≡◌, ℕ, Result, Ok, Err, Bool, true, false}
+use Rattle.std.specs.Prelude.{◌≡◌, Result, Ok, Err, Bool, true, false}
 use Rattle.ob_rights.specs.declared.fault.Fault.{Fault}
 use Rattle.ob_rights.specs.declared.fault.Fault.TheVariants as fault
 use Rattle.ob_manager.specs.declared.reply.Reply.{Reply}

@@ -1,4 +1,4 @@
-use Rattle.std.proofs.Common.{refl, arith, ◌∙◌, sym, ap, ◌+◌, ◌++◌, take, ◌≡◌, length, Err}
+use Rattle.std.proofs.Common.{refl, arith, ◌∙◌, sym, ap, ◌+◌, ◌++◌, take, length, Err}
 use Rattle.std.proofs.lemmas.List.{length-take-le}
 use Rattle.ob_console.proofs.Advancing.{opens}
 use Rattle.ob_console.proofs.Reading.{reading_begins, reading_on, reading_same, reading_fails, writing_fails, reading_ends, ending_fails, read_front}

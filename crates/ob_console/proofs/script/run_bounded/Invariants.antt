@@ -1,4 +1,4 @@
-use Rattle.std.proofs.Common.{◌≡◌, ◌+◌, ◌*◌, ◌≤◌, ◌++◌, [], vec_len}
+use Rattle.std.proofs.Common.{◌≡◌, ◌+◌, ◌*◌, ◌≤◌, [], vec_len}
 use Rattle.ob_console.proofs.Reading.{IsReading}
 use Rattle.ob_console.proofs.script.run_bounded.Given as goal
 

@@ -1,7 +1,6 @@
 -- `and` makes the account of one call more.
 use Rattle.std.proofs.Common.{List, [], ◌∷◌, ◌++◌, refl}
 use seplogic.Ra.Ura.{Ura}
-use mir.Syntax.{Fn}
 use mir.Val.{Val, vptr}
 use base.Logic.{SProp, ent}
 use prog.Memory.{Memory}

@@ -1,7 +1,6 @@
 -- `new` makes the account of no call.
 use Rattle.std.proofs.Common.{[], ◌∷◌, refl}
 use seplogic.Ra.Ura.{Ura}
-use mir.Syntax.{Fn}
 use mir.Val.{Val}
 use base.Logic.{SProp, ent}
 use prog.Memory.{Memory}

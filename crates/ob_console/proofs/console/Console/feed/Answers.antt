@@ -1,4 +1,4 @@
-use Rattle.std.proofs.Common.{ℕ, List, [], ◌++◌, refl, subst, sym, arith}
+use Rattle.std.proofs.Common.{ℕ, List, ◌++◌, refl, subst, sym, arith}
 use Rattle.ob_console.specs.Printed.{line_end}
 use Rattle.ob_console.specs.Sessions.{ConsoleState, Advances, IsFed}
 use Rattle.ob_console.proofs.Advancing.{part_advances}
