@@ -8,3 +8,4 @@ pub mod Going
 pub mod Advancing
 pub mod Feeding
 pub mod Reading
+pub mod Examples
