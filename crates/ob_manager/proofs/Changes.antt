@@ -15,13 +15,13 @@ use Rattle.ob_manager.specs.Calls.{vacant}
 use Rattle.ob_manager.specs.Kept.{heads, head_of, IsHead, LivesKept, ObjectsKept, HandlesKept}
 use Rattle.ob_manager.proofs.Places.{free_is_none, none_some, each_pushed, each_replaced}
 use Rattle.ob_manager.proofs.Heads.{heads_at}
-use Rattle.ob_manager.proofs.EntryCounts.{cases_is_id, handles_among-with, handles_among-without, handles_among-new, count-with, count-without}
+use Rattle.ob_manager.proofs.EntryCounts.{cases_same_id, handles_among-with, handles_among-without, handles_among-new, count-with, count-without}
 
 -- an entry comes
 pub entry_kept : (limit : ℕ) (ids : List (Option Id)) (tables : HandleTables) (process : ℕ) (entry : Entry) → process < length tables → entries_in (table_of tables process) < limit → IsHead ids entry.id → HandlesKept limit ids tables → HandlesKept limit ids (set tables process (with_entry (table_of tables process) entry))
 entry_kept limit ids tables process entry within room there kept = record {
   few_entries = each_replaced (λ table. entries_in table ≤ limit) tables process (with_entry (table_of tables process) entry) [] (omega (arith, count-with is_some refl (table_of tables process) entry)) kept.few_entries;
-  objects = λ id named. elim (cases_is_id entry.id id) [ inl same ↦ subst (λ i. IsHead ids i) same there | inr other ↦ kept.objects id (omega (arith, handles_among-with id tables process entry within, other)) ];
+  objects = λ id named. elim (cases_same_id entry.id id) [ inl same ↦ subst (λ i. IsHead ids i) same there | inr other ↦ kept.objects id (omega (arith, handles_among-with id tables process entry within, other)) ];
 }
 
 -- an entry leaves

@@ -5,26 +5,24 @@ use Rattle.std.proofs.lemmas.Bool.{cases_lt}
 use Rattle.std.proofs.lemmas.Bool.Decides.{nat_tests}
 use Rattle.std.proofs.lemmas.List.{get_or_past}
 use Rattle.std.proofs.lemmas.List.Sums.{sum_by-cons, sum_by-append, sum_by-set}
+use Rattle.pin_core.specs.Holds.{same_id}
 use Rattle.pin_core.specs.declared.id.Id.{Id}
 use Rattle.ob_manager.specs.declared.object.Entry.{Entry}
-use Rattle.ob_manager.specs.Handles.{HandleTable, HandleTables, is_id, names_object, entry_at, table_of, handles_in, handles_among, with_entry, without_entry}
+use Rattle.ob_manager.specs.Handles.{HandleTable, HandleTables, names_object, entry_at, table_of, handles_in, handles_among, with_entry, without_entry}
 use Rattle.ob_manager.proofs.Places.{none_some, some_within}
 
 -- 1 for an entry that names the object, else 0
 abbrev pub one_of : Id → Entry → ℕ
-one_of id entry = cond (is_id entry.id id) 1 0
+one_of id entry = cond (same_id entry.id id) 1 0
 
-pub is_id-same : (id : Id) → is_id id id ≡ true
-is_id-same id = grind (arith, nat_tests)
-
-pub same_id : (a b : Id) → is_id a b ≡ true → a ≡ b
-same_id a b one = ap (λ (parts : ℕ × ℕ). record { slot = parts.0; generation = parts.1 }) (grind (arith, nat_tests))
+pub one_id : (a b : Id) → same_id a b ≡ true → a ≡ b
+one_id a b one = ap (λ (parts : ℕ × ℕ). record { slot = parts.0; generation = parts.1 }) (grind (arith, nat_tests))
 
 -- two Ids are one, or an entry of the first counts nothing for the second
-pub cases_is_id : (a b : Id) → (a ≡ b) ⊎ ◌≡◌ {A = ℕ} (cond (is_id a b) 1 0) 0
-cases_is_id a b =
-    let either = elim (is_id a b) as (λ test. ((test ≡ true) → (a ≡ b)) → (a ≡ b) ⊎ ◌≡◌ {A = ℕ} (cond test 1 0) 0) [ true ↦ (λ f. inl (f refl)) | false ↦ (λ f. inr refl) ] in
-    either (same_id a b)
+pub cases_same_id : (a b : Id) → (a ≡ b) ⊎ ◌≡◌ {A = ℕ} (cond (same_id a b) 1 0) 0
+cases_same_id a b =
+    let either = elim (same_id a b) as (λ test. ((test ≡ true) → (a ≡ b)) → (a ≡ b) ⊎ ◌≡◌ {A = ℕ} (cond test 1 0) 0) [ true ↦ (λ f. inl (f refl)) | false ↦ (λ f. inr refl) ] in
+    either (one_id a b)
 
 -- an entry at the least free place counts once, for whatever is counted of entries
 pub count-with : (p : Option Entry → Bool) → p None ≡ false → (table : HandleTable) (entry : Entry) → count_by p (with_entry table entry) ≡ count_by p table + cond (p (Some entry)) 1 0

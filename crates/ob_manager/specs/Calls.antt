@@ -1,6 +1,7 @@
 -- What each call answers, and the state after it. The tests stand in the order in which they are made; the first that fails
 -- is the refusal, and a refusal changes nothing.
 use Rattle.std.specs.Prelude.{ℕ, nat_lt, nat_le, Bool, true, false, Option, Some, None, Result, Ok, Err, if◌then◌else◌, slice_index_or, length}
+use Rattle.pin_core.specs.Holds.{same_id}
 use Rattle.pin_core.specs.declared.id.Id.{Id}
 use Rattle.pin_core.specs.declared.descr.Descr.{Descr}
 use Rattle.ob_rights.specs.declared.fault.Fault.{Fault}
@@ -12,7 +13,7 @@ use Rattle.ob_manager.specs.declared.object.Entry.{Entry}
 use Rattle.ob_manager.specs.declared.object.Object.{Object}
 use Rattle.ob_manager.specs.declared.reply.Reply.{Reply}
 use Rattle.ob_manager.specs.declared.reply.Reply.TheVariants.{Spawned, Made, Closed, CountsAre}
-use Rattle.ob_manager.specs.Handles.{is_id, entry_at, table_of, entries_in, free_place, free_handle}
+use Rattle.ob_manager.specs.Handles.{entry_at, table_of, entries_in, free_place, free_handle}
 use Rattle.ob_manager.specs.State.{State, handles_of, hold_of, settled, with_process, with_object, with_entry, without_entry}
 
 -- a reply, and the state after it
@@ -55,7 +56,7 @@ is_full s process = nat_le s.limits.handles (entries_in (table_of s.tables proce
 -- the object of an Id
 abbrev pub if_id : Id → Option Object → Option Object
 if_id id None = None
-if_id id (Some object) = if is_id object.id id then Some object else None
+if_id id (Some object) = if same_id object.id id then Some object else None
 
 abbrev pub spawn : State → ℕ → Result Outcome Fault
 spawn s session = do

@@ -1,5 +1,6 @@
 -- Handle tables. A table has a place for each value: the value of place i is 4 * (i + 1).
 use Rattle.std.specs.Prelude.{ℕ, suc, ◌+◌, ◌*◌, ◌-◌, ◌/◌, ◌==◌, nat_lt, Bool, false, ◌&&◌, List, [], ◌∷◌, Option, Some, None, if◌then◌else◌, slice_index_or, slice_set, sum_by, count_by, is_some}
+use Rattle.pin_core.specs.Holds.{same_id}
 use Rattle.pin_core.specs.declared.id.Id.{Id}
 use Rattle.ob_manager.specs.declared.object.Entry.{Entry}
 
@@ -18,14 +19,10 @@ entry_at table handle = if nat_lt handle 4 then None else slice_index_or table (
 abbrev pub table_of : HandleTables → ℕ → HandleTable
 table_of tables process = slice_index_or tables process []
 
--- whether two Ids are one
-abbrev pub is_id : Id → Id → Bool
-is_id a b = (a.slot == b.slot) && (a.generation == b.generation)
-
 -- whether a place has an entry that names the object
 abbrev pub names_object : Id → Option Entry → Bool
 names_object id None = false
-names_object id (Some entry) = is_id entry.id id
+names_object id (Some entry) = same_id entry.id id
 
 -- how many entries name the object, in one table and in all
 abbrev pub handles_in : Id → HandleTable → ℕ

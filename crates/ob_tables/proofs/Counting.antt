@@ -6,27 +6,28 @@ use Rattle.std.proofs.lemmas.Bool.Decides.{nat_tests}
 use Rattle.std.proofs.lemmas.List.{get_or_past}
 use Rattle.std.proofs.lemmas.List.Sums.{sum_by-cons, sum_by-append, sum_by-set, get_or-le-sum_by, sum_by-le-sum_by, sum_by-le}
 use Rattle.std.proofs.lemmas.List.Elements.{All-from_get_or}
+use Rattle.pin_core.specs.Holds.{same_id}
 use Rattle.ob_rights.specs.declared.handle_flags.HandleFlags.{HandleFlags}
 use Rattle.ob_rights.specs.Rights.{within}
 use Rattle.pin_core.specs.declared.id.Id.{Id}
 use Rattle.ob_tables.specs.declared.entry.Entry.{Entry}
 use Rattle.ob_tables.specs.Table.{place_of, entry_at, with_entry, without_entry, flagged, with_flags}
 use Rattle.ob_tables.specs.Inheritance.{before, trimmed, inheritable, inherited}
-use Rattle.ob_tables.specs.Counts.{is_id, names, handles_in, handles_among, entries_in}
+use Rattle.ob_tables.specs.Counts.{names, handles_in, handles_among, entries_in}
 use Rattle.ob_tables.specs.Tables.{table_of, with_entry_of, without_entry_of, with_flags_of, with_process, with_child, without_entries}
 
 -- 1 for an entry of the object, and else 0
 abbrev pub one_of : Id → Entry → ℕ
-one_of id e = cond (is_id e.id id) 1 0
+one_of id e = cond (same_id e.id id) 1 0
 
-pub is_id-same : (a : Id) → is_id a a ≡ true
-is_id-same a = grind (arith, nat_tests)
+pub same_id-same : (a : Id) → same_id a a ≡ true
+same_id-same a = grind (arith, nat_tests)
 
-pub same_id : (a b : Id) → is_id a b ≡ true → a ≡ b
-same_id a b h = ap (λ (p : ℕ × ℕ). record { slot = p.0; generation = p.1 }) (grind (arith, nat_tests))
+pub one_id : (a b : Id) → same_id a b ≡ true → a ≡ b
+one_id a b h = ap (λ (p : ℕ × ℕ). record { slot = p.0; generation = p.1 }) (grind (arith, nat_tests))
 
 pub one_of-same : (e : Entry) → one_of e.id e ≡ 1
-one_of-same e = ap {B = ℕ} (λ b. cond b 1 0) (is_id-same e.id)
+one_of-same e = ap {B = ℕ} (λ b. cond b 1 0) (same_id-same e.id)
 
 -- an entry at the least free place counts once, for whatever is counted of entries
 pub count_by-with_entry : (p : Option Entry → Bool) → p None ≡ false → (t : List (Option Entry)) (e : Entry) → count_by p (with_entry t e) ≡ count_by p t + cond (p (Some e)) 1 0
@@ -137,7 +138,7 @@ count_by-trimmed p none (x ∷ t) = count_by-before p none x (trimmed t) ∙ ome
 
 inheritable-le : (id : Id) (x : Option Entry) → cond (names id (inheritable x)) 1 0 ≤ cond (names id x) 1 0
 inheritable-le id None = omega arith
-inheritable-le id (Some e) = elim (within 1 e.flags.0) as (λ b. cond (names id (cond b (Some e) None)) 1 0 ≤ cond (is_id e.id id) 1 0) [ true ↦ omega arith | false ↦ omega arith ]
+inheritable-le id (Some e) = elim (within 1 e.flags.0) as (λ b. cond (names id (cond b (Some e) None)) 1 0 ≤ cond (same_id e.id id) 1 0) [ true ↦ omega arith | false ↦ omega arith ]
 
 inheritable-entries : (x : Option Entry) → cond (is_some (inheritable x)) 1 0 ≤ cond (is_some x) 1 0
 inheritable-entries None = omega arith
@@ -160,7 +161,7 @@ handles_in-among id ts p h = get_or-le-sum_by (handles_in id) ts p [] h
 -- no object has more handles than there are entries
 named_is_some : (id : Id) (x : Option Entry) → cond (names id x) 1 0 ≤ cond (is_some x) 1 0
 named_is_some id None = omega arith
-named_is_some id (Some e) = elim (is_id e.id id) as (λ b. cond b 1 0 ≤ 1) [ true ↦ omega arith | false ↦ omega arith ]
+named_is_some id (Some e) = elim (same_id e.id id) as (λ b. cond b 1 0 ≤ 1) [ true ↦ omega arith | false ↦ omega arith ]
 
 pub handles_in-le : (id : Id) (t : List (Option Entry)) → handles_in id t ≤ entries_in t
 handles_in-le id t = sum_by-le-sum_by (λ x. cond (names id x) 1 0) (λ x. cond (is_some x) 1 0) t (λ x. named_is_some id x)

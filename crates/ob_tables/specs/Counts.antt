@@ -1,16 +1,13 @@
 -- How many entries there are, and how many name an object.
 use Rattle.std.specs.Prelude.{ℕ, ◌==◌, Bool, false, ◌&&◌, List, Option, Some, None, sum_by, count_by, is_some}
+use Rattle.pin_core.specs.Holds.{same_id}
 use Rattle.pin_core.specs.declared.id.Id.{Id}
 use Rattle.ob_tables.specs.declared.entry.Entry.{Entry}
-
--- whether two Ids are one
-abbrev pub is_id : Id → Id → Bool
-is_id a b = (a.slot == b.slot) && (a.generation == b.generation)
 
 -- whether a place has an entry of this object
 abbrev pub names : Id → Option Entry → Bool
 names id None = false
-names id (Some entry) = is_id entry.id id
+names id (Some entry) = same_id entry.id id
 
 -- how many entries a table has
 abbrev pub entries_in : List (Option Entry) → ℕ

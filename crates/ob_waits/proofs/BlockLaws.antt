@@ -3,9 +3,10 @@ use Rattle.std.proofs.Common.{◌≡◌, ℕ, suc, ◌-◌, ◌+◌, ◌<◌, �
 use Rattle.std.specs.Prelude.{sum_by, count_by, ◌==◌}
 use Rattle.std.specs.List.{list_any}
 use Rattle.std.proofs.lemmas.Bool.Decides.{nat_tests}
+use Rattle.pin_core.specs.Holds.{same_id}
 use Rattle.pin_core.specs.declared.id.Id.{Id}
 use Rattle.ob_waits.specs.declared.wait.Wait.{Wait}
-use Rattle.ob_waits.specs.Waits.{is_id, blocks_in, names_slot, ids_of}
+use Rattle.ob_waits.specs.Waits.{blocks_in, names_slot, ids_of}
 use Rattle.std.proofs.lemmas.List.{length-set, get_or_past, get_or-set_same, get_or-set_other, set_past}
 use Rattle.std.proofs.lemmas.List.Sums.{sum_by-cons, sum_by-set}
 use Rattle.std.proofs.lemmas.Bool.{cases_eq, cases_lt}
@@ -67,11 +68,11 @@ pub length-row : (m : ℕ) (ns : List ℕ) → IsRow m ns → length ns ≤ suc 
 length-row m ns row = let le = row_below 0 m ns row.rising (λ k i. omega arith) row.below in omega arith
 
 -- a wait with a block of an object names its slot
-ids_named : (id : Id) (ids : List Id) → 0 < count_by (is_id id) ids → list_any (λ (x : Id). x.slot == id.slot) ids ≡ true
+ids_named : (id : Id) (ids : List Id) → 0 < count_by (same_id id) ids → list_any (λ (x : Id). x.slot == id.slot) ids ≡ true
 ids_named id [] some = absurd (omega arith)
 ids_named id (x ∷ ids) some = by (x.slot == id.slot) refl (ids_named id ids)
   where
-    by : (b : Bool) → (x.slot == id.slot) ≡ b → (0 < count_by (is_id id) ids → list_any (λ (y : Id). y.slot == id.slot) ids ≡ true) → list_any (λ (y : Id). y.slot == id.slot) (x ∷ ids) ≡ true
+    by : (b : Bool) → (x.slot == id.slot) ≡ b → (0 < count_by (same_id id) ids → list_any (λ (y : Id). y.slot == id.slot) ids ≡ true) → list_any (λ (y : Id). y.slot == id.slot) (x ∷ ids) ≡ true
     by true is rest = grind (arith, is)
     by false is rest = let later : list_any (λ (y : Id). y.slot == id.slot) ids ≡ true = rest (grind (arith, nat_tests, is, some)) in grind (arith, is, later)
 

@@ -1,6 +1,7 @@
 -- Waits for any and for all of some objects: when one is ready, what it takes, and how they settle.
 use Rattle.std.specs.Prelude.{ℕ, zero, suc, ◌+◌, ◌==◌, nat_lt, Bool, true, false, ◌&&◌, List, [], ◌∷◌, ◌++◌, Option, Some, None, if◌then◌else◌, slice_index_or, slice_set, length, map, sum_by, count_by, position}
 use Rattle.std.specs.List.{position_or_len, list_any, list_all}
+use Rattle.pin_core.specs.Holds.{same_id}
 use Rattle.pin_core.specs.declared.id.Id.{Id}
 use Rattle.ob_body.specs.declared.body.Body.{Body}
 use Rattle.ob_waits.specs.declared.wait.Mode.{Mode}
@@ -15,10 +16,6 @@ use Rattle.ob_waits.specs.Objects.{Objects, body_of, slot_signaled, slot_abandon
 -- an Id that names the first slot, where a list has none
 abbrev pub nowhere : Id
 nowhere = record { slot = 0; generation = 0 }
-
--- whether two Ids are one
-abbrev pub is_id : Id → Id → Bool
-is_id a b = (a.slot == b.slot) && (a.generation == b.generation)
 
 abbrev pub is_signaled : ℕ → List (Option Body) → Id → Bool
 is_signaled thread bodies id = slot_signaled thread (body_of bodies id)
@@ -148,7 +145,7 @@ names_slot slot wait = list_any (λ (id : Id). id.slot == slot) (ids_of wait)
 
 -- how many places of pending waits name an object
 abbrev pub blocks_in : Id → Option Wait → ℕ
-blocks_in id wait = count_by (is_id id) (ids_of wait)
+blocks_in id wait = count_by (same_id id) (ids_of wait)
 
 abbrev pub blocks_among : Id → List (Option Wait) → ℕ
 blocks_among id waits = sum_by (blocks_in id) waits

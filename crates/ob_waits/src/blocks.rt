@@ -1,5 +1,6 @@
 ghost use Rattle.std.specs.Prelude.{[], ◌∷◌, ◌≡◌, ◌≤◌, ℕ, None, length, slice_index_or, count_by, sum_by};
-ghost use Rattle.ob_waits.specs.Waits.{is_id, blocks_in};
+ghost use Rattle.pin_core.specs.Holds.{same_id};
+ghost use Rattle.ob_waits.specs.Waits.{blocks_in};
 
 use crate::live::Live;
 use crate::wait::State;
@@ -7,7 +8,7 @@ use pin_core::Id;
 
 /// How many of some Ids are this one.
 fn places_of(ids: &[Id], id: Id) -> usize
-    ensures count { result ≡ count_by (is_id id) ids.now }
+    ensures count { result ≡ count_by (same_id id) ids.now }
     ensures bound { result ≤ length ids.now }
 {
     ids.iter()
