@@ -1,12 +1,11 @@
 -- The model as a plain program, for a manager whose memory is ample, and what it answers on small scripts.
-use Rattle.std.proofs.Common.{◌≡◌, ℕ, ◌+◌, List, [], ◌∷◌, ◌++◌, refl, arith}
+use Rattle.std.proofs.Common.{◌≡◌, ℕ, ◌+◌, List, [], ◌∷◌, refl, arith}
 use Rattle.std.specs.Prelude.{codes}
 use Rattle.ob_rights.specs.declared.fault.Fault.{Fault}
 use Rattle.ob_rights.specs.declared.fault.Fault.TheVariants as fault
 use Rattle.ob_manager.specs.declared.reply.Reply.TheVariants.{Spawned, Made, Closed, CountsAre, Refused}
 use Rattle.ob_manager.specs.declared.limits.Limits.{Limits}
 use Rattle.ob_manager.specs.State.{State, opening}
-use Rattle.ob_manager.specs.Calls.{Outcome}
 use Rattle.ob_manager.specs.Steps.{outcome_of, final, does}
 use Rattle.ob_console.specs.declared.act.Act.{Act}
 use Rattle.ob_console.specs.declared.act.Act.TheVariants.{Nothing, Bad, Ask}
