@@ -6,12 +6,17 @@
 //! ```
 #![tactic(auto)]
 
+mod directory;
+mod key;
 mod name;
+mod owned;
 mod parser;
 mod space;
 #[cfg(test)]
 mod tests;
 
+pub use directory::Directory;
 pub use name::NameRef;
+pub use owned::Name;
 pub use parser::parse;
 pub use space::Space;
