@@ -1,16 +1,14 @@
 -- A map from keys to Ids is a directory of the names with these keys.
-use Rattle.std.proofs.Common.{◌≡◌, ℕ, ◌<◌, ◌≤◌, ◌^◌, ◌&&◌, Bool, true, false, cond, List, [], ◌∷◌, ◌++◌, length, drop, map, Option, None, Some, Result, Ok, Err, refl, ap, sym, subst, ◌∙◌, arith, slice_get, option_map}
-use Rattle.std.specs.Prelude.{All, IsOk, OnOk}
+use Rattle.std.proofs.Common.{◌≡◌, ℕ, ◌&&◌, Bool, true, false, cond, List, [], ◌∷◌, ◌++◌, Option, None, Some, Result, Ok, Err, refl, ap, sym, ◌∙◌, slice_get, option_map}
+use Rattle.std.specs.Prelude.{IsOk, OnOk}
 use Rattle.std.specs.Bool.{Decides}
 use Rattle.std.specs.Global.{Vec}
-use Rattle.std.specs.Int.{w32, to_le_bytes, from_le_bytes}
 use Rattle.std.specs.Str.{bytes_eq}
 use Rattle.std.specs.List.{AllByRecursion, IsDistinct}
 use Rattle.std.specs.Map.{keys_of, lookup, remove_entry}
-use Rattle.std.specs.HashMap.{HashMap, get}
+use Rattle.std.specs.HashMap.{HashMap}
 use Rattle.std.proofs.lemmas.Bool.Decides.{Decides-eqb}
 use Rattle.std.proofs.lemmas.List.Elements.{All-nil, All-cons, All-head, All-tail}
-use Rattle.std.proofs.lemmas.Map.Keys.{IsDistinct-head, IsDistinct-tail, IsDistinct-cons}
 use Rattle.std.proofs.lemmas.List.{map-append}
 use Rattle.std.proofs.lemmas.Nat.{from_le_bytes-to_le_bytes_4}
 use Rattle.std.proofs.lemmas.Option.{slice_get-map}
@@ -21,8 +19,8 @@ use Rattle.pin_core.specs.declared.id.Id.{Id}
 use Rattle.ob_name.specs.declared.space.Space.{Space}
 use Rattle.ob_name.specs.declared.space.Space.TheVariants.{Global, Session}
 use Rattle.ob_name.specs.Names.{ObjectName}
-use Rattle.ob_name.specs.Keys.{IsInRange, IsKey, key_of, key_of_space, name_of_key, space_of_key}
-use Rattle.ob_name.specs.Listing.{AreDistinct, Rows, find_name, same_name, same_space, without_name}
+use Rattle.ob_name.specs.Keys.{IsInRange, IsKey, key_of, key_of_space, name_of_key}
+use Rattle.ob_name.specs.Listing.{AreDistinct, find_name, same_name, same_space, without_name}
 use Rattle.ob_name.specs.Entries.{AreKeyed, Entry, row_of, rows_of}
 
 -- two tests that pass together are one
@@ -116,7 +114,7 @@ pub one_more_keyed : (entries : List Entry) (entry : Entry) → AreKeyed entries
 one_more_keyed [] entry keyed is = All-cons (λ (e : Entry). IsKey e.0.items) entry [] is (All-nil (λ (e : Entry). IsKey e.0.items))
 one_more_keyed (first ∷ entries) entry keyed is =
     All-cons (λ (e : Entry). IsKey e.0.items) first (entries ++ entry ∷ []) (All-head (λ (e : Entry). IsKey e.0.items) first entries keyed)
-      (one_more_keyed entries entry (All-tail (λ (e : Entry). IsKey e.0.items) first entries keyed) is)
+    (one_more_keyed entries entry (All-tail (λ (e : Entry). IsKey e.0.items) first entries keyed) is)
 
 -- keys that differ are those of names that differ
 others : (key : Vec ℕ) (entries : List Entry) → IsKey key.items → AreKeyed entries → AllByRecursion (λ (other : Vec ℕ). bytes_eq key.items other.items ≡ false) (keys_of entries)
@@ -129,17 +127,18 @@ others key (entry ∷ entries) is keyed differ =
 pub distinct_names : (entries : List Entry) → AreKeyed entries → IsDistinct (λ (a b : Vec ℕ). bytes_eq a.items b.items) (keys_of entries) → AreDistinct (rows_of entries)
 unfolding IsDistinct
 distinct_names [] keyed distinct = tt
-distinct_names (entry ∷ entries) keyed distinct =
-    (others entry.0 entries (All-head (λ (e : Entry). IsKey e.0.items) entry entries keyed) (All-tail (λ (e : Entry). IsKey e.0.items) entry entries keyed) distinct.0,
-     distinct_names entries (All-tail (λ (e : Entry). IsKey e.0.items) entry entries keyed) distinct.1)
+distinct_names (entry ∷ entries) keyed distinct = (
+  others entry.0 entries (All-head (λ (e : Entry). IsKey e.0.items) entry entries keyed) (All-tail (λ (e : Entry). IsKey e.0.items) entry entries keyed) distinct.0,
+  distinct_names entries (All-tail (λ (e : Entry). IsKey e.0.items) entry entries keyed) distinct.1,
+)
 
 -- a new key goes last
 pub goes_last : {S : Type 0} (ids : HashMap (Vec ℕ) Id S) (key : Vec ℕ) (id : Id) (name : ObjectName) → AreKeyed ids.entries → IsKey key.items → name_of_key key.items ≡ name → find_name name (rows_of ids.entries) ≡ None
     → insert_entry (λ (a b : Vec ℕ). bytes_eq a.items b.items) ids.entries key id ≡ ids.entries ++ (key, id) ∷ []
 goes_last ids key id name keyed is named absent =
     insert_entry-new (λ (a b : Vec ℕ). bytes_eq a.items b.items) ids key id
-      (found (name_of_key key.items) (λ (other : Vec ℕ). bytes_eq key.items other.items) (λ other other_is. tested_keys key.items other.items is other_is) ids.entries keyed
-      ∙ ap (λ (n : ObjectName). find_name n (rows_of ids.entries)) named ∙ absent)
+    (found (name_of_key key.items) (λ (other : Vec ℕ). bytes_eq key.items other.items) (λ other other_is. tested_keys key.items other.items is other_is) ids.entries keyed
+    ∙ ap (λ (n : ObjectName). find_name n (rows_of ids.entries)) named ∙ absent)
 
 pub last_row : (entries : List Entry) (key : Vec ℕ) (id : Id) (name : ObjectName) → name_of_key key.items ≡ name → rows_of (entries ++ (key, id) ∷ []) ≡ rows_of entries ++ (name, id) ∷ []
 last_row entries key id name named = map-append row_of entries ((key, id) ∷ []) ∙ ap (λ (n : ObjectName). rows_of entries ++ (n, id) ∷ []) named

@@ -10,6 +10,7 @@ use arrayvec::ArrayVec;
 /// The most bytes of a key: those of a name, and five for its namespace.
 pub(crate) const KEY_MOST: usize = 265;
 
+#[inline(always)]
 pub(crate) fn key_of(name: &NameRef<'_>) -> ArrayVec<u8, KEY_MOST>
     ensures bytes { result.items ≡ key_of (name_at name.now) }
     ensures in_range { IsInRange name.now.space }
@@ -20,6 +21,7 @@ pub(crate) fn key_of(name: &NameRef<'_>) -> ArrayVec<u8, KEY_MOST>
     key
 }
 
+#[inline(always)]
 fn key_of_space(space: Space) -> [u8; 5]
     ensures bytes { result ≡ key_of_space space }
     ensures in_range { IsInRange space }

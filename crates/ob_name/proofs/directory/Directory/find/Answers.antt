@@ -1,4 +1,4 @@
-use Rattle.std.proofs.Common.{◌≡◌, ◌∙◌, sym, ap, subst}
+use Rattle.std.proofs.Common.{◌∙◌, ap}
 use Rattle.std.specs.Global.{Vec}
 use Rattle.std.specs.Prelude.{ℕ}
 use Rattle.std.specs.Str.{bytes_eq}
@@ -11,6 +11,6 @@ use Rattle.ob_name.proofs.directory.Directory.find.Goals as goal
 pub returns : goal.returns
 returns c =
     rw (c.copied.ensures, c.get.ensures.value)
-      (found (name_at c.args.name.now) (λ (key : Vec ℕ). bytes_eq c.as_slice.result.now key.items) (λ key is. rw (c.as_slice.ensures.value, c.key_of.ensures.bytes) (tested (name_at c.args.name.now) key.items c.key_of.ensures.in_range is))
-        c.self.inside.ids.entries c.self.invariant
-      ∙ ap (λ (l : Listing). find_name (name_at c.args.name.now) l.rows) c.self.view_is)
+    (found (name_at c.args.name.now) (λ (key : Vec ℕ). bytes_eq c.as_slice.result.now key.items) (λ key is. rw (c.as_slice.ensures.value, c.key_of.ensures.bytes) (tested (name_at c.args.name.now) key.items c.key_of.ensures.in_range is))
+    c.self.inside.ids.entries c.self.invariant
+    ∙ ap (λ (l : Listing). find_name (name_at c.args.name.now) l.rows) c.self.view_is)

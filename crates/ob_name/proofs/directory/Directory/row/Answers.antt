@@ -1,6 +1,5 @@
-use Rattle.std.proofs.Common.{◌≡◌, ◌∙◌, ap, sym, slice_get}
+use Rattle.std.proofs.Common.{◌∙◌, ap, slice_get}
 use Rattle.ob_name.specs.Listing.{Listing}
-use Rattle.ob_name.specs.Names.{ObjectName}
 use Rattle.ob_name.specs.Keys.{name_of_key}
 use Rattle.ob_name.specs.Refs.{name_at}
 use Rattle.ob_name.proofs.Keyed.{row_seen}
@@ -10,5 +9,5 @@ use Rattle.ob_name.proofs.directory.Directory.row.Goals as goal
 pub returns : goal.returns
 returns c =
     row_seen c.self.inside.ids.entries c.args.at (c.in_ok-key.key.now, c.in_ok-key.id.now) (name_at c.name_of_key.result) c.in_ok-key.ensures.entry
-      (c.name_of_key.ensures ∙ ap name_of_key c.as_slice.ensures.value)
+    (c.name_of_key.ensures ∙ ap name_of_key c.as_slice.ensures.value)
     ∙ ap (λ (l : Listing). slice_get l.rows c.args.at) c.self.view_is
