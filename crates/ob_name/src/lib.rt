@@ -1,8 +1,12 @@
-//! The names of objects: which text names what.
+//! The names of objects: which text names what, and which object has a name.
 //!
 //! ```text
 //! let name = parse(b"Global\\A", 1)?;               // "A" in the global namespace
 //! let same = parse(b"A", 0)?;                       // the same name: session 0 is the global namespace
+//! let mut directory = Directory::new(alloc);
+//! let copy = directory.reserve(&name)?;             // takes memory, and changes no name
+//! directory.enter(copy, id);                        // can't fail
+//! directory.find(&same);                            // Some(id)
 //! ```
 #![tactic(auto)]
 
