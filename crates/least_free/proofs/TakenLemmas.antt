@@ -1,9 +1,11 @@
--- What the callers of a set of numbers need of its least free number.
-use Rattle.std.proofs.Common.{◌≡◌, ◌∙◌, sym, ap, ◌<◌, List, Bool, true, false, length, get_or, Some, refl}
+-- What the callers of a set of numbers need of its least free number, and of the numbers that are taken.
+use Rattle.std.proofs.Common.{◌≡◌, ◌≢◌, ◌∙◌, sym, ap, subst, ℕ, ◌+◌, ◌-◌, ◌<◌, List, Bool, true, false, length, get_or, set, Some, refl, arith, ⊎_elim}
 use Rattle.std.specs.Prelude.{not, slice_get}
+use Rattle.std.proofs.lemmas.Bool.{cases_eq}
 use Rattle.std.proofs.lemmas.List.Sums.{passes_at_first}
 use Rattle.std.proofs.lemmas.Option.{slice_get-get_or}
 use Rattle.least_free.specs.Taken.{least_free}
+use Rattle.least_free.proofs.SpareLemmas.{get-set_same, get-set_other}
 
 not_taken : (b : Bool) → not b ≡ true → b ≡ false
 not_taken true h = sym h
@@ -12,3 +14,23 @@ not_taken false h = refl
 -- the least free number that is below the length can be taken
 pub slice_get_least_free : (taken : List Bool) → least_free taken < length taken → slice_get taken (least_free taken) ≡ Some false
 slice_get_least_free taken lt = slice_get-get_or taken (least_free taken) true lt ∙ ap Some (not_taken (get_or taken (least_free taken) true) (passes_at_first not taken true lt))
+
+-- all numbers below n are taken
+pub record AreTaken (taken : List Bool) (n : ℕ) : Type 0 where
+  pub each : (k : ℕ) → k < n → slice_get taken k ≡ Some true
+
+pub none_taken : (taken : List Bool) → AreTaken taken 0
+none_taken taken = record { each = λ k lt. absurd (omega arith) }
+
+pub one_more_taken : (taken : List Bool) (n : ℕ) → n < length taken → AreTaken taken n → AreTaken (set taken n true) (n + 1)
+one_more_taken taken n within all = record {
+  each = λ k lt. ⊎_elim
+      (λ (e : k ≡ n). subst (λ (j : ℕ). slice_get (set taken n true) j ≡ Some true) (sym e) (get-set_same taken n true within))
+      (λ (ne : k ≢ n). get-set_other taken n k true (λ e. ne (sym e)) ∙ all.each k (omega arith))
+      (cases_eq k n);
+}
+
+pub one_fewer_taken : (taken : List Bool) (n : ℕ) → 0 < n → AreTaken taken n → AreTaken (set taken (n - 1) false) (n - 1)
+one_fewer_taken taken n some all = record {
+  each = λ k lt. get-set_other taken (n - 1) k false (omega arith) ∙ all.each k (omega arith);
+}

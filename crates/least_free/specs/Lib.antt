@@ -1,3 +1,4 @@
 pub mod Bits
 pub mod Rows
+pub mod Spare
 pub mod Taken

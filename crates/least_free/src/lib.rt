@@ -15,33 +15,32 @@
 ghost use Rattle.std.specs.Prelude.{◌≡◌, ◌<◌, ◌≤◌, length, List, [], ◌∷◌, ◌++◌, true, false, replicate, slice_set, Some, slice_get, IfOk, OnOk, OnErr};
 ghost use Rattle.least_free.specs.Taken.{least_free};
 
+mod rows;
 mod words;
 
+use rows::Rows;
 use std::alloc::{AllocError, Global};
 use std::marker::Model;
-use words::{add_word, clear, lowest, lowest_in, set, with_bit, without_bit};
 
 /// A set of numbers, of which each is taken or free. From the outside it is the list that says of each number below
 /// its length whether it is taken; the numbers from there on are free.
-// Bit n of the leaves is set where n is free and below the length. A bit of the middle row is set where a word of the
-// leaves has a bit, and a bit of the top word where a word of the middle row has one.
+// The spare is a free number that the rows still have as taken, so that a number that is given back and taken again
+// changes no row.
 #[derive(Drop)]
 pub struct LeastFree {
-    top: u64,
-    middle: Vec<u64>,
-    leaves: Vec<u64>,
-    len: usize,
+    rows: Rows,
+    spare: Option<usize>,
 }
 
 impl Model for LeastFree {
     ghost use Rattle.std.specs.Prelude.{List, Bool};
-    ghost use Rattle.least_free.specs.Rows.{taken_in, IsSummedUp};
+    ghost use Rattle.least_free.specs.Spare.{with_spare, IsSpare};
 
     ghost Value = { List Bool };
 
-    ghost view = { λ s. taken_in s.leaves.items s.len };
+    ghost view = { λ s. with_spare s.rows s.spare };
 
-    ghost invariant = { λ s. IsSummedUp s.top s.middle.items s.leaves.items s.len };
+    ghost invariant = { λ s. IsSpare s.rows s.spare };
 }
 
 impl LeastFree {
@@ -50,10 +49,8 @@ impl LeastFree {
         ensures { result ≡ [] }
     {
         LeastFree {
-            top: 0,
-            middle: Vec::new(alloc),
-            leaves: Vec::new(alloc),
-            len: 0,
+            rows: Rows::new(alloc),
+            spare: None,
         }
     }
 
@@ -62,12 +59,8 @@ impl LeastFree {
         requires { n ≤ 65536 }
         ensures { IfOk result (λ s. s ≡ replicate n false) }
     {
-        let mut free = LeastFree::new(alloc);
-        for k in 0..n {
-            free.grow()?;
-            free.give_back(k);
-        }
-        Ok(free)
+        let rows = Rows::with_free(alloc, n)?;
+        Ok(LeastFree { rows, spare: None })
     }
 
     /// The least free number: one that was given back, or the length.
@@ -75,12 +68,11 @@ impl LeastFree {
         ensures value { result ≡ least_free self.now }
         ensures bound { result ≤ length self.now }
     {
-        if self.top == 0 {
-            return self.len;
+        let least = self.rows.least();
+        match self.spare {
+            Some(spare) if spare < least => spare,
+            _ => least,
         }
-        let m = lowest(self.top);
-        let w = lowest_in(&self.middle, m);
-        lowest_in(&self.leaves, w)
     }
 
     /// Takes a free number below the length.
@@ -88,27 +80,28 @@ impl LeastFree {
         requires { slice_get self.old n ≡ Some false }
         ensures { self.new ≡ slice_set self.old n true }
     {
-        if !clear(&mut self.leaves, n) {
+        if self.spare == Some(n) {
+            self.spare = None;
             return;
         }
-        if !clear(&mut self.middle, n / 64) {
-            return;
-        }
-        self.top = without_bit(self.top, n / 64 / 64);
+        self.rows.take(n);
     }
 
-    /// Makes a number below the length free.
+    /// Makes a number free that is taken.
     pub fn give_back(&mut self, n: usize)
-        requires { n < length self.old }
+        requires { slice_get self.old n ≡ Some true }
         ensures { self.new ≡ slice_set self.old n false }
     {
-        if !set(&mut self.leaves, n) {
+        let Some(spare) = self.spare else {
+            self.spare = Some(n);
+            return;
+        };
+        if n < spare {
+            self.spare = Some(n);
+            self.rows.give_back(spare);
             return;
         }
-        if !set(&mut self.middle, n / 64) {
-            return;
-        }
-        self.top = with_bit(self.top, n / 64 / 64);
+        self.rows.give_back(n);
     }
 
     /// Takes the number at the length, which is one more then. This is the one call that takes memory of a set that
@@ -118,13 +111,7 @@ impl LeastFree {
         ensures ok { OnOk result (self.new ≡ self.old ++ true ∷ []) }
         ensures err { OnErr result (self.new ≡ self.old) }
     {
-        if self.len < 64 * self.leaves.len() {
-            self.len += 1;
-            return Ok(());
-        }
-        add_word(&mut self.middle, &mut self.leaves)?;
-        self.len += 1;
-        Ok(())
+        self.rows.grow()
     }
 }
 
@@ -152,11 +139,34 @@ mod tests {
     }
 
     #[test]
+    fn the_smaller_of_two_is_the_least(rt: HostRuntime) -> Result<(), Fail> {
+        let mut free = LeastFree::new(rt.alloc());
+        free.grow()?;
+        free.grow()?;
+        free.grow()?;
+        free.give_back(1);
+        free.give_back(0);
+        assert_eq!(rt; free.least(), 0);
+        free.take(1);
+        assert_eq!(rt; free.least(), 0);
+        free.give_back(2);
+        free.take(0);
+        assert_eq!(rt; free.least(), 2);
+        free.grow()?;
+        free.give_back(3);
+        free.take(2);
+        assert_eq!(rt; free.least(), 3);
+        free.take(3);
+        assert_eq!(rt; free.least(), 4);
+        Ok(())
+    }
+
+    #[test]
     fn fills_and_drains_all(rt: HostRuntime) -> Result<(), Fail> {
         fills_and_drains(&rt, rt.alloc(), 65536)
     }
 
-    #[tactic(auto, using(crate::proofs::TakenLemmas::slice_get_least_free))]
+    #[tactic(auto, using(crate::proofs::TakenLemmas::slice_get_least_free, crate::proofs::TakenLemmas::none_taken, crate::proofs::TakenLemmas::one_more_taken, crate::proofs::TakenLemmas::one_fewer_taken))]
     fn fills_and_drains(rt: &impl Abort, alloc: Global, most: usize) -> Result<(), Fail>
         requires { most ≤ 65536 }
     {

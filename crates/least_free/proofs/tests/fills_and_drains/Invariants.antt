@@ -1,8 +1,15 @@
 use Rattle.std.proofs.Common.{◌≡◌, length}
+use Rattle.least_free.proofs.TakenLemmas.{AreTaken}
 use Rattle.least_free.proofs.tests.fills_and_drains.Given as goal
 
 abbrev pub invariant-loop-n : goal.invariant-loop-n
-invariant-loop-n g l = length l.free ≡ l.fn.most
+invariant-loop-n g l = record {
+  len : length l.free ≡ l.fn.most;
+  all : AreTaken l.free l.n-counter;
+}
 
 abbrev pub invariant-loop-n-2 : goal.invariant-loop-n-2
-invariant-loop-n-2 g l = length l.free ≡ l.fn.most
+invariant-loop-n-2 g l = record {
+  len : length l.free ≡ l.fn.most;
+  all : AreTaken l.free l.n-counter;
+}

@@ -1,6 +1,6 @@
 use Rattle.std.proofs.Common.{◌∙◌, ap, sym, ℕ, add-one, List, [], ◌∷◌, ◌++◌, Bool, true, false, replicate, set}
 use Rattle.least_free.proofs.RowLemmas.{one_more_free}
-use Rattle.least_free.proofs.LeastFree.with_free.Goals as goal
+use Rattle.least_free.proofs.rows.Rows.with_free.Goals as goal
 
 pub loop-k-preserved : goal.loop-k-preserved
 loop-k-preserved c =
