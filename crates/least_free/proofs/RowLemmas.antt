@@ -4,7 +4,7 @@ use Rattle.std.specs.Prelude.{not, ◌==◌, slice_get, Some}
 use Rattle.std.specs.Int.{bit_at}
 use Rattle.std.proofs.lemmas.Bool.{cases_eq, cases_lt}
 use Rattle.std.proofs.lemmas.Bool.Decides.{nat_tests}
-use Rattle.std.proofs.lemmas.List.{get_or_past, length-set, ext_get_or, get_or-set_same, get_or-set_other}
+use Rattle.std.proofs.lemmas.List.{get_or_past, length-set, length-replicate, get_or-replicate, ext_get_or, get_or-set_same, get_or-set_other}
 use Rattle.std.proofs.lemmas.List.FromFn.{get_or-map-range_with_len, length-map-range_with_len, map-range_with_len_more}
 use Rattle.std.proofs.lemmas.List.Sums.{position_or_len_is}
 use Rattle.std.proofs.lemmas.Option.{slice_get_within, get_or_from_slice_get}
@@ -134,3 +134,18 @@ word_of_bit ws n here = inside ws (n / 64) (some_of_bit ws n here)
 pub one_more_free : (n : ℕ) → set (replicate n false ++ true ∷ []) n false ≡ replicate (suc n) false
 one_more_free zero = refl
 one_more_free (suc n) = ap (λ s. false ∷ s) (one_more_free n)
+
+-- words without a bit
+pub no_word : (w k : ℕ) → slice_index (replicate w 0) k ≡ 0
+no_word zero k = refl
+no_word (suc w) zero = refl
+no_word (suc w) (suc k) = no_word w k
+
+pub no_bit : (w k : ℕ) → bit (replicate w 0) k ≡ 0
+no_bit w k = bit_of_empty (replicate w 0) k (no_word w (k / 64))
+
+-- without a bit every number is taken
+pub all_taken : (ws : List ℕ) (n : ℕ) → ((k : ℕ) → bit ws k ≡ 0) → taken_in ws n ≡ replicate n true
+all_taken ws n none = ext_get_or true (taken_in ws n) (replicate n true) (length-taken_in ws n ∙ sym (length-replicate n true))
+    (λ k lt. let in' : k < n = simp length-taken_in at lt in
+    get_or-taken_in ws n k true in' ∙ ap {B = Bool} (λ (x : ℕ). x == 0) (none k) ∙ sym (get_or-replicate n k true true in'))

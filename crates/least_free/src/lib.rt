@@ -54,6 +54,15 @@ impl LeastFree {
         }
     }
 
+    /// A set of length `n` in which every number is taken.
+    pub fn with_taken(alloc: Global, n: usize) -> Result<LeastFree, AllocError>
+        requires { n ≤ 65536 }
+        ensures { IfOk result (λ s. s ≡ replicate n true) }
+    {
+        let rows = Rows::with_taken(alloc, n)?;
+        Ok(LeastFree { rows, spare: None })
+    }
+
     /// A set of length `n` in which every number is free. Taking these takes no memory.
     pub fn with_free(alloc: Global, n: usize) -> Result<LeastFree, AllocError>
         requires { n ≤ 65536 }
@@ -158,6 +167,20 @@ mod tests {
         assert_eq!(rt; free.least(), 3);
         free.take(3);
         assert_eq!(rt; free.least(), 4);
+        Ok(())
+    }
+
+    #[test]
+    fn all_are_taken_but_those_given_back(rt: HostRuntime) -> Result<(), Fail> {
+        let mut free = LeastFree::with_taken(rt.alloc(), 70)?;
+        assert_eq!(rt; free.least(), 70);
+        free.give_back(69);
+        free.give_back(68);
+        free.take(68);
+        assert_eq!(rt; free.least(), 69);
+        free.take(69);
+        free.grow()?;
+        assert_eq!(rt; free.least(), 71);
         Ok(())
     }
 

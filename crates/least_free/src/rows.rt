@@ -39,6 +39,20 @@ impl Rows {
         }
     }
 
+    pub(crate) fn with_taken(alloc: Global, n: usize) -> Result<Rows, AllocError>
+        requires { n ≤ 65536 }
+        ensures { IfOk result (λ s. s ≡ replicate n true) }
+    {
+        let leaves = Vec::from_elem(alloc, 0u64, n.div_ceil(64))?;
+        let middle = Vec::from_elem(alloc, 0u64, n.div_ceil(64 * 64))?;
+        Ok(Rows {
+            top: 0,
+            middle,
+            leaves,
+            len: n,
+        })
+    }
+
     pub(crate) fn with_free(alloc: Global, n: usize) -> Result<Rows, AllocError>
         requires { n ≤ 65536 }
         ensures { IfOk result (λ s. s ≡ replicate n false) }

@@ -1,12 +1,15 @@
 -- Laws of one table: its least free place, what an entry there does, and the places that are taken.
-use Rattle.std.proofs.Common.{◌≡◌, ℕ, ◌<◌, ◌≤◌, List, [], ◌∷◌, ◌++◌, length, map, Option, Some, None, refl, ap, ◌∙◌, sym, subst, arith, get_or, set, Bool, true, false, cond, ltb}
+use Rattle.std.proofs.Common.{◌≡◌, ℕ, zero, suc, ◌+◌, ◌-◌, ◌<◌, ◌≤◌, List, [], ◌∷◌, ◌++◌, length, map, replicate, append_assoc, Option, Some, None, refl, ap, ◌∙◌, sym, subst, arith, get_or, set, Bool, true, false, cond, ltb}
 use Rattle.std.specs.Prelude.{is_some, IsSome, slice_get}
-use Rattle.std.proofs.lemmas.List.{map-set, map-append, length-map, length-set, length-append}
+use Rattle.std.proofs.Math.ListN.{get_or-map}
+use Rattle.std.proofs.lemmas.List.{map-set, map-append, length-map, length-set, length-append, append-nil, set-get_or, set_at}
+use Rattle.std.proofs.lemmas.Option.{slice_get-get_or, get_or_from_slice_get}
 use Rattle.std.proofs.Math.Seq.{map-set_same}
 use Rattle.least_free.specs.Taken.{least_free}
 use Rattle.least_free.proofs.TakenLemmas.{slice_get_least_free}
 use Rattle.ob_tables.specs.declared.entry.Entry.{Entry}
 use Rattle.ob_tables.specs.Table.{at, place_of, entry_at, free_place, with_entry, IsKept}
+use Rattle.ob_tables.proofs.Counting.{found_place}
 
 -- the least number that is not taken is the least free place
 pub least_free_places : {A : Type 0} (t : List (Option A)) → least_free (map is_some t) ≡ free_place t
@@ -75,7 +78,33 @@ pub present : (t : List (Option Entry)) (value : ℕ) → IsSome (entry_at t val
 present t value some = elim (ltb value 4) as (λ b. IsSome (cond {A = Option Entry} b None (at t (place_of value))) → is_some (at t (place_of value)) ≡ true)
     [ true ↦ (λ h. cc) | false ↦ is_some_of (at t (place_of value)) ] some
 
--- the last number of a set changes
-pub set_last : {A : Type 0} (xs : List A) (x y : A) → set (xs ++ x ∷ []) (length xs) y ≡ xs ++ y ∷ []
-set_last [] x y = refl
-set_last (z ∷ xs) x y = ap (λ r. z ∷ r) (set_last xs x y)
+-- the number of a place with an entry is taken
+pub held_number : (taken : List Bool) (t : List (Option Entry)) (value : ℕ) (e : Entry) → IsKept taken t → entry_at t value ≡ Some e → slice_get taken (place_of value) ≡ Some true
+held_number taken t value e kept is =
+    let found = found_place t value e is in
+    let within : place_of value < length t = found.within in
+    ap (λ (s : List Bool). slice_get s (place_of value)) kept.same
+    ∙ slice_get-get_or (map is_some t) (place_of value) false (omega (arith, length-map t is_some))
+    ∙ ap Some (get_or-map is_some t (place_of value) None ∙ ap is_some found.here)
+
+-- a number that stays as it is
+pub stays_taken : (taken : List Bool) (k : ℕ) → slice_get taken k ≡ Some true → taken ≡ set taken k true
+stays_taken taken k is = sym (ap (set taken k) (sym (get_or_from_slice_get taken k true true is)) ∙ set-get_or taken k true)
+
+-- places that come one by one, while the numbers of all that are still to come are taken
+numbers_left : (i len : ℕ) → i < len → replicate (len - i) true ≡ true ∷ replicate (len - (i + 1)) true
+numbers_left i len lt = let e : len - i ≡ suc (len - (i + 1)) = omega arith in ap (λ (n : ℕ). replicate n true) e
+
+length-is_some : (t : List (Option Entry)) (i : ℕ) → length t ≡ i → length (map is_some t) ≡ i
+length-is_some t i long = length-map t is_some ∙ long
+
+pub one_more_place : (taken taken' : List Bool) (t : List (Option Entry)) (x : Option Entry) (i len : ℕ) → i < len → length t ≡ i → taken ≡ map is_some t ++ replicate (len - i) true
+    → taken' ≡ set taken i (is_some x) → taken' ≡ map is_some (t ++ x ∷ []) ++ replicate (len - (i + 1)) true
+one_more_place taken taken' t x i len lt long is is' =
+    let rest : List Bool = replicate (len - (i + 1)) true in
+    let same : taken ≡ map is_some t ++ true ∷ rest = is ∙ ap (λ (r : List Bool). map is_some t ++ r) (numbers_left i len lt) in
+    is' ∙ ap (λ (s : List Bool). set s i (is_some x)) same ∙ set_at (map is_some t) true rest (is_some x) i (length-is_some t i long)
+    ∙ sym (append_assoc (map is_some t) (is_some x ∷ []) rest) ∙ ap (λ (s : List Bool). s ++ rest) (sym (map-append is_some t (x ∷ [])))
+
+pub all_placed : (taken : List Bool) (t : List (Option Entry)) (i len : ℕ) → len ≤ i → taken ≡ map is_some t ++ replicate (len - i) true → taken ≡ map is_some t
+all_placed taken t i len past is = let e : len - i ≡ 0 = omega arith in is ∙ ap (λ (n : ℕ). map is_some t ++ replicate n true) e ∙ append-nil (map is_some t)

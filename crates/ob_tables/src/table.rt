@@ -1,4 +1,4 @@
-ghost use Rattle.std.specs.Prelude.{[], ◌∷◌, ◌++◌, ◌≡◌, ◌⊎◌, IfErr, Some, ◌+◌, ◌<◌, ◌≤◌, IfOk, OnOk, OnErr, IsSome, length};
+ghost use Rattle.std.specs.Prelude.{[], ◌∷◌, ◌++◌, ◌≡◌, ◌⊎◌, IfErr, Some, ◌+◌, ◌<◌, ◌≤◌, IfOk, OnOk, OnErr, IsSome, length, slice_get, slice_set, true};
 ghost use Rattle.ob_rights.specs.declared.fault.Fault.TheVariants.{Limit, Memory};
 ghost use Rattle.ob_tables.specs.Table.{entry_at, free_place, value_of, with_entry, without_entry, with_flags};
 ghost use Rattle.ob_tables.specs.Inheritance.{inherited};
@@ -127,10 +127,10 @@ impl Table {
     {
         let len = inherited_len(places);
         let mut copies = Vec::with_capacity(alloc, len)?;
-        let mut free = LeastFree::new(alloc);
+        let mut free = LeastFree::with_taken(alloc, len)?;
         for i in 0..len {
             let copy = inheritable(places[i]);
-            add_number(&mut free, i, copy.is_some())?;
+            free_unless(&mut free, i, copy.is_some());
             copies.push(copy)?;
         }
         Ok(Table {
@@ -153,17 +153,13 @@ fn inherited_len(places: &[Option<Entry>]) -> usize
     0
 }
 
-#[tactic(auto, using(crate::proofs::Places::set_last))]
-/// Adds the next number to a set, taken or free.
-fn add_number(free: &mut LeastFree, number: usize, taken: bool) -> Result<(), AllocError>
-    requires next { length free.old ≡ number }
-    requires few { number < 65536 }
-    ensures { OnOk result (free.new ≡ free.old ++ taken ∷ []) }
+/// Gives a number of a set back, unless it is to stay taken.
+fn free_unless(free: &mut LeastFree, number: usize, taken: bool)
+    requires { slice_get free.old number ≡ Some true }
+    ensures { free.new ≡ slice_set free.old number taken }
 {
-    free.grow()?;
     if taken {
-        return Ok(());
+        return;
     }
     free.give_back(number);
-    Ok(())
 }

@@ -3,7 +3,7 @@ use Rattle.std.specs.Prelude.{IsSome, Option}
 use Rattle.ob_arena.specs.declared.phase.Phase.TheVariants.{Vacant}
 use Rattle.ob_arena.specs.Slots.{Slots, body_at, is_vacant_at, without_body}
 use Rattle.ob_arena.specs.Arena.{slots_shown}
-use Rattle.ob_arena.proofs.Phasing.{held_slot, tied_take, shown_take, retied, vacant_taken_from}
+use Rattle.ob_arena.proofs.Phasing.{held_slot, held_number, tied_take, shown_take, retied, vacant_taken_from}
 use Rattle.ob_arena.proofs.arena.Arena.take.Goals as goal
 
 pub empty-body-requires : goal.empty-body-requires
@@ -11,6 +11,13 @@ empty-body-requires g c =
     let i = c.self.inside in
     let some = subst (λ (s : Slots g.row.B.Denot). IsSome (body_at s c.args.slot)) (sym c.self.view_is) c.requires in
     (c.self.invariant.front, (held_slot i.row.slots i.phases.items i.free c.self.invariant.tied c.args.slot some).filled)
+
+pub give_back-requires : goal.give_back-requires
+give_back-requires g c =
+    let i = c.self.inside in
+    let some = subst (λ (s : Slots g.row.B.Denot). IsSome (body_at s c.args.slot)) (sym c.self.view_is) c.requires in
+    let held = held_slot i.row.slots i.phases.items i.free c.self.invariant.tied c.args.slot some in
+    held_number i.row.slots i.phases.items i.free c.self.invariant.tied c.args.slot held
 
 pub invariant_of-self : goal.invariant_of-self
 invariant_of-self g c =
