@@ -73,6 +73,7 @@ impl LeastFree {
     }
 
     /// The least free number: one that was given back, or the length.
+    #[inline]
     pub fn least(&self) -> usize
         ensures value { result ≡ least_free self.now }
         ensures bound { result ≤ length self.now }
@@ -85,6 +86,7 @@ impl LeastFree {
     }
 
     /// Takes a free number below the length.
+    #[inline]
     pub fn take(&mut self, n: usize)
         requires { slice_get self.old n ≡ Some false }
         ensures { self.new ≡ slice_set self.old n true }
@@ -97,6 +99,7 @@ impl LeastFree {
     }
 
     /// Makes a number free that is taken.
+    #[inline]
     pub fn give_back(&mut self, n: usize)
         requires { slice_get self.old n ≡ Some true }
         ensures { self.new ≡ slice_set self.old n false }

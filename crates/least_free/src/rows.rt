@@ -77,6 +77,7 @@ impl Rows {
         lowest_in(&self.leaves, w)
     }
 
+    #[inline(never)]
     pub(crate) fn take(&mut self, n: usize)
         requires { slice_get self.old n ≡ Some false }
         ensures { self.new ≡ slice_set self.old n true }
@@ -90,6 +91,7 @@ impl Rows {
         self.top = without_bit(self.top, n / 64 / 64);
     }
 
+    #[inline(never)]
     pub(crate) fn give_back(&mut self, n: usize)
         requires { n < length self.old }
         ensures { self.new ≡ slice_set self.old n false }

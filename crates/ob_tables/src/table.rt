@@ -47,6 +47,7 @@ impl Table {
     }
 
     /// The entry of a handle value, whose two lowest bits are ignored.
+    #[inline]
     pub(crate) fn entry(&self, value: u32) -> Option<Entry>
         ensures { result ≡ entry_at self.now value }
     {
@@ -62,6 +63,7 @@ impl Table {
     }
 
     /// Places an entry at the least free place, which has to be below the limit, and gives its value.
+    #[inline]
     pub(crate) fn place(&mut self, entry: Entry, limit: u32) -> Result<u32, Fault>
         requires { limit ≤ 16384 }
         ensures value { IfOk result (λ value. value ≡ value_of (free_place self.old)) }
@@ -86,6 +88,7 @@ impl Table {
     }
 
     /// Adds a place with an entry.
+    #[inline(never)]
     fn push(&mut self, entry: Entry) -> Result<(), AllocError>
         requires { length self.old < 16384 }
         ensures ok { OnOk result (self.new ≡ self.old ++ Some entry ∷ []) }
@@ -98,6 +101,7 @@ impl Table {
     }
 
     /// Removes the entry of a handle value.
+    #[inline]
     pub(crate) fn remove(&mut self, value: u32) -> Option<Entry>
         ensures value { result ≡ entry_at self.old value }
         ensures after { self.new ≡ without_entry self.old value }

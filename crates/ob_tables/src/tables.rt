@@ -101,6 +101,7 @@ impl Tables {
 
     /// Places an entry at the least value that the process doesn't use, and gives the value. 1450 where the process has
     /// as many entries as it may, and 8 for want of memory.
+    #[inline]
     pub fn place(&mut self, process: u32, entry: Entry) -> Result<u32, Fault>
         requires { process < length self.old.tables }
         ensures value { IfOk result (λ value. value ≡ value_of (free_place (table_of self.old.tables process))) }
@@ -117,6 +118,7 @@ impl Tables {
     }
 
     /// The entry of a handle.
+    #[inline]
     pub fn look(&self, process: u32, value: u32) -> Option<Entry>
         ensures { result ≡ entry_at (table_of self.now.tables process) value }
     {
@@ -129,6 +131,7 @@ impl Tables {
     }
 
     /// Removes the entry of a handle, and gives it. Where there is none nothing changes.
+    #[inline]
     pub fn remove(&mut self, process: u32, value: u32) -> Option<Entry>
         ensures value { result ≡ entry_at (table_of self.old.tables process) value }
         ensures after { self.new ≡ record self.old { tables = without_entry_of self.old.tables process value } }
