@@ -21,9 +21,8 @@ pub struct Entry {
 pub(crate) fn inheritable(place: Option<Entry>) -> Option<Entry>
     ensures { result ≡ inheritable place }
 {
-    let entry = place?;
-    if entry.flags.contains(HandleFlags::INHERIT) {
-        return Some(entry);
+    match place {
+        Some(entry) if entry.flags.contains(HandleFlags::INHERIT) => place,
+        _ => None,
     }
-    None
 }
