@@ -1,8 +1,8 @@
 -- Laws of the table that a child inherits.
-use Rattle.std.proofs.Common.{◌≡◌, ℕ, zero, suc, ◌+◌, ◌<◌, ◌≤◌, List, [], ◌∷◌, ◌++◌, length, length-take-le, map, take, Option, Some, None, refl, ap, ◌∙◌, sym, arith, get_or, true, false, cond, ltb}
+use Rattle.std.proofs.Common.{drop, set, length-take, add-one, ◌≡◌, ℕ, zero, suc, ◌+◌, ◌<◌, ◌≤◌, List, [], ◌∷◌, ◌++◌, length, length-take-le, map, take, Option, Some, None, refl, ap, ◌∙◌, sym, arith, get_or, true, false, cond, ltb}
 use Rattle.std.specs.List.{take-map}
 use Rattle.std.specs.Prelude.{is_some}
-use Rattle.std.proofs.lemmas.List.{map-append, length-map, length-append, take_more}
+use Rattle.std.proofs.lemmas.List.{map-append, length-map, length-append, take_more, take_all, drop_all, append-nil}
 use Rattle.ob_tables.specs.declared.entry.Entry.{Entry}
 use Rattle.std.proofs.Math.ListN.{get_or-map}
 use Rattle.ob_tables.specs.Table.{at, place_of, entry_at}
@@ -95,3 +95,21 @@ inherited_end t j lt some =
 pub entry_at-inherited : (t : List (Option Entry)) (value : ℕ) → entry_at (inherited t) value ≡ inheritable (entry_at t value)
 entry_at-inherited t value = elim (ltb value 4) as (λ b. cond b None (at (inherited t) (place_of value)) ≡ inheritable (cond b None (at t (place_of value))))
     [ true ↦ refl | false ↦ at-trimmed (map inheritable t) (place_of value) ∙ get_or-map inheritable t (place_of value) None ]
+
+-- one more place of a copy has only what is inherited
+copied_suc : (base : List (Option Entry)) (i : ℕ) → i < length base
+    → set (map inheritable (take i base) ++ drop i base) i (inheritable (at (map inheritable (take i base) ++ drop i base) i)) ≡ map inheritable (take (suc i) base) ++ drop (suc i) base
+copied_suc [] i lt = absurd (omega arith)
+copied_suc (x ∷ base) zero lt = refl
+copied_suc (x ∷ base) (suc i) lt = ap (λ (r : List (Option Entry)). inheritable x ∷ r) (copied_suc base i (omega arith))
+
+pub copied_more : (base : List (Option Entry)) (i : ℕ) → i < length base
+    → set (map inheritable (take i base) ++ drop i base) i (inheritable (at (map inheritable (take i base) ++ drop i base) i)) ≡ map inheritable (take (i + 1) base) ++ drop (i + 1) base
+copied_more base i lt = copied_suc base i lt ∙ ap (λ (n : ℕ). map inheritable (take n base) ++ drop n base) (sym (add-one i))
+
+pub copied_all : (t : List (Option Entry)) (i n : ℕ) → length (inherited t) ≡ n → n ≤ i → map inheritable (take i (take n t)) ++ drop i (take n t) ≡ inherited t
+copied_all t i n is past =
+    let short : length (take n t) ≤ i = omega (arith, length-take n t) in
+    ap (λ (s : List (Option Entry)). map inheritable s ++ drop i (take n t)) (take_all i (take n t) short)
+    ∙ ap (λ (s : List (Option Entry)). map inheritable (take n t) ++ s) (drop_all i (take n t) short)
+    ∙ append-nil (map inheritable (take n t)) ∙ ap (λ (k : ℕ). map inheritable (take k t)) (sym is) ∙ inherited_take t

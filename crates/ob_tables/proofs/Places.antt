@@ -87,16 +87,33 @@ held_number taken t value e kept is =
     ∙ slice_get-get_or (map is_some t) (place_of value) false (omega (arith, length-map t is_some))
     ∙ ap Some (get_or-map is_some t (place_of value) None ∙ ap is_some found.here)
 
+-- a read of a place within the list
+pub read_at : (t : List (Option Entry)) (k : ℕ) (x : Option Entry) → k < length t → x ≡ get_or t k x → x ≡ at t k
+read_at [] k x lt is = absurd (omega arith)
+read_at (y ∷ t) zero x lt is = is
+read_at (y ∷ t) (suc k) x lt is = read_at t k x (omega arith) is
+
 -- a number that stays as it is
 pub stays_taken : (taken : List Bool) (k : ℕ) → slice_get taken k ≡ Some true → taken ≡ set taken k true
 stays_taken taken k is = sym (ap (set taken k) (sym (get_or_from_slice_get taken k true true is)) ∙ set-get_or taken k true)
 
 -- places that come one by one, while the numbers of all that are still to come are taken
+first_past : (xs : List Bool) (i : ℕ) (y : Bool) (ys : List Bool) → length xs ≡ i → slice_get (xs ++ y ∷ ys) i ≡ Some y
+first_past [] zero y ys long = refl
+first_past [] (suc i) y ys long = cc
+first_past (x ∷ xs) zero y ys long = cc
+first_past (x ∷ xs) (suc i) y ys long = first_past xs i y ys (omega arith)
+
 numbers_left : (i len : ℕ) → i < len → replicate (len - i) true ≡ true ∷ replicate (len - (i + 1)) true
 numbers_left i len lt = let e : len - i ≡ suc (len - (i + 1)) = omega arith in ap (λ (n : ℕ). replicate n true) e
 
 length-is_some : (t : List (Option Entry)) (i : ℕ) → length t ≡ i → length (map is_some t) ≡ i
 length-is_some t i long = length-map t is_some ∙ long
+
+pub next_taken : (taken : List Bool) (t : List (Option Entry)) (i len : ℕ) → i < len → length t ≡ i → taken ≡ map is_some t ++ replicate (len - i) true → slice_get taken i ≡ Some true
+next_taken taken t i len lt long is =
+    let same : taken ≡ map is_some t ++ true ∷ replicate (len - (i + 1)) true = is ∙ ap (λ (r : List Bool). map is_some t ++ r) (numbers_left i len lt) in
+    ap (λ (s : List Bool). slice_get s i) same ∙ first_past (map is_some t) i true (replicate (len - (i + 1)) true) (length-is_some t i long)
 
 pub one_more_place : (taken taken' : List Bool) (t : List (Option Entry)) (x : Option Entry) (i len : ℕ) → i < len → length t ≡ i → taken ≡ map is_some t ++ replicate (len - i) true
     → taken' ≡ set taken i (is_some x) → taken' ≡ map is_some (t ++ x ∷ []) ++ replicate (len - (i + 1)) true

@@ -1,5 +1,5 @@
 -- How many entries there are, and how many name an object.
-use Rattle.std.specs.Prelude.{ℕ, ◌==◌, Bool, false, ◌&&◌, List, Option, Some, None, sum_by, count_by, is_some}
+use Rattle.std.specs.Prelude.{ℕ, Bool, false, List, Option, Some, None, sum_by, count_by, is_some}
 use Rattle.pin_core.specs.Holds.{same_id}
 use Rattle.pin_core.specs.declared.id.Id.{Id}
 use Rattle.ob_tables.specs.declared.entry.Entry.{Entry}

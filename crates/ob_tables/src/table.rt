@@ -1,7 +1,7 @@
-ghost use Rattle.std.specs.Prelude.{[], ◌∷◌, ◌++◌, ◌≡◌, ◌⊎◌, IfErr, Some, ◌+◌, ◌<◌, ◌≤◌, IfOk, OnOk, OnErr, IsSome, length, slice_get, slice_set, true};
+ghost use Rattle.std.specs.Prelude.{[], ◌∷◌, ◌++◌, ◌≡◌, ◌⊎◌, IfErr, Some, ◌+◌, ◌<◌, ◌≤◌, IfOk, OnOk, OnErr, IsSome, length, slice_get, slice_set, true, is_some};
 ghost use Rattle.ob_rights.specs.declared.fault.Fault.TheVariants.{Limit, Memory};
-ghost use Rattle.ob_tables.specs.Table.{entry_at, free_place, value_of, with_entry, without_entry, with_flags};
-ghost use Rattle.ob_tables.specs.Inheritance.{inherited};
+ghost use Rattle.ob_tables.specs.Table.{at, entry_at, free_place, value_of, with_entry, without_entry, with_flags};
+ghost use Rattle.ob_tables.specs.Inheritance.{inheritable, inherited};
 
 use crate::entry::{Entry, inheritable};
 use least_free::LeastFree;
@@ -130,12 +130,11 @@ impl Table {
         ensures { IfOk result (λ child. child ≡ inherited places.now) }
     {
         let len = inherited_len(places);
-        let mut copies = Vec::with_capacity(alloc, len)?;
+        let mut copies = Vec::from_elem(alloc, None, len)?;
+        copies.copy_from_slice(&places[..len]);
         let mut free = LeastFree::with_taken(alloc, len)?;
         for i in 0..len {
-            let copy = inheritable(places[i]);
-            free_unless(&mut free, i, copy.is_some());
-            copies.push(copy)?;
+            inherit_at(&mut copies, &mut free, i);
         }
         Ok(Table {
             places: copies,
@@ -157,13 +156,16 @@ fn inherited_len(places: &[Option<Entry>]) -> usize
     0
 }
 
-/// Gives a number of a set back, unless it is to stay taken.
-fn free_unless(free: &mut LeastFree, number: usize, taken: bool)
-    requires { slice_get free.old number ≡ Some true }
-    ensures { free.new ≡ slice_set free.old number taken }
+/// Leaves the entry of a place out where it isn't inheritable, and gives its number back.
+fn inherit_at(copies: &mut Vec<Option<Entry>>, free: &mut LeastFree, place: usize)
+    requires within { place < length copies.old.items }
+    requires held { slice_get free.old place ≡ Some true }
+    ensures entry { copies.new.items ≡ slice_set copies.old.items place (inheritable (at copies.old.items place)) }
+    ensures number { free.new ≡ slice_set free.old place (is_some (inheritable (at copies.old.items place))) }
 {
-    if taken {
+    if inheritable(copies[place]).is_some() {
         return;
     }
-    free.give_back(number);
+    copies[place] = None;
+    free.give_back(place);
 }

@@ -1,38 +1,36 @@
-use Rattle.std.proofs.Common.{arith, rules, ◌≡◌, ◌∙◌, sym, ap, ℕ, ◌+◌, ◌-◌, List, [], ◌∷◌, ◌++◌, Option, Bool, true, map, take, length, replicate, set, length-take-le}
+use Rattle.std.proofs.Common.{arith, ◌≡◌, ◌<◌, ◌∙◌, sym, ap, ℕ, suc, add-one, ◌+◌, ◌-◌, List, [], ◌∷◌, ◌++◌, Option, true, map, take, length, length-set, replicate, set, length-take-le}
 use Rattle.std.specs.Prelude.{is_some}
-use Rattle.std.proofs.lemmas.Grind.{common_steps}
-use Rattle.std.proofs.lemmas.List.{length-map}
+use Rattle.std.proofs.Math.Seq.{take-suc-set}
 use Rattle.ob_tables.specs.declared.entry.Entry.{Entry}
-use Rattle.ob_tables.specs.Inheritance.{inheritable, inherited}
-use Rattle.ob_tables.proofs.Inheriting.{inherited_take}
-use Rattle.ob_tables.proofs.Places.{one_more_place, all_placed}
+use Rattle.ob_tables.specs.Table.{at}
+use Rattle.ob_tables.specs.Inheritance.{inheritable}
+use Rattle.ob_tables.proofs.Inheriting.{copied_more, copied_all}
+use Rattle.ob_tables.proofs.Places.{next_taken, one_more_place}
 use Rattle.ob_tables.proofs.table.Table.inheriting.Goals as goal
+
+pub inherit_at-requires-clause-held : goal.inherit_at-requires-clause-held
+inherit_at-requires-clause-held c =
+    let i = c.loop-i.i in
+    let old = c.loop-i.copies.items in
+    next_taken c.loop-i.free (take i old) i c.inherited_len-len.result (omega arith) (length-take-le i old (omega (arith, c.loop-i.invariant.long))) c.loop-i.invariant.numbers
 
 pub loop-i-preserved : goal.loop-i-preserved
 loop-i-preserved c =
     let i = c.loop-i.i in
     let len = c.inherited_len-len.result in
     let old = c.loop-i.copies.items in
-    let copy = c.inheritable-copy.result in
-    let pushed : c.push.new.self.items ≡ old ++ copy ∷ [] = c.in_ok-push.ensures.items in
-    let long : length old ≡ i = ap length c.loop-i.invariant.so_far ∙ length-map (take i c.args.places.now) inheritable ∙ length-take-le i c.args.places.now (omega arith) in
+    let new = c.inherit_at.new.copies.items in
+    let base = take len c.args.places.now in
+    let copy = inheritable (at old i) in
+    let long : length base ≡ len = length-take-le len c.args.places.now (omega arith) in
+    let within : i < length old = omega (arith, c.loop-i.invariant.long) in
+    let taken : take (i + 1) new ≡ take i old ++ copy ∷ [] = ap (λ (n : ℕ). take n new) (add-one i) ∙ ap (take (suc i)) c.inherit_at.ensures.entry ∙ take-suc-set old i copy within in
     record {
-      so_far = grind (arith, common_steps);
-      numbers = one_more_place c.loop-i.free c.free_unless.new.free old copy i len (omega arith) long c.loop-i.invariant.numbers
-          (c.free_unless.ensures ∙ ap (set c.loop-i.free i) c.is_some.ensures)
-          ∙ ap (λ (t : List (Option Entry)). map is_some t ++ replicate (len - (i + 1)) true) (sym pushed);
-    }
-
-pub invariant_of-result : goal.invariant_of-result
-invariant_of-result c =
-    let i = c.loop-i.i in
-    let long : length c.loop-i.copies.items ≡ length (take i c.args.places.now) = ap length c.loop-i.invariant.so_far ∙ length-map (take i c.args.places.now) inheritable in
-    record {
-      few = omega (arith, long, length-take-le i c.args.places.now (omega arith));
-      same = all_placed c.loop-i.free c.loop-i.copies.items i c.inherited_len-len.result (omega arith) c.loop-i.invariant.numbers;
+      long = ap length c.inherit_at.ensures.entry ∙ length-set old i copy ∙ c.loop-i.invariant.long;
+      so_far = c.inherit_at.ensures.entry ∙ ap (λ (s : List (Option Entry)). set s i (inheritable (at s i))) c.loop-i.invariant.so_far ∙ copied_more base i (omega arith);
+      numbers = one_more_place c.loop-i.free c.inherit_at.new.free (take i old) copy i len (omega arith) (length-take-le i old (omega arith)) c.loop-i.invariant.numbers c.inherit_at.ensures.number
+          ∙ ap (λ (t : List (Option Entry)). map is_some t ++ replicate (len - (i + 1)) true) (sym taken);
     }
 
 pub returns : goal.returns
-returns c =
-    let all : c.loop-i.i ≡ length (inherited c.args.places.now) = omega (arith, c.inherited_len-len.ensures.value) in
-    c.loop-i.invariant.so_far ∙ ap (λ (n : ℕ). map inheritable (take n c.args.places.now)) all ∙ inherited_take c.args.places.now
+returns c = c.loop-i.invariant.so_far ∙ copied_all c.args.places.now c.loop-i.i c.inherited_len-len.result (sym c.inherited_len-len.ensures.value) (omega arith)
