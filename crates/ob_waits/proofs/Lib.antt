@@ -1,5 +1,6 @@
 pub mod Settling
 pub mod ListedLaws
+pub mod PlaceLaws
 pub mod Keeping
 pub mod RowLaws
 pub mod IndexLaws

@@ -3,10 +3,12 @@
 
 mod blocks;
 mod bodies;
+mod held;
 mod ids;
 mod index;
 mod live;
 mod pass;
+mod places;
 mod roster;
 mod row;
 mod take;

@@ -2,16 +2,22 @@ ghost use Rattle.std.specs.Prelude.{◌≡◌, ◌+◌, ◌<◌, ◌≤◌, true
 ghost use Rattle.std.specs.Option.{option_copied};
 ghost use Rattle.ob_waits.specs.Waits.{answered, is_pending};
 
+use crate::held::Held;
+use crate::places;
 use crate::wait::{State, Wait};
 use std::alloc::{AllocError, Global};
 use std::collections::HashMap;
 use std::marker::Model;
 
 /// The waits by their numbers, from 1 on. A wait that is over takes no room.
+///
+/// A new wait stands at the place that its number gives, where it is found at once. The wait that stood
+/// there before goes to a hash map, which thus has only waits that last.
 #[derive(Drop)]
 pub(crate) struct Live {
     given: u32,
-    rows: HashMap<u32, Wait>,
+    places: Vec<Option<Held>>,
+    others: HashMap<u32, Wait>,
 }
 
 impl Model for Live {
@@ -19,12 +25,13 @@ impl Model for Live {
     ghost use Rattle.std.specs.HashMap.{get};
     ghost use Rattle.ob_waits.specs.declared.wait.Wait.{Wait};
     ghost use Rattle.ob_waits.specs.Listed.{listed, IsSparse};
+    ghost use Rattle.ob_waits.specs.Places.{found, IsPlaced};
 
     ghost Value = { List (Option Wait) };
 
-    ghost view = { λ l. listed (suc l.given) (get nat_eq l.rows) };
+    ghost view = { λ l. listed (suc l.given) (found l.places.items (get nat_eq l.others)) };
 
-    ghost invariant = { λ l. IsSparse l.given (get nat_eq l.rows) };
+    ghost invariant = { λ l. IsSparse l.given (found l.places.items (get nat_eq l.others)) × IsPlaced l.places.items (get nat_eq l.others) };
 }
 
 impl Live {
@@ -33,7 +40,8 @@ impl Live {
     {
         Live {
             given: 0,
-            rows: HashMap::new(alloc),
+            places: Vec::new(alloc),
+            others: HashMap::new(alloc),
         }
     }
 
@@ -48,7 +56,10 @@ impl Live {
     pub(crate) fn get(&self, number: u32) -> Option<&Wait>
         ensures { option_copied result ≡ slice_index_or self.now number None }
     {
-        self.rows.get(&number)
+        if let Some(wait) = places::find(self.places.as_slice(), number) {
+            return Some(wait);
+        }
+        self.others.get(&number)
     }
 
     /// Whether the wait of a number is pending.
@@ -71,7 +82,7 @@ impl Live {
         ensures err { OnErr result (self.new ≡ self.old) }
     {
         let number = self.given + 1;
-        self.rows.insert(number, wait)?;
+        places::put(&mut self.places, &mut self.others, Held { number, wait })?;
         self.given = number;
         Ok(())
     }
@@ -81,7 +92,10 @@ impl Live {
         requires { is_pending (slice_index_or self.old number None) ≡ true }
         ensures { self.new ≡ slice_set self.old number (answered (slice_index_or self.old number None) code) }
     {
-        let Some(wait) = self.rows.get_mut(&number) else {
+        if places::answer(&mut self.places, number, code) {
+            return;
+        }
+        let Some(wait) = self.others.get_mut(&number) else {
             unreachable!()
         };
         wait.answer(code);
@@ -92,6 +106,9 @@ impl Live {
         ensures value { result ≡ slice_index_or self.old number None }
         ensures removed { self.new ≡ slice_set self.old number None }
     {
-        self.rows.remove(&number)
+        if let Some(wait) = places::take(&mut self.places, number) {
+            return Some(wait);
+        }
+        self.others.remove(&number)
     }
 }

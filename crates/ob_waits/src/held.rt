@@ -1,0 +1,10 @@
+use crate::wait::Wait;
+
+/// A wait with its number.
+#[derive(Drop)]
+pub struct Held {
+    /// The number.
+    pub number: u32,
+    /// The wait.
+    pub wait: Wait,
+}
