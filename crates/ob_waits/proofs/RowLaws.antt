@@ -1,6 +1,7 @@
 -- A number put at the end of a row, and a row thinned.
-use Rattle.std.proofs.Common.{◌≡◌, ℕ, zero, suc, ◌-◌, ◌<◌, ◌≤◌, List, [], ◌∷◌, ◌++◌, length, Option, None, refl, ap, ◌∙◌, sym, subst, arith, get_or, Bool, true, false, inl, inr, cond}
+use Rattle.std.proofs.Common.{◌≡◌, ℕ, zero, suc, ◌-◌, ◌<◌, ◌≤◌, List, [], ◌∷◌, ◌++◌, length, Option, None, Some, refl, ap, ◌∙◌, sym, subst, arith, get_or, Bool, true, false, inl, inr, cond}
 use Rattle.std.specs.Prelude.{◌⊎◌, filter}
+use Rattle.std.specs.Option.{option_to_list}
 use Rattle.std.proofs.lemmas.Bool.{cases_lt}
 use Rattle.std.proofs.lemmas.Bool.Decides.{nat_tests}
 use Rattle.ob_waits.specs.declared.wait.Wait.{Wait}
@@ -112,3 +113,21 @@ row_thinned m waits old new t row = record { rising = t.rising row.rising; below
 -- a thinned row still has the waits of a test that only pending waits pass
 pub all_thinned : (test : Option Wait → Bool) (waits : List (Option Wait)) (old new : List ℕ) → ((w : Option Wait) → test w ≡ true → is_pending w ≡ true) → Thins waits old new → HasAll test old waits → HasAll test new waits
 all_thinned test waits old new pending t all = record { each = λ n h. t.keeps n (pending (get_or waits n None) h) (all.each n h) }
+
+-- a row without its last number, of a wait that is not pending
+rising_front : (m : ℕ) (ns : List ℕ) → IsRising (ns ++ m ∷ []) → IsRising ns
+rising_front m [] r = tt
+rising_front m (x ∷ ns) r = ((λ k i. r.0 k (within_left k m ns i)), rising_front m ns r.1)
+
+pub thins_last : (ws : List (Option Wait)) (old new : List ℕ) (n : ℕ) (last : Option ℕ) → old ≡ new ++ option_to_list last → last ≡ Some n → is_pending (get_or ws n None) ≡ false → Thins ws old new
+thins_last ws old new n last is own over = subst (λ (ns : List ℕ). Thins ws ns new) (sym (is ∙ ap (λ (o : Option ℕ). new ++ option_to_list o) own)) (record {
+  rising = rising_front n new;
+  only = λ k i. within_left k n new i;
+  keeps = λ k pending i. elim (within_either k n new i) [
+    | inl old' ↦ old'
+    | inr same ↦ let other : is_pending (get_or ws k None) ≡ false = ap (λ (m : ℕ). is_pending (get_or ws m None)) same ∙ over in absurd (cc (pending, other))
+  ];
+})
+
+pub last_number : (n : ℕ) (ns : List ℕ) → ends_with n ns ≡ true → (0 < length ns) × (get_or ns (length ns - 1) 0 ≡ n)
+last_number n ns h = (grind (arith, nat_tests, h), grind (arith, nat_tests, h))

@@ -228,3 +228,10 @@ dropped_one ws threads t a some =
           ∙ sym (ap (λ j. get_or (set ws n None) j None) same ∙ get_or-set_same ws n None None (has_wait ws n t own))
       | inr other ↦ unless_other t (get_or ws i None) (false_of _ (λ h. other (sym (a.all i t (waits_thread t (get_or ws i None) h))))) ∙ sym (get_or-set_other ws n i None None other)
     ])
+
+-- a number whose wait was taken away has none
+pub removed_none : (ws : List (Option Wait)) (n : ℕ) → get_or (set ws n None) n None ≡ None
+removed_none ws n = elim (cases_lt n (length ws)) [
+  | inl lt ↦ get_or-set_same ws n None None lt
+  | inr past ↦ get_or_past (set ws n None) n None (omega (arith, length-set ws n None))
+]

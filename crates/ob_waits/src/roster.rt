@@ -1,4 +1,6 @@
-ghost use Rattle.std.specs.Prelude.{[], ◌≡◌, ◌<◌, length, slice_index_or, OnOk};
+ghost use Rattle.std.specs.Prelude.{[], ◌≡◌, ◌<◌, List, Option, None, false, length, slice_index_or, OnOk};
+ghost use Rattle.ob_waits.specs.declared.wait.Wait.{Wait};
+ghost use Rattle.ob_waits.specs.Waits.{is_pending};
 ghost use Rattle.ob_waits.specs.Rows.{row_of};
 ghost use Rattle.ob_waits.specs.Roster.{IsRight, HasPlace, Leaves, with_number};
 
@@ -92,6 +94,13 @@ impl Roster {
         ensures { Leaves live.now self.old self.new }
     {
         self.order.thin(live);
+    }
+
+    /// Drops the number of a wait that is not pending, where it is the last.
+    pub(crate) fn forget(&mut self, number: u32)
+        ensures { (waits : List (Option Wait)) → is_pending (slice_index_or waits number None) ≡ false → Leaves waits self.old self.new }
+    {
+        self.order.forget(number);
     }
 
     /// Drops them from the row of a slot alone.

@@ -1,4 +1,6 @@
-ghost use Rattle.std.specs.Prelude.{[], ◌≡◌, ◌≤◌, ◌<◌, ℕ, OnOk};
+ghost use Rattle.std.specs.Prelude.{[], ◌≡◌, ◌≤◌, ◌<◌, ℕ, List, Option, None, false, slice_index_or, OnOk};
+ghost use Rattle.ob_waits.specs.declared.wait.Wait.{Wait};
+ghost use Rattle.ob_waits.specs.Waits.{is_pending};
 ghost use Rattle.ob_waits.specs.Rows.{IsRow, ends_with, thinned, Thins};
 ghost use Rattle.ob_waits.specs.Rules.{Within};
 
@@ -59,6 +61,16 @@ impl Row {
         }
         self.numbers.push(number)?;
         Ok(())
+    }
+
+    /// Drops the number of a wait that is not pending, where it is the last, as of a wait that was short.
+    pub(crate) fn forget(&mut self, number: u32)
+        ensures { (waits : List (Option Wait)) → is_pending (slice_index_or waits number None) ≡ false → Thins waits self.old self.new }
+    {
+        if !ends_with(self.numbers.as_slice(), number) {
+            return;
+        }
+        let _ = self.numbers.pop();
     }
 
     fn drop_others(&mut self, live: &Live)

@@ -197,6 +197,7 @@ impl Waits {
             unreachable!()
         };
         self.roster.set_number(thread, 0);
+        self.roster.forget(wait);
         code
     }
 }
