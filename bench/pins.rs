@@ -5,9 +5,10 @@ use std::sync::atomic::{AtomicU64, Ordering::SeqCst};
 use std::thread;
 use std::time::Instant;
 
-const RUNS: usize = 11;
+const RUNS: usize = 61;
 
-const PAIRS: u64 = 300000;
+// Pairs of each thread in a run.
+const PAIRS: u64 = 40000;
 
 const APART: [u32; 4] = [64, 128, 192, 256];
 
@@ -89,36 +90,51 @@ impl Words {
     }
 }
 
-fn spin(words: &Words, slot: u32) -> u64 {
+// When a thread began and ended, in nanoseconds.
+type Span = (u128, u128);
+
+// The threads of a run wait for one another before they begin.
+fn spin(words: &Words, slot: u32, ready: &AtomicU64, threads: u64, origin: Instant) -> Option<Span> {
     let id = black_box(Id { slot, generation: 1 });
+    ready.fetch_add(1, SeqCst);
+    while ready.load(SeqCst) < threads {}
+    let began = origin.elapsed().as_nanos();
     for _ in 0..PAIRS {
         if words.pin(id).is_err() {
-            return 0;
+            return None;
         }
         words.release(id);
     }
-    PAIRS
+    Some((began, origin.elapsed().as_nanos()))
 }
 
-fn run(words: &Words, slots: &[u32]) -> u64 {
+fn run(words: &Words, slots: &[u32]) -> Vec<Option<Span>> {
+    let (ready, origin, threads) = (AtomicU64::new(0), Instant::now(), slots.len() as u64);
+    let ready = &ready;
     thread::scope(|scope| {
-        let others: Vec<_> = slots[1..].iter().map(|&slot| scope.spawn(move || spin(words, slot))).collect();
-        let own = spin(words, slots[0]);
-        own + others.into_iter().map(|thread| thread.join().unwrap()).sum::<u64>()
+        let others: Vec<_> =
+            slots[1..].iter().map(|&slot| scope.spawn(move || spin(words, slot, ready, threads, origin))).collect();
+        let own = spin(words, slots[0], ready, threads, origin);
+        others.into_iter().map(|thread| thread.join().unwrap()).chain(Some(own)).collect()
     })
 }
 
-// Each case is run eleven times, and the time in the middle is printed.
+// The middle one of the times of many short runs counts. Left out are the runs in which not all threads were at work for
+// more than half of the time.
 fn measure(case: &str, words: &Words, slots: &[u32]) {
-    let mut times = [0; RUNS];
-    let mut pairs = 0;
+    let mut times = [u128::MAX; RUNS];
     for time in &mut times {
-        let started = Instant::now();
-        pairs = run(words, slots);
-        *time = started.elapsed().as_nanos();
+        let spans: Vec<Span> = run(words, slots).into_iter().map(|span| span.unwrap()).collect();
+        let (first_began, last_began) = (spans.iter().map(|span| span.0).min(), spans.iter().map(|span| span.0).max());
+        let (first_ended, last_ended) = (spans.iter().map(|span| span.1).min(), spans.iter().map(|span| span.1).max());
+        let taken = last_ended.unwrap() - first_began.unwrap();
+        if taken / 2 < first_ended.unwrap().saturating_sub(last_began.unwrap()) {
+            *time = taken;
+        }
     }
     times.sort_unstable();
-    println!("{case}: {pairs} in {}", times[RUNS / 2]);
+    let counted = times.iter().filter(|time| **time < u128::MAX).count();
+    println!("{case}: {} in {}", PAIRS * slots.len() as u64, times[counted / 2]);
 }
 
 fn main() {

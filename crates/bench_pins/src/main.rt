@@ -1,21 +1,23 @@
 //! Measures pins with their releases: with the argument `measure` it prints a line `CASE: PAIRS in NANOSECONDS` for each
 //! case, and without it only says so.
 //!
-//! Each case is run eleven times, and the time in the middle is printed: where two threads want one cache line, a run's
-//! time depends on which processors they were given.
+//! The middle one of the times of many short runs counts, since two threads that contend for a cache line are faster
+//! where their processors share one cache. Left out are the runs in which not all threads were at work for more than half
+//! of the time.
 #![tactic(auto)]
 
 use pin_core::{Id, Phase, Shape};
 use pin_words::{Keeper, Pins, Reader};
 use std::sync::Wait;
+use std::sync::atomic::{AtomicU64, Ordering};
 use std::thread::{Threads, join};
 use std::time::{Clock, Instant};
 use std::{env, io};
 
-const RUNS: usize = 11;
+const RUNS: usize = 61;
 
 // Pairs of each thread in a run.
-const PAIRS: u64 = 300000;
+const PAIRS: u64 = 40000;
 
 // Slots of which no two have their words on one cache line.
 const APART: [u32; 4] = [64, 128, 192, 256];
@@ -23,37 +25,107 @@ const APART: [u32; 4] = [64, 128, 192, 256];
 // Slots whose words are all on one cache line.
 const NEAR: [u32; 4] = [8, 9, 10, 11];
 
-// The pairs that were made. The reader is the thread's own, so that no two threads write to one line for it.
-fn spin<R: Wait>(rt: &R, mut reader: Reader<'_>, slot: u32) -> u64 {
+// The threads of a run wait for one another before they begin.
+#[derive(Clone, Copy)]
+struct Start<'a> {
+    ready: &'a AtomicU64,
+    threads: u64,
+    origin: Instant,
+}
+
+// When the first and the last thread began and ended, in nanoseconds.
+#[derive(Clone, Copy)]
+struct Span {
+    first_began: u128,
+    last_began: u128,
+    first_ended: u128,
+    last_ended: u128,
+}
+
+impl Span {
+    fn taken(self) -> u128 {
+        self.last_ended.saturating_sub(self.first_began)
+    }
+
+    fn is_together(self) -> bool {
+        self.taken() / 2 < self.first_ended.saturating_sub(self.last_began)
+    }
+}
+
+fn both(x: Option<Span>, y: Option<Span>) -> Option<Span> {
+    let (x, y) = (x?, y?);
+    Some(Span {
+        first_began: x.first_began.min(y.first_began),
+        last_began: x.last_began.max(y.last_began),
+        first_ended: x.first_ended.min(y.first_ended),
+        last_ended: x.last_ended.max(y.last_ended),
+    })
+}
+
+// The reader is the thread's own, so that no two threads write to one line for it.
+fn spin<R: Wait + Clock>(
+    rt: &R,
+    start: Start<'_>,
+    mut reader: Reader<'_>,
+    slot: u32,
+) -> Option<Span> {
     let id = Id {
         slot,
         generation: 1,
     };
+    start.ready.fetch_add(1, Ordering::SeqCst);
+    for _ in rt.forever() {
+        if start.ready.load(Ordering::SeqCst) >= start.threads {
+            break;
+        }
+    }
+    let began = start.origin.elapsed(rt).ok()?.as_nanos();
     for _ in 0..PAIRS {
         if let Err(_) = reader.pin(rt, id) {
-            return 0;
+            return None;
         }
         reader.release(id);
     }
-    PAIRS
+    let ended = start.origin.elapsed(rt).ok()?.as_nanos();
+    Some(Span {
+        first_began: began,
+        last_began: began,
+        first_ended: ended,
+        last_ended: ended,
+    })
 }
 
-fn one<R: Wait>(rt: &R, keeper: &mut Keeper<'_>, slots: [u32; 4]) -> u64 {
+fn one<R: Wait + Clock>(
+    rt: &R,
+    start: Start<'_>,
+    keeper: &mut Keeper<'_>,
+    slots: [u32; 4],
+) -> Option<Span> {
     let reader = keeper.reader();
-    spin(rt, reader, slots[0])
+    spin(rt, start, reader, slots[0])
 }
 
-fn two<R: Threads + Wait + Sync>(rt: &R, keeper: &mut Keeper<'_>, slots: [u32; 4]) -> u64 {
+fn two<R: Threads + Wait + Clock + Sync>(
+    rt: &R,
+    start: Start<'_>,
+    keeper: &mut Keeper<'_>,
+    slots: [u32; 4],
+) -> Option<Span> {
     let (a, b) = (keeper.reader(), keeper.reader());
     let (x, y) = join(
         rt,
-        move || spin(rt, a, slots[0]),
-        move || spin(rt, b, slots[1]),
+        move || spin(rt, start, a, slots[0]),
+        move || spin(rt, start, b, slots[1]),
     );
-    x.saturating_add(y)
+    both(x, y)
 }
 
-fn four<R: Threads + Wait + Sync>(rt: &R, keeper: &mut Keeper<'_>, slots: [u32; 4]) -> u64 {
+fn four<R: Threads + Wait + Clock + Sync>(
+    rt: &R,
+    start: Start<'_>,
+    keeper: &mut Keeper<'_>,
+    slots: [u32; 4],
+) -> Option<Span> {
     let (a, b) = (keeper.reader(), keeper.reader());
     let (c, d) = (keeper.reader(), keeper.reader());
     let ((w, x), (y, z)) = join(
@@ -61,53 +133,62 @@ fn four<R: Threads + Wait + Sync>(rt: &R, keeper: &mut Keeper<'_>, slots: [u32; 
         move || {
             join(
                 rt,
-                move || spin(rt, a, slots[0]),
-                move || spin(rt, b, slots[1]),
+                move || spin(rt, start, a, slots[0]),
+                move || spin(rt, start, b, slots[1]),
             )
         },
         move || {
             join(
                 rt,
-                move || spin(rt, c, slots[2]),
-                move || spin(rt, d, slots[3]),
+                move || spin(rt, start, c, slots[2]),
+                move || spin(rt, start, d, slots[3]),
             )
         },
     );
-    w.saturating_add(x).saturating_add(y).saturating_add(z)
+    both(both(w, x), both(y, z))
 }
 
-fn run<R: Threads + Wait + Sync>(
+fn run<R: Threads + Wait + Clock + Sync>(
     rt: &R,
     keeper: &mut Keeper<'_>,
-    threads: u32,
+    threads: u64,
     slots: [u32; 4],
-) -> u64 {
+) -> Option<Span> {
+    let ready = AtomicU64::new(0);
+    let start = Start {
+        ready: &ready,
+        threads,
+        origin: Instant::now(rt).ok()?,
+    };
     match threads {
-        1 => one(rt, keeper, slots),
-        2 => two(rt, keeper, slots),
-        _ => four(rt, keeper, slots),
+        1 => one(rt, start, keeper, slots),
+        2 => two(rt, start, keeper, slots),
+        _ => four(rt, start, keeper, slots),
     }
 }
 
-fn measure<R: Threads + Wait + Sync + Clock + Print>(
+fn measure<R: Threads + Wait + Clock + Print + Sync>(
     rt: &R,
     keeper: &mut Keeper<'_>,
     case: &str,
-    threads: u32,
+    threads: u64,
     slots: [u32; 4],
 ) -> io::Result<()> {
-    let mut times = [0u128; RUNS];
-    let mut pairs = 0;
+    let mut times = [u128::MAX; RUNS];
     for i in 0..RUNS {
-        let started = Instant::now(rt)?;
-        pairs = run(rt, keeper, threads, slots);
-        times[i] = started.elapsed(rt)?.as_nanos();
+        if let Some(span) = run(rt, keeper, threads, slots) {
+            if span.is_together() {
+                times[i] = span.taken();
+            }
+        }
     }
     times.sort_unstable();
-    println!(rt; "{case}: {pairs} in {}", times[RUNS / 2])
+    let counted = times.iter().filter(|time| **time < u128::MAX).count();
+    let middle = times.get(counted / 2).copied().unwrap_or(u128::MAX);
+    println!(rt; "{case}: {} in {middle}", PAIRS.saturating_mul(threads))
 }
 
-fn measure_all<R: Threads + Wait + Sync + Clock + Print>(
+fn measure_all<R: Threads + Wait + Clock + Print + Sync>(
     rt: &R,
     keeper: &mut Keeper<'_>,
 ) -> io::Result<()> {
