@@ -1,4 +1,5 @@
-ghost use Rattle.std.specs.Prelude.{◌≡◌};
+ghost use Rattle.std.specs.Prelude.{◌≡◌, ◌≢◌, ℕ};
+ghost use Rattle.pin_core.specs.declared.word.Phase.TheVariants.{Live};
 ghost use Rattle.pin_words.specs.Verdicts.{verdict_of};
 
 use pin_core::{Id, Phase, Word};
@@ -35,17 +36,27 @@ pub(crate) enum Verdict {
 pub(crate) fn judge(max_pins: u32, id: Id, word: Word) -> Verdict
     ensures { result ≡ verdict_of max_pins id word }
 {
-    let born = word.phase == Phase::Retired || id.generation <= word.generation;
-    if !born || (word.phase == Phase::Free && word.generation == id.generation) {
-        Verdict::Unborn
-    } else if id.generation < word.generation
-        || word.phase == Phase::Closing
-        || word.phase == Phase::Retired
-    {
-        Verdict::Stale
-    } else if word.pins == max_pins {
+    if word.phase != Phase::Live || word.generation != id.generation {
+        return refuse(id, word);
+    }
+    if word.pins == max_pins {
         Verdict::PinsFull
     } else {
         Verdict::Go
+    }
+}
+
+// Why an Id is refused where the word isn't live at its generation.
+#[cold]
+#[inline(never)]
+fn refuse(id: Id, word: Word) -> Verdict
+    requires { word.phase ≡ Live → word.generation ≢ id.generation }
+    ensures { (max_pins : ℕ) → result ≡ verdict_of max_pins id word }
+{
+    let born = word.phase == Phase::Retired || id.generation <= word.generation;
+    if !born || (word.phase == Phase::Free && word.generation == id.generation) {
+        Verdict::Unborn
+    } else {
+        Verdict::Stale
     }
 }

@@ -1,4 +1,5 @@
-ghost use Rattle.std.specs.Prelude.{◌≡◌, ◌+◌, ◌<◌, ◌≤◌, position, count_by};
+ghost use Rattle.std.specs.Prelude.{◌≡◌, ◌+◌, ◌<◌, ◌≤◌, length, position, count_by};
+ghost use Rattle.std.specs.List.{remove};
 ghost use Rattle.pin_core.specs.declared.id.Id.{Id};
 ghost use Rattle.pin_core.specs.Holds.{tally, drop_first};
 ghost use Rattle.pin_words.specs.Views.{IsReaders, reader_of, is_id};
@@ -31,8 +32,22 @@ pub(crate) fn forget(held: &mut ArrayVec<Id, 16>, id: Id)
     ensures { held.new.items ≡ drop_first (is_id id) held.old.items }
 {
     if let Some(place) = place_of(held.as_slice(), id) {
-        held.remove(place);
+        if place + 1 == held.len() {
+            held.pop();
+        } else {
+            take_out(held, place);
+        }
     }
+}
+
+// The copy that is let go is mostly the last, so this stays out of the way of whoever pins and releases.
+#[cold]
+#[inline(never)]
+fn take_out(held: &mut ArrayVec<Id, 16>, place: usize)
+    requires { place < length held.old.items }
+    ensures { held.new.items ≡ remove held.old.items place }
+{
+    held.remove(place);
 }
 
 /// Who pins slots. It holds at most 16 copies, and its calls take no memory and no lock.
@@ -114,11 +129,13 @@ impl<'a> Reader<'a> {
         ensures lost { result ≢ found → self.new.view ≡ reader_looked self.old.view id.slot result }
         ensures table { self.new.table ≡ self.old.table }
     {
+        // Listed first, since what is written after the exchange delays the next atomic step.
+        self.held.push(id);
         let seen = self
             .shared
             .compare_exchange::<Pinning>(&mut self.seat, id.slot as usize, found, found + 1);
-        if seen == found {
-            self.held.push(id);
+        if seen != found {
+            self.held.pop();
         }
         seen
     }
@@ -128,6 +145,7 @@ impl<'a> Reader<'a> {
     /// Refused, in this order: 1 where there is no such slot; 6 where 16 copies are held; then, by the word
     /// that the look found, 2 where the Id isn't published yet, 3 where its object is given up, which stays so,
     /// and 5 where the slot has all its pins; 4 where the exchange found another word.
+    #[inline]
     pub fn try_pin(&mut self, id: Id) -> Result<(), PinFault>
         ensures tries { Tries self.old.view id result self.new.view }
         ensures held { OnOk result (0 < tally (is_id id) self.new.view.held) }
@@ -174,6 +192,7 @@ impl<'a> Reader<'a> {
     }
 
     /// Lets one copy of a held Id go, and with the last the note of its descriptor.
+    #[inline]
     pub fn release(&mut self, id: Id)
         requires { 0 < tally (is_id id) self.old.view.held }
         ensures view { self.new.view ≡ reader_released self.old.view id }

@@ -18,9 +18,9 @@ compare_exchange-seen-requires c = let shape : c.args.self.now.view.shape ≡ c.
       pins-step _ _ _ _ _ _ _ (reader_of c.self.inside.seat.me.0) (ap (λ m. m.0.reader) c.self.inside.reads) (subst (λ (k : Shape). c.args.id.slot < k.slots) key c.requires.slot) refl go.0 (subst (λ (k : Shape). (decoded c.args.found).pins ≢ k.max_pins) key go.2),
     )
 
-pub invariant_of-self-inside : goal.invariant_of-self-inside
-invariant_of-self-inside c = let shape : c.args.self.now.view.shape ≡ c.self.inside.shape = ap (λ w. w.view.shape) (sym c.self.view_is) ∙ c.self.inside.shaped in
-    let did = c.compare_exchange-seen.ensures in let hit = c.if-seen-found.true in let go = go-means c.args.self.now.view.shape.max_pins c.args.id (decoded c.args.found) c.requires.go in
+pub invariant_of-self-inside-else-seen-found : goal.invariant_of-self-inside-else-seen-found
+invariant_of-self-inside-else-seen-found c = let shape : c.args.self.now.view.shape ≡ c.self.inside.shape = ap (λ w. w.view.shape) (sym c.self.view_is) ∙ c.self.inside.shaped in
+    let did = c.compare_exchange-seen.ensures in let hit = c.if-seen-found.false in let go = go-means c.args.self.now.view.shape.max_pins c.args.id (decoded c.args.found) c.requires.go in
     let one = got-one c.compare_exchange-seen.result c.self.inside.seat.me c.compare_exchange-seen.new.seat.me c.args.id c.self.inside.reads (did.2.0 hit) (ap (λ (n : ℕ). (decoded n).generation) hit ∙ go.1) in (
       c.self.inside.keyed,
       (
