@@ -12,7 +12,7 @@ use Rattle.pin_core.specs.declared.shape.Shape.{Shape}
 use Rattle.pin_core.specs.declared.world.Slot.{Slot}
 use Rattle.pin_core.specs.Words.{decoded}
 use Rattle.pin_core.specs.Descrs as descr_code
-use Rattle.pin_core.specs.Holds.{tally, weight, drop_first}
+use Rattle.pin_core.specs.Holds.{tally, weight, drop_first, same_id}
 use Rattle.pin_core.specs.Worlds.{opening_slot, slot_of}
 use Rattle.pin_core.specs.Safety.{rank_of}
 use Rattle.pin_core.proofs.Counts.{count-snoc, count-drop-le}
@@ -20,7 +20,7 @@ use Rattle.pin_words.specs.declared.view.Look.{Look}
 use Rattle.pin_words.specs.declared.view.KeeperView.{KeeperView}
 use Rattle.pin_words.specs.declared.view.ReaderView.{ReaderView}
 use Rattle.pin_words.specs.declared.view.View.{View}
-use Rattle.pin_words.specs.Views.{M, Of, on, view, is_id, id_in, reader_got, reader_released, keeper_stored, reader_of, keeper_of, IsReaders, IsKeepers}
+use Rattle.pin_words.specs.Views.{M, Of, on, view, id_in, reader_got, reader_released, keeper_stored, reader_of, keeper_of, IsReaders, IsKeepers}
 use Rattle.pin_words.specs.Shown.{Shown}
 use Rattle.pin_words.specs.Plays.{Behind, Tells, got_view, released, noted, stored}
 use Rattle.pin_words.specs.declared.fault.Verdict.TheVariants.{Unborn, Stale, PinsFull, Go}
@@ -44,7 +44,7 @@ slot-known xs ys i y same inside is = is ∙ (get_or_any ys i y opening_slot ins
     get_or_any (z ∷ zs) zero a b h = refl
     get_or_any (z ∷ zs) (suc i) a b h = get_or_any zs i a b (omega arith)
 
-pub released-one : (n : ℕ) (m m' : M) (id : Id) → IsReaders m → released (step 0 id.slot 1 0 none) m n m' → 0 < tally (is_id id) (reader_of m.0).held
+pub released-one : (n : ℕ) (m m' : M) (id : Id) → IsReaders m → released (step 0 id.slot 1 0 none) m n m' → 0 < tally (same_id id) (reader_of m.0).held
     → IsReaders m' × (reader_of m'.0 ≡ reader_released (reader_of m.0) id)
 released-one n m m' id reads did have =
     let r = reader_of m.0 in
@@ -71,23 +71,23 @@ pub stores-there : (key : Shape) (slots id i x : ℕ) (me : M) (v : KeeperView) 
     → Allows (Shown key) slots id me (k.slots + i) (λ _. x) (λ _. stored (step slots (k.slots + i) x 0 none) me x)
 stores-there key slots id i x me v d k same is inside free descr-given x-is = subst (λ (z : Shape). Allows (Shown z) slots id me (k.slots + i) (λ _. x) (λ _. stored (step slots (k.slots + i) x 0 none) me x)) (sym same) (stores-step k slots id i x me v d is inside free descr-given x-is)
 
-pub notes-there : (key : Shape) (slots id : ℕ) (me : M) (r : ReaderView) (y : Id) (k : Shape) → key ≡ k → me.0.reader ≡ Some r → y.slot < k.slots → 0 < tally (is_id y) r.held
+pub notes-there : (key : Shape) (slots id : ℕ) (me : M) (r : ReaderView) (y : Id) (k : Shape) → key ≡ k → me.0.reader ≡ Some r → y.slot < k.slots → 0 < tally (same_id y) r.held
     → Allows (Shown key) slots id me (k.slots + y.slot) (λ n. n) (noted (step slots (k.slots + y.slot) 0 0 none) me)
 notes-there key slots id me r y k same is inside have = subst (λ (z : Shape). Allows (Shown z) slots id me (k.slots + y.slot) (λ n. n) (noted (step slots (k.slots + y.slot) 0 0 none) me)) (sym same) (notes-step k slots id y.slot me r y is refl inside have)
 
 -- a held Id is one of these, or the new one
-pub inside-more : (n : ℕ) (id : Id) (xs : List Id) → id.slot < n → ((x : Id) → 0 < tally (is_id x) xs → x.slot < n) → (x : Id) → 0 < tally (is_id x) (xs ++ id ∷ []) → x.slot < n
-inside-more n id xs lt all x have = cases (is_id x id) refl
+pub inside-more : (n : ℕ) (id : Id) (xs : List Id) → id.slot < n → ((x : Id) → 0 < tally (same_id x) xs → x.slot < n) → (x : Id) → 0 < tally (same_id x) (xs ++ id ∷ []) → x.slot < n
+inside-more n id xs lt all x have = cases (same_id x id) refl
   where
-    cases : (b : Bool) → is_id x id ≡ b → x.slot < n
+    cases : (b : Bool) → same_id x id ≡ b → x.slot < n
     cases true e = let same : id.slot ≡ x.slot = grind (arith, common_steps) in omega arith
-    cases false e = let c = count-snoc (is_id x) xs id in let off : weight (is_id x id) ≡ 0 = ap weight e in all x (omega arith)
+    cases false e = let c = count-snoc (same_id x) xs id in let off : weight (same_id x id) ≡ 0 = ap weight e in all x (omega arith)
 
-pub inside-less : (n : ℕ) (id : Id) (xs : List Id) → ((x : Id) → 0 < tally (is_id x) xs → x.slot < n) → (x : Id) → 0 < tally (is_id x) (drop_first (is_id id) xs) → x.slot < n
-inside-less n id xs all x have = let le = count-drop-le (is_id x) (is_id id) xs in all x (omega arith)
+pub inside-less : (n : ℕ) (id : Id) (xs : List Id) → ((x : Id) → 0 < tally (same_id x) xs → x.slot < n) → (x : Id) → 0 < tally (same_id x) (drop_first (same_id id) xs) → x.slot < n
+inside-less n id xs all x have = let le = count-drop-le (same_id x) (same_id id) xs in all x (omega arith)
 
-pub id-inside : (n : ℕ) (id : Id) (xs ys : List Id) → ys ≡ xs → 0 < tally (is_id id) ys → ((x : Id) → 0 < tally (is_id x) xs → x.slot < n) → id.slot < n
-id-inside n id xs ys same have all = all id (subst (λ (z : List Id). 0 < tally (is_id id) z) same have)
+pub id-inside : (n : ℕ) (id : Id) (xs ys : List Id) → ys ≡ xs → 0 < tally (same_id id) ys → ((x : Id) → 0 < tally (same_id x) xs → x.slot < n) → id.slot < n
+id-inside n id xs ys same have all = all id (subst (λ (z : List Id). 0 < tally (same_id id) z) same have)
 
 age-stale : (max : ℕ) (id : Id) (g n : ℕ) (p : Phase) (b : Word) → g * 4 + rank_of p ≤ b.generation * 4 + rank_of b.phase → (p ≡ Retired → b.phase ≡ Retired) → verdict_of max id record { generation = g; phase = p; pins = n } ≡ Stale → verdict_of max id b ≡ Stale
 age-stale max id g n Retired b le last e = let r : b.phase ≡ Retired = last refl in grind (arith, common_steps)

@@ -1,5 +1,7 @@
 -- What a reader holds, in the set of the world and in its own list.
-use Rattle.std.proofs.Common.{◌≡◌, ◌≢◌, ℕ, ◌+◌, ◌<◌, ◌≤◌, ◌&&◌, nat_lt, eq-eqb, ne_eqb, Bool, true, false, cond, List, [], ◌∷◌, ◌++◌, sym, refl, ap, ◌∙◌, arith}
+use Rattle.std.proofs.Common.{◌≡◌, ◌≢◌, ℕ, ◌+◌, ◌<◌, ◌≤◌, ◌&&◌, ◌==◌, nat_lt, eq-eqb, ne_eqb, Bool, true, false, cond, List, [], ◌∷◌, ◌++◌, sym, refl, ap, ◌∙◌, arith}
+use native.Mathlib.Decide.{ℕ_discrete}
+use mathlib.Core.Logic.{dite}
 use Rattle.std.proofs.lemmas.Grind.{common_steps}
 use Rattle.pin_core.specs.declared.id.Id.{Id}
 use Rattle.pin_core.specs.declared.descr.Descr.{Descr}
@@ -12,44 +14,50 @@ use Rattle.pin_core.proofs.Moves.{same_of_test, same_of_descr, copies-le-pins}
 use Rattle.pin_core.proofs.Holding.{release-count}
 use Rattle.pin_words.specs.declared.view.Note.{Note}
 use Rattle.pin_words.specs.declared.view.ReaderView.{ReaderView}
-use Rattle.pin_words.specs.Views.{is_id, sits, notes_of}
+use Rattle.pin_words.specs.Views.{sits, notes_of}
 use Rattle.pin_words.specs.Shown.{HoldsJust, AreNoted}
 
-pub own_copy : (r : ℕ) (id : Id) (k : ℕ) (x : Id) → is_copy r x (hold_of r id k) ≡ is_id x id
-own_copy r id k x = ap (λ (b : Bool). b && same_id id x) (eq-eqb r r refl)
+same_turned : (a b : Id) → same_id a b ≡ same_id b a
+same_turned a b = λ k. turned a.slot b.slot k && turned a.generation b.generation k
+  where
+    turned : (m n : ℕ) → (m == n) ≡ (n == m)
+    turned m n = dite (ℕ_discrete m n) (λ e. eq-eqb m n e ∙ sym (eq-eqb n m (sym e))) (λ ne. ne_eqb m n ne ∙ sym (ne_eqb n m (λ e. ne (sym e))))
+
+pub own_copy : (r : ℕ) (id : Id) (k : ℕ) (x : Id) → is_copy r x (hold_of r id k) ≡ same_id x id
+own_copy r id k x = ap (λ (b : Bool). b && same_id id x) (eq-eqb r r refl) ∙ same_turned id x
 
 pub other_copy : (q r : ℕ) (id : Id) (k : ℕ) (x : Id) → r ≢ q → is_copy q x (hold_of r id k) ≡ false
 other_copy q r id k x n = ap (λ (b : Bool). b && same_id id x) (ne_eqb r q n)
 
-same_of_id : (id x : Id) → is_id id x ≡ true → x ≡ id
-same_of_id id x e = let t = same_of_test x id e in λ k. record { slot = t.0 k; generation = t.1 k }
+same_of_id : (id x : Id) → same_id id x ≡ true → x ≡ id
+same_of_id id x e = let t = same_of_test id x e in λ k. record { slot = sym t.0 k; generation = sym t.1 k }
 
-is_itself : (x : Id) → is_id x x ≡ true
+is_itself : (x : Id) → same_id x x ≡ true
 is_itself x = grind (arith, common_steps)
 
 -- a copy more
-pub holds-more : (w : WorldState) (r : ℕ) (held : List Id) (id : Id) (k : ℕ) → HoldsJust w r held → (x : Id) → tally (is_copy r x) (with_hold (hold_of r id k) w.holders) ≡ tally (is_id x) (held ++ id ∷ [])
-holds-more w r held id k h x = count-with_hold (is_copy r x) (hold_of r id k) w.holders ∙ ((λ i. h x i + weight (own_copy r id k x i)) ∙ sym (count-snoc (is_id x) held id))
+pub holds-more : (w : WorldState) (r : ℕ) (held : List Id) (id : Id) (k : ℕ) → HoldsJust w r held → (x : Id) → tally (is_copy r x) (with_hold (hold_of r id k) w.holders) ≡ tally (same_id x) (held ++ id ∷ [])
+holds-more w r held id k h x = count-with_hold (is_copy r x) (hold_of r id k) w.holders ∙ ((λ i. h x i + weight (own_copy r id k x i)) ∙ sym (count-snoc (same_id x) held id))
 
 pub holds-same-more : (w : WorldState) (q r : ℕ) (id : Id) (k : ℕ) → r ≢ q → (x : Id) → tally (is_copy q x) (with_hold (hold_of r id k) w.holders) ≡ copies w q x
 holds-same-more w q r id k n x = let c = count-with_hold (is_copy q x) (hold_of r id k) w.holders in let z : weight (is_copy q x (hold_of r id k)) ≡ 0 = ap weight (other_copy q r id k x n) in omega arith
 
 -- a copy less
 pub holds-less : (w : WorldState) (r : ℕ) (held : List Id) (id : Id) → IsSafe w → HoldsJust w r held → 0 < copies w r id
-    → (x : Id) → tally (is_copy r x) (drop_first (is_hold (last_copy w r id)) w.holders) ≡ tally (is_id x) (drop_first (is_id id) held)
-holds-less w r held id safe h have x = let c = release-count w r id safe have (is_copy r x) in let same : weight (is_copy r x (last_copy w r id)) ≡ weight (is_id x id) = ap weight (own_copy r id (copies w r id) x) in
-    let some_there : 0 < tally (is_id id) held = (let e = h id in omega arith) in
-    let d = count-drop (is_id x) (is_id id) (is_id x id) held (λ y e. ap (is_id x) (same_of_id id y e)) some_there in
+    → (x : Id) → tally (is_copy r x) (drop_first (is_hold (last_copy w r id)) w.holders) ≡ tally (same_id x) (drop_first (same_id id) held)
+holds-less w r held id safe h have x = let c = release-count w r id safe have (is_copy r x) in let same : weight (is_copy r x (last_copy w r id)) ≡ weight (same_id x id) = ap weight (own_copy r id (copies w r id) x) in
+    let some_there : 0 < tally (same_id id) held = (let e = h id in omega arith) in
+    let d = count-drop (same_id x) (same_id id) (same_id x id) held (λ y e. ap (same_id x) (same_of_id id y e)) some_there in
     let e = h x in omega arith
 
 pub holds-same-less : (w : WorldState) (q r : ℕ) (id : Id) → IsSafe w → 0 < copies w r id → r ≢ q → (x : Id) → tally (is_copy q x) (drop_first (is_hold (last_copy w r id)) w.holders) ≡ copies w q x
 holds-same-less w q r id safe have n x = let c = release-count w r id safe have (is_copy q x) in let z : weight (is_copy q x (last_copy w r id)) ≡ 0 = ap weight (other_copy q r id (copies w r id) x n) in omega arith
 
 -- where each held Id that passes the one passes the other
-count-in : (p q : Id → Bool) (xs : List Id) → ((x : Id) → 0 < tally (is_id x) xs → p x ≡ true → q x ≡ true) → tally p xs ≤ tally q xs
+count-in : (p q : Id → Bool) (xs : List Id) → ((x : Id) → 0 < tally (same_id x) xs → p x ≡ true → q x ≡ true) → tally p xs ≤ tally q xs
 count-in p q [] h = omega arith
 count-in p q (y ∷ ys) h = let ih = count-in p q ys (λ x have. h x (omega arith)) in
-    let here : weight (p y) ≤ weight (q y) = step (p y) (q y) (h y (let one : weight (is_id y y) ≡ 1 = ap weight (is_itself y) in omega arith)) in omega arith
+    let here : weight (p y) ≤ weight (q y) = step (p y) (q y) (h y (let one : weight (same_id y y) ≡ 1 = ap weight (is_itself y) in omega arith)) in omega arith
   where
     step : (a b : Bool) → (a ≡ true → b ≡ true) → weight a ≤ weight b
     step false true e = omega arith
@@ -60,23 +68,23 @@ count-in p q (y ∷ ys) h = let ih = count-in p q ys (λ x have. h x (omega arit
 sits-slot : (s : ℕ) (x : Id) → sits s x ≡ true → x.slot ≡ s
 sits-slot s x e = grind (arith, common_steps)
 
-is-there : (s g : ℕ) (x : Id) → x.slot ≡ s → g ≡ x.generation → is_id record { slot = s; generation = g } x ≡ true
+is-there : (s g : ℕ) (x : Id) → x.slot ≡ s → g ≡ x.generation → same_id record { slot = s; generation = g } x ≡ true
 is-there s g x a b = grind (arith, common_steps)
 
 -- a reader has no more copies at a slot than the slot has pins
 pub held-le-pins : (w : WorldState) (r s : ℕ) (held : List Id) → IsSafe w → HoldsJust w r held → tally (sits s) held ≤ pins w s
 held-le-pins w r s held safe h =
-    let all : tally (sits s) held ≤ tally (is_id (id_at w s)) held = count-in (sits s) (is_id (id_at w s)) held
+    let all : tally (sits s) held ≤ tally (same_id (id_at w s)) held = count-in (sits s) (same_id (id_at w s)) held
     (λ x have e. let there = sits-slot s x e in let known = safe.held r x (let c = h x in omega arith) in
     is-there s (at w s).generation x there (ap (λ (z : ℕ). (at w z).generation) (sym there) ∙ known.1)) in
     let own = h (id_at w s) in let le = copies-le-pins w r (id_at w s) in omega arith
 
-pub has-copies : (w : WorldState) (r : ReaderView) (x : Id) → HoldsJust w r.number r.held → 0 < tally (is_id x) r.held → 0 < copies w r.number x
+pub has-copies : (w : WorldState) (r : ReaderView) (x : Id) → HoldsJust w r.number r.held → 0 < tally (same_id x) r.held → 0 < copies w r.number x
 has-copies w r x held have = let e = held x in omega arith
 
 pub noted-left : (w : WorldState) (held : List Id) (xs : List Note) → AreNoted w xs → AreNoted w (notes_of held xs)
 noted-left w held [] h = tt
-noted-left w held (x ∷ xs) h = cases (nat_lt 0 (tally (is_id x.id) held)) (noted-left w held xs h.1)
+noted-left w held (x ∷ xs) h = cases (nat_lt 0 (tally (same_id x.id) held)) (noted-left w held xs h.1)
   where
     cases : (b : Bool) → AreNoted w (notes_of held xs) → AreNoted w (cond b (x ∷ notes_of held xs) (notes_of held xs))
     cases true ih = (h.0, ih)
@@ -102,5 +110,5 @@ one-descr w id d e safe a b = cases (same_descr d e) refl
     cases false x = absurd (let two = count-two id d e w.published x in let once = safe.once id in omega arith)
 
 -- a copy that was just taken is there
-pub got-held : (id : Id) (held : List Id) → 0 < tally (is_id id) (held ++ id ∷ [])
-got-held id held = let c = count-snoc (is_id id) held id in let one : weight (is_id id id) ≡ 1 = ap weight (is_itself id) in omega arith
+pub got-held : (id : Id) (held : List Id) → 0 < tally (same_id id) (held ++ id ∷ [])
+got-held id held = let c = count-snoc (same_id id) held id in let one : weight (same_id id id) ≡ 1 = ap weight (is_itself id) in omega arith

@@ -13,7 +13,7 @@ use Rattle.pin_core.specs.declared.event.Event.{Event}
 use Rattle.pin_core.specs.declared.event.Event.TheVariants.{Load, Pin, Release, ReadDescr, StoreDescr, Publish, CloseSlot, Reclaim}
 use Rattle.pin_core.specs.Words.{decoded}
 use Rattle.pin_core.specs.Descrs as descr_code
-use Rattle.pin_core.specs.Holds.{tally, weight, hold_of}
+use Rattle.pin_core.specs.Holds.{tally, weight, hold_of, same_id}
 use Rattle.pin_core.specs.Worlds.{WorldState, slot_of, at, copies, times}
 use Rattle.pin_core.specs.Events.{refusal, Can, after}
 use Rattle.pin_core.specs.Safety.{IsSafe, StaysGiven}
@@ -23,7 +23,7 @@ use Rattle.pin_words.specs.declared.view.Note.{Note}
 use Rattle.pin_words.specs.declared.view.KeeperView.{KeeperView}
 use Rattle.pin_words.specs.declared.view.ReaderView.{ReaderView}
 use Rattle.pin_words.specs.declared.view.View.{View}
-use Rattle.pin_words.specs.Views.{on, view, is_id, id_in, reader_looked, reader_got, reader_released, reader_noted, keeper_looked, keeper_stored, keeper_published, keeper_closed, keeper_reclaimed}
+use Rattle.pin_words.specs.Views.{on, view, id_in, reader_looked, reader_got, reader_released, reader_noted, keeper_looked, keeper_stored, keeper_published, keeper_closed, keeper_reclaimed}
 use Rattle.pin_words.specs.Shown.{Table, AreNoted, HoldsJust, OfKeeper, OfReader, HasReader, IsShown}
 use Rattle.pin_words.specs.Plays.{Behind, Tells, AreListed, Show, Meets, MeetsBoth, looked_view, got_view, released_view, looked, pinned, released, noted, stored, published, closed, reclaiming, gave, reader_from, spent, or_else, joined, keeper_part, reader_part}
 use Rattle.pin_words.specs.Plays as play
@@ -60,18 +60,18 @@ law-pin k s w j i v r sh here inside live room = record {
   shown = reader-pins k s w sh j i v r here.seated here.part inside live room;
 }
 
-held-inside : (k : Shape) (s : Table) (w : WorldState) (sh : IsShown k s w) (j : ℕ) (v : View) (r : ReaderView) (id : Id) → ReaderAt s j v r → 0 < tally (is_id id) r.held → (id.slot < k.slots) × (0 < copies w r.number id)
+held-inside : (k : Shape) (s : Table) (w : WorldState) (sh : IsShown k s w) (j : ℕ) (v : View) (r : ReaderView) (id : Id) → ReaderAt s j v r → 0 < tally (same_id id) r.held → (id.slot < k.slots) × (0 < copies w r.number id)
 held-inside k s w sh j v r id here have = let mine = of-here (OfReader w sh.next sh.owner j) v.reader r here.part (sh.each j v here.seated).1 in let c = has-copies w r id mine.held have in
     (subst (λ (z : Shape). id.slot < z.slots) sh.shape (sh.safe.held r.number id c).0, c)
 
-pub law-release : (k : Shape) (s : Table) (w : WorldState) (j : ℕ) (v : View) (r : ReaderView) (id : Id) → IsShown k s w → ReaderAt s j v r → 0 < tally (is_id id) r.held
+pub law-release : (k : Shape) (s : Table) (w : WorldState) (j : ℕ) (v : View) (r : ReaderView) (id : Id) → IsShown k s w → ReaderAt s j v r → 0 < tally (same_id id) r.held
     → StepsBy k w (Release r.number id) (stepped s id.slot (get_or s.words id.slot 0 - 1) j (view v.keeper (Some (reader_released r id))))
 law-release k s w j v r id sh here have = let known = held-inside k s w sh j v r id here have in record {
   can = can-by w (Release r.number id) (may_release w r.number id (in-shape k s w sh id.slot known.0) known.1);
   shown = reader-releases k s w sh j v r id here.seated here.part known.0 have;
 }
 
-pub law-read : (k : Shape) (s : Table) (w : WorldState) (j : ℕ) (v : View) (r : ReaderView) (id : Id) (d : Descr) → IsShown k s w → ReaderAt s j v r → 0 < tally (is_id id) r.held → descr_code.decoded (get_or s.words (k.slots + id.slot) 0) ≡ Some d
+pub law-read : (k : Shape) (s : Table) (w : WorldState) (j : ℕ) (v : View) (r : ReaderView) (id : Id) (d : Descr) → IsShown k s w → ReaderAt s j v r → 0 < tally (same_id id) r.held → descr_code.decoded (get_or s.words (k.slots + id.slot) 0) ≡ Some d
     → StepsBy k w (ReadDescr r.number id d) (stepped s (k.slots + id.slot) (get_or s.words (k.slots + id.slot) 0) j (view v.keeper (Some (reader_noted r id d))))
 law-read k s w j v r id d sh here have is = let known = held-inside k s w sh j v r id here have in
     let same : (at w id.slot).descr ≡ d = some-same (descr_code.decoded (get_or s.words (k.slots + id.slot) 0)) (at w id.slot).descr d (descr_found (at w id.slot).descr (get_or s.words (k.slots + id.slot) 0) (sh.given id.slot known.0) (sh.descrs id.slot known.0)) is in record {
@@ -123,7 +123,7 @@ law-store k s w j i v q d sh here inside free valid = record {
 in_numbers : (c n : ℕ) → 1 ≤ n → n ≤ c → weight (nat_lt 0 n && nat_le n c) ≡ 1
 in_numbers c n a b = grind (arith, common_steps)
 
-pub law-held : (k : Shape) (s : Table) (w : WorldState) (j : ℕ) (v : View) (r : ReaderView) (id : Id) (n : ℕ) → IsShown k s w → ReaderAt s j v r → 1 ≤ n → n ≤ tally (is_id id) r.held
+pub law-held : (k : Shape) (s : Table) (w : WorldState) (j : ℕ) (v : View) (r : ReaderView) (id : Id) (n : ℕ) → IsShown k s w → ReaderAt s j v r → 1 ≤ n → n ≤ tally (same_id id) r.held
     → (times w (hold_of r.number id n) ≡ 1) × StaysGiven w id.slot
 law-held k s w j v r id n sh here first last = let mine = of-here (OfReader w sh.next sh.owner j) v.reader r here.part (sh.each j v here.seated).1 in
     let own = mine.held id in

@@ -8,14 +8,14 @@ use Rattle.pin_core.specs.declared.shape.Shape.{Shape}
 use Rattle.pin_core.specs.declared.world.Slot.{Slot}
 use Rattle.pin_core.specs.declared.word.Phase.TheVariants.{Live}
 use Rattle.pin_core.specs.Events.{in_phase}
-use Rattle.pin_core.specs.Holds.{tally, weight, drop_first}
+use Rattle.pin_core.specs.Holds.{tally, weight, drop_first, same_id}
 use Rattle.pin_core.specs.Worlds.{slot_of}
 use Rattle.pin_core.proofs.Counts.{count-snoc, count-drop-le}
 use Rattle.pin_words.specs.declared.fault.PinFault.{PinFault}
 use Rattle.pin_words.specs.declared.pin_keeper.Reclaim.{Reclaim}
 use Rattle.pin_words.specs.declared.pin_keeper.Reclaim.TheVariants.{Freed, Retired, Held}
 use Rattle.pin_words.specs.Verdicts.{verdict_of}
-use Rattle.pin_words.specs.Views.{on, is_id, id_of, sits}
+use Rattle.pin_words.specs.Views.{on, id_of, sits}
 use Rattle.pin_words.specs.Keepers.{KeeperState, locked, with_looks, opened_again, with_slots, published, word_of, Answers, Tries, Reclaims, ReclaimsLocked}
 use Rattle.pin_words.proofs.Calls.{slot-known}
 
@@ -38,8 +38,8 @@ room-more most held id room free s = cases (sits s id) refl
         let le = room s in let ne : tally (sits s) held ≢ most = λ x. free (here ∙ x) in omega arith
     cases false e = let c = count-snoc (sits s) held id in let off : weight (sits s id) ≡ 0 = ap weight e in let le = room s in omega arith
 
-pub room-less : (most : ℕ) (held : List Id) (id : Id) → ((s : ℕ) → tally (sits s) held ≤ most) → (s : ℕ) → tally (sits s) (drop_first (is_id id) held) ≤ most
-room-less most held id room s = let le = count-drop-le (sits s) (is_id id) held in let o = room s in omega arith
+pub room-less : (most : ℕ) (held : List Id) (id : Id) → ((s : ℕ) → tally (sits s) held ≤ most) → (s : ℕ) → tally (sits s) (drop_first (same_id id) held) ≤ most
+room-less most held id room s = let le = count-drop-le (sits s) (same_id id) held in let o = room s in omega arith
 
 -- what a reclaim under a lock answers is what one of any keeper does
 pub as-any : (k k' : KeeperState) (s : ℕ) (r : Reclaim) → ReclaimsLocked k s r k' → Reclaims k s r k'

@@ -16,7 +16,7 @@ use Rattle.pin_core.specs.declared.holders.Hold.{Hold}
 use Rattle.pin_core.specs.declared.event.Event.TheVariants.{Pin, Release}
 use Rattle.pin_core.specs.Words.{encoded, decoded}
 use Rattle.pin_core.specs.Descrs as descr_code
-use Rattle.pin_core.specs.Holds.{tally, weight, sits_at, is_copy, is_hold, with_hold, drop_first}
+use Rattle.pin_core.specs.Holds.{tally, weight, sits_at, is_copy, is_hold, with_hold, drop_first, same_id}
 use Rattle.pin_core.specs.Worlds.{WorldState, at, id_at, pins, copies, last_copy, next_copy, word_at, given, given_as}
 use Rattle.pin_core.specs.Events.{refusal, after, with_holders}
 use Rattle.pin_core.specs.Safety.{IsSafe, may_be_held}
@@ -28,7 +28,7 @@ use Rattle.pin_words.specs.declared.view.Look.{Look}
 use Rattle.pin_words.specs.declared.view.Note.{Note}
 use Rattle.pin_words.specs.declared.view.ReaderView.{ReaderView}
 use Rattle.pin_words.specs.declared.view.View.{View}
-use Rattle.pin_words.specs.Views.{M, Of, on, view, look, is_id, id_in, notes_of, reader_with, reader_looked, reader_got, reader_released, reader_noted}
+use Rattle.pin_words.specs.Views.{M, Of, on, view, look, id_in, notes_of, reader_with, reader_looked, reader_got, reader_released, reader_noted}
 use Rattle.pin_words.specs.Shown.{Table, NotAhead, AreNoted, OfKeeper, OfReader, IsShown, Shown}
 use Rattle.pin_words.specs.Plays.{Tells, looked_view, got_view, released_view, looked, pinned, released, noted}
 use Rattle.pin_words.proofs.Bits.{sub_one}
@@ -67,7 +67,7 @@ reader-goes k s W sh id i n v r r' hs seated is inside safe word pins-same parts
     (λ ne. inl (λ x. parts-same q ne x ∙ e x)))
 
 with-holds : (w : WorldState) (hs : List Hold) (next : ℕ) (owner : ℕ → ℕ) (id : ℕ) (r : ReaderView) (held : List Id) (notes : List Note) (looks : List Look) → OfReader w next owner id r
-    → ((x : Id) → tally (is_copy r.number x) hs ≡ tally (is_id x) held) → AreNoted w notes → NotAhead w looks → OfReader (with_holders w hs) next owner id (reader_with r held notes looks)
+    → ((x : Id) → tally (is_copy r.number x) hs ≡ tally (same_id x) held) → AreNoted w notes → NotAhead w looks → OfReader (with_holders w hs) next owner id (reader_with r held notes looks)
 with-holds w hs next owner id r held notes looks mine is noted behind = record { shape = mine.shape; born = mine.born; mine = mine.mine; held = is; notes = notes-stay w (with_holders w hs) notes (λ i d. omega arith) noted; looks = looks-stay w (with_holders w hs) looks refl (λ j. omega arith) behind }
 
 pub may_pin_found : (k : Shape) (s : Table) (W : WorldState) (sh : IsShown k s W) (r i : ℕ) → i < k.slots → (decoded (get_or s.words i 0)).phase ≡ Live → (decoded (get_or s.words i 0)).pins ≢ k.max_pins → refusal W (Pin r i (word_at W i)) ≡ None
@@ -92,7 +92,7 @@ reader-pins k s W sh id i v r seated at-reader inside live room =
     (λ j ne. let m = more j in let off : weight (i == j) ≡ 0 = ap weight (ne_eqb i j (λ e. ne (sym e))) in omega arith)
     (λ q ne x. holds-same-more W q r.number (id_at W i) t.copy ne x)
     (with-holds W (with_hold t W.holders) sh.next sh.owner id r (r.held ++ id_in i (get_or s.words i 0) ∷ []) r.notes (look i (get_or s.words i 0) ∷ r.looks) mine
-    (λ x. holds-more W r.number r.held (id_at W i) t.copy mine.held x ∙ λ c. tally (is_id x) (r.held ++ record { slot = i; generation = sym (ap (λ (y : Word). y.generation) is) c } ∷ []))
+    (λ x. holds-more W r.number r.held (id_at W i) t.copy mine.held x ∙ λ c. tally (same_id x) (r.held ++ record { slot = i; generation = sym (ap (λ (y : Word). y.generation) is) c } ∷ []))
     mine.notes (reader-looks k s W sh id i inside r mine).looks) refl
 
 tells-all : (k : Shape) (s : Table) (W : WorldState) (sh : IsShown k s W) (id i : ℕ) (v : View) → get_elem? s.views id ≡ some v → i < k.slots → Of v.reader (λ r. Tells r i (get_or s.words i 0))
@@ -141,13 +141,13 @@ pins-step k slots id i old new me r is inside up live room s (W, sh) deep seated
     n = get_or s.words i 0
 
 -- a held slot has a pin
-pub has-pin : (k : Shape) (s : Table) (W : WorldState) (sh : IsShown k s W) (id : ℕ) (v : View) (r : ReaderView) (x : Id) → get_elem? s.views id ≡ some v → v.reader ≡ Some r → x.slot < k.slots → 0 < tally (is_id x) r.held → 0 < get_or s.words x.slot 0
+pub has-pin : (k : Shape) (s : Table) (W : WorldState) (sh : IsShown k s W) (id : ℕ) (v : View) (r : ReaderView) (x : Id) → get_elem? s.views id ≡ some v → v.reader ≡ Some r → x.slot < k.slots → 0 < tally (same_id x) r.held → 0 < get_or s.words x.slot 0
 has-pin k s W sh id v r x seated at-reader inside have =
     let mine : OfReader W sh.next sh.owner id r = of-here (OfReader W sh.next sh.owner id) v.reader r at-reader (sh.each id v seated).1 in
     let owned : 0 < copies W r.number x = has-copies W r x mine.held have in let le = copies-le-pins W r.number x in
     let old : get_or s.words x.slot 0 ≡ encoded (word_at W x.slot) = sh.words x.slot inside in omega arith
 
-pub reader-releases : (k : Shape) (s : Table) (W : WorldState) (sh : IsShown k s W) (id : ℕ) (v : View) (r : ReaderView) (x : Id) → get_elem? s.views id ≡ some v → v.reader ≡ Some r → x.slot < k.slots → 0 < tally (is_id x) r.held
+pub reader-releases : (k : Shape) (s : Table) (W : WorldState) (sh : IsShown k s W) (id : ℕ) (v : View) (r : ReaderView) (x : Id) → get_elem? s.views id ≡ some v → v.reader ≡ Some r → x.slot < k.slots → 0 < tally (same_id x) r.held
     → IsShown k record { words = set s.words x.slot (get_or s.words x.slot 0 - 1); homes = s.homes; views = set s.views id (view v.keeper (Some (reader_released r x))) } (after W (Release r.number x))
 reader-releases k s W sh id v r x seated at-reader inside have =
     let i = x.slot in
@@ -155,7 +155,7 @@ reader-releases k s W sh id v r x seated at-reader inside have =
     let owned : 0 < copies W r.number x = has-copies W r x mine.held have in
     let can = may_release W r.number x (in-shape k s W sh i inside) owned in
     let hs = drop_first (is_hold (last_copy W r.number x)) W.holders in
-    let held = drop_first (is_id x) r.held in
+    let held = drop_first (same_id x) r.held in
     let less : (j : ℕ) → tally (sits_at j) hs + weight (i == j) ≡ pins W j = λ j. release-count W r.number x sh.safe owned (sits_at j) in
     let old : get_or s.words i 0 ≡ encoded (word_at W i) = sh.words i inside in
     let one = less i in let yes : weight (i == i) ≡ 1 = ap weight (eq-eqb i i refl) in
@@ -165,14 +165,14 @@ reader-releases k s W sh id v r x seated at-reader inside have =
     (λ q ne y. holds-same-less W q r.number x sh.safe owned ne y)
     (with-holds W hs sh.next sh.owner id r held (notes_of held r.notes) r.looks mine (holds-less W r.number r.held x sh.safe mine.held owned) (noted-left W held r.notes mine.notes) mine.looks) refl
 
-pub releases-step : (k : Shape) (slots id i : ℕ) (me : M) (r : ReaderView) (y : Id) → me.0.reader ≡ Some r → i < k.slots → y.slot ≡ i → 0 < tally (is_id y) r.held
+pub releases-step : (k : Shape) (slots id i : ℕ) (me : M) (r : ReaderView) (y : Id) → me.0.reader ≡ Some r → i < k.slots → y.slot ≡ i → 0 < tally (same_id y) r.held
     → Allows (Shown k) slots id me i (λ n. (n + (2 ^ 64 - 1)) % 2 ^ 64) (released (step slots i 1 0 none) me)
 releases-step k slots id i me r y is inside here have s (W, sh) deep seated small =
     let n : ℕ = get_or s.words i 0 in
     let mine : OfReader W sh.next sh.owner id r = of-here (OfReader W sh.next sh.owner id) me.0.reader r is (sh.each id me.0 seated).1 in
     let tells = told k s W sh id i r inside mine in
     let g = (tells.held y have here).0 in
-    let have' : 0 < tally (is_id (id_in i n)) r.held = subst (λ (z : Id). 0 < tally (is_id z) r.held) (λ c. record { slot = here c; generation = sym g c }) have in (
+    let have' : 0 < tally (same_id (id_in i n)) r.held = subst (λ (z : Id). 0 < tally (same_id z) r.held) (λ c. record { slot = here c; generation = sym g c }) have in (
       released_view me.0 i n,
       keeps,
       tt,
@@ -186,13 +186,13 @@ releases-step k slots id i me r y is inside here have s (W, sh) deep seated smal
     )
 
 -- a held Id is the one of its slot
-held-is : (w : WorldState) (next : ℕ) (owner : ℕ → ℕ) (id : ℕ) (r : ReaderView) (x : Id) → IsSafe w → OfReader w next owner id r → 0 < tally (is_id x) r.held → (x.slot < w.shape.slots) × (x.generation ≡ (at w x.slot).generation) × (may_be_held (at w x.slot).phase ≡ true)
+held-is : (w : WorldState) (next : ℕ) (owner : ℕ → ℕ) (id : ℕ) (r : ReaderView) (x : Id) → IsSafe w → OfReader w next owner id r → 0 < tally (same_id x) r.held → (x.slot < w.shape.slots) × (x.generation ≡ (at w x.slot).generation) × (may_be_held (at w x.slot).phase ≡ true)
 held-is w next owner id r x safe mine have = let h = safe.held r.number x (has-copies w r x mine.held have) in (h.0, sym h.1, h.2)
 
 pub descr_found : (d : Descr) (n : ℕ) → descr_code.IsGiven d → n ≡ descr_code.encoded d → descr_code.decoded n ≡ Some d
 descr_found d n given is = ap descr_code.decoded is ∙ descr-decoded d given
 
-pub reader-notes : (k : Shape) (s : Table) (W : WorldState) (sh : IsShown k s W) (id : ℕ) (v : View) (r : ReaderView) (x : Id) → get_elem? s.views id ≡ some v → v.reader ≡ Some r → x.slot < k.slots → 0 < tally (is_id x) r.held
+pub reader-notes : (k : Shape) (s : Table) (W : WorldState) (sh : IsShown k s W) (id : ℕ) (v : View) (r : ReaderView) (x : Id) → get_elem? s.views id ≡ some v → v.reader ≡ Some r → x.slot < k.slots → 0 < tally (same_id x) r.held
     → IsShown k record { words = set s.words (k.slots + x.slot) (get_or s.words (k.slots + x.slot) 0); homes = s.homes; views = set s.views id (view v.keeper (Some (reader_noted r x (at W x.slot).descr))) } W
 reader-notes k s W sh id v r x seated is inside have =
     let was = sh.each id v seated in
@@ -203,7 +203,7 @@ reader-notes k s W sh id v r x seated is inside have =
     still-shown k s W sh id (k.slots + x.slot) (view v.keeper (Some (reader_noted r x (at W x.slot).descr)))
     (was.0, record { shape = mine.shape; born = mine.born; mine = mine.mine; held = mine.held; notes = ((let p = own in omega arith), mine.notes); looks = mine.looks }) v seated (turn-to v r (reader_noted r x (at W x.slot).descr) is refl)
 
-pub notes-step : (k : Shape) (slots id i : ℕ) (me : M) (r : ReaderView) (y : Id) → me.0.reader ≡ Some r → y.slot ≡ i → i < k.slots → 0 < tally (is_id y) r.held
+pub notes-step : (k : Shape) (slots id i : ℕ) (me : M) (r : ReaderView) (y : Id) → me.0.reader ≡ Some r → y.slot ≡ i → i < k.slots → 0 < tally (same_id y) r.held
     → Allows (Shown k) slots id me (k.slots + i) (λ n. n) (noted (step slots (k.slots + i) 0 0 none) me)
 notes-step k slots id i me r y is here inside have s (W, sh) deep seated small =
     let mine : OfReader W sh.next sh.owner id r = of-here (OfReader W sh.next sh.owner id) me.0.reader r is (sh.each id me.0 seated).1 in
@@ -211,14 +211,14 @@ notes-step k slots id i me r y is here inside have s (W, sh) deep seated small =
     let d : Descr = (at W i).descr in
     let x : Id = id_at W i in
     let known = held-is W sh.next sh.owner id r y sh.safe mine have in
-    let have' : 0 < tally (is_id x) r.held = subst (λ (z : Id). 0 < tally (is_id z) r.held) (λ c. record { slot = here c; generation = (known.1 ∙ ap (λ (z : ℕ). (at W z).generation) here) c }) have in (
+    let have' : 0 < tally (same_id x) r.held = subst (λ (z : Id). 0 < tally (same_id z) r.held) (λ c. record { slot = here c; generation = (known.1 ∙ ap (λ (z : ℕ). (at W z).generation) here) c }) have in (
       view me.0.keeper (Some (reader_noted r x d)),
       keeps,
       tt,
       (W, reader-notes k s W sh id me.0 r x seated is inside have'),
       λ r' y' is' have'' word. let same = some-same me.0.reader r r' is is' in
           let index : i ≡ y'.slot = (let a : r'.shape.slots ≡ k.slots = ap (λ (z : ReaderView). z.shape.slots) (sym same) ∙ ap (λ (z : Shape). z.slots) (mine.shape ∙ sh.shape) in omega arith) in
-          let known' = held-is W sh.next sh.owner id r y' sh.safe mine (subst (λ (z : ReaderView). 0 < tally (is_id y') z.held) (sym same) have'') in (
+          let known' = held-is W sh.next sh.owner id r y' sh.safe mine (subst (λ (z : ReaderView). 0 < tally (same_id y') z.held) (sym same) have'') in (
             d,
             descr_found d n (sh.given i inside) (sh.descrs i inside),
             λ c. (view me.0.keeper (Some (reader_noted (same c) record { slot = index c; generation = (ap (λ (z : ℕ). (at W z).generation) index ∙ sym known'.1) c } d)), me.1),

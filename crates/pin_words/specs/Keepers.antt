@@ -6,7 +6,7 @@ use Rattle.pin_core.specs.declared.word.Word.{Word}
 use Rattle.pin_core.specs.declared.word.Phase.TheVariants.{Live, Closing}
 use Rattle.pin_core.specs.declared.shape.Shape.{Shape}
 use Rattle.pin_core.specs.declared.world.Slot.{Slot}
-use Rattle.pin_core.specs.Holds.{tally, drop_first}
+use Rattle.pin_core.specs.Holds.{tally, drop_first, same_id}
 use Rattle.pin_core.specs.Worlds.{opening_slot, slot_of}
 use Rattle.pin_core.specs.Events.{in_phase, with_descr, reclaimed}
 use Rattle.pin_words.specs.declared.fault.Verdict.{Verdict}
@@ -18,7 +18,7 @@ use Rattle.pin_words.specs.declared.pin_keeper.Reclaim.TheVariants.{Freed, Retir
 use Rattle.pin_words.specs.declared.view.Look.{Look}
 use Rattle.pin_words.specs.declared.view.KeeperView.{KeeperView}
 use Rattle.pin_words.specs.Verdicts.{verdict_of}
-use Rattle.pin_words.specs.Views.{on, is_id, sits, id_of}
+use Rattle.pin_words.specs.Views.{on, sits, id_of}
 
 -- `published` is there where the keeper keeps the list; `next` is the next reader's number, `looks` are the words
 -- that it found, newest first, and `held` are the copies of the one holder of a keeper under a lock
@@ -94,4 +94,4 @@ ReclaimsLocked k s Retired k' = (k' ≡ opened_again k s) × (k.shape.max_gen �
 ReclaimsLocked k s (Held n) k' = (k' ≡ k) × (0 < n) × (n ≡ tally (sits s) k.held) × (n ≤ k.shape.max_pins)
 
 abbrev pub released : KeeperState → Id → KeeperState
-released k id = with_held k (drop_first (is_id id) k.held)
+released k id = with_held k (drop_first (same_id id) k.held)

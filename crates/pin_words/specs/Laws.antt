@@ -12,7 +12,7 @@ use Rattle.pin_core.specs.declared.event.Event.{Event}
 use Rattle.pin_core.specs.declared.event.Event.TheVariants as event
 use Rattle.pin_core.specs.Words.{encoded, decoded}
 use Rattle.pin_core.specs.Descrs as descr_code
-use Rattle.pin_core.specs.Holds.{tally, hold_of}
+use Rattle.pin_core.specs.Holds.{tally, hold_of, same_id}
 use Rattle.pin_core.specs.Worlds.{WorldState, slot_of, times, given_as}
 use Rattle.pin_core.specs.Events.{Can, after, reclaimed}
 use Rattle.pin_core.specs.Safety.{IsSafe, StaysGiven}
@@ -22,7 +22,7 @@ use Rattle.pin_words.specs.declared.view.Note.{Note}
 use Rattle.pin_words.specs.declared.view.KeeperView.{KeeperView}
 use Rattle.pin_words.specs.declared.view.ReaderView.{ReaderView}
 use Rattle.pin_words.specs.declared.view.View.{View}
-use Rattle.pin_words.specs.Views.{view, is_id, id_in, reader_looked, reader_got, reader_released, reader_noted, keeper_looked, keeper_stored, keeper_published, keeper_closed, keeper_reclaimed}
+use Rattle.pin_words.specs.Views.{view, id_in, reader_looked, reader_got, reader_released, reader_noted, keeper_looked, keeper_stored, keeper_published, keeper_closed, keeper_reclaimed}
 use Rattle.pin_words.specs.Shown.{Table, IsShown}
 use Rattle.pin_words.specs.Plays.{gave, given, spent}
 use Rattle.pin_words.specs.Tries.{Tries, WasStale}
@@ -93,7 +93,7 @@ PinSteps = (k : Shape) (s : Table) (w : WorldState) (j i : ℕ) (v : View) (r : 
 
 -- a reader's subtraction of one pin
 abbrev pub ReleaseSteps : Type 0
-ReleaseSteps = (k : Shape) (s : Table) (w : WorldState) (j : ℕ) (v : View) (r : ReaderView) (id : Id) → IsShown k s w → ReaderAt s j v r → 0 < tally (is_id id) r.held
+ReleaseSteps = (k : Shape) (s : Table) (w : WorldState) (j : ℕ) (v : View) (r : ReaderView) (id : Id) → IsShown k s w → ReaderAt s j v r → 0 < tally (same_id id) r.held
     → StepsBy k w (event.Release r.number id) (stepped s id.slot (word s id.slot - 1) j (with_reader v (reader_released r id)))
 
 -- the keeper's or of bit 30
@@ -125,7 +125,7 @@ StoreSteps = (k : Shape) (s : Table) (w : WorldState) (j i : ℕ) (v : View) (q 
 
 -- a reader's load of the descriptor word of a slot that it holds
 abbrev pub ReadSteps : Type 0
-ReadSteps = (k : Shape) (s : Table) (w : WorldState) (j : ℕ) (v : View) (r : ReaderView) (id : Id) (d : Descr) → IsShown k s w → ReaderAt s j v r → 0 < tally (is_id id) r.held
+ReadSteps = (k : Shape) (s : Table) (w : WorldState) (j : ℕ) (v : View) (r : ReaderView) (id : Id) (d : Descr) → IsShown k s w → ReaderAt s j v r → 0 < tally (same_id id) r.held
     → descr_code.decoded (word s (k.slots + id.slot)) ≡ Some d
     → StepsBy k w (event.ReadDescr r.number id d) (stepped s (k.slots + id.slot) (word s (k.slots + id.slot)) j (with_reader v (reader_noted r id d)))
 
@@ -150,7 +150,7 @@ PartsSeats = (k : Shape) (s : Table) (w : WorldState) (j : ℕ) (q : KeeperView)
 
 -- each copy that a reader's view has is one hold of the world, and its slot can't be taken
 abbrev pub CopiesStay : Type 0
-CopiesStay = (k : Shape) (s : Table) (w : WorldState) (j : ℕ) (v : View) (r : ReaderView) (id : Id) (n : ℕ) → IsShown k s w → ReaderAt s j v r → 1 ≤ n → n ≤ tally (is_id id) r.held
+CopiesStay = (k : Shape) (s : Table) (w : WorldState) (j : ℕ) (v : View) (r : ReaderView) (id : Id) (n : ℕ) → IsShown k s w → ReaderAt s j v r → 1 ≤ n → n ≤ tally (same_id id) r.held
     → (times w (hold_of r.number id n) ≡ 1) × StaysGiven w id.slot
 
 abbrev pub NotesArePublished : Type 0

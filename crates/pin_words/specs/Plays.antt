@@ -6,7 +6,7 @@ use Rattle.pin_core.specs.declared.descr.Descr.{Descr}
 use Rattle.pin_core.specs.declared.word.Phase.TheVariants.{Retired}
 use Rattle.pin_core.specs.Words.{decoded}
 use Rattle.pin_core.specs.Descrs as descr_code
-use Rattle.pin_core.specs.Holds.{tally}
+use Rattle.pin_core.specs.Holds.{tally, same_id}
 use Rattle.pin_core.specs.Worlds.{slot_of, is_with}
 use Rattle.pin_core.specs.Safety.{may_be_held}
 use Rattle.pin_words.specs.declared.view.Look.{Look}
@@ -14,7 +14,7 @@ use Rattle.pin_words.specs.declared.view.Note.{Note}
 use Rattle.pin_words.specs.declared.view.KeeperView.{KeeperView}
 use Rattle.pin_words.specs.declared.view.ReaderView.{ReaderView}
 use Rattle.pin_words.specs.declared.view.View.{View}
-use Rattle.pin_words.specs.Views.{M, Of, on, view, is_id, sits, id_of, id_in, reader_looked, reader_got, reader_released, reader_noted, reader_given, keeper_looked, keeper_stored, keeper_published, keeper_closed, keeper_reclaimed, keeper_gave}
+use Rattle.pin_words.specs.Views.{M, Of, on, view, sits, id_of, id_in, reader_looked, reader_got, reader_released, reader_noted, reader_given, keeper_looked, keeper_stored, keeper_published, keeper_closed, keeper_reclaimed, keeper_gave}
 use Rattle.pin_words.specs.Shown.{word_age}
 
 -- the word m is no later than the word n, and retired is for good
@@ -31,7 +31,7 @@ Behind (l ∷ ls) s n = (l.slot ≡ s → NoLater l.word n) × Behind ls s n
 pub record Tells (r : ReaderView) (s n : ℕ) : Type 0 where
   pub pins : tally (sits s) r.held ≤ (decoded n).pins
   pub room : (decoded n).pins ≤ r.shape.max_pins
-  pub held : (id : Id) → 0 < tally (is_id id) r.held → id.slot ≡ s → ((decoded n).generation ≡ id.generation) × (may_be_held (decoded n).phase ≡ true)
+  pub held : (id : Id) → 0 < tally (same_id id) r.held → id.slot ≡ s → ((decoded n).generation ≡ id.generation) × (may_be_held (decoded n).phase ≡ true)
   pub looks : Behind r.looks s n
 
 -- each note is in the list of what was published
@@ -83,7 +83,7 @@ released st m n m' = (m' ≡ (released_view m.0 st.word n, m.1)) × Of m.0.reade
 
 -- a load of the descriptor word of a slot that the reader holds
 abbrev pub noted : St → M → ℕ → M → Type 0
-noted st m n m' = (r : ReaderView) (id : Id) → m.0.reader ≡ Some r → 0 < tally (is_id id) r.held → st.word ≡ r.shape.slots + id.slot
+noted st m n m' = (r : ReaderView) (id : Id) → m.0.reader ≡ Some r → 0 < tally (same_id id) r.held → st.word ≡ r.shape.slots + id.slot
     → (d : Descr) × (descr_code.decoded n ≡ Some d) × (m' ≡ (view m.0.keeper (Some (reader_noted r id d)), m.1))
 
 -- bit 30 is set: live

@@ -9,7 +9,7 @@ use Rattle.pin_core.specs.declared.shape.Shape.{Shape}
 use Rattle.pin_core.specs.Shapes.{IsWithinLimits}
 use Rattle.pin_core.specs.Words as word_code
 use Rattle.pin_core.specs.Descrs as descr_code
-use Rattle.pin_core.specs.Holds.{tally}
+use Rattle.pin_core.specs.Holds.{tally, same_id}
 use Rattle.pin_core.specs.Worlds.{WorldState, at, word_at, copies, given_as}
 use Rattle.pin_core.specs.Safety.{IsSafe, rank_of, age}
 use Rattle.pin_words.specs.declared.view.Look.{Look}
@@ -17,7 +17,7 @@ use Rattle.pin_words.specs.declared.view.Note.{Note}
 use Rattle.pin_words.specs.declared.view.KeeperView.{KeeperView}
 use Rattle.pin_words.specs.declared.view.ReaderView.{ReaderView}
 use Rattle.pin_words.specs.declared.view.View.{View}
-use Rattle.pin_words.specs.Views.{Of, is_id}
+use Rattle.pin_words.specs.Views.{Of}
 
 -- the generation and phase of a word, in one number that never falls
 abbrev pub word_age : ℕ → ℕ
@@ -38,7 +38,7 @@ AreNoted w (x ∷ xs) = (0 < given_as w x.id x.descr) × AreNoted w xs
 
 -- the reader of the number r holds these Ids
 abbrev pub HoldsJust : WorldState → ℕ → List Id → Type 0
-HoldsJust w r held = (id : Id) → copies w r id ≡ tally (is_id id) held
+HoldsJust w r held = (id : Id) → copies w r id ≡ tally (same_id id) held
 
 -- the keeper's part tells the slots and the published list; its seat is the keeper's
 pub record OfKeeper (w : WorldState) (keeper next seat : ℕ) (k : KeeperView) : Type 0 where

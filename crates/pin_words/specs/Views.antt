@@ -34,9 +34,6 @@ look s n = record { slot = s; word = n }
 abbrev pub note : Id → Descr → Note
 note id d = record { id = id; descr = d }
 
-abbrev pub is_id : Id → Id → Bool
-is_id id x = same_id x id
-
 abbrev pub sits : ℕ → Id → Bool
 sits s x = x.slot == s
 
@@ -50,7 +47,7 @@ id_in s n = record { slot = s; generation = (decoded n).generation }
 -- the notes of Ids that are held
 abbrev pub notes_of : List Id → List Note → List Note
 notes_of held [] = []
-notes_of held (x ∷ xs) = if nat_lt 0 (tally (is_id x.id) held) then (x ∷ notes_of held xs) else notes_of held xs
+notes_of held (x ∷ xs) = if nat_lt 0 (tally (same_id x.id) held) then (x ∷ notes_of held xs) else notes_of held xs
 
 abbrev pub reader_with : ReaderView → List Id → List Note → List Look → ReaderView
 reader_with r held notes looks = record { shape = r.shape; number = r.number; held = held; notes = notes; looks = looks }
@@ -64,7 +61,7 @@ reader_got r id n = reader_with r (r.held ++ id ∷ []) r.notes (look id.slot n 
 
 -- a copy less, and with the last the notes
 abbrev pub reader_released : ReaderView → Id → ReaderView
-reader_released r id = reader_with r (drop_first (is_id id) r.held) (notes_of (drop_first (is_id id) r.held) r.notes) r.looks
+reader_released r id = reader_with r (drop_first (same_id id) r.held) (notes_of (drop_first (same_id id) r.held) r.notes) r.looks
 
 abbrev pub reader_noted : ReaderView → Id → Descr → ReaderView
 reader_noted r id d = reader_with r r.held (note id d ∷ r.notes) r.looks

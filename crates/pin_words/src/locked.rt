@@ -1,8 +1,8 @@
 ghost use Rattle.std.specs.Prelude.{◌≡◌, ◌≤◌, ◌<◌, ℕ, length, count_by};
 ghost use Rattle.pin_core.specs.declared.id.Id.{Id};
 ghost use Rattle.pin_core.specs.Shapes.{IsWithinLimits};
-ghost use Rattle.pin_core.specs.Holds.{tally};
-ghost use Rattle.pin_words.specs.Views.{is_id, sits};
+ghost use Rattle.pin_core.specs.Holds.{tally, same_id};
+ghost use Rattle.pin_words.specs.Views.{sits};
 
 use crate::fault::{PinFault, Verdict, judge};
 use crate::keeper::reclaimed;
@@ -23,7 +23,7 @@ pub struct LockedPins {
     ghost within: { IsWithinLimits shape },
     ghost long: { length slots.items ≡ shape.slots },
     ghost room: { (s : ℕ) → tally (sits s) held.items ≤ shape.max_pins },
-    ghost inside: { (x : Id) → 0 < tally (is_id x) held.items → x.slot < shape.slots },
+    ghost inside: { (x : Id) → 0 < tally (same_id x) held.items → x.slot < shape.slots },
 }
 
 impl Model for LockedPins {
@@ -46,9 +46,9 @@ impl LockedPins {
     ghost use Rattle.pin_core.specs.declared.word.Phase.TheVariants.{Free, Live, Closing};
     ghost use Rattle.pin_core.specs.Shapes.{IsWithinLimits};
     ghost use Rattle.pin_core.specs.Descrs.{IsGiven};
-    ghost use Rattle.pin_core.specs.Holds.{tally};
+    ghost use Rattle.pin_core.specs.Holds.{tally, same_id};
     ghost use Rattle.pin_core.specs.Worlds.{opening_slot, slot_of};
-    ghost use Rattle.pin_words.specs.Views.{is_id, sits};
+    ghost use Rattle.pin_words.specs.Views.{sits};
     ghost use Rattle.pin_words.specs.Keepers.{locked, with_slots, with_held, word_of, stored, published, closed, released, Tries, ReclaimsLocked};
 
     /// New pins: each slot is free at generation 1 with the descriptor of an event that is reset by itself, and
@@ -104,7 +104,7 @@ impl LockedPins {
     /// [`PinFault::Busy`].
     pub fn try_pin(&mut self, id: Id) -> Result<(), PinFault>
         ensures tries { Tries self.old id result self.new }
-        ensures held { OnOk result (0 < tally (is_id id) self.new.held) }
+        ensures held { OnOk result (0 < tally (same_id id) self.new.held) }
     {
         if id.slot >= self.shape.slots {
             return Err(PinFault::NoSuchSlot);
@@ -125,7 +125,7 @@ impl LockedPins {
 
     /// Lets one copy of a held Id go.
     pub fn release(&mut self, id: Id)
-        requires { 0 < tally (is_id id) self.old.held }
+        requires { 0 < tally (same_id id) self.old.held }
         ensures { self.new ≡ released self.old id }
     {
         forget(&mut self.held, id);
@@ -133,7 +133,7 @@ impl LockedPins {
 
     /// The descriptor of the slot of a held Id.
     pub fn descr(&self, id: Id) -> Descr
-        requires { 0 < tally (is_id id) self.now.held }
+        requires { 0 < tally (same_id id) self.now.held }
         ensures { result ≡ (slot_of self.now.slots id.slot).descr }
     {
         self.slots[id.slot as usize].descr
@@ -141,7 +141,7 @@ impl LockedPins {
 
     /// Whether the holder has a copy of the Id.
     pub fn holds(&self, id: Id) -> bool
-        ensures { IsTrue result ↔ (0 < tally (is_id id) self.now.held) }
+        ensures { IsTrue result ↔ (0 < tally (same_id id) self.now.held) }
     {
         copies_of(self.held.as_slice(), id) > 0
     }

@@ -1,8 +1,8 @@
 ghost use Rattle.std.specs.Prelude.{◌≡◌, ◌+◌, ◌<◌, ◌≤◌, length, position, count_by};
 ghost use Rattle.std.specs.List.{remove};
 ghost use Rattle.pin_core.specs.declared.id.Id.{Id};
-ghost use Rattle.pin_core.specs.Holds.{tally, drop_first};
-ghost use Rattle.pin_words.specs.Views.{IsReaders, reader_of, is_id};
+ghost use Rattle.pin_core.specs.Holds.{tally, drop_first, same_id};
+ghost use Rattle.pin_words.specs.Views.{IsReaders, reader_of};
 
 use crate::fault::{PinFault, Verdict, judge};
 use crate::plays::{Looks, Noting, PinRule, Pinning, Releasing};
@@ -14,22 +14,22 @@ use std::marker::Model;
 use std::sync::Wait;
 
 fn place_of(held: &[Id], id: Id) -> Option<usize>
-    ensures { result ≡ position (is_id id) held.now }
+    ensures { result ≡ position (same_id id) held.now }
 {
     held.iter()
-        .position(|h| h.slot == id.slot && h.generation == id.generation)
+        .position(|h| id.slot == h.slot && id.generation == h.generation)
 }
 
 pub(crate) fn copies_of(held: &[Id], id: Id) -> usize
-    ensures { result ≡ count_by (is_id id) held.now }
+    ensures { result ≡ count_by (same_id id) held.now }
 {
     held.iter()
-        .filter(|h| h.slot == id.slot && h.generation == id.generation)
+        .filter(|h| id.slot == h.slot && id.generation == h.generation)
         .count()
 }
 
 pub(crate) fn forget(held: &mut ArrayVec<Id, 16>, id: Id)
-    ensures { held.new.items ≡ drop_first (is_id id) held.old.items }
+    ensures { held.new.items ≡ drop_first (same_id id) held.old.items }
 {
     if let Some(place) = place_of(held.as_slice(), id) {
         if place + 1 == held.len() {
@@ -63,7 +63,7 @@ pub struct Reader<'a> {
     ghost reads: { IsReaders seat.me },
     ghost shaped: { (reader_of seat.me.0).shape ≡ shape },
     ghost holds: { (reader_of seat.me.0).held ≡ held.items },
-    ghost inside: { (x : Id) → 0 < tally (is_id x) held.items → x.slot < shape.slots },
+    ghost inside: { (x : Id) → 0 < tally (same_id x) held.items → x.slot < shape.slots },
 }
 
 impl<'a> Model for Reader<'a> {
@@ -80,12 +80,12 @@ impl<'a> Reader<'a> {
     ghost use Rattle.pin_core.specs.declared.word.Word.{Word};
     ghost use Rattle.pin_core.specs.declared.shape.Shape.{Shape};
     ghost use Rattle.pin_core.specs.Words.{decoded};
-    ghost use Rattle.pin_core.specs.Holds.{tally};
+    ghost use Rattle.pin_core.specs.Holds.{tally, same_id};
     ghost use Rattle.pin_words.specs.declared.view.ReaderView.{ReaderView};
     ghost use Rattle.pin_words.specs.declared.fault.Verdict.TheVariants as verdict;
     ghost use Rattle.pin_words.specs.declared.fault.PinFault.TheVariants as fault;
     ghost use Rattle.pin_words.specs.Verdicts.{verdict_of};
-    ghost use Rattle.pin_words.specs.Views.{M, is_id, view, reader_looked, reader_got, reader_released, reader_noted};
+    ghost use Rattle.pin_words.specs.Views.{M, view, reader_looked, reader_got, reader_released, reader_noted};
     ghost use Rattle.pin_words.specs.Plays.{Tells};
     ghost use Rattle.pin_words.specs.Tries.{Tries};
 
@@ -148,7 +148,7 @@ impl<'a> Reader<'a> {
     #[inline]
     pub fn try_pin(&mut self, id: Id) -> Result<(), PinFault>
         ensures tries { Tries self.old.view id result self.new.view }
-        ensures held { OnOk result (0 < tally (is_id id) self.new.view.held) }
+        ensures held { OnOk result (0 < tally (same_id id) self.new.view.held) }
         ensures table { self.new.table ≡ self.old.table }
     {
         if id.slot >= self.shape.slots {
@@ -178,7 +178,7 @@ impl<'a> Reader<'a> {
     /// Pins as [`try_pin`](Reader::try_pin) does, again and again while it answers [`PinFault::Busy`].
     pub fn pin<R: Wait>(&mut self, rt: &R, id: Id) -> Result<(), PinFault>
         ensures last { (r : ReaderView) × Tries r id result self.new.view }
-        ensures held { OnOk result (0 < tally (is_id id) self.new.view.held) }
+        ensures held { OnOk result (0 < tally (same_id id) self.new.view.held) }
         ensures settled { (w : Word) → result ≢ Err (fault.Busy w) }
         ensures table { self.new.table ≡ self.old.table }
     {
@@ -194,7 +194,7 @@ impl<'a> Reader<'a> {
     /// Lets one copy of a held Id go, and with the last the note of its descriptor.
     #[inline]
     pub fn release(&mut self, id: Id)
-        requires { 0 < tally (is_id id) self.old.view.held }
+        requires { 0 < tally (same_id id) self.old.view.held }
         ensures view { self.new.view ≡ reader_released self.old.view id }
         ensures table { self.new.table ≡ self.old.table }
     {
@@ -205,7 +205,7 @@ impl<'a> Reader<'a> {
 
     /// The descriptor that was published with a held Id.
     pub fn descr(&mut self, id: Id) -> Descr
-        requires { 0 < tally (is_id id) self.old.view.held }
+        requires { 0 < tally (same_id id) self.old.view.held }
         ensures view { self.new.view ≡ reader_noted self.old.view id result }
         ensures table { self.new.table ≡ self.old.table }
     {
@@ -219,7 +219,7 @@ impl<'a> Reader<'a> {
 
     /// Whether it holds a copy of the Id.
     pub fn holds(&self, id: Id) -> bool
-        ensures { IsTrue result ↔ (0 < tally (is_id id) self.now.view.held) }
+        ensures { IsTrue result ↔ (0 < tally (same_id id) self.now.view.held) }
     {
         copies_of(self.held(), id) > 0
     }

@@ -1,7 +1,7 @@
 use Rattle.std.proofs.Common.{◌≡◌, ◌≢◌, ap, sym, subst, List, ◌<◌, ◌≤◌, arith}
 use Rattle.pin_core.specs.declared.id.Id.{Id}
-use Rattle.pin_core.specs.Holds.{tally}
-use Rattle.pin_words.specs.Views.{is_id, sits}
+use Rattle.pin_core.specs.Holds.{tally, same_id}
+use Rattle.pin_words.specs.Views.{sits}
 use Rattle.pin_words.proofs.Calls.{inside-more}
 use Rattle.pin_words.proofs.Locking.{room-more}
 use Rattle.pin_words.proofs.locked.LockedPins.take.Goals as goal
@@ -20,7 +20,7 @@ invariant_of-self-inside c = let i = c.self.inside in
         (
           (λ s. subst (λ (z : List Id). tally (sits s) z ≤ i.shape.max_pins) (sym c.push.ensures.items) (room-more i.shape.max_pins i.held.items c.args.id i.room free s)),
           (
-            (λ x have. inside-more i.shape.slots c.args.id i.held.items inside i.inside x (subst (λ (z : List Id). 0 < tally (is_id x) z) c.push.ensures.items have)),
+            (λ x have. inside-more i.shape.slots c.args.id i.held.items inside i.inside x (subst (λ (z : List Id). 0 < tally (same_id x) z) c.push.ensures.items have)),
             tt,
           ),
         ),

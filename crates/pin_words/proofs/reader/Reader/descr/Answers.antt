@@ -1,7 +1,7 @@
 use Rattle.std.proofs.Common.{rules, ◌≡◌, ◌∙◌, sym, ap, subst, ◌<◌, arith}
-use Rattle.pin_core.specs.Holds.{tally}
+use Rattle.pin_core.specs.Holds.{tally, same_id}
 use Rattle.pin_words.specs.declared.view.ReaderView.{ReaderView}
-use Rattle.pin_words.specs.Views.{reader_of, is_id}
+use Rattle.pin_words.specs.Views.{reader_of}
 use Rattle.pin_words.proofs.Calls.{id-inside, notes-there}
 use Rattle.pin_words.proofs.reader.Reader.descr.Goals as goal
 
@@ -11,5 +11,5 @@ load-word-requires c = let view : reader_of c.self.inside.seat.me.0 ≡ c.args.s
     let lt : c.args.id.slot < c.self.inside.shape.slots = id-inside _ c.args.id _ _ held c.requires c.self.inside.inside in (
       search rules,
       (let wide = c.self.inside.wide in omega arith),
-      notes-there _ _ _ _ (reader_of c.self.inside.seat.me.0) c.args.id c.self.inside.shape c.self.inside.keyed (ap (λ m. m.0.reader) c.self.inside.reads) lt (subst (λ (z : ReaderView). 0 < tally (is_id c.args.id) z.held) (sym view) c.requires),
+      notes-there _ _ _ _ (reader_of c.self.inside.seat.me.0) c.args.id c.self.inside.shape c.self.inside.keyed (ap (λ m. m.0.reader) c.self.inside.reads) lt (subst (λ (z : ReaderView). 0 < tally (same_id c.args.id) z.held) (sym view) c.requires),
     )

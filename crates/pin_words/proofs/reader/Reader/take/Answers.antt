@@ -2,8 +2,8 @@ use Rattle.std.proofs.Common.{rules, ◌≡◌, ◌∙◌, sym, ap, subst, ◌<�
 use Rattle.pin_core.specs.declared.shape.Shape.{Shape}
 use Rattle.pin_core.specs.declared.id.Id.{Id}
 use Rattle.pin_core.specs.Words.{decoded}
-use Rattle.pin_core.specs.Holds.{tally}
-use Rattle.pin_words.specs.Views.{reader_of, is_id}
+use Rattle.pin_core.specs.Holds.{tally, same_id}
+use Rattle.pin_words.specs.Views.{reader_of}
 use Rattle.pin_words.proofs.ReaderSteps.{pins-step}
 use Rattle.pin_words.proofs.Calls.{go-means, got-one, inside-more}
 use Rattle.pin_words.proofs.reader.Reader.take.Goals as goal
@@ -34,7 +34,7 @@ invariant_of-self-inside-else-seen-found c = let shape : c.args.self.now.view.sh
               (
                 ap (λ r. r.held) one.1 ∙ (ap (λ (z : List Id). z ++ c.args.id ∷ []) c.self.inside.holds ∙ sym c.push.ensures.items),
                 (
-                  (λ x have. inside-more _ c.args.id c.self.inside.held.items (subst (λ (k : Shape). c.args.id.slot < k.slots) shape c.requires.slot) c.self.inside.inside x (subst (λ (z : List Id). 0 < tally (is_id x) z) c.push.ensures.items have)),
+                  (λ x have. inside-more _ c.args.id c.self.inside.held.items (subst (λ (k : Shape). c.args.id.slot < k.slots) shape c.requires.slot) c.self.inside.inside x (subst (λ (z : List Id). 0 < tally (same_id x) z) c.push.ensures.items have)),
                   tt,
                 ),
               ),
