@@ -238,108 +238,158 @@ impl World {
     }
 }
 
-/// Three threads wait for an auto-reset event; each time that it is set the first of them is satisfied.
-fn sets_three_times(rt: &impl Abort, alloc: Global, plain: bool) -> Result<(), Fail> {
-    let mut world = World::new(
-        alloc,
-        &[Some(Body::new_event(false, false)), None, None, None],
-    )?;
-    assert_eq!(rt; world.wait_any(rt, 1, &[id(0)])?, None);
-    assert_eq!(rt; world.wait_any(rt, 2, &[id(0)])?, None);
-    assert_eq!(rt; world.wait_any(rt, 3, &[id(0)])?, None);
-    assert_eq!(rt; world.waits.blocks_of(id(0)), 3);
-    world.set(rt, id(0), plain);
-    assert_eq!(rt; world.state_of(1), Some(WaitState::Answered(0)));
-    assert_eq!(rt; world.state_of(2), Some(WaitState::Pending));
-    world.set(rt, id(0), plain);
-    assert_eq!(rt; world.state_of(2), Some(WaitState::Answered(0)));
-    assert_eq!(rt; world.state_of(3), Some(WaitState::Pending));
-    assert_eq!(rt; world.waits.blocks_of(id(0)), 1);
-    assert_eq!(rt; world.slots.references.get(0).copied(), Some(5));
-    assert_eq!(rt; world.wait_any(rt, 4, &[id(0)]), Err(Fault::Limit));
+/// What happens, with what is answered; or what is seen then.
+#[derive(Clone, Copy)]
+enum Act<'a> {
+    /// A thread waits for any of some objects: its code, or none where it is pending.
+    Any(u32, &'a [Id], Option<u32>),
+    /// A thread waits for both of two objects.
+    Both(u32, Id, Id, Option<u32>),
+    /// A thread would wait for an object, and no number is left.
+    Full(u32, Id),
+    Set(Id),
+    Post(Id, u32),
+    Abandon(Id, u32),
+    /// The time of a thread's wait is over.
+    Expire(u32),
+    /// A thread ends.
+    End(u32),
+    /// A thread takes the code of its wait.
+    Result(u32, u32),
+    /// Where a thread's wait stands.
+    Stands(u32, Option<WaitState>),
+    /// The number of a thread's wait.
+    Number(u32, Option<u32>),
+    Blocks(Id, u64),
+    References(usize, u32),
+}
+
+impl World {
+    fn act(&mut self, rt: &impl Abort, act: Act<'_>, plain: bool) -> Result<(), Fail> {
+        match act {
+            Act::Any(thread, ids, code) => assert_eq!(rt; self.wait_any(rt, thread, ids)?, code),
+            Act::Both(thread, first, second, code) => {
+                assert_eq!(rt; self.wait_both(rt, thread, first, second)?, code);
+            }
+            Act::Full(thread, id) => {
+                assert_eq!(rt; self.wait_any(rt, thread, &[id]), Err(Fault::Limit));
+            }
+            Act::Set(id) => self.set(rt, id, plain),
+            Act::Post(id, count) => self.post(rt, id, count, plain),
+            Act::Abandon(id, thread) => self.abandon(rt, id, thread, plain),
+            Act::Expire(thread) => self.expire(rt, thread),
+            Act::End(thread) => self.drop_thread(thread),
+            Act::Result(thread, code) => assert_eq!(rt; self.take_result(rt, thread), code),
+            Act::Stands(thread, state) => assert_eq!(rt; self.state_of(thread), state),
+            Act::Number(thread, number) => assert_eq!(rt; self.waits.wait_of(thread), number),
+            Act::Blocks(id, blocks) => assert_eq!(rt; self.waits.blocks_of(id), blocks),
+            Act::References(slot, count) => {
+                assert_eq!(rt; self.slots.references.get(slot).copied(), Some(count));
+            }
+        }
+        Ok(())
+    }
+}
+
+/// Plays acts over four bodies, settling by all waits and then, from the start again, by those of the object.
+fn play(
+    rt: &impl Abort,
+    alloc: Global,
+    bodies: &[Option<Body>],
+    acts: &[Act<'_>],
+) -> Result<(), Fail> {
+    for plain in [true, false] {
+        let mut world = World::new(alloc, bodies)?;
+        for act in acts {
+            world.act(rt, *act, plain)?;
+        }
+    }
     Ok(())
 }
 
 #[test]
 fn an_auto_reset_event_satisfies_one_waiter_after_another(rt: HostRuntime) -> Result<(), Fail> {
-    sets_three_times(&rt, rt.alloc(), false)?;
-    sets_three_times(&rt, rt.alloc(), true)
-}
-
-/// A semaphore raised by 2 satisfies the first two of three waiters.
-fn posts_two(rt: &impl Abort, alloc: Global, plain: bool) -> Result<(), Fail> {
-    let mut world = World::new(alloc, &[None, Some(Body::new_semaphore(0, 5)), None, None])?;
-    assert_eq!(rt; world.wait_any(rt, 9, &[id(1)])?, None);
-    assert_eq!(rt; world.wait_any(rt, 7, &[id(1)])?, None);
-    assert_eq!(rt; world.wait_any(rt, 8, &[id(1)])?, None);
-    world.post(rt, id(1), 2, plain);
-    assert_eq!(rt; world.state_of(9), Some(WaitState::Answered(0)));
-    assert_eq!(rt; world.state_of(7), Some(WaitState::Answered(0)));
-    assert_eq!(rt; world.state_of(8), Some(WaitState::Pending));
-    Ok(())
+    let bodies = [Some(Body::new_event(false, false)), None, None, None];
+    let acts = [
+        Act::Any(1, &[id(0)], None),
+        Act::Any(2, &[id(0)], None),
+        Act::Any(3, &[id(0)], None),
+        Act::Blocks(id(0), 3),
+        Act::Set(id(0)),
+        Act::Stands(1, Some(WaitState::Answered(0))),
+        Act::Stands(2, Some(WaitState::Pending)),
+        Act::Set(id(0)),
+        Act::Stands(2, Some(WaitState::Answered(0))),
+        Act::Stands(3, Some(WaitState::Pending)),
+        Act::Blocks(id(0), 1),
+        Act::References(0, 5),
+        Act::Full(4, id(0)),
+    ];
+    play(&rt, rt.alloc(), &bodies, &acts)
 }
 
 #[test]
 fn a_semaphore_satisfies_as_many_as_it_counts(rt: HostRuntime) -> Result<(), Fail> {
-    posts_two(&rt, rt.alloc(), false)?;
-    posts_two(&rt, rt.alloc(), true)
+    let bodies = [None, Some(Body::new_semaphore(0, 5)), None, None];
+    let acts = [
+        Act::Any(9, &[id(1)], None),
+        Act::Any(7, &[id(1)], None),
+        Act::Any(8, &[id(1)], None),
+        Act::Post(id(1), 2),
+        Act::Stands(9, Some(WaitState::Answered(0))),
+        Act::Stands(7, Some(WaitState::Answered(0))),
+        Act::Stands(8, Some(WaitState::Pending)),
+    ];
+    play(&rt, rt.alloc(), &bodies, &acts)
 }
 
 #[test]
 fn a_wait_for_all_takes_nothing_until_all_are_signaled(rt: HostRuntime) -> Result<(), Fail> {
-    let mut world = World::new(
-        rt.alloc(),
-        &[
-            Some(Body::new_mutex(Some(5))),
-            Some(Body::new_event(false, true)),
-            None,
-            None,
-        ],
-    )?;
-    assert_eq!(rt; world.wait_both(&rt, 1, id(1), id(0))?, None);
-    assert_eq!(rt; world.wait_any(&rt, 2, &[id(0), id(1)])?, Some(1));
-    world.abandon(&rt, id(0), 5, false);
-    assert_eq!(rt; world.state_of(1), Some(WaitState::Pending));
-    world.set(&rt, id(1), false);
-    assert_eq!(rt; world.state_of(1), Some(WaitState::Answered(128)));
-    assert_eq!(rt; world.wait_any(&rt, 2, &[id(1), id(0)])?, None);
-    world.abandon(&rt, id(0), 1, false);
-    assert_eq!(rt; world.state_of(2), Some(WaitState::Answered(129)));
-    assert_eq!(rt; world.wait_any(&rt, 3, &[id(0)])?, None);
-    assert_eq!(rt; world.waits.wait_of(3), Some(3));
-    assert_eq!(rt; world.waits.blocks_of(id(0)), 1);
-    Ok(())
+    let mutex = Some(Body::new_mutex(Some(5)));
+    let event = Some(Body::new_event(false, true));
+    let acts = [
+        Act::Both(1, id(1), id(0), None),
+        Act::Any(2, &[id(0), id(1)], Some(1)),
+        Act::Abandon(id(0), 5),
+        Act::Stands(1, Some(WaitState::Pending)),
+        Act::Set(id(1)),
+        Act::Stands(1, Some(WaitState::Answered(128))),
+        Act::Any(2, &[id(1), id(0)], None),
+        Act::Abandon(id(0), 1),
+        Act::Stands(2, Some(WaitState::Answered(129))),
+        Act::Any(3, &[id(0)], None),
+        Act::Number(3, Some(3)),
+        Act::Blocks(id(0), 1),
+    ];
+    play(&rt, rt.alloc(), &[mutex, event, None, None], &acts)
 }
 
 #[test]
 fn a_wait_ends_by_its_time_its_thread_or_its_answer(rt: HostRuntime) -> Result<(), Fail> {
-    let mut world = World::new(
-        rt.alloc(),
-        &[Some(Body::new_event(false, false)), None, None, None],
-    )?;
-    assert_eq!(rt; world.wait_any(&rt, 1, &[id(0), id(0)])?, None);
-    assert_eq!(rt; world.wait_any(&rt, 2, &[id(0)])?, None);
-    assert_eq!(rt; world.waits.blocks_of(id(0)), 3);
-    world.expire(&rt, 1);
-    assert_eq!(rt; world.waits.blocks_of(id(0)), 1);
-    assert_eq!(rt; world.take_result(&rt, 1), WAIT_TIMEOUT);
-    assert_eq!(rt; world.waits.wait_of(1), None);
-    assert_eq!(rt;
-        world.waits.blocks_of(Id {
-            slot: 0,
-            generation: 2
-        }),
-        0
-    );
-    world.drop_thread(2);
-    world.drop_thread(2);
-    assert_eq!(rt; world.state_of(2), None);
-    assert_eq!(rt; world.waits.blocks_of(id(0)), 0);
-    assert_eq!(rt; world.wait_any(&rt, 1, &[id(0)])?, None);
-    assert_eq!(rt; world.waits.wait_of(1), Some(3));
-    world.set(&rt, id(0), false);
-    assert_eq!(rt; world.take_result(&rt, 1), 0);
-    Ok(())
+    let bodies = [Some(Body::new_event(false, false)), None, None, None];
+    let other = Id {
+        slot: 0,
+        generation: 2,
+    };
+    let acts = [
+        Act::Any(1, &[id(0), id(0)], None),
+        Act::Any(2, &[id(0)], None),
+        Act::Blocks(id(0), 3),
+        Act::Expire(1),
+        Act::Blocks(id(0), 1),
+        Act::Result(1, WAIT_TIMEOUT),
+        Act::Number(1, None),
+        Act::Blocks(other, 0),
+        Act::End(2),
+        Act::End(2),
+        Act::Stands(2, None),
+        Act::Blocks(id(0), 0),
+        Act::Any(1, &[id(0)], None),
+        Act::Number(1, Some(3)),
+        Act::Set(id(0)),
+        Act::Result(1, 0),
+    ];
+    play(&rt, rt.alloc(), &bodies, &acts)
 }
 
 #[test]
@@ -355,4 +405,31 @@ fn a_refused_add_changes_nothing(rt: HostRuntime) {
     assert_eq!(rt; waits.wait_of(5), Some(1));
     assert_eq!(rt; waits.blocks_of(id(3)), 1);
     assert_eq!(rt; waits.blocks_of(id(70)), 1);
+}
+
+/// Adds the wait of a thread that has none. Where memory fails nothing has changed, and the call is made again.
+fn added(rt: &impl Abort, waits: &mut Waits, thread: u32) {
+    assert_eq!(rt; waits.wait_of(thread), None);
+    let blocks = waits.blocks_of(id(3));
+    let added = waits.add(thread, Mode::Any, &[id(3)]);
+    if added.is_err() {
+        assert_eq!(rt; added, Err(Fault::Memory));
+        assert_eq!(rt; waits.wait_of(thread), None);
+        assert_eq!(rt; waits.blocks_of(id(3)), blocks);
+        assert_eq!(rt; waits.add(thread, Mode::Any, &[id(3)]), Ok(thread));
+    }
+}
+
+#[test]
+fn waits_that_last_are_found_behind_newer_ones(rt: HostRuntime) {
+    let mut waits = Waits::new(rt.alloc(), 200);
+    for thread in 1..131 {
+        added(&rt, &mut waits, thread);
+    }
+    assert_eq!(rt; waits.blocks_of(id(3)), 130);
+    for thread in 1..131 {
+        assert_eq!(rt; waits.wait_of(thread), Some(thread));
+        let found = waits.look(thread);
+        assert!(rt; matches!(found, Some((WaitState::Pending, _))));
+    }
 }
