@@ -2,7 +2,7 @@ ghost use Rattle.std.specs.Prelude.{[], ◌≡◌, ◌+◌, ◌*◌, ◌<◌, �
 ghost use Rattle.ob_manager.specs.Handles.{entry_at, handles_in, entries_in, free_place, free_handle, with_entry, without_entry};
 
 use crate::object::Entry;
-use pin_core::Id;
+use pin_core::{Id, same_id};
 use std::alloc::{AllocError, Global};
 use std::marker::Model;
 
@@ -55,7 +55,7 @@ impl Table {
         let mut count: u32 = 0;
         for place in &self.places {
             if let Some(entry) = place {
-                if entry.id.slot == id.slot && entry.id.generation == id.generation {
+                if same_id(entry.id, id) {
                     count += 1;
                 }
             }

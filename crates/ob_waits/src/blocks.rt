@@ -4,16 +4,14 @@ ghost use Rattle.ob_waits.specs.Waits.{blocks_in};
 
 use crate::live::Live;
 use crate::wait::State;
-use pin_core::Id;
+use pin_core::{Id, same_id};
 
 /// How many of some Ids are this one.
 fn places_of(ids: &[Id], id: Id) -> usize
     ensures count { result ≡ count_by (same_id id) ids.now }
     ensures bound { result ≤ length ids.now }
 {
-    ids.iter()
-        .filter(|other| id.slot == other.slot && id.generation == other.generation)
-        .count()
+    ids.iter().filter(|other| same_id(id, **other)).count()
 }
 
 /// How many places of the wait of a number name the object: none unless it is pending.

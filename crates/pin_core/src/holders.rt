@@ -1,7 +1,7 @@
 ghost use Rattle.std.specs.Prelude.{◌≡◌, count_by, position};
 ghost use Rattle.pin_core.specs.Holds.{drop_first, is_copy, is_hold};
 
-use crate::id::Id;
+use crate::id::{Id, same_id};
 use std::alloc::{AllocError, Global};
 use std::marker::Model;
 
@@ -86,16 +86,14 @@ fn copies_in(holds: &[Hold], reader: u32, id: Id) -> usize
 {
     holds
         .iter()
-        .filter(|h| h.reader == reader
-            && (h.id.slot == id.slot && h.id.generation == id.generation))
+        .filter(|h| h.reader == reader && same_id(h.id, id))
         .count()
 }
 
 fn place_of(holds: &[Hold], hold: Hold) -> Option<usize>
     ensures { result ≡ position (is_hold hold) holds.now }
 {
-    holds.iter().position(|h| (h.reader == hold.reader
-        && (h.id.slot == hold.id.slot && h.id.generation == hold.id.generation))
+    holds.iter().position(|h| (h.reader == hold.reader && same_id(h.id, hold.id))
         && h.copy == hold.copy)
 }
 

@@ -21,7 +21,7 @@ mod world;
 pub use descr::Descr;
 pub use event::{Event, Reason, ReplayFault};
 pub use holders::Hold;
-pub use id::Id;
+pub use id::{Id, same_id};
 pub use law::{law_of_codes, law_of_schedules};
 pub use schedule::{replay, step};
 pub use shape::Shape;
