@@ -1,6 +1,6 @@
 pub mod Steps
-pub mod RowMemory
-pub mod RowSharing
-pub mod RowThreads
+pub mod StorageMemory
+pub mod StorageSharing
+pub mod StorageThreads
 pub mod Phasing
 pub mod SlotLemmas

@@ -10,7 +10,7 @@ module _ {B : Type 0} where
   slots_shown slots phases = record { bodies = slots; retired = map is_retired phases }
 
   abbrev pub slots_of : Inside B → Slots B
-  slots_of a = slots_shown a.row.slots a.phases.items
+  slots_of a = slots_shown a.storage.slots a.phases.items
 
   -- the occupied slots have bodies, and the numbers that are taken are those of the slots that aren't vacant
   pub record IsTied (slots : List (Option B)) (phases : List Phase) (taken : List Bool) : Type 0 where
@@ -18,10 +18,10 @@ module _ {B : Type 0} where
     pub occupied : map is_occupied phases ≡ map is_some slots
     pub in_use : taken ≡ map is_in_use phases
 
-  -- the arena's pointer is that of its row, and its title is to the row's memory
+  -- the arena's pointer is that of its storage, and its title is to the storage's memory
   pub record IsArena (a : Inside B) : Type 0 where
-    pub front : a.front.first ≡ a.row.front
+    pub front : a.front.first ≡ a.storage.front
     pub title_front : a.title.front ≡ a.front.first
-    pub title_len : a.title.len ≡ length a.row.slots
+    pub title_len : a.title.len ≡ length a.storage.slots
     pub title_alloc : a.title.alloc ≡ a.alloc
-    pub tied : IsTied a.row.slots a.phases.items a.free
+    pub tied : IsTied a.storage.slots a.phases.items a.free

@@ -1,6 +1,6 @@
 pub mod Phases
 pub mod Slots
 pub mod Memory
-pub mod RowLends
+pub mod StorageLends
 pub mod Arena
 pub mod ArenaLends

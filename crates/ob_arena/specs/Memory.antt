@@ -1,4 +1,4 @@
--- The memory that a row of slots owns and lends, at bodies of the type B.
+-- The memory that a storage of slots owns and lends, at bodies of the type B.
 use Rattle.std.specs.Prelude.{ℕ, ◌+◌, ◌*◌, ◌^◌, List, [], ◌∷◌, length, Option, Some, None}
 use Rattle.std.specs.Mem.{type_size}
 use base.Fraction.{full_share}
@@ -34,13 +34,13 @@ module _ (B : RattleType) where
   abbrev pub fit : List (Option B.Denot) → Fml
   fit ss = flt (length ss * type_size B) (2 ^ 63)
 
-  abbrev pub row_owns : Ptr → List (Option B.Denot) → Fml
-  row_owns (block_ptr block o) ss = fsep (fit ss) (slots block o ss)
-  row_owns null_ptr ss = ffalse
+  abbrev pub storage_owns : Ptr → List (Option B.Denot) → Fml
+  storage_owns (block_ptr block o) ss = fsep (fit ss) (slots block o ss)
+  storage_owns null_ptr ss = ffalse
 
-  abbrev pub row_lends : Ptr → List (Option B.Denot) → Lft → Fml
-  row_lends (block_ptr block o) ss = beside (said (fit ss)) (slots_lent block o ss)
-  row_lends null_ptr ss = said ffalse
+  abbrev pub storage_lends : Ptr → List (Option B.Denot) → Lft → Fml
+  storage_lends (block_ptr block o) ss = beside (said (fit ss)) (slots_lent block o ss)
+  storage_lends null_ptr ss = said ffalse
 
   -- the allocator's token for the memory of n slots
   abbrev pub title_owns : (Ty → Ptr → Fml) → Ptr → ℕ → Fml

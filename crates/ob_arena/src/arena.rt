@@ -3,16 +3,19 @@ ghost use Rattle.std.specs.Borrow.{sem};
 ghost use Rattle.ob_arena.specs.Slots.{body_at, is_vacant_at, least_vacant, vacant_slots, with_body, with_retired, without_body};
 
 use crate::phase::Phase;
-use crate::row::{Front, Row, Title, allocate, deallocate, fits};
+use crate::storage::{Front, Storage, Title, allocate, deallocate, fits};
 use least_free::LeastFree;
 use std::alloc::{AllocError, Global};
 use std::marker::Model;
+
+/// The greatest number of slots (*profile*).
+pub const SLOTS_MAX: u32 = 65_536;
 
 /// Slots for bodies, numbered from 0: each is vacant, has a body, or is retired and never given again.
 // A number of `free` is taken where the phase of the slot isn't vacant, so the least free number is the least vacant slot.
 pub struct Arena<B> {
     front: Front<B>,
-    row: Row<B>,
+    storage: Storage<B>,
     title: Title<B, Global>,
     phases: Vec<Phase>,
     free: LeastFree,
@@ -38,7 +41,7 @@ impl<B> Arena<B> {
 
     /// An arena of `slots` slots, at most 65,536, which are all vacant.
     pub fn new(alloc: Global, slots: u32) -> Result<Arena<B>, AllocError>
-        requires { slots ≤ 65536 }
+        requires { slots ≤ SLOTS_MAX }
         ensures { IfOk result (λ arena. arena ≡ vacant_slots slots) }
     {
         let len = slots as usize;
@@ -47,10 +50,10 @@ impl<B> Arena<B> {
         }
         let phases = Vec::from_elem(alloc, Phase::Vacant, len)?;
         let free = LeastFree::with_free(alloc, len)?;
-        let (front, row, title) = allocate(&alloc, len)?;
+        let (front, storage, title) = allocate(&alloc, len)?;
         Ok(Arena {
             front,
-            row,
+            storage,
             title,
             phases,
             free,
@@ -64,9 +67,26 @@ impl<B> Arena<B> {
         ensures { self.new ≡ with_body self.old slot body }
     {
         let at = slot as usize;
-        self.row.fill(self.front, at, body);
+        self.storage.fill(self.front, at, body);
         self.phases[at] = Phase::Occupied;
         self.free.take(at);
+    }
+
+    /// How many slots there are.
+    pub fn len(&self) -> u32
+        ensures value { result ≡ length self.now.bodies }
+        ensures bound { result ≤ SLOTS_MAX }
+    {
+        self.phases.len() as u32
+    }
+
+    /// Whether a slot has a body, as [`get`](Arena::get), [`get_mut`](Arena::get_mut) and [`take`](Arena::take) want it. A number
+    /// past the slots names none.
+    pub fn is_occupied(&self, slot: u32) -> bool
+        ensures { result ≡ is_some (body_at self.now slot) }
+    {
+        let at = slot as usize;
+        at < self.phases.len() && self.phases[at].is_occupied()
     }
 
     /// The body of a slot that has one.
@@ -74,7 +94,7 @@ impl<B> Arena<B> {
         requires { IsSome (body_at self.now slot) }
         ensures { body_at self.now slot ≡ Some result.now }
     {
-        self.row.show(self.front, slot as usize)
+        self.storage.show(self.front, slot as usize)
     }
 
     /// The body of a slot that has one, to change.
@@ -83,7 +103,7 @@ impl<B> Arena<B> {
         ensures* writes_back { sem 𝓛 (lends_body B.row self.entry slot result) }
         ensures value { body_at self.old slot ≡ Some result.now }
     {
-        self.row.lend(self.front, slot as usize)
+        self.storage.lend(self.front, slot as usize)
     }
 
     /// Takes the body out of a slot that has one. The slot is vacant then.
@@ -94,13 +114,14 @@ impl<B> Arena<B> {
         ensures vacant { is_vacant_at self.new slot ≡ true }
     {
         let at = slot as usize;
-        let body = self.row.empty(self.front, at);
+        let body = self.storage.empty(self.front, at);
         self.phases[at] = Phase::Vacant;
         self.free.give_back(at);
         body
     }
 
-    /// Whether a slot is vacant. A number past the slots names none.
+    /// Whether a slot is vacant. A number past the slots names none, and a retired slot isn't vacant, so a slot that isn't
+    /// vacant need not have a body: [`is_occupied`](Arena::is_occupied) tells that.
     pub fn is_vacant(&self, slot: u32) -> bool
         ensures { result ≡ is_vacant_at self.now slot }
     {
@@ -129,22 +150,6 @@ impl<B> Arena<B> {
         None
     }
 
-    /// How many slots there are.
-    fn len(&self) -> u32
-        ensures value { result ≡ length self.now.bodies }
-        ensures bound { result ≤ 65536 }
-    {
-        self.phases.len() as u32
-    }
-
-    /// Whether a slot has a body.
-    fn is_occupied(&self, slot: u32) -> bool
-        ensures { result ≡ is_some (body_at self.now slot) }
-    {
-        let at = slot as usize;
-        at < self.phases.len() && self.phases[at].is_occupied()
-    }
-
     /// Drops each body.
     fn clear(&mut self)
     where
@@ -164,13 +169,13 @@ impl<B> Arena<B> {
     {
         let Arena {
             front,
-            row,
+            storage,
             title,
             phases,
             free: _,
             alloc,
         } = self;
-        deallocate(&alloc, front, phases.len(), row, title);
+        deallocate(&alloc, front, phases.len(), storage, title);
     }
 }
 

@@ -14,8 +14,8 @@
 
 mod arena;
 mod phase;
-mod row;
+mod storage;
 #[cfg(test)]
 mod tests;
 
-pub use arena::Arena;
+pub use arena::{Arena, SLOTS_MAX};

@@ -1,5 +1,5 @@
 -- The body of an object: when it is signaled for a thread, and what each call makes of it. A later kind adds a line to each.
-use Rattle.std.specs.Prelude.{ℕ, Bool, true, false, Result, Err}
+use Rattle.std.specs.Prelude.{ℕ, Bool, true, false, Option, None, Result, Err}
 use Rattle.ob_rights.specs.declared.fault.Fault.{Fault}
 use Rattle.ob_rights.specs.declared.fault.Fault.TheVariants as fault
 use Rattle.ob_rights.specs.declared.kind.Kind.{Kind}
@@ -82,3 +82,9 @@ abbrev pub after_clear_owner : Body → Body
 after_clear_owner (Event e) = Event e
 after_clear_owner (Mutex m) = Mutex (mutex.after_clear_owner m)
 after_clear_owner (Semaphore s) = Semaphore s
+
+-- the thread that owns it
+abbrev pub owner_of : Body → Option ℕ
+owner_of (Event e) = None
+owner_of (Mutex m) = m.owner
+owner_of (Semaphore s) = None

@@ -1,5 +1,5 @@
 -- What a mutex is.
-use Rattle.std.specs.Prelude.{◌≡◌, ℕ, ◌<◌, ◌≤◌, Bool, Option, Some, None}
+use Rattle.std.specs.Prelude.{◌≡◌, ℕ, ◌<◌, ◌≤◌, Bool, false, Option, Some, None}
 
 pub record MutexState : Type 0 where
   -- the thread that owns it
@@ -9,7 +9,7 @@ pub record MutexState : Type 0 where
   -- whether its last owner ended, and nobody acquired it since
   pub abandoned : Bool
 
--- a thread owns it from 1 to 2,147,483,647 times, and nobody no times
-abbrev pub IsPossible : Option ℕ → ℕ → Type 0
-IsPossible None recursion = recursion ≡ 0
-IsPossible (Some owner) recursion = (0 < recursion) × (recursion ≤ 2147483647)
+-- a thread owns it from 1 to 2,147,483,647 times, and then it isn't abandoned; nobody owns it no times
+abbrev pub IsPossible : Option ℕ → ℕ → Bool → Type 0
+IsPossible None recursion abandoned = recursion ≡ 0
+IsPossible (Some owner) recursion abandoned = (0 < recursion) × (recursion ≤ 2147483647) × (abandoned ≡ false)

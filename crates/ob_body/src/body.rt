@@ -1,4 +1,4 @@
-ghost use Rattle.std.specs.Prelude.{◌≡◌, ◌<◌, ◌≤◌, true};
+ghost use Rattle.std.specs.Prelude.{◌≡◌, ◌<◌, ◌≤◌, true, false, IsSome};
 ghost use Rattle.ob_body.specs.Body as spec;
 ghost use Rattle.ob_body.specs.Mutex as mutex;
 
@@ -176,6 +176,17 @@ impl Body {
         match self {
             Body::Mutex(mutex) => mutex.abandon(thread),
             _ => unreachable!(),
+        }
+    }
+
+    /// The thread that owns it, if it is a mutex that has an owner. While a thread owns a mutex, it isn't abandoned.
+    pub fn owner(&self) -> Option<u32>
+        ensures owner { result ≡ spec.owner_of self.now }
+        ensures unabandoned { IsSome result → spec.is_abandoned self.now ≡ false }
+    {
+        match self {
+            Body::Mutex(mutex) => mutex.owner(),
+            Body::Event(_) | Body::Semaphore(_) => None,
         }
     }
 

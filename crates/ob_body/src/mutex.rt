@@ -1,4 +1,4 @@
-ghost use Rattle.std.specs.Prelude.{◌≡◌, ◌<◌, true};
+ghost use Rattle.std.specs.Prelude.{◌≡◌, ◌<◌, true, false, IsSome};
 ghost use Rattle.ob_body.specs.Mutex as spec;
 
 use ob_rights::Fault;
@@ -24,7 +24,7 @@ impl Model for Mutex {
 
     ghost view = { λ m. record { owner = m.owner; recursion = m.recursion; abandoned = m.abandoned } };
 
-    ghost invariant = { λ m. IsPossible m.owner m.recursion };
+    ghost invariant = { λ m. IsPossible m.owner m.recursion m.abandoned };
 
     ghost inverse = { λ m. record { owner = m.owner; recursion = m.recursion; abandoned = m.abandoned } };
 }
@@ -72,7 +72,6 @@ impl Mutex {
             Some(owner) => {
                 if owner == thread {
                     self.recursion += 1;
-                    self.abandoned = false;
                 }
             }
             None => {
@@ -108,6 +107,14 @@ impl Mutex {
             self.recursion = 0;
             self.abandoned = true;
         }
+    }
+
+    /// The thread that owns it. While one does, it isn't abandoned.
+    pub(crate) fn owner(&self) -> Option<u32>
+        ensures owner { result ≡ self.now.owner }
+        ensures unabandoned { IsSome result → self.now.abandoned ≡ false }
+    {
+        self.owner
     }
 
     /// Without owner.

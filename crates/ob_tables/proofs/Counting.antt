@@ -136,23 +136,22 @@ pub count_by-trimmed : (p : Option Entry → Bool) → p None ≡ false → (t :
 count_by-trimmed p none [] = refl
 count_by-trimmed p none (x ∷ t) = count_by-before p none x (trimmed t) ∙ omega (arith, sum_by-cons (λ y. cond (p y) 1 0) x t, count_by-trimmed p none t)
 
-inheritable-le : (id : Id) (x : Option Entry) → cond (names id (inheritable x)) 1 0 ≤ cond (names id x) 1 0
-inheritable-le id None = omega arith
-inheritable-le id (Some e) = elim (within 1 e.flags.0) as (λ b. cond (names id (cond b (Some e) None)) 1 0 ≤ cond (same_id e.id id) 1 0) [ true ↦ omega arith | false ↦ omega arith ]
+-- what isn't inheritable counts no more
+pub inheritable_falls : (p : Option Entry → Bool) → p None ≡ false → (x : Option Entry) → cond (p (inheritable x)) 1 0 ≤ cond (p x) 1 0
+inheritable_falls p none None = omega arith
+inheritable_falls p none (Some e) =
+    let zero_one : cond (p None) 1 0 ≡ 0 = ap {B = ℕ} (λ b. cond b 1 0) none in
+    elim (within 1 e.flags.0) as (λ b. cond (p (cond b (Some e) None)) 1 0 ≤ cond (p (Some e)) 1 0) [ true ↦ omega arith | false ↦ omega (arith, zero_one) ]
 
-inheritable-entries : (x : Option Entry) → cond (is_some (inheritable x)) 1 0 ≤ cond (is_some x) 1 0
-inheritable-entries None = omega arith
-inheritable-entries (Some e) = elim (within 1 e.flags.0) as (λ b. cond (is_some (cond b (Some e) None)) 1 0 ≤ 1) [ true ↦ omega arith | false ↦ omega arith ]
-
-count_by-inheritable : (p : Option Entry → Bool) → ((x : Option Entry) → cond (p (inheritable x)) 1 0 ≤ cond (p x) 1 0) → (t : List (Option Entry)) → count_by p (map inheritable t) ≤ count_by p t
+pub count_by-inheritable : (p : Option Entry → Bool) → ((x : Option Entry) → cond (p (inheritable x)) 1 0 ≤ cond (p x) 1 0) → (t : List (Option Entry)) → count_by p (map inheritable t) ≤ count_by p t
 count_by-inheritable p each [] = omega arith
 count_by-inheritable p each (x ∷ t) = omega (arith, sum_by-cons (λ y. cond (p y) 1 0) (inheritable x) (map inheritable t), sum_by-cons (λ y. cond (p y) 1 0) x t, each x, count_by-inheritable p each t)
 
 pub handles_in-inherited : (id : Id) (t : List (Option Entry)) → handles_in id (inherited t) ≤ handles_in id t
-handles_in-inherited id t = omega (arith, count_by-trimmed (names id) refl (map inheritable t), count_by-inheritable (names id) (inheritable-le id) t)
+handles_in-inherited id t = omega (arith, count_by-trimmed (names id) refl (map inheritable t), count_by-inheritable (names id) (inheritable_falls (names id) refl) t)
 
 pub entries_in-inherited : (t : List (Option Entry)) → entries_in (inherited t) ≤ entries_in t
-entries_in-inherited t = omega (arith, count_by-trimmed is_some refl (map inheritable t), count_by-inheritable is_some inheritable-entries t)
+entries_in-inherited t = omega (arith, count_by-trimmed is_some refl (map inheritable t), count_by-inheritable is_some (inheritable_falls is_some refl) t)
 
 -- the handles in one table are among all
 pub handles_in-among : (id : Id) (ts : List (List (Option Entry))) (p : ℕ) → p < length ts → handles_in id (table_of ts p) ≤ handles_among id ts

@@ -2,3 +2,4 @@ pub mod Places
 pub mod Inheriting
 pub mod Limits
 pub mod Counting
+pub mod SlotCounts

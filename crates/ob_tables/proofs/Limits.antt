@@ -1,7 +1,7 @@
 -- When a table is full, and that no table outgrows its limit.
-use Rattle.std.proofs.Common.{◌≡◌, ℕ, zero, suc, ◌<◌, ◌≤◌, List, [], ◌∷◌, ◌++◌, length, Option, Some, None, refl, ap, ◌∙◌, arith, get_or, set, ⊎_elim, cond}
+use Rattle.std.proofs.Common.{◌≡◌, ℕ, zero, suc, ◌<◌, ◌≤◌, List, [], ◌∷◌, ◌++◌, length, Option, Some, None, refl, ap, ◌∙◌, arith, get_or, set, ⊎_elim, cond, true, leb, ◌↔◌}
 use Rattle.std.specs.Prelude.{is_some}
-use Rattle.std.proofs.lemmas.Bool.{cases_lt}
+use Rattle.std.proofs.lemmas.Bool.{cases_lt, le-leb, leb-true}
 use Rattle.std.proofs.lemmas.List.{length-append, length-set}
 use Rattle.std.proofs.lemmas.List.Sums.{sum_by-cons}
 use Rattle.ob_tables.specs.declared.entry.Entry.{Entry}
@@ -61,6 +61,16 @@ has_room ts p m short below = let e = short.each p in ⊎_elim
     (λ (lt : free_place (table_of ts p) < length (table_of ts p)). omega (arith, short_entries (table_of ts p) lt))
     (λ (ge : length (table_of ts p) ≤ free_place (table_of ts p)). omega (arith, full_entries (table_of ts p) ge, free_place-le (table_of ts p)))
     (cases_lt (free_place (table_of ts p)) (length (table_of ts p)))
+
+-- the test of the least free place tells whether a table is full
+pub full_test : (ts : List (List (Option Entry))) (p m : ℕ) → AreShort ts m → (leb m (free_place (table_of ts p)) ≡ true) ↔ (entries_in (table_of ts p) ≡ m)
+full_test ts p m short = (
+  λ tells. is_full ts p m short (leb-true m (free_place (table_of ts p)) tells),
+  λ full. ⊎_elim
+      (λ (below : free_place (table_of ts p) < m). absurd (let room = has_room ts p m short below in omega arith))
+      (λ (at : m ≤ free_place (table_of ts p)). le-leb m (free_place (table_of ts p)) at)
+      (cases_lt (free_place (table_of ts p)) m),
+)
 
 -- the same where `t` was read at `p`, and `n` is its least free place
 pub full_at : (ts : List (List (Option Entry))) (p m : ℕ) (t : List (Option Entry)) (n : ℕ) → AreShort ts m → p < length ts → t ≡ get_or ts p t → n ≡ free_place t → m ≤ n → entries_in (table_of ts p) ≡ m

@@ -21,4 +21,5 @@ mod tables;
 mod tests;
 
 pub use entry::Entry;
-pub use tables::Tables;
+pub use table::HANDLES_MAX;
+pub use tables::{PROCESSES_MAX, Tables};

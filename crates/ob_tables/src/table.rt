@@ -1,6 +1,6 @@
-ghost use Rattle.std.specs.Prelude.{[], ◌∷◌, ◌++◌, ◌≡◌, ◌⊎◌, IfErr, Some, ◌+◌, ◌<◌, ◌≤◌, IfOk, OnOk, OnErr, IsSome, length, slice_get, slice_set, true, is_some};
+ghost use Rattle.std.specs.Prelude.{[], ◌∷◌, ◌++◌, ◌≡◌, ◌⊎◌, IfErr, Some, ◌+◌, ◌<◌, ◌≤◌, IfOk, OnOk, OnErr, IsSome, length, slice_get, slice_set, true, is_some, nat_le};
 ghost use Rattle.ob_rights.specs.declared.fault.Fault.TheVariants.{Limit, Memory};
-ghost use Rattle.ob_tables.specs.Table.{at, entry_at, free_place, value_of, with_entry, without_entry, with_flags};
+ghost use Rattle.ob_tables.specs.Table.{at, entry_at, free_place, place_of, value_of, with_entry, without_entry, with_flags};
 ghost use Rattle.ob_tables.specs.Inheritance.{inheritable, inherited};
 
 use crate::entry::{Entry, inheritable};
@@ -8,6 +8,30 @@ use least_free::LeastFree;
 use ob_rights::{Fault, HandleFlags};
 use std::alloc::{AllocError, Global};
 use std::marker::Model;
+
+/// The greatest number of entries that the table of one process may have (*profile*).
+pub const HANDLES_MAX: u32 = 16_384;
+
+// The values of handles are this far apart, so that their two lowest bits are free.
+const STEP: u32 = 4;
+
+/// The value of a place: 4, 8, 12 and so on.
+#[inline]
+pub(crate) fn value_of(place: usize) -> u32
+    requires { place < HANDLES_MAX }
+    ensures { result ≡ value_of place }
+{
+    STEP * (place as u32 + 1)
+}
+
+/// The place of a value from 4 on, whose two lowest bits are ignored.
+#[inline]
+pub(crate) fn place_of(value: u32) -> usize
+    requires { 4 ≤ value }
+    ensures { result ≡ place_of value }
+{
+    (value / STEP) as usize - 1
+}
 
 /// The handle table of one process: from the outside, the list of its places.
 // A number is taken where its place has an entry, so the least free one is the least free place.
@@ -51,10 +75,10 @@ impl Table {
     pub(crate) fn entry(&self, value: u32) -> Option<Entry>
         ensures { result ≡ entry_at self.now value }
     {
-        if value < 4 {
+        if value < STEP {
             return None;
         }
-        let place = value as usize / 4 - 1;
+        let place = place_of(value);
         if place < self.places.len() {
             self.places[place]
         } else {
@@ -62,10 +86,18 @@ impl Table {
         }
     }
 
+    /// Whether there are as many entries as the limit lets.
+    #[inline]
+    pub(crate) fn is_full(&self, limit: u32) -> bool
+        ensures { result ≡ nat_le limit (free_place self.now) }
+    {
+        self.free.least() >= limit as usize
+    }
+
     /// Places an entry at the least free place, which has to be below the limit, and gives its value.
     #[inline]
     pub(crate) fn place(&mut self, entry: Entry, limit: u32) -> Result<u32, Fault>
-        requires { limit ≤ 16384 }
+        requires { limit ≤ HANDLES_MAX }
         ensures value { IfOk result (λ value. value ≡ value_of (free_place self.old)) }
         ensures ok { OnOk result (self.new ≡ with_entry self.old entry) }
         ensures room { OnOk result (free_place self.old < limit) }
@@ -79,18 +111,18 @@ impl Table {
         if place < self.places.len() {
             self.free.take(place);
             self.places[place] = Some(entry);
-            return Ok(4 * (place as u32 + 1));
+            return Ok(value_of(place));
         }
         let Ok(()) = self.push(entry) else {
             return Err(Fault::Memory);
         };
-        Ok(4 * (place as u32 + 1))
+        Ok(value_of(place))
     }
 
     /// Adds a place with an entry.
     #[inline(never)]
     fn push(&mut self, entry: Entry) -> Result<(), AllocError>
-        requires { length self.old < 16384 }
+        requires { length self.old < HANDLES_MAX }
         ensures ok { OnOk result (self.new ≡ self.old ++ Some entry ∷ []) }
         ensures err { OnErr result (self.new ≡ self.old) }
     {
@@ -107,7 +139,7 @@ impl Table {
         ensures after { self.new ≡ without_entry self.old value }
     {
         let entry = self.entry(value)?;
-        let place = value as usize / 4 - 1;
+        let place = place_of(value);
         self.free.give_back(place);
         self.places[place] = None;
         Some(entry)
@@ -118,7 +150,7 @@ impl Table {
         requires { IsSome (entry_at self.old value) }
         ensures { self.new ≡ with_flags self.old value flags }
     {
-        let place = value as usize / 4 - 1;
+        let place = place_of(value);
         if let Some(entry) = self.places[place] {
             self.places[place] = Some(Entry { flags, ..entry });
         }
@@ -126,7 +158,7 @@ impl Table {
 
     /// The table of a child of a process with these places: just the inheritable entries.
     pub(crate) fn inheriting(alloc: Global, places: &[Option<Entry>]) -> Result<Table, AllocError>
-        requires { length places.now ≤ 16384 }
+        requires { length places.now ≤ HANDLES_MAX }
         ensures { IfOk result (λ child. child ≡ inherited places.now) }
     {
         let len = inherited_len(places);

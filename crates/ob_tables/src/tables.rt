@@ -1,14 +1,17 @@
-ghost use Rattle.std.specs.Prelude.{[], ◌∷◌, ◌≡◌, ◌↔◌, ◌⊎◌, ◌+◌, ◌<◌, ◌≤◌, Err, IfErr, IfOk, OnErr, OnOk, IsSome, length};
+ghost use Rattle.std.specs.Prelude.{[], ◌∷◌, ◌≡◌, ◌↔◌, ◌⊎◌, ◌+◌, ◌<◌, ◌≤◌, Err, IfErr, IfOk, OnErr, OnOk, IsSome, IsTrue, length, nat_lt};
 ghost use Rattle.ob_rights.specs.declared.fault.Fault.TheVariants.{Limit, Memory};
 ghost use Rattle.ob_tables.specs.Table.{entry_at, free_place, value_of};
 ghost use Rattle.ob_tables.specs.Counts.{entries_in};
-ghost use Rattle.ob_tables.specs.Tables.{table_of, with_child, with_entry_of, with_flags_of, with_process, without_entries, without_entry_of};
+ghost use Rattle.ob_tables.specs.Tables.{table_of, with_child, with_entry_of, with_flags_of, with_process, without_entries, without_entry_of, IsBounded};
 
 use crate::entry::Entry;
-use crate::table::Table;
+use crate::table::{HANDLES_MAX, Table};
 use ob_rights::{Fault, HandleFlags};
 use std::alloc::Global;
 use std::marker::Model;
+
+/// The greatest process number (*profile*).
+pub const PROCESSES_MAX: u32 = 65_536;
 
 /// The handle tables of all processes, by their numbers.
 ///
@@ -38,8 +41,8 @@ impl Tables {
     /// Tables for at most `processes` process numbers, at most 65,536, and `handles` entries in each, at most 16,384.
     /// No number is given yet. Want of memory answers 8.
     pub fn new(alloc: Global, processes: u32, handles: u32) -> Result<Tables, Fault>
-        requires few_processes { processes ≤ 65536 }
-        requires few_handles { handles ≤ 16384 }
+        requires few_processes { processes ≤ PROCESSES_MAX }
+        requires few_handles { handles ≤ HANDLES_MAX }
         ensures ok { IfOk result (λ t. t ≡ record { process_limit = processes; handle_limit = handles; tables = [] ∷ [] }) }
         ensures err { IfErr result (λ fault. fault ≡ Memory) }
     {
@@ -110,11 +113,30 @@ impl Tables {
         ensures limit { (result ≡ Err Limit) ↔ (entries_in (table_of self.old.tables process) ≡ self.old.handle_limit) }
         ensures refusal { IfErr result (λ fault. (fault ≡ Limit) ⊎ (fault ≡ Memory)) }
         ensures err { OnErr result (self.new ≡ self.old) }
+        // Whatever the tables are: no more numbers and entries than their limits, and these in range.
+        ensures bounded { IsBounded self.old.process_limit self.old.handle_limit self.old.tables }
     {
         match self.tables[process as usize].place(entry, self.handles) {
             Ok(value) => return Ok(value),
             Err(fault) => return Err(fault),
         }
+    }
+
+    /// Whether a process number is given.
+    #[inline]
+    pub fn is_given(&self, process: u32) -> bool
+        ensures { result ≡ nat_lt process (length self.now.tables) }
+    {
+        (process as usize) < self.tables.len()
+    }
+
+    /// Whether a process has as many entries as it may, so that [`place`](Tables::place) answers 1450.
+    #[inline]
+    pub fn is_full(&self, process: u32) -> bool
+        requires { process < length self.now.tables }
+        ensures { IsTrue result ↔ (entries_in (table_of self.now.tables process) ≡ self.now.handle_limit) }
+    {
+        self.tables[process as usize].is_full(self.handles)
     }
 
     /// The entry of a handle.
@@ -155,7 +177,8 @@ impl Tables {
     /// The places of a process in rising order of their values, each with its entry or with none.
     pub fn entries(&self, process: u32) -> &[Option<Entry>]
         requires { process < length self.now.tables }
-        ensures { result.now ≡ table_of self.now.tables process }
+        ensures places { result.now ≡ table_of self.now.tables process }
+        ensures few { length result.now ≤ HANDLES_MAX }
     {
         self.tables[process as usize].places()
     }

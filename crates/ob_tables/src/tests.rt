@@ -24,8 +24,12 @@ fn each_call_and_each_refusal(rt: HostRuntime) -> Result<(), Fail> {
     let mut tables = Tables::new(rt.alloc(), 2, 2)?;
     let parent = tables.add_process()?;
     assert_eq!(rt; parent, 1);
+    assert!(rt; tables.is_given(1));
+    assert!(rt; !tables.is_given(2));
     assert_eq!(rt; tables.place(parent, entry(7, PLAIN)), Ok(4));
+    assert!(rt; !tables.is_full(parent));
     assert_eq!(rt; tables.place(parent, entry(8, HandleFlags::INHERIT)), Ok(8));
+    assert!(rt; tables.is_full(parent));
     assert_eq!(rt; tables.place(parent, entry(9, PLAIN)), Err(Fault::Limit));
     assert_eq!(rt; tables.look(parent, 4), Some(entry(7, PLAIN)));
     assert_eq!(rt;
@@ -67,7 +71,7 @@ fn placed(rt: &impl Abort, tables: &mut Tables, process: u32, new: Entry) -> Res
 /// Fills a table to its limit of `most` entries, of which each third is plain.
 fn filled(rt: &impl Abort, tables: &mut Tables, process: u32, most: u32) -> Result<(), Fail>
     requires known { process < length tables.old.tables }
-    requires few { most ≤ 16384 }
+    requires few { most ≤ HANDLES_MAX }
     ensures { length tables.new.tables ≡ length tables.old.tables }
 {
     for n in 0..most {
@@ -84,9 +88,9 @@ fn filled(rt: &impl Abort, tables: &mut Tables, process: u32, most: u32) -> Resu
 
 #[test]
 fn values_given_back_are_given_again(rt: HostRuntime) -> Result<(), Fail> {
-    let mut tables = Tables::new(rt.alloc(), 1, 16384)?;
+    let mut tables = Tables::new(rt.alloc(), 1, HANDLES_MAX)?;
     let process = tables.add_process()?;
-    filled(&rt, &mut tables, process, 16384)?;
+    filled(&rt, &mut tables, process, HANDLES_MAX)?;
     assert!(rt; tables.remove(process, 40000).is_some());
     assert!(rt; tables.remove(process, 65536).is_some());
     assert!(rt; tables.remove(process, 8).is_some());
@@ -99,7 +103,7 @@ fn values_given_back_are_given_again(rt: HostRuntime) -> Result<(), Fail> {
 
 /// Whether the child has just the entries that `filled` made inheritable.
 fn has_inherited(tables: &Tables, child: u32, most: u32) -> bool
-    requires { most ≤ 16384 }
+    requires { most ≤ HANDLES_MAX }
 {
     for n in 0..most {
         let wanted = if n % 3 == 2 {

@@ -15,7 +15,7 @@ invariant_of-result g c =
       title_front = made.2;
       title_len = made.3 ∙ sym (ap length made.1 ∙ length-replicate c.args.slots None);
       title_alloc = made.4;
-      tied = retied _ c.in_ok-front.row.slots _ c.in_ok-phases.phases.items _ c.in_ok-free.free made.1 phases c.in_ok-free.ensures (tied_new c.args.slots c.requires);
+      tied = retied _ c.in_ok-front.storage.slots _ c.in_ok-phases.phases.items _ c.in_ok-free.free made.1 phases c.in_ok-free.ensures (tied_new c.args.slots c.requires);
     }
 
 pub returns : goal.returns

@@ -18,7 +18,7 @@ invariant_of-self c = kept_set c.self.inside.free c.take.new.self c.self.inside.
 pub returns-then-place-len-clause-value : goal.returns-then-place-len-clause-value
 returns-then-place-len-clause-value c =
     let at : c.least-place.result ≡ free_place c.args.self.now = c.least-place.ensures.value ∙ least_place c.self.inside.free c.self.inside.places.items c.self.invariant ∙ ap free_place c.self.view_is in
-    ap value_of at
+    c.value_of.ensures ∙ ap value_of at
 
 pub returns-then-place-len-clause-ok : goal.returns-then-place-len-clause-ok
 returns-then-place-len-clause-ok c =
@@ -38,7 +38,7 @@ returns-in_default-clause-refusal c =
 pub returns-clause-value : goal.returns-clause-value
 returns-clause-value c =
     let at : c.least-place.result ≡ free_place c.args.self.now = c.least-place.ensures.value ∙ least_place c.self.inside.free c.self.inside.places.items c.self.invariant ∙ ap free_place c.self.view_is in
-    ap value_of at
+    c.value_of-2.ensures ∙ ap value_of at
 
 pub returns-clause-ok : goal.returns-clause-ok
 returns-clause-ok c =

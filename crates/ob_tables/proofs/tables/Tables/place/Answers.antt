@@ -2,7 +2,7 @@ use Rattle.std.proofs.Common.{arith, ◌≡◌, ◌≤◌, ◌<◌, refl, sym, a
 use Rattle.ob_rights.specs.declared.fault.Fault.TheVariants.{Memory}
 use Rattle.ob_tables.specs.Table.{free_place}
 use Rattle.ob_tables.specs.Counts.{entries_in}
-use Rattle.ob_tables.specs.Tables.{table_of, HandleTables}
+use Rattle.ob_tables.specs.Tables.{table_of, HandleTables, IsBounded}
 use Rattle.ob_tables.proofs.Limits.{full_at, room_at, length-with_entry, short_set, table_is}
 use Rattle.ob_tables.proofs.tables.Tables.place.Goals as goal
 
@@ -50,3 +50,9 @@ returns-in-Err-clause-limit c =
           let is_memory : c.in-Err.fault ≡ Memory = memory.0 in
           (λ same. cc, λ full. absurd (omega arith))
     ]
+
+pub returns-in-Ok-clause-bounded : goal.returns-in-Ok-clause-bounded
+returns-in-Ok-clause-bounded c = subst (λ (s : HandleTables). IsBounded s.process_limit s.handle_limit s.tables) c.self.view_is c.self.invariant
+
+pub returns-in-Err-clause-bounded : goal.returns-in-Err-clause-bounded
+returns-in-Err-clause-bounded c = subst (λ (s : HandleTables). IsBounded s.process_limit s.handle_limit s.tables) c.self.view_is c.self.invariant

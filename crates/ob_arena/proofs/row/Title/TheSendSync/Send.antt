@@ -1,8 +1,0 @@
-use denote.RattleType.{RattleType}
-use denote.Param.Send.{IsSend, Frees}
-use Rattle.std.specs.declared.alloc.Allocator.{Ghosts}
-use Rattle.ob_arena.proofs.RowThreads.{title_send}
-use Rattle.ob_arena.specs.contracts.row.Title.{the_row}
-
-pub send : (B A : RattleType) (g : Ghosts A.Denot) → IsSend A → Frees g g.dealloc_token → IsSend (the_row B A g)
-send B A g s = title_send B A g

@@ -1,8 +1,0 @@
-use denote.RattleType.{RattleType}
-use denote.Param.Send.{IsSync}
-use Rattle.std.specs.declared.alloc.Allocator.{Ghosts}
-use Rattle.ob_arena.proofs.RowThreads.{title_sync}
-use Rattle.ob_arena.specs.contracts.row.Title.{the_row}
-
-pub sync : (B A : RattleType) (g : Ghosts A.Denot) → IsSync (the_row B A g)
-sync = title_sync

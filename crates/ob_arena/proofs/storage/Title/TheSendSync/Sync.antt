@@ -1,0 +1,8 @@
+use denote.RattleType.{RattleType}
+use denote.Param.Send.{IsSync}
+use Rattle.std.specs.declared.alloc.Allocator.{Ghosts}
+use Rattle.ob_arena.proofs.StorageThreads.{title_sync}
+use Rattle.ob_arena.specs.contracts.storage.Title.{the_row}
+
+pub sync : (B A : RattleType) (g : Ghosts A.Denot) → IsSync (the_row B A g)
+sync = title_sync
