@@ -1,3 +1,3 @@
-pub mod RowLemmas
+pub mod LevelLemmas
 pub mod SpareLemmas
 pub mod TakenLemmas

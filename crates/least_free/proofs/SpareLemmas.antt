@@ -1,4 +1,4 @@
--- What the spare does to the set that the rows show.
+-- What the spare does to the set that the levels show.
 use Rattle.std.proofs.Common.{◌≡◌, ◌≢◌, ◌∙◌, sym, ap, subst, refl, ℕ, zero, suc, ◌<◌, List, [], ◌∷◌, ◌++◌, length, min, Bool, true, false, eqb, Option, Some, None, set, arith}
 use Rattle.std.specs.Prelude.{slice_get}
 use Rattle.std.specs.Option.{option_eq}
@@ -36,7 +36,7 @@ get-set_same [] n b lt = absurd (omega arith)
 get-set_same (x ∷ taken) zero b lt = refl
 get-set_same (x ∷ taken) (suc n) b lt = get-set_same taken n b (omega arith)
 
--- the least free number is the spare or that of the rows
+-- the least free number is the spare or that of the levels
 pub least-with_spare : (taken : List Bool) (spare : Option ℕ) (s : ℕ) → IsSpare taken spare → spare ≡ Some s → least_free (with_spare taken spare) ≡ min s (least_free taken)
 least-with_spare taken None s is e = cc
 least-with_spare taken (Some x) s is e =
@@ -51,9 +51,9 @@ spare_taken taken (Some x) n is e =
     ∙ ap (set taken x) (sym (get_or_from_slice_get taken x true true is)) ∙ set-get_or taken x true)
 
 -- another number than the spare
-pub free_in_rows : (taken : List Bool) (spare : Option ℕ) (n : ℕ) → option_eq eqb spare (Some n) ≡ false → slice_get (with_spare taken spare) n ≡ Some false → slice_get taken n ≡ Some false
-free_in_rows taken None n other free = free
-free_in_rows taken (Some x) n other free = sym (get-set_other taken x n false (other_of x n other)) ∙ free
+pub free_in_levels : (taken : List Bool) (spare : Option ℕ) (n : ℕ) → option_eq eqb spare (Some n) ≡ false → slice_get (with_spare taken spare) n ≡ Some false → slice_get taken n ≡ Some false
+free_in_levels taken None n other free = free
+free_in_levels taken (Some x) n other free = sym (get-set_other taken x n false (other_of x n other)) ∙ free
 
 pub still_spare : (taken : List Bool) (spare : Option ℕ) (n : ℕ) (b : Bool) → option_eq eqb spare (Some n) ≡ false → IsSpare taken spare → IsSpare (set taken n b) spare
 still_spare taken None n b other is = is

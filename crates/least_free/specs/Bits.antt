@@ -1,4 +1,4 @@
--- A row of words as a row of bits.
+-- A list of words as a list of bits.
 use Rattle.std.specs.Prelude.{ℕ, ◌/◌, ◌%◌, List, slice_index}
 use Rattle.std.specs.Int.{bit_at}
 

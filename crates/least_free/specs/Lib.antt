@@ -1,4 +1,4 @@
 pub mod Bits
-pub mod Rows
+pub mod Levels
 pub mod Spare
 pub mod Taken

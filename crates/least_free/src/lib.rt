@@ -15,20 +15,23 @@
 ghost use Rattle.std.specs.Prelude.{◌≡◌, ◌<◌, ◌≤◌, length, List, [], ◌∷◌, ◌++◌, true, false, replicate, slice_set, Some, slice_get, IfOk, OnOk, OnErr};
 ghost use Rattle.least_free.specs.Taken.{least_free};
 
-mod rows;
+mod levels;
 mod words;
 
-use rows::Rows;
+use levels::Levels;
 use std::alloc::{AllocError, Global};
 use std::marker::Model;
 
+/// The greatest length of a set.
+pub const NUMBERS_MAX: usize = 65_536;
+
 /// A set of numbers, of which each is taken or free. From the outside it is the list that says of each number below
 /// its length whether it is taken; the numbers from there on are free.
-// The spare is a free number that the rows still have as taken, so that a number that is given back and taken again
-// changes no row.
+// The spare is a free number that the levels still have as taken, so that a number that is given back and taken again
+// changes no level.
 #[derive(Drop)]
 pub struct LeastFree {
-    rows: Rows,
+    levels: Levels,
     spare: Option<usize>,
 }
 
@@ -38,9 +41,9 @@ impl Model for LeastFree {
 
     ghost Value = { List Bool };
 
-    ghost view = { λ s. with_spare s.rows s.spare };
+    ghost view = { λ s. with_spare s.levels s.spare };
 
-    ghost invariant = { λ s. IsSpare s.rows s.spare };
+    ghost invariant = { λ s. IsSpare s.levels s.spare };
 }
 
 impl LeastFree {
@@ -49,27 +52,27 @@ impl LeastFree {
         ensures { result ≡ [] }
     {
         LeastFree {
-            rows: Rows::new(alloc),
+            levels: Levels::new(alloc),
             spare: None,
         }
     }
 
     /// A set of length `n` in which every number is taken.
     pub fn with_taken(alloc: Global, n: usize) -> Result<LeastFree, AllocError>
-        requires { n ≤ 65536 }
+        requires { n ≤ NUMBERS_MAX }
         ensures { IfOk result (λ s. s ≡ replicate n true) }
     {
-        let rows = Rows::with_taken(alloc, n)?;
-        Ok(LeastFree { rows, spare: None })
+        let levels = Levels::with_taken(alloc, n)?;
+        Ok(LeastFree { levels, spare: None })
     }
 
     /// A set of length `n` in which every number is free. Taking these takes no memory.
     pub fn with_free(alloc: Global, n: usize) -> Result<LeastFree, AllocError>
-        requires { n ≤ 65536 }
+        requires { n ≤ NUMBERS_MAX }
         ensures { IfOk result (λ s. s ≡ replicate n false) }
     {
-        let rows = Rows::with_free(alloc, n)?;
-        Ok(LeastFree { rows, spare: None })
+        let levels = Levels::with_free(alloc, n)?;
+        Ok(LeastFree { levels, spare: None })
     }
 
     /// The least free number: one that was given back, or the length.
@@ -78,7 +81,7 @@ impl LeastFree {
         ensures value { result ≡ least_free self.now }
         ensures bound { result ≤ length self.now }
     {
-        let least = self.rows.least();
+        let least = self.levels.least();
         match self.spare {
             Some(spare) if spare < least => spare,
             _ => least,
@@ -95,7 +98,7 @@ impl LeastFree {
             self.spare = None;
             return;
         }
-        self.rows.take(n);
+        self.levels.take(n);
     }
 
     /// Makes a number free that is taken.
@@ -110,20 +113,20 @@ impl LeastFree {
         };
         if n < spare {
             self.spare = Some(n);
-            self.rows.give_back(spare);
+            self.levels.give_back(spare);
             return;
         }
-        self.rows.give_back(n);
+        self.levels.give_back(n);
     }
 
     /// Takes the number at the length, which is one more then. This is the one call that takes memory of a set that
     /// stands, and a set that lacks it stays as it was.
     pub fn grow(&mut self) -> Result<(), AllocError>
-        requires { length self.old < 65536 }
+        requires { length self.old < NUMBERS_MAX }
         ensures ok { OnOk result (self.new ≡ self.old ++ true ∷ []) }
         ensures err { OnErr result (self.new ≡ self.old) }
     {
-        self.rows.grow()
+        self.levels.grow()
     }
 }
 
@@ -189,12 +192,12 @@ mod tests {
 
     #[test]
     fn fills_and_drains_all(rt: HostRuntime) -> Result<(), Fail> {
-        fills_and_drains(&rt, rt.alloc(), 65536)
+        fills_and_drains(&rt, rt.alloc(), NUMBERS_MAX)
     }
 
     #[tactic(auto, using(crate::proofs::TakenLemmas::slice_get_least_free, crate::proofs::TakenLemmas::none_taken, crate::proofs::TakenLemmas::one_more_taken, crate::proofs::TakenLemmas::one_fewer_taken))]
     fn fills_and_drains(rt: &impl Abort, alloc: Global, most: usize) -> Result<(), Fail>
-        requires { most ≤ 65536 }
+        requires { most ≤ NUMBERS_MAX }
     {
         let mut free = LeastFree::with_free(alloc, most)?;
         for n in 0..most {
@@ -211,11 +214,11 @@ mod tests {
 
     #[test]
     fn grows_to_the_end_though_memory_fails(rt: HostRuntime) -> Result<(), Fail> {
-        grows_to(&rt, rt.alloc(), 65536)
+        grows_to(&rt, rt.alloc(), NUMBERS_MAX)
     }
 
     fn grows_to(rt: &impl Abort, alloc: Global, most: usize) -> Result<(), Fail>
-        requires { most ≤ 65536 }
+        requires { most ≤ NUMBERS_MAX }
     {
         let mut free = LeastFree::new(alloc);
         for n in 0..most {

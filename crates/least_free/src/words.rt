@@ -1,4 +1,4 @@
-// Bits of one word, and of a row of words.
+// Bits of one word, and of a level.
 ghost use Rattle.std.specs.Prelude.{◌≡◌, ◌≢◌, ℕ, ◌+◌, ◌*◌, ◌/◌, ◌%◌, ◌<◌, ◌≤◌, length, slice_index, true, false, [], ◌∷◌, ◌++◌, OnOk, OnErr};
 ghost use Rattle.std.specs.Int.{bit_at};
 ghost use Rattle.least_free.specs.Bits.{bit};
@@ -30,7 +30,7 @@ pub(crate) fn without_bit(word: u64, k: usize) -> u64
     word & !(1 << k)
 }
 
-/// The lowest bit of word `w`, by its place in the row.
+/// The lowest bit of word `w`, by its place in the level.
 pub(crate) fn lowest_in(words: &Vec<u64>, w: usize) -> usize
     requires w_in_range { w < length words.now.items }
     requires fits { length words.now.items ≤ 1024 }
@@ -42,7 +42,7 @@ pub(crate) fn lowest_in(words: &Vec<u64>, w: usize) -> usize
     64 * w + lowest(words[w])
 }
 
-/// Sets bit `n` of the row, and tells whether its word had no bit before.
+/// Sets bit `n` of the level, and tells whether its word had no bit before.
 pub(crate) fn set(words: &mut Vec<u64>, n: usize) -> bool
     requires { n / 64 < length words.old.items }
     ensures here { bit words.new.items n ≡ 1 }
@@ -57,7 +57,7 @@ pub(crate) fn set(words: &mut Vec<u64>, n: usize) -> bool
     word == 0
 }
 
-/// Clears bit `n` of the row, and tells whether its word has no bit then.
+/// Clears bit `n` of the level, and tells whether its word has no bit then.
 pub(crate) fn clear(words: &mut Vec<u64>, n: usize) -> bool
     requires { n / 64 < length words.old.items }
     ensures here { bit words.new.items n ≡ 0 }
@@ -72,8 +72,8 @@ pub(crate) fn clear(words: &mut Vec<u64>, n: usize) -> bool
     word == 0
 }
 
-#[tactic(auto, using(crate::proofs::RowLemmas::pushed_none))]
-/// Adds an empty word to a row, and where the row above has no bit for it, a word there too.
+#[tactic(auto, using(crate::proofs::LevelLemmas::pushed_none))]
+/// Adds an empty word to a level, and where the level above has no bit for it, a word there too.
 pub(crate) fn add_word(upper: &mut Vec<u64>, lower: &mut Vec<u64>) -> Result<(), AllocError>
     requires upper_fits { length upper.old.items ≤ 16 }
     requires lower_fits { length lower.old.items < 1024 }

@@ -1,0 +1,123 @@
+ghost use Rattle.std.specs.Prelude.{◌≡◌, ◌<◌, ◌≤◌, length, [], ◌∷◌, ◌++◌, true, false, replicate, slice_set, Some, slice_get, IfOk, OnOk, OnErr};
+ghost use Rattle.least_free.specs.Taken.{least_free};
+
+use crate::NUMBERS_MAX;
+use crate::words::{add_word, clear, lowest, lowest_in, set, with_bit, without_bit};
+use std::alloc::{AllocError, Global};
+use std::marker::Model;
+
+/// The levels of words that a set of numbers is written into.
+// Bit n of the leaves is set where n is free and below the length. A bit of the middle level is set where a word of the
+// leaves has a bit, and a bit of the top word where a word of the middle level has one.
+#[derive(Drop)]
+pub(crate) struct Levels {
+    top: u64,
+    middle: Vec<u64>,
+    leaves: Vec<u64>,
+    len: usize,
+}
+
+impl Model for Levels {
+    ghost use Rattle.std.specs.Prelude.{List, Bool};
+    ghost use Rattle.least_free.specs.Levels.{taken_in, IsSummedUp};
+
+    ghost Value = { List Bool };
+
+    ghost view = { λ s. taken_in s.leaves.items s.len };
+
+    ghost invariant = { λ s. IsSummedUp s.top s.middle.items s.leaves.items s.len };
+}
+
+impl Levels {
+    pub(crate) fn new(alloc: Global) -> Levels
+        ensures { result ≡ [] }
+    {
+        Levels {
+            top: 0,
+            middle: Vec::new(alloc),
+            leaves: Vec::new(alloc),
+            len: 0,
+        }
+    }
+
+    pub(crate) fn with_taken(alloc: Global, n: usize) -> Result<Levels, AllocError>
+        requires { n ≤ NUMBERS_MAX }
+        ensures { IfOk result (λ s. s ≡ replicate n true) }
+    {
+        let leaves = Vec::from_elem(alloc, 0u64, n.div_ceil(64))?;
+        let middle = Vec::from_elem(alloc, 0u64, n.div_ceil(64 * 64))?;
+        Ok(Levels {
+            top: 0,
+            middle,
+            leaves,
+            len: n,
+        })
+    }
+
+    pub(crate) fn with_free(alloc: Global, n: usize) -> Result<Levels, AllocError>
+        requires { n ≤ NUMBERS_MAX }
+        ensures { IfOk result (λ s. s ≡ replicate n false) }
+    {
+        let mut levels = Levels::new(alloc);
+        for k in 0..n {
+            levels.grow()?;
+            levels.give_back(k);
+        }
+        Ok(levels)
+    }
+
+    pub(crate) fn least(&self) -> usize
+        ensures value { result ≡ least_free self.now }
+        ensures bound { result ≤ length self.now }
+    {
+        if self.top == 0 {
+            return self.len;
+        }
+        let m = lowest(self.top);
+        let w = lowest_in(&self.middle, m);
+        lowest_in(&self.leaves, w)
+    }
+
+    #[inline(never)]
+    pub(crate) fn take(&mut self, n: usize)
+        requires { slice_get self.old n ≡ Some false }
+        ensures { self.new ≡ slice_set self.old n true }
+    {
+        if !clear(&mut self.leaves, n) {
+            return;
+        }
+        if !clear(&mut self.middle, n / 64) {
+            return;
+        }
+        self.top = without_bit(self.top, n / 64 / 64);
+    }
+
+    #[inline(never)]
+    pub(crate) fn give_back(&mut self, n: usize)
+        requires { n < length self.old }
+        ensures { self.new ≡ slice_set self.old n false }
+    {
+        if !set(&mut self.leaves, n) {
+            return;
+        }
+        if !set(&mut self.middle, n / 64) {
+            return;
+        }
+        self.top = with_bit(self.top, n / 64 / 64);
+    }
+
+    /// Takes the number at the length. A set that lacks memory for it stays as it was.
+    pub(crate) fn grow(&mut self) -> Result<(), AllocError>
+        requires { length self.old < NUMBERS_MAX }
+        ensures ok { OnOk result (self.new ≡ self.old ++ true ∷ []) }
+        ensures err { OnErr result (self.new ≡ self.old) }
+    {
+        if self.len < 64 * self.leaves.len() {
+            self.len += 1;
+            return Ok(());
+        }
+        add_word(&mut self.middle, &mut self.leaves)?;
+        self.len += 1;
+        Ok(())
+    }
+}
