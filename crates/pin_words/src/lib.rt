@@ -22,7 +22,7 @@ mod reader;
 mod tests;
 mod view;
 
-pub use fault::PinFault;
+pub use fault::{PinFault, Verdict};
 pub use keeper::Keeper;
 pub use law::law_of_steps;
 pub use locked::LockedPins;
