@@ -23,9 +23,9 @@ use Rattle.pin_words.specs.declared.view.Look.{Look}
 use Rattle.pin_words.specs.declared.view.KeeperView.{KeeperView}
 use Rattle.pin_words.specs.declared.view.ReaderView.{ReaderView}
 use Rattle.pin_words.specs.declared.view.View.{View}
-use Rattle.pin_words.specs.Views.{M, Of, on, view, look, id_in, reader_with, reader_got, reader_released, keeper_stored, reader_of, keeper_of, IsReaders, IsKeepers}
+use Rattle.pin_words.specs.Views.{M, Of, on, view, look, id_in, reader_with, reader_looked, reader_got, reader_released, keeper_stored, reader_of, keeper_of, IsReaders, IsKeepers}
 use Rattle.pin_words.specs.Shown.{Shown}
-use Rattle.pin_words.specs.Plays.{Behind, Tells, got_view, released, noted, stored}
+use Rattle.pin_words.specs.Plays.{NoLater, Behind, Tells, got_view, released, noted, stored}
 use Rattle.pin_words.specs.declared.fault.Verdict.TheVariants.{Unborn, Stale, PinsFull, Go}
 use Rattle.pin_words.specs.Verdicts.{verdict_of}
 use Rattle.std.specs.Prelude.{Result, Err}
@@ -111,9 +111,10 @@ at-least m n = cases (nat_lt n m) refl
     cases true e = inr (let h : n < m = grind (arith, common_steps) in h)
     cases false e = inl (let h : m ≤ n = grind (arith, common_steps) in h)
 
--- a try that lost its exchange only looked
-pub busy-looked : (r r' : ReaderView) (id : Id) (w : Word) → Tries r id (Err (fault.Busy w)) r' → HasOnlyLooked r r'
-busy-looked r r' id w t = ⊎_elim
+-- what a try that lost its exchange found
+pub lost-onward : (r r' : ReaderView) (id : Id) (seen : Word) → Tries r id (Err (fault.Busy seen)) r'
+    → (n : ℕ) × (m : ℕ) × (r' ≡ reader_looked (reader_looked r id.slot n) id.slot m) × (seen ≡ decoded m) × NoLater n m
+lost-onward r r' id seen t = ⊎_elim
     (λ (out : r.shape.slots ≤ id.slot). absurd (let e = (t.no_slot out).0 in cc))
     (λ (inside : id.slot < r.shape.slots). ⊎_elim
     (λ (full : 16 ≤ length r.held). absurd (let e = (t.full inside full).0 in cc))
@@ -121,11 +122,14 @@ busy-looked r r' id w t = ⊎_elim
     (at-least 16 (length r.held)))
     (at-least r.shape.slots id.slot)
   where
-    answer : (v : Verdict) (n : ℕ) → Answers v r id n (Err (fault.Busy w)) r' → HasOnlyLooked r r'
+    answer : (v : Verdict) (n : ℕ) → Answers v r id n (Err (fault.Busy seen)) r' → (n : ℕ) × (m : ℕ) × (r' ≡ reader_looked (reader_looked r id.slot n) id.slot m) × (seen ≡ decoded m) × NoLater n m
     answer Unborn n a = absurd (let e = a.0 in cc)
     answer Stale n a = absurd (let e = a.0 in cc)
     answer PinsFull n a = absurd (let e = a.0 in cc)
-    answer Go n a = dite (ℕ_discrete a.0 n) (λ same. absurd (let e = (a.2 same).0 in cc)) (λ other. (look id.slot a.0 ∷ look id.slot n ∷ [], (a.3 other).1))
+    answer Go n a = dite (ℕ_discrete a.0 n) (λ same. absurd (let e = (a.2 same).0 in cc)) (λ other. (n, a.0, (a.3 other).1, (let e = (a.3 other).0 in cc), a.1.looks.0 refl))
+
+pub busy-looked : (r r' : ReaderView) (id : Id) (seen : Word) → Tries r id (Err (fault.Busy seen)) r' → HasOnlyLooked r r'
+busy-looked r r' id seen t = let found = lost-onward r r' id seen t in (look id.slot found.1 ∷ look id.slot found.0 ∷ [], found.2)
 
 pub looked-more : (a b c : ReaderView) → HasOnlyLooked a b → HasOnlyLooked b c → HasOnlyLooked a c
 looked-more a b c g h = (

@@ -47,6 +47,7 @@ impl<'a> Keeper<'a> {
     ghost use Rattle.pin_core.specs.Worlds.{slot_of};
     ghost use Rattle.pin_core.specs.Safety.{may_be_held};
     ghost use Rattle.pin_words.specs.Views.{IsKeepers, id_of, keeper_of, keeper_stored, keeper_published, keeper_closed, keeper_gave, reader_given};
+    ghost use Rattle.pin_words.specs.Plays.{Show};
     ghost use Rattle.pin_words.specs.Tries.{Reclaims, Met};
 
     pub(crate) fn of_parts(
@@ -202,6 +203,8 @@ impl<'a> Keeper<'a> {
         ensures held { (id : Id) → 0 < tally (same_id id) reader.old.view.held → id.slot ≡ slot
             → (id ≡ id_of self.old.view.slots slot)
             × (may_be_held (slot_of self.old.view.slots slot).phase ≡ true) }
+        ensures noted { (id : Id) → 0 < tally (same_id id) reader.old.view.held → id.slot ≡ slot
+            → Show id (slot_of self.old.view.slots slot).descr reader.old.view.notes }
         ensures shape { reader.old.view.shape ≡ self.old.view.shape }
         ensures view { self.new.view ≡ self.old.view }
         ensures table { (self.new.table ≡ self.old.table) × (reader.new.table ≡ reader.old.table) }

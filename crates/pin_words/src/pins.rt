@@ -7,7 +7,7 @@ use crate::reader::Reader;
 use crate::view::View;
 use atomic_table::{Seat, Table};
 use ob_rights::Fault;
-use pin_core::{Shape, Slot};
+use pin_core::{LIVE_BIT, Shape, Slot};
 use std::alloc::Global;
 use std::marker::Model;
 
@@ -47,7 +47,7 @@ impl Model for Opening {
 }
 
 // The word of a free slot at the first generation, without pins.
-const FIRST: u64 = 4294967296;
+const FIRST: u64 = 4 * LIVE_BIT;
 
 impl Pins {
     ghost use Rattle.std.specs.Prelude.{◌≡◌, IfOk, IfErr};
