@@ -23,9 +23,9 @@ pub enum Reclaim {
 
 /// Who gives slots out and takes them back. Its calls take no memory and never wait.
 ///
-/// What a keeper is to every caller is `kept`. A reclaim is free to answer held or not by what the keeper counts:
-/// `reclaims` is exactly what this kind of keeper does, of which a generic caller knows nothing, so it can only
-/// pass an answer on.
+/// To every caller a keeper is what `kept` says of it. Whether a reclaim answers held hangs on what the keeper
+/// counts, which a generic caller can't see. `reclaims` is what this kind of keeper answers exactly, so a caller
+/// whose contract names it can only pass the keeper's answer on.
 pub trait PinKeeper {
     ghost kept: { Self → KeeperState };
 
