@@ -24,9 +24,6 @@ same_of_hold : (t x : Hold) → is_hold t x ≡ true → x ≡ t
 same_of_hold t x e = let a : is_copy t.reader t.id x ≡ true = grind (arith, common_steps) in let b : x.copy ≡ t.copy = grind (arith, common_steps) in
     let c = same_of_copy t.reader t.id x a in λ k. record { reader = c.0 k; id = c.1 k; copy = b k }
 
-is_hold_itself : (t : Hold) → is_hold t t ≡ true
-is_hold_itself t = grind (arith, common_steps)
-
 -- one number more, and one less
 one_more : (c k : ℕ) → weight (nat_lt 0 k && nat_le k c) + weight (c + 1 == k) ≡ weight (nat_lt 0 k && nat_le k (c + 1))
 one_more c k = grind (arith, common_steps)

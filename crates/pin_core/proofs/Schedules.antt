@@ -176,3 +176,25 @@ first-refused w v es i d r inside h no-way = let back : i ≡ i + 1 - 1 = omega 
 
 pub as-refused : (w : WorldState) (es : List Event) (a n : ℕ) (p r : Reason) → a ≡ n → p ≡ r → IsFirstRefused w es a p → IsFirstRefused w es n r
 as-refused w es a n p r e f h = subst (λ (z : ℕ × Reason). IsFirstRefused w es z.0 z.1) (λ k. (e k, f k)) h
+
+-- the event at place i is the first that isn't possible
+abbrev Stops : WorldState → List Event → ℕ → Reason → Type 0
+Stops w es i r = (e : Event) × IsSchedule w (take i es) × (slice_get es i ≡ Some e) × (refusal (after_all w (take i es)) e ≡ Some r)
+
+stops-once : (w : WorldState) (es : List Event) (i j : ℕ) (r q : Reason) → Stops w es i r → Stops w es j q → (i ≡ j) × (r ≡ q)
+stops-once w [] i j r q a b = let e = a.2 in cc
+stops-once w (x ∷ xs) zero zero r q a b = let e = a.2 in let e' = a.3 in let f = b.2 in let f' = b.3 in (refl, cc)
+stops-once w (x ∷ xs) zero (suc j) r q a b = let e = a.2 in let e' = a.3 in let f = b.1.0 in cc
+stops-once w (x ∷ xs) (suc i) zero r q a b = let e = b.2 in let e' = b.3 in let f = a.1.0 in cc
+stops-once w (x ∷ xs) (suc i) (suc j) r q a b = let ih = stops-once (after w x) xs i j r q (a.0, a.1.1, a.2, a.3) (b.0, b.1.1, b.2, b.3) in (ap suc ih.0, ih.1)
+
+never-stops : (w : WorldState) (es : List Event) (i : ℕ) (r : Reason) → IsSchedule w es → Stops w es i r → ⊥
+never-stops w [] i r h a = let e = a.2 in cc
+never-stops w (x ∷ xs) zero r h a = let e = a.2 in let e' = a.3 in let f = h.0 in cc
+never-stops w (x ∷ xs) (suc i) r h a = never-stops (after w x) xs i r h.1 (a.0, a.1.1, a.2, a.3)
+
+pub refused-once : (w : WorldState) (es : List Event) (n m : ℕ) (r q : Reason) → IsFirstRefused w es n r → IsFirstRefused w es m q → (n ≡ m) × (r ≡ q)
+refused-once w es n m r q a b = let same = stops-once w es (n - 1) (m - 1) r q (a.0, a.2, a.3, a.4) (b.0, b.2, b.3, b.4) in ((let one = a.1 in let one' = b.1 in let p = same.0 in omega arith), same.1)
+
+pub never-refused : (w : WorldState) (es : List Event) (n : ℕ) (r : Reason) → IsSchedule w es → IsFirstRefused w es n r → ⊥
+never-refused w es n r h a = never-stops w es (n - 1) r h (a.0, a.2, a.3, a.4)

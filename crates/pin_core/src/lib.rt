@@ -25,5 +25,5 @@ pub use id::{Id, same_id};
 pub use law::{law_of_codes, law_of_schedules};
 pub use schedule::{replay, step};
 pub use shape::Shape;
-pub use word::{Phase, Word};
+pub use word::{CLOSING_BIT, LIVE_BIT, Phase, Word};
 pub use world::{Slot, World};

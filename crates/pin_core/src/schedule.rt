@@ -1,4 +1,4 @@
-ghost use Rattle.std.specs.Prelude.{◌≡◌, ◌↔◌, ℕ, OnOk, OnErr, IfOk, Some, None, Err};
+ghost use Rattle.std.specs.Prelude.{◌≡◌, ◌≢◌, ◌↔◌, ℕ, IsOk, OnOk, OnErr, IfOk, Some, None, Err};
 ghost use Rattle.pin_core.specs.declared.event.ReplayFault.TheVariants.{Memory, Refused};
 ghost use Rattle.pin_core.specs.declared.event.Reason.{Reason};
 ghost use Rattle.pin_core.specs.Worlds.{opening_of};
@@ -16,8 +16,8 @@ use std::alloc::Global;
 pub fn step(world: &mut World, event: &Event) -> Result<(), ReplayFault>
     ensures done { OnOk result (Can world.old event.now world.new) }
     ensures unchanged { OnErr result (world.new ≡ world.old) }
-    ensures reason { (r : Reason)
-        → (result ≡ Err (Refused 1 r)) ↔ (refusal world.old event.now ≡ Some r) }
+    ensures refused { (n : ℕ) (r : Reason) → (result ≡ Err (Refused n r))
+        ↔ ((n ≡ 1) × (refusal world.old event.now ≡ Some r)) }
     ensures memory { result ≡ Err Memory → refusal world.old event.now ≡ None }
 {
     if let Some(reason) = world.refusal(event) {
@@ -31,13 +31,14 @@ pub fn step(world: &mut World, event: &Event) -> Result<(), ReplayFault>
 
 /// Carries out the events in turn from the opening world.
 ///
-/// [`ReplayFault::Refused`] names the first event that isn't possible where it stands;
-/// [`ReplayFault::Memory`] where memory ran out before.
+/// Unless memory ran out before, which [`ReplayFault::Memory`] says: it succeeds exactly where each event is
+/// possible where it stands, and else [`ReplayFault::Refused`] names the first that isn't.
 pub fn replay(alloc: Global, shape: Shape, events: &[Event]) -> Result<World, ReplayFault>
-    ensures ok { IfOk result (λ w. IsSchedule (opening_of shape) events.now
-        × (w ≡ after_all (opening_of shape) events.now)) }
-    ensures refused { (n : ℕ) (r : Reason) → result ≡ Err (Refused n r)
-        → IsFirstRefused (opening_of shape) events.now n r }
+    ensures value { IfOk result (λ w. w ≡ after_all (opening_of shape) events.now) }
+    ensures possible { result ≢ Err Memory
+        → (IsOk result ↔ IsSchedule (opening_of shape) events.now) }
+    ensures refused { result ≢ Err Memory → (n : ℕ) (r : Reason)
+        → (result ≡ Err (Refused n r)) ↔ IsFirstRefused (opening_of shape) events.now n r }
 {
     let Ok(mut world) = World::new(alloc, shape) else {
         return Err(ReplayFault::Memory);

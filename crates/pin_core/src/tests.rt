@@ -192,6 +192,25 @@ fn a_pinned_slot_is_not_reclaimed(rt: HostRuntime) -> Result<(), Fail> {
 }
 
 #[test]
+fn a_released_slot_is_reclaimed(rt: HostRuntime) -> Result<(), Fail> {
+    let events = [
+        STORE,
+        PUBLISH,
+        LOAD,
+        pin(0x0000000140000000),
+        CLOSE,
+        RELEASE,
+        RECLAIM,
+    ];
+    let Ok(world) = replay(rt.alloc(), shape(4, 5), &events) else {
+        panic!(rt; "refused")
+    };
+    assert!(rt; is_at(&world, 2, Phase::Free, 0));
+    assert!(rt; world.published() == &[(FIRST, AUTO_EVENT)][..]);
+    Ok(())
+}
+
+#[test]
 fn the_first_impossible_event_is_named(rt: HostRuntime) -> Result<(), Fail> {
     let live = pin(0x0000000140000000);
     let closing = [PUBLISH, CLOSE, pin(0x00000001c0000000)];

@@ -1,9 +1,10 @@
 ghost use Rattle.std.specs.Prelude.{◌≡◌, ◌<◌, ◌^◌};
 ghost use Rattle.pin_core.specs.Words.{encoded, decoded, code_of, phase_of};
 
-/// Where a slot stands in the life of its generation, in this order.
+/// Where a slot stands in its life. A generation goes from free over live to closing, and then the slot opens
+/// again, free, at the next one, or retires where it was the last.
 ///
-/// A slot at its last generation ends as retired; any other opens again, free, at the next.
+/// The variants stand in the order of their codes in a word, which is another.
 #[derive(Clone, Copy, Debug, PartialEq, Eq, Hash)]
 pub enum Phase {
     /// Nobody has it, and its descriptor may be stored.
@@ -28,8 +29,11 @@ pub struct Word {
     pub pins: u32,
 }
 
-// The pins take 30 bits.
-const PHASE_UNIT: u64 = 1073741824;
+/// Bit 30 of a word, above the 30 bits of the pins. It turns the word of a free slot into that of the live one.
+pub const LIVE_BIT: u64 = 1073741824;
+
+/// Bit 31 of a word. It turns the word of a live slot into that of the closing one.
+pub const CLOSING_BIT: u64 = 2147483648;
 
 impl Phase {
     fn code(self) -> u64
@@ -64,7 +68,7 @@ impl Word {
         requires { self.pins < 2 ^ 30 }
         ensures { result ≡ encoded self }
     {
-        (u64::from(self.generation) * 4 + self.phase.code()) * PHASE_UNIT + u64::from(self.pins)
+        (u64::from(self.generation) * 4 + self.phase.code()) * LIVE_BIT + u64::from(self.pins)
     }
 
     /// The word of 64 bits: each number has one.
@@ -72,9 +76,9 @@ impl Word {
         ensures { result ≡ decoded word }
     {
         Word {
-            generation: (word / (4 * PHASE_UNIT)) as u32,
-            phase: Phase::of_code(word / PHASE_UNIT % 4),
-            pins: (word % PHASE_UNIT) as u32,
+            generation: (word / (4 * LIVE_BIT)) as u32,
+            phase: Phase::of_code(word / LIVE_BIT % 4),
+            pins: (word % LIVE_BIT) as u32,
         }
     }
 }

@@ -1,5 +1,4 @@
 ghost use Rattle.std.specs.Prelude.{◌≡◌};
-ghost use Rattle.pin_core.specs.Events.{reclaimed};
 
 use crate::descr::Descr;
 use crate::event::{Event, Reason};
@@ -20,6 +19,46 @@ pub struct Slot {
     pub phase: Phase,
     /// The descriptor, which is stored while the slot is free.
     pub descr: Descr,
+}
+
+impl Slot {
+    ghost use Rattle.std.specs.Prelude.{◌≡◌};
+    ghost use Rattle.pin_core.specs.Worlds.{opening_slot};
+    ghost use Rattle.pin_core.specs.Events.{reclaimed};
+
+    /// The slot of the opening world: free at generation 1, with the descriptor of an event that is reset by
+    /// itself.
+    pub fn opening() -> Slot
+        ensures { result ≡ opening_slot }
+    {
+        Slot {
+            generation: 1,
+            phase: Phase::Free,
+            descr: Descr {
+                kind: Kind::Event,
+                manual: false,
+                max: 0,
+            },
+        }
+    }
+
+    /// The slot as it is once reclaimed: free at the next generation, or retired where it was at `max_gen`.
+    pub fn reclaimed(self, max_gen: u32) -> Slot
+        ensures { result ≡ reclaimed max_gen self }
+    {
+        if self.generation < max_gen {
+            Slot {
+                generation: self.generation + 1,
+                phase: Phase::Free,
+                ..self
+            }
+        } else {
+            Slot {
+                phase: Phase::Retired,
+                ..self
+            }
+        }
+    }
 }
 
 /// The slots, the list of what was published, and the set of holds. It keeps no counts: a slot has as many
@@ -54,16 +93,7 @@ impl World {
     pub fn new(alloc: Global, shape: Shape) -> Result<World, AllocError>
         ensures { IfOk result (λ w. w ≡ opening_of shape) }
     {
-        let opening = Slot {
-            generation: 1,
-            phase: Phase::Free,
-            descr: Descr {
-                kind: Kind::Event,
-                manual: false,
-                max: 0,
-            },
-        };
-        let slots = vec![in alloc; opening; shape.slots as usize]?;
+        let slots = vec![in alloc; Slot::opening(); shape.slots as usize]?;
         let holders = Holders::new(alloc, shape.slots)?;
         Ok(World {
             shape,
@@ -182,7 +212,7 @@ impl World {
                 );
             }
             Event::Reclaim { slot } => {
-                let to = reclaimed(self.shape.max_gen, self.slot(slot));
+                let to = self.slot(slot).reclaimed(self.shape.max_gen);
                 self.set_slot(slot, to);
             }
         }
@@ -292,23 +322,5 @@ impl World {
     {
         let copy = self.copies(reader, id) as u64;
         self.holders.remove(Hold { reader, id, copy });
-    }
-}
-
-// The slot as it opens again, or ends.
-fn reclaimed(max_gen: u32, was: Slot) -> Slot
-    ensures { result ≡ reclaimed max_gen was }
-{
-    if was.generation < max_gen {
-        Slot {
-            generation: was.generation + 1,
-            phase: Phase::Free,
-            ..was
-        }
-    } else {
-        Slot {
-            phase: Phase::Retired,
-            ..was
-        }
     }
 }

@@ -1,6 +1,9 @@
 -- What the calls of readers and of the keeper need of the steps.
 use Rattle.std.proofs.Common.{◌≡◌, ◌≢◌, ◌⊎◌, inl, inr, ⊎_elim, ℕ, ◌+◌, ◌*◌, ◌<◌, ◌≤◌, nat_lt, Bool, true, false, List, [], ◌∷◌, ◌++◌, length, get_or, zero, suc, Some, None, sym, refl, ap, ◌∙◌, subst, arith}
 use Rattle.std.proofs.lemmas.Grind.{common_steps}
+use Rattle.std.proofs.lemmas.List.{append_assoc}
+use native.Mathlib.Decide.{ℕ_discrete}
+use mathlib.Core.Logic.{dite}
 use mathlib.Core.Option.{none}
 use Rattle.atomic_table.specs.Table.{step, Allows}
 use Rattle.pin_core.specs.declared.word.Word.{Word}
@@ -20,16 +23,16 @@ use Rattle.pin_words.specs.declared.view.Look.{Look}
 use Rattle.pin_words.specs.declared.view.KeeperView.{KeeperView}
 use Rattle.pin_words.specs.declared.view.ReaderView.{ReaderView}
 use Rattle.pin_words.specs.declared.view.View.{View}
-use Rattle.pin_words.specs.Views.{M, Of, on, view, id_in, reader_got, reader_released, keeper_stored, reader_of, keeper_of, IsReaders, IsKeepers}
+use Rattle.pin_words.specs.Views.{M, Of, on, view, look, id_in, reader_with, reader_looked, reader_got, reader_released, keeper_stored, reader_of, keeper_of, IsReaders, IsKeepers}
 use Rattle.pin_words.specs.Shown.{Shown}
-use Rattle.pin_words.specs.Plays.{Behind, Tells, got_view, released, noted, stored}
+use Rattle.pin_words.specs.Plays.{NoLater, Behind, Tells, got_view, released, noted, stored}
 use Rattle.pin_words.specs.declared.fault.Verdict.TheVariants.{Unborn, Stale, PinsFull, Go}
 use Rattle.pin_words.specs.Verdicts.{verdict_of}
 use Rattle.std.specs.Prelude.{Result, Err}
 use Rattle.pin_words.specs.declared.fault.Verdict.{Verdict}
 use Rattle.pin_words.specs.declared.fault.PinFault.{PinFault}
 use Rattle.pin_words.specs.declared.fault.PinFault.TheVariants as fault
-use Rattle.pin_words.specs.Tries.{WasStale, Tries, Answers}
+use Rattle.pin_words.specs.Tries.{HasOnlyLooked, WasStale, Tries, Answers}
 use Rattle.pin_words.proofs.ReaderSteps.{notes-step}
 use Rattle.pin_words.proofs.KeeperSteps.{stores-step}
 
@@ -100,21 +103,48 @@ pub stays-stale : (max : ℕ) (id : Id) (ls : List Look) (n : ℕ) → WasStale 
 stays-stale max id [] n h b = absurd h
 stays-stale max id (l ∷ ls) n h b = ⊎_elim (λ (t : (l.slot ≡ id.slot) × (verdict_of max id (decoded l.word) ≡ Stale)). age-stale max id (decoded l.word).generation (decoded l.word).pins (decoded l.word).phase (decoded n) (b.0 t.0).0 (b.0 t.0).1 t.1) (λ (t : WasStale max id ls). stays-stale max id ls n t b.1) h
 
+-- a number is at least another, or below it
+at-least : (m n : ℕ) → (m ≤ n) ⊎ (n < m)
+at-least m n = cases (nat_lt n m) refl
+  where
+    cases : (b : Bool) → nat_lt n m ≡ b → (m ≤ n) ⊎ (n < m)
+    cases true e = inr (let h : n < m = grind (arith, common_steps) in h)
+    cases false e = inl (let h : m ≤ n = grind (arith, common_steps) in h)
+
+-- what a try that lost its exchange found
+pub lost-onward : (r r' : ReaderView) (id : Id) (seen : Word) → Tries r id (Err (fault.Busy seen)) r'
+    → (n : ℕ) × (m : ℕ) × (r' ≡ reader_looked (reader_looked r id.slot n) id.slot m) × (seen ≡ decoded m) × NoLater n m
+lost-onward r r' id seen t = ⊎_elim
+    (λ (out : r.shape.slots ≤ id.slot). absurd (let e = (t.no_slot out).0 in cc))
+    (λ (inside : id.slot < r.shape.slots). ⊎_elim
+    (λ (full : 16 ≤ length r.held). absurd (let e = (t.full inside full).0 in cc))
+    (λ (room : length r.held < 16). let tried = t.tried inside room in answer (verdict_of r.shape.max_pins id (decoded tried.0)) tried.0 tried.2)
+    (at-least 16 (length r.held)))
+    (at-least r.shape.slots id.slot)
+  where
+    answer : (v : Verdict) (n : ℕ) → Answers v r id n (Err (fault.Busy seen)) r' → (n : ℕ) × (m : ℕ) × (r' ≡ reader_looked (reader_looked r id.slot n) id.slot m) × (seen ≡ decoded m) × NoLater n m
+    answer Unborn n a = absurd (let e = a.0 in cc)
+    answer Stale n a = absurd (let e = a.0 in cc)
+    answer PinsFull n a = absurd (let e = a.0 in cc)
+    answer Go n a = dite (ℕ_discrete a.0 n) (λ same. absurd (let e = (a.2 same).0 in cc)) (λ other. (n, a.0, (a.3 other).1, (let e = (a.3 other).0 in cc), a.1.looks.0 refl))
+
+pub busy-looked : (r r' : ReaderView) (id : Id) (seen : Word) → Tries r id (Err (fault.Busy seen)) r' → HasOnlyLooked r r'
+busy-looked r r' id seen t = let found = lost-onward r r' id seen t in (look id.slot found.1 ∷ look id.slot found.0 ∷ [], found.2)
+
+pub looked-more : (a b c : ReaderView) → HasOnlyLooked a b → HasOnlyLooked b c → HasOnlyLooked a c
+looked-more a b c g h = (
+  h.0 ++ g.0,
+  h.1 ∙ (ap (λ (z : ReaderView). reader_with z z.held z.notes (h.0 ++ z.looks)) g.1 ∙ ap (reader_with a a.held a.notes) (sym (append_assoc h.0 g.0 a.looks))),
+)
+
 -- what a reader found stale it never pins again
 pub stale-answers : (r r' : ReaderView) (id : Id) (res : Result (Unit {0}) PinFault) → Tries r id res r' → id.slot < r.shape.slots → WasStale r.shape.max_pins id r.looks → (res ≡ Err fault.Stale) ⊎ (res ≡ Err fault.HeldFull)
 stale-answers r r' id res t inside was = ⊎_elim
     (λ (full : 16 ≤ length r.held). inr (t.full inside full).0)
     (λ (room : length r.held < 16). let tried = t.tried inside room in
     inl (answer (verdict_of r.shape.max_pins id (decoded tried.0)) (stays-stale r.shape.max_pins id r.looks tried.0 was tried.1.looks) tried.0 tried.2))
-    (split (length r.held))
+    (at-least 16 (length r.held))
   where
-    split : (n : ℕ) → (16 ≤ n) ⊎ (n < 16)
-    split n = cases (nat_lt n 16) refl
-      where
-        cases : (b : Bool) → nat_lt n 16 ≡ b → (16 ≤ n) ⊎ (n < 16)
-        cases true e = inr (let h : n < 16 = grind (arith, common_steps) in h)
-        cases false e = inl (let h : 16 ≤ n = grind (arith, common_steps) in h)
-
     answer : (v : Verdict) → v ≡ Stale → (n : ℕ) → Answers v r id n res r' → res ≡ Err fault.Stale
     answer Unborn e n a = absurd (let x : Unborn ≡ Stale = e in cc)
     answer Stale e n a = a.0

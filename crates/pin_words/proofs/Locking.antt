@@ -1,31 +1,16 @@
 -- What the calls under a lock need.
-use Rattle.std.proofs.Common.{◌≡◌, ◌≢◌, ℕ, ◌<◌, ◌≤◌, Bool, true, false, List, [], ◌∷◌, ◌++◌, length, get_or, set, None, sym, refl, ap, ◌∙◌, arith}
+use Rattle.std.proofs.Common.{◌≡◌, ◌≢◌, ℕ, ◌≤◌, Bool, true, false, inl, List, [], ◌∷◌, ◌++◌, set, None, sym, refl, ap, ◌∙◌, arith}
 use Rattle.std.proofs.lemmas.Grind.{common_steps}
-use Rattle.std.specs.Prelude.{Result}
-use Rattle.pin_core.specs.declared.word.Word.{Word}
 use Rattle.pin_core.specs.declared.id.Id.{Id}
-use Rattle.pin_core.specs.declared.shape.Shape.{Shape}
-use Rattle.pin_core.specs.declared.world.Slot.{Slot}
 use Rattle.pin_core.specs.declared.word.Phase.TheVariants.{Live}
 use Rattle.pin_core.specs.Events.{in_phase}
 use Rattle.pin_core.specs.Holds.{tally, weight, drop_first, same_id}
 use Rattle.pin_core.specs.Worlds.{slot_of}
 use Rattle.pin_core.proofs.Counts.{count-snoc, count-drop-le}
-use Rattle.pin_words.specs.declared.fault.PinFault.{PinFault}
 use Rattle.pin_words.specs.declared.pin_keeper.Reclaim.{Reclaim}
 use Rattle.pin_words.specs.declared.pin_keeper.Reclaim.TheVariants.{Freed, Retired, Held}
-use Rattle.pin_words.specs.Verdicts.{verdict_of}
 use Rattle.pin_words.specs.Views.{on, id_of, sits}
-use Rattle.pin_words.specs.Keepers.{KeeperState, locked, with_looks, opened_again, with_slots, published, word_of, Answers, Tries, Reclaims, ReclaimsLocked}
-use Rattle.pin_words.proofs.Calls.{slot-known}
-
-pub word-now : (k : KeeperState) (shape : Shape) (slots : List Slot) (held : List Id) (s : ℕ) (x : Slot) (n : ℕ) → locked shape slots held ≡ k → s < length slots → x ≡ get_or slots s x → n ≡ tally (sits s) held
-    → (let w : Word = record { generation = x.generation; phase = x.phase; pins = n } in w) ≡ word_of k s
-word-now k shape slots held s x n is inside at count = let known = slot-known slots slots s x refl inside at in
-    (λ i. record { generation = (known i).generation; phase = (known i).phase; pins = count i }) ∙ ap (λ (z : KeeperState). word_of z s) is
-
-pub tries-answer : (k k' : KeeperState) (id : Id) (res : Result (Unit {0}) PinFault) → id.slot < k.shape.slots → length k.held < 16 → Answers (verdict_of k.shape.max_pins id (word_of k id.slot)) k id res k' → Tries k id res k'
-tries-answer k k' id res inside room a = record { no_slot = λ h. absurd (omega arith); full = λ g h. absurd (omega arith); tried = λ g h. a }
+use Rattle.pin_words.specs.Keepers.{KeeperState, with_looks, opened_again, with_slots, published, Reclaims, ReclaimsLocked}
 
 sits-else : (s : ℕ) (id : Id) → sits s id ≡ true → id.slot ≡ s
 sits-else s id e = grind (arith, common_steps)
@@ -43,10 +28,10 @@ room-less most held id room s = let le = count-drop-le (sits s) (same_id id) hel
 
 -- what a reclaim under a lock answers is what one of any keeper does
 pub as-any : (k k' : KeeperState) (s : ℕ) (r : Reclaim) → ReclaimsLocked k s r k' → Reclaims k s r k'
-as-any k k' s Freed h = (h.0 ∙ ap (λ (z : KeeperState). with_looks (opened_again k s) z.looks) (sym h.0), h.1)
-as-any k k' s Retired h = (h.0 ∙ ap (λ (z : KeeperState). with_looks (opened_again k s) z.looks) (sym h.0), h.1)
-as-any k k' s (Held n) h = (h.0 ∙ ap (λ (z : KeeperState). with_looks k z.looks) (sym h.0), h.1, h.3)
+as-any k k' s Freed h = (h.0 ∙ ap (λ (z : KeeperState). with_looks (opened_again k s) z.looks) (sym h.0), h.1, h.2, inl (ap (λ (z : KeeperState). z.looks) h.0))
+as-any k k' s Retired h = (h.0 ∙ ap (λ (z : KeeperState). with_looks (opened_again k s) z.looks) (sym h.0), h.1, h.2, inl (ap (λ (z : KeeperState). z.looks) h.0))
+as-any k k' s (Held n) h = (h.0 ∙ ap (λ (z : KeeperState). with_looks k z.looks) (sym h.0), h.1, h.3, inl (ap (λ (z : KeeperState). z.looks) h.0))
 
 -- a keeper under a lock keeps no list of what it published
 pub published-unlisted : (k : KeeperState) (s : ℕ) → k.published ≡ None → with_slots k (set k.slots s (in_phase (slot_of k.slots s) Live)) ≡ published k s
-published-unlisted k s e = λ i. record { shape = k.shape; slots = set k.slots s (in_phase (slot_of k.slots s) Live); published = (e ∙ ap (on (λ ps. ps ++ (id_of k.slots s, (slot_of k.slots s).descr) ∷ [])) (sym e)) i; next = k.next; looks = k.looks; held = k.held }
+published-unlisted k s e = λ i. record { table = k.table; shape = k.shape; slots = set k.slots s (in_phase (slot_of k.slots s) Live); published = (e ∙ ap (on (λ ps. ps ++ (id_of k.slots s, (slot_of k.slots s).descr) ∷ [])) (sym e)) i; next = k.next; looks = k.looks; held = k.held }

@@ -84,9 +84,6 @@ reseated k s W sh next owner views each unborn kept moves = record { fits = sh.f
 reader-moves : (w : WorldState) (next next' : ℕ) (owner owner' : ℕ → ℕ) (j j' : ℕ) (r : ReaderView) → next ≤ next' → owner' r.number ≡ j' → OfReader w next owner j r → OfReader w next' owner' j' r
 reader-moves w next next' owner owner' j j' r more is a = record { shape = a.shape; born = (let b = a.born in omega arith); mine = is; held = a.held; notes = a.notes; looks = a.looks }
 
-keeper-moves : (w : WorldState) (keeper next next' j : ℕ) (v : KeeperView) → next ≡ next' → OfKeeper w keeper next j v → OfKeeper w keeper next' j v
-keeper-moves w keeper next next' j v is a = record { shape = a.shape; mine = a.mine; slots = a.slots; published = a.published; next_is = a.next_is ∙ is; looks = a.looks }
-
 longer-keeper : (vs ws : List View) (j : ℕ) → HasKeeper vs j → HasKeeper (vs ++ ws) j
 longer-keeper vs ws j h = (h.0, h.1, at_longer vs ws j h.0 h.2, h.3)
 

@@ -166,6 +166,12 @@ met k s W sh id i v inside a = cases v.keeper v.reader a.0 a.1
     cases (Some x) (Some y) a b = let is = found-is k s W sh i inside in let here : at W i ≡ slot_of x.slots i = ap (λ (z : List Slot). slot_of z i) (sym a.slots) in record {
       generation = ap (λ (z : Word). z.generation) is ∙ ap (λ (z : Slot). z.generation) here;
       phase = ap (λ (z : Word). z.phase) is ∙ ap (λ (z : Slot). z.phase) here;
+      held = λ y' have there. let h = (told k s W sh id i y inside b).held y' have there in (
+        (λ j. record { slot = there j; generation = (sym h.0 ∙ (ap (λ (z : Word). z.generation) is ∙ ap (λ (z : Slot). z.generation) here)) j }),
+        ap may_be_held (sym (ap (λ (z : Word). z.phase) is ∙ ap (λ (z : Slot). z.phase) here)) ∙ h.1,
+      );
+      given = λ on. subst (λ (z : Slot × List (Id × Descr)). 0 < tally (is_with record { slot = i; generation = z.0.generation } z.0.descr) z.1) (λ j. (here j, sym a.published j))
+          (let one = (sh.safe.slots i (in-shape k s W sh i inside)).shown (ap (λ (z : Slot). may_be_held z.phase) here ∙ on) in omega arith);
       notes = listed W x.published y.notes a.published b.notes;
       shown = λ on. subst (λ (z : Slot). Show record { slot = i; generation = z.generation } z.descr y.notes) here
           (shows W (id_at W i) (at W i).descr y.notes sh.safe (let one = (sh.safe.slots i (in-shape k s W sh i inside)).shown (ap (λ (z : Slot). may_be_held z.phase) here ∙ on) in omega arith) b.notes);
@@ -186,9 +192,6 @@ reader-looks k s W sh id i inside r mine =
 pub of-on : {A : Type 0} (P : A → Type 0) (f : A → A) (x : Option A) → ((a : A) → P a → P (f a)) → Of x P → Of (on f x) P
 of-on P f None go h = tt
 of-on P f (Some a) go h = go a h
-
-pub turn-on : (v : View) (f : KeeperView → KeeperView) (g : ReaderView → ReaderView) → ((x : ReaderView) → (g x).number ≡ x.number) → Turns v (view (on f v.keeper) (on g v.reader))
-turn-on v f g same = record { keeper = λ k e. (f k, ap (on f) e); reader = λ x e. (g x, ap (on g) e, same x) }
 
 pub turn-reader : (v : View) (g : ReaderView → ReaderView) → ((x : ReaderView) → (g x).number ≡ x.number) → Turns v (view v.keeper (on g v.reader))
 turn-reader v g same = record { keeper = λ k e. (k, e); reader = λ x e. (g x, ap (on g) e, same x) }

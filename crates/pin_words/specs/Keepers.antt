@@ -1,11 +1,12 @@
 -- What is said of every keeper, of whatever kind.
-use Rattle.std.specs.Prelude.{◌≡◌, ℕ, ◌<◌, ◌≤◌, List, [], ◌∷◌, ◌++◌, length, replicate, slice_set, Option, Some, None, Result, Ok, Err}
+use Rattle.std.specs.Prelude.{◌≡◌, ℕ, ◌<◌, ◌≤◌, List, [], ◌∷◌, ◌⊎◌, ◌++◌, nat_lt, if◌then◌else◌, length, replicate, slice_set, Option, Some, None, Result, Ok, Err}
 use Rattle.pin_core.specs.declared.id.Id.{Id}
 use Rattle.pin_core.specs.declared.descr.Descr.{Descr}
 use Rattle.pin_core.specs.declared.word.Word.{Word}
 use Rattle.pin_core.specs.declared.word.Phase.TheVariants.{Live, Closing}
 use Rattle.pin_core.specs.declared.shape.Shape.{Shape}
 use Rattle.pin_core.specs.declared.world.Slot.{Slot}
+use Rattle.pin_core.specs.Words.{decoded}
 use Rattle.pin_core.specs.Holds.{tally, drop_first, same_id}
 use Rattle.pin_core.specs.Worlds.{opening_slot, slot_of}
 use Rattle.pin_core.specs.Events.{in_phase, with_descr, reclaimed}
@@ -16,13 +17,15 @@ use Rattle.pin_words.specs.declared.fault.PinFault.TheVariants as fault
 use Rattle.pin_words.specs.declared.pin_keeper.Reclaim.{Reclaim}
 use Rattle.pin_words.specs.declared.pin_keeper.Reclaim.TheVariants.{Freed, Retired, Held}
 use Rattle.pin_words.specs.declared.view.Look.{Look}
-use Rattle.pin_words.specs.declared.view.KeeperView.{KeeperView}
 use Rattle.pin_words.specs.Verdicts.{verdict_of}
-use Rattle.pin_words.specs.Views.{on, sits, id_of}
+use Rattle.pin_words.specs.Seats.{TableState, KeeperSeat}
+use Rattle.pin_words.specs.Views.{Of, on, look, sits, id_of}
 
--- `published` is there where the keeper keeps the list; `next` is the next reader's number, `looks` are the words
--- that it found, newest first, and `held` are the copies of the one holder of a keeper under a lock
+-- `table` is which words it keeps, where it has some; `published` is there where the keeper keeps the list; `next` is
+-- the next reader's number, `looks` are the words that it found, newest first, and `held` are the copies of the one
+-- holder of a keeper under a lock
 pub record KeeperState : Type 0 where
+  pub table : Option TableState
   pub shape : Shape
   pub slots : List Slot
   pub published : Option (List (Id × Descr))
@@ -31,33 +34,34 @@ pub record KeeperState : Type 0 where
   pub held : List Id
 
 -- what a keeper over the words says
-abbrev pub state_of : KeeperView → KeeperState
-state_of k = record { shape = k.shape; slots = k.slots; published = Some k.published; next = k.next; looks = k.looks; held = [] }
+abbrev pub state_of : KeeperSeat → KeeperState
+state_of k = record { table = Some k.table; shape = k.view.shape; slots = k.view.slots; published = Some k.view.published; next = k.view.next; looks = k.view.looks; held = [] }
 
 -- what a keeper under a lock says
 abbrev pub locked : Shape → List Slot → List Id → KeeperState
-locked shape slots held = record { shape = shape; slots = slots; published = None; next = 1; looks = []; held = held }
+locked shape slots held = record { table = None; shape = shape; slots = slots; published = None; next = 1; looks = []; held = held }
 
 -- a keeper of which nothing was asked yet
 pub record IsFresh (k : KeeperState) (shape : Shape) : Type 0 where
   pub shape_is : k.shape ≡ shape
   pub slots_are : k.slots ≡ replicate shape.slots opening_slot
+  pub published_is : Of k.published (λ ps. ps ≡ [])
   pub held_is : k.held ≡ []
 
 abbrev pub with_slots : KeeperState → List Slot → KeeperState
-with_slots k slots = record { shape = k.shape; slots = slots; published = k.published; next = k.next; looks = k.looks; held = k.held }
+with_slots k slots = record { table = k.table; shape = k.shape; slots = slots; published = k.published; next = k.next; looks = k.looks; held = k.held }
 
 abbrev pub with_looks : KeeperState → List Look → KeeperState
-with_looks k looks = record { shape = k.shape; slots = k.slots; published = k.published; next = k.next; looks = looks; held = k.held }
+with_looks k looks = record { table = k.table; shape = k.shape; slots = k.slots; published = k.published; next = k.next; looks = looks; held = k.held }
 
 abbrev pub with_held : KeeperState → List Id → KeeperState
-with_held k held = record { shape = k.shape; slots = k.slots; published = k.published; next = k.next; looks = k.looks; held = held }
+with_held k held = record { table = k.table; shape = k.shape; slots = k.slots; published = k.published; next = k.next; looks = k.looks; held = held }
 
 abbrev pub stored : KeeperState → ℕ → Descr → KeeperState
 stored k s d = with_slots k (slice_set k.slots s (with_descr (slot_of k.slots s) d))
 
 abbrev pub published : KeeperState → ℕ → KeeperState
-published k s = record { shape = k.shape; slots = slice_set k.slots s (in_phase (slot_of k.slots s) Live); published = on (λ ps. ps ++ (id_of k.slots s, (slot_of k.slots s).descr) ∷ []) k.published; next = k.next; looks = k.looks; held = k.held }
+published k s = record { table = k.table; shape = k.shape; slots = slice_set k.slots s (in_phase (slot_of k.slots s) Live); published = on (λ ps. ps ++ (id_of k.slots s, (slot_of k.slots s).descr) ∷ []) k.published; next = k.next; looks = k.looks; held = k.held }
 
 abbrev pub closed : KeeperState → ℕ → KeeperState
 closed k s = with_slots k (slice_set k.slots s (in_phase (slot_of k.slots s) Closing))
@@ -65,11 +69,22 @@ closed k s = with_slots k (slice_set k.slots s (in_phase (slot_of k.slots s) Clo
 abbrev pub opened_again : KeeperState → ℕ → KeeperState
 opened_again k s = with_slots k (slice_set k.slots s (reclaimed k.shape.max_gen (slot_of k.slots s)))
 
--- what a reclaim of any keeper answers: freed below the last generation, retired at it, or held. It may have looked
+-- at most one look more, at the slot s
+abbrev pub HasLooked : ℕ → List Look → List Look → Type 0
+HasLooked s ls ls' = (ls' ≡ ls) ⊎ ((n : ℕ) × (ls' ≡ look s n ∷ ls))
+
+-- what a reclaim of any keeper answers: freed below the last generation, or retired at it, where its own holder has
+-- nothing there; or held. It may have looked
 abbrev pub Reclaims : KeeperState → ℕ → Reclaim → KeeperState → Type 0
-Reclaims k s Freed k' = (k' ≡ with_looks (opened_again k s) k'.looks) × ((slot_of k.slots s).generation < k.shape.max_gen)
-Reclaims k s Retired k' = (k' ≡ with_looks (opened_again k s) k'.looks) × (k.shape.max_gen ≤ (slot_of k.slots s).generation)
-Reclaims k s (Held n) k' = (k' ≡ with_looks k k'.looks) × (0 < n) × (n ≤ k.shape.max_pins)
+Reclaims k s Freed k' = (k' ≡ with_looks (opened_again k s) k'.looks) × ((slot_of k.slots s).generation < k.shape.max_gen) × (tally (sits s) k.held ≡ 0) × HasLooked s k.looks k'.looks
+Reclaims k s Retired k' = (k' ≡ with_looks (opened_again k s) k'.looks) × (k.shape.max_gen ≤ (slot_of k.slots s).generation) × (tally (sits s) k.held ≡ 0) × HasLooked s k.looks k'.looks
+Reclaims k s (Held n) k' = (k' ≡ with_looks k k'.looks) × (0 < n) × (n ≤ k.shape.max_pins) × HasLooked s k.looks k'.looks
+
+-- what a reclaim over the words answers: it found the word n, and is held exactly by the pins that are in it
+abbrev pub ReclaimsFound : KeeperState → ℕ → Reclaim → KeeperState → Type 0
+ReclaimsFound k s res k' = (n : ℕ) × ((decoded n).pins ≤ k.shape.max_pins)
+    × ((decoded n).pins ≡ 0 → (k' ≡ with_looks (opened_again k s) (look s n ∷ k.looks)) × (res ≡ (if nat_lt (slot_of k.slots s).generation k.shape.max_gen then Freed else Retired)))
+    × (0 < (decoded n).pins → (k' ≡ with_looks k (look s n ∷ k.looks)) × (res ≡ Held (decoded n).pins))
 
 -- the word of a slot under a lock: its pins are the one holder's copies there
 abbrev pub word_of : KeeperState → ℕ → Word

@@ -4,6 +4,7 @@ use mathlib.Core.Option.{some}
 use lib.ListN.{get_elem?}
 use Rattle.pin_core.specs.declared.word.Phase.TheVariants.{Free, Live, Closing}
 use Rattle.pin_core.specs.declared.id.Id.{Id}
+use Rattle.pin_core.specs.declared.word.Word.{Word}
 use Rattle.pin_core.specs.declared.descr.Descr.{Descr}
 use Rattle.pin_core.specs.declared.shape.Shape.{Shape}
 use Rattle.pin_core.specs.declared.world.Slot.{Slot}
@@ -24,7 +25,7 @@ use Rattle.pin_words.specs.declared.view.ReaderView.{ReaderView}
 use Rattle.pin_words.specs.declared.view.View.{View}
 use Rattle.pin_words.specs.Views.{view, id_in, reader_looked, reader_got, reader_released, reader_noted, keeper_looked, keeper_stored, keeper_published, keeper_closed, keeper_reclaimed}
 use Rattle.pin_words.specs.Shown.{Table, IsShown}
-use Rattle.pin_words.specs.Plays.{gave, given, spent}
+use Rattle.pin_words.specs.Plays.{NoLater, gave, given, spent}
 use Rattle.pin_words.specs.Tries.{Tries, WasStale}
 
 -- the seat j has the view v, with this part of a reader, or of the keeper
@@ -155,6 +156,11 @@ CopiesStay = (k : Shape) (s : Table) (w : WorldState) (j : ℕ) (v : View) (r : 
 
 abbrev pub NotesArePublished : Type 0
 NotesArePublished = (k : Shape) (s : Table) (w : WorldState) (j : ℕ) (v : View) (r : ReaderView) → IsShown k s w → ReaderAt s j v r → ArePublished w r.notes
+
+-- a try that lost its exchange found two words, of which the second, which it shows, is no earlier than the first
+abbrev pub LostIsOnward : Type 0
+LostIsOnward = (r r' : ReaderView) (id : Id) (seen : Word) → Tries r id (Err (fault.Busy seen)) r'
+    → (n : ℕ) × (m : ℕ) × (r' ≡ reader_looked (reader_looked r id.slot n) id.slot m) × (seen ≡ decoded m) × NoLater n m
 
 -- a try to pin an Id that an earlier look found stale is refused as stale, or since 16 copies are held
 abbrev pub StaleStays : Type 0

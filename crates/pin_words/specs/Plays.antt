@@ -44,11 +44,14 @@ abbrev pub Show : Id → Descr → List Note → Type 0
 Show id d [] = Unit {0}
 Show id d (x ∷ xs) = (x.id ≡ id → x.descr ≡ d) × Show id d xs
 
--- what the word n of the slot s tells a reader that meets the keeper: it is the keeper's slot, and notes are of
--- what was published
+-- what the word n of the slot s tells a reader that meets the keeper: it is the keeper's slot; what the reader
+-- holds there is the slot's present Id, live or closing, which is published with the slot's descriptor; and notes
+-- are of what was published
 pub record Meets (k : KeeperView) (r : ReaderView) (s n : ℕ) : Type 0 where
   pub generation : (decoded n).generation ≡ (slot_of k.slots s).generation
   pub phase : (decoded n).phase ≡ (slot_of k.slots s).phase
+  pub held : (id : Id) → 0 < tally (same_id id) r.held → id.slot ≡ s → (id ≡ id_of k.slots s) × (may_be_held (slot_of k.slots s).phase ≡ true)
+  pub given : may_be_held (slot_of k.slots s).phase ≡ true → 0 < tally (is_with (id_of k.slots s) (slot_of k.slots s).descr) k.published
   pub notes : AreListed k.published r.notes
   pub shown : may_be_held (slot_of k.slots s).phase ≡ true → Show (id_of k.slots s) (slot_of k.slots s).descr r.notes
 

@@ -1,5 +1,5 @@
 -- What the calls of readers and of the keeper answer.
-use Rattle.std.specs.Prelude.{◌≡◌, ◌≢◌, ◌⊎◌, ℕ, ◌<◌, ◌≤◌, nat_lt, if◌then◌else◌, List, [], ◌∷◌, length, Result, Ok, Err}
+use Rattle.std.specs.Prelude.{◌≡◌, ◌≢◌, ◌⊎◌, ℕ, ◌<◌, ◌≤◌, nat_lt, if◌then◌else◌, List, [], ◌∷◌, ◌++◌, length, Result, Ok, Err}
 use Rattle.pin_core.specs.declared.id.Id.{Id}
 use Rattle.pin_core.specs.Words.{decoded}
 use Rattle.pin_core.specs.Worlds.{slot_of}
@@ -13,15 +13,16 @@ use Rattle.pin_words.specs.declared.view.Look.{Look}
 use Rattle.pin_words.specs.declared.view.KeeperView.{KeeperView}
 use Rattle.pin_words.specs.declared.view.ReaderView.{ReaderView}
 use Rattle.pin_words.specs.Verdicts.{verdict_of}
-use Rattle.pin_words.specs.Views.{reader_looked, reader_got, keeper_looked, keeper_reclaimed}
+use Rattle.pin_words.specs.Views.{reader_with, reader_looked, reader_got, keeper_looked, keeper_reclaimed}
 use Rattle.pin_words.specs.Plays.{Tells, Meets}
 
--- what follows a first look that found the word n: at Go one exchange, which finds the word m
+-- what follows a first look that found the word n: at Go one exchange, which finds the word m. That one tells as a
+-- look does, so it is no earlier than n
 abbrev pub Answers : Verdict → ReaderView → Id → ℕ → Result (Unit {0}) PinFault → ReaderView → Type 0
 Answers Unborn r id n res r' = (res ≡ Err fault.Unborn) × (r' ≡ reader_looked r id.slot n)
 Answers Stale r id n res r' = (res ≡ Err fault.Stale) × (r' ≡ reader_looked r id.slot n)
 Answers PinsFull r id n res r' = (res ≡ Err fault.PinsFull) × (r' ≡ reader_looked r id.slot n)
-Answers Go r id n res r' = (m : ℕ) × (m ≡ n → (res ≡ Ok tt) × (r' ≡ reader_got (reader_looked r id.slot n) id m))
+Answers Go r id n res r' = (m : ℕ) × Tells (reader_looked r id.slot n) id.slot m × (m ≡ n → (res ≡ Ok tt) × (r' ≡ reader_got (reader_looked r id.slot n) id m))
     × (m ≢ n → (res ≡ Err (fault.Busy (decoded m))) × (r' ≡ reader_looked (reader_looked r id.slot n) id.slot m))
 
 -- the answer of one try to pin, with the reader's view before and after
@@ -29,6 +30,10 @@ pub record Tries (r : ReaderView) (id : Id) (res : Result (Unit {0}) PinFault) (
   pub no_slot : r.shape.slots ≤ id.slot → (res ≡ Err fault.NoSuchSlot) × (r' ≡ r)
   pub full : id.slot < r.shape.slots → 16 ≤ length r.held → (res ≡ Err fault.HeldFull) × (r' ≡ r)
   pub tried : id.slot < r.shape.slots → length r.held < 16 → (n : ℕ) × Tells r id.slot n × Answers (verdict_of r.shape.max_pins id (decoded n)) r id n res r'
+
+-- nothing changed but that the reader looked
+abbrev pub HasOnlyLooked : ReaderView → ReaderView → Type 0
+HasOnlyLooked r r' = (ls : List Look) × (r' ≡ reader_with r r.held r.notes (ls ++ r.looks))
 
 -- some look found the Id stale
 abbrev pub WasStale : ℕ → Id → List Look → Type 0

@@ -24,12 +24,16 @@ pub enum PinFault {
     HeldFull,
 }
 
-/// What a word says of an Id that is to be pinned.
+/// What a word says of an Id that is to be pinned. Contracts speak of it; no call answers it.
 #[derive(Clone, Copy, Debug, PartialEq, Eq)]
-pub(crate) enum Verdict {
+pub enum Verdict {
+    /// The Id isn't published yet.
     Unborn,
+    /// The Id's object is given up.
     Stale,
+    /// The slot has as many pins as it may have.
     PinsFull,
+    /// It may be pinned.
     Go,
 }
 

@@ -1,5 +1,4 @@
 ghost use Rattle.std.specs.Prelude.{◌≡◌, ◌+◌, ◌≤◌, length};
-ghost use Rattle.pin_core.specs.Events.{reclaimed};
 ghost use Rattle.pin_words.specs.Views.{IsKeepers, keeper_of};
 
 use crate::pin_keeper::{PinKeeper, Reclaim};
@@ -9,7 +8,7 @@ use crate::plays::{
 use crate::reader::Reader;
 use crate::view::View;
 use atomic_table::{Seat, Shared};
-use pin_core::{Descr, Phase, Shape, Slot, Word};
+use pin_core::{CLOSING_BIT, Descr, LIVE_BIT, Phase, Shape, Slot, Word};
 use std::marker::Model;
 use std::mem;
 
@@ -36,20 +35,19 @@ impl<'a> Model for Keeper<'a> {
 
     ghost Value = { KeeperSeat };
 
-    ghost view = { λ k. record { table = k.seat.table_id; view = keeper_of k.seat.me.0 } };
+    ghost view = { λ k. record { table = record { id = k.seat.table_id; shape = k.shape }; view = keeper_of k.seat.me.0 } };
 }
 
-// Free becomes live, and live becomes closing, by one bit each.
-const LIVE: u64 = 1073741824;
-
-const CLOSES: u64 = 2147483648;
-
 impl<'a> Keeper<'a> {
-    ghost use Rattle.std.specs.Prelude.{◌≡◌, ◌+◌, ◌<◌, ◌≤◌, length};
+    ghost use Rattle.std.specs.Prelude.{◌≡◌, ◌+◌, ◌<◌, ◌≤◌, true, length};
+    ghost use Rattle.pin_core.specs.declared.id.Id.{Id};
     ghost use Rattle.pin_core.specs.declared.word.Phase.TheVariants.{Free, Live, Closing};
     ghost use Rattle.pin_core.specs.Descrs.{IsGiven};
+    ghost use Rattle.pin_core.specs.Holds.{tally, same_id};
     ghost use Rattle.pin_core.specs.Worlds.{slot_of};
-    ghost use Rattle.pin_words.specs.Views.{IsKeepers, keeper_of, keeper_stored, keeper_published, keeper_closed, keeper_gave, reader_given};
+    ghost use Rattle.pin_core.specs.Safety.{may_be_held};
+    ghost use Rattle.pin_words.specs.Views.{IsKeepers, id_of, keeper_of, keeper_stored, keeper_published, keeper_closed, keeper_gave, reader_given};
+    ghost use Rattle.pin_words.specs.Plays.{Show};
     ghost use Rattle.pin_words.specs.Tries.{Reclaims, Met};
 
     pub(crate) fn of_parts(
@@ -66,7 +64,7 @@ impl<'a> Keeper<'a> {
         requires shaped { (keeper_of seat.me.0).shape ≡ shape }
         requires knows { (keeper_of seat.me.0).slots ≡ slots.items }
         requires long { length slots.items ≡ shape.slots }
-        ensures { result ≡ record { table = seat.table_id; view = keeper_of seat.me.0 } }
+        ensures { result ≡ record { table = record { id = seat.table_id; shape = shape }; view = keeper_of seat.me.0 } }
     {
         Keeper {
             shared,
@@ -78,9 +76,20 @@ impl<'a> Keeper<'a> {
 
     /// How many slots there are.
     pub fn slots(&self) -> u32
-        ensures { result ≡ self.now.view.shape.slots }
+        ensures slots { result ≡ self.now.view.shape.slots }
+        ensures shape { self.now.table.shape ≡ self.now.view.shape }
+        ensures words { self.now.table.id.words ≡ result + result }
     {
         self.shape.slots
+    }
+
+    /// The readers and the keeper of one table have one shape.
+    pub fn same_shape(&self, reader: &Reader<'a>)
+        requires { reader.now.table ≡ self.now.table }
+        ensures { reader.now.view.shape ≡ self.now.view.shape }
+    {
+        let _slots = self.shape.slots;
+        reader.shape();
     }
 
     /// The phase of a slot.
@@ -122,7 +131,7 @@ impl<'a> Keeper<'a> {
         ensures table { self.new.table ≡ self.old.table }
     {
         self.shared
-            .fetch_or::<Publishing>(&mut self.seat, slot as usize, LIVE);
+            .fetch_or::<Publishing>(&mut self.seat, slot as usize, LIVE_BIT);
         let was = self.slots[slot as usize];
         self.slots[slot as usize] = Slot {
             phase: Phase::Live,
@@ -138,7 +147,7 @@ impl<'a> Keeper<'a> {
         ensures table { self.new.table ≡ self.old.table }
     {
         self.shared
-            .fetch_or::<Closes>(&mut self.seat, slot as usize, CLOSES);
+            .fetch_or::<Closes>(&mut self.seat, slot as usize, CLOSING_BIT);
         let was = self.slots[slot as usize];
         self.slots[slot as usize] = Slot {
             phase: Phase::Closing,
@@ -155,7 +164,7 @@ impl<'a> Keeper<'a> {
         ensures table { self.new.table ≡ self.old.table }
     {
         let was = self.slots[slot as usize];
-        let next = reclaimed(self.shape.max_gen, was);
+        let next = was.reclaimed(self.shape.max_gen);
         let expected = Word {
             generation: was.generation,
             phase: Phase::Closing,
@@ -185,11 +194,18 @@ impl<'a> Keeper<'a> {
     }
 
     /// One look at the slot for a reader of the same pins, whose seat is joined to the keeper's meanwhile: what
-    /// the reader holds there is the keeper's present slot, and the notes are of what was published.
+    /// the reader holds there is the keeper's present slot, and the notes are of what was published. One load;
+    /// that seats are joined and parted costs nothing more.
     pub fn meet(&mut self, reader: &mut Reader<'a>, slot: u32)
         requires slot { slot < self.old.view.shape.slots }
         requires same { reader.old.table ≡ self.old.table }
         ensures look { Met self.old.view reader.old.view slot reader.new.view }
+        ensures held { (id : Id) → 0 < tally (same_id id) reader.old.view.held → id.slot ≡ slot
+            → (id ≡ id_of self.old.view.slots slot)
+            × (may_be_held (slot_of self.old.view.slots slot).phase ≡ true) }
+        ensures noted { (id : Id) → 0 < tally (same_id id) reader.old.view.held → id.slot ≡ slot
+            → Show id (slot_of self.old.view.slots slot).descr reader.old.view.notes }
+        ensures shape { reader.old.view.shape ≡ self.old.view.shape }
         ensures view { self.new.view ≡ self.old.view }
         ensures table { (self.new.table ≡ self.old.table) × (reader.new.table ≡ reader.old.table) }
     {
@@ -211,28 +227,12 @@ impl<'a> Keeper<'a> {
     }
 }
 
-// The slot as it opens again, or ends.
-pub(crate) fn reclaimed(max_gen: u32, was: Slot) -> Slot
-    ensures { result ≡ reclaimed max_gen was }
-{
-    if was.generation < max_gen {
-        Slot {
-            generation: was.generation + 1,
-            phase: Phase::Free,
-            ..was
-        }
-    } else {
-        Slot {
-            phase: Phase::Retired,
-            ..was
-        }
-    }
-}
-
 impl<'a> PinKeeper for Keeper<'a> {
-    ghost use Rattle.pin_words.specs.Keepers.{state_of};
+    ghost use Rattle.pin_words.specs.Keepers.{state_of, ReclaimsFound};
 
-    ghost kept = { λ k. state_of k.view };
+    ghost kept = { state_of };
+
+    ghost reclaims = { ReclaimsFound };
 
     fn phase(&self, slot: u32) -> Phase {
         Keeper::phase(self, slot)

@@ -1,4 +1,4 @@
-ghost use Rattle.pin_words.specs.Laws.{ShowsOneWorld, ShowsSafeWorld, LoadSteps, PinSteps, ReleaseSteps, PublishSteps, CloseSteps, ReclaimSteps, FailedReclaimSteps, StoreSteps, ReadSteps, GivesReader, GivesBlank, JoinsSeats, PartsSeats, CopiesStay, NotesArePublished, StaleStays};
+ghost use Rattle.pin_words.specs.Laws.{ShowsOneWorld, ShowsSafeWorld, LoadSteps, PinSteps, ReleaseSteps, PublishSteps, CloseSteps, ReclaimSteps, FailedReclaimSteps, StoreSteps, ReadSteps, GivesReader, GivesBlank, JoinsSeats, PartsSeats, CopiesStay, NotesArePublished, LostIsOnward, StaleStays};
 
 /// The world that the seats make, and what each atomic step does to it.
 ///
@@ -6,7 +6,8 @@ ghost use Rattle.pin_words.specs.Laws.{ShowsOneWorld, ShowsSafeWorld, LoadSteps,
 /// steps takes it to its successor by the event named for it, and a failed exchange is a load. Giving, joining
 /// and parting seats leaves it as it is. A copy that a reader's view has is one hold of the world, and keeps its
 /// slot from being stored to, published and reclaimed. A note is the descriptor that was published with its Id.
-/// An Id that a reader found stale stays stale.
+/// A lost exchange shows a word that is no earlier than the first look's. An Id that a reader found stale stays
+/// stale.
 pub fn law_of_steps()
     ensures one_world { ShowsOneWorld }
     ensures safe { ShowsSafeWorld }
@@ -28,5 +29,6 @@ pub fn law_of_steps()
 
     ensures held { CopiesStay }
     ensures noted { NotesArePublished }
+    ensures lost { LostIsOnward }
     ensures stale { StaleStays }
 {}

@@ -2,7 +2,8 @@
 //!
 //! A [`Reader`] pins an Id by one look at the slot's word and one exchange, so that the object stays where it
 //! is until the reader releases it; the [`Keeper`] gives a slot up, and reclaims it once nobody holds it. Each
-//! call is at most two atomic steps, and each step is one event of `pin_core`: [`law_of_steps`] ties them.
+//! call, or each try of [`Reader::pin`], is at most two atomic steps, and each step is one event of `pin_core`:
+//! [`law_of_steps`] ties them.
 //! [`LockedPins`] is the same for one holder under a lock, with plain counts, and [`PinKeeper`] what is said of
 //! both keepers.
 //!
@@ -22,7 +23,7 @@ mod reader;
 mod tests;
 mod view;
 
-pub use fault::PinFault;
+pub use fault::{PinFault, Verdict};
 pub use keeper::Keeper;
 pub use law::law_of_steps;
 pub use locked::LockedPins;

@@ -5,11 +5,10 @@ ghost use Rattle.pin_core.specs.Holds.{tally, same_id};
 ghost use Rattle.pin_words.specs.Views.{sits};
 
 use crate::fault::{PinFault, Verdict, judge};
-use crate::keeper::reclaimed;
 use crate::pin_keeper::{PinKeeper, Reclaim};
 use crate::reader::{copies_of, forget};
 use arrayvec::ArrayVec;
-use ob_rights::{Fault, Kind};
+use ob_rights::Fault;
 use pin_core::{Descr, Id, Phase, Shape, Slot, Word};
 use std::alloc::Global;
 use std::marker::Model;
@@ -58,16 +57,7 @@ impl LockedPins {
         ensures ok { IfOk result (λ p. p ≡ locked shape (replicate shape.slots opening_slot) []) }
         ensures err { IfErr result (λ e. e ≡ Memory) }
     {
-        let opening = Slot {
-            generation: 1,
-            phase: Phase::Free,
-            descr: Descr {
-                kind: Kind::Event,
-                manual: false,
-                max: 0,
-            },
-        };
-        let Ok(slots) = vec![in alloc; opening; shape.slots as usize] else {
+        let Ok(slots) = vec![in alloc; Slot::opening(); shape.slots as usize] else {
             return Err(Fault::Memory);
         };
         Ok(LockedPins {
@@ -104,6 +94,7 @@ impl LockedPins {
     /// [`PinFault::Busy`].
     pub fn try_pin(&mut self, id: Id) -> Result<(), PinFault>
         ensures tries { Tries self.old id result self.new }
+        ensures rest { self.new ≡ with_held self.old self.new.held }
         ensures held { OnOk result (0 < tally (same_id id) self.new.held) }
     {
         if id.slot >= self.shape.slots {
@@ -126,7 +117,8 @@ impl LockedPins {
     /// Lets one copy of a held Id go.
     pub fn release(&mut self, id: Id)
         requires { 0 < tally (same_id id) self.old.held }
-        ensures { self.new ≡ released self.old id }
+        ensures released { self.new ≡ released self.old id }
+        ensures rest { self.new ≡ with_held self.old self.new.held }
     {
         forget(&mut self.held, id);
     }
@@ -200,7 +192,7 @@ impl LockedPins {
             return Reclaim::Held { pins };
         }
         let was = self.slot(slot);
-        let next = reclaimed(self.shape.max_gen, was);
+        let next = was.reclaimed(self.shape.max_gen);
         self.set_slot(slot, next);
         if was.generation < self.shape.max_gen {
             return Reclaim::Freed;
@@ -265,7 +257,11 @@ impl LockedPins {
 }
 
 impl PinKeeper for LockedPins {
+    ghost use Rattle.pin_words.specs.Keepers.{ReclaimsLocked};
+
     ghost kept = { λ k. k };
+
+    ghost reclaims = { ReclaimsLocked };
 
     fn phase(&self, slot: u32) -> Phase {
         LockedPins::phase(self, slot)

@@ -1,7 +1,8 @@
-ghost use Rattle.std.specs.Prelude.{◌≡◌, ◌<◌};
+ghost use Rattle.std.specs.Prelude.{◌≡◌, ◌<◌, ℕ};
 ghost use Rattle.pin_core.specs.declared.word.Phase.TheVariants.{Free, Live, Closing};
 ghost use Rattle.pin_core.specs.Descrs.{IsGiven};
 ghost use Rattle.pin_core.specs.Worlds.{slot_of};
+ghost use Rattle.pin_words.specs.declared.pin_keeper.Reclaim.{Reclaim};
 ghost use Rattle.pin_words.specs.Keepers.{KeeperState, stored, published, closed, Reclaims};
 
 use pin_core::{Descr, Phase};
@@ -21,8 +22,14 @@ pub enum Reclaim {
 }
 
 /// Who gives slots out and takes them back. Its calls take no memory and never wait.
+///
+/// To every caller a keeper is what `kept` says of it. Whether a reclaim answers held hangs on what the keeper
+/// counts, which a generic caller can't see. `reclaims` is what this kind of keeper answers exactly, so a caller
+/// whose contract names it can only pass the keeper's answer on.
 pub trait PinKeeper {
     ghost kept: { Self → KeeperState };
+
+    ghost reclaims: { KeeperState → ℕ → Reclaim → KeeperState → Type 0 };
 
     /// The phase of a slot.
     fn phase(&self, slot: u32) -> Phase
@@ -57,5 +64,6 @@ pub trait PinKeeper {
     fn reclaim(&mut self, slot: u32) -> Reclaim
         requires slot { slot < (kept self.old).shape.slots }
         requires closing { (slot_of (kept self.old).slots slot).phase ≡ Closing }
-        ensures { Reclaims (kept self.old) slot result (kept self.new) };
+        ensures kind { Reclaims (kept self.old) slot result (kept self.new) }
+        ensures exact { reclaims (kept self.old) slot result (kept self.new) };
 }

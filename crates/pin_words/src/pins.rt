@@ -6,8 +6,8 @@ use crate::plays::PinRule;
 use crate::reader::Reader;
 use crate::view::View;
 use atomic_table::{Seat, Table};
-use ob_rights::{Fault, Kind};
-use pin_core::{Descr, Phase, Shape, Slot};
+use ob_rights::Fault;
+use pin_core::{LIVE_BIT, Shape, Slot};
 use std::alloc::Global;
 use std::marker::Model;
 
@@ -26,7 +26,7 @@ impl Model for Pins {
 
     ghost Value = { TableState };
 
-    ghost view = { λ p. record { table = p.table.shared.table_id; shape = p.shape } };
+    ghost view = { λ p. record { id = p.table.shared.table_id; shape = p.shape } };
 }
 
 /// The right to start with new pins, once.
@@ -43,11 +43,11 @@ impl Model for Opening {
 
     ghost Value = { TableState };
 
-    ghost view = { λ o. record { table = o.seat.table_id; shape = o.shape } };
+    ghost view = { λ o. record { id = o.seat.table_id; shape = o.shape } };
 }
 
 // The word of a free slot at the first generation, without pins.
-const FIRST: u64 = 4294967296;
+const FIRST: u64 = 4 * LIVE_BIT;
 
 impl Pins {
     ghost use Rattle.std.specs.Prelude.{◌≡◌, IfOk, IfErr};
@@ -85,22 +85,13 @@ impl Opening {
     /// The keeper, and reader 1. Where memory ran out the right to start comes back.
     pub fn start<'a>(self, pins: &'a Pins) -> Result<(Keeper<'a>, Reader<'a>), Opening>
         requires { self ≡ pins.now }
-        ensures keeper { IfOk result (λ r. (r.0.table ≡ self.table)
+        ensures keeper { IfOk result (λ r. (r.0.table ≡ self)
             × (r.0.view ≡ keeper_gave (opening_keeper self.shape))) }
-        ensures reader { IfOk result (λ r. (r.1.table ≡ self.table)
+        ensures reader { IfOk result (λ r. (r.1.table ≡ self)
             × (r.1.view ≡ reader_given (opening_keeper self.shape))) }
         ensures err { IfErr result (λ o. o ≡ self) }
     {
-        let opening = Slot {
-            generation: 1,
-            phase: Phase::Free,
-            descr: Descr {
-                kind: Kind::Event,
-                manual: false,
-                max: 0,
-            },
-        };
-        let Ok(slots) = vec![in self.alloc; opening; self.shape.slots as usize] else {
+        let Ok(slots) = vec![in self.alloc; Slot::opening(); self.shape.slots as usize] else {
             return Err(self);
         };
         let Opening {

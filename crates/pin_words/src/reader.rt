@@ -9,23 +9,20 @@ use crate::plays::{Looks, Noting, PinRule, Pinning, Releasing};
 use crate::view::View;
 use arrayvec::ArrayVec;
 use atomic_table::{Seat, Shared};
-use pin_core::{Descr, Id, Shape, Word};
+use pin_core::{Descr, Id, Shape, Word, same_id};
 use std::marker::Model;
 use std::sync::Wait;
 
 fn place_of(held: &[Id], id: Id) -> Option<usize>
     ensures { result ≡ position (same_id id) held.now }
 {
-    held.iter()
-        .position(|h| id.slot == h.slot && id.generation == h.generation)
+    held.iter().position(|h| same_id(id, *h))
 }
 
 pub(crate) fn copies_of(held: &[Id], id: Id) -> usize
     ensures { result ≡ count_by (same_id id) held.now }
 {
-    held.iter()
-        .filter(|h| id.slot == h.slot && id.generation == h.generation)
-        .count()
+    held.iter().filter(|h| same_id(id, **h)).count()
 }
 
 pub(crate) fn forget(held: &mut ArrayVec<Id, 16>, id: Id)
@@ -72,7 +69,7 @@ impl<'a> Model for Reader<'a> {
 
     ghost Value = { ReaderState };
 
-    ghost view = { λ r. record { table = r.seat.table_id; view = reader_of r.seat.me.0 } };
+    ghost view = { λ r. record { table = record { id = r.seat.table_id; shape = r.shape }; view = reader_of r.seat.me.0 } };
 }
 
 impl<'a> Reader<'a> {
@@ -87,7 +84,7 @@ impl<'a> Reader<'a> {
     ghost use Rattle.pin_words.specs.Verdicts.{verdict_of};
     ghost use Rattle.pin_words.specs.Views.{M, view, reader_looked, reader_got, reader_released, reader_noted};
     ghost use Rattle.pin_words.specs.Plays.{Tells};
-    ghost use Rattle.pin_words.specs.Tries.{Tries};
+    ghost use Rattle.pin_words.specs.Tries.{Tries, HasOnlyLooked};
 
     pub(crate) fn of_parts(
         shared: &'a Shared<(), View, Shape, PinRule>,
@@ -100,7 +97,7 @@ impl<'a> Reader<'a> {
         requires reads { IsReaders seat.me }
         requires shaped { (reader_of seat.me.0).shape ≡ shape }
         requires empty { (reader_of seat.me.0).held ≡ [] }
-        ensures { result ≡ record { table = seat.table_id; view = reader_of seat.me.0 } }
+        ensures { result ≡ record { table = record { id = seat.table_id; shape = shape }; view = reader_of seat.me.0 } }
     {
         Reader {
             shared,
@@ -127,6 +124,7 @@ impl<'a> Reader<'a> {
         requires room { length self.old.view.held < 16 }
         ensures won { result ≡ found → self.new.view ≡ reader_got self.old.view id found }
         ensures lost { result ≢ found → self.new.view ≡ reader_looked self.old.view id.slot result }
+        ensures tells { Tells self.old.view id.slot result }
         ensures table { self.new.table ≡ self.old.table }
     {
         // Listed first, since what is written after the exchange delays the next atomic step.
@@ -149,6 +147,7 @@ impl<'a> Reader<'a> {
     pub fn try_pin(&mut self, id: Id) -> Result<(), PinFault>
         ensures tries { Tries self.old.view id result self.new.view }
         ensures held { OnOk result (0 < tally (same_id id) self.new.view.held) }
+        ensures shape { self.new.view.shape ≡ self.old.view.shape }
         ensures table { self.new.table ≡ self.old.table }
     {
         if id.slot >= self.shape.slots {
@@ -175,10 +174,13 @@ impl<'a> Reader<'a> {
         }
     }
 
-    /// Pins as [`try_pin`](Reader::try_pin) does, again and again while it answers [`PinFault::Busy`].
+    /// Pins as [`try_pin`](Reader::try_pin) does, again and again while it answers [`PinFault::Busy`]. Its answer
+    /// is that of its last try, before which nothing changed but that it looked.
     pub fn pin<R: Wait>(&mut self, rt: &R, id: Id) -> Result<(), PinFault>
-        ensures last { (r : ReaderView) × Tries r id result self.new.view }
+        ensures last { (r : ReaderView) × HasOnlyLooked self.old.view r
+            × Tries r id result self.new.view }
         ensures held { OnOk result (0 < tally (same_id id) self.new.view.held) }
+        ensures shape { self.new.view.shape ≡ self.old.view.shape }
         ensures settled { (w : Word) → result ≢ Err (fault.Busy w) }
         ensures table { self.new.table ≡ self.old.table }
     {
@@ -229,6 +231,24 @@ impl<'a> Reader<'a> {
         ensures { result.now ≡ self.now.view.held }
     {
         self.held.as_slice()
+    }
+
+    /// The slot of a held Id, which is one of the table's.
+    pub fn slot_of_held(&self, id: Id) -> u32
+        requires { 0 < tally (same_id id) self.now.view.held }
+        ensures slot { result ≡ id.slot }
+        ensures inside { result < self.now.view.shape.slots }
+    {
+        let _slots = self.shape.slots;
+        id.slot
+    }
+
+    /// The shape of its table.
+    pub fn shape(&self) -> Shape
+        ensures view { result ≡ self.now.view.shape }
+        ensures table { result ≡ self.now.table.shape }
+    {
+        self.shape
     }
 
     /// Ends a reader that holds nothing.

@@ -1,5 +1,6 @@
-ghost use Rattle.std.specs.Prelude.{◌≡◌, ◌<◌, IsTrue, IfSome};
+ghost use Rattle.std.specs.Prelude.{◌≡◌, ◌<◌, true, IsTrue, IfSome};
 ghost use Rattle.pin_core.specs.Worlds.{slot_of};
+ghost use Rattle.pin_words.specs.Keepers.{IsFresh};
 
 use crate::{Keeper, LockedPins, Opening, PinFault, PinKeeper, Pins, Reader, Reclaim};
 use ob_rights::Kind;
@@ -45,7 +46,9 @@ fn is_at<K: Counted>(keeper: &K, slot: u32, generation: u32) -> bool {
     slot < keeper.count() && keeper.generation(slot) == generation
 }
 
-fn publish<K: Counted>(keeper: &mut K, slot: u32) -> bool {
+fn publish<K: Counted>(keeper: &mut K, slot: u32) -> bool
+    ensures { (K.kept keeper.new).table ≡ (K.kept keeper.old).table }
+{
     if !is_in(keeper, slot, Phase::Free) || !SEMAPHORE.is_given() {
         return false;
     }
@@ -65,11 +68,35 @@ fn close<K: Counted>(keeper: &mut K, slot: u32) -> bool {
     true
 }
 
-fn reclaim<K: Counted>(keeper: &mut K, slot: u32) -> Option<Reclaim> {
+// Only the keeper can answer what it counts.
+fn reclaim<K: Counted>(keeper: &mut K, slot: u32) -> Option<Reclaim>
+    ensures { IfSome result (λ r. K.reclaims (K.kept keeper.old) slot r (K.kept keeper.new)) }
+{
     if !is_in(keeper, slot, Phase::Closing) {
         return None;
     }
     Some(keeper.reclaim(slot))
+}
+
+fn is_fresh<K: Counted>(keeper: &K, shape: Shape) -> bool
+    requires { IsFresh (K.kept keeper.now) shape }
+    ensures { result ≡ true }
+{
+    keeper.count() == shape.slots
+}
+
+// The slot of a held Id is one of the keeper's.
+fn meet<'a>(keeper: &mut Keeper<'a>, reader: &mut Reader<'a>, id: Id) -> bool
+    requires { reader.old.table ≡ keeper.old.table }
+    ensures { (keeper.new.table ≡ keeper.old.table) × (reader.new.table ≡ reader.old.table) }
+{
+    if !reader.holds(id) {
+        return false;
+    }
+    let slot = reader.slot_of_held(id);
+    keeper.same_shape(reader);
+    keeper.meet(reader, slot);
+    keeper.generation(slot) == id.generation
 }
 
 fn release(reader: &mut Reader<'_>, id: Id) -> bool {
@@ -123,6 +150,7 @@ fn a_pinned_slot_is_kept(rt: HostRuntime) -> Result<(), Fail> {
     let Ok((mut keeper, mut a)) = opening.start(&pins) else {
         panic!(rt; "no memory")
     };
+    assert!(rt; is_fresh(&keeper, shape));
     let mut b = keeper.reader();
     assert!(rt; publish(&mut keeper, 0));
     assert!(rt; a.try_pin(id(0, 1)).is_ok() && b.try_pin(id(0, 1)).is_ok());
@@ -156,6 +184,7 @@ fn pins_under_a_lock_are_kept(rt: HostRuntime) -> Result<(), Fail> {
     let Ok(mut pins) = LockedPins::new(rt.alloc(), shape) else {
         panic!(rt; "no memory")
     };
+    assert!(rt; is_fresh(&pins, shape));
     assert!(rt; pins.try_pin(id(0, 1)) == Err(PinFault::Unborn));
     assert!(rt; publish(&mut pins, 0));
     assert!(rt; pins.try_pin(id(0, 1)).is_ok() && pins.try_pin(id(0, 1)).is_ok());
@@ -226,7 +255,7 @@ fn two_threads_pin_and_release(rt: HostRuntime) -> Result<(), Fail> {
 // What was given comes back, and serves a second try.
 fn start<'a>(opening: Opening, pins: &'a Pins) -> Option<(Keeper<'a>, Reader<'a>)>
     requires { opening ≡ pins.now }
-    ensures { IfSome result (λ r. (r.0.table ≡ pins.now.table) × (r.1.table ≡ pins.now.table)) }
+    ensures { IfSome result (λ r. (r.0.table ≡ pins.now) × (r.1.table ≡ pins.now)) }
 {
     match opening.start(pins) {
         Ok(started) => Some(started),
@@ -252,7 +281,9 @@ fn want_of_memory_gives_back_what_was_given(rt: HostRuntime) -> Result<(), Fail>
     if keeper.slots() == 4 {
         keeper.meet(&mut reader, 3);
     }
+    assert!(rt; !meet(&mut keeper, &mut reader, id(3, 1)));
     assert!(rt; publish(&mut keeper, 3) && reader.try_pin(id(3, 1)).is_ok());
+    assert!(rt; meet(&mut keeper, &mut reader, id(3, 1)));
     let locked = match LockedPins::new(rt.alloc(), shape) {
         Ok(locked) => Ok(locked),
         Err(_) => LockedPins::new(rt.alloc(), shape),

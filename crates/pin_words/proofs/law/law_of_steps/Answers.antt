@@ -1,6 +1,6 @@
 use Rattle.pin_words.proofs.LawOfSteps.{one-world, law-load, law-pin, law-release, law-read, law-publish, law-close, law-reclaim, law-reclaim-failed, law-store, law-held, law-noted, law-gives}
 use Rattle.pin_words.proofs.Reseated.{blanks-shown, joins-shown, parts-shown}
-use Rattle.pin_words.proofs.Calls.{stale-answers}
+use Rattle.pin_words.proofs.Calls.{lost-onward, stale-answers}
 use Rattle.pin_words.proofs.law.law_of_steps.Goals as goal
 
 pub returns-clause-safe : goal.returns-clause-safe
@@ -53,6 +53,9 @@ returns-clause-held c = law-held
 
 pub returns-clause-noted : goal.returns-clause-noted
 returns-clause-noted c = law-noted
+
+pub returns-clause-lost : goal.returns-clause-lost
+returns-clause-lost c = lost-onward
 
 pub returns-clause-stale : goal.returns-clause-stale
 returns-clause-stale c = stale-answers

@@ -12,7 +12,7 @@ split_seat-blank-requires c = (search rules, (let wide = c.self.inside.wide in l
 pub join_seat-requires : goal.join_seat-requires
 join_seat-requires c = let kv = keeper_of c.self.inside.seat.me.0 in let rv = reader_of c.reader.inside.seat.me.0 in
     let seat : c.replace-seat.result ≡ c.reader.inside.seat = c.replace-seat.ensures.value in
-    let same : c.reader.inside.seat.table_id ≡ c.self.inside.seat.table_id = ap (λ w. w.table) c.reader.view_is ∙ (c.requires.same ∙ ap (λ w. w.table) (sym c.self.view_is)) in (
+    let same : c.reader.inside.seat.table_id ≡ c.self.inside.seat.table_id = ap (λ w. w.table.id) c.reader.view_is ∙ (ap (λ t. t.id) c.requires.same ∙ ap (λ w. w.table.id) (sym c.self.view_is)) in (
       search rules,
       ap (λ z. z.table_id) seat ∙ (same ∙ c.self.inside.seated),
       ap (λ z. z.me.1) seat ∙ ap (λ m. m.1) c.reader.inside.reads,

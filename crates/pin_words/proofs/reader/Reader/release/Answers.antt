@@ -47,4 +47,4 @@ pub returns : goal.returns
 returns c = let view : reader_of c.self.inside.seat.me.0 ≡ c.args.self.now.view = ap (λ w. w.view) c.self.view_is in
     let have : 0 < tally (same_id c.args.id) (reader_of c.self.inside.seat.me.0).held = subst (λ (z : ReaderView). 0 < tally (same_id c.args.id) z.held) (sym view) c.requires in
     let one = released-one c.fetch_sub.result c.self.inside.seat.me c.fetch_sub.new.seat.me c.args.id c.self.inside.reads c.fetch_sub.ensures.2 have in
-    record { view = one.1 ∙ ap (λ r. reader_released r c.args.id) view; table = c.fetch_sub.ensures.0 ∙ ap (λ w. w.table) c.self.view_is }
+    record { view = one.1 ∙ ap (λ r. reader_released r c.args.id) view; table = (λ k. record { id = c.fetch_sub.ensures.0 k; shape = c.self.inside.shape }) ∙ ap (λ w. w.table) c.self.view_is }
