@@ -11,16 +11,24 @@
 #![tactic(auto)]
 
 mod directory;
+mod entered;
 mod key;
+mod law;
 mod name;
 mod owned;
 mod parser;
+mod places;
+mod rows;
+mod session;
 mod space;
 #[cfg(test)]
 mod tests;
 
 pub use directory::Directory;
-pub use name::NameRef;
+pub use law::law_of_names;
+pub use name::{NAME_MOST, NameRef};
 pub use owned::Name;
 pub use parser::parse;
+pub use rows::Rows;
+pub use session::Session;
 pub use space::Space;
