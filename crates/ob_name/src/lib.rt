@@ -5,8 +5,10 @@
 //! let same = parse(b"A", 0)?;                       // the same name: session 0 is the global namespace
 //! let mut directory = Directory::new(alloc);
 //! let copy = directory.reserve(&name)?;             // takes memory, and changes no name
+//! let kept = Name::new(alloc, &name)?;              // what the object keeps of its name
 //! directory.enter(copy, id);                        // can't fail
 //! directory.find(&same);                            // Some(id)
+//! directory.remove(&kept.borrowed());               // Some(id), and the name is gone
 //! ```
 #![tactic(auto)]
 
