@@ -1,5 +1,5 @@
 -- What a name finds among names of which none stands twice.
-use Rattle.std.proofs.Common.{◌≡◌, ℕ, zero, suc, Bool, true, false, [], ◌∷◌, Some, refl, ap, sym, ◌∙◌, slice_get}
+use Rattle.std.proofs.Common.{◌≡◌, ℕ, zero, suc, true, false, [], ◌∷◌, Some, ap, sym, ◌∙◌, slice_get}
 use Rattle.std.specs.List.{AllByRecursion, IsDistinct}
 use Rattle.std.specs.Map.{keys_of}
 use Rattle.pin_core.specs.declared.id.Id.{Id}

@@ -4,7 +4,6 @@ use Rattle.std.specs.Option.{option_and_then, option_to_list}
 use Rattle.std.proofs.lemmas.Bool.{cases_lt}
 use Rattle.std.proofs.lemmas.Option.{slice_get_past}
 use Rattle.ob_name.proofs.Counted.{few_rows}
-use Rattle.ob_name.specs.Listing.{Rows}
 use Rattle.ob_name.specs.Order.{Entry, Row, row_in, row_on, rows_between, rows_of}
 
 onward : (f : ℕ → Option Row) (place n : ℕ) → place < n → rows_between f place (n - place) ≡ option_to_list (f place) ++ rows_between f (place + 1) (n - (place + 1))

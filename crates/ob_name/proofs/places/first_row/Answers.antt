@@ -1,7 +1,6 @@
 use Rattle.std.proofs.Common.{◌∙◌, arith, length}
 use Rattle.ob_name.specs.Order.{row_on}
-use Rattle.ob_name.specs.Refs.{row_at}
-use Rattle.ob_name.proofs.Walked.{comes_first, none_left, passed_by}
+use Rattle.ob_name.proofs.Walked.{passed_by}
 use Rattle.ob_name.proofs.places.first_row.Goals as goal
 
 pub loop-place-preserved : goal.loop-place-preserved

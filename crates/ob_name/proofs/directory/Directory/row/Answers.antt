@@ -1,4 +1,4 @@
-use Rattle.std.proofs.Common.{◌∙◌, ap, sym, arith, slice_get}
+use Rattle.std.proofs.Common.{◌∙◌, ap, arith, slice_get}
 use Rattle.std.proofs.lemmas.Iterator.Consumers.{YieldsList-from_first, nth_from_yields_List}
 use Rattle.ob_name.specs.Listing.{Listing}
 use Rattle.ob_name.specs.Refs.{row_at}
