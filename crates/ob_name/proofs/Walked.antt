@@ -1,5 +1,5 @@
 -- A walk over the places, row by row.
-use Rattle.std.proofs.Common.{◌≡◌, ℕ, zero, suc, ◌+◌, ◌-◌, ◌<◌, ◌≤◌, inl, inr, List, [], ◌∷◌, ◌++◌, Option, None, Some, length, refl, ap, sym, ◌∙◌, arith, slice_get}
+use Rattle.std.proofs.Common.{◌≡◌, ℕ, zero, suc, ◌+◌, ◌-◌, ◌<◌, ◌≤◌, inl, inr, List, ◌++◌, Option, None, Some, length, refl, ap, sym, ◌∙◌, arith, slice_get}
 use Rattle.std.specs.Option.{option_and_then, option_to_list}
 use Rattle.std.proofs.lemmas.Bool.{cases_lt}
 use Rattle.std.proofs.lemmas.Option.{slice_get_past}
@@ -18,15 +18,6 @@ onward f place n low = ap (rows_between f place) (step place n low) ∙ ap (λ (
 -- a place without a row is passed by
 pub passed_by : (f : ℕ → Option Row) (place n : ℕ) → place < n → None ≡ f place → rows_between f place (n - place) ≡ rows_between f (place + 1) (n - (place + 1))
 passed_by f place n low none = onward f place n low ∙ ap (λ (o : Option Row). option_to_list o ++ rows_between f (place + 1) (n - (place + 1))) (sym none)
-
-pub comes_first : (f : ℕ → Option Row) (place n : ℕ) (row : Row) → place < n → Some row ≡ f place → rows_between f place (n - place) ≡ row ∷ rows_between f (place + 1) (n - (place + 1))
-comes_first f place n row low is = onward f place n low ∙ ap (λ (o : Option Row). option_to_list o ++ rows_between f (place + 1) (n - (place + 1))) (sym is)
-
-pub none_left : (f : ℕ → Option Row) (place n : ℕ) → n ≤ place → rows_between f place (n - place) ≡ []
-none_left f place n high = ap (λ (count : ℕ). rows_between f place count) (zero_is place n high)
-  where
-    zero_is : (p m : ℕ) → m ≤ p → m - p ≡ 0
-    zero_is p m high' = omega (arith, high')
 
 -- where there are as many rows as places, each place has its row
 full : (f : ℕ → Option Row) (first n at k : ℕ) → length (rows_between f first n) ≡ n → at < n → k ≡ first + at → slice_get (rows_between f first n) at ≡ f k
