@@ -1,10 +1,13 @@
-//! The rounds of crates/bench_names, in plain Rust: rows in the order of entry, and a table of their places by hash, as
-//! an index map has them.
+//! The rounds of crates/bench_names, in plain Rust: rows in the order of entry, with holes where names went, and a table of
+//! their places by hash. A name is looked up as it stands, with no copy, and its hash is that of the kit's default hasher.
+//! As in a library of its own, the calls are not inlined, and the session is not known to the compiler.
 
+use std::hint::black_box;
 use std::time::Instant;
 
 const COUNTS: [u32; 3] = [16, 1000, 60000];
 const FINDS: u32 = 10_000_000;
+const REPLACEMENTS: u32 = 1_000_000;
 
 #[derive(Clone, Copy)]
 struct Id {
@@ -15,42 +18,60 @@ struct Id {
 
 struct Row {
     hash: u64,
-    key: Vec<u8>,
+    session: u32,
+    base: Vec<u8>,
     id: Id,
 }
 
 /// A place in the table is 0 where it is empty, else one above the place of a row.
 struct Directory {
     table: Vec<u32>,
-    rows: Vec<Row>,
+    rows: Vec<Option<Row>>,
+    count: usize,
 }
 
-/// A hash of eight bytes at a time.
-fn hash_of(key: &[u8]) -> u64 {
-    let fold = |hash: u64, word: u64| {
-        let wide = u128::from(hash ^ word) * 0x9E37_79B9_7F4A_7C15;
-        (wide as u64) ^ ((wide >> 64) as u64)
-    };
-    let words = key.chunks_exact(8);
-    let mut last = [0; 8];
-    last[..words.remainder().len()].copy_from_slice(words.remainder());
-    let hash = words.fold(key.len() as u64, |hash, word| {
-        fold(hash, u64::from_le_bytes(word.try_into().unwrap()))
-    });
-    fold(hash, u64::from_le_bytes(last))
+const MULTIPLIER: u64 = 0x9E37_79B9_7F4A_7C15;
+
+#[inline(always)]
+fn fold(a: u64, b: u64) -> u64 {
+    let wide = u128::from(a) * u128::from(b);
+    (wide as u64) ^ ((wide >> 64) as u64)
 }
 
-/// The key of a name: one byte for the kind of namespace, four for the session, and the text.
-fn key_of(session: u32, text: &[u8], key: &mut [u8; 265]) -> usize {
-    key[0] = 1;
-    key[1..5].copy_from_slice(&session.to_le_bytes());
-    key[5..5 + text.len()].copy_from_slice(text);
-    5 + text.len()
+#[inline(always)]
+fn word(bytes: &[u8], at: usize) -> u64 {
+    u64::from_le_bytes(bytes[at..at + 8].try_into().unwrap())
+}
+
+#[inline(always)]
+fn half(bytes: &[u8], at: usize) -> u64 {
+    u64::from(u32::from_le_bytes(bytes[at..at + 4].try_into().unwrap()))
+}
+
+/// The session is one write of eight bytes, the text another: sixteen bytes at a time by one wide product.
+fn hash_of(session: u32, base: &[u8]) -> u64 {
+    let mut state = fold(0x243F_6A88_85A3_08D3 ^ u64::from(session), MULTIPLIER ^ 16);
+    let len = base.len();
+    if len <= 8 {
+        let short = match len {
+            4.. => half(base, 0) | half(base, len - 4) << 32,
+            1.. => u64::from(base[0]) | u64::from(base[len / 2]) << 8 | u64::from(base[len - 1]) << 16,
+            0 => 0,
+        };
+        return fold(state ^ short, MULTIPLIER ^ (2 * len as u64));
+    }
+    state = state.wrapping_add(len as u64);
+    let mut at = 0;
+    while len - at > 16 {
+        state = fold(word(base, at) ^ state, word(base, at + 8) ^ MULTIPLIER);
+        at += 16;
+    }
+    fold(word(base, len.saturating_sub(16)) ^ state, word(base, len - 8) ^ MULTIPLIER)
 }
 
 impl Directory {
     fn new() -> Directory {
-        Directory { table: vec![0; 8], rows: Vec::new() }
+        Directory { table: vec![0; 8], rows: Vec::new(), count: 0 }
     }
 
     fn next(&self, at: usize) -> usize {
@@ -61,14 +82,15 @@ impl Directory {
         hash as usize & (self.table.len() - 1)
     }
 
-    /// Where the table has the key: its place there, and its row's.
-    fn seek(&self, hash: u64, key: &[u8]) -> Option<(usize, usize)> {
+    /// Where the table has the name: its place there, and its row's.
+    fn seek(&self, hash: u64, session: u32, base: &[u8]) -> Option<(usize, usize)> {
         let mut at = self.home(hash);
         while self.table[at] != 0 {
             let place = self.table[at] as usize - 1;
-            let row = &self.rows[place];
-            if row.hash == hash && row.key == key {
-                return Some((at, place));
+            if let Some(row) = &self.rows[place] {
+                if row.hash == hash && row.session == session && row.base == base {
+                    return Some((at, place));
+                }
             }
             at = self.next(at);
         }
@@ -83,49 +105,56 @@ impl Directory {
         self.table[at] = place as u32 + 1;
     }
 
-    fn find(&self, text: &[u8]) -> Option<Id> {
-        let mut key = [0; 265];
-        let len = key_of(1, text, &mut key);
-        let (_, place) = self.seek(hash_of(&key[..len]), &key[..len])?;
-        Some(self.rows[place].id)
-    }
-
-    fn enter(&mut self, text: &[u8], slot: u32) {
-        let mut key = [0; 265];
-        let len = key_of(1, text, &mut key);
-        let hash = hash_of(&key[..len]);
-        assert!(self.seek(hash, &key[..len]).is_none());
-        self.rows.push(Row { hash, key: key[..len].to_vec(), id: Id { slot, generation: 1 } });
-        if self.rows.len() * 8 <= self.table.len() * 7 {
-            self.list(hash, self.rows.len() - 1);
-            return;
-        }
-        self.table = vec![0; self.table.len() * 2];
+    /// Closes the holes, and lists all rows in a table of `len` places.
+    fn settle(&mut self, len: usize) {
+        self.rows.retain(Option::is_some);
+        self.table.clear();
+        self.table.resize(len, 0);
         for place in 0..self.rows.len() {
-            self.list(self.rows[place].hash, place);
+            if let Some(hash) = self.rows[place].as_ref().map(|row| row.hash) {
+                self.list(hash, place);
+            }
         }
     }
 
-    fn remove(&mut self, text: &[u8]) -> Option<Id> {
-        let mut key = [0; 265];
-        let len = key_of(1, text, &mut key);
-        let (mut hole, place) = self.seek(hash_of(&key[..len]), &key[..len])?;
+    #[inline(never)]
+    fn find(&self, session: u32, base: &[u8]) -> Option<Id> {
+        let (_, place) = self.seek(hash_of(session, base), session, base)?;
+        self.rows[place].as_ref().map(|row| row.id)
+    }
+
+    #[inline(never)]
+    fn enter(&mut self, session: u32, base: &[u8], id: Id) {
+        let hash = hash_of(session, base);
+        self.rows.push(Some(Row { hash, session, base: base.to_vec(), id }));
+        self.count += 1;
+        if self.count * 8 <= self.table.len() * 7 {
+            self.list(hash, self.rows.len() - 1);
+        } else {
+            self.settle(self.table.len() * 2);
+        }
+    }
+
+    #[inline(never)]
+    fn remove(&mut self, session: u32, base: &[u8]) -> Option<Id> {
+        let (mut hole, place) = self.seek(hash_of(session, base), session, base)?;
+        let row = self.rows[place].take()?;
+        let mask = self.table.len() - 1;
         let mut at = self.next(hole);
         while self.table[at] != 0 {
-            let home = self.home(self.rows[self.table[at] as usize - 1].hash);
-            let mask = self.table.len() - 1;
-            if (at.wrapping_sub(home) & mask) >= (at.wrapping_sub(hole) & mask) {
-                self.table[hole] = self.table[at];
-                hole = at;
+            if let Some(other) = &self.rows[self.table[at] as usize - 1] {
+                let home = self.home(other.hash);
+                if (at.wrapping_sub(home) & mask) >= (at.wrapping_sub(hole) & mask) {
+                    self.table[hole] = self.table[at];
+                    hole = at;
+                }
             }
             at = self.next(at);
         }
         self.table[hole] = 0;
-        let row = self.rows.remove(place);
-        for listed in &mut self.table {
-            if *listed as usize > place {
-                *listed -= 1;
-            }
+        self.count -= 1;
+        if self.count < self.rows.len() / 2 {
+            self.settle(self.table.len());
         }
         Some(row.id)
     }
@@ -148,10 +177,17 @@ fn texts(count: u32) -> Vec<[u8; 16]> {
         .collect()
 }
 
+/// Enters a name that is absent, which is tested.
+fn enter(directory: &mut Directory, text: &[u8], slot: u32) {
+    let session = black_box(1);
+    assert!(directory.find(session, text).is_none());
+    directory.enter(session, text, Id { slot, generation: 1 });
+}
+
 fn names(texts: &[[u8; 16]]) -> Directory {
     let mut directory = Directory::new();
     for (slot, text) in texts.iter().enumerate() {
-        directory.enter(text, slot as u32);
+        enter(&mut directory, text, slot as u32);
     }
     directory
 }
@@ -165,7 +201,7 @@ fn main() {
         let start = Instant::now();
         for _ in 0..FINDS {
             let text = &texts[random.below(count) as usize];
-            if let Some(id) = directory.find(text) {
+            if let Some(id) = directory.find(black_box(1), text) {
                 sum = sum.wrapping_add(u64::from(id.slot));
             }
         }
@@ -176,19 +212,18 @@ fn main() {
     for count in COUNTS {
         let texts = texts(count);
         let mut directory = names(&texts);
-        let rounds = if count > 10000 { 2000 } else { 200_000 };
         let mut random = Random(2463534242);
         let mut sum = 0u64;
         let start = Instant::now();
-        for _ in 0..rounds {
+        for _ in 0..REPLACEMENTS {
             let text = &texts[random.below(count) as usize];
-            if let Some(id) = directory.remove(text) {
+            if let Some(id) = directory.remove(black_box(1), text) {
                 sum = sum.wrapping_add(u64::from(id.slot));
-                directory.enter(text, id.slot);
+                enter(&mut directory, text, id.slot);
             }
         }
         let nanos = start.elapsed().as_nanos();
-        println!("remove and enter again among {count}: {rounds} in {nanos}");
+        println!("remove and enter again among {count}: {REPLACEMENTS} in {nanos}");
         assert!(sum > 0);
     }
 }

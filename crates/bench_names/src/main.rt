@@ -16,10 +16,7 @@ const COUNTS: [u32; 3] = [16, 1000, 60000];
 
 const FINDS: u32 = 10_000_000;
 
-/// Some rounds of removing a name and entering it again.
-fn replacements(count: u32) -> u32 {
-    if count > 10000 { 2000 } else { 200_000 }
-}
+const REPLACEMENTS: u32 = 1_000_000;
 
 fn measure_find(rt: &(impl Print + Clock), alloc: Global, count: u32) -> Result<()> {
     let texts = texts(alloc, count)?;
@@ -37,11 +34,10 @@ fn measure_find(rt: &(impl Print + Clock), alloc: Global, count: u32) -> Result<
 fn measure_replace(rt: &(impl Print + Clock), alloc: Global, count: u32) -> Result<()> {
     let texts = texts(alloc, count)?;
     let mut directory = names(alloc, &texts)?;
-    let rounds = replacements(count);
     let start = Instant::now(rt)?;
-    let sum = replace(&mut directory, &texts, rounds)?;
+    let sum = replace(&mut directory, &texts, REPLACEMENTS)?;
     let nanos = start.elapsed(rt)?.as_nanos();
-    rt.print(format_args!("remove and enter again among {count}: {rounds} in {nanos}\n"))?;
+    rt.print(format_args!("remove and enter again among {count}: {REPLACEMENTS} in {nanos}\n"))?;
     if sum == 0 {
         rt.print("nothing removed\n")?;
     }

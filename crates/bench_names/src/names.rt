@@ -1,5 +1,5 @@
 use crate::random::Random;
-use ob_name::{Directory, NameRef, Space};
+use ob_name::{Directory, NameRef, Session, Space};
 use ob_rights::Fault;
 use pin_core::Id;
 use std::alloc::{AllocError, Global};
@@ -28,7 +28,7 @@ pub(crate) fn texts(alloc: Global, count: u32) -> Result<Vec<Text>, AllocError> 
 
 fn name(text: &Text) -> NameRef<'_> {
     NameRef {
-        space: Space::Session(1),
+        space: Space::Session(Session { number: 1 }),
         base: text,
     }
 }

@@ -1,2 +1,10 @@
 pub mod Naming
-pub mod Keyed
+pub mod Oks
+pub mod Spaced
+pub mod Ordered
+pub mod Found
+pub mod Counted
+pub mod Removed
+pub mod Walked
+pub mod Moved
+pub mod Distinct

@@ -1,12 +1,16 @@
-ghost use Rattle.std.specs.Prelude.{◌≡◌, ◌+◌, ◌<◌, ◌≤◌, None, [], ◌∷◌, ◌++◌, length, slice_get, IfOk, IfErr, OnOk};
+ghost use Rattle.std.specs.Prelude.{◌≡◌, ℕ, ◌+◌, ◌<◌, ◌≤◌, None, [], ◌∷◌, ◌++◌, length, slice_get, vec_capacity, IfOk, IfErr, IfSome, OnOk, if◌then◌else◌};
+ghost use Rattle.std.specs.HashMap.{spare};
 ghost use Rattle.std.specs.Option.{option_map};
 ghost use Rattle.ob_rights.specs.declared.fault.Fault.TheVariants.{Memory};
 ghost use Rattle.ob_name.specs.Listing.{AreDistinct, find_name, without_name};
+ghost use Rattle.ob_name.specs.Order.{IsOrdered, IsRenumbered, row_on, rows_of};
 ghost use Rattle.ob_name.specs.Refs.{name_at, row_at};
 
-use crate::key::{key_of, name_of_key};
+use crate::entered::Entered;
 use crate::name::NameRef;
 use crate::owned::Name;
+use crate::places::{close_up, renumber, row_on};
+use crate::rows::Rows;
 use indexmap::IndexMap;
 use ob_rights::Fault;
 use pin_core::Id;
@@ -15,25 +19,31 @@ use std::marker::Model;
 
 /// The names of objects with their Ids, in the order of entry. No name stands twice.
 ///
-/// A name is found by a hash of its key, in a time that doesn't grow with the number of names; [`remove`] moves the names
-/// that were entered later.
+/// A name is found by its hash, in a time that doesn't grow with the number of names. The hash has no secret: names that
+/// somebody chose to have one hash are found one after another. A name that goes leaves a hole in the order of entry;
+/// where more than half are holes, [`remove`] closes them, in a time that grows with the number of names.
 ///
 /// [`remove`]: Directory::remove
 #[derive(Drop)]
 pub struct Directory {
-    ids: IndexMap<Vec<u8>, Id>,
+    ids: IndexMap<Name, Entered>,
+    // For each place the number of an entry of `ids`; a hole, where that entry has another place.
+    order: Vec<usize>,
+    // How many names there are: places that aren't holes.
+    count: usize,
 }
 
 impl Model for Directory {
+    ghost use Rattle.std.specs.Prelude.{◌≡◌, ◌-◌, min, length, vec_capacity};
     ghost use Rattle.std.specs.HashMap.{spare};
     ghost use Rattle.ob_name.specs.Listing.{Listing};
-    ghost use Rattle.ob_name.specs.Entries.{AreKeyed, rows_of};
+    ghost use Rattle.ob_name.specs.Order.{IsOrdered, rows_of};
 
     ghost Value = { Listing };
 
-    ghost view = { λ d. record { rows = rows_of d.ids.entries; spare = spare d.ids } };
+    ghost view = { λ d. record { rows = rows_of d.ids.entries d.order.items; spare = min (spare d.ids) (vec_capacity d.order - length d.order.items) } };
 
-    ghost invariant = { λ d. AreKeyed d.ids.entries };
+    ghost invariant = { λ d. IsOrdered d.ids.entries d.order.items × (d.count ≡ length (rows_of d.ids.entries d.order.items)) };
 }
 
 impl Directory {
@@ -45,6 +55,8 @@ impl Directory {
     {
         Directory {
             ids: IndexMap::new(alloc),
+            order: Vec::new(alloc),
+            count: 0,
         }
     }
 
@@ -52,7 +64,10 @@ impl Directory {
     pub fn find(&self, name: &NameRef<'_>) -> Option<Id>
         ensures { result ≡ find_name (name_at name.now) self.now.rows }
     {
-        self.ids.get(key_of(name).as_slice()).copied()
+        // What it says is wanted here: that no name stands twice.
+        let _ = self.ids.len();
+        let entered = self.ids.get(*name)?;
+        Some(entered.id)
     }
 
     /// A copy of a name to enter, with room for one name more.
@@ -65,8 +80,12 @@ impl Directory {
         ensures room { OnOk result (0 < self.new.spare) }
         ensures refused { IfErr result (λ fault. fault ≡ Memory) }
     {
+        if self.order.len() == self.order.capacity() && self.count <= self.order.len() / 2 {
+            self.settle();
+        }
         let copy = Name::new(*self.ids.allocator(), name)?;
         self.ids.reserve(1)?;
+        self.order.reserve(1)?;
         Ok(copy)
     }
 
@@ -77,7 +96,10 @@ impl Directory {
         ensures rows { self.new.rows ≡ self.old.rows ++ (name, id) ∷ [] }
         ensures spare { self.old.spare ≤ self.new.spare + 1 }
     {
-        let _ = self.ids.insert(name.into_key(), id);
+        self.order.push_reserved(self.ids.len());
+        let place = self.order.len() - 1;
+        let _ = self.ids.insert(name, Entered { id, place });
+        self.count += 1;
     }
 
     /// Takes a name out, and answers its Id. The names behind it close up. Takes no memory.
@@ -86,7 +108,32 @@ impl Directory {
         ensures rows { self.new.rows ≡ without_name (name_at name.now) self.old.rows }
         ensures spare { self.old.spare ≤ self.new.spare }
     {
-        self.ids.shift_remove(key_of(name).as_slice())
+        let id = self.take_out(name);
+        if self.count < self.order.len() / 2 {
+            self.settle();
+        }
+        id
+    }
+
+    /// The same, where a hole is left at the name's place.
+    fn take_out(&mut self, name: &NameRef<'_>) -> Option<Id>
+        ensures id { result ≡ find_name (name_at name.now) self.old.rows }
+        ensures rows { self.new.rows ≡ without_name (name_at name.now) self.old.rows }
+        ensures spare { self.old.spare ≤ self.new.spare }
+    {
+        let _ = self.ids.len();
+        let (index, _name, entered) = self.ids.swap_remove_full(*name)?;
+        renumber(&self.ids, &mut self.order, index);
+        self.count -= 1;
+        Some(entered.id)
+    }
+
+    /// Closes the holes that removed names left, in a time that grows with the number of names.
+    fn settle(&mut self)
+        ensures rows { self.new.rows ≡ self.old.rows }
+        ensures spare { self.old.spare ≤ self.new.spare }
+    {
+        close_up(&mut self.ids, &mut self.order);
     }
 
     /// The number of names.
@@ -94,14 +141,24 @@ impl Directory {
         ensures len { result ≡ length self.now.rows }
         ensures distinct { AreDistinct self.now.rows }
     {
-        self.ids.len()
+        let _ = self.ids.len();
+        self.count
     }
 
     /// The name at a place, with its Id. Places are numbers from 0, in the order of entry.
     pub fn row(&self, at: usize) -> Option<(NameRef<'_>, Id)>
         ensures { option_map row_at result ≡ slice_get self.now.rows at }
     {
-        let (key, id) = self.ids.get_index(at)?;
-        Some((name_of_key(key.as_slice()), *id))
+        if self.count == self.order.len() {
+            return row_on(&self.ids, &self.order, at);
+        }
+        self.rows().nth(at)
+    }
+
+    /// The names with their Ids, in the order of entry.
+    pub fn rows(&self) -> Rows<'_>
+        ensures { result ≡ self.now.rows }
+    {
+        Rows::new(&self.ids, &self.order)
     }
 }

@@ -1,58 +1,119 @@
-// The key of a name in the directory: one byte for the kind of namespace, four for the session, and the text.
-ghost use Rattle.std.specs.Prelude.{◌≡◌, ◌≤◌, length};
-ghost use Rattle.ob_name.specs.Keys.{IsInRange, key_of, key_of_space, name_of_key, space_of_key};
-ghost use Rattle.ob_name.specs.Refs.{name_at};
+// Names as keys of a hash map. A name is hashed by two writes, and a borrowed one is looked up as it stands.
+ghost use Rattle.std.specs.Prelude.{◌≡◌, ◌&&◌, fold};
+ghost use Rattle.std.specs.Str.{bytes_eq};
+ghost use Rattle.std.specs.Cmp.{on_equiv, on_per};
+ghost use Rattle.ob_name.specs.Keys.{fed_name, space_number};
+ghost use Rattle.ob_name.specs.Listing.{same_name, same_space};
+ghost use Rattle.ob_name.specs.Names.{ObjectName};
+ghost use Rattle.ob_name.specs.Refs.{name_at, namespace_of};
+ghost use Rattle.ob_name.specs.Same.{fed_alike, same_name_equiv, same_name_per};
 
 use crate::name::NameRef;
+use crate::owned::Name;
 use crate::space::Space;
-use arrayvec::ArrayVec;
-
-/// The most bytes of a key: those of a name, and five for its namespace.
-pub(crate) const KEY_MOST: usize = 265;
+use indexmap::Equivalent;
+use std::hash::{Hash, Hasher};
 
 #[inline(always)]
-pub(crate) fn key_of(name: &NameRef<'_>) -> ArrayVec<u8, KEY_MOST>
-    ensures bytes { result.items ≡ key_of (name_at name.now) }
-    ensures in_range { IsInRange name.now.space }
-{
-    let mut key = ArrayVec::new();
-    let _ = key.try_extend_from_slice(&key_of_space(name.space));
-    let _ = key.try_extend_from_slice(name.base);
-    key
-}
-
-#[inline(always)]
-fn key_of_space(space: Space) -> [u8; 5]
-    ensures bytes { result ≡ key_of_space space }
-    ensures in_range { IsInRange space }
+fn space_number(space: Space) -> u64
+    ensures { result ≡ space_number (namespace_of space) }
 {
     match space {
-        Space::Global => [0; 5],
-        Space::Session(session) => {
-            let [a, b, c, d] = session.to_le_bytes();
-            [1, a, b, c, d]
-        }
+        Space::Global => 0,
+        Space::Session(session) => session.number as u64,
     }
 }
 
-/// The name with a key.
-pub(crate) fn name_of_key(key: &[u8]) -> NameRef<'_>
-    requires long { 5 ≤ length key.now }
-    requires short { length key.now ≤ 265 }
-    ensures { name_at result ≡ name_of_key key.now }
+#[inline(always)]
+fn same_space(space: Space, other: Space) -> bool
+    ensures { result ≡ same_space (namespace_of space) (namespace_of other) }
 {
-    NameRef {
-        space: space_of_key(key),
-        base: &key[5..],
+    match space {
+        Space::Global => match other {
+            Space::Global => true,
+            Space::Session(_) => false,
+        },
+        Space::Session(session) => match other {
+            Space::Global => false,
+            Space::Session(other) => session.number == other.number,
+        },
     }
 }
 
-fn space_of_key(key: &[u8]) -> Space
-    requires { 5 ≤ length key.now }
-    ensures { result ≡ space_of_key key.now }
+#[inline(always)]
+fn same_name(name: &NameRef<'_>, other: &NameRef<'_>) -> bool
+    ensures { result ≡ same_name (name_at name.now) (name_at other.now) }
 {
-    if key[0] == 0 {
-        return Space::Global;
+    same_space(name.space, other.space) && name.base == other.base
+}
+
+#[inline(always)]
+fn feed<H: Hasher>(name: &NameRef<'_>, state: &mut H)
+    ensures { state.new ≡ fold H.write state.old (fed_name (name_at name.now)) }
+{
+    state.write_u64(space_number(name.space));
+    state.write(name.base);
+}
+
+impl PartialEq for Name {
+    ghost eq = { same_name };
+
+    ghost laws = { same_name_per };
+
+    #[inline(always)]
+    fn eq(&self, other: &Name) -> bool {
+        same_name(&self.borrowed(), &other.borrowed())
     }
-    Space::Session(u32::from_le_bytes([key[1], key[2], key[3], key[4]]))
+}
+
+impl Eq for Name {
+    ghost laws = { same_name_equiv };
+}
+
+impl Hash for Name {
+    ghost hash_input = { fed_name };
+
+    ghost respects_eq = { fed_alike };
+
+    fn hash<H: Hasher>(&self, state: &mut H) {
+        feed(&self.borrowed(), state);
+    }
+}
+
+impl<'a> PartialEq for NameRef<'a> {
+    ghost eq = { λ a b. same_name (name_at a) (name_at b) };
+
+    ghost laws = { on_per name_at same_name_per };
+
+    fn eq(&self, other: &NameRef<'a>) -> bool {
+        same_name(self, other)
+    }
+}
+
+impl<'a> Eq for NameRef<'a> {
+    ghost laws = { on_equiv name_at same_name_equiv };
+}
+
+impl<'a> Hash for NameRef<'a> {
+    ghost hash_input = { λ a. fed_name (name_at a) };
+
+    ghost respects_eq = { λ a b. fed_alike (name_at a) (name_at b) };
+
+    #[inline(always)]
+    fn hash<H: Hasher>(&self, state: &mut H) {
+        feed(self, state);
+    }
+}
+
+impl<'a> Equivalent<Name> for NameRef<'a> {
+    ghost equivalent = { λ q k. same_name (name_at q) k };
+
+    ghost respects_hash = { λ q k. fed_alike (name_at q) k };
+
+    ghost respects_eq = { λ q x y. same_name_equiv.congr (name_at q) x y };
+
+    #[inline(always)]
+    fn equivalent(&self, key: &Name) -> bool {
+        same_name(self, &key.borrowed())
+    }
 }

@@ -5,22 +5,32 @@
 //! let same = parse(b"A", 0)?;                       // the same name: session 0 is the global namespace
 //! let mut directory = Directory::new(alloc);
 //! let copy = directory.reserve(&name)?;             // takes memory, and changes no name
+//! let kept = Name::new(alloc, &name)?;              // what the object keeps of its name
 //! directory.enter(copy, id);                        // can't fail
 //! directory.find(&same);                            // Some(id)
+//! directory.remove(&kept.borrowed());               // Some(id), and the name is gone
 //! ```
 #![tactic(auto)]
 
 mod directory;
+mod entered;
 mod key;
+mod law;
 mod name;
 mod owned;
 mod parser;
+mod places;
+mod rows;
+mod session;
 mod space;
 #[cfg(test)]
 mod tests;
 
 pub use directory::Directory;
-pub use name::NameRef;
+pub use law::law_of_names;
+pub use name::{NAME_MOST, NameRef};
 pub use owned::Name;
 pub use parser::parse;
+pub use rows::Rows;
+pub use session::Session;
 pub use space::Space;

@@ -1,44 +1,53 @@
 ghost use Rattle.std.specs.Prelude.{◌≡◌, IfOk};
-ghost use Rattle.ob_name.specs.Keys.{IsKey, name_of_key};
 ghost use Rattle.ob_name.specs.Refs.{name_at};
 
-use crate::key::key_of;
 use crate::name::NameRef;
+use crate::space::Space;
 use std::alloc::{AllocError, Global};
 use std::marker::Model;
 
-/// A name that [`Directory::reserve`] copied, to be entered.
+/// A name in memory of its own: one that [`Directory::reserve`] copied, to be entered, or one that an object keeps.
 ///
 /// [`Directory::reserve`]: crate::Directory::reserve
 #[derive(Drop)]
 pub struct Name {
-    key: Vec<u8>,
+    space: Space,
+    base: Vec<u8>,
 }
 
 impl Model for Name {
+    ghost use Rattle.std.specs.Prelude.{◌≤◌, length};
     ghost use Rattle.ob_name.specs.Names.{ObjectName};
-    ghost use Rattle.ob_name.specs.Keys.{IsKey, name_of_key};
+    ghost use Rattle.ob_name.specs.Refs.{namespace_of};
 
     ghost Value = { ObjectName };
 
-    ghost view = { λ n. name_of_key n.key.items };
+    ghost view = { λ n. record { space = namespace_of n.space; base = n.base.items } };
 
-    ghost invariant = { λ n. IsKey n.key.items };
+    ghost invariant = { λ n. length n.base.items ≤ 260 };
 }
 
 impl Name {
-    pub(crate) fn new(alloc: Global, name: &NameRef<'_>) -> Result<Name, AllocError>
+    /// A copy of a borrowed name. The refusal is want of memory.
+    pub fn new(alloc: Global, name: &NameRef<'_>) -> Result<Name, AllocError>
         ensures { IfOk result (λ copy. copy ≡ name_at name.now) }
     {
-        let mut key = Vec::new(alloc);
-        key.extend_from_slice(key_of(name).as_slice())?;
-        Ok(Name { key })
+        let mut base = Vec::new(alloc);
+        base.extend_from_slice(name.base)?;
+        Ok(Name {
+            space: name.space,
+            base,
+        })
     }
 
-    pub(crate) fn into_key(self) -> Vec<u8>
-        ensures name { name_of_key result.items ≡ self }
-        ensures key { IsKey result.items }
+    /// The name, to be read or looked up. Takes no memory.
+    #[inline(always)]
+    pub fn borrowed(&self) -> NameRef<'_>
+        ensures { name_at result ≡ self.now }
     {
-        self.key
+        NameRef {
+            space: self.space,
+            base: self.base.as_slice(),
+        }
     }
 }
