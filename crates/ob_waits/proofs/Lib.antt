@@ -13,3 +13,5 @@ pub mod Room
 pub mod References
 pub mod Settled
 pub mod Now
+pub mod Ends
+pub mod EndsLast

@@ -6,3 +6,4 @@ pub mod Listed
 pub mod Places
 pub mod Rows
 pub mod Roster
+pub mod Ends

@@ -11,7 +11,7 @@ use Rattle.ob_waits.specs.declared.wait.State.{State}
 use Rattle.ob_waits.specs.declared.wait.State.TheVariants.{Pending, Answered}
 use Rattle.ob_waits.specs.declared.wait.WaitState.{WaitState}
 use Rattle.ob_waits.specs.declared.wait.WaitState.TheVariants as shown
-use Rattle.ob_waits.specs.Objects.{Objects, body_of, slot_signaled, slot_abandoned, slot_acquired, reference_left}
+use Rattle.ob_waits.specs.Objects.{Objects, body_of, slot_signaled, slot_abandoned, slot_acquired, without_blocks}
 
 -- an Id that names the first slot, where a list has none
 abbrev pub nowhere : Id
@@ -60,11 +60,6 @@ abbrev pub objects_now : Mode → ℕ → Objects → List Id → Objects
 objects_now mode thread objects ids =
     if list_ready mode thread objects.bodies ids then record objects { bodies = bodies_after mode thread objects.bodies ids } else objects
 
--- the references once the blocks of a list have left
-abbrev pub references_after : List ℕ → List Id → List ℕ
-references_after references [] = references
-references_after references (id ∷ ids) = references_after (reference_left references id) ids
-
 abbrev pub state_ready : ℕ → List (Option Body) → State → Bool
 state_ready thread bodies (Pending mode ids) = list_ready mode thread bodies ids
 state_ready thread bodies (Answered code) = false
@@ -90,10 +85,7 @@ answered_wait wait code = Some (record wait { state = Answered code })
 -- the objects and waits after a wait took effect: it takes what it is ready for, is answered, and its blocks leave
 abbrev pub effect_of : Scene → ℕ → Wait → State → Scene
 effect_of scene number wait (Pending mode ids) = record {
-  objects = record {
-    bodies = bodies_after mode wait.thread scene.objects.bodies ids;
-    references = references_after scene.objects.references ids;
-  };
+  objects = without_blocks (record scene.objects { bodies = bodies_after mode wait.thread scene.objects.bodies ids }) ids;
   waits = slice_set scene.waits number (answered_wait wait (code_of mode wait.thread scene.objects.bodies ids));
 }
 effect_of scene number wait (Answered code) = scene
@@ -149,6 +141,13 @@ blocks_in id wait = count_by (same_id id) (ids_of wait)
 
 abbrev pub blocks_among : Id → List (Option Wait) → ℕ
 blocks_among id waits = sum_by (blocks_in id) waits
+
+-- how many places name a slot, of a list and of the pending waits
+abbrev pub slot_places : ℕ → List Id → ℕ
+slot_places k ids = count_by (λ (id : Id). id.slot == k) ids
+
+abbrev pub slot_blocks : ℕ → List (Option Wait) → ℕ
+slot_blocks k waits = sum_by (λ (w : Option Wait). slot_places k (ids_of w)) waits
 
 -- whether a wait is the thread's
 abbrev pub is_waits_of : ℕ → Option Wait → Bool

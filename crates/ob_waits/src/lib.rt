@@ -6,6 +6,7 @@ mod bodies;
 mod held;
 mod ids;
 mod index;
+mod law;
 mod live;
 mod pass;
 mod places;
@@ -19,6 +20,8 @@ mod wait;
 mod waits;
 
 pub use bodies::Bodies;
+pub use law::law_of_settling;
+pub use pass::leave_all;
 pub use take::try_now;
 pub use wait::{Mode, WaitState};
 pub use waits::{WAIT_TIMEOUT, Waits};

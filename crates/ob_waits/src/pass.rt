@@ -1,5 +1,6 @@
 ghost use Rattle.std.specs.Prelude.{[], ◌∷◌, ◌≡◌, ◌<◌, true, None, Some, length, slice_index_or, slice_set};
-ghost use Rattle.ob_waits.specs.Waits.{references_after, passed};
+ghost use Rattle.ob_waits.specs.Objects.{without_blocks};
+ghost use Rattle.ob_waits.specs.Waits.{passed};
 ghost use Rattle.ob_waits.specs.Rules.{Fits};
 
 use crate::bodies::Bodies;
@@ -10,8 +11,9 @@ use ob_body::RECURSION_MAX;
 use pin_core::Id;
 
 /// Tells of each place of a list that its block left.
-fn leave_all<B: Bodies>(bodies: &mut B, ids: &[Id])
-    ensures { B.objects bodies.new ≡ record (B.objects bodies.old) { references = references_after (B.objects bodies.old).references ids.now } }
+pub fn leave_all<B: Bodies>(bodies: &mut B, ids: &[Id])
+    ensures objects { B.objects bodies.new ≡ without_blocks (B.objects bodies.old) ids.now }
+    ensures rest { B.rest bodies.new ≡ B.rest bodies.old }
 {
     for id in ids {
         bodies.block_left(*id);
@@ -21,7 +23,8 @@ fn leave_all<B: Bodies>(bodies: &mut B, ids: &[Id])
 /// The wait of a number takes effect, if it is ready.
 fn take_effect<B: Bodies>(live: &mut Live, bodies: &mut B, number: u32)
     requires { Fits RECURSION_MAX (B.objects bodies.old).bodies live.old }
-    ensures { record { objects = B.objects bodies.new; waits = live.new } ≡ passed (number ∷ []) (record { objects = B.objects bodies.old; waits = live.old }) }
+    ensures rest { B.rest bodies.new ≡ B.rest bodies.old }
+    ensures scene { record { objects = B.objects bodies.new; waits = live.new } ≡ passed (number ∷ []) (record { objects = B.objects bodies.old; waits = live.old }) }
 {
     let Some(wait) = live.get(number) else {
         return;
@@ -40,7 +43,8 @@ fn take_effect<B: Bodies>(live: &mut Live, bodies: &mut B, number: u32)
 /// The waits of these numbers take effect, in this order, where they are ready when their turn comes.
 pub(crate) fn pass<B: Bodies>(live: &mut Live, bodies: &mut B, numbers: &[u32])
     requires { Fits RECURSION_MAX (B.objects bodies.old).bodies live.old }
-    ensures { record { objects = B.objects bodies.new; waits = live.new } ≡ passed numbers.now (record { objects = B.objects bodies.old; waits = live.old }) }
+    ensures rest { B.rest bodies.new ≡ B.rest bodies.old }
+    ensures scene { record { objects = B.objects bodies.new; waits = live.new } ≡ passed numbers.now (record { objects = B.objects bodies.old; waits = live.old }) }
 {
     for number in numbers {
         take_effect(live, bodies, *number);

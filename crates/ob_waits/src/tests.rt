@@ -16,7 +16,8 @@ use std::test::Fail;
 #[derive(Drop)]
 struct Slots {
     bodies: Vec<Option<Body>>,
-    references: Vec<u32>,
+    handles: Vec<u32>,
+    blocks: Vec<u32>,
 }
 
 impl Model for Slots {
@@ -24,11 +25,19 @@ impl Model for Slots {
 
     ghost Value = { Objects };
 
-    ghost view = { λ s. record { bodies = s.bodies.items; references = s.references.items } };
+    ghost view = { λ s. record { bodies = s.bodies.items; handles = s.handles.items; blocks = s.blocks.items } };
+}
+
+fn count_at(counts: &[u32], at: usize) -> u32
+    ensures { result ≡ slice_index_or counts.now at 0 }
+{
+    if at < counts.len() { counts[at] } else { 0 }
 }
 
 impl Bodies for Slots {
     ghost objects = { λ s. s };
+
+    ghost rest = { λ _. tt };
 
     fn body(&self, id: Id) -> Option<Body> {
         let at = id.slot as usize;
@@ -48,9 +57,12 @@ impl Bodies for Slots {
 
     fn block_left(&mut self, id: Id) {
         let at = id.slot as usize;
-        if at < self.references.len() {
-            let count = self.references[at];
-            self.references[at] = count.saturating_sub(1);
+        let left = count_at(&self.blocks, at).saturating_sub(1);
+        if at < self.blocks.len() {
+            self.blocks[at] = left;
+        }
+        if count_at(&self.handles, at) == 0 && left == 0 && at < self.bodies.len() {
+            self.bodies[at] = None;
         }
     }
 }
@@ -100,7 +112,8 @@ impl World {
         Ok(World {
             slots: Slots {
                 bodies: Vec::from_slice(alloc, bodies)?,
-                references: vec![in alloc; 7; 4]?,
+                handles: vec![in alloc; 1; 4]?,
+                blocks: vec![in alloc; 7; 4]?,
             },
             waits: Waits::new(alloc, 3),
         })
@@ -284,7 +297,7 @@ impl World {
             Act::Number(thread, number) => assert_eq!(rt; self.waits.wait_of(thread), number),
             Act::Blocks(id, blocks) => assert_eq!(rt; self.waits.blocks_of(id), blocks),
             Act::References(slot, count) => {
-                assert_eq!(rt; self.slots.references.get(slot).copied(), Some(count));
+                assert_eq!(rt; self.slots.blocks.get(slot).copied(), Some(count));
             }
         }
         Ok(())

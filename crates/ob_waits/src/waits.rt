@@ -61,6 +61,7 @@ impl Waits {
         ensures number { result ≡ number_of thread self.now.waits }
         // Whatever the waits are: each thread has one, and each that is pending may be waited for.
         ensures kept { IsKept self.now.waits }
+        ensures few { length self.now.waits ≤ 4294967296 }
     {
         let number = self.roster.number_of(thread);
         if number == 0 {
@@ -121,6 +122,9 @@ impl Waits {
         ensures err { OnErr result (self.new ≡ self.old) }
         ensures full { (result ≡ Err Fault.Limit) ↔ (is_full self.old ≡ true) }
         ensures memory { IfErr result (λ fault. is_full self.old ≡ false → fault ≡ Fault.Memory) }
+        // Whatever the waits are: each that is pending may be waited for, and their numbers fit in 32 bits.
+        ensures kept { IsKept self.old.waits }
+        ensures few { length self.old.waits ≤ 4294967296 }
     {
         if self.live.given() >= self.limit {
             return Err(Fault::Limit);
@@ -137,6 +141,7 @@ impl Waits {
         requires { WaitsHaveRoom RECURSION_MAX (B.objects bodies.old).bodies self.old.waits }
         ensures value { record { objects = B.objects bodies.new; waits = self.new.waits } ≡ settled (record { objects = B.objects bodies.old; waits = self.old.waits }) }
         ensures limit { self.new.limit ≡ self.old.limit }
+        ensures rest { B.rest bodies.new ≡ B.rest bodies.old }
         // Nothing is left to settle, and no pending wait lost its room, below any limit.
         ensures settled { IsSettled (B.objects bodies.new).bodies self.new.waits }
         ensures room { (limit : ℕ) → WaitsHaveRoom limit (B.objects bodies.old).bodies self.old.waits → WaitsHaveRoom limit (B.objects bodies.new).bodies self.new.waits }
@@ -152,6 +157,7 @@ impl Waits {
         requires ready { IsReadyAt id.slot (B.objects bodies.old).bodies self.old.waits }
         ensures value { record { objects = B.objects bodies.new; waits = self.new.waits } ≡ settled (record { objects = B.objects bodies.old; waits = self.old.waits }) }
         ensures limit { self.new.limit ≡ self.old.limit }
+        ensures rest { B.rest bodies.new ≡ B.rest bodies.old }
         ensures settled { IsSettled (B.objects bodies.new).bodies self.new.waits }
         ensures room { (limit : ℕ) → WaitsHaveRoom limit (B.objects bodies.old).bodies self.old.waits → WaitsHaveRoom limit (B.objects bodies.new).bodies self.new.waits }
     {

@@ -9,7 +9,7 @@ use Rattle.ob_waits.proofs.waits.Waits.settle.Goals as goal
 pub invariant_of-self : goal.invariant_of-self
 invariant_of-self g c =
     let first : Scene = record { objects = g.B.Bodies.objects c.args.bodies.now; waits = c.self.inside.live } in
-    let fade : Fade c.self.inside.live c.pass.new.live = subst (λ (s : Scene). Fade c.self.inside.live s.waits) (sym c.pass.ensures) (passed_fades c.order.result.now first) in
+    let fade : Fade c.self.inside.live c.pass.new.live = subst (λ (s : Scene). Fade c.self.inside.live s.waits) (sym c.pass.ensures.scene) (passed_fades c.order.result.now first) in
     tracked_left c.self.inside.limit c.pass.new.live c.self.inside.roster c.thin.new.self c.thin.ensures
     (tracked_faded c.self.inside.limit c.self.inside.live c.pass.new.live c.self.inside.roster fade c.self.invariant)
 
@@ -18,7 +18,7 @@ returns-clause-value g c =
     let objects = g.B.Bodies.objects c.args.bodies.now in
     let first : Scene = record { objects = objects; waits = c.self.inside.live } in
     let rows = c.self.invariant.right.rows in
-    c.pass.ensures ∙ ap (λ (ns : List ℕ). passed ns first) c.order.ensures
+    c.pass.ensures.scene ∙ ap (λ (ns : List ℕ). passed ns first) c.order.ensures
     ∙ covered_settles c.self.inside.roster.order first rows.order_row.rising (covers_order objects c.self.inside.live c.self.inside.roster.order c.self.inside.roster.index rows)
     ∙ ap (λ (l : WaitList). settled (record { objects = objects; waits = l.waits })) c.self.view_is
 
@@ -27,11 +27,11 @@ returns-clause-settled g c =
     let objects = g.B.Bodies.objects c.args.bodies.now in
     let first : Scene = record { objects = objects; waits = c.self.inside.live } in
     let rows = c.self.invariant.right.rows in
-    subst (λ (s : Scene). IsSettled s.objects.bodies s.waits) (sym (c.pass.ensures ∙ ap (λ (ns : List ℕ). passed ns first) c.order.ensures
+    subst (λ (s : Scene). IsSettled s.objects.bodies s.waits) (sym (c.pass.ensures.scene ∙ ap (λ (ns : List ℕ). passed ns first) c.order.ensures
     ∙ covered_settles c.self.inside.roster.order first rows.order_row.rising (covers_order objects c.self.inside.live c.self.inside.roster.order c.self.inside.roster.index rows))) (settled_is_settled first)
 
 pub returns-clause-room : goal.returns-clause-room
 returns-clause-room g c = λ limit h.
     let first : Scene = record { objects = g.B.Bodies.objects c.args.bodies.now; waits = c.self.inside.live } in
     let room : WaitsHaveRoom limit first.objects.bodies first.waits = subst (λ (l : WaitList). WaitsHaveRoom limit first.objects.bodies l.waits) (sym c.self.view_is) h in
-    subst (λ (s : Scene). WaitsHaveRoom limit s.objects.bodies s.waits) (sym c.pass.ensures) (passed_fits limit c.order.result.now first (record { kept = c.self.invariant.kept; room = room })).room
+    subst (λ (s : Scene). WaitsHaveRoom limit s.objects.bodies s.waits) (sym c.pass.ensures.scene) (passed_fits limit c.order.result.now first (record { kept = c.self.invariant.kept; room = room })).room

@@ -10,7 +10,7 @@ use Rattle.ob_waits.proofs.waits.Waits.settle_after.Goals as goal
 pub invariant_of-self : goal.invariant_of-self
 invariant_of-self g c =
     let first : Scene = record { objects = g.B.Bodies.objects c.args.bodies.now; waits = c.self.inside.live } in
-    let fade : Fade c.self.inside.live c.pass.new.live = subst (λ (s : Scene). Fade c.self.inside.live s.waits) (sym c.pass.ensures) (passed_fades c.row.result.now first) in
+    let fade : Fade c.self.inside.live c.pass.new.live = subst (λ (s : Scene). Fade c.self.inside.live s.waits) (sym c.pass.ensures.scene) (passed_fades c.row.result.now first) in
     tracked_left c.self.inside.limit c.pass.new.live c.self.inside.roster c.thin_row.new.self c.thin_row.ensures
     (tracked_faded c.self.inside.limit c.self.inside.live c.pass.new.live c.self.inside.roster fade c.self.invariant)
 
@@ -20,7 +20,7 @@ returns-clause-value g c =
     let first : Scene = record { objects = objects; waits = c.self.inside.live } in
     let rows = c.self.invariant.right.rows in
     let ready : IsReadyAt c.args.id.slot objects.bodies c.self.inside.live = subst (λ (l : WaitList). IsReadyAt c.args.id.slot objects.bodies l.waits) (sym c.self.view_is) c.requires.ready in
-    c.pass.ensures ∙ ap (λ (ns : List ℕ). passed ns first) c.row.ensures
+    c.pass.ensures.scene ∙ ap (λ (ns : List ℕ). passed ns first) c.row.ensures
     ∙ covered_settles (row_of c.self.inside.roster.index c.args.id.slot) first (rows.index_rows.each c.args.id.slot).rising
     (covers_row objects c.args.id.slot c.self.inside.live c.self.inside.roster.order c.self.inside.roster.index ready rows)
     ∙ ap (λ (l : WaitList). settled (record { objects = objects; waits = l.waits })) c.self.view_is
@@ -31,7 +31,7 @@ returns-clause-settled g c =
     let first : Scene = record { objects = objects; waits = c.self.inside.live } in
     let rows = c.self.invariant.right.rows in
     let ready : IsReadyAt c.args.id.slot objects.bodies c.self.inside.live = subst (λ (l : WaitList). IsReadyAt c.args.id.slot objects.bodies l.waits) (sym c.self.view_is) c.requires.ready in
-    subst (λ (s : Scene). IsSettled s.objects.bodies s.waits) (sym (c.pass.ensures ∙ ap (λ (ns : List ℕ). passed ns first) c.row.ensures
+    subst (λ (s : Scene). IsSettled s.objects.bodies s.waits) (sym (c.pass.ensures.scene ∙ ap (λ (ns : List ℕ). passed ns first) c.row.ensures
     ∙ covered_settles (row_of c.self.inside.roster.index c.args.id.slot) first (rows.index_rows.each c.args.id.slot).rising
     (covers_row objects c.args.id.slot c.self.inside.live c.self.inside.roster.order c.self.inside.roster.index ready rows))) (settled_is_settled first)
 
@@ -39,4 +39,4 @@ pub returns-clause-room : goal.returns-clause-room
 returns-clause-room g c = λ limit h.
     let first : Scene = record { objects = g.B.Bodies.objects c.args.bodies.now; waits = c.self.inside.live } in
     let room : WaitsHaveRoom limit first.objects.bodies first.waits = subst (λ (l : WaitList). WaitsHaveRoom limit first.objects.bodies l.waits) (sym c.self.view_is) h in
-    subst (λ (s : Scene). WaitsHaveRoom limit s.objects.bodies s.waits) (sym c.pass.ensures) (passed_fits limit c.row.result.now first (record { kept = c.self.invariant.kept; room = room })).room
+    subst (λ (s : Scene). WaitsHaveRoom limit s.objects.bodies s.waits) (sym c.pass.ensures.scene) (passed_fits limit c.row.result.now first (record { kept = c.self.invariant.kept; room = room })).room
