@@ -13,8 +13,8 @@ use Rattle.ob_waits.specs.declared.wait.State.{State}
 use Rattle.ob_waits.specs.declared.wait.State.TheVariants.{Pending, Answered}
 use Rattle.ob_waits.specs.Objects.{Objects, slot_acquired, bodies_left, blocks_left, without_block, without_blocks}
 use Rattle.ob_waits.specs.Rules.{HasBodies}
-use Rattle.ob_waits.specs.Waits.{nowhere, first_signaled, with_acquired, with_all_acquired, bodies_after, Scene, effect, effect_of, effect_at, settled, settled_within}
-use Rattle.ob_waits.proofs.Settling.{settled_step}
+use Rattle.ob_waits.specs.Waits.{nowhere, first_signaled, with_acquired, with_all_acquired, bodies_after, Scene, effect, effect_of, effect_at, settled}
+use Rattle.ob_waits.proofs.Settling.{settled_by_effects}
 use Rattle.ob_waits.proofs.References.{left_one}
 
 -- the same slots have a body
@@ -114,12 +114,54 @@ ends_at : (scene : Scene) (n : ℕ) (w : Option Wait) → HasBodies scene.object
 ends_at scene n None has = has
 ends_at scene n (Some w) has = ends_of scene n w w.state has
 
-ends_within : (fuel : ℕ) (scene : Scene) → HasBodies scene.objects → HasBodies (settled_within fuel scene).objects
-ends_within zero scene has = has
-ends_within (suc fuel) scene has = settled_step (λ (s : Scene). HasBodies s.objects) fuel scene
-    (λ n lt ready. ends_within fuel (effect scene n) (ends_at scene n (get_or scene.waits n None) has))
-    (λ le. has)
-
 -- The theorem: where a slot has a body exactly where something refers to its object, it still does after settling.
 pub ends_settled : (scene : Scene) → HasBodies scene.objects → HasBodies (settled scene).objects
-ends_settled scene has = ends_within (length scene.waits) scene has
+ends_settled scene = settled_by_effects (λ (a b : Scene). HasBodies a.objects → HasBodies b.objects) (λ s has. has) (λ a b c x y has. y (x has)) (λ s n ready. ends_at s n (get_or s.waits n None)) scene
+
+-- handles stay, and no slot comes or goes
+pub record SameSizes (objects after : Objects) : Type 0 where
+  pub bodies : length after.bodies ≡ length objects.bodies
+  pub handles : after.handles ≡ objects.handles
+  pub blocks : length after.blocks ≡ length objects.blocks
+
+sizes_same : (objects : Objects) → SameSizes objects objects
+sizes_same objects = record { bodies = refl; handles = refl; blocks = refl }
+
+sizes_both : (a b c : Objects) → SameSizes a b → SameSizes b c → SameSizes a c
+sizes_both a b c x y = record { bodies = y.bodies ∙ x.bodies; handles = y.handles ∙ x.handles; blocks = y.blocks ∙ x.blocks }
+
+length-left : (gone : Bool) (bodies : List (Option Body)) (i : ℕ) → length (cond gone (set bodies i None) bodies) ≡ length bodies
+length-left true bodies i = length-set bodies i None
+length-left false bodies i = refl
+
+pub sizes_left : (ids : List Id) (objects : Objects) → SameSizes objects (without_blocks objects ids)
+sizes_left [] objects = sizes_same objects
+sizes_left (id ∷ ids) objects = sizes_both objects (without_block objects id) (without_blocks (without_block objects id) ids)
+    (record {
+      bodies = length-left (eqb (get_or objects.handles id.slot 0 + (get_or objects.blocks id.slot 0 - 1)) 0) objects.bodies id.slot;
+      handles = refl;
+      blocks = length-set objects.blocks id.slot (get_or objects.blocks id.slot 0 - 1);
+    })
+    (sizes_left ids (without_block objects id))
+
+length-all : (t : ℕ) (ids : List Id) (bodies : List (Option Body)) → length (with_all_acquired t bodies ids) ≡ length bodies
+length-all t [] bodies = refl
+length-all t (id ∷ ids) bodies = length-all t ids (with_acquired t bodies id) ∙ length-set bodies id.slot (slot_acquired t (get_or bodies id.slot None))
+
+pub length-after : (mode : Mode) (t : ℕ) (bodies : List (Option Body)) (ids : List Id) → length (bodies_after mode t bodies ids) ≡ length bodies
+length-after Any t bodies ids = let id = get_or ids (first_signaled t bodies ids) nowhere in length-set bodies id.slot (slot_acquired t (get_or bodies id.slot None))
+length-after All t bodies ids = length-all t ids bodies
+
+sizes_of : (scene : Scene) (n : ℕ) (w : Wait) (st : State) → SameSizes scene.objects (effect_of scene n w st).objects
+sizes_of scene n w (Pending mode ids) =
+    let after = bodies_after mode w.thread scene.objects.bodies ids in
+    sizes_both scene.objects (record scene.objects { bodies = after }) (without_blocks (record scene.objects { bodies = after }) ids)
+    (record { bodies = length-after mode w.thread scene.objects.bodies ids; handles = refl; blocks = refl }) (sizes_left ids (record scene.objects { bodies = after }))
+sizes_of scene n w (Answered code) = sizes_same scene.objects
+
+sizes_at : (scene : Scene) (n : ℕ) (w : Option Wait) → SameSizes scene.objects (effect_at scene n w).objects
+sizes_at scene n None = sizes_same scene.objects
+sizes_at scene n (Some w) = sizes_of scene n w w.state
+
+pub sizes_settled : (scene : Scene) → SameSizes scene.objects (settled scene).objects
+sizes_settled scene = settled_by_effects (λ (a b : Scene). SameSizes a.objects b.objects) (λ s. sizes_same s.objects) (λ a b c. sizes_both a.objects b.objects c.objects) (λ s n ready. sizes_at s n (get_or s.waits n None)) scene

@@ -20,6 +20,7 @@ use Rattle.ob_waits.specs.Ends.{HasBlocks, all_blocks_left, plain_effect, plain_
 use Rattle.ob_waits.specs.Waits.{nowhere, is_signaled, is_abandoned, first_signaled, list_ready, state_ready, is_ready, first_ready, with_acquired, with_all_acquired, bodies_after, code_of, answered_wait, slot_places, slot_blocks, ids_of, state_ids, Scene, effect, effect_of, effect_at, settled, settled_within}
 use Rattle.ob_waits.proofs.Settling.{settled_first}
 use Rattle.ob_waits.proofs.References.{left_one, counts_at}
+use Rattle.ob_waits.proofs.Counted.{places_at, wait_counts}
 use Rattle.ob_waits.proofs.Ends.{body_left}
 
 -- slot by slot
@@ -183,13 +184,6 @@ ready_ended objects None has = refl
 ready_ended objects (Some w) has = state_ended w.thread objects w.state has
 
 -- the code and what is taken are the same
-places_at : (ids : List Id) (i : ℕ) → i < length ids → 0 < slot_places (get_or ids i nowhere).slot ids
-places_at ids i lt =
-    let k = (get_or ids i nowhere).slot in
-    let f : Id → ℕ = λ x. cond (x.slot == k) 1 0 in
-    let here : f (get_or ids i nowhere) ≡ 1 = ap {B = ℕ} (λ b. cond b 1 0) (let yes : (k == k) ≡ true = grind (arith, nat_tests) in yes) in
-    omega (arith, get_or-le-sum_by f ids i nowhere lt, here)
-
 code_ended : (mode : Mode) (t : ℕ) (objects : Objects) (ids : List Id) → IsReferred objects ids → list_ready mode t objects.bodies ids ≡ true → code_of mode t (ended objects).bodies ids ≡ code_of mode t objects.bodies ids
 code_ended Any t objects ids has ready =
     let first = first_ended t objects ids has in
@@ -221,10 +215,7 @@ effect_at_ended scene n None has ready = absurd (cc)
 effect_at_ended scene n (Some w) has ready = effect_of_ended scene n w w.state has ready
 
 referred : (scene : Scene) → HasBlocks scene → (n : ℕ) → IsReferred scene.objects (ids_of (get_or scene.waits n None))
-referred scene has n id some = elim (cases_lt n (length scene.waits)) [
-  | inl lt ↦ (let le = get_or-le-sum_by (λ w. slot_places id.slot (ids_of w)) scene.waits n None lt in let at = has.each id.slot in omega (arith, le, at, some))
-  | inr past ↦ absurd (let none : slot_places id.slot (ids_of (get_or scene.waits n None)) ≡ 0 = ap (λ w. slot_places id.slot (ids_of w)) (get_or_past scene.waits n None past) in omega (arith, none, some))
-]
+referred scene has n id some = let le = wait_counts id.slot n scene.waits in let at = has.each id.slot in omega (arith, le, at, some)
 
 first_same : (p q : Option Wait → Bool) (ws : List (Option Wait)) → ((k : ℕ) → p (get_or ws k None) ≡ q (get_or ws k None)) → position_or_len p ws ≡ position_or_len q ws
 first_same p q [] same = refl

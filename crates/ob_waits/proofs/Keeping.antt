@@ -14,12 +14,13 @@ pub record Fades (old new : Option Wait) : Type 0 where
   pub waitable : WaitWaitable old → WaitWaitable new
   pub names : (slot : ℕ) → names_slot slot new ≡ true → names_slot slot old ≡ true
   pub pending : is_pending new ≡ true → is_pending old ≡ true
+  pub stays : is_pending new ≡ true → new ≡ old
 
 fades_same : (w : Option Wait) → Fades w w
-fades_same w = record { thread = refl; waitable = λ h. h; names = λ slot h. h; pending = λ h. h }
+fades_same w = record { thread = refl; waitable = λ h. h; names = λ slot h. h; pending = λ h. h; stays = λ h. refl }
 
 pub fades_answered : (w : Wait) (code : ℕ) → Fades (Some w) (answered_wait w code)
-fades_answered w code = record { thread = refl; waitable = λ h. tt; names = λ slot h. absurd (cc); pending = λ h. absurd (cc) }
+fades_answered w code = record { thread = refl; waitable = λ h. tt; names = λ slot h. absurd (cc); pending = λ h. absurd (cc); stays = λ h. absurd (cc) }
 
 -- some waits were answered
 pub record Fade (old new : List (Option Wait)) : Type 0 where
@@ -29,7 +30,7 @@ pub record Fade (old new : List (Option Wait)) : Type 0 where
 pub fade_none : (ws : List (Option Wait)) → Fade ws ws
 fade_none ws = record { len = refl; each = λ n. fades_same (get_or ws n None) }
 
-fade_both : (a b c : List (Option Wait)) → Fade a b → Fade b c → Fade a c
+pub fade_both : (a b c : List (Option Wait)) → Fade a b → Fade b c → Fade a c
 fade_both a b c ab bc = record {
   len = bc.len ∙ ab.len;
   each = λ n. let x = ab.each n in let y = bc.each n in record {
@@ -37,6 +38,7 @@ fade_both a b c ab bc = record {
     waitable = λ h. y.waitable (x.waitable h);
     names = λ slot h. x.names slot (y.names slot h);
     pending = λ h. x.pending (y.pending h);
+    stays = λ h. y.stays h ∙ x.stays (y.pending h);
   };
 }
 

@@ -15,3 +15,5 @@ pub mod Settled
 pub mod Now
 pub mod Ends
 pub mod EndsLast
+pub mod Counted
+pub mod Staying

@@ -1,4 +1,4 @@
--- The references that are told of each block that leaves go on counting the blocks.
+-- The counts that are told of each block that leaves go on counting the blocks.
 use Rattle.std.proofs.Common.{◌≡◌, ◌≢◌, ℕ, zero, suc, ◌-◌, ◌+◌, ◌<◌, ◌≤◌, List, [], ◌∷◌, length, Option, Some, None, refl, ap, ◌∙◌, sym, arith, get_or, Bool, true, false, inl, inr, cond}
 use Rattle.std.specs.Prelude.{count_by, sum_by, ◌==◌}
 use Rattle.std.proofs.lemmas.List.{length-set, get_or_past, get_or-set_same, get_or-set_other}
@@ -11,7 +11,8 @@ use Rattle.ob_waits.specs.declared.wait.State.{State}
 use Rattle.ob_waits.specs.declared.wait.State.TheVariants.{Pending, Answered}
 use Rattle.ob_waits.specs.Objects.{Objects, blocks_left, without_block, without_blocks}
 use Rattle.ob_waits.specs.Waits.{slot_places, slot_blocks, Scene, effect, effect_at, effect_of, answered_wait, code_of, bodies_after, ids_of, state_ids, settled, settled_within}
-use Rattle.ob_waits.proofs.Settling.{settled_step}
+use Rattle.ob_waits.specs.Ends.{HasBlocks}
+use Rattle.ob_waits.proofs.Settling.{settled_by_effects, ready_within}
 
 pub left_one : (blocks : List ℕ) (id : Id) (k : ℕ) → get_or (blocks_left blocks id) k 0 ≡ get_or blocks k 0 - cond (id.slot == k) 1 0
 left_one blocks id k = by (id.slot == k) refl
@@ -37,7 +38,7 @@ left_all (id ∷ ids) objects k =
     let c = sum_by-cons (λ (x : Id). cond (x.slot == k) 1 0) id ids in
     omega (arith, a, b, c)
 
--- references and blocks fall alike
+-- what is stored and what is counted fall alike
 pub record Counts (scene after : Scene) : Type 0 where
   pub each : (k : ℕ) → slot_blocks k scene.waits ≤ get_or scene.objects.blocks k 0 → get_or after.objects.blocks k 0 + slot_blocks k scene.waits ≡ get_or scene.objects.blocks k 0 + slot_blocks k after.waits
 
@@ -60,12 +61,10 @@ counts_at scene n (Some w) own lt = counts_by scene n w w.state refl own lt
 counts_both : (a b c : Scene) → Counts a b → Counts b c → Counts a c
 counts_both a b c x y = record { each = λ k enough. let p = x.each k enough in let q = y.each k (omega arith) in omega arith }
 
-counts_within : (fuel : ℕ) (scene : Scene) → Counts scene (settled_within fuel scene)
-counts_within zero scene = record { each = λ k enough. refl }
-counts_within (suc fuel) scene = settled_step (λ s. Counts scene s) fuel scene
-    (λ n lt ready. counts_both scene (effect scene n) (settled_within fuel (effect scene n)) (counts_at scene n (get_or scene.waits n None) refl lt) (counts_within fuel (effect scene n)))
-    (λ le. record { each = λ k enough. refl })
-
--- The theorem: where the references of a slot count its blocks and more, they still do after settling, by the same more.
+-- The theorem: where a slot counts its blocks and more, it still does after settling, by the same more.
 pub settled_counts : (scene : Scene) → Counts scene (settled scene)
-settled_counts scene = counts_within (length scene.waits) scene
+settled_counts scene = settled_by_effects Counts (λ s. record { each = λ k enough. refl }) counts_both (λ s n ready. counts_at s n (get_or s.waits n None) refl (ready_within s n ready)) scene
+
+-- and where it counts them, it still does
+pub settled_has_blocks : (scene : Scene) → HasBlocks scene → HasBlocks (settled scene)
+settled_has_blocks scene has = record { each = λ k. let at = has.each k in let c = (settled_counts scene).each k (omega (arith, at)) in omega (arith, at, c) }

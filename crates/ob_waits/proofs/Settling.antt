@@ -237,6 +237,15 @@ settled_step P n scene step stop =
       | inr le ↦ rw (le-ltb k (length scene.waits) le) (stop le)
     ]
 
+-- what holds of each effect, and over one after another, holds of settling
+pub settled_by_effects : (R : Scene → Scene → Type 0) → ((s : Scene) → R s s) → ((a b c : Scene) → R a b → R b c → R a c) →
+    ((s : Scene) (n : ℕ) → is_ready s.objects.bodies (get_or s.waits n None) ≡ true → R s (effect s n)) → (scene : Scene) → R scene (settled scene)
+settled_by_effects R same both one scene = within (length scene.waits) scene
+  where
+    within : (fuel : ℕ) (s : Scene) → R s (settled_within fuel s)
+    within zero s = same s
+    within (suc fuel) s = settled_step (λ x. R s x) fuel s (λ n lt ready. both s (effect s n) (settled_within fuel (effect s n)) (one s n ready) (within fuel (effect s n))) (λ le. same s)
+
 settled_enough : (n : ℕ) (scene : Scene) → pending_count scene.waits ≤ n → IsSettled (settled_within n scene).objects.bodies (settled_within n scene).waits
 settled_enough zero scene few = record { each = λ k. not_true _ (λ ready. omega (arith, ready_counted scene k ready)) }
 settled_enough (suc n) scene few = settled_step (λ s. IsSettled s.objects.bodies s.waits) n scene
@@ -270,6 +279,9 @@ was_ready scene n k ready after =
 settled_none : (fuel : ℕ) (scene : Scene) → IsSettled scene.objects.bodies scene.waits → settled_within fuel scene ≡ scene
 settled_none zero scene q = refl
 settled_none (suc n) scene q = settled_step (λ x. x ≡ scene) n scene (λ k lt ready. let none = q.each k in absurd (cc (none, ready))) (λ le. refl)
+
+pub settled_same : (scene : Scene) → IsSettled scene.objects.bodies scene.waits → settled scene ≡ scene
+settled_same scene q = settled_none (length scene.waits) scene q
 
 -- where the wait of a number is ready and none below is, that is the first one that is ready
 first_is : (scene : Scene) (m : ℕ) → is_ready scene.objects.bodies (get_or scene.waits m None) ≡ true → ((k : ℕ) → k < m → is_ready scene.objects.bodies (get_or scene.waits k None) ≡ false) → first_ready scene.objects.bodies scene.waits ≡ m

@@ -2,7 +2,7 @@
 use Rattle.std.proofs.Common.{◌≡◌, ℕ, zero, suc, ◌<◌, List, [], ◌∷◌, length, Option, Some, None, refl, ap, ◌∙◌, sym, subst, arith, get_or, set, Bool, true, false, cond, inl, inr, map, ltb}
 use Rattle.std.specs.List.{position_or_len}
 use Rattle.std.proofs.lemmas.List.{length-set, length-map, get_or_past, get_or-set_same, get_or-set_other, get_or-map, ext_get_or}
-use Rattle.std.proofs.lemmas.List.Sums.{position_or_len_is}
+use Rattle.std.proofs.lemmas.List.Sums.{position_or_len_is, fails_before_first}
 use Rattle.std.proofs.lemmas.Bool.{cases_eq, cases_lt, lt-ltb, le-ltb}
 use Rattle.std.proofs.lemmas.Bool.Decides.{nat_tests}
 use Rattle.ob_waits.specs.declared.wait.Wait.{Wait}
@@ -44,7 +44,7 @@ tracked_none limit fits = record {
 }
 
 -- whose wait it is
-waits_thread : (t : ℕ) (w : Option Wait) → is_waits_of t w ≡ true → thread_of w ≡ Some t
+pub waits_thread : (t : ℕ) (w : Option Wait) → is_waits_of t w ≡ true → thread_of w ≡ Some t
 waits_thread t None h = absurd (cc)
 waits_thread t (Some w) h = ap Some (grind (arith, nat_tests, h))
 
@@ -58,6 +58,16 @@ false_of false h = refl
 
 pub has_wait : (ws : List (Option Wait)) (n t : ℕ) → thread_of (get_or ws n None) ≡ Some t → n < length ws
 has_wait ws n t h = elim (cases_lt n (length ws)) [ inl lt ↦ lt | inr past ↦ absurd (let e = ap thread_of (get_or_past ws n None past) in cc (e, h)) ]
+
+-- a thread without a number has no wait
+pub no_number : (t : ℕ) (ws : List (Option Wait)) (n : ℕ) → number_of t ws ≡ None → thread_of (get_or ws n None) ≡ Some t → ⊥
+no_number t ws n none own = elim (cases_lt (position_or_len (is_waits_of t) ws) (length ws)) [
+  | inl lt ↦ (let e : number_of t ws ≡ Some (position_or_len (is_waits_of t) ws) = ap (λ b. cond b (Some (position_or_len (is_waits_of t) ws)) None) (lt-ltb _ _ lt) in cc (e, none))
+  | inr le ↦
+      let lt = has_wait ws n t own in
+      let fails : is_waits_of t (get_or ws n None) ≡ false = fails_before_first (is_waits_of t) ws n None (omega arith) in
+      let passes = thread_waits t (get_or ws n None) own in cc (fails, passes)
+]
 
 -- the number of a thread's wait is the first place that has a wait of the thread
 pub number_found : (ws : List (Option Wait)) (threads : List ℕ) (t : ℕ) → AreThreads ws threads → 0 < get_or threads t 0 → number_of t ws ≡ Some (get_or threads t 0)

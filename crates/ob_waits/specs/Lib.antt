@@ -7,3 +7,4 @@ pub mod Places
 pub mod Rows
 pub mod Roster
 pub mod Ends
+pub mod Form

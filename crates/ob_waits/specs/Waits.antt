@@ -158,6 +158,14 @@ is_waits_of thread (Some wait) = wait.thread == thread
 abbrev pub number_of : ℕ → List (Option Wait) → Option ℕ
 number_of thread waits = position (is_waits_of thread) waits
 
+-- the objects that the thread's wait is for
+abbrev pub numbered_ids : List (Option Wait) → Option ℕ → List Id
+numbered_ids waits None = []
+numbered_ids waits (Some number) = ids_of (slice_index_or waits number None)
+
+abbrev pub thread_ids : ℕ → List (Option Wait) → List Id
+thread_ids thread waits = numbered_ids waits (number_of thread waits)
+
 -- the waits by their numbers, from 0, which is never given; and how many numbers may be given
 pub record WaitList : Type 0 where
   pub limit : ℕ

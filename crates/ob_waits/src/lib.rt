@@ -20,7 +20,7 @@ mod wait;
 mod waits;
 
 pub use bodies::Bodies;
-pub use law::law_of_settling;
+pub use law::{law_of_ends, law_of_settling};
 pub use pass::leave_all;
 pub use take::try_now;
 pub use wait::{Mode, WaitState};
