@@ -2,7 +2,7 @@ pub mod Settling
 pub mod ListedLaws
 pub mod PlaceLaws
 pub mod Keeping
-pub mod RowLaws
+pub mod NumberLaws
 pub mod IndexLaws
 pub mod RosterLaws
 pub mod TrackedLaws

@@ -6,7 +6,7 @@ use std::marker::Model;
 
 /// A list that takes no memory of its own where it has one element, as most waits' lists do.
 #[derive(Drop)]
-enum Rows {
+enum IdList {
     One([Id; 1]),
     More(Vec<Id>),
 }
@@ -14,7 +14,7 @@ enum Rows {
 /// The objects of one wait, at most 64, in the order in which they were listed.
 #[derive(Drop)]
 pub struct Ids {
-    rows: Rows,
+    list: IdList,
 }
 
 impl Model for Ids {
@@ -25,9 +25,9 @@ impl Model for Ids {
 
     ghost use Rattle.ob_waits.specs.Ids.{listed_ids};
 
-    ghost view = { λ s. listed_ids s.rows };
+    ghost view = { λ s. listed_ids s.list };
 
-    ghost invariant = { λ s. length (listed_ids s.rows) ≤ 64 };
+    ghost invariant = { λ s. length (listed_ids s.list) ≤ 64 };
 }
 
 impl Ids {
@@ -38,11 +38,11 @@ impl Ids {
     {
         if let [id] = ids {
             return Ok(Ids {
-                rows: Rows::One([*id]),
+                list: IdList::One([*id]),
             });
         }
         Ok(Ids {
-            rows: Rows::More(Vec::from_slice(alloc, ids)?),
+            list: IdList::More(Vec::from_slice(alloc, ids)?),
         })
     }
 
@@ -51,9 +51,9 @@ impl Ids {
         ensures value { result.now ≡ self.now }
         ensures few { length result.now ≤ 64 }
     {
-        match &self.rows {
-            Rows::One(id) => id,
-            Rows::More(ids) => ids.as_slice(),
+        match &self.list {
+            IdList::One(id) => id,
+            IdList::More(ids) => ids.as_slice(),
         }
     }
 }

@@ -8,10 +8,10 @@ mod ids;
 mod index;
 mod law;
 mod live;
+mod numbers;
 mod pass;
 mod places;
 mod roster;
-mod row;
 mod take;
 #[cfg(test)]
 mod tests;

@@ -1,12 +1,12 @@
 ghost use Rattle.std.specs.Prelude.{[], ◌≡◌, ◌<◌, List, Option, None, false, length, slice_index_or, OnOk};
 ghost use Rattle.ob_waits.specs.declared.wait.Wait.{Wait};
 ghost use Rattle.ob_waits.specs.Waits.{is_pending};
-ghost use Rattle.ob_waits.specs.Rows.{row_of};
+ghost use Rattle.ob_waits.specs.Numbers.{numbers_of};
 ghost use Rattle.ob_waits.specs.Roster.{IsRight, HasPlace, Leaves, with_number};
 
 use crate::index::Index;
 use crate::live::Live;
-use crate::row::Row;
+use crate::numbers::Numbers;
 use crate::threads::Threads;
 use pin_core::Id;
 use std::alloc::{AllocError, Global};
@@ -16,7 +16,7 @@ use std::marker::Model;
 #[derive(Drop)]
 pub(crate) struct Roster {
     threads: Threads,
-    order: Row,
+    order: Numbers,
     index: Index,
 }
 
@@ -34,7 +34,7 @@ impl Roster {
     {
         Roster {
             threads: Threads::new(alloc),
-            order: Row::new(alloc),
+            order: Numbers::new(alloc),
             index: Index::new(alloc),
         }
     }
@@ -54,10 +54,10 @@ impl Roster {
     }
 
     /// Numbers, rising, among which are all of pending waits for an object in a slot.
-    pub(crate) fn row(&self, slot: u32) -> &[u32]
-        ensures { result.now ≡ row_of self.now.index slot }
+    pub(crate) fn numbers(&self, slot: u32) -> &[u32]
+        ensures { result.now ≡ numbers_of self.now.index slot }
     {
-        self.index.row(slot)
+        self.index.numbers(slot)
     }
 
     /// Takes all memory that a thread's wait for these objects needs here.
@@ -103,8 +103,8 @@ impl Roster {
         self.order.forget(number);
     }
 
-    /// Drops them from the row of a slot alone.
-    pub(crate) fn thin_row(&mut self, live: &Live, slot: u32)
+    /// Drops them at a slot alone.
+    pub(crate) fn thin_slot(&mut self, live: &Live, slot: u32)
         ensures { Leaves live.now self.old self.new }
     {
         self.index.thin(live, slot);

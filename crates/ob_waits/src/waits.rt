@@ -74,7 +74,7 @@ impl Waits {
     pub fn blocks_of(&self, id: Id) -> u64
         ensures { result ≡ blocks_among id self.now.waits }
     {
-        blocks_of(&self.live, self.roster.row(id.slot), id)
+        blocks_of(&self.live, self.roster.numbers(id.slot), id)
     }
 
     /// Where the wait of a number stands, and which objects it is for: none once it is answered.
@@ -161,8 +161,8 @@ impl Waits {
         ensures settled { IsSettled (B.objects bodies.new).bodies self.new.waits }
         ensures room { (limit : ℕ) → WaitsHaveRoom limit (B.objects bodies.old).bodies self.old.waits → WaitsHaveRoom limit (B.objects bodies.new).bodies self.new.waits }
     {
-        pass(&mut self.live, bodies, self.roster.row(id.slot));
-        self.roster.thin_row(&self.live, id.slot);
+        pass(&mut self.live, bodies, self.roster.numbers(id.slot));
+        self.roster.thin_slot(&self.live, id.slot);
     }
 
     /// Ends a pending wait without satisfying it: its answer is 258, `WAIT_TIMEOUT` ([Wait Functions]).

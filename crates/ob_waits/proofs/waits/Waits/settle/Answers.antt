@@ -17,18 +17,18 @@ pub returns-clause-value : goal.returns-clause-value
 returns-clause-value g c =
     let objects = g.B.Bodies.objects c.args.bodies.now in
     let first : Scene = record { objects = objects; waits = c.self.inside.live } in
-    let rows = c.self.invariant.right.rows in
+    let lists = c.self.invariant.right.lists in
     c.pass.ensures.scene ∙ ap (λ (ns : List ℕ). passed ns first) c.order.ensures
-    ∙ covered_settles c.self.inside.roster.order first rows.order_row.rising (covers_order objects c.self.inside.live c.self.inside.roster.order c.self.inside.roster.index rows)
+    ∙ covered_settles c.self.inside.roster.order first lists.order_rises.rising (covers_order objects c.self.inside.live c.self.inside.roster.order c.self.inside.roster.index lists)
     ∙ ap (λ (l : WaitList). settled (record { objects = objects; waits = l.waits })) c.self.view_is
 
 pub returns-clause-settled : goal.returns-clause-settled
 returns-clause-settled g c =
     let objects = g.B.Bodies.objects c.args.bodies.now in
     let first : Scene = record { objects = objects; waits = c.self.inside.live } in
-    let rows = c.self.invariant.right.rows in
+    let lists = c.self.invariant.right.lists in
     subst (λ (s : Scene). IsSettled s.objects.bodies s.waits) (sym (c.pass.ensures.scene ∙ ap (λ (ns : List ℕ). passed ns first) c.order.ensures
-    ∙ covered_settles c.self.inside.roster.order first rows.order_row.rising (covers_order objects c.self.inside.live c.self.inside.roster.order c.self.inside.roster.index rows))) (settled_is_settled first)
+    ∙ covered_settles c.self.inside.roster.order first lists.order_rises.rising (covers_order objects c.self.inside.live c.self.inside.roster.order c.self.inside.roster.index lists))) (settled_is_settled first)
 
 pub returns-clause-room : goal.returns-clause-room
 returns-clause-room g c = λ limit h.

@@ -1,4 +1,4 @@
--- A number put at the end of a row, and a row thinned.
+-- A number put at the end of a list, and a list thinned.
 use Rattle.std.proofs.Common.{◌≡◌, ℕ, zero, suc, ◌-◌, ◌<◌, ◌≤◌, List, [], ◌∷◌, ◌++◌, length, Option, None, Some, refl, ap, ◌∙◌, sym, subst, arith, get_or, Bool, true, false, inl, inr, cond}
 use Rattle.std.specs.Prelude.{◌⊎◌, filter}
 use Rattle.std.specs.Option.{option_to_list}
@@ -6,7 +6,7 @@ use Rattle.std.proofs.lemmas.Bool.{cases_lt}
 use Rattle.std.proofs.lemmas.Bool.Decides.{nat_tests}
 use Rattle.ob_waits.specs.declared.wait.Wait.{Wait}
 use Rattle.ob_waits.specs.Rules.{Within, IsRising}
-use Rattle.ob_waits.specs.Rows.{IsRow, HasAll, ends_with, thinned, Thins}
+use Rattle.ob_waits.specs.Numbers.{IsOrdered, HasAll, ends_with, thinned, Thins}
 use Rattle.ob_waits.specs.Waits.{is_pending}
 
 pub within_left : (n m : ℕ) (ns : List ℕ) → Within n ns → Within n (ns ++ m ∷ [])
@@ -38,7 +38,7 @@ within_end n ns h =
     let e : get_or ns (length ns - 1) 0 ≡ n = grind (arith, nat_tests, h) in
     subst (λ k. Within k ns) e (within_at ns (length ns - 1) lt)
 
--- no number of a row is above its last
+-- no number of a list is above its last
 last_most : (k x : ℕ) (ns : List ℕ) → IsRising (x ∷ ns) → Within k (x ∷ ns) → k ≤ get_or (x ∷ ns) (length ns) 0
 last_most k x [] r i = elim i [ inl same ↦ omega arith | inr later ↦ absurd later ]
 last_most k x (y ∷ ns) r i = elim i [
@@ -47,13 +47,13 @@ last_most k x (y ∷ ns) r i = elim i [
 ]
 
 -- so a number that isn't below the last, and isn't it, is above all
-below_new : (m : ℕ) (ns : List ℕ) → IsRow m ns → ends_with m ns ≡ false → (k : ℕ) → Within k ns → k < m
-below_new m ns row h k i = elim (cases_lt k m) [
+below_new : (m : ℕ) (ns : List ℕ) → IsOrdered m ns → ends_with m ns ≡ false → (k : ℕ) → Within k ns → k < m
+below_new m ns numbers h k i = elim (cases_lt k m) [
   | inl lt ↦ lt
-  | inr le ↦ absurd (by ns row h (let b = row.below k i in let same : k ≡ m = omega arith in subst (λ j. Within j ns) same i))
+  | inr le ↦ absurd (by ns numbers h (let b = numbers.below k i in let same : k ≡ m = omega arith in subst (λ j. Within j ns) same i))
 ]
   where
-    by : (xs : List ℕ) → IsRow m xs → ends_with m xs ≡ false → Within m xs → ⊥
+    by : (xs : List ℕ) → IsOrdered m xs → ends_with m xs ≡ false → Within m xs → ⊥
     by [] r e j = j
     by (x ∷ xs) r e j =
         let end : length (x ∷ xs) - 1 ≡ length xs = omega arith in
@@ -62,13 +62,13 @@ below_new m ns row h k i = elim (cases_lt k m) [
         let same : get_or (x ∷ xs) (length (x ∷ xs) - 1) 0 ≡ m = ap (λ a. get_or (x ∷ xs) a 0) end ∙ omega arith in
         grind (arith, nat_tests, e, same)
 
-pub row_entered : (m : ℕ) (ns : List ℕ) → IsRow m ns → ends_with m ns ≡ false → IsRow m (ns ++ m ∷ [])
-row_entered m ns row h = record {
-  rising = rising_push m ns (below_new m ns row h) row.rising;
-  below = λ k i. elim (within_either k m ns i) [ inl old ↦ row.below k old | inr last ↦ omega (arith, last) ];
+pub ordered_entered : (m : ℕ) (ns : List ℕ) → IsOrdered m ns → ends_with m ns ≡ false → IsOrdered m (ns ++ m ∷ [])
+ordered_entered m ns numbers h = record {
+  rising = rising_push m ns (below_new m ns numbers h) numbers.rising;
+  below = λ k i. elim (within_either k m ns i) [ inl old ↦ numbers.below k old | inr last ↦ omega (arith, last) ];
 }
 
--- a row of some of the numbers
+-- a list of some of the numbers
 module _ (p : ℕ → Bool) where
   within_filter : (k : ℕ) (ns : List ℕ) → Within k (filter p ns) → Within k ns
   within_filter k [] i = i
@@ -94,27 +94,27 @@ module _ (p : ℕ → Bool) where
       by true rest = ((λ k later. r.0 k (within_filter k ns later)), rest)
       by false rest = rest
 
-pub thins_none : (waits : List (Option Wait)) (row : List ℕ) → Thins waits row row
-thins_none waits row = record { rising = λ r. r; only = λ k i. i; keeps = λ k p i. i }
+pub thins_none : (waits : List (Option Wait)) (numbers : List ℕ) → Thins waits numbers numbers
+thins_none waits numbers = record { rising = λ r. r; only = λ k i. i; keeps = λ k p i. i }
 
-pub thins_all : (waits : List (Option Wait)) (row new : List ℕ) → new ≡ thinned waits row → Thins waits row new
-thins_all waits row new is = subst (λ ns. Thins waits row ns) (sym is) (record {
-  rising = rising_filter (λ n. is_pending (get_or waits n None)) row;
-  only = λ k i. within_filter (λ n. is_pending (get_or waits n None)) k row i;
-  keeps = λ k p i. filter_within (λ n. is_pending (get_or waits n None)) k row p i;
+pub thins_all : (waits : List (Option Wait)) (numbers new : List ℕ) → new ≡ thinned waits numbers → Thins waits numbers new
+thins_all waits numbers new is = subst (λ ns. Thins waits numbers ns) (sym is) (record {
+  rising = rising_filter (λ n. is_pending (get_or waits n None)) numbers;
+  only = λ k i. within_filter (λ n. is_pending (get_or waits n None)) k numbers i;
+  keeps = λ k p i. filter_within (λ n. is_pending (get_or waits n None)) k numbers p i;
 })
 
 pub thins_both : (waits : List (Option Wait)) (a b c : List ℕ) → Thins waits a b → Thins waits b c → Thins waits a c
 thins_both waits a b c x y = record { rising = λ r. y.rising (x.rising r); only = λ k i. x.only k (y.only k i); keeps = λ k p i. y.keeps k p (x.keeps k p i) }
 
-pub row_thinned : (m : ℕ) (waits : List (Option Wait)) (old new : List ℕ) → Thins waits old new → IsRow m old → IsRow m new
-row_thinned m waits old new t row = record { rising = t.rising row.rising; below = λ k i. row.below k (t.only k i) }
+pub ordered_thinned : (m : ℕ) (waits : List (Option Wait)) (old new : List ℕ) → Thins waits old new → IsOrdered m old → IsOrdered m new
+ordered_thinned m waits old new t numbers = record { rising = t.rising numbers.rising; below = λ k i. numbers.below k (t.only k i) }
 
--- a thinned row still has the waits of a test that only pending waits pass
+-- a thinned list still has the waits of a test that only pending waits pass
 pub all_thinned : (test : Option Wait → Bool) (waits : List (Option Wait)) (old new : List ℕ) → ((w : Option Wait) → test w ≡ true → is_pending w ≡ true) → Thins waits old new → HasAll test old waits → HasAll test new waits
 all_thinned test waits old new pending t all = record { each = λ n h. t.keeps n (pending (get_or waits n None) h) (all.each n h) }
 
--- a row without its last number, of a wait that is not pending
+-- a list without its last number, of a wait that is not pending
 rising_front : (m : ℕ) (ns : List ℕ) → IsRising (ns ++ m ∷ []) → IsRising ns
 rising_front m [] r = tt
 rising_front m (x ∷ ns) r = ((λ k i. r.0 k (within_left k m ns i)), rising_front m ns r.1)

@@ -1,8 +1,8 @@
 use Rattle.std.proofs.Common.{rules, ap, ◌∙◌, ℕ, None, get_or}
 use Rattle.std.proofs.lemmas.Fn.{filter_same}
 use Rattle.ob_waits.specs.Waits.{is_pending}
-use Rattle.ob_waits.specs.Rows.{thinned}
-use Rattle.ob_waits.proofs.row.Row.drop_others.Goals as goal
+use Rattle.ob_waits.specs.Numbers.{thinned}
+use Rattle.ob_waits.proofs.numbers.Numbers.drop_others.Goals as goal
 
 pub returns : goal.returns
 returns c =

@@ -1,7 +1,7 @@
 ghost use Rattle.std.specs.Prelude.{[], ◌≡◌, ◌≤◌, ◌<◌, ℕ, List, Option, None, false, slice_index_or, OnOk};
 ghost use Rattle.ob_waits.specs.declared.wait.Wait.{Wait};
 ghost use Rattle.ob_waits.specs.Waits.{is_pending};
-ghost use Rattle.ob_waits.specs.Rows.{IsRow, ends_with, thinned, Thins};
+ghost use Rattle.ob_waits.specs.Numbers.{IsOrdered, ends_with, thinned, Thins};
 ghost use Rattle.ob_waits.specs.Rules.{Within};
 
 use crate::live::Live;
@@ -10,12 +10,12 @@ use std::marker::Model;
 
 /// Numbers of waits, rising, among which are all of some that are pending.
 #[derive(Drop)]
-pub(crate) struct Row {
+pub(crate) struct Numbers {
     numbers: Vec<u32>,
     due: usize,
 }
 
-impl Model for Row {
+impl Model for Numbers {
     ghost use Rattle.std.specs.Prelude.{List, ℕ};
 
     ghost Value = { List ℕ };
@@ -32,11 +32,11 @@ fn ends_with(numbers: &[u32], number: u32) -> bool
     }
 }
 
-impl Row {
-    pub(crate) fn new(alloc: Global) -> Row
+impl Numbers {
+    pub(crate) fn new(alloc: Global) -> Numbers
         ensures { result ≡ [] }
     {
-        Row {
+        Numbers {
             numbers: Vec::new(alloc),
             due: 8,
         }
@@ -51,8 +51,8 @@ impl Row {
 
     /// Puts a number in that is not below any that is there.
     pub(crate) fn enter(&mut self, number: u32) -> Result<(), AllocError>
-        requires { IsRow number self.old }
-        ensures row { IsRow number self.new }
+        requires { IsOrdered number self.old }
+        ensures ordered { IsOrdered number self.new }
         ensures keeps { (k : ℕ) → Within k self.old → Within k self.new }
         ensures entered { OnOk result (Within number self.new) }
     {
@@ -81,15 +81,16 @@ impl Row {
     }
 
     /// Drops the numbers of waits that are not pending.
-    #[tactic(auto, using(crate::proofs::RowLaws::thins_all))]
+    #[tactic(auto, using(crate::proofs::NumberLaws::thins_all))]
     pub(crate) fn thin(&mut self, live: &Live)
         ensures { Thins live.now self.old self.new }
     {
         self.drop_others(live);
     }
 
-    /// Drops them once the row has outgrown what was left the last time, so that a number costs constant time.
-    #[tactic(auto, using(crate::proofs::RowLaws::thins_none))]
+    /// Drops them where it is due: once there are eight more than twice as many as were left the last time, so
+    /// that it costs constant time for each number, over all calls.
+    #[tactic(auto, using(crate::proofs::NumberLaws::thins_none))]
     pub(crate) fn thin_if_due(&mut self, live: &Live)
         ensures { Thins live.now self.old self.new }
     {
