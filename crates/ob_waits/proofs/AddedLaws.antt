@@ -23,7 +23,7 @@ alone_owns ws threads t n none a alone own =
     cc (found, alone)
 
 -- some element passes
-any_at : {A : Type 0} (p : A → Bool) (d : A) (xs : List A) → list_any p xs ≡ true → (i : ℕ) × (i < length xs) × (p (get_or xs i d) ≡ true)
+pub any_at : {A : Type 0} (p : A → Bool) (d : A) (xs : List A) → list_any p xs ≡ true → (i : ℕ) × (i < length xs) × (p (get_or xs i d) ≡ true)
 any_at p d [] h = absurd (cc)
 any_at p d (x ∷ xs) h = by (p x) refl (any_at p d xs)
   where

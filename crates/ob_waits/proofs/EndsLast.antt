@@ -20,7 +20,8 @@ use Rattle.ob_waits.specs.Ends.{HasBlocks, all_blocks_left, plain_effect, plain_
 use Rattle.ob_waits.specs.Waits.{nowhere, is_signaled, is_abandoned, first_signaled, list_ready, state_ready, is_ready, first_ready, with_acquired, with_all_acquired, bodies_after, code_of, answered_wait, slot_places, slot_blocks, ids_of, state_ids, Scene, effect, effect_of, effect_at, settled, settled_within}
 use Rattle.ob_waits.proofs.Settling.{settled_first}
 use Rattle.ob_waits.proofs.References.{left_one, counts_at}
-use Rattle.ob_waits.proofs.Counted.{places_at, wait_counts}
+use Rattle.ob_waits.proofs.Apart.{in_slot, SameAt, named_at, any_agree, first_same, ready_same}
+use Rattle.ob_waits.proofs.Counted.{named_counts}
 use Rattle.ob_waits.proofs.Ends.{body_left}
 
 -- slot by slot
@@ -122,74 +123,31 @@ blocks_ended : (ids : List Id) (objects : Objects) → without_blocks (ended obj
 blocks_ended [] objects = refl
 blocks_ended (id ∷ ids) objects = ap (λ o. without_blocks o ids) (block_ended objects id) ∙ blocks_ended ids (record objects { blocks = blocks_left objects.blocks id })
 
--- each object of a list has a block
+-- each slot that a list names counts a block
 abbrev IsReferred : Objects → List Id → Type 0
-IsReferred objects ids = (id : Id) → 0 < slot_places id.slot ids → 0 < get_or objects.blocks id.slot 0
+IsReferred objects ids = (k : ℕ) → list_any (in_slot k) ids ≡ true → 0 < get_or objects.blocks k 0
 
-places_first : (id : Id) (ids : List Id) → 0 < slot_places id.slot (id ∷ ids)
-places_first id ids =
-    let e = sum_by-cons (λ (x : Id). cond (x.slot == id.slot) 1 0) id ids in
-    let here : cond (id.slot == id.slot) 1 0 ≡ 1 = ap {B = ℕ} (λ b. cond b 1 0) (let yes : (id.slot == id.slot) ≡ true = grind (arith, nat_tests) in yes) in
-    omega (arith, e, here)
-
-places_later : (k : ℕ) (id : Id) (ids : List Id) → 0 < slot_places k ids → 0 < slot_places k (id ∷ ids)
-places_later k id ids some = let e = sum_by-cons (λ (x : Id). cond (x.slot == k) 1 0) id ids in omega (arith, e, some)
-
-body_same : (objects : Objects) (id : Id) → 0 < get_or objects.blocks id.slot 0 → get_or (ended objects).bodies id.slot None ≡ get_or objects.bodies id.slot None
-body_same objects id some =
-    ended_at objects id.slot ∙ ap (λ b. cond b None (get_or objects.bodies id.slot None)) (let no : eqb (get_or objects.handles id.slot 0 + get_or objects.blocks id.slot 0) 0 ≡ false = grind (arith, nat_tests, some) in no)
-
--- tests that agree on each object of a list agree on the list
-module _ (p q : Id → Bool) where
-  abbrev Agree : List Id → Type 0
-  Agree ids = (id : Id) → 0 < slot_places id.slot ids → p id ≡ q id
-
-  agree_first : (x : Id) (xs : List Id) → Agree (x ∷ xs) → p x ≡ q x
-  agree_first x xs same = same x (places_first x xs)
-
-  agree_later : (x : Id) (xs : List Id) → Agree (x ∷ xs) → Agree xs
-  agree_later x xs same id some = same id (places_later id.slot x xs some)
-
-  all_agree : (ids : List Id) → Agree ids → list_all p ids ≡ list_all q ids
-  all_agree [] same = refl
-  all_agree (x ∷ xs) same = let a = agree_first x xs same in let b = all_agree xs (agree_later x xs same) in grind (arith, a, b)
-
-  any_agree : (ids : List Id) → Agree ids → list_any p ids ≡ list_any q ids
-  any_agree [] same = refl
-  any_agree (x ∷ xs) same = let a = agree_first x xs same in let b = any_agree xs (agree_later x xs same) in grind (arith, a, b)
-
-  first_agree : (ids : List Id) → Agree ids → position_or_len p ids ≡ position_or_len q ids
-  first_agree [] same = refl
-  first_agree (x ∷ xs) same = let a = agree_first x xs same in let b = first_agree xs (agree_later x xs same) in grind (arith, a, b)
-
-signaled_ended : (t : ℕ) (objects : Objects) (ids : List Id) → IsReferred objects ids → (id : Id) → 0 < slot_places id.slot ids → is_signaled t (ended objects).bodies id ≡ is_signaled t objects.bodies id
-signaled_ended t objects ids has id some = ap (slot_signaled t) (body_same objects id (has id some))
-
-abandoned_ended : (objects : Objects) (ids : List Id) → IsReferred objects ids → (id : Id) → 0 < slot_places id.slot ids → is_abandoned (ended objects).bodies id ≡ is_abandoned objects.bodies id
-abandoned_ended objects ids has id some = ap slot_abandoned (body_same objects id (has id some))
-
-first_ended : (t : ℕ) (objects : Objects) (ids : List Id) → IsReferred objects ids → first_signaled t (ended objects).bodies ids ≡ first_signaled t objects.bodies ids
-first_ended t objects ids has = first_agree (is_signaled t (ended objects).bodies) (is_signaled t objects.bodies) ids (signaled_ended t objects ids has)
-
-list_ended : (mode : Mode) (t : ℕ) (objects : Objects) (ids : List Id) → IsReferred objects ids → list_ready mode t (ended objects).bodies ids ≡ list_ready mode t objects.bodies ids
-list_ended Any t objects ids has = ap (λ n. ltb n (length ids)) (first_ended t objects ids has)
-list_ended All t objects ids has = all_agree (is_signaled t (ended objects).bodies) (is_signaled t objects.bodies) ids (signaled_ended t objects ids has)
-
-state_ended : (t : ℕ) (objects : Objects) (st : State) → IsReferred objects (state_ids st) → state_ready t (ended objects).bodies st ≡ state_ready t objects.bodies st
-state_ended t objects (Pending mode ids) has = list_ended mode t objects ids has
-state_ended t objects (Answered code) has = refl
+bodies_same : (objects : Objects) (ids : List Id) → IsReferred objects ids → SameAt objects.bodies (ended objects).bodies ids
+bodies_same objects ids has k named =
+    let some = has k named in
+    ended_at objects k ∙ ap (λ b. cond b None (get_or objects.bodies k None)) (let no : eqb (get_or objects.handles k 0 + get_or objects.blocks k 0) 0 ≡ false = grind (arith, nat_tests, some) in no)
 
 ready_ended : (objects : Objects) (w : Option Wait) → IsReferred objects (ids_of w) → is_ready (ended objects).bodies w ≡ is_ready objects.bodies w
-ready_ended objects None has = refl
-ready_ended objects (Some w) has = state_ended w.thread objects w.state has
+ready_ended objects w has = ready_same objects.bodies (ended objects).bodies w (bodies_same objects (ids_of w) has)
+
+first_ended : (t : ℕ) (objects : Objects) (ids : List Id) → IsReferred objects ids → first_signaled t (ended objects).bodies ids ≡ first_signaled t objects.bodies ids
+first_ended t objects ids has = first_same objects.bodies (ended objects).bodies t ids (bodies_same objects ids has)
 
 -- the code and what is taken are the same
+abandoned_ended : (objects : Objects) (ids : List Id) → IsReferred objects ids → (id : Id) → list_any (in_slot id.slot) ids ≡ true → is_abandoned (ended objects).bodies id ≡ is_abandoned objects.bodies id
+abandoned_ended objects ids has id named = ap slot_abandoned (bodies_same objects ids has id.slot named)
+
 code_ended : (mode : Mode) (t : ℕ) (objects : Objects) (ids : List Id) → IsReferred objects ids → list_ready mode t objects.bodies ids ≡ true → code_of mode t (ended objects).bodies ids ≡ code_of mode t objects.bodies ids
 code_ended Any t objects ids has ready =
     let first = first_ended t objects ids has in
     let i = first_signaled t objects.bodies ids in
     let lt : i < length ids = grind (arith, nat_tests, ready) in
-    let same = abandoned_ended objects ids has (get_or ids i nowhere) (places_at ids i lt) in
+    let same = abandoned_ended objects ids has (get_or ids i nowhere) (named_at ids i lt) in
     ap (λ n. n + cond (is_abandoned (ended objects).bodies (get_or ids n nowhere)) 128 0) first ∙ ap {B = ℕ} (λ b. i + cond b 128 0) same
 code_ended All t objects ids has ready = ap {B = ℕ} (λ b. cond b 128 0) (any_agree (is_abandoned (ended objects).bodies) (is_abandoned objects.bodies) ids (abandoned_ended objects ids has))
 
@@ -215,14 +173,14 @@ effect_at_ended scene n None has ready = absurd (cc)
 effect_at_ended scene n (Some w) has ready = effect_of_ended scene n w w.state has ready
 
 referred : (scene : Scene) → HasBlocks scene → (n : ℕ) → IsReferred scene.objects (ids_of (get_or scene.waits n None))
-referred scene has n id some = let le = wait_counts id.slot n scene.waits in let at = has.each id.slot in omega (arith, le, at, some)
+referred scene has n k named = let some = named_counts k n scene.waits named in let at = has.each k in omega (arith, some, at)
 
-first_same : (p q : Option Wait → Bool) (ws : List (Option Wait)) → ((k : ℕ) → p (get_or ws k None) ≡ q (get_or ws k None)) → position_or_len p ws ≡ position_or_len q ws
-first_same p q [] same = refl
-first_same p q (w ∷ ws) same = let a : p w ≡ q w = same 0 in let b = first_same p q ws (λ k. same (suc k)) in grind (arith, a, b)
+first_pointwise : (p q : Option Wait → Bool) (ws : List (Option Wait)) → ((k : ℕ) → p (get_or ws k None) ≡ q (get_or ws k None)) → position_or_len p ws ≡ position_or_len q ws
+first_pointwise p q [] same = refl
+first_pointwise p q (w ∷ ws) same = let a : p w ≡ q w = same 0 in let b = first_pointwise p q ws (λ k. same (suc k)) in grind (arith, a, b)
 
 first_ready_ended : (scene : Scene) → HasBlocks scene → first_ready (ended scene.objects).bodies scene.waits ≡ first_ready scene.objects.bodies scene.waits
-first_ready_ended scene has = first_same (is_ready (ended scene.objects).bodies) (is_ready scene.objects.bodies) scene.waits (λ k. ready_ended scene.objects (get_or scene.waits k None) (referred scene has k))
+first_ready_ended scene has = first_pointwise (is_ready (ended scene.objects).bodies) (is_ready scene.objects.bodies) scene.waits (λ k. ready_ended scene.objects (get_or scene.waits k None) (referred scene has k))
 
 blocks_kept : (scene : Scene) (n : ℕ) → HasBlocks scene → n < length scene.waits → is_ready scene.objects.bodies (get_or scene.waits n None) ≡ true → HasBlocks (plain_effect scene n)
 blocks_kept scene n has lt ready =

@@ -5,8 +5,8 @@ use Rattle.std.proofs.lemmas.Bool.{cases_eq, cases_lt}
 use Rattle.ob_body.specs.declared.body.Body.{Body}
 use Rattle.ob_waits.specs.declared.wait.Wait.{Wait}
 use Rattle.ob_waits.specs.Rules.{WaitWaitable, thread_of, IsKept, WaitHasRoom, WaitsHaveRoom, Fits}
-use Rattle.ob_waits.specs.Waits.{nowhere, is_ready, Scene, answered_wait, effect, passed, is_pending, names_slot, ids_of}
-use Rattle.ob_waits.proofs.Settling.{Answers, answers, ready_within, RoomKept}
+use Rattle.ob_waits.specs.Waits.{nowhere, is_ready, Scene, answered_wait, effect, passed, settled, is_pending, names_slot, ids_of}
+use Rattle.ob_waits.proofs.Settling.{Answers, answers, ready_within, RoomKept, settled_by_effects}
 
 -- a wait is what it was, or answered
 pub record Fades (old new : Option Wait) : Type 0 where
@@ -127,3 +127,10 @@ passed_more n ns scene = by (is_ready scene.objects.bodies (get_or scene.waits n
     by : (b : Bool) → is_ready scene.objects.bodies (get_or scene.waits n None) ≡ b → passed ns (passed (n ∷ []) scene) ≡ passed (n ∷ ns) scene
     by true ready = rw ready refl
     by false ready = rw ready refl
+
+-- and so does settling
+pub settled_fits : (limit : ℕ) (scene : Scene) → Fits limit scene.objects.bodies scene.waits → Fits limit (settled scene).objects.bodies (settled scene).waits
+settled_fits limit scene = settled_by_effects (λ (a b : Scene). Fits limit a.objects.bodies a.waits → Fits limit b.objects.bodies b.waits) (λ s k. k) (λ a b c x y k. y (x k)) (effect_fits limit) scene
+
+pub settled_fades : (scene : Scene) → Fade scene.waits (settled scene).waits
+settled_fades scene = settled_by_effects (λ (a b : Scene). Fade a.waits b.waits) (λ s. fade_none s.waits) (λ a b c. fade_both a.waits b.waits c.waits) effect_fades scene

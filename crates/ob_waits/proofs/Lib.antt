@@ -17,3 +17,5 @@ pub mod Ends
 pub mod EndsLast
 pub mod Counted
 pub mod Staying
+pub mod MergeLaws
+pub mod SettleLaws

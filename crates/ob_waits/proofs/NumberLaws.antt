@@ -26,7 +26,7 @@ rising_push m [] below r = ((λ k later. absurd later), tt)
 rising_push m (x ∷ ns) below r = ((λ k later. elim (within_either k m ns later) [ inl old ↦ r.0 k old | inr last ↦ omega (arith, last, below x (inl refl)) ]), rising_push m ns (λ k i. below k (inr i)) r.1)
 
 -- the number at an index is there
-within_at : (ns : List ℕ) (i : ℕ) → i < length ns → Within (get_or ns i 0) ns
+pub within_at : (ns : List ℕ) (i : ℕ) → i < length ns → Within (get_or ns i 0) ns
 within_at [] i lt = absurd (omega arith)
 within_at (x ∷ ns) zero lt = inl refl
 within_at (x ∷ ns) (suc i) lt = inr (within_at ns i (omega arith))

@@ -174,7 +174,7 @@ pub ready_pending : (bodies : List (Option Body)) (w : Option Wait) → is_ready
 ready_pending bodies None h = cc
 ready_pending bodies (Some w) h = state_ready_pending w.thread bodies w.state h
 
-settled_at_end : (scene : Scene) → length scene.waits ≤ first_ready scene.objects.bodies scene.waits → IsSettled scene.objects.bodies scene.waits
+pub settled_at_end : (scene : Scene) → length scene.waits ≤ first_ready scene.objects.bodies scene.waits → IsSettled scene.objects.bodies scene.waits
 settled_at_end scene le = record {
   each = λ n. elim (cases_lt n (length scene.waits)) [
     | inl lt ↦ fails_before_first (is_ready scene.objects.bodies) scene.waits n None (omega arith)
@@ -215,14 +215,14 @@ answers scene n ready = answered_at scene n (get_or scene.waits n None) refl rea
 pub ready_within : (scene : Scene) (n : ℕ) → is_ready scene.objects.bodies (get_or scene.waits n None) ≡ true → n < length scene.waits
 ready_within scene n ready = elim (cases_lt n (length scene.waits)) [ inl lt ↦ lt | inr past ↦ let none = ap (is_ready scene.objects.bodies) (get_or_past scene.waits n None past) in absurd (cc (none, ready)) ]
 
-fewer : (scene : Scene) (n : ℕ) → n < length scene.waits → is_ready scene.objects.bodies (get_or scene.waits n None) ≡ true → pending_count (effect scene n).waits + 1 ≡ pending_count scene.waits
+pub fewer : (scene : Scene) (n : ℕ) → n < length scene.waits → is_ready scene.objects.bodies (get_or scene.waits n None) ≡ true → pending_count (effect scene n).waits + 1 ≡ pending_count scene.waits
 fewer scene n in' ready =
     let a = answers scene n ready in
     let f : Option Wait → ℕ = λ w. cond (is_pending w) 1 0 in
     let one : f (get_or scene.waits n None) ≡ 1 = ap {B = ℕ} (λ b. cond b 1 0) (ready_pending scene.objects.bodies (get_or scene.waits n None) ready) in
     omega (arith, ap (sum_by f) a.waits, one, sum_by-set f scene.waits n (answered_wait a.wait a.code) None in')
 
-ready_counted : (scene : Scene) (n : ℕ) → is_ready scene.objects.bodies (get_or scene.waits n None) ≡ true → 0 < pending_count scene.waits
+pub ready_counted : (scene : Scene) (n : ℕ) → is_ready scene.objects.bodies (get_or scene.waits n None) ≡ true → 0 < pending_count scene.waits
 ready_counted scene n ready =
     let one : cond (is_pending (get_or scene.waits n None)) 1 0 ≡ 1 = ap {B = ℕ} (λ b. cond b 1 0) (ready_pending scene.objects.bodies (get_or scene.waits n None) ready) in
     omega (arith, get_or-le-sum_by (λ w. cond (is_pending w) 1 0) scene.waits n None (ready_within scene n ready), one)
@@ -257,11 +257,11 @@ pub settled_is_settled : (scene : Scene) → IsSettled (settled scene).objects.b
 settled_is_settled scene = settled_enough (length scene.waits) scene (count_by-le-length is_pending scene.waits)
 
 -- a wait that is ready after an effect was ready before, and is another one
-record WasReady (scene : Scene) (n k : ℕ) : Type 0 where
-  before : is_ready scene.objects.bodies (get_or scene.waits k None) ≡ true
-  other : k ≡ n → ⊥
+pub record WasReady (scene : Scene) (n k : ℕ) : Type 0 where
+  pub before : is_ready scene.objects.bodies (get_or scene.waits k None) ≡ true
+  pub other : k ≡ n → ⊥
 
-was_ready : (scene : Scene) (n k : ℕ) → is_ready scene.objects.bodies (get_or scene.waits n None) ≡ true → is_ready (effect scene n).objects.bodies (get_or (effect scene n).waits k None) ≡ true → WasReady scene n k
+pub was_ready : (scene : Scene) (n k : ℕ) → is_ready scene.objects.bodies (get_or scene.waits n None) ≡ true → is_ready (effect scene n).objects.bodies (get_or (effect scene n).waits k None) ≡ true → WasReady scene n k
 was_ready scene n k ready after =
     let a = answers scene n ready in
     let w : Option Wait = answered_wait a.wait a.code in
@@ -276,7 +276,7 @@ was_ready scene n k ready after =
     ]
 
 -- a settled scene stays
-settled_none : (fuel : ℕ) (scene : Scene) → IsSettled scene.objects.bodies scene.waits → settled_within fuel scene ≡ scene
+pub settled_none : (fuel : ℕ) (scene : Scene) → IsSettled scene.objects.bodies scene.waits → settled_within fuel scene ≡ scene
 settled_none zero scene q = refl
 settled_none (suc n) scene q = settled_step (λ x. x ≡ scene) n scene (λ k lt ready. let none = q.each k in absurd (cc (none, ready))) (λ le. refl)
 
@@ -284,7 +284,7 @@ pub settled_same : (scene : Scene) → IsSettled scene.objects.bodies scene.wait
 settled_same scene q = settled_none (length scene.waits) scene q
 
 -- where the wait of a number is ready and none below is, that is the first one that is ready
-first_is : (scene : Scene) (m : ℕ) → is_ready scene.objects.bodies (get_or scene.waits m None) ≡ true → ((k : ℕ) → k < m → is_ready scene.objects.bodies (get_or scene.waits k None) ≡ false) → first_ready scene.objects.bodies scene.waits ≡ m
+pub first_is : (scene : Scene) (m : ℕ) → is_ready scene.objects.bodies (get_or scene.waits m None) ≡ true → ((k : ℕ) → k < m → is_ready scene.objects.bodies (get_or scene.waits k None) ≡ false) → first_ready scene.objects.bodies scene.waits ≡ m
 first_is scene m ready below = position_or_len_is (is_ready scene.objects.bodies) scene.waits m None (let lt = ready_within scene m ready in omega arith) below (λ lt. ready)
 
 pub settled_first : (fuel : ℕ) (scene : Scene) (m : ℕ) → is_ready scene.objects.bodies (get_or scene.waits m None) ≡ true → first_ready scene.objects.bodies scene.waits ≡ m → settled_within (suc fuel) scene ≡ settled_within fuel (effect scene m)

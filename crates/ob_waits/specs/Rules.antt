@@ -8,7 +8,7 @@ use Rattle.ob_waits.specs.declared.wait.Wait.{Wait}
 use Rattle.ob_waits.specs.declared.wait.State.{State}
 use Rattle.ob_waits.specs.declared.wait.State.TheVariants.{Pending, Answered}
 use Rattle.ob_waits.specs.Objects.{Objects, slot_room}
-use Rattle.ob_waits.specs.Waits.{nowhere, Scene, is_ready, names_slot, ids_of}
+use Rattle.ob_waits.specs.Waits.{nowhere, Scene, is_ready, names_slot, names_one, ids_of}
 
 -- each object of a list has room for the thread
 pub record HasRoom (limit thread : ℕ) (bodies : List (Option Body)) (ids : List Id) : Type 0 where
@@ -61,6 +61,10 @@ pub record IsSettled (bodies : List (Option Body)) (waits : List (Option Wait)) 
 -- each wait that is ready names the slot
 pub record IsReadyAt (slot : ℕ) (bodies : List (Option Body)) (waits : List (Option Wait)) : Type 0 where
   pub each : (n : ℕ) → is_ready bodies (slice_index_or waits n None) ≡ true → names_slot slot (slice_index_or waits n None) ≡ true
+
+-- or the slot of one of some objects
+pub record IsReadyAtOne (ids : List Id) (bodies : List (Option Body)) (waits : List (Option Wait)) : Type 0 where
+  pub each : (n : ℕ) → is_ready bodies (slice_index_or waits n None) ≡ true → names_one ids (slice_index_or waits n None) ≡ true
 
 -- a list of numbers has this one
 abbrev pub Within : ℕ → List ℕ → Type 0

@@ -135,6 +135,10 @@ ids_of (Some wait) = state_ids wait.state
 abbrev pub names_slot : ℕ → Option Wait → Bool
 names_slot slot wait = list_any (λ (id : Id). id.slot == slot) (ids_of wait)
 
+-- or the slot of one of some objects
+abbrev pub names_one : List Id → Option Wait → Bool
+names_one ids wait = list_any (λ (id : Id). names_slot id.slot wait) ids
+
 -- how many places of pending waits name an object
 abbrev pub blocks_in : Id → Option Wait → ℕ
 blocks_in id wait = count_by (same_id id) (ids_of wait)

@@ -113,6 +113,16 @@ impl Index {
         Ok(())
     }
 
+    /// The same at the slot of each object.
+    #[tactic(auto, using(crate::proofs::IndexLaws::thins_each_none, crate::proofs::IndexLaws::thins_each_both))]
+    pub(crate) fn thin_each(&mut self, live: &Live, ids: &[Id])
+        ensures { ThinsEach live.now self.old self.new }
+    {
+        for id in ids {
+            self.thin(live, id.slot);
+        }
+    }
+
     /// Makes room in the lists of these objects' slots by dropping what they need not have.
     #[tactic(auto, using(crate::proofs::IndexLaws::thins_each_none, crate::proofs::IndexLaws::thins_each_both))]
     pub(crate) fn thin_all(&mut self, live: &Live, ids: &[Id])

@@ -8,6 +8,7 @@ mod ids;
 mod index;
 mod law;
 mod live;
+mod merge;
 mod numbers;
 mod pass;
 mod places;

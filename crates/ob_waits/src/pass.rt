@@ -1,10 +1,12 @@
 ghost use Rattle.std.specs.Prelude.{[], ◌∷◌, ◌≡◌, ◌<◌, true, None, Some, length, slice_index_or, slice_set};
 ghost use Rattle.ob_waits.specs.Objects.{without_blocks};
-ghost use Rattle.ob_waits.specs.Waits.{passed};
-ghost use Rattle.ob_waits.specs.Rules.{Fits};
+ghost use Rattle.ob_waits.specs.Roster.{AreIndexed};
+ghost use Rattle.ob_waits.specs.Rules.{Fits, IsReadyAtOne};
+ghost use Rattle.ob_waits.specs.Waits.{passed, settled};
 
 use crate::bodies::Bodies;
 use crate::live::Live;
+use crate::roster::Roster;
 use crate::take::{is_list_ready, take};
 use crate::wait::State;
 use ob_body::RECURSION_MAX;
@@ -48,5 +50,22 @@ pub(crate) fn pass<B: Bodies>(live: &mut Live, bodies: &mut B, numbers: &[u32])
 {
     for number in numbers {
         take_effect(live, bodies, *number);
+    }
+}
+
+/// The waits for an object in the slots of these take effect where they are ready, in the order of their
+/// numbers over all these slots together.
+pub(crate) fn pass_each<B: Bodies>(live: &mut Live, bodies: &mut B, roster: &Roster, ids: &[Id])
+    requires fits { Fits RECURSION_MAX (B.objects bodies.old).bodies live.old }
+    requires indexed { AreIndexed live.old roster.now.order roster.now.index }
+    requires zero { slice_index_or live.old 0 None ≡ None }
+    requires ready { IsReadyAtOne ids.now (B.objects bodies.old).bodies live.old }
+    ensures rest { B.rest bodies.new ≡ B.rest bodies.old }
+    ensures scene { record { objects = B.objects bodies.new; waits = live.new } ≡ settled (record { objects = B.objects bodies.old; waits = live.old }) }
+{
+    let mut last = 0;
+    while let Some(number) = roster.next(ids, last) {
+        take_effect(live, bodies, number);
+        last = number;
     }
 }

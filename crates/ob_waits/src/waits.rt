@@ -1,13 +1,13 @@
 ghost use Rattle.std.specs.Prelude.{[], ◌∷◌, ◌≡◌, false, Err, ◌≢◌, ◌+◌, ◌<◌, ◌≤◌, ◌↔◌, ℕ, true, None, Some, length, slice_index_or, OnOk, OnErr, IfOk, IfErr, IfSome, IsSome};
 ghost use Rattle.std.specs.Option.{option_map};
 ghost use Rattle.ob_waits.specs.Waits.{settled, passed, blocks_among, number_of, with_wait, with_answer, without_wait, without_thread, is_pending, code_at, state_at, ids_of, is_full};
-ghost use Rattle.ob_waits.specs.Rules.{IsKept, IsWaitable, WaitsHaveRoom, IsSettled, IsReadyAt};
+ghost use Rattle.ob_waits.specs.Rules.{IsKept, IsWaitable, WaitsHaveRoom, IsSettled, IsReadyAt, IsReadyAtOne};
 
 use crate::blocks::blocks_of;
 use crate::bodies::Bodies;
 use crate::ids::Ids;
 use crate::live::Live;
-use crate::pass::pass;
+use crate::pass::{pass, pass_each};
 use crate::roster::Roster;
 use crate::wait::{Mode, State, Wait, WaitState};
 use ob_body::RECURSION_MAX;
@@ -163,6 +163,29 @@ impl Waits {
     {
         pass(&mut self.live, bodies, self.roster.numbers(id.slot));
         self.roster.thin_slot(&self.live, id.slot);
+    }
+
+    /// The same where each wait that is satisfied names the slot of one of these objects, as after changes of
+    /// their bodies in a settled state. The waits take effect in the order of their numbers over all these
+    /// slots together: to settle after one object and then after the next would be another order.
+    ///
+    /// It takes no memory, and looks at no wait of other slots, but where that is less work: with `n` numbers
+    /// at `k` slots it finds the next number `n` times in `k` lists, by halving, or goes over all numbers.
+    pub fn settle_after_each<B: Bodies>(&mut self, bodies: &mut B, ids: &[Id])
+        requires room { WaitsHaveRoom RECURSION_MAX (B.objects bodies.old).bodies self.old.waits }
+        requires ready { IsReadyAtOne ids.now (B.objects bodies.old).bodies self.old.waits }
+        ensures value { record { objects = B.objects bodies.new; waits = self.new.waits } ≡ settled (record { objects = B.objects bodies.old; waits = self.old.waits }) }
+        ensures limit { self.new.limit ≡ self.old.limit }
+        ensures rest { B.rest bodies.new ≡ B.rest bodies.old }
+        ensures settled { IsSettled (B.objects bodies.new).bodies self.new.waits }
+        ensures room { (limit : ℕ) → WaitsHaveRoom limit (B.objects bodies.old).bodies self.old.waits → WaitsHaveRoom limit (B.objects bodies.new).bodies self.new.waits }
+    {
+        if self.roster.is_order_shorter(ids) {
+            self.settle(bodies);
+            return;
+        }
+        pass_each(&mut self.live, bodies, &self.roster, ids);
+        self.roster.thin_slots(&self.live, ids);
     }
 
     /// Ends a pending wait without satisfying it: its answer is 258, `WAIT_TIMEOUT` ([Wait Functions]).
