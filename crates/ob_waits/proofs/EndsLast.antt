@@ -1,10 +1,10 @@
 -- To end an object where its last block leaves is to settle first and then end every object to which nothing refers.
-use Rattle.std.proofs.Common.{◌≡◌, ℕ, zero, suc, ◌+◌, ◌-◌, ◌<◌, ◌≤◌, List, [], ◌∷◌, length, Option, Some, None, refl, ap, ◌∙◌, sym, subst, arith, get_or, set, Bool, true, false, cond, inl, inr, eqb, ltb}
-use Rattle.std.specs.Prelude.{◌==◌, is_some}
-use Rattle.std.specs.List.{range_with_len, position_or_len, list_all, list_any}
+use Rattle.std.proofs.Common.{◌≡◌, ℕ, zero, suc, ◌+◌, ◌-◌, ◌<◌, List, [], ◌∷◌, length, Option, Some, None, refl, ap, ◌∙◌, sym, subst, arith, get_or, set, Bool, true, false, cond, inl, inr, eqb, ltb}
+use Rattle.std.specs.Prelude.{is_some}
+use Rattle.std.specs.List.{position_or_len, list_any}
 use Rattle.std.proofs.lemmas.List.{length-set, get_or_past, get_or-set_same, get_or-set_other, ext_get_or}
 use Rattle.std.proofs.lemmas.List.FromFn.{get_or-map-range_with_len, length-map-range_with_len}
-use Rattle.std.proofs.lemmas.List.Sums.{sum_by-cons, get_or-le-sum_by, fails_before_first, passes_at_first, position_or_len_is}
+use Rattle.std.proofs.lemmas.List.Sums.{passes_at_first}
 use Rattle.std.proofs.lemmas.Bool.{cases_eq, cases_lt, lt-ltb, le-ltb}
 use Rattle.std.proofs.lemmas.Bool.Decides.{nat_tests}
 use Rattle.pin_core.specs.declared.id.Id.{Id}
@@ -14,10 +14,10 @@ use Rattle.ob_waits.specs.declared.wait.Mode.TheVariants.{Any, All}
 use Rattle.ob_waits.specs.declared.wait.Wait.{Wait}
 use Rattle.ob_waits.specs.declared.wait.State.{State}
 use Rattle.ob_waits.specs.declared.wait.State.TheVariants.{Pending, Answered}
-use Rattle.ob_waits.specs.Objects.{Objects, slot_signaled, slot_abandoned, slot_acquired, blocks_left, without_block, without_blocks}
+use Rattle.ob_waits.specs.Objects.{Objects, slot_abandoned, slot_acquired, blocks_left, without_block, without_blocks}
 use Rattle.ob_waits.specs.Rules.{HasBodies}
 use Rattle.ob_waits.specs.Ends.{HasBlocks, all_blocks_left, plain_effect, plain_effect_of, plain_effect_at, settled_plainly, settled_plainly_within, slot_ended, body_ended, ended, with_ends}
-use Rattle.ob_waits.specs.Waits.{nowhere, is_signaled, is_abandoned, first_signaled, list_ready, state_ready, is_ready, first_ready, with_acquired, with_all_acquired, bodies_after, code_of, answered_wait, slot_places, slot_blocks, ids_of, state_ids, Scene, effect, effect_of, effect_at, settled, settled_within}
+use Rattle.ob_waits.specs.Waits.{nowhere, is_abandoned, first_signaled, list_ready, state_ready, is_ready, first_ready, with_acquired, with_all_acquired, bodies_after, code_of, answered_wait, ids_of, state_ids, Scene, effect, effect_of, effect_at, settled, settled_within}
 use Rattle.ob_waits.proofs.Settling.{settled_first}
 use Rattle.ob_waits.proofs.References.{left_one, counts_at}
 use Rattle.ob_waits.proofs.Apart.{in_slot, SameAt, named_at, any_agree, first_same, ready_same}

@@ -1,15 +1,13 @@
 -- Settling over the numbers of several slots: always the least number above the last one takes effect next.
-use Rattle.std.proofs.Common.{◌≡◌, ℕ, zero, suc, ◌+◌, ◌<◌, ◌≤◌, List, [], ◌∷◌, length, Option, Some, None, refl, ap, ◌∙◌, sym, subst, arith, get_or, Bool, true, false, inl, inr, leb, leb-true}
+use Rattle.std.proofs.Common.{◌≡◌, ℕ, zero, suc, ◌<◌, ◌≤◌, List, [], ◌∷◌, length, Some, None, refl, ap, ◌∙◌, sym, arith, get_or, Bool, true, false, inl, inr, leb, leb-true}
 use Rattle.std.specs.List.Sorted.{IsPartitionedBy, IsPartitionPoint}
-use Rattle.std.specs.List.{list_any}
 use Rattle.std.proofs.lemmas.List.{get_or_default}
 use Rattle.std.proofs.lemmas.List.Sorted.{IsPartitionedBy-leb}
 use Rattle.std.proofs.lemmas.Bool.Decides.{nat_tests}
-use Rattle.std.proofs.lemmas.List.Sums.{count_by-le-length, fails_before_first, passes_at_first}
+use Rattle.std.proofs.lemmas.List.Sums.{count_by-le-length, passes_at_first}
 use Rattle.std.proofs.lemmas.Bool.{cases_eq, cases_lt}
 use Rattle.pin_core.specs.declared.id.Id.{Id}
-use Rattle.ob_waits.specs.declared.wait.Wait.{Wait}
-use Rattle.ob_waits.specs.Numbers.{AtMost, IsNext, IsNextOf, numbers_of}
+use Rattle.ob_waits.specs.Numbers.{IsNext, IsNextOf, numbers_of}
 use Rattle.ob_waits.specs.Rules.{Within, IsRising, IsSettled, IsReadyAtOne}
 use Rattle.ob_waits.specs.Roster.{AreIndexed}
 use Rattle.ob_waits.specs.Waits.{nowhere, Scene, is_ready, is_pending, names_slot, first_ready, effect, passed, settled, settled_within}

@@ -1,6 +1,6 @@
 -- The counts that are told of each block that leaves go on counting the blocks.
-use Rattle.std.proofs.Common.{◌≡◌, ◌≢◌, ℕ, zero, suc, ◌-◌, ◌+◌, ◌<◌, ◌≤◌, List, [], ◌∷◌, length, Option, Some, None, refl, ap, ◌∙◌, sym, arith, get_or, Bool, true, false, inl, inr, cond}
-use Rattle.std.specs.Prelude.{count_by, sum_by, ◌==◌}
+use Rattle.std.proofs.Common.{◌≡◌, ◌≢◌, ℕ, ◌-◌, ◌+◌, ◌<◌, ◌≤◌, List, [], ◌∷◌, length, Option, Some, None, refl, ap, ◌∙◌, sym, arith, get_or, Bool, true, false, inl, inr, cond}
+use Rattle.std.specs.Prelude.{◌==◌}
 use Rattle.std.proofs.lemmas.List.{length-set, get_or_past, get_or-set_same, get_or-set_other}
 use Rattle.std.proofs.lemmas.List.Sums.{sum_by-set, sum_by-cons}
 use Rattle.std.proofs.lemmas.Bool.{cases_lt}
@@ -10,7 +10,7 @@ use Rattle.ob_waits.specs.declared.wait.Wait.{Wait}
 use Rattle.ob_waits.specs.declared.wait.State.{State}
 use Rattle.ob_waits.specs.declared.wait.State.TheVariants.{Pending, Answered}
 use Rattle.ob_waits.specs.Objects.{Objects, blocks_left, without_block, without_blocks}
-use Rattle.ob_waits.specs.Waits.{slot_places, slot_blocks, Scene, effect, effect_at, effect_of, answered_wait, code_of, bodies_after, ids_of, state_ids, settled, settled_within}
+use Rattle.ob_waits.specs.Waits.{slot_places, slot_blocks, Scene, effect_at, effect_of, answered_wait, code_of, bodies_after, ids_of, state_ids, settled}
 use Rattle.ob_waits.specs.Ends.{HasBlocks}
 use Rattle.ob_waits.proofs.Settling.{settled_by_effects, ready_within}
 

@@ -1,16 +1,14 @@
 -- The room that settling asks of the pending waits, while waits come and go and bodies change.
-use Rattle.std.proofs.Common.{◌≡◌, ℕ, ◌<◌, ◌≤◌, List, [], ◌∷◌, ◌++◌, length, Option, Some, None, refl, ap, ◌∙◌, sym, subst, arith, get_or, set, Bool, true, false, inl, inr, map, cond}
+use Rattle.std.proofs.Common.{◌≡◌, ℕ, ◌<◌, ◌≤◌, List, [], ◌∷◌, ◌++◌, length, Option, Some, None, refl, ap, ◌∙◌, sym, subst, arith, get_or, set, Bool, true, false, inl, inr, map}
 use Rattle.std.proofs.lemmas.List.{length-set, length-map, get_or-map, get_or_past, get_or-set_same, get_or-set_other}
-use Rattle.std.specs.List.{position_or_len}
-use Rattle.std.proofs.lemmas.List.Sums.{fails_before_first}
-use Rattle.std.proofs.lemmas.Bool.{cases_eq, cases_lt, lt-ltb}
+use Rattle.std.proofs.lemmas.Bool.{cases_eq, cases_lt}
 use Rattle.ob_body.specs.declared.body.Body.{Body}
 use Rattle.ob_body.proofs.Effects.{room_at_more}
 use Rattle.pin_core.specs.declared.id.Id.{Id}
 use Rattle.ob_waits.specs.declared.wait.Mode.{Mode}
 use Rattle.ob_waits.specs.declared.wait.Wait.{Wait}
 use Rattle.ob_waits.specs.Objects.{slot_room}
-use Rattle.ob_waits.specs.Rules.{thread_of, HasRoom, WaitHasRoom, WaitsHaveRoom}
+use Rattle.ob_waits.specs.Rules.{HasRoom, WaitHasRoom, WaitsHaveRoom}
 use Rattle.ob_waits.specs.Waits.{new_wait, nowhere, ids_of, unless_of, is_waits_of, number_of, bodies_after, answered, slot_blocks}
 use Rattle.ob_waits.proofs.Settling.{room_after}
 use Rattle.ob_waits.proofs.Keeping.{room_other}

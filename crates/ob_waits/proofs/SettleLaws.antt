@@ -1,5 +1,5 @@
 -- What each way of settling answers for, once its scene is the settled one.
-use Rattle.std.proofs.Common.{◌≡◌, ℕ, List, [], ◌∷◌, Option, ap, ◌∙◌, sym, subst}
+use Rattle.std.proofs.Common.{◌≡◌, ℕ, List, Option, ap, ◌∙◌, sym, subst}
 use Rattle.ob_waits.specs.declared.wait.Wait.{Wait}
 use Rattle.ob_waits.specs.Objects.{Objects}
 use Rattle.ob_waits.specs.Numbers.{numbers_of}

@@ -14,7 +14,7 @@ use Rattle.ob_waits.specs.declared.wait.Mode.TheVariants.{Any, All}
 use Rattle.ob_waits.specs.declared.wait.Wait.{Wait}
 use Rattle.ob_waits.specs.declared.wait.State.{State}
 use Rattle.ob_waits.specs.declared.wait.State.TheVariants.{Pending, Answered}
-use Rattle.ob_waits.specs.Objects.{Objects, body_of, slot_signaled, slot_room, slot_acquired, bodies_left, without_block, without_blocks}
+use Rattle.ob_waits.specs.Objects.{Objects, slot_signaled, slot_room, slot_acquired, without_block, without_blocks}
 use Rattle.ob_waits.specs.Rules.{IsSettled, IsRising, Covers}
 use Rattle.ob_waits.specs.Waits.{nowhere, is_signaled, first_signaled, list_ready, state_ready, is_ready, first_ready, Scene, with_acquired, with_all_acquired, bodies_after, code_of, answered_wait, effect, effect_of, effect_at, settled_within, settled, passed, is_pending, state_pending}
 

@@ -1,6 +1,5 @@
 -- What of a body no wait changes, and who owns it.
-use Rattle.std.specs.Prelude.{◌≡◌, ℕ, zero, Bool, false, List, Option, Some, None, slice_index_or}
-use Rattle.std.specs.Option.{option_map}
+use Rattle.std.specs.Prelude.{◌≡◌, ℕ, Bool, false, List, Option, Some, None, slice_index_or}
 use Rattle.ob_rights.specs.declared.kind.Kind.{Kind}
 use Rattle.ob_rights.specs.declared.kind.Kind.TheVariants as kind
 use Rattle.ob_body.specs.declared.body.Body.{Body}

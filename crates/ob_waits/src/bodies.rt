@@ -6,16 +6,17 @@ use pin_core::Id;
 
 /// The objects that waits are for: the body of each, by its Id.
 ///
-/// What is behind the trait counts the handles and the blocks of each object; it is told each block that
-/// leaves, which is each place of a pending wait's list when the wait is satisfied. An object to which
-/// nothing refers any more has no body.
+/// What is behind the trait counts the handles and the blocks of each object. It is told each block that
+/// leaves, which is each place of a pending wait's list once the wait is over; where that was the last, and
+/// no handle is left, the object ends: it has no body any more (*profile*).
 pub trait Bodies {
-    /// The bodies and the counts of references, by slot.
+    /// The bodies, and how many handles and blocks each slot counts.
     ghost objects: { Self → Objects };
 
-    /// All else that is behind the trait, which waits leave as it is.
+    /// What `rest` is: by default it says nothing.
     ghost Rest: { Type 0 } = { Unit {0} };
 
+    /// All else that is behind the trait. Waits leave it as it is.
     ghost rest: { Self → Self.Rest };
 
     /// The body of an object, or none where a wait for the object is never satisfied.

@@ -1,5 +1,6 @@
 ghost use Rattle.std.specs.Prelude.{◌≡◌, ◌≤◌, IfOk, length};
 
+use crate::codes::MAXIMUM_WAIT_OBJECTS;
 use pin_core::Id;
 use std::alloc::{AllocError, Global};
 use std::marker::Model;
@@ -11,7 +12,7 @@ enum IdList {
     More(Vec<Id>),
 }
 
-/// The objects of one wait, at most 64, in the order in which they were listed.
+/// The objects of one wait, at most [`MAXIMUM_WAIT_OBJECTS`], in the order in which they were listed.
 #[derive(Drop)]
 pub struct Ids {
     list: IdList,
@@ -33,7 +34,7 @@ impl Model for Ids {
 impl Ids {
     /// A copy of a list.
     pub(crate) fn new(alloc: Global, ids: &[Id]) -> Result<Ids, AllocError>
-        requires { length ids.now ≤ 64 }
+        requires { length ids.now ≤ MAXIMUM_WAIT_OBJECTS }
         ensures { IfOk result (λ s. s ≡ ids.now) }
     {
         if let [id] = ids {
@@ -49,7 +50,7 @@ impl Ids {
     /// The Ids.
     pub(crate) fn as_slice(&self) -> &[Id]
         ensures value { result.now ≡ self.now }
-        ensures few { length result.now ≤ 64 }
+        ensures few { length result.now ≤ MAXIMUM_WAIT_OBJECTS }
     {
         match &self.list {
             IdList::One(id) => id,

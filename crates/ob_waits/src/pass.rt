@@ -12,7 +12,8 @@ use crate::wait::State;
 use ob_body::RECURSION_MAX;
 use pin_core::Id;
 
-/// Tells of each place of a list that its block left.
+/// Tells of each place of a list that its block left, as where a pending wait ends by its time or with its
+/// thread. An object whose last block leaves so, and which has no handle, ends.
 pub fn leave_all<B: Bodies>(bodies: &mut B, ids: &[Id])
     ensures objects { B.objects bodies.new ≡ without_blocks (B.objects bodies.old) ids.now }
     ensures rest { B.rest bodies.new ≡ B.rest bodies.old }

@@ -5,6 +5,7 @@ ghost use Rattle.ob_waits.specs.Waits.{nowhere, is_signaled, is_abandoned, first
 ghost use Rattle.ob_waits.specs.Rules.{HasRoom, IsDistinct, IsWaitable};
 
 use crate::bodies::Bodies;
+use crate::codes::WAIT_ABANDONED_0;
 use crate::wait::Mode;
 use ob_body::RECURSION_MAX;
 use pin_core::Id;
@@ -99,13 +100,13 @@ pub(crate) fn take<B: Bodies>(bodies: &mut B, thread: u32, mode: Mode, ids: &[Id
         Mode::Any => {
             let index = first_signaled(bodies, thread, ids);
             if take_one(bodies, thread, ids[index]) {
-                return index as u32 + 128;
+                return index as u32 + WAIT_ABANDONED_0;
             }
             index as u32
         }
         Mode::All => {
             if take_all(bodies, thread, ids) {
-                return 128;
+                return WAIT_ABANDONED_0;
             }
             0
         }

@@ -1,4 +1,4 @@
-use Rattle.std.proofs.Common.{◌≡◌, ◌-◌, ℕ}
+use Rattle.std.proofs.Common.{◌≡◌, ◌-◌}
 use Rattle.ob_waits.specs.Rules.{Fits}
 use Rattle.ob_waits.specs.Waits.{Scene, settled}
 use Rattle.ob_waits.proofs.MergeLaws.{Remains}

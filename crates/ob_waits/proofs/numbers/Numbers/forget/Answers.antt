@@ -1,6 +1,5 @@
-use Rattle.std.proofs.Common.{◌≡◌, ◌<◌, ◌-◌, List, Option, Some, ℕ, true, ap, sym, ◌∙◌, length, get_or, subst, arith}
+use Rattle.std.proofs.Common.{◌≡◌, ◌<◌, ◌-◌, List, Some, ℕ, true, ap, sym, ◌∙◌, length, get_or, subst, arith}
 use Rattle.std.specs.Vec.{vec_len}
-use Rattle.ob_waits.specs.declared.wait.Wait.{Wait}
 use Rattle.ob_waits.specs.Numbers.{ends_with, Thins}
 use Rattle.ob_waits.proofs.NumberLaws.{thins_last, last_number}
 use Rattle.ob_waits.proofs.numbers.Numbers.forget.Goals as goal

@@ -1,6 +1,6 @@
 use Rattle.std.proofs.Common.{ap, subst, sym, ◌∙◌}
 use Rattle.ob_waits.specs.Rules.{WaitsHaveRoom}
-use Rattle.ob_waits.specs.Waits.{Scene, WaitList, settled}
+use Rattle.ob_waits.specs.Waits.{WaitList, settled}
 use Rattle.ob_waits.proofs.SettleLaws.{tracked_after, settled_after, room_settled}
 use Rattle.ob_waits.proofs.waits.Waits.settle_after_each.Goals as goal
 
