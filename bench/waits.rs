@@ -73,10 +73,11 @@ impl Body {
     }
 }
 
-/// Bodies by slot, and how many references each has.
+/// Bodies by slot, and how many handles and blocks each has.
 struct Slots {
     bodies: Vec<Option<Body>>,
-    references: Vec<u32>,
+    handles: Vec<u32>,
+    blocks: Vec<u32>,
 }
 
 impl Slots {
@@ -91,8 +92,15 @@ impl Slots {
     }
 
     fn block_left(&mut self, id: Id) {
-        if let Some(count) = self.references.get_mut(id.slot as usize) {
-            *count = count.saturating_sub(1);
+        let at = id.slot as usize;
+        let left = self.blocks.get(at).copied().unwrap_or(0).saturating_sub(1);
+        if let Some(count) = self.blocks.get_mut(at) {
+            *count = left;
+        }
+        if left == 0 && self.handles.get(at).copied().unwrap_or(0) == 0 {
+            if let Some(place) = self.bodies.get_mut(at) {
+                *place = None;
+            }
         }
     }
 
@@ -322,7 +330,7 @@ impl World {
     fn new(events: usize) -> World {
         let event = Body::Event { manual: false, set: false };
         World {
-            slots: Slots { bodies: vec![Some(event); events], references: vec![7; events] },
+            slots: Slots { bodies: vec![Some(event); events], handles: vec![1; events], blocks: vec![7; events] },
             waits: Waits::new(u32::MAX),
         }
     }

@@ -1,13 +1,16 @@
+ghost use Rattle.std.specs.Prelude.{◌≡◌, slice_index_or};
+
 use ob_body::Body;
 use ob_waits::Bodies;
 use pin_core::Id;
 use std::marker::Model;
 
-/// Bodies by slot.
+/// Bodies by slot, and how many handles and blocks each has.
 #[derive(Drop)]
 pub(crate) struct Slots {
     pub(crate) bodies: Vec<Option<Body>>,
-    pub(crate) references: Vec<u32>,
+    pub(crate) handles: Vec<u32>,
+    pub(crate) blocks: Vec<u32>,
 }
 
 impl Model for Slots {
@@ -15,11 +18,19 @@ impl Model for Slots {
 
     ghost Value = { Objects };
 
-    ghost view = { λ s. record { bodies = s.bodies.items; references = s.references.items } };
+    ghost view = { λ s. record { bodies = s.bodies.items; handles = s.handles.items; blocks = s.blocks.items } };
+}
+
+fn count_at(counts: &[u32], at: usize) -> u32
+    ensures { result ≡ slice_index_or counts.now at 0 }
+{
+    if at < counts.len() { counts[at] } else { 0 }
 }
 
 impl Bodies for Slots {
     ghost objects = { λ s. s };
+
+    ghost rest = { λ _. tt };
 
     fn body(&self, id: Id) -> Option<Body> {
         let at = id.slot as usize;
@@ -39,9 +50,12 @@ impl Bodies for Slots {
 
     fn block_left(&mut self, id: Id) {
         let at = id.slot as usize;
-        if at < self.references.len() {
-            let count = self.references[at];
-            self.references[at] = count.saturating_sub(1);
+        let left = count_at(&self.blocks, at).saturating_sub(1);
+        if at < self.blocks.len() {
+            self.blocks[at] = left;
+        }
+        if count_at(&self.handles, at) == 0 && left == 0 && at < self.bodies.len() {
+            self.bodies[at] = None;
         }
     }
 }

@@ -58,7 +58,8 @@ impl World {
         Ok(World {
             slots: Slots {
                 bodies: vec![in alloc; Some(event); events]?,
-                references: vec![in alloc; 7; events]?,
+                handles: vec![in alloc; 1; events]?,
+                blocks: vec![in alloc; 7; events]?,
             },
             waits: Waits::new(alloc, u32::MAX),
         })

@@ -9,7 +9,7 @@ use Rattle.pin_core.specs.declared.id.Id.{Id}
 use Rattle.ob_waits.specs.declared.wait.Mode.{Mode}
 use Rattle.ob_waits.specs.declared.wait.Wait.{Wait}
 use Rattle.ob_waits.specs.Rules.{thread_of, IsWaitable, WaitWaitable, Within}
-use Rattle.ob_waits.specs.Rows.{IsRow, row_of}
+use Rattle.ob_waits.specs.Numbers.{IsOrdered, numbers_of}
 use Rattle.ob_waits.specs.Waits.{new_wait, nowhere, is_pending, names_slot, number_of}
 use Rattle.ob_waits.specs.Roster.{Roster, AreThreads, IsRight, HasPlace, with_number, IsTracked}
 use Rattle.ob_waits.proofs.TrackedLaws.{number_found, has_wait, given_some}
@@ -23,7 +23,7 @@ alone_owns ws threads t n none a alone own =
     cc (found, alone)
 
 -- some element passes
-any_at : {A : Type 0} (p : A → Bool) (d : A) (xs : List A) → list_any p xs ≡ true → (i : ℕ) × (i < length xs) × (p (get_or xs i d) ≡ true)
+pub any_at : {A : Type 0} (p : A → Bool) (d : A) (xs : List A) → list_any p xs ≡ true → (i : ℕ) × (i < length xs) × (p (get_or xs i d) ≡ true)
 any_at p d [] h = absurd (cc)
 any_at p d (x ∷ xs) h = by (p x) refl (any_at p d xs)
   where
@@ -55,11 +55,11 @@ tracked_added limit ws r r' n t mode ids len some below waitable alone k right p
   };
   right = record {
     threads = record { right = threads_right; all = threads_all };
-    rows = record {
-      order_row = row_more r'.order right.rows.order_row;
-      order_all = record { each = λ m h. by_number ws w (λ i x. is_pending x ≡ true → Within i r'.order) (λ i lt g. right.rows.order_all.each i g) (λ g. subst (λ i. Within i r'.order) (sym len) place.order_place) (λ i past g. absurd (cc)) m h };
-      index_rows = record { each = λ s. row_more (row_of r'.index s) (right.rows.index_rows.each s) };
-      index_all = λ s. record { each = λ m h. by_number ws w (λ i x. names_slot s x ≡ true → Within i (row_of r'.index s)) (λ i lt g. (right.rows.index_all s).each i g) (λ g. named s g) (λ i past g. absurd (cc)) m h };
+    lists = record {
+      order_rises = ordered_more r'.order right.lists.order_rises;
+      order_all = record { each = λ m h. by_number ws w (λ i x. is_pending x ≡ true → Within i r'.order) (λ i lt g. right.lists.order_all.each i g) (λ g. subst (λ i. Within i r'.order) (sym len) place.order_place) (λ i past g. absurd (cc)) m h };
+      index_rises = record { each = λ s. ordered_more (numbers_of r'.index s) (right.lists.index_rises.each s) };
+      index_all = λ s. record { each = λ m h. by_number ws w (λ i x. names_slot s x ≡ true → Within i (numbers_of r'.index s)) (λ i lt g. (right.lists.index_all s).each i g) (λ g. named s g) (λ i past g. absurd (cc)) m h };
     };
   };
 }
@@ -96,11 +96,11 @@ tracked_added limit ws r r' n t mode ids len some below waitable alone k right p
       | inr a ↦ ap (λ v. get_or (set r'.threads t n) v 0) a.1 ∙ get_or-set_same r'.threads t n 0 place.thread_place ∙ sym len ∙ sym a.0
     ]
 
-    row_more : (row : List ℕ) → IsRow (length ws) row → IsRow (length (ws ++ Some w ∷ [])) row
-    row_more row h = record { rising = h.rising; below = λ i in'. let le = h.below i in' in omega (arith, length_push ws (Some w)) }
+    ordered_more : (numbers : List ℕ) → IsOrdered (length ws) numbers → IsOrdered (length (ws ++ Some w ∷ [])) numbers
+    ordered_more numbers h = record { rising = h.rising; below = λ i in'. let le = h.below i in' in omega (arith, length_push ws (Some w)) }
 
-    named : (s : ℕ) → names_slot s (Some w) ≡ true → Within (length ws) (row_of r'.index s)
+    named : (s : ℕ) → names_slot s (Some w) ≡ true → Within (length ws) (numbers_of r'.index s)
     named s g =
         let found = any_at (λ (id : Id). id.slot == s) nowhere ids g in
         let same : (get_or ids found.0 nowhere).slot ≡ s = grind (arith, nat_tests, found.2) in
-        subst (λ i. Within i (row_of r'.index s)) (sym len) (subst (λ x. Within n (row_of r'.index x)) same (place.index_place found.0 found.1))
+        subst (λ i. Within i (numbers_of r'.index s)) (sym len) (subst (λ x. Within n (numbers_of r'.index x)) same (place.index_place found.0 found.1))

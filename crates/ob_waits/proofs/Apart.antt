@@ -1,5 +1,5 @@
--- After a change in one slot, only waits that name the slot can be ready.
-use Rattle.std.proofs.Common.{◌≡◌, ℕ, List, [], ◌∷◌, length, Option, Some, None, refl, ap, arith, get_or, set, Bool, true, false, eqb, ltb}
+-- A wait is ready or not by the bodies of the slots that it names; so after a change in some slots, only waits that name one can become ready.
+use Rattle.std.proofs.Common.{◌≡◌, ℕ, zero, suc, ◌<◌, List, [], ◌∷◌, length, Option, Some, None, refl, ap, ◌∙◌, sym, arith, get_or, set, Bool, true, false, eqb, ltb}
 use Rattle.std.specs.List.{position_or_len, list_any, list_all}
 use Rattle.std.proofs.lemmas.Bool.Decides.{nat_tests}
 use Rattle.std.proofs.lemmas.List.{get_or-set_other}
@@ -11,43 +11,67 @@ use Rattle.ob_waits.specs.declared.wait.Wait.{Wait}
 use Rattle.ob_waits.specs.declared.wait.State.{State}
 use Rattle.ob_waits.specs.declared.wait.State.TheVariants.{Pending, Answered}
 use Rattle.ob_waits.specs.Objects.{slot_signaled}
-use Rattle.ob_waits.specs.Rules.{IsSettled, IsReadyAt}
-use Rattle.ob_waits.specs.Waits.{is_ready, state_ready, list_ready, is_signaled, names_slot, state_ids}
+use Rattle.ob_waits.specs.Rules.{IsSettled, IsReadyAt, IsReadyAtOne}
+use Rattle.ob_waits.specs.Waits.{nowhere, is_ready, state_ready, list_ready, is_signaled, first_signaled, names_slot, names_one, state_ids}
 
-abbrev in_slot : ℕ → Id → Bool
+abbrev pub in_slot : ℕ → Id → Bool
 in_slot k id = eqb id.slot k
 
--- two tests that agree at other slots agree on a list that does not name the slot
-all_apart : (p q : Id → Bool) (k : ℕ) → ((id : Id) → in_slot k id ≡ false → p id ≡ q id) → (ids : List Id) → list_any (in_slot k) ids ≡ false → list_all p ids ≡ list_all q ids
-all_apart p q k same [] none = refl
-all_apart p q k same (x ∷ xs) none =
-    let here : in_slot k x ≡ false = grind (arith, none) in
-    let a = same x here in
-    let b = all_apart p q k same xs (grind (arith, none)) in
-    grind (arith, a, b)
+named_first : (x : Id) (xs : List Id) → list_any (in_slot x.slot) (x ∷ xs) ≡ true
+named_first x xs = let here : in_slot x.slot x ≡ true = grind (arith, nat_tests) in grind (arith, here)
 
-first_apart : (p q : Id → Bool) (k : ℕ) → ((id : Id) → in_slot k id ≡ false → p id ≡ q id) → (ids : List Id) → list_any (in_slot k) ids ≡ false → position_or_len p ids ≡ position_or_len q ids
-first_apart p q k same [] none = refl
-first_apart p q k same (x ∷ xs) none =
-    let here : in_slot k x ≡ false = grind (arith, none) in
-    let a = same x here in
-    let b = first_apart p q k same xs (grind (arith, none)) in
-    grind (arith, a, b)
+named_later : (k : ℕ) (x : Id) (xs : List Id) → list_any (in_slot k) xs ≡ true → list_any (in_slot k) (x ∷ xs) ≡ true
+named_later k x xs h = grind (arith, h)
 
-signaled_apart : (t : ℕ) (bodies : List (Option Body)) (k : ℕ) (x : Option Body) (id : Id) → in_slot k id ≡ false → is_signaled t (set bodies k x) id ≡ is_signaled t bodies id
-signaled_apart t bodies k x id h = ap (slot_signaled t) (get_or-set_other bodies k id.slot x None (λ e. absurd (grind (arith, nat_tests, h, e))))
+pub named_at : (ids : List Id) (i : ℕ) → i < length ids → list_any (in_slot (get_or ids i nowhere).slot) ids ≡ true
+named_at [] i lt = absurd (omega arith)
+named_at (x ∷ xs) zero lt = named_first x xs
+named_at (x ∷ xs) (suc i) lt = named_later (get_or xs i nowhere).slot x xs (named_at xs i (omega arith))
 
-list_apart : (mode : Mode) (t : ℕ) (bodies : List (Option Body)) (k : ℕ) (x : Option Body) (ids : List Id) → list_any (in_slot k) ids ≡ false → list_ready mode t (set bodies k x) ids ≡ list_ready mode t bodies ids
-list_apart Any t bodies k x ids none = ap (λ n. ltb n (length ids)) (first_apart (is_signaled t (set bodies k x)) (is_signaled t bodies) k (signaled_apart t bodies k x) ids none)
-list_apart All t bodies k x ids none = all_apart (is_signaled t (set bodies k x)) (is_signaled t bodies) k (signaled_apart t bodies k x) ids none
+-- tests that agree on the objects of a list agree on the list
+module _ (p q : Id → Bool) where
+  abbrev pub Agree : List Id → Type 0
+  Agree ids = (id : Id) → list_any (in_slot id.slot) ids ≡ true → p id ≡ q id
 
-state_apart : (t : ℕ) (bodies : List (Option Body)) (k : ℕ) (x : Option Body) (st : State) → list_any (in_slot k) (state_ids st) ≡ false → state_ready t (set bodies k x) st ≡ state_ready t bodies st
-state_apart t bodies k x (Pending mode ids) none = list_apart mode t bodies k x ids none
-state_apart t bodies k x (Answered code) none = refl
+  agree_first : (x : Id) (xs : List Id) → Agree (x ∷ xs) → p x ≡ q x
+  agree_first x xs same = same x (named_first x xs)
 
-ready_apart : (bodies : List (Option Body)) (k : ℕ) (x : Option Body) (w : Option Wait) → names_slot k w ≡ false → is_ready (set bodies k x) w ≡ is_ready bodies w
-ready_apart bodies k x None none = refl
-ready_apart bodies k x (Some w) none = state_apart w.thread bodies k x w.state none
+  agree_later : (x : Id) (xs : List Id) → Agree (x ∷ xs) → Agree xs
+  agree_later x xs same id named = same id (named_later id.slot x xs named)
+
+  pub all_agree : (ids : List Id) → Agree ids → list_all p ids ≡ list_all q ids
+  all_agree [] same = refl
+  all_agree (x ∷ xs) same = let a = agree_first x xs same in let b = all_agree xs (agree_later x xs same) in grind (arith, a, b)
+
+  pub any_agree : (ids : List Id) → Agree ids → list_any p ids ≡ list_any q ids
+  any_agree [] same = refl
+  any_agree (x ∷ xs) same = let a = agree_first x xs same in let b = any_agree xs (agree_later x xs same) in grind (arith, a, b)
+
+  pub first_agree : (ids : List Id) → Agree ids → position_or_len p ids ≡ position_or_len q ids
+  first_agree [] same = refl
+  first_agree (x ∷ xs) same = let a = agree_first x xs same in let b = first_agree xs (agree_later x xs same) in grind (arith, a, b)
+
+-- bodies that are the same in the slots of a list
+abbrev pub SameAt : List (Option Body) → List (Option Body) → List Id → Type 0
+SameAt bodies after ids = (k : ℕ) → list_any (in_slot k) ids ≡ true → get_or after k None ≡ get_or bodies k None
+
+signaled_same : (bodies after : List (Option Body)) (t : ℕ) (ids : List Id) → SameAt bodies after ids → Agree (is_signaled t after) (is_signaled t bodies) ids
+signaled_same bodies after t ids same id named = ap (slot_signaled t) (same id.slot named)
+
+pub first_same : (bodies after : List (Option Body)) (t : ℕ) (ids : List Id) → SameAt bodies after ids → first_signaled t after ids ≡ first_signaled t bodies ids
+first_same bodies after t ids same = first_agree (is_signaled t after) (is_signaled t bodies) ids (signaled_same bodies after t ids same)
+
+list_same : (bodies after : List (Option Body)) (mode : Mode) (t : ℕ) (ids : List Id) → SameAt bodies after ids → list_ready mode t after ids ≡ list_ready mode t bodies ids
+list_same bodies after Any t ids same = ap (λ n. ltb n (length ids)) (first_same bodies after t ids same)
+list_same bodies after All t ids same = all_agree (is_signaled t after) (is_signaled t bodies) ids (signaled_same bodies after t ids same)
+
+state_same : (bodies after : List (Option Body)) (t : ℕ) (st : State) → SameAt bodies after (state_ids st) → state_ready t after st ≡ state_ready t bodies st
+state_same bodies after t (Pending mode ids) same = list_same bodies after mode t ids same
+state_same bodies after t (Answered code) same = refl
+
+pub ready_same : (bodies after : List (Option Body)) (w : Option Wait) → ((k : ℕ) → names_slot k w ≡ true → get_or after k None ≡ get_or bodies k None) → is_ready after w ≡ is_ready bodies w
+ready_same bodies after None same = refl
+ready_same bodies after (Some w) same = state_same bodies after w.thread w.state same
 
 not_false : (b : Bool) → (b ≡ false → ⊥) → b ≡ true
 not_false true h = refl
@@ -57,5 +81,21 @@ not_false false h = absurd (h refl)
 pub ready_at_change : (bodies : List (Option Body)) (waits : List (Option Wait)) (k : ℕ) (x : Option Body) → IsSettled bodies waits → IsReadyAt k (set bodies k x) waits
 ready_at_change bodies waits k x settled = record {
   each = λ n ready. not_false _ (λ none.
-      let e = ready_apart bodies k x (get_or waits n None) none in let q = settled.each n in absurd (cc (e, q, ready)));
+      let e = ready_same bodies (set bodies k x) (get_or waits n None) (λ j named. get_or-set_other bodies k j x None (λ same. let h : names_slot k (get_or waits n None) ≡ true = ap (λ i. names_slot i (get_or waits n None)) (sym same) ∙ named in absurd (cc (h, none)))) in
+      let q = settled.each n in absurd (cc (e, q, ready)));
+}
+
+-- some slots changed
+one_named : (w : Option Wait) (ids : List Id) (i : ℕ) → i < length ids → names_slot (get_or ids i nowhere).slot w ≡ true → names_one ids w ≡ true
+one_named w [] i lt named = absurd (omega arith)
+one_named w (x ∷ xs) zero lt named = grind (arith, named)
+one_named w (x ∷ xs) (suc i) lt named = let later : names_one xs w ≡ true = one_named w xs i (omega arith) named in grind (arith, later)
+
+pub ready_at_changes : (bodies after : List (Option Body)) (waits : List (Option Wait)) (ids : List Id) →
+    ((k : ℕ) → ((i : ℕ) → i < length ids → (get_or ids i nowhere).slot ≡ k → ⊥) → get_or after k None ≡ get_or bodies k None) → IsSettled bodies waits → IsReadyAtOne ids after waits
+ready_at_changes bodies after waits ids same settled = record {
+  each = λ n ready. not_false _ (λ none.
+      let e = ready_same bodies after (get_or waits n None) (λ k named. same k (λ i lt at.
+      let h = one_named (get_or waits n None) ids i lt (ap (λ j. names_slot j (get_or waits n None)) at ∙ named) in absurd (cc (h, none)))) in
+      let q = settled.each n in absurd (cc (e, q, ready)));
 }

@@ -1,4 +1,4 @@
--- The blocks of an object, counted along a row.
+-- The blocks of an object, counted along a list of numbers.
 use Rattle.std.proofs.Common.{◌≡◌, ℕ, suc, ◌-◌, ◌+◌, ◌<◌, ◌≤◌, List, [], ◌∷◌, length, Option, None, refl, ap, ◌∙◌, sym, arith, get_or, set, inl, inr, Bool, true, false}
 use Rattle.std.specs.Prelude.{sum_by, count_by, ◌==◌}
 use Rattle.std.specs.List.{list_any}
@@ -11,7 +11,7 @@ use Rattle.std.proofs.lemmas.List.{length-set, get_or_past, get_or-set_same, get
 use Rattle.std.proofs.lemmas.List.Sums.{sum_by-cons, sum_by-set}
 use Rattle.std.proofs.lemmas.Bool.{cases_eq, cases_lt}
 use Rattle.ob_waits.specs.Rules.{Within, IsRising}
-use Rattle.ob_waits.specs.Rows.{IsRow}
+use Rattle.ob_waits.specs.Numbers.{IsOrdered}
 
 sum_same : (g h : ℕ → ℕ) (ns : List ℕ) → ((k : ℕ) → Within k ns → g k ≡ h k) → sum_by g ns ≡ sum_by h ns
 sum_same g h [] same = refl
@@ -23,12 +23,12 @@ module _ {A : Type 0} (f : Option A → ℕ) (none : f None ≡ 0) where
   sum_zero (x ∷ xs) h = sum_by-cons f x xs ∙ (let a = h 0 in let b = sum_zero xs (λ n. h (suc n)) in omega arith)
 
   -- numbers that rise and have each place that counts sum up to the whole
-  pub sum_row : (ns : List ℕ) (xs : List (Option A)) → IsRising ns → ((n : ℕ) → 0 < f (get_or xs n None) → Within n ns) → sum_by (λ n. f (get_or xs n None)) ns ≡ sum_by f xs
-  sum_row [] xs rising has = sym (sum_zero xs (λ n. elim (cases_eq (f (get_or xs n None)) 0) [ inl z ↦ z | inr other ↦ absurd (has n (omega arith)) ]))
-  sum_row (m ∷ ns) xs rising has =
+  pub sum_numbers : (ns : List ℕ) (xs : List (Option A)) → IsRising ns → ((n : ℕ) → 0 < f (get_or xs n None) → Within n ns) → sum_by (λ n. f (get_or xs n None)) ns ≡ sum_by f xs
+  sum_numbers [] xs rising has = sym (sum_zero xs (λ n. elim (cases_eq (f (get_or xs n None)) 0) [ inl z ↦ z | inr other ↦ absurd (has n (omega arith)) ]))
+  sum_numbers (m ∷ ns) xs rising has =
       sum_by-cons (λ n. f (get_or xs n None)) m ns
       ∙ (let a = sum_same (λ n. f (get_or xs n None)) (λ n. f (get_or (set xs m None) n None)) ns apart in
-      let b = sum_row ns (set xs m None) rising.1 rest in
+      let b = sum_numbers ns (set xs m None) rising.1 rest in
       omega (arith, a, b, without))
     where
       apart : (k : ℕ) → Within k ns → f (get_or xs k None) ≡ f (get_or (set xs m None) k None)
@@ -55,17 +55,17 @@ module _ {A : Type 0} (f : Option A → ℕ) (none : f None ≡ 0) where
         | inr past ↦ (let e = ap (sum_by f) (set_past xs m None past) in let z = ap f (get_or_past xs m None past) in omega (arith, e, z, none))
       ]
 
-row_below : (low m : ℕ) (ns : List ℕ) → IsRising ns → ((k : ℕ) → Within k ns → low ≤ k) → ((k : ℕ) → Within k ns → k ≤ m) → length ns ≤ suc m - low
-row_below low m [] r above below = omega arith
-row_below low m (x ∷ ns) r above below =
-    let rest = row_below (suc x) m ns r.1 (λ k i. r.0 k i) (λ k i. below k (inr i)) in
+ordered_below : (low m : ℕ) (ns : List ℕ) → IsRising ns → ((k : ℕ) → Within k ns → low ≤ k) → ((k : ℕ) → Within k ns → k ≤ m) → length ns ≤ suc m - low
+ordered_below low m [] r above below = omega arith
+ordered_below low m (x ∷ ns) r above below =
+    let rest = ordered_below (suc x) m ns r.1 (λ k i. r.0 k i) (λ k i. below k (inr i)) in
     let least = above x (inl refl) in
     let most = below x (inl refl) in
     omega arith
 
--- a row has no more numbers than there are
-pub length-row : (m : ℕ) (ns : List ℕ) → IsRow m ns → length ns ≤ suc m
-length-row m ns row = let le = row_below 0 m ns row.rising (λ k i. omega arith) row.below in omega arith
+-- a list has no more numbers than there are
+pub length-ordered : (m : ℕ) (ns : List ℕ) → IsOrdered m ns → length ns ≤ suc m
+length-ordered m ns numbers = let le = ordered_below 0 m ns numbers.rising (λ k i. omega arith) numbers.below in omega arith
 
 -- a wait with a block of an object names its slot
 ids_named : (id : Id) (ids : List Id) → 0 < count_by (same_id id) ids → list_any (λ (x : Id). x.slot == id.slot) ids ≡ true

@@ -5,8 +5,8 @@ use Rattle.std.proofs.lemmas.Bool.{cases_eq, cases_lt}
 use Rattle.ob_body.specs.declared.body.Body.{Body}
 use Rattle.ob_waits.specs.declared.wait.Wait.{Wait}
 use Rattle.ob_waits.specs.Rules.{WaitWaitable, thread_of, IsKept, WaitHasRoom, WaitsHaveRoom, Fits}
-use Rattle.ob_waits.specs.Waits.{nowhere, is_ready, Scene, answered_wait, effect, passed, is_pending, names_slot, ids_of}
-use Rattle.ob_waits.proofs.Settling.{Answers, answers, ready_within, RoomKept}
+use Rattle.ob_waits.specs.Waits.{nowhere, is_ready, Scene, answered_wait, effect, passed, settled, is_pending, names_slot, ids_of}
+use Rattle.ob_waits.proofs.Settling.{Answers, answers, ready_within, RoomKept, settled_by_effects}
 
 -- a wait is what it was, or answered
 pub record Fades (old new : Option Wait) : Type 0 where
@@ -14,12 +14,13 @@ pub record Fades (old new : Option Wait) : Type 0 where
   pub waitable : WaitWaitable old → WaitWaitable new
   pub names : (slot : ℕ) → names_slot slot new ≡ true → names_slot slot old ≡ true
   pub pending : is_pending new ≡ true → is_pending old ≡ true
+  pub stays : is_pending new ≡ true → new ≡ old
 
 fades_same : (w : Option Wait) → Fades w w
-fades_same w = record { thread = refl; waitable = λ h. h; names = λ slot h. h; pending = λ h. h }
+fades_same w = record { thread = refl; waitable = λ h. h; names = λ slot h. h; pending = λ h. h; stays = λ h. refl }
 
 pub fades_answered : (w : Wait) (code : ℕ) → Fades (Some w) (answered_wait w code)
-fades_answered w code = record { thread = refl; waitable = λ h. tt; names = λ slot h. absurd (cc); pending = λ h. absurd (cc) }
+fades_answered w code = record { thread = refl; waitable = λ h. tt; names = λ slot h. absurd (cc); pending = λ h. absurd (cc); stays = λ h. absurd (cc) }
 
 -- some waits were answered
 pub record Fade (old new : List (Option Wait)) : Type 0 where
@@ -29,7 +30,7 @@ pub record Fade (old new : List (Option Wait)) : Type 0 where
 pub fade_none : (ws : List (Option Wait)) → Fade ws ws
 fade_none ws = record { len = refl; each = λ n. fades_same (get_or ws n None) }
 
-fade_both : (a b c : List (Option Wait)) → Fade a b → Fade b c → Fade a c
+pub fade_both : (a b c : List (Option Wait)) → Fade a b → Fade b c → Fade a c
 fade_both a b c ab bc = record {
   len = bc.len ∙ ab.len;
   each = λ n. let x = ab.each n in let y = bc.each n in record {
@@ -37,6 +38,7 @@ fade_both a b c ab bc = record {
     waitable = λ h. y.waitable (x.waitable h);
     names = λ slot h. x.names slot (y.names slot h);
     pending = λ h. x.pending (y.pending h);
+    stays = λ h. y.stays h ∙ x.stays (y.pending h);
   };
 }
 
@@ -125,3 +127,10 @@ passed_more n ns scene = by (is_ready scene.objects.bodies (get_or scene.waits n
     by : (b : Bool) → is_ready scene.objects.bodies (get_or scene.waits n None) ≡ b → passed ns (passed (n ∷ []) scene) ≡ passed (n ∷ ns) scene
     by true ready = rw ready refl
     by false ready = rw ready refl
+
+-- and so does settling
+pub settled_fits : (limit : ℕ) (scene : Scene) → Fits limit scene.objects.bodies scene.waits → Fits limit (settled scene).objects.bodies (settled scene).waits
+settled_fits limit scene = settled_by_effects (λ (a b : Scene). Fits limit a.objects.bodies a.waits → Fits limit b.objects.bodies b.waits) (λ s k. k) (λ a b c x y k. y (x k)) (effect_fits limit) scene
+
+pub settled_fades : (scene : Scene) → Fade scene.waits (settled scene).waits
+settled_fades scene = settled_by_effects (λ (a b : Scene). Fade a.waits b.waits) (λ s. fade_none s.waits) (λ a b c. fade_both a.waits b.waits c.waits) effect_fades scene

@@ -2,7 +2,7 @@ pub mod Settling
 pub mod ListedLaws
 pub mod PlaceLaws
 pub mod Keeping
-pub mod RowLaws
+pub mod NumberLaws
 pub mod IndexLaws
 pub mod RosterLaws
 pub mod TrackedLaws
@@ -13,3 +13,9 @@ pub mod Room
 pub mod References
 pub mod Settled
 pub mod Now
+pub mod Ends
+pub mod EndsLast
+pub mod Counted
+pub mod Staying
+pub mod MergeLaws
+pub mod SettleLaws

@@ -1,20 +1,19 @@
 -- The room that settling asks of the pending waits, while waits come and go and bodies change.
-use Rattle.std.proofs.Common.{◌≡◌, ℕ, ◌≤◌, List, [], ◌∷◌, ◌++◌, length, Option, Some, None, refl, ap, ◌∙◌, sym, subst, arith, get_or, set, Bool, true, false, inl, inr, map, cond}
+use Rattle.std.proofs.Common.{◌≡◌, ℕ, ◌<◌, ◌≤◌, List, [], ◌∷◌, ◌++◌, length, Option, Some, None, refl, ap, ◌∙◌, sym, subst, arith, get_or, set, Bool, true, false, inl, inr, map}
 use Rattle.std.proofs.lemmas.List.{length-set, length-map, get_or-map, get_or_past, get_or-set_same, get_or-set_other}
-use Rattle.std.specs.List.{position_or_len}
-use Rattle.std.proofs.lemmas.List.Sums.{fails_before_first}
-use Rattle.std.proofs.lemmas.Bool.{cases_eq, cases_lt, lt-ltb}
+use Rattle.std.proofs.lemmas.Bool.{cases_eq, cases_lt}
 use Rattle.ob_body.specs.declared.body.Body.{Body}
 use Rattle.ob_body.proofs.Effects.{room_at_more}
 use Rattle.pin_core.specs.declared.id.Id.{Id}
 use Rattle.ob_waits.specs.declared.wait.Mode.{Mode}
 use Rattle.ob_waits.specs.declared.wait.Wait.{Wait}
 use Rattle.ob_waits.specs.Objects.{slot_room}
-use Rattle.ob_waits.specs.Rules.{thread_of, HasRoom, WaitHasRoom, WaitsHaveRoom}
-use Rattle.ob_waits.specs.Waits.{new_wait, nowhere, ids_of, unless_of, is_waits_of, number_of, bodies_after, answered}
+use Rattle.ob_waits.specs.Rules.{HasRoom, WaitHasRoom, WaitsHaveRoom}
+use Rattle.ob_waits.specs.Waits.{new_wait, nowhere, ids_of, unless_of, is_waits_of, number_of, bodies_after, answered, slot_blocks}
 use Rattle.ob_waits.proofs.Settling.{room_after}
 use Rattle.ob_waits.proofs.Keeping.{room_other}
-use Rattle.ob_waits.proofs.TrackedLaws.{has_wait, thread_waits}
+use Rattle.ob_waits.proofs.TrackedLaws.{no_number}
+use Rattle.ob_waits.proofs.Counted.{unnamed_ids}
 use Rattle.ob_waits.proofs.AddedLaws.{by_number}
 
 -- one more wait, of a thread for which there is room
@@ -57,15 +56,6 @@ room_dropped limit bodies ws t r = record {
     by w false is room = rw is room
 
 -- a thread that has no wait takes something at once
-no_number : (t : ℕ) (ws : List (Option Wait)) (n : ℕ) → number_of t ws ≡ None → thread_of (get_or ws n None) ≡ Some t → ⊥
-no_number t ws n none own = elim (cases_lt (position_or_len (is_waits_of t) ws) (length ws)) [
-  | inl lt ↦ (let e : number_of t ws ≡ Some (position_or_len (is_waits_of t) ws) = ap (λ b. cond b (Some (position_or_len (is_waits_of t) ws)) None) (lt-ltb _ _ lt) in cc (e, none))
-  | inr le ↦
-      let lt = has_wait ws n t own in
-      let fails : is_waits_of t (get_or ws n None) ≡ false = fails_before_first (is_waits_of t) ws n None (omega arith) in
-      let passes = thread_waits t (get_or ws n None) own in cc (fails, passes)
-]
-
 pub room_now : (limit : ℕ) (mode : Mode) (t : ℕ) (bodies : List (Option Body)) (ids : List Id) (ws : List (Option Wait)) → number_of t ws ≡ None → WaitsHaveRoom limit bodies ws → WaitsHaveRoom limit (bodies_after mode t bodies ids) ws
 room_now limit mode t bodies ids ws none r = record { each = λ n. room_other limit t bodies (bodies_after mode t bodies ids) (get_or ws n None) (room_after limit mode t bodies ids) (no_number t ws n none) (r.each n) }
 
@@ -89,6 +79,16 @@ room_set limit bodies ws k x keeps r = room_changed limit bodies (set bodies k x
   | inr other ↦ subst (λ y. slot_room limit t y ≡ true) (sym (get_or-set_other bodies k i x None other)) h
 ]) r
 
+-- a body changes in a slot that no pending wait names
+pub room_unnamed : (limit : ℕ) (bodies : List (Option Body)) (ws : List (Option Wait)) (k : ℕ) (x : Option Body) → slot_blocks k ws ≡ 0 → WaitsHaveRoom limit bodies ws → WaitsHaveRoom limit (set bodies k x) ws
+room_unnamed limit bodies ws k x unnamed r = record { each = λ n. by (get_or ws n None) (unnamed_ids k n ws unnamed) (r.each n) }
+  where
+    by : (w : Option Wait) → ((i : ℕ) → i < length (ids_of w) → (get_or (ids_of w) i nowhere).slot ≡ k → ⊥) → WaitHasRoom limit bodies w → WaitHasRoom limit (set bodies k x) w
+    by None other room = tt
+    by (Some w) other room = record {
+      each = λ i lt. let j = (get_or (ids_of (Some w)) i nowhere).slot in subst (λ y. slot_room limit w.thread y ≡ true) (sym (get_or-set_other bodies k j x None (other i lt))) (room.each i lt);
+    }
+
 -- room below a limit is room below a greater one
 slot_at_more : (limit more t : ℕ) (x : Option Body) → limit ≤ more → slot_room limit t x ≡ true → slot_room more t x ≡ true
 slot_at_more limit more t None le h = refl
@@ -100,3 +100,6 @@ rooms_at_more limit more bodies ws le r = record { each = λ n. by (get_or ws n 
     by : (w : Option Wait) → WaitHasRoom limit bodies w → WaitHasRoom more bodies w
     by None room = tt
     by (Some w) room = record { each = λ i lt. slot_at_more limit more w.thread (get_or bodies (get_or (ids_of (Some w)) i nowhere).slot None) le (room.each i lt) }
+
+pub list_room_at_more : (limit more t : ℕ) (bodies : List (Option Body)) (ids : List Id) → limit ≤ more → HasRoom limit t bodies ids → HasRoom more t bodies ids
+list_room_at_more limit more t bodies ids le room = record { each = λ i lt. slot_at_more limit more t (get_or bodies (get_or ids i nowhere).slot None) le (room.each i lt) }

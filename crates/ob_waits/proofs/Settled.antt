@@ -7,8 +7,10 @@ use Rattle.pin_core.specs.declared.id.Id.{Id}
 use Rattle.ob_waits.specs.declared.wait.Mode.{Mode}
 use Rattle.ob_waits.specs.declared.wait.Wait.{Wait}
 use Rattle.ob_waits.specs.Rules.{IsSettled}
-use Rattle.ob_waits.specs.Waits.{new_wait, is_ready, list_ready, answered, unless_of, is_waits_of, bodies_after}
-use Rattle.ob_waits.proofs.Settling.{not_true, less_after, ready_less}
+use Rattle.ob_waits.specs.Waits.{new_wait, is_ready, list_ready, answered, unless_of, is_waits_of, bodies_after, slot_blocks}
+use Rattle.ob_waits.proofs.Settling.{not_true, IsLess, less_after, ready_less}
+use Rattle.ob_waits.proofs.Apart.{ready_at_change}
+use Rattle.ob_waits.proofs.Counted.{named_counts}
 use Rattle.ob_waits.proofs.AddedLaws.{by_number}
 
 -- a wait that isn't ready comes
@@ -16,12 +18,24 @@ pub settled_added : (bodies : List (Option Body)) (ws : List (Option Wait)) (t :
     IsSettled bodies (ws ++ Some (new_wait t mode ids) ∷ [])
 settled_added bodies ws t mode ids unready s = record { each = by_number ws (new_wait t mode ids) (λ n x. is_ready bodies x ≡ false) (λ n lt. s.each n) unready (λ n past. refl) }
 
+-- nothing becomes signaled
+pub settled_less : (bodies after : List (Option Body)) (ws : List (Option Wait)) → IsLess bodies after → IsSettled bodies ws → IsSettled after ws
+settled_less bodies after ws less s = record {
+  each = λ n. not_true _ (λ ready.
+      let before = ready_less bodies after less (get_or ws n None) ready in
+      let q = s.each n in cc (before, q));
+}
+
 -- a thread takes something at once
 pub settled_now : (mode : Mode) (t : ℕ) (bodies : List (Option Body)) (ids : List Id) (ws : List (Option Wait)) → IsSettled bodies ws → IsSettled (bodies_after mode t bodies ids) ws
-settled_now mode t bodies ids ws s = record {
+settled_now mode t bodies ids ws s = settled_less bodies (bodies_after mode t bodies ids) ws (less_after mode t bodies ids) s
+
+-- a body changes in a slot that no pending wait names
+pub settled_unnamed : (bodies : List (Option Body)) (ws : List (Option Wait)) (k : ℕ) (x : Option Body) → slot_blocks k ws ≡ 0 → IsSettled bodies ws → IsSettled (set bodies k x) ws
+settled_unnamed bodies ws k x unnamed s = record {
   each = λ n. not_true _ (λ ready.
-      let before = ready_less bodies (bodies_after mode t bodies ids) (less_after mode t bodies ids) (get_or ws n None) ready in
-      let q = s.each n in cc (before, q));
+      let named = named_counts k n ws ((ready_at_change bodies ws k x s).each n ready) in
+      omega (arith, named, unnamed));
 }
 
 -- a wait is replaced by one that isn't ready, as by none or by an answered one

@@ -1,5 +1,5 @@
 -- Taking makes nothing signaled, so a pass over the waits in order settles them, and what it leaves is settled.
-use Rattle.std.proofs.Common.{◌≡◌, ℕ, zero, suc, ◌+◌, ◌<◌, ◌≤◌, List, [], ◌∷◌, length, Option, Some, None, refl, ap, ◌∙◌, sym, subst, arith, get_or, set, Bool, true, false, cond, inl, inr, ltb}
+use Rattle.std.proofs.Common.{◌≡◌, ℕ, zero, suc, ◌+◌, ◌<◌, ◌≤◌, List, [], ◌∷◌, length, Option, Some, None, refl, ap, ◌∙◌, sym, subst, arith, get_or, set, Bool, true, false, cond, inl, inr, ltb, eqb, ◌-◌}
 use Rattle.std.specs.Prelude.{count_by, sum_by}
 use Rattle.std.specs.List.{position_or_len, list_all}
 use Rattle.std.proofs.lemmas.List.{length-set, get_or_past, get_or-set_same, get_or-set_other}
@@ -14,7 +14,7 @@ use Rattle.ob_waits.specs.declared.wait.Mode.TheVariants.{Any, All}
 use Rattle.ob_waits.specs.declared.wait.Wait.{Wait}
 use Rattle.ob_waits.specs.declared.wait.State.{State}
 use Rattle.ob_waits.specs.declared.wait.State.TheVariants.{Pending, Answered}
-use Rattle.ob_waits.specs.Objects.{slot_signaled, slot_room, slot_acquired}
+use Rattle.ob_waits.specs.Objects.{Objects, slot_signaled, slot_room, slot_acquired, without_block, without_blocks}
 use Rattle.ob_waits.specs.Rules.{IsSettled, IsRising, Covers}
 use Rattle.ob_waits.specs.Waits.{nowhere, is_signaled, first_signaled, list_ready, state_ready, is_ready, first_ready, Scene, with_acquired, with_all_acquired, bodies_after, code_of, answered_wait, effect, effect_of, effect_at, settled_within, settled, passed, is_pending, state_pending}
 
@@ -52,6 +52,28 @@ less_all u (i ∷ ids) bodies = less_trans bodies (with_acquired u bodies i) _ (
 pub less_after : (mode : Mode) (u : ℕ) (bodies : List (Option Body)) (ids : List Id) → IsLess bodies (bodies_after mode u bodies ids)
 less_after Any u bodies ids = less_one u bodies (get_or ids (first_signaled u bodies ids) nowhere)
 less_after All u bodies ids = less_all u ids bodies
+
+-- blocks that leave make nothing signaled
+less_none : (bodies : List (Option Body)) (k : ℕ) → IsLess bodies (set bodies k None)
+less_none bodies k = record {
+  each = λ t id h. elim (cases_eq id.slot k) [
+    | inl same ↦ elim (cases_lt k (length bodies)) [
+      | inl lt ↦ (let none : get_or (set bodies k None) id.slot None ≡ None = ap (λ i. get_or (set bodies k None) i None) same ∙ get_or-set_same bodies k None None lt in
+          let unsignaled = ap (slot_signaled t) none in absurd (cc (unsignaled, h)))
+      | inr le ↦ (let past : get_or (set bodies k None) id.slot None ≡ None = get_or_past (set bodies k None) id.slot None (simp length-set (omega arith)) in
+          let unsignaled = ap (slot_signaled t) past in absurd (cc (unsignaled, h)))
+    ]
+    | inr other ↦ rw (get_or-set_other bodies k id.slot None None other) at h
+  ];
+}
+
+pub less_if : (b : Bool) (bodies : List (Option Body)) (k : ℕ) → IsLess bodies (cond b (set bodies k None) bodies)
+less_if true bodies k = less_none bodies k
+less_if false bodies k = record { each = λ t id h. h }
+
+pub less_left : (ids : List Id) (objects : Objects) → IsLess objects.bodies (without_blocks objects ids).bodies
+less_left [] objects = record { each = λ t id h. h }
+less_left (id ∷ ids) objects = less_trans objects.bodies (without_block objects id).bodies _ (less_if (eqb (get_or objects.handles id.slot 0 + (get_or objects.blocks id.slot 0 - 1)) 0) objects.bodies id.slot) (less_left ids (without_block objects id))
 
 -- a wait that is ready where less is signaled was ready
 all_less : (p q : Id → Bool) → ((x : Id) → q x ≡ true → p x ≡ true) → (xs : List Id) → list_all q xs ≡ true → list_all p xs ≡ true
@@ -114,6 +136,29 @@ pub room_after : (limit : ℕ) (mode : Mode) (u : ℕ) (bodies : List (Option Bo
 room_after limit Any u bodies ids = room_one limit u bodies (get_or ids (first_signaled u bodies ids) nowhere)
 room_after limit All u bodies ids = room_all limit u ids bodies
 
+-- nor do blocks that leave take room
+room_none : (limit u : ℕ) (bodies : List (Option Body)) (i : ℕ) → RoomKept limit u bodies (set bodies i None)
+room_none limit u bodies i = record {
+  room = λ t other k h. elim (cases_eq k i) [
+    | inl same ↦ elim (cases_lt i (length bodies)) [
+      | inl lt ↦ ap (slot_room limit t) (ap (λ j. get_or (set bodies i None) j None) same ∙ get_or-set_same bodies i None None lt)
+      | inr le ↦ ap (slot_room limit t) (get_or_past (set bodies i None) k None (simp length-set (omega arith)))
+    ]
+    | inr apart ↦ rw (get_or-set_other bodies i k None None apart) h
+  ];
+}
+
+pub room_if : (limit u : ℕ) (b : Bool) (bodies : List (Option Body)) (i : ℕ) → RoomKept limit u bodies (cond b (set bodies i None) bodies)
+room_if limit u true bodies i = room_none limit u bodies i
+room_if limit u false bodies i = record { room = λ t other k h. h }
+
+room_both : (limit u : ℕ) (a b c : List (Option Body)) → RoomKept limit u a b → RoomKept limit u b c → RoomKept limit u a c
+room_both limit u a b c x y = record { room = λ t other k h. y.room t other k (x.room t other k h) }
+
+pub room_left : (limit u : ℕ) (ids : List Id) (objects : Objects) → RoomKept limit u objects.bodies (without_blocks objects ids).bodies
+room_left limit u [] objects = record { room = λ t other k h. h }
+room_left limit u (id ∷ ids) objects = room_both limit u objects.bodies (without_block objects id).bodies _ (room_if limit u (eqb (get_or objects.handles id.slot 0 + (get_or objects.blocks id.slot 0 - 1)) 0) objects.bodies id.slot) (room_left limit u ids (without_block objects id))
+
 abbrev pub pending_count : List (Option Wait) → ℕ
 pending_count waits = count_by is_pending waits
 
@@ -129,7 +174,7 @@ pub ready_pending : (bodies : List (Option Body)) (w : Option Wait) → is_ready
 ready_pending bodies None h = cc
 ready_pending bodies (Some w) h = state_ready_pending w.thread bodies w.state h
 
-settled_at_end : (scene : Scene) → length scene.waits ≤ first_ready scene.objects.bodies scene.waits → IsSettled scene.objects.bodies scene.waits
+pub settled_at_end : (scene : Scene) → length scene.waits ≤ first_ready scene.objects.bodies scene.waits → IsSettled scene.objects.bodies scene.waits
 settled_at_end scene le = record {
   each = λ n. elim (cases_lt n (length scene.waits)) [
     | inl lt ↦ fails_before_first (is_ready scene.objects.bodies) scene.waits n None (omega arith)
@@ -147,7 +192,16 @@ pub record Answers (scene after : Scene) (n : ℕ) : Type 0 where
   pub own : get_or scene.waits n None ≡ Some wait
 
 answered_by : (scene : Scene) (n : ℕ) (w : Wait) (st : State) → get_or scene.waits n None ≡ Some w → state_pending st ≡ true → Answers scene (effect_of scene n w st) n
-answered_by scene n w (Pending mode ids) own h = record { wait = w; code = code_of mode w.thread scene.objects.bodies ids; waits = refl; less = less_after mode w.thread scene.objects.bodies ids; room = λ limit. room_after limit mode w.thread scene.objects.bodies ids; own = own }
+answered_by scene n w (Pending mode ids) own h =
+    let taken : Objects = record scene.objects { bodies = bodies_after mode w.thread scene.objects.bodies ids } in
+    record {
+      wait = w;
+      code = code_of mode w.thread scene.objects.bodies ids;
+      waits = refl;
+      less = less_trans scene.objects.bodies taken.bodies (without_blocks taken ids).bodies (less_after mode w.thread scene.objects.bodies ids) (less_left ids taken);
+      room = λ limit. room_both limit w.thread scene.objects.bodies taken.bodies (without_blocks taken ids).bodies (room_after limit mode w.thread scene.objects.bodies ids) (room_left limit w.thread ids taken);
+      own = own;
+    }
 answered_by scene n w (Answered code) own h = absurd (cc)
 
 answered_at : (scene : Scene) (n : ℕ) (w : Option Wait) → get_or scene.waits n None ≡ w → is_ready scene.objects.bodies w ≡ true → Answers scene (effect_at scene n w) n
@@ -161,14 +215,14 @@ answers scene n ready = answered_at scene n (get_or scene.waits n None) refl rea
 pub ready_within : (scene : Scene) (n : ℕ) → is_ready scene.objects.bodies (get_or scene.waits n None) ≡ true → n < length scene.waits
 ready_within scene n ready = elim (cases_lt n (length scene.waits)) [ inl lt ↦ lt | inr past ↦ let none = ap (is_ready scene.objects.bodies) (get_or_past scene.waits n None past) in absurd (cc (none, ready)) ]
 
-fewer : (scene : Scene) (n : ℕ) → n < length scene.waits → is_ready scene.objects.bodies (get_or scene.waits n None) ≡ true → pending_count (effect scene n).waits + 1 ≡ pending_count scene.waits
+pub fewer : (scene : Scene) (n : ℕ) → n < length scene.waits → is_ready scene.objects.bodies (get_or scene.waits n None) ≡ true → pending_count (effect scene n).waits + 1 ≡ pending_count scene.waits
 fewer scene n in' ready =
     let a = answers scene n ready in
     let f : Option Wait → ℕ = λ w. cond (is_pending w) 1 0 in
     let one : f (get_or scene.waits n None) ≡ 1 = ap {B = ℕ} (λ b. cond b 1 0) (ready_pending scene.objects.bodies (get_or scene.waits n None) ready) in
     omega (arith, ap (sum_by f) a.waits, one, sum_by-set f scene.waits n (answered_wait a.wait a.code) None in')
 
-ready_counted : (scene : Scene) (n : ℕ) → is_ready scene.objects.bodies (get_or scene.waits n None) ≡ true → 0 < pending_count scene.waits
+pub ready_counted : (scene : Scene) (n : ℕ) → is_ready scene.objects.bodies (get_or scene.waits n None) ≡ true → 0 < pending_count scene.waits
 ready_counted scene n ready =
     let one : cond (is_pending (get_or scene.waits n None)) 1 0 ≡ 1 = ap {B = ℕ} (λ b. cond b 1 0) (ready_pending scene.objects.bodies (get_or scene.waits n None) ready) in
     omega (arith, get_or-le-sum_by (λ w. cond (is_pending w) 1 0) scene.waits n None (ready_within scene n ready), one)
@@ -183,6 +237,15 @@ settled_step P n scene step stop =
       | inr le ↦ rw (le-ltb k (length scene.waits) le) (stop le)
     ]
 
+-- what holds of each effect, and over one after another, holds of settling
+pub settled_by_effects : (R : Scene → Scene → Type 0) → ((s : Scene) → R s s) → ((a b c : Scene) → R a b → R b c → R a c) →
+    ((s : Scene) (n : ℕ) → is_ready s.objects.bodies (get_or s.waits n None) ≡ true → R s (effect s n)) → (scene : Scene) → R scene (settled scene)
+settled_by_effects R same both one scene = within (length scene.waits) scene
+  where
+    within : (fuel : ℕ) (s : Scene) → R s (settled_within fuel s)
+    within zero s = same s
+    within (suc fuel) s = settled_step (λ x. R s x) fuel s (λ n lt ready. both s (effect s n) (settled_within fuel (effect s n)) (one s n ready) (within fuel (effect s n))) (λ le. same s)
+
 settled_enough : (n : ℕ) (scene : Scene) → pending_count scene.waits ≤ n → IsSettled (settled_within n scene).objects.bodies (settled_within n scene).waits
 settled_enough zero scene few = record { each = λ k. not_true _ (λ ready. omega (arith, ready_counted scene k ready)) }
 settled_enough (suc n) scene few = settled_step (λ s. IsSettled s.objects.bodies s.waits) n scene
@@ -194,11 +257,11 @@ pub settled_is_settled : (scene : Scene) → IsSettled (settled scene).objects.b
 settled_is_settled scene = settled_enough (length scene.waits) scene (count_by-le-length is_pending scene.waits)
 
 -- a wait that is ready after an effect was ready before, and is another one
-record WasReady (scene : Scene) (n k : ℕ) : Type 0 where
-  before : is_ready scene.objects.bodies (get_or scene.waits k None) ≡ true
-  other : k ≡ n → ⊥
+pub record WasReady (scene : Scene) (n k : ℕ) : Type 0 where
+  pub before : is_ready scene.objects.bodies (get_or scene.waits k None) ≡ true
+  pub other : k ≡ n → ⊥
 
-was_ready : (scene : Scene) (n k : ℕ) → is_ready scene.objects.bodies (get_or scene.waits n None) ≡ true → is_ready (effect scene n).objects.bodies (get_or (effect scene n).waits k None) ≡ true → WasReady scene n k
+pub was_ready : (scene : Scene) (n k : ℕ) → is_ready scene.objects.bodies (get_or scene.waits n None) ≡ true → is_ready (effect scene n).objects.bodies (get_or (effect scene n).waits k None) ≡ true → WasReady scene n k
 was_ready scene n k ready after =
     let a = answers scene n ready in
     let w : Option Wait = answered_wait a.wait a.code in
@@ -213,15 +276,18 @@ was_ready scene n k ready after =
     ]
 
 -- a settled scene stays
-settled_none : (fuel : ℕ) (scene : Scene) → IsSettled scene.objects.bodies scene.waits → settled_within fuel scene ≡ scene
+pub settled_none : (fuel : ℕ) (scene : Scene) → IsSettled scene.objects.bodies scene.waits → settled_within fuel scene ≡ scene
 settled_none zero scene q = refl
 settled_none (suc n) scene q = settled_step (λ x. x ≡ scene) n scene (λ k lt ready. let none = q.each k in absurd (cc (none, ready))) (λ le. refl)
 
+pub settled_same : (scene : Scene) → IsSettled scene.objects.bodies scene.waits → settled scene ≡ scene
+settled_same scene q = settled_none (length scene.waits) scene q
+
 -- where the wait of a number is ready and none below is, that is the first one that is ready
-first_is : (scene : Scene) (m : ℕ) → is_ready scene.objects.bodies (get_or scene.waits m None) ≡ true → ((k : ℕ) → k < m → is_ready scene.objects.bodies (get_or scene.waits k None) ≡ false) → first_ready scene.objects.bodies scene.waits ≡ m
+pub first_is : (scene : Scene) (m : ℕ) → is_ready scene.objects.bodies (get_or scene.waits m None) ≡ true → ((k : ℕ) → k < m → is_ready scene.objects.bodies (get_or scene.waits k None) ≡ false) → first_ready scene.objects.bodies scene.waits ≡ m
 first_is scene m ready below = position_or_len_is (is_ready scene.objects.bodies) scene.waits m None (let lt = ready_within scene m ready in omega arith) below (λ lt. ready)
 
-settled_first : (fuel : ℕ) (scene : Scene) (m : ℕ) → is_ready scene.objects.bodies (get_or scene.waits m None) ≡ true → first_ready scene.objects.bodies scene.waits ≡ m → settled_within (suc fuel) scene ≡ settled_within fuel (effect scene m)
+pub settled_first : (fuel : ℕ) (scene : Scene) (m : ℕ) → is_ready scene.objects.bodies (get_or scene.waits m None) ≡ true → first_ready scene.objects.bodies scene.waits ≡ m → settled_within (suc fuel) scene ≡ settled_within fuel (effect scene m)
 settled_first fuel scene m ready first =
     let lt : first_ready scene.objects.bodies scene.waits < length scene.waits = (let w = ready_within scene m ready in omega arith) in
     rw (lt-ltb (first_ready scene.objects.bodies scene.waits) (length scene.waits) lt) (ap (λ k. settled_within fuel (effect scene k)) first)

@@ -2,13 +2,13 @@
 use Rattle.std.proofs.Common.{◌≡◌, ℕ, zero, suc, ◌<◌, List, [], ◌∷◌, length, Option, Some, None, refl, ap, ◌∙◌, sym, subst, arith, get_or, set, Bool, true, false, cond, inl, inr, map, ltb}
 use Rattle.std.specs.List.{position_or_len}
 use Rattle.std.proofs.lemmas.List.{length-set, length-map, get_or_past, get_or-set_same, get_or-set_other, get_or-map, ext_get_or}
-use Rattle.std.proofs.lemmas.List.Sums.{position_or_len_is}
+use Rattle.std.proofs.lemmas.List.Sums.{position_or_len_is, fails_before_first}
 use Rattle.std.proofs.lemmas.Bool.{cases_eq, cases_lt, lt-ltb, le-ltb}
 use Rattle.std.proofs.lemmas.Bool.Decides.{nat_tests}
 use Rattle.ob_waits.specs.declared.wait.Wait.{Wait}
 use Rattle.ob_waits.specs.Objects.{Objects}
 use Rattle.ob_waits.specs.Rules.{thread_of, WaitWaitable, Covers, IsReadyAt}
-use Rattle.ob_waits.specs.Rows.{IsRow, row_of, AreRows}
+use Rattle.ob_waits.specs.Numbers.{IsOrdered, numbers_of, AreOrdered}
 use Rattle.ob_waits.specs.Waits.{is_pending, names_slot, is_waits_of, number_of, unless_of, answered}
 use Rattle.ob_waits.specs.Roster.{Roster, AreThreads, AreIndexed, Leaves, with_number, IsTracked}
 use Rattle.ob_waits.proofs.Settling.{ready_pending}
@@ -19,8 +19,8 @@ no_wait : (n : ℕ) → get_or {A = Option Wait} (None ∷ []) n None ≡ None
 no_wait zero = refl
 no_wait (suc n) = refl
 
-no_row : (s : ℕ) → get_or {A = List ℕ} [] s [] ≡ []
-no_row s = refl
+no_list : (s : ℕ) → get_or {A = List ℕ} [] s [] ≡ []
+no_list s = refl
 
 -- at first nothing is there
 pub tracked_none : (limit : ℕ) → limit < 4294967296 → IsTracked limit (None ∷ []) (record { threads = []; order = []; index = [] })
@@ -34,17 +34,17 @@ tracked_none limit fits = record {
   };
   right = record {
     threads = record { right = λ t some. absurd (omega arith); all = λ n t h. absurd (let e = ap thread_of (no_wait n) in cc (e, h)) };
-    rows = record {
-      order_row = record { rising = tt; below = λ k i. absurd i };
+    lists = record {
+      order_rises = record { rising = tt; below = λ k i. absurd i };
       order_all = record { each = λ n h. absurd (let e = ap is_pending (no_wait n) in cc (e, h)) };
-      index_rows = record { each = λ s. record { rising = tt; below = λ k i. absurd i } };
+      index_rises = record { each = λ s. record { rising = tt; below = λ k i. absurd i } };
       index_all = λ s. record { each = λ n h. absurd (let e = ap (names_slot s) (no_wait n) in cc (e, h)) };
     };
   };
 }
 
 -- whose wait it is
-waits_thread : (t : ℕ) (w : Option Wait) → is_waits_of t w ≡ true → thread_of w ≡ Some t
+pub waits_thread : (t : ℕ) (w : Option Wait) → is_waits_of t w ≡ true → thread_of w ≡ Some t
 waits_thread t None h = absurd (cc)
 waits_thread t (Some w) h = ap Some (grind (arith, nat_tests, h))
 
@@ -58,6 +58,16 @@ false_of false h = refl
 
 pub has_wait : (ws : List (Option Wait)) (n t : ℕ) → thread_of (get_or ws n None) ≡ Some t → n < length ws
 has_wait ws n t h = elim (cases_lt n (length ws)) [ inl lt ↦ lt | inr past ↦ absurd (let e = ap thread_of (get_or_past ws n None past) in cc (e, h)) ]
+
+-- a thread without a number has no wait
+pub no_number : (t : ℕ) (ws : List (Option Wait)) (n : ℕ) → number_of t ws ≡ None → thread_of (get_or ws n None) ≡ Some t → ⊥
+no_number t ws n none own = elim (cases_lt (position_or_len (is_waits_of t) ws) (length ws)) [
+  | inl lt ↦ (let e : number_of t ws ≡ Some (position_or_len (is_waits_of t) ws) = ap (λ b. cond b (Some (position_or_len (is_waits_of t) ws)) None) (lt-ltb _ _ lt) in cc (e, none))
+  | inr le ↦
+      let lt = has_wait ws n t own in
+      let fails : is_waits_of t (get_or ws n None) ≡ false = fails_before_first (is_waits_of t) ws n None (omega arith) in
+      let passes = thread_waits t (get_or ws n None) own in cc (fails, passes)
+]
 
 -- the number of a thread's wait is the first place that has a wait of the thread
 pub number_found : (ws : List (Option Wait)) (threads : List ℕ) (t : ℕ) → AreThreads ws threads → 0 < get_or threads t 0 → number_of t ws ≡ Some (get_or threads t 0)
@@ -84,11 +94,11 @@ no_thread : (w : Option Wait) → thread_of w ≡ None → w ≡ None
 no_thread None h = refl
 no_thread (Some w) h = absurd (cc)
 
-rows_faded : (ws ws' : List (Option Wait)) (order : List ℕ) (index : List (List ℕ)) → Fade ws ws' → AreIndexed ws order index → AreIndexed ws' order index
-rows_faded ws ws' order index f a = record {
-  order_row = subst (λ n. IsRow n order) (sym f.len) a.order_row;
+lists_faded : (ws ws' : List (Option Wait)) (order : List ℕ) (index : List (List ℕ)) → Fade ws ws' → AreIndexed ws order index → AreIndexed ws' order index
+lists_faded ws ws' order index f a = record {
+  order_rises = subst (λ n. IsOrdered n order) (sym f.len) a.order_rises;
   order_all = record { each = λ n h. a.order_all.each n ((f.each n).pending h) };
-  index_rows = subst (λ n. AreRows n index) (sym f.len) a.index_rows;
+  index_rises = subst (λ n. AreOrdered n index) (sym f.len) a.index_rises;
   index_all = λ s. record { each = λ n h. (a.index_all s).each n ((f.each n).names s h) };
 }
 
@@ -104,18 +114,18 @@ tracked_faded limit ws ws' r f k = record {
   few = let e = f.len in let le = k.few in omega arith;
   zero_has_none = no_thread (get_or ws' 0 None) ((f.each 0).thread ∙ ap thread_of k.zero_has_none);
   kept = kept_faded ws ws' f k.kept;
-  right = record { threads = threads_faded ws ws' r.threads f k.right.threads; rows = rows_faded ws ws' r.order r.index f k.right.rows };
+  right = record { threads = threads_faded ws ws' r.threads f k.right.threads; lists = lists_faded ws ws' r.order r.index f k.right.lists };
 }
 
 pub tracked_left : (limit : ℕ) (ws : List (Option Wait)) (r r' : Roster) → Leaves ws r r' → IsTracked limit ws r → IsTracked limit ws r'
 tracked_left limit ws r r' l k = record { limit_fits = k.limit_fits; few = k.few; zero_has_none = k.zero_has_none; kept = k.kept; right = right_left ws r r' l k.right }
 
--- the rows have the numbers of all waits that are ready
+-- the lists have the numbers of all waits that are ready
 pub covers_order : (objects : Objects) (ws : List (Option Wait)) (order : List ℕ) (index : List (List ℕ)) → AreIndexed ws order index → Covers order (record { objects = objects; waits = ws })
 covers_order objects ws order index a = record { each = λ n ready. a.order_all.each n (ready_pending objects.bodies (get_or ws n None) ready) }
 
-pub covers_row : (objects : Objects) (slot : ℕ) (ws : List (Option Wait)) (order : List ℕ) (index : List (List ℕ)) → IsReadyAt slot objects.bodies ws → AreIndexed ws order index → Covers (row_of index slot) (record { objects = objects; waits = ws })
-covers_row objects slot ws order index at a = record { each = λ n ready. (a.index_all slot).each n (at.each n ready) }
+pub covers_slot : (objects : Objects) (slot : ℕ) (ws : List (Option Wait)) (order : List ℕ) (index : List (List ℕ)) → IsReadyAt slot objects.bodies ws → AreIndexed ws order index → Covers (numbers_of index slot) (record { objects = objects; waits = ws })
+covers_slot objects slot ws order index at a = record { each = λ n ready. (a.index_all slot).each n (at.each n ready) }
 
 -- a pending wait is answered
 pub fade_answered : (ws : List (Option Wait)) (n code : ℕ) → is_pending (get_or ws n None) ≡ true → Fade ws (set ws n (answered (get_or ws n None) code))
@@ -126,11 +136,11 @@ fade_answered ws n code pending = by (get_or ws n None) refl pending
     by (Some w) is h = fade_one ws n code w is
 
 -- the wait of a thread goes
-rows_removed : (ws : List (Option Wait)) (n : ℕ) (order : List ℕ) (index : List (List ℕ)) → n < length ws → AreIndexed ws order index → AreIndexed (set ws n None) order index
-rows_removed ws n order index lt a = record {
-  order_row = subst (λ m. IsRow m order) (sym (length-set ws n None)) a.order_row;
+lists_removed : (ws : List (Option Wait)) (n : ℕ) (order : List ℕ) (index : List (List ℕ)) → n < length ws → AreIndexed ws order index → AreIndexed (set ws n None) order index
+lists_removed ws n order index lt a = record {
+  order_rises = subst (λ m. IsOrdered m order) (sym (length-set ws n None)) a.order_rises;
   order_all = record { each = λ m h. a.order_all.each m (was is_pending m refl h) };
-  index_rows = subst (λ m. AreRows m index) (sym (length-set ws n None)) a.index_rows;
+  index_rises = subst (λ m. AreOrdered m index) (sym (length-set ws n None)) a.index_rises;
   index_all = λ s. record { each = λ m h. (a.index_all s).each m (was (names_slot s) m refl h) };
 }
   where
@@ -185,7 +195,7 @@ tracked_removed limit ws r n t own k = record {
           let apart : u ≡ t → ⊥ = λ e. still m u p (let same : get_or r.threads u 0 ≡ get_or r.threads t 0 = ap (λ v. get_or r.threads v 0) e in sym there ∙ same ∙ k.right.threads.all n t own) in
           get_or-set_other r.threads t u 0 0 apart ∙ there;
     };
-    rows = rows_removed ws n r.order r.index lt k.right.rows;
+    lists = lists_removed ws n r.order r.index lt k.right.lists;
   };
 }
   where

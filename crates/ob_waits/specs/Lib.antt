@@ -4,5 +4,7 @@ pub mod Waits
 pub mod Rules
 pub mod Listed
 pub mod Places
-pub mod Rows
+pub mod Numbers
 pub mod Roster
+pub mod Ends
+pub mod Form

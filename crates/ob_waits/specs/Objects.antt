@@ -1,5 +1,5 @@
 -- The objects as waits see them.
-use Rattle.std.specs.Prelude.{ℕ, ◌-◌, Bool, true, false, List, Option, Some, None, slice_index_or, slice_set}
+use Rattle.std.specs.Prelude.{ℕ, ◌+◌, ◌-◌, ◌==◌, Bool, true, false, List, [], ◌∷◌, Option, Some, None, if◌then◌else◌, slice_index_or, slice_set}
 use Rattle.ob_body.specs.declared.body.Body.{Body}
 use Rattle.ob_body.specs.Body as body
 use Rattle.pin_core.specs.declared.id.Id.{Id}
@@ -7,8 +7,10 @@ use Rattle.pin_core.specs.declared.id.Id.{Id}
 pub record Objects : Type 0 where
   -- the body in each slot that has one
   pub bodies : List (Option Body)
-  -- how many references each slot counts
-  pub references : List ℕ
+  -- how many handles of each slot's object there are
+  pub handles : List ℕ
+  -- how many places of pending waits name it
+  pub blocks : List ℕ
 
 -- the body of an object
 abbrev pub body_of : List (Option Body) → Id → Option Body
@@ -18,12 +20,22 @@ body_of bodies id = slice_index_or bodies id.slot None
 abbrev pub with_body : Objects → Id → Body → Objects
 with_body objects id b = record objects { bodies = slice_set objects.bodies id.slot (Some b) }
 
--- one reference fewer to an object
-abbrev pub reference_left : List ℕ → Id → List ℕ
-reference_left references id = slice_set references id.slot (slice_index_or references id.slot 0 - 1)
+-- one block fewer of an object
+abbrev pub blocks_left : List ℕ → Id → List ℕ
+blocks_left blocks id = slice_set blocks id.slot (slice_index_or blocks id.slot 0 - 1)
+
+-- an object that nothing refers to any more ends: it has no body
+abbrev pub bodies_left : Objects → Id → List (Option Body)
+bodies_left objects id =
+    if slice_index_or objects.handles id.slot 0 + (slice_index_or objects.blocks id.slot 0 - 1) == 0 then slice_set objects.bodies id.slot None else objects.bodies
 
 abbrev pub without_block : Objects → Id → Objects
-without_block objects id = record objects { references = reference_left objects.references id }
+without_block objects id = record objects { bodies = bodies_left objects id; blocks = blocks_left objects.blocks id }
+
+-- the objects once the blocks of a list have left
+abbrev pub without_blocks : Objects → List Id → Objects
+without_blocks objects [] = objects
+without_blocks objects (id ∷ ids) = without_blocks (without_block objects id) ids
 
 -- what a slot's body is to a thread, if there is one
 abbrev pub slot_signaled : ℕ → Option Body → Bool

@@ -1,5 +1,5 @@
 -- What waits keep, and what settling asks of them.
-use Rattle.std.specs.Prelude.{◌≡◌, ℕ, ◌⊎◌, ◌<◌, ◌≤◌, true, false, List, [], ◌∷◌, Option, Some, None, length, slice_index_or}
+use Rattle.std.specs.Prelude.{◌≡◌, ℕ, ◌+◌, ◌⊎◌, ◌<◌, ◌≤◌, nat_lt, is_some, true, false, List, [], ◌∷◌, Option, Some, None, length, slice_index_or}
 use Rattle.pin_core.specs.declared.id.Id.{Id}
 use Rattle.ob_body.specs.declared.body.Body.{Body}
 use Rattle.ob_waits.specs.declared.wait.Mode.{Mode}
@@ -7,8 +7,8 @@ use Rattle.ob_waits.specs.declared.wait.Mode.TheVariants.{All}
 use Rattle.ob_waits.specs.declared.wait.Wait.{Wait}
 use Rattle.ob_waits.specs.declared.wait.State.{State}
 use Rattle.ob_waits.specs.declared.wait.State.TheVariants.{Pending, Answered}
-use Rattle.ob_waits.specs.Objects.{slot_room}
-use Rattle.ob_waits.specs.Waits.{nowhere, Scene, is_ready, names_slot, ids_of}
+use Rattle.ob_waits.specs.Objects.{Objects, slot_room}
+use Rattle.ob_waits.specs.Waits.{nowhere, Scene, is_ready, names_slot, names_one, ids_of}
 
 -- each object of a list has room for the thread
 pub record HasRoom (limit thread : ℕ) (bodies : List (Option Body)) (ids : List Id) : Type 0 where
@@ -62,6 +62,10 @@ pub record IsSettled (bodies : List (Option Body)) (waits : List (Option Wait)) 
 pub record IsReadyAt (slot : ℕ) (bodies : List (Option Body)) (waits : List (Option Wait)) : Type 0 where
   pub each : (n : ℕ) → is_ready bodies (slice_index_or waits n None) ≡ true → names_slot slot (slice_index_or waits n None) ≡ true
 
+-- or the slot of one of some objects
+pub record IsReadyAtOne (ids : List Id) (bodies : List (Option Body)) (waits : List (Option Wait)) : Type 0 where
+  pub each : (n : ℕ) → is_ready bodies (slice_index_or waits n None) ≡ true → names_one ids (slice_index_or waits n None) ≡ true
+
 -- a list of numbers has this one
 abbrev pub Within : ℕ → List ℕ → Type 0
 Within n [] = ⊥
@@ -75,3 +79,7 @@ IsRising (m ∷ ns) = ((k : ℕ) → Within k ns → m < k) × IsRising ns
 -- the numbers of all waits that are ready are there
 pub record Covers (ns : List ℕ) (scene : Scene) : Type 0 where
   pub each : (n : ℕ) → is_ready scene.objects.bodies (slice_index_or scene.waits n None) ≡ true → Within n ns
+
+-- a slot has a body exactly where something refers to its object
+pub record HasBodies (objects : Objects) : Type 0 where
+  pub each : (k : ℕ) → is_some (slice_index_or objects.bodies k None) ≡ nat_lt 0 (slice_index_or objects.handles k 0 + slice_index_or objects.blocks k 0)

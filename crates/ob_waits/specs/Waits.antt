@@ -1,5 +1,5 @@
 -- Waits for any and for all of some objects: when one is ready, what it takes, and how they settle.
-use Rattle.std.specs.Prelude.{ℕ, zero, suc, ◌+◌, ◌==◌, nat_lt, Bool, true, false, ◌&&◌, List, [], ◌∷◌, ◌++◌, Option, Some, None, if◌then◌else◌, slice_index_or, slice_set, length, map, sum_by, count_by, position}
+use Rattle.std.specs.Prelude.{ℕ, zero, suc, ◌+◌, ◌==◌, nat_lt, Bool, true, false, List, [], ◌∷◌, ◌++◌, Option, Some, None, if◌then◌else◌, slice_index_or, slice_set, length, map, sum_by, count_by, position}
 use Rattle.std.specs.List.{position_or_len, list_any, list_all}
 use Rattle.pin_core.specs.Holds.{same_id}
 use Rattle.pin_core.specs.declared.id.Id.{Id}
@@ -11,7 +11,7 @@ use Rattle.ob_waits.specs.declared.wait.State.{State}
 use Rattle.ob_waits.specs.declared.wait.State.TheVariants.{Pending, Answered}
 use Rattle.ob_waits.specs.declared.wait.WaitState.{WaitState}
 use Rattle.ob_waits.specs.declared.wait.WaitState.TheVariants as shown
-use Rattle.ob_waits.specs.Objects.{Objects, body_of, slot_signaled, slot_abandoned, slot_acquired, reference_left}
+use Rattle.ob_waits.specs.Objects.{Objects, body_of, slot_signaled, slot_abandoned, slot_acquired, without_blocks}
 
 -- an Id that names the first slot, where a list has none
 abbrev pub nowhere : Id
@@ -60,11 +60,6 @@ abbrev pub objects_now : Mode → ℕ → Objects → List Id → Objects
 objects_now mode thread objects ids =
     if list_ready mode thread objects.bodies ids then record objects { bodies = bodies_after mode thread objects.bodies ids } else objects
 
--- the references once the blocks of a list have left
-abbrev pub references_after : List ℕ → List Id → List ℕ
-references_after references [] = references
-references_after references (id ∷ ids) = references_after (reference_left references id) ids
-
 abbrev pub state_ready : ℕ → List (Option Body) → State → Bool
 state_ready thread bodies (Pending mode ids) = list_ready mode thread bodies ids
 state_ready thread bodies (Answered code) = false
@@ -90,10 +85,7 @@ answered_wait wait code = Some (record wait { state = Answered code })
 -- the objects and waits after a wait took effect: it takes what it is ready for, is answered, and its blocks leave
 abbrev pub effect_of : Scene → ℕ → Wait → State → Scene
 effect_of scene number wait (Pending mode ids) = record {
-  objects = record {
-    bodies = bodies_after mode wait.thread scene.objects.bodies ids;
-    references = references_after scene.objects.references ids;
-  };
+  objects = without_blocks (record scene.objects { bodies = bodies_after mode wait.thread scene.objects.bodies ids }) ids;
   waits = slice_set scene.waits number (answered_wait wait (code_of mode wait.thread scene.objects.bodies ids));
 }
 effect_of scene number wait (Answered code) = scene
@@ -143,12 +135,23 @@ ids_of (Some wait) = state_ids wait.state
 abbrev pub names_slot : ℕ → Option Wait → Bool
 names_slot slot wait = list_any (λ (id : Id). id.slot == slot) (ids_of wait)
 
+-- or the slot of one of some objects
+abbrev pub names_one : List Id → Option Wait → Bool
+names_one ids wait = list_any (λ (id : Id). names_slot id.slot wait) ids
+
 -- how many places of pending waits name an object
 abbrev pub blocks_in : Id → Option Wait → ℕ
 blocks_in id wait = count_by (same_id id) (ids_of wait)
 
 abbrev pub blocks_among : Id → List (Option Wait) → ℕ
 blocks_among id waits = sum_by (blocks_in id) waits
+
+-- how many places name a slot, of a list and of the pending waits
+abbrev pub slot_places : ℕ → List Id → ℕ
+slot_places k ids = count_by (λ (id : Id). id.slot == k) ids
+
+abbrev pub slot_blocks : ℕ → List (Option Wait) → ℕ
+slot_blocks k waits = sum_by (λ (w : Option Wait). slot_places k (ids_of w)) waits
 
 -- whether a wait is the thread's
 abbrev pub is_waits_of : ℕ → Option Wait → Bool
@@ -158,6 +161,14 @@ is_waits_of thread (Some wait) = wait.thread == thread
 -- the number of the thread's wait, pending or answered
 abbrev pub number_of : ℕ → List (Option Wait) → Option ℕ
 number_of thread waits = position (is_waits_of thread) waits
+
+-- the objects that the thread's wait is for
+abbrev pub numbered_ids : List (Option Wait) → Option ℕ → List Id
+numbered_ids waits None = []
+numbered_ids waits (Some number) = ids_of (slice_index_or waits number None)
+
+abbrev pub thread_ids : ℕ → List (Option Wait) → List Id
+thread_ids thread waits = numbered_ids waits (number_of thread waits)
 
 -- the waits by their numbers, from 0, which is never given; and how many numbers may be given
 pub record WaitList : Type 0 where

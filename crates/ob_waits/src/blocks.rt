@@ -2,6 +2,7 @@ ghost use Rattle.std.specs.Prelude.{[], ◌∷◌, ◌≡◌, ◌≤◌, ℕ, No
 ghost use Rattle.pin_core.specs.Holds.{same_id};
 ghost use Rattle.ob_waits.specs.Waits.{blocks_in};
 
+use crate::codes::MAXIMUM_WAIT_OBJECTS;
 use crate::live::Live;
 use crate::wait::State;
 use pin_core::{Id, same_id};
@@ -17,7 +18,7 @@ fn places_of(ids: &[Id], id: Id) -> usize
 /// How many places of the wait of a number name the object: none unless it is pending.
 fn blocks_at(live: &Live, number: u32, id: Id) -> u64
     ensures value { result ≡ blocks_in id (slice_index_or live.now number None) }
-    ensures bound { result ≤ 64 }
+    ensures bound { result ≤ MAXIMUM_WAIT_OBJECTS }
 {
     match live.get(number) {
         Some(wait) => match &wait.state {

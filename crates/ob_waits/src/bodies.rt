@@ -6,11 +6,18 @@ use pin_core::Id;
 
 /// The objects that waits are for: the body of each, by its Id.
 ///
-/// What is behind the trait may also count the references to each object; it is told each block that
-/// leaves, which is each place of a pending wait's list when the wait is satisfied.
+/// What is behind the trait counts the handles and the blocks of each object. It is told each block that
+/// leaves, which is each place of a pending wait's list once the wait is over; where that was the last, and
+/// no handle is left, the object ends: it has no body any more (*profile*).
 pub trait Bodies {
-    /// The bodies and the counts of references, by slot.
+    /// The bodies, and how many handles and blocks each slot counts.
     ghost objects: { Self → Objects };
+
+    /// What `rest` is: by default it says nothing.
+    ghost Rest: { Type 0 } = { Unit {0} };
+
+    /// All else that is behind the trait. Waits leave it as it is.
+    ghost rest: { Self → Self.Rest };
 
     /// The body of an object, or none where a wait for the object is never satisfied.
     fn body(&self, id: Id) -> Option<Body>
@@ -19,9 +26,11 @@ pub trait Bodies {
     /// Changes the body of an object that has one.
     fn put(&mut self, id: Id, body: Body)
         requires { IsSome (body_of (objects self.old).bodies id) }
-        ensures { objects self.new ≡ with_body (objects self.old) id body };
+        ensures objects { objects self.new ≡ with_body (objects self.old) id body }
+        ensures rest { rest self.new ≡ rest self.old };
 
     /// A pending wait that named the object, at one place of its list, is pending no more.
     fn block_left(&mut self, id: Id)
-        ensures { objects self.new ≡ without_block (objects self.old) id };
+        ensures objects { objects self.new ≡ without_block (objects self.old) id }
+        ensures rest { rest self.new ≡ rest self.old };
 }

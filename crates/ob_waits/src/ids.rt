@@ -1,20 +1,21 @@
 ghost use Rattle.std.specs.Prelude.{◌≡◌, ◌≤◌, IfOk, length};
 
+use crate::codes::MAXIMUM_WAIT_OBJECTS;
 use pin_core::Id;
 use std::alloc::{AllocError, Global};
 use std::marker::Model;
 
 /// A list that takes no memory of its own where it has one element, as most waits' lists do.
 #[derive(Drop)]
-enum Rows {
+enum IdList {
     One([Id; 1]),
     More(Vec<Id>),
 }
 
-/// The objects of one wait, at most 64, in the order in which they were listed.
+/// The objects of one wait, at most [`MAXIMUM_WAIT_OBJECTS`], in the order in which they were listed.
 #[derive(Drop)]
 pub struct Ids {
-    rows: Rows,
+    list: IdList,
 }
 
 impl Model for Ids {
@@ -25,35 +26,35 @@ impl Model for Ids {
 
     ghost use Rattle.ob_waits.specs.Ids.{listed_ids};
 
-    ghost view = { λ s. listed_ids s.rows };
+    ghost view = { λ s. listed_ids s.list };
 
-    ghost invariant = { λ s. length (listed_ids s.rows) ≤ 64 };
+    ghost invariant = { λ s. length (listed_ids s.list) ≤ 64 };
 }
 
 impl Ids {
     /// A copy of a list.
     pub(crate) fn new(alloc: Global, ids: &[Id]) -> Result<Ids, AllocError>
-        requires { length ids.now ≤ 64 }
+        requires { length ids.now ≤ MAXIMUM_WAIT_OBJECTS }
         ensures { IfOk result (λ s. s ≡ ids.now) }
     {
         if let [id] = ids {
             return Ok(Ids {
-                rows: Rows::One([*id]),
+                list: IdList::One([*id]),
             });
         }
         Ok(Ids {
-            rows: Rows::More(Vec::from_slice(alloc, ids)?),
+            list: IdList::More(Vec::from_slice(alloc, ids)?),
         })
     }
 
     /// The Ids.
     pub(crate) fn as_slice(&self) -> &[Id]
         ensures value { result.now ≡ self.now }
-        ensures few { length result.now ≤ 64 }
+        ensures few { length result.now ≤ MAXIMUM_WAIT_OBJECTS }
     {
-        match &self.rows {
-            Rows::One(id) => id,
-            Rows::More(ids) => ids.as_slice(),
+        match &self.list {
+            IdList::One(id) => id,
+            IdList::More(ids) => ids.as_slice(),
         }
     }
 }

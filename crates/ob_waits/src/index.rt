@@ -1,18 +1,18 @@
 ghost use Rattle.std.specs.Prelude.{◌≡◌, ◌<◌, ℕ, [], length, slice_index_or, OnOk};
 ghost use Rattle.ob_waits.specs.Rules.{Within};
-ghost use Rattle.ob_waits.specs.Rows.{row_of, AreRows, Keeps, ThinsEach};
+ghost use Rattle.ob_waits.specs.Numbers.{numbers_of, AreOrdered, Keeps, ThinsEach};
 ghost use Rattle.ob_waits.specs.Waits.{nowhere};
 
 use crate::live::Live;
-use crate::row::Row;
+use crate::numbers::Numbers;
 use pin_core::Id;
 use std::alloc::{AllocError, Global};
 use std::marker::Model;
 
-/// For each slot a row that has the numbers of all pending waits for an object there.
+/// For each slot numbers of waits, among which are all that are pending for an object there.
 #[derive(Drop)]
 pub(crate) struct Index {
-    rows: Vec<Row>,
+    lists: Vec<Numbers>,
     alloc: Global,
 }
 
@@ -21,7 +21,7 @@ impl Model for Index {
 
     ghost Value = { List (List ℕ) };
 
-    ghost view = { λ i. i.rows.items };
+    ghost view = { λ i. i.lists.items };
 }
 
 impl Index {
@@ -29,83 +29,83 @@ impl Index {
         ensures { result ≡ [] }
     {
         Index {
-            rows: Vec::new(alloc),
+            lists: Vec::new(alloc),
             alloc,
         }
     }
 
-    /// The row of a slot.
-    pub(crate) fn row(&self, slot: u32) -> &[u32]
-        ensures { result.now ≡ row_of self.now slot }
+    /// The numbers of a slot.
+    pub(crate) fn numbers(&self, slot: u32) -> &[u32]
+        ensures { result.now ≡ numbers_of self.now slot }
     {
         let at = slot as usize;
-        if at < self.rows.len() {
-            let row = &self.rows[at];
-            return row.as_slice();
+        if at < self.lists.len() {
+            let numbers = &self.lists[at];
+            return numbers.as_slice();
         }
         &[]
     }
 
-    /// Drops numbers of waits that are not pending from the row of a slot.
+    /// Drops the numbers of a slot whose waits are not pending.
     pub(crate) fn thin(&mut self, live: &Live, slot: u32)
         ensures { ThinsEach live.now self.old self.new }
     {
         let at = slot as usize;
-        if at < self.rows.len() {
-            let row = &mut self.rows[at];
-            row.thin(live);
+        if at < self.lists.len() {
+            let numbers = &mut self.lists[at];
+            numbers.thin(live);
         }
     }
 
-    /// The same, where the row has outgrown what was left the last time.
+    /// The same, where it is due.
     pub(crate) fn thin_if_due(&mut self, live: &Live, slot: u32)
         ensures { ThinsEach live.now self.old self.new }
     {
         let at = slot as usize;
-        if at < self.rows.len() {
-            let row = &mut self.rows[at];
-            row.thin_if_due(live);
+        if at < self.lists.len() {
+            let numbers = &mut self.lists[at];
+            numbers.thin_if_due(live);
         }
     }
 
     fn make_room(&mut self, slot: u32) -> Result<(), AllocError>
         ensures room { OnOk result (slot < length self.new) }
-        ensures same { (s : ℕ) → row_of self.new s ≡ row_of self.old s }
+        ensures same { (s : ℕ) → numbers_of self.new s ≡ numbers_of self.old s }
     {
         let at = slot as usize;
-        while self.rows.len() <= at {
-            self.rows.push(Row::new(self.alloc))?;
+        while self.lists.len() <= at {
+            self.lists.push(Numbers::new(self.alloc))?;
         }
         Ok(())
     }
 
     fn enter_there(&mut self, slot: u32, number: u32) -> Result<(), AllocError>
         requires room { slot < length self.old }
-        requires rows { AreRows number self.old }
-        ensures rows { AreRows number self.new }
+        requires ordered { AreOrdered number self.old }
+        ensures ordered { AreOrdered number self.new }
         ensures keeps { Keeps self.old self.new }
-        ensures entered { OnOk result (Within number (row_of self.new slot)) }
+        ensures entered { OnOk result (Within number (numbers_of self.new slot)) }
     {
-        let row = &mut self.rows[slot as usize];
-        row.enter(number)
+        let numbers = &mut self.lists[slot as usize];
+        numbers.enter(number)
     }
 
     fn enter(&mut self, slot: u32, number: u32) -> Result<(), AllocError>
-        requires rows { AreRows number self.old }
-        ensures rows { AreRows number self.new }
+        requires ordered { AreOrdered number self.old }
+        ensures ordered { AreOrdered number self.new }
         ensures keeps { Keeps self.old self.new }
-        ensures entered { OnOk result (Within number (row_of self.new slot)) }
+        ensures entered { OnOk result (Within number (numbers_of self.new slot)) }
     {
         self.make_room(slot)?;
         self.enter_there(slot, number)
     }
 
-    /// Puts a number into the row of each object's slot.
+    /// Puts a number in at the slot of each object.
     pub(crate) fn enter_all(&mut self, ids: &[Id], number: u32) -> Result<(), AllocError>
-        requires rows { AreRows number self.old }
-        ensures rows { AreRows number self.new }
+        requires ordered { AreOrdered number self.old }
+        ensures ordered { AreOrdered number self.new }
         ensures keeps { Keeps self.old self.new }
-        ensures entered { OnOk result ((i : ℕ) → i < length ids.now → Within number (row_of self.new (slice_index_or ids.now i nowhere).slot)) }
+        ensures entered { OnOk result ((i : ℕ) → i < length ids.now → Within number (numbers_of self.new (slice_index_or ids.now i nowhere).slot)) }
     {
         for id in ids {
             self.enter(id.slot, number)?;
@@ -113,7 +113,17 @@ impl Index {
         Ok(())
     }
 
-    /// Makes room in the rows of these objects' slots by dropping what they need not have.
+    /// The same at the slot of each object.
+    #[tactic(auto, using(crate::proofs::IndexLaws::thins_each_none, crate::proofs::IndexLaws::thins_each_both))]
+    pub(crate) fn thin_each(&mut self, live: &Live, ids: &[Id])
+        ensures { ThinsEach live.now self.old self.new }
+    {
+        for id in ids {
+            self.thin(live, id.slot);
+        }
+    }
+
+    /// Makes room in the lists of these objects' slots by dropping what they need not have.
     #[tactic(auto, using(crate::proofs::IndexLaws::thins_each_none, crate::proofs::IndexLaws::thins_each_both))]
     pub(crate) fn thin_all(&mut self, live: &Live, ids: &[Id])
         ensures { ThinsEach live.now self.old self.new }

@@ -1,16 +1,23 @@
 //! Waits: which thread waits for which objects, which wait is satisfied, with which code, and what it takes.
+//!
+//! [`try_now`] is a wait that may be satisfied at once. [`Waits`] has those that are pending, and settles them
+//! after bodies changed. The objects stand behind [`Bodies`], which the layer above implements.
+//! [`law_of_settling`] says what settling leaves as it is, and [`law_of_ends`] when objects end.
 #![tactic(auto)]
 
 mod blocks;
 mod bodies;
+mod codes;
 mod held;
 mod ids;
 mod index;
+mod law;
 mod live;
+mod merge;
+mod numbers;
 mod pass;
 mod places;
 mod roster;
-mod row;
 mod take;
 #[cfg(test)]
 mod tests;
@@ -19,6 +26,9 @@ mod wait;
 mod waits;
 
 pub use bodies::Bodies;
+pub use codes::{MAXIMUM_WAIT_OBJECTS, WAIT_ABANDONED_0, WAIT_TIMEOUT};
+pub use law::{law_of_ends, law_of_settling};
+pub use pass::leave_all;
 pub use take::try_now;
 pub use wait::{Mode, WaitState};
-pub use waits::{WAIT_TIMEOUT, Waits};
+pub use waits::Waits;

@@ -1,17 +1,22 @@
 ghost use Rattle.std.specs.Prelude.{[], ◌∷◌, ◌≡◌, ◌<◌, true, None, Some, length, slice_index_or, slice_set};
-ghost use Rattle.ob_waits.specs.Waits.{references_after, passed};
-ghost use Rattle.ob_waits.specs.Rules.{Fits};
+ghost use Rattle.ob_waits.specs.Objects.{without_blocks};
+ghost use Rattle.ob_waits.specs.Roster.{AreIndexed};
+ghost use Rattle.ob_waits.specs.Rules.{Fits, IsReadyAtOne};
+ghost use Rattle.ob_waits.specs.Waits.{passed, settled};
 
 use crate::bodies::Bodies;
 use crate::live::Live;
+use crate::roster::Roster;
 use crate::take::{is_list_ready, take};
 use crate::wait::State;
 use ob_body::RECURSION_MAX;
 use pin_core::Id;
 
-/// Tells of each place of a list that its block left.
-fn leave_all<B: Bodies>(bodies: &mut B, ids: &[Id])
-    ensures { B.objects bodies.new ≡ record (B.objects bodies.old) { references = references_after (B.objects bodies.old).references ids.now } }
+/// Tells of each place of a list that its block left, as where a pending wait ends by its time or with its
+/// thread. An object whose last block leaves so, and which has no handle, ends.
+pub fn leave_all<B: Bodies>(bodies: &mut B, ids: &[Id])
+    ensures objects { B.objects bodies.new ≡ without_blocks (B.objects bodies.old) ids.now }
+    ensures rest { B.rest bodies.new ≡ B.rest bodies.old }
 {
     for id in ids {
         bodies.block_left(*id);
@@ -21,7 +26,8 @@ fn leave_all<B: Bodies>(bodies: &mut B, ids: &[Id])
 /// The wait of a number takes effect, if it is ready.
 fn take_effect<B: Bodies>(live: &mut Live, bodies: &mut B, number: u32)
     requires { Fits RECURSION_MAX (B.objects bodies.old).bodies live.old }
-    ensures { record { objects = B.objects bodies.new; waits = live.new } ≡ passed (number ∷ []) (record { objects = B.objects bodies.old; waits = live.old }) }
+    ensures rest { B.rest bodies.new ≡ B.rest bodies.old }
+    ensures scene { record { objects = B.objects bodies.new; waits = live.new } ≡ passed (number ∷ []) (record { objects = B.objects bodies.old; waits = live.old }) }
 {
     let Some(wait) = live.get(number) else {
         return;
@@ -40,9 +46,27 @@ fn take_effect<B: Bodies>(live: &mut Live, bodies: &mut B, number: u32)
 /// The waits of these numbers take effect, in this order, where they are ready when their turn comes.
 pub(crate) fn pass<B: Bodies>(live: &mut Live, bodies: &mut B, numbers: &[u32])
     requires { Fits RECURSION_MAX (B.objects bodies.old).bodies live.old }
-    ensures { record { objects = B.objects bodies.new; waits = live.new } ≡ passed numbers.now (record { objects = B.objects bodies.old; waits = live.old }) }
+    ensures rest { B.rest bodies.new ≡ B.rest bodies.old }
+    ensures scene { record { objects = B.objects bodies.new; waits = live.new } ≡ passed numbers.now (record { objects = B.objects bodies.old; waits = live.old }) }
 {
     for number in numbers {
         take_effect(live, bodies, *number);
+    }
+}
+
+/// The waits for an object in the slots of these take effect where they are ready, in the order of their
+/// numbers over all these slots together.
+pub(crate) fn pass_each<B: Bodies>(live: &mut Live, bodies: &mut B, roster: &Roster, ids: &[Id])
+    requires fits { Fits RECURSION_MAX (B.objects bodies.old).bodies live.old }
+    requires indexed { AreIndexed live.old roster.now.order roster.now.index }
+    requires zero { slice_index_or live.old 0 None ≡ None }
+    requires ready { IsReadyAtOne ids.now (B.objects bodies.old).bodies live.old }
+    ensures rest { B.rest bodies.new ≡ B.rest bodies.old }
+    ensures scene { record { objects = B.objects bodies.new; waits = live.new } ≡ settled (record { objects = B.objects bodies.old; waits = live.old }) }
+{
+    let mut last = 0;
+    while let Some(number) = roster.next(ids, last) {
+        take_effect(live, bodies, number);
+        last = number;
     }
 }

@@ -1,12 +1,14 @@
-ghost use Rattle.std.specs.Prelude.{[], ◌≡◌, ◌<◌, List, Option, None, false, length, slice_index_or, OnOk};
+ghost use Rattle.std.specs.Prelude.{[], ◌≡◌, ◌<◌, ℕ, List, Option, None, false, length, slice_index_or, OnOk};
 ghost use Rattle.ob_waits.specs.declared.wait.Wait.{Wait};
 ghost use Rattle.ob_waits.specs.Waits.{is_pending};
-ghost use Rattle.ob_waits.specs.Rows.{row_of};
+ghost use Rattle.ob_waits.specs.Numbers.{IsNextOf, numbers_of};
+ghost use Rattle.ob_waits.specs.Rules.{IsRising};
 ghost use Rattle.ob_waits.specs.Roster.{IsRight, HasPlace, Leaves, with_number};
 
 use crate::index::Index;
 use crate::live::Live;
-use crate::row::Row;
+use crate::merge::next_number;
+use crate::numbers::Numbers;
 use crate::threads::Threads;
 use pin_core::Id;
 use std::alloc::{AllocError, Global};
@@ -16,7 +18,7 @@ use std::marker::Model;
 #[derive(Drop)]
 pub(crate) struct Roster {
     threads: Threads,
-    order: Row,
+    order: Numbers,
     index: Index,
 }
 
@@ -34,7 +36,7 @@ impl Roster {
     {
         Roster {
             threads: Threads::new(alloc),
-            order: Row::new(alloc),
+            order: Numbers::new(alloc),
             index: Index::new(alloc),
         }
     }
@@ -54,10 +56,27 @@ impl Roster {
     }
 
     /// Numbers, rising, among which are all of pending waits for an object in a slot.
-    pub(crate) fn row(&self, slot: u32) -> &[u32]
-        ensures { result.now ≡ row_of self.now.index slot }
+    pub(crate) fn numbers(&self, slot: u32) -> &[u32]
+        ensures { result.now ≡ numbers_of self.now.index slot }
     {
-        self.index.row(slot)
+        self.index.numbers(slot)
+    }
+
+    /// The least number above the last one, of the numbers of some objects' slots.
+    pub(crate) fn next(&self, ids: &[Id], last: u32) -> Option<u32>
+        requires { (slot : ℕ) → IsRising (numbers_of self.now.index slot) }
+        ensures { IsNextOf last self.now.index ids.now result }
+    {
+        next_number(&self.index, ids, last)
+    }
+
+    /// Whether it is less work to go over all numbers than over those of some objects' slots together.
+    pub(crate) fn is_order_shorter(&self, ids: &[Id]) -> bool {
+        let mut entries: usize = 0;
+        for id in ids {
+            entries = entries.saturating_add(self.numbers(id.slot).len());
+        }
+        entries.saturating_mul(ids.len()) > self.order.as_slice().len()
     }
 
     /// Takes all memory that a thread's wait for these objects needs here.
@@ -103,10 +122,17 @@ impl Roster {
         self.order.forget(number);
     }
 
-    /// Drops them from the row of a slot alone.
-    pub(crate) fn thin_row(&mut self, live: &Live, slot: u32)
+    /// Drops them at a slot alone.
+    pub(crate) fn thin_slot(&mut self, live: &Live, slot: u32)
         ensures { Leaves live.now self.old self.new }
     {
         self.index.thin(live, slot);
+    }
+
+    /// Drops them at the slots of some objects.
+    pub(crate) fn thin_slots(&mut self, live: &Live, ids: &[Id])
+        ensures { Leaves live.now self.old self.new }
+    {
+        self.index.thin_each(live, ids);
     }
 }

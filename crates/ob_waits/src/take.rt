@@ -5,6 +5,7 @@ ghost use Rattle.ob_waits.specs.Waits.{nowhere, is_signaled, is_abandoned, first
 ghost use Rattle.ob_waits.specs.Rules.{HasRoom, IsDistinct, IsWaitable};
 
 use crate::bodies::Bodies;
+use crate::codes::WAIT_ABANDONED_0;
 use crate::wait::Mode;
 use ob_body::RECURSION_MAX;
 use pin_core::Id;
@@ -58,6 +59,7 @@ fn take_one<B: Bodies>(bodies: &mut B, thread: u32, id: Id) -> bool
     requires room { slot_room RECURSION_MAX thread (slice_index_or (B.objects bodies.old).bodies id.slot None) ≡ true }
     ensures was_abandoned { result ≡ is_abandoned (B.objects bodies.old).bodies id }
     ensures objects { B.objects bodies.new ≡ record (B.objects bodies.old) { bodies = with_acquired thread (B.objects bodies.old).bodies id } }
+    ensures rest { B.rest bodies.new ≡ B.rest bodies.old }
 {
     let Some(mut body) = bodies.body(id) else {
         unreachable!()
@@ -74,6 +76,7 @@ fn take_all<B: Bodies>(bodies: &mut B, thread: u32, ids: &[Id]) -> bool
     requires once { IsDistinct ids.now }
     ensures was_abandoned { result ≡ list_any (is_abandoned (B.objects bodies.old).bodies) ids.now }
     ensures objects { B.objects bodies.new ≡ record (B.objects bodies.old) { bodies = with_all_acquired thread (B.objects bodies.old).bodies ids.now } }
+    ensures rest { B.rest bodies.new ≡ B.rest bodies.old }
 {
     let mut was_abandoned = false;
     for id in ids {
@@ -91,18 +94,19 @@ pub(crate) fn take<B: Bodies>(bodies: &mut B, thread: u32, mode: Mode, ids: &[Id
     requires waitable { IsWaitable mode ids.now }
     ensures code { result ≡ code_of mode thread (B.objects bodies.old).bodies ids.now }
     ensures objects { B.objects bodies.new ≡ record (B.objects bodies.old) { bodies = bodies_after mode thread (B.objects bodies.old).bodies ids.now } }
+    ensures rest { B.rest bodies.new ≡ B.rest bodies.old }
 {
     match mode {
         Mode::Any => {
             let index = first_signaled(bodies, thread, ids);
             if take_one(bodies, thread, ids[index]) {
-                return index as u32 + 128;
+                return index as u32 + WAIT_ABANDONED_0;
             }
             index as u32
         }
         Mode::All => {
             if take_all(bodies, thread, ids) {
-                return 128;
+                return WAIT_ABANDONED_0;
             }
             0
         }
@@ -120,6 +124,7 @@ pub fn try_now<B: Bodies>(bodies: &mut B, thread: u32, mode: Mode, ids: &[Id]) -
     requires room { HasRoom RECURSION_MAX thread (B.objects bodies.old).bodies ids.now }
     ensures code { result ≡ code_now mode thread (B.objects bodies.old).bodies ids.now }
     ensures objects { B.objects bodies.new ≡ objects_now mode thread (B.objects bodies.old) ids.now }
+    ensures rest { B.rest bodies.new ≡ B.rest bodies.old }
 {
     if !is_list_ready(bodies, thread, mode, ids) {
         return None;

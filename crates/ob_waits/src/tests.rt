@@ -1,9 +1,9 @@
-ghost use Rattle.std.specs.Prelude.{◌≡◌, ◌<◌, ◌≤◌, [], ◌∷◌, true, length, slice_index_or, IsTrue, IsSome, ℕ, Some, None};
+ghost use Rattle.std.specs.Prelude.{◌≡◌, ◌≢◌, ◌<◌, ◌≤◌, [], ◌∷◌, true, length, slice_index_or, IsTrue, IsSome, ℕ, Some, None};
 ghost use Rattle.ob_waits.specs.Objects.{body_of, slot_room};
 ghost use Rattle.ob_waits.specs.Rules.{HasRoom, IsWaitable};
 ghost use Rattle.ob_waits.specs.Waits.{state_at};
 
-use crate::{Bodies, Mode, WAIT_TIMEOUT, WaitState, Waits, try_now};
+use crate::{Bodies, MAXIMUM_WAIT_OBJECTS, Mode, WAIT_TIMEOUT, WaitState, Waits, try_now};
 use ob_body::{Body, RECURSION_MAX};
 use ob_rights::{Fault, Kind};
 use pin_core::Id;
@@ -16,7 +16,8 @@ use std::test::Fail;
 #[derive(Drop)]
 struct Slots {
     bodies: Vec<Option<Body>>,
-    references: Vec<u32>,
+    handles: Vec<u32>,
+    blocks: Vec<u32>,
 }
 
 impl Model for Slots {
@@ -24,11 +25,19 @@ impl Model for Slots {
 
     ghost Value = { Objects };
 
-    ghost view = { λ s. record { bodies = s.bodies.items; references = s.references.items } };
+    ghost view = { λ s. record { bodies = s.bodies.items; handles = s.handles.items; blocks = s.blocks.items } };
+}
+
+fn count_at(counts: &[u32], at: usize) -> u32
+    ensures { result ≡ slice_index_or counts.now at 0 }
+{
+    if at < counts.len() { counts[at] } else { 0 }
 }
 
 impl Bodies for Slots {
     ghost objects = { λ s. s };
+
+    ghost rest = { λ _. tt };
 
     fn body(&self, id: Id) -> Option<Body> {
         let at = id.slot as usize;
@@ -48,12 +57,30 @@ impl Bodies for Slots {
 
     fn block_left(&mut self, id: Id) {
         let at = id.slot as usize;
-        if at < self.references.len() {
-            let count = self.references[at];
-            self.references[at] = count.saturating_sub(1);
+        let left = count_at(&self.blocks, at).saturating_sub(1);
+        if at < self.blocks.len() {
+            self.blocks[at] = left;
+        }
+        if count_at(&self.handles, at) == 0 && left == 0 && at < self.bodies.len() {
+            self.bodies[at] = None;
         }
     }
 }
+
+/// How many wait numbers there are, and what each slot counts at first.
+#[derive(Clone, Copy)]
+struct Opening {
+    limit: u32,
+    handles: u32,
+    blocks: u32,
+}
+
+/// Three wait numbers, and objects that last.
+const THREE: Opening = Opening {
+    limit: 3,
+    handles: 1,
+    blocks: 7,
+};
 
 /// Slots and waits with nothing left to settle.
 #[derive(Drop)]
@@ -96,13 +123,14 @@ fn have_room(slots: &Slots, thread: u32, ids: &[Id]) -> bool
 }
 
 impl World {
-    fn new(alloc: Global, bodies: &[Option<Body>]) -> Result<World, AllocError> {
+    fn new(alloc: Global, opening: Opening, bodies: &[Option<Body>]) -> Result<World, AllocError> {
         Ok(World {
             slots: Slots {
                 bodies: Vec::from_slice(alloc, bodies)?,
-                references: vec![in alloc; 7; 4]?,
+                handles: vec![in alloc; opening.handles; 4]?,
+                blocks: vec![in alloc; opening.blocks; 4]?,
             },
-            waits: Waits::new(alloc, 3),
+            waits: Waits::new(alloc, opening.limit),
         })
     }
 
@@ -130,7 +158,7 @@ impl World {
     /// A wait for any of some objects: its code, or none where it is pending.
     fn wait_any(&mut self, rt: &impl Abort, thread: u32, ids: &[Id]) -> Result<Option<u32>, Fault> {
         assert!(rt; ids.len() > 0);
-        assert!(rt; ids.len() <= 64);
+        assert!(rt; ids.len() <= MAXIMUM_WAIT_OBJECTS);
         self.wait(rt, thread, Mode::Any, ids)
     }
 
@@ -157,6 +185,40 @@ impl World {
             return;
         }
         self.waits.settle_after(&mut self.slots, id);
+    }
+
+    /// Changes two bodies, and settles then by the waits of the two objects.
+    fn change_both(&mut self, first: Id, body: Body, second: Id, other: Body)
+        requires apart { second.slot ≢ first.slot }
+        requires there { IsSome (body_of self.old.objects.bodies first) }
+        requires there_too { IsSome (body_of self.old.objects.bodies second) }
+        requires room { (t : ℕ) → slot_room RECURSION_MAX t (body_of self.old.objects.bodies first) ≡ true → slot_room RECURSION_MAX t (Some body) ≡ true }
+        requires room_too { (t : ℕ) → slot_room RECURSION_MAX t (body_of self.old.objects.bodies second) ≡ true → slot_room RECURSION_MAX t (Some other) ≡ true }
+    {
+        self.slots.put(first, body);
+        self.slots.put(second, other);
+        self.waits
+            .settle_after_each(&mut self.slots, &[first, second]);
+    }
+
+    /// Sets two events at once.
+    fn set_both(&mut self, rt: &impl Abort, first: Id, second: Id) {
+        let Some(mut body) = self.slots.body(first) else {
+            panic!(rt; "no body")
+        };
+        let Kind::Event = body.kind() else {
+            panic!(rt; "no event")
+        };
+        let Some(mut other) = self.slots.body(second) else {
+            panic!(rt; "no body")
+        };
+        let Kind::Event = other.kind() else {
+            panic!(rt; "no event")
+        };
+        assert!(rt; first.slot != second.slot);
+        body.set();
+        other.set();
+        self.change_both(first, body, second, other);
     }
 
     fn set(&mut self, rt: &impl Abort, id: Id, plain: bool) {
@@ -248,6 +310,8 @@ enum Act<'a> {
     /// A thread would wait for an object, and no number is left.
     Full(u32, Id),
     Set(Id),
+    /// Two events are set at once.
+    SetBoth(Id, Id),
     Post(Id, u32),
     Abandon(Id, u32),
     /// The time of a thread's wait is over.
@@ -261,7 +325,8 @@ enum Act<'a> {
     /// The number of a thread's wait.
     Number(u32, Option<u32>),
     Blocks(Id, u64),
-    References(usize, u32),
+    /// How many blocks a slot counts, and whether it has a body.
+    Slot(usize, u32, bool),
 }
 
 impl World {
@@ -275,6 +340,7 @@ impl World {
                 assert_eq!(rt; self.wait_any(rt, thread, &[id]), Err(Fault::Limit));
             }
             Act::Set(id) => self.set(rt, id, plain),
+            Act::SetBoth(first, second) => self.set_both(rt, first, second),
             Act::Post(id, count) => self.post(rt, id, count, plain),
             Act::Abandon(id, thread) => self.abandon(rt, id, thread, plain),
             Act::Expire(thread) => self.expire(rt, thread),
@@ -283,8 +349,10 @@ impl World {
             Act::Stands(thread, state) => assert_eq!(rt; self.state_of(thread), state),
             Act::Number(thread, number) => assert_eq!(rt; self.waits.wait_of(thread), number),
             Act::Blocks(id, blocks) => assert_eq!(rt; self.waits.blocks_of(id), blocks),
-            Act::References(slot, count) => {
-                assert_eq!(rt; self.slots.references.get(slot).copied(), Some(count));
+            Act::Slot(slot, blocks, has_body) => {
+                assert_eq!(rt; self.slots.blocks.get(slot).copied(), Some(blocks));
+                let body = self.slots.bodies.get(slot).copied().flatten();
+                assert_eq!(rt; body.is_some(), has_body);
             }
         }
         Ok(())
@@ -295,11 +363,12 @@ impl World {
 fn play(
     rt: &impl Abort,
     alloc: Global,
+    opening: Opening,
     bodies: &[Option<Body>],
     acts: &[Act<'_>],
 ) -> Result<(), Fail> {
     for plain in [true, false] {
-        let mut world = World::new(alloc, bodies)?;
+        let mut world = World::new(alloc, opening, bodies)?;
         for act in acts {
             world.act(rt, *act, plain)?;
         }
@@ -322,10 +391,10 @@ fn an_auto_reset_event_satisfies_one_waiter_after_another(rt: HostRuntime) -> Re
         Act::Stands(2, Some(WaitState::Answered(0))),
         Act::Stands(3, Some(WaitState::Pending)),
         Act::Blocks(id(0), 1),
-        Act::References(0, 5),
+        Act::Slot(0, 5, true),
         Act::Full(4, id(0)),
     ];
-    play(&rt, rt.alloc(), &bodies, &acts)
+    play(&rt, rt.alloc(), THREE, &bodies, &acts)
 }
 
 #[test]
@@ -340,7 +409,7 @@ fn a_semaphore_satisfies_as_many_as_it_counts(rt: HostRuntime) -> Result<(), Fai
         Act::Stands(7, Some(WaitState::Answered(0))),
         Act::Stands(8, Some(WaitState::Pending)),
     ];
-    play(&rt, rt.alloc(), &bodies, &acts)
+    play(&rt, rt.alloc(), THREE, &bodies, &acts)
 }
 
 #[test]
@@ -361,7 +430,7 @@ fn a_wait_for_all_takes_nothing_until_all_are_signaled(rt: HostRuntime) -> Resul
         Act::Number(3, Some(3)),
         Act::Blocks(id(0), 1),
     ];
-    play(&rt, rt.alloc(), &[mutex, event, None, None], &acts)
+    play(&rt, rt.alloc(), THREE, &[mutex, event, None, None], &acts)
 }
 
 #[test]
@@ -389,7 +458,60 @@ fn a_wait_ends_by_its_time_its_thread_or_its_answer(rt: HostRuntime) -> Result<(
         Act::Set(id(0)),
         Act::Result(1, 0),
     ];
-    play(&rt, rt.alloc(), &bodies, &acts)
+    play(&rt, rt.alloc(), THREE, &bodies, &acts)
+}
+
+#[test]
+fn two_objects_signaled_at_once_serve_waits_by_number(rt: HostRuntime) -> Result<(), Fail> {
+    let bodies = [
+        Some(Body::new_event(false, false)),
+        Some(Body::new_event(false, false)),
+        None,
+        Some(Body::new_event(false, false)),
+    ];
+    let opening = Opening { limit: 20, ..THREE };
+    // By the first event alone the wait for both would come first, before an older one for the second event.
+    let acts = [
+        Act::Any(1, &[id(1)], None),
+        Act::Both(2, id(0), id(1), None),
+        Act::Any(3, &[id(3)], None),
+        Act::Any(4, &[id(3)], None),
+        Act::Any(5, &[id(3)], None),
+        Act::Any(6, &[id(3)], None),
+        Act::Any(7, &[id(3)], None),
+        Act::SetBoth(id(0), id(1)),
+        Act::Stands(1, Some(WaitState::Answered(0))),
+        Act::Stands(2, Some(WaitState::Pending)),
+        Act::Set(id(1)),
+        Act::Stands(2, Some(WaitState::Answered(0))),
+        Act::SetBoth(id(1), id(3)),
+        Act::Stands(3, Some(WaitState::Answered(0))),
+        Act::Stands(4, Some(WaitState::Pending)),
+        Act::Result(2, 0),
+        Act::Any(2, &[id(1)], Some(0)),
+    ];
+    play(&rt, rt.alloc(), opening, &bodies, &acts)
+}
+
+#[test]
+fn the_last_block_ends_the_body(rt: HostRuntime) -> Result<(), Fail> {
+    let bodies = [Some(Body::new_event(false, false)), None, None, None];
+    let opening = Opening {
+        handles: 0,
+        blocks: 2,
+        ..THREE
+    };
+    let acts = [
+        Act::Any(1, &[id(0)], None),
+        Act::Any(2, &[id(0)], None),
+        Act::Set(id(0)),
+        Act::Stands(1, Some(WaitState::Answered(0))),
+        Act::Slot(0, 1, true),
+        Act::Set(id(0)),
+        Act::Stands(2, Some(WaitState::Answered(0))),
+        Act::Slot(0, 0, false),
+    ];
+    play(&rt, rt.alloc(), opening, &bodies, &acts)
 }
 
 #[test]

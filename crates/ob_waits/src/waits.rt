@@ -1,13 +1,14 @@
 ghost use Rattle.std.specs.Prelude.{[], ◌∷◌, ◌≡◌, false, Err, ◌≢◌, ◌+◌, ◌<◌, ◌≤◌, ◌↔◌, ℕ, true, None, Some, length, slice_index_or, OnOk, OnErr, IfOk, IfErr, IfSome, IsSome};
 ghost use Rattle.std.specs.Option.{option_map};
 ghost use Rattle.ob_waits.specs.Waits.{settled, passed, blocks_among, number_of, with_wait, with_answer, without_wait, without_thread, is_pending, code_at, state_at, ids_of, is_full};
-ghost use Rattle.ob_waits.specs.Rules.{IsKept, IsWaitable, WaitsHaveRoom, IsSettled, IsReadyAt};
+ghost use Rattle.ob_waits.specs.Rules.{IsKept, IsWaitable, WaitsHaveRoom, IsSettled, IsReadyAt, IsReadyAtOne};
 
 use crate::blocks::blocks_of;
 use crate::bodies::Bodies;
+use crate::codes::WAIT_TIMEOUT;
 use crate::ids::Ids;
 use crate::live::Live;
-use crate::pass::pass;
+use crate::pass::{pass, pass_each};
 use crate::roster::Roster;
 use crate::wait::{Mode, State, Wait, WaitState};
 use ob_body::RECURSION_MAX;
@@ -16,14 +17,20 @@ use pin_core::Id;
 use std::alloc::{AllocError, Global};
 use std::marker::Model;
 
-/// The code of a wait that expired.
-pub const WAIT_TIMEOUT: u32 = 258;
-
 /// The waits of all threads, by their numbers.
 ///
 /// Numbers rise from 1 and none is given twice; a wait that is over takes no room. A thread has one wait
-/// at a time, from [`add`](Waits::add) until its answer is taken. The tables grow with the greatest thread
-/// number and slot that a wait had.
+/// at a time, from [`add`](Waits::add) until its answer is taken.
+///
+/// A thread's wait, and the wait of a number, are found in constant time: [`wait_of`](Waits::wait_of),
+/// [`look`](Waits::look), [`expire`](Waits::expire), [`drop_thread`](Waits::drop_thread) and
+/// [`take_result`](Waits::take_result) do no more. Beside these there is a list of wait numbers for each slot, and
+/// one for all. Such a list has the numbers of all pending waits for its objects, and may have others, until a
+/// settling that goes over it drops them, or an `add` that finds eight more than twice as many there as were
+/// left the last time. So `add` costs constant time for each object that it lists, amortised over all calls,
+/// beside the growth of the tables to the greatest thread number and slot that a wait had.
+/// [`settle_after`](Waits::settle_after) and [`blocks_of`](Waits::blocks_of) go over the list of one slot,
+/// [`settle`](Waits::settle) over the one for all.
 #[derive(Drop)]
 pub struct Waits {
     limit: u32,
@@ -61,6 +68,7 @@ impl Waits {
         ensures number { result ≡ number_of thread self.now.waits }
         // Whatever the waits are: each thread has one, and each that is pending may be waited for.
         ensures kept { IsKept self.now.waits }
+        ensures few { length self.now.waits ≤ 4294967296 }
     {
         let number = self.roster.number_of(thread);
         if number == 0 {
@@ -69,11 +77,11 @@ impl Waits {
         Some(number)
     }
 
-    /// How many places of pending waits name the object.
+    /// How many places of pending waits name the object. It goes over the list of its slot.
     pub fn blocks_of(&self, id: Id) -> u64
         ensures { result ≡ blocks_among id self.now.waits }
     {
-        blocks_of(&self.live, self.roster.row(id.slot), id)
+        blocks_of(&self.live, self.roster.numbers(id.slot), id)
     }
 
     /// Where the wait of a number stands, and which objects it is for: none once it is answered.
@@ -121,6 +129,9 @@ impl Waits {
         ensures err { OnErr result (self.new ≡ self.old) }
         ensures full { (result ≡ Err Fault.Limit) ↔ (is_full self.old ≡ true) }
         ensures memory { IfErr result (λ fault. is_full self.old ≡ false → fault ≡ Fault.Memory) }
+        // Whatever the waits are: each that is pending may be waited for, and their numbers fit in 32 bits.
+        ensures kept { IsKept self.old.waits }
+        ensures few { length self.old.waits ≤ 4294967296 }
     {
         if self.live.given() >= self.limit {
             return Err(Fault::Limit);
@@ -132,11 +143,13 @@ impl Waits {
     }
 
     /// As long as a pending wait is satisfied, the one of least number takes effect (*profile*): it
-    /// acquires what satisfies it, is answered with its code, and its blocks leave.
+    /// acquires what satisfies it, is answered with its code, and its blocks leave. An object whose last
+    /// block leaves so, and which has no handle, ends.
     pub fn settle<B: Bodies>(&mut self, bodies: &mut B)
         requires { WaitsHaveRoom RECURSION_MAX (B.objects bodies.old).bodies self.old.waits }
         ensures value { record { objects = B.objects bodies.new; waits = self.new.waits } ≡ settled (record { objects = B.objects bodies.old; waits = self.old.waits }) }
         ensures limit { self.new.limit ≡ self.old.limit }
+        ensures rest { B.rest bodies.new ≡ B.rest bodies.old }
         // Nothing is left to settle, and no pending wait lost its room, below any limit.
         ensures settled { IsSettled (B.objects bodies.new).bodies self.new.waits }
         ensures room { (limit : ℕ) → WaitsHaveRoom limit (B.objects bodies.old).bodies self.old.waits → WaitsHaveRoom limit (B.objects bodies.new).bodies self.new.waits }
@@ -152,14 +165,40 @@ impl Waits {
         requires ready { IsReadyAt id.slot (B.objects bodies.old).bodies self.old.waits }
         ensures value { record { objects = B.objects bodies.new; waits = self.new.waits } ≡ settled (record { objects = B.objects bodies.old; waits = self.old.waits }) }
         ensures limit { self.new.limit ≡ self.old.limit }
+        ensures rest { B.rest bodies.new ≡ B.rest bodies.old }
         ensures settled { IsSettled (B.objects bodies.new).bodies self.new.waits }
         ensures room { (limit : ℕ) → WaitsHaveRoom limit (B.objects bodies.old).bodies self.old.waits → WaitsHaveRoom limit (B.objects bodies.new).bodies self.new.waits }
     {
-        pass(&mut self.live, bodies, self.roster.row(id.slot));
-        self.roster.thin_row(&self.live, id.slot);
+        pass(&mut self.live, bodies, self.roster.numbers(id.slot));
+        self.roster.thin_slot(&self.live, id.slot);
     }
 
-    /// Ends a pending wait without satisfying it: its answer is 258, `WAIT_TIMEOUT` ([Wait Functions]).
+    /// The same where each wait that is satisfied names the slot of one of these objects, as after changes of
+    /// their bodies in a settled state. The waits take effect in the order of their numbers over all these
+    /// slots together: to settle after one object and then after the next would be another order.
+    ///
+    /// It takes no memory. With `n` numbers in the lists of `k` slots it finds the next number at most `n` times,
+    /// in `k` lists by halving, and looks at no other wait; where the list for all has less than `n * k`
+    /// numbers it goes over that one.
+    pub fn settle_after_each<B: Bodies>(&mut self, bodies: &mut B, ids: &[Id])
+        requires room { WaitsHaveRoom RECURSION_MAX (B.objects bodies.old).bodies self.old.waits }
+        requires ready { IsReadyAtOne ids.now (B.objects bodies.old).bodies self.old.waits }
+        ensures value { record { objects = B.objects bodies.new; waits = self.new.waits } ≡ settled (record { objects = B.objects bodies.old; waits = self.old.waits }) }
+        ensures limit { self.new.limit ≡ self.old.limit }
+        ensures rest { B.rest bodies.new ≡ B.rest bodies.old }
+        ensures settled { IsSettled (B.objects bodies.new).bodies self.new.waits }
+        ensures room { (limit : ℕ) → WaitsHaveRoom limit (B.objects bodies.old).bodies self.old.waits → WaitsHaveRoom limit (B.objects bodies.new).bodies self.new.waits }
+    {
+        if self.roster.is_order_shorter(ids) {
+            self.settle(bodies);
+            return;
+        }
+        pass_each(&mut self.live, bodies, &self.roster, ids);
+        self.roster.thin_slots(&self.live, ids);
+    }
+
+    /// Ends a pending wait without satisfying it: its answer is 258, `WAIT_TIMEOUT` ([Wait Functions]). Its
+    /// blocks are told by [`leave_all`](crate::leave_all), of the objects that [`look`](Waits::look) gave before.
     ///
     /// [Wait Functions]: https://learn.microsoft.com/windows/win32/sync/wait-functions
     pub fn expire(&mut self, wait: u32)
@@ -169,7 +208,8 @@ impl Waits {
         self.live.answer(wait, WAIT_TIMEOUT);
     }
 
-    /// Takes the wait of a thread away, pending or answered, if it has one.
+    /// Takes the wait of a thread away, pending or answered, if it has one. The blocks of a pending one are told
+    /// as for [`expire`](Waits::expire).
     pub fn drop_thread(&mut self, thread: u32)
         ensures { self.new ≡ without_thread self.old thread }
     {

@@ -1,12 +1,9 @@
 use Rattle.std.proofs.Common.{◌≡◌, drop}
-use Rattle.ob_waits.specs.Waits.{references_after}
+use Rattle.ob_waits.specs.Objects.{without_blocks}
 use Rattle.ob_waits.proofs.pass.leave_all.Given as goal
 
 abbrev pub invariant-loop-id : goal.invariant-loop-id
-invariant-loop-id g l =
-    let now = g.B.Bodies.objects l.bodies in
-    let first = g.B.Bodies.objects l.fn.bodies in
-    record {
-      same : references_after now.references (drop l.id-index l.ids) ≡ references_after first.references l.ids;
-      bodies : now.bodies ≡ first.bodies;
-    }
+invariant-loop-id g l = record {
+  same : without_blocks (g.B.Bodies.objects l.bodies) (drop l.id-index l.ids) ≡ without_blocks (g.B.Bodies.objects l.fn.bodies) l.ids;
+  rest : g.B.Bodies.rest l.bodies ≡ g.B.Bodies.rest l.fn.bodies;
+}

@@ -12,7 +12,8 @@ loop-number-preserved g c =
     let after : Scene = record { objects = g.B.Bodies.objects c.take_effect.new.bodies; waits = c.take_effect.new.live } in
     let lt : i < length ns = search rules in
     record {
-      same = ap (passed (drop (i + 1) ns)) c.take_effect.ensures ∙ passed_more (get_or ns i 0) (drop (i + 1) ns) scene
-          ∙ ap (λ (rest : List ℕ). passed rest scene) (sym (drop_more ns i 0 lt)) ∙ c.loop-number.invariant.same;
-      fits = fits_passed 2147483647 (get_or ns i 0 ∷ []) scene after c.take_effect.ensures c.loop-number.invariant.fits;
+      same = ap (passed (drop (i + 1) ns)) c.take_effect.ensures.scene ∙ passed_more (get_or ns i 0) (drop (i + 1) ns) scene
+          ∙ ap (λ (later : List ℕ). passed later scene) (sym (drop_more ns i 0 lt)) ∙ c.loop-number.invariant.same;
+      rest = c.take_effect.ensures.rest ∙ c.loop-number.invariant.rest;
+      fits = fits_passed 2147483647 (get_or ns i 0 ∷ []) scene after c.take_effect.ensures.scene c.loop-number.invariant.fits;
     }

@@ -7,7 +7,7 @@ returns-in_err-enter-clause-keeps c = record { each = λ s k i. c.in_err-enter.e
 
 pub loop-id-preserved : goal.loop-id-preserved
 loop-id-preserved c = record {
-  rows = c.in_ok-enter.ensures.rows;
+  lists = c.in_ok-enter.ensures.ordered;
   keeps = record { each = λ s k i. c.in_ok-enter.ensures.keeps.each s k (c.loop-id.invariant.keeps.each s k i) };
   entered = below_more _ _ (λ i lt. c.in_ok-enter.ensures.keeps.each (get_or c.args.ids.now i nowhere).slot c.args.number (c.loop-id.invariant.entered i lt)) c.in_ok-enter.ensures.entered;
 }

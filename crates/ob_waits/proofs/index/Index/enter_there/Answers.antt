@@ -1,27 +1,27 @@
 use Rattle.std.proofs.Common.{◌≡◌, List, ℕ, ◌<◌, length, set, subst, sym, rules}
 use Rattle.ob_waits.specs.Rules.{Within}
-use Rattle.ob_waits.specs.Rows.{IsRow, AreRows, Keeps, row_of}
-use Rattle.ob_waits.proofs.IndexLaws.{rows_changed, keeps_changed, row_read}
+use Rattle.ob_waits.specs.Numbers.{IsOrdered, AreOrdered, Keeps, numbers_of}
+use Rattle.ob_waits.proofs.IndexLaws.{lists_changed, keeps_changed, list_read}
 use Rattle.ob_waits.proofs.index.Index.enter_there.Goals as goal
 
 pub enter-requires : goal.enter-requires
 enter-requires c =
-    let rows : List (List ℕ) = c.self.inside.rows.items in
-    let lt : c.args.slot < length rows = search rules in
-    let read : c.index_mut-row.result.now ≡ row_of rows c.args.slot = row_read rows c.args.slot c.index_mut-row.result.now c.index_mut-row.ensures.value lt in
-    let all : AreRows c.args.number rows = subst (λ (rs : List (List ℕ)). AreRows c.args.number rs) (sym c.self.view_is) c.requires.rows in
-    subst (λ (r : List ℕ). IsRow c.args.number r) (sym read) (all.each c.args.slot)
+    let lists : List (List ℕ) = c.self.inside.lists.items in
+    let lt : c.args.slot < length lists = search rules in
+    let read : c.index_mut-numbers.result.now ≡ numbers_of lists c.args.slot = list_read lists c.args.slot c.index_mut-numbers.result.now c.index_mut-numbers.ensures.value lt in
+    let all : AreOrdered c.args.number lists = subst (λ (rs : List (List ℕ)). AreOrdered c.args.number rs) (sym c.self.view_is) c.requires.ordered in
+    subst (λ (r : List ℕ). IsOrdered c.args.number r) (sym read) (all.each c.args.slot)
 
-pub returns-clause-rows : goal.returns-clause-rows
-returns-clause-rows c =
-    let rows : List (List ℕ) = c.self.inside.rows.items in
-    let lt : c.args.slot < length rows = search rules in
-    rows_changed c.args.number rows c.args.slot c.enter.new.self lt c.enter.ensures.row (subst (λ (rs : List (List ℕ)). AreRows c.args.number rs) (sym c.self.view_is) c.requires.rows)
+pub returns-clause-ordered : goal.returns-clause-ordered
+returns-clause-ordered c =
+    let lists : List (List ℕ) = c.self.inside.lists.items in
+    let lt : c.args.slot < length lists = search rules in
+    lists_changed c.args.number lists c.args.slot c.enter.new.self lt c.enter.ensures.ordered (subst (λ (rs : List (List ℕ)). AreOrdered c.args.number rs) (sym c.self.view_is) c.requires.ordered)
 
 pub returns-clause-keeps : goal.returns-clause-keeps
 returns-clause-keeps c =
-    let rows : List (List ℕ) = c.self.inside.rows.items in
-    let lt : c.args.slot < length rows = search rules in
-    let read : c.index_mut-row.result.now ≡ row_of rows c.args.slot = row_read rows c.args.slot c.index_mut-row.result.now c.index_mut-row.ensures.value lt in
-    subst (λ (rs : List (List ℕ)). Keeps rs (set rows c.args.slot c.enter.new.self)) c.self.view_is
-    (keeps_changed rows c.args.slot c.enter.new.self lt (subst (λ (r : List ℕ). (j : ℕ) → Within j r → Within j c.enter.new.self) read c.enter.ensures.keeps))
+    let lists : List (List ℕ) = c.self.inside.lists.items in
+    let lt : c.args.slot < length lists = search rules in
+    let read : c.index_mut-numbers.result.now ≡ numbers_of lists c.args.slot = list_read lists c.args.slot c.index_mut-numbers.result.now c.index_mut-numbers.ensures.value lt in
+    subst (λ (rs : List (List ℕ)). Keeps rs (set lists c.args.slot c.enter.new.self)) c.self.view_is
+    (keeps_changed lists c.args.slot c.enter.new.self lt (subst (λ (r : List ℕ). (j : ℕ) → Within j r → Within j c.enter.new.self) read c.enter.ensures.keeps))

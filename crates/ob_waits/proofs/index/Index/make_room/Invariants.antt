@@ -1,9 +1,9 @@
 use Rattle.std.proofs.Common.{◌≡◌, ◌-◌, ◌+◌, ℕ, length}
-use Rattle.ob_waits.specs.Rows.{row_of}
+use Rattle.ob_waits.specs.Numbers.{numbers_of}
 use Rattle.ob_waits.proofs.index.Index.make_room.Given as goal
 
 abbrev pub invariant-loop-self : goal.invariant-loop-self
-invariant-loop-self l = (s : ℕ) → row_of l.self-inside.rows.items s ≡ row_of l.initial.self-inside.rows.items s
+invariant-loop-self l = (s : ℕ) → numbers_of l.self-inside.lists.items s ≡ numbers_of l.initial.self-inside.lists.items s
 
 abbrev pub decreases-loop-self : goal.decreases-loop-self
-decreases-loop-self l = l.at + 1 - length l.self-inside.rows.items
+decreases-loop-self l = l.at + 1 - length l.self-inside.lists.items

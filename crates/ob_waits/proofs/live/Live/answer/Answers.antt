@@ -1,4 +1,4 @@
-use Rattle.std.proofs.Common.{◌≡◌, ℕ, None, Some, List, Option, true, false, nat_eq, ap, get_or, set, sym, ◌∙◌, arith, suc, subst, refl, cond, eqb, ◌<◌, ◌≤◌}
+use Rattle.std.proofs.Common.{◌≡◌, ℕ, None, Some, List, Option, true, false, nat_eq, ap, get_or, set, sym, ◌∙◌, arith, subst, refl, cond, eqb, ◌<◌, ◌≤◌}
 use Rattle.std.specs.HashMap.{get}
 use Rattle.std.specs.Option.{IsSome}
 use Rattle.ob_waits.specs.declared.wait.Wait.{Wait}

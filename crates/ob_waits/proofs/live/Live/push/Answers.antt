@@ -1,4 +1,4 @@
-use Rattle.std.proofs.Common.{◌≡◌, ℕ, Some, None, Option, List, [], ◌∷◌, ◌+◌, ◌++◌, length, nat_eq, arith, ap, suc, ◌∙◌, refl, cond, eqb}
+use Rattle.std.proofs.Common.{◌≡◌, ℕ, Some, None, Option, List, [], ◌∷◌, ◌+◌, ◌++◌, length, nat_eq, arith, ap, suc, ◌∙◌, refl}
 use Rattle.std.specs.HashMap.{get}
 use Rattle.ob_waits.specs.declared.held.Held.{Held}
 use Rattle.ob_waits.specs.Places.{found}

@@ -1,7 +1,7 @@
-use Rattle.std.proofs.Common.{◌≡◌, ℕ, None, Some, Option, List, nat_eq, ap, get_or, set, sym, refl, ◌∙◌, cond, eqb}
+use Rattle.std.proofs.Common.{◌≡◌, ℕ, None, Option, List, nat_eq, ap, get_or, set, sym, refl, ◌∙◌, cond, eqb}
 use Rattle.std.specs.HashMap.{get}
 use Rattle.ob_waits.specs.declared.held.Held.{Held}
-use Rattle.ob_waits.specs.Places.{home, here, found, IsPlaced}
+use Rattle.ob_waits.specs.Places.{home, found}
 use Rattle.ob_waits.proofs.ListedLaws.{value_at, listed_removed}
 use Rattle.ob_waits.proofs.PlaceLaws.{here_none, changed_there, changed_there_placed, changed_other, changed_other_placed, same_found, same_placed, gone, found_there, sparse_less, none_held}
 use Rattle.ob_waits.proofs.live.Live.remove.Goals as goal

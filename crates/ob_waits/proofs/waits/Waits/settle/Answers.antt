@@ -1,37 +1,37 @@
-use Rattle.std.proofs.Common.{List, ℕ, ap, subst, sym, ◌∙◌}
-use Rattle.ob_waits.specs.Rules.{IsSettled, WaitsHaveRoom}
-use Rattle.ob_waits.specs.Waits.{Scene, WaitList, passed, settled}
-use Rattle.ob_waits.proofs.Settling.{covered_settles, settled_is_settled}
-use Rattle.ob_waits.proofs.Keeping.{Fade, passed_fades, passed_fits}
-use Rattle.ob_waits.proofs.TrackedLaws.{tracked_faded, tracked_left, covers_order}
+use Rattle.std.proofs.Common.{ap, subst, sym, ◌∙◌}
+use Rattle.ob_waits.specs.Rules.{WaitsHaveRoom}
+use Rattle.ob_waits.specs.Waits.{Scene, WaitList, settled}
+use Rattle.ob_waits.proofs.SettleLaws.{order_settles, tracked_after, settled_after, room_settled}
 use Rattle.ob_waits.proofs.waits.Waits.settle.Goals as goal
 
 pub invariant_of-self : goal.invariant_of-self
 invariant_of-self g c =
-    let first : Scene = record { objects = g.B.Bodies.objects c.args.bodies.now; waits = c.self.inside.live } in
-    let fade : Fade c.self.inside.live c.pass.new.live = subst (λ (s : Scene). Fade c.self.inside.live s.waits) (sym c.pass.ensures) (passed_fades c.order.result.now first) in
-    tracked_left c.self.inside.limit c.pass.new.live c.self.inside.roster c.thin.new.self c.thin.ensures
-    (tracked_faded c.self.inside.limit c.self.inside.live c.pass.new.live c.self.inside.roster fade c.self.invariant)
+    let before = g.B.Bodies.objects c.args.bodies.now in
+    let after = g.B.Bodies.objects c.pass.new.bodies in
+    let scene : Scene = record { objects = after; waits = c.pass.new.live } in
+    let value = order_settles before c.self.inside.live c.self.inside.roster.order c.self.inside.roster.index scene c.self.invariant.right.lists c.order.result.now c.order.ensures c.pass.ensures.scene in
+    tracked_after before after c.self.inside.live c.pass.new.live value c.self.inside.limit c.self.inside.roster c.thin.new.self c.thin.ensures c.self.invariant
 
 pub returns-clause-value : goal.returns-clause-value
 returns-clause-value g c =
-    let objects = g.B.Bodies.objects c.args.bodies.now in
-    let first : Scene = record { objects = objects; waits = c.self.inside.live } in
-    let rows = c.self.invariant.right.rows in
-    c.pass.ensures ∙ ap (λ (ns : List ℕ). passed ns first) c.order.ensures
-    ∙ covered_settles c.self.inside.roster.order first rows.order_row.rising (covers_order objects c.self.inside.live c.self.inside.roster.order c.self.inside.roster.index rows)
-    ∙ ap (λ (l : WaitList). settled (record { objects = objects; waits = l.waits })) c.self.view_is
+    let before = g.B.Bodies.objects c.args.bodies.now in
+    let after = g.B.Bodies.objects c.pass.new.bodies in
+    let scene : Scene = record { objects = after; waits = c.pass.new.live } in
+    let value = order_settles before c.self.inside.live c.self.inside.roster.order c.self.inside.roster.index scene c.self.invariant.right.lists c.order.result.now c.order.ensures c.pass.ensures.scene in
+    value ∙ ap (λ (l : WaitList). settled (record { objects = before; waits = l.waits })) c.self.view_is
 
 pub returns-clause-settled : goal.returns-clause-settled
 returns-clause-settled g c =
-    let objects = g.B.Bodies.objects c.args.bodies.now in
-    let first : Scene = record { objects = objects; waits = c.self.inside.live } in
-    let rows = c.self.invariant.right.rows in
-    subst (λ (s : Scene). IsSettled s.objects.bodies s.waits) (sym (c.pass.ensures ∙ ap (λ (ns : List ℕ). passed ns first) c.order.ensures
-    ∙ covered_settles c.self.inside.roster.order first rows.order_row.rising (covers_order objects c.self.inside.live c.self.inside.roster.order c.self.inside.roster.index rows))) (settled_is_settled first)
+    let before = g.B.Bodies.objects c.args.bodies.now in
+    let after = g.B.Bodies.objects c.pass.new.bodies in
+    let scene : Scene = record { objects = after; waits = c.pass.new.live } in
+    let value = order_settles before c.self.inside.live c.self.inside.roster.order c.self.inside.roster.index scene c.self.invariant.right.lists c.order.result.now c.order.ensures c.pass.ensures.scene in
+    settled_after before after c.self.inside.live c.pass.new.live value
 
 pub returns-clause-room : goal.returns-clause-room
-returns-clause-room g c = λ limit h.
-    let first : Scene = record { objects = g.B.Bodies.objects c.args.bodies.now; waits = c.self.inside.live } in
-    let room : WaitsHaveRoom limit first.objects.bodies first.waits = subst (λ (l : WaitList). WaitsHaveRoom limit first.objects.bodies l.waits) (sym c.self.view_is) h in
-    subst (λ (s : Scene). WaitsHaveRoom limit s.objects.bodies s.waits) (sym c.pass.ensures) (passed_fits limit c.order.result.now first (record { kept = c.self.invariant.kept; room = room })).room
+returns-clause-room g c limit h =
+    let before = g.B.Bodies.objects c.args.bodies.now in
+    let after = g.B.Bodies.objects c.pass.new.bodies in
+    let scene : Scene = record { objects = after; waits = c.pass.new.live } in
+    let value = order_settles before c.self.inside.live c.self.inside.roster.order c.self.inside.roster.index scene c.self.invariant.right.lists c.order.result.now c.order.ensures c.pass.ensures.scene in
+    room_settled before after c.self.inside.live c.pass.new.live value limit c.self.invariant.kept (subst (λ (l : WaitList). WaitsHaveRoom limit before.bodies l.waits) (sym c.self.view_is) h)

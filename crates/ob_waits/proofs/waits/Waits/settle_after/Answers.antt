@@ -1,42 +1,41 @@
-use Rattle.std.proofs.Common.{List, ℕ, ap, subst, sym, ◌∙◌}
-use Rattle.ob_waits.specs.Rules.{IsReadyAt, IsSettled, WaitsHaveRoom}
-use Rattle.ob_waits.specs.Rows.{row_of}
-use Rattle.ob_waits.specs.Waits.{Scene, WaitList, passed, settled}
-use Rattle.ob_waits.proofs.Settling.{covered_settles, settled_is_settled}
-use Rattle.ob_waits.proofs.Keeping.{Fade, passed_fades, passed_fits}
-use Rattle.ob_waits.proofs.TrackedLaws.{tracked_faded, tracked_left, covers_row}
+use Rattle.std.proofs.Common.{ap, subst, sym, ◌∙◌}
+use Rattle.ob_waits.specs.Rules.{IsReadyAt, WaitsHaveRoom}
+use Rattle.ob_waits.specs.Waits.{Scene, WaitList, settled}
+use Rattle.ob_waits.proofs.SettleLaws.{slot_settles, tracked_after, settled_after, room_settled}
 use Rattle.ob_waits.proofs.waits.Waits.settle_after.Goals as goal
 
 pub invariant_of-self : goal.invariant_of-self
 invariant_of-self g c =
-    let first : Scene = record { objects = g.B.Bodies.objects c.args.bodies.now; waits = c.self.inside.live } in
-    let fade : Fade c.self.inside.live c.pass.new.live = subst (λ (s : Scene). Fade c.self.inside.live s.waits) (sym c.pass.ensures) (passed_fades c.row.result.now first) in
-    tracked_left c.self.inside.limit c.pass.new.live c.self.inside.roster c.thin_row.new.self c.thin_row.ensures
-    (tracked_faded c.self.inside.limit c.self.inside.live c.pass.new.live c.self.inside.roster fade c.self.invariant)
+    let before = g.B.Bodies.objects c.args.bodies.now in
+    let after = g.B.Bodies.objects c.pass.new.bodies in
+    let scene : Scene = record { objects = after; waits = c.pass.new.live } in
+    let ready : IsReadyAt c.args.id.slot before.bodies c.self.inside.live = subst (λ (l : WaitList). IsReadyAt c.args.id.slot before.bodies l.waits) (sym c.self.view_is) c.requires.ready in
+    let value = slot_settles before c.self.inside.live c.self.inside.roster.order c.self.inside.roster.index scene c.self.invariant.right.lists c.args.id.slot c.numbers.result.now c.numbers.ensures ready c.pass.ensures.scene in
+    tracked_after before after c.self.inside.live c.pass.new.live value c.self.inside.limit c.self.inside.roster c.thin_slot.new.self c.thin_slot.ensures c.self.invariant
 
 pub returns-clause-value : goal.returns-clause-value
 returns-clause-value g c =
-    let objects = g.B.Bodies.objects c.args.bodies.now in
-    let first : Scene = record { objects = objects; waits = c.self.inside.live } in
-    let rows = c.self.invariant.right.rows in
-    let ready : IsReadyAt c.args.id.slot objects.bodies c.self.inside.live = subst (λ (l : WaitList). IsReadyAt c.args.id.slot objects.bodies l.waits) (sym c.self.view_is) c.requires.ready in
-    c.pass.ensures ∙ ap (λ (ns : List ℕ). passed ns first) c.row.ensures
-    ∙ covered_settles (row_of c.self.inside.roster.index c.args.id.slot) first (rows.index_rows.each c.args.id.slot).rising
-    (covers_row objects c.args.id.slot c.self.inside.live c.self.inside.roster.order c.self.inside.roster.index ready rows)
-    ∙ ap (λ (l : WaitList). settled (record { objects = objects; waits = l.waits })) c.self.view_is
+    let before = g.B.Bodies.objects c.args.bodies.now in
+    let after = g.B.Bodies.objects c.pass.new.bodies in
+    let scene : Scene = record { objects = after; waits = c.pass.new.live } in
+    let ready : IsReadyAt c.args.id.slot before.bodies c.self.inside.live = subst (λ (l : WaitList). IsReadyAt c.args.id.slot before.bodies l.waits) (sym c.self.view_is) c.requires.ready in
+    let value = slot_settles before c.self.inside.live c.self.inside.roster.order c.self.inside.roster.index scene c.self.invariant.right.lists c.args.id.slot c.numbers.result.now c.numbers.ensures ready c.pass.ensures.scene in
+    value ∙ ap (λ (l : WaitList). settled (record { objects = before; waits = l.waits })) c.self.view_is
 
 pub returns-clause-settled : goal.returns-clause-settled
 returns-clause-settled g c =
-    let objects = g.B.Bodies.objects c.args.bodies.now in
-    let first : Scene = record { objects = objects; waits = c.self.inside.live } in
-    let rows = c.self.invariant.right.rows in
-    let ready : IsReadyAt c.args.id.slot objects.bodies c.self.inside.live = subst (λ (l : WaitList). IsReadyAt c.args.id.slot objects.bodies l.waits) (sym c.self.view_is) c.requires.ready in
-    subst (λ (s : Scene). IsSettled s.objects.bodies s.waits) (sym (c.pass.ensures ∙ ap (λ (ns : List ℕ). passed ns first) c.row.ensures
-    ∙ covered_settles (row_of c.self.inside.roster.index c.args.id.slot) first (rows.index_rows.each c.args.id.slot).rising
-    (covers_row objects c.args.id.slot c.self.inside.live c.self.inside.roster.order c.self.inside.roster.index ready rows))) (settled_is_settled first)
+    let before = g.B.Bodies.objects c.args.bodies.now in
+    let after = g.B.Bodies.objects c.pass.new.bodies in
+    let scene : Scene = record { objects = after; waits = c.pass.new.live } in
+    let ready : IsReadyAt c.args.id.slot before.bodies c.self.inside.live = subst (λ (l : WaitList). IsReadyAt c.args.id.slot before.bodies l.waits) (sym c.self.view_is) c.requires.ready in
+    let value = slot_settles before c.self.inside.live c.self.inside.roster.order c.self.inside.roster.index scene c.self.invariant.right.lists c.args.id.slot c.numbers.result.now c.numbers.ensures ready c.pass.ensures.scene in
+    settled_after before after c.self.inside.live c.pass.new.live value
 
 pub returns-clause-room : goal.returns-clause-room
-returns-clause-room g c = λ limit h.
-    let first : Scene = record { objects = g.B.Bodies.objects c.args.bodies.now; waits = c.self.inside.live } in
-    let room : WaitsHaveRoom limit first.objects.bodies first.waits = subst (λ (l : WaitList). WaitsHaveRoom limit first.objects.bodies l.waits) (sym c.self.view_is) h in
-    subst (λ (s : Scene). WaitsHaveRoom limit s.objects.bodies s.waits) (sym c.pass.ensures) (passed_fits limit c.row.result.now first (record { kept = c.self.invariant.kept; room = room })).room
+returns-clause-room g c limit h =
+    let before = g.B.Bodies.objects c.args.bodies.now in
+    let after = g.B.Bodies.objects c.pass.new.bodies in
+    let scene : Scene = record { objects = after; waits = c.pass.new.live } in
+    let ready : IsReadyAt c.args.id.slot before.bodies c.self.inside.live = subst (λ (l : WaitList). IsReadyAt c.args.id.slot before.bodies l.waits) (sym c.self.view_is) c.requires.ready in
+    let value = slot_settles before c.self.inside.live c.self.inside.roster.order c.self.inside.roster.index scene c.self.invariant.right.lists c.args.id.slot c.numbers.result.now c.numbers.ensures ready c.pass.ensures.scene in
+    room_settled before after c.self.inside.live c.pass.new.live value limit c.self.invariant.kept (subst (λ (l : WaitList). WaitsHaveRoom limit before.bodies l.waits) (sym c.self.view_is) h)

@@ -1,4 +1,4 @@
-use Rattle.std.proofs.Common.{subst, ◌<◌, Some, ap, sym, ◌∙◌, arith, get_or}
+use Rattle.std.proofs.Common.{subst, ◌<◌, Some, ap, sym, ◌∙◌, arith, get_or, length, ◌≤◌}
 use Rattle.ob_waits.specs.Rules.{IsKept}
 use Rattle.ob_waits.specs.Waits.{number_of, WaitList}
 use Rattle.ob_waits.proofs.TrackedLaws.{number_found, number_missing}
@@ -21,3 +21,9 @@ returns-then-number-eq0-clause-kept c = subst (λ (l : WaitList). IsKept l.waits
 
 pub returns-clause-kept : goal.returns-clause-kept
 returns-clause-kept c = subst (λ (l : WaitList). IsKept l.waits) c.self.view_is c.self.invariant.kept
+
+pub returns-clause-few : goal.returns-clause-few
+returns-clause-few c = subst (λ (l : WaitList). length l.waits ≤ 4294967296) c.self.view_is (let few = c.self.invariant.few in let fits = c.self.invariant.limit_fits in omega arith)
+
+pub returns-then-number-eq0-clause-few : goal.returns-then-number-eq0-clause-few
+returns-then-number-eq0-clause-few c = subst (λ (l : WaitList). length l.waits ≤ 4294967296) c.self.view_is (let few = c.self.invariant.few in let fits = c.self.invariant.limit_fits in omega arith)

@@ -1,0 +1,16 @@
+use Rattle.std.proofs.Common.{◌≡◌, ◌-◌}
+use Rattle.ob_waits.specs.Rules.{Fits}
+use Rattle.ob_waits.specs.Waits.{Scene, settled}
+use Rattle.ob_waits.proofs.MergeLaws.{Remains}
+use Rattle.ob_waits.proofs.pass.pass_each.Given as goal
+
+abbrev pub invariant-loop-number : goal.invariant-loop-number
+invariant-loop-number g l = record {
+  same : ◌≡◌ {A = Scene} (settled (record { objects = g.B.Bodies.objects l.bodies; waits = l.live })) (settled (record { objects = g.B.Bodies.objects l.fn.bodies; waits = l.fn.live }));
+  rest : g.B.Bodies.rest l.bodies ≡ g.B.Bodies.rest l.fn.bodies;
+  remains : Remains l.last l.roster.index l.ids (record { objects = g.B.Bodies.objects l.bodies; waits = l.live });
+  fits : Fits 2147483647 (g.B.Bodies.objects l.bodies).bodies l.live;
+}
+
+abbrev pub decreases-loop-number : goal.decreases-loop-number
+decreases-loop-number g l = 4294967296 - l.last

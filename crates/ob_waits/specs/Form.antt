@@ -1,0 +1,37 @@
+-- What of a body no wait changes, and who owns it.
+use Rattle.std.specs.Prelude.{◌≡◌, ℕ, Bool, false, List, Option, Some, None, slice_index_or}
+use Rattle.ob_rights.specs.declared.kind.Kind.{Kind}
+use Rattle.ob_rights.specs.declared.kind.Kind.TheVariants as kind
+use Rattle.ob_body.specs.declared.body.Body.{Body}
+use Rattle.ob_body.specs.declared.body.Body.TheVariants.{Event, Mutex, Semaphore}
+use Rattle.ob_waits.specs.declared.wait.Wait.{Wait}
+use Rattle.ob_waits.specs.Rules.{thread_of}
+
+-- its kind, whether an event is reset by hand, and the maximum of a semaphore
+pub record Form : Type 0 where
+  pub kind : Kind
+  pub manual : Bool
+  pub maximum : ℕ
+
+abbrev pub form_of : Body → Form
+form_of (Event e) = record { kind = kind.Event; manual = e.manual; maximum = 0 }
+form_of (Mutex m) = record { kind = kind.Mutex; manual = false; maximum = 0 }
+form_of (Semaphore s) = record { kind = kind.Semaphore; manual = false; maximum = s.maximum }
+
+abbrev pub slot_form : Option Body → Option Form
+slot_form None = None
+slot_form (Some b) = Some (form_of b)
+
+-- the thread that owns a mutex
+abbrev pub owner_of : Body → Option ℕ
+owner_of (Event e) = None
+owner_of (Mutex m) = m.owner
+owner_of (Semaphore s) = None
+
+abbrev pub slot_owner : Option Body → Option ℕ
+slot_owner None = None
+slot_owner (Some b) = owner_of b
+
+-- some wait is the thread's
+abbrev pub HasWait : ℕ → List (Option Wait) → Type 0
+HasWait thread waits = (n : ℕ) × (thread_of (slice_index_or waits n None) ≡ Some thread)

@@ -1,0 +1,58 @@
+-- Lists of numbers in order, among which are the numbers of some waits.
+use Rattle.std.specs.Prelude.{◌≡◌, ℕ, ◌-◌, ◌<◌, ◌≤◌, IfSome, ◌==◌, ◌&&◌, nat_lt, length, Bool, true, List, [], Option, Some, None, slice_index_or, filter}
+use Rattle.ob_waits.specs.declared.wait.Wait.{Wait}
+use Rattle.ob_waits.specs.Rules.{Within, IsRising}
+use Rattle.pin_core.specs.declared.id.Id.{Id}
+use Rattle.ob_waits.specs.Waits.{nowhere, is_pending}
+
+-- the numbers rise, and none is above the last
+pub record IsOrdered (last : ℕ) (numbers : List ℕ) : Type 0 where
+  pub rising : IsRising numbers
+  pub below : (k : ℕ) → Within k numbers → k ≤ last
+
+-- the numbers of all waits that pass the test are there
+pub record HasAll (test : Option Wait → Bool) (numbers : List ℕ) (waits : List (Option Wait)) : Type 0 where
+  pub each : (n : ℕ) → test (slice_index_or waits n None) ≡ true → Within n numbers
+
+-- the same of the numbers of each slot
+abbrev pub numbers_of : List (List ℕ) → ℕ → List ℕ
+numbers_of lists slot = slice_index_or lists slot []
+
+pub record AreOrdered (last : ℕ) (lists : List (List ℕ)) : Type 0 where
+  pub each : (slot : ℕ) → IsOrdered last (numbers_of lists slot)
+
+-- what was there is there
+pub record Keeps (old new : List (List ℕ)) : Type 0 where
+  pub each : (slot k : ℕ) → Within k (numbers_of old slot) → Within k (numbers_of new slot)
+
+-- a bound, if there is one
+abbrev pub AtMost : Option ℕ → ℕ → Type 0
+AtMost None k = ⊥
+AtMost (Some n) k = n ≤ k
+
+-- a number above the last, such that none of these is between; and none where none of these is above
+pub record IsNext (last : ℕ) (numbers : List ℕ) (next : Option ℕ) : Type 0 where
+  pub above : IfSome next (λ n. last < n)
+  pub least : (k : ℕ) → Within k numbers → last < k → AtMost next k
+
+-- the same of the numbers of some objects' slots
+pub record IsNextOf (last : ℕ) (lists : List (List ℕ)) (ids : List Id) (next : Option ℕ) : Type 0 where
+  pub above : IfSome next (λ n. last < n)
+  pub least : (i k : ℕ) → i < length ids → Within k (numbers_of lists (slice_index_or ids i nowhere).slot) → last < k → AtMost next k
+
+-- whether a number is the last of a list
+abbrev pub ends_with : ℕ → List ℕ → Bool
+ends_with number numbers = nat_lt 0 (length numbers) && (slice_index_or numbers (length numbers - 1) 0 == number)
+
+-- only the numbers of waits that are pending
+abbrev pub thinned : List (Option Wait) → List ℕ → List ℕ
+thinned waits numbers = filter (λ (n : ℕ). is_pending (slice_index_or waits n None)) numbers
+
+-- a list without some numbers, none of them of a wait that is pending
+pub record Thins (waits : List (Option Wait)) (old new : List ℕ) : Type 0 where
+  pub rising : IsRising old → IsRising new
+  pub only : (k : ℕ) → Within k new → Within k old
+  pub keeps : (k : ℕ) → is_pending (slice_index_or waits k None) ≡ true → Within k old → Within k new
+
+pub record ThinsEach (waits : List (Option Wait)) (old new : List (List ℕ)) : Type 0 where
+  pub each : (slot : ℕ) → Thins waits (numbers_of old slot) (numbers_of new slot)
