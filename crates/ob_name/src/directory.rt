@@ -121,6 +121,7 @@ impl Directory {
         ensures rows { self.new.rows ≡ without_name (name_at name.now) self.old.rows }
         ensures spare { self.old.spare ≤ self.new.spare }
     {
+        // As in `find`.
         let _ = self.ids.len();
         let (index, _name, entered) = self.ids.swap_remove_full(*name)?;
         renumber(&self.ids, &mut self.order, index);
@@ -141,11 +142,16 @@ impl Directory {
         ensures len { result ≡ length self.now.rows }
         ensures distinct { AreDistinct self.now.rows }
     {
+        // As in `find`.
         let _ = self.ids.len();
         self.count
     }
 
     /// The name at a place, with its Id. Places are numbers from 0, in the order of entry.
+    ///
+    /// After a removal it may take a time that grows with the number of names; [`rows`] walks over all of them in such a time.
+    ///
+    /// [`rows`]: Directory::rows
     pub fn row(&self, at: usize) -> Option<(NameRef<'_>, Id)>
         ensures { option_map row_at result ≡ slice_get self.now.rows at }
     {
