@@ -1,9 +1,7 @@
-ghost use Rattle.std.specs.Prelude.{◌≡◌, ℕ, ◌+◌, ◌<◌, ◌≤◌, None, [], ◌∷◌, ◌++◌, length, slice_get, vec_capacity, IfOk, IfErr, IfSome, OnOk, if◌then◌else◌};
-ghost use Rattle.std.specs.HashMap.{spare};
+ghost use Rattle.std.specs.Prelude.{◌≡◌, ◌+◌, ◌<◌, ◌≤◌, None, [], ◌∷◌, ◌++◌, length, slice_get, IfOk, IfErr, OnOk};
 ghost use Rattle.std.specs.Option.{option_map};
 ghost use Rattle.ob_rights.specs.declared.fault.Fault.TheVariants.{Memory};
 ghost use Rattle.ob_name.specs.Listing.{AreDistinct, find_name, without_name};
-ghost use Rattle.ob_name.specs.Order.{IsOrdered, IsRenumbered, row_on, rows_of};
 ghost use Rattle.ob_name.specs.Refs.{name_at, row_at};
 
 use crate::entered::Entered;
