@@ -1,9 +1,7 @@
-ghost use Rattle.std.specs.Prelude.{◌≡◌, ℕ, ◌+◌, ◌<◌, ◌≤◌, None, [], ◌∷◌, ◌++◌, length, slice_get, vec_capacity, IfOk, IfErr, IfSome, OnOk, if◌then◌else◌};
-ghost use Rattle.std.specs.HashMap.{spare};
+ghost use Rattle.std.specs.Prelude.{◌≡◌, ◌+◌, ◌<◌, ◌≤◌, None, [], ◌∷◌, ◌++◌, length, slice_get, IfOk, IfErr, OnOk};
 ghost use Rattle.std.specs.Option.{option_map};
 ghost use Rattle.ob_rights.specs.declared.fault.Fault.TheVariants.{Memory};
 ghost use Rattle.ob_name.specs.Listing.{AreDistinct, find_name, without_name};
-ghost use Rattle.ob_name.specs.Order.{IsOrdered, IsRenumbered, row_on, rows_of};
 ghost use Rattle.ob_name.specs.Refs.{name_at, row_at};
 
 use crate::entered::Entered;
@@ -121,6 +119,7 @@ impl Directory {
         ensures rows { self.new.rows ≡ without_name (name_at name.now) self.old.rows }
         ensures spare { self.old.spare ≤ self.new.spare }
     {
+        // As in `find`.
         let _ = self.ids.len();
         let (index, _name, entered) = self.ids.swap_remove_full(*name)?;
         renumber(&self.ids, &mut self.order, index);
@@ -141,11 +140,16 @@ impl Directory {
         ensures len { result ≡ length self.now.rows }
         ensures distinct { AreDistinct self.now.rows }
     {
+        // As in `find`.
         let _ = self.ids.len();
         self.count
     }
 
     /// The name at a place, with its Id. Places are numbers from 0, in the order of entry.
+    ///
+    /// After a removal it may take a time that grows with the number of names; [`rows`] walks over all of them in such a time.
+    ///
+    /// [`rows`]: Directory::rows
     pub fn row(&self, at: usize) -> Option<(NameRef<'_>, Id)>
         ensures { option_map row_at result ≡ slice_get self.now.rows at }
     {

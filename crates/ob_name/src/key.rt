@@ -1,10 +1,8 @@
 // Names as keys of a hash map. A name is hashed by two writes, and a borrowed one is looked up as it stands.
-ghost use Rattle.std.specs.Prelude.{◌≡◌, ◌&&◌, fold};
-ghost use Rattle.std.specs.Str.{bytes_eq};
+ghost use Rattle.std.specs.Prelude.{◌≡◌, fold};
 ghost use Rattle.std.specs.Cmp.{on_equiv, on_per};
 ghost use Rattle.ob_name.specs.Keys.{fed_name, space_number};
 ghost use Rattle.ob_name.specs.Listing.{same_name, same_space};
-ghost use Rattle.ob_name.specs.Names.{ObjectName};
 ghost use Rattle.ob_name.specs.Refs.{name_at, namespace_of};
 ghost use Rattle.ob_name.specs.Same.{fed_alike, same_name_equiv, same_name_per};
 
