@@ -21,11 +21,11 @@ pub trait Bodies {
 
     /// The body of an object, or none where a wait for the object is never satisfied.
     fn body(&self, id: Id) -> Option<Body>
-        ensures { result ≡ body_of (objects self.now).bodies id };
+        ensures body { result ≡ body_of (objects self.now).bodies id };
 
     /// Changes the body of an object that has one.
     fn put(&mut self, id: Id, body: Body)
-        requires { IsSome (body_of (objects self.old).bodies id) }
+        requires there { IsSome (body_of (objects self.old).bodies id) }
         ensures objects { objects self.new ≡ with_body (objects self.old) id body }
         ensures rest { rest self.new ≡ rest self.old };
 

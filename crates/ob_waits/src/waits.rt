@@ -22,13 +22,15 @@ use std::marker::Model;
 /// Numbers rise from 1 and none is given twice; a wait that is over takes no room. A thread has one wait
 /// at a time, from [`add`](Waits::add) until its answer is taken.
 ///
-/// A thread's wait, and the wait of a number, are found in constant time: [`wait_of`](Waits::wait_of),
-/// [`look`](Waits::look), [`expire`](Waits::expire), [`drop_thread`](Waits::drop_thread) and
-/// [`take_result`](Waits::take_result) do no more. Beside these there is a list of wait numbers for each slot, and
-/// one for all. Such a list has the numbers of all pending waits for its objects, and may have others, until a
-/// settling that goes over it drops them, or an `add` that finds eight more than twice as many there as were
-/// left the last time. So `add` costs constant time for each object that it lists, amortised over all calls,
-/// beside the growth of the tables to the greatest thread number and slot that a wait had.
+/// A thread's wait, and the wait of a number, are found in constant time, as that of a hash map's look-up:
+/// [`wait_of`](Waits::wait_of), [`look`](Waits::look), [`expire`](Waits::expire),
+/// [`drop_thread`](Waits::drop_thread) and [`take_result`](Waits::take_result) do no more.
+///
+/// Beside these there is a list of wait numbers for each slot, and one for all. Such a list has the numbers of
+/// all pending waits for its objects, and may have others, until a settling that goes over it drops them, or an
+/// `add` that finds eight more than twice as many there as were left the last time. So `add` costs constant
+/// time for each object that it lists, amortised over all calls, beside the growth of the tables to the
+/// greatest thread number and slot that a wait had.
 /// [`settle_after`](Waits::settle_after) and [`blocks_of`](Waits::blocks_of) go over the list of one slot,
 /// [`settle`](Waits::settle) over the one for all.
 #[derive(Drop)]
@@ -177,8 +179,8 @@ impl Waits {
     /// their bodies in a settled state. The waits take effect in the order of their numbers over all these
     /// slots together: to settle after one object and then after the next would be another order.
     ///
-    /// It takes no memory. With `n` numbers in the lists of `k` slots it finds the next number at most `n` times,
-    /// in `k` lists by halving, and looks at no other wait; where the list for all has less than `n * k`
+    /// It takes no memory. With `n` numbers in the lists of `k` slots it finds the next number at most `n`
+    /// times, in `k` lists by halving, and looks at no other wait; where the list for all has less than `n * k`
     /// numbers it goes over that one.
     pub fn settle_after_each<B: Bodies>(&mut self, bodies: &mut B, ids: &[Id])
         requires room { WaitsHaveRoom RECURSION_MAX (B.objects bodies.old).bodies self.old.waits }
@@ -197,8 +199,9 @@ impl Waits {
         self.roster.thin_slots(&self.live, ids);
     }
 
-    /// Ends a pending wait without satisfying it: its answer is 258, `WAIT_TIMEOUT` ([Wait Functions]). Its
-    /// blocks are told by [`leave_all`](crate::leave_all), of the objects that [`look`](Waits::look) gave before.
+    /// Ends a pending wait without satisfying it: its answer is 258, `WAIT_TIMEOUT` ([Wait Functions]). The
+    /// caller tells its blocks by [`leave_all`](crate::leave_all), of the objects that [`look`](Waits::look)
+    /// gives before.
     ///
     /// [Wait Functions]: https://learn.microsoft.com/windows/win32/sync/wait-functions
     pub fn expire(&mut self, wait: u32)
@@ -208,8 +211,8 @@ impl Waits {
         self.live.answer(wait, WAIT_TIMEOUT);
     }
 
-    /// Takes the wait of a thread away, pending or answered, if it has one. The blocks of a pending one are told
-    /// as for [`expire`](Waits::expire).
+    /// Takes the wait of a thread away, pending or answered, if it has one. The caller tells the blocks of a
+    /// pending one as for [`expire`](Waits::expire).
     pub fn drop_thread(&mut self, thread: u32)
         ensures { self.new ≡ without_thread self.old thread }
     {
