@@ -4,6 +4,7 @@ use Rattle.ob_rights.specs.declared.kind.Kind.{Kind}
 use Rattle.ob_rights.specs.declared.kind.Kind.TheVariants as kind
 use Rattle.ob_body.specs.declared.body.Body.{Body}
 use Rattle.ob_body.specs.declared.body.Body.TheVariants.{Event, Mutex, Semaphore}
+use Rattle.ob_body.specs.Body.{owner_of}
 use Rattle.ob_waits.specs.declared.wait.Wait.{Wait}
 use Rattle.ob_waits.specs.Rules.{thread_of}
 
@@ -23,11 +24,6 @@ slot_form None = None
 slot_form (Some b) = Some (form_of b)
 
 -- the thread that owns a mutex
-abbrev pub owner_of : Body → Option ℕ
-owner_of (Event e) = None
-owner_of (Mutex m) = m.owner
-owner_of (Semaphore s) = None
-
 abbrev pub slot_owner : Option Body → Option ℕ
 slot_owner None = None
 slot_owner (Some b) = owner_of b
