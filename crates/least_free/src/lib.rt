@@ -63,7 +63,10 @@ impl LeastFree {
         ensures { IfOk result (λ s. s ≡ replicate n true) }
     {
         let levels = Levels::with_taken(alloc, n)?;
-        Ok(LeastFree { levels, spare: None })
+        Ok(LeastFree {
+            levels,
+            spare: None,
+        })
     }
 
     /// A set of length `n` in which every number is free. Taking these takes no memory.
@@ -72,7 +75,10 @@ impl LeastFree {
         ensures { IfOk result (λ s. s ≡ replicate n false) }
     {
         let levels = Levels::with_free(alloc, n)?;
-        Ok(LeastFree { levels, spare: None })
+        Ok(LeastFree {
+            levels,
+            spare: None,
+        })
     }
 
     /// The least free number: one that was given back, or the length.
