@@ -1,0 +1,245 @@
+-- How the objects go on agreeing with the keeper, slot by slot.
+use Rattle.std.proofs.Common.{◌≡◌, ◌≢◌, ℕ, ◌<◌, ◌≤◌, List, length, Option, Some, None, refl, ap, ◌∙◌, sym, subst, arith, get_or, set, Bool, true, false, cond, inl, inr}
+use Rattle.std.specs.Prelude.{is_some}
+use Rattle.std.proofs.Math.Seq.{map-set_same}
+use Rattle.std.proofs.lemmas.List.{length-set, get_or_past, get_or-set_same, get_or-set_other}
+use Rattle.std.proofs.lemmas.Bool.{cases_eq, cases_lt}
+use Rattle.pin_core.specs.declared.shape.Shape.{Shape}
+use Rattle.pin_core.specs.declared.world.Slot.{Slot}
+use Rattle.pin_core.specs.declared.word.Phase.TheVariants as phase
+use Rattle.pin_core.specs.Worlds.{slot_of, opening_slot}
+use Rattle.pin_core.specs.Events.{in_phase, with_descr}
+use Rattle.pin_words.specs.Keepers.{KeeperState, with_slots, with_looks, closed}
+use Rattle.ob_body.specs.declared.body.Body.{Body}
+use Rattle.ob_store.specs.Objects.{Object, ObjectsState, Head, object_in, with_object, with_keeper, places_in, without_seat, open_phase, open_slot, opened}
+use Rattle.ob_store.specs.Agreement.{Agrees, IsAgreed, vacant_phase}
+
+abbrev pub object_at : ObjectsState → ℕ → Option Object
+object_at s k = get_or s.objects k None
+
+abbrev pub body_at : ObjectsState → ℕ → Option Body
+body_at s k = get_or s.seen.bodies k None
+
+abbrev pub retired_at : ObjectsState → ℕ → Bool
+retired_at s k = get_or s.retired k false
+
+abbrev pub slot_at : ObjectsState → ℕ → Slot
+slot_at s k = slot_of s.keeper.slots k
+
+agrees_same : (j : ℕ) (o p : Option Object) (b c : Option Body) (r q : Bool) (x y : Slot) → p ≡ o → c ≡ b → q ≡ r → y ≡ x → Agrees j o b r x → Agrees j p c q y
+agrees_same j o p b c r q x y po cb qr yx h =
+    subst (λ (z : Option Object × Option Body × Bool × Slot). Agrees j z.0 z.1 z.2 z.3) (λ i. (sym po i, sym cb i, sym qr i, sym yx i)) h
+
+-- two states that differ at one slot alone
+pub record Beside (s t : ObjectsState) (k : ℕ) : Type 0 where
+  pub shape : t.keeper.shape ≡ s.keeper.shape
+  pub wide : length t.keeper.slots ≡ length s.keeper.slots
+  pub long : length t.objects ≡ length s.objects
+  pub bodied : length t.seen.bodies ≡ length s.seen.bodies
+  pub marked : length t.retired ≡ length s.retired
+  pub objects : (j : ℕ) → j ≢ k → object_at t j ≡ object_at s j
+  pub bodies : (j : ℕ) → j ≢ k → body_at t j ≡ body_at s j
+  pub retired : (j : ℕ) → j ≢ k → retired_at t j ≡ retired_at s j
+  pub slots : (j : ℕ) → j ≢ k → slot_at t j ≡ slot_at s j
+
+pub agreed_beside : (s t : ObjectsState) (k : ℕ) → Beside s t k → IsAgreed s → (k < t.keeper.shape.slots → Agrees k (object_at t k) (body_at t k) (retired_at t k) (slot_at t k)) → IsAgreed t
+agreed_beside s t k b a here =
+    let shape : t.keeper.shape.slots ≡ s.keeper.shape.slots = ap (λ (z : Shape). z.slots) b.shape in
+    record {
+      few = omega (arith, a.few, shape);
+      wide = omega (arith, a.wide, b.wide, shape);
+      long = omega (arith, a.long, b.long, shape);
+      bodied = omega (arith, a.bodied, b.bodied, shape);
+      marked = omega (arith, a.marked, b.marked, shape);
+      each = λ j lt. elim (cases_eq j k) [
+        | inl same ↦ subst (λ (i : ℕ). Agrees i (object_at t i) (body_at t i) (retired_at t i) (slot_at t i)) (sym same) (here (omega (arith, lt, same)))
+        | inr other ↦ agrees_same j (object_at s j) (object_at t j) (body_at s j) (body_at t j) (retired_at s j) (retired_at t j) (slot_at s j) (slot_at t j)
+            (b.objects j other) (b.bodies j other) (b.retired j other) (b.slots j other) (a.each j (omega (arith, lt, shape)))
+      ];
+    }
+
+-- a state of which only lists of the objects' references changed
+pub agreed_like : (s t : ObjectsState) → t.objects ≡ s.objects → t.seen.bodies ≡ s.seen.bodies → t.retired ≡ s.retired → t.keeper ≡ s.keeper → IsAgreed s → IsAgreed t
+agreed_like s t objects bodies retired keeper a = record {
+  few = subst (λ (k : KeeperState). k.shape.slots ≤ 65536) (sym keeper) a.few;
+  wide = subst (λ (k : KeeperState). length k.slots ≡ k.shape.slots) (sym keeper) a.wide;
+  long = subst (λ (z : List (Option Object) × KeeperState). length z.0 ≡ z.1.shape.slots) (λ i. (sym objects i, sym keeper i)) a.long;
+  bodied = subst (λ (z : List (Option Body) × KeeperState). length z.0 ≡ z.1.shape.slots) (λ i. (sym bodies i, sym keeper i)) a.bodied;
+  marked = subst (λ (z : List Bool × KeeperState). length z.0 ≡ z.1.shape.slots) (λ i. (sym retired i, sym keeper i)) a.marked;
+  each = subst (λ (z : List (Option Object) × List (Option Body) × List Bool × KeeperState). (k : ℕ) → k < z.3.shape.slots → Agrees k (get_or z.0 k None) (get_or z.1 k None) (get_or z.2 k false) (slot_of z.3.slots k))
+      (λ i. (sym objects i, sym bodies i, sym retired i, sym keeper i)) a.each;
+}
+
+-- another body in the place of one
+pub agreed_put : (s t : ObjectsState) (k : ℕ) (b : Body) → t.objects ≡ s.objects → t.seen.bodies ≡ set s.seen.bodies k (Some b) → t.retired ≡ s.retired → t.keeper ≡ s.keeper → is_some (body_at s k) ≡ true → IsAgreed s → IsAgreed t
+agreed_put s t k b objects bodies retired keeper there a = agreed_beside s t k (record {
+  shape = ap (λ (z : KeeperState). z.shape) keeper;
+  wide = ap (λ (z : KeeperState). length z.slots) keeper;
+  long = ap length objects;
+  bodied = ap length bodies ∙ length-set s.seen.bodies k (Some b);
+  marked = ap length retired;
+  objects = λ j other. ap (λ l. get_or l j None) objects;
+  bodies = λ j other. ap (λ l. get_or l j None) bodies ∙ get_or-set_other s.seen.bodies k j (Some b) None other;
+  retired = λ j other. ap (λ l. get_or l j false) retired;
+  slots = λ j other. ap (λ (z : KeeperState). slot_of z.slots j) keeper;
+}) a (λ lt. let inside : k < s.keeper.shape.slots = omega (arith, lt, ap (λ (z : KeeperState). z.shape.slots) keeper) in
+    let within : k < length s.seen.bodies = some_within s.seen.bodies k there in
+    let body : body_at t k ≡ Some b = ap (λ l. get_or l k None) bodies ∙ get_or-set_same s.seen.bodies k (Some b) None within in
+    agrees_same k (object_at s k) (object_at t k) (Some b) (body_at t k) (retired_at s k) (retired_at t k) (slot_at s k) (slot_at t k)
+    (ap (λ l. get_or l k None) objects) body (ap (λ l. get_or l k false) retired) (ap (λ (z : KeeperState). slot_of z.slots k) keeper)
+    (live_again k (object_at s k) (body_at s k) b (retired_at s k) (slot_at s k) there (a.each k inside)))
+  where
+    some_within : (bodies : List (Option Body)) (i : ℕ) → is_some (get_or bodies i None) ≡ true → i < length bodies
+    some_within bodies i h = elim (cases_lt i (length bodies)) [ inl lt ↦ lt | inr le ↦ absurd (let e = ap is_some (get_or_past bodies i None le) in cc (e, h)) ]
+
+    live_again : (j : ℕ) (o : Option Object) (x : Option Body) (b : Body) (r : Bool) (y : Slot) → is_some x ≡ true → Agrees j o x r y → Agrees j o (Some b) r y
+    live_again j o None b r y there h = absurd (cc there)
+    live_again j None (Some x) b r y there h = absurd (let e = h.0 in cc e)
+    live_again j (Some o) (Some x) b r y there h = h
+
+-- the object of a slot ends, and its slot closes; or it goes on
+pub agreed_end : (s t : ObjectsState) (k : ℕ) (ends : Bool) → t.objects ≡ s.objects → t.seen.bodies ≡ cond ends (set s.seen.bodies k None) s.seen.bodies → t.retired ≡ s.retired → t.keeper ≡ cond ends (closed s.keeper k) s.keeper
+    → is_some (body_at s k) ≡ true → IsAgreed s → IsAgreed t
+agreed_end s t k false objects bodies retired keeper there a = agreed_like s t objects bodies retired keeper a
+agreed_end s t k true objects bodies retired keeper there a = agreed_beside s t k (record {
+  shape = ap (λ (z : KeeperState). z.shape) keeper;
+  wide = ap (λ (z : KeeperState). length z.slots) keeper ∙ length-set s.keeper.slots k (in_phase (slot_at s k) phase.Closing);
+  long = ap length objects;
+  bodied = ap length bodies ∙ length-set s.seen.bodies k None;
+  marked = ap length retired;
+  objects = λ j other. ap (λ l. get_or l j None) objects;
+  bodies = λ j other. ap (λ l. get_or l j None) bodies ∙ get_or-set_other s.seen.bodies k j None None other;
+  retired = λ j other. ap (λ l. get_or l j false) retired;
+  slots = λ j other. ap (λ (z : KeeperState). slot_of z.slots j) keeper ∙ get_or-set_other s.keeper.slots k j (in_phase (slot_at s k) phase.Closing) opening_slot other;
+}) a (λ lt. let inside : k < s.keeper.shape.slots = omega (arith, lt, ap (λ (z : KeeperState). z.shape.slots) keeper) in
+    let within : k < length s.keeper.slots = omega (arith, inside, a.wide) in
+    agrees_same k (object_at s k) (object_at t k) None (body_at t k) (retired_at s k) (retired_at t k) (in_phase (slot_at s k) phase.Closing) (slot_at t k)
+    (ap (λ l. get_or l k None) objects) (ap (λ l. get_or l k None) bodies ∙ none_set s.seen.bodies k) (ap (λ l. get_or l k false) retired)
+    (ap (λ (z : KeeperState). slot_of z.slots k) keeper ∙ get_or-set_same s.keeper.slots k (in_phase (slot_at s k) phase.Closing) opening_slot within)
+    (ended k (object_at s k) (body_at s k) (retired_at s k) (slot_at s k) there (a.each k inside)))
+  where
+    none_set : (bodies : List (Option Body)) (i : ℕ) → get_or (set bodies i None) i None ≡ None
+    none_set bodies i = elim (cases_lt i (length bodies)) [ inl lt ↦ get_or-set_same bodies i None None lt | inr le ↦ get_or_past (set bodies i None) i None (omega (arith, length-set bodies i None)) ]
+
+    ended : (j : ℕ) (o : Option Object) (x : Option Body) (r : Bool) (y : Slot) → is_some x ≡ true → Agrees j o x r y → Agrees j o None r (in_phase y phase.Closing)
+    ended j o None r y there h = absurd (cc there)
+    ended j None (Some x) r y there h = absurd (let e = h.0 in cc e)
+    ended j (Some o) (Some x) r y there h = (h.0, h.1, refl, h.3)
+
+-- a slot that has a body is live
+pub live_at : (s : ObjectsState) (k : ℕ) → is_some (body_at s k) ≡ true → IsAgreed s → k < s.keeper.shape.slots → (slot_at s k).phase ≡ phase.Live
+live_at s k there a inside = by (object_at s k) (body_at s k) there (a.each k inside)
+  where
+    by : (o : Option Object) (x : Option Body) → is_some x ≡ true → Agrees k o x (retired_at s k) (slot_at s k) → (slot_at s k).phase ≡ phase.Live
+    by o None there h = absurd (cc there)
+    by None (Some x) there h = absurd (let e = h.0 in cc e)
+    by (Some o) (Some x) there h = h.2
+
+-- closing a live slot is not seen by what waits leave as it is
+pub opened_closed : (k : KeeperState) (s : ℕ) → (slot_of k.slots s).phase ≡ phase.Live → opened (closed k s) ≡ opened k
+opened_closed k s live = ap (with_slots k) (map-set_same open_slot k.slots s (in_phase (slot_of k.slots s) phase.Closing) opening_slot (λ i. record (slot_of k.slots s) { phase = (ap open_phase (sym live)) i }))
+
+-- a new object in a vacant slot: its descriptor is stored, and then it is published
+pub agreed_added : (s t : ObjectsState) (k : ℕ) (head : Head) (body : Body) → t ≡ with_object s k head body → object_at s k ≡ None → retired_at s k ≡ false → k < length s.objects → k < length s.seen.bodies → IsAgreed s → IsAgreed t
+agreed_added s t k head body is none unretired room seats a = subst IsAgreed (sym is) (agreed_beside s u k (record {
+  shape = refl;
+  wide = length-set stored_slots k (in_phase (slot_of stored_slots k) phase.Live) ∙ length-set s.keeper.slots k (with_descr (slot_at s k) head.descr);
+  long = length-set s.objects k (Some (object_in s k head));
+  bodied = length-set s.seen.bodies k (Some body);
+  marked = refl;
+  objects = λ j other. get_or-set_other s.objects k j (Some (object_in s k head)) None other;
+  bodies = λ j other. get_or-set_other s.seen.bodies k j (Some body) None other;
+  retired = λ j other. refl;
+  slots = λ j other. get_or-set_other stored_slots k j (in_phase (slot_of stored_slots k) phase.Live) opening_slot other ∙ get_or-set_other s.keeper.slots k j (with_descr (slot_at s k) head.descr) opening_slot other;
+}) a (λ lt. agrees_same k (Some (object_in s k head)) (object_at u k) (Some body) (body_at u k) false (retired_at u k) (in_phase (with_descr (slot_at s k) head.descr) phase.Live) (slot_at u k)
+    (get_or-set_same s.objects k (Some (object_in s k head)) None room) (get_or-set_same s.seen.bodies k (Some body) None seats) unretired (live lt) (refl, refl, refl, refl)))
+  where
+    u : ObjectsState
+    u = with_object s k head body
+
+    stored_slots : List Slot
+    stored_slots = set s.keeper.slots k (with_descr (slot_at s k) head.descr)
+
+    live : k < s.keeper.shape.slots → slot_at u k ≡ in_phase (with_descr (slot_at s k) head.descr) phase.Live
+    live lt =
+        let within : k < length s.keeper.slots = omega (arith, lt, a.wide) in
+        let at : slot_of stored_slots k ≡ with_descr (slot_at s k) head.descr = get_or-set_same s.keeper.slots k (with_descr (slot_at s k) head.descr) opening_slot within in
+        get_or-set_same stored_slots k (in_phase (slot_of stored_slots k) phase.Live) opening_slot (omega (arith, within, length-set s.keeper.slots k (with_descr (slot_at s k) head.descr))) ∙ ap (λ x. in_phase x phase.Live) at
+
+-- a vacant slot is free
+pub free_at : (s : ObjectsState) (k : ℕ) → object_at s k ≡ None → retired_at s k ≡ false → k < length s.objects → IsAgreed s → (slot_at s k).phase ≡ phase.Free
+free_at s k none unretired room a = by (object_at s k) (retired_at s k) none unretired (a.each k (omega (arith, room, a.long)))
+  where
+    by : (o : Option Object) (r : Bool) → o ≡ None → r ≡ false → Agrees k o (body_at s k) r (slot_at s k) → (slot_at s k).phase ≡ phase.Free
+    by None false is not h = h.1
+    by None true is not h = absurd (cc not)
+    by (Some o) r is not h = absurd (cc is)
+
+-- a slot that was taken back: the object left it
+module _ (s t : ObjectsState) (k : ℕ) (retired : List Bool) (y : Slot) (is : t ≡ with_keeper (record (without_seat (places_in s) k) { retired = retired }) t.keeper) (marked : length retired ≡ length s.retired) (others : (j : ℕ) → j ≢ k → get_or retired j false ≡ retired_at s j)
+    (keeper : t.keeper ≡ with_looks (with_slots s.keeper (set s.keeper.slots k y)) t.keeper.looks) (a : IsAgreed s) (here : y.phase ≡ vacant_phase (get_or retired k false)) where
+  removed_beside : Beside s t k
+  removed_beside = record {
+    shape = ap (λ (z : KeeperState). z.shape) keeper;
+    wide = ap (λ (z : KeeperState). length z.slots) keeper ∙ length-set s.keeper.slots k y;
+    long = ap (λ (z : ObjectsState). length z.objects) is ∙ length-set s.objects k None;
+    bodied = ap (λ (z : ObjectsState). length z.seen.bodies) is ∙ length-set s.seen.bodies k None;
+    marked = ap (λ (z : ObjectsState). length z.retired) is ∙ marked;
+    objects = λ j other. ap (λ (z : ObjectsState). object_at z j) is ∙ get_or-set_other s.objects k j None None other;
+    bodies = λ j other. ap (λ (z : ObjectsState). body_at z j) is ∙ get_or-set_other s.seen.bodies k j None None other;
+    retired = λ j other. ap (λ (z : ObjectsState). retired_at z j) is ∙ others j other;
+    slots = λ j other. ap (λ (z : KeeperState). slot_of z.slots j) keeper ∙ get_or-set_other s.keeper.slots k j y opening_slot other;
+  }
+
+  pub agreed_removed : IsAgreed t
+  agreed_removed = agreed_beside s t k removed_beside a (λ lt.
+      let inside : k < s.keeper.shape.slots = omega (arith, lt, ap (λ (z : KeeperState). z.shape.slots) keeper) in
+      let within : k < length s.keeper.slots = omega (arith, inside, a.wide) in
+      agrees_same k None (object_at t k) None (body_at t k) (get_or retired k false) (retired_at t k) y (slot_at t k)
+      (ap (λ (z : ObjectsState). object_at z k) is ∙ get_or-set_same s.objects k None None (omega (arith, inside, a.long)))
+      (ap (λ (z : ObjectsState). body_at z k) is ∙ gone s.seen.bodies k)
+      (ap (λ (z : ObjectsState). retired_at z k) is)
+      (ap (λ (z : KeeperState). slot_of z.slots k) keeper ∙ get_or-set_same s.keeper.slots k y opening_slot within)
+      (refl, here))
+    where
+      gone : (bodies : List (Option Body)) (i : ℕ) → get_or (set bodies i None) i None ≡ None
+      gone bodies i = elim (cases_lt i (length bodies)) [ inl lt ↦ get_or-set_same bodies i None None lt | inr le ↦ get_or_past (set bodies i None) i None (omega (arith, length-set bodies i None)) ]
+
+-- the object of a slot that has one is of a slot that isn't retired
+pub unretired_at : (s : ObjectsState) (k : ℕ) → is_some (object_at s k) ≡ true → IsAgreed s → k < s.keeper.shape.slots → retired_at s k ≡ false
+unretired_at s k there a inside = by (object_at s k) there (a.each k inside)
+  where
+    by : (o : Option Object) → is_some o ≡ true → Agrees k o (body_at s k) (retired_at s k) (slot_at s k) → retired_at s k ≡ false
+    by None there h = absurd (cc there)
+    by (Some o) there h = h.3
+
+-- an object without a body is in a closing slot
+pub closing_at : (s : ObjectsState) (k : ℕ) → is_some (object_at s k) ≡ true → body_at s k ≡ None → IsAgreed s → k < s.keeper.shape.slots → (slot_at s k).phase ≡ phase.Closing
+closing_at s k there ended a inside = by (object_at s k) (body_at s k) there ended (a.each k inside)
+  where
+    by : (o : Option Object) (b : Option Body) → is_some o ≡ true → b ≡ None → Agrees k o b (retired_at s k) (slot_at s k) → (slot_at s k).phase ≡ phase.Closing
+    by None b there e h = absurd (cc there)
+    by (Some o) None there e h = h.2
+    by (Some o) (Some b) there e h = absurd (cc e)
+
+-- a slot with an object is one of the keeper's
+pub object_within : (s : ObjectsState) (k : ℕ) → is_some (object_at s k) ≡ true → IsAgreed s → k < s.keeper.shape.slots
+object_within s k there a = elim (cases_lt k (length s.objects)) [
+  | inl lt ↦ omega (arith, lt, a.long)
+  | inr le ↦ absurd (let e = ap is_some (get_or_past s.objects k None le) in cc (e, there))
+]
+
+-- a slot with a body is one of the keeper's, and has its object
+pub body_within : (s : ObjectsState) (k : ℕ) → is_some (body_at s k) ≡ true → IsAgreed s → k < s.keeper.shape.slots
+body_within s k there a = elim (cases_lt k (length s.seen.bodies)) [
+  | inl lt ↦ omega (arith, lt, a.bodied)
+  | inr le ↦ absurd (let e = ap is_some (get_or_past s.seen.bodies k None le) in cc (e, there))
+]
+
+pub object_there : (s : ObjectsState) (k : ℕ) → is_some (body_at s k) ≡ true → IsAgreed s → is_some (object_at s k) ≡ true
+object_there s k there a = by (object_at s k) (body_at s k) there (a.each k (body_within s k there a))
+  where
+    by : (o : Option Object) (x : Option Body) → is_some x ≡ true → Agrees k o x (retired_at s k) (slot_at s k) → is_some o ≡ true
+    by o None there h = absurd (cc there)
+    by None (Some x) there h = absurd (let e = h.0 in cc e)
+    by (Some o) (Some x) there h = refl

@@ -1,0 +1,4 @@
+pub mod SeatLaws
+pub mod AgreeLaws
+pub mod ListLaws
+pub mod TiedLaws

@@ -1,0 +1,178 @@
+-- One seat changed: what becomes of the lists that are read off the seats.
+use Rattle.std.proofs.Common.{◌≡◌, ℕ, zero, suc, ◌∷◌, ◌-◌, ◌+◌, List, length, Option, Some, None, refl, ap, ◌∙◌, sym, subst, arith, get_or, set, map, replicate, Bool, true, false, cond, inl, inr, eqb, ltb}
+use Rattle.std.specs.Prelude.{is_none, is_some, find, not, ◌&&◌, IfSome, IsSome}
+use Rattle.std.specs.List.{range_with_len}
+use Rattle.std.proofs.Math.Seq.{map-set_same}
+use Rattle.std.proofs.lemmas.List.{length-map, get_or-map, get_or_past, map-set, set-get_or}
+use Rattle.std.proofs.lemmas.Bool.{cases_lt}
+use Rattle.pin_core.specs.declared.id.Id.{Id}
+use Rattle.ob_body.specs.declared.body.Body.{Body}
+use Rattle.ob_arena.specs.Slots.{Slots, is_vacant_at, least_vacant}
+use Rattle.ob_arena.proofs.SlotLemmas.{vacant_least}
+use Rattle.ob_waits.specs.Objects.{without_block}
+use Rattle.ob_store.specs.declared.seat.Seat.{Seat}
+use Rattle.ob_store.specs.Objects.{Object, Places, places_of, rest_of, seen_in, object_of, seat_object, seat_body, seat_handles, seat_blocks, seat_handle_left, seat_block_left, vacancy, vacant_places, with_seat, with_handle, without_handle, with_block, without_seat, is_last_handle}
+
+-- what a list that is read off another has at a place
+pub read : {A B : Type 0} (f : Option A → B) (xs : List (Option A)) (k : ℕ) → get_or (map f xs) k (f None) ≡ f (get_or xs k None)
+read f xs k = elim (cases_lt k (length xs)) [
+  | inl lt ↦ get_or-map f xs k None (f None) lt
+  | inr le ↦ get_or_past (map f xs) k (f None) (omega (arith, length-map xs f)) ∙ ap f (sym (get_or_past xs k None le))
+]
+
+-- a seat in its place, and one that differs from it
+module _ (xs : List (Option Seat)) (k : ℕ) (x : Seat) (is : get_or xs k None ≡ Some x) where
+  pub handles_at : get_or (map seat_handles xs) k 0 ≡ x.handles
+  handles_at = read seat_handles xs k ∙ ap seat_handles is
+
+  pub blocks_at : get_or (map seat_blocks xs) k 0 ≡ x.blocks
+  blocks_at = read seat_blocks xs k ∙ ap seat_blocks is
+
+  pub body_is : get_or (map seat_body xs) k None ≡ x.body
+  body_is = read seat_body xs k ∙ ap seat_body is
+
+  -- where the object stays
+  pub objects_same : (y : Seat) → seat_object (Some y) ≡ seat_object (Some x) → map seat_object (set xs k (Some y)) ≡ map seat_object xs
+  objects_same y same = map-set_same seat_object xs k (Some y) None (same ∙ ap seat_object (sym is))
+
+  pub handles_same : (y : Seat) → y.handles ≡ x.handles → map seat_handles (set xs k (Some y)) ≡ map seat_handles xs
+  handles_same y same = map-set_same seat_handles xs k (Some y) None (same ∙ ap seat_handles (sym is))
+
+  pub blocks_same : (y : Seat) → y.blocks ≡ x.blocks → map seat_blocks (set xs k (Some y)) ≡ map seat_blocks xs
+  blocks_same y same = map-set_same seat_blocks xs k (Some y) None (same ∙ ap seat_blocks (sym is))
+
+  pub bodies_same : (y : Seat) → y.body ≡ x.body → map seat_body (set xs k (Some y)) ≡ map seat_body xs
+  bodies_same y same = map-set_same seat_body xs k (Some y) None (same ∙ ap seat_body (sym is))
+
+  -- the body goes or stays
+  bodies_end : (b : Bool) (y : Seat) → y.body ≡ cond b None x.body → map seat_body (set xs k (Some y)) ≡ cond b (set (map seat_body xs) k None) (map seat_body xs)
+  bodies_end true y gone = map-set seat_body xs k (Some y) ∙ ap (set (map seat_body xs) k) gone
+  bodies_end false y stays = bodies_same y stays
+
+  pub seen_put : (b : Body) → seen_in (set xs k (Some (record x { body = Some b }))) ≡ record (seen_in xs) { bodies = set (map seat_body xs) k (Some b) }
+  seen_put b = let y : Seat = record x { body = Some b } in λ i. record { bodies = map-set seat_body xs k (Some y) i; handles = handles_same y refl i; blocks = blocks_same y refl i }
+
+  pub seen_block_left : seen_in (set xs k (Some (seat_block_left x))) ≡ without_block (seen_in xs) (record { slot = k; generation = 0 })
+  seen_block_left =
+      let y : Seat = seat_block_left x in
+      let counts : get_or (map seat_handles xs) k 0 + (get_or (map seat_blocks xs) k 0 - 1) ≡ x.handles + (x.blocks - 1) = omega (arith, handles_at, blocks_at) in
+      λ i. record {
+        bodies = (bodies_end (eqb (x.handles + (x.blocks - 1)) 0) y refl ∙ ap (λ n. cond (eqb n 0) (set (map seat_body xs) k None) (map seat_body xs)) (sym counts)) i;
+        handles = handles_same y refl i;
+        blocks = (map-set seat_blocks xs k (Some y) ∙ ap (λ n. set (map seat_blocks xs) k (n - 1)) (sym blocks_at)) i;
+      }
+
+  -- all that is read off the seats
+  module _ (retired : List Bool) where
+    abbrev before : Places
+    before = places_of (record { bodies = xs; retired = retired })
+
+    abbrev after : Seat → Places
+    after y = places_of (record { bodies = set xs k (Some y); retired = retired })
+
+    pub places_handle_came : after (record x { handles = x.handles + 1 }) ≡ with_handle before k
+    places_handle_came = let y : Seat = record x { handles = x.handles + 1 } in λ i. record {
+      objects = objects_same y refl i;
+      seen = record { bodies = bodies_same y refl i; handles = (map-set seat_handles xs k (Some y) ∙ ap (λ n. set (map seat_handles xs) k (n + 1)) (sym handles_at)) i; blocks = blocks_same y refl i };
+      retired = retired;
+    }
+
+    pub places_block_came : after (record x { blocks = x.blocks + 1 }) ≡ with_block before k
+    places_block_came = let y : Seat = record x { blocks = x.blocks + 1 } in λ i. record {
+      objects = objects_same y refl i;
+      seen = record { bodies = bodies_same y refl i; handles = handles_same y refl i; blocks = (map-set seat_blocks xs k (Some y) ∙ ap (λ n. set (map seat_blocks xs) k (n + 1)) (sym blocks_at)) i };
+      retired = retired;
+    }
+
+    pub last_is : is_last_handle before k ≡ eqb ((x.handles - 1) + x.blocks) 0
+    last_is = let counts : (get_or (map seat_handles xs) k 0 - 1) + get_or (map seat_blocks xs) k 0 ≡ (x.handles - 1) + x.blocks = omega (arith, handles_at, blocks_at) in ap (λ n. eqb n 0) counts
+
+    pub places_handle_left : after (seat_handle_left x) ≡ without_handle before k
+    places_handle_left = let y : Seat = seat_handle_left x in λ i. record {
+      objects = objects_same y refl i;
+      seen = record {
+        bodies = (bodies_end (eqb ((x.handles - 1) + x.blocks) 0) y refl ∙ ap (λ b. cond b (set (map seat_body xs) k None) (map seat_body xs)) (sym last_is)) i;
+        handles = (map-set seat_handles xs k (Some y) ∙ ap (λ n. set (map seat_handles xs) k (n - 1)) (sym handles_at)) i;
+        blocks = blocks_same y refl i;
+      };
+      retired = retired;
+    }
+
+    -- what waits leave as it is
+    pub rest_same : (y : Seat) → seat_object (Some y) ≡ seat_object (Some x) → y.handles ≡ x.handles → rest_of (after y) ≡ rest_of before
+    rest_same y object handles = λ i. record { objects = objects_same y object i; handles = handles_same y handles i; retired = retired }
+
+-- vacancy is that of the arena
+none_object : (x : Option Seat) → is_none (seat_object x) ≡ is_none x
+none_object None = refl
+none_object (Some x) = refl
+
+pub vacant_same : (s : Slots Seat) (k : ℕ) → is_vacant_at (vacancy (places_of s)) k ≡ is_vacant_at s k
+vacant_same s k =
+    ap (λ n. ltb k n && (is_none (get_or (map seat_object s.bodies) k None) && not (get_or s.retired k false))) (length-map s.bodies seat_object)
+    ∙ ap (λ b. ltb k (length s.bodies) && (b && not (get_or s.retired k false))) (ap is_none (read seat_object s.bodies k) ∙ none_object (get_or s.bodies k None))
+
+pub least_same : (s : Slots Seat) → least_vacant s ≡ least_vacant (vacancy (places_of s))
+least_same s =
+    ap {A = ℕ → Bool} (λ p. find p (range_with_len 0 (length s.bodies))) (λ i k. sym (vacant_same s k) i)
+    ∙ ap (λ n. find (is_vacant_at (vacancy (places_of s))) (range_with_len 0 n)) (sym (length-map s.bodies seat_object))
+
+pub least_is : (s : Slots Object) (r : Option ℕ) → r ≡ least_vacant s → IfSome r (λ slot. is_vacant_at s slot ≡ true)
+least_is s None is = tt
+least_is s (Some slot) is = vacant_least s slot (sym is)
+
+-- a new object in a vacant slot
+pub places_added : (s : Slots Seat) (k : ℕ) (y : Seat) (body : Body) → y.body ≡ Some body → y.handles ≡ 1 → y.blocks ≡ 0 → places_of (record s { bodies = set s.bodies k (Some y) }) ≡ with_seat (places_of s) k (object_of y) body
+places_added s k y body has one none = λ i. record {
+  objects = map-set seat_object s.bodies k (Some y) i;
+  seen = record {
+    bodies = (map-set seat_body s.bodies k (Some y) ∙ ap (set (map seat_body s.bodies) k) has) i;
+    handles = (map-set seat_handles s.bodies k (Some y) ∙ ap (set (map seat_handles s.bodies) k) one) i;
+    blocks = (map-set seat_blocks s.bodies k (Some y) ∙ ap (set (map seat_blocks s.bodies) k) none) i;
+  };
+  retired = s.retired;
+}
+
+-- an object that leaves
+pub places_removed : (s : Slots Seat) (k : ℕ) → places_of (record s { bodies = set s.bodies k None }) ≡ without_seat (places_of s) k
+places_removed s k = λ i. record {
+  objects = map-set seat_object s.bodies k None i;
+  seen = record { bodies = map-set seat_body s.bodies k None i; handles = map-set seat_handles s.bodies k None i; blocks = map-set seat_blocks s.bodies k None i };
+  retired = s.retired;
+}
+
+pub none_of : {A : Type 0} (x : Option A) → is_some x ≡ false → x ≡ None
+none_of None h = refl
+none_of (Some x) h = cc
+
+-- a slot without a seat has nothing to lose
+pub seen_absent : (xs : List (Option Seat)) (id : Id) → get_or xs id.slot None ≡ None → seen_in xs ≡ without_block (seen_in xs) id
+seen_absent xs id none =
+    let handles : get_or (map seat_handles xs) id.slot 0 ≡ 0 = read seat_handles xs id.slot ∙ ap seat_handles none in
+    let blocks : get_or (map seat_blocks xs) id.slot 0 ≡ 0 = read seat_blocks xs id.slot ∙ ap seat_blocks none in
+    let less : get_or (map seat_blocks xs) id.slot 0 ≡ get_or (map seat_blocks xs) id.slot 0 - 1 = omega (arith, blocks) in
+    let counts : get_or (map seat_handles xs) id.slot 0 + (get_or (map seat_blocks xs) id.slot 0 - 1) ≡ 0 = omega (arith, handles, blocks) in
+    λ i. record {
+      bodies = (sym (set-get_or (map seat_body xs) id.slot None) ∙ ap (set (map seat_body xs) id.slot) (read seat_body xs id.slot ∙ ap seat_body none) ∙ ap (λ n. cond (eqb n 0) (set (map seat_body xs) id.slot None) (map seat_body xs)) (sym counts)) i;
+      handles = map seat_handles xs;
+      blocks = (sym (set-get_or (map seat_blocks xs) id.slot 0) ∙ ap (set (map seat_blocks xs) id.slot) less) i;
+    }
+
+-- where one list has something, the slot has a seat
+pub seated : (xs : List (Option Seat)) (k : ℕ) → IsSome (get_or (map seat_object xs) k None) → IsSome (get_or xs k None)
+seated xs k h = by (get_or xs k None) (subst (λ (x : Option Object). IsSome x) (read seat_object xs k) h)
+  where
+    by : (x : Option Seat) → IsSome (seat_object x) → IsSome x
+    by None h = h
+    by (Some x) h = refl
+
+map-replicate : {A B : Type 0} (f : A → B) (x : A) (n : ℕ) → map f (replicate n x) ≡ replicate n (f x)
+map-replicate f x zero = refl
+map-replicate f x (suc n) = ap (λ t. f x ∷ t) (map-replicate f x n)
+
+pub places_vacant : (n : ℕ) → places_of (record { bodies = replicate n None; retired = replicate n false }) ≡ vacant_places n
+places_vacant n = λ i. record {
+  objects = map-replicate seat_object None n i;
+  seen = record { bodies = map-replicate seat_body None n i; handles = map-replicate seat_handles None n i; blocks = map-replicate seat_blocks None n i };
+  retired = replicate n false;
+}

@@ -1,0 +1,7 @@
+use Rattle.std.proofs.Common.{◌∙◌, ap}
+use Rattle.ob_store.specs.Objects.{Places, with_block}
+use Rattle.ob_store.proofs.SeatLaws.{places_block_came}
+use Rattle.ob_store.proofs.seats.Seats.block_came.Goals as goal
+
+pub returns : goal.returns
+returns c = places_block_came c.self.inside.arena.bodies c.args.slot c.get_mut.result.now c.get_mut.ensures.value c.self.inside.arena.retired ∙ ap (λ (p : Places). with_block p c.args.slot) c.self.view_is

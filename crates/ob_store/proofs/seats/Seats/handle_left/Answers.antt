@@ -1,0 +1,10 @@
+use Rattle.std.proofs.Common.{◌∙◌, ap, set, Some}
+use Rattle.ob_store.specs.declared.seat.Seat.{Seat}
+use Rattle.ob_store.specs.Objects.{Places, places_of, without_handle}
+use Rattle.ob_store.proofs.SeatLaws.{places_handle_left}
+use Rattle.ob_store.proofs.seats.Seats.handle_left.Goals as goal
+
+pub returns-clause-value : goal.returns-clause-value
+returns-clause-value c =
+    ap (λ (x : Seat). places_of (record { bodies = set c.self.inside.arena.bodies c.args.slot (Some x); retired = c.self.inside.arena.retired })) c.handle_left.ensures.value
+    ∙ places_handle_left c.self.inside.arena.bodies c.args.slot c.get_mut.result.now c.get_mut.ensures.value c.self.inside.arena.retired ∙ ap (λ (p : Places). without_handle p c.args.slot) c.self.view_is

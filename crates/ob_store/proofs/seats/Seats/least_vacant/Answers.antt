@@ -1,0 +1,11 @@
+use Rattle.std.proofs.Common.{◌≡◌, ◌∙◌, true, subst}
+use Rattle.std.specs.Prelude.{IfSome}
+use Rattle.ob_arena.specs.Slots.{is_vacant_at}
+use Rattle.ob_store.specs.Objects.{Places, places_of, vacancy}
+use Rattle.ob_store.proofs.SeatLaws.{least_same, least_is}
+use Rattle.ob_store.proofs.seats.Seats.least_vacant.Goals as goal
+
+pub returns-clause-vacant : goal.returns-clause-vacant
+returns-clause-vacant c =
+    subst (λ (p : Places). IfSome c.least_vacant.result (λ slot. is_vacant_at (vacancy p) slot ≡ true)) c.self.view_is
+    (least_is (vacancy (places_of c.self.inside.arena)) c.least_vacant.result (c.least_vacant.ensures ∙ least_same c.self.inside.arena))

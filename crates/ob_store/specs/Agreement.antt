@@ -1,0 +1,56 @@
+-- What ties the objects to the keeper, slot by slot.
+use Rattle.std.specs.Prelude.{◌≡◌, ℕ, ◌<◌, ◌≤◌, Bool, true, false, List, Option, Some, None, length, slice_index_or}
+use Rattle.pin_core.specs.declared.id.Id.{Id}
+use Rattle.pin_core.specs.declared.descr.Descr.{Descr}
+use Rattle.pin_core.specs.declared.word.Phase.{Phase}
+use Rattle.pin_core.specs.declared.word.Phase.TheVariants.{Free, Live, Closing, Retired}
+use Rattle.pin_core.specs.declared.world.Slot.{Slot}
+use Rattle.pin_core.specs.Holds.{tally}
+use Rattle.pin_core.specs.Worlds.{slot_of, is_with}
+use Rattle.pin_words.specs.declared.pin_keeper.Reclaim.{Reclaim}
+use Rattle.pin_words.specs.declared.pin_keeper.Reclaim.TheVariants as outcome
+use Rattle.pin_words.specs.Keepers.{Reclaims}
+use Rattle.ob_body.specs.declared.body.Body.{Body}
+use Rattle.ob_store.specs.Objects.{Object, ObjectsState, with_keeper, places_in, without_seat, with_retired}
+
+-- live with a body, closing without one
+abbrev pub phase_of : Option Body → Phase
+phase_of None = Closing
+phase_of (Some body) = Live
+
+abbrev pub vacant_phase : Bool → Phase
+vacant_phase true = Retired
+vacant_phase false = Free
+
+-- a slot without an object is free or retired; the object of a slot has its generation and its descriptor
+abbrev pub Agrees : ℕ → Option Object → Option Body → Bool → Slot → Type 0
+Agrees s None body retired x = (body ≡ None) × (x.phase ≡ vacant_phase retired)
+Agrees s (Some o) body retired x = (o.id ≡ record { slot = s; generation = x.generation }) × (o.descr ≡ x.descr) × (x.phase ≡ phase_of body) × (retired ≡ false)
+
+pub record IsAgreed (s : ObjectsState) : Type 0 where
+  pub few : s.keeper.shape.slots ≤ 65536
+  pub wide : length s.keeper.slots ≡ s.keeper.shape.slots
+  pub long : length s.objects ≡ s.keeper.shape.slots
+  pub bodied : length s.seen.bodies ≡ s.keeper.shape.slots
+  pub marked : length s.retired ≡ s.keeper.shape.slots
+  pub each : (k : ℕ) → k < s.keeper.shape.slots → Agrees k (slice_index_or s.objects k None) (slice_index_or s.seen.bodies k None) (slice_index_or s.retired k false) (slot_of s.keeper.slots k)
+
+-- each object's Id is published with its descriptor, where the keeper lists what it published
+abbrev pub Listed : Option (List (Id × Descr)) → Option Object → Type 0
+Listed None x = Unit {0}
+Listed (Some ps) None = Unit {0}
+Listed (Some ps) (Some o) = 0 < tally (is_with o.id o.descr) ps
+
+pub record IsListed (published : Option (List (Id × Descr))) (objects : List (Option Object)) : Type 0 where
+  pub each : (k : ℕ) → Listed published (slice_index_or objects k None)
+
+-- what holds of objects and their keeper at all times
+pub record IsTied (s : ObjectsState) : Type 0 where
+  pub agreed : IsAgreed s
+  pub listed : IsListed s.keeper.published s.objects
+
+-- what a reclaim leaves: the object leaves a slot that is freed or retired, and stays in one that somebody holds
+abbrev pub Reclaimed : ObjectsState → ℕ → Reclaim → ObjectsState → Type 0
+Reclaimed s k outcome.Freed t = (t ≡ with_keeper (without_seat (places_in s) k) t.keeper) × Reclaims s.keeper k outcome.Freed t.keeper
+Reclaimed s k outcome.Retired t = (t ≡ with_keeper (with_retired (without_seat (places_in s) k) k) t.keeper) × Reclaims s.keeper k outcome.Retired t.keeper
+Reclaimed s k (outcome.Held n) t = (t ≡ record s { keeper = t.keeper }) × Reclaims s.keeper k (outcome.Held n) t.keeper

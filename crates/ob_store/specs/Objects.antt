@@ -1,0 +1,174 @@
+-- The objects in their slots, how much refers to each, and the keeper of the slots.
+use Rattle.std.specs.Prelude.{ℕ, ◌+◌, ◌-◌, ◌==◌, Bool, true, false, List, map, replicate, Option, Some, None, if◌then◌else◌, slice_index_or, slice_set}
+use Rattle.ob_rights.specs.declared.rights.Rights.{Rights}
+use Rattle.pin_core.specs.declared.id.Id.{Id}
+use Rattle.pin_core.specs.declared.descr.Descr.{Descr}
+use Rattle.pin_core.specs.declared.word.Phase.{Phase}
+use Rattle.pin_core.specs.declared.word.Phase.TheVariants as phase
+use Rattle.pin_core.specs.declared.world.Slot.{Slot}
+use Rattle.pin_words.specs.Keepers.{KeeperState, with_slots, stored, published, closed}
+use Rattle.pin_words.specs.Views.{id_of}
+use Rattle.ob_name.specs.Names.{ObjectName}
+use Rattle.ob_body.specs.declared.body.Body.{Body}
+use Rattle.ob_arena.specs.Slots.{Slots}
+use Rattle.ob_waits.specs.Objects as waits
+use Rattle.ob_store.specs.declared.seat.Seat.{Seat}
+
+-- what of an object never changes; its body stands apart
+pub record Object : Type 0 where
+  pub id : Id
+  pub birth : ℕ  -- objects are numbered by their births, from 0
+  pub descr : Descr
+  pub grant : Rights
+  pub name : Option ObjectName
+
+-- by slot: the object; its body, its handles and its blocks; and whether the slot is retired
+pub record Places : Type 0 where
+  pub objects : List (Option Object)
+  pub seen : waits.Objects
+  pub retired : List Bool
+
+-- the same, and what the keeper of the slots says
+pub record ObjectsState : Type 0 where
+  pub objects : List (Option Object)
+  pub seen : waits.Objects
+  pub retired : List Bool
+  pub keeper : KeeperState
+
+abbrev pub with_keeper : Places → KeeperState → ObjectsState
+with_keeper p keeper = record { objects = p.objects; seen = p.seen; retired = p.retired; keeper = keeper }
+
+abbrev pub places_in : ObjectsState → Places
+places_in s = record { objects = s.objects; seen = s.seen; retired = s.retired }
+
+abbrev pub object_of : Seat → Object
+object_of seat = record { id = seat.id; birth = seat.birth; descr = seat.descr; grant = seat.grant; name = seat.name }
+
+abbrev pub seat_object : Option Seat → Option Object
+seat_object None = None
+seat_object (Some seat) = Some (object_of seat)
+
+abbrev pub seat_body : Option Seat → Option Body
+seat_body None = None
+seat_body (Some seat) = seat.body
+
+abbrev pub seat_handles : Option Seat → ℕ
+seat_handles None = 0
+seat_handles (Some seat) = seat.handles
+
+abbrev pub seat_blocks : Option Seat → ℕ
+seat_blocks None = 0
+seat_blocks (Some seat) = seat.blocks
+
+-- an object with one handle, or one block, fewer: without references it has no body
+abbrev pub seat_handle_left : Seat → Seat
+seat_handle_left seat = record seat { handles = seat.handles - 1; body = if (seat.handles - 1) + seat.blocks == 0 then None else seat.body }
+
+abbrev pub seat_block_left : Seat → Seat
+seat_block_left seat = record seat { blocks = seat.blocks - 1; body = if seat.handles + (seat.blocks - 1) == 0 then None else seat.body }
+
+abbrev pub seen_in : List (Option Seat) → waits.Objects
+seen_in seats = record { bodies = map seat_body seats; handles = map seat_handles seats; blocks = map seat_blocks seats }
+
+abbrev pub places_of : Slots Seat → Places
+places_of s = record { objects = map seat_object s.bodies; seen = seen_in s.bodies; retired = s.retired }
+
+-- the slots with their objects, as an arena has them
+abbrev pub vacancy : Places → Slots Object
+vacancy p = record { bodies = p.objects; retired = p.retired }
+
+-- no slot has an object
+abbrev pub vacant_places : ℕ → Places
+vacant_places n = record {
+  objects = replicate n None;
+  seen = record { bodies = replicate n None; handles = replicate n 0; blocks = replicate n 0 };
+  retired = replicate n false;
+}
+
+-- a new object in a slot, with one handle
+abbrev pub with_seat : Places → ℕ → Object → Body → Places
+with_seat p slot object body = record p {
+  objects = slice_set p.objects slot (Some object);
+  seen = record {
+    bodies = slice_set p.seen.bodies slot (Some body);
+    handles = slice_set p.seen.handles slot 1;
+    blocks = slice_set p.seen.blocks slot 0;
+  };
+}
+
+abbrev pub with_handle : Places → ℕ → Places
+with_handle p slot = record p { seen = record p.seen { handles = slice_set p.seen.handles slot (slice_index_or p.seen.handles slot 0 + 1) } }
+
+-- whether nothing refers to the slot's object once a handle has left
+abbrev pub is_last_handle : Places → ℕ → Bool
+is_last_handle p slot = (slice_index_or p.seen.handles slot 0 - 1) + slice_index_or p.seen.blocks slot 0 == 0
+
+-- one handle fewer; an object that nothing refers to any more has no body
+abbrev pub without_handle : Places → ℕ → Places
+without_handle p slot = record p {
+  seen = record p.seen {
+    handles = slice_set p.seen.handles slot (slice_index_or p.seen.handles slot 0 - 1);
+    bodies = if is_last_handle p slot then slice_set p.seen.bodies slot None else p.seen.bodies;
+  };
+}
+
+abbrev pub with_block : Places → ℕ → Places
+with_block p slot = record p { seen = record p.seen { blocks = slice_set p.seen.blocks slot (slice_index_or p.seen.blocks slot 0 + 1) } }
+
+-- a slot without its object
+abbrev pub without_seat : Places → ℕ → Places
+without_seat p slot = record p {
+  objects = slice_set p.objects slot None;
+  seen = record { bodies = slice_set p.seen.bodies slot None; handles = slice_set p.seen.handles slot 0; blocks = slice_set p.seen.blocks slot 0 };
+}
+
+abbrev pub with_retired : Places → ℕ → Places
+with_retired p slot = record p { retired = slice_set p.retired slot true }
+
+-- what waits leave as it is: all but bodies and blocks
+pub record Rest : Type 0 where
+  pub objects : List (Option Object)
+  pub handles : List ℕ
+  pub retired : List Bool
+
+abbrev pub rest_of : Places → Rest
+rest_of p = record { objects = p.objects; handles = p.seen.handles; retired = p.retired }
+
+-- what of a slot's object never changes, but for its Id, which the slot gives
+pub record Head : Type 0 where
+  pub birth : ℕ
+  pub descr : Descr
+  pub grant : Rights
+  pub name : Option ObjectName
+
+abbrev pub object_in : ObjectsState → ℕ → Head → Object
+object_in s slot head = record { id = id_of s.keeper.slots slot; birth = head.birth; descr = head.descr; grant = head.grant; name = head.name }
+
+-- a new object: its descriptor is stored, and then it is published
+abbrev pub with_object : ObjectsState → ℕ → Head → Body → ObjectsState
+with_object s slot head body = with_keeper (with_seat (places_in s) slot (object_in s slot head) body) (published (stored s.keeper slot head.descr) slot)
+
+-- one handle fewer; the slot of an object that nothing refers to any more closes
+abbrev pub without_handle_of : ObjectsState → ℕ → ObjectsState
+without_handle_of s slot = with_keeper (without_handle (places_in s) slot) (if is_last_handle (places_in s) slot then closed s.keeper slot else s.keeper)
+
+-- a closing slot as it was when it was live
+abbrev pub open_phase : Phase → Phase
+open_phase phase.Free = phase.Free
+open_phase phase.Live = phase.Live
+open_phase phase.Closing = phase.Live
+open_phase phase.Retired = phase.Retired
+
+abbrev pub open_slot : Slot → Slot
+open_slot s = record s { phase = open_phase s.phase }
+
+abbrev pub opened : KeeperState → KeeperState
+opened k = with_slots k (map open_slot k.slots)
+
+-- what waits leave as it is: of the keeper all but that slots close
+pub record KeptRest : Type 0 where
+  pub rest : Rest
+  pub keeper : KeeperState
+
+abbrev pub kept_rest : ObjectsState → KeptRest
+kept_rest s = record { rest = rest_of (places_in s); keeper = opened s.keeper }

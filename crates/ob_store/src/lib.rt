@@ -1,0 +1,11 @@
+//! What a manager keeps: objects in their slots with their keeper, and how much refers to each.
+#![tactic(auto)]
+
+mod objects;
+mod seat;
+mod seats;
+#[cfg(test)]
+mod tests;
+
+pub use objects::Objects;
+pub use seat::Seat;

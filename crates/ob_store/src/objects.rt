@@ -1,0 +1,176 @@
+ghost use Rattle.std.specs.Prelude.{◌≡◌, ◌<◌, ◌≤◌, true, IfOk, IfErr, IfSome, IsSome, None, Some, slice_index_or};
+ghost use Rattle.std.specs.Option.{option_map};
+ghost use Rattle.pin_words.specs.Keepers.{IsFresh};
+ghost use Rattle.pin_words.specs.Views.{id_of};
+ghost use Rattle.pin_core.specs.Descrs.{IsGiven};
+ghost use Rattle.ob_arena.specs.Slots.{is_vacant_at, least_vacant};
+ghost use Rattle.ob_store.specs.Objects.{object_of, places_in, with_keeper, vacant_places, vacancy, with_object, with_handle, without_handle_of, with_block};
+ghost use Rattle.ob_store.specs.Agreement.{Reclaimed};
+
+use crate::seat::Seat;
+use crate::seats::Seats;
+use ob_arena::SLOTS_MAX;
+use ob_body::Body;
+use ob_name::Name;
+use ob_rights::Rights;
+use ob_waits::Bodies;
+use pin_core::{Descr, Id};
+use pin_words::{PinKeeper, Reclaim};
+use std::alloc::Global;
+use std::marker::Model;
+
+/// The objects in their slots, and the keeper of the slots.
+///
+/// An object's body goes with the last reference to it, and its slot closes then.
+#[derive(Drop)]
+pub struct Objects<K: PinKeeper> {
+    seats: Seats,
+    keeper: K,
+}
+
+impl<K: PinKeeper> Model for Objects<K> {
+    ghost use Rattle.ob_store.specs.Objects.{ObjectsState, with_keeper};
+    ghost use Rattle.ob_store.specs.Agreement.{IsTied};
+
+    ghost Value = { ObjectsState };
+
+    ghost view = { λ o. with_keeper o.seats (K.kept o.keeper) };
+
+    ghost invariant = { λ o. IsTied (with_keeper o.seats (K.kept o.keeper)) };
+}
+
+impl<K: PinKeeper> Objects<K> {
+    /// As many slots as the keeper has, and no object. The keeper comes back where memory is wanting.
+    pub fn new(alloc: Global, slots: u32, keeper: K) -> Result<Objects<K>, K>
+        requires fresh { IsFresh (K.kept keeper) (K.kept keeper).shape }
+        requires slots { slots ≡ (K.kept keeper).shape.slots }
+        requires few { slots ≤ SLOTS_MAX }
+        ensures ok { IfOk result (λ o. o ≡ with_keeper (vacant_places slots) (K.kept keeper)) }
+        ensures err { IfErr result (λ k. k ≡ keeper) }
+    {
+        match Seats::new(alloc, slots) {
+            Ok(seats) => Ok(Objects { seats, keeper }),
+            Err(_) => Err(keeper),
+        }
+    }
+
+    /// The least vacant slot.
+    pub fn least_vacant(&self) -> Option<u32>
+        ensures value { result ≡ least_vacant (vacancy (places_in self.now)) }
+        ensures vacant { IfSome result (λ slot. is_vacant_at (vacancy (places_in self.now)) slot ≡ true) }
+    {
+        self.seats.least_vacant()
+    }
+
+    /// The object in a slot.
+    pub fn look(&self, slot: u32) -> Option<&Seat>
+        ensures object { slice_index_or self.now.objects slot None ≡ option_map (λ seat. object_of seat.now) result }
+        ensures body { IfSome result (λ seat. slice_index_or self.now.seen.bodies slot None ≡ seat.now.body) }
+        ensures handles { IfSome result (λ seat. slice_index_or self.now.seen.handles slot 0 ≡ seat.now.handles) }
+        ensures blocks { IfSome result (λ seat. slice_index_or self.now.seen.blocks slot 0 ≡ seat.now.blocks) }
+    {
+        self.seats.look(slot)
+    }
+
+    /// A new object in a vacant slot, with one handle; its Id.
+    pub fn add(
+        &mut self,
+        slot: u32,
+        birth: u64,
+        descr: Descr,
+        grant: Rights,
+        name: Option<Name>,
+        body: Body,
+    ) -> Id
+        requires vacant { is_vacant_at (vacancy (places_in self.old)) slot ≡ true }
+        requires given { IsGiven descr }
+        ensures id { result ≡ id_of self.old.keeper.slots slot }
+        ensures added { self.new ≡ with_object self.old slot (record { birth = birth; descr = descr; grant = grant; name = name }) body }
+    {
+        let generation = self.keeper.generation(slot);
+        let id = Id { slot, generation };
+        self.seats.add(id, birth, descr, grant, name, body);
+        self.keeper.store_descr(slot, descr);
+        self.keeper.publish(slot);
+        id
+    }
+
+    /// One handle more.
+    pub fn handle_came(&mut self, slot: u32)
+        requires there { IsSome (slice_index_or self.old.objects slot None) }
+        requires few { slice_index_or self.old.seen.handles slot 0 < 4294967295 }
+        ensures { self.new ≡ with_keeper (with_handle (places_in self.old) slot) self.old.keeper }
+    {
+        self.seats.handle_came(slot);
+    }
+
+    /// One handle fewer of an object that has a body.
+    pub fn handle_left(&mut self, slot: u32)
+        requires some { 0 < slice_index_or self.old.seen.handles slot 0 }
+        requires live { IsSome (slice_index_or self.old.seen.bodies slot None) }
+        ensures { self.new ≡ without_handle_of self.old slot }
+    {
+        if self.seats.handle_left(slot) {
+            self.keeper.close_slot(slot);
+        }
+    }
+
+    /// One more place of a pending wait names the object.
+    pub fn block_came(&mut self, slot: u32)
+        requires there { IsSome (slice_index_or self.old.objects slot None) }
+        requires few { slice_index_or self.old.seen.blocks slot 0 < 18446744073709551615 }
+        ensures { self.new ≡ with_keeper (with_block (places_in self.old) slot) self.old.keeper }
+    {
+        self.seats.block_came(slot);
+    }
+
+    /// Takes the slot of an ended object back, unless somebody holds it: the object leaves it, and where it was at its last
+    /// generation it is given up for good.
+    pub fn reclaim(&mut self, slot: u32) -> Reclaim
+        requires there { IsSome (slice_index_or self.old.objects slot None) }
+        requires ended { slice_index_or self.old.seen.bodies slot None ≡ None }
+        ensures kind { Reclaimed self.old slot result self.new }
+        ensures exact { K.reclaims self.old.keeper slot result self.new.keeper }
+    {
+        match self.keeper.reclaim(slot) {
+            Reclaim::Freed => {
+                self.seats.remove(slot);
+                return Reclaim::Freed;
+            }
+            Reclaim::Retired => {
+                self.seats.remove(slot);
+                self.seats.retire(slot);
+                return Reclaim::Retired;
+            }
+            Reclaim::Held { pins } => return Reclaim::Held { pins },
+        }
+    }
+}
+
+impl<K: PinKeeper> Bodies for Objects<K> {
+    ghost use Rattle.ob_store.specs.Objects.{KeptRest, kept_rest};
+
+    ghost objects = { λ o. o.seen };
+
+    ghost Rest = { KeptRest };
+
+    ghost rest = { kept_rest };
+
+    fn body(&self, id: Id) -> Option<Body> {
+        self.seats.body(id)
+    }
+
+    fn put(&mut self, id: Id, body: Body) {
+        self.seats.put(id, body);
+    }
+
+    fn block_left(&mut self, id: Id) {
+        let had_body = self.seats.body(id).is_some();
+        self.seats.block_left(id);
+        if had_body {
+            if self.seats.body(id).is_none() {
+                self.keeper.close_slot(id.slot);
+            }
+        }
+    }
+}

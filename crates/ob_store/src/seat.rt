@@ -1,0 +1,83 @@
+ghost use Rattle.std.specs.Prelude.{◌≡◌, ◌<◌, ◌+◌, ◌-◌, ◌==◌, ◌&&◌, None, Some, is_some, if◌then◌else◌};
+ghost use Rattle.ob_store.specs.Objects.{seat_handle_left, seat_block_left};
+
+use ob_body::Body;
+use ob_name::Name;
+use ob_rights::Rights;
+use pin_core::{Descr, Id};
+
+/// An object in its slot, and how much refers to it.
+#[derive(Drop)]
+pub struct Seat {
+    /// Its Id, whose slot this is.
+    pub id: Id,
+    /// Its number, in the order of births, from 0.
+    pub birth: u64,
+    /// What it is, for its whole life.
+    pub descr: Descr,
+    /// The rights that an open or a duplicate may get (*profile*).
+    pub grant: Rights,
+    /// How many handles name it.
+    pub handles: u32,
+    /// How many places of pending waits name it.
+    pub blocks: u64,
+    /// Its body: none once nothing refers to it.
+    pub body: Option<Body>,
+    /// Its name, if it was created with one.
+    pub name: Option<Name>,
+}
+
+impl Seat {
+    /// A new object with one handle.
+    pub(crate) fn new(
+        id: Id,
+        birth: u64,
+        descr: Descr,
+        grant: Rights,
+        name: Option<Name>,
+        body: Body,
+    ) -> Seat
+        ensures { result ≡ record { id = id; birth = birth; descr = descr; grant = grant; handles = 1; blocks = 0; body = Some body; name = name } }
+    {
+        Seat {
+            id,
+            birth,
+            descr,
+            grant,
+            handles: 1,
+            blocks: 0,
+            body: Some(body),
+            name,
+        }
+    }
+
+    /// One handle fewer: the body goes with the last reference. Whether it did.
+    pub(crate) fn handle_left(&mut self) -> bool
+        requires { 0 < self.old.handles }
+        ensures value { self.new ≡ seat_handle_left self.old }
+        ensures ended { result ≡ is_some self.old.body && ((self.old.handles - 1) + self.old.blocks == 0) }
+    {
+        self.handles -= 1;
+        self.end_if_free()
+    }
+
+    /// One block fewer, where there is one: the body goes with the last reference. Whether it did.
+    pub(crate) fn block_left(&mut self) -> bool
+        ensures value { self.new ≡ seat_block_left self.old }
+        ensures ended { result ≡ is_some self.old.body && (self.old.handles + (self.old.blocks - 1) == 0) }
+    {
+        self.blocks = self.blocks.saturating_sub(1);
+        self.end_if_free()
+    }
+
+    // The body goes where nothing refers to the object.
+    fn end_if_free(&mut self) -> bool
+        ensures value { self.new ≡ record self.old { body = if self.old.handles + self.old.blocks == 0 then None else self.old.body } }
+        ensures ended { result ≡ is_some self.old.body && (self.old.handles + self.old.blocks == 0) }
+    {
+        if self.handles > 0 || self.blocks > 0 {
+            return false;
+        }
+        self.body.take().is_some()
+    }
+}

@@ -1,0 +1,149 @@
+ghost use Rattle.std.specs.Prelude.{◌≡◌, ◌<◌, ◌≤◌, ◌+◌, ◌&&◌, true, IfOk, IfSome, IsSome, None, Some, is_some, slice_index_or};
+ghost use Rattle.std.specs.Option.{option_map};
+ghost use Rattle.ob_arena.specs.Slots.{is_vacant_at, least_vacant};
+ghost use Rattle.ob_store.specs.Objects.{object_of, vacant_places, vacancy, with_seat, with_handle, without_handle, is_last_handle, with_block, without_seat, with_retired};
+
+use crate::seat::Seat;
+use ob_arena::{Arena, SLOTS_MAX};
+use ob_body::Body;
+use ob_name::Name;
+use ob_rights::Rights;
+use ob_waits::Bodies;
+use pin_core::{Descr, Id};
+use std::alloc::{AllocError, Global};
+use std::marker::Model;
+
+/// The objects in their slots. An object's body goes with the last reference to it.
+#[derive(Drop)]
+pub(crate) struct Seats {
+    arena: Arena<Seat>,
+}
+
+impl Model for Seats {
+    ghost use Rattle.ob_store.specs.Objects.{Places, places_of};
+
+    ghost Value = { Places };
+
+    ghost view = { λ s. places_of s.arena };
+}
+
+impl Seats {
+    pub(crate) fn new(alloc: Global, slots: u32) -> Result<Seats, AllocError>
+        requires { slots ≤ SLOTS_MAX }
+        ensures { IfOk result (λ seats. seats ≡ vacant_places slots) }
+    {
+        Ok(Seats {
+            arena: Arena::new(alloc, slots)?,
+        })
+    }
+
+    /// The least vacant slot.
+    pub(crate) fn least_vacant(&self) -> Option<u32>
+        ensures value { result ≡ least_vacant (vacancy self.now) }
+        ensures vacant { IfSome result (λ slot. is_vacant_at (vacancy self.now) slot ≡ true) }
+    {
+        self.arena.least_vacant()
+    }
+
+    /// The object in a slot.
+    pub(crate) fn look(&self, slot: u32) -> Option<&Seat>
+        ensures object { slice_index_or self.now.objects slot None ≡ option_map (λ seat. object_of seat.now) result }
+        ensures body { IfSome result (λ seat. slice_index_or self.now.seen.bodies slot None ≡ seat.now.body) }
+        ensures handles { IfSome result (λ seat. slice_index_or self.now.seen.handles slot 0 ≡ seat.now.handles) }
+        ensures blocks { IfSome result (λ seat. slice_index_or self.now.seen.blocks slot 0 ≡ seat.now.blocks) }
+    {
+        if !self.arena.is_occupied(slot) {
+            return None;
+        }
+        Some(self.arena.get(slot))
+    }
+
+    /// Puts an object with one handle into the vacant slot of its Id.
+    pub(crate) fn add(
+        &mut self,
+        id: Id,
+        birth: u64,
+        descr: Descr,
+        grant: Rights,
+        name: Option<Name>,
+        body: Body,
+    )
+        requires { is_vacant_at (vacancy self.old) id.slot ≡ true }
+        ensures { self.new ≡ with_seat self.old id.slot (record { id = id; birth = birth; descr = descr; grant = grant; name = name }) body }
+    {
+        self.arena
+            .put(id.slot, Seat::new(id, birth, descr, grant, name, body));
+    }
+
+    /// One handle more.
+    pub(crate) fn handle_came(&mut self, slot: u32)
+        requires there { IsSome (slice_index_or self.old.objects slot None) }
+        requires few { slice_index_or self.old.seen.handles slot 0 < 4294967295 }
+        ensures { self.new ≡ with_handle self.old slot }
+    {
+        self.arena.get_mut(slot).handles += 1;
+    }
+
+    /// One handle fewer; whether the object ended.
+    pub(crate) fn handle_left(&mut self, slot: u32) -> bool
+        requires there { IsSome (slice_index_or self.old.objects slot None) }
+        requires some { 0 < slice_index_or self.old.seen.handles slot 0 }
+        ensures value { self.new ≡ without_handle self.old slot }
+        ensures ended { result ≡ is_some (slice_index_or self.old.seen.bodies slot None) && is_last_handle self.old slot }
+    {
+        self.arena.get_mut(slot).handle_left()
+    }
+
+    /// One more place of a pending wait names the object.
+    pub(crate) fn block_came(&mut self, slot: u32)
+        requires there { IsSome (slice_index_or self.old.objects slot None) }
+        requires few { slice_index_or self.old.seen.blocks slot 0 < 18446744073709551615 }
+        ensures { self.new ≡ with_block self.old slot }
+    {
+        self.arena.get_mut(slot).blocks += 1;
+    }
+
+    /// The object leaves the slot, which is vacant then.
+    pub(crate) fn remove(&mut self, slot: u32)
+        requires { IsSome (slice_index_or self.old.objects slot None) }
+        ensures value { self.new ≡ without_seat self.old slot }
+        ensures vacant { is_vacant_at (vacancy self.new) slot ≡ true }
+    {
+        drop(self.arena.take(slot));
+    }
+
+    /// A vacant slot is never given again.
+    pub(crate) fn retire(&mut self, slot: u32)
+        requires { is_vacant_at (vacancy self.old) slot ≡ true }
+        ensures { self.new ≡ with_retired self.old slot }
+    {
+        self.arena.retire(slot);
+    }
+}
+
+impl Bodies for Seats {
+    ghost use Rattle.ob_store.specs.Objects.{Rest, rest_of};
+
+    ghost objects = { λ s. s.seen };
+
+    ghost Rest = { Rest };
+
+    ghost rest = { rest_of };
+
+    fn body(&self, id: Id) -> Option<Body> {
+        if self.arena.is_occupied(id.slot) {
+            return self.arena.get(id.slot).body;
+        }
+        None
+    }
+
+    fn put(&mut self, id: Id, body: Body) {
+        self.arena.get_mut(id.slot).body = Some(body);
+    }
+
+    fn block_left(&mut self, id: Id) {
+        if self.arena.is_occupied(id.slot) {
+            self.arena.get_mut(id.slot).block_left();
+        }
+    }
+}

@@ -1,0 +1,105 @@
+ghost use Rattle.std.specs.Prelude.{◌≡◌};
+
+use crate::Objects;
+use ob_body::Body;
+use ob_rights::{Fault, Kind, all_access};
+use pin_core::{Descr, Id, Shape};
+use pin_words::{LockedPins, PinKeeper, Pins, Reclaim};
+use std::process::Abort;
+use std::test::Fail;
+
+const EVENT: Descr = Descr {
+    kind: Kind::Event,
+    manual: false,
+    max: 0,
+};
+
+const MUTEX: Descr = Descr {
+    kind: Kind::Mutex,
+    manual: false,
+    max: 0,
+};
+
+/// A new event or mutex with one handle, where there is a vacant slot.
+fn made<K: PinKeeper>(objects: &mut Objects<K>, descr: Descr) -> Option<Id> {
+    let slot = objects.least_vacant()?;
+    if !descr.is_given() {
+        return None;
+    }
+    let grant = all_access(descr.kind);
+    if descr.kind == Kind::Mutex {
+        return Some(objects.add(slot, 0, descr, grant, None, Body::new_mutex(None)));
+    }
+    Some(objects.add(slot, 0, descr, grant, None, Body::new_event(false, false)))
+}
+
+/// Whether the object of the slot had a handle, which has left.
+fn has_lost_a_handle<K: PinKeeper>(objects: &mut Objects<K>, slot: u32) -> bool {
+    let Some(seat) = objects.look(slot) else {
+        return false;
+    };
+    if seat.handles == 0 || seat.body.is_none() {
+        return false;
+    }
+    objects.handle_left(slot);
+    true
+}
+
+/// The outcome for the slot of an ended object.
+fn reclaimed<K: PinKeeper>(objects: &mut Objects<K>, slot: u32) -> Option<Reclaim> {
+    let seat = objects.look(slot)?;
+    if seat.body.is_some() {
+        return None;
+    }
+    Some(objects.reclaim(slot))
+}
+
+/// One slot with two generations: it is given twice, and then never again.
+fn plays_two_generations<K: PinKeeper>(rt: &impl Abort, objects: &mut Objects<K>) {
+    assert!(rt;
+        made(objects, EVENT)
+            == Some(Id {
+                slot: 0,
+                generation: 1
+            })
+    );
+    assert!(rt; made(objects, EVENT).is_none());
+    assert!(rt; reclaimed(objects, 0).is_none());
+    assert!(rt; has_lost_a_handle(objects, 0));
+    assert!(rt; made(objects, EVENT).is_none());
+    assert!(rt; reclaimed(objects, 0) == Some(Reclaim::Freed));
+    assert!(rt; reclaimed(objects, 0).is_none());
+    assert!(rt;
+        made(objects, MUTEX)
+            == Some(Id {
+                slot: 0,
+                generation: 2
+            })
+    );
+    assert!(rt; has_lost_a_handle(objects, 0));
+    assert!(rt; reclaimed(objects, 0) == Some(Reclaim::Retired));
+    assert!(rt; reclaimed(objects, 0).is_none());
+    assert!(rt; made(objects, EVENT).is_none());
+}
+
+#[test]
+fn a_slot_is_given_again_and_then_retired(rt: HostRuntime) -> Result<(), Fail> {
+    let Some(shape) = Shape::checked(1, 4, 2) else {
+        return Err(Fail::from(Fault::Parameter));
+    };
+    let keeper = LockedPins::new(rt.alloc(), shape)?;
+    let Ok(mut objects) = Objects::new(rt.alloc(), 1, keeper) else {
+        return Err(Fail::from(Fault::Memory));
+    };
+    plays_two_generations(&rt, &mut objects);
+    let (pins, opening) = Pins::new(rt.alloc(), shape)?;
+    let Ok((keeper, reader)) = opening.start(&pins) else {
+        return Err(Fail::from(Fault::Memory));
+    };
+    let Ok(mut objects) = Objects::new(rt.alloc(), 1, keeper) else {
+        return Err(Fail::from(Fault::Memory));
+    };
+    plays_two_generations(&rt, &mut objects);
+    reader.finish();
+    Ok(())
+}
