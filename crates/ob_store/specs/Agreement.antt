@@ -1,5 +1,5 @@
 -- What ties the objects to the keeper, slot by slot.
-use Rattle.std.specs.Prelude.{◌≡◌, ℕ, ◌<◌, ◌≤◌, Bool, true, false, List, Option, Some, None, length, slice_index_or}
+use Rattle.std.specs.Prelude.{◌≡◌, ℕ, ◌-◌, ◌<◌, ◌≤◌, Bool, true, false, List, Option, Some, None, length, slice_index_or, sum_by}
 use Rattle.pin_core.specs.declared.id.Id.{Id}
 use Rattle.pin_core.specs.declared.descr.Descr.{Descr}
 use Rattle.pin_core.specs.declared.word.Phase.{Phase}
@@ -11,6 +11,7 @@ use Rattle.pin_words.specs.declared.pin_keeper.Reclaim.{Reclaim}
 use Rattle.pin_words.specs.declared.pin_keeper.Reclaim.TheVariants as outcome
 use Rattle.pin_words.specs.Keepers.{Reclaims}
 use Rattle.ob_body.specs.declared.body.Body.{Body}
+use Rattle.ob_waits.specs.Rules.{HasBodies}
 use Rattle.ob_store.specs.Objects.{Object, ObjectsState, with_keeper, places_in, without_seat, with_retired}
 
 -- live with a body, closing without one
@@ -44,13 +45,33 @@ Listed (Some ps) (Some o) = 0 < tally (is_with o.id o.descr) ps
 pub record IsListed (published : Option (List (Id × Descr))) (objects : List (Option Object)) : Type 0 where
   pub each : (k : ℕ) → Listed published (slice_index_or objects k None)
 
--- what holds of objects and their keeper at all times
+-- how many objects a slot had: one in each generation, but none yet in the present one of a free slot
+abbrev pub made_by : Phase → ℕ → ℕ
+made_by Free generation = generation - 1
+made_by Live generation = generation
+made_by Closing generation = generation
+made_by Retired generation = generation
+
+abbrev pub made_in : Slot → ℕ
+made_in x = made_by x.phase x.generation
+
+-- objects are numbered by their births: each number is below their count, and no two have the same
+pub record AreBorn (objects : List (Option Object)) (births : ℕ) : Type 0 where
+  pub below : (k : ℕ) (o : Object) → slice_index_or objects k None ≡ Some o → o.birth < births
+  pub apart : (j k : ℕ) (o p : Object) → slice_index_or objects j None ≡ Some o → slice_index_or objects k None ≡ Some p → o.birth ≡ p.birth → j ≡ k
+
+-- what holds of objects and their keeper whenever no call is under way
 pub record IsTied (s : ObjectsState) : Type 0 where
   pub agreed : IsAgreed s
   pub listed : IsListed s.keeper.published s.objects
+  pub bodied : HasBodies s.seen
+  pub born : AreBorn s.objects s.births
+  pub aged : (k : ℕ) → k < s.keeper.shape.slots → (1 ≤ (slot_of s.keeper.slots k).generation) × ((slot_of s.keeper.slots k).generation ≤ s.keeper.shape.max_gen)
+  pub last : s.keeper.shape.max_gen ≤ 4294967295
+  pub made : s.births ≡ sum_by made_in s.keeper.slots
 
 -- what a reclaim leaves: the object leaves a slot that is freed or retired, and stays in one that somebody holds
 abbrev pub Reclaimed : ObjectsState → ℕ → Reclaim → ObjectsState → Type 0
-Reclaimed s k outcome.Freed t = (t ≡ with_keeper (without_seat (places_in s) k) t.keeper) × Reclaims s.keeper k outcome.Freed t.keeper
-Reclaimed s k outcome.Retired t = (t ≡ with_keeper (with_retired (without_seat (places_in s) k) k) t.keeper) × Reclaims s.keeper k outcome.Retired t.keeper
+Reclaimed s k outcome.Freed t = (t ≡ with_keeper (without_seat (places_in s) k) s.births t.keeper) × Reclaims s.keeper k outcome.Freed t.keeper
+Reclaimed s k outcome.Retired t = (t ≡ with_keeper (with_retired (without_seat (places_in s) k) k) s.births t.keeper) × Reclaims s.keeper k outcome.Retired t.keeper
 Reclaimed s k (outcome.Held n) t = (t ≡ record s { keeper = t.keeper }) × Reclaims s.keeper k (outcome.Held n) t.keeper

@@ -1,2 +1,6 @@
+pub mod Limits
 pub mod Objects
 pub mod Agreement
+pub mod State
+pub mod Directory
+pub mod Kept

@@ -28,15 +28,16 @@ pub record Places : Type 0 where
   pub seen : waits.Objects
   pub retired : List Bool
 
--- the same, and what the keeper of the slots says
+-- the same, how many objects were made, and what the keeper of the slots says
 pub record ObjectsState : Type 0 where
   pub objects : List (Option Object)
   pub seen : waits.Objects
   pub retired : List Bool
+  pub births : ℕ
   pub keeper : KeeperState
 
-abbrev pub with_keeper : Places → KeeperState → ObjectsState
-with_keeper p keeper = record { objects = p.objects; seen = p.seen; retired = p.retired; keeper = keeper }
+abbrev pub with_keeper : Places → ℕ → KeeperState → ObjectsState
+with_keeper p births keeper = record { objects = p.objects; seen = p.seen; retired = p.retired; births = births; keeper = keeper }
 
 abbrev pub places_in : ObjectsState → Places
 places_in s = record { objects = s.objects; seen = s.seen; retired = s.retired }
@@ -134,23 +135,31 @@ pub record Rest : Type 0 where
 abbrev pub rest_of : Places → Rest
 rest_of p = record { objects = p.objects; handles = p.seen.handles; retired = p.retired }
 
--- what of a slot's object never changes, but for its Id, which the slot gives
+-- what of a new object its creator says
 pub record Head : Type 0 where
-  pub birth : ℕ
   pub descr : Descr
   pub grant : Rights
   pub name : Option ObjectName
 
+-- the object that comes to a slot: the slot gives its Id, and the objects made before it are its number
 abbrev pub object_in : ObjectsState → ℕ → Head → Object
-object_in s slot head = record { id = id_of s.keeper.slots slot; birth = head.birth; descr = head.descr; grant = head.grant; name = head.name }
+object_in s slot head = record { id = id_of s.keeper.slots slot; birth = s.births; descr = head.descr; grant = head.grant; name = head.name }
 
 -- a new object: its descriptor is stored, and then it is published
 abbrev pub with_object : ObjectsState → ℕ → Head → Body → ObjectsState
-with_object s slot head body = with_keeper (with_seat (places_in s) slot (object_in s slot head) body) (published (stored s.keeper slot head.descr) slot)
+with_object s slot head body = with_keeper (with_seat (places_in s) slot (object_in s slot head) body) (s.births + 1) (published (stored s.keeper slot head.descr) slot)
+
+-- one handle more
+abbrev pub with_handle_of : ObjectsState → ℕ → ObjectsState
+with_handle_of s slot = with_keeper (with_handle (places_in s) slot) s.births s.keeper
 
 -- one handle fewer; the slot of an object that nothing refers to any more closes
 abbrev pub without_handle_of : ObjectsState → ℕ → ObjectsState
-without_handle_of s slot = with_keeper (without_handle (places_in s) slot) (if is_last_handle (places_in s) slot then closed s.keeper slot else s.keeper)
+without_handle_of s slot = with_keeper (without_handle (places_in s) slot) s.births (if is_last_handle (places_in s) slot then closed s.keeper slot else s.keeper)
+
+-- one block more
+abbrev pub with_block_of : ObjectsState → ℕ → ObjectsState
+with_block_of s slot = with_keeper (with_block (places_in s) slot) s.births s.keeper
 
 -- a closing slot as it was when it was live
 abbrev pub open_phase : Phase → Phase
@@ -168,7 +177,8 @@ opened k = with_slots k (map open_slot k.slots)
 -- what waits leave as it is: of the keeper all but that slots close
 pub record KeptRest : Type 0 where
   pub rest : Rest
+  pub births : ℕ
   pub keeper : KeeperState
 
 abbrev pub kept_rest : ObjectsState → KeptRest
-kept_rest s = record { rest = rest_of (places_in s); keeper = opened s.keeper }
+kept_rest s = record { rest = rest_of (places_in s); births = s.births; keeper = opened s.keeper }

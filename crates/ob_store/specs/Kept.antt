@@ -1,0 +1,91 @@
+-- What holds whenever no call is under way. Each group of facts is about the parts that it reads, so that a change of others
+-- leaves it as it is.
+use Rattle.std.specs.Prelude.{◌≡◌, ℕ, ◌+◌, ◌<◌, ◌≤◌, List, Option, Some, None, length, slice_index_or, IsSome, IfSome}
+use Rattle.pin_core.specs.declared.id.Id.{Id}
+use Rattle.pin_core.specs.declared.descr.Descr.{Descr}
+use Rattle.pin_core.specs.declared.shape.Shape.{Shape}
+use Rattle.ob_body.specs.declared.body.Body.{Body}
+use Rattle.ob_name.specs.Listing.{Rows, AreDistinct}
+use Rattle.ob_tables.specs.declared.entry.Entry.{Entry}
+use Rattle.ob_tables.specs.Counts.{handles_among, slot_handles}
+use Rattle.ob_tables.specs.Tables.{HandleTables}
+use Rattle.ob_waits.specs.declared.wait.Wait.{Wait}
+use Rattle.ob_waits.specs.Objects.{Objects}
+use Rattle.ob_waits.specs.Form.{Form, form_of, slot_owner}
+use Rattle.ob_waits.specs.Rules.{IsSettled, WaitsHaveRoom, thread_of}
+use Rattle.ob_waits.specs.Waits.{WaitList, blocks_among, slot_blocks}
+use Rattle.ob_store.specs.declared.limits.Limits.{Limits}
+use Rattle.ob_store.specs.Objects.{Object, ObjectsState}
+use Rattle.ob_store.specs.State.{State, by_slot, shape_of}
+use Rattle.ob_store.specs.Directory.{rows_of}
+
+-- each part has the limits of the whole
+pub record AreLimited (limits : Limits) (tables : HandleTables) (waits : WaitList) (shape : Shape) : Type 0 where
+  pub processes : tables.process_limit ≡ limits.processes
+  pub handles : tables.handle_limit ≡ limits.handles
+  pub waits_limit : waits.limit ≡ limits.waits
+  pub shape_is : shape ≡ shape_of limits
+
+-- the number is live
+abbrev pub IsLive : List (Option ℕ) → ℕ → Type 0
+IsLive numbers n = IsSome (slice_index_or numbers n None)
+
+-- no more numbers than the limits let; each process number has a table; a live thread's process is live
+pub record LivesKept (limits : Limits) (processes threads : List (Option ℕ)) (tables : ℕ) : Type 0 where
+  pub few_processes : length processes ≤ limits.processes + 1
+  pub few_threads : length threads ≤ limits.threads + 1
+  pub tabled : tables ≡ length processes
+  pub live : (t p : ℕ) → slice_index_or threads t None ≡ Some p → IsLive processes p
+
+-- the stored counts are the numbers of entries and of places of pending waits
+pub record IsCounted (seen : Objects) (n : ℕ) (tables : List (List (Option Entry))) (waits : List (Option Wait)) : Type 0 where
+  pub handles : seen.handles ≡ by_slot n (λ k. slot_handles k tables)
+  pub blocks : seen.blocks ≡ by_slot n (λ k. slot_blocks k waits)
+
+-- the Id of a slot's object
+abbrev pub id_in : Option Object → Option Id
+id_in None = None
+id_in (Some o) = Some o.id
+
+-- the object of this Id is there
+abbrev pub IsThere : List (Option Object) → Id → Type 0
+IsThere objects id = id_in (slice_index_or objects id.slot None) ≡ Some id
+
+-- each Id of an entry or of a pending wait is that of an object
+pub record IsNamed (objects : List (Option Object)) (tables : List (List (Option Entry))) (waits : List (Option Wait)) : Type 0 where
+  pub entries : (id : Id) → 0 < handles_among id tables → IsThere objects id
+  pub blocks : (id : Id) → 0 < blocks_among id waits → IsThere objects id
+
+-- what a descriptor says of a body
+abbrev pub form_in : Descr → Form
+form_in d = record { kind = d.kind; manual = d.manual; maximum = d.max }
+
+-- each body is what its object's descriptor says
+pub record AreFormed (objects : List (Option Object)) (bodies : List (Option Body)) : Type 0 where
+  pub each : (k : ℕ) (o : Object) (b : Body) → slice_index_or objects k None ≡ Some o → slice_index_or bodies k None ≡ Some b → form_of b ≡ form_in o.descr
+
+-- the owner of a mutex is a live thread, and the thread of a wait too
+pub record AreOfLive (threads : List (Option ℕ)) (bodies : List (Option Body)) (waits : List (Option Wait)) : Type 0 where
+  pub owners : (k t : ℕ) → slot_owner (slice_index_or bodies k None) ≡ Some t → IsLive threads t
+  pub waiters : (n t : ℕ) → thread_of (slice_index_or waits n None) ≡ Some t → IsLive threads t
+
+-- no pending wait is ready, and none is for a mutex that its thread owns as often as the limit lets
+pub record IsQuiet (limit : ℕ) (bodies : List (Option Body)) (waits : List (Option Wait)) : Type 0 where
+  pub room : WaitsHaveRoom limit bodies waits
+  pub settled : IsSettled bodies waits
+
+-- the names that are entered are the directory, and none stands twice
+pub record IsListing (rows : Rows) (tables : List (List (Option Entry))) (objects : List (Option Object)) (births : ℕ) : Type 0 where
+  pub same : rows ≡ rows_of tables objects births
+  pub distinct : AreDistinct rows
+
+-- what ties the parts of a store to one another
+pub record IsKept (limits : Limits) (processes threads : List (Option ℕ)) (tables : HandleTables) (o : ObjectsState) (waits : WaitList) (rows : Rows) : Type 0 where
+  pub limited : AreLimited limits tables waits o.keeper.shape
+  pub lives : LivesKept limits processes threads (length tables.tables)
+  pub counted : IsCounted o.seen (length o.objects) tables.tables waits.waits
+  pub named : IsNamed o.objects tables.tables waits.waits
+  pub formed : AreFormed o.objects o.seen.bodies
+  pub of_live : AreOfLive threads o.seen.bodies waits.waits
+  pub quiet : IsQuiet limits.max_recursion o.seen.bodies waits.waits
+  pub listing : IsListing rows tables.tables o.objects o.births

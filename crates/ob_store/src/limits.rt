@@ -1,0 +1,97 @@
+ghost use Rattle.std.specs.Prelude.{◌≡◌, ◌↔◌, IsOk, IfErr, IfOk};
+ghost use Rattle.ob_store.specs.Limits.{AreInRange};
+
+use ob_rights::Fault;
+
+/// How much a manager may hold. The ranges and the defaults are this project's own (*profile*).
+#[derive(Clone, Copy, Debug, PartialEq, Eq)]
+pub struct Limits {
+    /// Slots of the arena: 1 to 65,536, by default 64.
+    pub slots: u32,
+    /// Process numbers ever given: 1 to 65,536, by default 64.
+    pub processes: u32,
+    /// Thread numbers ever given: 1 to 65,536, by default 256.
+    pub threads: u32,
+    /// Entries of one handle table: 1 to 16,384, by default 1,024.
+    pub handles: u32,
+    /// Wait numbers ever given: 1 to 4,294,967,295, by default 1,000,000.
+    pub waits: u32,
+    /// Pins of one slot: 1 to 1,073,741,823, the default.
+    pub max_pins: u32,
+    /// The last generation of a slot: 1 to 4,294,967,295, the default.
+    pub max_gen: u32,
+    /// Recursion of a mutex: 1 to 2,147,483,647, the default.
+    pub max_recursion: u32,
+    pub ghost in_range: { AreInRange slots processes threads handles waits max_pins max_gen max_recursion },
+}
+
+impl Limits {
+    /// These limits, in the order of the fields; `Fault::Parameter` (87) where one is out of its range.
+    pub fn checked(
+        slots: u32,
+        processes: u32,
+        threads: u32,
+        handles: u32,
+        waits: u32,
+        max_pins: u32,
+        max_gen: u32,
+        max_recursion: u32,
+    ) -> Result<Limits, Fault>
+        ensures in_range { IsOk result ↔ AreInRange slots processes threads handles waits max_pins max_gen max_recursion }
+        ensures slots { IfOk result (λ limits. limits.slots ≡ slots) }
+        ensures processes { IfOk result (λ limits. limits.processes ≡ processes) }
+        ensures threads { IfOk result (λ limits. limits.threads ≡ threads) }
+        ensures handles { IfOk result (λ limits. limits.handles ≡ handles) }
+        ensures waits { IfOk result (λ limits. limits.waits ≡ waits) }
+        ensures max_pins { IfOk result (λ limits. limits.max_pins ≡ max_pins) }
+        ensures max_gen { IfOk result (λ limits. limits.max_gen ≡ max_gen) }
+        ensures max_recursion { IfOk result (λ limits. limits.max_recursion ≡ max_recursion) }
+        ensures refused { IfErr result (λ fault. fault ≡ Fault.Parameter) }
+    {
+        if slots < 1
+            || slots > 65_536
+            || processes < 1
+            || processes > 65_536
+            || threads < 1
+            || threads > 65_536
+            || handles < 1
+            || handles > 16_384
+        {
+            return Err(Fault::Parameter);
+        }
+        if waits < 1
+            || max_pins < 1
+            || max_pins > 1_073_741_823
+            || max_gen < 1
+            || max_recursion < 1
+            || max_recursion > 2_147_483_647
+        {
+            return Err(Fault::Parameter);
+        }
+        Ok(Limits {
+            slots,
+            processes,
+            threads,
+            handles,
+            waits,
+            max_pins,
+            max_gen,
+            max_recursion,
+        })
+    }
+}
+
+impl Default for Limits {
+    fn default() -> Limits {
+        Limits {
+            slots: 64,
+            processes: 64,
+            threads: 256,
+            handles: 1_024,
+            waits: 1_000_000,
+            max_pins: 1_073_741_823,
+            max_gen: 4_294_967_295,
+            max_recursion: 2_147_483_647,
+        }
+    }
+}

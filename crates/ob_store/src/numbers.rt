@@ -1,0 +1,70 @@
+ghost use Rattle.std.specs.Prelude.{ℕ, List, Option, [], ◌∷◌, ◌++◌, ◌≡◌, ◌<◌, ◌≤◌, None, Some, IfOk, OnOk, OnErr, length, slice_index_or};
+
+use std::alloc::{AllocError, Global};
+use std::marker::Model;
+
+/// What stands at each number that was given, from 1 on; `None` where the number is gone.
+#[derive(Drop)]
+pub struct Numbers {
+    places: Vec<Option<u32>>,
+}
+
+impl Model for Numbers {
+    ghost use Rattle.std.specs.Prelude.{ℕ, List, Option, length, ◌≤◌};
+
+    ghost Value = { List (Option ℕ) };
+
+    ghost view = { λ numbers. numbers.places.items };
+
+    ghost invariant = { λ numbers. length numbers.places.items ≤ 65537 };
+}
+
+impl Numbers {
+    /// None is given; 0 is never given.
+    pub fn new(alloc: Global) -> Result<Numbers, AllocError>
+        ensures { IfOk result (λ numbers. numbers ≡ None ∷ []) }
+    {
+        let mut places = Vec::new(alloc);
+        places.push(None)?;
+        Ok(Numbers { places })
+    }
+
+    /// The next number.
+    pub fn next(&self) -> u32
+        ensures value { result ≡ length self.now }
+        ensures bound { result ≤ 65537 }
+    {
+        self.places.len() as u32
+    }
+
+    /// What stands at a number.
+    pub fn get(&self, number: u32) -> Option<u32>
+        ensures { result ≡ slice_index_or self.now number None }
+    {
+        let at = number as usize;
+        if at < self.places.len() {
+            self.places[at]
+        } else {
+            None
+        }
+    }
+
+    /// Gives the next number.
+    pub fn give(&mut self, value: u32) -> Result<(), AllocError>
+        requires { length self.old ≤ 65536 }
+        ensures ok { OnOk result (self.new ≡ self.old ++ Some value ∷ []) }
+        ensures err { OnErr result (self.new ≡ self.old) }
+    {
+        self.places.push(Some(value))?;
+        Ok(())
+    }
+
+    /// Takes back the number that was given last.
+    #[tactic(auto, using(crate::proofs::Places::same_front))]
+    pub fn take_back(&mut self)
+        requires { 0 < length self.old }
+        ensures { (before : List (Option ℕ)) (value : Option ℕ) → self.old ≡ before ++ value ∷ [] → self.new ≡ before }
+    {
+        let _ = self.places.pop();
+    }
+}
