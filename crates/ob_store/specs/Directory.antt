@@ -1,5 +1,5 @@
 -- The directory: the named objects that have handles, in the order of their births.
-use Rattle.std.specs.Prelude.{ℕ, zero, suc, ◌==◌, ◌&&◌, nat_lt, List, [], ◌++◌, ◌×◌, Option, Some, None, if◌then◌else◌}
+use Rattle.std.specs.Prelude.{ℕ, zero, suc, ◌==◌, ◌&&◌, nat_lt, List, [], ◌++◌, Option, Some, None, if◌then◌else◌}
 use Rattle.std.specs.List.{filter_map}
 use Rattle.pin_core.specs.declared.id.Id.{Id}
 use Rattle.ob_name.specs.Names.{ObjectName}

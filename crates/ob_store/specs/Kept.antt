@@ -1,6 +1,6 @@
 -- What holds whenever no call is under way. Each group of facts is about the parts that it reads, so that a change of others
 -- leaves it as it is.
-use Rattle.std.specs.Prelude.{◌≡◌, ℕ, ◌+◌, ◌<◌, ◌≤◌, List, Option, Some, None, length, slice_index_or, IsSome, IfSome}
+use Rattle.std.specs.Prelude.{◌≡◌, ℕ, ◌+◌, ◌<◌, ◌≤◌, List, Option, Some, None, length, slice_index_or, IsSome}
 use Rattle.pin_core.specs.declared.id.Id.{Id}
 use Rattle.pin_core.specs.declared.descr.Descr.{Descr}
 use Rattle.pin_core.specs.declared.shape.Shape.{Shape}
@@ -15,6 +15,7 @@ use Rattle.ob_waits.specs.Form.{Form, form_of, slot_owner}
 use Rattle.ob_waits.specs.Rules.{IsSettled, WaitsHaveRoom, thread_of}
 use Rattle.ob_waits.specs.Waits.{WaitList, blocks_among, slot_blocks}
 use Rattle.ob_store.specs.declared.limits.Limits.{Limits}
+use Rattle.ob_store.specs.Lives.{LivesState}
 use Rattle.ob_store.specs.Objects.{Object, ObjectsState}
 use Rattle.ob_store.specs.State.{State, by_slot, shape_of}
 use Rattle.ob_store.specs.Directory.{rows_of}
@@ -31,11 +32,11 @@ abbrev pub IsLive : List (Option ℕ) → ℕ → Type 0
 IsLive numbers n = IsSome (slice_index_or numbers n None)
 
 -- no more numbers than the limits let; each process number has a table; a live thread's process is live
-pub record LivesKept (limits : Limits) (processes threads : List (Option ℕ)) (tables : ℕ) : Type 0 where
-  pub few_processes : length processes ≤ limits.processes + 1
-  pub few_threads : length threads ≤ limits.threads + 1
-  pub tabled : tables ≡ length processes
-  pub live : (t p : ℕ) → slice_index_or threads t None ≡ Some p → IsLive processes p
+pub record LivesKept (limits : Limits) (lives : LivesState) (tables : ℕ) : Type 0 where
+  pub few_processes : length lives.processes ≤ limits.processes + 1
+  pub few_threads : length lives.threads ≤ limits.threads + 1
+  pub tabled : tables ≡ length lives.processes
+  pub live : (t p : ℕ) → slice_index_or lives.threads t None ≡ Some p → IsLive lives.processes p
 
 -- the stored counts are the numbers of entries and of places of pending waits
 pub record IsCounted (seen : Objects) (n : ℕ) (tables : List (List (Option Entry))) (waits : List (Option Wait)) : Type 0 where
@@ -80,12 +81,12 @@ pub record IsListing (rows : Rows) (tables : List (List (Option Entry))) (object
   pub distinct : AreDistinct rows
 
 -- what ties the parts of a store to one another
-pub record IsKept (limits : Limits) (processes threads : List (Option ℕ)) (tables : HandleTables) (o : ObjectsState) (waits : WaitList) (rows : Rows) : Type 0 where
+pub record IsKept (limits : Limits) (lives : LivesState) (tables : HandleTables) (o : ObjectsState) (waits : WaitList) (rows : Rows) : Type 0 where
   pub limited : AreLimited limits tables waits o.keeper.shape
-  pub lives : LivesKept limits processes threads (length tables.tables)
+  pub lives_kept : LivesKept limits lives (length tables.tables)
   pub counted : IsCounted o.seen (length o.objects) tables.tables waits.waits
   pub named : IsNamed o.objects tables.tables waits.waits
   pub formed : AreFormed o.objects o.seen.bodies
-  pub of_live : AreOfLive threads o.seen.bodies waits.waits
+  pub of_live : AreOfLive lives.threads o.seen.bodies waits.waits
   pub quiet : IsQuiet limits.max_recursion o.seen.bodies waits.waits
   pub listing : IsListing rows tables.tables o.objects o.births

@@ -1,4 +1,5 @@
 pub mod Limits
+pub mod Lives
 pub mod Objects
 pub mod Agreement
 pub mod State

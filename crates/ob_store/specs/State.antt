@@ -1,6 +1,6 @@
 -- The abstract state of the object manager: plain lists, by number or by slot. It keeps no count and no directory: both are
 -- read off the entries, the waits and the objects.
-use Rattle.std.specs.Prelude.{◌≡◌, ℕ, ◌+◌, ◌==◌, List, [], ◌∷◌, ◌++◌, Option, Some, None, if◌then◌else◌, slice_index_or, slice_set, length, map, replicate}
+use Rattle.std.specs.Prelude.{ℕ, ◌+◌, ◌==◌, Bool, true, false, List, [], ◌∷◌, ◌++◌, Option, Some, None, if◌then◌else◌, slice_index_or, slice_set, length, map, replicate}
 use Rattle.std.specs.List.{range_with_len}
 use Rattle.pin_core.specs.declared.id.Id.{Id}
 use Rattle.pin_core.specs.declared.shape.Shape.{Shape}
@@ -17,6 +17,7 @@ use Rattle.ob_waits.specs.declared.wait.Wait.{Wait}
 use Rattle.ob_waits.specs.Waits.{WaitList, Scene, blocks_among, slot_blocks}
 use Rattle.ob_waits.specs.Ends.{settled_plainly, with_ends}
 use Rattle.ob_store.specs.declared.limits.Limits.{Limits}
+use Rattle.ob_store.specs.Lives.{LivesState}
 use Rattle.ob_store.specs.Objects.{Object, Head, ObjectsState}
 
 -- Numbers of processes, threads and waits are places of lists. Number 0 is never given, so place 0 has nothing, and the next
@@ -146,11 +147,11 @@ opening limits = record {
 abbrev pub generation_of : Slot → ℕ
 generation_of x = x.generation
 
-abbrev pub state_of : Limits → List (Option ℕ) → List (Option ℕ) → HandleTables → ObjectsState → WaitList → State
-state_of limits processes threads tables objects waits = record {
+abbrev pub state_of : Limits → LivesState → HandleTables → ObjectsState → WaitList → State
+state_of limits lives tables objects waits = record {
   limits = limits;
-  processes = processes;
-  threads = threads;
+  processes = lives.processes;
+  threads = lives.threads;
   tables = tables.tables;
   objects = objects.objects;
   bodies = objects.seen.bodies;

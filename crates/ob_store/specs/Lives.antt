@@ -1,0 +1,18 @@
+-- The live processes and threads. A number is a place of a list; place 0 has nothing, since number 0 is never given, and the
+-- next number is the length.
+use Rattle.std.specs.Prelude.{ℕ, List, [], ◌∷◌, ◌++◌, Option, Some, None, length}
+
+pub record LivesState : Type 0 where
+  pub processes : List (Option ℕ)  -- the session of each live process
+  pub threads : List (Option ℕ)  -- the process of each live thread
+
+abbrev pub no_lives : LivesState
+no_lives = record { processes = None ∷ []; threads = None ∷ [] }
+
+-- the next process, of a session, with the next thread
+abbrev pub with_process : LivesState → ℕ → LivesState
+with_process l session = record { processes = l.processes ++ Some session ∷ []; threads = l.threads ++ Some (length l.processes) ∷ [] }
+
+-- the next thread, of a process
+abbrev pub with_thread : LivesState → ℕ → LivesState
+with_thread l process = record l { threads = l.threads ++ Some process ∷ [] }

@@ -1,0 +1,95 @@
+ghost use Rattle.std.specs.Prelude.{ℕ, ◌∷◌, [], ◌++◌, ◌≡◌, ◌<◌, ◌≤◌, None, Some, IfOk, OnOk, OnErr, length, slice_index_or};
+ghost use Rattle.ob_store.specs.Lives.{LivesState, no_lives, with_process, with_thread};
+
+use crate::numbers::Numbers;
+use std::alloc::{AllocError, Global};
+use std::marker::Model;
+
+/// The live processes and threads, by their numbers.
+#[derive(Drop)]
+pub(crate) struct Lives {
+    processes: Numbers,
+    threads: Numbers,
+}
+
+impl Model for Lives {
+    ghost use Rattle.ob_store.specs.Lives.{LivesState};
+
+    ghost Value = { LivesState };
+
+    ghost view = { λ l. record { processes = l.processes; threads = l.threads } };
+}
+
+impl Lives {
+    pub(crate) fn new(alloc: Global) -> Result<Lives, AllocError>
+        ensures { IfOk result (λ lives. lives ≡ no_lives) }
+    {
+        let processes = Numbers::new(alloc)?;
+        let threads = Numbers::new(alloc)?;
+        Ok(Lives { processes, threads })
+    }
+
+    /// The next process number.
+    pub(crate) fn next_process(&self) -> u32
+        ensures { result ≡ length self.now.processes }
+    {
+        self.processes.next()
+    }
+
+    /// The next thread number.
+    pub(crate) fn next_thread(&self) -> u32
+        ensures { result ≡ length self.now.threads }
+    {
+        self.threads.next()
+    }
+
+    /// The session of a live process.
+    pub(crate) fn session(&self, process: u32) -> Option<u32>
+        ensures { result ≡ slice_index_or self.now.processes process None }
+    {
+        self.processes.get(process)
+    }
+
+    /// The process of a live thread.
+    pub(crate) fn process(&self, thread: u32) -> Option<u32>
+        ensures { result ≡ slice_index_or self.now.threads thread None }
+    {
+        self.threads.get(thread)
+    }
+
+    /// A new process of a session, with its first thread.
+    pub(crate) fn add_process(&mut self, session: u32) -> Result<(), AllocError>
+        requires processes { length self.old.processes ≤ 65536 }
+        requires threads { length self.old.threads ≤ 65536 }
+        ensures ok { OnOk result (self.new ≡ with_process self.old session) }
+        ensures err { OnErr result (self.new ≡ self.old) }
+    {
+        let process = self.processes.next();
+        self.processes.give(session)?;
+        if let Err(error) = self.threads.give(process) {
+            self.processes.take_back();
+            return Err(error);
+        }
+        Ok(())
+    }
+
+    /// Takes back the process that was added last, with its first thread.
+    pub(crate) fn take_back(&mut self)
+        requires processes { 0 < length self.old.processes }
+        requires threads { 0 < length self.old.threads }
+        ensures { (before : LivesState) (session : ℕ) → self.old ≡ with_process before session → self.new ≡ before }
+    {
+        self.processes.take_back();
+        self.threads.take_back();
+    }
+
+    /// A new thread of a process.
+    pub(crate) fn add_thread(&mut self, process: u32) -> Result<(), AllocError>
+        requires { length self.old.threads ≤ 65536 }
+        ensures ok { OnOk result (self.new ≡ with_thread self.old process) }
+        ensures err { OnErr result (self.new ≡ self.old) }
+    {
+        self.threads.give(process)?;
+        Ok(())
+    }
+}
