@@ -1,10 +1,11 @@
 -- What holds whenever no call is under way. Each group of facts is about the parts that it reads, so that a change of others
 -- leaves it as it is.
-use Rattle.std.specs.Prelude.{◌≡◌, ℕ, ◌+◌, ◌<◌, ◌≤◌, List, Option, Some, None, length, slice_index_or, IsSome}
+use Rattle.std.specs.Prelude.{◌≡◌, ℕ, ◌+◌, ◌<◌, ◌≤◌, List, Option, Some, None, length, slice_index_or, IsSome, true}
 use Rattle.pin_core.specs.declared.id.Id.{Id}
 use Rattle.pin_core.specs.declared.descr.Descr.{Descr}
 use Rattle.pin_core.specs.declared.shape.Shape.{Shape}
 use Rattle.ob_body.specs.declared.body.Body.{Body}
+use Rattle.ob_body.specs.Body.{owner_of, has_room}
 use Rattle.ob_name.specs.Listing.{Rows, AreDistinct}
 use Rattle.ob_tables.specs.declared.entry.Entry.{Entry}
 use Rattle.ob_tables.specs.Counts.{handles_among, slot_handles}
@@ -64,6 +65,12 @@ form_in d = record { kind = d.kind; manual = d.manual; maximum = d.max }
 -- each body is what its object's descriptor says
 pub record AreFormed (objects : List (Option Object)) (bodies : List (Option Body)) : Type 0 where
   pub each : (k : ℕ) (o : Object) (b : Body) → slice_index_or objects k None ≡ Some o → slice_index_or bodies k None ≡ Some b → form_of b ≡ form_in o.descr
+
+-- a change of a body that takes nothing for a thread: its form stays, no thread comes to own it, and none loses room
+pub record Yields (old new : Body) : Type 0 where
+  pub form : form_of new ≡ form_of old
+  pub owner : (t : ℕ) → owner_of new ≡ Some t → owner_of old ≡ Some t
+  pub room : (limit t : ℕ) → has_room limit t old ≡ true → has_room limit t new ≡ true
 
 -- the owner of a mutex is a live thread, and the thread of a wait too
 pub record AreOfLive (threads : List (Option ℕ)) (bodies : List (Option Body)) (waits : List (Option Wait)) : Type 0 where

@@ -1,0 +1,134 @@
+-- What holds of bodies goes on so: their forms, their owners, the room that waits have, and that none is ready.
+use Rattle.std.proofs.Common.{◌≡◌, ◌≢◌, ◌⊎◌, ℕ, suc, ◌+◌, ◌<◌, ◌≤◌, List, [], ◌∷◌, length, Option, Some, None, refl, ap, ◌∙◌, sym, subst, arith, get_or, set, Bool, true, false, cond, inl, inr}
+use Rattle.std.specs.Prelude.{is_some, IsSome}
+use Rattle.std.proofs.lemmas.List.{length-set, get_or_past, get_or-set_same, get_or-set_other}
+use Rattle.std.proofs.lemmas.Bool.{cases_eq, cases_lt}
+use Rattle.ob_body.specs.declared.body.Body.{Body}
+use Rattle.ob_body.specs.Body.{owner_of, has_room}
+use Rattle.ob_waits.specs.declared.wait.Wait.{Wait}
+use Rattle.ob_waits.specs.Objects.{Objects, slot_room}
+use Rattle.ob_waits.specs.Form.{form_of, slot_form, slot_owner, HasWait}
+use Rattle.ob_waits.specs.Rules.{IsSettled, WaitsHaveRoom, thread_of}
+use Rattle.ob_waits.specs.Waits.{Scene, settled, slot_blocks}
+use Rattle.ob_waits.proofs.Settling.{less_if, room_if}
+use Rattle.ob_waits.proofs.Settled.{settled_less, settled_unnamed}
+use Rattle.ob_waits.proofs.Room.{room_changed, room_unnamed, room_set}
+use Rattle.ob_waits.proofs.Staying.{settled_form, settled_owner, settled_thread}
+use Rattle.ob_store.specs.Objects.{Object}
+use Rattle.ob_store.specs.Kept.{AreFormed, AreOfLive, IsLive, IsQuiet, Yields, form_in}
+
+-- what stands in a list of which one place changed
+at_set : (bodies : List (Option Body)) (i k : ℕ) (x : Option Body) → (get_or (set bodies i x) k None ≡ get_or bodies k None) ⊎ ((k ≡ i) × (i < length bodies) × (get_or (set bodies i x) k None ≡ x))
+at_set bodies i k x = elim (cases_eq k i) [
+  | inl same ↦ elim (cases_lt i (length bodies)) [
+    | inl lt ↦ inr (same, lt, ap (λ j. get_or (set bodies i x) j None) same ∙ get_or-set_same bodies i x None lt)
+    | inr le ↦ inl (ap (λ j. get_or (set bodies i x) j None) same ∙ get_or_past (set bodies i x) i None (omega (arith, length-set bodies i x)) ∙ sym (get_or_past bodies i None le) ∙ ap (λ j. get_or bodies j None) (sym same))
+  ]
+  | inr other ↦ inl (get_or-set_other bodies i k x None other)
+]
+
+-- a place that changes or stays
+at_gone : (c : Bool) (bodies : List (Option Body)) (i k : ℕ) → (get_or (cond c (set bodies i None) bodies) k None ≡ get_or bodies k None) ⊎ (get_or (cond c (set bodies i None) bodies) k None ≡ None)
+at_gone true bodies i k = elim (at_set bodies i k None) [ inl same ↦ inl same | inr gone ↦ inr gone.2 ]
+at_gone false bodies i k = inl refl
+
+formed_some : (objects : List (Option Object)) (bodies : List (Option Body)) (k : ℕ) (o : Object) (b : Body) (x : Option Body) → get_or bodies k None ≡ x → Some (form_of b) ≡ slot_form x
+    → get_or objects k None ≡ Some o → AreFormed objects bodies → form_of b ≡ form_in o.descr
+formed_some objects bodies k o b None is same there f = absurd (cc)
+formed_some objects bodies k o b (Some c) is same there f = let e : form_of b ≡ form_of c = cc in e ∙ f.each k o c there is
+
+-- bodies that stay of their forms
+pub formed_by : (objects : List (Option Object)) (bodies after : List (Option Body)) → ((k : ℕ) → is_some (get_or after k None) ≡ true → slot_form (get_or after k None) ≡ slot_form (get_or bodies k None)) → AreFormed objects bodies → AreFormed objects after
+formed_by objects bodies after stays f = record {
+  each = λ k o b there is. formed_some objects bodies k o b (get_or bodies k None) refl (sym (ap slot_form is) ∙ stays k (ap is_some is)) there f;
+}
+
+-- owners that owned it before or wait, and waits that stay their threads'
+pub of_live_by : (threads : List (Option ℕ)) (bodies after : List (Option Body)) (ws ws' : List (Option Wait))
+    → ((k t : ℕ) → slot_owner (get_or after k None) ≡ Some t → (slot_owner (get_or bodies k None) ≡ Some t) ⊎ HasWait t ws)
+    → ((n : ℕ) → thread_of (get_or ws' n None) ≡ thread_of (get_or ws n None)) → AreOfLive threads bodies ws → AreOfLive threads after ws'
+of_live_by threads bodies after ws ws' owners waiters l = record {
+  owners = λ k t h. elim (owners k t h) [ inl old ↦ l.owners k t old | inr waits ↦ l.waiters waits.0 t waits.1 ];
+  waiters = λ n t h. l.waiters n t (sym (waiters n) ∙ h);
+}
+
+-- more threads are live
+pub of_live_more : (threads threads' : List (Option ℕ)) (bodies : List (Option Body)) (ws : List (Option Wait)) → ((t : ℕ) → IsLive threads t → IsLive threads' t) → AreOfLive threads bodies ws → AreOfLive threads' bodies ws
+of_live_more threads threads' bodies ws more l = record { owners = λ k t h. more t (l.owners k t h); waiters = λ n t h. more t (l.waiters n t h) }
+
+-- the waits settle
+module _ (first : Scene) (after : Objects) (ws' : List (Option Wait)) (value : ◌≡◌ {A = Scene} (record { objects = after; waits = ws' }) (settled first)) where
+  body_is : (k : ℕ) → get_or after.bodies k None ≡ get_or (settled first).objects.bodies k None
+  body_is k = ap (λ (s : Scene). get_or s.objects.bodies k None) value
+
+  pub formed_settled : (objects : List (Option Object)) → AreFormed objects first.objects.bodies → AreFormed objects after.bodies
+  formed_settled objects f = formed_by objects first.objects.bodies after.bodies
+      (λ k h. ap slot_form (body_is k) ∙ settled_form first k (sym (ap is_some (body_is k)) ∙ h)) f
+
+  pub of_live_settled : (threads : List (Option ℕ)) → AreOfLive threads first.objects.bodies first.waits → AreOfLive threads after.bodies ws'
+  of_live_settled threads l = of_live_by threads first.objects.bodies after.bodies first.waits ws'
+      (λ k t h. settled_owner first k t (sym (ap slot_owner (body_is k)) ∙ h))
+      (λ n. ap (λ (s : Scene). thread_of (get_or s.waits n None)) value ∙ settled_thread first n) l
+
+-- a body goes, or stays
+module _ (c : Bool) (bodies : List (Option Body)) (i : ℕ) where
+  abbrev gone : List (Option Body)
+  gone = cond c (set bodies i None) bodies
+
+  pub formed_gone : (objects : List (Option Object)) → AreFormed objects bodies → AreFormed objects (cond c (set bodies i None) bodies)
+  formed_gone objects f = formed_by objects bodies gone (λ k h. elim (at_gone c bodies i k) [ inl same ↦ ap slot_form same | inr none ↦ absurd (let e = ap is_some none in cc (e, h)) ]) f
+
+  pub of_live_gone : (threads : List (Option ℕ)) (ws : List (Option Wait)) → AreOfLive threads bodies ws → AreOfLive threads (cond c (set bodies i None) bodies) ws
+  of_live_gone threads ws l = of_live_by threads bodies gone ws ws (λ k t h. elim (at_gone c bodies i k) [ inl same ↦ inl (sym (ap slot_owner same) ∙ h) | inr none ↦ absurd (let e = ap slot_owner none in cc (e, h)) ]) (λ n. refl) l
+
+  pub quiet_gone : (limit : ℕ) (ws : List (Option Wait)) → IsQuiet limit bodies ws → IsQuiet limit (cond c (set bodies i None) bodies) ws
+  quiet_gone limit ws q = record {
+    room = room_changed limit bodies gone ws (λ t k h. (room_if limit (suc t) c bodies i).room t (λ e. omega (arith, e)) k h) q.room;
+    settled = settled_less bodies gone ws (less_if c bodies i) q.settled;
+  }
+
+some_same : {A : Type 0} {x y : A} → Some x ≡ Some y → x ≡ y
+some_same h = cc
+
+-- a new object's body comes to a slot that no wait names
+module _ (bodies : List (Option Body)) (k : ℕ) (b : Body) where
+  pub formed_added : (objects : List (Option Object)) (o : Object) → k < length objects → k < length bodies → form_of b ≡ form_in o.descr → AreFormed objects bodies → AreFormed (set objects k (Some o)) (set bodies k (Some b))
+  formed_added objects o within bodied form f = record {
+    each = λ j p c there is. elim (cases_eq j k) [
+      | inl same ↦
+          (let e : b ≡ c = some_same (sym (ap (λ i. get_or (set bodies k (Some b)) i None) same ∙ get_or-set_same bodies k (Some b) None bodied) ∙ is) in
+          let d : o ≡ p = some_same (sym (ap (λ i. get_or (set objects k (Some o)) i None) same ∙ get_or-set_same objects k (Some o) None within) ∙ there) in
+          ap form_of (sym e) ∙ form ∙ ap (λ (x : Object). form_in x.descr) d)
+      | inr other ↦ f.each j p c (sym (get_or-set_other objects k j (Some o) None other) ∙ there) (sym (get_or-set_other bodies k j (Some b) None other) ∙ is)
+    ];
+  }
+
+  pub of_live_added : (threads : List (Option ℕ)) (ws : List (Option Wait)) → ((t : ℕ) → owner_of b ≡ Some t → IsLive threads t) → AreOfLive threads bodies ws → AreOfLive threads (set bodies k (Some b)) ws
+  of_live_added threads ws live l = record {
+    owners = λ j t h. elim (at_set bodies k j (Some b)) [ inl same ↦ l.owners j t (sym (ap slot_owner same) ∙ h) | inr new ↦ live t (sym (ap slot_owner new.2) ∙ h) ];
+    waiters = l.waiters;
+  }
+
+  pub quiet_added : (limit : ℕ) (ws : List (Option Wait)) → slot_blocks k ws ≡ 0 → IsQuiet limit bodies ws → IsQuiet limit (set bodies k (Some b)) ws
+  quiet_added limit ws none q = record { room = room_unnamed limit bodies ws k (Some b) none q.room; settled = settled_unnamed bodies ws k (Some b) none q.settled }
+
+-- a call's change of a body
+module _ (bodies : List (Option Body)) (k : ℕ) (old new : Body) (there : get_or bodies k None ≡ Some old) (yields : Yields old new) where
+  pub formed_put : (objects : List (Option Object)) → AreFormed objects bodies → AreFormed objects (set bodies k (Some new))
+  formed_put objects f = formed_by objects bodies (set bodies k (Some new))
+      (λ j h. elim (at_set bodies k j (Some new)) [
+        | inl same ↦ ap slot_form same
+        | inr put ↦ ap slot_form put.2 ∙ ap Some yields.form ∙ sym (ap slot_form (ap (λ i. get_or bodies i None) put.0 ∙ there))
+      ]) f
+
+  pub of_live_put : (threads : List (Option ℕ)) (ws : List (Option Wait)) → AreOfLive threads bodies ws → AreOfLive threads (set bodies k (Some new)) ws
+  of_live_put threads ws l = record {
+    owners = λ j t h. elim (at_set bodies k j (Some new)) [
+      | inl same ↦ l.owners j t (sym (ap slot_owner same) ∙ h)
+      | inr put ↦ l.owners k t (ap slot_owner there ∙ yields.owner t (sym (ap slot_owner put.2) ∙ h))
+    ];
+    waiters = l.waiters;
+  }
+
+  pub room_put : (limit : ℕ) (ws : List (Option Wait)) → WaitsHaveRoom limit bodies ws → WaitsHaveRoom limit (set bodies k (Some new)) ws
+  room_put limit ws room = room_set limit bodies ws k (Some new) (λ t h. yields.room limit t (subst (λ (x : Option Body). slot_room limit t x ≡ true) there h)) room
