@@ -1,5 +1,5 @@
 -- The objects in their slots, how much refers to each, and the keeper of the slots.
-use Rattle.std.specs.Prelude.{ℕ, ◌+◌, ◌-◌, ◌==◌, Bool, true, false, List, map, replicate, Option, Some, None, if◌then◌else◌, slice_index_or, slice_set}
+use Rattle.std.specs.Prelude.{ℕ, ◌+◌, ◌-◌, ◌==◌, Bool, true, false, List, [], ◌∷◌, map, replicate, Option, Some, None, if◌then◌else◌, slice_index_or, slice_set}
 use Rattle.ob_rights.specs.declared.rights.Rights.{Rights}
 use Rattle.pin_core.specs.declared.id.Id.{Id}
 use Rattle.pin_core.specs.declared.descr.Descr.{Descr}
@@ -116,6 +116,10 @@ without_handle p slot = record p {
 abbrev pub with_block : Places → ℕ → Places
 with_block p slot = record p { seen = record p.seen { blocks = slice_set p.seen.blocks slot (slice_index_or p.seen.blocks slot 0 + 1) } }
 
+-- whether nothing refers to the slot's object once a block has left
+abbrev pub is_last_block : Places → ℕ → Bool
+is_last_block p slot = slice_index_or p.seen.handles slot 0 + (slice_index_or p.seen.blocks slot 0 - 1) == 0
+
 -- a slot without its object
 abbrev pub without_seat : Places → ℕ → Places
 without_seat p slot = record p {
@@ -160,6 +164,11 @@ without_handle_of s slot = with_keeper (without_handle (places_in s) slot) s.bir
 -- one block more
 abbrev pub with_block_of : ObjectsState → ℕ → ObjectsState
 with_block_of s slot = with_keeper (with_block (places_in s) slot) s.births s.keeper
+
+-- one block more for each place of a list
+abbrev pub with_blocks_of : ObjectsState → List Id → ObjectsState
+with_blocks_of s [] = s
+with_blocks_of s (id ∷ ids) = with_blocks_of (with_block_of s id.slot) ids
 
 -- a closing slot as it was when it was live
 abbrev pub open_phase : Phase → Phase

@@ -2,6 +2,7 @@
 #![tactic(auto)]
 
 mod objects;
+mod pinning;
 mod seat;
 mod seats;
 #[cfg(test)]

@@ -1,11 +1,12 @@
-ghost use Rattle.std.specs.Prelude.{◌≡◌, ◌<◌, ◌≤◌, true, IfOk, IfErr, IfSome, IsSome, None, Some, slice_index_or};
+ghost use Rattle.std.specs.Prelude.{◌≡◌, ℕ, ◌+◌, ◌<◌, ◌≤◌, true, IfOk, IfErr, IfSome, IsSome, None, Some, length, slice_index_or};
 ghost use Rattle.std.specs.Option.{option_map};
 ghost use Rattle.pin_words.specs.Keepers.{IsFresh};
 ghost use Rattle.pin_words.specs.Views.{id_of};
 ghost use Rattle.pin_core.specs.Descrs.{IsGiven};
 ghost use Rattle.ob_arena.specs.Slots.{is_vacant_at, least_vacant};
-ghost use Rattle.ob_store.specs.Objects.{object_of, places_in, with_keeper, vacant_places, vacancy, with_object, with_handle, without_handle_of, with_block};
-ghost use Rattle.ob_store.specs.Agreement.{Reclaimed};
+ghost use Rattle.ob_waits.specs.Waits.{nowhere};
+ghost use Rattle.ob_store.specs.Objects.{object_of, places_in, with_keeper, vacant_places, vacancy, with_object, with_handle_of, without_handle_of, with_block_of, with_blocks_of};
+ghost use Rattle.ob_store.specs.Agreement.{IsTied, Reclaimed};
 
 use crate::seat::Seat;
 use crate::seats::Seats;
@@ -25,7 +26,8 @@ use std::marker::Model;
 #[derive(Drop)]
 pub struct Objects<K: PinKeeper> {
     seats: Seats,
-    keeper: K,
+    births: u64,
+    pub(crate) keeper: K,
 }
 
 impl<K: PinKeeper> Model for Objects<K> {
@@ -34,9 +36,9 @@ impl<K: PinKeeper> Model for Objects<K> {
 
     ghost Value = { ObjectsState };
 
-    ghost view = { λ o. with_keeper o.seats (K.kept o.keeper) };
+    ghost view = { λ o. with_keeper o.seats o.births (K.kept o.keeper) };
 
-    ghost invariant = { λ o. IsTied (with_keeper o.seats (K.kept o.keeper)) };
+    ghost invariant = { λ o. IsTied (with_keeper o.seats o.births (K.kept o.keeper)) };
 }
 
 impl<K: PinKeeper> Objects<K> {
@@ -45,13 +47,33 @@ impl<K: PinKeeper> Objects<K> {
         requires fresh { IsFresh (K.kept keeper) (K.kept keeper).shape }
         requires slots { slots ≡ (K.kept keeper).shape.slots }
         requires few { slots ≤ SLOTS_MAX }
-        ensures ok { IfOk result (λ o. o ≡ with_keeper (vacant_places slots) (K.kept keeper)) }
+        requires first { 1 ≤ (K.kept keeper).shape.max_gen }
+        requires last { (K.kept keeper).shape.max_gen ≤ 4294967295 }
+        ensures ok { IfOk result (λ o. o ≡ with_keeper (vacant_places slots) 0 (K.kept keeper)) }
         ensures err { IfErr result (λ k. k ≡ keeper) }
     {
         match Seats::new(alloc, slots) {
-            Ok(seats) => Ok(Objects { seats, keeper }),
+            Ok(seats) => Ok(Objects {
+                seats,
+                births: 0,
+                keeper,
+            }),
             Err(_) => Err(keeper),
         }
+    }
+
+    /// How many slots there are.
+    pub fn slots(&self) -> u32
+        ensures { result ≡ self.now.keeper.shape.slots }
+    {
+        self.seats.len()
+    }
+
+    /// What holds of the objects and their keeper whenever no call is under way.
+    pub fn kept(&self)
+        ensures { IsTied self.now }
+    {
+        let _ = &self.seats;
     }
 
     /// The least vacant slot.
@@ -68,15 +90,24 @@ impl<K: PinKeeper> Objects<K> {
         ensures body { IfSome result (λ seat. slice_index_or self.now.seen.bodies slot None ≡ seat.now.body) }
         ensures handles { IfSome result (λ seat. slice_index_or self.now.seen.handles slot 0 ≡ seat.now.handles) }
         ensures blocks { IfSome result (λ seat. slice_index_or self.now.seen.blocks slot 0 ≡ seat.now.blocks) }
+        ensures id { IfSome result (λ seat. seat.now.id.slot ≡ slot) }
     {
         self.seats.look(slot)
     }
 
-    /// A new object in a vacant slot, with one handle; its Id.
+    /// The Id of a slot at its present generation.
+    pub fn id_at(&self, slot: u32) -> Id
+        requires { slot < self.now.keeper.shape.slots }
+        ensures { result ≡ id_of self.now.keeper.slots slot }
+    {
+        let generation = self.keeper.generation(slot);
+        Id { slot, generation }
+    }
+
+    /// A new object in a vacant slot, with one handle; its Id. Its number is how many objects were made before it.
     pub fn add(
         &mut self,
         slot: u32,
-        birth: u64,
         descr: Descr,
         grant: Rights,
         name: Option<Name>,
@@ -85,29 +116,28 @@ impl<K: PinKeeper> Objects<K> {
         requires vacant { is_vacant_at (vacancy (places_in self.old)) slot ≡ true }
         requires given { IsGiven descr }
         ensures id { result ≡ id_of self.old.keeper.slots slot }
-        ensures added { self.new ≡ with_object self.old slot (record { birth = birth; descr = descr; grant = grant; name = name }) body }
+        ensures added { self.new ≡ with_object self.old slot (record { descr = descr; grant = grant; name = name }) body }
     {
-        let generation = self.keeper.generation(slot);
-        let id = Id { slot, generation };
-        self.seats.add(id, birth, descr, grant, name, body);
+        let id = self.id_at(slot);
+        self.seats.add(id, self.births, descr, grant, name, body);
+        self.births += 1;
         self.keeper.store_descr(slot, descr);
         self.keeper.publish(slot);
         id
     }
 
-    /// One handle more.
+    /// One handle more of an object that has a body.
     pub fn handle_came(&mut self, slot: u32)
-        requires there { IsSome (slice_index_or self.old.objects slot None) }
+        requires live { IsSome (slice_index_or self.old.seen.bodies slot None) }
         requires few { slice_index_or self.old.seen.handles slot 0 < 4294967295 }
-        ensures { self.new ≡ with_keeper (with_handle (places_in self.old) slot) self.old.keeper }
+        ensures { self.new ≡ with_handle_of self.old slot }
     {
         self.seats.handle_came(slot);
     }
 
-    /// One handle fewer of an object that has a body.
+    /// One handle fewer. The object ends where that was the last reference to it.
     pub fn handle_left(&mut self, slot: u32)
         requires some { 0 < slice_index_or self.old.seen.handles slot 0 }
-        requires live { IsSome (slice_index_or self.old.seen.bodies slot None) }
         ensures { self.new ≡ without_handle_of self.old slot }
     {
         if self.seats.handle_left(slot) {
@@ -115,13 +145,25 @@ impl<K: PinKeeper> Objects<K> {
         }
     }
 
-    /// One more place of a pending wait names the object.
+    /// One more place of a pending wait names the object, which has a body.
     pub fn block_came(&mut self, slot: u32)
-        requires there { IsSome (slice_index_or self.old.objects slot None) }
+        requires live { IsSome (slice_index_or self.old.seen.bodies slot None) }
         requires few { slice_index_or self.old.seen.blocks slot 0 < 18446744073709551615 }
-        ensures { self.new ≡ with_keeper (with_block (places_in self.old) slot) self.old.keeper }
+        ensures { self.new ≡ with_block_of self.old slot }
     {
         self.seats.block_came(slot);
+    }
+
+    /// One block more for each place of a list: a wait for the list became pending.
+    pub fn blocks_came(&mut self, ids: &[Id])
+        requires live { (i : ℕ) → i < length ids.now → IsSome (slice_index_or self.old.seen.bodies (slice_index_or ids.now i nowhere).slot None) }
+        requires short { length ids.now ≤ 64 }
+        requires few { (k : ℕ) → slice_index_or self.old.seen.blocks k 0 + 64 ≤ 18446744073709551615 }
+        ensures { self.new ≡ with_blocks_of self.old ids.now }
+    {
+        for id in ids {
+            self.block_came(id.slot);
+        }
     }
 
     /// Takes the slot of an ended object back, unless somebody holds it: the object leaves it, and where it was at its last
@@ -165,12 +207,8 @@ impl<K: PinKeeper> Bodies for Objects<K> {
     }
 
     fn block_left(&mut self, id: Id) {
-        let had_body = self.seats.body(id).is_some();
-        self.seats.block_left(id);
-        if had_body {
-            if self.seats.body(id).is_none() {
-                self.keeper.close_slot(id.slot);
-            }
+        if self.seats.block_left(id) {
+            self.keeper.close_slot(id.slot);
         }
     }
 }

@@ -1,14 +1,14 @@
-ghost use Rattle.std.specs.Prelude.{◌≡◌, ◌<◌, ◌≤◌, ◌+◌, ◌&&◌, true, IfOk, IfSome, IsSome, None, Some, is_some, slice_index_or};
+ghost use Rattle.std.specs.Prelude.{◌≡◌, ◌<◌, ◌≤◌, ◌+◌, ◌&&◌, true, IfOk, IfSome, IsSome, None, Some, is_some, length, slice_index_or};
 ghost use Rattle.std.specs.Option.{option_map};
 ghost use Rattle.ob_arena.specs.Slots.{is_vacant_at, least_vacant};
-ghost use Rattle.ob_store.specs.Objects.{object_of, vacant_places, vacancy, with_seat, with_handle, without_handle, is_last_handle, with_block, without_seat, with_retired};
+ghost use Rattle.ob_waits.specs.Objects.{body_of, with_body, without_block};
+ghost use Rattle.ob_store.specs.Objects.{object_of, rest_of, vacant_places, vacancy, with_seat, with_handle, without_handle, is_last_handle, with_block, is_last_block, without_seat, with_retired};
 
 use crate::seat::Seat;
 use ob_arena::{Arena, SLOTS_MAX};
 use ob_body::Body;
 use ob_name::Name;
 use ob_rights::Rights;
-use ob_waits::Bodies;
 use pin_core::{Descr, Id};
 use std::alloc::{AllocError, Global};
 use std::marker::Model;
@@ -35,6 +35,13 @@ impl Seats {
         Ok(Seats {
             arena: Arena::new(alloc, slots)?,
         })
+    }
+
+    /// How many slots there are.
+    pub(crate) fn len(&self) -> u32
+        ensures { result ≡ length self.now.objects }
+    {
+        self.arena.len()
     }
 
     /// The least vacant slot.
@@ -69,7 +76,8 @@ impl Seats {
         body: Body,
     )
         requires { is_vacant_at (vacancy self.old) id.slot ≡ true }
-        ensures { self.new ≡ with_seat self.old id.slot (record { id = id; birth = birth; descr = descr; grant = grant; name = name }) body }
+        ensures value { self.new ≡ with_seat self.old id.slot (record { id = id; birth = birth; descr = descr; grant = grant; name = name }) body }
+        ensures handle { slice_index_or self.new.seen.handles id.slot 0 ≡ 1 }
     {
         self.arena
             .put(id.slot, Seat::new(id, birth, descr, grant, name, body));
@@ -119,31 +127,35 @@ impl Seats {
     {
         self.arena.retire(slot);
     }
-}
 
-impl Bodies for Seats {
-    ghost use Rattle.ob_store.specs.Objects.{Rest, rest_of};
-
-    ghost objects = { λ s. s.seen };
-
-    ghost Rest = { Rest };
-
-    ghost rest = { rest_of };
-
-    fn body(&self, id: Id) -> Option<Body> {
+    /// The body of an object.
+    pub(crate) fn body(&self, id: Id) -> Option<Body>
+        ensures { result ≡ body_of self.now.seen.bodies id }
+    {
         if self.arena.is_occupied(id.slot) {
             return self.arena.get(id.slot).body;
         }
         None
     }
 
-    fn put(&mut self, id: Id, body: Body) {
+    /// Changes the body of an object that has one.
+    pub(crate) fn put(&mut self, id: Id, body: Body)
+        requires { IsSome (body_of self.old.seen.bodies id) }
+        ensures objects { self.new.seen ≡ with_body self.old.seen id body }
+        ensures rest { rest_of self.new ≡ rest_of self.old }
+    {
         self.arena.get_mut(id.slot).body = Some(body);
     }
 
-    fn block_left(&mut self, id: Id) {
-        if self.arena.is_occupied(id.slot) {
-            self.arena.get_mut(id.slot).block_left();
+    /// One block fewer, where there is one; whether the object ended.
+    pub(crate) fn block_left(&mut self, id: Id) -> bool
+        ensures objects { self.new.seen ≡ without_block self.old.seen id }
+        ensures rest { rest_of self.new ≡ rest_of self.old }
+        ensures ended { result ≡ is_some (body_of self.old.seen.bodies id) && is_last_block self.old id.slot }
+    {
+        if !self.arena.is_occupied(id.slot) {
+            return false;
         }
+        self.arena.get_mut(id.slot).block_left()
     }
 }

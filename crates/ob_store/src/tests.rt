@@ -28,9 +28,9 @@ fn made<K: PinKeeper>(objects: &mut Objects<K>, descr: Descr) -> Option<Id> {
     }
     let grant = all_access(descr.kind);
     if descr.kind == Kind::Mutex {
-        return Some(objects.add(slot, 0, descr, grant, None, Body::new_mutex(None)));
+        return Some(objects.add(slot, descr, grant, None, Body::new_mutex(None)));
     }
-    Some(objects.add(slot, 0, descr, grant, None, Body::new_event(false, false)))
+    Some(objects.add(slot, descr, grant, None, Body::new_event(false, false)))
 }
 
 /// Whether the object of the slot had a handle, which has left.
@@ -38,7 +38,7 @@ fn has_lost_a_handle<K: PinKeeper>(objects: &mut Objects<K>, slot: u32) -> bool 
     let Some(seat) = objects.look(slot) else {
         return false;
     };
-    if seat.handles == 0 || seat.body.is_none() {
+    if seat.handles == 0 {
         return false;
     }
     objects.handle_left(slot);
