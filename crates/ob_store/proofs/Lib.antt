@@ -2,3 +2,11 @@ pub mod SeatLaws
 pub mod AgreeLaws
 pub mod ListLaws
 pub mod TiedLaws
+pub mod BySlot
+pub mod Places
+pub mod CountedLaws
+pub mod NamedLaws
+pub mod BodyLaws
+pub mod DirectoryLaws
+pub mod ListingLaws
+pub mod SettledLaws

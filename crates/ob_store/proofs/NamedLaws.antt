@@ -49,6 +49,10 @@ sum_same : {X : Type 0} (f g : X → ℕ) (d : X) (xs : List X) → ((i : ℕ) �
 sum_same f g d [] each = refl
 sum_same f g d (x ∷ xs) each = omega (arith, sum_by-cons f x xs, sum_by-cons g x xs, each 0 (omega arith), sum_same f g d xs (λ i lt. each (suc i) (omega arith)))
 
+sum_none : {X : Type 0} (f : X → ℕ) (d : X) (xs : List X) → ((i : ℕ) → i < length xs → f (get_or xs i d) ≡ 0) → sum_by f xs ≡ 0
+sum_none f d [] each = refl
+sum_none f d (x ∷ xs) each = omega (arith, sum_by-cons f x xs, each 0 (omega arith), sum_none f d xs (λ i lt. each (suc i) (omega arith)))
+
 -- no more is named than before
 pub named_fewer : (objects : List (Option Object)) (ts ts' : List (List (Option Entry))) (ws ws' : List (Option Wait))
     → ((id : Id) → handles_among id ts' ≤ handles_among id ts) → ((id : Id) → blocks_among id ws' ≤ blocks_among id ws) → IsNamed objects ts ws → IsNamed objects ts' ws'
@@ -143,6 +147,19 @@ module _ (objects : List (Option Object)) (ts : List (List (Option Entry))) (ws 
   blocks_are id there = sum_same (λ (w : Option Wait). slot_places id.slot (ids_of w)) (blocks_in id) None ws
       (λ n lt. sum_same (λ (x : Id). cond (eqb x.slot id.slot) 1 0) (λ (x : Id). cond (same_id id x) 1 0) nowhere (ids_of (get_or ws n None))
         (λ i in'. let x = get_or (ids_of (get_or ws n None)) i nowhere in ap {B = ℕ} (λ b. cond b 1 0) (ids_agree x id (named.blocks x (place_counted n i lt in')) there)))
+
+  -- no wait names a slot past the last
+  pub blocks_past : (k : ℕ) → length objects ≤ k → slot_blocks k ws ≡ 0
+  blocks_past k le = sum_none (λ (w : Option Wait). slot_places k (ids_of w)) None ws
+      (λ n lt. sum_none (λ (x : Id). cond (eqb x.slot k) 1 0) nowhere (ids_of (get_or ws n None))
+        (λ i in'. let x = get_or (ids_of (get_or ws n None)) i nowhere in other x k le (there_within objects x (named.blocks x (place_counted n i lt in')))))
+    where
+      other : (x : Id) (k : ℕ) → length objects ≤ k → x.slot < length objects → ◌≡◌ {A = ℕ} (cond (eqb x.slot k) 1 0) 0
+      other x k le lt = by (eqb x.slot k) refl
+        where
+          by : (b : Bool) → eqb x.slot k ≡ b → ◌≡◌ {A = ℕ} (cond (eqb x.slot k) 1 0) 0
+          by true is = absurd (let same : x.slot ≡ k = grind (arith, nat_tests, is) in omega (arith, same, lt, le))
+          by false is = ap {B = ℕ} (λ c. cond c 1 0) is
 
 -- an object to which nothing refers leaves its slot
 pub named_left : (objects : List (Option Object)) (ts : List (List (Option Entry))) (ws : List (Option Wait)) (id : Id)

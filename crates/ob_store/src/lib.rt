@@ -1,6 +1,9 @@
 //! What a manager keeps: objects in their slots with their keeper, and how much refers to each.
 #![tactic(auto)]
 
+mod limits;
+mod lives;
+mod numbers;
 mod objects;
 mod pinning;
 mod seat;
@@ -8,5 +11,6 @@ mod seats;
 #[cfg(test)]
 mod tests;
 
+pub use limits::Limits;
 pub use objects::Objects;
 pub use seat::Seat;
