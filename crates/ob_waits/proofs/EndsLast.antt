@@ -39,14 +39,14 @@ ended_at objects k = elim (cases_lt k (length objects.bodies)) [
       ∙ sym (ap (slot_ended (get_or objects.handles k 0) (get_or objects.blocks k 0)) (get_or_past objects.bodies k None past) ∙ ended_none (get_or objects.handles k 0) (get_or objects.blocks k 0))
 ]
 
-is_ended : (objects : Objects) (bodies : List (Option Body)) → length bodies ≡ length objects.bodies → ((k : ℕ) → get_or bodies k None ≡ body_ended objects k) → bodies ≡ (ended objects).bodies
+pub is_ended : (objects : Objects) (bodies : List (Option Body)) → length bodies ≡ length objects.bodies → ((k : ℕ) → get_or bodies k None ≡ body_ended objects k) → bodies ≡ (ended objects).bodies
 is_ended objects bodies len each = ext_get_or None bodies (ended objects).bodies (len ∙ sym (length-map-range_with_len (body_ended objects) 0 (length objects.bodies))) (λ k lt. each k ∙ sym (ended_at objects k))
 
 length-ended : (objects : Objects) → length (ended objects).bodies ≡ length objects.bodies
 length-ended objects = length-map-range_with_len (body_ended objects) 0 (length objects.bodies)
 
 -- where each slot has a body exactly where something refers to it, nothing is left to end
-unended : (handles blocks : ℕ) (x : Option Body) → is_some x ≡ ltb 0 (handles + blocks) → x ≡ slot_ended handles blocks x
+pub unended : (handles blocks : ℕ) (x : Option Body) → is_some x ≡ ltb 0 (handles + blocks) → x ≡ slot_ended handles blocks x
 unended handles blocks x has = by (eqb (handles + blocks) 0) refl x has
   where
     by : (b : Bool) → eqb (handles + blocks) 0 ≡ b → (y : Option Body) → is_some y ≡ ltb 0 (handles + blocks) → y ≡ cond b None y
@@ -54,7 +54,7 @@ unended handles blocks x has = by (eqb (handles + blocks) 0) refl x has
     by true is None has = refl
     by true is (Some y) has = absurd (let none : ltb 0 (handles + blocks) ≡ false = grind (arith, nat_tests, is) in cc (has, none))
 
-none_to_end : (objects : Objects) → HasBodies objects → objects ≡ ended objects
+pub none_to_end : (objects : Objects) → HasBodies objects → objects ≡ ended objects
 none_to_end objects has =
     let bodies : objects.bodies ≡ (ended objects).bodies = is_ended objects objects.bodies refl (λ k. unended (get_or objects.handles k 0) (get_or objects.blocks k 0) (get_or objects.bodies k None) (has.each k)) in
     λ i. record { bodies = bodies i; handles = objects.handles; blocks = objects.blocks }
@@ -206,8 +206,12 @@ lockstep (suc fuel) scene has =
           ∙ ap (λ b. with_ends (cond b (settled_plainly_within fuel (plain_effect scene k)) scene)) (sym (le-ltb k (length scene.waits) le))
     ]
 
+-- ending what nothing refers to before settling is ending it afterwards
+pub ends_first : (scene : Scene) → HasBlocks scene → settled (with_ends scene) ≡ with_ends (settled_plainly scene)
+ends_first scene counted = lockstep (length scene.waits) scene counted
+
 -- The theorem: where each slot has a body exactly where something refers to its object, and counts its blocks, settling is settling plainly and then ending what nothing refers to.
 pub ends_last : (scene : Scene) → HasBodies scene.objects → HasBlocks scene → settled scene ≡ with_ends (settled_plainly scene)
 ends_last scene has counted =
     let same : scene ≡ with_ends scene = (let o = none_to_end scene.objects has in λ i. record { objects = o i; waits = scene.waits }) in
-    ap (settled_within (length scene.waits)) same ∙ lockstep (length scene.waits) scene counted
+    ap (settled_within (length scene.waits)) same ∙ ends_first scene counted
