@@ -5,3 +5,4 @@ pub mod Agreement
 pub mod State
 pub mod Directory
 pub mod Kept
+pub mod Moves

@@ -1,6 +1,6 @@
 -- The abstract state of the object manager: plain lists, by number or by slot. It keeps no count and no directory: both are
 -- read off the entries, the waits and the objects.
-use Rattle.std.specs.Prelude.{ℕ, ◌+◌, ◌==◌, Bool, true, false, List, [], ◌∷◌, ◌++◌, Option, Some, None, if◌then◌else◌, slice_index_or, slice_set, length, map, replicate}
+use Rattle.std.specs.Prelude.{ℕ, ◌+◌, ◌==◌, nat_le, Bool, true, false, List, [], ◌∷◌, ◌++◌, Option, Some, None, if◌then◌else◌, slice_index_or, slice_set, length, map, replicate}
 use Rattle.std.specs.List.{range_with_len}
 use Rattle.pin_core.specs.declared.id.Id.{Id}
 use Rattle.pin_core.specs.declared.shape.Shape.{Shape}
@@ -11,7 +11,7 @@ use Rattle.ob_arena.specs.Slots.{Slots}
 use Rattle.ob_tables.specs.declared.entry.Entry.{Entry}
 use Rattle.ob_tables.specs.Tables as tables
 use Rattle.ob_tables.specs.Tables.{HandleTables, with_entry_of, without_entry_of}
-use Rattle.ob_tables.specs.Counts.{handles_among, slot_handles}
+use Rattle.ob_tables.specs.Counts.{entries_in, handles_among, slot_handles}
 use Rattle.ob_waits.specs.Objects as waits
 use Rattle.ob_waits.specs.declared.wait.Wait.{Wait}
 use Rattle.ob_waits.specs.Waits.{WaitList, Scene, blocks_among, slot_blocks}
@@ -75,6 +75,10 @@ with_scene s scene = record s { bodies = scene.objects.bodies; waits = scene.wai
 -- as long as a pending wait is ready, the one of least number takes effect; then each object to which nothing refers ends
 abbrev pub settled : State → State
 settled s = with_scene s (with_ends (settled_plainly (scene_of s)))
+
+-- where a process has as many handles as it may
+abbrev pub is_full : State → ℕ → Bool
+is_full s process = nat_le s.limits.handles (entries_in (tables.table_of s.tables process))
 
 -- a new process of a session, with its first thread
 abbrev pub with_process : State → ℕ → State

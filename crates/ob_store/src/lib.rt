@@ -1,16 +1,38 @@
-//! What a manager keeps: objects in their slots with their keeper, and how much refers to each.
+//! What a manager keeps: processes, threads and their handle tables, objects in their slots with their keeper, names and waits.
+//!
+//! [`Store`] stands to its callers for a plain state without counts (`specs/State.antt`) and for what the keeper of the slots
+//! says. It counts what refers to each object, finds objects by name, and keeps both right at each of its changes, of which
+//! the calls of a manager are made.
+//!
+//! ```text
+//! let mut store = Store::new(alloc, limits, keeper)?;
+//! store.add_process(1)?;                              // process 1 of session 1, thread 1
+//! let slot = store.vacant()?;                         // 0
+//! let handle = store.add_nameless(1, slot, event)?;   // 4
+//! let entry = store.look(1, handle)?;                 // of the object s0.1
+//! store.remove_entry(1, handle, entry);               // the object has ended
+//! store.reclaim(slot);                                // Freed
+//! ```
 #![tactic(auto)]
 
+mod creation;
+mod entries;
 mod limits;
 mod lives;
 mod numbers;
 mod objects;
 mod pinning;
+mod processes;
+mod reclaiming;
 mod seat;
 mod seats;
+mod signaling;
+mod store;
 #[cfg(test)]
 mod tests;
 
+pub use creation::Creation;
 pub use limits::Limits;
 pub use objects::Objects;
 pub use seat::Seat;
+pub use store::Store;

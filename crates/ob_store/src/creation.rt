@@ -1,0 +1,101 @@
+ghost use Rattle.std.specs.Prelude.{◌≡◌, ◌<◌, ◌⊎◌, ℕ, false, true, IfErr, IfOk, None, OnErr, OnOk, Some, length};
+ghost use Rattle.ob_arena.specs.Slots.{is_vacant_at};
+ghost use Rattle.ob_body.specs.Body as spec;
+ghost use Rattle.ob_name.specs.Listing.{find_name};
+ghost use Rattle.ob_name.specs.Refs.{name_at};
+ghost use Rattle.ob_rights.specs.declared.fault.Fault.TheVariants.{Memory};
+ghost use Rattle.ob_tables.specs.Table.{free_place, value_of};
+ghost use Rattle.ob_tables.specs.Tables.{table_of};
+ghost use Rattle.ob_waits.specs.Form.{form_of};
+ghost use Rattle.pin_core.specs.Descrs.{IsGiven};
+ghost use Rattle.pin_words.specs.Keepers.{published, stored};
+ghost use Rattle.ob_store.specs.State.{id_at, is_full, settled, vacancy, with_entry, with_object};
+ghost use Rattle.ob_store.specs.Directory.{directory_of};
+ghost use Rattle.ob_store.specs.Kept.{IsLive, form_in};
+
+use crate::store::Store;
+use ob_body::Body;
+use ob_name::{Name, NameRef};
+use ob_rights::{Fault, HandleFlags, Rights};
+use ob_tables::Entry;
+use pin_core::Descr;
+use pin_words::PinKeeper;
+
+/// A new object but for its name, and its first handle.
+#[derive(Clone, Copy, Debug)]
+pub struct Creation {
+    /// What it is, for its whole life.
+    pub descr: Descr,
+    /// What it is now.
+    pub body: Body,
+    /// The rights that an open or a duplicate may get (*profile*).
+    pub grant: Rights,
+    /// The rights of the handle.
+    pub rights: Rights,
+    /// What may be done with the handle.
+    pub flags: HandleFlags,
+}
+
+impl<K: PinKeeper> Store<K> {
+    /// A new object without a name in a vacant slot, with a handle at the least free value of a process; the value.
+    ///
+    /// Refused with 8 for want of memory.
+    pub fn add_nameless(&mut self, process: u32, slot: u32, new: Creation) -> Result<u32, Fault>
+        requires process { process < length self.old.state.tables }
+        requires room { is_full self.old.state process ≡ false }
+        requires vacant { is_vacant_at (vacancy self.old.state) slot ≡ true }
+        requires given { IsGiven new.descr }
+        requires formed { form_of new.body ≡ form_in new.descr }
+        requires owned { (t : ℕ) → spec.owner_of new.body ≡ Some t → IsLive self.old.state.threads t }
+        ensures value { IfOk result (λ value. value ≡ value_of (free_place (table_of self.old.state.tables process))) }
+        ensures state { OnOk result (self.new.state ≡ settled (with_entry (with_object self.old.state slot (record { descr = new.descr; grant = new.grant; name = None }) new.body) process (record { id = id_at self.old.state slot; rights = new.rights; flags = new.flags }))) }
+        ensures keeper { OnOk result (self.new.keeper ≡ published (stored self.old.keeper slot new.descr) slot) }
+        ensures memory { IfErr result (λ fault. fault ≡ Memory) }
+        ensures err { OnErr result (self.new ≡ self.old) }
+    {
+        let entry = Entry {
+            id: self.objects.id_at(slot),
+            rights: new.rights,
+            flags: new.flags,
+        };
+        match self.tables.place(process, entry) {
+            Ok(value) => {
+                self.objects.add(slot, new.descr, new.grant, None, new.body);
+                return Ok(value);
+            }
+            Err(fault) => return Err(fault),
+        }
+    }
+
+    /// A new object with a name that no object has, as [`add_nameless`](Store::add_nameless) makes one without.
+    pub fn add_named(&mut self, process: u32, slot: u32, new: Creation, name: &NameRef<'_>) -> Result<u32, Fault>
+        requires process { process < length self.old.state.tables }
+        requires room { is_full self.old.state process ≡ false }
+        requires vacant { is_vacant_at (vacancy self.old.state) slot ≡ true }
+        requires given { IsGiven new.descr }
+        requires formed { form_of new.body ≡ form_in new.descr }
+        requires owned { (t : ℕ) → spec.owner_of new.body ≡ Some t → IsLive self.old.state.threads t }
+        requires absent { find_name (name_at name.now) (directory_of self.old.state) ≡ None }
+        ensures value { IfOk result (λ value. value ≡ value_of (free_place (table_of self.old.state.tables process))) }
+        ensures state { OnOk result (self.new.state ≡ settled (with_entry (with_object self.old.state slot (record { descr = new.descr; grant = new.grant; name = Some (name_at name.now) }) new.body) process (record { id = id_at self.old.state slot; rights = new.rights; flags = new.flags }))) }
+        ensures keeper { OnOk result (self.new.keeper ≡ published (stored self.old.keeper slot new.descr) slot) }
+        ensures memory { IfErr result (λ fault. fault ≡ Memory) }
+        ensures err { OnErr result (self.new ≡ self.old) }
+    {
+        let entered = self.names.reserve(name)?;
+        let kept = Name::new(self.alloc, name)?;
+        let entry = Entry {
+            id: self.objects.id_at(slot),
+            rights: new.rights,
+            flags: new.flags,
+        };
+        match self.tables.place(process, entry) {
+            Ok(value) => {
+                let id = self.objects.add(slot, new.descr, new.grant, Some(kept), new.body);
+                self.names.enter(entered, id);
+                return Ok(value);
+            }
+            Err(fault) => return Err(fault),
+        }
+    }
+}

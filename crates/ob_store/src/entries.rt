@@ -1,0 +1,54 @@
+ghost use Rattle.std.specs.Prelude.{◌≡◌, ◌<◌, ◌↔◌, ◌⊎◌, Err, IfErr, IfOk, OnErr, OnOk, Some, length};
+ghost use Rattle.ob_rights.specs.declared.fault.Fault.TheVariants.{Limit, Memory};
+ghost use Rattle.ob_tables.specs.Counts.{entries_in, handles_among};
+ghost use Rattle.ob_tables.specs.Table.{entry_at, free_place, value_of};
+ghost use Rattle.ob_tables.specs.Tables.{table_of};
+ghost use Rattle.ob_store.specs.State.{settled, with_entry, without_entry};
+ghost use Rattle.ob_store.specs.Moves.{OnlyCloses};
+
+use crate::store::Store;
+use ob_rights::Fault;
+use ob_tables::Entry;
+use pin_words::PinKeeper;
+
+impl<K: PinKeeper> Store<K> {
+    /// One more entry of an object that has one, at the least free value of a process; the value.
+    pub fn place_entry(&mut self, process: u32, entry: Entry) -> Result<u32, Fault>
+        requires process { process < length self.old.state.tables }
+        requires there { 0 < handles_among entry.id self.old.state.tables }
+        ensures value { IfOk result (λ value. value ≡ value_of (free_place (table_of self.old.state.tables process))) }
+        ensures ok { OnOk result (self.new ≡ record self.old { state = settled (with_entry self.old.state process entry) }) }
+        ensures limit { (result ≡ Err Limit) ↔ (entries_in (table_of self.old.state.tables process) ≡ self.old.state.limits.handles) }
+        ensures refusal { IfErr result (λ fault. (fault ≡ Limit) ⊎ (fault ≡ Memory)) }
+        ensures err { OnErr result (self.new ≡ self.old) }
+    {
+        match self.tables.place(process, entry) {
+            Ok(value) => {
+                self.objects.handle_came(entry.id.slot);
+                return Ok(value);
+            }
+            Err(fault) => return Err(fault),
+        }
+    }
+
+    /// The entry of a handle leaves. With its last handle an object's name leaves the directory, and with the last reference
+    /// the object ends.
+    pub fn remove_entry(&mut self, process: u32, handle: u32, entry: Entry)
+        requires { entry_at (table_of self.old.state.tables process) handle ≡ Some entry }
+        ensures state { self.new.state ≡ settled (without_entry self.old.state process handle) }
+        ensures keeper { OnlyCloses self.old.keeper self.new.keeper }
+    {
+        let _ = self.tables.remove(process, handle);
+        self.objects.handle_left(entry.id.slot);
+        let Some(seat) = self.objects.look(entry.id.slot) else {
+            return;
+        };
+        if seat.handles > 0 {
+            return;
+        }
+        let Some(name) = &seat.name else {
+            return;
+        };
+        let _ = self.names.remove(&name.borrowed());
+    }
+}

@@ -1,0 +1,36 @@
+ghost use Rattle.std.specs.Prelude.{◌≡◌, ◌<◌, ◌≤◌, IsSome, None, OnErr, OnOk, length, slice_index_or};
+ghost use Rattle.ob_store.specs.State.{settled, with_process, with_thread};
+
+use crate::store::Store;
+use pin_words::PinKeeper;
+use std::alloc::AllocError;
+
+impl<K: PinKeeper> Store<K> {
+    /// The next process, of a session, with the next thread.
+    pub fn add_process(&mut self, session: u32) -> Result<(), AllocError>
+        requires processes { length self.old.state.processes ≤ self.old.state.limits.processes }
+        requires threads { length self.old.state.threads ≤ self.old.state.limits.threads }
+        ensures ok { OnOk result (self.new ≡ record self.old { state = settled (with_process self.old.state session) }) }
+        ensures err { OnErr result (self.new ≡ self.old) }
+    {
+        self.lives.add_process(session)?;
+        match self.tables.add_process() {
+            Ok(_) => return Ok(()),
+            Err(_) => {
+                self.lives.take_back();
+                return Err(AllocError);
+            }
+        }
+    }
+
+    /// The next thread, of a live process.
+    pub fn add_thread(&mut self, process: u32) -> Result<(), AllocError>
+        requires threads { length self.old.state.threads ≤ self.old.state.limits.threads }
+        requires live { IsSome (slice_index_or self.old.state.processes process None) }
+        ensures ok { OnOk result (self.new ≡ record self.old { state = settled (with_thread self.old.state process) }) }
+        ensures err { OnErr result (self.new ≡ self.old) }
+    {
+        self.lives.add_thread(process)?;
+        Ok(())
+    }
+}

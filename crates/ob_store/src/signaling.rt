@@ -1,0 +1,84 @@
+ghost use Rattle.std.specs.Prelude.{◌≡◌, None, Some, OnErr, OnOk, slice_index_or};
+ghost use Rattle.ob_body.specs.Body as spec;
+ghost use Rattle.ob_rights.specs.declared.kind.Kind.TheVariants.{Event, Mutex, Semaphore};
+ghost use Rattle.ob_store.specs.State.{settled, with_body};
+ghost use Rattle.ob_store.specs.Kept.{Yields};
+ghost use Rattle.ob_store.specs.Moves.{OnlyCloses};
+
+use crate::store::Store;
+use ob_body::Body;
+use ob_rights::Fault;
+use ob_waits::Bodies;
+use pin_core::Id;
+use pin_words::PinKeeper;
+
+impl<K: PinKeeper> Store<K> {
+    /// An object has another body, and the waits for it settle.
+    pub(crate) fn put(&mut self, id: Id, old: Body, new: Body)
+        requires there { slice_index_or self.old.state.bodies id.slot None ≡ Some old }
+        requires yields { Yields old new }
+        ensures state { self.new.state ≡ settled (with_body self.old.state id new) }
+        ensures keeper { OnlyCloses self.old.keeper self.new.keeper }
+    {
+        self.objects.put(id, new);
+        self.waits.settle_after(&mut self.objects, id);
+    }
+
+    /// Sets an event.
+    pub fn set(&mut self, id: Id, event: Body)
+        requires there { slice_index_or self.old.state.bodies id.slot None ≡ Some event }
+        requires event { spec.kind_of event ≡ Event }
+        ensures state { self.new.state ≡ settled (with_body self.old.state id (spec.after_set event)) }
+        ensures keeper { OnlyCloses self.old.keeper self.new.keeper }
+    {
+        let mut after = event;
+        after.set();
+        self.put(id, event, after);
+    }
+
+    /// Resets an event: nothing is signaled by it, so nothing settles.
+    pub fn reset(&mut self, id: Id, event: Body)
+        requires there { slice_index_or self.old.state.bodies id.slot None ≡ Some event }
+        requires event { spec.kind_of event ≡ Event }
+        ensures state { self.new.state ≡ settled (with_body self.old.state id (spec.after_reset event)) }
+        ensures keeper { OnlyCloses self.old.keeper self.new.keeper }
+    {
+        let mut after = event;
+        after.reset();
+        self.objects.put(id, after);
+    }
+
+    /// Raises a semaphore's count, and answers the count before.
+    ///
+    /// Refused with 298 where the count would pass the maximum.
+    pub fn post(&mut self, id: Id, semaphore: Body, count: u32) -> Result<u32, Fault>
+        requires there { slice_index_or self.old.state.bodies id.slot None ≡ Some semaphore }
+        requires semaphore { spec.kind_of semaphore ≡ Semaphore }
+        ensures answer { result ≡ spec.post_answer count semaphore }
+        ensures ok { OnOk result (self.new.state ≡ settled (with_body self.old.state id (spec.after_post count semaphore))) }
+        ensures err { OnErr result (self.new ≡ self.old) }
+        ensures keeper { OnlyCloses self.old.keeper self.new.keeper }
+    {
+        let mut after = semaphore;
+        let previous = after.post(count)?;
+        self.put(id, semaphore, after);
+        Ok(previous)
+    }
+
+    /// Releases a mutex once.
+    ///
+    /// Refused with 288 where the thread doesn't own it.
+    pub fn unlock(&mut self, id: Id, mutex: Body, thread: u32) -> Result<(), Fault>
+        requires there { slice_index_or self.old.state.bodies id.slot None ≡ Some mutex }
+        requires mutex { spec.kind_of mutex ≡ Mutex }
+        ensures answer { result ≡ spec.unlock_answer thread mutex }
+        ensures ok { OnOk result (self.new.state ≡ settled (with_body self.old.state id (spec.after_unlock thread mutex))) }
+        ensures err { OnErr result (self.new ≡ self.old) }
+        ensures keeper { OnlyCloses self.old.keeper self.new.keeper }
+    {
+        let mut after = mutex;
+        after.unlock(thread)?;
+        self.put(id, mutex, after);
+        Ok(())
+    }
+}

@@ -1,0 +1,183 @@
+ghost use Rattle.std.specs.Prelude.{◌≡◌, ◌<◌, true, IfOk, IfErr, IfSome, IsSome, None, Some, length, is_some, slice_get, slice_index_or};
+ghost use Rattle.std.specs.Option.{option_map};
+ghost use Rattle.pin_words.specs.Keepers.{IsFresh};
+ghost use Rattle.ob_arena.specs.Slots.{is_vacant_at, least_vacant};
+ghost use Rattle.ob_name.specs.Listing.{find_name};
+ghost use Rattle.ob_name.specs.Refs.{name_at, row_at};
+ghost use Rattle.ob_tables.specs.Table.{entry_at};
+ghost use Rattle.ob_tables.specs.Tables.{table_of};
+ghost use Rattle.ob_waits.specs.Waits.{number_of};
+ghost use Rattle.ob_store.specs.Objects.{object_of};
+ghost use Rattle.ob_store.specs.State.{handles_of, blocks_of, id_at, is_full, opening, shape_of, vacancy};
+ghost use Rattle.ob_store.specs.Directory.{directory_of};
+
+use crate::limits::Limits;
+use crate::lives::Lives;
+use crate::objects::Objects;
+use crate::seat::Seat;
+use ob_name::{Directory, NameRef};
+use ob_tables::{Entry, Tables};
+use ob_waits::Waits;
+use pin_core::Id;
+use pin_words::PinKeeper;
+use std::alloc::Global;
+use std::marker::Model;
+
+/// The state of a manager, with all that it counts and finds by name, and the small changes of which calls are made.
+#[derive(Drop)]
+pub struct Store<K: PinKeeper> {
+    pub(crate) limits: Limits,
+    pub(crate) lives: Lives,
+    pub(crate) tables: Tables,
+    pub(crate) objects: Objects<K>,
+    pub(crate) waits: Waits,
+    pub(crate) names: Directory,
+    pub(crate) alloc: Global,
+}
+
+impl<K: PinKeeper> Model for Store<K> {
+    ghost use Rattle.ob_store.specs.State.{Whole, state_of};
+    ghost use Rattle.ob_store.specs.Kept.{IsKept};
+
+    ghost Value = { Whole };
+
+    ghost view = { λ s. record { state = state_of s.limits s.lives s.tables s.objects s.waits; keeper = s.objects.keeper } };
+
+    ghost invariant = { λ s. IsKept s.limits s.lives s.tables s.objects s.waits s.names.rows };
+}
+
+impl<K: PinKeeper> Store<K> {
+    /// No process, and no object. The keeper comes back where memory is wanting.
+    pub fn new(alloc: Global, limits: Limits, keeper: K) -> Result<Store<K>, K>
+        requires { IsFresh (K.kept keeper) (shape_of limits) }
+        ensures ok { IfOk result (λ store. store ≡ record { state = opening limits; keeper = K.kept keeper }) }
+        ensures err { IfErr result (λ k. k ≡ keeper) }
+    {
+        let Ok(lives) = Lives::new(alloc) else {
+            return Err(keeper);
+        };
+        let Ok(tables) = Tables::new(alloc, limits.processes, limits.handles) else {
+            return Err(keeper);
+        };
+        match Objects::new(alloc, limits.slots, keeper) {
+            Ok(objects) => {
+                return Ok(Store {
+                    limits,
+                    lives,
+                    tables,
+                    objects,
+                    waits: Waits::new(alloc, limits.waits),
+                    names: Directory::new(alloc),
+                    alloc,
+                });
+            }
+            Err(keeper) => return Err(keeper),
+        }
+    }
+
+    /// What it may hold at most.
+    pub fn limits(&self) -> Limits
+        ensures { result ≡ self.now.state.limits }
+    {
+        self.limits
+    }
+
+    /// The next process number.
+    pub fn next_process(&self) -> u32
+        ensures { result ≡ length self.now.state.processes }
+    {
+        self.lives.next_process()
+    }
+
+    /// The next thread number.
+    pub fn next_thread(&self) -> u32
+        ensures { result ≡ length self.now.state.threads }
+    {
+        self.lives.next_thread()
+    }
+
+    /// The session of a live process.
+    pub fn session(&self, process: u32) -> Option<u32>
+        ensures { result ≡ slice_index_or self.now.state.processes process None }
+    {
+        self.lives.session(process)
+    }
+
+    /// The process of a live thread, which has a handle table.
+    pub fn process(&self, thread: u32) -> Option<u32>
+        ensures value { result ≡ slice_index_or self.now.state.threads thread None }
+        ensures live { IfSome result (λ process. IsSome (slice_index_or self.now.state.processes process None)) }
+        ensures table { IfSome result (λ process. process < length self.now.state.tables) }
+    {
+        self.lives.process(thread)
+    }
+
+    /// Whether the thread has a wait.
+    pub fn is_busy(&self, thread: u32) -> bool
+        ensures { result ≡ is_some (number_of thread self.now.state.waits) }
+    {
+        self.waits.wait_of(thread).is_some()
+    }
+
+    /// The entry of a handle.
+    pub fn look(&self, process: u32, handle: u32) -> Option<Entry>
+        ensures { result ≡ entry_at (table_of self.now.state.tables process) handle }
+    {
+        self.tables.look(process, handle)
+    }
+
+    /// Whether a process has as many handles as it may.
+    pub fn is_full(&self, process: u32) -> bool
+        requires { process < length self.now.state.tables }
+        ensures { result ≡ is_full self.now.state process }
+    {
+        self.tables.is_full(process)
+    }
+
+    /// The least slot that has no object and may have one.
+    pub fn vacant(&self) -> Option<u32>
+        ensures value { result ≡ least_vacant (vacancy self.now.state) }
+        ensures vacant { IfSome result (λ slot. is_vacant_at (vacancy self.now.state) slot ≡ true) }
+    {
+        self.objects.least_vacant()
+    }
+
+    /// The Id that the next object of a slot has.
+    pub fn id_at(&self, slot: u32) -> Id
+        requires { is_vacant_at (vacancy self.now.state) slot ≡ true }
+        ensures { result ≡ id_at self.now.state slot }
+    {
+        self.objects.id_at(slot)
+    }
+
+    /// The object in a slot, with all that refers to it counted.
+    pub fn object(&self, slot: u32) -> Option<&Seat>
+        ensures object { slice_index_or self.now.state.objects slot None ≡ option_map (λ seat. object_of seat.now) result }
+        ensures body { IfSome result (λ seat. slice_index_or self.now.state.bodies slot None ≡ seat.now.body) }
+        ensures handles { IfSome result (λ seat. seat.now.handles ≡ handles_of self.now.state seat.now.id) }
+        ensures blocks { IfSome result (λ seat. seat.now.blocks ≡ blocks_of self.now.state seat.now.id) }
+    {
+        self.objects.look(slot)
+    }
+
+    /// The object of a name. It has a handle.
+    pub fn find(&self, name: &NameRef<'_>) -> Option<Id>
+        ensures { result ≡ find_name (name_at name.now) (directory_of self.now.state) }
+    {
+        self.names.find(name)
+    }
+
+    /// How many names there are.
+    pub fn names(&self) -> usize
+        ensures { result ≡ length (directory_of self.now.state) }
+    {
+        self.names.len()
+    }
+
+    /// The name at a place of the directory, with its Id.
+    pub fn name_at(&self, at: usize) -> Option<(NameRef<'_>, Id)>
+        ensures { option_map row_at result ≡ slice_get (directory_of self.now.state) at }
+    {
+        self.names.row(at)
+    }
+}
