@@ -13,6 +13,7 @@ use Rattle.pin_words.specs.Keepers.{KeeperState, with_slots, with_looks, closed}
 use Rattle.ob_body.specs.declared.body.Body.{Body}
 use Rattle.ob_store.specs.Objects.{Object, ObjectsState, Head, object_in, with_object, with_keeper, places_in, without_seat, open_phase, open_slot, opened}
 use Rattle.ob_store.specs.Agreement.{Agrees, IsAgreed, vacant_phase}
+use Rattle.ob_store.proofs.EndLaws.{none_set}
 
 abbrev pub object_at : ObjectsState → ℕ → Option Object
 object_at s k = get_or s.objects k None
@@ -70,38 +71,9 @@ agreed_like s t objects bodies retired keeper a = record {
       (λ i. (sym objects i, sym bodies i, sym retired i, sym keeper i)) a.each;
 }
 
--- another body in the place of one
-pub agreed_put : (s t : ObjectsState) (k : ℕ) (b : Body) → t.objects ≡ s.objects → t.seen.bodies ≡ set s.seen.bodies k (Some b) → t.retired ≡ s.retired → t.keeper ≡ s.keeper → is_some (body_at s k) ≡ true → IsAgreed s → IsAgreed t
-agreed_put s t k b objects bodies retired keeper there a = agreed_beside s t k (record {
-  shape = ap (λ (z : KeeperState). z.shape) keeper;
-  wide = ap (λ (z : KeeperState). length z.slots) keeper;
-  long = ap length objects;
-  bodied = ap length bodies ∙ length-set s.seen.bodies k (Some b);
-  marked = ap length retired;
-  objects = λ j other. ap (λ l. get_or l j None) objects;
-  bodies = λ j other. ap (λ l. get_or l j None) bodies ∙ get_or-set_other s.seen.bodies k j (Some b) None other;
-  retired = λ j other. ap (λ l. get_or l j false) retired;
-  slots = λ j other. ap (λ (z : KeeperState). slot_of z.slots j) keeper;
-}) a (λ lt. let inside : k < s.keeper.shape.slots = omega (arith, lt, ap (λ (z : KeeperState). z.shape.slots) keeper) in
-    let within : k < length s.seen.bodies = some_within s.seen.bodies k there in
-    let body : body_at t k ≡ Some b = ap (λ l. get_or l k None) bodies ∙ get_or-set_same s.seen.bodies k (Some b) None within in
-    agrees_same k (object_at s k) (object_at t k) (Some b) (body_at t k) (retired_at s k) (retired_at t k) (slot_at s k) (slot_at t k)
-    (ap (λ l. get_or l k None) objects) body (ap (λ l. get_or l k false) retired) (ap (λ (z : KeeperState). slot_of z.slots k) keeper)
-    (live_again k (object_at s k) (body_at s k) b (retired_at s k) (slot_at s k) there (a.each k inside)))
-  where
-    some_within : (bodies : List (Option Body)) (i : ℕ) → is_some (get_or bodies i None) ≡ true → i < length bodies
-    some_within bodies i h = elim (cases_lt i (length bodies)) [ inl lt ↦ lt | inr le ↦ absurd (let e = ap is_some (get_or_past bodies i None le) in cc (e, h)) ]
-
-    live_again : (j : ℕ) (o : Option Object) (x : Option Body) (b : Body) (r : Bool) (y : Slot) → is_some x ≡ true → Agrees j o x r y → Agrees j o (Some b) r y
-    live_again j o None b r y there h = absurd (cc there)
-    live_again j None (Some x) b r y there h = absurd (let e = h.0 in cc e)
-    live_again j (Some o) (Some x) b r y there h = h
-
--- the object of a slot ends, and its slot closes; or it goes on
-pub agreed_end : (s t : ObjectsState) (k : ℕ) (ends : Bool) → t.objects ≡ s.objects → t.seen.bodies ≡ cond ends (set s.seen.bodies k None) s.seen.bodies → t.retired ≡ s.retired → t.keeper ≡ cond ends (closed s.keeper k) s.keeper
-    → is_some (body_at s k) ≡ true → IsAgreed s → IsAgreed t
-agreed_end s t k false objects bodies retired keeper there a = agreed_like s t objects bodies retired keeper a
-agreed_end s t k true objects bodies retired keeper there a = agreed_beside s t k (record {
+-- the object of a slot ends, and its slot closes
+pub agreed_ended : (s t : ObjectsState) (k : ℕ) → t.objects ≡ s.objects → t.seen.bodies ≡ set s.seen.bodies k None → t.retired ≡ s.retired → t.keeper ≡ closed s.keeper k → is_some (body_at s k) ≡ true → IsAgreed s → IsAgreed t
+agreed_ended s t k objects bodies retired keeper there a = agreed_beside s t k (record {
   shape = ap (λ (z : KeeperState). z.shape) keeper;
   wide = ap (λ (z : KeeperState). length z.slots) keeper ∙ length-set s.keeper.slots k (in_phase (slot_at s k) phase.Closing);
   long = ap length objects;
@@ -118,9 +90,6 @@ agreed_end s t k true objects bodies retired keeper there a = agreed_beside s t 
     (ap (λ (z : KeeperState). slot_of z.slots k) keeper ∙ get_or-set_same s.keeper.slots k (in_phase (slot_at s k) phase.Closing) opening_slot within)
     (ended k (object_at s k) (body_at s k) (retired_at s k) (slot_at s k) there (a.each k inside)))
   where
-    none_set : (bodies : List (Option Body)) (i : ℕ) → get_or (set bodies i None) i None ≡ None
-    none_set bodies i = elim (cases_lt i (length bodies)) [ inl lt ↦ get_or-set_same bodies i None None lt | inr le ↦ get_or_past (set bodies i None) i None (omega (arith, length-set bodies i None)) ]
-
     ended : (j : ℕ) (o : Option Object) (x : Option Body) (r : Bool) (y : Slot) → is_some x ≡ true → Agrees j o x r y → Agrees j o None r (in_phase y phase.Closing)
     ended j o None r y there h = absurd (cc there)
     ended j None (Some x) r y there h = absurd (let e = h.0 in cc e)
@@ -176,7 +145,7 @@ free_at s k none unretired room a = by (object_at s k) (retired_at s k) none unr
     by (Some o) r is not h = absurd (cc is)
 
 -- a slot that was taken back: the object left it
-module _ (s t : ObjectsState) (k : ℕ) (retired : List Bool) (y : Slot) (is : t ≡ with_keeper (record (without_seat (places_in s) k) { retired = retired }) t.keeper) (marked : length retired ≡ length s.retired) (others : (j : ℕ) → j ≢ k → get_or retired j false ≡ retired_at s j)
+module _ (s t : ObjectsState) (k : ℕ) (retired : List Bool) (y : Slot) (is : t ≡ with_keeper (record (without_seat (places_in s) k) { retired = retired }) t.births t.keeper) (marked : length retired ≡ length s.retired) (others : (j : ℕ) → j ≢ k → get_or retired j false ≡ retired_at s j)
     (keeper : t.keeper ≡ with_looks (with_slots s.keeper (set s.keeper.slots k y)) t.keeper.looks) (a : IsAgreed s) (here : y.phase ≡ vacant_phase (get_or retired k false)) where
   removed_beside : Beside s t k
   removed_beside = record {
@@ -197,30 +166,10 @@ module _ (s t : ObjectsState) (k : ℕ) (retired : List Bool) (y : Slot) (is : t
       let within : k < length s.keeper.slots = omega (arith, inside, a.wide) in
       agrees_same k None (object_at t k) None (body_at t k) (get_or retired k false) (retired_at t k) y (slot_at t k)
       (ap (λ (z : ObjectsState). object_at z k) is ∙ get_or-set_same s.objects k None None (omega (arith, inside, a.long)))
-      (ap (λ (z : ObjectsState). body_at z k) is ∙ gone s.seen.bodies k)
+      (ap (λ (z : ObjectsState). body_at z k) is ∙ none_set s.seen.bodies k)
       (ap (λ (z : ObjectsState). retired_at z k) is)
       (ap (λ (z : KeeperState). slot_of z.slots k) keeper ∙ get_or-set_same s.keeper.slots k y opening_slot within)
       (refl, here))
-    where
-      gone : (bodies : List (Option Body)) (i : ℕ) → get_or (set bodies i None) i None ≡ None
-      gone bodies i = elim (cases_lt i (length bodies)) [ inl lt ↦ get_or-set_same bodies i None None lt | inr le ↦ get_or_past (set bodies i None) i None (omega (arith, length-set bodies i None)) ]
-
--- the object of a slot that has one is of a slot that isn't retired
-pub unretired_at : (s : ObjectsState) (k : ℕ) → is_some (object_at s k) ≡ true → IsAgreed s → k < s.keeper.shape.slots → retired_at s k ≡ false
-unretired_at s k there a inside = by (object_at s k) there (a.each k inside)
-  where
-    by : (o : Option Object) → is_some o ≡ true → Agrees k o (body_at s k) (retired_at s k) (slot_at s k) → retired_at s k ≡ false
-    by None there h = absurd (cc there)
-    by (Some o) there h = h.3
-
--- an object without a body is in a closing slot
-pub closing_at : (s : ObjectsState) (k : ℕ) → is_some (object_at s k) ≡ true → body_at s k ≡ None → IsAgreed s → k < s.keeper.shape.slots → (slot_at s k).phase ≡ phase.Closing
-closing_at s k there ended a inside = by (object_at s k) (body_at s k) there ended (a.each k inside)
-  where
-    by : (o : Option Object) (b : Option Body) → is_some o ≡ true → b ≡ None → Agrees k o b (retired_at s k) (slot_at s k) → (slot_at s k).phase ≡ phase.Closing
-    by None b there e h = absurd (cc there)
-    by (Some o) None there e h = h.2
-    by (Some o) (Some b) there e h = absurd (cc e)
 
 -- a slot with an object is one of the keeper's
 pub object_within : (s : ObjectsState) (k : ℕ) → is_some (object_at s k) ≡ true → IsAgreed s → k < s.keeper.shape.slots

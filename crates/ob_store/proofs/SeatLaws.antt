@@ -1,14 +1,14 @@
 -- One seat changed: what becomes of the lists that are read off the seats.
-use Rattle.std.proofs.Common.{◌≡◌, ℕ, zero, suc, ◌∷◌, ◌-◌, ◌+◌, List, length, Option, Some, None, refl, ap, ◌∙◌, sym, subst, arith, get_or, set, map, replicate, Bool, true, false, cond, inl, inr, eqb, ltb}
+use Rattle.std.proofs.Common.{◌≡◌, ℕ, zero, suc, ◌∷◌, ◌-◌, ◌+◌, ◌<◌, List, length, Option, Some, None, refl, ap, ◌∙◌, sym, subst, arith, get_or, set, map, replicate, Bool, true, false, cond, inl, inr, eqb, ltb}
 use Rattle.std.specs.Prelude.{is_none, is_some, find, not, ◌&&◌, IfSome, IsSome}
 use Rattle.std.specs.List.{range_with_len}
 use Rattle.std.proofs.Math.Seq.{map-set_same}
-use Rattle.std.proofs.lemmas.List.{length-map, get_or-map, get_or_past, map-set, set-get_or}
+use Rattle.std.proofs.lemmas.List.{length-map, get_or-map, get_or_past, get_or-set_same, map-set, set-get_or}
 use Rattle.std.proofs.lemmas.Bool.{cases_lt}
 use Rattle.pin_core.specs.declared.id.Id.{Id}
 use Rattle.ob_body.specs.declared.body.Body.{Body}
 use Rattle.ob_arena.specs.Slots.{Slots, is_vacant_at, least_vacant}
-use Rattle.ob_arena.proofs.SlotLemmas.{vacant_least}
+use Rattle.ob_arena.proofs.SlotLemmas.{vacant_least, vacant_within}
 use Rattle.ob_waits.specs.Objects.{without_block}
 use Rattle.ob_store.specs.declared.seat.Seat.{Seat}
 use Rattle.ob_store.specs.Objects.{Object, Places, places_of, rest_of, seen_in, object_of, seat_object, seat_body, seat_handles, seat_blocks, seat_handle_left, seat_block_left, vacancy, vacant_places, with_seat, with_handle, without_handle, with_block, without_seat, is_last_handle}
@@ -132,6 +132,12 @@ places_added s k y body has one none = λ i. record {
   };
   retired = s.retired;
 }
+
+-- it has one handle
+pub added_handle : (s : Slots Seat) (k : ℕ) (y : Seat) → y.handles ≡ 1 → is_vacant_at (vacancy (places_of s)) k ≡ true → get_or (map seat_handles (set s.bodies k (Some y))) k 0 ≡ 1
+added_handle s k y one vacant =
+    let within : k < length s.bodies = omega (arith, vacant_within (vacancy (places_of s)) k vacant, length-map s.bodies seat_object) in
+    read seat_handles (set s.bodies k (Some y)) k ∙ ap seat_handles (get_or-set_same s.bodies k (Some y) None within) ∙ one
 
 -- an object that leaves
 pub places_removed : (s : Slots Seat) (k : ℕ) → places_of (record s { bodies = set s.bodies k None }) ≡ without_seat (places_of s) k

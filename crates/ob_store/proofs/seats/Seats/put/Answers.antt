@@ -2,7 +2,7 @@ use Rattle.std.proofs.Common.{◌∙◌, ap, refl}
 use Rattle.ob_waits.specs.Objects.{with_body}
 use Rattle.ob_store.specs.Objects.{Places, rest_of}
 use Rattle.ob_store.proofs.SeatLaws.{seen_put, rest_same}
-use Rattle.ob_store.proofs.seats.SeatsBodies.put.Goals as goal
+use Rattle.ob_store.proofs.seats.Seats.put.Goals as goal
 
 pub returns-clause-objects : goal.returns-clause-objects
 returns-clause-objects c = seen_put c.self.inside.arena.bodies c.args.id.slot c.get_mut.result.now c.get_mut.ensures.value c.args.body ∙ ap (λ (p : Places). with_body p.seen c.args.id c.args.body) c.self.view_is

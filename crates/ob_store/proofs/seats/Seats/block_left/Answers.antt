@@ -3,21 +3,21 @@ use Rattle.ob_waits.specs.Objects.{without_block}
 use Rattle.ob_store.specs.declared.seat.Seat.{Seat}
 use Rattle.ob_store.specs.Objects.{Places, rest_of, seen_in, seat_object}
 use Rattle.ob_store.proofs.SeatLaws.{seen_block_left, seen_absent, rest_same, none_of}
-use Rattle.ob_store.proofs.seats.SeatsBodies.block_left.Goals as goal
+use Rattle.ob_store.proofs.seats.Seats.block_left.Goals as goal
 
-pub returns-then-is_occupied-clause-objects : goal.returns-then-is_occupied-clause-objects
-returns-then-is_occupied-clause-objects c =
+pub returns-clause-objects : goal.returns-clause-objects
+returns-clause-objects c =
     ap (λ (x : Seat). seen_in (set c.self.inside.arena.bodies c.args.id.slot (Some x))) c.block_left.ensures.value
     ∙ seen_block_left c.self.inside.arena.bodies c.args.id.slot c.get_mut.result.now c.get_mut.ensures.value ∙ ap (λ (p : Places). without_block p.seen c.args.id) c.self.view_is
 
-pub returns-then-is_occupied-clause-rest : goal.returns-then-is_occupied-clause-rest
-returns-then-is_occupied-clause-rest c =
+pub returns-clause-rest : goal.returns-clause-rest
+returns-clause-rest c =
     rest_same c.self.inside.arena.bodies c.args.id.slot c.get_mut.result.now c.get_mut.ensures.value c.self.inside.arena.retired c.block_left.new.self
     (ap (λ (x : Seat). seat_object (Some x)) c.block_left.ensures.value) (ap (λ (x : Seat). x.handles) c.block_left.ensures.value)
     ∙ ap rest_of c.self.view_is
 
-pub returns-else-is_occupied-clause-objects : goal.returns-else-is_occupied-clause-objects
-returns-else-is_occupied-clause-objects c =
+pub returns-then-not-is_occupied-clause-objects : goal.returns-then-not-is_occupied-clause-objects
+returns-then-not-is_occupied-clause-objects c =
     sym (ap (λ (p : Places). p.seen) c.self.view_is)
-    ∙ seen_absent c.self.inside.arena.bodies c.args.id (none_of (get_or c.self.inside.arena.bodies c.args.id.slot None) (sym c.is_occupied.ensures ∙ c.if-is_occupied.false))
+    ∙ seen_absent c.self.inside.arena.bodies c.args.id (none_of (get_or c.self.inside.arena.bodies c.args.id.slot None) (sym c.is_occupied.ensures ∙ c.if-not-is_occupied.true))
     ∙ ap (λ (p : Places). without_block p.seen c.args.id) c.self.view_is

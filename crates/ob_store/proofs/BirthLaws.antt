@@ -1,0 +1,103 @@
+-- How many objects were made, slot by slot, and their numbers.
+use Rattle.std.proofs.Common.{◌≡◌, ◌≢◌, ℕ, ◌+◌, ◌-◌, ◌*◌, ◌<◌, ◌≤◌, List, length, Option, Some, None, refl, ap, ◌∙◌, sym, subst, arith, get_or, set, inl, inr}
+use Rattle.std.specs.Prelude.{replicate, sum_by}
+use Rattle.std.proofs.lemmas.List.{length-set, length-replicate, get_or_past, get_or-replicate, get_or-set_same, get_or-set_other}
+use Rattle.std.proofs.lemmas.List.Elements.{All-from_get_or}
+use Rattle.std.proofs.lemmas.List.Sums.{sum_by-set, sum_by-le}
+use Rattle.std.proofs.lemmas.List.Folds.{sum_by-replicate}
+use Rattle.std.proofs.lemmas.Bool.{cases_eq, cases_lt}
+use Rattle.pin_core.specs.declared.word.Phase.{Phase}
+use Rattle.pin_core.specs.declared.word.Phase.TheVariants.{Free, Live, Closing, Retired}
+use Rattle.pin_core.specs.declared.world.Slot.{Slot}
+use Rattle.pin_core.specs.Worlds.{slot_of, opening_slot}
+use Rattle.ob_store.specs.Objects.{Object}
+use Rattle.ob_store.specs.Agreement.{made_by, made_in, AreBorn}
+
+-- each generation is from 1 to the last
+abbrev pub AreAged : ℕ → ℕ → List Slot → Type 0
+AreAged n last slots = (k : ℕ) → k < n → (1 ≤ (slot_of slots k).generation) × ((slot_of slots k).generation ≤ last)
+
+pub aged_set : (n last : ℕ) (slots : List Slot) (i : ℕ) (y : Slot) → i < length slots → 1 ≤ y.generation → y.generation ≤ last → AreAged n last slots → AreAged n last (set slots i y)
+aged_set n last slots i y within first most aged k lt = elim (cases_eq k i) [
+  | inl same ↦ subst (λ (x : Slot). (1 ≤ x.generation) × (x.generation ≤ last)) (sym (ap (slot_of (set slots i y)) same ∙ get_or-set_same slots i y opening_slot within)) (first, most)
+  | inr other ↦ subst (λ (x : Slot). (1 ≤ x.generation) × (x.generation ≤ last)) (sym (get_or-set_other slots i k y opening_slot other)) (aged k lt)
+]
+
+-- a slot that changes and had as many objects as before
+pub made_set : (slots : List Slot) (i : ℕ) (y : Slot) → i < length slots → made_in y ≡ made_in (slot_of slots i) → sum_by made_in (set slots i y) ≡ sum_by made_in slots
+made_set slots i y within same = let sum = sum_by-set made_in slots i y opening_slot within in omega (arith, sum, same)
+
+-- or one more
+pub made_more : (slots : List Slot) (i : ℕ) (y : Slot) → i < length slots → made_in y ≡ made_in (slot_of slots i) + 1 → sum_by made_in (set slots i y) ≡ sum_by made_in slots + 1
+made_more slots i y within more = let sum = sum_by-set made_in slots i y opening_slot within in omega (arith, sum, more)
+
+pub made_fresh : (n : ℕ) → 0 ≡ sum_by made_in (replicate n opening_slot)
+made_fresh n = let sum = sum_by-replicate made_in n opening_slot in omega (arith, sum)
+
+made_few : (p : Phase) (generation : ℕ) → made_by p generation ≤ generation
+made_few Free generation = omega arith
+made_few Live generation = omega arith
+made_few Closing generation = omega arith
+made_few Retired generation = omega arith
+
+-- a slot has no more objects than generations, so a count of 64 bits has room
+pub made_bound : (slots : List Slot) (last : ℕ) → length slots ≤ 65536 → last ≤ 4294967295 → AreAged (length slots) last slots → sum_by made_in slots ≤ 281474976645120
+made_bound slots last few most aged =
+    let all = All-from_get_or (λ (x : Slot). made_in x ≤ 4294967295) slots opening_slot
+        (λ i lt. let x : Slot = slot_of slots i in let y = made_few x.phase x.generation in let z : x.generation ≤ last = (aged i lt).1 in omega (arith, y, z, most)) in
+    let sum = sum_by-le made_in 4294967295 slots all in
+    omega (arith, sum, few)
+
+-- objects that stay, or leave
+pub born_gone : (objects : List (Option Object)) (births k : ℕ) → AreBorn objects births → AreBorn (set objects k None) births
+born_gone objects births k born = record {
+  below = λ j o is. born.below j o (before j o is);
+  apart = λ i j o p is it same. born.apart i j o p (before i o is) (before j p it) same;
+}
+  where
+    before : (j : ℕ) (o : Object) → get_or (set objects k None) j None ≡ Some o → get_or objects j None ≡ Some o
+    before j o is = elim (cases_eq j k) [
+      | inl here ↦ elim (cases_lt k (length objects)) [
+        | inl lt ↦ absurd (let e = ap (λ i. get_or (set objects k None) i None) here ∙ get_or-set_same objects k None None lt in cc (e, is))
+        | inr le ↦ absurd (let e = get_or_past (set objects k None) j None (omega (arith, length-set objects k None, here)) in cc (e, is))
+      ]
+      | inr other ↦ sym (get_or-set_other objects k j None None other) ∙ is
+    ]
+
+-- a new object, whose number is the count
+pub born_added : (objects : List (Option Object)) (births k : ℕ) (n : Object) → n.birth ≡ births → k < length objects → AreBorn objects births → AreBorn (set objects k (Some n)) (births + 1)
+born_added objects births k n first within born = record {
+  below = λ j o is. elim (cases_eq j k) [
+    | inl here ↦ (let e = new j o here is in omega (arith, e, first))
+    | inr other ↦ (let e = born.below j o (old j o other is) in omega (arith, e))
+  ];
+  apart = λ i j o p is it same. elim (cases_eq i k) [
+    | inl here ↦ elim (cases_eq j k) [
+      | inl there ↦ here ∙ sym there
+      | inr other ↦ absurd (let e = new i o here is in let f = born.below j p (old j p other it) in omega (arith, e, f, same, first))
+    ]
+    | inr other ↦ elim (cases_eq j k) [
+      | inl there ↦ absurd (let e = new j p there it in let f = born.below i o (old i o other is) in omega (arith, e, f, same, first))
+      | inr others ↦ born.apart i j o p (old i o other is) (old j p others it) same
+    ]
+  ];
+}
+  where
+    number : Option Object → ℕ
+    number None = 0
+    number (Some o) = o.birth
+
+    new : (j : ℕ) (o : Object) → j ≡ k → get_or (set objects k (Some n)) j None ≡ Some o → o.birth ≡ n.birth
+    new j o here is = let e : Some o ≡ Some n = sym is ∙ ap (λ i. get_or (set objects k (Some n)) i None) here ∙ get_or-set_same objects k (Some n) None within in ap number e
+
+    old : (j : ℕ) (o : Object) → j ≢ k → get_or (set objects k (Some n)) j None ≡ Some o → get_or objects j None ≡ Some o
+    old j o other is = sym (get_or-set_other objects k j (Some n) None other) ∙ is
+
+none_there : (n k : ℕ) → get_or (replicate {A = Option Object} n None) k None ≡ None
+none_there n k = elim (cases_lt k n) [ inl lt ↦ get_or-replicate n k None None lt | inr le ↦ get_or_past (replicate n None) k None (omega (arith, length-replicate {A = Option Object} n None)) ]
+
+pub born_fresh : (n : ℕ) → AreBorn (replicate n None) 0
+born_fresh n = record {
+  below = λ k o is. absurd (let e = none_there n k in cc (e, is));
+  apart = λ j k o p is it same. absurd (let e = none_there n j in cc (e, is));
+}
