@@ -12,3 +12,4 @@ pub mod BodyLaws
 pub mod DirectoryLaws
 pub mod ListingLaws
 pub mod SettledLaws
+pub mod KeptLaws
