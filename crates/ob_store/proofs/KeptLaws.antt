@@ -28,7 +28,7 @@ use Rattle.ob_store.specs.Lives.{LivesState}
 use Rattle.ob_store.specs.Objects.{Object, ObjectsState, with_handle_of, opened, open_slot, kept_rest, KeptRest}
 use Rattle.ob_store.specs.Agreement.{IsTied}
 use Rattle.ob_store.specs.State as state
-use Rattle.ob_store.specs.State.{State, state_of, objects_of, scene_of, with_scene, settled, by_slot, generation_of}
+use Rattle.ob_store.specs.State.{State, state_of, whole_of, objects_of, scene_of, with_scene, settled, by_slot, generation_of}
 use Rattle.ob_store.specs.Kept.{IsKept, IsCounted, AreFormed, IsListing, LivesKept, IsNamed, IsQuiet, IsLive, Yields}
 use Rattle.ob_store.proofs.CountedLaws.{handles_at, blocks_at, handles_few, counted_placed, counted_process, counted_settled}
 use Rattle.ob_store.proofs.NamedLaws.{there_within, named_entry, named_placed, named_process, named_settled}
@@ -59,9 +59,11 @@ module _ (limits : Limits) (l : LivesState) (ts : HandleTables) (o : ObjectsStat
   objects_are = λ i. record { bodies = o.seen.bodies; handles = kept.counted.handles i; blocks = kept.counted.blocks i }
 
   -- nothing is left to settle
-  pub still : IsTied o → settled (state_of limits l ts o ws) ≡ state_of limits l ts o ws
-  still tied = settled_still (state_of limits l ts o ws) kept.named (subst HasBodies objects_are tied.bodied) kept.quiet.settled
+  pub settled_kept : IsTied o → settled (state_of limits l ts o ws) ≡ state_of limits l ts o ws
+  settled_kept tied = settled_still (state_of limits l ts o ws) kept.named (subst HasBodies objects_are tied.bodied) kept.quiet.settled
 
+-- what a change by the calls leaves
+module _ (limits : Limits) (l : LivesState) (ts : HandleTables) (o : ObjectsState) (ws : WaitList) (rows : Rows) (kept : IsKept limits l ts o ws rows) where
   -- the object of a handle has a body
   pub handled : (id : Id) → IsTied o → 0 < handles_among id ts.tables → IsSome (get_or o.seen.bodies id.slot None)
   handled id tied some =
@@ -85,6 +87,13 @@ module _ (limits : Limits) (l : LivesState) (ts : HandleTables) (o : ObjectsStat
     of_live = kept.of_live;
     quiet = kept.quiet;
     listing = listing_placed rows ts.tables o.objects o.births kept.listing p e some;
+  }
+
+  pub whole_placed : (p : ℕ) (e : Entry) → p < length ts.tables → 0 < handles_among e.id ts.tables → IsTied (with_handle_of o e.id.slot)
+      → whole_of limits l (record ts { tables = with_entry_of ts.tables p e }) (with_handle_of o e.id.slot) ws ≡ record (whole_of limits l ts o ws) { state = settled (state.with_entry (state_of limits l ts o ws) p e) }
+  whole_placed p e table some after = λ i. record {
+    state = sym (settled_kept limits l (record ts { tables = with_entry_of ts.tables p e }) (with_handle_of o e.id.slot) ws rows (kept_placed p e table some) after) i;
+    keeper = o.keeper;
   }
 
   -- a process comes
@@ -111,6 +120,13 @@ module _ (limits : Limits) (l : LivesState) (ts : HandleTables) (o : ObjectsStat
         | inr new ↦ subst (λ (q : ℕ). IsLive (l.processes ++ Some session ∷ []) q) new (at_end l.processes session)
       ]
 
+  pub whole_process : (session : ℕ) → length l.processes ≤ limits.processes → length l.threads ≤ limits.threads → IsTied o
+      → whole_of limits (lives.with_process l session) (record ts { tables = tables.with_process ts.tables }) o ws ≡ record (whole_of limits l ts o ws) { state = settled (state.with_process (state_of limits l ts o ws) session) }
+  whole_process session processes threads tied = λ i. record {
+    state = sym (settled_kept limits (lives.with_process l session) (record ts { tables = tables.with_process ts.tables }) o ws rows (kept_process session processes threads) tied) i;
+    keeper = o.keeper;
+  }
+
   -- a thread comes
   pub kept_thread : (process : ℕ) → length l.threads ≤ limits.threads → IsLive l.processes process → IsKept limits (lives.with_thread l process) ts o ws rows
   kept_thread process threads live = record {
@@ -128,6 +144,10 @@ module _ (limits : Limits) (l : LivesState) (ts : HandleTables) (o : ObjectsStat
     quiet = kept.quiet;
     listing = kept.listing;
   }
+
+  pub whole_thread : (process : ℕ) → length l.threads ≤ limits.threads → IsLive l.processes process → IsTied o
+      → whole_of limits (lives.with_thread l process) ts o ws ≡ record (whole_of limits l ts o ws) { state = settled (state.with_thread (state_of limits l ts o ws) process) }
+  whole_thread process threads live tied = λ i. record { state = sym (settled_kept limits (lives.with_thread l process) ts o ws rows (kept_thread process threads live) tied) i; keeper = o.keeper }
 
 -- a keeper that only closed slots has its generations and its shape
 open_generation : (x : Slot) → generation_of (open_slot x) ≡ generation_of x

@@ -164,3 +164,6 @@ state_of limits lives tables objects waits = record {
   births = objects.births;
   waits = waits.waits;
 }
+
+abbrev pub whole_of : Limits → LivesState → HandleTables → ObjectsState → WaitList → Whole
+whole_of limits lives tables objects waits = record { state = state_of limits lives tables objects waits; keeper = objects.keeper }

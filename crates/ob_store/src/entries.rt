@@ -4,9 +4,13 @@ ghost use Rattle.ob_tables.specs.Counts.{entries_in, handles_among};
 ghost use Rattle.ob_tables.specs.Table.{entry_at, free_place, value_of};
 ghost use Rattle.ob_tables.specs.Tables.{table_of};
 ghost use Rattle.ob_store.specs.State.{settled, with_entry, without_entry};
-ghost use Rattle.ob_store.specs.Moves.{OnlyCloses};
+ghost use Rattle.std.specs.Option.{option_map};
+ghost use Rattle.ob_store.specs.Objects.{object_of};
+ghost use Rattle.ob_store.specs.Moves.{OnlyCloses, rows_left};
 
+use crate::seat::Seat;
 use crate::store::Store;
+use ob_name::Directory;
 use ob_rights::Fault;
 use ob_tables::Entry;
 use pin_words::PinKeeper;
@@ -22,9 +26,12 @@ impl<K: PinKeeper> Store<K> {
         ensures refusal { IfErr result (λ fault. (fault ≡ Limit) ⊎ (fault ≡ Memory)) }
         ensures err { OnErr result (self.new ≡ self.old) }
     {
+        // What it says is wanted here, before and after.
+        self.objects.kept();
         match self.tables.place(process, entry) {
             Ok(value) => {
                 self.objects.handle_came(entry.id.slot);
+                self.objects.kept();
                 return Ok(value);
             }
             Err(fault) => return Err(fault),
@@ -38,17 +45,27 @@ impl<K: PinKeeper> Store<K> {
         ensures state { self.new.state ≡ settled (without_entry self.old.state process handle) }
         ensures keeper { OnlyCloses self.old.keeper self.new.keeper }
     {
+        // What it says is wanted here, before and after.
+        self.objects.kept();
         let _ = self.tables.remove(process, handle);
         self.objects.handle_left(entry.id.slot);
-        let Some(seat) = self.objects.look(entry.id.slot) else {
-            return;
-        };
-        if seat.handles > 0 {
-            return;
-        }
-        let Some(name) = &seat.name else {
-            return;
-        };
-        let _ = self.names.remove(&name.borrowed());
+        self.objects.kept();
+        leave_directory(&mut self.names, self.objects.look(entry.id.slot));
     }
+}
+
+/// The name of an object leaves the directory where the object has no handle left.
+fn leave_directory(names: &mut Directory, seat: Option<&Seat>)
+    ensures { names.new.rows ≡ rows_left names.old.rows (option_map (λ s. s.now.handles) seat.entry) (option_map (λ s. object_of s.now) seat.entry) }
+{
+    let Some(seat) = seat else {
+        return;
+    };
+    if seat.handles > 0 {
+        return;
+    }
+    let Some(name) = &seat.name else {
+        return;
+    };
+    let _ = names.remove(&name.borrowed());
 }

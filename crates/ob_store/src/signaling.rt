@@ -20,6 +20,8 @@ impl<K: PinKeeper> Store<K> {
         ensures state { self.new.state ≡ settled (with_body self.old.state id new) }
         ensures keeper { OnlyCloses self.old.keeper self.new.keeper }
     {
+        // What it says is wanted here.
+        self.objects.kept();
         self.objects.put(id, new);
         self.waits.settle_after(&mut self.objects, id);
     }
@@ -45,7 +47,10 @@ impl<K: PinKeeper> Store<K> {
     {
         let mut after = event;
         after.reset();
+        // What it says is wanted here, before and after.
+        self.objects.kept();
         self.objects.put(id, after);
+        self.objects.kept();
     }
 
     /// Raises a semaphore's count, and answers the count before.

@@ -36,12 +36,12 @@ pub struct Store<K: PinKeeper> {
 }
 
 impl<K: PinKeeper> Model for Store<K> {
-    ghost use Rattle.ob_store.specs.State.{Whole, state_of};
+    ghost use Rattle.ob_store.specs.State.{Whole, whole_of};
     ghost use Rattle.ob_store.specs.Kept.{IsKept};
 
     ghost Value = { Whole };
 
-    ghost view = { λ s. record { state = state_of s.limits s.lives s.tables s.objects s.waits; keeper = s.objects.keeper } };
+    ghost view = { λ s. whole_of s.limits s.lives s.tables s.objects s.waits };
 
     ghost invariant = { λ s. IsKept s.limits s.lives s.tables s.objects s.waits s.names.rows };
 }
