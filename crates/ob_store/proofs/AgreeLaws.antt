@@ -1,5 +1,5 @@
 -- How the objects go on agreeing with the keeper, slot by slot.
-use Rattle.std.proofs.Common.{◌≡◌, ◌≢◌, ℕ, ◌<◌, ◌≤◌, List, length, Option, Some, None, refl, ap, ◌∙◌, sym, subst, arith, get_or, set, Bool, true, false, cond, inl, inr}
+use Rattle.std.proofs.Common.{◌≡◌, ◌≢◌, ℕ, ◌<◌, ◌≤◌, List, length, Option, Some, None, refl, ap, ◌∙◌, sym, subst, arith, get_or, set, Bool, true, false, inl, inr}
 use Rattle.std.specs.Prelude.{is_some}
 use Rattle.std.proofs.Math.Seq.{map-set_same}
 use Rattle.std.proofs.lemmas.List.{length-set, get_or_past, get_or-set_same, get_or-set_other}
@@ -178,17 +178,9 @@ object_within s k there a = elim (cases_lt k (length s.objects)) [
   | inr le ↦ absurd (let e = ap is_some (get_or_past s.objects k None le) in cc (e, there))
 ]
 
--- a slot with a body is one of the keeper's, and has its object
+-- and so is a slot with a body
 pub body_within : (s : ObjectsState) (k : ℕ) → is_some (body_at s k) ≡ true → IsAgreed s → k < s.keeper.shape.slots
 body_within s k there a = elim (cases_lt k (length s.seen.bodies)) [
   | inl lt ↦ omega (arith, lt, a.bodied)
   | inr le ↦ absurd (let e = ap is_some (get_or_past s.seen.bodies k None le) in cc (e, there))
 ]
-
-pub object_there : (s : ObjectsState) (k : ℕ) → is_some (body_at s k) ≡ true → IsAgreed s → is_some (object_at s k) ≡ true
-object_there s k there a = by (object_at s k) (body_at s k) there (a.each k (body_within s k there a))
-  where
-    by : (o : Option Object) (x : Option Body) → is_some x ≡ true → Agrees k o x (retired_at s k) (slot_at s k) → is_some o ≡ true
-    by o None there h = absurd (cc there)
-    by None (Some x) there h = absurd (let e = h.0 in cc e)
-    by (Some o) (Some x) there h = refl

@@ -10,7 +10,7 @@ use Rattle.pin_core.specs.declared.world.Slot.{Slot}
 use Rattle.pin_core.specs.Worlds.{slot_of, opening_slot}
 use Rattle.pin_core.specs.Events.{in_phase, with_descr, reclaimed}
 use Rattle.pin_words.specs.declared.view.Look.{Look}
-use Rattle.pin_words.specs.Keepers.{KeeperState, closed, with_slots, with_looks, opened_again}
+use Rattle.pin_words.specs.Keepers.{closed, with_slots, with_looks, opened_again}
 use Rattle.ob_body.specs.declared.body.Body.{Body}
 use Rattle.ob_arena.specs.Slots.{is_vacant_at}
 use Rattle.ob_arena.proofs.SlotLemmas.{vacant_within, vacant_empty, vacant_unretired}
