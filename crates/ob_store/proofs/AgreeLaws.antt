@@ -1,5 +1,5 @@
 -- How the objects go on agreeing with the keeper, slot by slot.
-use Rattle.std.proofs.Common.{◌≡◌, ◌≢◌, ℕ, ◌<◌, ◌≤◌, List, length, Option, Some, None, refl, ap, ◌∙◌, sym, subst, arith, get_or, set, Bool, true, false, cond, inl, inr}
+use Rattle.std.proofs.Common.{◌≡◌, ◌≢◌, ℕ, ◌<◌, List, length, Option, Some, None, refl, ap, ◌∙◌, sym, subst, arith, get_or, set, Bool, true, false, inl, inr}
 use Rattle.std.specs.Prelude.{is_some}
 use Rattle.std.proofs.Math.Seq.{map-set_same}
 use Rattle.std.proofs.lemmas.List.{length-set, get_or_past, get_or-set_same, get_or-set_other}
@@ -10,7 +10,9 @@ use Rattle.pin_core.specs.declared.word.Phase.TheVariants as phase
 use Rattle.pin_core.specs.Worlds.{slot_of, opening_slot}
 use Rattle.pin_core.specs.Events.{in_phase, with_descr}
 use Rattle.pin_words.specs.Keepers.{KeeperState, with_slots, with_looks, closed}
+use Rattle.pin_words.specs.declared.view.Look.{Look}
 use Rattle.ob_body.specs.declared.body.Body.{Body}
+use Rattle.ob_waits.specs.Objects as waits
 use Rattle.ob_store.specs.Objects.{Object, ObjectsState, Head, object_in, with_object, with_keeper, places_in, without_seat, open_phase, open_slot, opened}
 use Rattle.ob_store.specs.Agreement.{Agrees, IsAgreed, vacant_phase}
 use Rattle.ob_store.proofs.EndLaws.{none_set}
@@ -59,41 +61,40 @@ agreed_beside s t k b a here =
       ];
     }
 
--- a state of which only lists of the objects' references changed
-pub agreed_like : (s t : ObjectsState) → t.objects ≡ s.objects → t.seen.bodies ≡ s.seen.bodies → t.retired ≡ s.retired → t.keeper ≡ s.keeper → IsAgreed s → IsAgreed t
-agreed_like s t objects bodies retired keeper a = record {
-  few = subst (λ (k : KeeperState). k.shape.slots ≤ 65536) (sym keeper) a.few;
-  wide = subst (λ (k : KeeperState). length k.slots ≡ k.shape.slots) (sym keeper) a.wide;
-  long = subst (λ (z : List (Option Object) × KeeperState). length z.0 ≡ z.1.shape.slots) (λ i. (sym objects i, sym keeper i)) a.long;
-  bodied = subst (λ (z : List (Option Body) × KeeperState). length z.0 ≡ z.1.shape.slots) (λ i. (sym bodies i, sym keeper i)) a.bodied;
-  marked = subst (λ (z : List Bool × KeeperState). length z.0 ≡ z.1.shape.slots) (λ i. (sym retired i, sym keeper i)) a.marked;
-  each = subst (λ (z : List (Option Object) × List (Option Body) × List Bool × KeeperState). (k : ℕ) → k < z.3.shape.slots → Agrees k (get_or z.0 k None) (get_or z.1 k None) (get_or z.2 k false) (slot_of z.3.slots k))
-      (λ i. (sym objects i, sym bodies i, sym retired i, sym keeper i)) a.each;
+-- counts change, and all bodies stay
+pub agreed_stays : (s : ObjectsState) (seen : waits.Objects) → seen.bodies ≡ s.seen.bodies → IsAgreed s → IsAgreed (record s { seen = seen })
+agreed_stays s seen bodies a = record {
+  few = a.few;
+  wide = a.wide;
+  long = a.long;
+  bodied = ap length bodies ∙ a.bodied;
+  marked = a.marked;
+  each = λ k lt. subst (λ (x : Option Body). Agrees k (object_at s k) x (retired_at s k) (slot_at s k)) (sym (ap (λ l. get_or l k None) bodies)) (a.each k lt);
 }
 
 -- the object of a slot ends, and its slot closes
-pub agreed_ended : (s t : ObjectsState) (k : ℕ) → t.objects ≡ s.objects → t.seen.bodies ≡ set s.seen.bodies k None → t.retired ≡ s.retired → t.keeper ≡ closed s.keeper k → is_some (body_at s k) ≡ true → IsAgreed s → IsAgreed t
-agreed_ended s t k objects bodies retired keeper there a = agreed_beside s t k (record {
-  shape = ap (λ (z : KeeperState). z.shape) keeper;
-  wide = ap (λ (z : KeeperState). length z.slots) keeper ∙ length-set s.keeper.slots k (in_phase (slot_at s k) phase.Closing);
-  long = ap length objects;
-  bodied = ap length bodies ∙ length-set s.seen.bodies k None;
-  marked = ap length retired;
-  objects = λ j other. ap (λ l. get_or l j None) objects;
-  bodies = λ j other. ap (λ l. get_or l j None) bodies ∙ get_or-set_other s.seen.bodies k j None None other;
-  retired = λ j other. ap (λ l. get_or l j false) retired;
-  slots = λ j other. ap (λ (z : KeeperState). slot_of z.slots j) keeper ∙ get_or-set_other s.keeper.slots k j (in_phase (slot_at s k) phase.Closing) opening_slot other;
-}) a (λ lt. let inside : k < s.keeper.shape.slots = omega (arith, lt, ap (λ (z : KeeperState). z.shape.slots) keeper) in
-    let within : k < length s.keeper.slots = omega (arith, inside, a.wide) in
-    agrees_same k (object_at s k) (object_at t k) None (body_at t k) (retired_at s k) (retired_at t k) (in_phase (slot_at s k) phase.Closing) (slot_at t k)
-    (ap (λ l. get_or l k None) objects) (ap (λ l. get_or l k None) bodies ∙ none_set s.seen.bodies k) (ap (λ l. get_or l k false) retired)
-    (ap (λ (z : KeeperState). slot_of z.slots k) keeper ∙ get_or-set_same s.keeper.slots k (in_phase (slot_at s k) phase.Closing) opening_slot within)
-    (ended k (object_at s k) (body_at s k) (retired_at s k) (slot_at s k) there (a.each k inside)))
+pub agreed_ended : (s : ObjectsState) (seen : waits.Objects) (k : ℕ) → seen.bodies ≡ set s.seen.bodies k None → is_some (body_at s k) ≡ true → IsAgreed s → IsAgreed (record s { seen = seen; keeper = closed s.keeper k })
+agreed_ended s seen k bodies there a =
+    let t : ObjectsState = record s { seen = seen; keeper = closed s.keeper k } in
+    let y : Slot = in_phase (slot_at s k) phase.Closing in
+    agreed_beside s t k (record {
+      shape = refl;
+      wide = length-set s.keeper.slots k y;
+      long = refl;
+      bodied = ap length bodies ∙ length-set s.seen.bodies k None;
+      marked = refl;
+      objects = λ j other. refl;
+      bodies = λ j other. ap (λ l. get_or l j None) bodies ∙ get_or-set_other s.seen.bodies k j None None other;
+      retired = λ j other. refl;
+      slots = λ j other. get_or-set_other s.keeper.slots k j y opening_slot other;
+    }) a (λ lt. agrees_same k (object_at s k) (object_at s k) None (body_at t k) (retired_at s k) (retired_at s k) y (slot_at t k)
+        refl (ap (λ l. get_or l k None) bodies ∙ none_set s.seen.bodies k) refl (get_or-set_same s.keeper.slots k y opening_slot (omega (arith, lt, a.wide)))
+        (ended (object_at s k) (body_at s k) there (a.each k lt)))
   where
-    ended : (j : ℕ) (o : Option Object) (x : Option Body) (r : Bool) (y : Slot) → is_some x ≡ true → Agrees j o x r y → Agrees j o None r (in_phase y phase.Closing)
-    ended j o None r y there h = absurd (cc there)
-    ended j None (Some x) r y there h = absurd (let e = h.0 in cc e)
-    ended j (Some o) (Some x) r y there h = (h.0, h.1, refl, h.3)
+    ended : (o : Option Object) (x : Option Body) → is_some x ≡ true → Agrees k o x (retired_at s k) (slot_at s k) → Agrees k o None (retired_at s k) (in_phase (slot_at s k) phase.Closing)
+    ended o None there h = absurd (cc there)
+    ended None (Some x) there h = absurd (let e = h.0 in cc e)
+    ended (Some o) (Some x) there h = (h.0, h.1, refl, h.3)
 
 -- a slot that has a body is live
 pub live_at : (s : ObjectsState) (k : ℕ) → is_some (body_at s k) ≡ true → IsAgreed s → k < s.keeper.shape.slots → (slot_at s k).phase ≡ phase.Live
@@ -144,32 +145,27 @@ free_at s k none unretired room a = by (object_at s k) (retired_at s k) none unr
     by None true is not h = absurd (cc not)
     by (Some o) r is not h = absurd (cc is)
 
--- a slot that was taken back: the object left it
-module _ (s t : ObjectsState) (k : ℕ) (retired : List Bool) (y : Slot) (is : t ≡ with_keeper (record (without_seat (places_in s) k) { retired = retired }) t.births t.keeper) (marked : length retired ≡ length s.retired) (others : (j : ℕ) → j ≢ k → get_or retired j false ≡ retired_at s j)
-    (keeper : t.keeper ≡ with_looks (with_slots s.keeper (set s.keeper.slots k y)) t.keeper.looks) (a : IsAgreed s) (here : y.phase ≡ vacant_phase (get_or retired k false)) where
-  removed_beside : Beside s t k
-  removed_beside = record {
-    shape = ap (λ (z : KeeperState). z.shape) keeper;
-    wide = ap (λ (z : KeeperState). length z.slots) keeper ∙ length-set s.keeper.slots k y;
-    long = ap (λ (z : ObjectsState). length z.objects) is ∙ length-set s.objects k None;
-    bodied = ap (λ (z : ObjectsState). length z.seen.bodies) is ∙ length-set s.seen.bodies k None;
-    marked = ap (λ (z : ObjectsState). length z.retired) is ∙ marked;
-    objects = λ j other. ap (λ (z : ObjectsState). object_at z j) is ∙ get_or-set_other s.objects k j None None other;
-    bodies = λ j other. ap (λ (z : ObjectsState). body_at z j) is ∙ get_or-set_other s.seen.bodies k j None None other;
-    retired = λ j other. ap (λ (z : ObjectsState). retired_at z j) is ∙ others j other;
-    slots = λ j other. ap (λ (z : KeeperState). slot_of z.slots j) keeper ∙ get_or-set_other s.keeper.slots k j y opening_slot other;
-  }
+-- an object left its slot, which is then y
+abbrev pub vacated : ObjectsState → ℕ → List Bool → Slot → List Look → ObjectsState
+vacated s k retired y looks = with_keeper (record (without_seat (places_in s) k) { retired = retired }) s.births (with_looks (with_slots s.keeper (set s.keeper.slots k y)) looks)
 
-  pub agreed_removed : IsAgreed t
-  agreed_removed = agreed_beside s t k removed_beside a (λ lt.
-      let inside : k < s.keeper.shape.slots = omega (arith, lt, ap (λ (z : KeeperState). z.shape.slots) keeper) in
-      let within : k < length s.keeper.slots = omega (arith, inside, a.wide) in
-      agrees_same k None (object_at t k) None (body_at t k) (get_or retired k false) (retired_at t k) y (slot_at t k)
-      (ap (λ (z : ObjectsState). object_at z k) is ∙ get_or-set_same s.objects k None None (omega (arith, inside, a.long)))
-      (ap (λ (z : ObjectsState). body_at z k) is ∙ none_set s.seen.bodies k)
-      (ap (λ (z : ObjectsState). retired_at z k) is)
-      (ap (λ (z : KeeperState). slot_of z.slots k) keeper ∙ get_or-set_same s.keeper.slots k y opening_slot within)
-      (refl, here))
+pub agreed_vacated : (s : ObjectsState) (k : ℕ) (retired : List Bool) (y : Slot) (looks : List Look) → length retired ≡ length s.retired → ((j : ℕ) → j ≢ k → get_or retired j false ≡ retired_at s j) → y.phase ≡ vacant_phase (get_or retired k false)
+    → IsAgreed s → IsAgreed (vacated s k retired y looks)
+agreed_vacated s k retired y looks marked others here a =
+    let t : ObjectsState = vacated s k retired y looks in
+    agreed_beside s t k (record {
+      shape = refl;
+      wide = length-set s.keeper.slots k y;
+      long = length-set s.objects k None;
+      bodied = length-set s.seen.bodies k None;
+      marked = marked;
+      objects = λ j other. get_or-set_other s.objects k j None None other;
+      bodies = λ j other. get_or-set_other s.seen.bodies k j None None other;
+      retired = others;
+      slots = λ j other. get_or-set_other s.keeper.slots k j y opening_slot other;
+    }) a (λ lt. agrees_same k None (object_at t k) None (body_at t k) (get_or retired k false) (retired_at t k) y (slot_at t k)
+        (get_or-set_same s.objects k None None (omega (arith, lt, a.long))) (none_set s.seen.bodies k) refl (get_or-set_same s.keeper.slots k y opening_slot (omega (arith, lt, a.wide)))
+        (refl, here))
 
 -- a slot with an object is one of the keeper's
 pub object_within : (s : ObjectsState) (k : ℕ) → is_some (object_at s k) ≡ true → IsAgreed s → k < s.keeper.shape.slots
@@ -178,17 +174,9 @@ object_within s k there a = elim (cases_lt k (length s.objects)) [
   | inr le ↦ absurd (let e = ap is_some (get_or_past s.objects k None le) in cc (e, there))
 ]
 
--- a slot with a body is one of the keeper's, and has its object
+-- and so is a slot with a body
 pub body_within : (s : ObjectsState) (k : ℕ) → is_some (body_at s k) ≡ true → IsAgreed s → k < s.keeper.shape.slots
 body_within s k there a = elim (cases_lt k (length s.seen.bodies)) [
   | inl lt ↦ omega (arith, lt, a.bodied)
   | inr le ↦ absurd (let e = ap is_some (get_or_past s.seen.bodies k None le) in cc (e, there))
 ]
-
-pub object_there : (s : ObjectsState) (k : ℕ) → is_some (body_at s k) ≡ true → IsAgreed s → is_some (object_at s k) ≡ true
-object_there s k there a = by (object_at s k) (body_at s k) there (a.each k (body_within s k there a))
-  where
-    by : (o : Option Object) (x : Option Body) → is_some x ≡ true → Agrees k o x (retired_at s k) (slot_at s k) → is_some o ≡ true
-    by o None there h = absurd (cc there)
-    by None (Some x) there h = absurd (let e = h.0 in cc e)
-    by (Some o) (Some x) there h = refl

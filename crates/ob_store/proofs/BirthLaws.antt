@@ -1,10 +1,9 @@
 -- How many objects were made, slot by slot, and their numbers.
-use Rattle.std.proofs.Common.{◌≡◌, ◌≢◌, ℕ, ◌+◌, ◌-◌, ◌*◌, ◌<◌, ◌≤◌, List, length, Option, Some, None, refl, ap, ◌∙◌, sym, subst, arith, get_or, set, inl, inr}
-use Rattle.std.specs.Prelude.{replicate, sum_by}
-use Rattle.std.proofs.lemmas.List.{length-set, length-replicate, get_or_past, get_or-replicate, get_or-set_same, get_or-set_other}
+use Rattle.std.proofs.Common.{◌≡◌, ◌≢◌, ℕ, ◌+◌, ◌-◌, ◌<◌, ◌≤◌, List, length, Option, Some, None, ap, ◌∙◌, sym, subst, arith, get_or, set, inl, inr}
+use Rattle.std.specs.Prelude.{sum_by}
+use Rattle.std.proofs.lemmas.List.{length-set, get_or_past, get_or-set_same, get_or-set_other}
 use Rattle.std.proofs.lemmas.List.Elements.{All-from_get_or}
 use Rattle.std.proofs.lemmas.List.Sums.{sum_by-set, sum_by-le}
-use Rattle.std.proofs.lemmas.List.Folds.{sum_by-replicate}
 use Rattle.std.proofs.lemmas.Bool.{cases_eq, cases_lt}
 use Rattle.pin_core.specs.declared.word.Phase.{Phase}
 use Rattle.pin_core.specs.declared.word.Phase.TheVariants.{Free, Live, Closing, Retired}
@@ -30,9 +29,6 @@ made_set slots i y within same = let sum = sum_by-set made_in slots i y opening_
 -- or one more
 pub made_more : (slots : List Slot) (i : ℕ) (y : Slot) → i < length slots → made_in y ≡ made_in (slot_of slots i) + 1 → sum_by made_in (set slots i y) ≡ sum_by made_in slots + 1
 made_more slots i y within more = let sum = sum_by-set made_in slots i y opening_slot within in omega (arith, sum, more)
-
-pub made_fresh : (n : ℕ) → 0 ≡ sum_by made_in (replicate n opening_slot)
-made_fresh n = let sum = sum_by-replicate made_in n opening_slot in omega (arith, sum)
 
 made_few : (p : Phase) (generation : ℕ) → made_by p generation ≤ generation
 made_few Free generation = omega arith
@@ -92,12 +88,3 @@ born_added objects births k n first within born = record {
 
     old : (j : ℕ) (o : Object) → j ≢ k → get_or (set objects k (Some n)) j None ≡ Some o → get_or objects j None ≡ Some o
     old j o other is = sym (get_or-set_other objects k j (Some n) None other) ∙ is
-
-none_there : (n k : ℕ) → get_or (replicate {A = Option Object} n None) k None ≡ None
-none_there n k = elim (cases_lt k n) [ inl lt ↦ get_or-replicate n k None None lt | inr le ↦ get_or_past (replicate n None) k None (omega (arith, length-replicate {A = Option Object} n None)) ]
-
-pub born_fresh : (n : ℕ) → AreBorn (replicate n None) 0
-born_fresh n = record {
-  below = λ k o is. absurd (let e = none_there n k in cc (e, is));
-  apart = λ j k o p is it same. absurd (let e = none_there n j in cc (e, is));
-}

@@ -1,14 +1,13 @@
 -- A slot has a body exactly where something refers to its object: each change of the objects keeps that.
-use Rattle.std.proofs.Common.{◌≡◌, ◌≢◌, ℕ, ◌+◌, ◌-◌, ◌<◌, ◌≤◌, List, length, Option, Some, None, refl, ap, ◌∙◌, sym, subst, arith, get_or, set, Bool, true, false, cond, inl, inr, eqb, ltb}
-use Rattle.std.specs.Prelude.{is_some, replicate}
-use Rattle.std.proofs.lemmas.List.{length-set, length-replicate, get_or_past, get_or-replicate, get_or-set_same, get_or-set_other}
+use Rattle.std.proofs.Common.{◌≡◌, ◌≢◌, ℕ, ◌+◌, ◌-◌, ◌<◌, List, length, Option, Some, None, refl, ap, ◌∙◌, sym, subst, arith, get_or, set, Bool, true, false, cond, inl, inr, eqb, ltb}
+use Rattle.std.specs.Prelude.{is_some}
+use Rattle.std.proofs.lemmas.List.{length-set, get_or_past, get_or-set_same, get_or-set_other}
 use Rattle.std.proofs.lemmas.Bool.{cases_eq, cases_lt}
 use Rattle.std.proofs.lemmas.Bool.Decides.{nat_tests}
-use Rattle.pin_core.specs.declared.id.Id.{Id}
 use Rattle.ob_body.specs.declared.body.Body.{Body}
 use Rattle.ob_waits.specs.Objects.{Objects}
 use Rattle.ob_waits.specs.Rules.{HasBodies}
-use Rattle.ob_store.specs.Objects.{Object, Places, vacant_places, with_seat, with_handle, without_handle, with_block, without_seat}
+use Rattle.ob_store.specs.Objects.{Object, Places, with_seat, without_handle, without_seat}
 
 -- objects that differ at one slot alone
 bodied_beside : (o q : Objects) (k : ℕ) → ((j : ℕ) → j ≢ k → get_or q.bodies j None ≡ get_or o.bodies j None)
@@ -26,32 +25,6 @@ none_set bodies i = elim (cases_lt i (length bodies)) [ inl lt ↦ get_or-set_sa
 
 zero_set : (counts : List ℕ) (i : ℕ) → get_or (set counts i 0) i 0 ≡ 0
 zero_set counts i = elim (cases_lt i (length counts)) [ inl lt ↦ get_or-set_same counts i 0 0 lt | inr le ↦ get_or_past (set counts i 0) i 0 (omega (arith, length-set counts i 0)) ]
-
--- a count that grows
-more_set : (counts : List ℕ) (i : ℕ) → get_or counts i 0 ≤ get_or (set counts i (get_or counts i 0 + 1)) i 0
-more_set counts i = elim (cases_lt i (length counts)) [
-  | inl lt ↦ (let same = get_or-set_same counts i (get_or counts i 0 + 1) 0 lt in omega (arith, same))
-  | inr le ↦ (let none = get_or_past counts i 0 le in omega (arith, none))
-]
-
-still_some : (n m : ℕ) (there : Bool) → there ≡ true → there ≡ ltb 0 n → n ≤ m → there ≡ ltb 0 m
-still_some n m there is has le = let some : ltb 0 n ≡ true = sym has ∙ is in let now : ltb 0 m ≡ true = grind (arith, nat_tests, some, le) in is ∙ sym now
-
--- one handle more of an object that has a body
-pub bodied_handle_came : (p : Places) (k : ℕ) → is_some (get_or p.seen.bodies k None) ≡ true → HasBodies p.seen → HasBodies (with_handle p k).seen
-bodied_handle_came p k there has =
-    let count : ℕ = get_or p.seen.handles k 0 + 1 in
-    let more = more_set p.seen.handles k in
-    bodied_beside p.seen (with_handle p k).seen k (λ j other. refl) (λ j other. ap (λ n. n + get_or p.seen.blocks j 0) (get_or-set_other p.seen.handles k j count 0 other))
-    (still_some (get_or p.seen.handles k 0 + get_or p.seen.blocks k 0) (get_or (set p.seen.handles k count) k 0 + get_or p.seen.blocks k 0) (is_some (get_or p.seen.bodies k None)) there (has.each k) (omega (arith, more))) has
-
--- one block more
-pub bodied_block_came : (p : Places) (k : ℕ) → is_some (get_or p.seen.bodies k None) ≡ true → HasBodies p.seen → HasBodies (with_block p k).seen
-bodied_block_came p k there has =
-    let count : ℕ = get_or p.seen.blocks k 0 + 1 in
-    let more = more_set p.seen.blocks k in
-    bodied_beside p.seen (with_block p k).seen k (λ j other. refl) (λ j other. ap (λ n. get_or p.seen.handles j 0 + n) (get_or-set_other p.seen.blocks k j count 0 other))
-    (still_some (get_or p.seen.handles k 0 + get_or p.seen.blocks k 0) (get_or p.seen.handles k 0 + get_or (set p.seen.blocks k count) k 0) (is_some (get_or p.seen.bodies k None)) there (has.each k) (omega (arith, more))) has
 
 -- one handle fewer: with the last reference the body goes
 pub bodied_handle_left : (p : Places) (k : ℕ) → 0 < get_or p.seen.handles k 0 → HasBodies p.seen → HasBodies (without_handle p k).seen
@@ -95,10 +68,3 @@ bodied_removed p k has =
     bodied_beside p.seen t k (λ j other. get_or-set_other p.seen.bodies k j None None other)
     (λ j other. let v = get_or-set_other p.seen.handles k j 0 0 other in let w = get_or-set_other p.seen.blocks k j 0 0 other in omega (arith, v, w))
     (ap is_some (none_set p.seen.bodies k) ∙ ap (λ n. ltb 0 n) (sym none)) has
-
--- nothing is there yet
-same_everywhere : {A : Type 0} (n : ℕ) (x : A) (k : ℕ) → get_or (replicate n x) k x ≡ x
-same_everywhere n x k = elim (cases_lt k n) [ inl lt ↦ get_or-replicate n k x x lt | inr le ↦ get_or_past (replicate n x) k x (omega (arith, length-replicate n x)) ]
-
-pub bodied_vacant : (n : ℕ) → HasBodies (vacant_places n).seen
-bodied_vacant n = record { each = λ k. ap is_some (same_everywhere n None k) ∙ sym (ap {A = ℕ × ℕ} (λ r. ltb 0 (r.0 + r.1)) {y = (0, 0)} (λ i. (same_everywhere n 0 k i, same_everywhere n 0 k i))) }

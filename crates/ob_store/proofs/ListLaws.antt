@@ -1,6 +1,5 @@
 -- The published list has each object.
-use Rattle.std.proofs.Common.{◌≡◌, ℕ, zero, suc, ◌<◌, true, List, [], ◌∷◌, ◌++◌, length, get_or, set, sym, refl, ap, subst, ◌∙◌, arith, Option, Some, None, inl, inr}
-use Rattle.std.specs.Prelude.{replicate}
+use Rattle.std.proofs.Common.{◌≡◌, ℕ, ◌<◌, true, List, [], ◌∷◌, ◌++◌, length, get_or, set, sym, ap, subst, ◌∙◌, arith, Option, Some, None, inl, inr}
 use Rattle.std.proofs.lemmas.List.{get_or-set_same, get_or-set_other, get_or_past, length-set}
 use Rattle.std.proofs.lemmas.Bool.{cases_eq, cases_lt}
 use Rattle.pin_core.specs.declared.id.Id.{Id}
@@ -56,11 +55,3 @@ listed_added s k head inside old =
     let p : (id_of slots k, (slot_of slots k).descr) ≡ (o.id, o.descr) = λ i. ((ap (λ (x : Slot). let z : Id = record { slot = k; generation = x.generation } in z) at) i, (ap (λ (x : Slot). x.descr) at) i) in
     listed_set (published (stored s.keeper k head.descr) k).published s.objects k (Some o) (new_one s.keeper.published _ o p)
     (record { each = λ j. more s.keeper.published _ (get_or s.objects j None) (old.each j) })
-
-none_at : (n j : ℕ) → get_or (replicate {A = Option Object} n None) j None ≡ None
-none_at zero j = refl
-none_at (suc n) zero = refl
-none_at (suc n) (suc j) = none_at n j
-
-pub listed_fresh : (ps : Option (List (Id × Descr))) (n : ℕ) → IsListed ps (replicate n None)
-listed_fresh ps n = record { each = λ j. subst (Listed ps) (sym (none_at n j)) (listed_none ps) }

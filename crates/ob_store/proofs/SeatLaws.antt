@@ -1,6 +1,6 @@
 -- One seat changed: what becomes of the lists that are read off the seats.
-use Rattle.std.proofs.Common.{◌≡◌, ℕ, zero, suc, ◌∷◌, ◌-◌, ◌+◌, ◌<◌, List, length, Option, Some, None, refl, ap, ◌∙◌, sym, subst, arith, get_or, set, map, replicate, Bool, true, false, cond, inl, inr, eqb, ltb}
-use Rattle.std.specs.Prelude.{is_none, is_some, find, not, ◌&&◌, IfSome, IsSome}
+use Rattle.std.proofs.Common.{◌≡◌, ℕ, zero, suc, ◌∷◌, ◌-◌, ◌+◌, ◌<◌, List, length, Option, Some, None, refl, ap, ◌∙◌, sym, arith, get_or, set, map, replicate, Bool, true, false, cond, inl, inr, eqb, ltb}
+use Rattle.std.specs.Prelude.{is_none, is_some, find, not, ◌&&◌, IfSome}
 use Rattle.std.specs.List.{range_with_len}
 use Rattle.std.proofs.Math.Seq.{map-set_same}
 use Rattle.std.proofs.lemmas.List.{length-map, get_or-map, get_or_past, get_or-set_same, map-set, set-get_or}
@@ -27,9 +27,6 @@ module _ (xs : List (Option Seat)) (k : ℕ) (x : Seat) (is : get_or xs k None �
 
   pub blocks_at : get_or (map seat_blocks xs) k 0 ≡ x.blocks
   blocks_at = read seat_blocks xs k ∙ ap seat_blocks is
-
-  pub body_is : get_or (map seat_body xs) k None ≡ x.body
-  body_is = read seat_body xs k ∙ ap seat_body is
 
   -- where the object stays
   pub objects_same : (y : Seat) → seat_object (Some y) ≡ seat_object (Some x) → map seat_object (set xs k (Some y)) ≡ map seat_object xs
@@ -163,14 +160,6 @@ seen_absent xs id none =
       handles = map seat_handles xs;
       blocks = (sym (set-get_or (map seat_blocks xs) id.slot 0) ∙ ap (set (map seat_blocks xs) id.slot) less) i;
     }
-
--- where one list has something, the slot has a seat
-pub seated : (xs : List (Option Seat)) (k : ℕ) → IsSome (get_or (map seat_object xs) k None) → IsSome (get_or xs k None)
-seated xs k h = by (get_or xs k None) (subst (λ (x : Option Object). IsSome x) (read seat_object xs k) h)
-  where
-    by : (x : Option Seat) → IsSome (seat_object x) → IsSome x
-    by None h = h
-    by (Some x) h = refl
 
 map-replicate : {A B : Type 0} (f : A → B) (x : A) (n : ℕ) → map f (replicate n x) ≡ replicate n (f x)
 map-replicate f x zero = refl

@@ -1,5 +1,5 @@
 -- What holds of objects and their keeper holds after each change.
-use Rattle.std.proofs.Common.{◌≡◌, ℕ, ◌+◌, ◌<◌, ◌≤◌, List, length, Option, Some, None, refl, ap, ◌∙◌, sym, subst, arith, get_or, set, Bool, true, false, cond, ltb}
+use Rattle.std.proofs.Common.{◌≡◌, ◌≢◌, ℕ, ◌+◌, ◌<◌, ◌≤◌, List, length, Option, Some, None, refl, ap, ◌∙◌, sym, subst, arith, get_or, set, Bool, true, false, cond, ltb}
 use Rattle.std.specs.Prelude.{is_some, ◌&&◌}
 use Rattle.std.proofs.lemmas.List.{length-set, get_or-set_same, get_or-set_other, set-get_or}
 use Rattle.std.proofs.lemmas.Bool.Decides.{nat_tests}
@@ -10,7 +10,7 @@ use Rattle.pin_core.specs.declared.world.Slot.{Slot}
 use Rattle.pin_core.specs.Worlds.{slot_of, opening_slot}
 use Rattle.pin_core.specs.Events.{in_phase, with_descr, reclaimed}
 use Rattle.pin_words.specs.declared.view.Look.{Look}
-use Rattle.pin_words.specs.Keepers.{KeeperState, closed, with_slots, with_looks, opened_again}
+use Rattle.pin_words.specs.Keepers.{closed, with_looks, opened_again}
 use Rattle.ob_body.specs.declared.body.Body.{Body}
 use Rattle.ob_arena.specs.Slots.{is_vacant_at}
 use Rattle.ob_arena.proofs.SlotLemmas.{vacant_within, vacant_empty, vacant_unretired}
@@ -20,7 +20,7 @@ use Rattle.ob_waits.specs.Rules.{HasBodies}
 use Rattle.ob_waits.proofs.Ends.{ends_left}
 use Rattle.ob_store.specs.Objects.{Object, Places, ObjectsState, Head, vacancy, with_keeper, with_object, object_in, with_seat, without_handle, without_seat, with_retired, places_in, is_last_handle, is_last_block, Rest, rest_of}
 use Rattle.ob_store.specs.Agreement.{Agrees, IsAgreed, IsTied, made_by, made_in, vacant_phase}
-use Rattle.ob_store.proofs.AgreeLaws.{object_at, body_at, retired_at, slot_at, agreed_like, agreed_ended, agreed_added, agreed_removed, live_at, free_at, object_within, body_within}
+use Rattle.ob_store.proofs.AgreeLaws.{object_at, body_at, retired_at, slot_at, vacated, agreed_stays, agreed_ended, agreed_added, agreed_vacated, live_at, free_at, object_within, body_within}
 use Rattle.ob_store.proofs.ListLaws.{listed_added, listed_gone}
 use Rattle.ob_store.proofs.EndLaws.{bodied_handle_left, bodied_added, bodied_removed}
 use Rattle.ob_store.proofs.BirthLaws.{AreAged, aged_set, made_set, made_more, made_bound, born_added, born_gone}
@@ -28,7 +28,7 @@ use Rattle.ob_store.proofs.BirthLaws.{AreAged, aged_set, made_set, made_more, ma
 -- counts change, and all bodies stay
 pub tied_stays : (s : ObjectsState) (seen : waits.Objects) → seen.bodies ≡ s.seen.bodies → HasBodies seen → IsTied s → IsTied (record s { seen = seen })
 tied_stays s seen bodies has h = record {
-  agreed = agreed_like s (record s { seen = seen }) refl bodies refl refl h.agreed;
+  agreed = agreed_stays s seen bodies h.agreed;
   listed = h.listed;
   bodied = has;
   born = h.born;
@@ -45,7 +45,7 @@ tied_ended s seen k bodies there has h =
     let y : Slot = in_phase (slot_at s k) phase.Closing in
     let same : made_in y ≡ made_in (slot_at s k) = ap (λ (p : Phase). made_by p (slot_at s k).generation) (sym (live_at s k there h.agreed inside)) in
     record {
-      agreed = agreed_ended s (record s { seen = seen; keeper = closed s.keeper k }) k refl bodies refl refl there h.agreed;
+      agreed = agreed_ended s seen k bodies there h.agreed;
       listed = h.listed;
       bodied = has;
       born = h.born;
@@ -131,23 +131,19 @@ tied_added s t k head body is vacant one h =
     })
 
 -- an object leaves its slot, which is then y
-module _ (s : ObjectsState) (k : ℕ) (retired : List Bool) (y : Slot) (looks : List Look) (h : IsTied s) (inside : k < s.keeper.shape.slots) (marked : length retired ≡ length s.retired) (others : (j : ℕ) → (j ≡ k → ⊥) → get_or retired j false ≡ retired_at s j)
-    (here : y.phase ≡ vacant_phase (get_or retired k false)) (first : 1 ≤ y.generation) (most : y.generation ≤ s.keeper.shape.max_gen) (same : made_in y ≡ made_in (slot_at s k)) where
-  abbrev after : ObjectsState
-  after = with_keeper (record (without_seat (places_in s) k) { retired = retired }) s.births (with_looks (with_slots s.keeper (set s.keeper.slots k y)) looks)
-
-  tied_removed : IsTied after
-  tied_removed =
-      let within : k < length s.keeper.slots = omega (arith, inside, h.agreed.wide) in
-      record {
-        agreed = agreed_removed s after k retired y refl marked others refl h.agreed here;
-        listed = listed_gone s.keeper.published s.objects k h.listed;
-        bodied = bodied_removed (places_in s) k h.bodied;
-        born = born_gone s.objects s.births k h.born;
-        aged = aged_set s.keeper.shape.slots s.keeper.shape.max_gen s.keeper.slots k y within first most h.aged;
-        last = h.last;
-        made = h.made ∙ sym (made_set s.keeper.slots k y within same);
-      }
+tied_vacated : (s : ObjectsState) (k : ℕ) (retired : List Bool) (y : Slot) (looks : List Look) → k < s.keeper.shape.slots → length retired ≡ length s.retired → ((j : ℕ) → j ≢ k → get_or retired j false ≡ retired_at s j)
+    → y.phase ≡ vacant_phase (get_or retired k false) → 1 ≤ y.generation → y.generation ≤ s.keeper.shape.max_gen → made_in y ≡ made_in (slot_at s k) → IsTied s → IsTied (vacated s k retired y looks)
+tied_vacated s k retired y looks inside marked others here first most same h =
+    let within : k < length s.keeper.slots = omega (arith, inside, h.agreed.wide) in
+    record {
+      agreed = agreed_vacated s k retired y looks marked others here h.agreed;
+      listed = listed_gone s.keeper.published s.objects k h.listed;
+      bodied = bodied_removed (places_in s) k h.bodied;
+      born = born_gone s.objects s.births k h.born;
+      aged = aged_set s.keeper.shape.slots s.keeper.shape.max_gen s.keeper.slots k y within first most h.aged;
+      last = h.last;
+      made = h.made ∙ sym (made_set s.keeper.slots k y within same);
+    }
 
 -- an object without a body is in a closing slot that isn't retired
 closing_at : (s : ObjectsState) (k : ℕ) → is_some (object_at s k) ≡ true → body_at s k ≡ None → IsAgreed s → k < s.keeper.shape.slots → ((slot_at s k).phase ≡ phase.Closing) × (retired_at s k ≡ false)
@@ -168,8 +164,8 @@ tied_freed s k looks there ended below h =
     let test : ltb (slot_at s k).generation s.keeper.shape.max_gen ≡ true = grind (arith, nat_tests, below) in
     let is : reclaimed s.keeper.shape.max_gen (slot_at s k) ≡ y = ap (λ b. cond b y (in_phase (slot_at s k) phase.Retired)) test in
     let before : made_in (slot_at s k) ≡ (slot_at s k).generation = ap (λ (p : Phase). made_by p (slot_at s k).generation) closing.0 in
-    subst (λ (x : Slot). IsTied (with_keeper (without_seat (places_in s) k) s.births (with_looks (with_slots s.keeper (set s.keeper.slots k x)) looks))) (sym is)
-    (tied_removed s k s.retired y looks h inside refl (λ j other. refl) (sym (ap vacant_phase closing.1)) (omega arith) (omega (arith, below)) (omega (arith, before)))
+    subst (λ (x : Slot). IsTied (vacated s k s.retired x looks)) (sym is)
+    (tied_vacated s k s.retired y looks inside refl (λ j other. refl) (sym (ap vacant_phase closing.1)) (omega arith) (omega (arith, below)) (omega (arith, before)) h)
 
 -- or at the last generation it is given up for good
 pub tied_retired : (s : ObjectsState) (k : ℕ) (looks : List Look) → is_some (object_at s k) ≡ true → body_at s k ≡ None → s.keeper.shape.max_gen ≤ (slot_at s k).generation → IsTied s
@@ -183,5 +179,5 @@ tied_retired s k looks there ended last h =
     let before : made_in (slot_at s k) ≡ (slot_at s k).generation = ap (λ (p : Phase). made_by p (slot_at s k).generation) closing.0 in
     let age = h.aged k inside in
     let at : get_or (set s.retired k true) k false ≡ true = get_or-set_same s.retired k true false (omega (arith, inside, h.agreed.marked)) in
-    subst (λ (x : Slot). IsTied (with_keeper (with_retired (without_seat (places_in s) k) k) s.births (with_looks (with_slots s.keeper (set s.keeper.slots k x)) looks))) (sym is)
-    (tied_removed s k (set s.retired k true) y looks h inside (length-set s.retired k true) (λ j other. get_or-set_other s.retired k j true false other) (sym (ap vacant_phase at)) age.0 age.1 (sym before))
+    subst (λ (x : Slot). IsTied (vacated s k (set s.retired k true) x looks)) (sym is)
+    (tied_vacated s k (set s.retired k true) y looks inside (length-set s.retired k true) (λ j other. get_or-set_other s.retired k j true false other) (sym (ap vacant_phase at)) age.0 age.1 (sym before) h)

@@ -1,7 +1,7 @@
 use Rattle.std.proofs.Common.{◌≡◌, ◌∙◌, ap, sym, subst, true}
 use Rattle.std.specs.Prelude.{is_some}
-use Rattle.pin_words.specs.Keepers.{KeeperState, closed}
-use Rattle.ob_store.specs.Objects.{ObjectsState, Rest, with_keeper, kept_rest, opened}
+use Rattle.pin_words.specs.Keepers.{KeeperState}
+use Rattle.ob_store.specs.Objects.{ObjectsState, with_keeper, kept_rest, opened}
 use Rattle.ob_store.specs.Agreement.{IsTied}
 use Rattle.ob_store.proofs.AgreeLaws.{body_at, opened_closed, live_at, body_within}
 use Rattle.ob_store.proofs.TiedLaws.{both, tied_block_ended, tied_block_left}
