@@ -4,13 +4,13 @@ use Rattle.std.specs.Prelude.{is_some, IsSome}
 use Rattle.std.proofs.lemmas.List.{length-set, get_or_past, get_or-set_same, get_or-set_other}
 use Rattle.std.proofs.lemmas.Bool.{cases_eq, cases_lt}
 use Rattle.ob_body.specs.declared.body.Body.{Body}
-use Rattle.ob_body.specs.Body.{owner_of, has_room}
+use Rattle.ob_body.specs.Body.{owner_of, has_room, is_signaled}
 use Rattle.ob_waits.specs.declared.wait.Wait.{Wait}
-use Rattle.ob_waits.specs.Objects.{Objects, slot_room}
+use Rattle.ob_waits.specs.Objects.{Objects, slot_room, slot_signaled}
 use Rattle.ob_waits.specs.Form.{form_of, slot_form, slot_owner, HasWait}
 use Rattle.ob_waits.specs.Rules.{IsSettled, WaitsHaveRoom, thread_of}
 use Rattle.ob_waits.specs.Waits.{Scene, settled, slot_blocks}
-use Rattle.ob_waits.proofs.Settling.{less_if, room_if}
+use Rattle.ob_waits.proofs.Settling.{IsLess, less_if, room_if}
 use Rattle.ob_waits.proofs.Settled.{settled_less, settled_unnamed}
 use Rattle.ob_waits.proofs.Room.{room_changed, room_unnamed, room_set}
 use Rattle.ob_waits.proofs.Staying.{settled_form, settled_owner, settled_thread}
@@ -28,7 +28,7 @@ at_set bodies i k x = elim (cases_eq k i) [
 ]
 
 -- a place that changes or stays
-at_gone : (c : Bool) (bodies : List (Option Body)) (i k : ℕ) → (get_or (cond c (set bodies i None) bodies) k None ≡ get_or bodies k None) ⊎ (get_or (cond c (set bodies i None) bodies) k None ≡ None)
+pub at_gone : (c : Bool) (bodies : List (Option Body)) (i k : ℕ) → (get_or (cond c (set bodies i None) bodies) k None ≡ get_or bodies k None) ⊎ (get_or (cond c (set bodies i None) bodies) k None ≡ None)
 at_gone true bodies i k = elim (at_set bodies i k None) [ inl same ↦ inl same | inr gone ↦ inr gone.2 ]
 at_gone false bodies i k = inl refl
 
@@ -132,3 +132,11 @@ module _ (bodies : List (Option Body)) (k : ℕ) (old new : Body) (there : get_o
 
   pub room_put : (limit : ℕ) (ws : List (Option Wait)) → WaitsHaveRoom limit bodies ws → WaitsHaveRoom limit (set bodies k (Some new)) ws
   room_put limit ws room = room_set limit bodies ws k (Some new) (λ t h. yields.room limit t (subst (λ (x : Option Body). slot_room limit t x ≡ true) there h)) room
+
+  pub less_put : ((t : ℕ) → is_signaled t new ≡ true → is_signaled t old ≡ true) → IsLess bodies (set bodies k (Some new))
+  less_put less = record {
+    each = λ t id h. elim (at_set bodies k id.slot (Some new)) [
+      | inl same ↦ sym (ap (slot_signaled t) same) ∙ h
+      | inr put ↦ ap (slot_signaled t) (ap (λ i. get_or bodies i None) put.0 ∙ there) ∙ less t (sym (ap (slot_signaled t) put.2) ∙ h)
+    ];
+  }

@@ -21,7 +21,10 @@ use Rattle.ob_waits.specs.Rules.{HasBodies, IsSettled, IsReadyAt, WaitsHaveRoom}
 use Rattle.ob_waits.specs.Waits as waits
 use Rattle.ob_waits.specs.Waits.{WaitList, Scene, slot_blocks}
 use Rattle.ob_waits.proofs.Ends.{same_set, ends_taken}
+use Rattle.ob_body.specs.Body.{is_signaled}
 use Rattle.ob_waits.proofs.Apart.{ready_at_change}
+use Rattle.ob_waits.proofs.Settled.{settled_less}
+use Rattle.ob_waits.proofs.Settling.{settled_same}
 use Rattle.ob_store.specs.declared.limits.Limits.{Limits}
 use Rattle.ob_store.specs.Lives as lives
 use Rattle.ob_store.specs.Lives.{LivesState}
@@ -32,7 +35,7 @@ use Rattle.ob_store.specs.State.{State, state_of, whole_of, objects_of, scene_of
 use Rattle.ob_store.specs.Kept.{IsKept, IsCounted, AreFormed, IsListing, LivesKept, IsNamed, IsQuiet, IsLive, Yields}
 use Rattle.ob_store.proofs.CountedLaws.{handles_at, blocks_at, handles_few, counted_placed, counted_process, counted_settled}
 use Rattle.ob_store.proofs.NamedLaws.{there_within, named_entry, named_placed, named_process, named_settled}
-use Rattle.ob_store.proofs.BodyLaws.{of_live_more, formed_put, of_live_put, room_put, formed_settled, of_live_settled}
+use Rattle.ob_store.proofs.BodyLaws.{of_live_more, formed_put, of_live_put, room_put, less_put, formed_settled, of_live_settled}
 use Rattle.ob_store.proofs.ListingLaws.{listing_process, listing_placed}
 use Rattle.ob_store.proofs.SettledLaws.{settled_still, settled_waits}
 
@@ -241,3 +244,13 @@ module _ (limits : Limits) (l : LivesState) (ts : HandleTables) (o p q : Objects
           waits = (scene i).waits;
         })
         ∙ sym (settled_waits s kept.named (subst HasBodies objects bodied))
+
+  -- nothing is signaled by it that wasn't: so nothing settles
+  pub quiet_less : ((t : ℕ) → is_signaled t new ≡ true → is_signaled t old ≡ true) → IsQuiet limits.max_recursion p.seen.bodies ws.waits
+  quiet_less less = record {
+    room = room;
+    settled = subst (λ (x : Objects). IsSettled x.bodies ws.waits) (sym put) (settled_less o.seen.bodies (set o.seen.bodies id.slot (Some new)) ws.waits (less_put o.seen.bodies id.slot old new there yields less) kept.quiet.settled);
+  }
+
+  pub less_value : ((t : ℕ) → is_signaled t new ≡ true → is_signaled t old ≡ true) → ◌≡◌ {A = Scene} (record { objects = p.seen; waits = ws.waits }) (waits.settled (record { objects = p.seen; waits = ws.waits }))
+  less_value less = sym (settled_same (record { objects = p.seen; waits = ws.waits }) (quiet_less less).settled)

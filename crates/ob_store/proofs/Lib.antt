@@ -13,3 +13,5 @@ pub mod DirectoryLaws
 pub mod ListingLaws
 pub mod SettledLaws
 pub mod KeptLaws
+pub mod RemovedLaws
+pub mod Yielding

@@ -27,6 +27,7 @@ impl<K: PinKeeper> Store<K> {
     }
 
     /// Sets an event.
+    #[tactic(auto, using(crate::proofs::Yielding::set_yields))]
     pub fn set(&mut self, id: Id, event: Body)
         requires there { slice_index_or self.old.state.bodies id.slot None ≡ Some event }
         requires event { spec.kind_of event ≡ Event }
@@ -56,6 +57,7 @@ impl<K: PinKeeper> Store<K> {
     /// Raises a semaphore's count, and answers the count before.
     ///
     /// Refused with 298 where the count would pass the maximum.
+    #[tactic(auto, using(crate::proofs::Yielding::post_yields))]
     pub fn post(&mut self, id: Id, semaphore: Body, count: u32) -> Result<u32, Fault>
         requires there { slice_index_or self.old.state.bodies id.slot None ≡ Some semaphore }
         requires semaphore { spec.kind_of semaphore ≡ Semaphore }
@@ -73,6 +75,7 @@ impl<K: PinKeeper> Store<K> {
     /// Releases a mutex once.
     ///
     /// Refused with 288 where the thread doesn't own it.
+    #[tactic(auto, using(crate::proofs::Yielding::unlock_yields))]
     pub fn unlock(&mut self, id: Id, mutex: Body, thread: u32) -> Result<(), Fault>
         requires there { slice_index_or self.old.state.bodies id.slot None ≡ Some mutex }
         requires mutex { spec.kind_of mutex ≡ Mutex }
