@@ -1,4 +1,4 @@
-ghost use Rattle.std.specs.Prelude.{◌≡◌};
+ghost use Rattle.std.specs.Prelude.{◌≡◌, ℕ, slice_index_or};
 
 use crate::Objects;
 use ob_body::Body;
@@ -68,6 +68,23 @@ fn has_gained_a_block<K: PinKeeper>(objects: &mut Objects<K>, slot: u32) -> bool
     }
     objects.block_came(slot);
     true
+}
+
+/// How many blocks a new object has once a wait for a list with two places of it became pending.
+fn blocks_of_two_places<K: PinKeeper>(objects: &mut Objects<K>) -> Option<u64>
+    requires { (k : ℕ) → slice_index_or objects.old.seen.blocks k 0 ≡ 0 }
+{
+    objects.kept();
+    let slot = objects.least_vacant()?;
+    let grant = all_access(Kind::Event);
+    let body = Body::new_event(false, false);
+    if !EVENT.is_given() {
+        return None;
+    }
+    let id = objects.add(slot, EVENT, grant, None, body);
+    objects.blocks_came(&[id, id]);
+    let seat = objects.look(slot)?;
+    Some(seat.blocks)
 }
 
 /// Whether the holder had a copy of the Id, and let it go.
@@ -167,6 +184,19 @@ fn an_object_stays_until_its_last_reference_leaves(rt: HostRuntime) -> Result<()
     objects.block_left(id);
     assert!(rt; !has_gained_a_handle(&mut objects, 0));
     assert!(rt; reclaimed(&mut objects, 0) == Some(Reclaim::Freed));
+    Ok(())
+}
+
+#[test]
+fn each_place_of_a_list_is_a_block(rt: HostRuntime) -> Result<(), Fail> {
+    let Some(shape) = Shape::checked(1, 4, 2) else {
+        return Err(Fail::from(Fault::Parameter));
+    };
+    let keeper = LockedPins::new(rt.alloc(), shape)?;
+    let Ok(mut objects) = Objects::new(rt.alloc(), 1, keeper) else {
+        return Err(Fail::from(Fault::Memory));
+    };
+    assert!(rt; blocks_of_two_places(&mut objects) == Some(2));
     Ok(())
 }
 
