@@ -88,8 +88,8 @@ agreed_ended s seen k bodies there a =
       retired = λ j other. refl;
       slots = λ j other. get_or-set_other s.keeper.slots k j y opening_slot other;
     }) a (λ lt. agrees_same k (object_at s k) (object_at s k) None (body_at t k) (retired_at s k) (retired_at s k) y (slot_at t k)
-        refl (ap (λ l. get_or l k None) bodies ∙ none_set s.seen.bodies k) refl (get_or-set_same s.keeper.slots k y opening_slot (omega (arith, lt, a.wide)))
-        (ended (object_at s k) (body_at s k) there (a.each k lt)))
+    refl (ap (λ l. get_or l k None) bodies ∙ none_set s.seen.bodies k) refl (get_or-set_same s.keeper.slots k y opening_slot (omega (arith, lt, a.wide)))
+    (ended (object_at s k) (body_at s k) there (a.each k lt)))
   where
     ended : (o : Option Object) (x : Option Body) → is_some x ≡ true → Agrees k o x (retired_at s k) (slot_at s k) → Agrees k o None (retired_at s k) (in_phase (slot_at s k) phase.Closing)
     ended o None there h = absurd (cc there)
@@ -164,8 +164,8 @@ agreed_vacated s k retired y looks marked others here a =
       retired = others;
       slots = λ j other. get_or-set_other s.keeper.slots k j y opening_slot other;
     }) a (λ lt. agrees_same k None (object_at t k) None (body_at t k) (get_or retired k false) (retired_at t k) y (slot_at t k)
-        (get_or-set_same s.objects k None None (omega (arith, lt, a.long))) (none_set s.seen.bodies k) refl (get_or-set_same s.keeper.slots k y opening_slot (omega (arith, lt, a.wide)))
-        (refl, here))
+    (get_or-set_same s.objects k None None (omega (arith, lt, a.long))) (none_set s.seen.bodies k) refl (get_or-set_same s.keeper.slots k y opening_slot (omega (arith, lt, a.wide)))
+    (refl, here))
 
 -- a slot with an object is one of the keeper's
 pub object_within : (s : ObjectsState) (k : ℕ) → is_some (object_at s k) ≡ true → IsAgreed s → k < s.keeper.shape.slots

@@ -1,5 +1,5 @@
 -- How many objects were made, slot by slot, and their numbers.
-use Rattle.std.proofs.Common.{◌≡◌, ◌≢◌, ℕ, ◌+◌, ◌-◌, ◌<◌, ◌≤◌, List, length, Option, Some, None, ap, ◌∙◌, sym, subst, arith, get_or, set, inl, inr}
+use Rattle.std.proofs.Common.{◌≡◌, ◌≢◌, ℕ, ◌+◌, ◌<◌, ◌≤◌, List, length, Option, Some, None, ap, ◌∙◌, sym, subst, arith, get_or, set, inl, inr}
 use Rattle.std.specs.Prelude.{sum_by}
 use Rattle.std.proofs.lemmas.List.{length-set, get_or_past, get_or-set_same, get_or-set_other}
 use Rattle.std.proofs.lemmas.List.Elements.{All-from_get_or}
@@ -40,7 +40,7 @@ made_few Retired generation = omega arith
 pub made_bound : (slots : List Slot) (last : ℕ) → length slots ≤ 65536 → last ≤ 4294967295 → AreAged (length slots) last slots → sum_by made_in slots ≤ 281474976645120
 made_bound slots last few most aged =
     let all = All-from_get_or (λ (x : Slot). made_in x ≤ 4294967295) slots opening_slot
-        (λ i lt. let x : Slot = slot_of slots i in let y = made_few x.phase x.generation in let z : x.generation ≤ last = (aged i lt).1 in omega (arith, y, z, most)) in
+    (λ i lt. let x : Slot = slot_of slots i in let y = made_few x.phase x.generation in let z : x.generation ≤ last = (aged i lt).1 in omega (arith, y, z, most)) in
     let sum = sum_by-le made_in 4294967295 slots all in
     omega (arith, sum, few)
 

@@ -1,8 +1,9 @@
-ghost use Rattle.std.specs.Prelude.{◌≡◌};
+ghost use Rattle.std.specs.Prelude.{◌≡◌, ℕ, slice_index_or};
 
 use crate::Objects;
 use ob_body::Body;
 use ob_rights::{Fault, Kind, all_access};
+use ob_waits::Bodies;
 use pin_core::{Descr, Id, Shape};
 use pin_words::{LockedPins, PinKeeper, Pins, Reclaim};
 use std::process::Abort;
@@ -45,6 +46,62 @@ fn has_lost_a_handle<K: PinKeeper>(objects: &mut Objects<K>, slot: u32) -> bool 
     true
 }
 
+/// Whether the object of the slot has a body, and one handle more.
+fn has_gained_a_handle<K: PinKeeper>(objects: &mut Objects<K>, slot: u32) -> bool {
+    let Some(seat) = objects.look(slot) else {
+        return false;
+    };
+    if seat.handles >= u32::MAX || seat.body.is_none() {
+        return false;
+    }
+    objects.handle_came(slot);
+    true
+}
+
+/// Whether the object of the slot has a body, and one block more.
+fn has_gained_a_block<K: PinKeeper>(objects: &mut Objects<K>, slot: u32) -> bool {
+    let Some(seat) = objects.look(slot) else {
+        return false;
+    };
+    if seat.blocks >= u64::MAX || seat.body.is_none() {
+        return false;
+    }
+    objects.block_came(slot);
+    true
+}
+
+/// How many blocks a new object has once a wait for a list with two places of it became pending.
+fn blocks_of_two_places<K: PinKeeper>(objects: &mut Objects<K>) -> Option<u64>
+    requires { (k : ℕ) → slice_index_or objects.old.seen.blocks k 0 ≡ 0 }
+{
+    objects.kept();
+    let slot = objects.least_vacant()?;
+    let grant = all_access(Kind::Event);
+    let body = Body::new_event(false, false);
+    if !EVENT.is_given() {
+        return None;
+    }
+    let id = objects.add(slot, EVENT, grant, None, body);
+    objects.blocks_came(&[id, id]);
+    let seat = objects.look(slot)?;
+    Some(seat.blocks)
+}
+
+/// Whether the holder had a copy of the Id, and let it go.
+fn has_let_go(objects: &mut Objects<LockedPins>, id: Id) -> bool {
+    if !objects.holds(id) {
+        return false;
+    }
+    objects.release(id);
+    true
+}
+
+/// The number of the object in a slot.
+fn birth_of<K: PinKeeper>(objects: &Objects<K>, slot: u32) -> Option<u64> {
+    let seat = objects.look(slot)?;
+    Some(seat.birth)
+}
+
 /// The outcome for the slot of an ended object.
 fn reclaimed<K: PinKeeper>(objects: &mut Objects<K>, slot: u32) -> Option<Reclaim> {
     let seat = objects.look(slot)?;
@@ -63,6 +120,7 @@ fn plays_two_generations<K: PinKeeper>(rt: &impl Abort, objects: &mut Objects<K>
                 generation: 1
             })
     );
+    assert!(rt; birth_of(objects, 0) == Some(0));
     assert!(rt; made(objects, EVENT).is_none());
     assert!(rt; reclaimed(objects, 0).is_none());
     assert!(rt; has_lost_a_handle(objects, 0));
@@ -76,6 +134,7 @@ fn plays_two_generations<K: PinKeeper>(rt: &impl Abort, objects: &mut Objects<K>
                 generation: 2
             })
     );
+    assert!(rt; birth_of(objects, 0) == Some(1));
     assert!(rt; has_lost_a_handle(objects, 0));
     assert!(rt; reclaimed(objects, 0) == Some(Reclaim::Retired));
     assert!(rt; reclaimed(objects, 0).is_none());
@@ -101,5 +160,64 @@ fn a_slot_is_given_again_and_then_retired(rt: HostRuntime) -> Result<(), Fail> {
     };
     plays_two_generations(&rt, &mut objects);
     reader.finish();
+    Ok(())
+}
+
+#[test]
+fn an_object_stays_until_its_last_reference_leaves(rt: HostRuntime) -> Result<(), Fail> {
+    let Some(shape) = Shape::checked(1, 4, 2) else {
+        return Err(Fail::from(Fault::Parameter));
+    };
+    let keeper = LockedPins::new(rt.alloc(), shape)?;
+    let Ok(mut objects) = Objects::new(rt.alloc(), 1, keeper) else {
+        return Err(Fail::from(Fault::Memory));
+    };
+    let Some(id) = made(&mut objects, EVENT) else {
+        return Err(Fail::from(Fault::Parameter));
+    };
+    assert!(rt; has_gained_a_block(&mut objects, 0));
+    assert!(rt; has_gained_a_handle(&mut objects, 0));
+    assert!(rt; has_lost_a_handle(&mut objects, 0));
+    assert!(rt; has_lost_a_handle(&mut objects, 0));
+    assert!(rt; !has_lost_a_handle(&mut objects, 0));
+    assert!(rt; reclaimed(&mut objects, 0).is_none());
+    objects.block_left(id);
+    assert!(rt; !has_gained_a_handle(&mut objects, 0));
+    assert!(rt; reclaimed(&mut objects, 0) == Some(Reclaim::Freed));
+    Ok(())
+}
+
+#[test]
+fn each_place_of_a_list_is_a_block(rt: HostRuntime) -> Result<(), Fail> {
+    let Some(shape) = Shape::checked(1, 4, 2) else {
+        return Err(Fail::from(Fault::Parameter));
+    };
+    let keeper = LockedPins::new(rt.alloc(), shape)?;
+    let Ok(mut objects) = Objects::new(rt.alloc(), 1, keeper) else {
+        return Err(Fail::from(Fault::Memory));
+    };
+    assert!(rt; blocks_of_two_places(&mut objects) == Some(2));
+    Ok(())
+}
+
+#[test]
+fn a_pinned_slot_is_held(rt: HostRuntime) -> Result<(), Fail> {
+    let Some(shape) = Shape::checked(1, 4, 2) else {
+        return Err(Fail::from(Fault::Parameter));
+    };
+    let keeper = LockedPins::new(rt.alloc(), shape)?;
+    let Ok(mut objects) = Objects::new(rt.alloc(), 1, keeper) else {
+        return Err(Fail::from(Fault::Memory));
+    };
+    let Some(id) = made(&mut objects, EVENT) else {
+        return Err(Fail::from(Fault::Parameter));
+    };
+    assert!(rt; objects.try_pin(id).is_ok());
+    assert!(rt; has_lost_a_handle(&mut objects, 0));
+    assert!(rt; objects.try_pin(id).is_err());
+    assert!(rt; reclaimed(&mut objects, 0) == Some(Reclaim::Held { pins: 1 }));
+    assert!(rt; has_let_go(&mut objects, id));
+    assert!(rt; !has_let_go(&mut objects, id));
+    assert!(rt; reclaimed(&mut objects, 0) == Some(Reclaim::Freed));
     Ok(())
 }
