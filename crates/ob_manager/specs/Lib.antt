@@ -1,8 +1,10 @@
-pub mod Limits
+pub mod Makings
+pub mod Outcomes
+pub mod Checks
+pub mod Processes
+pub mod Creating
 pub mod Handles
-pub mod State
-pub mod Directory
-pub mod Calls
+pub mod Signaling
+pub mod Counting
+pub mod Reaping
 pub mod Steps
-pub mod Kept
-pub mod View

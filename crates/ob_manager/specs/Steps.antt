@@ -1,26 +1,60 @@
 -- One step of a manager, for each call.
-use Rattle.std.specs.Prelude.{◌≡◌, Result, Ok, Err, Bool, true, false}
+use Rattle.std.specs.Prelude.{◌≡◌, ℕ, Result, Ok, Err, Bool, true, false, Option, Some, None, is_ok, slice_index_or}
+use Rattle.pin_words.specs.Keepers.{KeeperState, stored, published, Reclaims}
+use Rattle.pin_words.specs.declared.pin_keeper.Reclaim.{Reclaim}
+use Rattle.pin_words.specs.declared.pin_keeper.Reclaim.TheVariants as reclaim
 use Rattle.ob_rights.specs.declared.fault.Fault.{Fault}
 use Rattle.ob_rights.specs.declared.fault.Fault.TheVariants as fault
 use Rattle.ob_manager.specs.declared.reply.Reply.{Reply}
-use Rattle.ob_manager.specs.declared.reply.Reply.TheVariants.{Refused}
+use Rattle.ob_manager.specs.declared.reply.Reply.TheVariants.{Spawned, Started, Made, Exists, Opened, Closed, Done, Previous, Reaped, CountsAre, Refused}
 use Rattle.ob_manager.specs.declared.call.Call.{Call}
 use Rattle.ob_manager.specs.declared.call.Call.TheVariants as calls
-use Rattle.ob_manager.specs.State.{State}
-use Rattle.ob_manager.specs.Calls.{Outcome, spawn, create_event, close, counts}
+use Rattle.ob_store.specs.Objects.{Object}
+use Rattle.ob_store.specs.State.{State, Whole}
+use Rattle.ob_store.specs.Moves.{OnlyCloses}
+use Rattle.ob_manager.specs.Outcomes.{Outcome}
+use Rattle.ob_manager.specs.Processes.{spawn, thread}
+use Rattle.ob_manager.specs.Creating.{create_event, create_mutex, create_semaphore, open_named}
+use Rattle.ob_manager.specs.Handles.{close}
+use Rattle.ob_manager.specs.Signaling.{set_event, reset_event, release_semaphore, release_mutex}
+use Rattle.ob_manager.specs.Counting.{counts}
+use Rattle.ob_manager.specs.Reaping.{reap}
 
--- what each call answers, and the state after it
-abbrev pub outcome_of : State → Call → Result Outcome Fault
-outcome_of s (calls.Spawn session) = spawn s session
-outcome_of s (calls.MakeEvent thread manual set) = create_event s thread manual set
-outcome_of s (calls.CloseHandle thread handle) = close s thread handle
-outcome_of s (calls.Counts id) = counts s id
+-- what became of a slot, as a reply says it; other replies say nothing of a slot
+abbrev pub reclaim_in : Reply → Reclaim
+reclaim_in (Reaped id outcome) = outcome
+reclaim_in reply = reclaim.Freed
+
+-- what each call comes to. It is determined but for one free choice, what becomes of a slot that is reaped, which the reply says
+abbrev pub outcome_of : State → Call → Reply → Result Outcome Fault
+outcome_of s (calls.Spawn session) reply = spawn s session
+outcome_of s (calls.StartThread process) reply = thread s process
+outcome_of s (calls.MakeEvent thread making manual set) reply = create_event s thread making manual set
+outcome_of s (calls.MakeMutex thread making owned) reply = create_mutex s thread making owned
+outcome_of s (calls.MakeSemaphore thread making initial max) reply = create_semaphore s thread making initial max
+outcome_of s (calls.OpenNamed thread kind mask inherit text) reply = open_named s thread kind mask inherit text
+outcome_of s (calls.CloseHandle thread handle) reply = close s thread handle
+outcome_of s (calls.SetEvent thread handle) reply = set_event s thread handle
+outcome_of s (calls.ResetEvent thread handle) reply = reset_event s thread handle
+outcome_of s (calls.ReleaseSemaphore thread handle count) reply = release_semaphore s thread handle count
+outcome_of s (calls.ReleaseMutex thread handle) reply = release_mutex s thread handle
+outcome_of s (calls.Reap slot) reply = reap s slot (reclaim_in reply)
+outcome_of s (calls.Counts id) reply = counts s id
 
 -- whether a call takes memory, which may be wanting
 abbrev pub takes_memory : Call → Bool
 takes_memory (calls.Spawn session) = true
-takes_memory (calls.MakeEvent thread manual set) = true
+takes_memory (calls.StartThread process) = true
+takes_memory (calls.MakeEvent thread making manual set) = true
+takes_memory (calls.MakeMutex thread making owned) = true
+takes_memory (calls.MakeSemaphore thread making initial max) = true
+takes_memory (calls.OpenNamed thread kind mask inherit text) = true
 takes_memory (calls.CloseHandle thread handle) = false
+takes_memory (calls.SetEvent thread handle) = false
+takes_memory (calls.ResetEvent thread handle) = false
+takes_memory (calls.ReleaseSemaphore thread handle count) = false
+takes_memory (calls.ReleaseMutex thread handle) = false
+takes_memory (calls.Reap slot) = false
 takes_memory (calls.Counts id) = false
 
 -- the reply and the state of an outcome; a refusal changes nothing
@@ -28,21 +62,45 @@ abbrev pub final : State → Result Outcome Fault → Outcome
 final s (Ok outcome) = outcome
 final s (Err fault) = record { reply = Refused fault; state = s }
 
--- From a state a call gives this reply and goes on to the next state: what the model says, or want of memory, which changes
--- nothing and is answered only by a call that takes memory.
-pub data Step (s : State) (call : Call) (reply : Reply) (t : State) : Type 0 where
-  does : final s (outcome_of s call) ≡ record { reply = reply; state = t } → Step s call reply t
-  lacks : takes_memory call ≡ true → reply ≡ Refused fault.Memory → t ≡ s → Step s call reply t
+-- what a call does to the keeper, by its reply: a new object is published with its descriptor, a reap asks for the slot, and
+-- otherwise slots close at most
+abbrev pub Publishes : Option Object → ℕ → KeeperState → KeeperState → Type 0
+Publishes None slot k k' = ⊥
+Publishes (Some o) slot k k' = k' ≡ published (stored k slot o.descr) slot
+
+abbrev pub Keeps : Reply → State → KeeperState → KeeperState → Type 0
+Keeps (Made handle id) s k k' = Publishes (slice_index_or s.objects id.slot None) id.slot k k'
+Keeps (Reaped id outcome) s k k' = Reclaims k id.slot outcome k'
+Keeps (Spawned process thread) s k k' = k' ≡ k
+Keeps (Started thread) s k k' = k' ≡ k
+Keeps (Exists handle id) s k k' = k' ≡ k
+Keeps (Opened handle id) s k k' = k' ≡ k
+Keeps (CountsAre handles waits hold) s k k' = k' ≡ k
+Keeps (Refused fault) s k k' = k' ≡ k
+Keeps Closed s k k' = OnlyCloses k k'
+Keeps Done s k k' = OnlyCloses k k'
+Keeps (Previous count) s k k' = OnlyCloses k k'
+
+-- From a state and what the keeper says a call gives this reply and goes on: as the model says, or for want of memory, which
+-- is answered only by a call that takes memory, and only where nothing else refuses it; it changes nothing.
+pub data Step (w : Whole) (call : Call) (reply : Reply) (v : Whole) : Type 0 where
+  does : final w.state (outcome_of w.state call reply) ≡ record { reply = reply; state = v.state } → Keeps reply v.state w.keeper v.keeper → Step w call reply v
+  lacks : takes_memory call ≡ true → is_ok (outcome_of w.state call reply) ≡ true → reply ≡ Refused fault.Memory → v ≡ w → Step w call reply v
+
+-- the state after a call with this reply: want of memory and every refusal leave it
+abbrev pub next : State → Call → Reply → State
+next s call (Refused fault) = s
+next s call reply = (final s (outcome_of s call reply)).state
 
 -- what a body answers, against the outcome that it has to have
-abbrev pub Gives : Result Reply Fault → State → State → Result Outcome Fault → Type 0
-Gives (Ok reply) old new outcome = outcome ≡ Ok (record { reply = reply; state = new })
+abbrev pub Gives : Result Reply Fault → Whole → Whole → Result Outcome Fault → Type 0
+Gives (Ok reply) old new outcome = (outcome ≡ Ok (record { reply = reply; state = new.state })) × Keeps reply new.state old.keeper new.keeper
 Gives (Err e) old new outcome = (outcome ≡ Err e) × (new ≡ old)
 
 -- the same of a body that takes memory
-abbrev pub GivesOrLacks : Result Reply Fault → State → State → Result Outcome Fault → Type 0
+abbrev pub GivesOrLacks : Result Reply Fault → Whole → Whole → Result Outcome Fault → Type 0
 GivesOrLacks (Ok reply) old new outcome = Gives (Ok reply) old new outcome
-GivesOrLacks (Err fault.Memory) old new outcome = new ≡ old
+GivesOrLacks (Err fault.Memory) old new outcome = (is_ok outcome ≡ true) × (new ≡ old)
 GivesOrLacks (Err fault.Parameter) old new outcome = Gives (Err fault.Parameter) old new outcome
 GivesOrLacks (Err fault.Busy) old new outcome = Gives (Err fault.Busy) old new outcome
 GivesOrLacks (Err fault.NameLong) old new outcome = Gives (Err fault.NameLong) old new outcome

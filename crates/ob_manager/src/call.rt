@@ -1,21 +1,63 @@
+use crate::making::{Making, Text};
+use ob_rights::{Kind, Rights};
 use pin_core::Id;
 
 /// A call of the manager, with its arguments.
-#[derive(Debug, PartialEq, Eq, Drop)]
+#[derive(Drop)]
 pub enum Call {
     /// `Manager::spawn`.
     Spawn {
         /// The session of the new process.
         session: u32,
     },
+    /// `Manager::thread`.
+    StartThread {
+        /// The process.
+        process: u32,
+    },
     /// `Manager::create_event`.
     MakeEvent {
         /// The calling thread.
         thread: u32,
+        /// What it asks for.
+        make: Making,
         /// Whether the event is reset by hand.
         manual: bool,
         /// Whether it begins set.
         set: bool,
+    },
+    /// `Manager::create_mutex`.
+    MakeMutex {
+        /// The calling thread.
+        thread: u32,
+        /// What it asks for.
+        make: Making,
+        /// Whether the calling thread owns it.
+        owned: bool,
+    },
+    /// `Manager::create_semaphore`.
+    MakeSemaphore {
+        /// The calling thread.
+        thread: u32,
+        /// What it asks for.
+        make: Making,
+        /// The first count.
+        initial: i32,
+        /// The greatest count.
+        max: i32,
+    },
+    /// `Manager::open_named`.
+    OpenNamed {
+        /// The calling thread.
+        thread: u32,
+        /// The kind of the object.
+        kind: Kind,
+        /// The rights that the handle is to have.
+        mask: Rights,
+        /// Whether the handle has the flag INHERIT.
+        inherit: bool,
+        /// The name, as the caller gives it.
+        text: Text,
     },
     /// `Manager::close`.
     CloseHandle {
@@ -23,6 +65,41 @@ pub enum Call {
         thread: u32,
         /// The handle.
         handle: u32,
+    },
+    /// `Manager::set_event`.
+    SetEvent {
+        /// The calling thread.
+        thread: u32,
+        /// The handle.
+        handle: u32,
+    },
+    /// `Manager::reset_event`.
+    ResetEvent {
+        /// The calling thread.
+        thread: u32,
+        /// The handle.
+        handle: u32,
+    },
+    /// `Manager::release_semaphore`.
+    ReleaseSemaphore {
+        /// The calling thread.
+        thread: u32,
+        /// The handle.
+        handle: u32,
+        /// How much the count is raised.
+        count: i32,
+    },
+    /// `Manager::release_mutex`.
+    ReleaseMutex {
+        /// The calling thread.
+        thread: u32,
+        /// The handle.
+        handle: u32,
+    },
+    /// `Manager::reap`.
+    Reap {
+        /// The slot.
+        slot: u32,
     },
     /// `Manager::counts`.
     Counts {

@@ -1,41 +1,31 @@
-ghost use Rattle.std.specs.Prelude.{◌≡◌};
-ghost use Rattle.ob_manager.specs.Calls.{create_event};
+ghost use Rattle.std.specs.Prelude.{◌≡◌, ◌<◌, ◌≤◌, false, IfErr, IfOk, IfSome, None, OnErr, OnOk, Some, ℕ, length, slice_index_or};
+ghost use Rattle.ob_body.specs.Body as spec;
+ghost use Rattle.ob_name.specs.Refs.{name_at, parsed_name};
+ghost use Rattle.ob_name.specs.Listing.{find_name};
+ghost use Rattle.ob_waits.specs.Form.{form_of};
+ghost use Rattle.pin_core.specs.Descrs.{IsGiven};
+ghost use Rattle.ob_store.specs.Directory.{directory_of};
+ghost use Rattle.ob_store.specs.Kept.{IsLive, form_in};
+ghost use Rattle.ob_manager.specs.Makings.{making_of};
+ghost use Rattle.ob_manager.specs.Creating.{create, create_event, create_mutex, create_semaphore, created, name_in, named_object, new_event, new_handle, new_mutex, new_object, new_semaphore, next_handle, open_named, or_all, semaphore_of};
 ghost use Rattle.ob_manager.specs.Steps.{GivesOrLacks};
-ghost use Rattle.ob_manager.specs.Kept.{IsSettled};
 
-use crate::object::Entry;
+use crate::checks::{caller, is_allowed, natural, positive, same_kind};
+use crate::making::Make;
 use crate::reply::Reply;
-use crate::store::Store;
 use ob_body::Body;
-use ob_rights::{Fault, HandleFlags, Kind, all_access};
+use ob_name::{NameRef, parse};
+use ob_rights::{Fault, HandleFlags, Kind, Rights, all_access, within};
+use ob_store::{Creation, Store};
+use ob_tables::Entry;
 use pin_core::{Descr, Id};
+use pin_words::PinKeeper;
 
-/// A new event without a name, and a handle to it with all rights.
-pub fn create_event(store: &mut Store, thread: u32, manual: bool, set: bool) -> Result<Reply, Fault>
-    ensures gives { GivesOrLacks result store.old store.new (create_event store.old thread manual set) }
-    ensures settled { IsSettled store.old → IsSettled store.new }
-{
-    let process = store.caller(thread)?;
-    if store.is_full(process) {
-        return Err(Fault::Limit);
-    }
-    let slot = store.vacant()?;
-    let id = Id {
-        slot,
-        generation: 1,
-    };
-    let descr = Descr {
-        kind: Kind::Event,
-        manual,
-        max: 0,
-    };
-    let rights = all_access(Kind::Event);
-    let entry = Entry {
-        id,
-        rights,
-        flags: HandleFlags(0),
-    };
-    let handle = store.add_object(descr, rights, Body::new_event(manual, set), process, entry)?;
-    store.settle();
-    Ok(Reply::Made { handle, id })
+/// What a new object is, and its body.
+#[derive(Clone, Copy, Debug)]
+pub struct New {
+    /// What it is, for its whole life.
+    pub descr: Descr,
+    /// What it is now.
+    pub body: Body,
 }

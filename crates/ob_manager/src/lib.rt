@@ -1,32 +1,30 @@
 //! The object manager: processes, threads and their handles, and the objects that the handles name.
 //!
-//! A call of a [`Manager`] is one step of a model (`specs/Steps.antt`): its reply, and the state after it.
+//! A call of a [`Manager`] is one step of a model (`specs/Steps.antt`): its reply, the state after it, and what the keeper of
+//! the slots is told. Each call is a definition of a line for each refusal, in the order of the tests (`specs/Creating.antt`
+//! and its neighbours), and a body of the same lines.
 //!
 //! ```text
-//! let mut manager = Manager::new(alloc, Limits::default())?;
-//! manager.spawn(1);                         // Spawned { process: 1, thread: 1 }
-//! manager.create_event(1, false, false);    // Made { handle: 4, id: Id { slot: 0, generation: 1 } }
+//! let mut manager = Manager::new(alloc, Limits::default(), keeper)?;
+//! manager.spawn(1);                                  // Spawned { process: 1, thread: 1 }
+//! manager.create_event(1, &make, false, false);      // Made { handle: 4, id: Id { slot: 0, generation: 1 } }
 //! ```
 #![tactic(auto)]
 
 mod call;
+mod card;
+mod checks;
 mod counting;
 mod creating;
 mod handles;
-mod limits;
-mod manager;
-mod numbers;
-mod object;
+mod making;
 mod processes;
+mod reaping;
 mod reply;
-mod slots;
-mod store;
-mod table;
-mod tables;
-#[cfg(test)]
-mod tests;
+mod signaling;
 
 pub use call::Call;
-pub use limits::Limits;
-pub use manager::Manager;
+pub use card::Card;
+pub use making::{Make, Making, Text};
+pub use ob_store::Limits;
 pub use reply::Reply;

@@ -1,16 +1,15 @@
 ghost use Rattle.std.specs.Prelude.{◌≡◌};
-ghost use Rattle.ob_manager.specs.Calls.{spawn};
+ghost use Rattle.ob_manager.specs.Processes.{spawn, thread};
 ghost use Rattle.ob_manager.specs.Steps.{GivesOrLacks};
-ghost use Rattle.ob_manager.specs.Kept.{IsSettled};
 
 use crate::reply::Reply;
-use crate::store::Store;
 use ob_rights::Fault;
+use ob_store::Store;
+use pin_words::PinKeeper;
 
 /// A new process of a session, with its first thread.
-pub fn spawn(store: &mut Store, session: u32) -> Result<Reply, Fault>
-    ensures gives { GivesOrLacks result store.old store.new (spawn store.old session) }
-    ensures settled { IsSettled store.old → IsSettled store.new }
+pub fn spawn<K: PinKeeper>(store: &mut Store<K>, session: u32) -> Result<Reply, Fault>
+    ensures { GivesOrLacks result store.old store.new (spawn store.old.state session) }
 {
     let process = store.next_process();
     let thread = store.next_thread();
@@ -21,6 +20,20 @@ pub fn spawn(store: &mut Store, session: u32) -> Result<Reply, Fault>
         return Err(Fault::Limit);
     }
     store.add_process(session)?;
-    store.settle();
     Ok(Reply::Spawned { process, thread })
+}
+
+/// A new thread of a process.
+pub fn thread<K: PinKeeper>(store: &mut Store<K>, process: u32) -> Result<Reply, Fault>
+    ensures { GivesOrLacks result store.old store.new (thread store.old.state process) }
+{
+    if store.session(process).is_none() {
+        return Err(Fault::Parameter);
+    }
+    let thread = store.next_thread();
+    if store.limits().threads < thread {
+        return Err(Fault::Limit);
+    }
+    store.add_thread(process)?;
+    Ok(Reply::Started { thread })
 }

@@ -1,5 +1,6 @@
 use ob_rights::Fault;
 use pin_core::Id;
+use pin_words::Reclaim;
 
 /// What a call answers.
 #[derive(Clone, Copy, Debug, PartialEq, Eq)]
@@ -11,6 +12,11 @@ pub enum Reply {
         /// The thread's number, from 1.
         thread: u32,
     },
+    /// A new thread.
+    Started {
+        /// Its number.
+        thread: u32,
+    },
     /// A new object, and a handle to it.
     Made {
         /// The handle: 4, 8, 12 and so on.
@@ -18,8 +24,36 @@ pub enum Reply {
         /// The object.
         id: Id,
     },
+    /// A handle to an object that had the name already (`ERROR_ALREADY_EXISTS`).
+    Exists {
+        /// The handle.
+        handle: u32,
+        /// The object.
+        id: Id,
+    },
+    /// A handle to an object by its name.
+    Opened {
+        /// The handle.
+        handle: u32,
+        /// The object.
+        id: Id,
+    },
     /// The handle was closed.
     Closed,
+    /// An event was set or reset, a mutex released.
+    Done,
+    /// A semaphore's count was raised.
+    Previous {
+        /// The count before.
+        count: u32,
+    },
+    /// A slot was to be taken back.
+    Reaped {
+        /// The object that was in it.
+        id: Id,
+        /// What became of the slot.
+        outcome: Reclaim,
+    },
     /// What refers to an object.
     CountsAre {
         /// How many handles name it.

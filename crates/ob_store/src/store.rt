@@ -15,9 +15,10 @@ use crate::limits::Limits;
 use crate::lives::Lives;
 use crate::objects::Objects;
 use crate::seat::Seat;
+use ob_body::Body;
 use ob_name::{Directory, NameRef};
 use ob_tables::{Entry, Tables};
-use ob_waits::Waits;
+use ob_waits::{Bodies, Waits};
 use pin_core::Id;
 use pin_words::PinKeeper;
 use std::alloc::Global;
@@ -158,6 +159,13 @@ impl<K: PinKeeper> Store<K> {
         ensures blocks { IfSome result (λ seat. seat.now.blocks ≡ blocks_of self.now.state seat.now.id) }
     {
         self.objects.look(slot)
+    }
+
+    /// The body of an object, or none where it has ended.
+    pub fn body(&self, id: Id) -> Option<Body>
+        ensures { result ≡ slice_index_or self.now.state.bodies id.slot None }
+    {
+        self.objects.body(id)
     }
 
     /// The object of a name. It has a handle.

@@ -1,5 +1,0 @@
-pub mod Places
-pub mod EntryCounts
-pub mod Heads
-pub mod Changes
-pub mod States

@@ -1,0 +1,26 @@
+-- What a call comes to: a reply and the state after it, or a refusal.
+use Rattle.std.specs.Prelude.{Bool, true, false, Option, Some, None, Result, Ok, Err}
+use Rattle.ob_rights.specs.declared.fault.Fault.{Fault}
+use Rattle.ob_manager.specs.declared.reply.Reply.{Reply}
+use Rattle.ob_store.specs.State.{State}
+
+-- a reply, and the state after it
+pub record Outcome : Type 0 where
+  pub reply : Reply
+  pub state : State
+
+-- the value, or the refusal that came before
+infixl 10 ◌>>=◌
+abbrev pub ◌>>=◌ : {A B : Type 0} → Result A Fault → (A → Result B Fault) → Result B Fault
+(Ok x) >>= f = f x
+(Err e) >>= f = Err e
+
+-- what is there, or the refusal
+abbrev pub or_refuse : {A : Type 0} → Option A → Fault → Result A Fault
+or_refuse None e = Err e
+or_refuse (Some x) e = Ok x
+
+-- refused where the test holds
+abbrev pub refuse_if : Bool → Fault → Result (Unit {0}) Fault
+refuse_if true e = Err e
+refuse_if false e = Ok tt

@@ -1,0 +1,19 @@
+-- Processes and threads.
+use Rattle.std.specs.Prelude.{ℕ, nat_lt, None, Result, Ok, length, slice_index_or}
+use Rattle.ob_rights.specs.declared.fault.Fault.{Fault}
+use Rattle.ob_rights.specs.declared.fault.Fault.TheVariants as fault
+use Rattle.ob_manager.specs.declared.reply.Reply.TheVariants.{Spawned, Started}
+use Rattle.ob_store.specs.State.{State, settled, with_process, with_thread}
+use Rattle.ob_manager.specs.Outcomes.{Outcome, ◌>>=◌, or_refuse, refuse_if}
+
+abbrev pub spawn : State → ℕ → Result Outcome Fault
+spawn s session = do
+  _ ← refuse_if (nat_lt s.limits.processes (length s.processes)) fault.Limit
+  _ ← refuse_if (nat_lt s.limits.threads (length s.threads)) fault.Limit
+  Ok (record { reply = Spawned (length s.processes) (length s.threads); state = settled (with_process s session) })
+
+abbrev pub thread : State → ℕ → Result Outcome Fault
+thread s process = do
+  _ ← or_refuse (slice_index_or s.processes process None) fault.Parameter
+  _ ← refuse_if (nat_lt s.limits.threads (length s.threads)) fault.Limit
+  Ok (record { reply = Started (length s.threads); state = settled (with_thread s process) })

@@ -1,0 +1,97 @@
+ghost use Rattle.std.specs.Prelude.{◌≡◌, ◌<◌, None, Some, IfOk, IfSome, length, slice_index_or};
+ghost use Rattle.ob_body.specs.Body as spec;
+ghost use Rattle.ob_tables.specs.Table.{entry_at};
+ghost use Rattle.ob_tables.specs.Tables.{table_of};
+ghost use Rattle.ob_manager.specs.Checks.{body_of, caller, found, granted, is_allowed, natural, positive, same_kind};
+
+use ob_body::Body;
+use ob_rights::{Fault, Kind, Rights, within};
+use ob_store::Store;
+use ob_tables::Entry;
+use pin_core::Id;
+use pin_words::PinKeeper;
+
+/// The process of a thread that makes a call in its own name: refused with 87 where the thread isn't live, and with 170 where
+/// it has a wait.
+pub fn caller<K: PinKeeper>(store: &Store<K>, thread: u32) -> Result<u32, Fault>
+    ensures value { result ≡ caller store.now.state thread }
+    ensures table { IfOk result (λ process. process < length store.now.state.tables) }
+{
+    let Some(process) = store.process(thread) else {
+        return Err(Fault::Parameter);
+    };
+    if store.is_busy(thread) {
+        return Err(Fault::Busy);
+    }
+    Ok(process)
+}
+
+/// The entry of a handle, or 6.
+pub fn found<K: PinKeeper>(store: &Store<K>, process: u32, handle: u32) -> Result<Entry, Fault>
+    ensures value { result ≡ found store.now.state process handle }
+    ensures there { IfOk result (λ entry. entry_at (table_of store.now.state.tables process) handle ≡ Some entry) }
+{
+    store.look(process, handle).ok_or(Fault::Handle)
+}
+
+/// Whether two kinds are one.
+pub fn same_kind(a: Kind, b: Kind) -> bool
+    ensures { result ≡ same_kind a b }
+{
+    match (a, b) {
+        (Kind::Event, Kind::Event) | (Kind::Mutex, Kind::Mutex) | (Kind::Semaphore, Kind::Semaphore) => true,
+        _ => false,
+    }
+}
+
+/// The body of an object of a kind, or 6.
+pub fn body_of<K: PinKeeper>(store: &Store<K>, id: Id, kind: Kind) -> Result<Body, Fault>
+    ensures value { result ≡ body_of store.now.state id kind }
+    ensures there { IfOk result (λ body. slice_index_or store.now.state.bodies id.slot None ≡ Some body) }
+    ensures kind { IfOk result (λ body. spec.kind_of body ≡ kind) }
+{
+    let Some(body) = store.body(id) else {
+        return Err(Fault::Handle);
+    };
+    if same_kind(body.kind(), kind) {
+        return Ok(body);
+    }
+    Err(Fault::Handle)
+}
+
+/// Refused with 5 where the handle wasn't granted the right.
+pub fn granted(right: Rights, entry: Entry) -> Result<(), Fault>
+    ensures { result ≡ granted right.0 entry }
+{
+    if within(right, entry.rights) {
+        return Ok(());
+    }
+    Err(Fault::Access)
+}
+
+/// Whether an open may have these rights of an object: some, and each within its grant.
+pub fn is_allowed(asked: Rights, grant: Rights) -> bool
+    ensures { result ≡ is_allowed asked grant }
+{
+    asked.0 != 0 && within(asked, grant)
+}
+
+/// A number above 0.
+pub fn positive(number: i32) -> Option<u32>
+    ensures { result ≡ positive number }
+{
+    if number > 0 {
+        return Some(number.cast_unsigned());
+    }
+    None
+}
+
+/// A number that isn't below 0.
+pub fn natural(number: i32) -> Option<u32>
+    ensures { result ≡ natural number }
+{
+    if number >= 0 {
+        return Some(number.cast_unsigned());
+    }
+    None
+}

@@ -1,0 +1,26 @@
+ghost use Rattle.std.specs.Prelude.{◌≡◌};
+ghost use Rattle.ob_manager.specs.Reaping.{reap};
+ghost use Rattle.ob_manager.specs.Steps.{Gives, reclaim_in, reply_of};
+
+use crate::reply::Reply;
+use ob_rights::Fault;
+use ob_store::Store;
+use pin_words::PinKeeper;
+
+/// Takes the slot of an ended object back, unless somebody holds it.
+pub fn reap<K: PinKeeper>(store: &mut Store<K>, slot: u32) -> Result<Reply, Fault>
+    ensures { Gives result store.old store.new (reap store.old.state slot (reclaim_in (reply_of result))) }
+{
+    if store.limits().slots <= slot {
+        return Err(Fault::Parameter);
+    }
+    let Some(seat) = store.object(slot) else {
+        return Err(Fault::Handle);
+    };
+    if seat.body.is_some() {
+        return Err(Fault::Handle);
+    }
+    let id = seat.id;
+    let outcome = store.reclaim(slot);
+    Ok(Reply::Reaped { id, outcome })
+}

@@ -1,0 +1,64 @@
+ghost use Rattle.std.specs.Prelude.{◌≡◌};
+ghost use Rattle.ob_manager.specs.Signaling.{release_mutex, release_semaphore, reset_event, set_event};
+ghost use Rattle.ob_manager.specs.Steps.{Gives};
+
+use crate::checks::{body_of, caller, found, granted, positive};
+use crate::reply::Reply;
+use ob_rights::{Fault, Kind, Rights};
+use ob_store::Store;
+use pin_words::PinKeeper;
+
+/// Sets an event.
+pub fn set_event<K: PinKeeper>(store: &mut Store<K>, thread: u32, handle: u32) -> Result<Reply, Fault>
+    ensures { Gives result store.old store.new (set_event store.old.state thread handle) }
+{
+    let process = caller(store, thread)?;
+    let entry = found(store, process, handle)?;
+    let event = body_of(store, entry.id, Kind::Event)?;
+    granted(Rights::MODIFY_STATE, entry)?;
+    store.set(entry.id, event);
+    Ok(Reply::Done)
+}
+
+/// Resets an event.
+pub fn reset_event<K: PinKeeper>(store: &mut Store<K>, thread: u32, handle: u32) -> Result<Reply, Fault>
+    ensures { Gives result store.old store.new (reset_event store.old.state thread handle) }
+{
+    let process = caller(store, thread)?;
+    let entry = found(store, process, handle)?;
+    let event = body_of(store, entry.id, Kind::Event)?;
+    granted(Rights::MODIFY_STATE, entry)?;
+    store.reset(entry.id, event);
+    Ok(Reply::Done)
+}
+
+/// Raises a semaphore's count.
+pub fn release_semaphore<K: PinKeeper>(
+    store: &mut Store<K>,
+    thread: u32,
+    handle: u32,
+    count: i32,
+) -> Result<Reply, Fault>
+    ensures { Gives result store.old store.new (release_semaphore store.old.state thread handle count) }
+{
+    let process = caller(store, thread)?;
+    let Some(more) = positive(count) else {
+        return Err(Fault::Parameter);
+    };
+    let entry = found(store, process, handle)?;
+    let semaphore = body_of(store, entry.id, Kind::Semaphore)?;
+    granted(Rights::MODIFY_STATE, entry)?;
+    let count = store.post(entry.id, semaphore, more)?;
+    Ok(Reply::Previous { count })
+}
+
+/// Releases a mutex once.
+pub fn release_mutex<K: PinKeeper>(store: &mut Store<K>, thread: u32, handle: u32) -> Result<Reply, Fault>
+    ensures { Gives result store.old store.new (release_mutex store.old.state thread handle) }
+{
+    let process = caller(store, thread)?;
+    let entry = found(store, process, handle)?;
+    let mutex = body_of(store, entry.id, Kind::Mutex)?;
+    store.unlock(entry.id, mutex, thread)?;
+    Ok(Reply::Done)
+}
