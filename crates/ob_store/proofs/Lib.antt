@@ -13,3 +13,7 @@ pub mod DirectoryLaws
 pub mod ListingLaws
 pub mod SettledLaws
 pub mod KeptLaws
+pub mod OpeningLaws
+pub mod PlacedLaws
+pub mod AddedLaws
+pub mod ReclaimedLaws
