@@ -29,3 +29,192 @@ pub struct New {
     /// What it is now.
     pub body: Body,
 }
+
+/// The rights that are given, or all of the kind.
+fn or_all(kind: Kind, rights: Option<Rights>) -> Rights
+    ensures { result ≡ or_all kind rights }
+{
+    rights.unwrap_or(all_access(kind))
+}
+
+/// The flags of a handle.
+fn flags_of(inherit: bool) -> HandleFlags
+    ensures { result ≡ flags_of inherit }
+{
+    if inherit {
+        return HandleFlags(1);
+    }
+    HandleFlags(0)
+}
+
+/// A new event.
+fn new_event(manual: bool, set: bool) -> New
+    ensures { result ≡ new_event manual set }
+{
+    New {
+        descr: Descr {
+            kind: Kind::Event,
+            manual,
+            max: 0,
+        },
+        body: Body::new_event(manual, set),
+    }
+}
+
+/// A new mutex, which the thread owns once, or nobody.
+fn new_mutex(thread: u32, owned: bool) -> New
+    ensures { result ≡ new_mutex thread owned }
+{
+    let owner = if owned { Some(thread) } else { None };
+    New {
+        descr: Descr {
+            kind: Kind::Mutex,
+            manual: false,
+            max: 0,
+        },
+        body: Body::new_mutex(owner),
+    }
+}
+
+/// A new semaphore: refused with 87 for a maximum that isn't above 0, and for a count below 0 or above the maximum.
+fn new_semaphore(initial: i32, max: i32) -> Result<New, Fault>
+    ensures value { result ≡ new_semaphore initial max }
+    ensures given { IfOk result (λ new. IsGiven new.descr) }
+    ensures formed { IfOk result (λ new. form_of new.body ≡ form_in new.descr) }
+    ensures nobodys { IfOk result (λ new. spec.owner_of new.body ≡ None) }
+{
+    let Some(count) = natural(initial) else {
+        return Err(Fault::Parameter);
+    };
+    let Some(most) = positive(max) else {
+        return Err(Fault::Parameter);
+    };
+    if most < count {
+        return Err(Fault::Parameter);
+    }
+    Ok(New {
+        descr: Descr {
+            kind: Kind::Semaphore,
+            manual: false,
+            max: most,
+        },
+        body: Body::new_semaphore(count, most),
+    })
+}
+
+/// What a name that a caller gives stands for in its session.
+fn name_in<'a, K: PinKeeper>(store: &Store<K>, process: u32, text: &'a [u8]) -> Result<NameRef<'a>, Fault>
+    ensures { parsed_name result ≡ name_in store.now.state process text.now }
+{
+    let Some(session) = store.session(process) else {
+        return Err(Fault::Parameter);
+    };
+    parse(text, session)
+}
+
+/// A new object without a name, and a handle to it.
+fn new_nameless<K: PinKeeper>(store: &mut Store<K>, process: u32, make: &Make<'_>, new: New) -> Result<Reply, Fault>
+    requires table { process < length store.old.state.tables }
+    requires given { IsGiven new.descr }
+    requires formed { form_of new.body ≡ form_in new.descr }
+    requires owned { (t : ℕ) → spec.owner_of new.body ≡ Some t → IsLive store.old.state.threads t }
+    ensures { GivesOrLacks result store.old store.new (new_object store.old.state process (making_of make.now) new None) }
+{
+    let kind = new.descr.kind;
+    let rights = or_all(kind, make.access);
+    if !within(rights, all_access(kind)) {
+        return Err(Fault::Access);
+    }
+    if store.is_full(process) {
+        return Err(Fault::Limit);
+    }
+    let Some(slot) = store.vacant() else {
+        return Err(Fault::Limit);
+    };
+    let id = store.id_at(slot);
+    let creation = Creation {
+        descr: new.descr,
+        body: new.body,
+        grant: or_all(kind, make.grant),
+        rights,
+        flags: flags_of(make.inherit),
+    };
+    let handle = store.add_nameless(process, slot, creation)?;
+    Ok(Reply::Made { handle, id })
+}
+
+/// A new object with a name that no object has, and a handle to it.
+fn new_named<K: PinKeeper>(
+    store: &mut Store<K>,
+    process: u32,
+    make: &Make<'_>,
+    new: New,
+    name: &NameRef<'_>,
+) -> Result<Reply, Fault>
+    requires table { process < length store.old.state.tables }
+    requires given { IsGiven new.descr }
+    requires formed { form_of new.body ≡ form_in new.descr }
+    requires owned { (t : ℕ) → spec.owner_of new.body ≡ Some t → IsLive store.old.state.threads t }
+    requires absent { find_name (name_at name.now) (directory_of store.old.state) ≡ None }
+    ensures { GivesOrLacks result store.old store.new (new_object store.old.state process (making_of make.now) new (Some (name_at name.now))) }
+{
+    let kind = new.descr.kind;
+    let rights = or_all(kind, make.access);
+    if !within(rights, all_access(kind)) {
+        return Err(Fault::Access);
+    }
+    if store.is_full(process) {
+        return Err(Fault::Limit);
+    }
+    let Some(slot) = store.vacant() else {
+        return Err(Fault::Limit);
+    };
+    let id = store.id_at(slot);
+    let creation = Creation {
+        descr: new.descr,
+        body: new.body,
+        grant: or_all(kind, make.grant),
+        rights,
+        flags: flags_of(make.inherit),
+    };
+    let handle = store.add_named(process, slot, creation, name)?;
+    Ok(Reply::Made { handle, id })
+}
+
+/// A handle to an object by its name: refused with 6 where it is of another kind, and with 5 where its grant doesn't allow the
+/// rights.
+fn new_handle<K: PinKeeper>(
+    store: &mut Store<K>,
+    process: u32,
+    id: Id,
+    kind: Kind,
+    rights: Rights,
+    inherit: bool,
+) -> Result<u32, Fault>
+    requires table { process < length store.old.state.tables }
+    requires there { 0 < handles_of store.old.state id }
+    ensures handle { IfOk result (λ handle. handle ≡ next_handle store.old.state process) }
+    ensures ok { OnOk result (new_handle store.old.state process id kind rights inherit ≡ Ok store.new.state) }
+    ensures keeper { store.new.keeper ≡ store.old.keeper }
+    ensures err { IfErr result (λ fault. HandleLacks fault store.old.state (new_handle store.old.state process id kind rights inherit)) }
+    ensures same { OnErr result (store.new ≡ store.old) }
+{
+    let Some(seat) = store.object(id.slot) else {
+        return Err(Fault::Handle);
+    };
+    if !same_kind(seat.descr.kind, kind) {
+        return Err(Fault::Handle);
+    }
+    if !is_allowed(rights, seat.grant) {
+        return Err(Fault::Access);
+    }
+    if store.is_full(process) {
+        return Err(Fault::Limit);
+    }
+    let entry = Entry {
+        id,
+        rights,
+        flags: flags_of(inherit),
+    };
+    store.place_entry(process, entry)
+}

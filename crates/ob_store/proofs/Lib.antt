@@ -15,3 +15,7 @@ pub mod SettledLaws
 pub mod KeptLaws
 pub mod RemovedLaws
 pub mod Yielding
+pub mod OpeningLaws
+pub mod PlacedLaws
+pub mod AddedLaws
+pub mod ReclaimedLaws

@@ -53,6 +53,8 @@ impl<K: PinKeeper> Store<K> {
         ensures memory { IfErr result (λ fault. fault ≡ Memory) }
         ensures err { OnErr result (self.new ≡ self.old) }
     {
+        // What it says is wanted here: that the vacant slot has no body, and no references.
+        self.objects.kept();
         let entry = Entry {
             id: self.objects.id_at(slot),
             rights: new.rights,
@@ -84,6 +86,8 @@ impl<K: PinKeeper> Store<K> {
     {
         let entered = self.names.reserve(name)?;
         let kept = Name::new(self.alloc, name)?;
+        // As in `add_nameless`.
+        self.objects.kept();
         let entry = Entry {
             id: self.objects.id_at(slot),
             rights: new.rights,

@@ -148,6 +148,8 @@ impl<K: PinKeeper> Store<K> {
         requires { is_vacant_at (vacancy self.now.state) slot ≡ true }
         ensures { result ≡ id_at self.now.state slot }
     {
+        // What it says is wanted here: that the keeper has the slot.
+        self.objects.kept();
         self.objects.id_at(slot)
     }
 
@@ -158,6 +160,8 @@ impl<K: PinKeeper> Store<K> {
         ensures handles { IfSome result (λ seat. seat.now.handles ≡ handles_of self.now.state seat.now.id) }
         ensures blocks { IfSome result (λ seat. seat.now.blocks ≡ blocks_of self.now.state seat.now.id) }
     {
+        // What it says is wanted here: that the object has the Id of its slot.
+        self.objects.kept();
         self.objects.look(slot)
     }
 

@@ -1,0 +1,139 @@
+-- A new object with its first entry comes to a vacant slot.
+use Rattle.std.proofs.Common.{◌≡◌, ◌≢◌, ◌⊎◌, ℕ, zero, suc, ◌+◌, ◌<◌, ◌≤◌, List, [], ◌∷◌, ◌++◌, length, Option, Some, None, refl, ap, ◌∙◌, sym, subst, arith, get_or, set, map, Bool, true, false, inl, inr, ltb}
+use Rattle.std.specs.Prelude.{is_some, IsSome}
+use Rattle.std.proofs.Math.ListN.{get_or-map}
+use Rattle.std.proofs.Math.Seq.{map-set_same}
+use Rattle.std.proofs.lemmas.List.{length-set, get_or-set_same}
+use Rattle.std.proofs.lemmas.Bool.Decides.{nat_tests}
+use Rattle.pin_core.specs.declared.id.Id.{Id}
+use Rattle.pin_core.specs.declared.world.Slot.{Slot}
+use Rattle.pin_core.specs.declared.word.Phase.TheVariants as phase
+use Rattle.pin_core.specs.Worlds.{slot_of, opening_slot}
+use Rattle.pin_core.specs.Events.{in_phase, with_descr}
+use Rattle.pin_words.specs.Views.{id_of}
+use Rattle.ob_rights.specs.declared.handle_flags.HandleFlags.{HandleFlags}
+use Rattle.ob_rights.specs.declared.rights.Rights.{Rights}
+use Rattle.ob_arena.specs.Slots.{is_vacant_at}
+use Rattle.ob_arena.proofs.SlotLemmas.{vacant_within, vacant_empty, vacant_unretired}
+use Rattle.ob_body.specs.declared.body.Body.{Body}
+use Rattle.ob_body.specs.Body.{owner_of}
+use Rattle.ob_name.specs.Names.{ObjectName}
+use Rattle.ob_name.specs.Listing.{Rows, find_name}
+use Rattle.ob_tables.specs.declared.entry.Entry.{Entry}
+use Rattle.ob_tables.specs.Tables.{HandleTables, with_entry_of}
+use Rattle.ob_waits.specs.Objects.{Objects}
+use Rattle.ob_waits.specs.Form.{form_of}
+use Rattle.ob_waits.specs.Waits.{WaitList, slot_blocks}
+use Rattle.ob_store.specs.declared.limits.Limits.{Limits}
+use Rattle.ob_store.specs.Lives.{LivesState}
+use Rattle.ob_store.specs.Objects.{Object, ObjectsState, Head, object_in, places_in, vacancy, with_object}
+use Rattle.ob_store.specs.Agreement.{Agrees, IsAgreed, IsTied}
+use Rattle.ob_store.specs.State as state
+use Rattle.ob_store.specs.State.{State, state_of, settled, generation_of, id_at}
+use Rattle.ob_store.specs.Kept.{IsKept, IsCounted, IsListing, IsLive, form_in}
+use Rattle.ob_store.proofs.AgreeLaws.{object_at, body_at, retired_at, slot_at}
+use Rattle.ob_store.proofs.TiedLaws.{tied_added}
+use Rattle.ob_store.proofs.CountedLaws.{blocks_at, handles_long, counted_added}
+use Rattle.ob_store.proofs.NamedLaws.{named_added}
+use Rattle.ob_store.proofs.BodyLaws.{formed_added, of_live_added, quiet_added}
+use Rattle.ob_store.proofs.ListingLaws.{listing_added, listing_name_added, placed_agreed}
+use Rattle.ob_store.proofs.PlacedLaws.{unreferenced}
+use Rattle.ob_store.proofs.KeptLaws.{lives_same, still}
+
+-- a slot without an object has no body
+pub bodiless : (s : ObjectsState) (k : ℕ) → object_at s k ≡ None → k < length s.objects → IsAgreed s → body_at s k ≡ None
+bodiless s k none room a =
+    let long = a.long in
+    (subst (λ (o : Option Object). Agrees k o (body_at s k) (retired_at s k) (slot_at s k)) none (a.each k (omega (arith, room, long)))).0
+
+-- the Id that the state gives to the next object of a slot is that of the keeper
+pub next_id : (slots : List Slot) (k : ℕ) → ◌≡◌ {A = Id} (record { slot = k; generation = get_or (map generation_of slots) k 1 }) (id_of slots k)
+next_id slots k = λ i. record { slot = k; generation = (get_or-map generation_of slots k opening_slot) i }
+
+module _ (limits : Limits) (l : LivesState) (ts : HandleTables) (o : ObjectsState) (ws : WaitList) (rows : Rows) (kept : IsKept limits l ts o ws rows) (tied : IsTied o)
+    (p slot : ℕ) (rights : Rights) (flags : HandleFlags) (head : Head) (body : Body)
+    (table : p < length ts.tables)
+    (vacant : is_vacant_at (vacancy (places_in o)) slot ≡ true)
+    (formed : form_of body ≡ form_in head.descr)
+    (owned : (t : ℕ) → owner_of body ≡ Some t → IsLive l.threads t) where
+
+  abbrev pub entry : Entry
+  entry = record { id = id_of o.keeper.slots slot; rights = rights; flags = flags }
+
+  abbrev pub tables_after : HandleTables
+  tables_after = record ts { tables = with_entry_of ts.tables p entry }
+
+  none : object_at o slot ≡ None
+  none = vacant_empty (vacancy (places_in o)) slot vacant
+
+  within : slot < length o.objects
+  within = vacant_within (vacancy (places_in o)) slot vacant
+
+  no_references : (get_or o.seen.handles slot 0 ≡ 0) × (get_or o.seen.blocks slot 0 ≡ 0)
+  no_references = unreferenced o slot (bodiless o slot none within tied.agreed) tied
+
+  one : get_or (set o.seen.handles slot 1) slot 0 ≡ 1
+  one = let long = handles_long o.seen (length o.objects) ts.tables ws.waits kept.counted in get_or-set_same o.seen.handles slot 1 0 (omega (arith, within, long))
+
+  pub tied_after : IsTied (with_object o slot head body)
+  tied_after = tied_added o (with_object o slot head body) slot head body refl vacant one tied
+
+  counted_after : IsCounted (with_object o slot head body).seen (length (with_object o slot head body).objects) tables_after.tables ws.waits
+  counted_after = subst (λ (n : ℕ). IsCounted (with_object o slot head body).seen n tables_after.tables ws.waits) (sym (length-set o.objects slot (Some (object_in o slot head))))
+      (counted_added o.seen (length o.objects) ts.tables ws.waits kept.counted (set o.seen.bodies slot (Some body)) p entry table within no_references.0 no_references.1)
+
+  unnamed : slot_blocks slot ws.waits ≡ 0
+  unnamed = sym (blocks_at o.seen (length o.objects) ts.tables ws.waits kept.counted slot within) ∙ no_references.1
+
+  -- what is kept, whichever names are entered
+  pub kept_added : (rows' : Rows) → IsListing rows' tables_after.tables (with_object o slot head body).objects (o.births + 1) → IsKept limits l tables_after (with_object o slot head body) ws rows'
+  kept_added rows' listing =
+      let bodied : slot < length o.seen.bodies = (let a = tied.agreed.long in let b = tied.agreed.bodied in omega (arith, within, a, b)) in
+      record {
+        limited = record { processes = kept.limited.processes; handles = kept.limited.handles; waits_limit = kept.limited.waits_limit; shape_is = kept.limited.shape_is };
+        lives_kept = lives_same limits l (length ts.tables) (length tables_after.tables) (length-set ts.tables p _) kept.lives_kept;
+        counted = counted_after;
+        named = named_added o.objects ts.tables ws.waits kept.named p entry (object_in o slot head) table refl none within;
+        formed = formed_added o.seen.bodies slot body o.objects (object_in o slot head) within bodied formed kept.formed;
+        of_live = of_live_added o.seen.bodies slot body l.threads ws.waits owned kept.of_live;
+        quiet = quiet_added o.seen.bodies slot body limits.max_recursion ws.waits unnamed kept.quiet;
+        listing = listing;
+      }
+
+  pub kept_nameless : head.name ≡ None → IsKept limits l tables_after (with_object o slot head body) ws rows
+  kept_nameless nameless = kept_added rows
+      (listing_added rows ts.tables o.objects o.births kept.listing (placed_agreed o tied.agreed) p entry (object_in o slot head) tied.born table refl refl nameless none within)
+
+  pub kept_name : (name : ObjectName) → head.name ≡ Some name → find_name name rows ≡ None → IsKept limits l tables_after (with_object o slot head body) ws (rows ++ (name, id_of o.keeper.slots slot) ∷ [])
+  kept_name name named absent = kept_added (rows ++ (name, id_of o.keeper.slots slot) ∷ [])
+      (listing_name_added rows ts.tables o.objects o.births kept.listing (placed_agreed o tied.agreed) p entry (object_in o slot head) name tied.born table refl refl named none within absent)
+
+  -- a new object leaves the generations
+  ages : map generation_of (with_object o slot head body).keeper.slots ≡ map generation_of o.keeper.slots
+  ages =
+      let slots : List Slot = set o.keeper.slots slot (with_descr (slot_at o slot) head.descr) in
+      map-set_same generation_of slots slot (in_phase (slot_of slots slot) phase.Live) opening_slot refl
+      ∙ map-set_same generation_of o.keeper.slots slot (with_descr (slot_at o slot) head.descr) opening_slot refl
+
+  pub with_added : State → State
+  with_added s = state.with_entry (state.with_object s slot head body) p (record { id = id_at s slot; rights = rights; flags = flags })
+
+  plain : state_of limits l tables_after (with_object o slot head body) ws ≡ with_added (state_of limits l ts o ws)
+  plain =
+      let own = sym (next_id o.keeper.slots slot) in
+      λ i. record {
+        limits = limits;
+        processes = l.processes;
+        threads = l.threads;
+        tables = with_entry_of ts.tables p (record { id = own i; rights = rights; flags = flags });
+        objects = set o.objects slot (Some (record { id = own i; birth = o.births; descr = head.descr; grant = head.grant; name = head.name }));
+        bodies = set o.seen.bodies slot (Some body);
+        generations = ages i;
+        retired = o.retired;
+        births = o.births + 1;
+        waits = ws.waits;
+      }
+
+  -- and the state after it is the settled one
+  pub added_state : (rows' : Rows) → IsKept limits l tables_after (with_object o slot head body) ws rows' → state_of limits l tables_after (with_object o slot head body) ws ≡ settled (with_added (state_of limits l ts o ws))
+  added_state rows' after = sym (still limits l tables_after (with_object o slot head body) ws rows' after tied_after) ∙ ap settled plain

@@ -1,0 +1,76 @@
+-- The state before any call is kept.
+use Rattle.std.proofs.Common.{◌≡◌, ℕ, zero, suc, ◌+◌, ◌<◌, ◌≤◌, List, [], ◌∷◌, length, Option, Some, None, refl, ap, ◌∙◌, sym, subst, arith, get_or, map, true, false, inl, inr}
+use Rattle.std.specs.Prelude.{replicate}
+use Rattle.std.proofs.lemmas.List.{length-replicate, get_or_past, get_or-replicate}
+use Rattle.std.proofs.lemmas.Bool.{cases_lt}
+use Rattle.pin_core.specs.declared.world.Slot.{Slot}
+use Rattle.pin_core.specs.Worlds.{opening_slot}
+use Rattle.pin_words.specs.Keepers.{KeeperState, IsFresh}
+use Rattle.ob_body.specs.declared.body.Body.{Body}
+use Rattle.ob_tables.specs.Tables.{HandleTables}
+use Rattle.ob_waits.specs.declared.wait.Wait.{Wait}
+use Rattle.ob_waits.specs.Form.{slot_owner}
+use Rattle.ob_waits.specs.Rules.{WaitHasRoom, thread_of}
+use Rattle.ob_waits.specs.Waits.{WaitList, is_ready}
+use Rattle.ob_store.specs.declared.limits.Limits.{Limits}
+use Rattle.ob_store.specs.Lives.{no_lives}
+use Rattle.ob_store.specs.Objects.{Object, ObjectsState, with_keeper, vacant_places}
+use Rattle.ob_store.specs.State.{State, Whole, state_of, opening, shape_of, generation_of}
+use Rattle.ob_store.specs.Kept.{IsKept, IsCounted, IsLive}
+use Rattle.ob_store.proofs.CountedLaws.{counted_opening}
+use Rattle.ob_store.proofs.NamedLaws.{named_opening}
+use Rattle.ob_store.proofs.ListingLaws.{listing_opening}
+
+-- none of n places has anything
+none_at : (A : Type 0) (n k : ℕ) → get_or {A = Option A} (replicate n None) k None ≡ None
+none_at A n k = elim (cases_lt k n) [
+  | inl lt ↦ get_or-replicate {A = Option A} n k None None lt
+  | inr le ↦ (let long = length-replicate {A = Option A} n None in get_or_past (replicate {A = Option A} n None) k None (omega (arith, long, le)))
+]
+
+-- nor has the one place of a list
+one_none : (A : Type 0) (k : ℕ) → get_or {A = Option A} (None ∷ []) k None ≡ None
+one_none A k = elim k as (λ k. get_or {A = Option A} (None ∷ []) k None ≡ None) [ zero ↦ refl | suc k ↦ refl ]
+
+map_replicate : {A B : Type 0} (f : A → B) (n : ℕ) (x : A) → map f (replicate n x) ≡ replicate n (f x)
+map_replicate f zero x = refl
+map_replicate {A} {B} f (suc n) x = ap (λ (t : List B). f x ∷ t) (map_replicate f n x)
+
+abbrev pub no_tables : Limits → HandleTables
+no_tables limits = record { process_limit = limits.processes; handle_limit = limits.handles; tables = [] ∷ [] }
+
+abbrev pub no_waits : Limits → WaitList
+no_waits limits = record { limit = limits.waits; waits = None ∷ [] }
+
+module _ (limits : Limits) (keeper : KeeperState) (fresh : IsFresh keeper (shape_of limits)) where
+  abbrev pub no_objects : ObjectsState
+  no_objects = with_keeper (vacant_places limits.slots) 0 keeper
+
+  pub kept_opening : IsKept limits no_lives (no_tables limits) (with_keeper (vacant_places limits.slots) 0 keeper) (no_waits limits) []
+  kept_opening = record {
+    limited = record { processes = refl; handles = refl; waits_limit = refl; shape_is = fresh.shape_is };
+    lives_kept = record {
+      few_processes = omega arith;
+      few_threads = omega arith;
+      tabled = refl;
+      live = λ t p h. absurd (let none = one_none ℕ t in cc (none, h));
+    };
+    counted = subst (λ (n : ℕ). IsCounted no_objects.seen n ([] ∷ []) (None ∷ [])) (sym (length-replicate {A = Option Object} limits.slots None)) (counted_opening limits.slots);
+    named = named_opening no_objects.objects;
+    formed = record { each = λ k o b there is. absurd (let none = none_at Object limits.slots k in cc (none, there)) };
+    of_live = record {
+      owners = λ k t h. absurd (let none = ap slot_owner (none_at Body limits.slots k) in cc (none, h));
+      waiters = λ n t h. absurd (let none = ap thread_of (one_none Wait n) in cc (none, h));
+    };
+    quiet = record {
+      room = record { each = λ n. subst (λ (w : Option Wait). WaitHasRoom limits.max_recursion no_objects.seen.bodies w) (sym (one_none Wait n)) tt };
+      settled = record { each = λ n. ap (is_ready no_objects.seen.bodies) (one_none Wait n) };
+    };
+    listing = listing_opening limits.slots;
+  }
+
+  -- and is the opening one
+  pub opening_is : ◌≡◌ {A = Whole} (record { state = state_of limits no_lives (no_tables limits) (with_keeper (vacant_places limits.slots) 0 keeper) (no_waits limits); keeper = keeper }) (record { state = opening limits; keeper = keeper })
+  opening_is =
+      let ages : map generation_of keeper.slots ≡ replicate limits.slots 1 = ap (map generation_of) fresh.slots_are ∙ map_replicate generation_of limits.slots opening_slot in
+      λ i. record { state = record (opening limits) { generations = ages i }; keeper = keeper }

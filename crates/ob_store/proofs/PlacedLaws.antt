@@ -1,0 +1,64 @@
+-- What a slot counts refers to its object; and a thread's process has its table.
+use Rattle.std.proofs.Common.{◌≡◌, ℕ, ◌+◌, ◌<◌, ◌≤◌, List, length, Option, Some, None, refl, ap, ◌∙◌, sym, subst, arith, get_or, Bool, true, false, ltb, inl, inr, Bor}
+use Rattle.std.specs.Prelude.{is_some, IfSome}
+use Rattle.std.specs.Option.{option_map}
+use Rattle.std.proofs.lemmas.List.{get_or_past}
+use Rattle.std.proofs.lemmas.Bool.{cases_lt}
+use Rattle.std.proofs.lemmas.Bool.Decides.{nat_tests}
+use Rattle.ob_name.specs.Listing.{Rows}
+use Rattle.ob_tables.specs.Counts.{handles_among}
+use Rattle.ob_tables.specs.Tables.{HandleTables}
+use Rattle.ob_waits.specs.Waits.{WaitList, blocks_among}
+use Rattle.ob_store.specs.declared.limits.Limits.{Limits}
+use Rattle.ob_store.specs.declared.seat.Seat.{Seat}
+use Rattle.ob_store.specs.Lives.{LivesState}
+use Rattle.ob_store.specs.Objects.{Object, ObjectsState, object_of}
+use Rattle.ob_store.specs.Agreement.{IsTied}
+use Rattle.ob_store.specs.Kept.{IsKept, IsLive, IsThere, LivesKept, id_in}
+use Rattle.ob_store.proofs.AgreeLaws.{body_at}
+use Rattle.ob_store.proofs.CountedLaws.{handles_at, blocks_at}
+use Rattle.ob_store.proofs.NamedLaws.{there_within, handles_are, blocks_are}
+use Rattle.ob_store.proofs.ListingLaws.{placed_agreed}
+
+-- nothing refers to a slot without a body
+pub unreferenced : (s : ObjectsState) (k : ℕ) → body_at s k ≡ None → IsTied s → (get_or s.seen.handles k 0 ≡ 0) × (get_or s.seen.blocks k 0 ≡ 0)
+unreferenced s k none tied =
+    let no : ltb 0 (get_or s.seen.handles k 0 + get_or s.seen.blocks k 0) ≡ false = sym (tied.bodied.each k) ∙ ap is_some none in
+    (grind (arith, nat_tests, no), grind (arith, nat_tests, no))
+
+-- a slot's object has an Id of that slot
+pub placed_there : (s : ObjectsState) → IsTied s → (k : ℕ) (o : Object) → get_or s.objects k None ≡ Some o → IsThere s.objects o.id
+placed_there s tied k o at = ap (λ i. id_in (get_or s.objects i None)) (placed_agreed s tied.agreed k o at) ∙ ap id_in at
+
+module _ (limits : Limits) (l : LivesState) (ts : HandleTables) (s : ObjectsState) (ws : WaitList) (rows : Rows) (kept : IsKept limits l ts s ws rows) (tied : IsTied s) (k : ℕ) where
+  -- what the slot counts is what its object's Id counts
+  module _ (o : Object) (at : get_or s.objects k None ≡ Some o) where
+    own : o.id.slot ≡ k
+    own = placed_agreed s tied.agreed k o at
+
+    there : IsThere s.objects o.id
+    there = placed_there s tied k o at
+
+    pub own_handles : get_or s.seen.handles k 0 ≡ handles_among o.id ts.tables
+    own_handles = ap (λ i. get_or s.seen.handles i 0) (sym own) ∙ handles_at s.seen (length s.objects) ts.tables ws.waits kept.counted o.id.slot (there_within s.objects o.id there) ∙ handles_are s.objects ts.tables ws.waits kept.named o.id there
+
+    pub own_blocks : get_or s.seen.blocks k 0 ≡ blocks_among o.id ws.waits
+    own_blocks = ap (λ i. get_or s.seen.blocks i 0) (sym own) ∙ blocks_at s.seen (length s.objects) ts.tables ws.waits kept.counted o.id.slot (there_within s.objects o.id there) ∙ blocks_are s.objects ts.tables ws.waits kept.named o.id there
+
+  -- and so does what is seen there
+  pub seen_handles : (x : Option (Bor Seat)) → get_or s.objects k None ≡ option_map (λ (seat : Bor Seat). object_of seat.now) x → IfSome x (λ (seat : Bor Seat). get_or s.seen.handles k 0 ≡ seat.now.handles) → IfSome x (λ (seat : Bor Seat). seat.now.handles ≡ handles_among seat.now.id ts.tables)
+  seen_handles None at is = tt
+  seen_handles (Some seat) at is = sym is ∙ own_handles (object_of seat.now) at
+
+  pub seen_blocks : (x : Option (Bor Seat)) → get_or s.objects k None ≡ option_map (λ (seat : Bor Seat). object_of seat.now) x → IfSome x (λ (seat : Bor Seat). get_or s.seen.blocks k 0 ≡ seat.now.blocks) → IfSome x (λ (seat : Bor Seat). seat.now.blocks ≡ blocks_among seat.now.id ws.waits)
+  seen_blocks None at is = tt
+  seen_blocks (Some seat) at is = sym is ∙ own_blocks (object_of seat.now) at
+
+-- a live number is one of those given
+live_within : (numbers : List (Option ℕ)) (n : ℕ) → IsLive numbers n → n < length numbers
+live_within numbers n live = elim (cases_lt n (length numbers)) [ inl lt ↦ lt | inr le ↦ absurd (let none = ap is_some (get_or_past numbers n None le) in cc (none, live)) ]
+
+-- the process of a live thread has its table
+pub thread_tabled : (limits : Limits) (l : LivesState) (tables thread : ℕ) (x : Option ℕ) → LivesKept limits l tables → x ≡ get_or l.threads thread None → IfSome x (λ p. p < tables)
+thread_tabled limits l tables thread None kept is = tt
+thread_tabled limits l tables thread (Some p) kept is = let lt = live_within l.processes p (kept.live thread p (sym is)) in let same = kept.tabled in omega (arith, lt, same)

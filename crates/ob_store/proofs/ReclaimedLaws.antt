@@ -1,0 +1,153 @@
+-- An ended object leaves its slot, to which nothing refers.
+use Rattle.std.proofs.Common.{◌≡◌, ◌≢◌, ◌⊎◌, ℕ, zero, suc, ◌+◌, ◌<◌, ◌≤◌, List, [], ◌∷◌, ◌++◌, length, Option, Some, None, refl, ap, ◌∙◌, sym, subst, arith, get_or, set, map, Bool, true, false, cond, inl, inr, ltb}
+use Rattle.std.specs.Prelude.{is_some, IsSome}
+use Rattle.std.proofs.Math.ListN.{get_or-map}
+use Rattle.std.proofs.Math.Seq.{map-set_same}
+use Rattle.std.proofs.lemmas.List.{length-set, set-get_or, map-set, get_or-set_other}
+use Rattle.std.proofs.lemmas.Bool.{cases_eq}
+use Rattle.std.proofs.lemmas.Bool.Decides.{nat_tests}
+use Rattle.pin_core.specs.declared.id.Id.{Id}
+use Rattle.pin_core.specs.declared.shape.Shape.{Shape}
+use Rattle.pin_core.specs.declared.world.Slot.{Slot}
+use Rattle.pin_core.specs.declared.word.Phase.TheVariants as phase
+use Rattle.pin_core.specs.Worlds.{slot_of, opening_slot}
+use Rattle.pin_core.specs.Events.{in_phase, reclaimed}
+use Rattle.pin_words.specs.Keepers.{KeeperState, opened_again, with_looks, with_slots, Reclaims}
+use Rattle.pin_words.specs.declared.pin_keeper.Reclaim.{Reclaim}
+use Rattle.pin_words.specs.declared.pin_keeper.Reclaim.TheVariants.{Freed, Retired, Held}
+use Rattle.ob_body.specs.declared.body.Body.{Body}
+use Rattle.ob_name.specs.Listing.{Rows}
+use Rattle.ob_tables.specs.Counts.{handles_among}
+use Rattle.ob_tables.specs.Tables.{HandleTables}
+use Rattle.ob_waits.specs.Waits.{WaitList, blocks_among}
+use Rattle.ob_store.specs.declared.limits.Limits.{Limits}
+use Rattle.ob_store.specs.Lives.{LivesState}
+use Rattle.ob_store.specs.Objects.{Object, ObjectsState, places_in, with_keeper, without_seat, with_retired}
+use Rattle.ob_store.specs.Agreement.{IsTied, Reclaimed}
+use Rattle.ob_store.specs.State.{State, state_of, settled, generation_of, freed, given_up}
+use Rattle.ob_store.specs.Moves.{after_reclaim}
+use Rattle.ob_store.specs.Kept.{IsKept, IsCounted, IsNamed, AreFormed, IsListing, IsThere, id_in}
+use Rattle.ob_store.proofs.AgreeLaws.{object_at, body_at, retired_at, slot_at}
+use Rattle.ob_store.proofs.EndLaws.{none_set}
+use Rattle.ob_store.proofs.CountedLaws.{counted_left}
+use Rattle.ob_store.proofs.NamedLaws.{named_left}
+use Rattle.ob_store.proofs.BodyLaws.{formed_gone, of_live_gone, quiet_gone}
+use Rattle.ob_store.proofs.ListingLaws.{listing_left, placed_agreed}
+use Rattle.ob_store.proofs.KeptLaws.{still}
+use Rattle.ob_store.proofs.PlacedLaws.{placed_there, own_handles, own_blocks, unreferenced}
+
+-- the object of a slot
+found : (x : Option Object) → is_some x ≡ true → (o : Object) × (x ≡ Some o)
+found None there = absurd (cc there)
+found (Some o) there = (o, refl)
+
+some_set : (xs : List (Option Object)) (k j : ℕ) (o : Object) → get_or (set xs k None) j None ≡ Some o → get_or xs j None ≡ Some o
+some_set xs k j o h = elim (cases_eq j k) [
+  | inl same ↦ absurd (let gone = ap (λ i. get_or (set xs k None) i None) same ∙ gone_at xs k in cc (gone, h))
+  | inr other ↦ sym (get_or-set_other xs k j None None other) ∙ h
+]
+  where
+    gone_at : (xs : List (Option Object)) (k : ℕ) → get_or (set xs k None) k None ≡ None
+    gone_at [] k = refl
+    gone_at (x ∷ xs) k = elim k as (λ k. get_or (set (x ∷ xs) k None) k None ≡ None) [ zero ↦ refl | suc k ↦ gone_at xs k ]
+
+-- fewer objects have bodies of their forms
+formed_fewer : (objects : List (Option Object)) (bodies : List (Option Body)) (k : ℕ) → AreFormed objects bodies → AreFormed (set objects k None) bodies
+formed_fewer objects bodies k f = record { each = λ j o b there is. f.each j o b (some_set objects k j o there) is }
+
+module _ (limits : Limits) (l : LivesState) (ts : HandleTables) (o : ObjectsState) (ws : WaitList) (rows : Rows) (kept : IsKept limits l ts o ws rows) (tied : IsTied o)
+    (k : ℕ) (there : is_some (get_or o.objects k None) ≡ true) (ended : get_or o.seen.bodies k None ≡ None) where
+
+  object : Object
+  object = (found (get_or o.objects k None) there).0
+
+  at : get_or o.objects k None ≡ Some object
+  at = (found (get_or o.objects k None) there).1
+
+  own : object.id.slot ≡ k
+  own = placed_agreed o tied.agreed k object at
+
+  is_there : IsThere o.objects object.id
+  is_there = placed_there o tied k object at
+
+  no_references : (get_or o.seen.handles k 0 ≡ 0) × (get_or o.seen.blocks k 0 ≡ 0)
+  no_references = unreferenced o k ended tied
+
+  no_handles : handles_among object.id ts.tables ≡ 0
+  no_handles = sym (own_handles limits l ts o ws rows kept tied k object at) ∙ no_references.0
+
+  no_blocks : blocks_among object.id ws.waits ≡ 0
+  no_blocks = sym (own_blocks limits l ts o ws rows kept tied k object at) ∙ no_references.1
+
+  -- the object leaves, whatever is said of the slot then
+  module _ (retired : List Bool) (keeper : KeeperState) (shape : keeper.shape ≡ o.keeper.shape) where
+    abbrev left : ObjectsState
+    left = with_keeper (record (without_seat (places_in o) k) { retired = retired }) o.births keeper
+
+    kept_left : IsKept limits l ts left ws rows
+    kept_left = record {
+      limited = record { processes = kept.limited.processes; handles = kept.limited.handles; waits_limit = kept.limited.waits_limit; shape_is = shape ∙ kept.limited.shape_is };
+      lives_kept = kept.lives_kept;
+      counted = subst (λ (n : ℕ). IsCounted left.seen n ts.tables ws.waits) (sym (length-set o.objects k None))
+          (counted_left o.seen (length o.objects) ts.tables ws.waits kept.counted (set o.seen.bodies k None) k no_references.0 no_references.1);
+      named = subst (λ (i : ℕ). IsNamed (set o.objects i None) ts.tables ws.waits) own (named_left o.objects ts.tables ws.waits object.id is_there no_handles no_blocks kept.named);
+      formed = formed_fewer o.objects (set o.seen.bodies k None) k (formed_gone true o.seen.bodies k o.objects kept.formed);
+      of_live = of_live_gone true o.seen.bodies k l.threads ws.waits kept.of_live;
+      quiet = quiet_gone true o.seen.bodies k limits.max_recursion ws.waits kept.quiet;
+      listing = listing_left rows ts.tables o.objects o.births kept.listing k object at no_handles;
+    }
+
+  bodies_same : set o.seen.bodies k None ≡ o.seen.bodies
+  bodies_same = ap (set o.seen.bodies k) (sym ended) ∙ set-get_or o.seen.bodies k None
+
+  abbrev max_gen : ℕ
+  max_gen = o.keeper.shape.max_gen
+
+  -- a slot that is freed has the next generation
+  aged : (slot_at o k).generation < max_gen → map generation_of (opened_again o.keeper k).slots ≡ set (map generation_of o.keeper.slots) k (get_or (map generation_of o.keeper.slots) k 1 + 1)
+  aged below =
+      let x : Slot = slot_at o k in
+      let test : ltb x.generation max_gen ≡ true = grind (arith, nat_tests, below) in
+      let next : generation_of (reclaimed max_gen x) ≡ x.generation + 1 = ap (λ b. generation_of (cond b (record x { generation = x.generation + 1; phase = phase.Free }) (in_phase x phase.Retired))) test in
+      map-set generation_of o.keeper.slots k (reclaimed max_gen x)
+      ∙ ap (set (map generation_of o.keeper.slots) k) (next ∙ ap (λ (n : ℕ). n + 1) (sym (get_or-map generation_of o.keeper.slots k opening_slot)))
+
+  -- and one that is given up keeps its own
+  unaged : max_gen ≤ (slot_at o k).generation → map generation_of (opened_again o.keeper k).slots ≡ map generation_of o.keeper.slots
+  unaged last =
+      let x : Slot = slot_at o k in
+      let test : ltb x.generation max_gen ≡ false = grind (arith, nat_tests, last) in
+      let same : generation_of (reclaimed max_gen x) ≡ x.generation = ap (λ b. generation_of (cond b (record x { generation = x.generation + 1; phase = phase.Free }) (in_phase x phase.Retired))) test in
+      map-set_same generation_of o.keeper.slots k (reclaimed max_gen x) opening_slot same
+
+  pub kept_reclaimed : (answer : Reclaim) (t : ObjectsState) → Reclaimed o k answer t → IsKept limits l ts t ws rows
+  kept_reclaimed Freed t h = subst (λ (z : ObjectsState). IsKept limits l ts z ws rows) (sym h.0) (kept_left o.retired t.keeper (ap (λ (z : KeeperState). z.shape) h.1.0))
+  kept_reclaimed Retired t h = subst (λ (z : ObjectsState). IsKept limits l ts z ws rows) (sym h.0) (kept_left (set o.retired k true) t.keeper (ap (λ (z : KeeperState). z.shape) h.1.0))
+  kept_reclaimed (Held n) t h = subst (λ (z : ObjectsState). IsKept limits l ts z ws rows) (sym h.0) (record {
+    limited = record { processes = kept.limited.processes; handles = kept.limited.handles; waits_limit = kept.limited.waits_limit; shape_is = ap (λ (z : KeeperState). z.shape) h.1.0 ∙ kept.limited.shape_is };
+    lives_kept = kept.lives_kept;
+    counted = kept.counted;
+    named = kept.named;
+    formed = kept.formed;
+    of_live = kept.of_live;
+    quiet = kept.quiet;
+    listing = kept.listing;
+  })
+
+  plain : (answer : Reclaim) (t : ObjectsState) → Reclaimed o k answer t → state_of limits l ts t ws ≡ after_reclaim (state_of limits l ts o ws) k answer
+  plain Freed t h =
+      let ages : map generation_of t.keeper.slots ≡ set (map generation_of o.keeper.slots) k (get_or (map generation_of o.keeper.slots) k 1 + 1) = ap (λ (z : KeeperState). map generation_of z.slots) h.1.0 ∙ aged h.1.1 in
+      ap (λ (z : ObjectsState). state_of limits l ts z ws) h.0
+      ∙ λ i. record (freed (state_of limits l ts o ws) k) { bodies = bodies_same i; generations = ages i }
+  plain Retired t h =
+      let ages : map generation_of t.keeper.slots ≡ map generation_of o.keeper.slots = ap (λ (z : KeeperState). map generation_of z.slots) h.1.0 ∙ unaged h.1.1 in
+      ap (λ (z : ObjectsState). state_of limits l ts z ws) h.0
+      ∙ λ i. record (given_up (state_of limits l ts o ws) k) { bodies = bodies_same i; generations = ages i }
+  plain (Held n) t h =
+      let ages : map generation_of t.keeper.slots ≡ map generation_of o.keeper.slots = ap (λ (z : KeeperState). map generation_of z.slots) h.1.0 in
+      ap (λ (z : ObjectsState). state_of limits l ts z ws) h.0
+      ∙ λ i. record (state_of limits l ts o ws) { generations = ages i }
+
+  -- and the state after it is the settled one
+  pub reclaimed_state : (answer : Reclaim) (t : ObjectsState) → Reclaimed o k answer t → IsTied t → state_of limits l ts t ws ≡ settled (after_reclaim (state_of limits l ts o ws) k answer)
+  reclaimed_state answer t h after = sym (still limits l ts t ws rows (kept_reclaimed answer t h) after) ∙ ap settled (plain answer t h)

@@ -1,0 +1,9 @@
+use Rattle.std.proofs.Common.{◌<◌, length, subst}
+use Rattle.std.specs.Prelude.{IfSome}
+use Rattle.ob_store.specs.State.{Whole}
+use Rattle.ob_store.proofs.PlacedLaws.{thread_tabled}
+use Rattle.ob_store.proofs.store.Store.process.Goals as goal
+
+pub returns-clause-table : goal.returns-clause-table
+returns-clause-table g c = subst (λ (w : Whole). IfSome c.process.result (λ p. p < length w.state.tables)) c.self.view_is
+    (thread_tabled c.self.inside.limits c.self.inside.lives (length c.self.inside.tables.tables) c.args.thread c.process.result c.self.invariant.lives_kept c.process.ensures)
