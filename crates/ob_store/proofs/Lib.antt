@@ -4,3 +4,4 @@ pub mod BirthLaws
 pub mod AgreeLaws
 pub mod ListLaws
 pub mod TiedLaws
+pub mod CameLaws
