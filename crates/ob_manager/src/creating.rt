@@ -218,3 +218,98 @@ fn new_handle<K: PinKeeper>(
     };
     store.place_entry(process, entry)
 }
+
+/// A handle to an object that has the name already, or a new object.
+fn named_object<K: PinKeeper>(
+    store: &mut Store<K>,
+    process: u32,
+    make: &Make<'_>,
+    new: New,
+    name: &NameRef<'_>,
+) -> Result<Reply, Fault>
+    requires table { process < length store.old.state.tables }
+    requires given { IsGiven new.descr }
+    requires formed { form_of new.body ≡ form_in new.descr }
+    requires owned { (t : ℕ) → spec.owner_of new.body ≡ Some t → IsLive store.old.state.threads t }
+    ensures { GivesOrLacks result store.old store.new (created store.old.state process (making_of make.now) new (Some (name_at name.now))) }
+{
+    let Some(id) = store.find(name) else {
+        return new_named(store, process, make, new, name);
+    };
+    let rights = or_all(new.descr.kind, make.access);
+    let handle = new_handle(store, process, id, new.descr.kind, rights, make.inherit)?;
+    Ok(Reply::Exists { handle, id })
+}
+
+/// A new object, or a handle to one that has the name already.
+fn create<K: PinKeeper>(store: &mut Store<K>, thread: u32, make: &Make<'_>, what: Result<New, Fault>) -> Result<Reply, Fault>
+    requires given { IfOk what (λ new. IsGiven new.descr) }
+    requires formed { IfOk what (λ new. form_of new.body ≡ form_in new.descr) }
+    requires owned { IfOk what (λ new. (t : ℕ) → spec.owner_of new.body ≡ Some t → t ≡ thread) }
+    requires refused { IfErr what (λ fault. fault ≡ Fault.Parameter) }
+    ensures { GivesOrLacks result store.old store.new (create store.old.state thread (making_of make.now) what) }
+{
+    let process = caller(store, thread)?;
+    let new = what?;
+    if !within(or_all(new.descr.kind, make.grant), all_access(new.descr.kind)) {
+        return Err(Fault::Parameter);
+    }
+    let Some(text) = make.name else {
+        return new_nameless(store, process, make, new);
+    };
+    let name = name_in(store, process, text)?;
+    named_object(store, process, make, new, &name)
+}
+
+/// A new event, or a handle to the event that has the name already.
+pub fn create_event<K: PinKeeper>(
+    store: &mut Store<K>,
+    thread: u32,
+    make: &Make<'_>,
+    manual: bool,
+    set: bool,
+) -> Result<Reply, Fault>
+    ensures { GivesOrLacks result store.old store.new (create_event store.old.state thread (making_of make.now) manual set) }
+{
+    create(store, thread, make, Ok(new_event(manual, set)))
+}
+
+/// A new mutex, or a handle to the mutex that has the name already.
+pub fn create_mutex<K: PinKeeper>(store: &mut Store<K>, thread: u32, make: &Make<'_>, owned: bool) -> Result<Reply, Fault>
+    ensures { GivesOrLacks result store.old store.new (create_mutex store.old.state thread (making_of make.now) owned) }
+{
+    create(store, thread, make, Ok(new_mutex(thread, owned)))
+}
+
+/// A new semaphore, or a handle to the semaphore that has the name already.
+pub fn create_semaphore<K: PinKeeper>(
+    store: &mut Store<K>,
+    thread: u32,
+    make: &Make<'_>,
+    initial: i32,
+    max: i32,
+) -> Result<Reply, Fault>
+    ensures { GivesOrLacks result store.old store.new (create_semaphore store.old.state thread (making_of make.now) initial max) }
+{
+    create(store, thread, make, new_semaphore(initial, max))
+}
+
+/// A handle to the object of a name.
+pub fn open_named<K: PinKeeper>(
+    store: &mut Store<K>,
+    thread: u32,
+    kind: Kind,
+    mask: Rights,
+    inherit: bool,
+    text: &[u8],
+) -> Result<Reply, Fault>
+    ensures { GivesOrLacks result store.old store.new (open_named store.old.state thread kind mask inherit text.now) }
+{
+    let process = caller(store, thread)?;
+    let name = name_in(store, process, text)?;
+    let Some(id) = store.find(&name) else {
+        return Err(Fault::NotFound);
+    };
+    let handle = new_handle(store, process, id, kind, mask, inherit)?;
+    Ok(Reply::Opened { handle, id })
+}

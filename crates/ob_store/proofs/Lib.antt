@@ -19,3 +19,4 @@ pub mod OpeningLaws
 pub mod PlacedLaws
 pub mod AddedLaws
 pub mod ReclaimedLaws
+pub mod CameLaws
