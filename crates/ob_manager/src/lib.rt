@@ -18,13 +18,17 @@ mod counting;
 mod creating;
 mod handles;
 mod making;
+mod manager;
 mod processes;
 mod reaping;
 mod reply;
 mod signaling;
+#[cfg(test)]
+mod tests;
 
 pub use call::Call;
 pub use card::Card;
+pub use manager::Manager;
 pub use making::{Make, Making, Text};
 pub use ob_store::Limits;
 pub use reply::Reply;

@@ -2,6 +2,7 @@ ghost use Rattle.std.specs.Prelude.{◌≡◌, ◌↔◌, IsOk, IfErr, IfOk};
 ghost use Rattle.ob_store.specs.Limits.{AreInRange};
 
 use ob_rights::Fault;
+use pin_core::Shape;
 
 /// How much a manager may hold. The ranges and the defaults are this project's own (*profile*).
 #[derive(Clone, Copy, Debug, PartialEq, Eq)]
@@ -78,6 +79,22 @@ impl Limits {
             max_gen,
             max_recursion,
         })
+    }
+}
+
+impl Limits {
+    ghost use Rattle.pin_core.specs.Shapes.{IsWithinLimits, shape_of};
+
+    /// The shape of the slots.
+    pub fn shape(&self) -> Shape
+        ensures shape { result ≡ shape_of self.now.slots self.now.max_pins self.now.max_gen }
+        ensures within { IsWithinLimits result }
+    {
+        Shape {
+            slots: self.slots,
+            max_pins: self.max_pins,
+            max_gen: self.max_gen,
+        }
     }
 }
 

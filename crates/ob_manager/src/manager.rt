@@ -1,0 +1,295 @@
+ghost use Rattle.std.specs.Prelude.{◌≡◌, ◌<◌, IfErr, IfOk, length, slice_get};
+ghost use Rattle.std.specs.Option.{option_map};
+ghost use Rattle.ob_name.specs.Refs.{row_at};
+ghost use Rattle.pin_words.specs.Keepers.{IsFresh};
+ghost use Rattle.ob_store.specs.Directory.{directory_of};
+ghost use Rattle.ob_store.specs.State.{opening, shape_of};
+ghost use Rattle.ob_manager.specs.Makings.{making_of};
+ghost use Rattle.ob_manager.specs.Counting.{card};
+ghost use Rattle.ob_manager.specs.Handles.{resolve};
+ghost use Rattle.ob_manager.specs.Steps.{Step, reply_of};
+
+use crate::call::Call;
+use crate::card::Card;
+use crate::making::{Make, Making};
+use crate::reply::Reply;
+use crate::{counting, creating, handles, processes, reaping, signaling};
+use ob_name::NameRef;
+use ob_rights::{Fault, Kind, Rights};
+use ob_store::{Limits, Store};
+use pin_core::Id;
+use pin_words::PinKeeper;
+use std::alloc::Global;
+use std::marker::Model;
+
+/// The object manager, over a keeper of its slots. A contract sees it as its state (`State` of ob_store) and what its keeper
+/// says.
+///
+/// Each call is one step (`specs/Steps.antt`), whose refusals are tested in the order in which they are listed. A refusal
+/// changes nothing.
+#[derive(Drop)]
+pub struct Manager<K: PinKeeper> {
+    store: Store<K>,
+}
+
+impl<K: PinKeeper> Model for Manager<K> {
+    ghost use Rattle.ob_store.specs.State.{Whole};
+
+    ghost Value = { Whole };
+
+    ghost view = { λ manager. manager.store };
+}
+
+impl<K: PinKeeper> Manager<K> {
+    /// A manager with no process, and no object in any slot. The keeper, which has to have as many slots as the limits say,
+    /// pins and generations, comes back where memory is wanting.
+    pub fn new(alloc: Global, limits: Limits, keeper: K) -> Result<Manager<K>, K>
+        requires { IsFresh (K.kept keeper) (shape_of limits) }
+        ensures opening { IfOk result (λ manager. manager ≡ record { state = opening limits; keeper = K.kept keeper }) }
+        ensures memory { IfErr result (λ k. k ≡ keeper) }
+    {
+        match Store::new(alloc, limits, keeper) {
+            Ok(store) => Ok(Manager { store }),
+            Err(keeper) => Err(keeper),
+        }
+    }
+
+    /// A new process of a session, with its first thread: `Spawned`.
+    ///
+    /// Refused with 1450 where each process number or each thread number was given, and with 8 for want of memory.
+    pub fn spawn(&mut self, session: u32) -> Reply
+        ensures { Step self.old (Call.Spawn session) result self.new }
+    {
+        reply_of(processes::spawn(&mut self.store, session))
+    }
+
+    /// A new thread of a process: `Started`.
+    ///
+    /// Refused with 87 where the process isn't live, with 1450 where each thread number was given, and with 8 for want of
+    /// memory.
+    pub fn thread(&mut self, process: u32) -> Reply
+        ensures { Step self.old (Call.StartThread process) result self.new }
+    {
+        reply_of(processes::thread(&mut self.store, process))
+    }
+
+    /// A new event, in the least slot that may have one, and a handle to it at the least free value: `Made`. Where an event has
+    /// the name already, a handle to that one: `Exists` ([CreateEvent]).
+    ///
+    /// Refused with 87 where the thread isn't live, 170 where it waits, 87 for a grant with a bit outside all rights of an
+    /// event; for the name with 206, 87 or 3 ([`parse`](ob_name::parse)); 6 where an object of another kind has the name; 5
+    /// where a new event is asked for with a right that events haven't, or an old one's grant doesn't allow the rights; 1450
+    /// where the process has each handle or each slot has an object; and 8 for want of memory.
+    ///
+    /// [CreateEvent]: https://learn.microsoft.com/windows/win32/api/synchapi/nf-synchapi-createeventa
+    pub fn create_event(&mut self, thread: u32, make: &Make<'_>, manual: bool, set: bool) -> Reply
+        ensures { Step self.old (Call.MakeEvent thread (making_of make.now) manual set) result self.new }
+    {
+        reply_of(creating::create_event(&mut self.store, thread, make, manual, set))
+    }
+
+    /// A new mutex, which the calling thread owns once or nobody, as [`create_event`](Manager::create_event) makes an event
+    /// ([CreateMutex]). It is refused in the same way.
+    ///
+    /// [CreateMutex]: https://learn.microsoft.com/windows/win32/api/synchapi/nf-synchapi-createmutexa
+    pub fn create_mutex(&mut self, thread: u32, make: &Make<'_>, owned: bool) -> Reply
+        ensures { Step self.old (Call.MakeMutex thread (making_of make.now) owned) result self.new }
+    {
+        reply_of(creating::create_mutex(&mut self.store, thread, make, owned))
+    }
+
+    /// A new semaphore, as [`create_event`](Manager::create_event) makes an event ([CreateSemaphore]).
+    ///
+    /// It is refused in the same way, and with 87 for a maximum that isn't above 0 and a count below 0 or above the maximum.
+    ///
+    /// [CreateSemaphore]: https://learn.microsoft.com/windows/win32/api/winbase/nf-winbase-createsemaphorea
+    pub fn create_semaphore(&mut self, thread: u32, make: &Make<'_>, initial: i32, max: i32) -> Reply
+        ensures { Step self.old (Call.MakeSemaphore thread (making_of make.now) initial max) result self.new }
+    {
+        reply_of(creating::create_semaphore(&mut self.store, thread, make, initial, max))
+    }
+
+    /// A handle to the object of a name: `Opened` ([OpenEvent]).
+    ///
+    /// Refused with 87 where the thread isn't live, 170 where it waits; for the name with 206, 87 or 3; 2 where no object has
+    /// it; 6 where an object of another kind has it; 5 for no rights and for one that the object's grant doesn't have; 1450
+    /// where the process has each handle; and 8 for want of memory.
+    ///
+    /// [OpenEvent]: https://learn.microsoft.com/windows/win32/api/synchapi/nf-synchapi-openeventa
+    pub fn open_named(&mut self, thread: u32, kind: Kind, mask: Rights, inherit: bool, text: &[u8]) -> Reply
+        ensures { Step self.old (Call.OpenNamed thread kind mask inherit text.now) result self.new }
+    {
+        reply_of(creating::open_named(&mut self.store, thread, kind, mask, inherit, text))
+    }
+
+    /// Closes a handle of the thread's process, whose two lowest bits are ignored (*profile*): `Closed`. With its last handle
+    /// an object's name leaves the directory, and with the last reference the object ends ([CloseHandle]).
+    ///
+    /// Refused with 87 where the thread isn't live, 170 where it waits, and 6 where there is no such handle.
+    ///
+    /// [CloseHandle]: https://learn.microsoft.com/windows/win32/api/handleapi/nf-handleapi-closehandle
+    pub fn close(&mut self, thread: u32, handle: u32) -> Reply
+        ensures { Step self.old (Call.CloseHandle thread handle) result self.new }
+    {
+        reply_of(handles::close(&mut self.store, thread, handle))
+    }
+
+    /// Sets an event, and lets what waits for it be satisfied: `Done` ([SetEvent]).
+    ///
+    /// Refused with 87 where the thread isn't live, 170 where it waits, 6 where there is no such handle or it is no event's, 5
+    /// without the right MODIFY_STATE.
+    ///
+    /// [SetEvent]: https://learn.microsoft.com/windows/win32/api/synchapi/nf-synchapi-setevent
+    pub fn set_event(&mut self, thread: u32, handle: u32) -> Reply
+        ensures { Step self.old (Call.SetEvent thread handle) result self.new }
+    {
+        reply_of(signaling::set_event(&mut self.store, thread, handle))
+    }
+
+    /// Resets an event: `Done` ([ResetEvent]). It is refused as [`set_event`](Manager::set_event) is.
+    ///
+    /// [ResetEvent]: https://learn.microsoft.com/windows/win32/api/synchapi/nf-synchapi-resetevent
+    pub fn reset_event(&mut self, thread: u32, handle: u32) -> Reply
+        ensures { Step self.old (Call.ResetEvent thread handle) result self.new }
+    {
+        reply_of(signaling::reset_event(&mut self.store, thread, handle))
+    }
+
+    /// Raises a semaphore's count: `Previous`, with the count before ([ReleaseSemaphore]).
+    ///
+    /// Refused with 87 where the thread isn't live, 170 where it waits, 87 for a count of 0 or less, 6 where there is no such
+    /// handle or it is no semaphore's, 5 without the right MODIFY_STATE, and 298 where the maximum would be passed.
+    ///
+    /// [ReleaseSemaphore]: https://learn.microsoft.com/windows/win32/api/synchapi/nf-synchapi-releasesemaphore
+    pub fn release_semaphore(&mut self, thread: u32, handle: u32, count: i32) -> Reply
+        ensures { Step self.old (Call.ReleaseSemaphore thread handle count) result self.new }
+    {
+        reply_of(signaling::release_semaphore(&mut self.store, thread, handle, count))
+    }
+
+    /// Releases a mutex once: `Done` ([ReleaseMutex]). It needs no right (*profile*).
+    ///
+    /// Refused with 87 where the thread isn't live, 170 where it waits, 6 where there is no such handle or it is no mutex's,
+    /// and 288 where the thread doesn't own it.
+    ///
+    /// [ReleaseMutex]: https://learn.microsoft.com/windows/win32/api/synchapi/nf-synchapi-releasemutex
+    pub fn release_mutex(&mut self, thread: u32, handle: u32) -> Reply
+        ensures { Step self.old (Call.ReleaseMutex thread handle) result self.new }
+    {
+        reply_of(signaling::release_mutex(&mut self.store, thread, handle))
+    }
+
+    /// Takes the slot of an object that nothing refers to back, unless somebody pins it: `Reaped` (*profile*).
+    ///
+    /// Refused with 87 where there is no such slot, and with 6 where it has no such object.
+    pub fn reap(&mut self, slot: u32) -> Reply
+        ensures { Step self.old (Call.Reap slot) result self.new }
+    {
+        reply_of(reaping::reap(&mut self.store, slot))
+    }
+
+    /// What refers to an object: `CountsAre` (*profile*).
+    ///
+    /// Refused with 87 where there is no such slot, and with 6 where the slot has no object of this Id.
+    pub fn counts(&self, id: Id) -> Reply
+        ensures { Step self.now (Call.Counts id) result self.now }
+    {
+        reply_of(counting::counts(&self.store, id))
+    }
+
+    /// What a handle of a process names.
+    ///
+    /// Refused with 87 where the process isn't live, and with 6 where there is no such handle.
+    pub fn resolve(&self, process: u32, handle: u32) -> Result<Id, Fault>
+        ensures { result ≡ resolve self.now.state process handle }
+    {
+        handles::resolve(&self.store, process, handle)
+    }
+
+    /// What an object was created as, until its slot is taken back.
+    pub fn card(&self, id: Id) -> Option<Card>
+        ensures { result ≡ card self.now.state id }
+    {
+        counting::card(&self.store, id)
+    }
+
+    /// How many names objects have.
+    pub fn directory_len(&self) -> usize
+        ensures { result ≡ length (directory_of self.now.state) }
+    {
+        self.store.names()
+    }
+
+    /// The name at a place of the directory, from 0, with its object, in the order in which the objects were made.
+    pub fn directory_at(&self, at: usize) -> Option<(NameRef<'_>, Id)>
+        ensures { option_map row_at result ≡ slice_get (directory_of self.now.state) at }
+    {
+        self.store.name_at(at)
+    }
+
+    /// Makes a call.
+    pub fn apply(&mut self, call: &Call) -> Reply
+        ensures { Step self.old call.now result self.new }
+    {
+        match call {
+            Call::Spawn { session } => self.spawn(*session),
+            Call::StartThread { process } => self.thread(*process),
+            Call::MakeEvent {
+                thread,
+                make,
+                manual,
+                set,
+            } => self.create_event(*thread, &borrowed(make), *manual, *set),
+            Call::MakeMutex {
+                thread,
+                make,
+                owned,
+            } => self.create_mutex(*thread, &borrowed(make), *owned),
+            Call::MakeSemaphore {
+                thread,
+                make,
+                initial,
+                max,
+            } => self.create_semaphore(*thread, &borrowed(make), *initial, *max),
+            Call::OpenNamed {
+                thread,
+                kind,
+                mask,
+                inherit,
+                text,
+            } => self.open_named(*thread, *kind, *mask, *inherit, text.as_slice()),
+            Call::CloseHandle { thread, handle } => self.close(*thread, *handle),
+            Call::SetEvent { thread, handle } => self.set_event(*thread, *handle),
+            Call::ResetEvent { thread, handle } => self.reset_event(*thread, *handle),
+            Call::ReleaseSemaphore {
+                thread,
+                handle,
+                count,
+            } => self.release_semaphore(*thread, *handle, *count),
+            Call::ReleaseMutex { thread, handle } => self.release_mutex(*thread, *handle),
+            Call::Reap { slot } => self.reap(*slot),
+            Call::Counts { id } => self.counts(*id),
+        }
+    }
+}
+
+/// The same with the name borrowed.
+fn borrowed(make: &Making) -> Make<'_>
+    ensures { making_of result ≡ make.now }
+{
+    Make {
+        name: make.name.as_ref().map(|text| text.as_slice()),
+        inherit: make.inherit,
+        access: make.access,
+        grant: make.grant,
+    }
+}
+
+fn reply_of(answer: Result<Reply, Fault>) -> Reply
+    ensures { result ≡ reply_of answer }
+{
+    match answer {
+        Ok(reply) => reply,
+        Err(fault) => Reply::Refused(fault),
+    }
+}
