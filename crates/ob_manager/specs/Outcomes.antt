@@ -1,6 +1,7 @@
 -- What a call comes to: a reply and the state after it, or a refusal.
-use Rattle.std.specs.Prelude.{Bool, true, false, Option, Some, None, Result, Ok, Err}
+use Rattle.std.specs.Prelude.{◌≡◌, Bool, true, false, Option, Some, None, Result, Ok, Err, is_ok}
 use Rattle.ob_rights.specs.declared.fault.Fault.{Fault}
+use Rattle.ob_rights.specs.declared.fault.Fault.TheVariants as fault
 use Rattle.ob_manager.specs.declared.reply.Reply.{Reply}
 use Rattle.ob_store.specs.State.{State}
 
@@ -24,3 +25,17 @@ or_refuse (Some x) e = Ok x
 abbrev pub refuse_if : Bool → Fault → Result (Unit {0}) Fault
 refuse_if true e = Err e
 refuse_if false e = Ok tt
+
+-- what a refusal says of what the model has: want of memory, that it refuses nothing; any other, that it refuses just so
+abbrev pub Refuses : {A : Type 0} → Fault → Result A Fault → Type 0
+Refuses fault.Memory r = is_ok r ≡ true
+Refuses fault.Parameter r = r ≡ Err fault.Parameter
+Refuses fault.Busy r = r ≡ Err fault.Busy
+Refuses fault.NameLong r = r ≡ Err fault.NameLong
+Refuses fault.NamePath r = r ≡ Err fault.NamePath
+Refuses fault.Handle r = r ≡ Err fault.Handle
+Refuses fault.Access r = r ≡ Err fault.Access
+Refuses fault.NotFound r = r ≡ Err fault.NotFound
+Refuses fault.NotOwner r = r ≡ Err fault.NotOwner
+Refuses fault.Posts r = r ≡ Err fault.Posts
+Refuses fault.Limit r = r ≡ Err fault.Limit

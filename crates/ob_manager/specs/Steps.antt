@@ -12,7 +12,7 @@ use Rattle.ob_manager.specs.declared.call.Call.TheVariants as calls
 use Rattle.ob_store.specs.Objects.{Object}
 use Rattle.ob_store.specs.State.{State, Whole}
 use Rattle.ob_store.specs.Moves.{OnlyCloses}
-use Rattle.ob_manager.specs.Outcomes.{Outcome}
+use Rattle.ob_manager.specs.Outcomes.{Outcome, Refuses}
 use Rattle.ob_manager.specs.Processes.{spawn, thread}
 use Rattle.ob_manager.specs.Creating.{create_event, create_mutex, create_semaphore, open_named}
 use Rattle.ob_manager.specs.Handles.{close}
@@ -100,17 +100,7 @@ Gives (Err e) old new outcome = (outcome ≡ Err e) × (new ≡ old)
 -- the same of a body that takes memory
 abbrev pub GivesOrLacks : Result Reply Fault → Whole → Whole → Result Outcome Fault → Type 0
 GivesOrLacks (Ok reply) old new outcome = Gives (Ok reply) old new outcome
-GivesOrLacks (Err fault.Memory) old new outcome = (is_ok outcome ≡ true) × (new ≡ old)
-GivesOrLacks (Err fault.Parameter) old new outcome = Gives (Err fault.Parameter) old new outcome
-GivesOrLacks (Err fault.Busy) old new outcome = Gives (Err fault.Busy) old new outcome
-GivesOrLacks (Err fault.NameLong) old new outcome = Gives (Err fault.NameLong) old new outcome
-GivesOrLacks (Err fault.NamePath) old new outcome = Gives (Err fault.NamePath) old new outcome
-GivesOrLacks (Err fault.Handle) old new outcome = Gives (Err fault.Handle) old new outcome
-GivesOrLacks (Err fault.Access) old new outcome = Gives (Err fault.Access) old new outcome
-GivesOrLacks (Err fault.NotFound) old new outcome = Gives (Err fault.NotFound) old new outcome
-GivesOrLacks (Err fault.NotOwner) old new outcome = Gives (Err fault.NotOwner) old new outcome
-GivesOrLacks (Err fault.Posts) old new outcome = Gives (Err fault.Posts) old new outcome
-GivesOrLacks (Err fault.Limit) old new outcome = Gives (Err fault.Limit) old new outcome
+GivesOrLacks (Err e) old new outcome = Refuses e outcome × (new ≡ old)
 
 -- the reply of a body's answer
 abbrev pub reply_of : Result Reply Fault → Reply

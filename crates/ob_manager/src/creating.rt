@@ -1,13 +1,15 @@
-ghost use Rattle.std.specs.Prelude.{◌≡◌, ◌<◌, ◌≤◌, false, IfErr, IfOk, IfSome, None, OnErr, OnOk, Some, ℕ, length, slice_index_or};
+ghost use Rattle.std.specs.Prelude.{◌≡◌, ◌<◌, IfErr, IfOk, None, Ok, OnErr, OnOk, Some, ℕ, length};
 ghost use Rattle.ob_body.specs.Body as spec;
 ghost use Rattle.ob_name.specs.Refs.{name_at, parsed_name};
 ghost use Rattle.ob_name.specs.Listing.{find_name};
 ghost use Rattle.ob_waits.specs.Form.{form_of};
 ghost use Rattle.pin_core.specs.Descrs.{IsGiven};
 ghost use Rattle.ob_store.specs.Directory.{directory_of};
+ghost use Rattle.ob_store.specs.State.{handles_of};
 ghost use Rattle.ob_store.specs.Kept.{IsLive, form_in};
 ghost use Rattle.ob_manager.specs.Makings.{making_of};
-ghost use Rattle.ob_manager.specs.Creating.{create, create_event, create_mutex, create_semaphore, created, name_in, named_object, new_event, new_handle, new_mutex, new_object, new_semaphore, next_handle, open_named, or_all, semaphore_of};
+ghost use Rattle.ob_manager.specs.Creating.{create, create_event, create_mutex, create_semaphore, created, flags_of, name_in, new_event, new_handle, new_mutex, new_object, new_semaphore, next_handle, open_named, or_all};
+ghost use Rattle.ob_manager.specs.Outcomes.{Refuses};
 ghost use Rattle.ob_manager.specs.Steps.{GivesOrLacks};
 
 use crate::checks::{caller, is_allowed, natural, positive, same_kind};
@@ -196,7 +198,7 @@ fn new_handle<K: PinKeeper>(
     ensures handle { IfOk result (λ handle. handle ≡ next_handle store.old.state process) }
     ensures ok { OnOk result (new_handle store.old.state process id kind rights inherit ≡ Ok store.new.state) }
     ensures keeper { store.new.keeper ≡ store.old.keeper }
-    ensures err { IfErr result (λ fault. HandleLacks fault store.old.state (new_handle store.old.state process id kind rights inherit)) }
+    ensures err { IfErr result (λ fault. Refuses fault (new_handle store.old.state process id kind rights inherit)) }
     ensures same { OnErr result (store.new ≡ store.old) }
 {
     let Some(seat) = store.object(id.slot) else {

@@ -1,6 +1,6 @@
 -- The abstract state of the object manager: plain lists, by number or by slot. It keeps no count and no directory: both are
 -- read off the entries, the waits and the objects.
-use Rattle.std.specs.Prelude.{ℕ, ◌+◌, ◌==◌, nat_le, Bool, true, false, List, [], ◌∷◌, ◌++◌, Option, Some, None, if◌then◌else◌, slice_index_or, slice_set, length, map, replicate}
+use Rattle.std.specs.Prelude.{ℕ, ◌+◌, ◌==◌, Bool, true, false, List, [], ◌∷◌, ◌++◌, Option, Some, None, if◌then◌else◌, slice_index_or, slice_set, length, map, replicate}
 use Rattle.std.specs.List.{range_with_len}
 use Rattle.pin_core.specs.declared.id.Id.{Id}
 use Rattle.pin_core.specs.declared.shape.Shape.{Shape}
@@ -78,7 +78,7 @@ settled s = with_scene s (with_ends (settled_plainly (scene_of s)))
 
 -- where a process has as many handles as it may
 abbrev pub is_full : State → ℕ → Bool
-is_full s process = nat_le s.limits.handles (entries_in (tables.table_of s.tables process))
+is_full s process = entries_in (tables.table_of s.tables process) == s.limits.handles
 
 -- a new process of a session, with its first thread
 abbrev pub with_process : State → ℕ → State
