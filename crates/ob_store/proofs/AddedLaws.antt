@@ -32,13 +32,12 @@ use Rattle.ob_store.specs.State as state
 use Rattle.ob_store.specs.State.{State, state_of, settled, generation_of, id_at}
 use Rattle.ob_store.specs.Kept.{IsKept, IsCounted, IsListing, IsLive, form_in}
 use Rattle.ob_store.proofs.AgreeLaws.{object_at, body_at, retired_at, slot_at}
-use Rattle.ob_store.proofs.TiedLaws.{tied_added}
-use Rattle.ob_store.proofs.CountedLaws.{blocks_at, handles_long, counted_added}
+use Rattle.ob_store.proofs.CountedLaws.{blocks_at, counted_added}
 use Rattle.ob_store.proofs.NamedLaws.{named_added}
 use Rattle.ob_store.proofs.BodyLaws.{formed_added, of_live_added, quiet_added}
 use Rattle.ob_store.proofs.ListingLaws.{listing_added, listing_name_added, placed_agreed}
 use Rattle.ob_store.proofs.PlacedLaws.{unreferenced}
-use Rattle.ob_store.proofs.KeptLaws.{lives_same, still}
+use Rattle.ob_store.proofs.KeptLaws.{lives_same}
 
 -- a slot without an object has no body
 pub bodiless : (s : ObjectsState) (k : ℕ) → object_at s k ≡ None → k < length s.objects → IsAgreed s → body_at s k ≡ None
@@ -49,6 +48,36 @@ bodiless s k none room a =
 -- the Id that the state gives to the next object of a slot is that of the keeper
 pub next_id : (slots : List Slot) (k : ℕ) → ◌≡◌ {A = Id} (record { slot = k; generation = get_or (map generation_of slots) k 1 }) (id_of slots k)
 next_id slots k = λ i. record { slot = k; generation = (get_or-map generation_of slots k opening_slot) i }
+
+-- a new object leaves the generations
+ages_added : (o : ObjectsState) (slot : ℕ) (head : Head) (body : Body) → map generation_of (with_object o slot head body).keeper.slots ≡ map generation_of o.keeper.slots
+ages_added o slot head body =
+    let slots : List Slot = set o.keeper.slots slot (with_descr (slot_at o slot) head.descr) in
+    map-set_same generation_of slots slot (in_phase (slot_of slots slot) phase.Live) opening_slot refl
+    ∙ map-set_same generation_of o.keeper.slots slot (with_descr (slot_at o slot) head.descr) opening_slot refl
+
+-- the state with a new object and an entry of it
+abbrev pub with_added : State → ℕ → ℕ → Rights → HandleFlags → Head → Body → State
+with_added s p slot rights flags head body = state.with_entry (state.with_object s slot head body) p (record { id = id_at s slot; rights = rights; flags = flags })
+
+pub added_state : (limits : Limits) (l : LivesState) (ts : HandleTables) (o : ObjectsState) (ws : WaitList) (p slot : ℕ) (rights : Rights) (flags : HandleFlags) (head : Head) (body : Body)
+    → state_of limits l (record ts { tables = with_entry_of ts.tables p (record { id = id_of o.keeper.slots slot; rights = rights; flags = flags }) }) (with_object o slot head body) ws
+    ≡ with_added (state_of limits l ts o ws) p slot rights flags head body
+added_state limits l ts o ws p slot rights flags head body =
+    let own = sym (next_id o.keeper.slots slot) in
+    let ages = ages_added o slot head body in
+    λ i. record {
+      limits = limits;
+      processes = l.processes;
+      threads = l.threads;
+      tables = with_entry_of ts.tables p (record { id = own i; rights = rights; flags = flags });
+      objects = set o.objects slot (Some (record { id = own i; birth = o.births; descr = head.descr; grant = head.grant; name = head.name }));
+      bodies = set o.seen.bodies slot (Some body);
+      generations = ages i;
+      retired = o.retired;
+      births = o.births + 1;
+      waits = ws.waits;
+    }
 
 module _ (limits : Limits) (l : LivesState) (ts : HandleTables) (o : ObjectsState) (ws : WaitList) (rows : Rows) (kept : IsKept limits l ts o ws rows) (tied : IsTied o)
     (p slot : ℕ) (rights : Rights) (flags : HandleFlags) (head : Head) (body : Body)
@@ -71,12 +100,6 @@ module _ (limits : Limits) (l : LivesState) (ts : HandleTables) (o : ObjectsStat
 
   no_references : (get_or o.seen.handles slot 0 ≡ 0) × (get_or o.seen.blocks slot 0 ≡ 0)
   no_references = unreferenced o slot (bodiless o slot none within tied.agreed) tied
-
-  one : get_or (set o.seen.handles slot 1) slot 0 ≡ 1
-  one = let long = handles_long o.seen (length o.objects) ts.tables ws.waits kept.counted in get_or-set_same o.seen.handles slot 1 0 (omega (arith, within, long))
-
-  pub tied_after : IsTied (with_object o slot head body)
-  tied_after = tied_added o (with_object o slot head body) slot head body refl vacant one tied
 
   counted_after : IsCounted (with_object o slot head body).seen (length (with_object o slot head body).objects) tables_after.tables ws.waits
   counted_after = subst (λ (n : ℕ). IsCounted (with_object o slot head body).seen n tables_after.tables ws.waits) (sym (length-set o.objects slot (Some (object_in o slot head))))
@@ -107,33 +130,3 @@ module _ (limits : Limits) (l : LivesState) (ts : HandleTables) (o : ObjectsStat
   pub kept_name : (name : ObjectName) → head.name ≡ Some name → find_name name rows ≡ None → IsKept limits l tables_after (with_object o slot head body) ws (rows ++ (name, id_of o.keeper.slots slot) ∷ [])
   kept_name name named absent = kept_added (rows ++ (name, id_of o.keeper.slots slot) ∷ [])
       (listing_name_added rows ts.tables o.objects o.births kept.listing (placed_agreed o tied.agreed) p entry (object_in o slot head) name tied.born table refl refl named none within absent)
-
-  -- a new object leaves the generations
-  ages : map generation_of (with_object o slot head body).keeper.slots ≡ map generation_of o.keeper.slots
-  ages =
-      let slots : List Slot = set o.keeper.slots slot (with_descr (slot_at o slot) head.descr) in
-      map-set_same generation_of slots slot (in_phase (slot_of slots slot) phase.Live) opening_slot refl
-      ∙ map-set_same generation_of o.keeper.slots slot (with_descr (slot_at o slot) head.descr) opening_slot refl
-
-  pub with_added : State → State
-  with_added s = state.with_entry (state.with_object s slot head body) p (record { id = id_at s slot; rights = rights; flags = flags })
-
-  plain : state_of limits l tables_after (with_object o slot head body) ws ≡ with_added (state_of limits l ts o ws)
-  plain =
-      let own = sym (next_id o.keeper.slots slot) in
-      λ i. record {
-        limits = limits;
-        processes = l.processes;
-        threads = l.threads;
-        tables = with_entry_of ts.tables p (record { id = own i; rights = rights; flags = flags });
-        objects = set o.objects slot (Some (record { id = own i; birth = o.births; descr = head.descr; grant = head.grant; name = head.name }));
-        bodies = set o.seen.bodies slot (Some body);
-        generations = ages i;
-        retired = o.retired;
-        births = o.births + 1;
-        waits = ws.waits;
-      }
-
-  -- and the state after it is the settled one
-  pub added_state : (rows' : Rows) → IsKept limits l tables_after (with_object o slot head body) ws rows' → state_of limits l tables_after (with_object o slot head body) ws ≡ settled (with_added (state_of limits l ts o ws))
-  added_state rows' after = sym (still limits l tables_after (with_object o slot head body) ws rows' after tied_after) ∙ ap settled plain

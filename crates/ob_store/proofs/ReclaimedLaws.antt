@@ -33,7 +33,6 @@ use Rattle.ob_store.proofs.CountedLaws.{counted_left}
 use Rattle.ob_store.proofs.NamedLaws.{named_left}
 use Rattle.ob_store.proofs.BodyLaws.{formed_gone, of_live_gone, quiet_gone}
 use Rattle.ob_store.proofs.ListingLaws.{listing_left, placed_agreed}
-use Rattle.ob_store.proofs.KeptLaws.{still}
 use Rattle.ob_store.proofs.PlacedLaws.{placed_there, own_handles, own_blocks, unreferenced}
 
 -- the object of a slot
@@ -58,11 +57,14 @@ formed_fewer objects bodies k f = record { each = λ j o b there is. f.each j o 
 module _ (limits : Limits) (l : LivesState) (ts : HandleTables) (o : ObjectsState) (ws : WaitList) (rows : Rows) (kept : IsKept limits l ts o ws rows) (tied : IsTied o)
     (k : ℕ) (there : is_some (get_or o.objects k None) ≡ true) (ended : get_or o.seen.bodies k None ≡ None) where
 
-  object : Object
-  object = (found (get_or o.objects k None) there).0
+  is_object : (q : Object) × (get_or o.objects k None ≡ Some q)
+  is_object = found (get_or o.objects k None) there
+
+  abbrev object : Object
+  object = is_object.0
 
   at : get_or o.objects k None ≡ Some object
-  at = (found (get_or o.objects k None) there).1
+  at = is_object.1
 
   own : object.id.slot ≡ k
   own = placed_agreed o tied.agreed k object at
@@ -97,6 +99,22 @@ module _ (limits : Limits) (l : LivesState) (ts : HandleTables) (o : ObjectsStat
       listing = listing_left rows ts.tables o.objects o.births kept.listing k object at no_handles;
     }
 
+  -- what is kept, whatever the answer is
+  pub kept_reclaimed : (answer : Reclaim) (t : ObjectsState) → Reclaimed o k answer t → IsKept limits l ts t ws rows
+  kept_reclaimed Freed t h = subst (λ (z : ObjectsState). IsKept limits l ts z ws rows) (sym h.0) (kept_left o.retired t.keeper (ap (λ (z : KeeperState). z.shape) h.1.0))
+  kept_reclaimed Retired t h = subst (λ (z : ObjectsState). IsKept limits l ts z ws rows) (sym h.0) (kept_left (set o.retired k true) t.keeper (ap (λ (z : KeeperState). z.shape) h.1.0))
+  kept_reclaimed (Held n) t h = subst (λ (z : ObjectsState). IsKept limits l ts z ws rows) (sym h.0) (record {
+    limited = record { processes = kept.limited.processes; handles = kept.limited.handles; waits_limit = kept.limited.waits_limit; shape_is = ap (λ (z : KeeperState). z.shape) h.1.0 ∙ kept.limited.shape_is };
+    lives_kept = kept.lives_kept;
+    counted = kept.counted;
+    named = kept.named;
+    formed = kept.formed;
+    of_live = kept.of_live;
+    quiet = kept.quiet;
+    listing = kept.listing;
+  })
+
+module _ (limits : Limits) (l : LivesState) (ts : HandleTables) (o : ObjectsState) (ws : WaitList) (k : ℕ) (ended : get_or o.seen.bodies k None ≡ None) where
   bodies_same : set o.seen.bodies k None ≡ o.seen.bodies
   bodies_same = ap (set o.seen.bodies k) (sym ended) ∙ set-get_or o.seen.bodies k None
 
@@ -120,34 +138,17 @@ module _ (limits : Limits) (l : LivesState) (ts : HandleTables) (o : ObjectsStat
       let same : generation_of (reclaimed max_gen x) ≡ x.generation = ap (λ b. generation_of (cond b (record x { generation = x.generation + 1; phase = phase.Free }) (in_phase x phase.Retired))) test in
       map-set_same generation_of o.keeper.slots k (reclaimed max_gen x) opening_slot same
 
-  pub kept_reclaimed : (answer : Reclaim) (t : ObjectsState) → Reclaimed o k answer t → IsKept limits l ts t ws rows
-  kept_reclaimed Freed t h = subst (λ (z : ObjectsState). IsKept limits l ts z ws rows) (sym h.0) (kept_left o.retired t.keeper (ap (λ (z : KeeperState). z.shape) h.1.0))
-  kept_reclaimed Retired t h = subst (λ (z : ObjectsState). IsKept limits l ts z ws rows) (sym h.0) (kept_left (set o.retired k true) t.keeper (ap (λ (z : KeeperState). z.shape) h.1.0))
-  kept_reclaimed (Held n) t h = subst (λ (z : ObjectsState). IsKept limits l ts z ws rows) (sym h.0) (record {
-    limited = record { processes = kept.limited.processes; handles = kept.limited.handles; waits_limit = kept.limited.waits_limit; shape_is = ap (λ (z : KeeperState). z.shape) h.1.0 ∙ kept.limited.shape_is };
-    lives_kept = kept.lives_kept;
-    counted = kept.counted;
-    named = kept.named;
-    formed = kept.formed;
-    of_live = kept.of_live;
-    quiet = kept.quiet;
-    listing = kept.listing;
-  })
-
-  plain : (answer : Reclaim) (t : ObjectsState) → Reclaimed o k answer t → state_of limits l ts t ws ≡ after_reclaim (state_of limits l ts o ws) k answer
-  plain Freed t h =
+  -- the state, whatever the answer is
+  pub reclaimed_state : (answer : Reclaim) (t : ObjectsState) → Reclaimed o k answer t → state_of limits l ts t ws ≡ after_reclaim (state_of limits l ts o ws) k answer
+  reclaimed_state Freed t h =
       let ages : map generation_of t.keeper.slots ≡ set (map generation_of o.keeper.slots) k (get_or (map generation_of o.keeper.slots) k 1 + 1) = ap (λ (z : KeeperState). map generation_of z.slots) h.1.0 ∙ aged h.1.1 in
       ap (λ (z : ObjectsState). state_of limits l ts z ws) h.0
       ∙ λ i. record (freed (state_of limits l ts o ws) k) { bodies = bodies_same i; generations = ages i }
-  plain Retired t h =
+  reclaimed_state Retired t h =
       let ages : map generation_of t.keeper.slots ≡ map generation_of o.keeper.slots = ap (λ (z : KeeperState). map generation_of z.slots) h.1.0 ∙ unaged h.1.1 in
       ap (λ (z : ObjectsState). state_of limits l ts z ws) h.0
       ∙ λ i. record (given_up (state_of limits l ts o ws) k) { bodies = bodies_same i; generations = ages i }
-  plain (Held n) t h =
+  reclaimed_state (Held n) t h =
       let ages : map generation_of t.keeper.slots ≡ map generation_of o.keeper.slots = ap (λ (z : KeeperState). map generation_of z.slots) h.1.0 in
       ap (λ (z : ObjectsState). state_of limits l ts z ws) h.0
       ∙ λ i. record (state_of limits l ts o ws) { generations = ages i }
-
-  -- and the state after it is the settled one
-  pub reclaimed_state : (answer : Reclaim) (t : ObjectsState) → Reclaimed o k answer t → IsTied t → state_of limits l ts t ws ≡ settled (after_reclaim (state_of limits l ts o ws) k answer)
-  reclaimed_state answer t h after = sym (still limits l ts t ws rows (kept_reclaimed answer t h) after) ∙ ap settled (plain answer t h)

@@ -53,7 +53,7 @@ impl<K: PinKeeper> Store<K> {
         ensures memory { IfErr result (λ fault. fault ≡ Memory) }
         ensures err { OnErr result (self.new ≡ self.old) }
     {
-        // What it says is wanted here: that the vacant slot has no body, and no references.
+        // What it says is wanted here, before and after: that nothing refers to a slot without a body.
         self.objects.kept();
         let entry = Entry {
             id: self.objects.id_at(slot),
@@ -63,6 +63,7 @@ impl<K: PinKeeper> Store<K> {
         match self.tables.place(process, entry) {
             Ok(value) => {
                 self.objects.add(slot, new.descr, new.grant, None, new.body);
+                self.objects.kept();
                 return Ok(value);
             }
             Err(fault) => return Err(fault),
@@ -97,6 +98,7 @@ impl<K: PinKeeper> Store<K> {
             Ok(value) => {
                 let id = self.objects.add(slot, new.descr, new.grant, Some(kept), new.body);
                 self.names.enter(entered, id);
+                self.objects.kept();
                 return Ok(value);
             }
             Err(fault) => return Err(fault),

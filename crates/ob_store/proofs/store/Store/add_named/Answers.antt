@@ -1,0 +1,38 @@
+use Rattle.std.proofs.Common.{◌≡◌, ◌<◌, ◌∙◌, ℕ, ap, sym, subst, refl, true, Some, None, length}
+use Rattle.ob_arena.specs.Slots.{is_vacant_at}
+use Rattle.ob_body.specs.Body.{owner_of}
+use Rattle.ob_name.specs.Listing.{find_name}
+use Rattle.ob_name.specs.Refs.{name_at}
+use Rattle.ob_store.specs.Directory.{directory_of}
+use Rattle.ob_store.specs.Kept.{IsLive}
+use Rattle.ob_store.specs.Objects.{Head}
+use Rattle.ob_store.specs.State.{State, Whole, settled, state_of, vacancy}
+use Rattle.ob_store.proofs.AddedLaws.{kept_name, added_state, with_added}
+use Rattle.ob_store.proofs.KeptLaws.{still}
+use Rattle.ob_store.proofs.store.Store.add_named.Goals as goal
+
+pub invariant_of-self-in-Ok : goal.invariant_of-self-in-Ok
+invariant_of-self-in-Ok g c =
+    let s = c.self.inside in
+    let new = c.args.new in
+    let name = name_at c.args.name.now in
+    let head : Head = record { descr = new.descr; grant = new.grant; name = Some name } in
+    let absent : find_name name s.names.rows ≡ None = ap (find_name name) c.self.invariant.listing.same ∙ ap (λ (w : Whole). find_name name (directory_of w.state)) c.self.view_is ∙ c.requires.absent in
+    rw (c.enter.ensures.rows, c.add-id.ensures.id, c.add-id.ensures.added, c.in-Ok.ensures.ok, c.id_at.ensures, c.in_ok-kept.ensures, c.in_ok-entered.ensures.copy, c.in_ok-entered.ensures.rows)
+    (kept_name s.limits s.lives s.tables s.objects s.waits s.names.rows c.self.invariant c.kept.ensures c.args.process c.args.slot new.rights new.flags head new.body
+    (subst (λ (w : Whole). c.args.process < length w.state.tables) (sym c.self.view_is) c.requires.process)
+    (subst (λ (w : Whole). is_vacant_at (vacancy w.state) c.args.slot ≡ true) (sym c.self.view_is) c.requires.vacant)
+    c.requires.formed
+    (subst (λ (w : Whole). (t : ℕ) → owner_of new.body ≡ Some t → IsLive w.state.threads t) (sym c.self.view_is) c.requires.owned)
+    name refl absent)
+
+pub returns-in-Ok-clause-state : goal.returns-in-Ok-clause-state
+returns-in-Ok-clause-state g c =
+    let s = c.self.inside in
+    let new = c.args.new in
+    let head : Head = record { descr = new.descr; grant = new.grant; name = Some (name_at c.args.name.now) } in
+    let after : State → State = λ (z : State). with_added z c.args.process c.args.slot new.rights new.flags head new.body in
+    let added : state_of s.limits s.lives c.place.new.self c.add-id.new.self s.waits ≡ after (state_of s.limits s.lives s.tables s.objects s.waits) =
+    rw (c.add-id.ensures.added, c.in-Ok.ensures.ok, c.id_at.ensures, c.in_ok-kept.ensures) (added_state s.limits s.lives s.tables s.objects s.waits c.args.process c.args.slot new.rights new.flags head new.body) in
+    sym (still s.limits s.lives c.place.new.self c.add-id.new.self s.waits c.enter.new.self.rows (invariant_of-self-in-Ok g c) c.kept-in-Ok.ensures)
+    ∙ ap settled (added ∙ ap (λ (w : Whole). after w.state) c.self.view_is)

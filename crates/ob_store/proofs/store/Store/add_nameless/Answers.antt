@@ -1,0 +1,33 @@
+use Rattle.std.proofs.Common.{◌≡◌, ◌<◌, ◌∙◌, ℕ, ap, sym, subst, refl, true, Some, None, length}
+use Rattle.ob_arena.specs.Slots.{is_vacant_at}
+use Rattle.ob_body.specs.Body.{owner_of}
+use Rattle.ob_store.specs.Kept.{IsLive}
+use Rattle.ob_store.specs.Objects.{Head}
+use Rattle.ob_store.specs.State.{State, Whole, settled, state_of, vacancy}
+use Rattle.ob_store.proofs.AddedLaws.{kept_nameless, added_state, with_added}
+use Rattle.ob_store.proofs.KeptLaws.{still}
+use Rattle.ob_store.proofs.store.Store.add_nameless.Goals as goal
+
+pub invariant_of-self : goal.invariant_of-self
+invariant_of-self g c =
+    let s = c.self.inside in
+    let new = c.args.new in
+    let head : Head = record { descr = new.descr; grant = new.grant; name = None } in
+    rw (c.in-Ok.ensures.ok, c.id_at.ensures, c.add.ensures.added)
+    (kept_nameless s.limits s.lives s.tables s.objects s.waits s.names.rows c.self.invariant c.kept.ensures c.args.process c.args.slot new.rights new.flags head new.body
+    (subst (λ (w : Whole). c.args.process < length w.state.tables) (sym c.self.view_is) c.requires.process)
+    (subst (λ (w : Whole). is_vacant_at (vacancy w.state) c.args.slot ≡ true) (sym c.self.view_is) c.requires.vacant)
+    c.requires.formed
+    (subst (λ (w : Whole). (t : ℕ) → owner_of new.body ≡ Some t → IsLive w.state.threads t) (sym c.self.view_is) c.requires.owned)
+    refl)
+
+pub returns-in-Ok-clause-state : goal.returns-in-Ok-clause-state
+returns-in-Ok-clause-state g c =
+    let s = c.self.inside in
+    let new = c.args.new in
+    let head : Head = record { descr = new.descr; grant = new.grant; name = None } in
+    let after : State → State = λ (z : State). with_added z c.args.process c.args.slot new.rights new.flags head new.body in
+    let added : state_of s.limits s.lives c.place.new.self c.add.new.self s.waits ≡ after (state_of s.limits s.lives s.tables s.objects s.waits) =
+    rw (c.in-Ok.ensures.ok, c.id_at.ensures, c.add.ensures.added) (added_state s.limits s.lives s.tables s.objects s.waits c.args.process c.args.slot new.rights new.flags head new.body) in
+    sym (still s.limits s.lives c.place.new.self c.add.new.self s.waits s.names.rows (invariant_of-self g c) c.kept-in-Ok.ensures)
+    ∙ ap settled (added ∙ ap (λ (w : Whole). after w.state) c.self.view_is)
