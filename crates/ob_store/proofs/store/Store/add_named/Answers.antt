@@ -8,7 +8,7 @@ use Rattle.ob_store.specs.Kept.{IsLive}
 use Rattle.ob_store.specs.Objects.{Head}
 use Rattle.ob_store.specs.State.{State, Whole, settled, state_of, vacancy}
 use Rattle.ob_store.proofs.AddedLaws.{kept_name, added_state, with_added}
-use Rattle.ob_store.proofs.KeptLaws.{still}
+use Rattle.ob_store.proofs.KeptLaws.{settled_kept}
 use Rattle.ob_store.proofs.store.Store.add_named.Goals as goal
 
 pub invariant_of-self-in-Ok : goal.invariant_of-self-in-Ok
@@ -34,5 +34,5 @@ returns-in-Ok-clause-state g c =
     let after : State → State = λ (z : State). with_added z c.args.process c.args.slot new.rights new.flags head new.body in
     let added : state_of s.limits s.lives c.place.new.self c.add-id.new.self s.waits ≡ after (state_of s.limits s.lives s.tables s.objects s.waits) =
     rw (c.add-id.ensures.added, c.in-Ok.ensures.ok, c.id_at.ensures, c.in_ok-kept.ensures) (added_state s.limits s.lives s.tables s.objects s.waits c.args.process c.args.slot new.rights new.flags head new.body) in
-    sym (still s.limits s.lives c.place.new.self c.add-id.new.self s.waits c.enter.new.self.rows (invariant_of-self-in-Ok g c) c.kept-in-Ok.ensures)
+    sym (settled_kept s.limits s.lives c.place.new.self c.add-id.new.self s.waits c.enter.new.self.rows (invariant_of-self-in-Ok g c) c.kept-in-Ok.ensures)
     ∙ ap settled (added ∙ ap (λ (w : Whole). after w.state) c.self.view_is)

@@ -5,7 +5,7 @@ use Rattle.ob_store.specs.Kept.{IsLive}
 use Rattle.ob_store.specs.Objects.{Head}
 use Rattle.ob_store.specs.State.{State, Whole, settled, state_of, vacancy}
 use Rattle.ob_store.proofs.AddedLaws.{kept_nameless, added_state, with_added}
-use Rattle.ob_store.proofs.KeptLaws.{still}
+use Rattle.ob_store.proofs.KeptLaws.{settled_kept}
 use Rattle.ob_store.proofs.store.Store.add_nameless.Goals as goal
 
 pub invariant_of-self : goal.invariant_of-self
@@ -29,5 +29,5 @@ returns-in-Ok-clause-state g c =
     let after : State → State = λ (z : State). with_added z c.args.process c.args.slot new.rights new.flags head new.body in
     let added : state_of s.limits s.lives c.place.new.self c.add.new.self s.waits ≡ after (state_of s.limits s.lives s.tables s.objects s.waits) =
     rw (c.in-Ok.ensures.ok, c.id_at.ensures, c.add.ensures.added) (added_state s.limits s.lives s.tables s.objects s.waits c.args.process c.args.slot new.rights new.flags head new.body) in
-    sym (still s.limits s.lives c.place.new.self c.add.new.self s.waits s.names.rows (invariant_of-self g c) c.kept-in-Ok.ensures)
+    sym (settled_kept s.limits s.lives c.place.new.self c.add.new.self s.waits s.names.rows (invariant_of-self g c) c.kept-in-Ok.ensures)
     ∙ ap settled (added ∙ ap (λ (w : Whole). after w.state) c.self.view_is)

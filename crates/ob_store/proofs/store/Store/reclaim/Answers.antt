@@ -2,7 +2,7 @@ use Rattle.std.proofs.Common.{◌≡◌, ◌∙◌, ap, sym, subst, true, None, 
 use Rattle.std.specs.Prelude.{is_some}
 use Rattle.ob_store.specs.Moves.{after_reclaim}
 use Rattle.ob_store.specs.State.{State, Whole, settled}
-use Rattle.ob_store.proofs.KeptLaws.{still}
+use Rattle.ob_store.proofs.KeptLaws.{settled_kept}
 use Rattle.ob_store.proofs.ReclaimedLaws.{kept_reclaimed, reclaimed_state}
 use Rattle.ob_store.proofs.store.Store.reclaim.Goals as goal
 
@@ -18,7 +18,7 @@ pub returns-clause-state : goal.returns-clause-state
 returns-clause-state g c =
     let s = c.self.inside in
     let after : State → State = λ (z : State). settled (after_reclaim z c.args.slot c.reclaim-answer.result) in
-    sym (still s.limits s.lives s.tables c.reclaim-answer.new.self s.waits s.names.rows (invariant_of-self g c) c.kept-2.ensures)
+    sym (settled_kept s.limits s.lives s.tables c.reclaim-answer.new.self s.waits s.names.rows (invariant_of-self g c) c.kept-2.ensures)
     ∙ ap settled (reclaimed_state s.limits s.lives s.tables s.objects s.waits c.args.slot
     (subst (λ (w : Whole). get_or w.state.bodies c.args.slot None ≡ None) (sym c.self.view_is) c.requires.ended)
     c.reclaim-answer.result c.reclaim-answer.new.self c.reclaim-answer.ensures.kind)
