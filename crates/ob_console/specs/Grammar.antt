@@ -1,11 +1,45 @@
 -- The grammar of a script: what each line is.
 use Rattle.std.specs.Prelude.{ℕ, ◌-◌, ◌==◌, ◌||◌, nat_lt, List, [], ◌∷◌, Option, Some, None, if◌then◌else◌, length, codes, slice_index, take}
 use Rattle.std.specs.Str.{bytes_eq}
+use Rattle.ob_rights.specs.declared.rights.Rights.{Rights}
+use Rattle.ob_manager.specs.declared.making.Making.{Making}
 use Rattle.ob_manager.specs.declared.call.Call.{Call}
-use Rattle.ob_manager.specs.declared.call.Call.TheVariants.{Spawn, MakeEvent, CloseHandle, Counts}
-use Rattle.ob_console.specs.declared.act.Act.{Act}
-use Rattle.ob_console.specs.declared.act.Act.TheVariants.{Nothing, Bad, Ask}
-use Rattle.ob_console.specs.Words.{words_of, number_of, labelled, id_of, either_of, ◌>>=◌}
+use Rattle.ob_manager.specs.declared.call.Call.TheVariants.{Spawn, StartThread, MakeEvent, MakeMutex, MakeSemaphore, OpenNamed, CloseHandle, SetEvent, ResetEvent, ReleaseSemaphore, ReleaseMutex, Reap, Counts}
+use Rattle.ob_console.specs.Acts.{Act, Nothing, Bad, ListNames, Asks}
+use Rattle.ob_console.specs.Words.{words_of, joined, begins_with, behind, number_of, signed_of, mask_of, kind_of, labelled, id_of, either_of, ◌>>=◌}
+
+-- `[KEYWORD M]`: the mask, where there is one, and the words behind it
+abbrev pub some_mask : List (List ℕ) → Option (Option Rights × List (List ℕ))
+some_mask [] = None
+some_mask (mask ∷ words) = do
+  mask ← mask_of mask
+  Some (Some mask, words)
+
+abbrev pub masked : List ℕ → List (List ℕ) → Option (Option Rights × List (List ℕ))
+masked keyword words = if begins_with keyword words then some_mask (behind keyword words) else Some (None, words)
+
+-- `name TEXT`: the text is all that is left, as it stands
+abbrev pub text_of_words : List (List ℕ) → Option (List ℕ)
+text_of_words [] = None
+text_of_words (word ∷ words) = Some (joined (word ∷ words))
+
+abbrev pub name_of : List (List ℕ) → Option (List ℕ)
+name_of words = if begins_with (codes "name") words then text_of_words (behind (codes "name") words) else None
+
+-- `[name TEXT]`
+abbrev pub named : List (List ℕ) → Option (Option (List ℕ))
+named [] = Some None
+named (word ∷ words) = do
+  name ← name_of (word ∷ words)
+  Some (Some name)
+
+-- `[inherit] [access M] [grant M] [name TEXT]`
+abbrev pub make_of : List (List ℕ) → Option Making
+make_of words = do
+  access ← masked (codes "access") (behind (codes "inherit") words)
+  grant ← masked (codes "grant") access.1
+  name ← named grant.1
+  Some (record { name = name; inherit = begins_with (codes "inherit") words; access = access.0; grant = grant.0 })
 
 -- `spawn N`, behind its first word
 abbrev pub spawn_of : List (List ℕ) → Option Call
@@ -15,27 +49,110 @@ spawn_of (session ∷ []) = do
   Some (Spawn session)
 spawn_of (session ∷ more ∷ words) = None
 
--- `event T auto|manual clear|set`
+-- `thread P`
+abbrev pub thread_of : List (List ℕ) → Option Call
+thread_of [] = None
+thread_of (process ∷ []) = do
+  process ← labelled 112 process
+  Some (StartThread process)
+thread_of (process ∷ more ∷ words) = None
+
+-- `event T auto|manual clear|set [inherit] [access M] [grant M] [name TEXT]`
 abbrev pub event_of : List (List ℕ) → Option Call
 event_of [] = None
 event_of (thread ∷ []) = None
 event_of (thread ∷ reset ∷ []) = None
-event_of (thread ∷ reset ∷ state ∷ []) = do
+event_of (thread ∷ reset ∷ state ∷ words) = do
   thread ← labelled 116 thread
   manual ← either_of (codes "auto") (codes "manual") reset
   set ← either_of (codes "clear") (codes "set") state
-  Some (MakeEvent thread manual set)
-event_of (thread ∷ reset ∷ state ∷ more ∷ words) = None
+  make ← make_of words
+  Some (MakeEvent thread make manual set)
 
--- `close T H`
-abbrev pub close_of : List (List ℕ) → Option Call
-close_of [] = None
-close_of (thread ∷ []) = None
-close_of (thread ∷ handle ∷ []) = do
+-- `mutex T free|owned [inherit] [access M] [grant M] [name TEXT]`
+abbrev pub mutex_of : List (List ℕ) → Option Call
+mutex_of [] = None
+mutex_of (thread ∷ []) = None
+mutex_of (thread ∷ state ∷ words) = do
+  thread ← labelled 116 thread
+  owned ← either_of (codes "free") (codes "owned") state
+  make ← make_of words
+  Some (MakeMutex thread make owned)
+
+-- `semaphore T I I [inherit] [access M] [grant M] [name TEXT]`: the first count and the maximum
+abbrev pub semaphore_of : List (List ℕ) → Option Call
+semaphore_of [] = None
+semaphore_of (thread ∷ []) = None
+semaphore_of (thread ∷ initial ∷ []) = None
+semaphore_of (thread ∷ initial ∷ max ∷ words) = do
+  thread ← labelled 116 thread
+  initial ← signed_of initial
+  max ← signed_of max
+  make ← make_of words
+  Some (MakeSemaphore thread make initial max)
+
+-- `open T event|mutex|semaphore M [inherit] name TEXT`
+abbrev pub open_of : List (List ℕ) → Option Call
+open_of [] = None
+open_of (thread ∷ []) = None
+open_of (thread ∷ kind ∷ []) = None
+open_of (thread ∷ kind ∷ mask ∷ words) = do
+  thread ← labelled 116 thread
+  kind ← kind_of kind
+  mask ← mask_of mask
+  name ← name_of (behind (codes "inherit") words)
+  Some (OpenNamed thread kind mask (begins_with (codes "inherit") words) name)
+
+-- `VERB T H`: the thread and the handle
+abbrev pub handle_of : List (List ℕ) → Option (ℕ × ℕ)
+handle_of [] = None
+handle_of (thread ∷ []) = None
+handle_of (thread ∷ handle ∷ []) = do
   thread ← labelled 116 thread
   handle ← labelled 104 handle
-  Some (CloseHandle thread handle)
-close_of (thread ∷ handle ∷ more ∷ words) = None
+  Some (thread, handle)
+handle_of (thread ∷ handle ∷ more ∷ words) = None
+
+-- `close T H`, `set T H`, `reset T H`, `unlock T H`
+abbrev pub close_of : List (List ℕ) → Option Call
+close_of words = do
+  named ← handle_of words
+  Some (CloseHandle named.0 named.1)
+
+abbrev pub set_of : List (List ℕ) → Option Call
+set_of words = do
+  named ← handle_of words
+  Some (SetEvent named.0 named.1)
+
+abbrev pub reset_of : List (List ℕ) → Option Call
+reset_of words = do
+  named ← handle_of words
+  Some (ResetEvent named.0 named.1)
+
+abbrev pub unlock_of : List (List ℕ) → Option Call
+unlock_of words = do
+  named ← handle_of words
+  Some (ReleaseMutex named.0 named.1)
+
+-- `release T H I`
+abbrev pub release_of : List (List ℕ) → Option Call
+release_of [] = None
+release_of (thread ∷ []) = None
+release_of (thread ∷ handle ∷ []) = None
+release_of (thread ∷ handle ∷ count ∷ []) = do
+  thread ← labelled 116 thread
+  handle ← labelled 104 handle
+  count ← signed_of count
+  Some (ReleaseSemaphore thread handle count)
+release_of (thread ∷ handle ∷ count ∷ more ∷ words) = None
+
+-- `reap K`
+abbrev pub reap_of : List (List ℕ) → Option Call
+reap_of [] = None
+reap_of (slot ∷ []) = do
+  slot ← labelled 115 slot
+  Some (Reap slot)
+reap_of (slot ∷ more ∷ words) = None
 
 -- `count S`
 abbrev pub count_of : List (List ℕ) → Option Call
@@ -50,25 +167,35 @@ abbrev pub call_of : List (List ℕ) → Option Call
 call_of [] = None
 call_of (verb ∷ words) =
     if bytes_eq verb (codes "spawn") then spawn_of words
+    else (if bytes_eq verb (codes "thread") then thread_of words
     else (if bytes_eq verb (codes "event") then event_of words
+    else (if bytes_eq verb (codes "mutex") then mutex_of words
+    else (if bytes_eq verb (codes "semaphore") then semaphore_of words
+    else (if bytes_eq verb (codes "open") then open_of words
     else (if bytes_eq verb (codes "close") then close_of words
+    else (if bytes_eq verb (codes "set") then set_of words
+    else (if bytes_eq verb (codes "reset") then reset_of words
+    else (if bytes_eq verb (codes "release") then release_of words
+    else (if bytes_eq verb (codes "unlock") then unlock_of words
+    else (if bytes_eq verb (codes "reap") then reap_of words
     else (if bytes_eq verb (codes "count") then count_of words
-    else None)))
+    else None))))))))))))
 
 abbrev pub asked : Option Call → Act
 asked None = Bad
-asked (Some call) = Ask call
+asked (Some call) = Asks call
 
 -- the text of a line: one carriage return at its end is dropped
 abbrev pub text_of : List ℕ → List ℕ
 text_of line = if slice_index line (length line - 1) == 13 then take (length line - 1) line else line
 
--- A text of more than 4,096 bytes is bad; an empty text and a text that begins with # are nothing.
+-- A text of more than 4,096 bytes is bad; an empty text and a text that begins with # are nothing; `dir` lists names.
 abbrev pub act_of_text : List ℕ → Act
 act_of_text text =
     if nat_lt 4096 (length text) then Bad
     else (if (length text == 0) || (slice_index text 0 == 35) then Nothing
-    else asked (call_of (words_of text)))
+    else (if bytes_eq text (codes "dir") then ListNames
+    else asked (call_of (words_of text))))
 
 abbrev pub act_of : List ℕ → Act
 act_of line = act_of_text (text_of line)

@@ -1,3 +1,4 @@
+pub mod Acts
 pub mod Words
 pub mod WordsLeft
 pub mod Grammar

@@ -1,9 +1,14 @@
 -- What is printed for an answer.
-use Rattle.std.specs.Prelude.{ℕ, List, [], ◌∷◌, ◌++◌, codes, decimal}
+use Rattle.std.specs.Prelude.{ℕ, List, [], ◌∷◌, ◌++◌, codes, decimal, length}
+use Rattle.std.specs.List.{flat_map}
 use Rattle.pin_core.specs.declared.id.Id.{Id}
+use Rattle.pin_words.specs.declared.pin_keeper.Reclaim.{Reclaim}
+use Rattle.pin_words.specs.declared.pin_keeper.Reclaim.TheVariants.{Freed, Retired, Held}
 use Rattle.ob_rights.specs.Fault.{code_of}
+use Rattle.ob_name.specs.Names.{Namespace, ObjectName, Global, Session}
+use Rattle.ob_name.specs.Listing.{Rows}
 use Rattle.ob_manager.specs.declared.reply.Reply.{Reply}
-use Rattle.ob_manager.specs.declared.reply.Reply.TheVariants.{Spawned, Made, Closed, CountsAre, Refused}
+use Rattle.ob_manager.specs.declared.reply.Reply.TheVariants.{Spawned, Started, Made, Exists, Opened, Closed, Done, Previous, Reaped, CountsAre, Refused}
 
 abbrev pub line_end : List ℕ
 line_end = 10 ∷ []
@@ -11,13 +16,43 @@ line_end = 10 ∷ []
 abbrev pub printed_id : Id → List ℕ
 printed_id id = codes "s" ++ decimal id.slot ++ codes "." ++ decimal id.generation
 
+-- a new handle: whether the object is new, had the name already, or was opened by its name
+abbrev pub printed_handle : ℕ → List ℕ → Id → List ℕ
+printed_handle handle how id = codes "h" ++ decimal handle ++ how ++ printed_id id ++ line_end
+
+-- what became of a slot
+abbrev pub printed_reclaim : Reclaim → List ℕ
+printed_reclaim Freed = codes " freed"
+printed_reclaim Retired = codes " retired"
+printed_reclaim (Held pins) = codes " held " ++ decimal pins
+
 -- a reply, as one line
 abbrev pub printed : Reply → List ℕ
 printed (Spawned process thread) = codes "p" ++ decimal process ++ codes " t" ++ decimal thread ++ line_end
-printed (Made handle id) = codes "h" ++ decimal handle ++ codes " new " ++ printed_id id ++ line_end
+printed (Started thread) = codes "t" ++ decimal thread ++ line_end
+printed (Made handle id) = printed_handle handle (codes " new ") id
+printed (Exists handle id) = printed_handle handle (codes " exists ") id
+printed (Opened handle id) = printed_handle handle (codes " opened ") id
 printed Closed = codes "closed" ++ line_end
+printed Done = codes "done" ++ line_end
+printed (Previous count) = codes "previous " ++ decimal count ++ line_end
+printed (Reaped id outcome) = printed_id id ++ printed_reclaim outcome ++ line_end
 printed (CountsAre handles waits hold) = codes "handles " ++ decimal handles ++ codes " waits " ++ decimal waits ++ codes " hold " ++ decimal hold ++ line_end
 printed (Refused fault) = codes "error " ++ decimal (code_of fault) ++ line_end
+
+-- the names of objects: how many there are, and a line for each
+abbrev pub printed_space : Namespace → List ℕ
+printed_space Global = codes "global "
+printed_space (Session session) = codes "session " ++ decimal session ++ codes " "
+
+abbrev pub printed_row : ObjectName × Id → List ℕ
+printed_row row = printed_space row.0.space ++ printed_id row.1 ++ codes " " ++ row.0.base ++ line_end
+
+abbrev pub printed_count : ℕ → List ℕ
+printed_count count = codes "dir " ++ decimal count ++ line_end
+
+abbrev pub printed_names : Rows → List ℕ
+printed_names rows = printed_count (length rows) ++ flat_map printed_row rows
 
 -- a line outside the grammar, by its number
 abbrev pub bad_line : ℕ → List ℕ

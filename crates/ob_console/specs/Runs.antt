@@ -1,28 +1,35 @@
 -- A run of a script: the lines of an input, and what is printed for them.
-use Rattle.std.specs.Prelude.{◌≡◌, ◌≢◌, ℕ, ◌+◌, List, [], ◌∷◌, ◌++◌, All, Result, Ok, Err}
+use Rattle.std.specs.Prelude.{◌≡◌, ◌≢◌, ℕ, ◌+◌, List, [], ◌∷◌, ◌++◌, All, replicate, Result, Ok, Err}
 use Rattle.std.specs.List.{concat, flat_map}
-use Rattle.ob_manager.specs.declared.limits.Limits.{Limits}
+use Rattle.pin_core.specs.Worlds.{opening_slot}
+use Rattle.pin_words.specs.Keepers.{locked}
+use Rattle.ob_store.specs.declared.limits.Limits.{Limits}
+use Rattle.ob_store.specs.State.{Whole, opening, shape_of}
+use Rattle.ob_store.specs.Directory.{directory_of}
 use Rattle.ob_manager.specs.declared.reply.Reply.{Reply}
-use Rattle.ob_manager.specs.State.{State, opening}
 use Rattle.ob_manager.specs.Steps.{Step}
-use Rattle.ob_console.specs.declared.act.Act.{Act}
-use Rattle.ob_console.specs.declared.act.Act.TheVariants.{Nothing, Bad, Ask}
+use Rattle.ob_console.specs.Acts.{Act, Nothing, Bad, ListNames, Asks}
 use Rattle.ob_console.specs.declared.script.RunFault.{RunFault}
 use Rattle.ob_console.specs.declared.script.RunFault.TheVariants.{Memory, Read, Write}
 use Rattle.ob_console.specs.Grammar.{act_of}
-use Rattle.ob_console.specs.Printed.{printed, bad_line, line_end}
+use Rattle.ob_console.specs.Printed.{printed, printed_names, bad_line, line_end}
 
--- From a state, the line of this number may print this and go on to the next state: nothing, that the line is bad, or the
--- reply of a step.
-abbrev pub Prints : State → ℕ → Act → List ℕ → State → Type 0
+-- the state before any line, over pins under a lock of which nothing was asked yet
+abbrev pub opening_whole : Limits → Whole
+opening_whole limits = record { state = opening limits; keeper = locked (shape_of limits) (replicate limits.slots opening_slot) [] }
+
+-- From a state and what the keeper says, the line of this number may print this and go on: nothing, that the line is bad, the
+-- names of objects, or the reply of a step.
+abbrev pub Prints : Whole → ℕ → Act → List ℕ → Whole → Type 0
 Prints s number Nothing output t = (output ≡ []) × (t ≡ s)
 Prints s number Bad output t = (output ≡ bad_line number) × (t ≡ s)
-Prints s number (Ask call) output t = (reply : Reply) × Step s call reply t × (output ≡ printed reply)
+Prints s number ListNames output t = (output ≡ printed_names (directory_of s.state)) × (t ≡ s)
+Prints s number (Asks call) output t = (reply : Reply) × Step s call reply t × (output ≡ printed reply)
 
--- From a state, the lines from this number on may print these, one after another, and end in the last state.
-abbrev pub Run : State → ℕ → List (List ℕ) → List (List ℕ) → State → Type 0
+-- From there, the lines from this number on may print these, one after another, and end with the last.
+abbrev pub Run : Whole → ℕ → List (List ℕ) → List (List ℕ) → Whole → Type 0
 Run s number [] [] t = t ≡ s
-Run s number (line ∷ lines) (output ∷ outputs) t = (next : State) × Prints s number (act_of line) output next × Run next (number + 1) lines outputs t
+Run s number (line ∷ lines) (output ∷ outputs) t = (next : Whole) × Prints s number (act_of line) output next × Run next (number + 1) lines outputs t
 Run s number [] (output ∷ outputs) t = ⊥
 Run s number (line ∷ lines) [] t = ⊥
 
@@ -48,8 +55,8 @@ last_line (byte ∷ bytes) = (byte ∷ bytes) ∷ []
 -- the output is what a run over these lines prints, from a manager with these limits
 pub record IsOutput (limits : Limits) (lines : List (List ℕ)) (output : List ℕ) : Type 0 where
   pub outputs : List (List ℕ)
-  pub state : State
-  pub run : Run (opening limits) 1 lines outputs state
+  pub last : Whole
+  pub run : Run (opening_whole limits) 1 lines outputs last
   pub whole : output ≡ concat outputs
 
 -- each complete line of the input is answered, and nothing else

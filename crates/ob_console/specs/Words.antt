@@ -1,14 +1,30 @@
 -- The words of a line, and what each stands for.
-use Rattle.std.specs.Prelude.{ℕ, ◌+◌, ◌-◌, ◌*◌, ◌==◌, ◌&&◌, nat_le, Bool, true, false, List, [], ◌∷◌, Option, Some, None, if◌then◌else◌, length}
-use Rattle.std.specs.List.{slice_split, list_all, before_first, after_first}
-use Rattle.std.specs.Char.{is_ascii_digit}
+use Rattle.std.specs.Prelude.{ℕ, ◌+◌, ◌-◌, ◌*◌, ◌==◌, ◌&&◌, nat_le, Bool, true, false, List, [], ◌∷◌, Option, Some, None, if◌then◌else◌, length, codes, ℤ, pos, neg_ℤ}
+use Rattle.std.specs.List.{slice_split, join_with_byte, list_all, before_first, after_first}
+use Rattle.std.specs.Char.{is_ascii_digit, is_ascii_hexdigit, digit_value}
 use Rattle.std.specs.Str.{bytes_eq}
 use Rattle.memchr.specs.Find.{is_byte}
 use Rattle.pin_core.specs.declared.id.Id.{Id}
+use Rattle.ob_rights.specs.declared.kind.Kind.{Kind}
+use Rattle.ob_rights.specs.declared.kind.Kind.TheVariants.{Event, Mutex, Semaphore}
+use Rattle.ob_rights.specs.declared.rights.Rights.{Rights}
 
 -- words are parted by single spaces
 abbrev pub words_of : List ℕ → List (List ℕ)
 words_of text = slice_split (is_byte 32) text
+
+-- the text that words are
+abbrev pub joined : List (List ℕ) → List ℕ
+joined words = join_with_byte 32 words
+
+-- whether a keyword comes next, and the words behind it if it does
+abbrev pub begins_with : List ℕ → List (List ℕ) → Bool
+begins_with keyword [] = false
+begins_with keyword (word ∷ words) = bytes_eq word keyword
+
+abbrev pub behind : List ℕ → List (List ℕ) → List (List ℕ)
+behind keyword [] = []
+behind keyword (word ∷ words) = if bytes_eq word keyword then words else word ∷ words
 
 -- the number that decimal digits write behind those of another
 abbrev pub value_after : ℕ → List ℕ → ℕ
@@ -45,3 +61,38 @@ id_of word = do
 -- one of two keywords: false for the first, true for the second
 abbrev pub either_of : List ℕ → List ℕ → List ℕ → Option Bool
 either_of first second word = if bytes_eq word first then Some false else (if bytes_eq word second then Some true else None)
+
+-- one of the kinds of objects
+abbrev pub kind_of : List ℕ → Option Kind
+kind_of word =
+    if bytes_eq word (codes "event") then Some Event
+    else (if bytes_eq word (codes "mutex") then Some Mutex
+    else (if bytes_eq word (codes "semaphore") then Some Semaphore
+    else None))
+
+-- a number that isn't above the greatest of 32 bits with a sign, and the negative of one that isn't below the least
+abbrev pub unless_great : ℕ → Option ℤ
+unless_great n = if nat_le n 2147483647 then Some (pos n) else None
+
+abbrev pub negated : ℕ → Option ℤ
+negated n = if nat_le n 2147483648 then Some (neg_ℤ (pos n)) else None
+
+-- a signed number: the digits of a number, behind a minus if it is negative, from -2,147,483,648 to 2,147,483,647
+abbrev pub signed_of : List ℕ → Option ℤ
+signed_of [] = None
+signed_of (first ∷ rest) = if first == 45 then number_of rest >>= negated else number_of (first ∷ rest) >>= unless_great
+
+-- the number that hexadecimal digits write behind those of another
+abbrev pub hex_after : ℕ → List ℕ → ℕ
+hex_after value [] = value
+hex_after value (digit ∷ digits) = hex_after (value * 16 + digit_value digit) digits
+
+-- 1 to 8 hexadecimal digits of either case
+abbrev pub hex_of : List ℕ → Option Rights
+hex_of digits = if nat_le 1 (length digits) && nat_le (length digits) 8 && list_all is_ascii_hexdigit digits then Some (record { 0 = hex_after 0 digits }) else None
+
+-- a mask: `0x`, and its hexadecimal digits
+abbrev pub mask_of : List ℕ → Option Rights
+mask_of [] = None
+mask_of (first ∷ []) = None
+mask_of (first ∷ second ∷ digits) = if (first == 48) && (second == 120) then hex_of digits else None

@@ -1,12 +1,78 @@
-use ob_manager::Call;
+use ob_manager::Make;
+use ob_rights::{Kind, Rights};
+use pin_core::Id;
 
 /// What a line is.
-#[derive(Debug, PartialEq, Eq, Drop)]
-pub enum Act {
+#[derive(Clone, Copy, Debug)]
+pub enum Act<'a> {
     /// An empty line or a comment, for which nothing is printed.
     Nothing,
     /// A line outside the grammar.
     Bad,
+    /// The names of objects are asked for.
+    ListNames,
     /// A call.
-    Ask(Call),
+    Ask(Ask<'a>),
+}
+
+/// A call of the manager, with a name that stands in the line.
+#[derive(Clone, Copy, Debug)]
+pub enum Ask<'a> {
+    Spawn {
+        session: u32,
+    },
+    StartThread {
+        process: u32,
+    },
+    MakeEvent {
+        thread: u32,
+        make: Make<'a>,
+        manual: bool,
+        set: bool,
+    },
+    MakeMutex {
+        thread: u32,
+        make: Make<'a>,
+        owned: bool,
+    },
+    MakeSemaphore {
+        thread: u32,
+        make: Make<'a>,
+        initial: i32,
+        max: i32,
+    },
+    OpenNamed {
+        thread: u32,
+        kind: Kind,
+        mask: Rights,
+        inherit: bool,
+        text: &'a [u8],
+    },
+    CloseHandle {
+        thread: u32,
+        handle: u32,
+    },
+    SetEvent {
+        thread: u32,
+        handle: u32,
+    },
+    ResetEvent {
+        thread: u32,
+        handle: u32,
+    },
+    ReleaseSemaphore {
+        thread: u32,
+        handle: u32,
+        count: i32,
+    },
+    ReleaseMutex {
+        thread: u32,
+        handle: u32,
+    },
+    Reap {
+        slot: u32,
+    },
+    Counts {
+        id: Id,
+    },
 }

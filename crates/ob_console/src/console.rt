@@ -1,16 +1,15 @@
 ghost use Rattle.std.specs.Prelude.{◌≡◌, ◌+◌, ◌<◌, ◌≤◌, ◌^◌, ◌++◌, ◌⊎◌, ◌≢◌, All, [], None, Some, List, ℕ, IfErr, IfOk, OnOk, OnErr, length};
-ghost use Rattle.ob_manager.specs.State.{opening};
-ghost use Rattle.ob_console.specs.Runs.{Prints, IsWithin, AnswersAll};
+ghost use Rattle.ob_console.specs.Runs.{IsWithin, AnswersAll, opening_whole};
 ghost use Rattle.ob_console.specs.Printed.{line_end};
 ghost use Rattle.ob_console.specs.Sessions.{Advances, IsWritten, Session, Finishes, IsFed, IsCutShort};
 
-use crate::act::Act;
-use crate::answer::{answer_to, bad_line};
 use crate::device::Sink;
+use crate::evaluator::Evaluator;
+use crate::grammar::act_of;
 use crate::held::HeldLine;
-use crate::output::{NotWritten, Output};
+use crate::output::NotWritten;
 use crate::words::cut;
-use ob_manager::{Limits, Manager};
+use ob_manager::Limits;
 use ob_rights::Fault;
 use std::alloc::Global;
 use std::marker::Model;
@@ -18,10 +17,8 @@ use std::marker::Model;
 /// A manager, and what a script has of it so far.
 #[derive(Drop)]
 pub struct Console {
-    manager: Manager,
-    output: Output,
+    evaluator: Evaluator,
     held: HeldLine,
-    lines: u128,
 }
 
 impl Model for Console {
@@ -29,44 +26,20 @@ impl Model for Console {
 
     ghost Value = { ConsoleState };
 
-    ghost view = { λ console. record { state = console.manager; pending = console.output; held = console.held; lines = console.lines } };
+    ghost view = { λ console. record { whole = console.evaluator.whole; pending = console.evaluator.pending; held = console.held; lines = console.evaluator.lines } };
 }
 
 impl Console {
     /// No line has come. Takes all the memory that it will need, other than that of the manager's calls.
     pub fn new(alloc: Global, limits: Limits, writes: u64) -> Result<Console, Fault>
-        ensures opening { IfOk result (λ console. console ≡ record { state = opening limits; pending = record { bytes = []; writes_left = writes }; held = Some []; lines = 0 }) }
+        ensures opening { IfOk result (λ console. console ≡ record { whole = opening_whole limits; pending = record { bytes = []; writes_left = writes }; held = Some []; lines = 0 }) }
         ensures memory { IfErr result (λ fault. fault ≡ Fault.Memory) }
     {
-        let manager = Manager::new(alloc, limits)?;
-        let output = Output::new(alloc, writes)?;
+        let evaluator = Evaluator::new(alloc, limits, writes)?;
         Ok(Console {
-            manager,
-            output,
+            evaluator,
             held: HeldLine::new(),
-            lines: 0,
         })
-    }
-
-    /// Does what a line asks, and prints its answer.
-    fn answer<W: Sink>(&mut self, sink: &mut W, act: Act) -> Result<(), NotWritten>
-        requires { self.old.lines < 2 ^ 127 }
-        ensures prints { (printed : List ℕ) × Prints self.old.state (self.old.lines + 1) act printed self.new.state
-            × IsWritten result (W.taken sink.old) (W.taken sink.new) (self.old.pending.bytes ++ printed) self.new.pending.bytes }
-        ensures lines { self.new.lines ≡ self.old.lines + 1 }
-        ensures held { self.new.held ≡ self.old.held }
-        ensures calls { W.calls sink.new + self.new.pending.writes_left ≡ W.calls sink.old + self.old.pending.writes_left }
-        ensures faults { W.faults sink.old ≤ W.faults sink.new }
-        ensures cause { OnErr result ((W.faults sink.old < W.faults sink.new) ⊎ (self.new.pending.writes_left ≡ 0)) }
-    {
-        self.lines += 1;
-        let answer = match act {
-            Act::Nothing => return Ok(()),
-            Act::Bad => bad_line(self.lines),
-            Act::Ask(call) => answer_to(self.manager.apply(&call)),
-        };
-        self.output.put(sink, answer.as_slice())?;
-        Ok(())
     }
 
     /// A line ends with these bytes, which come before its line feed.
@@ -80,8 +53,13 @@ impl Console {
         ensures faults { W.faults sink.old ≤ W.faults sink.new }
         ensures cause { OnErr result ((W.faults sink.old < W.faults sink.new) ⊎ (self.new.pending.writes_left ≡ 0)) }
     {
-        let act = self.held.take(end);
-        self.answer(sink, act)
+        if self.held.is_empty() {
+            return self.evaluator.answer(sink, act_of(end));
+        }
+        self.held.extend(end);
+        let answered = self.evaluator.answer(sink, self.held.act());
+        self.held.clear();
+        answered
     }
 
     #[tactic(auto, using(crate::proofs::Feeding::fed_nothing, crate::proofs::Feeding::before_within))]
@@ -118,7 +96,7 @@ impl Console {
         ensures cause { OnErr result ((W.faults sink.old < W.faults sink.new) ⊎ (self.new.pending.writes_left ≡ 0)) }
     {
         match self.feed(sink, block) {
-            Ok(()) => self.output.flush(sink),
+            Ok(()) => self.evaluator.flush(sink),
             Err(fault) => Err(fault),
         }
     }
@@ -135,8 +113,7 @@ impl Console {
         if self.held.is_empty() {
             return Ok(());
         }
-        let act = self.held.act();
-        self.answer(sink, act)
+        self.evaluator.answer(sink, self.held.act())
     }
 
     /// The input ends: answers a last line without a line feed, and writes what is printed.
@@ -149,7 +126,7 @@ impl Console {
         ensures cause { OnErr result ((W.faults sink.old < W.faults sink.new) ⊎ (self.new.pending.writes_left ≡ 0)) }
     {
         match self.last_line(sink) {
-            Ok(()) => self.output.flush(sink),
+            Ok(()) => self.evaluator.flush(sink),
             Err(fault) => Err(fault),
         }
     }

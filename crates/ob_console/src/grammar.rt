@@ -1,18 +1,21 @@
 ghost use Rattle.std.specs.Prelude.{◌≡◌};
+ghost use Rattle.std.specs.Option.{option_map};
 ghost use Rattle.ob_console.specs.Words.{words_of};
-ghost use Rattle.ob_console.specs.Grammar.{act_of, call_of, close_of, count_of, event_of, spawn_of, text_of};
+ghost use Rattle.ob_console.specs.Acts.{act_in, call_in};
+ghost use Rattle.ob_console.specs.Grammar.{act_of, call_of, close_of, count_of, event_of, handle_of, mutex_of, open_of, reap_of, release_of, reset_of, semaphore_of, set_of, spawn_of, text_of, thread_of, unlock_of};
 
-use crate::act::Act;
-use crate::numbers::{either_of, id_of, labelled, number_of};
+use crate::act::{Act, Ask};
+use crate::numbers::{either_of, id_of, labelled, number_of, signed_of};
+use crate::rights::{kind_of, mask_of};
+use crate::naming::{make_of, name_of};
 use crate::words::Words;
-use ob_manager::Call;
 
 /// The longest text of a line, in bytes.
 pub const TEXT_MOST: usize = 4096;
 
 /// What a line is, without its line feed.
-pub fn act_of(line: &[u8]) -> Act
-    ensures { result ≡ act_of line.now }
+pub fn act_of(line: &[u8]) -> Act<'_>
+    ensures { act_in result ≡ act_of line.now }
 {
     let text = text_of(line);
     if text.len() > TEXT_MOST {
@@ -21,8 +24,11 @@ pub fn act_of(line: &[u8]) -> Act
     if text.is_empty() || text[0] == b'#' {
         return Act::Nothing;
     }
+    if text == b"dir".as_slice() {
+        return Act::ListNames;
+    }
     match call_of(Words::of(text)) {
-        Some(call) => Act::Ask(call),
+        Some(ask) => Act::Ask(ask),
         None => Act::Bad,
     }
 }
@@ -37,16 +43,34 @@ fn text_of(line: &[u8]) -> &[u8]
     }
 }
 
-fn call_of(mut words: Words<'_>) -> Option<Call>
-    ensures { result ≡ call_of words.entry }
+fn call_of(mut words: Words<'_>) -> Option<Ask<'_>>
+    ensures { option_map call_in result ≡ call_of words.entry }
 {
     let verb = words.next()?;
     if verb == b"spawn".as_slice() {
         spawn_of(words)
+    } else if verb == b"thread".as_slice() {
+        thread_of(words)
     } else if verb == b"event".as_slice() {
         event_of(words)
+    } else if verb == b"mutex".as_slice() {
+        mutex_of(words)
+    } else if verb == b"semaphore".as_slice() {
+        semaphore_of(words)
+    } else if verb == b"open".as_slice() {
+        open_of(words)
     } else if verb == b"close".as_slice() {
         close_of(words)
+    } else if verb == b"set".as_slice() {
+        set_of(words)
+    } else if verb == b"reset".as_slice() {
+        reset_of(words)
+    } else if verb == b"release".as_slice() {
+        release_of(words)
+    } else if verb == b"unlock".as_slice() {
+        unlock_of(words)
+    } else if verb == b"reap".as_slice() {
+        reap_of(words)
     } else if verb == b"count".as_slice() {
         count_of(words)
     } else {
@@ -54,48 +78,166 @@ fn call_of(mut words: Words<'_>) -> Option<Call>
     }
 }
 
-fn spawn_of(mut words: Words<'_>) -> Option<Call>
-    ensures { result ≡ spawn_of words.entry }
+fn spawn_of(mut words: Words<'_>) -> Option<Ask<'_>>
+    ensures { option_map call_in result ≡ spawn_of words.entry }
 {
     let session = words.next()?;
     words.end()?;
     let session = number_of(session)?;
-    Some(Call::Spawn { session })
+    Some(Ask::Spawn { session })
 }
 
-fn event_of(mut words: Words<'_>) -> Option<Call>
-    ensures { result ≡ event_of words.entry }
+fn thread_of(mut words: Words<'_>) -> Option<Ask<'_>>
+    ensures { option_map call_in result ≡ thread_of words.entry }
+{
+    let process = words.next()?;
+    words.end()?;
+    let process = labelled(b'p', process)?;
+    Some(Ask::StartThread { process })
+}
+
+fn event_of(mut words: Words<'_>) -> Option<Ask<'_>>
+    ensures { option_map call_in result ≡ event_of words.entry }
 {
     let thread = words.next()?;
     let reset = words.next()?;
     let state = words.next()?;
-    words.end()?;
     let thread = labelled(b't', thread)?;
     let manual = either_of(b"auto", b"manual", reset)?;
     let set = either_of(b"clear", b"set", state)?;
-    Some(Call::MakeEvent {
+    let make = make_of(words)?;
+    Some(Ask::MakeEvent {
         thread,
+        make,
         manual,
         set,
     })
 }
 
-fn close_of(mut words: Words<'_>) -> Option<Call>
-    ensures { result ≡ close_of words.entry }
+fn mutex_of(mut words: Words<'_>) -> Option<Ask<'_>>
+    ensures { option_map call_in result ≡ mutex_of words.entry }
+{
+    let thread = words.next()?;
+    let state = words.next()?;
+    let thread = labelled(b't', thread)?;
+    let owned = either_of(b"free", b"owned", state)?;
+    let make = make_of(words)?;
+    Some(Ask::MakeMutex {
+        thread,
+        make,
+        owned,
+    })
+}
+
+fn semaphore_of(mut words: Words<'_>) -> Option<Ask<'_>>
+    ensures { option_map call_in result ≡ semaphore_of words.entry }
+{
+    let thread = words.next()?;
+    let initial = words.next()?;
+    let max = words.next()?;
+    let thread = labelled(b't', thread)?;
+    let initial = signed_of(initial)?;
+    let max = signed_of(max)?;
+    let make = make_of(words)?;
+    Some(Ask::MakeSemaphore {
+        thread,
+        make,
+        initial,
+        max,
+    })
+}
+
+fn open_of(mut words: Words<'_>) -> Option<Ask<'_>>
+    ensures { option_map call_in result ≡ open_of words.entry }
+{
+    let thread = words.next()?;
+    let kind = words.next()?;
+    let mask = words.next()?;
+    let thread = labelled(b't', thread)?;
+    let kind = kind_of(kind)?;
+    let mask = mask_of(mask)?;
+    let inherit = words.skip(b"inherit");
+    let text = name_of(words)?;
+    Some(Ask::OpenNamed {
+        thread,
+        kind,
+        mask,
+        inherit,
+        text,
+    })
+}
+
+/// A thread and a handle.
+fn handle_of(mut words: Words<'_>) -> Option<(u32, u32)>
+    ensures { result ≡ handle_of words.entry }
 {
     let thread = words.next()?;
     let handle = words.next()?;
     words.end()?;
     let thread = labelled(b't', thread)?;
     let handle = labelled(b'h', handle)?;
-    Some(Call::CloseHandle { thread, handle })
+    Some((thread, handle))
 }
 
-fn count_of(mut words: Words<'_>) -> Option<Call>
-    ensures { result ≡ count_of words.entry }
+fn close_of(words: Words<'_>) -> Option<Ask<'_>>
+    ensures { option_map call_in result ≡ close_of words.entry }
+{
+    let (thread, handle) = handle_of(words)?;
+    Some(Ask::CloseHandle { thread, handle })
+}
+
+fn set_of(words: Words<'_>) -> Option<Ask<'_>>
+    ensures { option_map call_in result ≡ set_of words.entry }
+{
+    let (thread, handle) = handle_of(words)?;
+    Some(Ask::SetEvent { thread, handle })
+}
+
+fn reset_of(words: Words<'_>) -> Option<Ask<'_>>
+    ensures { option_map call_in result ≡ reset_of words.entry }
+{
+    let (thread, handle) = handle_of(words)?;
+    Some(Ask::ResetEvent { thread, handle })
+}
+
+fn unlock_of(words: Words<'_>) -> Option<Ask<'_>>
+    ensures { option_map call_in result ≡ unlock_of words.entry }
+{
+    let (thread, handle) = handle_of(words)?;
+    Some(Ask::ReleaseMutex { thread, handle })
+}
+
+fn release_of(mut words: Words<'_>) -> Option<Ask<'_>>
+    ensures { option_map call_in result ≡ release_of words.entry }
+{
+    let thread = words.next()?;
+    let handle = words.next()?;
+    let count = words.next()?;
+    words.end()?;
+    let thread = labelled(b't', thread)?;
+    let handle = labelled(b'h', handle)?;
+    let count = signed_of(count)?;
+    Some(Ask::ReleaseSemaphore {
+        thread,
+        handle,
+        count,
+    })
+}
+
+fn reap_of(mut words: Words<'_>) -> Option<Ask<'_>>
+    ensures { option_map call_in result ≡ reap_of words.entry }
+{
+    let slot = words.next()?;
+    words.end()?;
+    let slot = labelled(b's', slot)?;
+    Some(Ask::Reap { slot })
+}
+
+fn count_of(mut words: Words<'_>) -> Option<Ask<'_>>
+    ensures { option_map call_in result ≡ count_of words.entry }
 {
     let object = words.next()?;
     words.end()?;
     let id = id_of(object)?;
-    Some(Call::Counts { id })
+    Some(Ask::Counts { id })
 }

@@ -1,4 +1,5 @@
 ghost use Rattle.std.specs.Prelude.{◌≡◌, ◌↔◌, [], Some, IsTrue};
+ghost use Rattle.ob_console.specs.Acts.{act_in};
 ghost use Rattle.ob_console.specs.Held.{act_of_held, more_held};
 
 use crate::act::Act;
@@ -53,8 +54,8 @@ impl HeldLine {
     }
 
     /// What the line is, if it ends here.
-    pub fn act(&self) -> Act
-        ensures { result ≡ act_of_held self.now }
+    pub fn act(&self) -> Act<'_>
+        ensures { act_in result ≡ act_of_held self.now }
     {
         if self.is_long {
             return Act::Bad;
@@ -68,20 +69,5 @@ impl HeldLine {
     {
         self.bytes.clear();
         self.is_long = false;
-    }
-
-    /// What the line is, which ends with these bytes; then the next line begins.
-    #[tactic(auto, using(crate::proofs::Texts::act_of_capped))]
-    pub fn take(&mut self, end: &[u8]) -> Act
-        ensures act { result ≡ act_of_held (more_held self.old end.now) }
-        ensures next { self.new ≡ Some [] }
-    {
-        if self.is_empty() {
-            return act_of(end);
-        }
-        self.extend(end);
-        let act = self.act();
-        self.clear();
-        act
     }
 }

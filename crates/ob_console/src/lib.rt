@@ -13,12 +13,16 @@
 mod account;
 mod act;
 mod answer;
+mod asking;
 mod console;
 mod device;
+mod evaluator;
 mod grammar;
 mod held;
+mod naming;
 mod numbers;
 mod output;
+mod rights;
 mod script;
 #[cfg(test)]
 mod tests;

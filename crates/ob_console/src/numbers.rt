@@ -1,5 +1,5 @@
 ghost use Rattle.std.specs.Prelude.{◌≡◌, codes};
-ghost use Rattle.ob_console.specs.Words.{number_of, labelled, id_of, either_of};
+ghost use Rattle.ob_console.specs.Words.{number_of, negated, signed_of, unless_great, labelled, id_of, either_of};
 
 use crate::words::cut;
 use pin_core::Id;
@@ -23,6 +23,34 @@ pub fn number_of(word: &[u8]) -> Option<u32>
         }
     }
     Some(value as u32)
+}
+
+/// A signed number: the digits of a number, behind a minus if it is negative, from -2,147,483,648 to 2,147,483,647.
+pub fn signed_of(word: &[u8]) -> Option<i32>
+    ensures { result ≡ signed_of word.now }
+{
+    match word {
+        [b'-', digits @ ..] => negated(number_of(digits)?),
+        _ => unless_great(number_of(word)?),
+    }
+}
+
+fn negated(number: u32) -> Option<i32>
+    ensures { result ≡ negated number }
+{
+    if number > 2_147_483_648 {
+        return None;
+    }
+    Some((-i64::from(number)) as i32)
+}
+
+fn unless_great(number: u32) -> Option<i32>
+    ensures { result ≡ unless_great number }
+{
+    if number > 2_147_483_647 {
+        return None;
+    }
+    Some(number as i32)
 }
 
 /// A number behind a letter.

@@ -1,7 +1,7 @@
-ghost use Rattle.std.specs.Prelude.{◌≡◌, ◌<◌, [], ◌∷◌, length, IfSome, IfNone, IsSome, ◌↔◌, MatchOption};
+ghost use Rattle.std.specs.Prelude.{◌≡◌, ◌≢◌, ◌<◌, [], ◌∷◌, length, IfSome, IfNone, IsSome, IsTrue, ◌↔◌, MatchOption};
 ghost use Rattle.std.specs.List.{after_first, before_first, position_or_len};
 ghost use Rattle.memchr.specs.Find.{is_byte};
-ghost use Rattle.ob_console.specs.Words.{words_of};
+ghost use Rattle.ob_console.specs.Words.{begins_with, behind, joined, words_of};
 
 use memchr::memchr;
 use std::marker::Model;
@@ -44,6 +44,36 @@ impl<'a> Words<'a> {
                 Some(rest)
             }
         }
+    }
+
+    /// Whether a keyword comes next. If it does, it is passed.
+    pub fn skip(&mut self, keyword: &[u8]) -> bool
+        ensures skips { result ≡ begins_with keyword.now self.old }
+        ensures rest { self.new ≡ behind keyword.now self.old }
+    {
+        let mut later = Words { rest: self.rest };
+        let Some(word) = later.next() else {
+            return false;
+        };
+        if word != keyword {
+            return false;
+        }
+        self.rest = later.rest;
+        true
+    }
+
+    /// The text that is left, its spaces as they stand; none where no word is left.
+    pub fn text(self) -> Option<&'a [u8]>
+        ensures { MatchOption result (self.entry ≡ []) (λ text. (text.now ≡ joined self.entry) × (self.entry ≢ [])) }
+    {
+        self.rest
+    }
+
+    /// Whether no word is left.
+    pub fn is_empty(&self) -> bool
+        ensures { IsTrue result ↔ (self.now ≡ []) }
+    {
+        self.rest.is_none()
     }
 
     /// Some where no word is left.

@@ -1,0 +1,122 @@
+ghost use Rattle.std.specs.Prelude.{◌≡◌, ◌+◌, ◌<◌, ◌≤◌, ◌^◌, ◌++◌, ◌⊎◌, List, ℕ, IfErr, IfOk, OnErr, OnOk, []};
+ghost use Rattle.ob_store.specs.Directory.{directory_of};
+ghost use Rattle.ob_console.specs.Acts.{act_in};
+ghost use Rattle.ob_console.specs.Printed.{printed_names};
+ghost use Rattle.ob_console.specs.Runs.{Prints, opening_whole};
+ghost use Rattle.ob_console.specs.Sessions.{IsWritten};
+ghost use Rattle.ob_console.specs.Devices.{Begins};
+
+use crate::act::Act;
+use crate::answer::{answer_to, bad_line, count_of_names, row_of};
+use crate::asking::reply_to;
+use crate::device::Sink;
+use crate::output::{NotWritten, Output};
+use ob_manager::{Limits, Manager};
+use ob_rights::Fault;
+use pin_words::LockedPins;
+use std::alloc::Global;
+use std::marker::Model;
+
+/// A manager, and the answers that it gave.
+#[derive(Drop)]
+pub struct Evaluator {
+    manager: Manager<LockedPins>,
+    output: Output,
+    lines: u128,
+}
+
+impl Model for Evaluator {
+    ghost use Rattle.ob_console.specs.Sessions.{Evaluation};
+
+    ghost Value = { Evaluation };
+
+    ghost view = { λ evaluator. record { whole = evaluator.manager; pending = evaluator.output; lines = evaluator.lines } };
+}
+
+impl Evaluator {
+    /// No line has come. Takes all the memory that it will need, other than that of the manager's calls.
+    pub fn new(alloc: Global, limits: Limits, writes: u64) -> Result<Evaluator, Fault>
+        ensures opening { IfOk result (λ evaluator. evaluator ≡ record { whole = opening_whole limits; pending = record { bytes = []; writes_left = writes }; lines = 0 }) }
+        ensures memory { IfErr result (λ fault. fault ≡ Fault.Memory) }
+    {
+        let manager = opened(alloc, limits)?;
+        let output = Output::new(alloc, writes)?;
+        Ok(Evaluator {
+            manager,
+            output,
+            lines: 0,
+        })
+    }
+
+    /// Does what a line asks, and prints its answer.
+    pub fn answer<W: Sink>(&mut self, sink: &mut W, act: Act<'_>) -> Result<(), NotWritten>
+        requires { self.old.lines < 2 ^ 127 }
+        ensures prints { (printed : List ℕ) × Prints self.old.whole (self.old.lines + 1) (act_in act) printed self.new.whole
+            × IsWritten result (W.taken sink.old) (W.taken sink.new) (self.old.pending.bytes ++ printed) self.new.pending.bytes }
+        ensures lines { self.new.lines ≡ self.old.lines + 1 }
+        ensures calls { W.calls sink.new + self.new.pending.writes_left ≡ W.calls sink.old + self.old.pending.writes_left }
+        ensures faults { W.faults sink.old ≤ W.faults sink.new }
+        ensures cause { OnErr result ((W.faults sink.old < W.faults sink.new) ⊎ (self.new.pending.writes_left ≡ 0)) }
+    {
+        self.lines += 1;
+        let answer = match act {
+            Act::Nothing => return Ok(()),
+            Act::ListNames => return list(&self.manager, &mut self.output, sink),
+            Act::Bad => bad_line(self.lines),
+            Act::Ask(ask) => answer_to(reply_to(&mut self.manager, ask)),
+        };
+        self.output.put(sink, answer.as_slice())
+    }
+
+    /// Writes all that is printed.
+    pub fn flush<W: Sink>(&mut self, sink: &mut W) -> Result<(), NotWritten>
+        ensures whole { self.new.whole ≡ self.old.whole }
+        ensures lines { self.new.lines ≡ self.old.lines }
+        ensures ok { OnOk result (W.taken sink.new ≡ W.taken sink.old ++ self.old.pending.bytes) }
+        ensures empty { OnOk result (self.new.pending.bytes ≡ []) }
+        ensures err { OnErr result (Begins (W.taken sink.old) (W.taken sink.new) self.old.pending.bytes) }
+        ensures calls { W.calls sink.new + self.new.pending.writes_left ≡ W.calls sink.old + self.old.pending.writes_left }
+        ensures faults { W.faults sink.old ≤ W.faults sink.new }
+        ensures cause { OnErr result ((W.faults sink.old < W.faults sink.new) ⊎ (self.new.pending.writes_left ≡ 0)) }
+    {
+        self.output.flush(sink)
+    }
+}
+
+/// A manager with no process, over pins under a lock.
+fn opened(alloc: Global, limits: Limits) -> Result<Manager<LockedPins>, Fault>
+    ensures opening { IfOk result (λ manager. manager ≡ opening_whole limits) }
+    ensures memory { IfErr result (λ fault. fault ≡ Fault.Memory) }
+{
+    let keeper = LockedPins::new(alloc, limits.shape())?;
+    match Manager::new(alloc, limits, keeper) {
+        Ok(manager) => Ok(manager),
+        Err(_) => Err(Fault::Memory),
+    }
+}
+
+/// Prints the names of objects.
+fn list<W: Sink>(manager: &Manager<LockedPins>, output: &mut Output, sink: &mut W) -> Result<(), NotWritten>
+    ensures written { IsWritten result (W.taken sink.old) (W.taken sink.new) (output.old.bytes ++ printed_names (directory_of manager.now.state)) output.new.bytes }
+    ensures calls { W.calls sink.new + output.new.writes_left ≡ W.calls sink.old + output.old.writes_left }
+    ensures faults { W.faults sink.old ≤ W.faults sink.new }
+    ensures cause { OnErr result ((W.faults sink.old < W.faults sink.new) ⊎ (output.new.writes_left ≡ 0)) }
+{
+    let count = manager.directory_len();
+    let head = count_of_names(count);
+    match output.put(sink, head.as_slice()) {
+        Ok(()) => {}
+        Err(fault) => return Err(fault),
+    }
+    for at in 0..count {
+        let Some((name, id)) = manager.directory_at(at) else {
+            unreachable!()
+        };
+        let row = row_of(name, id);
+        match output.put(sink, row.as_slice()) {
+            Ok(()) => {}
+            Err(fault) => return Err(fault),
+        }
+    }
+    Ok(())
+}
