@@ -1,20 +1,20 @@
 -- A console advances line by line, and what it has written is the beginning of an answer to its input.
-use Rattle.std.proofs.Common.{◌≡◌, ℕ, ◌+◌, List, [], ◌∷◌, ◌++◌, length, Option, Some, None, true, false, cond, refl, ap, sym, subst, ◌∙◌, arith}
+use Rattle.std.proofs.Common.{◌≡◌, ℕ, ◌+◌, ◌<◌, List, [], ◌∷◌, ◌++◌, length, Option, Some, None, true, false, cond, refl, ap, sym, subst, ◌∙◌, arith}
 use Rattle.std.specs.Prelude.{nat_le}
 use Rattle.std.specs.List.{concat}
 use Rattle.std.proofs.lemmas.List.{append_assoc, append-nil, length-append}
 use Rattle.std.proofs.lemmas.List.Folds.{concat-append}
-use Rattle.ob_manager.specs.declared.limits.Limits.{Limits}
-use Rattle.ob_manager.specs.State.{opening}
-use Rattle.ob_console.specs.declared.act.Act.{Act}
+use Rattle.pin_core.specs.declared.shape.Shape.{Shape}
+use Rattle.ob_store.specs.declared.limits.Limits.{Limits}
+use Rattle.ob_console.specs.Acts.{Act}
 use Rattle.ob_console.specs.Grammar.{act_of}
 use Rattle.ob_console.specs.Printed.{line_end}
-use Rattle.ob_console.specs.Runs.{Prints, Run, Splits, IsWithin, AnswersLines, AnswersAll, AnswersPart, last_line}
+use Rattle.ob_console.specs.Runs.{Prints, Run, Splits, IsWithin, AnswersLines, AnswersAll, AnswersPart, last_line, opening_whole}
 use Rattle.ob_console.specs.Held.{capped, more_held, act_of_held}
 use Rattle.ob_console.specs.Sessions.{ConsoleState, Session, Advances, Finishes}
 use Rattle.ob_console.proofs.Texts.{act_of_capped, more_capped}
 use Rattle.ob_console.proofs.Lines.{has_lines, splits_more, splits_nothing, splits_on, splits_one}
-use Rattle.ob_console.proofs.Going.{run-append, runs_some}
+use Rattle.ob_console.proofs.Going.{run-append, run_shape, runs_some}
 
 -- what is held and these bytes are one line
 held_act : (rest bytes : List ℕ) (held : Option (List ℕ)) → held ≡ capped rest → act_of_held (more_held held bytes) ≡ act_of (rest ++ bytes)
@@ -29,32 +29,32 @@ concat-push : (outputs : List (List ℕ)) (output : List ℕ) → concat (output
 concat-push outputs output = concat-append outputs (output ∷ []) ∙ ap (λ back. concat outputs ++ back) (append-nil output)
 
 -- a line ends
-pub line_advances : (old new : ConsoleState) (act : Act) (bytes output : List ℕ) → IsWithin bytes → act ≡ act_of_held (more_held old.held bytes) → Prints old.state (old.lines + 1) act output new.state → new.lines ≡ old.lines + 1 → new.held ≡ Some [] → Advances old (bytes ++ line_end) output new
+pub line_advances : (old new : ConsoleState) (act : Act) (bytes output : List ℕ) → IsWithin bytes → act ≡ act_of_held (more_held old.held bytes) → Prints old.whole (old.lines + 1) act output new.whole → new.lines ≡ old.lines + 1 → new.held ≡ Some [] → Advances old (bytes ++ line_end) output new
 line_advances old new act bytes output within is prints counted held limits input before session =
     let line = session.rest ++ bytes in
-    let of_line : Prints old.state (1 + length session.lines) (act_of line) output new.state =
-    subst (λ a. Prints old.state (1 + length session.lines) a output new.state) (is ∙ held_act session.rest bytes old.held session.held)
-    (subst (λ n. Prints old.state n act output new.state) (omega (arith, session.counted)) prints) in
+    let of_line : Prints old.whole (1 + length session.lines) (act_of line) output new.whole =
+    subst (λ a. Prints old.whole (1 + length session.lines) a output new.whole) (is ∙ held_act session.rest bytes old.held session.held)
+    (subst (λ n. Prints old.whole n act output new.whole) (omega (arith, session.counted)) prints) in
     let one : Splits (session.rest ++ (bytes ++ line_end)) (line ∷ []) [] = splits_one session.rest bytes session.splits.open_ended within in
     record {
       lines = session.lines ++ line ∷ [];
       rest = [];
       outputs = session.outputs ++ output ∷ [];
       splits = splits_on input session.lines session.rest (bytes ++ line_end) (line ∷ []) [] session.splits one;
-      run = run-append (opening limits) 1 session.lines session.outputs old.state (line ∷ []) (output ∷ []) new.state session.run (new.state, of_line, refl);
+      run = run-append (opening_whole limits) 1 session.lines session.outputs old.whole (line ∷ []) (output ∷ []) new.whole session.run (new.whole, of_line, refl);
       whole = ap (λ front. front ++ output) session.whole ∙ sym (concat-push session.outputs output);
       counted = omega (arith, counted, session.counted, length-append session.lines (line ∷ []));
       held = held;
     }
 
 -- a part of a line comes
-pub part_advances : (old new : ConsoleState) (bytes : List ℕ) → IsWithin bytes → new.state ≡ old.state → new.lines ≡ old.lines → new.held ≡ more_held old.held bytes → Advances old bytes [] new
+pub part_advances : (old new : ConsoleState) (bytes : List ℕ) → IsWithin bytes → new.whole ≡ old.whole → new.lines ≡ old.lines → new.held ≡ more_held old.held bytes → Advances old bytes [] new
 part_advances old new bytes within state_is lines_is held_is limits input before session = record {
   lines = session.lines;
   rest = session.rest ++ bytes;
   outputs = session.outputs;
   splits = splits_more input session.lines session.rest bytes within session.splits;
-  run = subst (λ t. Run (opening limits) 1 session.lines session.outputs t) (sym state_is) session.run;
+  run = subst (λ t. Run (opening_whole limits) 1 session.lines session.outputs t) (sym state_is) session.run;
   whole = append-nil before ∙ session.whole;
   counted = lines_is ∙ session.counted;
   held = held_is ∙ ap (λ held. more_held held bytes) session.held ∙ more_capped session.rest bytes;
@@ -73,7 +73,7 @@ advances_none a limits input before session =
     subst (λ bytes. Session limits bytes (before ++ []) a) (sym (append-nil input)) (subst (λ written. Session limits input written a) (sym (append-nil before)) session)
 
 -- the opening console
-pub opens : (limits : Limits) (console : ConsoleState) → console.state ≡ opening limits → console.lines ≡ 0 → console.held ≡ Some [] → Session limits [] [] console
+pub opens : (limits : Limits) (console : ConsoleState) → console.whole ≡ opening_whole limits → console.lines ≡ 0 → console.held ≡ Some [] → Session limits [] [] console
 opens limits console state_is lines_is held_is = record {
   lines = [];
   rest = [];
@@ -91,7 +91,7 @@ answers_lines limits input output console session = record {
   lines = session.lines;
   rest = session.rest;
   splits = session.splits;
-  answers = record { outputs = session.outputs; state = console.state; run = session.run; whole = session.whole };
+  answers = record { outputs = session.outputs; last = console.whole; run = session.run; whole = session.whole };
 }
 
 -- where nothing is held, the whole input is answered
@@ -102,8 +102,8 @@ answers_all limits input output console held session = record {
   splits = session.splits;
   answers = record {
     outputs = session.outputs;
-    state = console.state;
-    run = subst (λ lines. Run (opening limits) 1 lines session.outputs console.state) (sym (no_last session.rest (sym session.held ∙ held))) session.run;
+    last = console.whole;
+    run = subst (λ lines. Run (opening_whole limits) 1 lines session.outputs console.whole) (sym (no_last session.rest (sym session.held ∙ held))) session.run;
     whole = session.whole;
   };
 }
@@ -113,20 +113,20 @@ answers_all limits input output console held session = record {
     no_last (byte ∷ rest) is = absurd (not_empty byte rest is)
 
 -- a last line without a line feed
-pub last_answered : (limits : Limits) (input before output : List ℕ) (old new : ConsoleState) → (old.held ≡ Some [] → ⊥) → Prints old.state (old.lines + 1) (act_of_held old.held) output new.state → Session limits input before old → AnswersAll limits input (before ++ output)
+pub last_answered : (limits : Limits) (input before output : List ℕ) (old new : ConsoleState) → (old.held ≡ Some [] → ⊥) → Prints old.whole (old.lines + 1) (act_of_held old.held) output new.whole → Session limits input before old → AnswersAll limits input (before ++ output)
 last_answered limits input before output old new some prints session =
-    let of_line : Prints old.state (1 + length session.lines) (act_of session.rest) output new.state =
-    subst (λ a. Prints old.state (1 + length session.lines) a output new.state) (ap act_of_held session.held ∙ act_of_capped session.rest)
-    (subst (λ n. Prints old.state n (act_of_held old.held) output new.state) (omega (arith, session.counted)) prints) in
+    let of_line : Prints old.whole (1 + length session.lines) (act_of session.rest) output new.whole =
+    subst (λ a. Prints old.whole (1 + length session.lines) a output new.whole) (ap act_of_held session.held ∙ act_of_capped session.rest)
+    (subst (λ n. Prints old.whole n (act_of_held old.held) output new.whole) (omega (arith, session.counted)) prints) in
     record {
       lines = session.lines;
       rest = session.rest;
       splits = session.splits;
       answers = record {
         outputs = session.outputs ++ output ∷ [];
-        state = new.state;
-        run = subst (λ last. Run (opening limits) 1 (session.lines ++ last) (session.outputs ++ output ∷ []) new.state) (is_last session.rest session.held)
-            (run-append (opening limits) 1 session.lines session.outputs old.state (session.rest ∷ []) (output ∷ []) new.state session.run (new.state, of_line, refl));
+        last = new.whole;
+        run = subst (λ last. Run (opening_whole limits) 1 (session.lines ++ last) (session.outputs ++ output ∷ []) new.whole) (is_last session.rest session.held)
+            (run-append (opening_whole limits) 1 session.lines session.outputs old.whole (session.rest ∷ []) (output ∷ []) new.whole session.run (new.whole, of_line, refl));
         whole = ap (λ front. front ++ output) session.whole ∙ sym (concat-push session.outputs output);
       };
     }
@@ -140,7 +140,9 @@ pub answers_part : (limits : Limits) (input output done missing more : List ℕ)
 answers_part limits input output done missing more console part session =
     let behind = has_lines (session.rest ++ more) in
     let later = behind.lines ++ last_line behind.rest in
-    let on = runs_some console.state (1 + length session.lines) later in
+    let pins : 0 < console.whole.keeper.shape.max_pins =
+    subst (λ (shape : Shape). 0 < shape.max_pins) (sym (run_shape (opening_whole limits) 1 session.lines session.outputs console.whole session.run)) limits.in_range.max_pins_in_range.0 in
+    let on = runs_some console.whole (1 + length session.lines) later pins in
     record {
       missing = missing ++ concat on.outputs;
       answers = record {
@@ -149,9 +151,9 @@ answers_part limits input output done missing more console part session =
         splits = splits_on input session.lines session.rest more behind.lines behind.rest session.splits behind.splits;
         answers = record {
           outputs = session.outputs ++ on.outputs;
-          state = on.state;
-          run = subst (λ lines. Run (opening limits) 1 lines (session.outputs ++ on.outputs) on.state) (sym (append_assoc session.lines behind.lines (last_line behind.rest)))
-              (run-append (opening limits) 1 session.lines session.outputs console.state later on.outputs on.state session.run on.run);
+          last = on.last;
+          run = subst (λ lines. Run (opening_whole limits) 1 lines (session.outputs ++ on.outputs) on.last) (sym (append_assoc session.lines behind.lines (last_line behind.rest)))
+              (run-append (opening_whole limits) 1 session.lines session.outputs console.whole later on.outputs on.last session.run on.run);
           whole = sym (append_assoc done missing (concat on.outputs)) ∙ ap (λ front. front ++ concat on.outputs) (part ∙ session.whole) ∙ sym (concat-append session.outputs on.outputs);
         };
       };
@@ -161,11 +163,11 @@ answers_part limits input output done missing more console part session =
 pub finishes_empty : (console : ConsoleState) → console.held ≡ Some [] → Finishes console []
 finishes_empty console held limits input before session = subst (λ written. AnswersAll limits input written) (sym (append-nil before)) (answers_all limits input before console held session)
 
-pub finishes_line : (old new : ConsoleState) (output : List ℕ) → (old.held ≡ Some [] → ⊥) → Prints old.state (old.lines + 1) (act_of_held old.held) output new.state → Finishes old output
+pub finishes_line : (old new : ConsoleState) (output : List ℕ) → (old.held ≡ Some [] → ⊥) → Prints old.whole (old.lines + 1) (act_of_held old.held) output new.whole → Finishes old output
 finishes_line old new output some prints limits input before session = last_answered limits input before output old new some prints session
 
 -- what is pending is apart from what was answered
-pub advances_apart : (old mid new : ConsoleState) (bytes output : List ℕ) → new.state ≡ mid.state → new.held ≡ mid.held → new.lines ≡ mid.lines → Advances old bytes output mid → Advances old bytes output new
+pub advances_apart : (old mid new : ConsoleState) (bytes output : List ℕ) → new.whole ≡ mid.whole → new.held ≡ mid.held → new.lines ≡ mid.lines → Advances old bytes output mid → Advances old bytes output new
 advances_apart old mid new bytes output state_is held_is lines_is advances limits input before session =
     let after = advances limits input before session in
     record {
@@ -173,7 +175,7 @@ advances_apart old mid new bytes output state_is held_is lines_is advances limit
       rest = after.rest;
       outputs = after.outputs;
       splits = after.splits;
-      run = subst (λ t. Run (opening limits) 1 after.lines after.outputs t) (sym state_is) after.run;
+      run = subst (λ t. Run (opening_whole limits) 1 after.lines after.outputs t) (sym state_is) after.run;
       whole = after.whole;
       counted = lines_is ∙ after.counted;
       held = held_is ∙ after.held;

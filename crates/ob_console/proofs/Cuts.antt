@@ -1,12 +1,15 @@
 -- Where a byte is first found, in the words of lists.
-use Rattle.std.proofs.Common.{◌≡◌, ℕ, ◌+◌, ◌-◌, ◌<◌, List, [], ◌∷◌, length, take, drop, Some, None, Bool, true, false, arith, refl, ap, sym, ◌∙◌}
+use Rattle.std.proofs.Common.{◌≡◌, ◌≢◌, Option, ℕ, ◌+◌, ◌-◌, ◌<◌, List, [], ◌∷◌, length, take, drop, Some, None, Bool, true, false, arith, refl, ap, sym, ◌∙◌}
+use Rattle.std.specs.Prelude.{MatchOption}
+use Rattle.std.specs.Borrow.{Bor}
 use Rattle.std.specs.List.{position_or_len, before_first, after_first}
 use Rattle.std.proofs.lemmas.List.{take_rest, drop-drop}
 use Rattle.std.proofs.lemmas.List.Sums.{position_or_len_is, fails_before_first}
 use Rattle.std.proofs.lemmas.List.Elements.{All-from_get_or}
-use Rattle.std.proofs.lemmas.List.Splits.{slice_split_first, slice_split_none, length-slice_split}
+use Rattle.std.proofs.lemmas.List.Splits.{slice_split_first, slice_split_none, length-slice_split, join_with_byte-slice_split}
 use Rattle.memchr.specs.Find.{IsFirstByte, is_byte}
-use Rattle.ob_console.specs.Words.{words_of}
+use Rattle.ob_console.specs.Words.{words_of, joined}
+use Rattle.ob_console.specs.WordsLeft.{words_left}
 
 not_true : (b : Bool) → (b ≡ true → ⊥) → b ≡ false
 not_true true h = absurd (h refl)
@@ -37,3 +40,12 @@ words_last text none = slice_split_none (is_byte 32) text (All-from_get_or (λ b
 -- a text has a word
 pub words_some : (text : List ℕ) → words_of text ≡ [] → ⊥
 words_some text none = omega (arith, length-slice_split (is_byte 32) text, ap length none)
+
+-- words, joined again, are their text
+pub words_joined : (text : List ℕ) → joined (words_of text) ≡ text
+words_joined text = join_with_byte-slice_split 32 text
+
+-- what is left of a text
+pub text_left : (rest : Option (Bor (List ℕ))) (words : List (List ℕ)) → words_left rest ≡ words → MatchOption rest (words ≡ []) (λ text. (text.now ≡ joined words) × (words ≢ []))
+text_left None words is = sym is
+text_left (Some rest) words is = (sym (words_joined rest.now) ∙ ap joined is, λ none. words_some rest.now (is ∙ none))

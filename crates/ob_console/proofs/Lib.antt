@@ -4,8 +4,8 @@ pub mod Digits
 pub mod Texts
 pub mod Written
 pub mod Lines
+pub mod Answerable
 pub mod Going
 pub mod Advancing
 pub mod Feeding
 pub mod Reading
-pub mod Examples

@@ -2,7 +2,7 @@
 use Rattle.ob_manager.specs.declared.call.Call.{Call}
 use Rattle.ob_manager.specs.declared.call.Call.TheVariants as call
 use Rattle.ob_manager.specs.Makings.{making_of}
-use Rattle.ob_console.specs.declared.act.Act as code
+use Rattle.ob_console.specs.declared.act.Act.{Act as Read}
 use Rattle.ob_console.specs.declared.act.Act.TheVariants as code
 use Rattle.ob_console.specs.declared.act.Ask.{Ask}
 use Rattle.ob_console.specs.declared.act.Ask.TheVariants.{Spawn, StartThread, MakeEvent, MakeMutex, MakeSemaphore, OpenNamed, CloseHandle, SetEvent, ResetEvent, ReleaseSemaphore, ReleaseMutex, Reap, Counts}
@@ -29,7 +29,7 @@ call_in (ReleaseMutex thread handle) = call.ReleaseMutex thread handle
 call_in (Reap slot) = call.Reap slot
 call_in (Counts id) = call.Counts id
 
-abbrev pub act_in : code.Act → Act
+abbrev pub act_in : Read → Act
 act_in code.Nothing = Nothing
 act_in code.Bad = Bad
 act_in code.ListNames = ListNames

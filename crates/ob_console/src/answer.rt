@@ -180,7 +180,7 @@ pub fn count_of_names(count: usize) -> Answer
 
 /// A name of the directory with its object.
 pub fn row_of(name: NameRef<'_>, id: Id) -> Answer
-    ensures { result ≡ printed_row (row_at (name, id)) }
+    ensures { result ≡ printed_row (row_at (name.entry, id)) }
 {
     let mut answer = Answer::new();
     answer.space(name.space);

@@ -73,7 +73,10 @@ impl<'a> Words<'a> {
     pub fn is_empty(&self) -> bool
         ensures { IsTrue result ↔ (self.now ≡ []) }
     {
-        self.rest.is_none()
+        match self.rest {
+            Some(_) => false,
+            None => true,
+        }
     }
 
     /// Some where no word is left.

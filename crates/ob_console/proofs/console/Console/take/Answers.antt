@@ -6,12 +6,12 @@ use Rattle.ob_console.specs.Sessions.{ConsoleState, IsFed, IsCutShort}
 use Rattle.ob_console.proofs.Feeding.{fed_written, fed_cut_short}
 use Rattle.ob_console.proofs.console.Console.take.Goals as goal
 
-flushed : (r : Result (Unit {0}) NotWritten) (old mid new : ConsoleState) (block before taken later : List ℕ) → IsFed old mid block [] before taken → new.state ≡ mid.state → new.held ≡ mid.held → new.lines ≡ mid.lines →
+flushed : (r : Result (Unit {0}) NotWritten) (old mid new : ConsoleState) (block before taken later : List ℕ) → IsFed old mid block [] before taken → new.whole ≡ mid.whole → new.held ≡ mid.held → new.lines ≡ mid.lines →
     OnOk r (new.pending.bytes ≡ []) → OnOk r (later ≡ taken ++ mid.pending.bytes) → OnOk r (IsFed old new block [] before later)
 flushed (Ok unit) old mid new block before taken later fed state_is held_is lines_is empty written = fed_written old mid new block before taken later fed state_is held_is lines_is empty written
 flushed (Err fault) old mid new block before taken later fed state_is held_is lines_is empty written = tt
 
-cut : (r : Result (Unit {0}) NotWritten) (old mid new : ConsoleState) (block before taken later : List ℕ) → IsFed old mid block [] before taken → new.state ≡ mid.state → new.held ≡ mid.held → new.lines ≡ mid.lines →
+cut : (r : Result (Unit {0}) NotWritten) (old mid new : ConsoleState) (block before taken later : List ℕ) → IsFed old mid block [] before taken → new.whole ≡ mid.whole → new.held ≡ mid.held → new.lines ≡ mid.lines →
     OnErr r (Begins taken later mid.pending.bytes) → OnErr r (IsCutShort old new block before later)
 cut (Ok unit) old mid new block before taken later fed state_is held_is lines_is begins = tt
 cut (Err fault) old mid new block before taken later fed state_is held_is lines_is begins = fed_cut_short old mid new block before taken later fed state_is held_is lines_is begins
