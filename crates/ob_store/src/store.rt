@@ -159,6 +159,7 @@ impl<K: PinKeeper> Store<K> {
         ensures body { IfSome result (λ seat. slice_index_or self.now.state.bodies slot None ≡ seat.now.body) }
         ensures handles { IfSome result (λ seat. seat.now.handles ≡ handles_of self.now.state seat.now.id) }
         ensures blocks { IfSome result (λ seat. seat.now.blocks ≡ blocks_of self.now.state seat.now.id) }
+        ensures id { IfSome result (λ seat. seat.now.id.slot ≡ slot) }
     {
         // What it says is wanted here: that the object has the Id of its slot.
         self.objects.kept();
@@ -174,8 +175,11 @@ impl<K: PinKeeper> Store<K> {
 
     /// The object of a name. It has a handle.
     pub fn find(&self, name: &NameRef<'_>) -> Option<Id>
-        ensures { result ≡ find_name (name_at name.now) (directory_of self.now.state) }
+        ensures value { result ≡ find_name (name_at name.now) (directory_of self.now.state) }
+        ensures handled { IfSome result (λ id. 0 < handles_of self.now.state id) }
     {
+        // What it says is wanted here.
+        self.objects.kept();
         self.names.find(name)
     }
 
