@@ -6,6 +6,7 @@ ghost use Rattle.ob_name.specs.Listing.{same_name, same_space};
 ghost use Rattle.ob_name.specs.Refs.{name_at, namespace_of};
 ghost use Rattle.ob_name.specs.Same.{fed_alike, same_name_equiv, same_name_per};
 
+use crate::bytes::same_bytes;
 use crate::name::NameRef;
 use crate::owned::Name;
 use crate::space::Space;
@@ -42,7 +43,7 @@ fn same_space(space: Space, other: Space) -> bool
 fn same_name(name: &NameRef<'_>, other: &NameRef<'_>) -> bool
     ensures { result ≡ same_name (name_at name.now) (name_at other.now) }
 {
-    same_space(name.space, other.space) && name.base == other.base
+    same_space(name.space, other.space) && same_bytes(name.base, other.base)
 }
 
 #[inline(always)]
