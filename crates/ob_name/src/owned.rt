@@ -32,7 +32,7 @@ impl Name {
     pub fn new(alloc: Global, name: &NameRef<'_>) -> Result<Name, AllocError>
         ensures { IfOk result (λ copy. copy ≡ name_at name.now) }
     {
-        let mut base = Vec::new(alloc);
+        let mut base = Vec::with_capacity(alloc, name.base.len())?;
         base.extend_from_slice(name.base)?;
         Ok(Name {
             session: name.space.session(),
