@@ -1,6 +1,5 @@
 // Names that stand at numbered places: `order` has the number of the entry at each place, where one stands.
-ghost use Rattle.std.specs.Prelude.{◌≡◌, ℕ, ◌+◌, ◌-◌, ◌<◌, ◌≤◌, None, [], ◌∷◌, length, slice_get, vec_capacity, IfNone, IfSome, if◌then◌else◌};
-ghost use Rattle.std.specs.Prelude.{position};
+ghost use Rattle.std.specs.Prelude.{◌≡◌, ℕ, ◌+◌, ◌-◌, ◌<◌, ◌≤◌, None, [], ◌∷◌, length, position, slice_get, vec_capacity, IfNone, IfSome, if◌then◌else◌};
 ghost use Rattle.std.specs.HashMap.{spare, values};
 ghost use Rattle.std.specs.List.{IsDistinct};
 ghost use Rattle.std.specs.Map.{keys_of, lookup};
