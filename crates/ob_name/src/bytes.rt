@@ -3,23 +3,29 @@
 ghost use Rattle.std.specs.Prelude.{◌≡◌, ◌+◌, ◌*◌, ◌/◌, ◌≤◌, ◌&&◌, drop, length};
 ghost use Rattle.std.specs.Str.{bytes_eq};
 
-/// Whether two texts have the same bytes.
+/// Whether two texts have the same bytes. The last eight are compared as they stand, though some of them may have been.
 #[inline(always)]
 pub(crate) fn same_bytes(text: &[u8], other: &[u8]) -> bool
     ensures { result ≡ bytes_eq text.now other.now }
 {
-    text.len() == other.len()
-        && same_eights(text, other)
-        && same_from(text, other, text.len() / 8 * 8)
+    let len = text.len();
+    if len != other.len() {
+        return false;
+    }
+    if len < 8 {
+        return same_from(text, other, 0);
+    }
+    same_eights(text, other, (len - 1) / 8) && same_eight(text, other, len - 8)
 }
 
-/// The same, of the bytes before the last multiple of eight.
+/// The same, of some times eight bytes.
 #[inline(always)]
-fn same_eights(text: &[u8], other: &[u8]) -> bool
-    requires { length text.now ≡ length other.now }
-    ensures { bytes_eq text.now other.now ≡ result && bytes_eq (drop (length text.now / 8 * 8) text.now) (drop (length text.now / 8 * 8) other.now) }
+fn same_eights(text: &[u8], other: &[u8], count: usize) -> bool
+    requires text { count * 8 ≤ length text.now }
+    requires other { count * 8 ≤ length other.now }
+    ensures { bytes_eq text.now other.now ≡ result && bytes_eq (drop (count * 8) text.now) (drop (count * 8) other.now) }
 {
-    for number in 0..text.len() / 8 {
+    for number in 0..count {
         if !same_eight(text, other, number * 8) {
             return false;
         }
