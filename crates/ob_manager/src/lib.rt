@@ -19,6 +19,7 @@ mod creating;
 mod handles;
 mod making;
 mod manager;
+mod pinning;
 mod processes;
 mod reaping;
 mod reply;

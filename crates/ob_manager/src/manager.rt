@@ -29,7 +29,7 @@ use std::marker::Model;
 /// changes nothing.
 #[derive(Drop)]
 pub struct Manager<K: PinKeeper> {
-    store: Store<K>,
+    pub(crate) store: Store<K>,
 }
 
 impl<K: PinKeeper> Model for Manager<K> {
