@@ -31,5 +31,5 @@ pub use call::Call;
 pub use card::Card;
 pub use manager::Manager;
 pub use making::{Make, Making, Text};
-pub use ob_store::Limits;
+pub use ob_store::{Limits, Seat};
 pub use reply::Reply;

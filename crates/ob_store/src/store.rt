@@ -9,6 +9,7 @@ ghost use Rattle.ob_tables.specs.Tables.{table_of};
 ghost use Rattle.ob_waits.specs.Waits.{number_of};
 ghost use Rattle.ob_store.specs.Objects.{object_of};
 ghost use Rattle.ob_store.specs.State.{handles_of, blocks_of, id_at, is_full, opening, shape_of, vacancy};
+ghost use Rattle.ob_store.specs.Consistent.{IsConsistent};
 ghost use Rattle.ob_store.specs.Directory.{directory_of};
 
 use crate::limits::Limits;
@@ -74,6 +75,15 @@ impl<K: PinKeeper> Store<K> {
             }
             Err(keeper) => return Err(keeper),
         }
+    }
+
+    /// What holds of the state and the keeper whenever no call is under way.
+    #[tactic(auto, using(crate::proofs::ConsistentLaws::consistent))]
+    pub fn kept(&self)
+        ensures { IsConsistent self.now }
+    {
+        self.objects.kept();
+        let _ = self.waits.wait_of(0);
     }
 
     /// What it may hold at most.
