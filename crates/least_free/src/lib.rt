@@ -142,13 +142,24 @@ mod tests {
     use std::process::Abort;
     use std::test::Fail;
 
+    /// Takes one number more. Where memory fails nothing has changed, and the call is made again.
+    fn grown(free: &mut LeastFree) -> Result<(), AllocError>
+        requires { length free.old < NUMBERS_MAX }
+        ensures { OnOk result (free.new ≡ free.old ++ true ∷ []) }
+    {
+        if free.grow().is_err() {
+            free.grow()?;
+        }
+        Ok(())
+    }
+
     #[test]
     fn takes_the_least_and_gives_back(rt: HostRuntime) -> Result<(), Fail> {
         let mut free = LeastFree::new(rt.alloc());
         assert_eq!(rt; free.least(), 0);
-        free.grow()?;
-        free.grow()?;
-        free.grow()?;
+        grown(&mut free)?;
+        grown(&mut free)?;
+        grown(&mut free)?;
         free.give_back(2);
         free.give_back(1);
         assert_eq!(rt; free.least(), 1);
@@ -162,9 +173,9 @@ mod tests {
     #[test]
     fn the_smaller_of_two_is_the_least(rt: HostRuntime) -> Result<(), Fail> {
         let mut free = LeastFree::new(rt.alloc());
-        free.grow()?;
-        free.grow()?;
-        free.grow()?;
+        grown(&mut free)?;
+        grown(&mut free)?;
+        grown(&mut free)?;
         free.give_back(1);
         free.give_back(0);
         assert_eq!(rt; free.least(), 0);
@@ -173,7 +184,7 @@ mod tests {
         free.give_back(2);
         free.take(0);
         assert_eq!(rt; free.least(), 2);
-        free.grow()?;
+        grown(&mut free)?;
         free.give_back(3);
         free.take(2);
         assert_eq!(rt; free.least(), 3);
@@ -184,14 +195,17 @@ mod tests {
 
     #[test]
     fn all_are_taken_but_those_given_back(rt: HostRuntime) -> Result<(), Fail> {
-        let mut free = LeastFree::with_taken(rt.alloc(), 70)?;
+        let mut free = match LeastFree::with_taken(rt.alloc(), 70) {
+            Ok(free) => free,
+            Err(_) => LeastFree::with_taken(rt.alloc(), 70)?,
+        };
         assert_eq!(rt; free.least(), 70);
         free.give_back(69);
         free.give_back(68);
         free.take(68);
         assert_eq!(rt; free.least(), 69);
         free.take(69);
-        free.grow()?;
+        grown(&mut free)?;
         assert_eq!(rt; free.least(), 71);
         Ok(())
     }
@@ -205,7 +219,10 @@ mod tests {
     fn fills_and_drains(rt: &impl Abort, alloc: Global, most: usize) -> Result<(), Fail>
         requires { most ≤ NUMBERS_MAX }
     {
-        let mut free = LeastFree::with_free(alloc, most)?;
+        let mut free = match LeastFree::with_free(alloc, most) {
+            Ok(free) => free,
+            Err(_) => LeastFree::with_free(alloc, most)?,
+        };
         for n in 0..most {
             assert_eq!(rt; free.least(), n);
             free.take(n);

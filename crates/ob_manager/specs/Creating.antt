@@ -60,8 +60,7 @@ own_name s process (Some text) = do
 -- a new object in the least slot that may have one, and a handle to it with the rights that are asked for
 abbrev pub new_object : State → ℕ → Making → New → Option ObjectName → Result Outcome Fault
 new_object s process making new name = do
-  let asked : Rights = or_all new.descr.kind making.access in
-      refuse_if (not (within asked.0 (all_access new.descr.kind).0)) fault.Access
+  _ ← refuse_if (not (within (or_all new.descr.kind making.access).0 (all_access new.descr.kind).0)) fault.Access
   _ ← refuse_if (is_full s process) fault.Limit
   slot ← or_refuse (least_vacant (vacancy s)) fault.Limit
   let head : Head = record { descr = new.descr; grant = or_all new.descr.kind making.grant; name = name } in

@@ -1,4 +1,4 @@
-ghost use Rattle.std.specs.Prelude.{◌≡◌, Some, None};
+ghost use Rattle.std.specs.Prelude.{◌≡◌, ◌+◌, ◌==◌, if◌then◌else◌};
 ghost use Rattle.ob_manager.specs.Counting.{card, counts};
 ghost use Rattle.ob_manager.specs.Steps.{Gives};
 
@@ -16,17 +16,27 @@ pub fn counts<K: PinKeeper>(store: &Store<K>, id: Id) -> Result<Reply, Fault>
     if store.limits().slots <= id.slot {
         return Err(Fault::Parameter);
     }
-    match store.object(id.slot) {
-        Some(seat) if seat.id == id => {
-            let hold = if seat.handles == 0 && seat.blocks == 0 { 1 } else { 0 };
-            return Ok(Reply::CountsAre {
-                handles: seat.handles,
-                waits: seat.blocks,
-                hold,
-            });
-        }
-        _ => return Err(Fault::Handle),
+    let Some(seat) = store.object(id.slot) else {
+        return Err(Fault::Handle);
+    };
+    if seat.id != id {
+        return Err(Fault::Handle);
     }
+    Ok(Reply::CountsAre {
+        handles: seat.handles,
+        waits: seat.blocks,
+        hold: hold_of(seat.handles, seat.blocks),
+    })
+}
+
+/// 1 where nothing refers to an object, else 0.
+fn hold_of(handles: u32, blocks: u64) -> u32
+    ensures { result ≡ if handles + blocks == 0 then 1 else 0 }
+{
+    if handles == 0 && blocks == 0 {
+        return 1;
+    }
+    0
 }
 
 /// What an object was created as.

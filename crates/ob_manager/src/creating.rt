@@ -1,4 +1,4 @@
-ghost use Rattle.std.specs.Prelude.{◌≡◌, ◌<◌, IfErr, IfOk, None, Ok, OnErr, OnOk, Some, ℕ, length};
+ghost use Rattle.std.specs.Prelude.{◌≡◌, ◌≢◌, ◌<◌, IfErr, IfOk, None, Ok, OnErr, OnOk, Some, ℕ, length};
 ghost use Rattle.ob_body.specs.Body as spec;
 ghost use Rattle.ob_name.specs.Refs.{name_at, parsed_name};
 ghost use Rattle.ob_name.specs.Listing.{find_name};
@@ -105,8 +105,10 @@ fn new_semaphore(initial: i32, max: i32) -> Result<New, Fault>
 }
 
 /// What a name that a caller gives stands for in its session.
+#[tactic(auto, using(crate::proofs::Refusing::name_known))]
 fn name_in<'a, K: PinKeeper>(store: &Store<K>, process: u32, text: &'a [u8]) -> Result<NameRef<'a>, Fault>
-    ensures { parsed_name result ≡ name_in store.now.state process text.now }
+    ensures value { parsed_name result ≡ name_in store.now.state process text.now }
+    ensures refusal { IfErr result (λ fault. fault ≢ Fault.Memory) }
 {
     let Some(session) = store.session(process) else {
         return Err(Fault::Parameter);
@@ -244,6 +246,7 @@ fn named_object<K: PinKeeper>(
 }
 
 /// A new object, or a handle to one that has the name already.
+#[tactic(auto, using(crate::proofs::Refusing::refuses_err))]
 fn create<K: PinKeeper>(store: &mut Store<K>, thread: u32, make: &Make<'_>, what: Result<New, Fault>) -> Result<Reply, Fault>
     requires given { IfOk what (λ new. IsGiven new.descr) }
     requires formed { IfOk what (λ new. form_of new.body ≡ form_in new.descr) }
@@ -297,6 +300,7 @@ pub fn create_semaphore<K: PinKeeper>(
 }
 
 /// A handle to the object of a name.
+#[tactic(auto, using(crate::proofs::Refusing::refuses_err))]
 pub fn open_named<K: PinKeeper>(
     store: &mut Store<K>,
     thread: u32,

@@ -1,11 +1,13 @@
-ghost use Rattle.std.specs.Prelude.{◌≡◌, ◌<◌, IfErr, IfOk, length, slice_get};
+ghost use Rattle.std.specs.Prelude.{◌≡◌, IfErr, IfOk, IfSome, None, length, slice_get, slice_index_or};
 ghost use Rattle.std.specs.Option.{option_map};
 ghost use Rattle.ob_name.specs.Refs.{row_at};
 ghost use Rattle.pin_words.specs.Keepers.{IsFresh};
 ghost use Rattle.ob_store.specs.Directory.{directory_of};
-ghost use Rattle.ob_store.specs.State.{opening, shape_of};
+ghost use Rattle.ob_store.specs.Consistent.{IsConsistent};
+ghost use Rattle.ob_store.specs.Objects.{object_of};
+ghost use Rattle.ob_store.specs.State.{blocks_of, handles_of, hold_of, opening, shape_of};
 ghost use Rattle.ob_manager.specs.Makings.{making_of};
-ghost use Rattle.ob_manager.specs.Counting.{card};
+ghost use Rattle.ob_manager.specs.Counting.{card, hold_in};
 ghost use Rattle.ob_manager.specs.Handles.{resolve};
 ghost use Rattle.ob_manager.specs.Steps.{Step, reply_of};
 
@@ -16,7 +18,7 @@ use crate::reply::Reply;
 use crate::{counting, creating, handles, processes, reaping, signaling};
 use ob_name::NameRef;
 use ob_rights::{Fault, Kind, Rights};
-use ob_store::{Limits, Store};
+use ob_store::{Limits, Seat, Store};
 use pin_core::Id;
 use pin_words::PinKeeper;
 use std::alloc::Global;
@@ -29,7 +31,7 @@ use std::marker::Model;
 /// changes nothing.
 #[derive(Drop)]
 pub struct Manager<K: PinKeeper> {
-    store: Store<K>,
+    pub(crate) store: Store<K>,
 }
 
 impl<K: PinKeeper> Model for Manager<K> {
@@ -52,6 +54,29 @@ impl<K: PinKeeper> Manager<K> {
             Ok(store) => Ok(Manager { store }),
             Err(keeper) => Err(keeper),
         }
+    }
+
+    /// What holds whenever no call is under way: each slot is empty or holds one object, which has a body exactly where
+    /// entries or pending waits refer to it; each of these refers to an object that is there; no name stands twice; and no
+    /// pending wait is ready.
+    pub fn kept(&self)
+        ensures { IsConsistent self.now }
+    {
+        self.store.kept();
+    }
+
+    /// What a slot holds, as it is stored: its handles are the entries that name the object, its blocks the places of pending
+    /// waits that do, and it has a hold once there is neither.
+    pub fn slot(&self, slot: u32) -> Option<&Seat>
+        ensures object { slice_index_or self.now.state.objects slot None ≡ option_map (λ seat. object_of seat.now) result }
+        ensures place { IfSome result (λ seat. seat.now.id.slot ≡ slot) }
+        ensures handles { IfSome result (λ seat. seat.now.handles ≡ handles_of self.now.state seat.now.id) }
+        ensures blocks { IfSome result (λ seat. seat.now.blocks ≡ blocks_of self.now.state seat.now.id) }
+        ensures hold { IfSome result (λ seat. hold_in seat.now.body ≡ hold_of self.now.state seat.now.id) }
+    {
+        // What it says is wanted here.
+        self.store.kept();
+        self.store.object(slot)
     }
 
     /// A new process of a session, with its first thread: `Spawned`.

@@ -8,3 +8,4 @@ pub mod Removed
 pub mod Walked
 pub mod Moved
 pub mod Distinct
+pub mod Overlapped

@@ -7,7 +7,7 @@ ghost use Rattle.ob_name.specs.Refs.{name_at, row_at};
 use crate::entered::Entered;
 use crate::name::NameRef;
 use crate::owned::Name;
-use crate::places::{close_up, renumber, row_on};
+use crate::places::{close_up, entry_of, renumber, row_on};
 use crate::rows::Rows;
 use indexmap::IndexMap;
 use ob_rights::Fault;
@@ -62,10 +62,8 @@ impl Directory {
     pub fn find(&self, name: &NameRef<'_>) -> Option<Id>
         ensures { result ≡ find_name (name_at name.now) self.now.rows }
     {
-        // What it says is wanted here: that no name stands twice.
-        let _ = self.ids.len();
-        let entered = self.ids.get(*name)?;
-        Some(entered.id)
+        let index = entry_of(&self.ids, name)?;
+        Some(self.ids[index].id)
     }
 
     /// A copy of a name to enter, with room for one name more.
@@ -119,9 +117,8 @@ impl Directory {
         ensures rows { self.new.rows ≡ without_name (name_at name.now) self.old.rows }
         ensures spare { self.old.spare ≤ self.new.spare }
     {
-        // As in `find`.
-        let _ = self.ids.len();
-        let (index, _name, entered) = self.ids.swap_remove_full(*name)?;
+        let index = entry_of(&self.ids, name)?;
+        let (_name, entered) = self.ids.swap_remove_index(index).unwrap();
         renumber(&self.ids, &mut self.order, index);
         self.count -= 1;
         Some(entered.id)
@@ -140,7 +137,7 @@ impl Directory {
         ensures len { result ≡ length self.now.rows }
         ensures distinct { AreDistinct self.now.rows }
     {
-        // As in `find`.
+        // What it says is wanted here: that no name stands twice.
         let _ = self.ids.len();
         self.count
     }

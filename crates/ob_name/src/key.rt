@@ -1,55 +1,29 @@
 // Names as keys of a hash map. A name is hashed by two writes, and a borrowed one is looked up as it stands.
 ghost use Rattle.std.specs.Prelude.{◌≡◌, fold};
 ghost use Rattle.std.specs.Cmp.{on_equiv, on_per};
-ghost use Rattle.ob_name.specs.Keys.{fed_name, space_number};
-ghost use Rattle.ob_name.specs.Listing.{same_name, same_space};
-ghost use Rattle.ob_name.specs.Refs.{name_at, namespace_of};
+ghost use Rattle.ob_name.specs.Keys.{fed_name};
+ghost use Rattle.ob_name.specs.Listing.{same_name};
+ghost use Rattle.ob_name.specs.Refs.{name_at};
 ghost use Rattle.ob_name.specs.Same.{fed_alike, same_name_equiv, same_name_per};
 
+use crate::bytes::same_bytes;
 use crate::name::NameRef;
 use crate::owned::Name;
-use crate::space::Space;
 use indexmap::Equivalent;
 use std::hash::{Hash, Hasher};
-
-#[inline(always)]
-fn space_number(space: Space) -> u64
-    ensures { result ≡ space_number (namespace_of space) }
-{
-    match space {
-        Space::Global => 0,
-        Space::Session(session) => session.number as u64,
-    }
-}
-
-#[inline(always)]
-fn same_space(space: Space, other: Space) -> bool
-    ensures { result ≡ same_space (namespace_of space) (namespace_of other) }
-{
-    match space {
-        Space::Global => match other {
-            Space::Global => true,
-            Space::Session(_) => false,
-        },
-        Space::Session(session) => match other {
-            Space::Global => false,
-            Space::Session(other) => session.number == other.number,
-        },
-    }
-}
 
 #[inline(always)]
 fn same_name(name: &NameRef<'_>, other: &NameRef<'_>) -> bool
     ensures { result ≡ same_name (name_at name.now) (name_at other.now) }
 {
-    same_space(name.space, other.space) && name.base == other.base
+    name.space.session() == other.space.session() && same_bytes(name.base, other.base)
 }
 
 #[inline(always)]
 fn feed<H: Hasher>(name: &NameRef<'_>, state: &mut H)
     ensures { state.new ≡ fold H.write state.old (fed_name (name_at name.now)) }
 {
-    state.write_u64(space_number(name.space));
+    state.write_u64(name.space.session() as u64);
     state.write(name.base);
 }
 

@@ -12,6 +12,7 @@
 //! ```
 #![tactic(auto)]
 
+mod bytes;
 mod directory;
 mod entered;
 mod key;

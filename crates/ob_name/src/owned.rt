@@ -11,18 +11,18 @@ use std::marker::Model;
 /// [`Directory::reserve`]: crate::Directory::reserve
 #[derive(Drop)]
 pub struct Name {
-    space: Space,
+    // The session's number, 0 for the global namespace.
+    session: u32,
     base: Vec<u8>,
 }
 
 impl Model for Name {
     ghost use Rattle.std.specs.Prelude.{◌≤◌, length};
-    ghost use Rattle.ob_name.specs.Names.{ObjectName};
-    ghost use Rattle.ob_name.specs.Refs.{namespace_of};
+    ghost use Rattle.ob_name.specs.Names.{ObjectName, home};
 
     ghost Value = { ObjectName };
 
-    ghost view = { λ n. record { space = namespace_of n.space; base = n.base.items } };
+    ghost view = { λ n. record { space = home n.session; base = n.base.items } };
 
     ghost invariant = { λ n. length n.base.items ≤ 260 };
 }
@@ -32,10 +32,10 @@ impl Name {
     pub fn new(alloc: Global, name: &NameRef<'_>) -> Result<Name, AllocError>
         ensures { IfOk result (λ copy. copy ≡ name_at name.now) }
     {
-        let mut base = Vec::new(alloc);
+        let mut base = Vec::with_capacity(alloc, name.base.len())?;
         base.extend_from_slice(name.base)?;
         Ok(Name {
-            space: name.space,
+            session: name.space.session(),
             base,
         })
     }
@@ -46,7 +46,7 @@ impl Name {
         ensures { name_at result ≡ self.now }
     {
         NameRef {
-            space: self.space,
+            space: Space::of_session(self.session),
             base: self.base.as_slice(),
         }
     }

@@ -1,15 +1,30 @@
 // Names that stand at numbered places: `order` has the number of the entry at each place, where one stands.
-ghost use Rattle.std.specs.Prelude.{◌≡◌, ℕ, ◌+◌, ◌-◌, ◌<◌, ◌≤◌, None, [], ◌∷◌, length, slice_get, vec_capacity, IfNone, IfSome, if◌then◌else◌};
-ghost use Rattle.std.specs.HashMap.{spare};
+ghost use Rattle.std.specs.Prelude.{◌≡◌, ℕ, ◌+◌, ◌-◌, ◌<◌, ◌≤◌, None, [], ◌∷◌, length, position, slice_get, vec_capacity, IfNone, IfSome, if◌then◌else◌};
+ghost use Rattle.std.specs.HashMap.{spare, values};
+ghost use Rattle.std.specs.List.{IsDistinct};
+ghost use Rattle.std.specs.Map.{keys_of, lookup};
+ghost use Rattle.ob_name.specs.Listing.{same_name};
 ghost use Rattle.std.specs.Option.{option_map};
 ghost use Rattle.ob_name.specs.Order.{IsOrdered, IsRenumbered, row_on, rows_between, rows_of};
-ghost use Rattle.ob_name.specs.Refs.{row_at};
+ghost use Rattle.ob_name.specs.Refs.{name_at, row_at};
 
 use crate::entered::Entered;
 use crate::name::NameRef;
 use crate::owned::Name;
 use indexmap::IndexMap;
 use pin_core::Id;
+
+/// The number of a name's entry. It is not inlined, so that the hash is, here alone.
+#[inline(never)]
+pub(crate) fn entry_of(ids: &IndexMap<Name, Entered>, name: &NameRef<'_>) -> Option<usize>
+    ensures index { result ≡ position (same_name (name_at name.now)) (keys_of ids.now.entries) }
+    ensures none { IfNone result (lookup (same_name (name_at name.now)) ids.now.entries ≡ None) }
+    ensures value { IfSome result (λ index. slice_get (values ids.now) index ≡ lookup (same_name (name_at name.now)) ids.now.entries) }
+    ensures within { IfSome result (λ index. index < length ids.now.entries) }
+    ensures unique { IsDistinct same_name (keys_of ids.now.entries) }
+{
+    ids.get_index_of(*name)
+}
 
 /// Writes the number of an entry to its place.
 pub(crate) fn renumber(ids: &IndexMap<Name, Entered>, order: &mut Vec<usize>, index: usize)

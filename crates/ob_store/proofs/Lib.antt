@@ -20,3 +20,4 @@ pub mod PlacedLaws
 pub mod AddedLaws
 pub mod ReclaimedLaws
 pub mod CameLaws
+pub mod ConsistentLaws

@@ -6,3 +6,4 @@ pub mod State
 pub mod Directory
 pub mod Kept
 pub mod Moves
+pub mod Consistent

@@ -22,6 +22,7 @@ mod lives;
 mod numbers;
 mod objects;
 mod pinning;
+mod pins;
 mod processes;
 mod reclaiming;
 mod seat;

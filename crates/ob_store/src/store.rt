@@ -9,6 +9,7 @@ ghost use Rattle.ob_tables.specs.Tables.{table_of};
 ghost use Rattle.ob_waits.specs.Waits.{number_of};
 ghost use Rattle.ob_store.specs.Objects.{object_of};
 ghost use Rattle.ob_store.specs.State.{handles_of, blocks_of, id_at, is_full, opening, shape_of, vacancy};
+ghost use Rattle.ob_store.specs.Consistent.{IsConsistent};
 ghost use Rattle.ob_store.specs.Directory.{directory_of};
 
 use crate::limits::Limits;
@@ -74,6 +75,15 @@ impl<K: PinKeeper> Store<K> {
             }
             Err(keeper) => return Err(keeper),
         }
+    }
+
+    /// What holds of the state and the keeper whenever no call is under way.
+    #[tactic(auto, using(crate::proofs::ConsistentLaws::consistent))]
+    pub fn kept(&self)
+        ensures { IsConsistent self.now }
+    {
+        self.objects.kept();
+        let _ = self.waits.wait_of(0);
     }
 
     /// What it may hold at most.
@@ -159,6 +169,7 @@ impl<K: PinKeeper> Store<K> {
         ensures body { IfSome result (λ seat. slice_index_or self.now.state.bodies slot None ≡ seat.now.body) }
         ensures handles { IfSome result (λ seat. seat.now.handles ≡ handles_of self.now.state seat.now.id) }
         ensures blocks { IfSome result (λ seat. seat.now.blocks ≡ blocks_of self.now.state seat.now.id) }
+        ensures id { IfSome result (λ seat. seat.now.id.slot ≡ slot) }
     {
         // What it says is wanted here: that the object has the Id of its slot.
         self.objects.kept();
@@ -174,8 +185,11 @@ impl<K: PinKeeper> Store<K> {
 
     /// The object of a name. It has a handle.
     pub fn find(&self, name: &NameRef<'_>) -> Option<Id>
-        ensures { result ≡ find_name (name_at name.now) (directory_of self.now.state) }
+        ensures value { result ≡ find_name (name_at name.now) (directory_of self.now.state) }
+        ensures handled { IfSome result (λ id. 0 < handles_of self.now.state id) }
     {
+        // What it says is wanted here.
+        self.objects.kept();
         self.names.find(name)
     }
 

@@ -1,0 +1,36 @@
+-- What a reader is told of the state and the keeper whenever no call is under way.
+use Rattle.std.specs.Prelude.{◌≡◌, ℕ, ◌+◌, ◌<◌, nat_lt, false, None, length, is_some, slice_index_or}
+use Rattle.pin_core.specs.declared.id.Id.{Id}
+use Rattle.pin_core.specs.Worlds.{slot_of}
+use Rattle.ob_name.specs.Listing.{AreDistinct}
+use Rattle.ob_waits.specs.Rules.{IsKept}
+use Rattle.ob_store.specs.Agreement.{Agrees, AreBorn, IsListed}
+use Rattle.ob_store.specs.State.{Whole, handles_of, blocks_of, settled, shape_of}
+use Rattle.ob_store.specs.Directory.{directory_of}
+use Rattle.ob_store.specs.Kept.{AreFormed, AreOfLive, IsNamed, IsQuiet, IsThere, LivesKept}
+
+pub record IsConsistent (w : Whole) : Type 0 where
+  -- numbers are within the limits, each process number has a table, and a live thread's process is live
+  pub lives : LivesKept w.state.limits (record { processes = w.state.processes; threads = w.state.threads }) (length w.state.tables)
+  -- slot by slot: free, or given up, or with one object of the slot's Id and descriptor, live with a body and closing without
+  pub slots : (k : ℕ) → k < w.keeper.shape.slots → Agrees k (slice_index_or w.state.objects k None) (slice_index_or w.state.bodies k None) (slice_index_or w.state.retired k false) (slot_of w.keeper.slots k)
+  pub shape : w.keeper.shape ≡ shape_of w.state.limits
+  -- each object's Id is published with its descriptor, where the keeper lists what it published
+  pub published : IsListed w.keeper.published w.state.objects
+  -- births are distinct, and below their count
+  pub born : AreBorn w.state.objects w.state.births
+  -- each Id of an entry or of a pending wait is that of an object
+  pub named : IsNamed w.state.objects w.state.tables w.state.waits
+  -- an object has a body exactly where an entry or a pending wait refers to it
+  pub ended : (id : Id) → IsThere w.state.objects id → is_some (slice_index_or w.state.bodies id.slot None) ≡ nat_lt 0 (handles_of w.state id + blocks_of w.state id)
+  -- and the body is what the object's descriptor says
+  pub formed : AreFormed w.state.objects w.state.bodies
+  -- no name stands twice in the directory
+  pub distinct : AreDistinct (directory_of w.state)
+  -- each wait is one that may be waited for, a thread has one, and it is live; so is the owner of a mutex
+  pub waits : IsKept w.state.waits
+  pub of_live : AreOfLive w.state.threads w.state.bodies w.state.waits
+  -- no pending wait is ready, and none is for a mutex that its thread owns as often as the limit lets
+  pub quiet : IsQuiet w.state.limits.max_recursion w.state.bodies w.state.waits
+  -- nothing is left to settle
+  pub still : settled w.state ≡ w.state
