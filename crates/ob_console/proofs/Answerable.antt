@@ -22,7 +22,7 @@ use Rattle.ob_manager.specs.Handles.{close}
 use Rattle.ob_manager.specs.Signaling.{modify_state, set_event, reset_event, release_semaphore, release_mutex}
 use Rattle.ob_manager.specs.Counting.{counts, object_of}
 use Rattle.ob_manager.specs.Reaping.{if_ended, reap}
-use Rattle.ob_manager.specs.Steps.{Step, does, lacks, stub, outcome_of, takes_memory, final, Keeps, Publishes}
+use Rattle.ob_manager.specs.Steps.{Step, does, lacks, outcome_of, takes_memory, final, Keeps, Publishes}
 
 -- an answer to a call
 pub record CanAnswer (w : Whole) (call : Call) : Type 0 where
@@ -113,4 +113,3 @@ keeps_shape (Previous count) s k k' keeps = ap (λ (k : KeeperState). k.shape) k
 pub step_shape : (w : Whole) (call : Call) (reply : Reply) (v : Whole) → Step w call reply v → v.keeper.shape ≡ w.keeper.shape
 step_shape w call reply v (does outcome keeps) = keeps_shape reply v.state w.keeper v.keeper keeps
 step_shape w call reply v (lacks takes there fault same) = ap (λ (whole : Whole). whole.keeper.shape) same
-step_shape w call reply v (stub same) = same

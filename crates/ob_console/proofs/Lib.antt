@@ -1,11 +1,14 @@
 pub mod Cuts
 pub mod Fieldless
 pub mod Digits
+pub mod Hex
 pub mod Texts
 pub mod Written
+pub mod Flushed
 pub mod Lines
 pub mod Answerable
 pub mod Going
 pub mod Advancing
+pub mod Listed
 pub mod Feeding
 pub mod Reading

@@ -7,7 +7,7 @@ use pin_words::LockedPins;
 
 /// Makes a call.
 pub fn reply_to(manager: &mut Manager<LockedPins>, ask: Ask<'_>) -> Reply
-    ensures { Step manager.old (call_in ask) result manager.new }
+    ensures { Step manager.old (call_in ask.entry) result manager.new }
 {
     match ask {
         Ask::Spawn { session } => manager.spawn(session),

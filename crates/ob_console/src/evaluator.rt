@@ -51,7 +51,7 @@ impl Evaluator {
     /// Does what a line asks, and prints its answer.
     pub fn answer<W: Sink>(&mut self, sink: &mut W, act: Act<'_>) -> Result<(), NotWritten>
         requires { self.old.lines < 2 ^ 127 }
-        ensures prints { (printed : List ℕ) × Prints self.old.whole (self.old.lines + 1) (act_in act) printed self.new.whole
+        ensures prints { (printed : List ℕ) × Prints self.old.whole (self.old.lines + 1) (act_in act.entry) printed self.new.whole
             × IsWritten result (W.taken sink.old) (W.taken sink.new) (self.old.pending.bytes ++ printed) self.new.pending.bytes }
         ensures lines { self.new.lines ≡ self.old.lines + 1 }
         ensures calls { W.calls sink.new + self.new.pending.writes_left ≡ W.calls sink.old + self.old.pending.writes_left }

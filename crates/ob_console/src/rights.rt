@@ -29,6 +29,7 @@ pub fn mask_of(word: &[u8]) -> Option<Rights>
     }
 }
 
+#[tactic(auto, using(crate::proofs::Hex::one_more_fits))]
 fn hex_of(digits: &[u8]) -> Option<Rights>
     ensures { result ≡ hex_of digits.now }
 {

@@ -13,7 +13,7 @@ loop-i-init g c =
     let is = c.in-Ok.ensures.opening in
     record {
       reading = reading_begins c.args.limits c.in-Ok.console (g.R.Source.given c.args.reader.now) (g.W.Sink.taken c.args.writer.now)
-          (opens c.args.limits c.in-Ok.console (ap (λ (console : ConsoleState). console.state) is) (ap (λ (console : ConsoleState). console.lines) is) (ap (λ (console : ConsoleState). console.held) is));
+          (opens c.args.limits c.in-Ok.console (ap (λ (console : ConsoleState). console.whole) is) (ap (λ (console : ConsoleState). console.lines) is) (ap (λ (console : ConsoleState). console.held) is));
       block = c.in-Ok-zeros.ensures;
       written = ap (λ (console : ConsoleState). console.pending.bytes) is;
       lines = omega (arith, ap (λ (console : ConsoleState). console.lines) is);

@@ -18,14 +18,14 @@ cut (Err fault) old mid new block before taken later fed state_is held_is lines_
 
 pub returns-in-Ok-clause-ok : goal.returns-in-Ok-clause-ok
 returns-in-Ok-clause-ok g c =
-    let mid : ConsoleState = record { state = c.self.inside.manager; pending = c.self.inside.output; held = c.self.inside.held; lines = c.self.inside.lines } in
-    flushed c.flush.result c.args.self.now mid (record mid { pending = c.flush.new.self }) c.args.block.now (g.W.Sink.taken c.args.sink.now) (g.W.Sink.taken c.feed.new.sink) (g.W.Sink.taken c.flush.new.sink)
+    let mid : ConsoleState = record { whole = c.self.inside.evaluator.whole; pending = c.self.inside.evaluator.pending; held = c.self.inside.held; lines = c.self.inside.evaluator.lines } in
+    flushed c.flush.result c.args.self.now mid (record { whole = c.flush.new.self.whole; pending = c.flush.new.self.pending; held = c.self.inside.held; lines = c.flush.new.self.lines }) c.args.block.now (g.W.Sink.taken c.args.sink.now) (g.W.Sink.taken c.feed.new.sink) (g.W.Sink.taken c.flush.new.sink)
     (subst (λ (console : ConsoleState). IsFed c.args.self.now console c.args.block.now [] (g.W.Sink.taken c.args.sink.now) (g.W.Sink.taken c.feed.new.sink)) (sym c.self.view_is) c.in-Ok.ensures.ok)
-    refl refl refl c.flush.ensures.empty c.flush.ensures.ok
+    c.flush.ensures.whole refl c.flush.ensures.lines c.flush.ensures.empty c.flush.ensures.ok
 
 pub returns-in-Ok-clause-err : goal.returns-in-Ok-clause-err
 returns-in-Ok-clause-err g c =
-    let mid : ConsoleState = record { state = c.self.inside.manager; pending = c.self.inside.output; held = c.self.inside.held; lines = c.self.inside.lines } in
-    cut c.flush.result c.args.self.now mid (record mid { pending = c.flush.new.self }) c.args.block.now (g.W.Sink.taken c.args.sink.now) (g.W.Sink.taken c.feed.new.sink) (g.W.Sink.taken c.flush.new.sink)
+    let mid : ConsoleState = record { whole = c.self.inside.evaluator.whole; pending = c.self.inside.evaluator.pending; held = c.self.inside.held; lines = c.self.inside.evaluator.lines } in
+    cut c.flush.result c.args.self.now mid (record { whole = c.flush.new.self.whole; pending = c.flush.new.self.pending; held = c.self.inside.held; lines = c.flush.new.self.lines }) c.args.block.now (g.W.Sink.taken c.args.sink.now) (g.W.Sink.taken c.feed.new.sink) (g.W.Sink.taken c.flush.new.sink)
     (subst (λ (console : ConsoleState). IsFed c.args.self.now console c.args.block.now [] (g.W.Sink.taken c.args.sink.now) (g.W.Sink.taken c.feed.new.sink)) (sym c.self.view_is) c.in-Ok.ensures.ok)
-    refl refl refl c.flush.ensures.err
+    c.flush.ensures.whole refl c.flush.ensures.lines c.flush.ensures.err

@@ -1,0 +1,26 @@
+use Rattle.std.proofs.Common.{List, ℕ, [], ◌+◌, ◌++◌, sym, subst, ◌∙◌, ap}
+use Rattle.std.proofs.lemmas.List.{append-nil}
+use Rattle.ob_console.specs.Acts.{Act}
+use Rattle.ob_console.specs.Runs.{Prints}
+use Rattle.ob_console.specs.Sessions.{ConsoleState, Finishes, IsWritten}
+use Rattle.ob_console.proofs.Advancing.{finishes_empty, finishes_line}
+use Rattle.ob_console.proofs.console.Console.last_line.Goals as goal
+
+pub returns-then-is_empty-clause-finishes : goal.returns-then-is_empty-clause-finishes
+returns-then-is_empty-clause-finishes g c =
+    ([], finishes_empty c.args.self.now (ap (λ (console : ConsoleState). console.held) (sym c.self.view_is) ∙ c.is_empty.ensures.0 c.if-is_empty.true), record { done = []; grown = sym (append-nil _); part = sym (append-nil _) })
+
+pub returns-clause-finishes : goal.returns-clause-finishes
+returns-clause-finishes g c =
+    let old : ConsoleState = record { whole = c.self.inside.evaluator.whole; pending = c.self.inside.evaluator.pending; held = c.self.inside.held; lines = c.self.inside.evaluator.lines } in
+    let new : ConsoleState = record { whole = c.answer.new.self.whole; pending = c.answer.new.self.pending; held = c.self.inside.held; lines = c.answer.new.self.lines } in
+    let prints = c.answer.ensures.prints in
+    subst (λ (old : ConsoleState). (printed : List ℕ) × Finishes old printed
+    × IsWritten c.answer.result (g.W.Sink.taken c.args.sink.now) (g.W.Sink.taken c.answer.new.sink) (old.pending.bytes ++ printed) c.answer.new.self.pending.bytes)
+    c.self.view_is (
+      prints.0,
+      finishes_line old new prints.0
+          (λ empty. let passes = c.is_empty.ensures.1 empty in let fails = c.if-is_empty.false in cc)
+          (subst (λ (act : Act). Prints old.whole (old.lines + 1) act prints.0 new.whole) c.act.ensures prints.1),
+      prints.2,
+    )

@@ -1,0 +1,39 @@
+use Rattle.std.proofs.Common.{ℕ, List, Option, ◌++◌, subst, sym, ap, ◌∙◌}
+use Rattle.ob_console.specs.Acts.{act_in}
+use Rattle.ob_console.specs.Held.{act_of_held, more_held}
+use Rattle.ob_console.specs.Printed.{line_end}
+use Rattle.ob_console.specs.Sessions.{ConsoleState, Advances, IsWritten}
+use Rattle.ob_console.proofs.Advancing.{line_advances}
+use Rattle.ob_console.proofs.Texts.{act_of_capped}
+use Rattle.ob_console.proofs.console.Console.line.Goals as goal
+
+pub returns-then-is_empty-clause-advances : goal.returns-then-is_empty-clause-advances
+returns-then-is_empty-clause-advances g c =
+    let old : ConsoleState = record { whole = c.self.inside.evaluator.whole; pending = c.self.inside.evaluator.pending; held = c.self.inside.held; lines = c.self.inside.evaluator.lines } in
+    let new : ConsoleState = record { whole = c.answer.new.self.whole; pending = c.answer.new.self.pending; held = c.self.inside.held; lines = c.answer.new.self.lines } in
+    let empty = c.is_empty.ensures.0 c.if-is_empty.true in
+    let prints = c.answer.ensures.prints in
+    subst (λ (old : ConsoleState). (printed : List ℕ) × Advances old (c.args.end.now ++ line_end) printed new
+    × IsWritten c.answer.result (g.W.Sink.taken c.args.sink.now) (g.W.Sink.taken c.answer.new.sink) (old.pending.bytes ++ printed) c.answer.new.self.pending.bytes)
+    c.self.view_is (
+      prints.0,
+      line_advances old new (act_in c.act_of.result) c.args.end.now prints.0 c.requires.within
+          (c.act_of.ensures ∙ sym (act_of_capped c.args.end.now) ∙ ap (λ (held : Option (List ℕ)). act_of_held (more_held held c.args.end.now)) (sym empty))
+          prints.1 c.answer.ensures.lines empty,
+      prints.2,
+    )
+
+pub returns-clause-advances : goal.returns-clause-advances
+returns-clause-advances g c =
+    let old : ConsoleState = record { whole = c.self.inside.evaluator.whole; pending = c.self.inside.evaluator.pending; held = c.self.inside.held; lines = c.self.inside.evaluator.lines } in
+    let new : ConsoleState = record { whole = c.answer-answered.new.self.whole; pending = c.answer-answered.new.self.pending; held = c.clear.new.self; lines = c.answer-answered.new.self.lines } in
+    let prints = c.answer-answered.ensures.prints in
+    subst (λ (old : ConsoleState). (printed : List ℕ) × Advances old (c.args.end.now ++ line_end) printed new
+    × IsWritten c.answer-answered.result (g.W.Sink.taken c.args.sink.now) (g.W.Sink.taken c.answer-answered.new.sink) (old.pending.bytes ++ printed) c.answer-answered.new.self.pending.bytes)
+    c.self.view_is (
+      prints.0,
+      line_advances old new (act_in c.act.result) c.args.end.now prints.0 c.requires.within
+          (c.act.ensures ∙ ap act_of_held c.extend.ensures)
+          prints.1 c.answer-answered.ensures.lines c.clear.ensures,
+      prints.2,
+    )
