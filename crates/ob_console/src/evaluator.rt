@@ -96,7 +96,11 @@ fn opened(alloc: Global, limits: Limits) -> Result<Manager<LockedPins>, Fault>
 }
 
 /// Prints the names of objects.
-fn list<W: Sink>(manager: &Manager<LockedPins>, output: &mut Output, sink: &mut W) -> Result<(), NotWritten>
+fn list<W: Sink>(
+    manager: &Manager<LockedPins>,
+    output: &mut Output,
+    sink: &mut W,
+) -> Result<(), NotWritten>
     ensures written { IsWritten result (W.taken sink.old) (W.taken sink.new) (output.old.bytes ++ printed_names (directory_of manager.now.state)) output.new.bytes }
     ensures calls { W.calls sink.new + output.new.writes_left ≡ W.calls sink.old + output.old.writes_left }
     ensures faults { W.faults sink.old ≤ W.faults sink.new }

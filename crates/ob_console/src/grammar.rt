@@ -5,9 +5,9 @@ ghost use Rattle.ob_console.specs.Acts.{act_in, call_in};
 ghost use Rattle.ob_console.specs.Grammar.{act_of, call_of, close_of, count_of, event_of, handle_of, mutex_of, open_of, reap_of, release_of, reset_of, semaphore_of, set_of, spawn_of, text_of, thread_of, unlock_of};
 
 use crate::act::{Act, Ask};
+use crate::naming::{make_of, name_of};
 use crate::numbers::{either_of, id_of, labelled, number_of, signed_of};
 use crate::rights::{kind_of, mask_of};
-use crate::naming::{make_of, name_of};
 use crate::words::Words;
 
 /// The longest text of a line, in bytes.
