@@ -1,5 +1,5 @@
 -- Creating and opening.
-use Rattle.std.specs.Prelude.{ℕ, nat_lt, Bool, true, false, not, List, Option, Some, None, Result, Ok, Err, if◌then◌else◌, slice_index_or, ℤ}
+use Rattle.std.specs.Prelude.{ℕ, nat_lt, Bool, false, not, List, Option, Some, None, Result, Ok, Err, if◌then◌else◌, slice_index_or, ℤ}
 use Rattle.pin_core.specs.declared.id.Id.{Id}
 use Rattle.pin_core.specs.declared.descr.Descr.{Descr}
 use Rattle.ob_rights.specs.declared.fault.Fault.{Fault}
@@ -10,7 +10,6 @@ use Rattle.ob_rights.specs.declared.rights.Rights.{Rights}
 use Rattle.ob_rights.specs.declared.handle_flags.HandleFlags.{HandleFlags}
 use Rattle.ob_rights.specs.Rights.{all_access, within}
 use Rattle.ob_arena.specs.Slots.{least_vacant}
-use Rattle.ob_body.specs.declared.body.Body.{Body}
 use Rattle.ob_body.specs.declared.body.Body.TheVariants as body
 use Rattle.ob_body.specs.Mutex as mutex
 use Rattle.ob_name.specs.Names.{ObjectName}
@@ -21,9 +20,8 @@ use Rattle.ob_tables.specs.Table.{free_place, value_of}
 use Rattle.ob_tables.specs.Tables.{table_of}
 use Rattle.ob_manager.specs.declared.making.Making.{Making}
 use Rattle.ob_manager.specs.declared.creating.New.{New}
-use Rattle.ob_manager.specs.declared.reply.Reply.{Reply}
 use Rattle.ob_manager.specs.declared.reply.Reply.TheVariants.{Made, Exists, Opened}
-use Rattle.ob_store.specs.Objects.{Object, Head}
+use Rattle.ob_store.specs.Objects.{Head}
 use Rattle.ob_store.specs.State.{State, id_at, is_full, settled, vacancy, with_entry, with_object}
 use Rattle.ob_store.specs.Directory.{directory_of}
 use Rattle.ob_manager.specs.Outcomes.{Outcome, ◌>>=◌, or_refuse, refuse_if}

@@ -1,4 +1,4 @@
-use Rattle.std.proofs.Common.{rules, ◌≡◌, ◌∙◌, ap, sym, not, refl, Bool, true, false}
+use Rattle.std.proofs.Common.{rules, ◌≡◌, ◌∙◌, sym, not, refl, Bool, true, false}
 use Rattle.pin_core.specs.Holds.{same_id}
 use Rattle.ob_tables.proofs.Counting.{one_id}
 use Rattle.ob_store.specs.Objects.{object_of}
