@@ -1,6 +1,5 @@
 -- What is stored of references goes on being what is counted, as each change changes both.
-use Rattle.std.proofs.Common.{◌≡◌, ℕ, ◌+◌, ◌-◌, ◌*◌, ◌<◌, ◌≤◌, List, [], ◌∷◌, length, Option, Some, None, refl, ap, ◌∙◌, sym, arith, get_or, set}
-use Rattle.std.proofs.lemmas.List.{length-set}
+use Rattle.std.proofs.Common.{◌≡◌, ℕ, ◌+◌, ◌-◌, ◌<◌, List, [], ◌∷◌, length, Option, Some, None, refl, ap, ◌∙◌, sym, arith, get_or, set}
 use Rattle.std.specs.Prelude.{replicate}
 use Rattle.ob_body.specs.declared.body.Body.{Body}
 use Rattle.ob_tables.specs.declared.entry.Entry.{Entry}
@@ -11,7 +10,6 @@ use Rattle.ob_tables.proofs.SlotCounts.{one_in-same, one_in-other, slot_handles-
 use Rattle.ob_waits.specs.declared.wait.Wait.{Wait}
 use Rattle.ob_waits.specs.Objects.{Objects}
 use Rattle.ob_waits.specs.Waits.{Scene, settled, slot_blocks}
-use Rattle.ob_waits.specs.Ends.{HasBlocks}
 use Rattle.ob_waits.proofs.Ends.{sizes_settled}
 use Rattle.ob_waits.proofs.References.{settled_counts}
 use Rattle.ob_store.specs.State.{by_slot}

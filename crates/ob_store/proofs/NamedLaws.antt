@@ -1,5 +1,5 @@
 -- Each Id that is named goes on being that of an object; and what a slot counts is what its object's Id counts.
-use Rattle.std.proofs.Common.{◌≡◌, ◌≢◌, ℕ, zero, suc, ◌+◌, ◌<◌, ◌≤◌, List, [], ◌∷◌, length, Option, Some, None, refl, ap, ◌∙◌, sym, subst, arith, get_or, set, Bool, true, false, cond, inl, inr, eqb}
+use Rattle.std.proofs.Common.{◌≡◌, ◌≢◌, ℕ, suc, ◌<◌, ◌≤◌, List, [], ◌∷◌, length, Option, Some, None, refl, ap, ◌∙◌, sym, subst, arith, get_or, set, Bool, true, false, cond, inl, inr, eqb}
 use Rattle.std.specs.Prelude.{sum_by}
 use Rattle.std.proofs.lemmas.List.{get_or_past, get_or-set_same, get_or-set_other}
 use Rattle.std.proofs.lemmas.List.Sums.{sum_by-cons, get_or-le-sum_by}
@@ -12,9 +12,8 @@ use Rattle.ob_tables.specs.Table.{at, entry_at}
 use Rattle.ob_tables.specs.Counts.{names, handles_in, handles_among, slot_handles}
 use Rattle.ob_tables.specs.Tables.{table_of, with_process, with_entry_of, without_entry_of}
 use Rattle.ob_tables.proofs.Counting.{same_id-same, one_id, one_of, some_within, found_counts, handles_among-with_entry, handles_among-without_entry, handles_among-with_process}
-use Rattle.ob_tables.proofs.SlotCounts.{slot_handles-le, slot_handles-one}
+use Rattle.ob_tables.proofs.SlotCounts.{slot_handles-one}
 use Rattle.ob_waits.specs.declared.wait.Wait.{Wait}
-use Rattle.ob_waits.specs.Objects.{Objects}
 use Rattle.ob_waits.specs.Waits.{Scene, settled, nowhere, ids_of, slot_places, slot_blocks, blocks_in, blocks_among}
 use Rattle.ob_waits.proofs.Counted.{blocks_settled}
 use Rattle.ob_store.specs.Objects.{Object}

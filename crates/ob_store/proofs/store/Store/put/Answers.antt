@@ -1,4 +1,4 @@
-use Rattle.std.proofs.Common.{◌≡◌, ◌∙◌, ap, sym, subst, get_or, Option, Some, None}
+use Rattle.std.proofs.Common.{◌≡◌, ◌∙◌, ap, sym, subst, get_or, Some, None}
 use Rattle.ob_waits.proofs.Room.{rooms_at_more}
 use Rattle.ob_store.specs.State.{Whole, settled, with_body}
 use Rattle.ob_store.proofs.KeptLaws.{kept_put, put_state, ready, room}

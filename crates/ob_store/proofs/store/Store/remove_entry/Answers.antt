@@ -1,4 +1,4 @@
-use Rattle.std.proofs.Common.{◌≡◌, ◌∙◌, ap, sym, subst, get_or, Option, Some, None}
+use Rattle.std.proofs.Common.{◌≡◌, ◌∙◌, ap, sym, subst, get_or, Some, None}
 use Rattle.std.specs.Prelude.{IsSome}
 use Rattle.std.specs.Option.{option_map}
 use Rattle.ob_name.specs.Listing.{Rows}
@@ -6,7 +6,7 @@ use Rattle.ob_tables.specs.Table.{entry_at}
 use Rattle.ob_tables.specs.Tables.{HandleTables, table_of, without_entry_of}
 use Rattle.ob_store.specs.Agreement.{IsTied}
 use Rattle.ob_store.specs.Objects.{ObjectsState, object_of, without_handle_of, opened}
-use Rattle.ob_store.specs.Kept.{IsKept, IsListing}
+use Rattle.ob_store.specs.Kept.{IsListing}
 use Rattle.ob_store.specs.State.{Whole, settled, state_of, without_entry}
 use Rattle.ob_store.proofs.RemovedLaws.{held, kept_removed, listing_left_rows, only_closes, removed_state, seat_facts, seated}
 use Rattle.ob_store.proofs.store.Store.remove_entry.Goals as goal

@@ -1,5 +1,5 @@
-use Rattle.std.proofs.Common.{◌≡◌, ◌∙◌, ap, sym, subst, refl, get_or, ℕ, Option, Some, None, true}
-use Rattle.ob_body.specs.Body.{after_reset, is_signaled}
+use Rattle.std.proofs.Common.{◌≡◌, ◌∙◌, ap, sym, subst, refl, get_or, ℕ, Some, None, true}
+use Rattle.ob_body.specs.Body.{is_signaled}
 use Rattle.ob_store.specs.Kept.{Yields}
 use Rattle.ob_store.specs.State.{Whole, settled, with_body}
 use Rattle.ob_store.proofs.KeptLaws.{kept_put, put_state, less_value, quiet_less}
