@@ -155,6 +155,7 @@ outcome_answers s (calls.ReleaseSemaphore t h count) reply = search (andThen, ca
 outcome_answers s (calls.ReleaseMutex t h) reply = search (andThen, caller_wants, found_wants, kind_wants, unlock_wants)
 outcome_answers s (calls.Reap slot) reply = search (andThen, refuse_wants, ended_wants)
 outcome_answers s (calls.Counts id) reply = search (andThen, refuse_wants, or_wants)
+
 final_answers : (s : State) (r : Result Outcome Fault) → is_lack (final s r).reply ≡ answers r
 final_answers s (Ok o) = refl
 final_answers s (Err e) = refl

@@ -106,7 +106,11 @@ fn new_semaphore(initial: i32, max: i32) -> Result<New, Fault>
 
 /// What a name that a caller gives stands for in its session.
 #[tactic(auto, using(crate::proofs::Refusing::name_known))]
-fn name_in<'a, K: PinKeeper>(store: &Store<K>, process: u32, text: &'a [u8]) -> Result<NameRef<'a>, Fault>
+fn name_in<'a, K: PinKeeper>(
+    store: &Store<K>,
+    process: u32,
+    text: &'a [u8],
+) -> Result<NameRef<'a>, Fault>
     ensures value { parsed_name result ≡ name_in store.now.state process text.now }
     ensures refusal { IfErr result (λ fault. fault ≢ Fault.Memory) }
 {
@@ -117,7 +121,12 @@ fn name_in<'a, K: PinKeeper>(store: &Store<K>, process: u32, text: &'a [u8]) -> 
 }
 
 /// A new object without a name, and a handle to it.
-fn new_nameless<K: PinKeeper>(store: &mut Store<K>, process: u32, make: &Make<'_>, new: New) -> Result<Reply, Fault>
+fn new_nameless<K: PinKeeper>(
+    store: &mut Store<K>,
+    process: u32,
+    make: &Make<'_>,
+    new: New,
+) -> Result<Reply, Fault>
     requires table { process < length store.old.state.tables }
     requires given { IsGiven new.descr }
     requires formed { form_of new.body ≡ form_in new.descr }
@@ -247,7 +256,12 @@ fn named_object<K: PinKeeper>(
 
 /// A new object, or a handle to one that has the name already.
 #[tactic(auto, using(crate::proofs::Refusing::refuses_err))]
-fn create<K: PinKeeper>(store: &mut Store<K>, thread: u32, make: &Make<'_>, what: Result<New, Fault>) -> Result<Reply, Fault>
+fn create<K: PinKeeper>(
+    store: &mut Store<K>,
+    thread: u32,
+    make: &Make<'_>,
+    what: Result<New, Fault>,
+) -> Result<Reply, Fault>
     requires given { IfOk what (λ new. IsGiven new.descr) }
     requires formed { IfOk what (λ new. form_of new.body ≡ form_in new.descr) }
     requires owned { IfOk what (λ new. (t : ℕ) → spec.owner_of new.body ≡ Some t → t ≡ thread) }
@@ -256,7 +270,10 @@ fn create<K: PinKeeper>(store: &mut Store<K>, thread: u32, make: &Make<'_>, what
 {
     let process = caller(store, thread)?;
     let new = what?;
-    if !within(or_all(new.descr.kind, make.grant), all_access(new.descr.kind)) {
+    if !within(
+        or_all(new.descr.kind, make.grant),
+        all_access(new.descr.kind),
+    ) {
         return Err(Fault::Parameter);
     }
     let Some(text) = make.name else {
@@ -280,7 +297,12 @@ pub fn create_event<K: PinKeeper>(
 }
 
 /// A new mutex, or a handle to the mutex that has the name already.
-pub fn create_mutex<K: PinKeeper>(store: &mut Store<K>, thread: u32, make: &Make<'_>, owned: bool) -> Result<Reply, Fault>
+pub fn create_mutex<K: PinKeeper>(
+    store: &mut Store<K>,
+    thread: u32,
+    make: &Make<'_>,
+    owned: bool,
+) -> Result<Reply, Fault>
     ensures { GivesOrLacks result store.old store.new (create_mutex store.old.state thread (making_of make.now) owned) }
 {
     create(store, thread, make, Ok(new_mutex(thread, owned)))

@@ -31,7 +31,7 @@ mod tests;
 pub use call::Call;
 pub use card::Card;
 pub use law::law_of_steps;
-pub use manager::Manager;
 pub use making::{Make, Making, Text};
+pub use manager::Manager;
 pub use ob_store::{Limits, Seat};
 pub use reply::Reply;

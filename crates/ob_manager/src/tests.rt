@@ -13,8 +13,7 @@ const PLAIN: Make<'static> = Make {
     grant: None,
 };
 
-fn named(name: &[u8]) -> Make<'_>
-{
+fn named(name: &[u8]) -> Make<'_> {
     Make {
         name: Some(name),
         inherit: false,

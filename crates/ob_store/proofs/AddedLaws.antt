@@ -82,7 +82,6 @@ module _ (limits : Limits) (l : LivesState) (ts : HandleTables) (o : ObjectsStat
     (vacant : is_vacant_at (vacancy (places_in o)) slot ≡ true)
     (formed : form_of body ≡ form_in head.descr)
     (owned : (t : ℕ) → owner_of body ≡ Some t → IsLive l.threads t) where
-
   abbrev pub entry : Entry
   entry = record { id = id_of o.keeper.slots slot; rights = rights; flags = flags }
 

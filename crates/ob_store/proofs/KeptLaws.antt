@@ -171,7 +171,6 @@ module _ (limits : Limits) (l : LivesState) (ts : HandleTables) (o p q : Objects
     (yields : Yields old new)
     (put : p.seen ≡ record o.seen { bodies = set o.seen.bodies id.slot (Some new) })
     (put_rest : kept_rest p ≡ kept_rest o) where
-
   abbrev first : Scene
   first = record { objects = record o.seen { bodies = set o.seen.bodies id.slot (Some new) }; waits = ws.waits }
 
@@ -189,7 +188,6 @@ module _ (limits : Limits) (l : LivesState) (ts : HandleTables) (o p q : Objects
       (limit : ws'.limit ≡ ws.limit)
       (rest : kept_rest q ≡ kept_rest p)
       (quiet : IsQuiet limits.max_recursion q.seen.bodies ws'.waits) where
-
     is : ◌≡◌ {A = Scene} (record { objects = q.seen; waits = ws'.waits }) (waits.settled first)
     is = value ∙ ap (λ (x : Objects). waits.settled (record { objects = x; waits = ws.waits })) put
 

@@ -53,7 +53,6 @@ formed_fewer objects bodies k f = record { each = λ j o b there is. f.each j o 
 
 module _ (limits : Limits) (l : LivesState) (ts : HandleTables) (o : ObjectsState) (ws : WaitList) (rows : Rows) (kept : IsKept limits l ts o ws rows) (tied : IsTied o)
     (k : ℕ) (there : is_some (get_or o.objects k None) ≡ true) (ended : get_or o.seen.bodies k None ≡ None) where
-
   is_object : (q : Object) × (get_or o.objects k None ≡ Some q)
   is_object = found (get_or o.objects k None) there
 

@@ -72,7 +72,6 @@ module _ (limits : Limits) (l : LivesState) (ts : HandleTables) (o : ObjectsStat
     (kept : IsKept limits l ts o ws rows)
     (tied : IsTied o)
     (found : entry_at (table_of ts.tables p) value ≡ Some e) where
-
   there : IsThere o.objects e.id
   there = named_entry o.objects ts.tables ws.waits kept.named p value e found
 
