@@ -25,7 +25,7 @@ use Rattle.ob_manager.specs.declared.creating.New.{New}
 use Rattle.ob_manager.specs.declared.reply.Reply.{Reply}
 use Rattle.ob_manager.specs.Outcomes.{Outcome, ◌>>=◌, or_refuse, refuse_if}
 use Rattle.ob_manager.specs.Checks.{caller, found, if_kind, same_kind}
-use Rattle.ob_manager.specs.Creating.{create, created, name_in, named_object, new_event, new_handle, new_mutex, new_object, new_semaphore, own_name, semaphore_of}
+use Rattle.ob_manager.specs.Creating.{create, created, name_in, named_object, new_event, new_handle, new_mutex, new_object, new_semaphore, own_name, room_for, semaphore_of}
 use Rattle.ob_manager.specs.Reaping.{if_ended}
 use Rattle.ob_manager.specs.Steps.{Step, does, lacks, final, is_lack, is_memory, next, outcome_of}
 
@@ -112,8 +112,11 @@ own_wants s p (Some text) = then_wants (name_in s p text) _ (name_wants s p text
 handle_wants : (s : State) (p : ℕ) (id : Id) (k : Kind) (asked : Rights) (inherit : Bool) → wants (new_handle s p id k asked inherit) ≡ false
 handle_wants s p id k asked inherit = search (then_wants, or_wants, refuse_wants)
 
+room_wants : (s : State) (p : ℕ) (m : Making) (k : Kind) → wants (room_for s p m k) ≡ false
+room_wants s p m k = search (then_wants, or_wants, refuse_wants)
+
 object_answers : (s : State) (p : ℕ) (m : Making) (new : New) (name : Option ObjectName) → answers (new_object s p m new name) ≡ false
-object_answers s p m new name = search (andThen, or_wants, refuse_wants)
+object_answers s p m new name = search (andThen, room_wants)
 
 named_answers : (s : State) (p : ℕ) (m : Making) (new : New) (name : ObjectName) (id : Option Id) → answers (named_object s p m new name id) ≡ false
 named_answers s p m new name None = object_answers s p m new (Some name)

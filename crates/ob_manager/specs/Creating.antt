@@ -55,12 +55,18 @@ own_name s process (Some text) = do
   name ← name_in s process text
   Ok (Some name)
 
--- a new object in the least slot that may have one, and a handle to it with the rights that are asked for
+-- the slot of a new object, the least that may have one: 5 for a right outside all rights of its kind, 1450 where the process
+-- has all its handles or no slot is vacant
+abbrev pub room_for : State → ℕ → Making → Kind → Result ℕ Fault
+room_for s process making kind = do
+  _ ← refuse_if (not (within (or_all kind making.access).0 (all_access kind).0)) fault.Access
+  _ ← refuse_if (is_full s process) fault.Limit
+  or_refuse (least_vacant (vacancy s)) fault.Limit
+
+-- a new object, and a handle to it with the rights that are asked for
 abbrev pub new_object : State → ℕ → Making → New → Option ObjectName → Result Outcome Fault
 new_object s process making new name = do
-  _ ← refuse_if (not (within (or_all new.descr.kind making.access).0 (all_access new.descr.kind).0)) fault.Access
-  _ ← refuse_if (is_full s process) fault.Limit
-  slot ← or_refuse (least_vacant (vacancy s)) fault.Limit
+  slot ← room_for s process making new.descr.kind
   let head : Head = record { descr = new.descr; grant = or_all new.descr.kind making.grant; name = name } in
       let entry : Entry = entry_of (id_at s slot) (or_all new.descr.kind making.access) making.inherit in
       Ok (record { reply = Made (next_handle s process) (id_at s slot); state = settled (with_entry (with_object s slot head new.body) process entry) })

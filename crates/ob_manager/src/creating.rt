@@ -1,14 +1,15 @@
-ghost use Rattle.std.specs.Prelude.{◌≡◌, ◌≢◌, ◌<◌, IfErr, IfOk, None, Ok, OnErr, OnOk, Some, ℕ, length};
+ghost use Rattle.std.specs.Prelude.{◌≡◌, ◌≢◌, ◌<◌, false, true, IfErr, IfOk, None, Ok, OnErr, OnOk, Some, ℕ, length};
 ghost use Rattle.ob_body.specs.Body as spec;
 ghost use Rattle.ob_name.specs.Refs.{name_at, parsed_name};
 ghost use Rattle.ob_name.specs.Listing.{find_name};
 ghost use Rattle.ob_waits.specs.Form.{form_of};
 ghost use Rattle.pin_core.specs.Descrs.{IsGiven};
 ghost use Rattle.ob_store.specs.Directory.{directory_of};
-ghost use Rattle.ob_store.specs.State.{handles_of};
+ghost use Rattle.ob_arena.specs.Slots.{is_vacant_at};
+ghost use Rattle.ob_store.specs.State.{handles_of, is_full, vacancy};
 ghost use Rattle.ob_store.specs.Kept.{IsLive, form_in};
 ghost use Rattle.ob_manager.specs.Makings.{making_of};
-ghost use Rattle.ob_manager.specs.Creating.{create, create_event, create_mutex, create_semaphore, created, flags_of, name_in, new_event, new_handle, new_mutex, new_object, new_semaphore, next_handle, open_named, or_all};
+ghost use Rattle.ob_manager.specs.Creating.{create, create_event, create_mutex, create_semaphore, created, flags_of, name_in, new_event, new_handle, new_mutex, new_object, new_semaphore, next_handle, open_named, or_all, room_for};
 ghost use Rattle.ob_manager.specs.Outcomes.{Refuses};
 ghost use Rattle.ob_manager.specs.Steps.{GivesOrLacks};
 
@@ -120,6 +121,48 @@ fn name_in<'a, K: PinKeeper>(
     parse(text, session)
 }
 
+/// The slot of a new object: refused with 5 for a right outside all rights of its kind, and with 1450 where the process has all
+/// its handles or no slot is vacant.
+fn room_for<K: PinKeeper>(
+    store: &Store<K>,
+    process: u32,
+    make: &Make<'_>,
+    kind: Kind,
+) -> Result<u32, Fault>
+    requires { process < length store.now.state.tables }
+    ensures value { result ≡ room_for store.now.state process (making_of make.now) kind }
+    ensures room { OnOk result (is_full store.now.state process ≡ false) }
+    ensures vacant { IfOk result (λ slot. is_vacant_at (vacancy store.now.state) slot ≡ true) }
+{
+    if !within(or_all(kind, make.access), all_access(kind)) {
+        return Err(Fault::Access);
+    }
+    if store.is_full(process) {
+        return Err(Fault::Limit);
+    }
+    let Some(slot) = store.vacant() else {
+        return Err(Fault::Limit);
+    };
+    Ok(slot)
+}
+
+/// A new object but for its name, and its first handle.
+fn creation_of(make: &Make<'_>, new: New) -> Creation
+    ensures descr { result.descr ≡ new.descr }
+    ensures body { result.body ≡ new.body }
+    ensures grant { result.grant ≡ or_all new.descr.kind make.now.grant }
+    ensures rights { result.rights ≡ or_all new.descr.kind make.now.access }
+    ensures flags { result.flags ≡ flags_of make.now.inherit }
+{
+    Creation {
+        descr: new.descr,
+        body: new.body,
+        grant: or_all(new.descr.kind, make.grant),
+        rights: or_all(new.descr.kind, make.access),
+        flags: flags_of(make.inherit),
+    }
+}
+
 /// A new object without a name, and a handle to it.
 fn new_nameless<K: PinKeeper>(
     store: &mut Store<K>,
@@ -133,26 +176,9 @@ fn new_nameless<K: PinKeeper>(
     requires owned { (t : ℕ) → spec.owner_of new.body ≡ Some t → IsLive store.old.state.threads t }
     ensures { GivesOrLacks result store.old store.new (new_object store.old.state process (making_of make.now) new None) }
 {
-    let kind = new.descr.kind;
-    let rights = or_all(kind, make.access);
-    if !within(rights, all_access(kind)) {
-        return Err(Fault::Access);
-    }
-    if store.is_full(process) {
-        return Err(Fault::Limit);
-    }
-    let Some(slot) = store.vacant() else {
-        return Err(Fault::Limit);
-    };
+    let slot = room_for(store, process, make, new.descr.kind)?;
     let id = store.id_at(slot);
-    let creation = Creation {
-        descr: new.descr,
-        body: new.body,
-        grant: or_all(kind, make.grant),
-        rights,
-        flags: flags_of(make.inherit),
-    };
-    let handle = store.add_nameless(process, slot, creation)?;
+    let handle = store.add_nameless(process, slot, creation_of(make, new))?;
     Ok(Reply::Made { handle, id })
 }
 
@@ -171,26 +197,9 @@ fn new_named<K: PinKeeper>(
     requires absent { find_name (name_at name.now) (directory_of store.old.state) ≡ None }
     ensures { GivesOrLacks result store.old store.new (new_object store.old.state process (making_of make.now) new (Some (name_at name.now))) }
 {
-    let kind = new.descr.kind;
-    let rights = or_all(kind, make.access);
-    if !within(rights, all_access(kind)) {
-        return Err(Fault::Access);
-    }
-    if store.is_full(process) {
-        return Err(Fault::Limit);
-    }
-    let Some(slot) = store.vacant() else {
-        return Err(Fault::Limit);
-    };
+    let slot = room_for(store, process, make, new.descr.kind)?;
     let id = store.id_at(slot);
-    let creation = Creation {
-        descr: new.descr,
-        body: new.body,
-        grant: or_all(kind, make.grant),
-        rights,
-        flags: flags_of(make.inherit),
-    };
-    let handle = store.add_named(process, slot, creation, name)?;
+    let handle = store.add_named(process, slot, creation_of(make, new), name)?;
     Ok(Reply::Made { handle, id })
 }
 
