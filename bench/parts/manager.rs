@@ -1,8 +1,8 @@
 //! An object manager by hand, with the calls that crates/bench_calls measures: the same answers, the same refusals in the same
-//! order, and the same counters. As in a library of its own, the calls are not inlined.
+//! order, and the same counters. The compiler may inline its calls, as it may those of the other side.
 //!
 //! A name is hashed once a call, and where it leaves not at all: its object keeps the hash. A slot's generation and phase stand
-//! beside its object.
+//! beside its object, on one cache line.
 
 use crate::bits::Bits;
 use crate::body::Body;
@@ -116,8 +116,9 @@ struct Object {
     handles: u32,
     blocks: u64,
     body: Option<Body>,
-    /// The hash of its name.
-    name: Option<u64>,
+    is_named: bool,
+    /// The hash of its name, if it has one.
+    hash: u64,
 }
 
 #[derive(Clone, Copy, PartialEq, Eq)]
@@ -128,6 +129,7 @@ enum Phase {
     Retired,
 }
 
+#[repr(align(64))]
 struct Slot {
     generation: u32,
     phase: Phase,
@@ -145,6 +147,8 @@ struct Process {
     session: u32,
     table: Table<Bits>,
 }
+
+const _: () = assert!(size_of::<Slot>() == 64);
 
 /// Processes and threads are numbered from 1.
 pub struct Manager {
@@ -205,7 +209,6 @@ impl Manager {
         }
     }
 
-    #[inline(never)]
     pub fn spawn(&mut self, session: u32) -> Reply {
         let (process, thread) = (self.processes.len() as u32, self.threads.len() as u32);
         if self.limits.processes < process || self.limits.threads < thread {
@@ -216,43 +219,35 @@ impl Manager {
         Reply::Spawned { process, thread }
     }
 
-    #[inline(never)]
     pub fn create_event(&mut self, thread: u32, make: &Make<'_>, manual: bool, set: bool) -> Reply {
         let body = Body::Event { manual, set };
         self.create(thread, make, New { kind: Kind::Event, manual, max: 0, body }).into()
     }
 
-    #[inline(never)]
     pub fn open_named(&mut self, thread: u32, kind: Kind, mask: u32, inherit: bool, text: &[u8]) -> Reply {
         self.opened(thread, kind, mask, inherit, text).into()
     }
 
-    #[inline(never)]
     pub fn close(&mut self, thread: u32, handle: u32) -> Reply {
         self.closed(thread, handle).into()
     }
 
-    #[inline(never)]
     pub fn set_event(&mut self, thread: u32, handle: u32) -> Reply {
         self.changed(thread, handle, true).into()
     }
 
-    #[inline(never)]
     pub fn reset_event(&mut self, thread: u32, handle: u32) -> Reply {
         self.changed(thread, handle, false).into()
     }
 
-    #[inline(never)]
     pub fn reap(&mut self, slot: u32) -> Reply {
         self.reaped(slot).into()
     }
 
-    #[inline(never)]
     pub fn counts(&self, id: Id) -> Reply {
         self.counted(id).into()
     }
 
-    #[inline(never)]
     pub fn resolve(&self, process: u32, handle: u32) -> Result<Id, Fault> {
         let process = self.processes.get(process as usize).and_then(Option::as_ref).ok_or(Fault::Parameter)?;
         Ok(process.table.entry(handle).ok_or(Fault::Handle)?.id)
@@ -324,7 +319,8 @@ impl Manager {
             handles: 1,
             blocks: 0,
             body: Some(new.body),
-            name: name.map(|name| name.hash),
+            is_named: name.is_some(),
+            hash: name.map_or(0, |name| name.hash),
         });
         self.births += 1;
         if let Some(name) = name {
@@ -373,8 +369,8 @@ impl Manager {
             object.body = None;
             slot.phase = Phase::Closing;
         }
-        if let Some(hash) = object.name {
-            self.names.remove(hash, |row| row.is_of(id));
+        if object.is_named {
+            self.names.remove(object.hash, |row| row.is_of(id));
         }
         Ok(Reply::Closed)
     }
