@@ -56,6 +56,10 @@ fn refused(fault: Fault) -> Reply {
     Reply::Refused(fault)
 }
 
+fn gives(rt: &impl Abort, reply: Reply, due: Reply) {
+    assert_eq!(rt; reply, due);
+}
+
 /// A manager over pins under a lock. What was refused for want of memory is asked for again.
 fn locked(alloc: Global, limits: Limits) -> Result<Manager<LockedPins>, Fault> {
     let keeper = match LockedPins::new(alloc, limits.shape()) {
@@ -75,30 +79,33 @@ fn locked(alloc: Global, limits: Limits) -> Result<Manager<LockedPins>, Fault> {
 /// One slot with two generations: it is given twice, and then never again.
 fn plays_two_generations<K: PinKeeper>(rt: &impl Abort, manager: &mut Manager<K>) {
     let (first, second) = (object(0, 1), object(0, 2));
-    assert_eq!(rt; manager.spawn(1), spawned(1, 1));
-    assert_eq!(rt;
+    gives(rt, manager.spawn(1), spawned(1, 1));
+    gives(
+        rt,
         manager.create_event(1, &PLAIN, false, false),
-        made(4, first)
+        made(4, first),
     );
-    assert_eq!(rt; manager.reap(0), refused(Fault::Handle));
-    assert_eq!(rt; manager.close(1, 4), Reply::Closed);
-    assert_eq!(rt;
+    gives(rt, manager.reap(0), refused(Fault::Handle));
+    gives(rt, manager.close(1, 4), Reply::Closed);
+    gives(
+        rt,
         manager.create_event(1, &PLAIN, false, false),
-        refused(Fault::Limit)
+        refused(Fault::Limit),
     );
-    assert_eq!(rt; manager.reap(0), reaped(first, Reclaim::Freed));
-    assert_eq!(rt; manager.counts(first), refused(Fault::Handle));
-    assert_eq!(rt; manager.create_mutex(1, &PLAIN, false), made(4, second));
-    assert_eq!(rt; manager.counts(first), refused(Fault::Handle));
-    assert_eq!(rt; manager.counts(second), handled(1));
-    assert_eq!(rt; manager.close(1, 7), Reply::Closed);
-    assert_eq!(rt; manager.counts(second), handled(0));
-    assert_eq!(rt; manager.reap(0), reaped(second, Reclaim::Retired));
-    assert_eq!(rt; manager.reap(0), refused(Fault::Handle));
-    assert_eq!(rt; manager.reap(1), refused(Fault::Parameter));
-    assert_eq!(rt;
+    gives(rt, manager.reap(0), reaped(first, Reclaim::Freed));
+    gives(rt, manager.counts(first), refused(Fault::Handle));
+    gives(rt, manager.create_mutex(1, &PLAIN, false), made(4, second));
+    gives(rt, manager.counts(first), refused(Fault::Handle));
+    gives(rt, manager.counts(second), handled(1));
+    gives(rt, manager.close(1, 7), Reply::Closed);
+    gives(rt, manager.counts(second), handled(0));
+    gives(rt, manager.reap(0), reaped(second, Reclaim::Retired));
+    gives(rt, manager.reap(0), refused(Fault::Handle));
+    gives(rt, manager.reap(1), refused(Fault::Parameter));
+    gives(
+        rt,
         manager.create_mutex(1, &PLAIN, false),
-        refused(Fault::Limit)
+        refused(Fault::Limit),
     );
 }
 
@@ -121,26 +128,30 @@ fn a_slot_is_given_again_and_then_retired(rt: HostRuntime) -> Result<(), Fail> {
 
 /// A name is free once its object has no handle, before the slot is.
 fn plays_a_name<K: PinKeeper>(rt: &impl Abort, manager: &mut Manager<K>) {
-    assert_eq!(rt; manager.spawn(1), spawned(1, 1));
-    assert_eq!(rt;
+    gives(rt, manager.spawn(1), spawned(1, 1));
+    gives(
+        rt,
         manager.create_event(1, &named(b"A"), false, false),
-        made(4, object(0, 1))
+        made(4, object(0, 1)),
     );
-    assert_eq!(rt;
+    gives(
+        rt,
         manager.create_mutex(1, &named(b"A"), false),
-        refused(Fault::Handle)
+        refused(Fault::Handle),
     );
-    assert_eq!(rt; manager.close(1, 4), Reply::Closed);
+    gives(rt, manager.close(1, 4), Reply::Closed);
     assert_eq!(rt; manager.directory_len(), 0);
-    assert_eq!(rt;
+    gives(
+        rt,
         manager.create_mutex(1, &named(b"A"), false),
-        made(4, object(1, 1))
+        made(4, object(1, 1)),
     );
-    assert_eq!(rt; manager.reap(0), reaped(object(0, 1), Reclaim::Freed));
-    assert_eq!(rt; manager.close(1, 4), Reply::Closed);
-    assert_eq!(rt;
+    gives(rt, manager.reap(0), reaped(object(0, 1), Reclaim::Freed));
+    gives(rt, manager.close(1, 4), Reply::Closed);
+    gives(
+        rt,
         manager.create_mutex(1, &named(b"A"), true),
-        made(4, object(0, 2))
+        made(4, object(0, 2)),
     );
     assert_eq!(rt; manager.directory_len(), 1);
     assert!(rt; manager.directory_at(1).is_none());
@@ -174,58 +185,70 @@ fn plays_opens<K: PinKeeper>(rt: &impl Abort, manager: &mut Manager<K>) {
     let access = Some(Rights::SYNCHRONIZE);
     let grant = Some(Rights(0x0010_0002));
     let a = named(b"A");
-    assert_eq!(rt; manager.spawn(1), spawned(1, 1));
-    assert_eq!(rt;
+    gives(rt, manager.spawn(1), spawned(1, 1));
+    gives(
+        rt,
         manager.create_event(1, &Make { access, grant, ..a }, false, false),
-        made(4, first)
+        made(4, first),
     );
-    assert_eq!(rt;
+    gives(
+        rt,
         manager.open_named(1, Kind::Event, Rights(2), false, b"A"),
-        opened(8, first)
+        opened(8, first),
     );
-    assert_eq!(rt;
+    gives(
+        rt,
         manager.open_named(1, Kind::Event, Rights::DELETE, false, b"A"),
-        refused(Fault::Access)
+        refused(Fault::Access),
     );
-    assert_eq!(rt;
+    gives(
+        rt,
         manager.open_named(1, Kind::Event, Rights(0), false, b"A"),
-        refused(Fault::Access)
+        refused(Fault::Access),
     );
-    assert_eq!(rt;
+    gives(
+        rt,
         manager.open_named(1, Kind::Mutex, Rights(0), false, b"A"),
-        refused(Fault::Handle)
+        refused(Fault::Handle),
     );
-    assert_eq!(rt;
+    gives(
+        rt,
         manager.create_event(1, &a, false, false),
-        refused(Fault::Access)
+        refused(Fault::Access),
     );
     let none = Some(Rights(0));
-    assert_eq!(rt;
+    gives(
+        rt,
         manager.create_event(1, &Make { access: none, ..a }, true, true),
-        refused(Fault::Access)
+        refused(Fault::Access),
     );
-    assert_eq!(rt;
+    gives(
+        rt,
         manager.create_event(1, &Make { access, ..a }, true, true),
         Reply::Exists {
             handle: 12,
-            id: first
-        }
+            id: first,
+        },
     );
     let beyond = Some(Rights(0x0020_0000));
-    assert_eq!(rt;
+    gives(
+        rt,
         manager.create_event(1, &Make { grant: beyond, ..a }, false, false),
-        refused(Fault::Parameter)
+        refused(Fault::Parameter),
     );
-    assert_eq!(rt;
+    gives(
+        rt,
         manager.open_named(1, Kind::Event, Rights(2), false, b"B"),
-        refused(Fault::NotFound)
+        refused(Fault::NotFound),
     );
-    assert_eq!(rt;
+    gives(
+        rt,
         manager.open_named(1, Kind::Event, Rights(0x0020_0000), false, b"B"),
-        refused(Fault::NotFound)
+        refused(Fault::NotFound),
     );
     let b = named(b"B");
-    assert_eq!(rt;
+    gives(
+        rt,
         manager.create_event(
             1,
             &Make {
@@ -233,21 +256,22 @@ fn plays_opens<K: PinKeeper>(rt: &impl Abort, manager: &mut Manager<K>) {
                 ..b
             },
             false,
-            false
+            false,
         ),
-        refused(Fault::Access)
+        refused(Fault::Access),
     );
-    assert_eq!(rt; manager.counts(first), handled(3));
-    assert_eq!(rt; manager.close(1, 4), Reply::Closed);
-    assert_eq!(rt; manager.close(1, 8), Reply::Closed);
+    gives(rt, manager.counts(first), handled(3));
+    gives(rt, manager.close(1, 4), Reply::Closed);
+    gives(rt, manager.close(1, 8), Reply::Closed);
     assert_eq!(rt; manager.directory_len(), 1);
-    assert_eq!(rt; manager.close(1, 12), Reply::Closed);
+    gives(rt, manager.close(1, 12), Reply::Closed);
     assert_eq!(rt; manager.directory_len(), 0);
-    assert_eq!(rt;
+    gives(
+        rt,
         manager.open_named(1, Kind::Event, Rights(2), false, b"A"),
-        refused(Fault::NotFound)
+        refused(Fault::NotFound),
     );
-    assert_eq!(rt; manager.counts(first), handled(0));
+    gives(rt, manager.counts(first), handled(0));
 }
 
 #[test]
@@ -270,50 +294,72 @@ fn opens_get_what_the_grant_allows(rt: HostRuntime) -> Result<(), Fail> {
 /// Semaphores are raised to their maximum, and a mutex is released by its owner.
 fn plays_releases<K: PinKeeper>(rt: &impl Abort, manager: &mut Manager<K>) {
     let waiting = Some(Rights::SYNCHRONIZE);
-    assert_eq!(rt; manager.spawn(1), spawned(1, 1));
-    assert_eq!(rt;
+    gives(rt, manager.spawn(1), spawned(1, 1));
+    gives(
+        rt,
         manager.create_semaphore(1, &PLAIN, 3, 2),
-        refused(Fault::Parameter)
+        refused(Fault::Parameter),
     );
-    assert_eq!(rt;
+    gives(
+        rt,
         manager.create_semaphore(1, &PLAIN, 0, 0),
-        refused(Fault::Parameter)
+        refused(Fault::Parameter),
     );
-    assert_eq!(rt;
+    gives(
+        rt,
         manager.create_semaphore(1, &named(b"S"), 1, 2),
-        made(4, object(0, 1))
+        made(4, object(0, 1)),
     );
-    assert_eq!(rt;
+    gives(
+        rt,
         manager.release_semaphore(1, 4, 1),
-        Reply::Previous { count: 1 }
+        Reply::Previous { count: 1 },
     );
-    assert_eq!(rt; manager.release_semaphore(1, 4, 1), refused(Fault::Posts));
-    assert_eq!(rt;
+    gives(
+        rt,
+        manager.release_semaphore(1, 4, 1),
+        refused(Fault::Posts),
+    );
+    gives(
+        rt,
         manager.release_semaphore(1, 4, -1),
-        refused(Fault::Parameter)
+        refused(Fault::Parameter),
     );
-    assert_eq!(rt;
+    gives(
+        rt,
         manager.release_semaphore(1, 8, 0),
-        refused(Fault::Parameter)
+        refused(Fault::Parameter),
     );
-    assert_eq!(rt; manager.release_semaphore(1, 8, 1), refused(Fault::Handle));
-    assert_eq!(rt; manager.set_event(1, 4), refused(Fault::Handle));
-    assert_eq!(rt;
+    gives(
+        rt,
+        manager.release_semaphore(1, 8, 1),
+        refused(Fault::Handle),
+    );
+    gives(rt, manager.set_event(1, 4), refused(Fault::Handle));
+    gives(
+        rt,
         manager.create_mutex(1, &named(b"M"), true),
-        made(8, object(1, 1))
+        made(8, object(1, 1)),
     );
-    assert_eq!(rt; manager.release_mutex(1, 8), Reply::Done);
-    assert_eq!(rt; manager.release_mutex(1, 8), refused(Fault::NotOwner));
-    assert_eq!(rt;
+    gives(rt, manager.release_mutex(1, 8), Reply::Done);
+    gives(rt, manager.release_mutex(1, 8), refused(Fault::NotOwner));
+    gives(
+        rt,
         manager.create_event(1, &named(b"S"), false, false),
-        refused(Fault::Handle)
+        refused(Fault::Handle),
     );
-    assert_eq!(rt;
+    gives(
+        rt,
         manager.open_named(1, Kind::Semaphore, Rights::SYNCHRONIZE, false, b"S"),
-        opened(12, object(0, 1))
+        opened(12, object(0, 1)),
     );
-    assert_eq!(rt; manager.release_semaphore(1, 12, 1), refused(Fault::Access));
-    assert_eq!(rt;
+    gives(
+        rt,
+        manager.release_semaphore(1, 12, 1),
+        refused(Fault::Access),
+    );
+    gives(
+        rt,
         manager.create_event(
             1,
             &Make {
@@ -321,12 +367,12 @@ fn plays_releases<K: PinKeeper>(rt: &impl Abort, manager: &mut Manager<K>) {
                 ..PLAIN
             },
             true,
-            false
+            false,
         ),
-        made(16, object(2, 1))
+        made(16, object(2, 1)),
     );
-    assert_eq!(rt; manager.set_event(1, 16), refused(Fault::Access));
-    assert_eq!(rt; manager.reset_event(1, 16), refused(Fault::Access));
+    gives(rt, manager.set_event(1, 16), refused(Fault::Access));
+    gives(rt, manager.reset_event(1, 16), refused(Fault::Access));
 }
 
 #[test]
@@ -371,52 +417,83 @@ fn asked<K: PinKeeper>(manager: &mut Manager<K>, call: &Call) -> Reply {
     }
 }
 
+fn call_for_event(alloc: Global, name: &[u8]) -> Result<Call, Fail> {
+    Ok(Call::MakeEvent {
+        thread: 1,
+        make: making(Some(text(alloc, name)?)),
+        manual: false,
+        set: false,
+    })
+}
+
+fn call_for_mutex(alloc: Global, name: &[u8]) -> Result<Call, Fail> {
+    Ok(Call::MakeMutex {
+        thread: 1,
+        make: making(Some(text(alloc, name)?)),
+        owned: true,
+    })
+}
+
+fn call_for_semaphore(alloc: Global, name: &[u8]) -> Result<Call, Fail> {
+    Ok(Call::MakeSemaphore {
+        thread: 1,
+        make: making(Some(text(alloc, name)?)),
+        initial: 1,
+        max: 2,
+    })
+}
+
+fn call_to_open(alloc: Global, name: &[u8]) -> Result<Call, Fail> {
+    Ok(Call::OpenNamed {
+        thread: 2,
+        kind: Kind::Event,
+        mask: Rights::MODIFY_STATE,
+        inherit: true,
+        text: text(alloc, name)?,
+    })
+}
+
 /// Each call that takes memory.
 fn plays_what_takes_memory<K: PinKeeper>(
     rt: &impl Abort,
     alloc: Global,
     manager: &mut Manager<K>,
 ) -> Result<(), Fail> {
-    assert_eq!(rt; asked(manager, &Call::Spawn { session: 1 }), spawned(1, 1));
-    assert_eq!(rt;
+    gives(
+        rt,
+        asked(manager, &Call::Spawn { session: 1 }),
+        spawned(1, 1),
+    );
+    gives(
+        rt,
         asked(manager, &Call::StartThread { process: 1 }),
-        Reply::Started { thread: 2 }
+        Reply::Started { thread: 2 },
     );
-    let event = Call::MakeEvent {
-        thread: 1,
-        make: making(Some(text(alloc, b"E")?)),
-        manual: false,
-        set: false,
-    };
-    assert_eq!(rt; asked(manager, &event), made(4, object(0, 1)));
-    let mutex = Call::MakeMutex {
-        thread: 1,
-        make: making(Some(text(alloc, b"Global\\M")?)),
-        owned: true,
-    };
-    assert_eq!(rt; asked(manager, &mutex), made(8, object(1, 1)));
-    let semaphore = Call::MakeSemaphore {
-        thread: 1,
-        make: making(Some(text(alloc, b"S")?)),
-        initial: 1,
-        max: 2,
-    };
-    assert_eq!(rt; asked(manager, &semaphore), made(12, object(2, 1)));
-    let open = Call::OpenNamed {
-        thread: 2,
-        kind: Kind::Event,
-        mask: Rights::MODIFY_STATE,
-        inherit: true,
-        text: text(alloc, b"E")?,
-    };
-    assert_eq!(rt; asked(manager, &open), opened(16, object(0, 1)));
-    assert_eq!(rt;
-        asked(manager, &event),
-        Reply::Exists {
-            handle: 20,
-            id: object(0, 1)
-        }
+    gives(
+        rt,
+        asked(manager, &call_for_event(alloc, b"E")?),
+        made(4, object(0, 1)),
     );
+    gives(
+        rt,
+        asked(manager, &call_for_mutex(alloc, b"Global\\M")?),
+        made(8, object(1, 1)),
+    );
+    gives(
+        rt,
+        asked(manager, &call_for_semaphore(alloc, b"S")?),
+        made(12, object(2, 1)),
+    );
+    gives(
+        rt,
+        asked(manager, &call_to_open(alloc, b"E")?),
+        opened(16, object(0, 1)),
+    );
+    let again = Reply::Exists {
+        handle: 20,
+        id: object(0, 1),
+    };
+    gives(rt, asked(manager, &call_for_event(alloc, b"E")?), again);
     assert_eq!(rt; manager.directory_len(), 3);
     Ok(())
 }
@@ -424,55 +501,66 @@ fn plays_what_takes_memory<K: PinKeeper>(
 /// The calls that take none, after those that do.
 fn plays_what_takes_none<K: PinKeeper>(rt: &impl Abort, manager: &mut Manager<K>) {
     let (thread, first) = (1, object(0, 1));
-    assert_eq!(rt;
+    gives(
+        rt,
         manager.apply(&Call::SetEvent { thread, handle: 4 }),
-        Reply::Done
+        Reply::Done,
     );
-    assert_eq!(rt;
+    gives(
+        rt,
         manager.apply(&Call::ResetEvent { thread, handle: 8 }),
-        refused(Fault::Handle)
+        refused(Fault::Handle),
     );
-    assert_eq!(rt;
+    gives(
+        rt,
         manager.apply(&Call::ResetEvent { thread, handle: 4 }),
-        Reply::Done
+        Reply::Done,
     );
-    assert_eq!(rt;
+    gives(
+        rt,
         manager.apply(&Call::ReleaseSemaphore {
             thread,
             handle: 12,
-            count: 1
+            count: 1,
         }),
-        Reply::Previous { count: 1 }
+        Reply::Previous { count: 1 },
     );
-    assert_eq!(rt;
+    gives(
+        rt,
         manager.apply(&Call::ReleaseMutex { thread, handle: 8 }),
-        Reply::Done
+        Reply::Done,
     );
-    assert_eq!(rt;
+    gives(
+        rt,
         manager.apply(&Call::ReleaseMutex { thread, handle: 8 }),
-        refused(Fault::NotOwner)
+        refused(Fault::NotOwner),
     );
-    assert_eq!(rt; manager.apply(&Call::Counts { id: first }), handled(3));
-    assert_eq!(rt;
+    gives(rt, manager.apply(&Call::Counts { id: first }), handled(3));
+    gives(
+        rt,
         manager.apply(&Call::CloseHandle { thread, handle: 4 }),
-        Reply::Closed
+        Reply::Closed,
     );
-    assert_eq!(rt;
+    gives(
+        rt,
         manager.apply(&Call::CloseHandle { thread, handle: 16 }),
-        Reply::Closed
+        Reply::Closed,
     );
-    assert_eq!(rt;
+    gives(
+        rt,
         manager.apply(&Call::Reap { slot: 0 }),
-        refused(Fault::Handle)
+        refused(Fault::Handle),
     );
-    assert_eq!(rt;
+    gives(
+        rt,
         manager.apply(&Call::CloseHandle { thread, handle: 20 }),
-        Reply::Closed
+        Reply::Closed,
     );
-    assert_eq!(rt; manager.apply(&Call::Counts { id: first }), handled(0));
-    assert_eq!(rt;
+    gives(rt, manager.apply(&Call::Counts { id: first }), handled(0));
+    gives(
+        rt,
         manager.apply(&Call::Reap { slot: 0 }),
-        reaped(first, Reclaim::Freed)
+        reaped(first, Reclaim::Freed),
     );
     assert_eq!(rt; manager.directory_len(), 2);
 }
@@ -514,20 +602,25 @@ fn has_let_go(manager: &mut Manager<LockedPins>, id: Id) -> bool {
 fn a_pinned_slot_is_held(rt: HostRuntime) -> Result<(), Fail> {
     let mut manager = locked(rt.alloc(), Limits::default())?;
     let first = object(0, 1);
-    assert_eq!(rt; manager.spawn(1), spawned(1, 1));
+    gives(&rt, manager.spawn(1), spawned(1, 1));
     assert!(rt; manager.pin_locked(first).is_err());
-    assert_eq!(rt;
+    gives(
+        &rt,
         manager.create_event(1, &PLAIN, false, false),
-        made(4, first)
+        made(4, first),
     );
     assert!(rt; manager.pin_locked(first).is_ok());
-    assert_eq!(rt; manager.close(1, 4), Reply::Closed);
+    gives(&rt, manager.close(1, 4), Reply::Closed);
     assert!(rt; manager.pin_locked(first).is_err());
-    assert_eq!(rt; manager.reap(0), reaped(first, Reclaim::Held { pins: 1 }));
+    gives(
+        &rt,
+        manager.reap(0),
+        reaped(first, Reclaim::Held { pins: 1 }),
+    );
     assert!(rt; manager.card(first).is_some());
     assert!(rt; has_let_go(&mut manager, first));
     assert!(rt; !has_let_go(&mut manager, first));
-    assert_eq!(rt; manager.reap(0), reaped(first, Reclaim::Freed));
+    gives(&rt, manager.reap(0), reaped(first, Reclaim::Freed));
     assert!(rt; manager.card(first).is_none());
     Ok(())
 }
@@ -535,32 +628,36 @@ fn a_pinned_slot_is_held(rt: HostRuntime) -> Result<(), Fail> {
 #[test]
 fn refusals_come_in_their_order(rt: HostRuntime) -> Result<(), Fail> {
     let mut manager = locked(rt.alloc(), Limits::checked(2, 1, 2, 2, 1, 1, 1, 1)?)?;
-    assert_eq!(rt; manager.close(1, 4), refused(Fault::Parameter));
-    assert_eq!(rt;
+    gives(&rt, manager.close(1, 4), refused(Fault::Parameter));
+    gives(
+        &rt,
         manager.create_event(1, &PLAIN, false, false),
-        refused(Fault::Parameter)
+        refused(Fault::Parameter),
     );
-    assert_eq!(rt; manager.spawn(1), spawned(1, 1));
-    assert_eq!(rt; manager.spawn(1), refused(Fault::Limit));
-    assert_eq!(rt; manager.thread(2), refused(Fault::Parameter));
-    assert_eq!(rt; manager.thread(1), Reply::Started { thread: 2 });
-    assert_eq!(rt; manager.thread(1), refused(Fault::Limit));
-    assert_eq!(rt; manager.close(1, 4), refused(Fault::Handle));
-    assert_eq!(rt; manager.close(1, 3), refused(Fault::Handle));
-    assert_eq!(rt; manager.counts(object(2, 1)), refused(Fault::Parameter));
-    assert_eq!(rt; manager.counts(object(1, 1)), refused(Fault::Handle));
-    assert_eq!(rt;
+    gives(&rt, manager.spawn(1), spawned(1, 1));
+    gives(&rt, manager.spawn(1), refused(Fault::Limit));
+    gives(&rt, manager.thread(2), refused(Fault::Parameter));
+    gives(&rt, manager.thread(1), Reply::Started { thread: 2 });
+    gives(&rt, manager.thread(1), refused(Fault::Limit));
+    gives(&rt, manager.close(1, 4), refused(Fault::Handle));
+    gives(&rt, manager.close(1, 3), refused(Fault::Handle));
+    gives(&rt, manager.counts(object(2, 1)), refused(Fault::Parameter));
+    gives(&rt, manager.counts(object(1, 1)), refused(Fault::Handle));
+    gives(
+        &rt,
         manager.create_event(1, &PLAIN, false, false),
-        made(4, object(0, 1))
+        made(4, object(0, 1)),
     );
-    assert_eq!(rt; manager.close(2, 4), Reply::Closed);
-    assert_eq!(rt;
+    gives(&rt, manager.close(2, 4), Reply::Closed);
+    gives(
+        &rt,
         manager.create_event(1, &PLAIN, false, false),
-        made(4, object(1, 1))
+        made(4, object(1, 1)),
     );
-    assert_eq!(rt;
+    gives(
+        &rt,
         manager.create_event(1, &PLAIN, false, false),
-        refused(Fault::Limit)
+        refused(Fault::Limit),
     );
     assert!(rt; Limits::checked(0, 1, 1, 1, 1, 1, 1, 1).is_err());
     assert!(rt; Limits::checked(1, 1, 1, 16_385, 1, 1, 1, 1).is_err());
@@ -572,14 +669,18 @@ fn refusals_come_in_their_order(rt: HostRuntime) -> Result<(), Fail> {
 fn what_stands_is_read(rt: HostRuntime) -> Result<(), Fail> {
     let mut manager = locked(rt.alloc(), Limits::default())?;
     let (first, grant) = (object(0, 1), Rights(3));
-    assert_eq!(rt; manager.spawn(1), spawned(1, 1));
+    gives(&rt, manager.spawn(1), spawned(1, 1));
     assert!(rt; manager.resolve(2, 4) == Err(Fault::Parameter));
     assert!(rt; manager.resolve(1, 4) == Err(Fault::Handle));
     let make = Make {
         grant: Some(grant),
         ..PLAIN
     };
-    assert_eq!(rt; manager.create_event(1, &make, true, false), made(4, first));
+    gives(
+        &rt,
+        manager.create_event(1, &make, true, false),
+        made(4, first),
+    );
     assert!(rt; manager.resolve(1, 6) == Ok(first));
     let descr = Descr {
         kind: Kind::Event,
