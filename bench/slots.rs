@@ -1,12 +1,20 @@
 //! The rounds of crates/bench_slots, in plain Rust: handle tables and an arena as lists of places that are filled or
 //! not, with the places that aren't in a list that is kept sorted.
 
+#[path = "parts/id.rs"]
+mod id;
+#[path = "parts/table.rs"]
+mod table;
+
+use id::Id;
 use std::time::Instant;
+use table::{Entry, Free, Table};
 
 /// The numbers that are free, in falling order, so that the least is the last.
+#[derive(Default)]
 struct FreeList(Vec<u32>);
 
-impl FreeList {
+impl Free for FreeList {
     fn least(&self) -> Option<u32> {
         self.0.last().copied()
     }
@@ -30,86 +38,27 @@ impl FreeList {
     }
 }
 
-#[derive(Clone, Copy)]
-#[allow(dead_code)]
-struct Id {
-    slot: u32,
-    generation: u32,
-}
-
 const INHERIT: u32 = 1;
-
-#[derive(Clone, Copy)]
-#[allow(dead_code)]
-struct Entry {
-    id: Id,
-    rights: u32,
-    flags: u32,
-}
 
 #[derive(Debug)]
 enum Fault {
     Limit,
 }
 
-struct Table {
-    places: Vec<Option<Entry>>,
-    free: FreeList,
-}
-
-impl Table {
-    fn new() -> Table {
-        Table {
-            places: Vec::new(),
-            free: FreeList(Vec::new()),
-        }
-    }
-
-    fn entry(&self, value: u32) -> Option<Entry> {
-        if value < 4 {
-            return None;
-        }
-        *self.places.get(value as usize / 4 - 1)?
-    }
-
-    fn place(&mut self, entry: Entry, limit: u32) -> Result<u32, Fault> {
-        if let Some(place) = self.free.least() {
-            self.free.take(place);
-            self.places[place as usize] = Some(entry);
-            return Ok(4 * (place + 1));
-        }
-        let place = self.places.len() as u32;
-        if place >= limit {
-            return Err(Fault::Limit);
-        }
-        self.places.push(Some(entry));
-        Ok(4 * (place + 1))
-    }
-
-    fn remove(&mut self, value: u32) -> Option<Entry> {
-        if value < 4 {
-            return None;
-        }
-        let place = value / 4 - 1;
-        let entry = self.places.get_mut(place as usize)?.take()?;
-        self.free.give_back(place);
-        Some(entry)
-    }
-
-    fn inheriting(places: &[Option<Entry>]) -> Table {
-        let inheritable = |place: &Option<Entry>| place.filter(|entry| entry.flags & INHERIT != 0);
-        let len = places.iter().rposition(|place| inheritable(place).is_some()).map_or(0, |last| last + 1);
-        let copies: Vec<Option<Entry>> = places[..len].iter().map(inheritable).collect();
-        let free = (0..len as u32).rev().filter(|&place| copies[place as usize].is_none()).collect();
-        Table {
-            places: copies,
-            free: FreeList(free),
-        }
+/// The table of a child, with the entries that it inherits.
+fn inheriting(places: &[Option<Entry>]) -> Table<FreeList> {
+    let inheritable = |place: &Option<Entry>| place.filter(|entry| entry.flags & INHERIT != 0);
+    let len = places.iter().rposition(|place| inheritable(place).is_some()).map_or(0, |last| last + 1);
+    let copies: Vec<Option<Entry>> = places[..len].iter().map(inheritable).collect();
+    let free = (0..len as u32).rev().filter(|&place| copies[place as usize].is_none()).collect();
+    Table {
+        places: copies,
+        free: FreeList(free),
     }
 }
 
 struct Tables {
-    tables: Vec<Table>,
+    tables: Vec<Table<FreeList>>,
     processes: u32,
     handles: u32,
 }
@@ -117,7 +66,7 @@ struct Tables {
 impl Tables {
     fn new(processes: u32, handles: u32) -> Tables {
         Tables {
-            tables: vec![Table::new()],
+            tables: vec![Table::default()],
             processes,
             handles,
         }
@@ -133,19 +82,19 @@ impl Tables {
 
     fn add_process(&mut self) -> Result<u32, Fault> {
         let number = self.next_number()?;
-        self.tables.push(Table::new());
+        self.tables.push(Table::default());
         Ok(number)
     }
 
     fn copy_inheritable(&mut self, from: u32) -> Result<u32, Fault> {
         let number = self.next_number()?;
-        let child = Table::inheriting(&self.tables[from as usize].places);
+        let child = inheriting(&self.tables[from as usize].places);
         self.tables.push(child);
         Ok(number)
     }
 
     fn place(&mut self, process: u32, entry: Entry) -> Result<u32, Fault> {
-        self.tables[process as usize].place(entry, self.handles)
+        self.tables[process as usize].place(entry, self.handles).ok_or(Fault::Limit)
     }
 
     fn look(&self, process: u32, value: u32) -> Option<Entry> {
@@ -157,7 +106,7 @@ impl Tables {
     }
 
     fn clear(&mut self, process: u32) {
-        self.tables[process as usize] = Table::new();
+        self.tables[process as usize] = Table::default();
     }
 }
 

@@ -1,6 +1,13 @@
 //! The rounds of crates/bench_waits, in plain Rust: the same answers, by a list of waiting places for each object
 //! and the waits by number in a hash map.
 
+#[path = "parts/body.rs"]
+mod body;
+#[path = "parts/id.rs"]
+mod id;
+
+use body::Body;
+use id::Id;
 use std::collections::HashMap;
 use std::hash::{BuildHasherDefault, Hasher};
 use std::time::Instant;
@@ -8,14 +15,7 @@ use std::time::Instant;
 const THREAD: u32 = 1;
 const ELSEWHERE: [u32; 3] = [1, 100, 10_000];
 const ROUNDS: u32 = 1_000_000;
-const RECURSION_MAX: u32 = 2_147_483_647;
 const WAIT_TIMEOUT: u32 = 258;
-
-#[derive(Clone, Copy, Debug, PartialEq, Eq)]
-struct Id {
-    slot: u32,
-    generation: u32,
-}
 
 #[derive(Clone, Copy, Debug, PartialEq, Eq)]
 enum Fault {
@@ -23,54 +23,6 @@ enum Fault {
     Busy,
     Handle,
     Limit,
-}
-
-#[derive(Clone, Copy)]
-struct Mutex {
-    owner: Option<u32>,
-    recursion: u32,
-    abandoned: bool,
-}
-
-#[derive(Clone, Copy)]
-#[allow(dead_code)]
-enum Body {
-    Event { manual: bool, set: bool },
-    Mutex(Mutex),
-    Semaphore { count: u32, maximum: u32 },
-}
-
-impl Body {
-    fn signaled_for(&self, thread: u32) -> bool {
-        match self {
-            Body::Event { set, .. } => *set,
-            Body::Mutex(mutex) => mutex.owner.is_none_or(|owner| owner == thread),
-            Body::Semaphore { count, .. } => *count > 0,
-        }
-    }
-
-    fn has_room(&self, thread: u32) -> bool {
-        match self {
-            Body::Mutex(mutex) => mutex.owner != Some(thread) || mutex.recursion < RECURSION_MAX,
-            _ => true,
-        }
-    }
-
-    fn is_abandoned(&self) -> bool {
-        matches!(self, Body::Mutex(mutex) if mutex.abandoned)
-    }
-
-    fn acquire(&mut self, thread: u32) {
-        match self {
-            Body::Event { manual, set } => *set = *set && *manual,
-            Body::Mutex(mutex) => {
-                mutex.owner = Some(thread);
-                mutex.recursion += 1;
-                mutex.abandoned = false;
-            }
-            Body::Semaphore { count, .. } => *count -= 1,
-        }
-    }
 }
 
 /// Bodies by slot, and how many handles and blocks each has.

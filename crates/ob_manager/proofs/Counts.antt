@@ -1,14 +1,10 @@
 -- What is stored of an object's references is what the model counts.
-use Rattle.std.proofs.Common.{◌≡◌, ◌+◌, ℕ, Bool, true, false, Option, Some, None, Ok, refl, ap, ◌∙◌, sym, cond, eqb, leb, get_or, arith}
-use Rattle.std.proofs.lemmas.Bool.Decides.{nat_tests}
+use Rattle.std.proofs.Common.{◌≡◌, ◌+◌, ℕ, false, Some, None, Ok, refl, ap, ◌∙◌, sym, cond, eqb, leb, get_or}
 use Rattle.pin_core.specs.declared.id.Id.{Id}
-use Rattle.pin_core.specs.Holds.{same_id}
 use Rattle.ob_tables.proofs.Counting.{same_id-same}
-use Rattle.ob_rights.specs.declared.fault.Fault.TheVariants as fault
 use Rattle.ob_manager.specs.declared.reply.Reply.TheVariants.{CountsAre}
 use Rattle.ob_store.specs.Objects.{Object}
 use Rattle.ob_store.specs.State.{State, handles_of, blocks_of, hold_of}
-use Rattle.ob_manager.specs.Outcomes.{Outcome, ◌>>=◌, or_refuse, refuse_if}
 use Rattle.ob_manager.specs.Counting.{counts, if_id, object_of}
 
 there_is : (s : State) (o : Object) → get_or s.objects o.id.slot None ≡ Some o → object_of s o.id ≡ Some o

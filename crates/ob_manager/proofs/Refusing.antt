@@ -1,5 +1,5 @@
 -- A refusal that isn't for want of memory is the model's.
-use Rattle.std.proofs.Common.{◌≡◌, ◌≢◌, Bool, true, false, ℕ, List, Option, Some, None, Result, Ok, Err, refl, cond, not, eqb, ltb, length}
+use Rattle.std.proofs.Common.{◌≡◌, ◌≢◌, Bool, true, false, ℕ, List, Result, Ok, Err, refl, cond, not, eqb, ltb, length}
 use Rattle.std.specs.Prelude.{IfErr}
 use Rattle.std.specs.List.{list_any, list_all}
 use Rattle.ob_name.specs.declared.name.NameRef.{NameRef}

@@ -1,5 +1,5 @@
 -- Creating and opening.
-use Rattle.std.specs.Prelude.{ℕ, nat_lt, Bool, true, false, not, List, Option, Some, None, Result, Ok, Err, if◌then◌else◌, slice_index_or, ℤ}
+use Rattle.std.specs.Prelude.{ℕ, nat_lt, Bool, false, not, List, Option, Some, None, Result, Ok, Err, if◌then◌else◌, slice_index_or, ℤ}
 use Rattle.pin_core.specs.declared.id.Id.{Id}
 use Rattle.pin_core.specs.declared.descr.Descr.{Descr}
 use Rattle.ob_rights.specs.declared.fault.Fault.{Fault}
@@ -10,7 +10,6 @@ use Rattle.ob_rights.specs.declared.rights.Rights.{Rights}
 use Rattle.ob_rights.specs.declared.handle_flags.HandleFlags.{HandleFlags}
 use Rattle.ob_rights.specs.Rights.{all_access, within}
 use Rattle.ob_arena.specs.Slots.{least_vacant}
-use Rattle.ob_body.specs.declared.body.Body.{Body}
 use Rattle.ob_body.specs.declared.body.Body.TheVariants as body
 use Rattle.ob_body.specs.Mutex as mutex
 use Rattle.ob_name.specs.Names.{ObjectName}
@@ -21,9 +20,8 @@ use Rattle.ob_tables.specs.Table.{free_place, value_of}
 use Rattle.ob_tables.specs.Tables.{table_of}
 use Rattle.ob_manager.specs.declared.making.Making.{Making}
 use Rattle.ob_manager.specs.declared.creating.New.{New}
-use Rattle.ob_manager.specs.declared.reply.Reply.{Reply}
 use Rattle.ob_manager.specs.declared.reply.Reply.TheVariants.{Made, Exists, Opened}
-use Rattle.ob_store.specs.Objects.{Object, Head}
+use Rattle.ob_store.specs.Objects.{Head}
 use Rattle.ob_store.specs.State.{State, id_at, is_full, settled, vacancy, with_entry, with_object}
 use Rattle.ob_store.specs.Directory.{directory_of}
 use Rattle.ob_manager.specs.Outcomes.{Outcome, ◌>>=◌, or_refuse, refuse_if}
@@ -57,12 +55,18 @@ own_name s process (Some text) = do
   name ← name_in s process text
   Ok (Some name)
 
--- a new object in the least slot that may have one, and a handle to it with the rights that are asked for
+-- the slot of a new object, the least that may have one: 5 for a right outside all rights of its kind, 1450 where the process
+-- has all its handles or no slot is vacant
+abbrev pub room_for : State → ℕ → Making → Kind → Result ℕ Fault
+room_for s process making kind = do
+  _ ← refuse_if (not (within (or_all kind making.access).0 (all_access kind).0)) fault.Access
+  _ ← refuse_if (is_full s process) fault.Limit
+  or_refuse (least_vacant (vacancy s)) fault.Limit
+
+-- a new object, and a handle to it with the rights that are asked for
 abbrev pub new_object : State → ℕ → Making → New → Option ObjectName → Result Outcome Fault
 new_object s process making new name = do
-  _ ← refuse_if (not (within (or_all new.descr.kind making.access).0 (all_access new.descr.kind).0)) fault.Access
-  _ ← refuse_if (is_full s process) fault.Limit
-  slot ← or_refuse (least_vacant (vacancy s)) fault.Limit
+  slot ← room_for s process making new.descr.kind
   let head : Head = record { descr = new.descr; grant = or_all new.descr.kind making.grant; name = name } in
       let entry : Entry = entry_of (id_at s slot) (or_all new.descr.kind making.access) making.inherit in
       Ok (record { reply = Made (next_handle s process) (id_at s slot); state = settled (with_entry (with_object s slot head new.body) process entry) })

@@ -1,5 +1,4 @@
 -- What a create asks for, borrowed or owned.
-use Rattle.std.specs.Prelude.{ℕ, List, Option, Some, None}
 use Rattle.ob_manager.specs.declared.making.Make.{Make}
 use Rattle.ob_manager.specs.declared.making.Making.{Making}
 use Rattle.std.specs.Option.{option_map}

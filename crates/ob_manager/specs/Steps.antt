@@ -1,5 +1,5 @@
 -- One step of a manager, for each call.
-use Rattle.std.specs.Prelude.{◌≡◌, ℕ, Result, Ok, Err, Bool, true, false, Option, Some, None, is_ok, slice_index_or}
+use Rattle.std.specs.Prelude.{◌≡◌, ℕ, Result, Ok, Err, Bool, true, false, Option, Some, None, if◌then◌else◌, is_ok, slice_index_or}
 use Rattle.pin_words.specs.Keepers.{KeeperState, stored, published, Reclaims}
 use Rattle.pin_words.specs.declared.pin_keeper.Reclaim.{Reclaim}
 use Rattle.pin_words.specs.declared.pin_keeper.Reclaim.TheVariants as reclaim
@@ -87,10 +87,26 @@ pub data Step (w : Whole) (call : Call) (reply : Reply) (v : Whole) : Type 0 whe
   does : final w.state (outcome_of w.state call reply) ≡ record { reply = reply; state = v.state } → Keeps reply v.state w.keeper v.keeper → Step w call reply v
   lacks : takes_memory call ≡ true → is_ok (outcome_of w.state call reply) ≡ true → reply ≡ Refused fault.Memory → v ≡ w → Step w call reply v
 
--- the state after a call with this reply: want of memory and every refusal leave it
+-- the state after a call with this reply: want of memory leaves it, and otherwise the call comes to it
+abbrev pub is_memory : Fault → Bool
+is_memory fault.Memory = true
+is_memory fault.Parameter = false
+is_memory fault.Busy = false
+is_memory fault.NameLong = false
+is_memory fault.NamePath = false
+is_memory fault.Handle = false
+is_memory fault.Access = false
+is_memory fault.NotFound = false
+is_memory fault.NotOwner = false
+is_memory fault.Posts = false
+is_memory fault.Limit = false
+
+abbrev pub is_lack : Reply → Bool
+is_lack (Refused fault) = is_memory fault
+is_lack reply = false
+
 abbrev pub next : State → Call → Reply → State
-next s call (Refused fault) = s
-next s call reply = (final s (outcome_of s call reply)).state
+next s call reply = if is_lack reply then s else (final s (outcome_of s call reply)).state
 
 -- what a body answers, against the outcome that it has to have
 abbrev pub Gives : Result Reply Fault → Whole → Whole → Result Outcome Fault → Type 0

@@ -39,7 +39,9 @@ pub fn same_kind(a: Kind, b: Kind) -> bool
     ensures { result ≡ same_kind a b }
 {
     match (a, b) {
-        (Kind::Event, Kind::Event) | (Kind::Mutex, Kind::Mutex) | (Kind::Semaphore, Kind::Semaphore) => true,
+        (Kind::Event, Kind::Event)
+        | (Kind::Mutex, Kind::Mutex)
+        | (Kind::Semaphore, Kind::Semaphore) => true,
         _ => false,
     }
 }

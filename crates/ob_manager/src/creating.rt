@@ -1,14 +1,15 @@
-ghost use Rattle.std.specs.Prelude.{◌≡◌, ◌≢◌, ◌<◌, IfErr, IfOk, None, Ok, OnErr, OnOk, Some, ℕ, length};
+ghost use Rattle.std.specs.Prelude.{◌≡◌, ◌≢◌, ◌<◌, false, true, IfErr, IfOk, None, Ok, OnErr, OnOk, Some, ℕ, length};
 ghost use Rattle.ob_body.specs.Body as spec;
 ghost use Rattle.ob_name.specs.Refs.{name_at, parsed_name};
 ghost use Rattle.ob_name.specs.Listing.{find_name};
 ghost use Rattle.ob_waits.specs.Form.{form_of};
 ghost use Rattle.pin_core.specs.Descrs.{IsGiven};
 ghost use Rattle.ob_store.specs.Directory.{directory_of};
-ghost use Rattle.ob_store.specs.State.{handles_of};
+ghost use Rattle.ob_arena.specs.Slots.{is_vacant_at};
+ghost use Rattle.ob_store.specs.State.{handles_of, is_full, vacancy};
 ghost use Rattle.ob_store.specs.Kept.{IsLive, form_in};
 ghost use Rattle.ob_manager.specs.Makings.{making_of};
-ghost use Rattle.ob_manager.specs.Creating.{create, create_event, create_mutex, create_semaphore, created, flags_of, name_in, new_event, new_handle, new_mutex, new_object, new_semaphore, next_handle, open_named, or_all};
+ghost use Rattle.ob_manager.specs.Creating.{create, create_event, create_mutex, create_semaphore, created, flags_of, name_in, new_event, new_handle, new_mutex, new_object, new_semaphore, next_handle, open_named, or_all, room_for};
 ghost use Rattle.ob_manager.specs.Outcomes.{Refuses};
 ghost use Rattle.ob_manager.specs.Steps.{GivesOrLacks};
 
@@ -106,7 +107,11 @@ fn new_semaphore(initial: i32, max: i32) -> Result<New, Fault>
 
 /// What a name that a caller gives stands for in its session.
 #[tactic(auto, using(crate::proofs::Refusing::name_known))]
-fn name_in<'a, K: PinKeeper>(store: &Store<K>, process: u32, text: &'a [u8]) -> Result<NameRef<'a>, Fault>
+fn name_in<'a, K: PinKeeper>(
+    store: &Store<K>,
+    process: u32,
+    text: &'a [u8],
+) -> Result<NameRef<'a>, Fault>
     ensures value { parsed_name result ≡ name_in store.now.state process text.now }
     ensures refusal { IfErr result (λ fault. fault ≢ Fault.Memory) }
 {
@@ -116,17 +121,20 @@ fn name_in<'a, K: PinKeeper>(store: &Store<K>, process: u32, text: &'a [u8]) -> 
     parse(text, session)
 }
 
-/// A new object without a name, and a handle to it.
-fn new_nameless<K: PinKeeper>(store: &mut Store<K>, process: u32, make: &Make<'_>, new: New) -> Result<Reply, Fault>
-    requires table { process < length store.old.state.tables }
-    requires given { IsGiven new.descr }
-    requires formed { form_of new.body ≡ form_in new.descr }
-    requires owned { (t : ℕ) → spec.owner_of new.body ≡ Some t → IsLive store.old.state.threads t }
-    ensures { GivesOrLacks result store.old store.new (new_object store.old.state process (making_of make.now) new None) }
+/// The slot of a new object: refused with 5 for a right outside all rights of its kind, and with 1450 where the process has all
+/// its handles or no slot is vacant.
+fn room_for<K: PinKeeper>(
+    store: &Store<K>,
+    process: u32,
+    make: &Make<'_>,
+    kind: Kind,
+) -> Result<u32, Fault>
+    requires { process < length store.now.state.tables }
+    ensures value { result ≡ room_for store.now.state process (making_of make.now) kind }
+    ensures room { OnOk result (is_full store.now.state process ≡ false) }
+    ensures vacant { IfOk result (λ slot. is_vacant_at (vacancy store.now.state) slot ≡ true) }
 {
-    let kind = new.descr.kind;
-    let rights = or_all(kind, make.access);
-    if !within(rights, all_access(kind)) {
+    if !within(or_all(kind, make.access), all_access(kind)) {
         return Err(Fault::Access);
     }
     if store.is_full(process) {
@@ -135,15 +143,42 @@ fn new_nameless<K: PinKeeper>(store: &mut Store<K>, process: u32, make: &Make<'_
     let Some(slot) = store.vacant() else {
         return Err(Fault::Limit);
     };
-    let id = store.id_at(slot);
-    let creation = Creation {
+    Ok(slot)
+}
+
+/// A new object but for its name, and its first handle.
+fn creation_of(make: &Make<'_>, new: New) -> Creation
+    ensures descr { result.descr ≡ new.descr }
+    ensures body { result.body ≡ new.body }
+    ensures grant { result.grant ≡ or_all new.descr.kind make.now.grant }
+    ensures rights { result.rights ≡ or_all new.descr.kind make.now.access }
+    ensures flags { result.flags ≡ flags_of make.now.inherit }
+{
+    Creation {
         descr: new.descr,
         body: new.body,
-        grant: or_all(kind, make.grant),
-        rights,
+        grant: or_all(new.descr.kind, make.grant),
+        rights: or_all(new.descr.kind, make.access),
         flags: flags_of(make.inherit),
-    };
-    let handle = store.add_nameless(process, slot, creation)?;
+    }
+}
+
+/// A new object without a name, and a handle to it.
+fn new_nameless<K: PinKeeper>(
+    store: &mut Store<K>,
+    process: u32,
+    make: &Make<'_>,
+    new: New,
+) -> Result<Reply, Fault>
+    requires table { process < length store.old.state.tables }
+    requires given { IsGiven new.descr }
+    requires formed { form_of new.body ≡ form_in new.descr }
+    requires owned { (t : ℕ) → spec.owner_of new.body ≡ Some t → IsLive store.old.state.threads t }
+    ensures { GivesOrLacks result store.old store.new (new_object store.old.state process (making_of make.now) new None) }
+{
+    let slot = room_for(store, process, make, new.descr.kind)?;
+    let id = store.id_at(slot);
+    let handle = store.add_nameless(process, slot, creation_of(make, new))?;
     Ok(Reply::Made { handle, id })
 }
 
@@ -162,26 +197,9 @@ fn new_named<K: PinKeeper>(
     requires absent { find_name (name_at name.now) (directory_of store.old.state) ≡ None }
     ensures { GivesOrLacks result store.old store.new (new_object store.old.state process (making_of make.now) new (Some (name_at name.now))) }
 {
-    let kind = new.descr.kind;
-    let rights = or_all(kind, make.access);
-    if !within(rights, all_access(kind)) {
-        return Err(Fault::Access);
-    }
-    if store.is_full(process) {
-        return Err(Fault::Limit);
-    }
-    let Some(slot) = store.vacant() else {
-        return Err(Fault::Limit);
-    };
+    let slot = room_for(store, process, make, new.descr.kind)?;
     let id = store.id_at(slot);
-    let creation = Creation {
-        descr: new.descr,
-        body: new.body,
-        grant: or_all(kind, make.grant),
-        rights,
-        flags: flags_of(make.inherit),
-    };
-    let handle = store.add_named(process, slot, creation, name)?;
+    let handle = store.add_named(process, slot, creation_of(make, new), name)?;
     Ok(Reply::Made { handle, id })
 }
 
@@ -247,7 +265,12 @@ fn named_object<K: PinKeeper>(
 
 /// A new object, or a handle to one that has the name already.
 #[tactic(auto, using(crate::proofs::Refusing::refuses_err))]
-fn create<K: PinKeeper>(store: &mut Store<K>, thread: u32, make: &Make<'_>, what: Result<New, Fault>) -> Result<Reply, Fault>
+fn create<K: PinKeeper>(
+    store: &mut Store<K>,
+    thread: u32,
+    make: &Make<'_>,
+    what: Result<New, Fault>,
+) -> Result<Reply, Fault>
     requires given { IfOk what (λ new. IsGiven new.descr) }
     requires formed { IfOk what (λ new. form_of new.body ≡ form_in new.descr) }
     requires owned { IfOk what (λ new. (t : ℕ) → spec.owner_of new.body ≡ Some t → t ≡ thread) }
@@ -256,7 +279,10 @@ fn create<K: PinKeeper>(store: &mut Store<K>, thread: u32, make: &Make<'_>, what
 {
     let process = caller(store, thread)?;
     let new = what?;
-    if !within(or_all(new.descr.kind, make.grant), all_access(new.descr.kind)) {
+    if !within(
+        or_all(new.descr.kind, make.grant),
+        all_access(new.descr.kind),
+    ) {
         return Err(Fault::Parameter);
     }
     let Some(text) = make.name else {
@@ -280,7 +306,12 @@ pub fn create_event<K: PinKeeper>(
 }
 
 /// A new mutex, or a handle to the mutex that has the name already.
-pub fn create_mutex<K: PinKeeper>(store: &mut Store<K>, thread: u32, make: &Make<'_>, owned: bool) -> Result<Reply, Fault>
+pub fn create_mutex<K: PinKeeper>(
+    store: &mut Store<K>,
+    thread: u32,
+    make: &Make<'_>,
+    owned: bool,
+) -> Result<Reply, Fault>
     ensures { GivesOrLacks result store.old store.new (create_mutex store.old.state thread (making_of make.now) owned) }
 {
     create(store, thread, make, Ok(new_mutex(thread, owned)))

@@ -17,6 +17,7 @@ mod checks;
 mod counting;
 mod creating;
 mod handles;
+mod law;
 mod making;
 mod manager;
 mod pinning;
@@ -29,7 +30,8 @@ mod tests;
 
 pub use call::Call;
 pub use card::Card;
-pub use manager::Manager;
+pub use law::law_of_steps;
 pub use making::{Make, Making, Text};
+pub use manager::Manager;
 pub use ob_store::{Limits, Seat};
 pub use reply::Reply;

@@ -128,7 +128,13 @@ impl<K: PinKeeper> Manager<K> {
     /// It is refused in the same way, and with 87 for a maximum that isn't above 0 and a count below 0 or above the maximum.
     ///
     /// [CreateSemaphore]: https://learn.microsoft.com/windows/win32/api/winbase/nf-winbase-createsemaphorea
-    pub fn create_semaphore(&mut self, thread: u32, make: &Make<'_>, initial: i32, max: i32) -> Reply
+    pub fn create_semaphore(
+        &mut self,
+        thread: u32,
+        make: &Make<'_>,
+        initial: i32,
+        max: i32,
+    ) -> Reply
         ensures { Step self.old (Call.MakeSemaphore thread (making_of make.now) initial max) result self.new }
     {
         reply_of(creating::create_semaphore(&mut self.store, thread, make, initial, max))
@@ -141,7 +147,14 @@ impl<K: PinKeeper> Manager<K> {
     /// where the process has each handle; and 8 for want of memory.
     ///
     /// [OpenEvent]: https://learn.microsoft.com/windows/win32/api/synchapi/nf-synchapi-openeventa
-    pub fn open_named(&mut self, thread: u32, kind: Kind, mask: Rights, inherit: bool, text: &[u8]) -> Reply
+    pub fn open_named(
+        &mut self,
+        thread: u32,
+        kind: Kind,
+        mask: Rights,
+        inherit: bool,
+        text: &[u8],
+    ) -> Reply
         ensures { Step self.old (Call.OpenNamed thread kind mask inherit text.now) result self.new }
     {
         reply_of(creating::open_named(&mut self.store, thread, kind, mask, inherit, text))

@@ -9,7 +9,11 @@ use ob_store::Store;
 use pin_words::PinKeeper;
 
 /// Sets an event.
-pub fn set_event<K: PinKeeper>(store: &mut Store<K>, thread: u32, handle: u32) -> Result<Reply, Fault>
+pub fn set_event<K: PinKeeper>(
+    store: &mut Store<K>,
+    thread: u32,
+    handle: u32,
+) -> Result<Reply, Fault>
     ensures { Gives result store.old store.new (set_event store.old.state thread handle) }
 {
     let process = caller(store, thread)?;
@@ -21,7 +25,11 @@ pub fn set_event<K: PinKeeper>(store: &mut Store<K>, thread: u32, handle: u32) -
 }
 
 /// Resets an event.
-pub fn reset_event<K: PinKeeper>(store: &mut Store<K>, thread: u32, handle: u32) -> Result<Reply, Fault>
+pub fn reset_event<K: PinKeeper>(
+    store: &mut Store<K>,
+    thread: u32,
+    handle: u32,
+) -> Result<Reply, Fault>
     ensures { Gives result store.old store.new (reset_event store.old.state thread handle) }
 {
     let process = caller(store, thread)?;
@@ -53,7 +61,11 @@ pub fn release_semaphore<K: PinKeeper>(
 }
 
 /// Releases a mutex once.
-pub fn release_mutex<K: PinKeeper>(store: &mut Store<K>, thread: u32, handle: u32) -> Result<Reply, Fault>
+pub fn release_mutex<K: PinKeeper>(
+    store: &mut Store<K>,
+    thread: u32,
+    handle: u32,
+) -> Result<Reply, Fault>
     ensures { Gives result store.old store.new (release_mutex store.old.state thread handle) }
 {
     let process = caller(store, thread)?;

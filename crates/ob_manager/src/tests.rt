@@ -1,8 +1,9 @@
 use super::*;
 use ob_rights::{Fault, Kind, Rights};
-use pin_core::Id;
-use pin_words::{LockedPins, Reclaim};
+use pin_core::{Descr, Id};
+use pin_words::{LockedPins, PinKeeper, Pins, Reclaim};
 use std::alloc::Global;
+use std::process::Abort;
 use std::test::Fail;
 
 /// Nothing but the object itself is asked for.
@@ -13,8 +14,7 @@ const PLAIN: Make<'static> = Make {
     grant: None,
 };
 
-fn named(name: &[u8]) -> Make<'_>
-{
+fn named(name: &[u8]) -> Make<'_> {
     Make {
         name: Some(name),
         inherit: false,
@@ -27,70 +27,680 @@ fn object(slot: u32, generation: u32) -> Id {
     Id { slot, generation }
 }
 
-/// A manager over pins under a lock.
-fn locked(alloc: Global, limits: Limits) -> Result<Manager<LockedPins>, Fault> {
-    let keeper = LockedPins::new(alloc, limits.shape())?;
-    match Manager::new(alloc, limits, keeper) {
-        Ok(manager) => Ok(manager),
-        Err(_) => Err(Fault::Memory),
+fn spawned(process: u32, thread: u32) -> Reply {
+    Reply::Spawned { process, thread }
+}
+
+fn made(handle: u32, id: Id) -> Reply {
+    Reply::Made { handle, id }
+}
+
+fn opened(handle: u32, id: Id) -> Reply {
+    Reply::Opened { handle, id }
+}
+
+fn reaped(id: Id, outcome: Reclaim) -> Reply {
+    Reply::Reaped { id, outcome }
+}
+
+/// The counts of an object that no wait is for.
+fn handled(handles: u32) -> Reply {
+    Reply::CountsAre {
+        handles,
+        waits: 0,
+        hold: if handles == 0 { 1 } else { 0 },
     }
 }
 
+fn refused(fault: Fault) -> Reply {
+    Reply::Refused(fault)
+}
+
+fn gives(rt: &impl Abort, reply: Reply, due: Reply) {
+    assert_eq!(rt; reply, due);
+}
+
+/// A manager over pins under a lock. What was refused for want of memory is asked for again.
+fn locked(alloc: Global, limits: Limits) -> Result<Manager<LockedPins>, Fault> {
+    let keeper = match LockedPins::new(alloc, limits.shape()) {
+        Ok(keeper) => keeper,
+        Err(_) => LockedPins::new(alloc, limits.shape())?,
+    };
+    let keeper = match Manager::new(alloc, limits, keeper) {
+        Ok(manager) => return Ok(manager),
+        Err(keeper) => keeper,
+    };
+    match Manager::new(alloc, limits, keeper) {
+        Ok(manager) => return Ok(manager),
+        Err(_) => return Err(Fault::Memory),
+    }
+}
+
+/// One slot with two generations: it is given twice, and then never again.
+fn plays_two_generations<K: PinKeeper>(rt: &impl Abort, manager: &mut Manager<K>) {
+    let (first, second) = (object(0, 1), object(0, 2));
+    gives(rt, manager.spawn(1), spawned(1, 1));
+    gives(
+        rt,
+        manager.create_event(1, &PLAIN, false, false),
+        made(4, first),
+    );
+    gives(rt, manager.reap(0), refused(Fault::Handle));
+    gives(rt, manager.close(1, 4), Reply::Closed);
+    gives(
+        rt,
+        manager.create_event(1, &PLAIN, false, false),
+        refused(Fault::Limit),
+    );
+    gives(rt, manager.reap(0), reaped(first, Reclaim::Freed));
+    gives(rt, manager.counts(first), refused(Fault::Handle));
+    gives(rt, manager.create_mutex(1, &PLAIN, false), made(4, second));
+    gives(rt, manager.counts(first), refused(Fault::Handle));
+    gives(rt, manager.counts(second), handled(1));
+    gives(rt, manager.close(1, 7), Reply::Closed);
+    gives(rt, manager.counts(second), handled(0));
+    gives(rt, manager.reap(0), reaped(second, Reclaim::Retired));
+    gives(rt, manager.reap(0), refused(Fault::Handle));
+    gives(rt, manager.reap(1), refused(Fault::Parameter));
+    gives(
+        rt,
+        manager.create_mutex(1, &PLAIN, false),
+        refused(Fault::Limit),
+    );
+}
+
 #[test]
-fn an_event_is_made_counted_and_closed(rt: HostRuntime) -> Result<(), Fail> {
+fn a_slot_is_given_again_and_then_retired(rt: HostRuntime) -> Result<(), Fail> {
+    let limits = Limits::checked(1, 4, 4, 8, 4, 4, 2, 4)?;
+    let mut manager = locked(rt.alloc(), limits)?;
+    plays_two_generations(&rt, &mut manager);
+    let (pins, opening) = Pins::new(rt.alloc(), limits.shape())?;
+    let Ok((keeper, reader)) = opening.start(&pins) else {
+        return Err(Fail::from(Fault::Memory));
+    };
+    let Ok(mut manager) = Manager::new(rt.alloc(), limits, keeper) else {
+        return Err(Fail::from(Fault::Memory));
+    };
+    plays_two_generations(&rt, &mut manager);
+    reader.finish();
+    Ok(())
+}
+
+/// A name is free once its object has no handle, before the slot is.
+fn plays_a_name<K: PinKeeper>(rt: &impl Abort, manager: &mut Manager<K>) {
+    gives(rt, manager.spawn(1), spawned(1, 1));
+    gives(
+        rt,
+        manager.create_event(1, &named(b"A"), false, false),
+        made(4, object(0, 1)),
+    );
+    gives(
+        rt,
+        manager.create_mutex(1, &named(b"A"), false),
+        refused(Fault::Handle),
+    );
+    gives(rt, manager.close(1, 4), Reply::Closed);
+    assert_eq!(rt; manager.directory_len(), 0);
+    gives(
+        rt,
+        manager.create_mutex(1, &named(b"A"), false),
+        made(4, object(1, 1)),
+    );
+    gives(rt, manager.reap(0), reaped(object(0, 1), Reclaim::Freed));
+    gives(rt, manager.close(1, 4), Reply::Closed);
+    gives(
+        rt,
+        manager.create_mutex(1, &named(b"A"), true),
+        made(4, object(0, 2)),
+    );
+    assert_eq!(rt; manager.directory_len(), 1);
+    assert!(rt; manager.directory_at(1).is_none());
+    let Some((name, id)) = manager.directory_at(0) else {
+        panic!(rt; "no row")
+    };
+    assert!(rt; name.base == b"A".as_slice());
+    assert_eq!(rt; id, object(0, 2));
+}
+
+#[test]
+fn a_name_is_given_again(rt: HostRuntime) -> Result<(), Fail> {
+    let limits = Limits::default();
+    let mut manager = locked(rt.alloc(), limits)?;
+    plays_a_name(&rt, &mut manager);
+    let (pins, opening) = Pins::new(rt.alloc(), limits.shape())?;
+    let Ok((keeper, reader)) = opening.start(&pins) else {
+        return Err(Fail::from(Fault::Memory));
+    };
+    let Ok(mut manager) = Manager::new(rt.alloc(), limits, keeper) else {
+        return Err(Fail::from(Fault::Memory));
+    };
+    plays_a_name(&rt, &mut manager);
+    reader.finish();
+    Ok(())
+}
+
+/// Opens within what a grant allows, and past it.
+fn plays_opens<K: PinKeeper>(rt: &impl Abort, manager: &mut Manager<K>) {
+    let first = object(0, 1);
+    let access = Some(Rights::SYNCHRONIZE);
+    let grant = Some(Rights(0x0010_0002));
+    let a = named(b"A");
+    gives(rt, manager.spawn(1), spawned(1, 1));
+    gives(
+        rt,
+        manager.create_event(1, &Make { access, grant, ..a }, false, false),
+        made(4, first),
+    );
+    gives(
+        rt,
+        manager.open_named(1, Kind::Event, Rights(2), false, b"A"),
+        opened(8, first),
+    );
+    gives(
+        rt,
+        manager.open_named(1, Kind::Event, Rights::DELETE, false, b"A"),
+        refused(Fault::Access),
+    );
+    gives(
+        rt,
+        manager.open_named(1, Kind::Event, Rights(0), false, b"A"),
+        refused(Fault::Access),
+    );
+    gives(
+        rt,
+        manager.open_named(1, Kind::Mutex, Rights(0), false, b"A"),
+        refused(Fault::Handle),
+    );
+    gives(
+        rt,
+        manager.create_event(1, &a, false, false),
+        refused(Fault::Access),
+    );
+    let none = Some(Rights(0));
+    gives(
+        rt,
+        manager.create_event(1, &Make { access: none, ..a }, true, true),
+        refused(Fault::Access),
+    );
+    gives(
+        rt,
+        manager.create_event(1, &Make { access, ..a }, true, true),
+        Reply::Exists {
+            handle: 12,
+            id: first,
+        },
+    );
+    let beyond = Some(Rights(0x0020_0000));
+    gives(
+        rt,
+        manager.create_event(1, &Make { grant: beyond, ..a }, false, false),
+        refused(Fault::Parameter),
+    );
+    gives(
+        rt,
+        manager.open_named(1, Kind::Event, Rights(2), false, b"B"),
+        refused(Fault::NotFound),
+    );
+    gives(
+        rt,
+        manager.open_named(1, Kind::Event, Rights(0x0020_0000), false, b"B"),
+        refused(Fault::NotFound),
+    );
+    let b = named(b"B");
+    gives(
+        rt,
+        manager.create_event(
+            1,
+            &Make {
+                access: beyond,
+                ..b
+            },
+            false,
+            false,
+        ),
+        refused(Fault::Access),
+    );
+    gives(rt, manager.counts(first), handled(3));
+    gives(rt, manager.close(1, 4), Reply::Closed);
+    gives(rt, manager.close(1, 8), Reply::Closed);
+    assert_eq!(rt; manager.directory_len(), 1);
+    gives(rt, manager.close(1, 12), Reply::Closed);
+    assert_eq!(rt; manager.directory_len(), 0);
+    gives(
+        rt,
+        manager.open_named(1, Kind::Event, Rights(2), false, b"A"),
+        refused(Fault::NotFound),
+    );
+    gives(rt, manager.counts(first), handled(0));
+}
+
+#[test]
+fn opens_get_what_the_grant_allows(rt: HostRuntime) -> Result<(), Fail> {
+    let limits = Limits::default();
+    let mut manager = locked(rt.alloc(), limits)?;
+    plays_opens(&rt, &mut manager);
+    let (pins, opening) = Pins::new(rt.alloc(), limits.shape())?;
+    let Ok((keeper, reader)) = opening.start(&pins) else {
+        return Err(Fail::from(Fault::Memory));
+    };
+    let Ok(mut manager) = Manager::new(rt.alloc(), limits, keeper) else {
+        return Err(Fail::from(Fault::Memory));
+    };
+    plays_opens(&rt, &mut manager);
+    reader.finish();
+    Ok(())
+}
+
+/// Semaphores are raised to their maximum, and a mutex is released by its owner.
+fn plays_releases<K: PinKeeper>(rt: &impl Abort, manager: &mut Manager<K>) {
+    let waiting = Some(Rights::SYNCHRONIZE);
+    gives(rt, manager.spawn(1), spawned(1, 1));
+    gives(
+        rt,
+        manager.create_semaphore(1, &PLAIN, 3, 2),
+        refused(Fault::Parameter),
+    );
+    gives(
+        rt,
+        manager.create_semaphore(1, &PLAIN, 0, 0),
+        refused(Fault::Parameter),
+    );
+    gives(
+        rt,
+        manager.create_semaphore(1, &named(b"S"), 1, 2),
+        made(4, object(0, 1)),
+    );
+    gives(
+        rt,
+        manager.release_semaphore(1, 4, 1),
+        Reply::Previous { count: 1 },
+    );
+    gives(
+        rt,
+        manager.release_semaphore(1, 4, 1),
+        refused(Fault::Posts),
+    );
+    gives(
+        rt,
+        manager.release_semaphore(1, 4, -1),
+        refused(Fault::Parameter),
+    );
+    gives(
+        rt,
+        manager.release_semaphore(1, 8, 0),
+        refused(Fault::Parameter),
+    );
+    gives(
+        rt,
+        manager.release_semaphore(1, 8, 1),
+        refused(Fault::Handle),
+    );
+    gives(rt, manager.set_event(1, 4), refused(Fault::Handle));
+    gives(
+        rt,
+        manager.create_mutex(1, &named(b"M"), true),
+        made(8, object(1, 1)),
+    );
+    gives(rt, manager.release_mutex(1, 8), Reply::Done);
+    gives(rt, manager.release_mutex(1, 8), refused(Fault::NotOwner));
+    gives(
+        rt,
+        manager.create_event(1, &named(b"S"), false, false),
+        refused(Fault::Handle),
+    );
+    gives(
+        rt,
+        manager.open_named(1, Kind::Semaphore, Rights::SYNCHRONIZE, false, b"S"),
+        opened(12, object(0, 1)),
+    );
+    gives(
+        rt,
+        manager.release_semaphore(1, 12, 1),
+        refused(Fault::Access),
+    );
+    gives(
+        rt,
+        manager.create_event(
+            1,
+            &Make {
+                access: waiting,
+                ..PLAIN
+            },
+            true,
+            false,
+        ),
+        made(16, object(2, 1)),
+    );
+    gives(rt, manager.set_event(1, 16), refused(Fault::Access));
+    gives(rt, manager.reset_event(1, 16), refused(Fault::Access));
+}
+
+#[test]
+fn semaphores_and_mutexes_are_released(rt: HostRuntime) -> Result<(), Fail> {
+    let limits = Limits::default();
+    let mut manager = locked(rt.alloc(), limits)?;
+    plays_releases(&rt, &mut manager);
+    let (pins, opening) = Pins::new(rt.alloc(), limits.shape())?;
+    let Ok((keeper, reader)) = opening.start(&pins) else {
+        return Err(Fail::from(Fault::Memory));
+    };
+    let Ok(mut manager) = Manager::new(rt.alloc(), limits, keeper) else {
+        return Err(Fail::from(Fault::Memory));
+    };
+    plays_releases(&rt, &mut manager);
+    reader.finish();
+    Ok(())
+}
+
+/// A name of its own, asked for again where memory was wanting.
+fn text(alloc: Global, bytes: &[u8]) -> Result<Text, Fail> {
+    match Text::new(alloc, bytes) {
+        Ok(text) => return Ok(text),
+        Err(_) => return Ok(Text::new(alloc, bytes)?),
+    }
+}
+
+fn making(name: Option<Text>) -> Making {
+    Making {
+        name,
+        inherit: false,
+        access: None,
+        grant: None,
+    }
+}
+
+/// The reply to a call, which is made again where memory was wanting: that changed nothing.
+fn asked<K: PinKeeper>(manager: &mut Manager<K>, call: &Call) -> Reply {
+    match manager.apply(call) {
+        Reply::Refused(Fault::Memory) => manager.apply(call),
+        reply => reply,
+    }
+}
+
+fn call_for_event(alloc: Global, name: &[u8]) -> Result<Call, Fail> {
+    Ok(Call::MakeEvent {
+        thread: 1,
+        make: making(Some(text(alloc, name)?)),
+        manual: false,
+        set: false,
+    })
+}
+
+fn call_for_mutex(alloc: Global, name: &[u8]) -> Result<Call, Fail> {
+    Ok(Call::MakeMutex {
+        thread: 1,
+        make: making(Some(text(alloc, name)?)),
+        owned: true,
+    })
+}
+
+fn call_for_semaphore(alloc: Global, name: &[u8]) -> Result<Call, Fail> {
+    Ok(Call::MakeSemaphore {
+        thread: 1,
+        make: making(Some(text(alloc, name)?)),
+        initial: 1,
+        max: 2,
+    })
+}
+
+fn call_to_open(alloc: Global, name: &[u8]) -> Result<Call, Fail> {
+    Ok(Call::OpenNamed {
+        thread: 2,
+        kind: Kind::Event,
+        mask: Rights::MODIFY_STATE,
+        inherit: true,
+        text: text(alloc, name)?,
+    })
+}
+
+/// Each call that takes memory.
+fn plays_what_takes_memory<K: PinKeeper>(
+    rt: &impl Abort,
+    alloc: Global,
+    manager: &mut Manager<K>,
+) -> Result<(), Fail> {
+    gives(
+        rt,
+        asked(manager, &Call::Spawn { session: 1 }),
+        spawned(1, 1),
+    );
+    gives(
+        rt,
+        asked(manager, &Call::StartThread { process: 1 }),
+        Reply::Started { thread: 2 },
+    );
+    gives(
+        rt,
+        asked(manager, &call_for_event(alloc, b"E")?),
+        made(4, object(0, 1)),
+    );
+    gives(
+        rt,
+        asked(manager, &call_for_mutex(alloc, b"Global\\M")?),
+        made(8, object(1, 1)),
+    );
+    gives(
+        rt,
+        asked(manager, &call_for_semaphore(alloc, b"S")?),
+        made(12, object(2, 1)),
+    );
+    gives(
+        rt,
+        asked(manager, &call_to_open(alloc, b"E")?),
+        opened(16, object(0, 1)),
+    );
+    let again = Reply::Exists {
+        handle: 20,
+        id: object(0, 1),
+    };
+    gives(rt, asked(manager, &call_for_event(alloc, b"E")?), again);
+    assert_eq!(rt; manager.directory_len(), 3);
+    Ok(())
+}
+
+/// The calls that take none, after those that do.
+fn plays_what_takes_none<K: PinKeeper>(rt: &impl Abort, manager: &mut Manager<K>) {
+    let (thread, first) = (1, object(0, 1));
+    gives(
+        rt,
+        manager.apply(&Call::SetEvent { thread, handle: 4 }),
+        Reply::Done,
+    );
+    gives(
+        rt,
+        manager.apply(&Call::ResetEvent { thread, handle: 8 }),
+        refused(Fault::Handle),
+    );
+    gives(
+        rt,
+        manager.apply(&Call::ResetEvent { thread, handle: 4 }),
+        Reply::Done,
+    );
+    gives(
+        rt,
+        manager.apply(&Call::ReleaseSemaphore {
+            thread,
+            handle: 12,
+            count: 1,
+        }),
+        Reply::Previous { count: 1 },
+    );
+    gives(
+        rt,
+        manager.apply(&Call::ReleaseMutex { thread, handle: 8 }),
+        Reply::Done,
+    );
+    gives(
+        rt,
+        manager.apply(&Call::ReleaseMutex { thread, handle: 8 }),
+        refused(Fault::NotOwner),
+    );
+    gives(rt, manager.apply(&Call::Counts { id: first }), handled(3));
+    gives(
+        rt,
+        manager.apply(&Call::CloseHandle { thread, handle: 4 }),
+        Reply::Closed,
+    );
+    gives(
+        rt,
+        manager.apply(&Call::CloseHandle { thread, handle: 16 }),
+        Reply::Closed,
+    );
+    gives(
+        rt,
+        manager.apply(&Call::Reap { slot: 0 }),
+        refused(Fault::Handle),
+    );
+    gives(
+        rt,
+        manager.apply(&Call::CloseHandle { thread, handle: 20 }),
+        Reply::Closed,
+    );
+    gives(rt, manager.apply(&Call::Counts { id: first }), handled(0));
+    gives(
+        rt,
+        manager.apply(&Call::Reap { slot: 0 }),
+        reaped(first, Reclaim::Freed),
+    );
+    assert_eq!(rt; manager.directory_len(), 2);
+}
+
+#[test]
+fn calls_are_applied(rt: HostRuntime) -> Result<(), Fail> {
+    let limits = Limits::default();
+    let (pins, opening) = Pins::new(rt.alloc(), limits.shape())?;
+    let Ok((keeper, reader)) = opening.start(&pins) else {
+        return Err(Fail::from(Fault::Memory));
+    };
+    let Ok(mut manager) = Manager::new(rt.alloc(), limits, keeper) else {
+        return Err(Fail::from(Fault::Memory));
+    };
+    plays_what_takes_memory(&rt, rt.alloc(), &mut manager)?;
+    plays_what_takes_none(&rt, &mut manager);
+    reader.finish();
+    Ok(())
+}
+
+#[test]
+fn want_of_memory_changes_nothing(rt: HostRuntime) -> Result<(), Fail> {
+    let mut manager = locked(rt.alloc(), Limits::default())?;
+    plays_what_takes_memory(&rt, rt.alloc(), &mut manager)?;
+    plays_what_takes_none(&rt, &mut manager);
+    Ok(())
+}
+
+/// Whether the holder had a copy of the Id, and let it go.
+fn has_let_go(manager: &mut Manager<LockedPins>, id: Id) -> bool {
+    if !manager.holds_locked(id) {
+        return false;
+    }
+    manager.unpin_locked(id);
+    true
+}
+
+#[test]
+fn a_pinned_slot_is_held(rt: HostRuntime) -> Result<(), Fail> {
     let mut manager = locked(rt.alloc(), Limits::default())?;
     let first = object(0, 1);
-    assert_eq!(rt;
-        manager.spawn(1),
-        Reply::Spawned {
-            process: 1,
-            thread: 1
-        }
-    );
-    assert_eq!(rt;
+    gives(&rt, manager.spawn(1), spawned(1, 1));
+    assert!(rt; manager.pin_locked(first).is_err());
+    gives(
+        &rt,
         manager.create_event(1, &PLAIN, false, false),
-        Reply::Made {
-            handle: 4,
-            id: first
-        }
+        made(4, first),
     );
-    assert_eq!(rt;
-        manager.counts(first),
-        Reply::CountsAre {
-            handles: 1,
-            waits: 0,
-            hold: 0
-        }
-    );
-    assert_eq!(rt; manager.close(1, 7), Reply::Closed);
-    assert_eq!(rt;
-        manager.counts(first),
-        Reply::CountsAre {
-            handles: 0,
-            waits: 0,
-            hold: 1
-        }
-    );
-    assert_eq!(rt;
-        manager.create_event(1, &PLAIN, true, true),
-        Reply::Made {
-            handle: 4,
-            id: object(1, 1)
-        }
-    );
-    assert_eq!(rt;
+    assert!(rt; manager.pin_locked(first).is_ok());
+    gives(&rt, manager.close(1, 4), Reply::Closed);
+    assert!(rt; manager.pin_locked(first).is_err());
+    gives(
+        &rt,
         manager.reap(0),
-        Reply::Reaped {
-            id: first,
-            outcome: Reclaim::Freed
-        }
+        reaped(first, Reclaim::Held { pins: 1 }),
     );
-    assert_eq!(rt;
-        manager.create_event(1, &PLAIN, true, true),
-        Reply::Made {
-            handle: 8,
-            id: object(0, 2)
-        }
+    assert!(rt; manager.card(first).is_some());
+    assert!(rt; has_let_go(&mut manager, first));
+    assert!(rt; !has_let_go(&mut manager, first));
+    gives(&rt, manager.reap(0), reaped(first, Reclaim::Freed));
+    assert!(rt; manager.card(first).is_none());
+    Ok(())
+}
+
+#[test]
+fn refusals_come_in_their_order(rt: HostRuntime) -> Result<(), Fail> {
+    let mut manager = locked(rt.alloc(), Limits::checked(2, 1, 2, 2, 1, 1, 1, 1)?)?;
+    gives(&rt, manager.close(1, 4), refused(Fault::Parameter));
+    gives(
+        &rt,
+        manager.create_event(1, &PLAIN, false, false),
+        refused(Fault::Parameter),
     );
+    gives(&rt, manager.spawn(1), spawned(1, 1));
+    gives(&rt, manager.spawn(1), refused(Fault::Limit));
+    gives(&rt, manager.thread(2), refused(Fault::Parameter));
+    gives(&rt, manager.thread(1), Reply::Started { thread: 2 });
+    gives(&rt, manager.thread(1), refused(Fault::Limit));
+    gives(&rt, manager.close(1, 4), refused(Fault::Handle));
+    gives(&rt, manager.close(1, 3), refused(Fault::Handle));
+    gives(&rt, manager.counts(object(2, 1)), refused(Fault::Parameter));
+    gives(&rt, manager.counts(object(1, 1)), refused(Fault::Handle));
+    gives(
+        &rt,
+        manager.create_event(1, &PLAIN, false, false),
+        made(4, object(0, 1)),
+    );
+    gives(&rt, manager.close(2, 4), Reply::Closed);
+    gives(
+        &rt,
+        manager.create_event(1, &PLAIN, false, false),
+        made(4, object(1, 1)),
+    );
+    gives(
+        &rt,
+        manager.create_event(1, &PLAIN, false, false),
+        refused(Fault::Limit),
+    );
+    assert!(rt; Limits::checked(0, 1, 1, 1, 1, 1, 1, 1).is_err());
+    assert!(rt; Limits::checked(1, 1, 1, 16_385, 1, 1, 1, 1).is_err());
+    Ok(())
+}
+
+/// What is read beside the calls.
+#[test]
+fn what_stands_is_read(rt: HostRuntime) -> Result<(), Fail> {
+    let mut manager = locked(rt.alloc(), Limits::default())?;
+    let (first, grant) = (object(0, 1), Rights(3));
+    gives(&rt, manager.spawn(1), spawned(1, 1));
+    assert!(rt; manager.resolve(2, 4) == Err(Fault::Parameter));
+    assert!(rt; manager.resolve(1, 4) == Err(Fault::Handle));
+    let make = Make {
+        grant: Some(grant),
+        ..PLAIN
+    };
+    gives(
+        &rt,
+        manager.create_event(1, &make, true, false),
+        made(4, first),
+    );
+    assert!(rt; manager.resolve(1, 6) == Ok(first));
+    let descr = Descr {
+        kind: Kind::Event,
+        manual: true,
+        max: 0,
+    };
+    assert!(rt;
+        manager.card(first)
+            == Some(Card {
+                id: first,
+                descr,
+                grant
+            })
+    );
+    assert!(rt; manager.card(object(0, 2)).is_none());
+    let Some(seat) = manager.slot(0) else {
+        panic!(rt; "no object")
+    };
+    assert_eq!(rt; seat.handles, 1);
+    assert!(rt; seat.body.is_some());
+    assert!(rt; manager.slot(1).is_none());
     Ok(())
 }

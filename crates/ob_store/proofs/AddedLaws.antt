@@ -1,10 +1,8 @@
 -- A new object with its first entry comes to a vacant slot.
-use Rattle.std.proofs.Common.{◌≡◌, ◌≢◌, ◌⊎◌, ℕ, zero, suc, ◌+◌, ◌<◌, ◌≤◌, List, [], ◌∷◌, ◌++◌, length, Option, Some, None, refl, ap, ◌∙◌, sym, subst, arith, get_or, set, map, Bool, true, false, inl, inr, ltb}
-use Rattle.std.specs.Prelude.{is_some, IsSome}
+use Rattle.std.proofs.Common.{◌≡◌, ℕ, ◌+◌, ◌<◌, List, [], ◌∷◌, ◌++◌, length, Option, Some, None, refl, ◌∙◌, sym, subst, arith, get_or, set, map, true}
 use Rattle.std.proofs.Math.ListN.{get_or-map}
 use Rattle.std.proofs.Math.Seq.{map-set_same}
-use Rattle.std.proofs.lemmas.List.{length-set, get_or-set_same}
-use Rattle.std.proofs.lemmas.Bool.Decides.{nat_tests}
+use Rattle.std.proofs.lemmas.List.{length-set}
 use Rattle.pin_core.specs.declared.id.Id.{Id}
 use Rattle.pin_core.specs.declared.world.Slot.{Slot}
 use Rattle.pin_core.specs.declared.word.Phase.TheVariants as phase
@@ -14,14 +12,13 @@ use Rattle.pin_words.specs.Views.{id_of}
 use Rattle.ob_rights.specs.declared.handle_flags.HandleFlags.{HandleFlags}
 use Rattle.ob_rights.specs.declared.rights.Rights.{Rights}
 use Rattle.ob_arena.specs.Slots.{is_vacant_at}
-use Rattle.ob_arena.proofs.SlotLemmas.{vacant_within, vacant_empty, vacant_unretired}
+use Rattle.ob_arena.proofs.SlotLemmas.{vacant_within, vacant_empty}
 use Rattle.ob_body.specs.declared.body.Body.{Body}
 use Rattle.ob_body.specs.Body.{owner_of}
 use Rattle.ob_name.specs.Names.{ObjectName}
 use Rattle.ob_name.specs.Listing.{Rows, find_name}
 use Rattle.ob_tables.specs.declared.entry.Entry.{Entry}
 use Rattle.ob_tables.specs.Tables.{HandleTables, with_entry_of}
-use Rattle.ob_waits.specs.Objects.{Objects}
 use Rattle.ob_waits.specs.Form.{form_of}
 use Rattle.ob_waits.specs.Waits.{WaitList, slot_blocks}
 use Rattle.ob_store.specs.declared.limits.Limits.{Limits}
@@ -85,7 +82,6 @@ module _ (limits : Limits) (l : LivesState) (ts : HandleTables) (o : ObjectsStat
     (vacant : is_vacant_at (vacancy (places_in o)) slot ≡ true)
     (formed : form_of body ≡ form_in head.descr)
     (owned : (t : ℕ) → owner_of body ≡ Some t → IsLive l.threads t) where
-
   abbrev pub entry : Entry
   entry = record { id = id_of o.keeper.slots slot; rights = rights; flags = flags }
 

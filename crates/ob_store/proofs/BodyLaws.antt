@@ -1,14 +1,14 @@
 -- What holds of bodies goes on so: their forms, their owners, the room that waits have, and that none is ready.
-use Rattle.std.proofs.Common.{◌≡◌, ◌≢◌, ◌⊎◌, ℕ, suc, ◌+◌, ◌<◌, ◌≤◌, List, [], ◌∷◌, length, Option, Some, None, refl, ap, ◌∙◌, sym, subst, arith, get_or, set, Bool, true, false, cond, inl, inr}
-use Rattle.std.specs.Prelude.{is_some, IsSome}
+use Rattle.std.proofs.Common.{◌≡◌, ◌⊎◌, ℕ, suc, ◌<◌, List, length, Option, Some, None, refl, ap, ◌∙◌, sym, subst, arith, get_or, set, Bool, true, false, cond, inl, inr}
+use Rattle.std.specs.Prelude.{is_some}
 use Rattle.std.proofs.lemmas.List.{length-set, get_or_past, get_or-set_same, get_or-set_other}
 use Rattle.std.proofs.lemmas.Bool.{cases_eq, cases_lt}
 use Rattle.ob_body.specs.declared.body.Body.{Body}
-use Rattle.ob_body.specs.Body.{owner_of, has_room, is_signaled}
+use Rattle.ob_body.specs.Body.{owner_of, is_signaled}
 use Rattle.ob_waits.specs.declared.wait.Wait.{Wait}
 use Rattle.ob_waits.specs.Objects.{Objects, slot_room, slot_signaled}
 use Rattle.ob_waits.specs.Form.{form_of, slot_form, slot_owner, HasWait}
-use Rattle.ob_waits.specs.Rules.{IsSettled, WaitsHaveRoom, thread_of}
+use Rattle.ob_waits.specs.Rules.{WaitsHaveRoom, thread_of}
 use Rattle.ob_waits.specs.Waits.{Scene, settled, slot_blocks}
 use Rattle.ob_waits.proofs.Settling.{IsLess, less_if, room_if}
 use Rattle.ob_waits.proofs.Settled.{settled_less, settled_unnamed}

@@ -1,5 +1,5 @@
 -- What a store keeps, told of its state.
-use Rattle.std.proofs.Common.{◌≡◌, ◌+◌, length, ◌∙◌, subst, ltb}
+use Rattle.std.proofs.Common.{◌+◌, length, ◌∙◌, subst, ltb}
 use Rattle.ob_name.specs.Listing.{Rows, AreDistinct}
 use Rattle.ob_tables.specs.Tables.{HandleTables}
 use Rattle.ob_waits.specs.Rules as rules

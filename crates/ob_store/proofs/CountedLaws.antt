@@ -1,6 +1,5 @@
 -- What is stored of references goes on being what is counted, as each change changes both.
-use Rattle.std.proofs.Common.{◌≡◌, ℕ, ◌+◌, ◌-◌, ◌*◌, ◌<◌, ◌≤◌, List, [], ◌∷◌, length, Option, Some, None, refl, ap, ◌∙◌, sym, arith, get_or, set}
-use Rattle.std.proofs.lemmas.List.{length-set}
+use Rattle.std.proofs.Common.{◌≡◌, ℕ, ◌+◌, ◌-◌, ◌<◌, List, [], ◌∷◌, length, Option, Some, None, refl, ap, ◌∙◌, sym, arith, get_or, set}
 use Rattle.std.specs.Prelude.{replicate}
 use Rattle.ob_body.specs.declared.body.Body.{Body}
 use Rattle.ob_tables.specs.declared.entry.Entry.{Entry}
@@ -11,7 +10,6 @@ use Rattle.ob_tables.proofs.SlotCounts.{one_in-same, one_in-other, slot_handles-
 use Rattle.ob_waits.specs.declared.wait.Wait.{Wait}
 use Rattle.ob_waits.specs.Objects.{Objects}
 use Rattle.ob_waits.specs.Waits.{Scene, settled, slot_blocks}
-use Rattle.ob_waits.specs.Ends.{HasBlocks}
 use Rattle.ob_waits.proofs.Ends.{sizes_settled}
 use Rattle.ob_waits.proofs.References.{settled_counts}
 use Rattle.ob_store.specs.State.{by_slot}
@@ -42,8 +40,8 @@ module _ (seen : Objects) (n : ℕ) (ts : List (List (Option Entry))) (ws : List
   pub counted_placed : (p : ℕ) (e : Entry) → p < length ts → IsCounted (record seen { handles = set seen.handles e.id.slot (get_or seen.handles e.id.slot 0 + 1) }) n (with_entry_of ts p e) ws
   counted_placed p e table = record {
     handles = recounted_one seen.handles n (λ k. slot_handles k ts) (λ k. slot_handles k (with_entry_of ts p e)) e.id.slot _ counted.handles
-      (λ k other. let x = slot_handles-with_entry k ts p e table in let y = one_in-other e k other in omega (arith, x, y))
-      (λ lt. let x = slot_handles-with_entry e.id.slot ts p e table in let y = one_in-same e in let z = handles_at e.id.slot lt in omega (arith, x, y, z));
+        (λ k other. let x = slot_handles-with_entry k ts p e table in let y = one_in-other e k other in omega (arith, x, y))
+        (λ lt. let x = slot_handles-with_entry e.id.slot ts p e table in let y = one_in-same e in let z = handles_at e.id.slot lt in omega (arith, x, y, z));
     blocks = counted.blocks;
   }
 
@@ -52,8 +50,8 @@ module _ (seen : Objects) (n : ℕ) (ts : List (List (Option Entry))) (ws : List
       → IsCounted (record { bodies = bodies; handles = set seen.handles e.id.slot 1; blocks = set seen.blocks e.id.slot 0 }) n (with_entry_of ts p e) ws
   counted_added bodies p e table within handles blocks = record {
     handles = recounted_one seen.handles n (λ k. slot_handles k ts) (λ k. slot_handles k (with_entry_of ts p e)) e.id.slot 1 counted.handles
-      (λ k other. let x = slot_handles-with_entry k ts p e table in let y = one_in-other e k other in omega (arith, x, y))
-      (λ lt. let x = slot_handles-with_entry e.id.slot ts p e table in let y = one_in-same e in let z = handles_at e.id.slot lt in omega (arith, x, y, z, handles));
+        (λ k other. let x = slot_handles-with_entry k ts p e table in let y = one_in-other e k other in omega (arith, x, y))
+        (λ lt. let x = slot_handles-with_entry e.id.slot ts p e table in let y = one_in-same e in let z = handles_at e.id.slot lt in omega (arith, x, y, z, handles));
     blocks = recounted_one seen.blocks n (λ k. slot_blocks k ws) (λ k. slot_blocks k ws) e.id.slot 0 counted.blocks (λ k other. refl) (λ lt. let z = blocks_at e.id.slot lt in omega (arith, z, blocks));
   }
 
@@ -65,8 +63,8 @@ module _ (seen : Objects) (n : ℕ) (ts : List (List (Option Entry))) (ws : List
       → IsCounted (record { bodies = bodies; handles = set seen.handles e.id.slot (get_or seen.handles e.id.slot 0 - 1); blocks = seen.blocks }) n (without_entry_of ts p value) ws
   counted_removed bodies p value e found = record {
     handles = recounted_one seen.handles n (λ k. slot_handles k ts) (λ k. slot_handles k (without_entry_of ts p value)) e.id.slot _ counted.handles
-      (λ k other. let x = slot_handles-without_entry k ts p value e found in let y = one_in-other e k other in omega (arith, x, y))
-      (λ lt. let x = one_less p value e found in let z = handles_at e.id.slot lt in omega (arith, x, z));
+        (λ k other. let x = slot_handles-without_entry k ts p value e found in let y = one_in-other e k other in omega (arith, x, y))
+        (λ lt. let x = one_less p value e found in let z = handles_at e.id.slot lt in omega (arith, x, z));
     blocks = counted.blocks;
   }
 
@@ -94,13 +92,13 @@ module _ (seen : Objects) (n : ℕ) (ts : List (List (Option Entry))) (ws : List
       record {
         handles = ap (λ (s : Scene). s.objects.handles) value ∙ (sizes_settled first).handles ∙ counted.handles;
         blocks = recounted seen.blocks after.blocks n (λ k. slot_blocks k ws) (λ k. slot_blocks k ws') counted.blocks
-          (ap (λ (s : Scene). length s.objects.blocks) value ∙ (sizes_settled first).blocks)
-          (λ k lt.
-              let at = blocks_at k lt in
-              let c = (settled_counts first).each k (omega (arith, at)) in
-              let x : get_or after.blocks k 0 ≡ get_or (settled first).objects.blocks k 0 = ap (λ (s : Scene). get_or s.objects.blocks k 0) value in
-              let y : slot_blocks k ws' ≡ slot_blocks k (settled first).waits = ap (λ (s : Scene). slot_blocks k s.waits) value in
-              omega (arith, at, c, x, y));
+            (ap (λ (s : Scene). length s.objects.blocks) value ∙ (sizes_settled first).blocks)
+            (λ k lt.
+            let at = blocks_at k lt in
+            let c = (settled_counts first).each k (omega (arith, at)) in
+            let x : get_or after.blocks k 0 ≡ get_or (settled first).objects.blocks k 0 = ap (λ (s : Scene). get_or s.objects.blocks k 0) value in
+            let y : slot_blocks k ws' ≡ slot_blocks k (settled first).waits = ap (λ (s : Scene). slot_blocks k s.waits) value in
+            omega (arith, at, c, x, y));
       }
 
 -- nothing refers to anything yet

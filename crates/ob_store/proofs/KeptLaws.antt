@@ -1,8 +1,7 @@
 -- What is kept is kept by each change of a store, and the state after it is the settled one.
-use Rattle.std.proofs.Common.{◌≡◌, ◌≢◌, ◌⊎◌, ℕ, zero, suc, ◌+◌, ◌-◌, ◌<◌, ◌≤◌, List, [], ◌∷◌, ◌++◌, length, Option, Some, None, refl, ap, ◌∙◌, sym, subst, arith, get_or, set, map, Bool, true, false, cond, inl, inr, eqb, ltb}
-use Rattle.std.specs.Prelude.{is_some, IsSome, replicate}
-use Rattle.std.proofs.lemmas.List.{length-set, length-append, length-replicate, get_or-set_same, get_or-set_other, get_or_past}
-use Rattle.std.proofs.lemmas.Bool.{cases_eq, cases_lt}
+use Rattle.std.proofs.Common.{◌≡◌, ◌⊎◌, ℕ, zero, suc, ◌+◌, ◌<◌, ◌≤◌, List, [], ◌∷◌, ◌++◌, length, Option, Some, None, refl, ap, ◌∙◌, sym, subst, arith, get_or, set, map, true, inl, inr, ltb}
+use Rattle.std.specs.Prelude.{is_some, IsSome}
+use Rattle.std.proofs.lemmas.List.{length-set, length-append}
 use Rattle.std.proofs.lemmas.Bool.Decides.{nat_tests}
 use Rattle.pin_core.specs.declared.id.Id.{Id}
 use Rattle.pin_core.specs.declared.world.Slot.{Slot}
@@ -10,11 +9,9 @@ use Rattle.pin_words.specs.Keepers.{KeeperState}
 use Rattle.ob_body.specs.declared.body.Body.{Body}
 use Rattle.ob_name.specs.Listing.{Rows}
 use Rattle.ob_tables.specs.declared.entry.Entry.{Entry}
-use Rattle.ob_tables.specs.Table.{entry_at}
-use Rattle.ob_tables.specs.Counts.{handles_among, slot_handles}
+use Rattle.ob_tables.specs.Counts.{handles_among}
 use Rattle.ob_tables.specs.Tables.{HandleTables, IsBounded, table_of, with_entry_of, without_entry_of}
 use Rattle.ob_tables.specs.Tables as tables
-use Rattle.ob_tables.proofs.Counting.{found_counts}
 use Rattle.ob_tables.proofs.SlotCounts.{slot_handles-le}
 use Rattle.ob_waits.specs.Objects.{Objects}
 use Rattle.ob_waits.specs.Rules.{HasBodies, IsSettled, IsReadyAt, WaitsHaveRoom}
@@ -33,8 +30,8 @@ use Rattle.ob_store.specs.Agreement.{IsTied}
 use Rattle.ob_store.specs.State as state
 use Rattle.ob_store.specs.State.{State, state_of, whole_of, objects_of, scene_of, with_scene, settled, by_slot, generation_of}
 use Rattle.ob_store.specs.Kept.{IsKept, IsCounted, AreFormed, IsListing, LivesKept, IsNamed, IsQuiet, IsLive, Yields}
-use Rattle.ob_store.proofs.CountedLaws.{handles_at, blocks_at, handles_few, counted_placed, counted_process, counted_settled}
-use Rattle.ob_store.proofs.NamedLaws.{there_within, named_entry, named_placed, named_process, named_settled}
+use Rattle.ob_store.proofs.CountedLaws.{handles_at, handles_few, counted_placed, counted_process, counted_settled}
+use Rattle.ob_store.proofs.NamedLaws.{there_within, named_placed, named_process, named_settled}
 use Rattle.ob_store.proofs.BodyLaws.{of_live_more, formed_put, of_live_put, room_put, less_put, formed_settled, of_live_settled}
 use Rattle.ob_store.proofs.ListingLaws.{listing_process, listing_placed}
 use Rattle.ob_store.proofs.SettledLaws.{settled_still, settled_waits}
@@ -174,7 +171,6 @@ module _ (limits : Limits) (l : LivesState) (ts : HandleTables) (o p q : Objects
     (yields : Yields old new)
     (put : p.seen ≡ record o.seen { bodies = set o.seen.bodies id.slot (Some new) })
     (put_rest : kept_rest p ≡ kept_rest o) where
-
   abbrev first : Scene
   first = record { objects = record o.seen { bodies = set o.seen.bodies id.slot (Some new) }; waits = ws.waits }
 
@@ -192,7 +188,6 @@ module _ (limits : Limits) (l : LivesState) (ts : HandleTables) (o p q : Objects
       (limit : ws'.limit ≡ ws.limit)
       (rest : kept_rest q ≡ kept_rest p)
       (quiet : IsQuiet limits.max_recursion q.seen.bodies ws'.waits) where
-
     is : ◌≡◌ {A = Scene} (record { objects = q.seen; waits = ws'.waits }) (waits.settled first)
     is = value ∙ ap (λ (x : Objects). waits.settled (record { objects = x; waits = ws.waits })) put
 

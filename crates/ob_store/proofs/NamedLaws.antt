@@ -1,5 +1,5 @@
 -- Each Id that is named goes on being that of an object; and what a slot counts is what its object's Id counts.
-use Rattle.std.proofs.Common.{◌≡◌, ◌≢◌, ℕ, zero, suc, ◌+◌, ◌<◌, ◌≤◌, List, [], ◌∷◌, length, Option, Some, None, refl, ap, ◌∙◌, sym, subst, arith, get_or, set, Bool, true, false, cond, inl, inr, eqb}
+use Rattle.std.proofs.Common.{◌≡◌, ◌≢◌, ℕ, suc, ◌<◌, ◌≤◌, List, [], ◌∷◌, length, Option, Some, None, refl, ap, ◌∙◌, sym, subst, arith, get_or, set, Bool, true, false, cond, inl, inr, eqb}
 use Rattle.std.specs.Prelude.{sum_by}
 use Rattle.std.proofs.lemmas.List.{get_or_past, get_or-set_same, get_or-set_other}
 use Rattle.std.proofs.lemmas.List.Sums.{sum_by-cons, get_or-le-sum_by}
@@ -12,9 +12,8 @@ use Rattle.ob_tables.specs.Table.{at, entry_at}
 use Rattle.ob_tables.specs.Counts.{names, handles_in, handles_among, slot_handles}
 use Rattle.ob_tables.specs.Tables.{table_of, with_process, with_entry_of, without_entry_of}
 use Rattle.ob_tables.proofs.Counting.{same_id-same, one_id, one_of, some_within, found_counts, handles_among-with_entry, handles_among-without_entry, handles_among-with_process}
-use Rattle.ob_tables.proofs.SlotCounts.{slot_handles-le, slot_handles-one}
+use Rattle.ob_tables.proofs.SlotCounts.{slot_handles-one}
 use Rattle.ob_waits.specs.declared.wait.Wait.{Wait}
-use Rattle.ob_waits.specs.Objects.{Objects}
 use Rattle.ob_waits.specs.Waits.{Scene, settled, nowhere, ids_of, slot_places, slot_blocks, blocks_in, blocks_among}
 use Rattle.ob_waits.proofs.Counted.{blocks_settled}
 use Rattle.ob_store.specs.Objects.{Object}
@@ -87,8 +86,8 @@ module _ (objects : List (Option Object)) (ts : List (List (Option Entry))) (ws 
   named_added p e o table own none within =
       let here : IsThere (set objects e.id.slot (Some o)) e.id = ap id_in (get_or-set_same objects e.id.slot (Some o) None within) ∙ ap Some own in
       let stays : (id : Id) → IsThere objects id → IsThere (set objects e.id.slot (Some o)) id = (λ id there.
-          let apart : id.slot ≢ e.id.slot = (λ same. let x = ap (λ k. id_in (get_or objects k None)) same in let y = ap id_in none in absurd (cc (x, y, there))) in
-          ap id_in (get_or-set_other objects e.id.slot id.slot (Some o) None apart) ∙ there) in
+      let apart : id.slot ≢ e.id.slot = (λ same. let x = ap (λ k. id_in (get_or objects k None)) same in let y = ap id_in none in absurd (cc (x, y, there))) in
+      ap id_in (get_or-set_other objects e.id.slot id.slot (Some o) None apart) ∙ there) in
       record {
         entries = λ id h. placed_entry (set objects e.id.slot (Some o)) p e table here stays id (same_id e.id id) refl h;
         blocks = λ id h. stays id (named.blocks id h);
@@ -146,13 +145,13 @@ module _ (objects : List (Option Object)) (ts : List (List (Option Entry))) (ws 
   pub blocks_are : (id : Id) → IsThere objects id → slot_blocks id.slot ws ≡ blocks_among id ws
   blocks_are id there = sum_same (λ (w : Option Wait). slot_places id.slot (ids_of w)) (blocks_in id) None ws
       (λ n lt. sum_same (λ (x : Id). cond (eqb x.slot id.slot) 1 0) (λ (x : Id). cond (same_id id x) 1 0) nowhere (ids_of (get_or ws n None))
-        (λ i in'. let x = get_or (ids_of (get_or ws n None)) i nowhere in ap {B = ℕ} (λ b. cond b 1 0) (ids_agree x id (named.blocks x (place_counted n i lt in')) there)))
+      (λ i in'. let x = get_or (ids_of (get_or ws n None)) i nowhere in ap {B = ℕ} (λ b. cond b 1 0) (ids_agree x id (named.blocks x (place_counted n i lt in')) there)))
 
   -- no wait names a slot past the last
   pub blocks_past : (k : ℕ) → length objects ≤ k → slot_blocks k ws ≡ 0
   blocks_past k le = sum_none (λ (w : Option Wait). slot_places k (ids_of w)) None ws
       (λ n lt. sum_none (λ (x : Id). cond (eqb x.slot k) 1 0) nowhere (ids_of (get_or ws n None))
-        (λ i in'. let x = get_or (ids_of (get_or ws n None)) i nowhere in other x k le (there_within objects x (named.blocks x (place_counted n i lt in')))))
+      (λ i in'. let x = get_or (ids_of (get_or ws n None)) i nowhere in other x k le (there_within objects x (named.blocks x (place_counted n i lt in')))))
     where
       other : (x : Id) (k : ℕ) → length objects ≤ k → x.slot < length objects → ◌≡◌ {A = ℕ} (cond (eqb x.slot k) 1 0) 0
       other x k le lt = by (eqb x.slot k) refl

@@ -1,9 +1,8 @@
 -- The state before any call is kept.
-use Rattle.std.proofs.Common.{◌≡◌, ℕ, zero, suc, ◌+◌, ◌<◌, ◌≤◌, List, [], ◌∷◌, length, Option, Some, None, refl, ap, ◌∙◌, sym, subst, arith, get_or, map, true, false, inl, inr}
+use Rattle.std.proofs.Common.{◌≡◌, ℕ, zero, suc, List, [], ◌∷◌, Option, None, refl, ap, ◌∙◌, sym, subst, arith, get_or, map, inl, inr}
 use Rattle.std.specs.Prelude.{replicate}
 use Rattle.std.proofs.lemmas.List.{length-replicate, get_or_past, get_or-replicate}
 use Rattle.std.proofs.lemmas.Bool.{cases_lt}
-use Rattle.pin_core.specs.declared.world.Slot.{Slot}
 use Rattle.pin_core.specs.Worlds.{opening_slot}
 use Rattle.pin_words.specs.Keepers.{KeeperState, IsFresh}
 use Rattle.ob_body.specs.declared.body.Body.{Body}
@@ -15,8 +14,8 @@ use Rattle.ob_waits.specs.Waits.{WaitList, is_ready}
 use Rattle.ob_store.specs.declared.limits.Limits.{Limits}
 use Rattle.ob_store.specs.Lives.{no_lives}
 use Rattle.ob_store.specs.Objects.{Object, ObjectsState, with_keeper, vacant_places}
-use Rattle.ob_store.specs.State.{State, Whole, state_of, opening, shape_of, generation_of}
-use Rattle.ob_store.specs.Kept.{IsKept, IsCounted, IsLive}
+use Rattle.ob_store.specs.State.{Whole, state_of, opening, shape_of, generation_of}
+use Rattle.ob_store.specs.Kept.{IsKept, IsCounted}
 use Rattle.ob_store.proofs.CountedLaws.{counted_opening}
 use Rattle.ob_store.proofs.NamedLaws.{named_opening}
 use Rattle.ob_store.proofs.ListingLaws.{listing_opening}

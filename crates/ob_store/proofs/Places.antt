@@ -1,5 +1,5 @@
 -- Lists of what stands at each place.
-use Rattle.std.proofs.Common.{◌≡◌, ℕ, zero, suc, ◌<◌, List, [], ◌∷◌, ◌++◌, length, Option, Some, None, refl, ap, arith, get_or}
+use Rattle.std.proofs.Common.{◌≡◌, ℕ, zero, suc, List, [], ◌∷◌, ◌++◌, Option, get_or}
 use Rattle.std.proofs.lemmas.List.{same_from_push}
 
 -- two lists that are one with their last elements have one front

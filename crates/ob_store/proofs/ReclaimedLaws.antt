@@ -1,18 +1,16 @@
 -- An ended object leaves its slot, to which nothing refers.
-use Rattle.std.proofs.Common.{◌≡◌, ◌≢◌, ◌⊎◌, ℕ, zero, suc, ◌+◌, ◌<◌, ◌≤◌, List, [], ◌∷◌, ◌++◌, length, Option, Some, None, refl, ap, ◌∙◌, sym, subst, arith, get_or, set, map, Bool, true, false, cond, inl, inr, ltb}
-use Rattle.std.specs.Prelude.{is_some, IsSome}
+use Rattle.std.proofs.Common.{◌≡◌, ℕ, zero, suc, ◌+◌, ◌<◌, ◌≤◌, List, [], ◌∷◌, length, Option, Some, None, refl, ap, ◌∙◌, sym, subst, arith, get_or, set, map, Bool, true, false, cond, inl, inr, ltb}
+use Rattle.std.specs.Prelude.{is_some}
 use Rattle.std.proofs.Math.ListN.{get_or-map}
 use Rattle.std.proofs.Math.Seq.{map-set_same}
 use Rattle.std.proofs.lemmas.List.{length-set, set-get_or, map-set, get_or-set_other}
 use Rattle.std.proofs.lemmas.Bool.{cases_eq}
 use Rattle.std.proofs.lemmas.Bool.Decides.{nat_tests}
-use Rattle.pin_core.specs.declared.id.Id.{Id}
-use Rattle.pin_core.specs.declared.shape.Shape.{Shape}
 use Rattle.pin_core.specs.declared.world.Slot.{Slot}
 use Rattle.pin_core.specs.declared.word.Phase.TheVariants as phase
-use Rattle.pin_core.specs.Worlds.{slot_of, opening_slot}
+use Rattle.pin_core.specs.Worlds.{opening_slot}
 use Rattle.pin_core.specs.Events.{in_phase, reclaimed}
-use Rattle.pin_words.specs.Keepers.{KeeperState, opened_again, with_looks, with_slots, Reclaims}
+use Rattle.pin_words.specs.Keepers.{KeeperState, opened_again}
 use Rattle.pin_words.specs.declared.pin_keeper.Reclaim.{Reclaim}
 use Rattle.pin_words.specs.declared.pin_keeper.Reclaim.TheVariants.{Freed, Retired, Held}
 use Rattle.ob_body.specs.declared.body.Body.{Body}
@@ -22,13 +20,12 @@ use Rattle.ob_tables.specs.Tables.{HandleTables}
 use Rattle.ob_waits.specs.Waits.{WaitList, blocks_among}
 use Rattle.ob_store.specs.declared.limits.Limits.{Limits}
 use Rattle.ob_store.specs.Lives.{LivesState}
-use Rattle.ob_store.specs.Objects.{Object, ObjectsState, places_in, with_keeper, without_seat, with_retired}
+use Rattle.ob_store.specs.Objects.{Object, ObjectsState, places_in, with_keeper, without_seat}
 use Rattle.ob_store.specs.Agreement.{IsTied, Reclaimed}
-use Rattle.ob_store.specs.State.{State, state_of, settled, generation_of, freed, given_up}
+use Rattle.ob_store.specs.State.{state_of, generation_of, freed, given_up}
 use Rattle.ob_store.specs.Moves.{after_reclaim}
-use Rattle.ob_store.specs.Kept.{IsKept, IsCounted, IsNamed, AreFormed, IsListing, IsThere, id_in}
-use Rattle.ob_store.proofs.AgreeLaws.{object_at, body_at, retired_at, slot_at}
-use Rattle.ob_store.proofs.EndLaws.{none_set}
+use Rattle.ob_store.specs.Kept.{IsKept, IsCounted, IsNamed, AreFormed, IsThere}
+use Rattle.ob_store.proofs.AgreeLaws.{slot_at}
 use Rattle.ob_store.proofs.CountedLaws.{counted_left}
 use Rattle.ob_store.proofs.NamedLaws.{named_left}
 use Rattle.ob_store.proofs.BodyLaws.{formed_gone, of_live_gone, quiet_gone}
@@ -56,7 +53,6 @@ formed_fewer objects bodies k f = record { each = λ j o b there is. f.each j o 
 
 module _ (limits : Limits) (l : LivesState) (ts : HandleTables) (o : ObjectsState) (ws : WaitList) (rows : Rows) (kept : IsKept limits l ts o ws rows) (tied : IsTied o)
     (k : ℕ) (there : is_some (get_or o.objects k None) ≡ true) (ended : get_or o.seen.bodies k None ≡ None) where
-
   is_object : (q : Object) × (get_or o.objects k None ≡ Some q)
   is_object = found (get_or o.objects k None) there
 

@@ -1,20 +1,19 @@
 -- What is kept is kept where the entry of a handle leaves.
-use Rattle.std.proofs.Common.{◌≡◌, ◌⊎◌, ℕ, ◌+◌, ◌-◌, ◌<◌, List, length, Option, Some, None, refl, ap, ◌∙◌, sym, subst, arith, get_or, set, Bool, true, false, cond, inl, inr, eqb, ltb}
+use Rattle.std.proofs.Common.{◌≡◌, ◌⊎◌, ℕ, ◌+◌, ◌<◌, List, length, Option, Some, None, refl, ap, ◌∙◌, sym, arith, get_or, set, Bool, true, false, cond, inl, inr, eqb, ltb}
 use Rattle.std.specs.Prelude.{is_some, IsSome, IfSome}
 use Rattle.std.specs.Option.{option_map}
 use Rattle.std.proofs.lemmas.List.{length-set}
-use Rattle.std.proofs.lemmas.Bool.{cases_lt}
 use Rattle.std.proofs.lemmas.Bool.Decides.{nat_tests}
 use Rattle.pin_core.specs.declared.word.Phase.TheVariants as phase
 use Rattle.pin_core.specs.declared.world.Slot.{Slot}
 use Rattle.pin_core.specs.Worlds.{slot_of}
-use Rattle.pin_words.specs.Keepers.{KeeperState, closed}
+use Rattle.pin_words.specs.Keepers.{closed}
 use Rattle.ob_body.specs.declared.body.Body.{Body}
 use Rattle.ob_name.specs.Names.{ObjectName}
 use Rattle.ob_name.specs.Listing.{Rows}
 use Rattle.ob_tables.specs.declared.entry.Entry.{Entry}
 use Rattle.ob_tables.specs.Table.{entry_at}
-use Rattle.ob_tables.specs.Counts.{handles_among, slot_handles}
+use Rattle.ob_tables.specs.Counts.{handles_among}
 use Rattle.ob_tables.specs.Tables.{HandleTables, table_of, without_entry_of}
 use Rattle.ob_waits.specs.Objects.{Objects}
 use Rattle.ob_waits.specs.Rules.{HasBodies}
@@ -24,7 +23,7 @@ use Rattle.ob_waits.proofs.EndsLast.{is_ended, unended}
 use Rattle.ob_store.specs.declared.limits.Limits.{Limits}
 use Rattle.ob_store.specs.Lives.{LivesState}
 use Rattle.ob_store.specs.Objects.{Object, ObjectsState, places_in, is_last_handle, without_handle_of, opened}
-use Rattle.ob_store.specs.Agreement.{Agrees, IsTied, phase_of}
+use Rattle.ob_store.specs.Agreement.{Agrees, IsTied}
 use Rattle.ob_store.specs.State as state
 use Rattle.ob_store.specs.State.{State, state_of, objects_of, settled, generation_of}
 use Rattle.ob_store.specs.Kept.{IsKept, IsThere, IsNamed, IsListing}
@@ -73,7 +72,6 @@ module _ (limits : Limits) (l : LivesState) (ts : HandleTables) (o : ObjectsStat
     (kept : IsKept limits l ts o ws rows)
     (tied : IsTied o)
     (found : entry_at (table_of ts.tables p) value ≡ Some e) where
-
   there : IsThere o.objects e.id
   there = named_entry o.objects ts.tables ws.waits kept.named p value e found
 

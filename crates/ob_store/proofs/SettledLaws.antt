@@ -1,19 +1,14 @@
 -- The settled state, as the code reaches it: an object ends where its last reference leaves, and then the waits settle.
-use Rattle.std.proofs.Common.{◌≡◌, ℕ, ◌+◌, ◌-◌, ◌<◌, ◌≤◌, List, length, Option, Some, None, refl, ap, ◌∙◌, sym, subst, arith, get_or, set, Bool, true, false, cond, inl, inr, eqb}
+use Rattle.std.proofs.Common.{◌≡◌, length, ap, ◌∙◌, sym, arith, inl, inr}
 use Rattle.std.proofs.lemmas.List.{get_or_past}
 use Rattle.std.proofs.lemmas.Bool.{cases_lt}
-use Rattle.pin_core.specs.declared.id.Id.{Id}
-use Rattle.ob_body.specs.declared.body.Body.{Body}
-use Rattle.ob_tables.specs.declared.entry.Entry.{Entry}
-use Rattle.ob_waits.specs.declared.wait.Wait.{Wait}
 use Rattle.ob_waits.specs.Objects.{Objects}
 use Rattle.ob_waits.specs.Rules.{HasBodies, IsSettled}
 use Rattle.ob_waits.specs.Waits as waits
 use Rattle.ob_waits.specs.Waits.{Scene, blocks_among, slot_blocks}
-use Rattle.ob_waits.specs.Ends.{HasBlocks, ended, with_ends, settled_plainly}
+use Rattle.ob_waits.specs.Ends.{HasBlocks, ended, with_ends}
 use Rattle.ob_waits.proofs.EndsLast.{ends_first, none_to_end}
 use Rattle.ob_waits.proofs.Settling.{settled_same}
-use Rattle.ob_store.specs.Objects.{Object}
 use Rattle.ob_store.specs.State.{State, objects_of, scene_of, with_scene, settled, by_slot}
 use Rattle.ob_store.specs.Kept.{IsNamed}
 use Rattle.ob_store.proofs.BySlot.{get_by_slot, length-by_slot}

@@ -1,6 +1,5 @@
 -- What calls do to bodies takes nothing for a thread.
-use Rattle.std.proofs.Common.{◌≡◌, ℕ, ◌+◌, ◌-◌, Option, Some, None, refl, ap, ◌∙◌, sym, Bool, true, false, cond, ltb, leb}
-use Rattle.ob_rights.specs.declared.kind.Kind.{Kind}
+use Rattle.std.proofs.Common.{◌≡◌, ℕ, ◌+◌, ◌-◌, Some, refl, ap, ◌∙◌, sym, Bool, true, false, cond, ltb, leb}
 use Rattle.ob_rights.specs.declared.kind.Kind.TheVariants as kind
 use Rattle.ob_body.specs.declared.body.Body.{Body}
 use Rattle.ob_body.specs.declared.body.Body.TheVariants.{Event, Mutex, Semaphore}
@@ -8,7 +7,7 @@ use Rattle.ob_body.specs.MutexState.{MutexState}
 use Rattle.ob_body.specs.Mutex as mutex
 use Rattle.ob_body.specs.SemaphoreState.{SemaphoreState}
 use Rattle.ob_body.specs.Semaphore as semaphore
-use Rattle.ob_body.specs.Body.{kind_of, owner_of, is_signaled, after_set, after_reset, after_post, after_unlock}
+use Rattle.ob_body.specs.Body.{owner_of, is_signaled, after_set, after_reset, after_post, after_unlock}
 use Rattle.ob_body.proofs.Effects.{room_after_set, room_after_reset, room_after_post, room_after_unlock}
 use Rattle.ob_waits.specs.Form.{form_of}
 use Rattle.ob_store.specs.Kept.{Yields}

@@ -18,7 +18,7 @@ use Rattle.ob_waits.specs.Waits.{WaitList, blocks_among, slot_blocks}
 use Rattle.ob_store.specs.declared.limits.Limits.{Limits}
 use Rattle.ob_store.specs.Lives.{LivesState}
 use Rattle.ob_store.specs.Objects.{Object, ObjectsState}
-use Rattle.ob_store.specs.State.{State, by_slot, shape_of}
+use Rattle.ob_store.specs.State.{by_slot, shape_of}
 use Rattle.ob_store.specs.Directory.{rows_of}
 
 -- each part has the limits of the whole

@@ -71,7 +71,13 @@ impl<K: PinKeeper> Store<K> {
     }
 
     /// A new object with a name that no object has, as [`add_nameless`](Store::add_nameless) makes one without.
-    pub fn add_named(&mut self, process: u32, slot: u32, new: Creation, name: &NameRef<'_>) -> Result<u32, Fault>
+    pub fn add_named(
+        &mut self,
+        process: u32,
+        slot: u32,
+        new: Creation,
+        name: &NameRef<'_>,
+    ) -> Result<u32, Fault>
         requires process { process < length self.old.state.tables }
         requires room { is_full self.old.state process ≡ false }
         requires vacant { is_vacant_at (vacancy self.old.state) slot ≡ true }
@@ -96,7 +102,9 @@ impl<K: PinKeeper> Store<K> {
         };
         match self.tables.place(process, entry) {
             Ok(value) => {
-                let id = self.objects.add(slot, new.descr, new.grant, Some(kept), new.body);
+                let id = self
+                    .objects
+                    .add(slot, new.descr, new.grant, Some(kept), new.body);
                 self.names.enter(entered, id);
                 self.objects.kept();
                 return Ok(value);

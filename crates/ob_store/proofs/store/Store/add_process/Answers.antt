@@ -1,6 +1,5 @@
-use Rattle.std.proofs.Common.{◌≡◌, ◌≤◌, ◌∙◌, ap, sym, subst, length}
+use Rattle.std.proofs.Common.{◌≤◌, ◌∙◌, ap, sym, subst, length}
 use Rattle.ob_tables.specs.Tables.{HandleTables}
-use Rattle.ob_tables.specs.Tables as tables
 use Rattle.ob_store.specs.Lives as lives
 use Rattle.ob_store.specs.Lives.{LivesState}
 use Rattle.ob_store.specs.State.{Whole, settled, whole_of, with_process}

@@ -1,4 +1,4 @@
-use Rattle.std.proofs.Common.{◌≡◌, ◌≤◌, ◌∙◌, ap, sym, subst, length}
+use Rattle.std.proofs.Common.{◌≤◌, ◌∙◌, ap, sym, subst, length}
 use Rattle.ob_store.specs.Lives.{LivesState}
 use Rattle.ob_store.specs.State.{Whole, settled, whole_of, with_thread}
 use Rattle.ob_store.specs.Kept.{IsLive}

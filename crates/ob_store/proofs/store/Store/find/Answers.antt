@@ -1,4 +1,4 @@
-use Rattle.std.proofs.Common.{◌≡◌, ◌<◌, ◌∙◌, Option, Some, None, sym, subst}
+use Rattle.std.proofs.Common.{◌≡◌, ◌<◌, Option, Some, None, sym, subst}
 use Rattle.std.specs.Prelude.{IfSome}
 use Rattle.pin_core.specs.declared.id.Id.{Id}
 use Rattle.ob_name.specs.Refs.{name_at}

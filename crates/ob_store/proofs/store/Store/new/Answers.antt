@@ -1,4 +1,3 @@
-use Rattle.std.proofs.Common.{◌≡◌, ◌∙◌, ap, sym, subst, refl}
 use Rattle.ob_store.proofs.OpeningLaws.{kept_opening, opening_is}
 use Rattle.ob_store.proofs.store.Store.new.Goals as goal
 

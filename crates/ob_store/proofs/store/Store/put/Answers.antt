@@ -1,4 +1,4 @@
-use Rattle.std.proofs.Common.{◌≡◌, ◌∙◌, ap, sym, subst, get_or, Option, Some, None}
+use Rattle.std.proofs.Common.{◌≡◌, ◌∙◌, ap, sym, subst, get_or, Some, None}
 use Rattle.ob_waits.proofs.Room.{rooms_at_more}
 use Rattle.ob_store.specs.State.{Whole, settled, with_body}
 use Rattle.ob_store.proofs.KeptLaws.{kept_put, put_state, ready, room}
@@ -9,7 +9,7 @@ settle_after-requires-clause-room g c =
     let s = c.self.inside in
     let there : get_or s.objects.seen.bodies c.args.id.slot None ≡ Some c.args.old = subst (λ (w : Whole). get_or w.state.bodies c.args.id.slot None ≡ Some c.args.old) (sym c.self.view_is) c.requires.there in
     rooms_at_more s.limits.max_recursion 2147483647 c.put.new.self.seen.bodies s.waits.waits s.limits.in_range.max_recursion_in_range.1
-      (room s.limits s.lives s.tables s.objects c.put.new.self c.put.new.self s.waits s.waits s.names.rows c.args.id c.args.old c.args.new c.self.invariant c.kept.ensures there c.requires.yields c.put.ensures.objects c.put.ensures.rest)
+    (room s.limits s.lives s.tables s.objects c.put.new.self c.put.new.self s.waits s.waits s.names.rows c.args.id c.args.old c.args.new c.self.invariant c.kept.ensures there c.requires.yields c.put.ensures.objects c.put.ensures.rest)
 
 pub settle_after-requires-clause-ready : goal.settle_after-requires-clause-ready
 settle_after-requires-clause-ready g c =
@@ -23,7 +23,7 @@ invariant_of-self g c =
     let there : get_or s.objects.seen.bodies c.args.id.slot None ≡ Some c.args.old = subst (λ (w : Whole). get_or w.state.bodies c.args.id.slot None ≡ Some c.args.old) (sym c.self.view_is) c.requires.there in
     let before = room s.limits s.lives s.tables s.objects c.put.new.self c.settle_after.new.bodies s.waits c.settle_after.new.self s.names.rows c.args.id c.args.old c.args.new c.self.invariant c.kept.ensures there c.requires.yields c.put.ensures.objects c.put.ensures.rest in
     kept_put s.limits s.lives s.tables s.objects c.put.new.self c.settle_after.new.bodies s.waits c.settle_after.new.self s.names.rows c.args.id c.args.old c.args.new c.self.invariant c.kept.ensures there c.requires.yields c.put.ensures.objects c.put.ensures.rest
-      c.settle_after.ensures.value c.settle_after.ensures.limit c.settle_after.ensures.rest (record { room = c.settle_after.ensures.room s.limits.max_recursion before; settled = c.settle_after.ensures.settled })
+    c.settle_after.ensures.value c.settle_after.ensures.limit c.settle_after.ensures.rest (record { room = c.settle_after.ensures.room s.limits.max_recursion before; settled = c.settle_after.ensures.settled })
 
 pub returns-clause-state : goal.returns-clause-state
 returns-clause-state g c =
@@ -31,5 +31,5 @@ returns-clause-state g c =
     let there : get_or s.objects.seen.bodies c.args.id.slot None ≡ Some c.args.old = subst (λ (w : Whole). get_or w.state.bodies c.args.id.slot None ≡ Some c.args.old) (sym c.self.view_is) c.requires.there in
     let before = room s.limits s.lives s.tables s.objects c.put.new.self c.settle_after.new.bodies s.waits c.settle_after.new.self s.names.rows c.args.id c.args.old c.args.new c.self.invariant c.kept.ensures there c.requires.yields c.put.ensures.objects c.put.ensures.rest in
     put_state s.limits s.lives s.tables s.objects c.put.new.self c.settle_after.new.bodies s.waits c.settle_after.new.self s.names.rows c.args.id c.args.old c.args.new c.self.invariant c.kept.ensures there c.requires.yields c.put.ensures.objects c.put.ensures.rest
-      c.settle_after.ensures.value c.settle_after.ensures.limit c.settle_after.ensures.rest (record { room = c.settle_after.ensures.room s.limits.max_recursion before; settled = c.settle_after.ensures.settled })
+    c.settle_after.ensures.value c.settle_after.ensures.limit c.settle_after.ensures.rest (record { room = c.settle_after.ensures.room s.limits.max_recursion before; settled = c.settle_after.ensures.settled })
     ∙ ap (λ (w : Whole). settled (with_body w.state c.args.id c.args.new)) c.self.view_is

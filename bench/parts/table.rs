@@ -1,0 +1,63 @@
+//! The handle table of one process, as a list of places that are filled or not, with those below its end that aren't in a set.
+
+use crate::id::Id;
+
+/// Numbers that are free.
+pub trait Free: Default {
+    fn least(&self) -> Option<u32>;
+    fn take(&mut self, number: u32);
+    fn give_back(&mut self, number: u32);
+}
+
+#[derive(Clone, Copy)]
+#[allow(dead_code)]
+pub struct Entry {
+    pub id: Id,
+    pub rights: u32,
+    pub flags: u32,
+}
+
+#[derive(Default)]
+pub struct Table<F> {
+    pub places: Vec<Option<Entry>>,
+    pub free: F,
+}
+
+impl<F: Free> Table<F> {
+    pub fn entry(&self, value: u32) -> Option<Entry> {
+        if value < 4 {
+            return None;
+        }
+        *self.places.get(value as usize / 4 - 1)?
+    }
+
+    #[allow(dead_code)]
+    pub fn is_full(&self, limit: u32) -> bool {
+        self.free.least().is_none() && self.places.len() >= limit as usize
+    }
+
+    /// The value of the new entry, or none where the table has as many as it may.
+    pub fn place(&mut self, entry: Entry, limit: u32) -> Option<u32> {
+        if let Some(place) = self.free.least() {
+            self.free.take(place);
+            self.places[place as usize] = Some(entry);
+            return Some(4 * (place + 1));
+        }
+        let place = self.places.len() as u32;
+        if place >= limit {
+            return None;
+        }
+        self.places.push(Some(entry));
+        Some(4 * (place + 1))
+    }
+
+    pub fn remove(&mut self, value: u32) -> Option<Entry> {
+        if value < 4 {
+            return None;
+        }
+        let place = value / 4 - 1;
+        let entry = self.places.get_mut(place as usize)?.take()?;
+        self.free.give_back(place);
+        Some(entry)
+    }
+}

@@ -1,0 +1,171 @@
+-- The model never refuses for want of memory, so what a reply says of a step is unambiguous.
+use Rattle.std.proofs.Common.{◌≡◌, ℕ, Bool, true, false, List, Option, Some, None, Result, Ok, Err, refl, ap, ◌∙◌, sym, cond, not, eqb, ltb, length}
+use Rattle.std.specs.Prelude.{ℤ}
+use Rattle.std.specs.List.{list_any, list_all}
+use Rattle.pin_core.specs.declared.id.Id.{Id}
+use Rattle.ob_rights.specs.declared.fault.Fault.{Fault}
+use Rattle.ob_rights.specs.declared.fault.Fault.TheVariants as fault
+use Rattle.ob_rights.specs.declared.kind.Kind.{Kind}
+use Rattle.ob_rights.specs.declared.rights.Rights.{Rights}
+use Rattle.ob_body.specs.declared.body.Body.{Body}
+use Rattle.ob_body.specs.declared.body.Body.TheVariants.{Event, Mutex, Semaphore}
+use Rattle.ob_body.specs.Body.{kind_of, post_answer, unlock_answer}
+use Rattle.ob_body.specs.Mutex as mutex
+use Rattle.ob_body.specs.Semaphore as semaphore
+use Rattle.ob_name.specs.Names.{ObjectName}
+use Rattle.ob_name.specs.Texts.{checked_base, is_backslash, is_printable, name_of, split_name}
+use Rattle.ob_name.specs.Listing.{find_name}
+use Rattle.ob_store.specs.Objects.{Object}
+use Rattle.ob_store.specs.State.{State, Whole}
+use Rattle.ob_store.specs.Directory.{directory_of}
+use Rattle.ob_manager.specs.declared.call.Call.{Call}
+use Rattle.ob_manager.specs.declared.call.Call.TheVariants as calls
+use Rattle.ob_manager.specs.declared.making.Making.{Making}
+use Rattle.ob_manager.specs.declared.creating.New.{New}
+use Rattle.ob_manager.specs.declared.reply.Reply.{Reply}
+use Rattle.ob_manager.specs.Outcomes.{Outcome, ◌>>=◌, or_refuse, refuse_if}
+use Rattle.ob_manager.specs.Checks.{caller, found, if_kind, same_kind}
+use Rattle.ob_manager.specs.Creating.{create, created, name_in, named_object, new_event, new_handle, new_mutex, new_object, new_semaphore, own_name, room_for, semaphore_of}
+use Rattle.ob_manager.specs.Reaping.{if_ended}
+use Rattle.ob_manager.specs.Steps.{Step, does, lacks, final, is_lack, is_memory, next, outcome_of}
+
+-- whether a part of a call refuses for want of memory, and whether a call does
+abbrev wants : {A : Type 0} → Result A Fault → Bool
+wants (Ok x) = false
+wants (Err e) = is_memory e
+
+abbrev answers : Result Outcome Fault → Bool
+answers (Ok outcome) = is_lack outcome.reply
+answers (Err e) = is_memory e
+
+then_wants : {A B : Type 0} (r : Result A Fault) (f : A → Result B Fault) → wants r ≡ false → ((x : A) → wants (f x) ≡ false) → wants (r >>= f) ≡ false
+then_wants (Ok x) f h k = k x
+then_wants (Err e) f h k = h
+
+andThen : {A : Type 0} (r : Result A Fault) (f : A → Result Outcome Fault) → wants r ≡ false → ((x : A) → answers (f x) ≡ false) → answers (r >>= f) ≡ false
+andThen (Ok x) f h k = k x
+andThen (Err e) f h k = h
+
+refuse_wants : (b : Bool) (e : Fault) → is_memory e ≡ false → wants (refuse_if b e) ≡ false
+refuse_wants true e h = h
+refuse_wants false e h = refl
+
+or_wants : {A : Type 0} (x : Option A) (e : Fault) → is_memory e ≡ false → wants (or_refuse x e) ≡ false
+or_wants None e h = h
+or_wants (Some x) e h = refl
+
+caller_wants : (s : State) (t : ℕ) → wants (caller s t) ≡ false
+caller_wants s t = search (then_wants, refuse_wants, or_wants)
+
+found_wants : (s : State) (p h : ℕ) → wants (found s p h) ≡ false
+found_wants s p h = or_wants _ fault.Handle refl
+
+kind_wants : (k : Kind) (b : Option Body) → wants (if_kind k b) ≡ false
+kind_wants k None = refl
+kind_wants k (Some b) = by (same_kind (kind_of b) k)
+  where
+    by : (c : Bool) → wants (cond c (Ok b) (Err fault.Handle)) ≡ false
+    by true = refl
+    by false = refl
+
+post_wants : (n : ℕ) (b : Body) → wants (post_answer n b) ≡ false
+post_wants n (Event e) = refl
+post_wants n (Mutex m) = refl
+post_wants n (Semaphore s) = by (semaphore.is_past n s)
+  where
+    by : (c : Bool) → wants (cond c (Err fault.Posts) (Ok s.count)) ≡ false
+    by true = refl
+    by false = refl
+
+unlock_wants : (t : ℕ) (b : Body) → wants (unlock_answer t b) ≡ false
+unlock_wants t (Event e) = refl
+unlock_wants t (Semaphore s) = refl
+unlock_wants t (Mutex m) = by (mutex.is_owner t m.owner)
+  where
+    by : (c : Bool) → wants {A = Unit {0}} (cond c (Ok (tt {0})) (Err fault.NotOwner)) ≡ false
+    by true = refl
+    by false = refl
+
+base_wants : (name : ObjectName) → wants (checked_base name) ≡ false
+base_wants name = by (eqb (length name.base) 0) (list_any is_backslash name.base)
+  where
+    by : (a b : Bool) → wants (cond a (Err fault.Parameter) (cond b (Err fault.NamePath) (Ok name))) ≡ false
+    by true b = refl
+    by false true = refl
+    by false false = refl
+
+text_wants : (text : List ℕ) (session : ℕ) → wants (name_of text session) ≡ false
+text_wants text session = by (ltb 260 (length text)) (list_all is_printable text)
+  where
+    by : (a b : Bool) → wants (cond a (Err fault.NameLong) (cond (not b) (Err fault.Parameter) (checked_base (split_name text session)))) ≡ false
+    by true b = refl
+    by false true = base_wants (split_name text session)
+    by false false = refl
+
+name_wants : (s : State) (p : ℕ) (text : List ℕ) → wants (name_in s p text) ≡ false
+name_wants s p text = search (then_wants, or_wants, text_wants)
+
+own_wants : (s : State) (p : ℕ) (name : Option (List ℕ)) → wants (own_name s p name) ≡ false
+own_wants s p None = refl
+own_wants s p (Some text) = then_wants (name_in s p text) _ (name_wants s p text) (λ n. refl)
+
+handle_wants : (s : State) (p : ℕ) (id : Id) (k : Kind) (asked : Rights) (inherit : Bool) → wants (new_handle s p id k asked inherit) ≡ false
+handle_wants s p id k asked inherit = search (then_wants, or_wants, refuse_wants)
+
+room_wants : (s : State) (p : ℕ) (m : Making) (k : Kind) → wants (room_for s p m k) ≡ false
+room_wants s p m k = search (then_wants, or_wants, refuse_wants)
+
+object_answers : (s : State) (p : ℕ) (m : Making) (new : New) (name : Option ObjectName) → answers (new_object s p m new name) ≡ false
+object_answers s p m new name = search (andThen, room_wants)
+
+named_answers : (s : State) (p : ℕ) (m : Making) (new : New) (name : ObjectName) (id : Option Id) → answers (named_object s p m new name id) ≡ false
+named_answers s p m new name None = object_answers s p m new (Some name)
+named_answers s p m new name (Some id) = andThen (new_handle s p id _ _ _) _ (handle_wants s p id _ _ _) (λ after. refl)
+
+created_answers : (s : State) (p : ℕ) (m : Making) (new : New) (name : Option ObjectName) → answers (created s p m new name) ≡ false
+created_answers s p m new None = object_answers s p m new None
+created_answers s p m new (Some name) = named_answers s p m new name (find_name name (directory_of s))
+
+create_answers : (s : State) (t : ℕ) (m : Making) (what : Result New Fault) → wants what ≡ false → answers (create s t m what) ≡ false
+create_answers s t m what h = search (andThen, caller_wants, refuse_wants, own_wants, created_answers)
+
+counts_wants : (initial most : ℕ) → wants (semaphore_of initial most) ≡ false
+counts_wants initial most = by (ltb most initial) _
+  where
+    by : (c : Bool) (x : New) → wants (cond c (Err fault.Parameter) (Ok x)) ≡ false
+    by true x = refl
+    by false x = refl
+
+semaphore_wants : (initial max : ℤ) → wants (new_semaphore initial max) ≡ false
+semaphore_wants initial max = search (then_wants, or_wants, counts_wants)
+
+ended_wants : (o : Option Object) (b : Option Body) → wants (if_ended o b) ≡ false
+ended_wants None b = refl
+ended_wants (Some o) None = refl
+ended_wants (Some o) (Some b) = refl
+
+outcome_answers : (s : State) (call : Call) (reply : Reply) → answers (outcome_of s call reply) ≡ false
+outcome_answers s (calls.Spawn session) reply = search (andThen, refuse_wants)
+outcome_answers s (calls.StartThread process) reply = search (andThen, or_wants, refuse_wants)
+outcome_answers s (calls.MakeEvent t m manual set) reply = create_answers s t m (Ok (new_event manual set)) refl
+outcome_answers s (calls.MakeMutex t m owned) reply = create_answers s t m (Ok (new_mutex t owned)) refl
+outcome_answers s (calls.MakeSemaphore t m initial max) reply = create_answers s t m (new_semaphore initial max) (semaphore_wants initial max)
+outcome_answers s (calls.OpenNamed t k mask inherit text) reply = search (andThen, caller_wants, name_wants, or_wants, handle_wants)
+outcome_answers s (calls.CloseHandle t h) reply = search (andThen, caller_wants, found_wants)
+outcome_answers s (calls.SetEvent t h) reply = search (andThen, caller_wants, found_wants, kind_wants, refuse_wants)
+outcome_answers s (calls.ResetEvent t h) reply = search (andThen, caller_wants, found_wants, kind_wants, refuse_wants)
+outcome_answers s (calls.ReleaseSemaphore t h count) reply = search (andThen, caller_wants, or_wants, found_wants, kind_wants, refuse_wants, post_wants) depth 8
+outcome_answers s (calls.ReleaseMutex t h) reply = search (andThen, caller_wants, found_wants, kind_wants, unlock_wants)
+outcome_answers s (calls.Reap slot) reply = search (andThen, refuse_wants, ended_wants)
+outcome_answers s (calls.Counts id) reply = search (andThen, refuse_wants, or_wants)
+
+final_answers : (s : State) (r : Result Outcome Fault) → is_lack (final s r).reply ≡ answers r
+final_answers s (Ok o) = refl
+final_answers s (Err e) = refl
+
+pub step_next : (w v : Whole) (call : Call) (reply : Reply) → Step w call reply v → v.state ≡ next w.state call reply
+step_next w v call reply (does is keeps) =
+    let silent : is_lack reply ≡ false = sym (ap (λ (o : Outcome). is_lack o.reply) is) ∙ final_answers w.state (outcome_of w.state call reply) ∙ outcome_answers w.state call reply in
+    sym (ap (λ (o : Outcome). o.state) is) ∙ ap (λ b. cond b w.state (final w.state (outcome_of w.state call reply)).state) (sym silent)
+step_next w v call reply (lacks takes ok refused same) =
+    ap (λ (x : Whole). x.state) same ∙ ap (λ (r : Reply). cond (is_lack r) w.state (final w.state (outcome_of w.state call reply)).state) (sym refused)

@@ -1,0 +1,10 @@
+ghost use Rattle.std.specs.Prelude.{◌≡◌};
+ghost use Rattle.ob_manager.specs.declared.call.Call.{Call};
+ghost use Rattle.ob_manager.specs.declared.reply.Reply.{Reply};
+ghost use Rattle.ob_manager.specs.Steps.{Step, next};
+ghost use Rattle.ob_store.specs.State.{Whole};
+
+/// The state after a call is a function of the state before it, the call and its reply.
+pub fn law_of_steps()
+    ensures { (w v : Whole) (call : Call) (reply : Reply) → Step w call reply v → v.state ≡ next w.state call reply }
+{}
