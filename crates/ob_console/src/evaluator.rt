@@ -106,16 +106,12 @@ fn list<W: Sink>(
     ensures faults { W.faults sink.old ≤ W.faults sink.new }
     ensures cause { OnErr result ((W.faults sink.old < W.faults sink.new) ⊎ (output.new.writes_left ≡ 0)) }
 {
-    let count = manager.directory_len();
-    let head = count_of_names(count);
+    let head = count_of_names(manager.directory_len());
     match output.put(sink, head.as_slice()) {
         Ok(()) => {}
         Err(fault) => return Err(fault),
     }
-    for at in 0..count {
-        let Some((name, id)) = manager.directory_at(at) else {
-            unreachable!()
-        };
+    for (name, id) in manager.directory() {
         let row = row_of(name, id);
         match output.put(sink, row.as_slice()) {
             Ok(()) => {}

@@ -8,7 +8,7 @@ use crate::act::{Act, Ask};
 use crate::naming::{make_of, name_of};
 use crate::numbers::{either_of, id_of, labelled, number_of, signed_of};
 use crate::rights::{kind_of, mask_of};
-use crate::words::Words;
+use crate::words::{Words, is};
 
 /// The longest text of a line, in bytes.
 pub const TEXT_MOST: usize = 4096;
@@ -24,7 +24,7 @@ pub fn act_of(line: &[u8]) -> Act<'_>
     if text.is_empty() || text[0] == b'#' {
         return Act::Nothing;
     }
-    if text == b"dir".as_slice() {
+    if is(text, b"dir") {
         return Act::ListNames;
     }
     match call_of(Words::of(text)) {
@@ -47,31 +47,31 @@ fn call_of(mut words: Words<'_>) -> Option<Ask<'_>>
     ensures { option_map call_in result ≡ call_of words.entry }
 {
     let verb = words.next()?;
-    if verb == b"spawn".as_slice() {
+    if is(verb, b"spawn") {
         spawn_of(words)
-    } else if verb == b"thread".as_slice() {
+    } else if is(verb, b"thread") {
         thread_of(words)
-    } else if verb == b"event".as_slice() {
+    } else if is(verb, b"event") {
         event_of(words)
-    } else if verb == b"mutex".as_slice() {
+    } else if is(verb, b"mutex") {
         mutex_of(words)
-    } else if verb == b"semaphore".as_slice() {
+    } else if is(verb, b"semaphore") {
         semaphore_of(words)
-    } else if verb == b"open".as_slice() {
+    } else if is(verb, b"open") {
         open_of(words)
-    } else if verb == b"close".as_slice() {
+    } else if is(verb, b"close") {
         close_of(words)
-    } else if verb == b"set".as_slice() {
+    } else if is(verb, b"set") {
         set_of(words)
-    } else if verb == b"reset".as_slice() {
+    } else if is(verb, b"reset") {
         reset_of(words)
-    } else if verb == b"release".as_slice() {
+    } else if is(verb, b"release") {
         release_of(words)
-    } else if verb == b"unlock".as_slice() {
+    } else if is(verb, b"unlock") {
         unlock_of(words)
-    } else if verb == b"reap".as_slice() {
+    } else if is(verb, b"reap") {
         reap_of(words)
-    } else if verb == b"count".as_slice() {
+    } else if is(verb, b"count") {
         count_of(words)
     } else {
         None

@@ -1,7 +1,7 @@
 ghost use Rattle.std.specs.Prelude.{◌≡◌, codes};
 ghost use Rattle.ob_console.specs.Words.{number_of, negated, signed_of, unless_great, labelled, id_of, either_of};
 
-use crate::words::cut;
+use crate::words::{cut, is};
 use pin_core::Id;
 
 /// A number: 1 to 10 decimal digits, leading zeros allowed, at most 4,294,967,295.
@@ -77,9 +77,9 @@ pub fn id_of(word: &[u8]) -> Option<Id>
 pub fn either_of(first: &[u8], second: &[u8], word: &[u8]) -> Option<bool>
     ensures { result ≡ either_of first.now second.now word.now }
 {
-    if word == first {
+    if is(word, first) {
         Some(false)
-    } else if word == second {
+    } else if is(word, second) {
         Some(true)
     } else {
         None

@@ -2,17 +2,18 @@ ghost use Rattle.std.specs.Prelude.{◌≡◌, ◌<◌, IfSome, codes, is_some};
 ghost use Rattle.std.specs.Char.{digit_value, is_ascii_hexdigit};
 ghost use Rattle.ob_console.specs.Words.{hex_of, kind_of, mask_of};
 
+use crate::words::is;
 use ob_rights::{Kind, Rights};
 
 /// One of the kinds of objects.
 pub fn kind_of(word: &[u8]) -> Option<Kind>
     ensures { result ≡ kind_of word.now }
 {
-    if word == b"event".as_slice() {
+    if is(word, b"event") {
         Some(Kind::Event)
-    } else if word == b"mutex".as_slice() {
+    } else if is(word, b"mutex") {
         Some(Kind::Mutex)
-    } else if word == b"semaphore".as_slice() {
+    } else if is(word, b"semaphore") {
         Some(Kind::Semaphore)
     } else {
         None

@@ -1,4 +1,5 @@
 ghost use Rattle.std.specs.Prelude.{◌≡◌, ◌≢◌, ◌<◌, [], ◌∷◌, length, IfSome, IfNone, IsSome, IsTrue, ◌↔◌, MatchOption};
+ghost use Rattle.std.specs.Str.{bytes_eq};
 ghost use Rattle.std.specs.List.{after_first, before_first, position_or_len};
 ghost use Rattle.memchr.specs.Find.{is_byte};
 ghost use Rattle.ob_console.specs.Words.{begins_with, behind, joined, words_of};
@@ -55,7 +56,7 @@ impl<'a> Words<'a> {
         let Some(word) = later.next() else {
             return false;
         };
-        if word != keyword {
+        if !is(word, keyword) {
             return false;
         }
         self.rest = later.rest;
@@ -88,6 +89,13 @@ impl<'a> Words<'a> {
             None => Some(()),
         }
     }
+}
+
+/// Whether a word is this keyword. Most words that are not differ in their length or their first byte.
+pub fn is(word: &[u8], keyword: &[u8]) -> bool
+    ensures { result ≡ bytes_eq word.now keyword.now }
+{
+    word.len() == keyword.len() && word.first() == keyword.first() && word == keyword
 }
 
 /// What stands before and behind the first such byte.

@@ -16,7 +16,7 @@ use crate::card::Card;
 use crate::making::{Make, Making};
 use crate::reply::Reply;
 use crate::{counting, creating, handles, processes, reaping, signaling};
-use ob_name::NameRef;
+use ob_name::{NameRef, Rows};
 use ob_rights::{Fault, Kind, Rights};
 use ob_store::{Limits, Seat, Store};
 use pin_core::Id;
@@ -263,6 +263,14 @@ impl<K: PinKeeper> Manager<K> {
         ensures { option_map row_at result ≡ slice_get (directory_of self.now.state) at }
     {
         self.store.name_at(at)
+    }
+
+    /// The names with their objects, in the order in which the objects were made. A walk over all of them takes a time that
+    /// grows with their number.
+    pub fn directory(&self) -> Rows<'_>
+        ensures { result ≡ directory_of self.now.state }
+    {
+        self.store.rows()
     }
 
     /// Makes a call.

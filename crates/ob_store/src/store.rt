@@ -17,7 +17,7 @@ use crate::lives::Lives;
 use crate::objects::Objects;
 use crate::seat::Seat;
 use ob_body::Body;
-use ob_name::{Directory, NameRef};
+use ob_name::{Directory, NameRef, Rows};
 use ob_tables::{Entry, Tables};
 use ob_waits::{Bodies, Waits};
 use pin_core::Id;
@@ -205,5 +205,12 @@ impl<K: PinKeeper> Store<K> {
         ensures { option_map row_at result ≡ slice_get (directory_of self.now.state) at }
     {
         self.names.row(at)
+    }
+
+    /// The names with their Ids, in the order in which the objects were made.
+    pub fn rows(&self) -> Rows<'_>
+        ensures { result ≡ directory_of self.now.state }
+    {
+        self.names.rows()
     }
 }
