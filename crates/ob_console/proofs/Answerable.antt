@@ -1,5 +1,5 @@
 -- Every call may be answered, in any state whose slots may be pinned at all; and no call changes the shape of the slots.
-use Rattle.std.proofs.Common.{◌≡◌, ℕ, ◌<◌, ◌≤◌, Bool, true, Option, Some, None, Result, Ok, Err, inl, refl, ap, ◌∙◌, arith}
+use Rattle.std.proofs.Common.{◌≡◌, ℕ, ◌<◌, true, Option, Some, None, Result, Ok, Err, inl, refl, ap, arith}
 use Rattle.std.specs.Prelude.{is_ok, nat_le, slice_index_or}
 use Rattle.pin_core.specs.declared.id.Id.{Id}
 use Rattle.pin_words.specs.declared.pin_keeper.Reclaim.{Reclaim}

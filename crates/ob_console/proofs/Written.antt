@@ -1,7 +1,10 @@
 -- What was written of what was to be written.
-use Rattle.std.proofs.Common.{◌≡◌, ℕ, List, [], ◌++◌, take, drop, refl, ap, sym, ◌∙◌}
+use Rattle.std.proofs.Common.{◌≡◌, ℕ, List, [], ◌++◌, take, drop, Result, Ok, Err, refl, ap, sym, ◌∙◌}
 use Rattle.std.proofs.lemmas.List.{append_assoc, append-nil, take-append-drop}
+use Rattle.std.specs.Prelude.{OnOk, OnErr}
+use Rattle.ob_console.specs.declared.output.NotWritten.{NotWritten}
 use Rattle.ob_console.specs.Devices.{Writes, Begins}
+use Rattle.ob_console.specs.Sessions.{IsWritten}
 
 -- nothing is written
 pub writes_none : (before whole : List ℕ) → Writes before before whole whole
@@ -52,3 +55,8 @@ writes_on a b c first second pending more left one two = record {
 
 pub begins_on : (a b c first second pending more : List ℕ) → Writes a b (first ++ second) pending → Begins b c (pending ++ more) → Begins a c (first ++ (second ++ more))
 begins_on a b c first second pending more one two = (two.0, writes_on a b c first second pending more two.0 one two.1)
+
+-- an answer is written or pending, or its beginning is written where the sink failed
+pub put_written : (r : Result (Unit {0}) NotWritten) (a b whole pending : List ℕ) → OnOk r (Writes a b whole pending) → OnErr r (Begins a b whole) → IsWritten r a b whole pending
+put_written (Ok unit) a b whole pending writes begins = writes
+put_written (Err fault) a b whole pending writes begins = begins

@@ -7,8 +7,11 @@ use Rattle.pin_words.specs.declared.pin_keeper.Reclaim.TheVariants.{Freed, Retir
 use Rattle.ob_rights.specs.Fault.{code_of}
 use Rattle.ob_name.specs.Names.{Namespace, ObjectName, Global, Session}
 use Rattle.ob_name.specs.Listing.{Rows}
+use Rattle.ob_name.specs.Refs.{row_at}
 use Rattle.ob_manager.specs.declared.reply.Reply.{Reply}
 use Rattle.ob_manager.specs.declared.reply.Reply.TheVariants.{Spawned, Started, Made, Exists, Opened, Closed, Done, Previous, Reaped, CountsAre, Refused}
+use Rattle.ob_console.specs.declared.answer.Answer.{Answer}
+use Rattle.ob_console.specs.declared.answer.Answer.TheVariants.{Replied, BadLine, NameCount, Named}
 
 abbrev pub line_end : List ℕ
 line_end = 10 ∷ []
@@ -18,7 +21,7 @@ printed_id id = codes "s" ++ decimal id.slot ++ codes "." ++ decimal id.generati
 
 -- a new handle: whether the object is new, had the name already, or was opened by its name
 abbrev pub printed_handle : ℕ → List ℕ → Id → List ℕ
-printed_handle handle how id = codes "h" ++ decimal handle ++ how ++ printed_id id ++ line_end
+printed_handle handle how id = codes "h" ++ decimal handle ++ how ++ printed_id id
 
 -- what became of a slot
 abbrev pub printed_reclaim : Reclaim → List ℕ
@@ -26,19 +29,23 @@ printed_reclaim Freed = codes " freed"
 printed_reclaim Retired = codes " retired"
 printed_reclaim (Held pins) = codes " held " ++ decimal pins
 
+-- what a reply says
+abbrev pub printed_reply : Reply → List ℕ
+printed_reply (Spawned process thread) = codes "p" ++ decimal process ++ codes " t" ++ decimal thread
+printed_reply (Started thread) = codes "t" ++ decimal thread
+printed_reply (Made handle id) = printed_handle handle (codes " new ") id
+printed_reply (Exists handle id) = printed_handle handle (codes " exists ") id
+printed_reply (Opened handle id) = printed_handle handle (codes " opened ") id
+printed_reply Closed = codes "closed"
+printed_reply Done = codes "done"
+printed_reply (Previous count) = codes "previous " ++ decimal count
+printed_reply (Reaped id outcome) = printed_id id ++ printed_reclaim outcome
+printed_reply (CountsAre handles waits hold) = codes "handles " ++ decimal handles ++ codes " waits " ++ decimal waits ++ codes " hold " ++ decimal hold
+printed_reply (Refused fault) = codes "error " ++ decimal (code_of fault)
+
 -- a reply, as one line
 abbrev pub printed : Reply → List ℕ
-printed (Spawned process thread) = codes "p" ++ decimal process ++ codes " t" ++ decimal thread ++ line_end
-printed (Started thread) = codes "t" ++ decimal thread ++ line_end
-printed (Made handle id) = printed_handle handle (codes " new ") id
-printed (Exists handle id) = printed_handle handle (codes " exists ") id
-printed (Opened handle id) = printed_handle handle (codes " opened ") id
-printed Closed = codes "closed" ++ line_end
-printed Done = codes "done" ++ line_end
-printed (Previous count) = codes "previous " ++ decimal count ++ line_end
-printed (Reaped id outcome) = printed_id id ++ printed_reclaim outcome ++ line_end
-printed (CountsAre handles waits hold) = codes "handles " ++ decimal handles ++ codes " waits " ++ decimal waits ++ codes " hold " ++ decimal hold ++ line_end
-printed (Refused fault) = codes "error " ++ decimal (code_of fault) ++ line_end
+printed reply = printed_reply reply ++ line_end
 
 -- the names of objects: how many there are, and a line for each
 abbrev pub printed_space : Namespace → List ℕ
@@ -57,3 +64,10 @@ printed_names rows = printed_count (length rows) ++ flat_map printed_row rows
 -- a line outside the grammar, by its number
 abbrev pub bad_line : ℕ → List ℕ
 bad_line number = codes "bad line " ++ decimal number ++ line_end
+
+-- a line of the output
+abbrev pub printed_answer : Answer → List ℕ
+printed_answer (Replied reply) = printed reply
+printed_answer (BadLine number) = bad_line number
+printed_answer (NameCount count) = printed_count count
+printed_answer (Named name id) = printed_row (row_at (name, id))

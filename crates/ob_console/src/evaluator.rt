@@ -7,7 +7,7 @@ ghost use Rattle.ob_console.specs.Sessions.{IsWritten};
 ghost use Rattle.ob_console.specs.Devices.{Begins};
 
 use crate::act::Act;
-use crate::answer::{answer_to, bad_line, count_of_names, row_of};
+use crate::answer::Answer;
 use crate::asking::reply_to;
 use crate::device::Sink;
 use crate::output::{NotWritten, Output};
@@ -62,10 +62,10 @@ impl Evaluator {
         let answer = match act {
             Act::Nothing => return Ok(()),
             Act::ListNames => return list(&self.manager, &mut self.output, sink),
-            Act::Bad => bad_line(self.lines),
-            Act::Ask(ask) => answer_to(reply_to(&mut self.manager, ask)),
+            Act::Bad => Answer::BadLine(self.lines),
+            Act::Ask(ask) => Answer::Replied(reply_to(&mut self.manager, ask)),
         };
-        self.output.put(sink, answer.as_slice())
+        self.output.put(sink, answer)
     }
 
     /// Writes all that is printed.
@@ -106,14 +106,12 @@ fn list<W: Sink>(
     ensures faults { W.faults sink.old ≤ W.faults sink.new }
     ensures cause { OnErr result ((W.faults sink.old < W.faults sink.new) ⊎ (output.new.writes_left ≡ 0)) }
 {
-    let head = count_of_names(manager.directory_len());
-    match output.put(sink, head.as_slice()) {
+    match output.put(sink, Answer::NameCount(manager.directory_len())) {
         Ok(()) => {}
         Err(fault) => return Err(fault),
     }
     for (name, id) in manager.directory() {
-        let row = row_of(name, id);
-        match output.put(sink, row.as_slice()) {
+        match output.put(sink, Answer::Named(name, id)) {
             Ok(()) => {}
             Err(fault) => return Err(fault),
         }

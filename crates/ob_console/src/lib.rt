@@ -14,6 +14,7 @@ mod account;
 mod act;
 mod answer;
 mod asking;
+mod block;
 mod console;
 mod device;
 mod evaluator;

@@ -1,13 +1,12 @@
-ghost use Rattle.std.specs.Prelude.{◌≡◌, ◌+◌, ◌<◌, ◌≤◌, ◌++◌, ◌⊎◌, [], IfOk, OnOk, OnErr, length};
+ghost use Rattle.std.specs.Prelude.{◌≡◌, ◌+◌, ◌<◌, ◌≤◌, ◌++◌, ◌⊎◌, [], IfOk, OnOk, OnErr};
 ghost use Rattle.ob_console.specs.Devices.{Begins, Writes};
+ghost use Rattle.ob_console.specs.Printed.{printed_answer};
 
+use crate::answer::Answer;
+use crate::block::Block;
 use crate::device::{Sink, Trouble};
-use arrayvec::ArrayVec;
 use std::alloc::{AllocError, Global};
 use std::marker::Model;
-
-/// The size of the block in which answers are gathered, in bytes.
-pub const BLOCK: usize = 65536;
 
 /// The sink failed, took no byte, or needed one write more than may be made.
 #[derive(Clone, Copy, Debug, PartialEq, Eq)]
@@ -16,7 +15,7 @@ pub struct NotWritten;
 /// Answers that are printed and not yet written, in a block of fixed size.
 #[derive(Drop)]
 pub struct Output {
-    block: Box<ArrayVec<u8, 65536>>,
+    block: Box<Block>,
     writes_left: u64,
 }
 
@@ -25,7 +24,7 @@ impl Model for Output {
 
     ghost Value = { Pending };
 
-    ghost view = { λ output. record { bytes = output.block.value.items; writes_left = output.writes_left } };
+    ghost view = { λ output. record { bytes = output.block.value; writes_left = output.writes_left } };
 }
 
 impl Output {
@@ -33,7 +32,7 @@ impl Output {
     pub fn new(alloc: Global, writes: u64) -> Result<Output, AllocError>
         ensures { IfOk result (λ output. output ≡ record { bytes = []; writes_left = writes }) }
     {
-        let block = Box::new(alloc, ArrayVec::new())?;
+        let block = Box::new(alloc, Block::new())?;
         Ok(Output {
             block,
             writes_left: writes,
@@ -42,18 +41,17 @@ impl Output {
 
     #[tactic(auto, using(crate::proofs::Written::begins_more, crate::proofs::Written::writes_pending, crate::proofs::Written::writes_flushed))]
     /// Adds an answer; writes first where the block has no room for it.
-    pub fn put<W: Sink>(&mut self, sink: &mut W, answer: &[u8]) -> Result<(), NotWritten>
-        requires { length answer.now ≤ 512 }
-        ensures ok { OnOk result (Writes (W.taken sink.old) (W.taken sink.new) (self.old.bytes ++ answer.now) self.new.bytes) }
-        ensures err { OnErr result (Begins (W.taken sink.old) (W.taken sink.new) (self.old.bytes ++ answer.now)) }
+    pub fn put<W: Sink>(&mut self, sink: &mut W, answer: Answer<'_>) -> Result<(), NotWritten>
+        ensures ok { OnOk result (Writes (W.taken sink.old) (W.taken sink.new) (self.old.bytes ++ printed_answer answer.entry) self.new.bytes) }
+        ensures err { OnErr result (Begins (W.taken sink.old) (W.taken sink.new) (self.old.bytes ++ printed_answer answer.entry)) }
         ensures calls { W.calls sink.new + self.new.writes_left ≡ W.calls sink.old + self.old.writes_left }
         ensures faults { W.faults sink.old ≤ W.faults sink.new }
         ensures cause { OnErr result ((W.faults sink.old < W.faults sink.new) ⊎ (self.new.writes_left ≡ 0)) }
     {
-        if self.block.remaining_capacity() < answer.len() {
+        if !self.block.has_room() {
             self.flush(sink)?;
         }
-        let _ = self.block.try_extend_from_slice(answer);
+        self.block.add(answer);
         Ok(())
     }
 

@@ -92,6 +92,7 @@ impl<'a> Words<'a> {
 }
 
 /// Whether a word is this keyword. Most words that are not differ in their length or their first byte.
+#[inline(always)]
 pub fn is(word: &[u8], keyword: &[u8]) -> bool
     ensures { result ≡ bytes_eq word.now keyword.now }
 {

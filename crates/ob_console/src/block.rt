@@ -1,0 +1,208 @@
+ghost use Rattle.std.specs.Prelude.{[], ◌++◌, ◌≡◌, ◌+◌, ◌≤◌, IsTrue, codes, decimal, length};
+ghost use Rattle.ob_name.specs.Refs.{namespace_of};
+ghost use Rattle.ob_console.specs.Printed.{printed_answer, printed_id, printed_reclaim, printed_reply, printed_space};
+
+use crate::answer::Answer;
+use arrayvec::ArrayVec;
+use itoa::Buffer;
+use ob_manager::Reply;
+use ob_name::Space;
+use ob_rights::code_of;
+use pin_core::Id;
+use pin_words::Reclaim;
+use std::marker::Model;
+
+/// The size of a block, in bytes.
+const BLOCK: usize = 65536;
+
+/// The longest answer, in bytes.
+const ANSWER_MOST: usize = 512;
+
+/// The block in which answers are gathered, printed one behind another. A clause sees it as its bytes.
+#[derive(Drop)]
+pub struct Block {
+    bytes: ArrayVec<u8, 65536>,
+}
+
+impl Model for Block {
+    ghost use Rattle.std.specs.Prelude.{ℕ, List};
+
+    ghost Value = { List ℕ };
+
+    ghost view = { λ block. block.bytes.items };
+}
+
+impl Block {
+    /// Nothing yet.
+    pub fn new() -> Block
+        ensures { result ≡ [] }
+    {
+        Block {
+            bytes: ArrayVec::new(),
+        }
+    }
+
+    /// The bytes.
+    pub fn as_slice(&self) -> &[u8]
+        ensures { result.now ≡ self.now }
+    {
+        self.bytes.as_slice()
+    }
+
+    /// Nothing is left.
+    pub fn clear(&mut self)
+        ensures { self.new ≡ [] }
+    {
+        self.bytes.clear();
+    }
+
+    /// Whether the longest answer fits in.
+    pub fn has_room(&self) -> bool
+        ensures { IsTrue result → length self.now + ANSWER_MOST ≤ BLOCK }
+    {
+        self.bytes.remaining_capacity() >= ANSWER_MOST
+    }
+
+    /// Prints an answer, as one line.
+    pub fn add(&mut self, answer: Answer<'_>)
+        requires { length self.old + ANSWER_MOST ≤ BLOCK }
+        ensures { self.new ≡ self.old ++ printed_answer answer.entry }
+    {
+        match answer {
+            Answer::Replied(reply) => self.reply(reply),
+            Answer::BadLine(number) => {
+                self.text(b"bad line ");
+                self.number(number);
+            }
+            Answer::NameCount(count) => {
+                self.text(b"dir ");
+                self.number(count as u128);
+            }
+            Answer::Named(name, id) => {
+                self.space(name.space);
+                self.id(id);
+                self.text(b" ");
+                self.text(name.base);
+            }
+        }
+        self.text(b"\n");
+    }
+
+    fn reply(&mut self, reply: Reply)
+        requires { length self.old + ANSWER_MOST ≤ BLOCK }
+        ensures value { self.new ≡ self.old ++ printed_reply reply }
+        ensures len { length self.new ≤ length self.old + 200 }
+    {
+        match reply {
+            Reply::Spawned { process, thread } => {
+                self.text(b"p");
+                self.number(u128::from(process));
+                self.text(b" t");
+                self.number(u128::from(thread));
+            }
+            Reply::Started { thread } => {
+                self.text(b"t");
+                self.number(u128::from(thread));
+            }
+            Reply::Made { handle, id } => self.handle(handle, b" new ", id),
+            Reply::Exists { handle, id } => self.handle(handle, b" exists ", id),
+            Reply::Opened { handle, id } => self.handle(handle, b" opened ", id),
+            Reply::Closed => self.text(b"closed"),
+            Reply::Done => self.text(b"done"),
+            Reply::Previous { count } => {
+                self.text(b"previous ");
+                self.number(u128::from(count));
+            }
+            Reply::Reaped { id, outcome } => {
+                self.id(id);
+                self.reclaim(outcome);
+            }
+            Reply::CountsAre {
+                handles,
+                waits,
+                hold,
+            } => {
+                self.text(b"handles ");
+                self.number(u128::from(handles));
+                self.text(b" waits ");
+                self.number(u128::from(waits));
+                self.text(b" hold ");
+                self.number(u128::from(hold));
+            }
+            Reply::Refused(fault) => {
+                self.text(b"error ");
+                self.number(u128::from(code_of(fault)));
+            }
+        }
+    }
+
+    fn text(&mut self, text: &[u8])
+        requires { length self.old + length text.now ≤ BLOCK }
+        ensures value { self.new ≡ self.old ++ text.now }
+        ensures len { length self.new ≡ length self.old + length text.now }
+    {
+        let _ = self.bytes.try_extend_from_slice(text);
+    }
+
+    fn number(&mut self, number: u128)
+        requires { length self.old + 40 ≤ BLOCK }
+        ensures value { self.new ≡ self.old ++ decimal number }
+        ensures len { length self.new ≤ length self.old + 40 }
+    {
+        let mut digits = Buffer::new();
+        self.text(digits.format(number).as_bytes());
+    }
+
+    fn id(&mut self, id: Id)
+        requires { length self.old + 100 ≤ BLOCK }
+        ensures value { self.new ≡ self.old ++ printed_id id }
+        ensures len { length self.new ≤ length self.old + 82 }
+    {
+        self.text(b"s");
+        self.number(u128::from(id.slot));
+        self.text(b".");
+        self.number(u128::from(id.generation));
+    }
+
+    fn handle(&mut self, handle: u32, how: &[u8], id: Id)
+        requires room { length self.old + 200 ≤ BLOCK }
+        requires how { length how.now ≤ 10 }
+        ensures value { self.new ≡ self.old ++ (codes "h" ++ decimal handle ++ how.now ++ printed_id id) }
+        ensures len { length self.new ≤ length self.old + 140 }
+    {
+        self.text(b"h");
+        self.number(u128::from(handle));
+        self.text(how);
+        self.id(id);
+    }
+
+    fn reclaim(&mut self, outcome: Reclaim)
+        requires { length self.old + 100 ≤ BLOCK }
+        ensures value { self.new ≡ self.old ++ printed_reclaim outcome }
+        ensures len { length self.new ≤ length self.old + 50 }
+    {
+        match outcome {
+            Reclaim::Freed => self.text(b" freed"),
+            Reclaim::Retired => self.text(b" retired"),
+            Reclaim::Held { pins } => {
+                self.text(b" held ");
+                self.number(u128::from(pins));
+            }
+        }
+    }
+
+    fn space(&mut self, space: Space)
+        requires { length self.old + 100 ≤ BLOCK }
+        ensures value { self.new ≡ self.old ++ printed_space (namespace_of space) }
+        ensures len { length self.new ≤ length self.old + 60 }
+    {
+        match space {
+            Space::Global => self.text(b"global "),
+            Space::Session(session) => {
+                self.text(b"session ");
+                self.number(u128::from(session.number));
+                self.text(b" ");
+            }
+        }
+    }
+}
