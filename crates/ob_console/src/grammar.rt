@@ -48,34 +48,45 @@ fn call_of(mut words: Words<'_>) -> Option<Ask<'_>>
 {
     let verb = words.next()?;
     if is(verb, b"spawn") {
-        spawn_of(words)
-    } else if is(verb, b"thread") {
-        thread_of(words)
-    } else if is(verb, b"event") {
-        event_of(words)
-    } else if is(verb, b"mutex") {
-        mutex_of(words)
-    } else if is(verb, b"semaphore") {
-        semaphore_of(words)
-    } else if is(verb, b"open") {
-        open_of(words)
-    } else if is(verb, b"close") {
-        close_of(words)
-    } else if is(verb, b"set") {
-        set_of(words)
-    } else if is(verb, b"reset") {
-        reset_of(words)
-    } else if is(verb, b"release") {
-        release_of(words)
-    } else if is(verb, b"unlock") {
-        unlock_of(words)
-    } else if is(verb, b"reap") {
-        reap_of(words)
-    } else if is(verb, b"count") {
-        count_of(words)
-    } else {
-        None
+        return spawn_of(words);
     }
+    if is(verb, b"thread") {
+        return thread_of(words);
+    }
+    if is(verb, b"event") {
+        return event_of(words);
+    }
+    if is(verb, b"mutex") {
+        return mutex_of(words);
+    }
+    if is(verb, b"semaphore") {
+        return semaphore_of(words);
+    }
+    if is(verb, b"open") {
+        return open_of(words);
+    }
+    if is(verb, b"close") {
+        return close_of(words);
+    }
+    if is(verb, b"set") {
+        return set_of(words);
+    }
+    if is(verb, b"reset") {
+        return reset_of(words);
+    }
+    if is(verb, b"release") {
+        return release_of(words);
+    }
+    if is(verb, b"unlock") {
+        return unlock_of(words);
+    }
+    if is(verb, b"reap") {
+        return reap_of(words);
+    }
+    if is(verb, b"count") {
+        return count_of(words);
+    }
+    None
 }
 
 fn spawn_of(mut words: Words<'_>) -> Option<Ask<'_>>
