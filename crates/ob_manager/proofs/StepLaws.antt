@@ -1,5 +1,5 @@
 -- The model never refuses for want of memory, so what a reply says of a step is unambiguous.
-use Rattle.std.proofs.Common.{◌≡◌, ℕ, Bool, true, false, List, Option, Some, None, Result, Ok, Err, refl, ap, ◌∙◌, sym, cond, not, eqb, ltb, length}
+use Rattle.std.proofs.Common.{◌≡◌, ℕ, Bool, true, false, List, [], ◌∷◌, Option, Some, None, Result, Ok, Err, refl, ap, ◌∙◌, sym, cond, not, eqb, ltb, length}
 use Rattle.std.specs.Prelude.{ℤ}
 use Rattle.std.specs.List.{list_any, list_all}
 use Rattle.pin_core.specs.declared.id.Id.{Id}
@@ -27,6 +27,12 @@ use Rattle.ob_manager.specs.Outcomes.{Outcome, ◌>>=◌, or_refuse, refuse_if}
 use Rattle.ob_manager.specs.Checks.{caller, found, if_kind, same_kind}
 use Rattle.ob_manager.specs.Creating.{create, created, name_in, named_object, new_event, new_handle, new_mutex, new_object, new_semaphore, own_name, room_for, semaphore_of}
 use Rattle.ob_manager.specs.Reaping.{if_ended}
+use Rattle.ob_manager.specs.Waiting.{all_found, objects_of, satisfied, shown, unsatisfied, wait_on}
+use Rattle.ob_manager.specs.declared.waiting.Timeout.{Timeout}
+use Rattle.ob_manager.specs.declared.waiting.Timeout.TheVariants.{Zero, Infinite}
+use Rattle.ob_waits.specs.declared.wait.Mode.{Mode}
+use Rattle.ob_waits.specs.declared.wait.WaitState.{WaitState}
+use Rattle.ob_waits.specs.declared.wait.WaitState.TheVariants.{Pending, Answered}
 use Rattle.ob_manager.specs.Steps.{Step, does, lacks, final, is_lack, is_memory, next, outcome_of}
 
 -- whether a part of a call refuses for want of memory, and whether a call does
@@ -144,6 +150,28 @@ ended_wants None b = refl
 ended_wants (Some o) None = refl
 ended_wants (Some o) (Some b) = refl
 
+all_wants : (s : State) (p : ℕ) (handles : List ℕ) → wants (all_found s p handles) ≡ false
+all_wants s p [] = refl
+all_wants s p (h ∷ hs) = then_wants (found s p h) _ (found_wants s p h) (λ e. then_wants (all_found s p hs) _ (all_wants s p hs) (λ es. refl))
+
+objects_wants : (s : State) (p : ℕ) (handles : List ℕ) → wants (objects_of s p handles) ≡ false
+objects_wants s p handles = search (then_wants, all_wants, refuse_wants)
+
+unsatisfied_answers : (s : State) (t : ℕ) (mode : Mode) (timeout : Timeout) (ids : List Id) → answers (unsatisfied s t mode timeout ids) ≡ false
+unsatisfied_answers s t mode Zero ids = refl
+unsatisfied_answers s t mode Infinite ids = search (andThen, refuse_wants)
+
+wait_answers : (s : State) (t : ℕ) (mode : Mode) (timeout : Timeout) (ids : List Id) → answers (wait_on s t mode timeout ids) ≡ false
+wait_answers s t mode timeout ids = search (andThen, refuse_wants, ready_answers)
+  where
+    ready_answers : (b : Bool) → answers (cond b (satisfied s t mode ids) (unsatisfied s t mode timeout ids)) ≡ false
+    ready_answers true = refl
+    ready_answers false = unsatisfied_answers s t mode timeout ids
+
+shown_answers : (s : State) (n : ℕ) (stands : WaitState) → is_lack (shown s n stands).reply ≡ false
+shown_answers s n Pending = refl
+shown_answers s n (Answered code) = refl
+
 outcome_answers : (s : State) (call : Call) (reply : Reply) → answers (outcome_of s call reply) ≡ false
 outcome_answers s (calls.Spawn session) reply = search (andThen, refuse_wants)
 outcome_answers s (calls.StartThread process) reply = search (andThen, or_wants, refuse_wants)
@@ -156,6 +184,9 @@ outcome_answers s (calls.SetEvent t h) reply = search (andThen, caller_wants, fo
 outcome_answers s (calls.ResetEvent t h) reply = search (andThen, caller_wants, found_wants, kind_wants, refuse_wants)
 outcome_answers s (calls.ReleaseSemaphore t h count) reply = search (andThen, caller_wants, or_wants, found_wants, kind_wants, refuse_wants, post_wants) depth 8
 outcome_answers s (calls.ReleaseMutex t h) reply = search (andThen, caller_wants, found_wants, kind_wants, unlock_wants)
+outcome_answers s (calls.WaitFor t mode timeout handles) reply = search (andThen, caller_wants, refuse_wants, objects_wants, wait_answers)
+outcome_answers s (calls.WaitResult n) reply = search (andThen, or_wants, shown_answers)
+outcome_answers s (calls.Expire n) reply = search (andThen, refuse_wants)
 outcome_answers s (calls.Reap slot) reply = search (andThen, refuse_wants, ended_wants)
 outcome_answers s (calls.Counts id) reply = search (andThen, refuse_wants, or_wants)
 

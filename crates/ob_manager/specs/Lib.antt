@@ -7,4 +7,5 @@ pub mod Handles
 pub mod Signaling
 pub mod Counting
 pub mod Reaping
+pub mod Waiting
 pub mod Steps

@@ -6,7 +6,7 @@ use Rattle.pin_words.specs.declared.pin_keeper.Reclaim.TheVariants as reclaim
 use Rattle.ob_rights.specs.declared.fault.Fault.{Fault}
 use Rattle.ob_rights.specs.declared.fault.Fault.TheVariants as fault
 use Rattle.ob_manager.specs.declared.reply.Reply.{Reply}
-use Rattle.ob_manager.specs.declared.reply.Reply.TheVariants.{Spawned, Started, Made, Exists, Opened, Closed, Done, Previous, Reaped, CountsAre, Refused}
+use Rattle.ob_manager.specs.declared.reply.Reply.TheVariants.{Spawned, Started, Made, Exists, Opened, Closed, Done, Previous, Code, Pending, Expired, Reaped, CountsAre, Refused}
 use Rattle.ob_manager.specs.declared.call.Call.{Call}
 use Rattle.ob_manager.specs.declared.call.Call.TheVariants as calls
 use Rattle.ob_store.specs.Objects.{Object}
@@ -19,6 +19,7 @@ use Rattle.ob_manager.specs.Handles.{close}
 use Rattle.ob_manager.specs.Signaling.{set_event, reset_event, release_semaphore, release_mutex}
 use Rattle.ob_manager.specs.Counting.{counts}
 use Rattle.ob_manager.specs.Reaping.{reap}
+use Rattle.ob_manager.specs.Waiting.{becomes_pending, expire, wait, wait_result}
 
 -- what became of a slot, as a reply says it; other replies say nothing of a slot
 abbrev pub reclaim_in : Reply → Reclaim
@@ -38,24 +39,30 @@ outcome_of s (calls.SetEvent thread handle) reply = set_event s thread handle
 outcome_of s (calls.ResetEvent thread handle) reply = reset_event s thread handle
 outcome_of s (calls.ReleaseSemaphore thread handle count) reply = release_semaphore s thread handle count
 outcome_of s (calls.ReleaseMutex thread handle) reply = release_mutex s thread handle
+outcome_of s (calls.WaitFor thread mode timeout handles) reply = wait s thread mode timeout handles
+outcome_of s (calls.WaitResult number) reply = wait_result s number
+outcome_of s (calls.Expire number) reply = expire s number
 outcome_of s (calls.Reap slot) reply = reap s slot (reclaim_in reply)
 outcome_of s (calls.Counts id) reply = counts s id
 
--- whether a call takes memory, which may be wanting
-abbrev pub takes_memory : Call → Bool
-takes_memory (calls.Spawn session) = true
-takes_memory (calls.StartThread process) = true
-takes_memory (calls.MakeEvent thread making manual set) = true
-takes_memory (calls.MakeMutex thread making owned) = true
-takes_memory (calls.MakeSemaphore thread making initial max) = true
-takes_memory (calls.OpenNamed thread kind mask inherit text) = true
-takes_memory (calls.CloseHandle thread handle) = false
-takes_memory (calls.SetEvent thread handle) = false
-takes_memory (calls.ResetEvent thread handle) = false
-takes_memory (calls.ReleaseSemaphore thread handle count) = false
-takes_memory (calls.ReleaseMutex thread handle) = false
-takes_memory (calls.Reap slot) = false
-takes_memory (calls.Counts id) = false
+-- whether a call takes memory, which may be wanting: a wait only where it becomes pending
+abbrev pub takes_memory : State → Call → Bool
+takes_memory s (calls.Spawn session) = true
+takes_memory s (calls.StartThread process) = true
+takes_memory s (calls.MakeEvent thread making manual set) = true
+takes_memory s (calls.MakeMutex thread making owned) = true
+takes_memory s (calls.MakeSemaphore thread making initial max) = true
+takes_memory s (calls.OpenNamed thread kind mask inherit text) = true
+takes_memory s (calls.CloseHandle thread handle) = false
+takes_memory s (calls.SetEvent thread handle) = false
+takes_memory s (calls.ResetEvent thread handle) = false
+takes_memory s (calls.ReleaseSemaphore thread handle count) = false
+takes_memory s (calls.ReleaseMutex thread handle) = false
+takes_memory s (calls.WaitFor thread mode timeout handles) = becomes_pending (wait s thread mode timeout handles)
+takes_memory s (calls.WaitResult number) = false
+takes_memory s (calls.Expire number) = false
+takes_memory s (calls.Reap slot) = false
+takes_memory s (calls.Counts id) = false
 
 -- the reply and the state of an outcome; a refusal changes nothing
 abbrev pub final : State → Result Outcome Fault → Outcome
@@ -75,17 +82,20 @@ Keeps (Spawned process thread) s k k' = k' ≡ k
 Keeps (Started thread) s k k' = k' ≡ k
 Keeps (Exists handle id) s k k' = k' ≡ k
 Keeps (Opened handle id) s k k' = k' ≡ k
+Keeps (Pending number) s k k' = k' ≡ k
 Keeps (CountsAre handles waits hold) s k k' = k' ≡ k
 Keeps (Refused fault) s k k' = k' ≡ k
 Keeps Closed s k k' = OnlyCloses k k'
 Keeps Done s k k' = OnlyCloses k k'
 Keeps (Previous count) s k k' = OnlyCloses k k'
+Keeps (Code code) s k k' = OnlyCloses k k'
+Keeps (Expired number) s k k' = OnlyCloses k k'
 
 -- From a state and what the keeper says a call gives this reply and goes on: as the model says, or for want of memory, which
 -- is answered only by a call that takes memory, and only where nothing else refuses it; it changes nothing.
 pub data Step (w : Whole) (call : Call) (reply : Reply) (v : Whole) : Type 0 where
   does : final w.state (outcome_of w.state call reply) ≡ record { reply = reply; state = v.state } → Keeps reply v.state w.keeper v.keeper → Step w call reply v
-  lacks : takes_memory call ≡ true → is_ok (outcome_of w.state call reply) ≡ true → reply ≡ Refused fault.Memory → v ≡ w → Step w call reply v
+  lacks : takes_memory w.state call ≡ true → is_ok (outcome_of w.state call reply) ≡ true → reply ≡ Refused fault.Memory → v ≡ w → Step w call reply v
 
 -- the state after a call with this reply: want of memory leaves it, and otherwise the call comes to it
 abbrev pub is_memory : Fault → Bool

@@ -1,5 +1,7 @@
 use crate::making::{Making, Text};
+use crate::waiting::{HandleList, Timeout};
 use ob_rights::{Kind, Rights};
+use ob_waits::Mode;
 use pin_core::Id;
 
 /// A call of the manager, with its arguments.
@@ -95,6 +97,27 @@ pub enum Call {
         thread: u32,
         /// The handle.
         handle: u32,
+    },
+    /// `Manager::wait`.
+    WaitFor {
+        /// The calling thread.
+        thread: u32,
+        /// Whether it waits for any or for all.
+        mode: Mode,
+        /// How long it waits.
+        timeout: Timeout,
+        /// What it waits for.
+        handles: HandleList,
+    },
+    /// `Manager::wait_result`.
+    WaitResult {
+        /// The wait.
+        wait: u32,
+    },
+    /// `Manager::expire`.
+    Expire {
+        /// The wait.
+        wait: u32,
     },
     /// `Manager::reap`.
     Reap {

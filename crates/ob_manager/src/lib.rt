@@ -27,6 +27,7 @@ mod reply;
 mod signaling;
 #[cfg(test)]
 mod tests;
+mod waiting;
 
 pub use call::Call;
 pub use card::Card;
@@ -34,4 +35,6 @@ pub use law::law_of_steps;
 pub use making::{Make, Making, Text};
 pub use manager::Manager;
 pub use ob_store::{Limits, Seat};
+pub use ob_waits::Mode;
 pub use reply::Reply;
+pub use waiting::{HandleList, Timeout};

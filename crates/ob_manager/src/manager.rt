@@ -9,16 +9,19 @@ ghost use Rattle.ob_store.specs.State.{blocks_of, handles_of, hold_of, opening, 
 ghost use Rattle.ob_manager.specs.Makings.{making_of};
 ghost use Rattle.ob_manager.specs.Counting.{card, hold_in};
 ghost use Rattle.ob_manager.specs.Handles.{resolve};
+ghost use Rattle.ob_waits.specs.Waits as waits;
 ghost use Rattle.ob_manager.specs.Steps.{Step, reply_of};
 
 use crate::call::Call;
 use crate::card::Card;
 use crate::making::{Make, Making};
 use crate::reply::Reply;
-use crate::{counting, creating, handles, processes, reaping, signaling};
+use crate::waiting::Timeout;
+use crate::{counting, creating, handles, processes, reaping, signaling, waiting};
 use ob_name::{NameRef, Rows};
 use ob_rights::{Fault, Kind, Rights};
 use ob_store::{Limits, Seat, Store};
+use ob_waits::Mode;
 use pin_core::Id;
 use pin_words::PinKeeper;
 use std::alloc::Global;
@@ -217,6 +220,48 @@ impl<K: PinKeeper> Manager<K> {
         reply_of(signaling::release_mutex(&mut self.store, thread, handle))
     }
 
+    /// Waits for any or all of 1 to 64 objects ([WaitForMultipleObjects]): `Code` where the wait is satisfied at once, and then
+    /// the thread has what satisfies it; else `Code` with 258 for [`Timeout::Zero`], and for [`Timeout::Infinite`] `Pending`
+    /// with the next wait number. A pending wait keeps its objects, and its thread makes no other call until
+    /// [`wait_result`](Manager::wait_result) took the answer (*profile*).
+    ///
+    /// Refused with 87 where the thread isn't live, 170 where it waits, 87 for no handle, more than 64, or one that stands twice,
+    /// whose two lowest bits don't count (*profile*); 6 where there is no such handle; 5 without the right SYNCHRONIZE; 87 where
+    /// a wait for all is for one object twice (*profile*); 1450 for a mutex that the thread owns as often as the limit lets, and
+    /// where the wait would become pending and each wait number was given; and there with 8 for want of memory.
+    ///
+    /// [WaitForMultipleObjects]: https://learn.microsoft.com/windows/win32/api/synchapi/nf-synchapi-waitformultipleobjects
+    pub fn wait(&mut self, thread: u32, mode: Mode, timeout: Timeout, handles: &[u32]) -> Reply
+        ensures { Step self.old (Call.WaitFor thread mode timeout handles.now) result self.new }
+    {
+        reply_of(waiting::wait(&mut self.store, thread, mode, timeout, handles))
+    }
+
+    /// Takes the answer of a wait, which is over with it: `Code`, and `Pending` where it isn't answered yet (*profile*).
+    ///
+    /// Refused with 87 where there is no such wait.
+    pub fn wait_result(&mut self, wait: u32) -> Reply
+        ensures { Step self.old (Call.WaitResult wait) result self.new }
+    {
+        reply_of(waiting::wait_result(&mut self.store, wait))
+    }
+
+    /// Ends a pending wait, as where its time is up: `Expired`, and its answer is 258 (*profile*).
+    ///
+    /// Refused with 87 where no such wait is pending.
+    pub fn expire(&mut self, wait: u32) -> Reply
+        ensures { Step self.old (Call.Expire wait) result self.new }
+    {
+        reply_of(waiting::expire(&mut self.store, wait))
+    }
+
+    /// Whether a wait is pending.
+    pub fn is_pending(&self, wait: u32) -> bool
+        ensures { result ≡ waits.is_pending (slice_index_or self.now.state.waits wait None) }
+    {
+        waiting::is_pending(&self.store, wait)
+    }
+
     /// Takes the slot of an object that nothing refers to back, unless somebody pins it: `Reaped` (*profile*).
     ///
     /// Refused with 87 where there is no such slot, and with 6 where it has no such object.
@@ -313,6 +358,14 @@ impl<K: PinKeeper> Manager<K> {
                 count,
             } => self.release_semaphore(*thread, *handle, *count),
             Call::ReleaseMutex { thread, handle } => self.release_mutex(*thread, *handle),
+            Call::WaitFor {
+                thread,
+                mode,
+                timeout,
+                handles,
+            } => self.wait(*thread, *mode, *timeout, handles.as_slice()),
+            Call::WaitResult { wait } => self.wait_result(*wait),
+            Call::Expire { wait } => self.expire(*wait),
             Call::Reap { slot } => self.reap(*slot),
             Call::Counts { id } => self.counts(*id),
         }

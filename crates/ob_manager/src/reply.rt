@@ -47,6 +47,24 @@ pub enum Reply {
         /// The count before.
         count: u32,
     },
+    /// A wait was satisfied, or its time was up ([Wait Functions]).
+    ///
+    /// [Wait Functions]: https://learn.microsoft.com/windows/win32/sync/wait-functions
+    Code {
+        /// For any, the index of the object that satisfied it, from 0, and 128 more where that is an abandoned mutex; for all,
+        /// 0, or 128 where one is an abandoned mutex (*profile*); 258 where its time was up.
+        code: u32,
+    },
+    /// A wait isn't satisfied yet.
+    Pending {
+        /// Its number, from 1.
+        wait: u32,
+    },
+    /// A pending wait's time was up.
+    Expired {
+        /// Its number.
+        wait: u32,
+    },
     /// A slot was to be taken back.
     Reaped {
         /// The object that was in it.

@@ -6,4 +6,5 @@ pub mod State
 pub mod Directory
 pub mod Kept
 pub mod Moves
+pub mod Waiting
 pub mod Consistent

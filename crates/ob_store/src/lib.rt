@@ -31,6 +31,7 @@ mod signaling;
 mod store;
 #[cfg(test)]
 mod tests;
+mod waiting;
 
 pub use creation::Creation;
 pub use limits::Limits;

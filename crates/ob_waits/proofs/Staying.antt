@@ -91,7 +91,7 @@ all_taken : (ws : List (Option Wait)) (u : ℕ) → HasWait u ws → (ids : List
 all_taken ws u waits [] bodies = λ k. stays_same ws (get_or bodies k None)
 all_taken ws u waits (id ∷ ids) bodies = all_both ws bodies (with_acquired u bodies id) (with_all_acquired u (with_acquired u bodies id) ids) (one_taken ws u waits bodies id) (all_taken ws u waits ids (with_acquired u bodies id))
 
-taken : (ws : List (Option Wait)) (u : ℕ) → HasWait u ws → (mode : Mode) (ids : List Id) (bodies : List (Option Body)) → AllStay ws bodies (bodies_after mode u bodies ids)
+pub taken : (ws : List (Option Wait)) (u : ℕ) → HasWait u ws → (mode : Mode) (ids : List Id) (bodies : List (Option Body)) → AllStay ws bodies (bodies_after mode u bodies ids)
 taken ws u waits Any ids bodies = one_taken ws u waits bodies (get_or ids (first_signaled u bodies ids) nowhere)
 taken ws u waits All ids bodies = all_taken ws u waits ids bodies
 

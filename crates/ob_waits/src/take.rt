@@ -1,5 +1,6 @@
 ghost use Rattle.std.specs.Prelude.{[], ◌∷◌, ◌≡◌, ◌<◌, ◌≤◌, true, None, Some, length, slice_index_or};
 ghost use Rattle.std.specs.List.{list_any, list_all};
+ghost use Rattle.std.specs.Option.{IfNone};
 ghost use Rattle.ob_waits.specs.Objects.{slot_room};
 ghost use Rattle.ob_waits.specs.Waits.{nowhere, is_signaled, is_abandoned, first_signaled, list_ready, with_acquired, with_all_acquired, bodies_after, code_of, code_now, objects_now};
 ghost use Rattle.ob_waits.specs.Rules.{HasRoom, IsDistinct, IsWaitable};
@@ -125,6 +126,7 @@ pub fn try_now<B: Bodies>(bodies: &mut B, thread: u32, mode: Mode, ids: &[Id]) -
     ensures code { result ≡ code_now mode thread (B.objects bodies.old).bodies ids.now }
     ensures objects { B.objects bodies.new ≡ objects_now mode thread (B.objects bodies.old) ids.now }
     ensures rest { B.rest bodies.new ≡ B.rest bodies.old }
+    ensures unready { IfNone result (bodies.new ≡ bodies.old) }
 {
     if !is_list_ready(bodies, thread, mode, ids) {
         return None;

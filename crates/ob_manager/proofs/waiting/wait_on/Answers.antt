@@ -1,0 +1,16 @@
+use Rattle.std.proofs.Common.{◌<◌, ◌∙◌, sym, subst, get_or}
+use Rattle.ob_store.specs.State.{Whole, handles_of}
+use Rattle.ob_waits.specs.Waits.{nowhere}
+use Rattle.ob_manager.proofs.Waited.{waitable}
+use Rattle.ob_manager.proofs.waiting.wait_on.Goals as goal
+
+pub take_now-requires-clause-waitable : goal.take_now-requires-clause-waitable
+take_now-requires-clause-waitable g c =
+    waitable c.args.store.now.state c.args.mode c.args.ids.now c.kept.ensures.named c.requires.there c.requires.some c.requires.few (sym c.is_for_one_twice.ensures ∙ c.if-is_for_one_twice.false)
+
+pub add_wait-requires-clause-waitable : goal.add_wait-requires-clause-waitable
+add_wait-requires-clause-waitable g c =
+    waitable c.args.store.now.state c.args.mode c.args.ids.now c.kept.ensures.named c.requires.there c.requires.some c.requires.few (sym c.is_for_one_twice.ensures ∙ c.if-is_for_one_twice.false)
+
+pub add_wait-requires-clause-there : goal.add_wait-requires-clause-there
+add_wait-requires-clause-there g c = λ i lt. subst (λ (w : Whole). 0 < handles_of w.state (get_or c.args.ids.now i nowhere)) (sym c.in_default.ensures.none) (c.requires.there i lt)

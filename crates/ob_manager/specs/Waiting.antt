@@ -1,0 +1,125 @@
+-- Waiting for objects, and what becomes of waits.
+use Rattle.std.specs.Prelude.{ℕ, ◌/◌, ◌==◌, ◌||◌, nat_lt, Bool, true, false, not, List, [], ◌∷◌, length, map, None, Result, Ok, Err, if◌then◌else◌, slice_index_or}
+use Rattle.std.specs.List.{list_any, list_all}
+use Rattle.arrayvec.specs.ArrayVec.{ArrayVec}
+use Rattle.pin_core.specs.Holds.{same_id}
+use Rattle.pin_core.specs.declared.id.Id.{Id}
+use Rattle.ob_rights.specs.declared.fault.Fault.{Fault}
+use Rattle.ob_rights.specs.declared.fault.Fault.TheVariants as fault
+use Rattle.ob_rights.specs.Rights.{within}
+use Rattle.ob_tables.specs.declared.entry.Entry.{Entry}
+use Rattle.ob_waits.specs.declared.wait.Mode.{Mode}
+use Rattle.ob_waits.specs.declared.wait.Mode.TheVariants.{Any, All}
+use Rattle.ob_waits.specs.declared.wait.WaitState.{WaitState}
+use Rattle.ob_waits.specs.declared.wait.WaitState.TheVariants.{Pending, Answered}
+use Rattle.ob_waits.specs.Objects.{slot_room}
+use Rattle.ob_waits.specs.Waits.{code_of, is_pending, list_ready, state_at}
+use Rattle.ob_manager.specs.declared.reply.Reply.{Reply}
+use Rattle.ob_manager.specs.declared.reply.Reply.TheVariants as reply
+use Rattle.ob_manager.specs.declared.waiting.Timeout.{Timeout}
+use Rattle.ob_manager.specs.declared.waiting.Timeout.TheVariants.{Zero, Infinite}
+use Rattle.ob_store.specs.State.{State, settled}
+use Rattle.ob_store.specs.Waiting.{are_waits_given, with_answer, with_taken, with_wait, without_wait}
+use Rattle.ob_manager.specs.Outcomes.{Outcome, ◌>>=◌, or_refuse, refuse_if}
+use Rattle.ob_manager.specs.Checks.{caller, found}
+
+-- the right SYNCHRONIZE
+abbrev pub synchronize : ℕ
+synchronize = 0x100000
+
+-- whether something stands twice in a list
+abbrev pub has_twice : {A : Type 0} → (A → A → Bool) → List A → Bool
+has_twice same [] = false
+has_twice same (x ∷ xs) = list_any (same x) xs || has_twice same xs
+
+-- whether two handles are one: their two lowest bits don't count
+abbrev pub same_handle : ℕ → ℕ → Bool
+same_handle a b = a / 4 == b / 4
+
+-- whether a list of handles is none to wait for: empty, past 64, or with a handle twice
+abbrev pub is_misshapen : List ℕ → Bool
+is_misshapen handles = length handles == 0 || (nat_lt 64 (length handles) || has_twice same_handle handles)
+
+-- the entries of handles, else 6
+abbrev pub all_found : State → ℕ → List ℕ → Result (List Entry) Fault
+all_found s process [] = Ok []
+all_found s process (handle ∷ handles) = do
+  entry ← found s process handle
+  entries ← all_found s process handles
+  Ok (entry ∷ entries)
+
+abbrev pub lacks_synchronize : Entry → Bool
+lacks_synchronize entry = not (within synchronize entry.rights.0)
+
+abbrev pub id_of : Entry → Id
+id_of entry = entry.id
+
+-- the objects of handles: 6 where there is no such handle, and where each is there 5 without SYNCHRONIZE
+abbrev pub objects_of : State → ℕ → List ℕ → Result (List Id) Fault
+objects_of s process handles = do
+  entries ← all_found s process handles
+  _ ← refuse_if (list_any lacks_synchronize entries) fault.Access
+  Ok (map id_of entries)
+
+-- the objects that a body collected
+abbrev pub collected : Result (ArrayVec Id) Fault → Result (List Id) Fault
+collected (Ok ids) = Ok ids.items
+collected (Err e) = Err e
+
+-- whether a wait for all is for one object twice
+abbrev pub is_for_one_twice : Mode → List Id → Bool
+is_for_one_twice Any ids = false
+is_for_one_twice All ids = has_twice same_id ids
+
+-- whether no object is a mutex that the thread owns as often as the limit lets
+abbrev pub have_room : State → ℕ → List Id → Bool
+have_room s thread ids = list_all (λ (id : Id). slot_room s.limits.max_recursion thread (slice_index_or s.bodies id.slot None)) ids
+
+-- what a wait comes to that isn't satisfied now: 1450 where it would become pending and each wait number was given
+abbrev pub unsatisfied : State → ℕ → Mode → Timeout → List Id → Result Outcome Fault
+unsatisfied s thread mode Zero ids = Ok (record { reply = reply.Code 258; state = s })
+unsatisfied s thread mode Infinite ids = do
+  _ ← refuse_if (are_waits_given s) fault.Limit
+  Ok (record { reply = reply.Pending (length s.waits); state = settled (with_wait s thread mode ids) })
+
+abbrev pub satisfied : State → ℕ → Mode → List Id → Result Outcome Fault
+satisfied s thread mode ids = Ok (record { reply = reply.Code (code_of mode thread s.bodies ids); state = settled (with_taken s thread mode ids) })
+
+-- a wait for objects
+abbrev pub wait_on : State → ℕ → Mode → Timeout → List Id → Result Outcome Fault
+wait_on s thread mode timeout ids = do
+  _ ← refuse_if (is_for_one_twice mode ids) fault.Parameter
+  _ ← refuse_if (not (have_room s thread ids)) fault.Limit
+  if list_ready mode thread s.bodies ids then satisfied s thread mode ids else unsatisfied s thread mode timeout ids
+
+abbrev pub wait : State → ℕ → Mode → Timeout → List ℕ → Result Outcome Fault
+wait s thread mode timeout handles = do
+  process ← caller s thread
+  _ ← refuse_if (is_misshapen handles) fault.Parameter
+  ids ← objects_of s process handles
+  wait_on s thread mode timeout ids
+
+-- whether a wait becomes pending: only then it takes memory
+abbrev pub is_pending_reply : Reply → Bool
+is_pending_reply (reply.Pending number) = true
+is_pending_reply other = false
+
+abbrev pub becomes_pending : Result Outcome Fault → Bool
+becomes_pending (Ok outcome) = is_pending_reply outcome.reply
+becomes_pending (Err e) = false
+
+-- what a thread gets of its wait: its answer, with which it is over, or that it is pending
+abbrev pub shown : State → ℕ → WaitState → Outcome
+shown s number Pending = record { reply = reply.Pending number; state = s }
+shown s number (Answered code) = record { reply = reply.Code code; state = settled (without_wait s number) }
+
+abbrev pub wait_result : State → ℕ → Result Outcome Fault
+wait_result s number = do
+  stands ← or_refuse (state_at (slice_index_or s.waits number None)) fault.Parameter
+  Ok (shown s number stands)
+
+-- a pending wait is answered with 258
+abbrev pub expire : State → ℕ → Result Outcome Fault
+expire s number = do
+  _ ← refuse_if (not (is_pending (slice_index_or s.waits number None))) fault.Parameter
+  Ok (record { reply = reply.Expired number; state = settled (with_answer s number 258) })

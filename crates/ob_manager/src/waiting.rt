@@ -1,0 +1,253 @@
+ghost use Rattle.std.specs.Prelude.{[], ℕ, ◌≡◌, ◌≢◌, ◌<◌, ◌≤◌, Err, IfErr, IfOk, IsSome, None, Ok, Some, length, slice_index_or, true};
+ghost use Rattle.std.specs.List.{list_any};
+ghost use Rattle.ob_waits.specs.Waits as waits;
+ghost use Rattle.ob_waits.specs.Waits.{nowhere, number_of};
+ghost use Rattle.ob_store.specs.State.{handles_of};
+ghost use Rattle.ob_manager.specs.Waiting.{becomes_pending, collected, expire, has_twice, have_room, is_for_one_twice, is_misshapen, lacks_synchronize, objects_of, same_handle, wait, wait_on, wait_result};
+ghost use Rattle.ob_manager.specs.Steps.{Gives, GivesOrLacks};
+ghost use Rattle.pin_core.specs.Holds.{same_id};
+
+use crate::checks::{caller, found};
+use crate::reply::Reply;
+use arrayvec::ArrayVec;
+use ob_rights::{Fault, Rights, within};
+use ob_store::Store;
+use ob_tables::Entry;
+use ob_waits::{MAXIMUM_WAIT_OBJECTS, Mode, WAIT_TIMEOUT, WaitState};
+use pin_core::{Id, same_id};
+use pin_words::PinKeeper;
+use std::alloc::{AllocError, Global};
+use std::marker::Model;
+
+/// How long a thread waits.
+#[derive(Clone, Copy, Debug, PartialEq, Eq)]
+pub enum Timeout {
+    /// Not at all: the answer is 258, `WAIT_TIMEOUT`, where the wait isn't satisfied at once.
+    Zero,
+    /// Until the wait is satisfied: `INFINITE`.
+    Infinite,
+}
+
+/// Handles that somebody waits for. A contract sees them as the list that they are.
+#[derive(Drop)]
+pub struct HandleList {
+    handles: Vec<u32>,
+}
+
+impl Model for HandleList {
+    ghost use Rattle.std.specs.Prelude.{ℕ, List};
+
+    ghost Value = { List ℕ };
+
+    ghost view = { λ list. list.handles.items };
+}
+
+impl HandleList {
+    /// A copy of some handles. The refusal is want of memory.
+    pub fn new(alloc: Global, handles: &[u32]) -> Result<HandleList, AllocError>
+        ensures { IfOk result (λ list. list ≡ handles.now) }
+    {
+        let mut copy = Vec::new(alloc);
+        copy.extend_from_slice(handles)?;
+        Ok(HandleList { handles: copy })
+    }
+
+    /// The handles.
+    pub fn as_slice(&self) -> &[u32]
+        ensures { result.now ≡ self.now }
+    {
+        self.handles.as_slice()
+    }
+}
+
+/// Whether a handle stands in a list.
+fn has_handle(handle: u32, others: &[u32]) -> bool
+    ensures { result ≡ list_any (same_handle handle) others.now }
+{
+    others.iter().any(|other| handle / 4 == *other / 4)
+}
+
+/// Whether a handle stands twice in a list.
+fn has_handle_twice(handles: &[u32]) -> bool
+    ensures { result ≡ has_twice same_handle handles.now }
+{
+    for (i, handle) in handles.iter().enumerate() {
+        if has_handle(*handle, &handles[i + 1..]) {
+            return true;
+        }
+    }
+    false
+}
+
+/// Whether a list of handles is empty, past 64, or has a handle twice.
+fn is_misshapen(handles: &[u32]) -> bool
+    ensures value { result ≡ is_misshapen handles.now }
+{
+    handles.is_empty() || handles.len() > MAXIMUM_WAIT_OBJECTS || has_handle_twice(handles)
+}
+
+/// Whether a handle wasn't granted the right to wait.
+fn lacks_synchronize(entry: Entry) -> bool
+    ensures { result ≡ lacks_synchronize entry }
+{
+    !within(Rights::SYNCHRONIZE, entry.rights)
+}
+
+/// The objects of handles: refused with 6 where there is no such handle, and where all are there with 5 where one wasn't
+/// granted SYNCHRONIZE.
+fn objects_of<K: PinKeeper>(
+    store: &Store<K>,
+    process: u32,
+    handles: &[u32],
+) -> Result<ArrayVec<Id, 64>, Fault>
+    requires { length handles.now ≤ 64 }
+    ensures value { collected result ≡ objects_of store.now.state process handles.now }
+    ensures refusal { IfErr result (λ fault. fault ≢ Fault.Memory) }
+    ensures many { IfOk result (λ ids. length ids.items ≡ length handles.now) }
+    ensures there { IfOk result (λ ids. (i : ℕ) → i < length ids.items → 0 < handles_of store.now.state (slice_index_or ids.items i nowhere)) }
+{
+    let mut ids = ArrayVec::new();
+    let mut lacks = false;
+    for handle in handles {
+        let entry = found(store, process, *handle)?;
+        ids.push(entry.id);
+        lacks = lacks | lacks_synchronize(entry);
+    }
+    if lacks {
+        return Err(Fault::Access);
+    }
+    Ok(ids)
+}
+
+/// Whether an object stands in a list.
+fn has_object(id: Id, others: &[Id]) -> bool
+    ensures { result ≡ list_any (same_id id) others.now }
+{
+    others.iter().any(|other| same_id(id, *other))
+}
+
+/// Whether an object stands twice in a list.
+fn has_object_twice(ids: &[Id]) -> bool
+    ensures { result ≡ has_twice same_id ids.now }
+{
+    for (i, id) in ids.iter().enumerate() {
+        if has_object(*id, &ids[i + 1..]) {
+            return true;
+        }
+    }
+    false
+}
+
+/// Whether a wait for all is for one object twice.
+fn is_for_one_twice(mode: Mode, ids: &[Id]) -> bool
+    ensures { result ≡ is_for_one_twice mode ids.now }
+{
+    match mode {
+        Mode::Any => false,
+        Mode::All => has_object_twice(ids),
+    }
+}
+
+/// Whether no object is a mutex that the thread owns as often as the limit lets.
+fn have_room<K: PinKeeper>(store: &Store<K>, thread: u32, ids: &[Id]) -> bool
+    ensures { result ≡ have_room store.now.state thread ids.now }
+{
+    for id in ids {
+        if let Some(body) = store.body(*id) {
+            if !body.has_room(thread, store.limits().max_recursion) {
+                return false;
+            }
+        }
+    }
+    true
+}
+
+/// A wait for objects.
+fn wait_on<K: PinKeeper>(
+    store: &mut Store<K>,
+    thread: u32,
+    mode: Mode,
+    timeout: Timeout,
+    ids: &[Id],
+) -> Result<Reply, Fault>
+    requires some { 0 < length ids.now }
+    requires few { length ids.now ≤ 64 }
+    requires alone { number_of thread store.old.state.waits ≡ None }
+    requires live { IsSome (slice_index_or store.old.state.threads thread None) }
+    requires there { (i : ℕ) → i < length ids.now → 0 < handles_of store.old.state (slice_index_or ids.now i nowhere) }
+    ensures gives { GivesOrLacks result store.old store.new (wait_on store.old.state thread mode timeout ids.now) }
+    ensures memory { result ≡ Err Fault.Memory → becomes_pending (wait_on store.old.state thread mode timeout ids.now) ≡ true }
+{
+    // What it says is wanted here: that an object's slot has no other object.
+    store.kept();
+    if is_for_one_twice(mode, ids) {
+        return Err(Fault::Parameter);
+    }
+    if !have_room(store, thread, ids) {
+        return Err(Fault::Limit);
+    }
+    if let Some(code) = store.take_now(thread, mode, ids) {
+        return Ok(Reply::Code { code });
+    }
+    match timeout {
+        Timeout::Zero => Ok(Reply::Code { code: WAIT_TIMEOUT }),
+        Timeout::Infinite => {
+            let wait = store.add_wait(thread, mode, ids)?;
+            Ok(Reply::Pending { wait })
+        }
+    }
+}
+
+/// A thread waits for the objects of handles.
+pub fn wait<K: PinKeeper>(
+    store: &mut Store<K>,
+    thread: u32,
+    mode: Mode,
+    timeout: Timeout,
+    handles: &[u32],
+) -> Result<Reply, Fault>
+    ensures gives { GivesOrLacks result store.old store.new (wait store.old.state thread mode timeout handles.now) }
+    ensures memory { result ≡ Err Fault.Memory → becomes_pending (wait store.old.state thread mode timeout handles.now) ≡ true }
+{
+    let process = caller(store, thread)?;
+    if is_misshapen(handles) {
+        return Err(Fault::Parameter);
+    }
+    let ids = objects_of(store, process, handles)?;
+    wait_on(store, thread, mode, timeout, ids.as_slice())
+}
+
+/// What became of a wait.
+pub fn wait_result<K: PinKeeper>(store: &mut Store<K>, wait: u32) -> Result<Reply, Fault>
+    ensures { Gives result store.old store.new (wait_result store.old.state wait) }
+{
+    match store.wait_state(wait) {
+        None => Err(Fault::Parameter),
+        Some(WaitState::Pending) => Ok(Reply::Pending { wait }),
+        Some(WaitState::Answered(_)) => {
+            let code = store.take_result(wait);
+            Ok(Reply::Code { code })
+        }
+    }
+}
+
+/// Whether a wait is pending.
+pub fn is_pending<K: PinKeeper>(store: &Store<K>, wait: u32) -> bool
+    ensures { result ≡ waits.is_pending (slice_index_or store.now.state.waits wait None) }
+{
+    match store.wait_state(wait) {
+        Some(WaitState::Pending) => true,
+        _ => false,
+    }
+}
+
+/// Ends a pending wait.
+pub fn expire<K: PinKeeper>(store: &mut Store<K>, wait: u32) -> Result<Reply, Fault>
+    ensures { Gives result store.old store.new (expire store.old.state wait) }
+{
+    if !is_pending(store, wait) {
+        return Err(Fault::Parameter);
+    }
+    store.expire(wait);
+    Ok(Reply::Expired { wait })
+}

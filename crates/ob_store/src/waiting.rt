@@ -1,0 +1,97 @@
+ghost use Rattle.std.specs.Prelude.{ℕ, ◌≡◌, ◌<◌, ◌↔◌, true, false, Err, IfErr, IfOk, IsSome, None, OnErr, OnOk, Some, length, slice_index_or};
+ghost use Rattle.std.specs.Option.{IfNone, OnSome};
+ghost use Rattle.ob_rights.specs.declared.fault.Fault.TheVariants.{Limit, Memory};
+ghost use Rattle.ob_waits.specs.Rules.{HasRoom, IsWaitable};
+ghost use Rattle.ob_waits.specs.Waits.{code_at, code_now, is_pending, list_ready, nowhere, number_of, state_at};
+ghost use Rattle.ob_store.specs.State.{handles_of, settled};
+ghost use Rattle.ob_store.specs.Waiting.{are_waits_given, with_answer, with_taken, with_wait, without_wait};
+ghost use Rattle.ob_store.specs.Moves.{OnlyCloses};
+
+use crate::store::Store;
+use ob_rights::Fault;
+use ob_waits::{Mode, WAIT_TIMEOUT, WaitState, leave_all, try_now};
+use pin_core::Id;
+use pin_words::PinKeeper;
+
+impl<K: PinKeeper> Store<K> {
+    /// Where the wait of a number stands: none where no wait has it.
+    pub fn wait_state(&self, wait: u32) -> Option<WaitState>
+        ensures { result ≡ state_at (slice_index_or self.now.state.waits wait None) }
+    {
+        self.waits.look(wait).map(|(state, _)| state)
+    }
+
+    /// A thread takes at once what its wait for these objects is satisfied by, and gives the wait's code. Where it isn't
+    /// satisfied now, nothing changes.
+    pub fn take_now(&mut self, thread: u32, mode: Mode, ids: &[Id]) -> Option<u32>
+        requires waitable { IsWaitable mode ids.now }
+        requires room { HasRoom self.old.state.limits.max_recursion thread self.old.state.bodies ids.now }
+        requires alone { number_of thread self.old.state.waits ≡ None }
+        requires live { IsSome (slice_index_or self.old.state.threads thread None) }
+        ensures code { result ≡ code_now mode thread self.old.state.bodies ids.now }
+        ensures some { OnSome result (self.new.state ≡ settled (with_taken self.old.state thread mode ids.now)) }
+        ensures none { IfNone result (self.new ≡ self.old) }
+        ensures keeper { OnlyCloses self.old.keeper self.new.keeper }
+    {
+        // What it says is wanted here, before and after.
+        self.objects.kept();
+        let code = try_now(&mut self.objects, thread, mode, ids);
+        self.objects.kept();
+        code
+    }
+
+    /// The wait of a thread that isn't satisfied now becomes pending; its number. It counts among what refers to its objects.
+    ///
+    /// Refused with 1450 where each wait number was given, and else with 8 for want of memory.
+    pub fn add_wait(&mut self, thread: u32, mode: Mode, ids: &[Id]) -> Result<u32, Fault>
+        requires waitable { IsWaitable mode ids.now }
+        requires room { HasRoom self.old.state.limits.max_recursion thread self.old.state.bodies ids.now }
+        requires alone { number_of thread self.old.state.waits ≡ None }
+        requires live { IsSome (slice_index_or self.old.state.threads thread None) }
+        requires unready { list_ready mode thread self.old.state.bodies ids.now ≡ false }
+        requires there { (i : ℕ) → i < length ids.now → 0 < handles_of self.old.state (slice_index_or ids.now i nowhere) }
+        ensures number { IfOk result (λ number. number ≡ length self.old.state.waits) }
+        ensures ok { OnOk result (self.new ≡ record self.old { state = settled (with_wait self.old.state thread mode ids.now) }) }
+        ensures limit { (result ≡ Err Limit) ↔ (are_waits_given self.old.state ≡ true) }
+        ensures memory { IfErr result (λ fault. are_waits_given self.old.state ≡ false → fault ≡ Memory) }
+        ensures err { OnErr result (self.new ≡ self.old) }
+    {
+        // What it says is wanted here, before and after.
+        self.objects.kept();
+        match self.waits.add(thread, mode, ids) {
+            Ok(number) => {
+                self.objects.blocks_came(ids);
+                self.objects.kept();
+                return Ok(number);
+            }
+            Err(fault) => return Err(fault),
+        }
+    }
+
+    /// A pending wait is answered with 258, `WAIT_TIMEOUT`, and refers to its objects no more.
+    pub fn expire(&mut self, wait: u32)
+        requires { is_pending (slice_index_or self.old.state.waits wait None) ≡ true }
+        ensures state { self.new.state ≡ settled (with_answer self.old.state wait WAIT_TIMEOUT) }
+        ensures keeper { OnlyCloses self.old.keeper self.new.keeper }
+    {
+        // What it says is wanted here, before and after.
+        self.objects.kept();
+        let Some((_, ids)) = self.waits.look(wait) else {
+            unreachable!()
+        };
+        leave_all(&mut self.objects, ids);
+        self.objects.kept();
+        self.waits.expire(wait);
+    }
+
+    /// The code of a wait that is answered, which is over with it: its thread may make calls again.
+    pub fn take_result(&mut self, wait: u32) -> u32
+        requires { IsSome (code_at (slice_index_or self.old.state.waits wait None)) }
+        ensures code { code_at (slice_index_or self.old.state.waits wait None) ≡ Some result }
+        ensures over { self.new ≡ record self.old { state = settled (without_wait self.old.state wait) } }
+    {
+        // What it says is wanted here.
+        self.objects.kept();
+        self.waits.take_result(wait)
+    }
+}
