@@ -20,4 +20,5 @@ pub mod PlacedLaws
 pub mod AddedLaws
 pub mod ReclaimedLaws
 pub mod CameLaws
+pub mod ChildLaws
 pub mod ConsistentLaws

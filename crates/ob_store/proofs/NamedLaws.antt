@@ -119,7 +119,7 @@ module _ (objects : List (Option Object)) (ts : List (List (Option Entry))) (ws 
           let yes : same_id id x ≡ true = subst (λ (y : Id). same_id y x ≡ true) is (same_id-same x) in cc (yes, q))
 
   -- what stands in a table is counted
-  entry_counted : (p i : ℕ) (e : Entry) → at (table_of ts p) i ≡ Some e → 0 < handles_among e.id ts
+  pub entry_counted : (p i : ℕ) (e : Entry) → at (table_of ts p) i ≡ Some e → 0 < handles_among e.id ts
   entry_counted p i e is =
       let t = table_of ts p in
       let lt : p < length ts = table_within ts p i e is in

@@ -15,6 +15,7 @@
 //! ```
 #![tactic(auto)]
 
+mod children;
 mod creation;
 mod entries;
 mod limits;

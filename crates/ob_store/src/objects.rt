@@ -5,7 +5,7 @@ ghost use Rattle.pin_words.specs.Views.{id_of};
 ghost use Rattle.pin_core.specs.Descrs.{IsGiven};
 ghost use Rattle.ob_arena.specs.Slots.{is_vacant_at, least_vacant};
 ghost use Rattle.ob_waits.specs.Waits.{nowhere};
-ghost use Rattle.ob_store.specs.Objects.{object_of, places_in, with_keeper, vacant_places, vacancy, with_object, with_handle_of, without_handle_of, with_block_of, with_blocks_of};
+ghost use Rattle.ob_store.specs.Objects.{object_of, places_in, with_keeper, vacant_places, vacancy, with_object, with_handle_of, with_handle_at, with_handles_of, without_handle_of, with_block_of, with_blocks_of};
 ghost use Rattle.ob_store.specs.Agreement.{IsTied, Reclaimed};
 
 use crate::seat::Seat;
@@ -14,6 +14,7 @@ use ob_arena::SLOTS_MAX;
 use ob_body::Body;
 use ob_name::Name;
 use ob_rights::Rights;
+use ob_tables::Entry;
 use ob_waits::Bodies;
 use pin_core::{Descr, Id};
 use pin_words::{PinKeeper, Reclaim};
@@ -133,6 +134,31 @@ impl<K: PinKeeper> Objects<K> {
         ensures { self.new ≡ with_handle_of self.old slot }
     {
         self.seats.handle_came(slot);
+    }
+
+    /// One handle more where the place of a table has an entry, of an object that has a body.
+    fn handle_came_at(&mut self, place: Option<Entry>)
+        requires live { IfSome place (λ entry. IsSome (slice_index_or self.old.seen.bodies entry.id.slot None)) }
+        requires few { (k : ℕ) → slice_index_or self.old.seen.handles k 0 < 4294967295 }
+        ensures value { self.new ≡ with_handle_at self.old place }
+        ensures bodies { self.new.seen.bodies ≡ self.old.seen.bodies }
+        ensures few { (k : ℕ) → slice_index_or self.new.seen.handles k 0 ≤ slice_index_or self.old.seen.handles k 0 + 1 }
+    {
+        if let Some(entry) = place {
+            self.handle_came(entry.id.slot);
+        }
+    }
+
+    /// One handle more for each entry of a table, of objects that have bodies.
+    pub fn handles_came(&mut self, places: &[Option<Entry>])
+        requires live { (i : ℕ) → IfSome (slice_index_or places.now i None) (λ entry. IsSome (slice_index_or self.old.seen.bodies entry.id.slot None)) }
+        requires short { length places.now ≤ 16384 }
+        requires few { (k : ℕ) → slice_index_or self.old.seen.handles k 0 + 16384 ≤ 4294967295 }
+        ensures { self.new ≡ with_handles_of self.old places.now }
+    {
+        for place in places {
+            self.handle_came_at(*place);
+        }
     }
 
     /// One handle fewer. The object ends where that was the last reference to it.
