@@ -1,3 +1,4 @@
 pub mod Refusing
 pub mod Counts
+pub mod EntryStays
 pub mod StepLaws

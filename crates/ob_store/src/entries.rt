@@ -22,6 +22,8 @@ impl<K: PinKeeper> Store<K> {
         requires there { 0 < handles_among entry.id self.old.state.tables }
         ensures value { IfOk result (λ value. value ≡ value_of (free_place (table_of self.old.state.tables process))) }
         ensures ok { OnOk result (self.new ≡ record self.old { state = settled (with_entry self.old.state process entry) }) }
+        // And nothing settles by it.
+        ensures plain { OnOk result (self.new.state ≡ with_entry self.old.state process entry) }
         ensures limit { (result ≡ Err Limit) ↔ (entries_in (table_of self.old.state.tables process) ≡ self.old.state.limits.handles) }
         ensures refusal { IfErr result (λ fault. (fault ≡ Limit) ⊎ (fault ≡ Memory)) }
         ensures err { OnErr result (self.new ≡ self.old) }

@@ -17,8 +17,8 @@ handles_came-requires-clause-live g c =
     let s = c.self.inside in
     let table : c.args.parent < length s.tables.tables = subst (λ (w : Whole). c.args.parent < length w.state.tables) (sym c.self.view_is) c.requires.parent in
     let places : c.entries.result.now ≡ inherited (table_of s.tables.tables c.args.parent) =
-        c.entries.ensures.places ∙ ap (λ (n : ℕ). table_of c.copy_inheritable.new.self.tables n) c.in-Ok.ensures.number
-        ∙ ap (λ (t : HandleTables). table_of t.tables (length s.tables.tables)) c.in-Ok.ensures.ok ∙ last_table s.tables.tables c.args.parent in
+    c.entries.ensures.places ∙ ap (λ (n : ℕ). table_of c.copy_inheritable.new.self.tables n) c.in-Ok.ensures.number
+    ∙ ap (λ (t : HandleTables). table_of t.tables (length s.tables.tables)) c.in-Ok.ensures.ok ∙ last_table s.tables.tables c.args.parent in
     subst (λ (t : List (Option Entry)). (i : ℕ) → IfSome (get_or t i None) (λ (e : Entry). IsSome (get_or s.objects.seen.bodies e.id.slot None))) (sym places)
     (inherited_live s.limits s.lives s.tables s.objects s.waits s.names.rows c.self.invariant c.args.parent table c.kept.ensures)
 
@@ -33,8 +33,8 @@ invariant_of-self-in-Ok g c =
     let s = c.self.inside in
     let table : c.args.parent < length s.tables.tables = subst (λ (w : Whole). c.args.parent < length w.state.tables) (sym c.self.view_is) c.requires.parent in
     let places : c.entries.result.now ≡ inherited (table_of s.tables.tables c.args.parent) =
-        c.entries.ensures.places ∙ ap (λ (n : ℕ). table_of c.copy_inheritable.new.self.tables n) c.in-Ok.ensures.number
-        ∙ ap (λ (t : HandleTables). table_of t.tables (length s.tables.tables)) c.in-Ok.ensures.ok ∙ last_table s.tables.tables c.args.parent in
+    c.entries.ensures.places ∙ ap (λ (n : ℕ). table_of c.copy_inheritable.new.self.tables n) c.in-Ok.ensures.number
+    ∙ ap (λ (t : HandleTables). table_of t.tables (length s.tables.tables)) c.in-Ok.ensures.ok ∙ last_table s.tables.tables c.args.parent in
     let processes : length s.lives.processes ≤ s.limits.processes = subst (λ (w : Whole). length w.state.processes ≤ w.state.limits.processes) (sym c.self.view_is) c.requires.processes in
     let threads : length s.lives.threads ≤ s.limits.threads = subst (λ (w : Whole). length w.state.threads ≤ w.state.limits.threads) (sym c.self.view_is) c.requires.threads in
     let came : c.handles_came.new.self ≡ with_handles_of s.objects (inherited (table_of s.tables.tables c.args.parent)) = c.handles_came.ensures ∙ ap (with_handles_of s.objects) places in
@@ -45,8 +45,8 @@ returns-in-Ok-clause-ok g c =
     let s = c.self.inside in
     let table : c.args.parent < length s.tables.tables = subst (λ (w : Whole). c.args.parent < length w.state.tables) (sym c.self.view_is) c.requires.parent in
     let places : c.entries.result.now ≡ inherited (table_of s.tables.tables c.args.parent) =
-        c.entries.ensures.places ∙ ap (λ (n : ℕ). table_of c.copy_inheritable.new.self.tables n) c.in-Ok.ensures.number
-        ∙ ap (λ (t : HandleTables). table_of t.tables (length s.tables.tables)) c.in-Ok.ensures.ok ∙ last_table s.tables.tables c.args.parent in
+    c.entries.ensures.places ∙ ap (λ (n : ℕ). table_of c.copy_inheritable.new.self.tables n) c.in-Ok.ensures.number
+    ∙ ap (λ (t : HandleTables). table_of t.tables (length s.tables.tables)) c.in-Ok.ensures.ok ∙ last_table s.tables.tables c.args.parent in
     let processes : length s.lives.processes ≤ s.limits.processes = subst (λ (w : Whole). length w.state.processes ≤ w.state.limits.processes) (sym c.self.view_is) c.requires.processes in
     let threads : length s.lives.threads ≤ s.limits.threads = subst (λ (w : Whole). length w.state.threads ≤ w.state.limits.threads) (sym c.self.view_is) c.requires.threads in
     let came : c.handles_came.new.self ≡ with_handles_of s.objects (inherited (table_of s.tables.tables c.args.parent)) = c.handles_came.ensures ∙ ap (with_handles_of s.objects) places in
