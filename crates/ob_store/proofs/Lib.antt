@@ -13,7 +13,10 @@ pub mod DirectoryLaws
 pub mod ListingLaws
 pub mod SettledLaws
 pub mod KeptLaws
+pub mod LeavingLaws
 pub mod RemovedLaws
+pub mod EmptiedLaws
+pub mod EndingLaws
 pub mod Yielding
 pub mod OpeningLaws
 pub mod PlacedLaws

@@ -48,7 +48,7 @@ sum_same : {X : Type 0} (f g : X → ℕ) (d : X) (xs : List X) → ((i : ℕ) �
 sum_same f g d [] each = refl
 sum_same f g d (x ∷ xs) each = omega (arith, sum_by-cons f x xs, sum_by-cons g x xs, each 0 (omega arith), sum_same f g d xs (λ i lt. each (suc i) (omega arith)))
 
-sum_none : {X : Type 0} (f : X → ℕ) (d : X) (xs : List X) → ((i : ℕ) → i < length xs → f (get_or xs i d) ≡ 0) → sum_by f xs ≡ 0
+pub sum_none : {X : Type 0} (f : X → ℕ) (d : X) (xs : List X) → ((i : ℕ) → i < length xs → f (get_or xs i d) ≡ 0) → sum_by f xs ≡ 0
 sum_none f d [] each = refl
 sum_none f d (x ∷ xs) each = omega (arith, sum_by-cons f x xs, each 0 (omega arith), sum_none f d xs (λ i lt. each (suc i) (omega arith)))
 

@@ -6,4 +6,6 @@ pub mod State
 pub mod Directory
 pub mod Kept
 pub mod Moves
+pub mod Ends
+pub mod UnderWay
 pub mod Consistent

@@ -17,6 +17,7 @@
 
 mod children;
 mod creation;
+mod ending;
 mod entries;
 mod limits;
 mod lives;
