@@ -1,4 +1,5 @@
 pub mod Refusing
 pub mod Counts
+pub mod EntryStays
 pub mod StepLaws
 pub mod Waited

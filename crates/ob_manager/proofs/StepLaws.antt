@@ -1,5 +1,5 @@
 -- The model never refuses for want of memory, so what a reply says of a step is unambiguous.
-use Rattle.std.proofs.Common.{◌≡◌, ℕ, Bool, true, false, List, [], ◌∷◌, Option, Some, None, Result, Ok, Err, refl, ap, ◌∙◌, sym, cond, not, eqb, ltb, length}
+use Rattle.std.proofs.Common.{◌≡◌, ℕ, Bool, true, false, List, [], ◌∷◌, Option, Some, None, Result, Ok, Err, refl, ap, ◌∙◌, sym, cond, not, eqb, ltb, length, get_or, bit_or}
 use Rattle.std.specs.Prelude.{ℤ}
 use Rattle.std.specs.List.{list_any, list_all}
 use Rattle.pin_core.specs.declared.id.Id.{Id}
@@ -7,6 +7,8 @@ use Rattle.ob_rights.specs.declared.fault.Fault.{Fault}
 use Rattle.ob_rights.specs.declared.fault.Fault.TheVariants as fault
 use Rattle.ob_rights.specs.declared.kind.Kind.{Kind}
 use Rattle.ob_rights.specs.declared.rights.Rights.{Rights}
+use Rattle.ob_rights.specs.Rights.{within}
+use Rattle.ob_tables.specs.declared.entry.Entry.{Entry}
 use Rattle.ob_body.specs.declared.body.Body.{Body}
 use Rattle.ob_body.specs.declared.body.Body.TheVariants.{Event, Mutex, Semaphore}
 use Rattle.ob_body.specs.Body.{kind_of, post_answer, unlock_answer}
@@ -26,6 +28,8 @@ use Rattle.ob_manager.specs.declared.reply.Reply.{Reply}
 use Rattle.ob_manager.specs.Outcomes.{Outcome, ◌>>=◌, or_refuse, refuse_if}
 use Rattle.ob_manager.specs.Checks.{caller, found, if_kind, same_kind}
 use Rattle.ob_manager.specs.Creating.{create, created, name_in, named_object, new_event, new_handle, new_mutex, new_object, new_semaphore, own_name, room_for, semaphore_of}
+use Rattle.ob_manager.specs.Copying as copying
+use Rattle.ob_manager.specs.Copying.{admitted, asked_rights, copied_to, copy_rights, is_wrong, keeps_rights, with_source, without_source}
 use Rattle.ob_manager.specs.Reaping.{if_ended}
 use Rattle.ob_manager.specs.Waiting.{all_found, objects_of, satisfied, shown, unsatisfied, wait_on}
 use Rattle.ob_manager.specs.declared.waiting.Timeout.{Timeout}
@@ -33,7 +37,7 @@ use Rattle.ob_manager.specs.declared.waiting.Timeout.TheVariants.{Zero, Infinite
 use Rattle.ob_waits.specs.declared.wait.Mode.{Mode}
 use Rattle.ob_waits.specs.declared.wait.WaitState.{WaitState}
 use Rattle.ob_waits.specs.declared.wait.WaitState.TheVariants.{Pending, Answered}
-use Rattle.ob_manager.specs.Steps.{Step, does, lacks, final, is_lack, is_memory, next, outcome_of}
+use Rattle.ob_manager.specs.Steps.{Step, does, closes, lacks, final, is_lack, is_memory, next, outcome_of}
 
 -- whether a part of a call refuses for want of memory, and whether a call does
 abbrev wants : {A : Type 0} → Result A Fault → Bool
@@ -172,13 +176,46 @@ shown_answers : (s : State) (n : ℕ) (stands : WaitState) → is_lack (shown s 
 shown_answers s n Pending = refl
 shown_answers s n (Answered code) = refl
 
+asked_wants : (e : Entry) (mask : Rights) (o : Option Object) → wants (asked_rights e mask o) ≡ false
+asked_wants e mask None = refl
+asked_wants e mask (Some o) = by (within mask.0 (bit_or e.rights.0 o.grant.0))
+  where
+    by : (c : Bool) → wants (cond c (Ok mask) (Err fault.Access)) ≡ false
+    by true = refl
+    by false = refl
+
+rights_wants : (s : State) (e : Entry) (mask : Rights) (options : ℕ) → wants (copy_rights s e mask options) ≡ false
+rights_wants s e mask options = by (keeps_rights options)
+  where
+    by : (c : Bool) → wants (cond c (Ok e.rights) (asked_rights e mask (get_or s.objects e.id.slot None))) ≡ false
+    by true = refl
+    by false = asked_wants e mask (get_or s.objects e.id.slot None)
+
+admitted_wants : (s : State) (e : Entry) (target : ℕ) (mask : Rights) (options : ℕ) → wants (admitted s e target mask options) ≡ false
+admitted_wants s e target mask options = search (then_wants, or_wants, rights_wants, refuse_wants)
+
+copied_answers : (s : State) (e : Entry) (target : Option ℕ) (mask : Rights) (inherit : Bool) (options : ℕ) → answers (copied_to s e target mask inherit options) ≡ false
+copied_answers s e None mask inherit options = refl
+copied_answers s e (Some target) mask inherit options = andThen (admitted s e target mask options) _ (admitted_wants s e target mask options) (λ rights. refl)
+
+closed_answers : (c : Bool) (s : State) (source handle : ℕ) (r : Result Outcome Fault) → answers r ≡ false → answers (cond c (Ok (without_source s source handle r)) (with_source r)) ≡ false
+closed_answers true s source handle (Ok o) h = h
+closed_answers true s source handle (Err e) h = h
+closed_answers false s source handle (Ok o) h = h
+closed_answers false s source handle (Err e) h = h
+
 outcome_answers : (s : State) (call : Call) (reply : Reply) → answers (outcome_of s call reply) ≡ false
 outcome_answers s (calls.Spawn session) reply = search (andThen, refuse_wants)
+outcome_answers s (calls.Child t inherit) reply = search (andThen, caller_wants, or_wants, refuse_wants)
 outcome_answers s (calls.StartThread process) reply = search (andThen, or_wants, refuse_wants)
 outcome_answers s (calls.MakeEvent t m manual set) reply = create_answers s t m (Ok (new_event manual set)) refl
 outcome_answers s (calls.MakeMutex t m owned) reply = create_answers s t m (Ok (new_mutex t owned)) refl
 outcome_answers s (calls.MakeSemaphore t m initial max) reply = create_answers s t m (new_semaphore initial max) (semaphore_wants initial max)
 outcome_answers s (calls.OpenNamed t k mask inherit text) reply = search (andThen, caller_wants, name_wants, or_wants, handle_wants)
+outcome_answers s (calls.Duplicate t source h target mask inherit options) reply =
+    andThen (caller s t) _ (caller_wants s t) (λ p. andThen (or_refuse (get_or s.processes source None) fault.Parameter) _ (or_wants _ fault.Parameter refl) (λ session.
+    andThen (refuse_if (is_wrong options target) fault.Parameter) _ (refuse_wants _ fault.Parameter refl) (λ tested. andThen (found s source h) _ (found_wants s source h) (λ e.
+    closed_answers (copying.closes options) s source h (copied_to s e target mask inherit options) (copied_answers s e target mask inherit options)))))
 outcome_answers s (calls.CloseHandle t h) reply = search (andThen, caller_wants, found_wants)
 outcome_answers s (calls.SetEvent t h) reply = search (andThen, caller_wants, found_wants, kind_wants, refuse_wants)
 outcome_answers s (calls.ResetEvent t h) reply = search (andThen, caller_wants, found_wants, kind_wants, refuse_wants)
@@ -194,9 +231,14 @@ final_answers : (s : State) (r : Result Outcome Fault) → is_lack (final s r).r
 final_answers s (Ok o) = refl
 final_answers s (Err e) = refl
 
-pub step_next : (w v : Whole) (call : Call) (reply : Reply) → Step w call reply v → v.state ≡ next w.state call reply
-step_next w v call reply (does is keeps) =
+-- the state that a call comes to
+said_next : (w v : Whole) (call : Call) (reply : Reply) → final w.state (outcome_of w.state call reply) ≡ record { reply = reply; state = v.state } → v.state ≡ next w.state call reply
+said_next w v call reply is =
     let silent : is_lack reply ≡ false = sym (ap (λ (o : Outcome). is_lack o.reply) is) ∙ final_answers w.state (outcome_of w.state call reply) ∙ outcome_answers w.state call reply in
     sym (ap (λ (o : Outcome). o.state) is) ∙ ap (λ b. cond b w.state (final w.state (outcome_of w.state call reply)).state) (sym silent)
+
+pub step_next : (w v : Whole) (call : Call) (reply : Reply) → Step w call reply v → v.state ≡ next w.state call reply
+step_next w v call reply (does is keeps) = said_next w v call reply is
+step_next w v call reply (closes duplicates is keeps) = said_next w v call reply (ap (final w.state) is)
 step_next w v call reply (lacks takes ok refused same) =
     ap (λ (x : Whole). x.state) same ∙ ap (λ (r : Reply). cond (is_lack r) w.state (final w.state (outcome_of w.state call reply)).state) (sym refused)

@@ -4,6 +4,7 @@ pub mod Checks
 pub mod Processes
 pub mod Creating
 pub mod Handles
+pub mod Copying
 pub mod Signaling
 pub mod Counting
 pub mod Reaping

@@ -6,16 +6,17 @@ use Rattle.pin_words.specs.declared.pin_keeper.Reclaim.TheVariants as reclaim
 use Rattle.ob_rights.specs.declared.fault.Fault.{Fault}
 use Rattle.ob_rights.specs.declared.fault.Fault.TheVariants as fault
 use Rattle.ob_manager.specs.declared.reply.Reply.{Reply}
-use Rattle.ob_manager.specs.declared.reply.Reply.TheVariants.{Spawned, Started, Made, Exists, Opened, Closed, Done, Previous, Code, Pending, Expired, Reaped, CountsAre, Refused}
+use Rattle.ob_manager.specs.declared.reply.Reply.TheVariants.{Spawned, Started, Made, Exists, Opened, Duplicated, Closed, Done, Previous, Code, Pending, Expired, Reaped, CountsAre, Refused}
 use Rattle.ob_manager.specs.declared.call.Call.{Call}
 use Rattle.ob_manager.specs.declared.call.Call.TheVariants as calls
 use Rattle.ob_store.specs.Objects.{Object}
 use Rattle.ob_store.specs.State.{State, Whole}
 use Rattle.ob_store.specs.Moves.{OnlyCloses}
 use Rattle.ob_manager.specs.Outcomes.{Outcome, Refuses}
-use Rattle.ob_manager.specs.Processes.{spawn, thread}
+use Rattle.ob_manager.specs.Processes.{spawn, child, thread}
 use Rattle.ob_manager.specs.Creating.{create_event, create_mutex, create_semaphore, open_named}
 use Rattle.ob_manager.specs.Handles.{close}
+use Rattle.ob_manager.specs.Copying.{duplicate, is_copy}
 use Rattle.ob_manager.specs.Signaling.{set_event, reset_event, release_semaphore, release_mutex}
 use Rattle.ob_manager.specs.Counting.{counts}
 use Rattle.ob_manager.specs.Reaping.{reap}
@@ -29,11 +30,13 @@ reclaim_in reply = reclaim.Freed
 -- what each call comes to. It is determined but for one free choice, what becomes of a slot that is reaped, which the reply says
 abbrev pub outcome_of : State → Call → Reply → Result Outcome Fault
 outcome_of s (calls.Spawn session) reply = spawn s session
+outcome_of s (calls.Child thread inherit) reply = child s thread inherit
 outcome_of s (calls.StartThread process) reply = thread s process
 outcome_of s (calls.MakeEvent thread making manual set) reply = create_event s thread making manual set
 outcome_of s (calls.MakeMutex thread making owned) reply = create_mutex s thread making owned
 outcome_of s (calls.MakeSemaphore thread making initial max) reply = create_semaphore s thread making initial max
 outcome_of s (calls.OpenNamed thread kind mask inherit text) reply = open_named s thread kind mask inherit text
+outcome_of s (calls.Duplicate thread source handle target mask inherit options) reply = duplicate s thread source handle target mask inherit options
 outcome_of s (calls.CloseHandle thread handle) reply = close s thread handle
 outcome_of s (calls.SetEvent thread handle) reply = set_event s thread handle
 outcome_of s (calls.ResetEvent thread handle) reply = reset_event s thread handle
@@ -48,11 +51,13 @@ outcome_of s (calls.Counts id) reply = counts s id
 -- whether a call takes memory, which may be wanting: a wait only where it becomes pending
 abbrev pub takes_memory : State → Call → Bool
 takes_memory s (calls.Spawn session) = true
+takes_memory s (calls.Child thread inherit) = true
 takes_memory s (calls.StartThread process) = true
 takes_memory s (calls.MakeEvent thread making manual set) = true
 takes_memory s (calls.MakeMutex thread making owned) = true
 takes_memory s (calls.MakeSemaphore thread making initial max) = true
 takes_memory s (calls.OpenNamed thread kind mask inherit text) = true
+takes_memory s (calls.Duplicate thread source handle target mask inherit options) = is_copy (duplicate s thread source handle target mask inherit options)
 takes_memory s (calls.CloseHandle thread handle) = false
 takes_memory s (calls.SetEvent thread handle) = false
 takes_memory s (calls.ResetEvent thread handle) = false
@@ -85,16 +90,23 @@ Keeps (Opened handle id) s k k' = k' ≡ k
 Keeps (Pending number) s k k' = k' ≡ k
 Keeps (CountsAre handles waits hold) s k k' = k' ≡ k
 Keeps (Refused fault) s k k' = k' ≡ k
+Keeps (Duplicated handle id) s k k' = OnlyCloses k k'
 Keeps Closed s k k' = OnlyCloses k k'
 Keeps Done s k k' = OnlyCloses k k'
 Keeps (Previous count) s k k' = OnlyCloses k k'
 Keeps (Code code) s k k' = OnlyCloses k k'
 Keeps (Expired number) s k k' = OnlyCloses k k'
 
+abbrev pub is_duplicate : Call → Bool
+is_duplicate (calls.Duplicate thread source handle target mask inherit options) = true
+is_duplicate call = false
+
 -- From a state and what the keeper says a call gives this reply and goes on: as the model says, or for want of memory, which
 -- is answered only by a call that takes memory, and only where nothing else refuses it; it changes nothing.
 pub data Step (w : Whole) (call : Call) (reply : Reply) (v : Whole) : Type 0 where
   does : final w.state (outcome_of w.state call reply) ≡ record { reply = reply; state = v.state } → Keeps reply v.state w.keeper v.keeper → Step w call reply v
+  -- a duplicate may close its source, also where it is refused after that was found
+  closes : is_duplicate call ≡ true → outcome_of w.state call reply ≡ Ok (record { reply = reply; state = v.state }) → OnlyCloses w.keeper v.keeper → Step w call reply v
   lacks : takes_memory w.state call ≡ true → is_ok (outcome_of w.state call reply) ≡ true → reply ≡ Refused fault.Memory → v ≡ w → Step w call reply v
 
 -- the state after a call with this reply: want of memory leaves it, and otherwise the call comes to it
@@ -127,6 +139,15 @@ Gives (Err e) old new outcome = (outcome ≡ Err e) × (new ≡ old)
 abbrev pub GivesOrLacks : Result Reply Fault → Whole → Whole → Result Outcome Fault → Type 0
 GivesOrLacks (Ok reply) old new outcome = Gives (Ok reply) old new outcome
 GivesOrLacks (Err e) old new outcome = Refuses e outcome × (new ≡ old)
+
+-- the same of a duplicate, and of the copy that it makes
+abbrev pub Duplicates : Result Reply Fault → Whole → Whole → Result Outcome Fault → Type 0
+Duplicates (Ok reply) old new outcome = (outcome ≡ Ok (record { reply = reply; state = new.state })) × OnlyCloses old.keeper new.keeper
+Duplicates (Err e) old new outcome = Refuses e outcome × (new ≡ old)
+
+abbrev pub Copies : Result Reply Fault → Whole → Whole → Result Outcome Fault → Type 0
+Copies (Ok reply) old new outcome = (outcome ≡ Ok (record { reply = reply; state = new.state })) × (new.keeper ≡ old.keeper)
+Copies (Err e) old new outcome = (outcome ≡ Err e) × (new ≡ old)
 
 -- the reply of a body's answer
 abbrev pub reply_of : Result Reply Fault → Reply

@@ -12,6 +12,13 @@ pub enum Call {
         /// The session of the new process.
         session: u32,
     },
+    /// `Manager::child`.
+    Child {
+        /// The calling thread.
+        thread: u32,
+        /// Whether the new process inherits.
+        inherit: bool,
+    },
     /// `Manager::thread`.
     StartThread {
         /// The process.
@@ -60,6 +67,23 @@ pub enum Call {
         inherit: bool,
         /// The name, as the caller gives it.
         text: Text,
+    },
+    /// `Manager::duplicate`.
+    Duplicate {
+        /// The calling thread.
+        thread: u32,
+        /// The process of the handle.
+        source: u32,
+        /// The handle.
+        handle: u32,
+        /// The process of the new handle, if there is to be one.
+        target: Option<u32>,
+        /// The rights that the new handle is to have.
+        mask: Rights,
+        /// Whether the new handle has the flag INHERIT.
+        inherit: bool,
+        /// 1 to close the handle, 2 for its rights.
+        options: u32,
     },
     /// `Manager::close`.
     CloseHandle {

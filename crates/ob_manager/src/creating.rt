@@ -41,7 +41,7 @@ fn or_all(kind: Kind, rights: Option<Rights>) -> Rights
 }
 
 /// The flags of a handle.
-fn flags_of(inherit: bool) -> HandleFlags
+pub fn flags_of(inherit: bool) -> HandleFlags
     ensures { result ≡ flags_of inherit }
 {
     if inherit {

@@ -14,6 +14,8 @@
 mod call;
 mod card;
 mod checks;
+mod children;
+mod copying;
 mod counting;
 mod creating;
 mod handles;

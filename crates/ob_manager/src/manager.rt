@@ -17,7 +17,9 @@ use crate::card::Card;
 use crate::making::{Make, Making};
 use crate::reply::Reply;
 use crate::waiting::Timeout;
-use crate::{counting, creating, handles, processes, reaping, signaling, waiting};
+use crate::{
+    children, copying, counting, creating, handles, processes, reaping, signaling, waiting,
+};
 use ob_name::{NameRef, Rows};
 use ob_rights::{Fault, Kind, Rights};
 use ob_store::{Limits, Seat, Store};
@@ -91,6 +93,20 @@ impl<K: PinKeeper> Manager<K> {
         reply_of(processes::spawn(&mut self.store, session))
     }
 
+    /// A new process of the session of the thread's process, with its first thread: `Spawned`. With `inherit` it has each
+    /// inheritable entry of the thread's process, at the same value and with the same rights, and inheritable in turn
+    /// ([Handle inheritance]).
+    ///
+    /// Refused with 87 where the thread isn't live, 170 where it waits, 1450 where each process number or each thread number
+    /// was given, and with 8 for want of memory.
+    ///
+    /// [Handle inheritance]: https://learn.microsoft.com/windows/win32/sysinfo/handle-inheritance
+    pub fn child(&mut self, thread: u32, inherit: bool) -> Reply
+        ensures { Step self.old (Call.Child thread inherit) result self.new }
+    {
+        reply_of(children::child(&mut self.store, thread, inherit))
+    }
+
     /// A new thread of a process: `Started`.
     ///
     /// Refused with 87 where the process isn't live, with 1450 where each thread number was given, and with 8 for want of
@@ -161,6 +177,43 @@ impl<K: PinKeeper> Manager<K> {
         ensures { Step self.old (Call.OpenNamed thread kind mask inherit text.now) result self.new }
     {
         reply_of(creating::open_named(&mut self.store, thread, kind, mask, inherit, text))
+    }
+
+    /// A handle of the process `target` to what a handle of the process `source` names: `Duplicated` ([DuplicateHandle]). The
+    /// options are `DUPLICATE_CLOSE_SOURCE`, 1, and `DUPLICATE_SAME_ACCESS`, 2, with which `mask` is ignored. Without a target
+    /// the source alone is closed: `Closed`.
+    ///
+    /// Refused with 87 where the thread isn't live, 170 where it waits, 87 where the source process isn't live, 87 for another
+    /// option, and for no target without `DUPLICATE_CLOSE_SOURCE`; 6 where there is no such handle; 87 where the target
+    /// process isn't live; 5 for a right that neither the source has nor the object's grant; 1450 where the target has each
+    /// handle; and 8 for want of memory, only with a target.
+    ///
+    /// Once the source is found `DUPLICATE_CLOSE_SOURCE` closes it, whatever the answer is, want of memory excepted
+    /// (*profile*): a refusal by the target, by a right or by the limit then leaves all but the source as it was.
+    ///
+    /// [DuplicateHandle]: https://learn.microsoft.com/windows/win32/api/handleapi/nf-handleapi-duplicatehandle
+    pub fn duplicate(
+        &mut self,
+        thread: u32,
+        source: u32,
+        handle: u32,
+        target: Option<u32>,
+        mask: Rights,
+        inherit: bool,
+        options: u32,
+    ) -> Reply
+        ensures { Step self.old (Call.Duplicate thread source handle target mask inherit options) result self.new }
+    {
+        reply_of(copying::duplicate(
+            &mut self.store,
+            thread,
+            source,
+            handle,
+            target,
+            mask,
+            inherit,
+            options,
+        ))
     }
 
     /// Closes a handle of the thread's process, whose two lowest bits are ignored (*profile*): `Closed`. With its last handle
@@ -324,6 +377,7 @@ impl<K: PinKeeper> Manager<K> {
     {
         match call {
             Call::Spawn { session } => self.spawn(*session),
+            Call::Child { thread, inherit } => self.child(*thread, *inherit),
             Call::StartThread { process } => self.thread(*process),
             Call::MakeEvent {
                 thread,
@@ -349,6 +403,17 @@ impl<K: PinKeeper> Manager<K> {
                 inherit,
                 text,
             } => self.open_named(*thread, *kind, *mask, *inherit, text.as_slice()),
+            Call::Duplicate {
+                thread,
+                source,
+                handle,
+                target,
+                mask,
+                inherit,
+                options,
+            } => self.duplicate(
+                *thread, *source, *handle, *target, *mask, *inherit, *options,
+            ),
             Call::CloseHandle { thread, handle } => self.close(*thread, *handle),
             Call::SetEvent { thread, handle } => self.set_event(*thread, *handle),
             Call::ResetEvent { thread, handle } => self.reset_event(*thread, *handle),
@@ -384,7 +449,8 @@ fn borrowed(make: &Making) -> Make<'_>
     }
 }
 
-fn reply_of(answer: Result<Reply, Fault>) -> Reply
+/// The reply of a body's answer.
+pub(crate) fn reply_of(answer: Result<Reply, Fault>) -> Reply
     ensures { result ≡ reply_of answer }
 {
     match answer {

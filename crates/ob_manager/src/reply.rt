@@ -38,6 +38,13 @@ pub enum Reply {
         /// The object.
         id: Id,
     },
+    /// A handle to the object of another handle.
+    Duplicated {
+        /// The handle.
+        handle: u32,
+        /// The object.
+        id: Id,
+    },
     /// The handle was closed.
     Closed,
     /// An event was set or reset, a mutex released.

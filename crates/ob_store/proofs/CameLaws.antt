@@ -16,7 +16,7 @@ pub came_long : (ids : List Id) (s : ObjectsState) → length (with_blocks_of s 
 came_long [] s = refl
 came_long (id ∷ ids) s = came_long ids (with_block_of s id.slot) ∙ length-set s.seen.blocks id.slot (get_or s.seen.blocks id.slot 0 + 1)
 
-came_one : (blocks : List ℕ) (i k : ℕ) → k < length blocks → (here : Bool) → eqb i k ≡ here → get_or (set blocks i (get_or blocks i 0 + 1)) k 0 ≡ get_or blocks k 0 + cond here 1 0
+pub came_one : (blocks : List ℕ) (i k : ℕ) → k < length blocks → (here : Bool) → eqb i k ≡ here → get_or (set blocks i (get_or blocks i 0 + 1)) k 0 ≡ get_or blocks k 0 + cond here 1 0
 came_one blocks i k lt true is =
     let same : i ≡ k = grind (arith, nat_tests, is) in
     ap (λ j. get_or (set blocks j (get_or blocks j 0 + 1)) k 0) same ∙ get_or-set_same blocks k (get_or blocks k 0 + 1) 0 lt

@@ -13,7 +13,10 @@ pub mod DirectoryLaws
 pub mod ListingLaws
 pub mod SettledLaws
 pub mod KeptLaws
+pub mod LeavingLaws
 pub mod RemovedLaws
+pub mod EmptiedLaws
+pub mod EndingLaws
 pub mod Yielding
 pub mod OpeningLaws
 pub mod PlacedLaws
@@ -21,4 +24,5 @@ pub mod AddedLaws
 pub mod ReclaimedLaws
 pub mod CameLaws
 pub mod WaitedLaws
+pub mod ChildLaws
 pub mod ConsistentLaws

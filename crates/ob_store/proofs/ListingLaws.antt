@@ -170,6 +170,10 @@ module _ (rows : Rows) (ts : Tables) (objects : ObjectSlots) (births : ℕ) (lis
   listing_alike : (ts' : Tables) → ((k : ℕ) (o : Object) → get_or objects k None ≡ Some o → has_handles o.id ts' ≡ has_handles o.id ts) → IsListing rows ts' objects births
   listing_alike ts' same = record { same = listing.same ∙ sym (rows_same ts ts' objects births same); distinct = listing.distinct }
 
+  -- each Id has as many handles as before
+  pub listing_counts : (ts' : Tables) → ((id : Id) → handles_among id ts' ≡ handles_among id ts) → IsListing rows ts' objects births
+  listing_counts ts' same = listing_alike ts' (λ k o at. ap (λ n. ltb 0 n) (same o.id))
+
   -- a process comes, without entries or with those that it inherits
   pub listing_process : IsListing rows (with_process ts) objects births
   listing_process = listing_alike (with_process ts) (λ k o at. ap (λ n. ltb 0 n) (handles_among-with_process o.id ts))

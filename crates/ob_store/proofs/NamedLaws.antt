@@ -48,7 +48,7 @@ sum_same : {X : Type 0} (f g : X → ℕ) (d : X) (xs : List X) → ((i : ℕ) �
 sum_same f g d [] each = refl
 sum_same f g d (x ∷ xs) each = omega (arith, sum_by-cons f x xs, sum_by-cons g x xs, each 0 (omega arith), sum_same f g d xs (λ i lt. each (suc i) (omega arith)))
 
-sum_none : {X : Type 0} (f : X → ℕ) (d : X) (xs : List X) → ((i : ℕ) → i < length xs → f (get_or xs i d) ≡ 0) → sum_by f xs ≡ 0
+pub sum_none : {X : Type 0} (f : X → ℕ) (d : X) (xs : List X) → ((i : ℕ) → i < length xs → f (get_or xs i d) ≡ 0) → sum_by f xs ≡ 0
 sum_none f d [] each = refl
 sum_none f d (x ∷ xs) each = omega (arith, sum_by-cons f x xs, each 0 (omega arith), sum_none f d xs (λ i lt. each (suc i) (omega arith)))
 
@@ -119,7 +119,7 @@ module _ (objects : List (Option Object)) (ts : List (List (Option Entry))) (ws 
           let yes : same_id id x ≡ true = subst (λ (y : Id). same_id y x ≡ true) is (same_id-same x) in cc (yes, q))
 
   -- what stands in a table is counted
-  entry_counted : (p i : ℕ) (e : Entry) → at (table_of ts p) i ≡ Some e → 0 < handles_among e.id ts
+  pub entry_counted : (p i : ℕ) (e : Entry) → at (table_of ts p) i ≡ Some e → 0 < handles_among e.id ts
   entry_counted p i e is =
       let t = table_of ts p in
       let lt : p < length ts = table_within ts p i e is in

@@ -1,6 +1,6 @@
 -- What a slot counts refers to its object; and a thread's process has its table.
 use Rattle.std.proofs.Common.{◌≡◌, ℕ, ◌+◌, ◌<◌, List, length, Option, Some, None, ap, ◌∙◌, sym, arith, get_or, false, ltb, inl, inr, Bor}
-use Rattle.std.specs.Prelude.{is_some, IfSome}
+use Rattle.std.specs.Prelude.{is_some, IfSome, OnSome}
 use Rattle.std.specs.Option.{option_map}
 use Rattle.std.proofs.lemmas.List.{get_or_past}
 use Rattle.std.proofs.lemmas.Bool.{cases_lt}
@@ -57,6 +57,11 @@ module _ (limits : Limits) (l : LivesState) (ts : HandleTables) (s : ObjectsStat
 -- a live number is one of those given
 live_within : (numbers : List (Option ℕ)) (n : ℕ) → IsLive numbers n → n < length numbers
 live_within numbers n live = elim (cases_lt n (length numbers)) [ inl lt ↦ lt | inr le ↦ absurd (let none = ap is_some (get_or_past numbers n None le) in cc (none, live)) ]
+
+-- a live process has its table
+pub process_tabled : (limits : Limits) (l : LivesState) (tables process : ℕ) (x : Option ℕ) → LivesKept limits l tables → x ≡ get_or l.processes process None → OnSome x (process < tables)
+process_tabled limits l tables process None kept is = tt
+process_tabled limits l tables process (Some s) kept is = let lt = live_within l.processes process (ap is_some (sym is)) in let same = kept.tabled in omega (arith, lt, same)
 
 -- the process of a live thread has its table
 pub thread_tabled : (limits : Limits) (l : LivesState) (tables thread : ℕ) (x : Option ℕ) → LivesKept limits l tables → x ≡ get_or l.threads thread None → IfSome x (λ p. p < tables)

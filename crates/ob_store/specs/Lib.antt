@@ -7,4 +7,6 @@ pub mod Directory
 pub mod Kept
 pub mod Moves
 pub mod Waiting
+pub mod Ends
+pub mod UnderWay
 pub mod Consistent

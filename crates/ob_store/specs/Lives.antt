@@ -1,6 +1,6 @@
 -- The live processes and threads. A number is a place of a list; place 0 has nothing, since number 0 is never given, and the
 -- next number is the length.
-use Rattle.std.specs.Prelude.{ℕ, List, [], ◌∷◌, ◌++◌, Option, Some, None, length}
+use Rattle.std.specs.Prelude.{ℕ, ◌==◌, Bool, false, List, [], ◌∷◌, ◌++◌, Option, Some, None, length}
 
 pub record LivesState : Type 0 where
   pub processes : List (Option ℕ)  -- the session of each live process
@@ -16,3 +16,8 @@ with_process l session = record { processes = l.processes ++ Some session ∷ []
 -- the next thread, of a process
 abbrev pub with_thread : LivesState → ℕ → LivesState
 with_thread l process = record l { threads = l.threads ++ Some process ∷ [] }
+
+-- whether this stands at a number: the process, at the number of a live thread
+abbrev pub is_of : ℕ → Option ℕ → Bool
+is_of value None = false
+is_of value (Some other) = other == value

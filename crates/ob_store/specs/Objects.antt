@@ -11,6 +11,7 @@ use Rattle.pin_words.specs.Views.{id_of}
 use Rattle.ob_name.specs.Names.{ObjectName}
 use Rattle.ob_body.specs.declared.body.Body.{Body}
 use Rattle.ob_arena.specs.Slots.{Slots}
+use Rattle.ob_tables.specs.declared.entry.Entry.{Entry}
 use Rattle.ob_waits.specs.Objects as waits
 use Rattle.ob_store.specs.declared.seat.Seat.{Seat}
 
@@ -156,6 +157,15 @@ with_object s slot head body = with_keeper (with_seat (places_in s) slot (object
 -- one handle more
 abbrev pub with_handle_of : ObjectsState → ℕ → ObjectsState
 with_handle_of s slot = with_keeper (with_handle (places_in s) slot) s.births s.keeper
+
+-- one handle more for each place of a table that has an entry
+abbrev pub with_handle_at : ObjectsState → Option Entry → ObjectsState
+with_handle_at s None = s
+with_handle_at s (Some entry) = with_handle_of s entry.id.slot
+
+abbrev pub with_handles_of : ObjectsState → List (Option Entry) → ObjectsState
+with_handles_of s [] = s
+with_handles_of s (place ∷ places) = with_handles_of (with_handle_at s place) places
 
 -- one handle fewer; the slot of an object that nothing refers to any more closes
 abbrev pub without_handle_of : ObjectsState → ℕ → ObjectsState

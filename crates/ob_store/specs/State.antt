@@ -88,6 +88,14 @@ with_process s session = record s {
   tables = tables.with_process s.tables;
 }
 
+-- a new process of a session with its first thread, and with what it inherits of another
+abbrev pub with_child : State → ℕ → ℕ → State
+with_child s parent session = record s {
+  processes = s.processes ++ Some session ∷ [];
+  threads = s.threads ++ Some (length s.processes) ∷ [];
+  tables = tables.with_child s.tables parent;
+}
+
 -- a new thread of a process
 abbrev pub with_thread : State → ℕ → State
 with_thread s process = record s { threads = s.threads ++ Some process ∷ [] }

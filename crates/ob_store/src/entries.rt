@@ -22,6 +22,8 @@ impl<K: PinKeeper> Store<K> {
         requires there { 0 < handles_among entry.id self.old.state.tables }
         ensures value { IfOk result (λ value. value ≡ value_of (free_place (table_of self.old.state.tables process))) }
         ensures ok { OnOk result (self.new ≡ record self.old { state = settled (with_entry self.old.state process entry) }) }
+        // And nothing settles by it.
+        ensures plain { OnOk result (self.new.state ≡ with_entry self.old.state process entry) }
         ensures limit { (result ≡ Err Limit) ↔ (entries_in (table_of self.old.state.tables process) ≡ self.old.state.limits.handles) }
         ensures refusal { IfErr result (λ fault. (fault ≡ Limit) ⊎ (fault ≡ Memory)) }
         ensures err { OnErr result (self.new ≡ self.old) }
@@ -55,7 +57,7 @@ impl<K: PinKeeper> Store<K> {
 }
 
 /// The name of an object leaves the directory where the object has no handle left.
-fn leave_directory(names: &mut Directory, seat: Option<&Seat>)
+pub(crate) fn leave_directory(names: &mut Directory, seat: Option<&Seat>)
     ensures { names.new.rows ≡ rows_left names.old.rows (option_map (λ s. s.now.handles) seat.entry) (option_map (λ s. object_of s.now) seat.entry) }
 {
     let Some(seat) = seat else {

@@ -15,7 +15,9 @@
 //! ```
 #![tactic(auto)]
 
+mod children;
 mod creation;
+mod ending;
 mod entries;
 mod limits;
 mod lives;

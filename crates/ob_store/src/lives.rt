@@ -1,5 +1,6 @@
-ghost use Rattle.std.specs.Prelude.{ℕ, ◌∷◌, [], ◌++◌, ◌≡◌, ◌<◌, ◌≤◌, None, Some, IfOk, OnOk, OnErr, length, slice_index_or};
-ghost use Rattle.ob_store.specs.Lives.{LivesState, no_lives, with_process, with_thread};
+ghost use Rattle.std.specs.Prelude.{ℕ, ◌∷◌, [], ◌++◌, ◌≡◌, ◌<◌, ◌≤◌, None, Some, IfOk, OnOk, OnErr, length, slice_index_or, slice_set};
+ghost use Rattle.std.specs.List.{list_any};
+ghost use Rattle.ob_store.specs.Lives.{LivesState, is_of, no_lives, with_process, with_thread};
 
 use crate::numbers::Numbers;
 use std::alloc::{AllocError, Global};
@@ -81,6 +82,27 @@ impl Lives {
     {
         self.processes.take_back();
         self.threads.take_back();
+    }
+
+    /// Whether a process has live threads.
+    pub(crate) fn has_threads(&self, process: u32) -> bool
+        ensures { result ≡ list_any (is_of process) self.now.threads }
+    {
+        self.threads.has(process)
+    }
+
+    /// A thread's number is gone.
+    pub(crate) fn end_thread(&mut self, thread: u32)
+        ensures { self.new ≡ record self.old { threads = slice_set self.old.threads thread None } }
+    {
+        self.threads.leave(thread);
+    }
+
+    /// A process's number is gone.
+    pub(crate) fn end_process(&mut self, process: u32)
+        ensures { self.new ≡ record self.old { processes = slice_set self.old.processes process None } }
+    {
+        self.processes.leave(process);
     }
 
     /// A new thread of a process.

@@ -1,12 +1,13 @@
-ghost use Rattle.std.specs.Prelude.{◌≡◌, ℕ, ◌+◌, ◌<◌, ◌≤◌, true, IfOk, IfErr, IfSome, IsSome, None, Some, length, slice_index_or};
+ghost use Rattle.std.specs.Prelude.{◌≡◌, ℕ, ◌+◌, ◌<◌, ◌≤◌, true, IfOk, IfErr, IfSome, IsSome, None, Some, length, map, slice_index_or, slice_set};
 ghost use Rattle.std.specs.Option.{option_map};
 ghost use Rattle.pin_words.specs.Keepers.{IsFresh};
 ghost use Rattle.pin_words.specs.Views.{id_of};
 ghost use Rattle.pin_core.specs.Descrs.{IsGiven};
 ghost use Rattle.ob_arena.specs.Slots.{is_vacant_at, least_vacant};
 ghost use Rattle.ob_waits.specs.Waits.{nowhere};
-ghost use Rattle.ob_store.specs.Objects.{object_of, places_in, with_keeper, vacant_places, vacancy, with_object, with_handle_of, without_handle_of, with_block_of, with_blocks_of};
+ghost use Rattle.ob_store.specs.Objects.{kept_rest, object_of, places_in, with_keeper, vacant_places, vacancy, with_object, with_handle_of, with_handle_at, with_handles_of, without_handle_of, with_block_of, with_blocks_of};
 ghost use Rattle.ob_store.specs.Agreement.{IsTied, Reclaimed};
+ghost use Rattle.ob_store.specs.Ends.{slot_left_by};
 
 use crate::seat::Seat;
 use crate::seats::Seats;
@@ -14,6 +15,7 @@ use ob_arena::SLOTS_MAX;
 use ob_body::Body;
 use ob_name::Name;
 use ob_rights::Rights;
+use ob_tables::Entry;
 use ob_waits::Bodies;
 use pin_core::{Descr, Id};
 use pin_words::{PinKeeper, Reclaim};
@@ -135,6 +137,31 @@ impl<K: PinKeeper> Objects<K> {
         self.seats.handle_came(slot);
     }
 
+    /// One handle more where the place of a table has an entry, of an object that has a body.
+    fn handle_came_at(&mut self, place: Option<Entry>)
+        requires live { IfSome place (λ entry. IsSome (slice_index_or self.old.seen.bodies entry.id.slot None)) }
+        requires few { (k : ℕ) → slice_index_or self.old.seen.handles k 0 < 4294967295 }
+        ensures value { self.new ≡ with_handle_at self.old place }
+        ensures bodies { self.new.seen.bodies ≡ self.old.seen.bodies }
+        ensures few { (k : ℕ) → slice_index_or self.new.seen.handles k 0 ≤ slice_index_or self.old.seen.handles k 0 + 1 }
+    {
+        if let Some(entry) = place {
+            self.handle_came(entry.id.slot);
+        }
+    }
+
+    /// One handle more for each entry of a table, of objects that have bodies.
+    pub fn handles_came(&mut self, places: &[Option<Entry>])
+        requires live { (i : ℕ) → IfSome (slice_index_or places.now i None) (λ entry. IsSome (slice_index_or self.old.seen.bodies entry.id.slot None)) }
+        requires short { length places.now ≤ 16384 }
+        requires few { (k : ℕ) → slice_index_or self.old.seen.handles k 0 + 16384 ≤ 4294967295 }
+        ensures { self.new ≡ with_handles_of self.old places.now }
+    {
+        for place in places {
+            self.handle_came_at(*place);
+        }
+    }
+
     /// One handle fewer. The object ends where that was the last reference to it.
     pub fn handle_left(&mut self, slot: u32)
         requires some { 0 < slice_index_or self.old.seen.handles slot 0 }
@@ -163,6 +190,37 @@ impl<K: PinKeeper> Objects<K> {
     {
         for id in ids {
             self.block_came(id.slot);
+        }
+    }
+
+    /// The mutex in a slot is abandoned, where the thread owns it.
+    fn abandon_at(&mut self, slot: u32, thread: u32)
+        ensures seen { self.new.seen ≡ record self.old.seen { bodies = slice_set self.old.seen.bodies slot (slot_left_by thread (slice_index_or self.old.seen.bodies slot None)) } }
+        ensures rest { kept_rest self.new ≡ kept_rest self.old }
+    {
+        let id = Id {
+            slot,
+            generation: 0,
+        };
+        let Some(mut body) = self.body(id) else {
+            return;
+        };
+        if body.owner() != Some(thread) {
+            return;
+        }
+        body.abandon(thread);
+        self.put(id, body);
+    }
+
+    /// The mutexes that a thread owns are abandoned. It looks at each slot.
+    pub fn abandon(&mut self, thread: u32)
+        ensures seen { self.new.seen ≡ record self.old.seen { bodies = map (slot_left_by thread) self.old.seen.bodies } }
+        ensures rest { kept_rest self.new ≡ kept_rest self.old }
+    {
+        // What it says is wanted here: that there are as many bodies as slots.
+        self.kept();
+        for slot in 0..self.slots() {
+            self.abandon_at(slot, thread);
         }
     }
 

@@ -1,4 +1,4 @@
-ghost use Rattle.std.specs.Prelude.{◌≡◌, ◌<◌, true, IfOk, IfErr, IfSome, IsSome, None, Some, length, is_some, slice_get, slice_index_or};
+ghost use Rattle.std.specs.Prelude.{◌≡◌, ◌<◌, true, IfOk, IfErr, IfSome, IsSome, OnSome, None, Some, length, is_some, slice_get, slice_index_or};
 ghost use Rattle.std.specs.Option.{option_map};
 ghost use Rattle.pin_words.specs.Keepers.{IsFresh};
 ghost use Rattle.ob_arena.specs.Slots.{is_vacant_at, least_vacant};
@@ -107,9 +107,10 @@ impl<K: PinKeeper> Store<K> {
         self.lives.next_thread()
     }
 
-    /// The session of a live process.
+    /// The session of a live process, which has a handle table.
     pub fn session(&self, process: u32) -> Option<u32>
-        ensures { result ≡ slice_index_or self.now.state.processes process None }
+        ensures value { result ≡ slice_index_or self.now.state.processes process None }
+        ensures table { OnSome result (process < length self.now.state.tables) }
     {
         self.lives.session(process)
     }

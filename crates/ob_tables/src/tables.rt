@@ -95,6 +95,8 @@ impl Tables {
         ensures limit { (result ≡ Err Limit) ↔ (length self.old.tables ≡ self.old.process_limit + 1) }
         ensures refusal { IfErr result (λ fault. (fault ≡ Limit) ⊎ (fault ≡ Memory)) }
         ensures err { OnErr result (self.new ≡ self.old) }
+        // Whatever the tables are, as `place` says it.
+        ensures bounded { IsBounded self.old.process_limit self.old.handle_limit self.old.tables }
     {
         let number = self.next_number()?;
         let child = Table::inheriting(self.alloc, self.tables[from as usize].places())?;

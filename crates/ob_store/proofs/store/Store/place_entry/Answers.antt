@@ -3,7 +3,7 @@ use Rattle.ob_tables.specs.Counts.{handles_among}
 use Rattle.ob_tables.specs.Tables.{HandleTables, with_entry_of}
 use Rattle.ob_store.specs.Agreement.{IsTied}
 use Rattle.ob_store.specs.Objects.{ObjectsState}
-use Rattle.ob_store.specs.State.{Whole, settled, whole_of, with_entry}
+use Rattle.ob_store.specs.State.{Whole, settled, state_of, whole_of, with_entry}
 use Rattle.ob_store.proofs.KeptLaws.{few_handles, handled, kept_placed, whole_placed}
 use Rattle.ob_store.proofs.store.Store.place_entry.Goals as goal
 
@@ -34,3 +34,10 @@ returns-in-Ok-clause-ok g c =
     ∙ ap (λ (o : ObjectsState). whole_of s.limits s.lives (record s.tables { tables = with_entry_of s.tables.tables c.args.process c.args.entry }) o s.waits) c.handle_came.ensures
     ∙ whole_placed s.limits s.lives s.tables s.objects s.waits s.names.rows c.self.invariant c.args.process c.args.entry table some (subst IsTied c.handle_came.ensures c.kept-in-Ok.ensures)
     ∙ ap (λ (w : Whole). record w { state = settled (with_entry w.state c.args.process c.args.entry) }) c.self.view_is
+
+pub returns-in-Ok-clause-plain : goal.returns-in-Ok-clause-plain
+returns-in-Ok-clause-plain g c =
+    let s = c.self.inside in
+    ap (λ (t : HandleTables). state_of s.limits s.lives t c.handle_came.new.self s.waits) c.in-Ok.ensures.ok
+    ∙ ap (λ (o : ObjectsState). state_of s.limits s.lives (record s.tables { tables = with_entry_of s.tables.tables c.args.process c.args.entry }) o s.waits) c.handle_came.ensures
+    ∙ ap (λ (w : Whole). with_entry w.state c.args.process c.args.entry) c.self.view_is

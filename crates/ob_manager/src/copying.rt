@@ -1,0 +1,167 @@
+ghost use Rattle.std.specs.Prelude.{◌≡◌, ◌<◌, ℕ, false, true, IfErr, IfOk, OnErr, OnOk, Some, length};
+ghost use Rattle.ob_rights.specs.declared.fault.Fault.TheVariants.{Memory};
+ghost use Rattle.ob_tables.specs.Table.{entry_at};
+ghost use Rattle.ob_tables.specs.Tables.{table_of};
+ghost use Rattle.ob_store.specs.State.{handles_of, is_full};
+ghost use Rattle.ob_manager.specs.Copying.{admitted, closes, copied, copied_to, copy_rights, duplicate, is_copy, is_wrong, keeps_rights};
+ghost use Rattle.ob_manager.specs.Steps.{Copies, Duplicates};
+
+use crate::checks::{caller, found};
+use crate::creating::flags_of;
+use crate::manager::reply_of;
+use crate::reply::Reply;
+use ob_rights::{Fault, Rights, within};
+use ob_store::Store;
+use ob_tables::Entry;
+use pin_words::PinKeeper;
+use std::alloc::AllocError;
+
+/// The option `DUPLICATE_CLOSE_SOURCE`.
+const CLOSE_SOURCE: u32 = 1;
+
+/// The option `DUPLICATE_SAME_ACCESS`.
+const SAME_ACCESS: u32 = 2;
+
+/// Whether the source is closed.
+fn closes(options: u32) -> bool
+    ensures { result ≡ closes options }
+{
+    options & CLOSE_SOURCE == CLOSE_SOURCE
+}
+
+/// Whether the copy has the rights of the source.
+fn keeps_rights(options: u32) -> bool
+    ensures { result ≡ keeps_rights options }
+{
+    options & SAME_ACCESS == SAME_ACCESS
+}
+
+/// Whether there is another option, or nothing to do.
+fn is_wrong(options: u32, target: Option<u32>) -> bool
+    ensures { result ≡ is_wrong options target }
+{
+    options > 3 || (target.is_none() && !closes(options))
+}
+
+/// The rights of a copy, or 5.
+fn copy_rights<K: PinKeeper>(
+    store: &Store<K>,
+    entry: Entry,
+    mask: Rights,
+    options: u32,
+) -> Result<Rights, Fault>
+    ensures { result ≡ copy_rights store.now.state entry mask options }
+{
+    if keeps_rights(options) {
+        return Ok(entry.rights);
+    }
+    let Some(seat) = store.object(entry.id.slot) else {
+        return Err(Fault::Handle);
+    };
+    if within(mask, Rights(entry.rights.0 | seat.grant.0)) {
+        return Ok(mask);
+    }
+    Err(Fault::Access)
+}
+
+/// The rights of a copy in a target, or what refuses it.
+fn admitted<K: PinKeeper>(
+    store: &Store<K>,
+    entry: Entry,
+    target: u32,
+    mask: Rights,
+    options: u32,
+) -> Result<Rights, Fault>
+    ensures value { result ≡ admitted store.now.state entry target mask options }
+    ensures table { OnOk result (target < length store.now.state.tables) }
+    ensures room { OnOk result (is_full store.now.state target ≡ false) }
+{
+    if store.session(target).is_none() {
+        return Err(Fault::Parameter);
+    }
+    let rights = copy_rights(store, entry, mask, options)?;
+    if store.is_full(target) {
+        return Err(Fault::Limit);
+    }
+    Ok(rights)
+}
+
+/// A copy of an entry in a target. The outer refusal is want of memory.
+fn copied<K: PinKeeper>(
+    store: &mut Store<K>,
+    entry: Entry,
+    target: u32,
+    mask: Rights,
+    inherit: bool,
+    options: u32,
+) -> Result<Result<Reply, Fault>, AllocError>
+    requires { 0 < handles_of store.old.state entry.id }
+    ensures ok { IfOk result (λ answer. Copies answer store.old store.new (copied store.old.state entry target mask inherit options)) }
+    ensures memory { OnErr result (is_copy (copied store.old.state entry target mask inherit options) ≡ true) }
+    ensures err { OnErr result (store.new ≡ store.old) }
+    ensures stays { (source handle : ℕ) (other : Entry) → entry_at (table_of store.old.state.tables source) handle ≡ Some other → entry_at (table_of store.new.state.tables source) handle ≡ Some other }
+{
+    let rights = match admitted(store, entry, target, mask, options) {
+        Ok(rights) => rights,
+        Err(fault) => return Ok(Err(fault)),
+    };
+    let id = entry.id;
+    let flags = flags_of(inherit);
+    match store.place_entry(target, Entry { id, rights, flags }) {
+        Ok(handle) => return Ok(Ok(Reply::Duplicated { handle, id })),
+        Err(_) => return Err(AllocError),
+    }
+}
+
+/// The same where there may be no target, and then no copy.
+fn copied_to<K: PinKeeper>(
+    store: &mut Store<K>,
+    entry: Entry,
+    target: Option<u32>,
+    mask: Rights,
+    inherit: bool,
+    options: u32,
+) -> Result<Result<Reply, Fault>, AllocError>
+    requires { 0 < handles_of store.old.state entry.id }
+    ensures ok { IfOk result (λ answer. Copies answer store.old store.new (copied_to store.old.state entry target mask inherit options)) }
+    ensures memory { OnErr result (is_copy (copied_to store.old.state entry target mask inherit options) ≡ true) }
+    ensures err { OnErr result (store.new ≡ store.old) }
+    ensures stays { (source handle : ℕ) (other : Entry) → entry_at (table_of store.old.state.tables source) handle ≡ Some other → entry_at (table_of store.new.state.tables source) handle ≡ Some other }
+{
+    match target {
+        Some(target) => copied(store, entry, target, mask, inherit, options),
+        None => Ok(Ok(Reply::Closed)),
+    }
+}
+
+/// Duplicates a handle of the source process into the target.
+pub fn duplicate<K: PinKeeper>(
+    store: &mut Store<K>,
+    thread: u32,
+    source: u32,
+    handle: u32,
+    target: Option<u32>,
+    mask: Rights,
+    inherit: bool,
+    options: u32,
+) -> Result<Reply, Fault>
+    ensures outcome { Duplicates result store.old store.new (duplicate store.old.state thread source handle target mask inherit options) }
+    ensures memory { IfErr result (λ fault. fault ≡ Memory → is_copy (duplicate store.old.state thread source handle target mask inherit options) ≡ true) }
+{
+    caller(store, thread)?;
+    if store.session(source).is_none() {
+        return Err(Fault::Parameter);
+    }
+    if is_wrong(options, target) {
+        return Err(Fault::Parameter);
+    }
+    let entry = found(store, source, handle)?;
+    let answer = copied_to(store, entry, target, mask, inherit, options)?;
+    if closes(options) {
+        store.remove_entry(source, handle, entry);
+        return Ok(reply_of(answer));
+    }
+    // What it says is wanted here: that nothing is left to settle.
+    store.kept();
+    answer
+}

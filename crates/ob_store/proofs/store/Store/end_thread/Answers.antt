@@ -1,0 +1,55 @@
+use Rattle.std.proofs.Common.{◌≡◌, ◌∙◌, ap, sym, subst, get_or, length, Some, None}
+use Rattle.ob_waits.proofs.Room.{rooms_at_more}
+use Rattle.ob_store.specs.Ends.{exited, left, thread_ended, threads_ended, unless_threads, process_ended}
+use Rattle.ob_store.specs.Objects.{opened}
+use Rattle.ob_store.specs.State.{Whole, settled, state_of}
+use Rattle.ob_store.proofs.EndingLaws.{way_begins, way_kept, way_keeper, way_state}
+use Rattle.ob_store.proofs.PlacedLaws.{thread_tabled}
+use Rattle.ob_store.proofs.store.Store.end_thread.Goals as goal
+
+pub leave_process-requires-clause-sound : goal.leave_process-requires-clause-sound
+leave_process-requires-clause-sound g c =
+    let s = c.self.inside in
+    let before = state_of s.limits s.lives s.tables s.objects s.waits in
+    let begins = way_begins s.limits s.lives s.tables s.objects s.waits s.names.rows c.self.invariant c.kept.ensures in
+    (c.end_one.ensures.way s.objects.keeper before begins).sound
+
+pub leave_process-requires-clause-table : goal.leave_process-requires-clause-table
+leave_process-requires-clause-table g c =
+    let s = c.self.inside in
+    let live : get_or s.lives.threads c.args.thread None ≡ Some c.args.process = subst (λ (w : Whole). get_or w.state.threads c.args.thread None ≡ Some c.args.process) (sym c.self.view_is) c.requires.live in
+    thread_tabled s.limits s.lives (length s.tables.tables) c.args.thread (Some c.args.process) c.self.invariant.lives_kept (sym live)
+
+pub settle-requires : goal.settle-requires
+settle-requires g c =
+    let s = c.self.inside in
+    let before = state_of s.limits s.lives s.tables s.objects s.waits in
+    let begins = way_begins s.limits s.lives s.tables s.objects s.waits s.names.rows c.self.invariant c.kept.ensures in
+    let way = c.leave_process.ensures.way s.objects.keeper (thread_ended before c.args.thread) (c.end_one.ensures.way s.objects.keeper before begins) in
+    rooms_at_more s.limits.max_recursion 2147483647 c.leave_process.new.objects.seen.bodies c.end_one.new.waits.waits s.limits.in_range.max_recursion_in_range.1 way.sound.room
+
+pub invariant_of-self : goal.invariant_of-self
+invariant_of-self g c =
+    let s = c.self.inside in
+    let before = state_of s.limits s.lives s.tables s.objects s.waits in
+    let begins = way_begins s.limits s.lives s.tables s.objects s.waits s.names.rows c.self.invariant c.kept.ensures in
+    let way = c.leave_process.ensures.way s.objects.keeper (thread_ended before c.args.thread) (c.end_one.ensures.way s.objects.keeper before begins) in
+    way_kept s.objects.keeper s.limits c.leave_process.new.lives c.leave_process.new.tables c.leave_process.new.objects c.settle.new.bodies c.end_one.new.waits c.settle.new.self c.leave_process.new.names.rows (unless_threads (thread_ended before c.args.thread) c.args.process) way c.settle.ensures.value c.settle.ensures.limit c.settle.ensures.rest (record { room = c.settle.ensures.room s.limits.max_recursion way.sound.room; settled = c.settle.ensures.settled })
+
+pub returns-clause-state : goal.returns-clause-state
+returns-clause-state g c =
+    let s = c.self.inside in
+    let before = state_of s.limits s.lives s.tables s.objects s.waits in
+    let begins = way_begins s.limits s.lives s.tables s.objects s.waits s.names.rows c.self.invariant c.kept.ensures in
+    let way = c.leave_process.ensures.way s.objects.keeper (thread_ended before c.args.thread) (c.end_one.ensures.way s.objects.keeper before begins) in
+    way_state s.objects.keeper s.limits c.leave_process.new.lives c.leave_process.new.tables c.leave_process.new.objects c.settle.new.bodies c.end_one.new.waits c.settle.new.self c.leave_process.new.names.rows (unless_threads (thread_ended before c.args.thread) c.args.process) way c.settle.ensures.value c.settle.ensures.limit c.settle.ensures.rest (record { room = c.settle.ensures.room s.limits.max_recursion way.sound.room; settled = c.settle.ensures.settled })
+    ∙ ap (λ (w : Whole). settled (left w.state c.args.process c.args.thread)) c.self.view_is
+
+pub returns-clause-keeper : goal.returns-clause-keeper
+returns-clause-keeper g c =
+    let s = c.self.inside in
+    let before = state_of s.limits s.lives s.tables s.objects s.waits in
+    let begins = way_begins s.limits s.lives s.tables s.objects s.waits s.names.rows c.self.invariant c.kept.ensures in
+    let way = c.leave_process.ensures.way s.objects.keeper (thread_ended before c.args.thread) (c.end_one.ensures.way s.objects.keeper before begins) in
+    way_keeper s.objects.keeper s.limits c.leave_process.new.lives c.leave_process.new.tables c.leave_process.new.objects c.settle.new.bodies c.end_one.new.waits c.settle.new.self c.leave_process.new.names.rows (unless_threads (thread_ended before c.args.thread) c.args.process) way c.settle.ensures.value c.settle.ensures.limit c.settle.ensures.rest (record { room = c.settle.ensures.room s.limits.max_recursion way.sound.room; settled = c.settle.ensures.settled })
+    ∙ ap (λ (w : Whole). opened w.keeper) c.self.view_is

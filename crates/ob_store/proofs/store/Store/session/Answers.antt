@@ -1,0 +1,9 @@
+use Rattle.std.proofs.Common.{◌<◌, length, subst}
+use Rattle.std.specs.Prelude.{OnSome}
+use Rattle.ob_store.specs.State.{Whole}
+use Rattle.ob_store.proofs.PlacedLaws.{process_tabled}
+use Rattle.ob_store.proofs.store.Store.session.Goals as goal
+
+pub returns-clause-table : goal.returns-clause-table
+returns-clause-table g c = subst (λ (w : Whole). OnSome c.session.result (c.args.process < length w.state.tables)) c.self.view_is
+    (process_tabled c.self.inside.limits c.self.inside.lives (length c.self.inside.tables.tables) c.args.process c.session.result c.self.invariant.lives_kept c.session.ensures)

@@ -1,0 +1,252 @@
+ghost use Rattle.std.specs.Prelude.{◌≡◌, ◌<◌, ℕ, IsSome, None, Some, if◌then◌else◌, length, slice_index_or, slice_set};
+ghost use Rattle.pin_words.specs.Keepers.{KeeperState};
+ghost use Rattle.ob_tables.specs.Tables.{table_of, without_entries};
+ghost use Rattle.ob_tables.specs.Table.{value_of};
+ghost use Rattle.ob_waits.specs.Objects.{without_blocks};
+ghost use Rattle.ob_waits.specs.Rules.{IsKept as AreWaits};
+ghost use Rattle.ob_waits.specs.Waits.{thread_ids};
+ghost use Rattle.ob_store.specs.Agreement.{IsTied};
+ghost use Rattle.ob_store.specs.Ends.{exited, left, process_ended, thread_ended, threads_ended, unless_threads};
+ghost use Rattle.ob_store.specs.Lives.{is_of};
+ghost use Rattle.ob_store.specs.Moves.{OnlyCloses};
+ghost use Rattle.ob_store.specs.Objects.{kept_rest};
+ghost use Rattle.ob_store.specs.State.{State, settled};
+ghost use Rattle.ob_store.specs.UnderWay.{IsEmptied, IsSound, IsUnderWay};
+
+use crate::entries::leave_directory;
+use crate::limits::Limits;
+use crate::lives::Lives;
+use crate::objects::Objects;
+use crate::store::Store;
+use ob_name::Directory;
+use ob_tables::Tables;
+use ob_waits::{Waits, leave_all};
+use pin_words::PinKeeper;
+
+/// The blocks of a thread's wait leave.
+fn leave_wait<K: PinKeeper>(objects: &mut Objects<K>, waits: &Waits, thread: u32)
+    ensures seen { objects.new.seen ≡ without_blocks objects.old.seen (thread_ids thread waits.now.waits) }
+    ensures rest { kept_rest objects.new ≡ kept_rest objects.old }
+    ensures waits { AreWaits waits.now.waits }
+{
+    let Some(number) = waits.wait_of(thread) else {
+        return;
+    };
+    let Some((_, ids)) = waits.look(number) else {
+        return;
+    };
+    leave_all(objects, ids);
+}
+
+/// A thread ends, and nothing settles yet: its wait is dropped, then its mutexes are abandoned.
+fn end_one<K: PinKeeper>(
+    limits: Limits,
+    lives: &mut Lives,
+    tables: &Tables,
+    objects: &mut Objects<K>,
+    waits: &mut Waits,
+    names: &Directory,
+    thread: u32,
+)
+    ensures way { (first : KeeperState) (s : State) → IsUnderWay first limits lives.old tables.now objects.old waits.old names.now.rows s → IsUnderWay first limits lives.new tables.now objects.new waits.new names.now.rows (thread_ended s thread) }
+    ensures lives { lives.new ≡ record lives.old { threads = slice_set lives.old.threads thread None } }
+{
+    leave_wait(objects, waits, thread);
+    waits.drop_thread(thread);
+    objects.abandon(thread);
+    objects.kept();
+    lives.end_thread(thread);
+}
+
+/// The same of a thread that is live and of the process, if it is.
+fn end_of<K: PinKeeper>(
+    limits: Limits,
+    lives: &mut Lives,
+    tables: &Tables,
+    objects: &mut Objects<K>,
+    waits: &mut Waits,
+    names: &Directory,
+    process: u32,
+    thread: u32,
+)
+    ensures way { (first : KeeperState) (s : State) → IsUnderWay first limits lives.old tables.now objects.old waits.old names.now.rows s → IsUnderWay first limits lives.new tables.now objects.new waits.new names.now.rows (if is_of process (slice_index_or s.threads thread None) then thread_ended s thread else s) }
+    ensures long { length lives.new.threads ≡ length lives.old.threads }
+    ensures gone { slice_index_or lives.new.threads thread None ≡ Some process → ⊥ }
+    ensures fewer { (t q : ℕ) → slice_index_or lives.new.threads t None ≡ Some q → slice_index_or lives.old.threads t None ≡ Some q }
+{
+    if lives.process(thread) == Some(process) {
+        end_one(limits, lives, tables, objects, waits, names, thread);
+    }
+}
+
+/// The threads of a process end, by rising number. It looks at each thread number that was given.
+fn end_all<K: PinKeeper>(
+    limits: Limits,
+    lives: &mut Lives,
+    tables: &Tables,
+    objects: &mut Objects<K>,
+    waits: &mut Waits,
+    names: &Directory,
+    process: u32,
+)
+    ensures way { (first : KeeperState) (s : State) → IsUnderWay first limits lives.old tables.now objects.old waits.old names.now.rows s → IsUnderWay first limits lives.new tables.now objects.new waits.new names.now.rows (threads_ended s process (length lives.old.threads)) }
+    ensures gone { (t : ℕ) → slice_index_or lives.new.threads t None ≡ Some process → ⊥ }
+{
+    for thread in 0..lives.next_thread() {
+        end_of(limits, lives, tables, objects, waits, names, process, thread);
+    }
+}
+
+/// The entry of a place leaves, if there is one.
+fn remove_at<K: PinKeeper>(
+    limits: Limits,
+    lives: &Lives,
+    tables: &mut Tables,
+    objects: &mut Objects<K>,
+    waits: &Waits,
+    names: &mut Directory,
+    process: u32,
+    place: u32,
+)
+    requires sound { IsSound limits lives.now tables.old objects.old waits.now names.old.rows }
+    requires few { place < 16384 }
+    ensures way { (first : KeeperState) (s : State) → IsUnderWay first limits lives.now tables.old objects.old waits.now names.old.rows s → IsUnderWay first limits lives.now tables.new objects.new waits.now names.new.rows (record s { tables = tables.new.tables }) }
+    ensures sound { IsSound limits lives.now tables.new objects.new waits.now names.new.rows }
+    ensures left { IsEmptied process place tables.old.tables tables.new.tables }
+{
+    // What it says is wanted here, before and after.
+    objects.kept();
+    let value = 4 * (place + 1);
+    let Some(entry) = tables.look(process, value) else {
+        return;
+    };
+    let _ = tables.remove(process, value);
+    objects.handle_left(entry.id.slot);
+    objects.kept();
+    leave_directory(names, objects.look(entry.id.slot));
+}
+
+/// The entries of a process leave, by rising value.
+fn remove_all<K: PinKeeper>(
+    limits: Limits,
+    lives: &Lives,
+    tables: &mut Tables,
+    objects: &mut Objects<K>,
+    waits: &Waits,
+    names: &mut Directory,
+    process: u32,
+)
+    requires sound { IsSound limits lives.now tables.old objects.old waits.now names.old.rows }
+    requires table { process < length tables.old.tables }
+    ensures way { (first : KeeperState) (s : State) → IsUnderWay first limits lives.now tables.old objects.old waits.now names.old.rows s → IsUnderWay first limits lives.now tables.new objects.new waits.now names.new.rows (record s { tables = tables.new.tables }) }
+    ensures rest { without_entries tables.new.tables process ≡ without_entries tables.old.tables process }
+    ensures long { length tables.new.tables ≡ length tables.old.tables }
+    ensures gone { (k : ℕ) → slice_index_or (table_of tables.new.tables process) k None ≡ None }
+{
+    let places = tables.entries(process).len() as u32;
+    for place in 0..places {
+        remove_at(limits, lives, tables, objects, waits, names, process, place);
+    }
+}
+
+/// A process ends whose threads have ended: its entries leave, and its number is gone.
+fn end_process<K: PinKeeper>(
+    limits: Limits,
+    lives: &mut Lives,
+    tables: &mut Tables,
+    objects: &mut Objects<K>,
+    waits: &Waits,
+    names: &mut Directory,
+    process: u32,
+)
+    requires sound { IsSound limits lives.old tables.old objects.old waits.now names.old.rows }
+    requires table { process < length tables.old.tables }
+    requires alone { (t : ℕ) → slice_index_or lives.old.threads t None ≡ Some process → ⊥ }
+    ensures way { (first : KeeperState) (s : State) → IsUnderWay first limits lives.old tables.old objects.old waits.now names.old.rows s → IsUnderWay first limits lives.new tables.new objects.new waits.now names.new.rows (process_ended s process) }
+{
+    remove_all(limits, lives, tables, objects, waits, names, process);
+    tables.clear(process);
+    lives.end_process(process);
+}
+
+/// The same of a process that may have live threads: then it stays.
+fn leave_process<K: PinKeeper>(
+    limits: Limits,
+    lives: &mut Lives,
+    tables: &mut Tables,
+    objects: &mut Objects<K>,
+    waits: &Waits,
+    names: &mut Directory,
+    process: u32,
+)
+    requires sound { IsSound limits lives.old tables.old objects.old waits.now names.old.rows }
+    requires table { process < length tables.old.tables }
+    ensures way { (first : KeeperState) (s : State) → IsUnderWay first limits lives.old tables.old objects.old waits.now names.old.rows s → IsUnderWay first limits lives.new tables.new objects.new waits.now names.new.rows (unless_threads s process) }
+{
+    if lives.has_threads(process) {
+        return;
+    }
+    end_process(limits, lives, tables, objects, waits, names, process);
+}
+
+impl<K: PinKeeper> Store<K> {
+    /// A live thread ends, and with the last thread of a process that: the thread's wait is dropped, its mutexes are abandoned,
+    /// and the waits settle. It looks at each slot and each thread number that was given.
+    pub fn end_thread(&mut self, thread: u32, process: u32)
+        requires live { slice_index_or self.old.state.threads thread None ≡ Some process }
+        ensures state { self.new.state ≡ settled (left self.old.state process thread) }
+        ensures keeper { OnlyCloses self.old.keeper self.new.keeper }
+    {
+        // What it says is wanted here.
+        self.objects.kept();
+        end_one(
+            self.limits,
+            &mut self.lives,
+            &self.tables,
+            &mut self.objects,
+            &mut self.waits,
+            &self.names,
+            thread,
+        );
+        leave_process(
+            self.limits,
+            &mut self.lives,
+            &mut self.tables,
+            &mut self.objects,
+            &self.waits,
+            &mut self.names,
+            process,
+        );
+        self.waits.settle(&mut self.objects);
+    }
+
+    /// A live process ends: its threads end by rising number, then its entries leave by rising value, and the waits settle
+    /// once. It looks at each slot and each thread number that was given.
+    pub fn exit(&mut self, process: u32)
+        requires live { IsSome (slice_index_or self.old.state.processes process None) }
+        ensures state { self.new.state ≡ settled (exited self.old.state process) }
+        ensures keeper { OnlyCloses self.old.keeper self.new.keeper }
+    {
+        // What it says is wanted here.
+        self.objects.kept();
+        end_all(
+            self.limits,
+            &mut self.lives,
+            &self.tables,
+            &mut self.objects,
+            &mut self.waits,
+            &self.names,
+            process,
+        );
+        end_process(
+            self.limits,
+            &mut self.lives,
+            &mut self.tables,
+            &mut self.objects,
+            &self.waits,
+            &mut self.names,
+            process,
+        );
+        self.waits.settle(&mut self.objects);
+    }
+}
