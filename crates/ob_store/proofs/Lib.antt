@@ -21,3 +21,4 @@ pub mod AddedLaws
 pub mod ReclaimedLaws
 pub mod CameLaws
 pub mod ConsistentLaws
+pub mod StoredLaws

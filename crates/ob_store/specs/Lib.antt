@@ -7,3 +7,4 @@ pub mod Directory
 pub mod Kept
 pub mod Moves
 pub mod Consistent
+pub mod Stored

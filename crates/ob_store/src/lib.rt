@@ -29,6 +29,7 @@ mod seat;
 mod seats;
 mod signaling;
 mod store;
+mod stored;
 #[cfg(test)]
 mod tests;
 
@@ -37,3 +38,4 @@ pub use limits::Limits;
 pub use objects::Objects;
 pub use seat::Seat;
 pub use store::Store;
+pub use stored::Stored;
