@@ -1,10 +1,9 @@
 -- What refers to an object, and what an object was created as.
-use Rattle.std.specs.Prelude.{ℕ, nat_le, Option, Some, None, Result, Ok, if◌then◌else◌, slice_index_or}
+use Rattle.std.specs.Prelude.{nat_le, Option, Some, None, Result, Ok, if◌then◌else◌, slice_index_or}
 use Rattle.pin_core.specs.Holds.{same_id}
 use Rattle.pin_core.specs.declared.id.Id.{Id}
 use Rattle.ob_rights.specs.declared.fault.Fault.{Fault}
 use Rattle.ob_rights.specs.declared.fault.Fault.TheVariants as fault
-use Rattle.ob_body.specs.declared.body.Body.{Body}
 use Rattle.ob_manager.specs.declared.reply.Reply.TheVariants.{CountsAre}
 use Rattle.ob_manager.specs.declared.card.Card.{Card}
 use Rattle.ob_store.specs.Objects.{Object}
@@ -31,8 +30,3 @@ carded (Some o) = Some (record { id = o.id; descr = o.descr; grant = o.grant })
 
 abbrev pub card : State → Id → Option Card
 card s id = carded (object_of s id)
-
--- an object without a body has a hold
-abbrev pub hold_in : Option Body → ℕ
-hold_in None = 1
-hold_in (Some body) = 0

@@ -5,6 +5,9 @@ use Rattle.pin_words.specs.declared.pin_keeper.Reclaim.{Reclaim}
 use Rattle.ob_rights.specs.declared.fault.Fault.{Fault}
 use Rattle.ob_rights.specs.declared.fault.Fault.TheVariants as fault
 use Rattle.ob_body.specs.declared.body.Body.{Body}
+use Rattle.ob_manager.specs.declared.call.Call.{Call}
+use Rattle.ob_manager.specs.declared.call.Call.TheVariants as calls
+use Rattle.ob_manager.specs.declared.reply.Reply.{Reply}
 use Rattle.ob_manager.specs.declared.reply.Reply.TheVariants.{Reaped}
 use Rattle.ob_store.specs.Objects.{Object}
 use Rattle.ob_store.specs.State.{State, settled}
@@ -23,3 +26,12 @@ reap s slot outcome = do
   _ ← refuse_if (nat_le s.limits.slots slot) fault.Parameter
   id ← if_ended (slice_index_or s.objects slot None) (slice_index_or s.bodies slot None)
   Ok (record { reply = Reaped id outcome; state = settled (after_reclaim s slot outcome) })
+
+-- where a slot is asked for, and where the reply says what became of it
+abbrev pub IfReap : Call → (ℕ → Type 0) → Type 0
+IfReap (calls.Reap slot) P = P slot
+IfReap call P = Unit {0}
+
+abbrev pub IfReaped : Reply → (Reclaim → Type 0) → Type 0
+IfReaped (Reaped id outcome) P = P outcome
+IfReaped reply P = Unit {0}

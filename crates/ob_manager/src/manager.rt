@@ -6,9 +6,11 @@ ghost use Rattle.ob_store.specs.Directory.{directory_of};
 ghost use Rattle.ob_store.specs.Consistent.{IsConsistent};
 ghost use Rattle.ob_store.specs.Objects.{object_of};
 ghost use Rattle.ob_store.specs.State.{blocks_of, handles_of, hold_of, opening, shape_of};
+ghost use Rattle.ob_store.specs.Stored.{Stands, hold_in};
 ghost use Rattle.ob_manager.specs.Makings.{making_of};
-ghost use Rattle.ob_manager.specs.Counting.{card, hold_in};
+ghost use Rattle.ob_manager.specs.Counting.{card};
 ghost use Rattle.ob_manager.specs.Handles.{resolve};
+ghost use Rattle.ob_manager.specs.Reaping.{IfReap, IfReaped};
 ghost use Rattle.ob_waits.specs.Waits as waits;
 ghost use Rattle.ob_manager.specs.Steps.{Step, reply_of};
 
@@ -22,7 +24,7 @@ use crate::{
 };
 use ob_name::{NameRef, Rows};
 use ob_rights::{Fault, Kind, Rights};
-use ob_store::{Limits, Seat, Store};
+use ob_store::{Limits, Seat, Store, Stored};
 use ob_waits::Mode;
 use pin_core::Id;
 use pin_words::PinKeeper;
@@ -68,6 +70,15 @@ impl<K: PinKeeper> Manager<K> {
         ensures { IsConsistent self.now }
     {
         self.store.kept();
+    }
+
+    /// What is stored, whenever no call is under way: each slot is empty or holds one object; the object's handle count is the
+    /// number of table entries that name it, and its references are these entries, its places in pending waits, and a hold once
+    /// there is neither; and the directory lists just the named objects that have handles.
+    pub fn stored(&self) -> Stored<'_, K>
+        ensures { Stands self.now.state result }
+    {
+        self.store.stored()
     }
 
     /// What a slot holds, as it is stored: its handles are the entries that name the object, its blocks the places of pending
@@ -319,7 +330,8 @@ impl<K: PinKeeper> Manager<K> {
     ///
     /// Refused with 87 where there is no such slot, and with 6 where it has no such object.
     pub fn reap(&mut self, slot: u32) -> Reply
-        ensures { Step self.old (Call.Reap slot) result self.new }
+        ensures step { Step self.old (Call.Reap slot) result self.new }
+        ensures exact { IfReaped result (λ outcome. K.reclaims self.old.keeper slot outcome self.new.keeper) }
     {
         reply_of(reaping::reap(&mut self.store, slot))
     }
@@ -373,7 +385,8 @@ impl<K: PinKeeper> Manager<K> {
 
     /// Makes a call.
     pub fn apply(&mut self, call: &Call) -> Reply
-        ensures { Step self.old call.now result self.new }
+        ensures step { Step self.old call.now result self.new }
+        ensures exact { IfReap call.now (λ slot. IfReaped result (λ outcome. K.reclaims self.old.keeper slot outcome self.new.keeper)) }
     {
         match call {
             Call::Spawn { session } => self.spawn(*session),

@@ -1,5 +1,5 @@
 ghost use Rattle.std.specs.Prelude.{◌≡◌};
-ghost use Rattle.ob_manager.specs.Reaping.{reap};
+ghost use Rattle.ob_manager.specs.Reaping.{IfReaped, reap};
 ghost use Rattle.ob_manager.specs.Steps.{Gives, reclaim_in, reply_of};
 
 use crate::reply::Reply;
@@ -9,7 +9,8 @@ use pin_words::PinKeeper;
 
 /// Takes the slot of an ended object back, unless somebody holds it.
 pub fn reap<K: PinKeeper>(store: &mut Store<K>, slot: u32) -> Result<Reply, Fault>
-    ensures { Gives result store.old store.new (reap store.old.state slot (reclaim_in (reply_of result))) }
+    ensures gives { Gives result store.old store.new (reap store.old.state slot (reclaim_in (reply_of result))) }
+    ensures exact { IfReaped (reply_of result) (λ outcome. K.reclaims store.old.keeper slot outcome store.new.keeper) }
 {
     if store.limits().slots <= slot {
         return Err(Fault::Parameter);

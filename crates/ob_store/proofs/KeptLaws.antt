@@ -150,9 +150,6 @@ module _ (limits : Limits) (l : LivesState) (ts : HandleTables) (o : ObjectsStat
   whole_thread process threads live tied = λ i. record { state = sym (settled_kept limits (lives.with_thread l process) ts o ws rows (kept_thread process threads live) tied) i; keeper = o.keeper }
 
 -- a keeper that only closed slots has its generations and its shape
-open_generation : (x : Slot) → generation_of (open_slot x) ≡ generation_of x
-open_generation x = refl
-
 generations_open : (xs : List Slot) → map generation_of (map open_slot xs) ≡ map generation_of xs
 generations_open [] = refl
 generations_open (x ∷ xs) = ap (λ (t : List ℕ). x.generation ∷ t) (generations_open xs)

@@ -26,3 +26,4 @@ pub mod CameLaws
 pub mod WaitedLaws
 pub mod ChildLaws
 pub mod ConsistentLaws
+pub mod StoredLaws

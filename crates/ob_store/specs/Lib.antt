@@ -10,3 +10,4 @@ pub mod Waiting
 pub mod Ends
 pub mod UnderWay
 pub mod Consistent
+pub mod Stored

@@ -31,6 +31,7 @@ mod seat;
 mod seats;
 mod signaling;
 mod store;
+mod stored;
 #[cfg(test)]
 mod tests;
 mod waiting;
@@ -40,3 +41,4 @@ pub use limits::Limits;
 pub use objects::Objects;
 pub use seat::Seat;
 pub use store::Store;
+pub use stored::Stored;

@@ -1,0 +1,74 @@
+-- What a store keeps, told of what is stored.
+use Rattle.std.proofs.Common.{◌≡◌, ◌<◌, ◌+◌, ℕ, Option, Some, None, refl, ap, ◌∙◌, sym, subst, arith, get_or, true, false, cond, eqb, ltb}
+use Rattle.std.specs.Prelude.{◌↔◌, is_some}
+use Rattle.std.specs.List.{Contains}
+use Rattle.std.proofs.lemmas.List.Elements.{All-contains}
+use Rattle.std.proofs.lemmas.Bool.Decides.{nat_tests}
+use Rattle.pin_core.specs.declared.id.Id.{Id}
+use Rattle.ob_body.specs.declared.body.Body.{Body}
+use Rattle.ob_name.specs.Names.{ObjectName}
+use Rattle.ob_name.specs.Listing.{Rows}
+use Rattle.ob_tables.specs.Counts.{handles_among}
+use Rattle.ob_tables.specs.Tables.{HandleTables}
+use Rattle.ob_waits.specs.Waits.{WaitList}
+use Rattle.ob_store.specs.declared.limits.Limits.{Limits}
+use Rattle.ob_store.specs.Lives.{LivesState}
+use Rattle.ob_store.specs.Objects.{Object, ObjectsState}
+use Rattle.ob_store.specs.Agreement.{IsTied}
+use Rattle.ob_store.specs.Directory.{rows_of}
+use Rattle.ob_store.specs.State.{state_of, hold_of}
+use Rattle.ob_store.specs.Kept.{IsKept}
+use Rattle.ob_store.specs.Stored.{IsOpenByName, Stands, hold_in}
+use Rattle.ob_store.proofs.DirectoryLaws.{IsRow, has_handles, rows_are, row_there}
+use Rattle.ob_store.proofs.ListingLaws.{placed_agreed}
+use Rattle.ob_store.proofs.PlacedLaws.{own_handles, own_blocks}
+
+-- an object has a body exactly where something refers to it
+hold_is : (b : Option Body) (n : ℕ) → is_some b ≡ ltb 0 n → hold_in b ≡ cond (eqb n 0) 1 0
+hold_is None n is = let none : eqb n 0 ≡ true = grind (arith, nat_tests, is) in sym (ap {B = ℕ} (λ c. cond c 1 0) none)
+hold_is (Some b) n is = let some : eqb n 0 ≡ false = grind (arith, nat_tests, is) in sym (ap {B = ℕ} (λ c. cond c 1 0) some)
+
+module _ (limits : Limits) (l : LivesState) (ts : HandleTables) (o : ObjectsState) (ws : WaitList) (rows : Rows) (kept : IsKept limits l ts o ws rows) (tied : IsTied o) where
+  held : (k : ℕ) (x : Object) → get_or o.objects k None ≡ Some x → hold_in (get_or o.seen.bodies k None) ≡ hold_of (state_of limits l ts o ws) x.id
+  held k x at =
+      let h = own_handles limits l ts o ws rows kept tied k x at in
+      let b = own_blocks limits l ts o ws rows kept tied k x at in
+      hold_is (get_or o.seen.bodies k None) (get_or o.seen.handles k 0 + get_or o.seen.blocks k 0) (tied.bodied.each k) ∙ (λ i. cond (eqb (h i + b i) 0) 1 0)
+
+  -- each row is that of an object with a handle
+  row_open : (name : ObjectName) (id : Id) → IsRow ts.tables o.objects (name, id) → IsOpenByName (state_of limits l ts o ws) name id
+  row_open name id row =
+      let place : row.place ≡ id.slot = sym (placed_agreed o tied.agreed row.place row.object row.there) ∙ ap (λ (i : Id). i.slot) row.its_id in
+      let has : ltb 0 (handles_among id ts.tables) ≡ true = row.has in
+      record {
+        object = row.object;
+        there = ap (λ k. get_or o.objects k None) (sym place) ∙ row.there;
+        its_id = row.its_id;
+        its_name = row.its_name;
+        handled = grind (arith, nat_tests, has);
+      }
+
+  -- and each such object has a row
+  open_row : (name : ObjectName) (id : Id) → IsOpenByName (state_of limits l ts o ws) name id → Contains (rows_of ts.tables o.objects o.births) (name, id)
+  open_row name id x =
+      let some : 0 < handles_among id ts.tables = x.handled in
+      let has : ltb 0 (handles_among id ts.tables) ≡ true = grind (arith, nat_tests, some) in
+      subst (λ (i : Id). Contains (rows_of ts.tables o.objects o.births) (name, i)) x.its_id
+      (row_there ts.tables o.objects id.slot x.object name o.births x.there (tied.born.below id.slot x.object x.there) x.its_name (ap (λ (i : Id). has_handles i ts.tables) x.its_id ∙ has))
+
+  listed : (name : ObjectName) (id : Id) → Contains (rows_of ts.tables o.objects o.births) (name, id) ↔ IsOpenByName (state_of limits l ts o ws) name id
+  listed name id = (
+    λ there. row_open name id (All-contains (IsRow ts.tables o.objects) (rows_of ts.tables o.objects o.births) (name, id) (rows_are ts.tables o.objects o.births) there),
+    open_row name id,
+  )
+
+  pub stands : Stands (state_of limits l ts o ws) (record { objects = o.objects; seen = o.seen; rows = rows })
+  stands = record {
+    slots = (refl, λ k x at. placed_agreed o tied.agreed k x at);
+    counts = λ k x at. own_handles limits l ts o ws rows kept tied k x at;
+    references = λ k x at. (own_blocks limits l ts o ws rows kept tied k x at, held k x at);
+    directory = (
+      subst (λ (rs : Rows). (name : ObjectName) (id : Id) → Contains rs (name, id) ↔ IsOpenByName (state_of limits l ts o ws) name id) (sym kept.listing.same) listed,
+      kept.listing.distinct,
+    );
+  }
