@@ -14,7 +14,7 @@ use Rattle.ob_waits.proofs.Ends.{sizes_settled}
 use Rattle.ob_waits.proofs.References.{settled_counts}
 use Rattle.ob_store.specs.State.{by_slot}
 use Rattle.ob_store.specs.Kept.{IsCounted}
-use Rattle.ob_store.proofs.BySlot.{count_at, count_few, recounted, recounted_one, zero_counts}
+use Rattle.ob_store.proofs.BySlot.{count_at, count_few, counts_long, recounted, recounted_one, zero_counts}
 
 module _ (seen : Objects) (n : ℕ) (ts : List (List (Option Entry))) (ws : List (Option Wait)) (counted : IsCounted seen n ts ws) where
   pub handles_at : (k : ℕ) → k < n → get_or seen.handles k 0 ≡ slot_handles k ts
@@ -22,6 +22,12 @@ module _ (seen : Objects) (n : ℕ) (ts : List (List (Option Entry))) (ws : List
 
   pub blocks_at : (k : ℕ) → k < n → get_or seen.blocks k 0 ≡ slot_blocks k ws
   blocks_at k lt = count_at seen.blocks n (λ i. slot_blocks i ws) k counted.blocks lt
+
+  pub handles_long : length seen.handles ≡ n
+  handles_long = counts_long seen.handles n (λ i. slot_handles i ts) counted.handles
+
+  pub blocks_long : length seen.blocks ≡ n
+  blocks_long = counts_long seen.blocks n (λ i. slot_blocks i ws) counted.blocks
 
   -- no slot counts more handles than the tables have places
   pub handles_few : (processes handles k : ℕ) → IsBounded processes handles ts → get_or seen.handles k 0 < 4294967295

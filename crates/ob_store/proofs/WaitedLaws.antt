@@ -43,7 +43,7 @@ use Rattle.ob_store.proofs.CameLaws.{came_counts, came_long, came_stays}
 use Rattle.ob_store.proofs.CountedLaws.{blocks_at, blocks_long}
 use Rattle.ob_store.proofs.KeptLaws.{handled, same_generations, same_shape, settled_kept}
 use Rattle.ob_store.proofs.NamedLaws.{named_fewer}
-use Rattle.ob_store.proofs.RemovedLaws.{ended_gone}
+use Rattle.ob_store.proofs.LeavingLaws.{ended_gone}
 use Rattle.ob_store.proofs.SettledLaws.{settled_ends}
 
 -- what of each thread's waits stays live when one goes
