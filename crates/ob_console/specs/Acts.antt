@@ -1,11 +1,12 @@
 -- What a line asks for.
+use Rattle.ob_console.specs.Words.{handles_in}
 use Rattle.ob_manager.specs.declared.call.Call.{Call}
 use Rattle.ob_manager.specs.declared.call.Call.TheVariants as call
 use Rattle.ob_manager.specs.Makings.{making_of}
 use Rattle.ob_console.specs.declared.act.Act.{Act as Read}
 use Rattle.ob_console.specs.declared.act.Act.TheVariants as code
 use Rattle.ob_console.specs.declared.act.Ask.{Ask}
-use Rattle.ob_console.specs.declared.act.Ask.TheVariants.{Spawn, StartThread, MakeEvent, MakeMutex, MakeSemaphore, OpenNamed, CloseHandle, SetEvent, ResetEvent, ReleaseSemaphore, ReleaseMutex, Reap, Counts}
+use Rattle.ob_console.specs.declared.act.Ask.TheVariants.{Spawn, Child, StartThread, MakeEvent, MakeMutex, MakeSemaphore, OpenNamed, Duplicate, CloseHandle, SetEvent, ResetEvent, ReleaseSemaphore, ReleaseMutex, WaitFor, WaitResult, Expire, Reap, Counts}
 
 pub data Act : Type 0 where
   Nothing : Act  -- an empty line or a comment, for which nothing is printed
@@ -13,19 +14,24 @@ pub data Act : Type 0 where
   ListNames : Act  -- the names of objects are asked for
   Asks : Call → Act  -- a call
 
--- which call it is, with its name as a list
+-- which call it is, with its name and its handles as lists
 abbrev pub call_in : Ask → Call
 call_in (Spawn session) = call.Spawn session
+call_in (Child thread inherit) = call.Child thread inherit
 call_in (StartThread process) = call.StartThread process
 call_in (MakeEvent thread make manual set) = call.MakeEvent thread (making_of make) manual set
 call_in (MakeMutex thread make owned) = call.MakeMutex thread (making_of make) owned
 call_in (MakeSemaphore thread make initial max) = call.MakeSemaphore thread (making_of make) initial max
 call_in (OpenNamed thread kind mask inherit text) = call.OpenNamed thread kind mask inherit text.now
+call_in (Duplicate thread source handle target mask inherit options) = call.Duplicate thread source handle target mask inherit options
 call_in (CloseHandle thread handle) = call.CloseHandle thread handle
 call_in (SetEvent thread handle) = call.SetEvent thread handle
 call_in (ResetEvent thread handle) = call.ResetEvent thread handle
 call_in (ReleaseSemaphore thread handle count) = call.ReleaseSemaphore thread handle count
 call_in (ReleaseMutex thread handle) = call.ReleaseMutex thread handle
+call_in (WaitFor thread mode timeout handles) = call.WaitFor thread mode timeout (handles_in handles)
+call_in (WaitResult number) = call.WaitResult number
+call_in (Expire number) = call.Expire number
 call_in (Reap slot) = call.Reap slot
 call_in (Counts id) = call.Counts id
 

@@ -4,7 +4,7 @@ use Rattle.std.specs.Str.{bytes_eq}
 use Rattle.ob_rights.specs.declared.rights.Rights.{Rights}
 use Rattle.ob_manager.specs.declared.making.Making.{Making}
 use Rattle.ob_manager.specs.declared.call.Call.{Call}
-use Rattle.ob_manager.specs.declared.call.Call.TheVariants.{Spawn, StartThread, MakeEvent, MakeMutex, MakeSemaphore, OpenNamed, CloseHandle, SetEvent, ResetEvent, ReleaseSemaphore, ReleaseMutex, Reap, Counts}
+use Rattle.ob_manager.specs.declared.call.Call.TheVariants.{Spawn, Child, StartThread, MakeEvent, MakeMutex, MakeSemaphore, OpenNamed, Duplicate, CloseHandle, SetEvent, ResetEvent, ReleaseSemaphore, ReleaseMutex, WaitFor, WaitResult, Expire, Reap, Counts}
 use Rattle.ob_console.specs.Acts.{Act, Nothing, Bad, ListNames, Asks}
 use Rattle.ob_console.specs.Words.{words_of, joined, begins_with, behind, number_of, signed_of, mask_of, kind_of, labelled, id_of, either_of, ◌>>=◌}
 
@@ -48,6 +48,16 @@ spawn_of (session ∷ []) = do
   session ← number_of session
   Some (Spawn session)
 spawn_of (session ∷ more ∷ words) = None
+
+-- `child T inherit|plain`
+abbrev pub child_of : List (List ℕ) → Option Call
+child_of [] = None
+child_of (thread ∷ []) = None
+child_of (thread ∷ inherit ∷ []) = do
+  thread ← labelled 116 thread
+  inherit ← either_of (codes "plain") (codes "inherit") inherit
+  Some (Child thread inherit)
+child_of (thread ∷ inherit ∷ more ∷ words) = None
 
 -- `thread P`
 abbrev pub thread_of : List (List ℕ) → Option Call
@@ -162,24 +172,98 @@ count_of (object ∷ []) = do
   Some (Counts id)
 count_of (object ∷ more ∷ words) = None
 
+-- `P`, or `-` for no target
+abbrev pub target_of : List ℕ → Option (Option ℕ)
+target_of word = if bytes_eq word (codes "-") then Some None else (do
+  process ← labelled 112 word
+  Some (Some process))
+
+-- `same`, which is the option 2, or `M`
+abbrev pub access_of : List ℕ → Option (Rights × ℕ)
+access_of word = if bytes_eq word (codes "same") then Some (no_rights, 2) else (do
+  mask ← mask_of word
+  Some (mask, 0))
+
+-- `[close]`, which is the option 1
+abbrev pub closing_of : List (List ℕ) → Option ℕ
+closing_of [] = Some 0
+closing_of (word ∷ []) = if bytes_eq word (codes "close") then Some 1 else None
+closing_of (word ∷ more ∷ words) = None
+
+-- `dup T P H P|- same|M [inherit] [close]`
+abbrev pub dup_of : List (List ℕ) → Option Call
+dup_of [] = None
+dup_of (thread ∷ []) = None
+dup_of (thread ∷ source ∷ []) = None
+dup_of (thread ∷ source ∷ handle ∷ []) = None
+dup_of (thread ∷ source ∷ handle ∷ target ∷ []) = None
+dup_of (thread ∷ source ∷ handle ∷ target ∷ access ∷ words) = do
+  thread ← labelled 116 thread
+  source ← labelled 112 source
+  handle ← labelled 104 handle
+  target ← target_of target
+  access ← access_of access
+  closing ← closing_of (behind (codes "inherit") words)
+  Some (Duplicate thread source handle target access.0 (begins_with (codes "inherit") words) (access.1 + closing))
+
+-- `any` or `all`
+abbrev pub mode_of : List ℕ → Option Mode
+mode_of word = if bytes_eq word (codes "any") then Some Any else (if bytes_eq word (codes "all") then Some All else None)
+
+-- `0` or `inf`
+abbrev pub timeout_of : List ℕ → Option Timeout
+timeout_of word = if bytes_eq word (codes "0") then Some Zero else (if bytes_eq word (codes "inf") then Some Infinite else None)
+
+-- `wait T any|all 0|inf`, and then handles
+abbrev pub wait_of : List (List ℕ) → Option Call
+wait_of [] = None
+wait_of (thread ∷ []) = None
+wait_of (thread ∷ mode ∷ []) = None
+wait_of (thread ∷ mode ∷ timeout ∷ words) = do
+  thread ← labelled 116 thread
+  mode ← mode_of mode
+  timeout ← timeout_of timeout
+  if are_handles words then Some (WaitFor thread mode timeout (handles_in words)) else None
+
+-- `result W`
+abbrev pub result_of : List (List ℕ) → Option Call
+result_of [] = None
+result_of (number ∷ []) = do
+  number ← labelled 119 number
+  Some (WaitResult number)
+result_of (number ∷ more ∷ words) = None
+
+-- `expire W`
+abbrev pub expire_of : List (List ℕ) → Option Call
+expire_of [] = None
+expire_of (number ∷ []) = do
+  number ← labelled 119 number
+  Some (Expire number)
+expire_of (number ∷ more ∷ words) = None
+
 -- the call that the words of a line ask for
 abbrev pub call_of : List (List ℕ) → Option Call
 call_of [] = None
 call_of (verb ∷ words) =
     if bytes_eq verb (codes "spawn") then spawn_of words
+    else (if bytes_eq verb (codes "child") then child_of words
     else (if bytes_eq verb (codes "thread") then thread_of words
     else (if bytes_eq verb (codes "event") then event_of words
     else (if bytes_eq verb (codes "mutex") then mutex_of words
     else (if bytes_eq verb (codes "semaphore") then semaphore_of words
     else (if bytes_eq verb (codes "open") then open_of words
+    else (if bytes_eq verb (codes "dup") then dup_of words
     else (if bytes_eq verb (codes "close") then close_of words
     else (if bytes_eq verb (codes "set") then set_of words
     else (if bytes_eq verb (codes "reset") then reset_of words
     else (if bytes_eq verb (codes "release") then release_of words
     else (if bytes_eq verb (codes "unlock") then unlock_of words
+    else (if bytes_eq verb (codes "wait") then wait_of words
+    else (if bytes_eq verb (codes "result") then result_of words
+    else (if bytes_eq verb (codes "expire") then expire_of words
     else (if bytes_eq verb (codes "reap") then reap_of words
     else (if bytes_eq verb (codes "count") then count_of words
-    else None))))))))))))
+    else None)))))))))))))))))
 
 abbrev pub asked : Option Call → Act
 asked None = Bad

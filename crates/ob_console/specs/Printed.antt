@@ -9,7 +9,7 @@ use Rattle.ob_name.specs.Names.{Namespace, ObjectName, Global, Session}
 use Rattle.ob_name.specs.Listing.{Rows}
 use Rattle.ob_name.specs.Refs.{row_at}
 use Rattle.ob_manager.specs.declared.reply.Reply.{Reply}
-use Rattle.ob_manager.specs.declared.reply.Reply.TheVariants.{Spawned, Started, Made, Exists, Opened, Closed, Done, Previous, Reaped, CountsAre, Refused}
+use Rattle.ob_manager.specs.declared.reply.Reply.TheVariants.{Spawned, Started, Made, Exists, Opened, Duplicated, Closed, Done, Previous, Code, Pending, Expired, Reaped, CountsAre, Refused}
 use Rattle.ob_console.specs.declared.answer.Answer.{Answer}
 use Rattle.ob_console.specs.declared.answer.Answer.TheVariants.{Replied, BadLine, NameCount, Named}
 
@@ -19,7 +19,7 @@ line_end = 10 ∷ []
 abbrev pub printed_id : Id → List ℕ
 printed_id id = codes "s" ++ decimal id.slot ++ codes "." ++ decimal id.generation
 
--- a new handle: whether the object is new, had the name already, or was opened by its name
+-- a new handle: whether the object is new, had the name already, was opened by its name, or had a handle already
 abbrev pub printed_handle : ℕ → List ℕ → Id → List ℕ
 printed_handle handle how id = codes "h" ++ decimal handle ++ how ++ printed_id id
 
@@ -36,9 +36,13 @@ printed_reply (Started thread) = codes "t" ++ decimal thread
 printed_reply (Made handle id) = printed_handle handle (codes " new ") id
 printed_reply (Exists handle id) = printed_handle handle (codes " exists ") id
 printed_reply (Opened handle id) = printed_handle handle (codes " opened ") id
+printed_reply (Duplicated handle id) = printed_handle handle (codes " dup ") id
 printed_reply Closed = codes "closed"
 printed_reply Done = codes "done"
 printed_reply (Previous count) = codes "previous " ++ decimal count
+printed_reply (Code code) = codes "code " ++ decimal code
+printed_reply (Pending number) = codes "pending w" ++ decimal number
+printed_reply (Expired number) = codes "expired w" ++ decimal number
 printed_reply (Reaped id outcome) = printed_id id ++ printed_reclaim outcome
 printed_reply (CountsAre handles waits hold) = codes "handles " ++ decimal handles ++ codes " waits " ++ decimal waits ++ codes " hold " ++ decimal hold
 printed_reply (Refused fault) = codes "error " ++ decimal (code_of fault)

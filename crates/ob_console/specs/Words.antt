@@ -96,3 +96,11 @@ abbrev pub mask_of : List ℕ → Option Rights
 mask_of [] = None
 mask_of (first ∷ []) = None
 mask_of (first ∷ second ∷ digits) = if (first == 48) && (second == 120) then hex_of digits else None
+
+-- all of these are handles
+abbrev pub are_handles : List (List ℕ) → Bool
+are_handles [] = true
+are_handles (word ∷ words) = is_some (labelled 104 word) && are_handles words
+
+abbrev pub handles_in : List (List ℕ) → List ℕ
+handles_in words = map (λ word. unwrap_or 0 (labelled 104 word)) words

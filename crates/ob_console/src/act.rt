@@ -1,4 +1,5 @@
-use ob_manager::Make;
+use crate::words::Words;
+use ob_manager::{Make, Mode, Timeout};
 use ob_rights::{Kind, Rights};
 use pin_core::Id;
 
@@ -15,11 +16,15 @@ pub enum Act<'a> {
     Ask(Ask<'a>),
 }
 
-/// A call of the manager, with a name that stands in the line.
+/// A call of the manager, with names and handles as they stand in the line.
 #[derive(Clone, Copy, Debug)]
 pub enum Ask<'a> {
     Spawn {
         session: u32,
+    },
+    Child {
+        thread: u32,
+        inherit: bool,
     },
     StartThread {
         process: u32,
@@ -48,6 +53,15 @@ pub enum Ask<'a> {
         inherit: bool,
         text: &'a [u8],
     },
+    Duplicate {
+        thread: u32,
+        source: u32,
+        handle: u32,
+        target: Option<u32>,
+        mask: Rights,
+        inherit: bool,
+        options: u32,
+    },
     CloseHandle {
         thread: u32,
         handle: u32,
@@ -68,6 +82,19 @@ pub enum Ask<'a> {
     ReleaseMutex {
         thread: u32,
         handle: u32,
+    },
+    /// Each word is a handle.
+    WaitFor {
+        thread: u32,
+        mode: Mode,
+        timeout: Timeout,
+        handles: Words<'a>,
+    },
+    WaitResult {
+        wait: u32,
+    },
+    Expire {
+        wait: u32,
     },
     Reap {
         slot: u32,

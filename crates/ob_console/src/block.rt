@@ -107,11 +107,24 @@ impl Block {
             Reply::Made { handle, id } => self.handle(handle, b" new ", id),
             Reply::Exists { handle, id } => self.handle(handle, b" exists ", id),
             Reply::Opened { handle, id } => self.handle(handle, b" opened ", id),
+            Reply::Duplicated { handle, id } => self.handle(handle, b" dup ", id),
             Reply::Closed => self.text(b"closed"),
             Reply::Done => self.text(b"done"),
             Reply::Previous { count } => {
                 self.text(b"previous ");
                 self.number(u128::from(count));
+            }
+            Reply::Code { code } => {
+                self.text(b"code ");
+                self.number(u128::from(code));
+            }
+            Reply::Pending { wait } => {
+                self.text(b"pending w");
+                self.number(u128::from(wait));
+            }
+            Reply::Expired { wait } => {
+                self.text(b"expired w");
+                self.number(u128::from(wait));
             }
             Reply::Reaped { id, outcome } => {
                 self.id(id);

@@ -1,4 +1,6 @@
-ghost use Rattle.std.specs.Prelude.{◌≡◌, ◌+◌, ◌<◌, ◌≤◌, ◌++◌, ◌⊎◌, List, ℕ, IfOk, OnOk, IsErrOf, vec_len};
+ghost use Rattle.std.specs.Prelude.{◌≡◌, ◌+◌, ◌<◌, ◌≤◌, ◌++◌, ◌⊎◌, [], List, ℕ, IfOk, OnOk, IsErrOf, length, vec_len};
+ghost use Rattle.ob_store.specs.declared.limits.Limits.{Limits};
+ghost use Rattle.ob_console.specs.Sessions.{Session};
 ghost use Rattle.ob_console.specs.Runs.{IsEnded};
 
 use crate::console::Console;
@@ -67,9 +69,33 @@ pub fn run_bounded<R: Source, W: Sink>(
     let Ok(mut block) = zeros(alloc, BLOCK) else {
         return Err(RunFault::Memory);
     };
+    answer_all(&mut console, &mut block, reads, reader, writer)
+}
+
+/// Answers a script block by block, from a console of which no line has come, with at most so many reads.
+fn answer_all<R: Source, W: Sink>(
+    console: &mut Console,
+    block: &mut [u8],
+    reads: u64,
+    reader: &mut R,
+    writer: &mut W,
+) -> Result<(), RunFault>
+    requires lines { console.old.lines ≡ 0 }
+    requires pending { console.old.pending.bytes ≡ [] }
+    requires block { length block.old ≡ BLOCK }
+    ensures answers { (limits : Limits) → Session limits [] [] console.old →
+        (input output : List ℕ) × (R.given reader.new ≡ R.given reader.old ++ input) × (W.taken writer.new ≡ W.taken writer.old ++ output)
+        × IsEnded result limits input output }
+    ensures ended { OnOk result (R.HasEnded reader.new) }
+    ensures memory { IsErrOf result RunFault.Memory → ⊥ }
+    ensures read { IsErrOf result RunFault.Read → (R.faults reader.old < R.faults reader.new) ⊎ (R.calls reader.new ≡ R.calls reader.old + reads) }
+    ensures write { IsErrOf result RunFault.Write → (W.faults writer.old < W.faults writer.new) ⊎ (console.new.pending.writes_left ≡ 0) }
+    ensures reads { R.calls reader.new ≤ R.calls reader.old + reads }
+    ensures writes { W.calls writer.new + console.new.pending.writes_left ≡ W.calls writer.old + console.old.pending.writes_left }
+{
     for i in 0..reads {
         let _turn = i;
-        match reader.read(&mut block) {
+        match reader.read(block) {
             Ok(0) => match console.finish(writer) {
                 Ok(()) => return Ok(()),
                 Err(_) => return Err(RunFault::Write),
