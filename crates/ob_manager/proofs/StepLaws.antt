@@ -193,6 +193,8 @@ outcome_answers s (calls.SetEvent t h) reply = search (andThen, caller_wants, fo
 outcome_answers s (calls.ResetEvent t h) reply = search (andThen, caller_wants, found_wants, kind_wants, refuse_wants)
 outcome_answers s (calls.ReleaseSemaphore t h count) reply = search (andThen, caller_wants, or_wants, found_wants, kind_wants, refuse_wants, post_wants) depth 8
 outcome_answers s (calls.ReleaseMutex t h) reply = search (andThen, caller_wants, found_wants, kind_wants, unlock_wants)
+outcome_answers s (calls.EndThread t) reply = search (andThen, or_wants)
+outcome_answers s (calls.Exit p) reply = search (andThen, or_wants)
 outcome_answers s (calls.Reap slot) reply = search (andThen, refuse_wants, ended_wants)
 outcome_answers s (calls.Counts id) reply = search (andThen, refuse_wants, or_wants)
 

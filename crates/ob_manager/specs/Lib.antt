@@ -7,5 +7,6 @@ pub mod Handles
 pub mod Copying
 pub mod Signaling
 pub mod Counting
+pub mod Ending
 pub mod Reaping
 pub mod Steps
