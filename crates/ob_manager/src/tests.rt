@@ -1,3 +1,6 @@
+mod copies;
+mod ends;
+
 use super::*;
 use ob_rights::{Fault, Kind, Rights};
 use pin_core::{Descr, Id};
