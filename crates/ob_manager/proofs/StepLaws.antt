@@ -224,6 +224,8 @@ outcome_answers s (calls.ReleaseMutex t h) reply = search (andThen, caller_wants
 outcome_answers s (calls.WaitFor t mode timeout handles) reply = search (andThen, caller_wants, refuse_wants, objects_wants, wait_answers)
 outcome_answers s (calls.WaitResult n) reply = search (andThen, or_wants, shown_answers)
 outcome_answers s (calls.Expire n) reply = search (andThen, refuse_wants)
+outcome_answers s (calls.EndThread t) reply = search (andThen, or_wants)
+outcome_answers s (calls.Exit p) reply = search (andThen, or_wants)
 outcome_answers s (calls.Reap slot) reply = search (andThen, refuse_wants, ended_wants)
 outcome_answers s (calls.Counts id) reply = search (andThen, refuse_wants, or_wants)
 

@@ -7,6 +7,7 @@ pub mod Handles
 pub mod Copying
 pub mod Signaling
 pub mod Counting
+pub mod Ending
 pub mod Reaping
 pub mod Waiting
 pub mod Steps

@@ -6,7 +6,7 @@ use Rattle.pin_words.specs.declared.pin_keeper.Reclaim.TheVariants as reclaim
 use Rattle.ob_rights.specs.declared.fault.Fault.{Fault}
 use Rattle.ob_rights.specs.declared.fault.Fault.TheVariants as fault
 use Rattle.ob_manager.specs.declared.reply.Reply.{Reply}
-use Rattle.ob_manager.specs.declared.reply.Reply.TheVariants.{Spawned, Started, Made, Exists, Opened, Duplicated, Closed, Done, Previous, Code, Pending, Expired, Reaped, CountsAre, Refused}
+use Rattle.ob_manager.specs.declared.reply.Reply.TheVariants.{Spawned, Started, Made, Exists, Opened, Duplicated, Closed, Done, Previous, Code, Pending, Expired, Ended, Exited, Reaped, CountsAre, Refused}
 use Rattle.ob_manager.specs.declared.call.Call.{Call}
 use Rattle.ob_manager.specs.declared.call.Call.TheVariants as calls
 use Rattle.ob_store.specs.Objects.{Object}
@@ -19,6 +19,7 @@ use Rattle.ob_manager.specs.Handles.{close}
 use Rattle.ob_manager.specs.Copying.{duplicate, is_copy}
 use Rattle.ob_manager.specs.Signaling.{set_event, reset_event, release_semaphore, release_mutex}
 use Rattle.ob_manager.specs.Counting.{counts}
+use Rattle.ob_manager.specs.Ending.{end_thread, exit}
 use Rattle.ob_manager.specs.Reaping.{reap}
 use Rattle.ob_manager.specs.Waiting.{becomes_pending, expire, wait, wait_result}
 
@@ -45,6 +46,8 @@ outcome_of s (calls.ReleaseMutex thread handle) reply = release_mutex s thread h
 outcome_of s (calls.WaitFor thread mode timeout handles) reply = wait s thread mode timeout handles
 outcome_of s (calls.WaitResult number) reply = wait_result s number
 outcome_of s (calls.Expire number) reply = expire s number
+outcome_of s (calls.EndThread thread) reply = end_thread s thread
+outcome_of s (calls.Exit process) reply = exit s process
 outcome_of s (calls.Reap slot) reply = reap s slot (reclaim_in reply)
 outcome_of s (calls.Counts id) reply = counts s id
 
@@ -66,6 +69,8 @@ takes_memory s (calls.ReleaseMutex thread handle) = false
 takes_memory s (calls.WaitFor thread mode timeout handles) = becomes_pending (wait s thread mode timeout handles)
 takes_memory s (calls.WaitResult number) = false
 takes_memory s (calls.Expire number) = false
+takes_memory s (calls.EndThread thread) = false
+takes_memory s (calls.Exit process) = false
 takes_memory s (calls.Reap slot) = false
 takes_memory s (calls.Counts id) = false
 
@@ -96,6 +101,8 @@ Keeps Done s k k' = OnlyCloses k k'
 Keeps (Previous count) s k k' = OnlyCloses k k'
 Keeps (Code code) s k k' = OnlyCloses k k'
 Keeps (Expired number) s k k' = OnlyCloses k k'
+Keeps (Ended thread) s k k' = OnlyCloses k k'
+Keeps (Exited process) s k k' = OnlyCloses k k'
 
 abbrev pub is_duplicate : Call → Bool
 is_duplicate (calls.Duplicate thread source handle target mask inherit options) = true

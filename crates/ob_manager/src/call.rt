@@ -143,6 +143,16 @@ pub enum Call {
         /// The wait.
         wait: u32,
     },
+    /// `Manager::end_thread`.
+    EndThread {
+        /// The thread.
+        thread: u32,
+    },
+    /// `Manager::exit`.
+    Exit {
+        /// The process.
+        process: u32,
+    },
     /// `Manager::reap`.
     Reap {
         /// The slot.

@@ -18,6 +18,7 @@ mod children;
 mod copying;
 mod counting;
 mod creating;
+mod ending;
 mod handles;
 mod law;
 mod making;

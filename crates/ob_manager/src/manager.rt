@@ -20,7 +20,7 @@ use crate::making::{Make, Making};
 use crate::reply::Reply;
 use crate::waiting::Timeout;
 use crate::{
-    children, copying, counting, creating, handles, processes, reaping, signaling, waiting,
+    children, copying, counting, creating, ending, handles, processes, reaping, signaling, waiting,
 };
 use ob_name::{NameRef, Rows};
 use ob_rights::{Fault, Kind, Rights};
@@ -35,7 +35,7 @@ use std::marker::Model;
 /// says.
 ///
 /// Each call is one step (`specs/Steps.antt`), whose refusals are tested in the order in which they are listed. A refusal
-/// changes nothing.
+/// changes nothing, but that a [`duplicate`](Manager::duplicate) may close its source.
 #[derive(Drop)]
 pub struct Manager<K: PinKeeper> {
     pub(crate) store: Store<K>,
@@ -326,6 +326,31 @@ impl<K: PinKeeper> Manager<K> {
         waiting::is_pending(&self.store, wait)
     }
 
+    /// Ends a thread: `Ended`. Its wait is dropped, answered or not; then the mutexes that it owns are abandoned
+    /// ([Mutex Objects]), and who waits may get them. With its last thread a process ends, as by [`exit`](Manager::exit).
+    ///
+    /// Refused with 87 where the thread isn't live. A thread that waits may be ended (*profile*).
+    ///
+    /// [Mutex Objects]: https://learn.microsoft.com/windows/win32/sync/mutex-objects
+    pub fn end_thread(&mut self, thread: u32) -> Reply
+        ensures { Step self.old (Call.EndThread thread) result self.new }
+    {
+        reply_of(ending::end_thread(&mut self.store, thread))
+    }
+
+    /// Ends a process: `Exited`. Its threads end by rising number, as by [`end_thread`](Manager::end_thread), then its handles
+    /// are closed by rising value, and then who waits may get what is signaled (the order is *profile*; [Terminating a
+    /// Process] has what is done).
+    ///
+    /// Refused with 87 where the process isn't live.
+    ///
+    /// [Terminating a Process]: https://learn.microsoft.com/windows/win32/procthread/terminating-a-process
+    pub fn exit(&mut self, process: u32) -> Reply
+        ensures { Step self.old (Call.Exit process) result self.new }
+    {
+        reply_of(ending::exit(&mut self.store, process))
+    }
+
     /// Takes the slot of an object that nothing refers to back, unless somebody pins it: `Reaped` (*profile*).
     ///
     /// Refused with 87 where there is no such slot, and with 6 where it has no such object.
@@ -444,6 +469,8 @@ impl<K: PinKeeper> Manager<K> {
             } => self.wait(*thread, *mode, *timeout, handles.as_slice()),
             Call::WaitResult { wait } => self.wait_result(*wait),
             Call::Expire { wait } => self.expire(*wait),
+            Call::EndThread { thread } => self.end_thread(*thread),
+            Call::Exit { process } => self.exit(*process),
             Call::Reap { slot } => self.reap(*slot),
             Call::Counts { id } => self.counts(*id),
         }

@@ -72,6 +72,16 @@ pub enum Reply {
         /// Its number.
         wait: u32,
     },
+    /// A thread has ended.
+    Ended {
+        /// The thread.
+        thread: u32,
+    },
+    /// A process has ended.
+    Exited {
+        /// The process.
+        process: u32,
+    },
     /// A slot was to be taken back.
     Reaped {
         /// The object that was in it.
@@ -88,6 +98,6 @@ pub enum Reply {
         /// 1 where neither does, else 0.
         hold: u32,
     },
-    /// The call was refused, and nothing has changed.
+    /// The call was refused, and nothing has changed, but that a duplicate may have closed its source.
     Refused(Fault),
 }

@@ -1,4 +1,6 @@
 mod applying;
+mod copies;
+mod ends;
 
 use super::*;
 use ob_rights::{Fault, Kind, Rights};
