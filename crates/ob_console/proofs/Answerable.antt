@@ -1,5 +1,5 @@
 -- Every call may be answered, in any state whose slots may be pinned at all; and no call changes the shape of the slots.
-use Rattle.std.proofs.Common.{◌≡◌, ℕ, ◌<◌, true, Option, Some, None, Result, Ok, Err, inl, refl, ap, arith}
+use Rattle.std.proofs.Common.{◌≡◌, ℕ, ◌<◌, List, Bool, true, false, cond, not, Option, Some, None, Result, Ok, Err, inl, refl, ap, arith}
 use Rattle.std.specs.Prelude.{is_ok, nat_le, slice_index_or}
 use Rattle.pin_core.specs.declared.id.Id.{Id}
 use Rattle.pin_words.specs.declared.pin_keeper.Reclaim.{Reclaim}
@@ -10,19 +10,34 @@ use Rattle.ob_rights.specs.declared.fault.Fault.TheVariants as fault
 use Rattle.ob_rights.specs.declared.kind.Kind.TheVariants as kind
 use Rattle.ob_body.specs.Body.{post_answer, unlock_answer}
 use Rattle.ob_store.specs.Objects.{Object}
-use Rattle.ob_store.specs.State.{State, Whole, settled}
+use Rattle.ob_store.specs.State.{State, Whole, settled, with_entry}
 use Rattle.ob_store.specs.Moves.{after_reclaim}
+use Rattle.ob_rights.specs.declared.rights.Rights.{Rights}
+use Rattle.ob_tables.specs.declared.entry.Entry.{Entry}
+use Rattle.ob_waits.specs.declared.wait.Mode.{Mode}
+use Rattle.ob_waits.specs.declared.wait.WaitState.{WaitState}
+use Rattle.ob_waits.specs.declared.wait.WaitState.TheVariants as stands
+use Rattle.ob_waits.specs.Waits.{is_pending, list_ready, state_at}
+use Rattle.ob_store.specs.State.{is_full}
+use Rattle.ob_store.specs.Waiting.{are_waits_given}
+use Rattle.ob_manager.specs.declared.waiting.Timeout.{Timeout}
+use Rattle.ob_manager.specs.declared.waiting.Timeout.TheVariants.{Zero, Infinite}
 use Rattle.ob_manager.specs.declared.call.Call.{Call}
 use Rattle.ob_manager.specs.declared.call.Call.TheVariants as calls
 use Rattle.ob_manager.specs.declared.reply.Reply.{Reply}
-use Rattle.ob_manager.specs.declared.reply.Reply.TheVariants.{Spawned, Started, Made, Exists, Opened, Closed, Done, Previous, Reaped, CountsAre, Refused}
+use Rattle.ob_manager.specs.declared.reply.Reply.TheVariants.{Spawned, Started, Made, Exists, Opened, Duplicated, Closed, Done, Previous, Code, Pending, Expired, Ended, Exited, Reaped, CountsAre, Refused}
 use Rattle.ob_manager.specs.Outcomes.{Outcome, ◌>>=◌, or_refuse, refuse_if}
 use Rattle.ob_manager.specs.Checks.{caller, found, body_of, granted, positive}
 use Rattle.ob_manager.specs.Handles.{close}
+use Rattle.ob_manager.specs.Copying as copying
+use Rattle.ob_manager.specs.Copying.{admitted, copied_to, duplicate, is_wrong, with_source, without_source}
+use Rattle.ob_manager.specs.Waiting as waiting
+use Rattle.ob_manager.specs.Waiting.{have_room, is_for_one_twice, is_misshapen, objects_of, satisfied, shown, unsatisfied, wait, wait_on, wait_result}
+use Rattle.ob_manager.specs.Ending.{end_thread, exit}
 use Rattle.ob_manager.specs.Signaling.{modify_state, set_event, reset_event, release_semaphore, release_mutex}
 use Rattle.ob_manager.specs.Counting.{counts, object_of}
 use Rattle.ob_manager.specs.Reaping.{if_ended, reap}
-use Rattle.ob_manager.specs.Steps.{Step, does, lacks, outcome_of, takes_memory, final, Keeps, Publishes}
+use Rattle.ob_manager.specs.Steps.{Step, does, closes, lacks, outcome_of, takes_memory, final, Keeps, Publishes}
 
 -- an answer to a call
 pub record CanAnswer (w : Whole) (call : Call) : Type 0 where
@@ -45,7 +60,7 @@ answered w call (Ok outcome) is rests = record { reply = outcome.reply; next = r
 answered w call (Err fault) is rests = record { reply = Refused fault; next = w; step = does (ap (final w.state) (is (Refused fault))) refl }
 
 -- a call that takes memory, where it is wanting
-refused : (w : Whole) (call : Call) (outcome : Result Outcome Fault) → takes_memory call ≡ true → ((reply : Reply) → outcome_of w.state call reply ≡ outcome) → CanAnswer w call
+refused : (w : Whole) (call : Call) (outcome : Result Outcome Fault) → takes_memory w.state call ≡ true → ((reply : Reply) → outcome_of w.state call reply ≡ outcome) → CanAnswer w call
 refused w call (Ok outcome) takes is = record { reply = Refused fault.Memory; next = w; step = lacks takes (ap is_ok (is (Refused fault.Memory))) refl refl }
 refused w call (Err fault) takes is = record { reply = Refused fault; next = w; step = does (ap (final w.state) (is (Refused fault))) refl }
 
@@ -62,13 +77,52 @@ held_back w slot (Ok unit) (Ok id) pins is = record {
   step = does (ap (final w.state) (is (reclaim.Held 1))) (refl, omega arith, omega (arith, pins), inl refl);
 }
 
+-- a wait, satisfied or not
+unsatisfied_rests : (s : State) (thread : ℕ) (mode : Mode) (timeout : Timeout) (ids : List Id) (k : KeeperState) → Rests (unsatisfied s thread mode timeout ids) k
+unsatisfied_rests s thread mode Zero ids k = refl
+unsatisfied_rests s thread mode Infinite ids k = rests_behind k (refuse_if (are_waits_given s) fault.Limit) _ (λ given. refl)
+
+wait_rests : (s : State) (thread : ℕ) (mode : Mode) (timeout : Timeout) (ids : List Id) (k : KeeperState) → Rests (wait_on s thread mode timeout ids) k
+wait_rests s thread mode timeout ids k =
+    rests_behind k (refuse_if (is_for_one_twice mode ids) fault.Parameter) _ (λ once.
+    rests_behind k (refuse_if (not (have_room s thread ids)) fault.Limit) _ (λ room. by (list_ready mode thread s.bodies ids)))
+  where
+    by : (ready : Bool) → Rests (cond ready (satisfied s thread mode ids) (unsatisfied s thread mode timeout ids)) k
+    by true = refl
+    by false = unsatisfied_rests s thread mode timeout ids k
+
+shown_rests : (s : State) (number : ℕ) (x : WaitState) (k : KeeperState) → Rests (Ok (shown s number x)) k
+shown_rests s number stands.Pending k = refl
+shown_rests s number (stands.Answered code) k = refl
+
+-- a duplicate, which may close its source
+copy_rests : (s : State) (entry : Entry) (source handle : ℕ) (target : Option ℕ) (mask : Rights) (inherit : Bool) (options : ℕ) (k : KeeperState) (closing : Bool) →
+    Rests (cond closing (Ok (without_source s source handle (copied_to s entry target mask inherit options))) (with_source (copied_to s entry target mask inherit options))) k
+copy_rests s entry source handle None mask inherit options k true = refl
+copy_rests s entry source handle None mask inherit options k false = refl
+copy_rests s entry source handle (Some target) mask inherit options k closing = by closing (admitted s entry target mask options)
+  where
+    copy : Rights → Result Outcome Fault
+    copy rights = Ok (record { reply = Duplicated (next_handle s target) entry.id; state = with_entry s target (entry_of entry.id rights inherit) })
+    by : (closing : Bool) (rights : Result Rights Fault) → Rests (cond closing (Ok (without_source s source handle (rights >>= copy))) (with_source (rights >>= copy))) k
+    by true (Ok rights) = refl
+    by true (Err e) = refl
+    by false (Ok rights) = refl
+    by false (Err e) = tt
+
 pub can_answer : (w : Whole) (call : Call) → 0 < w.keeper.shape.max_pins → CanAnswer w call
 can_answer w (calls.Spawn session) pins = refused w (calls.Spawn session) _ refl (λ reply. refl)
+can_answer w (calls.Child thread inherit) pins = refused w (calls.Child thread inherit) _ refl (λ reply. refl)
 can_answer w (calls.StartThread process) pins = refused w (calls.StartThread process) _ refl (λ reply. refl)
 can_answer w (calls.MakeEvent thread make manual set) pins = refused w (calls.MakeEvent thread make manual set) _ refl (λ reply. refl)
 can_answer w (calls.MakeMutex thread make owned) pins = refused w (calls.MakeMutex thread make owned) _ refl (λ reply. refl)
 can_answer w (calls.MakeSemaphore thread make initial max) pins = refused w (calls.MakeSemaphore thread make initial max) _ refl (λ reply. refl)
 can_answer w (calls.OpenNamed thread kind mask inherit text) pins = refused w (calls.OpenNamed thread kind mask inherit text) _ refl (λ reply. refl)
+can_answer w (calls.Duplicate thread source handle target mask inherit options) pins =
+    answered w (calls.Duplicate thread source handle target mask inherit options) (duplicate w.state thread source handle target mask inherit options) (λ reply. refl)
+    (rests_behind w.keeper (caller w.state thread) _ (λ process. rests_behind w.keeper (or_refuse (slice_index_or w.state.processes source None) fault.Parameter) _ (λ session.
+    rests_behind w.keeper (refuse_if (is_wrong options target) fault.Parameter) _ (λ right. rests_behind w.keeper (found w.state source handle) _ (λ entry.
+    copy_rests w.state entry source handle target mask inherit options w.keeper (copying.closes options))))))
 can_answer w (calls.CloseHandle thread handle) pins = answered w (calls.CloseHandle thread handle) (close w.state thread handle) (λ reply. refl)
     (rests_behind w.keeper (caller w.state thread) _ (λ process. rests_behind w.keeper (found w.state process handle) _ (λ entry. refl)))
 can_answer w (calls.SetEvent thread handle) pins = answered w (calls.SetEvent thread handle) (set_event w.state thread handle) (λ reply. refl)
@@ -83,6 +137,17 @@ can_answer w (calls.ReleaseSemaphore thread handle count) pins = answered w (cal
 can_answer w (calls.ReleaseMutex thread handle) pins = answered w (calls.ReleaseMutex thread handle) (release_mutex w.state thread handle) (λ reply. refl)
     (rests_behind w.keeper (caller w.state thread) _ (λ process. rests_behind w.keeper (found w.state process handle) _ (λ entry.
     rests_behind w.keeper (body_of w.state entry.id kind.Mutex) _ (λ mutex. rests_behind w.keeper (unlock_answer thread mutex) _ (λ released. refl)))))
+can_answer w (calls.WaitFor thread mode timeout handles) pins = answered w (calls.WaitFor thread mode timeout handles) (wait w.state thread mode timeout handles) (λ reply. refl)
+    (rests_behind w.keeper (caller w.state thread) _ (λ process. rests_behind w.keeper (refuse_if (is_misshapen handles) fault.Parameter) _ (λ shaped.
+    rests_behind w.keeper (objects_of w.state process handles) _ (λ ids. wait_rests w.state thread mode timeout ids w.keeper))))
+can_answer w (calls.WaitResult number) pins = answered w (calls.WaitResult number) (wait_result w.state number) (λ reply. refl)
+    (rests_behind w.keeper (or_refuse (state_at (slice_index_or w.state.waits number None)) fault.Parameter) _ (λ x. shown_rests w.state number x w.keeper))
+can_answer w (calls.Expire number) pins = answered w (calls.Expire number) (waiting.expire w.state number) (λ reply. refl)
+    (rests_behind w.keeper (refuse_if (not (is_pending (slice_index_or w.state.waits number None))) fault.Parameter) _ (λ pending. refl))
+can_answer w (calls.EndThread thread) pins = answered w (calls.EndThread thread) (end_thread w.state thread) (λ reply. refl)
+    (rests_behind w.keeper (or_refuse (slice_index_or w.state.threads thread None) fault.Parameter) _ (λ process. refl))
+can_answer w (calls.Exit process) pins = answered w (calls.Exit process) (exit w.state process) (λ reply. refl)
+    (rests_behind w.keeper (or_refuse (slice_index_or w.state.processes process None) fault.Parameter) _ (λ session. refl))
 can_answer w (calls.Reap slot) pins = held_back w slot (refuse_if (nat_le w.state.limits.slots slot) fault.Parameter) (if_ended (slice_index_or w.state.objects slot None) (slice_index_or w.state.bodies slot None)) pins (λ outcome. refl)
 can_answer w (calls.Counts id) pins = answered w (calls.Counts id) (counts w.state id) (λ reply. refl)
     (rests_behind w.keeper (refuse_if (nat_le w.state.limits.slots id.slot) fault.Parameter) _ (λ there. rests_behind w.keeper (or_refuse (object_of w.state id) fault.Handle) _ (λ found. refl)))
@@ -104,6 +169,12 @@ keeps_shape (Spawned process thread) s k k' keeps = ap (λ (k : KeeperState). k.
 keeps_shape (Started thread) s k k' keeps = ap (λ (k : KeeperState). k.shape) keeps
 keeps_shape (Exists handle id) s k k' keeps = ap (λ (k : KeeperState). k.shape) keeps
 keeps_shape (Opened handle id) s k k' keeps = ap (λ (k : KeeperState). k.shape) keeps
+keeps_shape (Duplicated handle id) s k k' keeps = ap (λ (k : KeeperState). k.shape) keeps
+keeps_shape (Code code) s k k' keeps = ap (λ (k : KeeperState). k.shape) keeps
+keeps_shape (Pending number) s k k' keeps = ap (λ (k : KeeperState). k.shape) keeps
+keeps_shape (Expired number) s k k' keeps = ap (λ (k : KeeperState). k.shape) keeps
+keeps_shape (Ended thread) s k k' keeps = ap (λ (k : KeeperState). k.shape) keeps
+keeps_shape (Exited process) s k k' keeps = ap (λ (k : KeeperState). k.shape) keeps
 keeps_shape (CountsAre handles waits hold) s k k' keeps = ap (λ (k : KeeperState). k.shape) keeps
 keeps_shape (Refused fault) s k k' keeps = ap (λ (k : KeeperState). k.shape) keeps
 keeps_shape Closed s k k' keeps = ap (λ (k : KeeperState). k.shape) keeps
@@ -112,4 +183,5 @@ keeps_shape (Previous count) s k k' keeps = ap (λ (k : KeeperState). k.shape) k
 
 pub step_shape : (w : Whole) (call : Call) (reply : Reply) (v : Whole) → Step w call reply v → v.keeper.shape ≡ w.keeper.shape
 step_shape w call reply v (does outcome keeps) = keeps_shape reply v.state w.keeper v.keeper keeps
+step_shape w call reply v (closes is comes keeps) = ap (λ (k : KeeperState). k.shape) keeps
 step_shape w call reply v (lacks takes there fault same) = ap (λ (whole : Whole). whole.keeper.shape) same

@@ -6,6 +6,7 @@ pub mod Texts
 pub mod Written
 pub mod Flushed
 pub mod Lines
+pub mod Waited
 pub mod Answerable
 pub mod Going
 pub mod Advancing

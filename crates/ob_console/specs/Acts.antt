@@ -1,12 +1,13 @@
 -- What a line asks for.
 use Rattle.ob_console.specs.Words.{handles_in}
+use Rattle.ob_console.specs.WordsLeft.{words_left}
 use Rattle.ob_manager.specs.declared.call.Call.{Call}
 use Rattle.ob_manager.specs.declared.call.Call.TheVariants as call
 use Rattle.ob_manager.specs.Makings.{making_of}
 use Rattle.ob_console.specs.declared.act.Act.{Act as Read}
 use Rattle.ob_console.specs.declared.act.Act.TheVariants as code
 use Rattle.ob_console.specs.declared.act.Ask.{Ask}
-use Rattle.ob_console.specs.declared.act.Ask.TheVariants.{Spawn, Child, StartThread, MakeEvent, MakeMutex, MakeSemaphore, OpenNamed, Duplicate, CloseHandle, SetEvent, ResetEvent, ReleaseSemaphore, ReleaseMutex, WaitFor, WaitResult, Expire, Reap, Counts}
+use Rattle.ob_console.specs.declared.act.Ask.TheVariants.{Spawn, Child, StartThread, MakeEvent, MakeMutex, MakeSemaphore, OpenNamed, Duplicate, CloseHandle, SetEvent, ResetEvent, ReleaseSemaphore, ReleaseMutex, WaitFor, WaitResult, Expire, EndThread, Exit, Reap, Counts}
 
 pub data Act : Type 0 where
   Nothing : Act  -- an empty line or a comment, for which nothing is printed
@@ -29,9 +30,11 @@ call_in (SetEvent thread handle) = call.SetEvent thread handle
 call_in (ResetEvent thread handle) = call.ResetEvent thread handle
 call_in (ReleaseSemaphore thread handle count) = call.ReleaseSemaphore thread handle count
 call_in (ReleaseMutex thread handle) = call.ReleaseMutex thread handle
-call_in (WaitFor thread mode timeout handles) = call.WaitFor thread mode timeout (handles_in handles)
+call_in (WaitFor thread mode timeout rest) = call.WaitFor thread mode timeout (handles_in (words_left rest))
 call_in (WaitResult number) = call.WaitResult number
 call_in (Expire number) = call.Expire number
+call_in (EndThread thread) = call.EndThread thread
+call_in (Exit process) = call.Exit process
 call_in (Reap slot) = call.Reap slot
 call_in (Counts id) = call.Counts id
 

@@ -1,12 +1,16 @@
 -- The grammar of a script: what each line is.
-use Rattle.std.specs.Prelude.{ℕ, ◌-◌, ◌==◌, ◌||◌, nat_lt, List, [], ◌∷◌, Option, Some, None, if◌then◌else◌, length, codes, slice_index, take}
+use Rattle.std.specs.Prelude.{ℕ, ◌+◌, ◌-◌, ◌==◌, ◌||◌, nat_lt, List, [], ◌∷◌, Option, Some, None, if◌then◌else◌, length, codes, slice_index, take}
 use Rattle.std.specs.Str.{bytes_eq}
 use Rattle.ob_rights.specs.declared.rights.Rights.{Rights}
+use Rattle.ob_waits.specs.declared.wait.Mode.{Mode}
+use Rattle.ob_waits.specs.declared.wait.Mode.TheVariants.{Any, All}
+use Rattle.ob_manager.specs.declared.waiting.Timeout.{Timeout}
+use Rattle.ob_manager.specs.declared.waiting.Timeout.TheVariants.{Zero, Infinite}
 use Rattle.ob_manager.specs.declared.making.Making.{Making}
 use Rattle.ob_manager.specs.declared.call.Call.{Call}
-use Rattle.ob_manager.specs.declared.call.Call.TheVariants.{Spawn, Child, StartThread, MakeEvent, MakeMutex, MakeSemaphore, OpenNamed, Duplicate, CloseHandle, SetEvent, ResetEvent, ReleaseSemaphore, ReleaseMutex, WaitFor, WaitResult, Expire, Reap, Counts}
+use Rattle.ob_manager.specs.declared.call.Call.TheVariants.{Spawn, Child, StartThread, MakeEvent, MakeMutex, MakeSemaphore, OpenNamed, Duplicate, CloseHandle, SetEvent, ResetEvent, ReleaseSemaphore, ReleaseMutex, WaitFor, WaitResult, Expire, EndThread, Exit, Reap, Counts}
 use Rattle.ob_console.specs.Acts.{Act, Nothing, Bad, ListNames, Asks}
-use Rattle.ob_console.specs.Words.{words_of, joined, begins_with, behind, number_of, signed_of, mask_of, kind_of, labelled, id_of, either_of, ◌>>=◌}
+use Rattle.ob_console.specs.Words.{words_of, joined, begins_with, behind, number_of, signed_of, mask_of, kind_of, labelled, id_of, either_of, are_handles, handles_in, ◌>>=◌}
 
 -- `[KEYWORD M]`: the mask, where there is one, and the words behind it
 abbrev pub some_mask : List (List ℕ) → Option (Option Rights × List (List ℕ))
@@ -180,7 +184,7 @@ target_of word = if bytes_eq word (codes "-") then Some None else (do
 
 -- `same`, which is the option 2, or `M`
 abbrev pub access_of : List ℕ → Option (Rights × ℕ)
-access_of word = if bytes_eq word (codes "same") then Some (no_rights, 2) else (do
+access_of word = if bytes_eq word (codes "same") then Some (record { 0 = 0 }, 2) else (do
   mask ← mask_of word
   Some (mask, 0))
 
@@ -225,6 +229,22 @@ wait_of (thread ∷ mode ∷ timeout ∷ words) = do
   timeout ← timeout_of timeout
   if are_handles words then Some (WaitFor thread mode timeout (handles_in words)) else None
 
+-- `endthread T`
+abbrev pub endthread_of : List (List ℕ) → Option Call
+endthread_of [] = None
+endthread_of (thread ∷ []) = do
+  thread ← labelled 116 thread
+  Some (EndThread thread)
+endthread_of (thread ∷ more ∷ words) = None
+
+-- `exit P`
+abbrev pub exit_of : List (List ℕ) → Option Call
+exit_of [] = None
+exit_of (process ∷ []) = do
+  process ← labelled 112 process
+  Some (Exit process)
+exit_of (process ∷ more ∷ words) = None
+
 -- `result W`
 abbrev pub result_of : List (List ℕ) → Option Call
 result_of [] = None
@@ -261,9 +281,11 @@ call_of (verb ∷ words) =
     else (if bytes_eq verb (codes "wait") then wait_of words
     else (if bytes_eq verb (codes "result") then result_of words
     else (if bytes_eq verb (codes "expire") then expire_of words
+    else (if bytes_eq verb (codes "endthread") then endthread_of words
+    else (if bytes_eq verb (codes "exit") then exit_of words
     else (if bytes_eq verb (codes "reap") then reap_of words
     else (if bytes_eq verb (codes "count") then count_of words
-    else None)))))))))))))))))
+    else None)))))))))))))))))))
 
 abbrev pub asked : Option Call → Act
 asked None = Bad

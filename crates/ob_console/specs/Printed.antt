@@ -9,7 +9,7 @@ use Rattle.ob_name.specs.Names.{Namespace, ObjectName, Global, Session}
 use Rattle.ob_name.specs.Listing.{Rows}
 use Rattle.ob_name.specs.Refs.{row_at}
 use Rattle.ob_manager.specs.declared.reply.Reply.{Reply}
-use Rattle.ob_manager.specs.declared.reply.Reply.TheVariants.{Spawned, Started, Made, Exists, Opened, Duplicated, Closed, Done, Previous, Code, Pending, Expired, Reaped, CountsAre, Refused}
+use Rattle.ob_manager.specs.declared.reply.Reply.TheVariants.{Spawned, Started, Made, Exists, Opened, Duplicated, Closed, Done, Previous, Code, Pending, Expired, Ended, Exited, Reaped, CountsAre, Refused}
 use Rattle.ob_console.specs.declared.answer.Answer.{Answer}
 use Rattle.ob_console.specs.declared.answer.Answer.TheVariants.{Replied, BadLine, NameCount, Named}
 
@@ -43,6 +43,8 @@ printed_reply (Previous count) = codes "previous " ++ decimal count
 printed_reply (Code code) = codes "code " ++ decimal code
 printed_reply (Pending number) = codes "pending w" ++ decimal number
 printed_reply (Expired number) = codes "expired w" ++ decimal number
+printed_reply (Ended thread) = codes "ended t" ++ decimal thread
+printed_reply (Exited process) = codes "exited p" ++ decimal process
 printed_reply (Reaped id outcome) = printed_id id ++ printed_reclaim outcome
 printed_reply (CountsAre handles waits hold) = codes "handles " ++ decimal handles ++ codes " waits " ++ decimal waits ++ codes " hold " ++ decimal hold
 printed_reply (Refused fault) = codes "error " ++ decimal (code_of fault)

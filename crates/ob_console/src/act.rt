@@ -1,10 +1,9 @@
-use crate::words::Words;
 use ob_manager::{Make, Mode, Timeout};
 use ob_rights::{Kind, Rights};
 use pin_core::Id;
 
 /// What a line is.
-#[derive(Clone, Copy, Debug)]
+#[derive(Clone, Copy)]
 pub enum Act<'a> {
     /// An empty line or a comment, for which nothing is printed.
     Nothing,
@@ -17,7 +16,7 @@ pub enum Act<'a> {
 }
 
 /// A call of the manager, with names and handles as they stand in the line.
-#[derive(Clone, Copy, Debug)]
+#[derive(Clone, Copy)]
 pub enum Ask<'a> {
     Spawn {
         session: u32,
@@ -83,18 +82,24 @@ pub enum Ask<'a> {
         thread: u32,
         handle: u32,
     },
-    /// Each word is a handle.
+    /// The words of the rest are handles; there are none where there is no rest.
     WaitFor {
         thread: u32,
         mode: Mode,
         timeout: Timeout,
-        handles: Words<'a>,
+        rest: Option<&'a [u8]>,
     },
     WaitResult {
         wait: u32,
     },
     Expire {
         wait: u32,
+    },
+    EndThread {
+        thread: u32,
+    },
+    Exit {
+        process: u32,
     },
     Reap {
         slot: u32,

@@ -3,7 +3,7 @@ use ob_name::NameRef;
 use pin_core::Id;
 
 /// What a line of the output says.
-#[derive(Clone, Copy, Debug)]
+#[derive(Clone, Copy)]
 pub enum Answer<'a> {
     /// A call is answered.
     Replied(Reply),

@@ -1,8 +1,14 @@
+ghost use Rattle.std.specs.Prelude.{◌≡◌, take};
 ghost use Rattle.ob_manager.specs.Steps.{Step};
+ghost use Rattle.ob_manager.specs.declared.call.Call.TheVariants as Call;
+ghost use Rattle.ob_console.specs.Words.{handles_in};
 ghost use Rattle.ob_console.specs.Acts.{call_in};
 
 use crate::act::Ask;
-use ob_manager::{Manager, Reply};
+use crate::numbers::labelled;
+use crate::words::Words;
+use arrayvec::ArrayVec;
+use ob_manager::{Manager, Mode, Reply, Timeout};
 use pin_words::LockedPins;
 
 /// Makes a call.
@@ -11,6 +17,7 @@ pub fn reply_to(manager: &mut Manager<LockedPins>, ask: Ask<'_>) -> Reply
 {
     match ask {
         Ask::Spawn { session } => manager.spawn(session),
+        Ask::Child { thread, inherit } => manager.child(thread, inherit),
         Ask::StartThread { process } => manager.thread(process),
         Ask::MakeEvent {
             thread,
@@ -36,6 +43,15 @@ pub fn reply_to(manager: &mut Manager<LockedPins>, ask: Ask<'_>) -> Reply
             inherit,
             text,
         } => manager.open_named(thread, kind, mask, inherit, text),
+        Ask::Duplicate {
+            thread,
+            source,
+            handle,
+            target,
+            mask,
+            inherit,
+            options,
+        } => manager.duplicate(thread, source, handle, target, mask, inherit, options),
         Ask::CloseHandle { thread, handle } => manager.close(thread, handle),
         Ask::SetEvent { thread, handle } => manager.set_event(thread, handle),
         Ask::ResetEvent { thread, handle } => manager.reset_event(thread, handle),
@@ -45,7 +61,45 @@ pub fn reply_to(manager: &mut Manager<LockedPins>, ask: Ask<'_>) -> Reply
             count,
         } => manager.release_semaphore(thread, handle, count),
         Ask::ReleaseMutex { thread, handle } => manager.release_mutex(thread, handle),
+        Ask::WaitFor {
+            thread,
+            mode,
+            timeout,
+            rest,
+        } => wait_for(manager, thread, mode, timeout, Words::of_rest(rest)),
+        Ask::WaitResult { wait } => manager.wait_result(wait),
+        Ask::Expire { wait } => manager.expire(wait),
+        Ask::EndThread { thread } => manager.end_thread(thread),
+        Ask::Exit { process } => manager.exit(process),
         Ask::Reap { slot } => manager.reap(slot),
         Ask::Counts { id } => manager.counts(id),
     }
+}
+
+/// Waits for objects. Of a list that is too long no more than its beginning is asked for: the answer is the same.
+fn wait_for(
+    manager: &mut Manager<LockedPins>,
+    thread: u32,
+    mode: Mode,
+    timeout: Timeout,
+    words: Words<'_>,
+) -> Reply
+    ensures { Step manager.old (Call.WaitFor thread mode timeout (handles_in words.entry)) result manager.new }
+{
+    let handles = handles_of(words);
+    manager.wait(thread, mode, timeout, handles.as_slice())
+}
+
+/// The handles that words are, or the first 65.
+fn handles_of(mut words: Words<'_>) -> ArrayVec<u32, 65>
+    ensures { result.items ≡ take 65 (handles_in words.entry) }
+{
+    let mut handles = ArrayVec::new();
+    while let Some(word) = words.next() {
+        let handle = labelled(b'h', word).unwrap_or(0);
+        if handles.try_push(handle).is_err() {
+            return handles;
+        }
+    }
+    handles
 }

@@ -126,6 +126,14 @@ impl Block {
                 self.text(b"expired w");
                 self.number(u128::from(wait));
             }
+            Reply::Ended { thread } => {
+                self.text(b"ended t");
+                self.number(u128::from(thread));
+            }
+            Reply::Exited { process } => {
+                self.text(b"exited p");
+                self.number(u128::from(process));
+            }
             Reply::Reaped { id, outcome } => {
                 self.id(id);
                 self.reclaim(outcome);

@@ -1,14 +1,16 @@
-ghost use Rattle.std.specs.Prelude.{◌≡◌};
+ghost use Rattle.std.specs.Prelude.{◌≡◌, ◌≤◌, IfSome};
 ghost use Rattle.std.specs.Option.{option_map};
-ghost use Rattle.ob_console.specs.Words.{words_of};
+ghost use Rattle.ob_console.specs.Words.{are_handles, words_of};
 ghost use Rattle.ob_console.specs.Acts.{act_in, call_in};
-ghost use Rattle.ob_console.specs.Grammar.{act_of, call_of, close_of, count_of, event_of, handle_of, mutex_of, open_of, reap_of, release_of, reset_of, semaphore_of, set_of, spawn_of, text_of, thread_of, unlock_of};
+ghost use Rattle.ob_console.specs.Grammar.{access_of, act_of, call_of, child_of, close_of, closing_of, count_of, dup_of, endthread_of, event_of, exit_of, expire_of, handle_of, mode_of, mutex_of, open_of, reap_of, release_of, reset_of, result_of, semaphore_of, set_of, spawn_of, target_of, text_of, thread_of, timeout_of, unlock_of, wait_of};
 
 use crate::act::{Act, Ask};
 use crate::naming::{make_of, name_of};
 use crate::numbers::{either_of, id_of, labelled, number_of, signed_of};
 use crate::rights::{kind_of, mask_of};
 use crate::words::{Words, is};
+use ob_manager::{Mode, Timeout};
+use ob_rights::Rights;
 
 /// The longest text of a line, in bytes.
 pub const TEXT_MOST: usize = 4096;
@@ -50,6 +52,9 @@ fn call_of(mut words: Words<'_>) -> Option<Ask<'_>>
     if is(verb, b"spawn") {
         return spawn_of(words);
     }
+    if is(verb, b"child") {
+        return child_of(words);
+    }
     if is(verb, b"thread") {
         return thread_of(words);
     }
@@ -65,6 +70,9 @@ fn call_of(mut words: Words<'_>) -> Option<Ask<'_>>
     if is(verb, b"open") {
         return open_of(words);
     }
+    if is(verb, b"dup") {
+        return dup_of(words);
+    }
     if is(verb, b"close") {
         return close_of(words);
     }
@@ -79,6 +87,21 @@ fn call_of(mut words: Words<'_>) -> Option<Ask<'_>>
     }
     if is(verb, b"unlock") {
         return unlock_of(words);
+    }
+    if is(verb, b"wait") {
+        return wait_of(words);
+    }
+    if is(verb, b"result") {
+        return result_of(words);
+    }
+    if is(verb, b"expire") {
+        return expire_of(words);
+    }
+    if is(verb, b"endthread") {
+        return endthread_of(words);
+    }
+    if is(verb, b"exit") {
+        return exit_of(words);
     }
     if is(verb, b"reap") {
         return reap_of(words);
@@ -96,6 +119,17 @@ fn spawn_of(mut words: Words<'_>) -> Option<Ask<'_>>
     words.end()?;
     let session = number_of(session)?;
     Some(Ask::Spawn { session })
+}
+
+fn child_of(mut words: Words<'_>) -> Option<Ask<'_>>
+    ensures { option_map call_in result ≡ child_of words.entry }
+{
+    let thread = words.next()?;
+    let inherit = words.next()?;
+    words.end()?;
+    let thread = labelled(b't', thread)?;
+    let inherit = either_of(b"plain", b"inherit", inherit)?;
+    Some(Ask::Child { thread, inherit })
 }
 
 fn thread_of(mut words: Words<'_>) -> Option<Ask<'_>>
@@ -178,6 +212,70 @@ fn open_of(mut words: Words<'_>) -> Option<Ask<'_>>
     })
 }
 
+fn dup_of(mut words: Words<'_>) -> Option<Ask<'_>>
+    ensures { option_map call_in result ≡ dup_of words.entry }
+{
+    let thread = words.next()?;
+    let source = words.next()?;
+    let handle = words.next()?;
+    let target = words.next()?;
+    let access = words.next()?;
+    let thread = labelled(b't', thread)?;
+    let source = labelled(b'p', source)?;
+    let handle = labelled(b'h', handle)?;
+    let target = target_of(target)?;
+    let (mask, sameness) = access_of(access)?;
+    let inherit = words.skip(b"inherit");
+    let closing = closing_of(words)?;
+    Some(Ask::Duplicate {
+        thread,
+        source,
+        handle,
+        target,
+        mask,
+        inherit,
+        options: sameness + closing,
+    })
+}
+
+/// A process, or a hyphen for none.
+fn target_of(word: &[u8]) -> Option<Option<u32>>
+    ensures { result ≡ target_of word.now }
+{
+    if is(word, b"-") {
+        return Some(None);
+    }
+    let process = labelled(b'p', word)?;
+    Some(Some(process))
+}
+
+/// The keyword for the option `DUPLICATE_SAME_ACCESS`, 2, or a mask.
+fn access_of(word: &[u8]) -> Option<(Rights, u32)>
+    ensures value { result ≡ access_of word.now }
+    ensures few { IfSome result (λ access. access.1 ≤ 2) }
+{
+    if is(word, b"same") {
+        return Some((Rights::from_bits_retain(0), 2));
+    }
+    let mask = mask_of(word)?;
+    Some((mask, 0))
+}
+
+/// The keyword for the option `DUPLICATE_CLOSE_SOURCE`, 1, if it stands there.
+fn closing_of(mut words: Words<'_>) -> Option<u32>
+    ensures value { result ≡ closing_of words.entry }
+    ensures few { IfSome result (λ closing. closing ≤ 1) }
+{
+    if words.is_empty() {
+        return Some(0);
+    }
+    if !words.skip(b"close") {
+        return None;
+    }
+    words.end()?;
+    Some(1)
+}
+
 /// A thread and a handle.
 fn handle_of(mut words: Words<'_>) -> Option<(u32, u32)>
     ensures { result ≡ handle_of words.entry }
@@ -233,6 +331,99 @@ fn release_of(mut words: Words<'_>) -> Option<Ask<'_>>
         handle,
         count,
     })
+}
+
+fn wait_of(mut words: Words<'_>) -> Option<Ask<'_>>
+    ensures { option_map call_in result ≡ wait_of words.entry }
+{
+    let thread = words.next()?;
+    let mode = words.next()?;
+    let timeout = words.next()?;
+    let thread = labelled(b't', thread)?;
+    let mode = mode_of(mode)?;
+    let timeout = timeout_of(timeout)?;
+    let rest = words.rest();
+    if !are_handles(words) {
+        return None;
+    }
+    Some(Ask::WaitFor {
+        thread,
+        mode,
+        timeout,
+        rest,
+    })
+}
+
+fn mode_of(word: &[u8]) -> Option<Mode>
+    ensures { result ≡ mode_of word.now }
+{
+    if is(word, b"any") {
+        Some(Mode::Any)
+    } else if is(word, b"all") {
+        Some(Mode::All)
+    } else {
+        None
+    }
+}
+
+fn timeout_of(word: &[u8]) -> Option<Timeout>
+    ensures { result ≡ timeout_of word.now }
+{
+    if is(word, b"0") {
+        Some(Timeout::Zero)
+    } else if is(word, b"inf") {
+        Some(Timeout::Infinite)
+    } else {
+        None
+    }
+}
+
+/// Whether each word is a handle.
+fn are_handles(mut words: Words<'_>) -> bool
+    ensures { result ≡ are_handles words.entry }
+{
+    while let Some(word) = words.next() {
+        if labelled(b'h', word).is_none() {
+            return false;
+        }
+    }
+    true
+}
+
+fn result_of(mut words: Words<'_>) -> Option<Ask<'_>>
+    ensures { option_map call_in result ≡ result_of words.entry }
+{
+    let wait = words.next()?;
+    words.end()?;
+    let wait = labelled(b'w', wait)?;
+    Some(Ask::WaitResult { wait })
+}
+
+fn expire_of(mut words: Words<'_>) -> Option<Ask<'_>>
+    ensures { option_map call_in result ≡ expire_of words.entry }
+{
+    let wait = words.next()?;
+    words.end()?;
+    let wait = labelled(b'w', wait)?;
+    Some(Ask::Expire { wait })
+}
+
+fn endthread_of(mut words: Words<'_>) -> Option<Ask<'_>>
+    ensures { option_map call_in result ≡ endthread_of words.entry }
+{
+    let thread = words.next()?;
+    words.end()?;
+    let thread = labelled(b't', thread)?;
+    Some(Ask::EndThread { thread })
+}
+
+fn exit_of(mut words: Words<'_>) -> Option<Ask<'_>>
+    ensures { option_map call_in result ≡ exit_of words.entry }
+{
+    let process = words.next()?;
+    words.end()?;
+    let process = labelled(b'p', process)?;
+    Some(Ask::Exit { process })
 }
 
 fn reap_of(mut words: Words<'_>) -> Option<Ask<'_>>

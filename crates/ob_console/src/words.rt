@@ -3,6 +3,7 @@ ghost use Rattle.std.specs.Str.{bytes_eq};
 ghost use Rattle.std.specs.List.{after_first, before_first, position_or_len};
 ghost use Rattle.memchr.specs.Find.{is_byte};
 ghost use Rattle.ob_console.specs.Words.{begins_with, behind, joined, words_of};
+ghost use Rattle.ob_console.specs.WordsLeft.{words_left};
 
 use memchr::memchr;
 use std::marker::Model;
@@ -28,6 +29,20 @@ impl<'a> Words<'a> {
         ensures { result ≡ words_of text.now }
     {
         Words { rest: Some(text) }
+    }
+
+    /// The words of what another has left.
+    pub fn of_rest(rest: Option<&'a [u8]>) -> Words<'a>
+        ensures { result ≡ words_left rest.entry }
+    {
+        Words { rest }
+    }
+
+    /// What is left.
+    pub fn rest(&self) -> Option<&'a [u8]>
+        ensures { words_left result ≡ self.now }
+    {
+        self.rest
     }
 
     /// The next word.

@@ -1,0 +1,36 @@
+-- Of a list of handles that is too long the beginning is refused as the whole is.
+use Rattle.std.proofs.Common.{◌≡◌, ℕ, ◌<◌, ◌≤◌, List, Bool, true, false, Result, Ok, Err, refl, ap, sym, subst, ◌∙◌, arith, length, take, ltb}
+use Rattle.std.specs.Prelude.{is_ok}
+use Rattle.ob_rights.specs.declared.fault.Fault.{Fault}
+use Rattle.ob_rights.specs.declared.fault.Fault.TheVariants as fault
+use Rattle.ob_waits.specs.declared.wait.Mode.{Mode}
+use Rattle.ob_store.specs.State.{State, Whole}
+use Rattle.ob_manager.specs.declared.waiting.Timeout.{Timeout}
+use Rattle.ob_manager.specs.declared.call.Call.TheVariants as calls
+use Rattle.ob_manager.specs.declared.reply.Reply.{Reply}
+use Rattle.ob_manager.specs.Outcomes.{Outcome, ◌>>=◌, refuse_if}
+use Rattle.ob_manager.specs.Checks.{caller}
+use Rattle.ob_manager.specs.Waiting.{becomes_pending, is_misshapen, objects_of, wait, wait_on}
+use Rattle.ob_manager.specs.Steps.{Step, does, closes, lacks, final}
+
+misshapen : (handles : List ℕ) → 64 < length handles → is_misshapen handles ≡ true
+misshapen handles long = grind (arith, nat_tests, long)
+
+refused : (s : State) (thread : ℕ) (mode : Mode) (timeout : Timeout) (handles : List ℕ) → 64 < length handles → wait s thread mode timeout handles ≡ (caller s thread >>= (λ process. Err fault.Parameter))
+refused s thread mode timeout handles long =
+    ap (λ test. caller s thread >>= (λ process. refuse_if test fault.Parameter >>= (λ shaped. objects_of s process handles >>= (λ ids. wait_on s thread mode timeout ids)))) (misshapen handles long)
+
+beginning_waits : (s : State) (thread : ℕ) (mode : Mode) (timeout : Timeout) (handles : List ℕ) → wait s thread mode timeout (take 65 handles) ≡ wait s thread mode timeout handles
+beginning_waits s thread mode timeout handles = by (ltb 64 (length handles)) refl
+  where
+    by : (long : Bool) → ltb 64 (length handles) ≡ long → wait s thread mode timeout (take 65 handles) ≡ wait s thread mode timeout handles
+    by true is = refused s thread mode timeout (take 65 handles) ? ∙ sym (refused s thread mode timeout handles ?)
+    by false is = ap (wait s thread mode timeout) ?
+
+pub step_of_beginning : (w : Whole) (thread : ℕ) (mode : Mode) (timeout : Timeout) (handles : List ℕ) (reply : Reply) (v : Whole) →
+    Step w (calls.WaitFor thread mode timeout (take 65 handles)) reply v → Step w (calls.WaitFor thread mode timeout handles) reply v
+step_of_beginning w thread mode timeout handles reply v (does comes keeps) = does (ap (final w.state) (sym (beginning_waits w.state thread mode timeout handles)) ∙ comes) keeps
+step_of_beginning w thread mode timeout handles reply v (closes is comes keeps) = closes is (sym (beginning_waits w.state thread mode timeout handles) ∙ comes) keeps
+step_of_beginning w thread mode timeout handles reply v (lacks takes there lack same) =
+    let is = beginning_waits w.state thread mode timeout handles in
+    lacks (ap becomes_pending (sym is) ∙ takes) (ap is_ok (sym is) ∙ there) lack same

@@ -1,0 +1,17 @@
+use Rattle.std.proofs.Common.{◌≡◌, ◌+◌, ◌*◌, ◌≤◌, [], length}
+use Rattle.ob_store.specs.declared.limits.Limits.{Limits}
+use Rattle.ob_console.specs.Sessions.{Session}
+use Rattle.ob_console.proofs.Reading.{IsReading}
+use Rattle.ob_console.proofs.script.answer_all.Given as goal
+
+abbrev pub invariant-loop-i : goal.invariant-loop-i
+invariant-loop-i g l = record {
+  reading : (limits : Limits) → Session limits [] [] l.fn.console → IsReading limits l.console (g.R.Source.given l.fn.reader) (g.R.Source.given l.reader) (g.W.Sink.taken l.fn.writer) (g.W.Sink.taken l.writer);
+  block : length l.block ≡ 65536;
+  written : l.console.pending.bytes ≡ [];
+  lines : l.console.lines ≤ 65536 * l.i;
+  reads : g.R.Source.calls l.reader ≡ g.R.Source.calls l.fn.reader + l.i;
+  read_faults : g.R.Source.faults l.reader ≡ g.R.Source.faults l.fn.reader;
+  writes : g.W.Sink.calls l.writer + l.console.pending.writes_left ≡ g.W.Sink.calls l.fn.writer + l.fn.console.pending.writes_left;
+  write_faults : g.W.Sink.faults l.fn.writer ≤ g.W.Sink.faults l.writer;
+}
