@@ -18,7 +18,6 @@ use Rattle.ob_waits.specs.declared.wait.Mode.{Mode}
 use Rattle.ob_waits.specs.declared.wait.WaitState.{WaitState}
 use Rattle.ob_waits.specs.declared.wait.WaitState.TheVariants as stands
 use Rattle.ob_waits.specs.Waits.{is_pending, list_ready, state_at}
-use Rattle.ob_store.specs.State.{is_full}
 use Rattle.ob_store.specs.Waiting.{are_waits_given}
 use Rattle.ob_manager.specs.declared.waiting.Timeout.{Timeout}
 use Rattle.ob_manager.specs.declared.waiting.Timeout.TheVariants.{Zero, Infinite}
@@ -28,6 +27,7 @@ use Rattle.ob_manager.specs.declared.reply.Reply.{Reply}
 use Rattle.ob_manager.specs.declared.reply.Reply.TheVariants.{Spawned, Started, Made, Exists, Opened, Duplicated, Closed, Done, Previous, Code, Pending, Expired, Ended, Exited, Reaped, CountsAre, Refused}
 use Rattle.ob_manager.specs.Outcomes.{Outcome, ◌>>=◌, or_refuse, refuse_if}
 use Rattle.ob_manager.specs.Checks.{caller, found, body_of, granted, positive}
+use Rattle.ob_manager.specs.Creating.{entry_of, next_handle}
 use Rattle.ob_manager.specs.Handles.{close}
 use Rattle.ob_manager.specs.Copying as copying
 use Rattle.ob_manager.specs.Copying.{admitted, copied_to, duplicate, is_wrong, with_source, without_source}

@@ -1,17 +1,26 @@
 -- Of a list of handles that is too long the beginning is refused as the whole is.
-use Rattle.std.proofs.Common.{◌≡◌, ℕ, ◌<◌, ◌≤◌, List, Bool, true, false, Result, Ok, Err, refl, ap, sym, subst, ◌∙◌, arith, length, take, ltb}
+use Rattle.std.proofs.Common.{◌≡◌, ℕ, ◌<◌, ◌≤◌, List, Bool, true, false, Err, ◌++◌, [], refl, ap, sym, ◌∙◌, arith, length, take, ltb}
+use Rattle.std.proofs.lemmas.Bool.Decides.{nat_tests}
+use Rattle.std.proofs.Math.Seq.{take-append_seam}
+use Rattle.std.proofs.lemmas.List.{append-nil, length-take-le, take_all}
 use Rattle.std.specs.Prelude.{is_ok}
-use Rattle.ob_rights.specs.declared.fault.Fault.{Fault}
 use Rattle.ob_rights.specs.declared.fault.Fault.TheVariants as fault
 use Rattle.ob_waits.specs.declared.wait.Mode.{Mode}
 use Rattle.ob_store.specs.State.{State, Whole}
 use Rattle.ob_manager.specs.declared.waiting.Timeout.{Timeout}
 use Rattle.ob_manager.specs.declared.call.Call.TheVariants as calls
 use Rattle.ob_manager.specs.declared.reply.Reply.{Reply}
-use Rattle.ob_manager.specs.Outcomes.{Outcome, ◌>>=◌, refuse_if}
+use Rattle.ob_manager.specs.Outcomes.{◌>>=◌, refuse_if}
 use Rattle.ob_manager.specs.Checks.{caller}
 use Rattle.ob_manager.specs.Waiting.{becomes_pending, is_misshapen, objects_of, wait, wait_on}
 use Rattle.ob_manager.specs.Steps.{Step, does, closes, lacks, final}
+
+-- handles that are so many as are kept, or all
+pub first_part : (items rest all : List ℕ) → items ++ rest ≡ all → length items ≡ 65 → items ≡ take 65 all
+first_part items rest all whole is = sym (ap (take 65) (sym whole) ∙ ap (λ n. take n (items ++ rest)) (sym is) ∙ take-append_seam items rest)
+
+pub all_parts : (items all : List ℕ) → items ++ [] ≡ all → length items ≤ 65 → items ≡ take 65 all
+all_parts items all whole few = sym (ap (take 65) (sym whole ∙ append-nil items) ∙ take_all 65 items few)
 
 misshapen : (handles : List ℕ) → 64 < length handles → is_misshapen handles ≡ true
 misshapen handles long = grind (arith, nat_tests, long)
@@ -24,8 +33,11 @@ beginning_waits : (s : State) (thread : ℕ) (mode : Mode) (timeout : Timeout) (
 beginning_waits s thread mode timeout handles = by (ltb 64 (length handles)) refl
   where
     by : (long : Bool) → ltb 64 (length handles) ≡ long → wait s thread mode timeout (take 65 handles) ≡ wait s thread mode timeout handles
-    by true is = refused s thread mode timeout (take 65 handles) ? ∙ sym (refused s thread mode timeout handles ?)
-    by false is = ap (wait s thread mode timeout) ?
+    by true is =
+        let long : 64 < length handles = grind (arith, nat_tests, is) in
+        let part : 64 < length (take 65 handles) = omega (arith, length-take-le 65 handles (omega (arith, long))) in
+        refused s thread mode timeout (take 65 handles) part ∙ sym (refused s thread mode timeout handles long)
+    by false is = ap (wait s thread mode timeout) (take_all 65 handles (grind (arith, nat_tests, is)))
 
 pub step_of_beginning : (w : Whole) (thread : ℕ) (mode : Mode) (timeout : Timeout) (handles : List ℕ) (reply : Reply) (v : Whole) →
     Step w (calls.WaitFor thread mode timeout (take 65 handles)) reply v → Step w (calls.WaitFor thread mode timeout handles) reply v

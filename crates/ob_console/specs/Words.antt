@@ -104,4 +104,4 @@ are_handles [] = true
 are_handles (word ∷ words) = is_some (labelled 104 word) && are_handles words
 
 abbrev pub handles_in : List (List ℕ) → List ℕ
-handles_in words = map (λ word. unwrap_or 0 (labelled 104 word)) words
+handles_in words = map (λ word. unwrap_or (labelled 104 word) 0) words

@@ -97,8 +97,9 @@ fn handles_of(mut words: Words<'_>) -> ArrayVec<u32, 65>
     let mut handles = ArrayVec::new();
     while let Some(word) = words.next() {
         let handle = labelled(b'h', word).unwrap_or(0);
-        if handles.try_push(handle).is_err() {
-            return handles;
+        match handles.try_push(handle) {
+            Ok(()) => {}
+            Err(_) => return handles,
         }
     }
     handles

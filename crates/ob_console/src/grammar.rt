@@ -255,7 +255,7 @@ fn access_of(word: &[u8]) -> Option<(Rights, u32)>
     ensures few { IfSome result (λ access. access.1 ≤ 2) }
 {
     if is(word, b"same") {
-        return Some((Rights::from_bits_retain(0), 2));
+        return Some((Rights(0), 2));
     }
     let mask = mask_of(word)?;
     Some((mask, 0))
