@@ -2,3 +2,4 @@ pub mod Refusing
 pub mod Counts
 pub mod StepLaws
 pub mod Waited
+pub mod Rising

@@ -7,5 +7,6 @@ pub mod Handles
 pub mod Signaling
 pub mod Counting
 pub mod Reaping
+pub mod Rising
 pub mod Waiting
 pub mod Steps

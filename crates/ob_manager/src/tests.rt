@@ -1,3 +1,5 @@
+mod waiting;
+
 use super::*;
 use ob_rights::{Fault, Kind, Rights};
 use pin_core::{Descr, Id};
