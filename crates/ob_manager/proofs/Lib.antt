@@ -3,3 +3,4 @@ pub mod Counts
 pub mod EntryStays
 pub mod StepLaws
 pub mod Waited
+pub mod Rising

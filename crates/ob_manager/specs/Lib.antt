@@ -9,5 +9,6 @@ pub mod Signaling
 pub mod Counting
 pub mod Ending
 pub mod Reaping
+pub mod Rising
 pub mod Waiting
 pub mod Steps

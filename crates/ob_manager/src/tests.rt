@@ -1,6 +1,7 @@
 mod applying;
 mod copies;
 mod ends;
+mod waiting;
 
 use super::*;
 use ob_rights::{Fault, Kind, Rights};

@@ -6,6 +6,7 @@ ghost use Rattle.ob_store.specs.State.{handles_of};
 ghost use Rattle.ob_manager.specs.Waiting.{becomes_pending, collected, expire, has_twice, have_room, is_for_one_twice, is_misshapen, lacks_synchronize, objects_of, same_handle, wait, wait_on, wait_result};
 ghost use Rattle.ob_manager.specs.Steps.{Gives, GivesOrLacks};
 ghost use Rattle.pin_core.specs.Holds.{same_id};
+ghost use Rattle.ob_manager.specs.Rising.{place_of_handle, place_of_object, rise};
 
 use crate::checks::{caller, found};
 use crate::reply::Reply;
@@ -67,10 +68,28 @@ fn has_handle(handle: u32, others: &[u32]) -> bool
     others.iter().any(|other| handle / 4 == *other / 4)
 }
 
+/// Whether each handle is above the one before it, as those of a list mostly are: then none stands twice.
+fn handles_rise(handles: &[u32]) -> bool
+    ensures { result ≡ rise place_of_handle 0 handles.now }
+{
+    let mut last = 0;
+    for handle in handles {
+        if *handle / 4 <= last {
+            return false;
+        }
+        last = *handle / 4;
+    }
+    true
+}
+
 /// Whether a handle stands twice in a list.
+#[tactic(auto, using(crate::proofs::Rising::handles_apart))]
 fn has_handle_twice(handles: &[u32]) -> bool
     ensures { result ≡ has_twice same_handle handles.now }
 {
+    if handles_rise(handles) {
+        return false;
+    }
     for (i, handle) in handles.iter().enumerate() {
         if has_handle(*handle, &handles[i + 1..]) {
             return true;
@@ -126,10 +145,29 @@ fn has_object(id: Id, others: &[Id]) -> bool
     others.iter().any(|other| same_id(id, *other))
 }
 
+/// Whether each object's slot is above that of the one before it: then none stands twice.
+fn slots_rise(ids: &[Id]) -> bool
+    ensures { result ≡ rise place_of_object 0 ids.now }
+{
+    let mut last = 0;
+    for id in ids {
+        let place = u64::from(id.slot) + 1;
+        if place <= last {
+            return false;
+        }
+        last = place;
+    }
+    true
+}
+
 /// Whether an object stands twice in a list.
+#[tactic(auto, using(crate::proofs::Rising::objects_apart))]
 fn has_object_twice(ids: &[Id]) -> bool
     ensures { result ≡ has_twice same_id ids.now }
 {
+    if slots_rise(ids) {
+        return false;
+    }
     for (i, id) in ids.iter().enumerate() {
         if has_object(*id, &ids[i + 1..]) {
             return true;
