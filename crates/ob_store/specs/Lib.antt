@@ -7,5 +7,6 @@ pub mod Directory
 pub mod Kept
 pub mod Moves
 pub mod Ends
+pub mod Owners
 pub mod UnderWay
 pub mod Consistent
