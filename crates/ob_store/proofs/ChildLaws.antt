@@ -1,6 +1,6 @@
 -- What is kept is kept where a child comes with what it inherits.
-use Rattle.std.proofs.Common.{◌≡◌, ◌⊎◌, ℕ, ◌+◌, ◌<◌, ◌≤◌, List, [], ◌∷◌, ◌++◌, length, Option, Some, None, refl, ap, ◌∙◌, sym, subst, arith, get_or, set, inl, inr, Bool, true, false, cond, eqb}
-use Rattle.std.specs.Prelude.{IfSome, IsSome, map, sum_by}
+use Rattle.std.proofs.Common.{◌≡◌, ℕ, ◌+◌, ◌<◌, ◌≤◌, List, [], ◌∷◌, length, Option, Some, None, refl, ap, ◌∙◌, sym, subst, arith, get_or, inl, inr, Bool, true, false, cond, eqb}
+use Rattle.std.specs.Prelude.{IfSome, IsSome, map}
 use Rattle.std.proofs.lemmas.List.{length-append, length-set, length-map, get_or-map, get_or_past}
 use Rattle.std.proofs.Math.Seq.{get_or-append_seam}
 use Rattle.std.proofs.lemmas.List.Sums.{sum_by-cons}
@@ -8,13 +8,13 @@ use Rattle.std.proofs.lemmas.Bool.{cases_lt}
 use Rattle.ob_name.specs.Listing.{Rows}
 use Rattle.ob_rights.specs.Rights.{within}
 use Rattle.ob_tables.specs.declared.entry.Entry.{Entry}
-use Rattle.ob_tables.specs.Counts.{handles_among, handles_in, slot_handles, slot_handles_in}
+use Rattle.ob_tables.specs.Counts.{slot_handles, slot_handles_in}
 use Rattle.ob_tables.specs.Inheritance.{inheritable, inherited}
 use Rattle.ob_tables.specs.Tables as tables
 use Rattle.ob_tables.specs.Tables.{HandleTables, IsBounded, table_of}
 use Rattle.ob_tables.proofs.Counting.{handles_among-with_child, handles_in-inherited, handles_in-among}
 use Rattle.ob_tables.proofs.Inheriting.{at-trimmed}
-use Rattle.ob_tables.proofs.SlotCounts.{one_in, one_in-same, one_in-other, slot_handles-with_child, slot_handles-few}
+use Rattle.ob_tables.proofs.SlotCounts.{one_in, slot_handles-with_child, slot_handles-few}
 use Rattle.ob_waits.specs.Waits.{WaitList}
 use Rattle.ob_store.specs.declared.limits.Limits.{Limits}
 use Rattle.ob_store.specs.Lives as lives
@@ -28,9 +28,8 @@ use Rattle.ob_store.proofs.BySlot.{recounted, count_few}
 use Rattle.ob_store.proofs.CameLaws.{came_one}
 use Rattle.ob_store.proofs.CountedLaws.{handles_at, handles_long}
 use Rattle.ob_store.proofs.NamedLaws.{entry_counted}
-use Rattle.ob_store.proofs.BodyLaws.{of_live_more}
 use Rattle.ob_store.proofs.ListingLaws.{listing_child}
-use Rattle.ob_store.proofs.KeptLaws.{settled_kept, handled, live_pushed, kept_process}
+use Rattle.ob_store.proofs.KeptLaws.{settled_kept, handled, kept_process}
 
 -- a place of a child's table has what its parent's has there
 inherited_at : (t : List (Option Entry)) (i : ℕ) → get_or (inherited t) i None ≡ inheritable (get_or t i None)

@@ -1,5 +1,5 @@
 -- Threads and processes end: what is sound stays so, and is on its way to the settled state.
-use Rattle.std.proofs.Common.{◌≡◌, ◌≢◌, ◌⊎◌, ℕ, zero, suc, ◌+◌, ◌-◌, ◌<◌, ◌≤◌, List, [], ◌∷◌, length, Option, Some, None, refl, ap, ◌∙◌, sym, subst, arith, get_or, set, map, Bool, true, false, cond, inl, inr, eqb}
+use Rattle.std.proofs.Common.{◌≡◌, ◌≢◌, ℕ, ◌+◌, ◌-◌, ◌<◌, ◌≤◌, List, [], ◌∷◌, length, Option, Some, None, refl, ap, ◌∙◌, sym, subst, arith, get_or, set, map, Bool, true, false, cond, inl, inr, eqb}
 use Rattle.std.specs.Prelude.{IsSome, is_some, sum_by}
 use Rattle.std.proofs.lemmas.List.{length-set, length-map, get_or_past, get_or-set_same, get_or-set_other, get_or-map, ext_get_or}
 use Rattle.std.proofs.lemmas.Bool.{cases_eq, cases_lt}
@@ -8,7 +8,6 @@ use Rattle.pin_core.specs.declared.id.Id.{Id}
 use Rattle.pin_words.specs.Keepers.{KeeperState}
 use Rattle.ob_body.specs.declared.body.Body.{Body}
 use Rattle.ob_body.specs.declared.body.Body.TheVariants.{Event, Mutex, Semaphore}
-use Rattle.ob_body.specs.MutexState.{MutexState}
 use Rattle.ob_body.specs.Mutex as mutex
 use Rattle.ob_body.specs.Mutex.{is_owner}
 use Rattle.ob_body.specs.Body.{owner_of, after_abandon}
@@ -27,7 +26,7 @@ use Rattle.ob_waits.specs.Rules as rules
 use Rattle.ob_waits.specs.Rules.{HasBodies, WaitsHaveRoom, thread_of}
 use Rattle.ob_waits.specs.Waits as waits
 use Rattle.ob_waits.specs.Waits.{Scene, WaitList, blocks_among, slot_blocks, slot_places, thread_ids, unless_of, is_waits_of, without_thread}
-use Rattle.ob_waits.specs.Ends.{ended, with_ends}
+use Rattle.ob_waits.specs.Ends.{ended}
 use Rattle.ob_waits.proofs.Counted.{slot_dropped, blocks_dropped}
 use Rattle.ob_waits.proofs.Ends.{sizes_left}
 use Rattle.ob_waits.proofs.References.{left_all}
@@ -37,8 +36,7 @@ use Rattle.ob_store.specs.declared.limits.Limits.{Limits}
 use Rattle.ob_store.specs.Agreement.{IsTied}
 use Rattle.ob_store.specs.Lives.{LivesState}
 use Rattle.ob_store.specs.Objects.{Object, ObjectsState, KeptRest, kept_rest, opened, without_handle_of}
-use Rattle.ob_store.specs.State as state
-use Rattle.ob_store.specs.State.{State, state_of, objects_of, scene_of, with_scene, settled, by_slot}
+use Rattle.ob_store.specs.State.{State, state_of, objects_of, with_scene, settled, by_slot}
 use Rattle.ob_store.specs.Ends.{slot_left_by, thread_ended}
 use Rattle.ob_store.specs.Kept.{IsKept, IsCounted, IsNamed, IsQuiet, IsLive, AreFormed, AreOfLive, IsListing}
 use Rattle.ob_store.specs.Moves.{OnlyCloses}

@@ -26,8 +26,6 @@ use Rattle.ob_store.specs.declared.limits.Limits.{Limits}
 use Rattle.ob_store.specs.Lives.{LivesState}
 use Rattle.ob_store.specs.Objects.{Object, ObjectsState, places_in, is_last_handle, without_handle_of, opened}
 use Rattle.ob_store.specs.Agreement.{Agrees, IsTied}
-use Rattle.ob_store.specs.State as state
-use Rattle.ob_store.specs.State.{State, state_of, objects_of, settled, generation_of}
 use Rattle.ob_store.specs.Kept.{IsThere, IsNamed, IsListing}
 use Rattle.ob_store.specs.UnderWay.{AreLeft, IsSound}
 use Rattle.ob_store.specs.Moves.{OnlyCloses, rows_left, rows_without}
@@ -36,7 +34,7 @@ use Rattle.ob_store.proofs.CountedLaws.{handles_at, counted_removed, one_less}
 use Rattle.ob_store.proofs.NamedLaws.{there_some, there_within, named_entry, named_removed, handles_are}
 use Rattle.ob_store.proofs.BodyLaws.{at_gone, formed_gone, of_live_gone}
 use Rattle.ob_store.proofs.ListingLaws.{placed_agreed, listing_removed, listing_removed_last, listing_name_removed}
-use Rattle.ob_store.proofs.KeptLaws.{lives_same, same_generations, same_shape}
+use Rattle.ob_store.proofs.KeptLaws.{lives_same, same_shape}
 
 -- where bodies went that were to go, all that was to end has ended
 gone_ended : (after : Objects) (bodies : List (Option Body)) (k : ℕ) → HasBodies after → (get_or after.bodies k None ≡ get_or bodies k None) ⊎ (get_or after.bodies k None ≡ None)

@@ -1,13 +1,13 @@
 -- How many mutexes each thread owns, while bodies change.
-use Rattle.std.proofs.Common.{◌≡◌, ◌≢◌, ℕ, zero, suc, ◌-◌, ◌+◌, ◌<◌, ◌≤◌, List, [], ◌∷◌, length, Option, Some, None, refl, ap, ◌∙◌, sym, subst, arith, get_or, set, map, replicate, Bool, true, false, cond, inl, inr, eqb, ltb}
-use Rattle.std.specs.Prelude.{count_by, sum_by, is_some, IsSome}
-use Rattle.std.proofs.lemmas.List.{length-set, length-map, length-replicate, get_or-replicate, get_or_past, get_or-set_same, get_or-set_other, get_or-map}
+use Rattle.std.proofs.Common.{◌≡◌, ◌≢◌, ℕ, zero, suc, ◌-◌, ◌+◌, ◌<◌, ◌≤◌, List, length, Option, Some, None, refl, ap, ◌∙◌, sym, arith, get_or, set, map, replicate, Bool, true, false, cond, inl, inr, eqb}
+use Rattle.std.specs.Prelude.{count_by, is_some, IsSome}
+use Rattle.std.proofs.lemmas.List.{length-set, length-map, length-replicate, get_or_past, get_or-set_same, get_or-set_other, get_or-map}
 use Rattle.std.proofs.lemmas.List.Sums.{sum_by-set, sum_by-cons, get_or-le-sum_by, count_by-le-length}
 use Rattle.std.proofs.lemmas.Bool.{cases_eq, cases_lt}
 use Rattle.std.proofs.lemmas.Bool.Decides.{nat_tests}
 use Rattle.ob_body.specs.declared.body.Body.{Body}
 use Rattle.ob_body.specs.declared.body.Body.TheVariants.{Event, Mutex, Semaphore}
-use Rattle.ob_body.specs.Mutex.{is_owner, after_abandon}
+use Rattle.ob_body.specs.Mutex.{is_owner}
 use Rattle.ob_arena.specs.Slots.{Slots, is_vacant_at}
 use Rattle.ob_arena.proofs.SlotLemmas.{vacant_empty, vacant_within}
 use Rattle.ob_waits.specs.Form.{slot_owner}

@@ -1,5 +1,5 @@
 -- What is kept is kept where the entry of a handle leaves.
-use Rattle.std.proofs.Common.{◌≡◌, ℕ, ◌<◌, List, length, Option, Some, None, ap, ◌∙◌, sym, get_or, Bool}
+use Rattle.std.proofs.Common.{◌≡◌, ℕ, ◌<◌, length, Option, Some, None, ap, ◌∙◌, sym, get_or, Bool}
 use Rattle.std.specs.Prelude.{IsSome}
 use Rattle.ob_name.specs.Listing.{Rows}
 use Rattle.ob_tables.specs.declared.entry.Entry.{Entry}

@@ -1,5 +1,5 @@
 -- What holds between the changes of a call that makes several: all that is kept, but for waits that are ready.
-use Rattle.std.specs.Prelude.{◌≡◌, ◌⊎◌, ℕ, List, Option, Some, None, length, slice_index_or}
+use Rattle.std.specs.Prelude.{◌≡◌, ◌⊎◌, ℕ, List, Option, None, length, slice_index_or}
 use Rattle.ob_body.specs.declared.body.Body.{Body}
 use Rattle.ob_name.specs.Listing.{Rows}
 use Rattle.ob_tables.specs.declared.entry.Entry.{Entry}

@@ -1,4 +1,4 @@
-use Rattle.std.proofs.Common.{◌≡◌, ◌∙◌, ◌+◌, ap, arith, get_or, None, inl, inr}
+use Rattle.std.proofs.Common.{◌∙◌, ap, arith, get_or, None, inl, inr}
 use Rattle.std.proofs.lemmas.Bool.{cases_eq}
 use Rattle.ob_tables.specs.Tables.{table_of}
 use Rattle.ob_store.proofs.ending.remove_all.Goals as goal

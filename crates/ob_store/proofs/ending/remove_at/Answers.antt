@@ -8,7 +8,7 @@ use Rattle.ob_store.specs.Agreement.{IsTied}
 use Rattle.ob_store.specs.Objects.{ObjectsState, object_of, without_handle_of}
 use Rattle.ob_store.specs.Kept.{IsListing}
 use Rattle.ob_store.specs.UnderWay.{IsEmptied}
-use Rattle.ob_store.proofs.EmptiedLaws.{emptied_none, emptied_some}
+use Rattle.ob_store.proofs.EmptiedLaws.{emptied_some}
 use Rattle.ob_store.proofs.EndingLaws.{way_removed}
 use Rattle.ob_store.proofs.LeavingLaws.{held, listing_left_rows, seat_facts, seated, sound_removed}
 use Rattle.ob_store.proofs.ending.remove_at.Goals as goal

@@ -1,7 +1,5 @@
-use Rattle.std.proofs.Common.{◌≡◌, ◌≢◌, ◌∙◌, ◌+◌, ◌<◌, ◌≤◌, ℕ, None, ap, sym, arith, length, get_or, set, map}
+use Rattle.std.proofs.Common.{◌∙◌, None, ap, arith, length, get_or}
 use Rattle.std.proofs.lemmas.List.{length-set, get_or-set_other}
-use Rattle.ob_store.specs.Ends.{slot_left_by}
-use Rattle.ob_store.specs.Objects.{ObjectsState}
 use Rattle.ob_store.proofs.EndingLaws.{abandoned_early, abandoned_more, all_abandoned}
 use Rattle.ob_store.proofs.objects.Objects.abandon.Goals as goal
 

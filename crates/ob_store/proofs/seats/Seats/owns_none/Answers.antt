@@ -1,4 +1,4 @@
-use Rattle.std.proofs.Common.{◌≡◌, ℕ, None, false, get_or, subst}
+use Rattle.std.proofs.Common.{◌≡◌, None, false, get_or, subst}
 use Rattle.ob_body.specs.Mutex.{is_owner}
 use Rattle.ob_waits.specs.Form.{slot_owner}
 use Rattle.ob_store.specs.Objects.{Places}

@@ -1,6 +1,6 @@
 use Rattle.std.proofs.Common.{◌≡◌, ◌∙◌, ap, sym, subst, get_or, length, Some, None}
 use Rattle.ob_waits.proofs.Room.{rooms_at_more}
-use Rattle.ob_store.specs.Ends.{exited, left, thread_ended, threads_ended, unless_threads, process_ended}
+use Rattle.ob_store.specs.Ends.{left, thread_ended, unless_threads}
 use Rattle.ob_store.specs.Objects.{opened}
 use Rattle.ob_store.specs.State.{Whole, settled, state_of}
 use Rattle.ob_store.proofs.EndingLaws.{way_begins, way_kept, way_keeper, way_state}

@@ -1,10 +1,9 @@
-use Rattle.std.proofs.Common.{◌≡◌, ◌∙◌, ap, sym, subst, get_or, length, Some, None}
+use Rattle.std.proofs.Common.{◌∙◌, ap, length}
 use Rattle.ob_waits.proofs.Room.{rooms_at_more}
-use Rattle.ob_store.specs.Ends.{exited, left, thread_ended, threads_ended, unless_threads, process_ended}
+use Rattle.ob_store.specs.Ends.{exited, threads_ended, process_ended}
 use Rattle.ob_store.specs.Objects.{opened}
 use Rattle.ob_store.specs.State.{Whole, settled, state_of}
 use Rattle.ob_store.proofs.EndingLaws.{way_begins, way_kept, way_keeper, way_state}
-use Rattle.ob_store.proofs.PlacedLaws.{thread_tabled}
 use Rattle.ob_store.proofs.store.Store.exit.Goals as goal
 
 pub end_process-requires-clause-sound : goal.end_process-requires-clause-sound
