@@ -15,7 +15,9 @@ use crate::call::Call;
 use crate::card::Card;
 use crate::making::{Make, Making};
 use crate::reply::Reply;
-use crate::{children, copying, counting, creating, ending, handles, processes, reaping, signaling};
+use crate::{
+    children, copying, counting, creating, ending, handles, processes, reaping, signaling,
+};
 use ob_name::NameRef;
 use ob_rights::{Fault, Kind, Rights};
 use ob_store::{Limits, Seat, Store};

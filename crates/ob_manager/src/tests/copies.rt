@@ -3,6 +3,7 @@ use super::*;
 
 /// The options of a duplicate.
 const CLOSE_SOURCE: u32 = 1;
+
 const SAME_ACCESS: u32 = 2;
 
 fn duplicated(handle: u32, id: Id) -> Reply {

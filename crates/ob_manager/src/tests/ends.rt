@@ -59,11 +59,7 @@ fn plays_the_last_thread<K: PinKeeper>(rt: &impl Abort, manager: &mut Manager<K>
     gives(rt, manager.counts(object(0, 1)), handled(0));
     gives(rt, manager.thread(1), refused(Fault::Parameter));
     gives(rt, manager.exit(1), refused(Fault::Parameter));
-    gives(
-        rt,
-        manager.reap(0),
-        reaped(object(0, 1), Reclaim::Freed),
-    );
+    gives(rt, manager.reap(0), reaped(object(0, 1), Reclaim::Freed));
     gives(rt, manager.spawn(1), spawned(2, 3));
 }
 
