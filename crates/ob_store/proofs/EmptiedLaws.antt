@@ -40,7 +40,7 @@ emptied_some ts p place e found =
     let v : ℕ = 4 * (place + 1) in
     let t : List (Option Entry) = table_of ts p in
     let after : table_of (without_entry_of ts p v) p ≡ set t place None =
-        get_or-set_same ts p _ [] (found_table ts p v e found) ∙ without_found t v e found ∙ ap (λ k. set t k None) (place_is place) in
+    get_or-set_same ts p _ [] (found_table ts p v e found) ∙ without_found t v e found ∙ ap (λ k. set t k None) (place_is place) in
     record {
       long = length-set ts p _;
       rest = twice ts p _ [];

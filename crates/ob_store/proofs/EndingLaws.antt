@@ -1,9 +1,7 @@
 -- Threads and processes end: what is sound stays so, and is on its way to the settled state.
 use Rattle.std.proofs.Common.{◌≡◌, ◌≢◌, ℕ, ◌+◌, ◌-◌, ◌<◌, ◌≤◌, List, [], ◌∷◌, length, Option, Some, None, refl, ap, ◌∙◌, sym, subst, arith, get_or, set, map, Bool, true, false, cond, inl, inr, eqb}
 use Rattle.std.specs.Prelude.{IsSome, is_some, sum_by}
-use Rattle.std.specs.List.{list_any}
 use Rattle.std.proofs.lemmas.List.{length-set, length-map, get_or_past, get_or-set_same, get_or-set_other, get_or-map, ext_get_or}
-use Rattle.std.proofs.lemmas.List.Folds.{list_any_at}
 use Rattle.std.proofs.lemmas.Bool.{cases_eq, cases_lt}
 use Rattle.std.proofs.lemmas.Bool.Decides.{nat_tests}
 use Rattle.pin_core.specs.declared.id.Id.{Id}
@@ -11,6 +9,7 @@ use Rattle.pin_words.specs.Keepers.{KeeperState}
 use Rattle.ob_body.specs.declared.body.Body.{Body}
 use Rattle.ob_body.specs.declared.body.Body.TheVariants.{Event, Mutex, Semaphore}
 use Rattle.ob_body.specs.Mutex as mutex
+use Rattle.ob_body.specs.Mutex.{is_owner}
 use Rattle.ob_body.specs.Body.{owner_of, after_abandon}
 use Rattle.ob_body.proofs.Effects.{room_after_abandon}
 use Rattle.ob_name.specs.Listing.{Rows}
@@ -35,10 +34,10 @@ use Rattle.ob_waits.proofs.Room.{room_changed, room_dropped}
 use Rattle.ob_waits.proofs.TrackedLaws.{thread_waits}
 use Rattle.ob_store.specs.declared.limits.Limits.{Limits}
 use Rattle.ob_store.specs.Agreement.{IsTied}
-use Rattle.ob_store.specs.Lives.{LivesState, is_of}
+use Rattle.ob_store.specs.Lives.{LivesState}
 use Rattle.ob_store.specs.Objects.{Object, ObjectsState, KeptRest, kept_rest, opened, without_handle_of}
 use Rattle.ob_store.specs.State.{State, state_of, objects_of, with_scene, settled, by_slot}
-use Rattle.ob_store.specs.Ends.{process_ended, slot_left_by, thread_ended, unless_threads}
+use Rattle.ob_store.specs.Ends.{slot_left_by, thread_ended}
 use Rattle.ob_store.specs.Kept.{IsKept, IsCounted, IsNamed, IsQuiet, IsLive, AreFormed, AreOfLive, IsListing}
 use Rattle.ob_store.specs.Moves.{OnlyCloses}
 use Rattle.ob_store.specs.UnderWay.{AreLeft, IsSound, IsUnderWay}
@@ -50,6 +49,7 @@ use Rattle.ob_store.proofs.ListingLaws.{listing_counts}
 use Rattle.ob_store.proofs.SettledLaws.{ends_before}
 use Rattle.ob_store.proofs.KeptLaws.{same_generations, same_shape}
 use Rattle.ob_store.proofs.LeavingLaws.{ended_gone, left_same, left_gone, left_removed, only_closes, sound_removed}
+use Rattle.ob_store.proofs.OwnerLaws.{left_by_other}
 use Rattle.ob_store.proofs.RemovedLaws.{sound_of}
 
 pub left_more : (a b c : List (Option Body)) → AreLeft a b → AreLeft b c → AreLeft a c
@@ -205,11 +205,13 @@ module _ (first : KeeperState) (limits : Limits) (l : LivesState) (ts : HandleTa
 
   owner_at : (k u : ℕ) → slot_owner (get_or q.seen.bodies k None) ≡ Some u → (slot_owner (get_or o.seen.bodies k None) ≡ Some u) × (u ≢ t)
   owner_at k u h =
-      let own = owner_left_by t u (get_or p.seen.bodies k None) (sym (ap slot_owner (body_is k)) ∙ h) in
-      (elim (fewer.each k) [
-        | inl same ↦ sym (ap slot_owner same) ∙ own.0
-        | inr none ↦ absurd (let e = ap slot_owner none in let f = own.0 in cc (e, f))
-      ], own.1)
+      let own = owner_left_by t u (get_or p.seen.bodies k None) (sym (ap slot_owner (body_is k)) ∙ h) in (
+        elim (fewer.each k) [
+          | inl same ↦ sym (ap slot_owner same) ∙ own.0
+          | inr none ↦ absurd (let e = ap slot_owner none in let f = own.0 in cc (e, f))
+        ],
+        own.1,
+      )
 
   of_live_after : AreOfLive (set l.threads t None) q.seen.bodies dropped
   of_live_after = record {
@@ -452,20 +454,10 @@ abandoned_more t i old now after is long here done k lt = ap (λ (x : List (Opti
 pub all_abandoned : (t n : ℕ) (old now : List (Option Body)) → length now ≡ length old → length old ≤ n → ((k : ℕ) → k < n → get_or now k None ≡ slot_left_by t (get_or old k None)) → now ≡ map (slot_left_by t) old
 all_abandoned t n old now long few done = ext_get_or None now (map (slot_left_by t) old) (long ∙ sym (length-map old (slot_left_by t))) (λ k lt. done k (omega (arith, lt, long, few)) ∙ sym (at_left_by t old k))
 
--- a process has no live thread
-pub alone_of : (threads : List (Option ℕ)) (p : ℕ) → list_any (is_of p) threads ≡ false → (t : ℕ) → get_or threads t None ≡ Some p → ⊥
-alone_of threads p none t is = elim (cases_lt t (length threads)) [
-  | inl lt ↦ (let own : is_of p (get_or threads t None) ≡ true = ap (is_of p) is ∙ same p in
-      let any = list_any_at (is_of p) threads t None lt own in cc (any, none))
-  | inr le ↦ (let past = get_or_past threads t None le in cc (past, is))
-]
-  where
-    same : (p : ℕ) → eqb p p ≡ true
-    same p = grind (arith, nat_tests)
-
--- and ends with its last thread
-pub way_unless : (first : KeeperState) (limits : Limits) (l l' : LivesState) (ts ts' : HandleTables) (o o' : ObjectsState) (ws : WaitList) (rows rows' : Rows) (s : State) (p : ℕ) (c : Bool) → IsUnderWay first limits l ts o ws rows s
-    → c ≡ list_any (is_of p) l.threads → IsUnderWay first limits l' ts' o' ws rows' (cond c s (process_ended s p)) → IsUnderWay first limits l' ts' o' ws rows' (unless_threads s p)
-way_unless first limits l l' ts ts' o o' ws rows rows' s p c way any after =
-    let same : c ≡ list_any (is_of p) s.threads = any ∙ ap (λ (x : State). list_any (is_of p) x.threads) way.rest in
-    subst (λ (b : Bool). IsUnderWay first limits l' ts' o' ws rows' (cond b s (process_ended s p))) same after
+-- and where the thread owns none any more all are
+pub abandoned_early : (t i : ℕ) (old now : List (Option Body)) → length now ≡ length old → ((k : ℕ) → k < i → get_or now k None ≡ slot_left_by t (get_or old k None)) → ((k : ℕ) → i ≤ k → get_or now k None ≡ get_or old k None)
+    → ((k : ℕ) → is_owner t (slot_owner (get_or now k None)) ≡ false) → now ≡ map (slot_left_by t) old
+abandoned_early t i old now long done above none = all_abandoned t (length old) old now long (omega arith) (λ k lt. elim (cases_lt k i) [
+  | inl below ↦ done k below
+  | inr past ↦ above k past ∙ sym (left_by_other t (get_or old k None) (sym (ap (λ x. is_owner t (slot_owner x)) (above k past)) ∙ none k))
+])

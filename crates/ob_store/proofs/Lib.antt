@@ -13,6 +13,7 @@ pub mod DirectoryLaws
 pub mod ListingLaws
 pub mod SettledLaws
 pub mod KeptLaws
+pub mod OwnerLaws
 pub mod LeavingLaws
 pub mod RemovedLaws
 pub mod EmptiedLaws

@@ -8,6 +8,7 @@ pub mod Kept
 pub mod Moves
 pub mod Waiting
 pub mod Ends
+pub mod Owners
 pub mod UnderWay
 pub mod Consistent
 pub mod Stored

@@ -93,7 +93,9 @@ fn end_all<K: PinKeeper>(
     ensures gone { (t : ℕ) → slice_index_or lives.new.threads t None ≡ Some process → ⊥ }
 {
     for thread in 0..lives.next_thread() {
-        end_of(limits, lives, tables, objects, waits, names, process, thread);
+        end_of(
+            limits, lives, tables, objects, waits, names, process, thread,
+        );
     }
 }
 
@@ -191,7 +193,8 @@ fn leave_process<K: PinKeeper>(
 
 impl<K: PinKeeper> Store<K> {
     /// A live thread ends, and with the last thread of a process that: the thread's wait is dropped, its mutexes are abandoned,
-    /// and the waits settle. It looks at each slot and each thread number that was given.
+    /// and the waits settle. It looks at the slots up to the
+    /// last mutex that the thread owned, and at each thread number that was given.
     pub fn end_thread(&mut self, thread: u32, process: u32)
         requires live { slice_index_or self.old.state.threads thread None ≡ Some process }
         ensures state { self.new.state ≡ settled (left self.old.state process thread) }

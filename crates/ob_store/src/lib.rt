@@ -23,6 +23,7 @@ mod limits;
 mod lives;
 mod numbers;
 mod objects;
+mod owners;
 mod pinning;
 mod pins;
 mod processes;

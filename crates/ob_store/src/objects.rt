@@ -1,9 +1,11 @@
-ghost use Rattle.std.specs.Prelude.{◌≡◌, ℕ, ◌+◌, ◌<◌, ◌≤◌, true, IfOk, IfErr, IfSome, IsSome, None, Some, length, map, slice_index_or, slice_set};
+ghost use Rattle.std.specs.Prelude.{◌≡◌, ℕ, ◌+◌, ◌<◌, ◌≤◌, false, true, IfOk, IfErr, IfSome, IsSome, IsTrue, None, Some, length, map, slice_index_or, slice_set};
 ghost use Rattle.std.specs.Option.{option_map};
 ghost use Rattle.pin_words.specs.Keepers.{IsFresh};
 ghost use Rattle.pin_words.specs.Views.{id_of};
 ghost use Rattle.pin_core.specs.Descrs.{IsGiven};
 ghost use Rattle.ob_arena.specs.Slots.{is_vacant_at, least_vacant};
+ghost use Rattle.ob_body.specs.Mutex.{is_owner};
+ghost use Rattle.ob_waits.specs.Form.{slot_owner};
 ghost use Rattle.ob_waits.specs.Waits.{nowhere};
 ghost use Rattle.ob_store.specs.Objects.{kept_rest, object_of, places_in, with_keeper, vacant_places, vacancy, with_object, with_handle_of, with_handle_at, with_handles_of, without_handle_of, with_block_of, with_blocks_of};
 ghost use Rattle.ob_store.specs.Agreement.{IsTied, Reclaimed};
@@ -44,8 +46,9 @@ impl<K: PinKeeper> Model for Objects<K> {
 }
 
 impl<K: PinKeeper> Objects<K> {
-    /// As many slots as the keeper has, and no object. The keeper comes back where memory is wanting.
-    pub fn new(alloc: Global, slots: u32, keeper: K) -> Result<Objects<K>, K>
+    /// As many slots as the keeper has, and no object. The keeper comes back where memory is wanting. The mutexes of threads
+    /// below `threads` are counted, so that [`abandon`](Objects::abandon) looks no further than for what a thread has.
+    pub fn new(alloc: Global, slots: u32, threads: u32, keeper: K) -> Result<Objects<K>, K>
         requires fresh { IsFresh (K.kept keeper) (K.kept keeper).shape }
         requires slots { slots ≡ (K.kept keeper).shape.slots }
         requires few { slots ≤ SLOTS_MAX }
@@ -54,7 +57,7 @@ impl<K: PinKeeper> Objects<K> {
         ensures ok { IfOk result (λ o. o ≡ with_keeper (vacant_places slots) 0 (K.kept keeper)) }
         ensures err { IfErr result (λ k. k ≡ keeper) }
     {
-        match Seats::new(alloc, slots) {
+        match Seats::new(alloc, slots, threads) {
             Ok(seats) => Ok(Objects {
                 seats,
                 births: 0,
@@ -212,7 +215,15 @@ impl<K: PinKeeper> Objects<K> {
         self.put(id, body);
     }
 
-    /// The mutexes that a thread owns are abandoned. It looks at each slot.
+    /// Whether it is known that a thread owns no mutex.
+    fn owns_none(&self, thread: u32) -> bool
+        ensures { IsTrue result → (k : ℕ) → is_owner thread (slot_owner (slice_index_or self.now.seen.bodies k None)) ≡ false }
+    {
+        self.seats.owns_none(thread)
+    }
+
+    /// The mutexes that a thread owns are abandoned. It looks at the slots up to the last of them, and at none where the
+    /// thread owns none.
     pub fn abandon(&mut self, thread: u32)
         ensures seen { self.new.seen ≡ record self.old.seen { bodies = map (slot_left_by thread) self.old.seen.bodies } }
         ensures rest { kept_rest self.new ≡ kept_rest self.old }
@@ -220,6 +231,9 @@ impl<K: PinKeeper> Objects<K> {
         // What it says is wanted here: that there are as many bodies as slots.
         self.kept();
         for slot in 0..self.slots() {
+            if self.owns_none(thread) {
+                return;
+            }
             self.abandon_at(slot, thread);
         }
     }

@@ -1,9 +1,13 @@
-ghost use Rattle.std.specs.Prelude.{◌≡◌, ◌<◌, ◌≤◌, ◌&&◌, true, IfOk, IfSome, IsSome, None, Some, is_some, length, slice_index_or};
+ghost use Rattle.std.specs.Prelude.{◌≡◌, ◌<◌, ◌≤◌, ◌&&◌, ℕ, false, true, IfOk, IfSome, IsSome, IsTrue, None, Some, is_some, length, slice_index_or};
 ghost use Rattle.std.specs.Option.{option_map};
+ghost use Rattle.ob_body.specs.Mutex.{is_owner};
+ghost use Rattle.ob_waits.specs.Form.{slot_owner};
+ghost use Rattle.ob_store.specs.Owners.{seat_owner};
 ghost use Rattle.ob_arena.specs.Slots.{is_vacant_at, least_vacant};
 ghost use Rattle.ob_waits.specs.Objects.{body_of, with_body, without_block};
 ghost use Rattle.ob_store.specs.Objects.{object_of, rest_of, vacant_places, vacancy, with_seat, with_handle, without_handle, is_last_handle, with_block, is_last_block, without_seat, with_retired};
 
+use crate::owners::Owners;
 use crate::seat::Seat;
 use ob_arena::{Arena, SLOTS_MAX};
 use ob_body::Body;
@@ -17,6 +21,7 @@ use std::marker::Model;
 #[derive(Drop)]
 pub(crate) struct Seats {
     arena: Arena<Seat>,
+    owners: Owners,
 }
 
 impl Model for Seats {
@@ -25,16 +30,43 @@ impl Model for Seats {
     ghost Value = { Places };
 
     ghost view = { λ s. places_of s.arena };
+
+    ghost use Rattle.ob_store.specs.Owners.{IsOwned};
+
+    // Hidden from the value: how many mutexes each thread owns.
+    ghost invariant = { λ s. IsOwned s.arena.bodies s.owners };
+}
+
+/// The thread that owns the mutex in a slot.
+fn owner_in(arena: &Arena<Seat>, slot: u32) -> Option<u32>
+    ensures { result ≡ seat_owner (slice_index_or arena.now.bodies slot None) }
+{
+    if !arena.is_occupied(slot) {
+        return None;
+    }
+    match arena.get(slot).body {
+        Some(body) => body.owner(),
+        None => None,
+    }
 }
 
 impl Seats {
-    pub(crate) fn new(alloc: Global, slots: u32) -> Result<Seats, AllocError>
+    /// Slots without an object. The mutexes of threads below `threads` are counted.
+    pub(crate) fn new(alloc: Global, slots: u32, threads: u32) -> Result<Seats, AllocError>
         requires { slots ≤ SLOTS_MAX }
         ensures { IfOk result (λ seats. seats ≡ vacant_places slots) }
     {
         Ok(Seats {
             arena: Arena::new(alloc, slots)?,
+            owners: Owners::new(alloc, threads)?,
         })
+    }
+
+    /// Whether it is known that a thread owns no mutex.
+    pub(crate) fn owns_none(&self, thread: u32) -> bool
+        ensures { IsTrue result → (k : ℕ) → is_owner thread (slot_owner (slice_index_or self.now.seen.bodies k None)) ≡ false }
+    {
+        self.owners.has_none(thread)
     }
 
     /// How many slots there are.
@@ -81,6 +113,7 @@ impl Seats {
     {
         self.arena
             .put(id.slot, Seat::new(id, birth, descr, grant, name, body));
+        self.owners.moved(None, body.owner());
     }
 
     /// One handle more.
@@ -99,7 +132,11 @@ impl Seats {
         ensures value { self.new ≡ without_handle self.old slot }
         ensures ended { result ≡ is_some (slice_index_or self.old.seen.bodies slot None) && is_last_handle self.old slot }
     {
-        self.arena.get_mut(slot).handle_left()
+        let before = owner_in(&self.arena, slot);
+        let ended = self.arena.get_mut(slot).handle_left();
+        let after = owner_in(&self.arena, slot);
+        self.owners.moved(before, after);
+        ended
     }
 
     /// One more place of a pending wait names the object.
@@ -117,7 +154,9 @@ impl Seats {
         ensures value { self.new ≡ without_seat self.old slot }
         ensures vacant { is_vacant_at (vacancy self.new) slot ≡ true }
     {
+        let before = owner_in(&self.arena, slot);
         drop(self.arena.take(slot));
+        self.owners.moved(before, None);
     }
 
     /// A vacant slot is never given again.
@@ -144,7 +183,9 @@ impl Seats {
         ensures objects { self.new.seen ≡ with_body self.old.seen id body }
         ensures rest { rest_of self.new ≡ rest_of self.old }
     {
+        let before = owner_in(&self.arena, id.slot);
         self.arena.get_mut(id.slot).body = Some(body);
+        self.owners.moved(before, body.owner());
     }
 
     /// One block fewer, where there is one; whether the object ended.
@@ -156,6 +197,10 @@ impl Seats {
         if !self.arena.is_occupied(id.slot) {
             return false;
         }
-        self.arena.get_mut(id.slot).block_left()
+        let before = owner_in(&self.arena, id.slot);
+        let ended = self.arena.get_mut(id.slot).block_left();
+        let after = owner_in(&self.arena, id.slot);
+        self.owners.moved(before, after);
+        ended
     }
 }

@@ -61,7 +61,7 @@ impl<K: PinKeeper> Store<K> {
         let Ok(tables) = Tables::new(alloc, limits.processes, limits.handles) else {
             return Err(keeper);
         };
-        match Objects::new(alloc, limits.slots, keeper) {
+        match Objects::new(alloc, limits.slots, limits.threads + 1, keeper) {
             Ok(objects) => {
                 return Ok(Store {
                     limits,

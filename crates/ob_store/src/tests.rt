@@ -147,7 +147,7 @@ fn a_slot_is_given_again_and_then_retired(rt: HostRuntime) -> Result<(), Fail> {
         return Err(Fail::from(Fault::Parameter));
     };
     let keeper = LockedPins::new(rt.alloc(), shape)?;
-    let Ok(mut objects) = Objects::new(rt.alloc(), 1, keeper) else {
+    let Ok(mut objects) = Objects::new(rt.alloc(), 1, 4, keeper) else {
         return Err(Fail::from(Fault::Memory));
     };
     plays_two_generations(&rt, &mut objects);
@@ -155,7 +155,7 @@ fn a_slot_is_given_again_and_then_retired(rt: HostRuntime) -> Result<(), Fail> {
     let Ok((keeper, reader)) = opening.start(&pins) else {
         return Err(Fail::from(Fault::Memory));
     };
-    let Ok(mut objects) = Objects::new(rt.alloc(), 1, keeper) else {
+    let Ok(mut objects) = Objects::new(rt.alloc(), 1, 4, keeper) else {
         return Err(Fail::from(Fault::Memory));
     };
     plays_two_generations(&rt, &mut objects);
@@ -169,7 +169,7 @@ fn an_object_stays_until_its_last_reference_leaves(rt: HostRuntime) -> Result<()
         return Err(Fail::from(Fault::Parameter));
     };
     let keeper = LockedPins::new(rt.alloc(), shape)?;
-    let Ok(mut objects) = Objects::new(rt.alloc(), 1, keeper) else {
+    let Ok(mut objects) = Objects::new(rt.alloc(), 1, 4, keeper) else {
         return Err(Fail::from(Fault::Memory));
     };
     let Some(id) = made(&mut objects, EVENT) else {
@@ -193,7 +193,7 @@ fn each_place_of_a_list_is_a_block(rt: HostRuntime) -> Result<(), Fail> {
         return Err(Fail::from(Fault::Parameter));
     };
     let keeper = LockedPins::new(rt.alloc(), shape)?;
-    let Ok(mut objects) = Objects::new(rt.alloc(), 1, keeper) else {
+    let Ok(mut objects) = Objects::new(rt.alloc(), 1, 4, keeper) else {
         return Err(Fail::from(Fault::Memory));
     };
     assert!(rt; blocks_of_two_places(&mut objects) == Some(2));
@@ -206,7 +206,7 @@ fn a_pinned_slot_is_held(rt: HostRuntime) -> Result<(), Fail> {
         return Err(Fail::from(Fault::Parameter));
     };
     let keeper = LockedPins::new(rt.alloc(), shape)?;
-    let Ok(mut objects) = Objects::new(rt.alloc(), 1, keeper) else {
+    let Ok(mut objects) = Objects::new(rt.alloc(), 1, 4, keeper) else {
         return Err(Fail::from(Fault::Memory));
     };
     let Some(id) = made(&mut objects, EVENT) else {

@@ -1,6 +1,6 @@
 use Rattle.std.proofs.Common.{◌∙◌, None, ap, arith, length, get_or}
 use Rattle.std.proofs.lemmas.List.{length-set, get_or-set_other}
-use Rattle.ob_store.proofs.EndingLaws.{abandoned_more, all_abandoned}
+use Rattle.ob_store.proofs.EndingLaws.{abandoned_early, abandoned_more, all_abandoned}
 use Rattle.ob_store.proofs.objects.Objects.abandon.Goals as goal
 
 pub loop-slot-preserved : goal.loop-slot-preserved
@@ -21,5 +21,11 @@ loop-slot-preserved g c =
 pub returns-clause-seen : goal.returns-clause-seen
 returns-clause-seen g c =
     let bodies = all_abandoned c.args.thread c.loop-slot.slot c.args.self.now.seen.bodies c.loop-slot.self.seen.bodies c.loop-slot.invariant.long
-        (let slots = c.kept.ensures.agreed.bodied in let end = c.slots-slot-end.ensures in let past = c.loop-slot-test.false in omega (arith, slots, end, past)) c.loop-slot.invariant.done in
+    (let slots = c.kept.ensures.agreed.bodied in let end = c.slots-slot-end.ensures in let past = c.loop-slot-test.false in omega (arith, slots, end, past)) c.loop-slot.invariant.done in
+    λ i. record { bodies = bodies i; handles = c.loop-slot.invariant.handles i; blocks = c.loop-slot.invariant.blocks i }
+
+pub returns-then-owns_none-clause-seen : goal.returns-then-owns_none-clause-seen
+returns-then-owns_none-clause-seen g c =
+    let bodies = abandoned_early c.args.thread c.loop-slot.slot c.args.self.now.seen.bodies c.loop-slot.self.seen.bodies c.loop-slot.invariant.long c.loop-slot.invariant.done c.loop-slot.invariant.above
+    (c.owns_none.ensures c.if-owns_none.true) in
     λ i. record { bodies = bodies i; handles = c.loop-slot.invariant.handles i; blocks = c.loop-slot.invariant.blocks i }

@@ -1,8 +1,10 @@
-use Rattle.std.proofs.Common.{◌≡◌, ◌∙◌, ap, refl, sym, subst, set, get_or, map, true, Some}
+use Rattle.std.proofs.Common.{◌≡◌, ◌∙◌, ap, refl, sym, subst, set, get_or, map, true, None, Some}
 use Rattle.ob_arena.specs.Slots.{Slots, is_vacant_at}
 use Rattle.ob_store.specs.declared.seat.Seat.{Seat}
 use Rattle.ob_store.specs.Objects.{Object, Places, places_of, seat_handles, vacancy, with_seat}
 use Rattle.ob_store.proofs.SeatLaws.{places_added, added_handle}
+use Rattle.ob_store.specs.Owners.{IsOwned, seat_owner}
+use Rattle.ob_store.proofs.OwnerLaws.{moved_owned, owned_few, vacant_seat}
 use Rattle.ob_store.proofs.seats.Seats.add.Goals as goal
 
 pub returns-clause-value : goal.returns-clause-value
@@ -20,3 +22,15 @@ returns-clause-handle c =
     c.put.ensures ∙ ap (λ (x : Seat). record c.self.inside.arena { bodies = set c.self.inside.arena.bodies c.args.id.slot (Some x) }) c.new.ensures in
     ap (λ (s : Slots Seat). get_or (map seat_handles s.bodies) c.args.id.slot 0) arena
     ∙ added_handle c.self.inside.arena c.args.id.slot seat refl (subst (λ (p : Places). is_vacant_at (vacancy p) c.args.id.slot ≡ true) (sym c.self.view_is) c.requires)
+
+pub moved-requires : goal.moved-requires
+moved-requires c = owned_few c.self.inside.arena.bodies c.self.inside.owners c.self.invariant
+
+pub invariant_of-self : goal.invariant_of-self
+invariant_of-self c =
+    let seat : Seat = record { id = c.args.id; birth = c.args.birth; descr = c.args.descr; grant = c.args.grant; handles = 1; blocks = 0; body = Some c.args.body; name = c.args.name } in
+    let arena : c.put.new.self ≡ record c.self.inside.arena { bodies = set c.self.inside.arena.bodies c.args.id.slot (Some seat) } =
+    c.put.ensures ∙ ap (λ (x : Seat). record c.self.inside.arena { bodies = set c.self.inside.arena.bodies c.args.id.slot (Some x) }) c.new.ensures in
+    let vacant = vacant_seat c.self.inside.arena c.args.id.slot (subst (λ (p : Places). is_vacant_at (vacancy p) c.args.id.slot ≡ true) (sym c.self.view_is) c.requires) in
+    subst (λ (s : Slots Seat). IsOwned s.bodies c.moved.new.self) (sym arena) (rw c.moved.ensures (moved_owned c.self.inside.arena.bodies c.self.inside.owners c.args.id.slot (Some seat) None c.owner.result c.self.invariant
+    vacant.0 (ap seat_owner (sym vacant.1)) c.owner.ensures.owner))
