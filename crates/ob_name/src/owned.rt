@@ -8,7 +8,7 @@ use std::alloc::{AllocError, Global};
 use std::marker::Model;
 
 /// How many bytes a name may have that takes no memory beside itself.
-const INLINE: usize = 32;
+const INLINE: usize = 16;
 
 /// A name that is borrowed of nobody: one that [`Directory::reserve`] copied, to be entered, or one that an object keeps.
 ///
