@@ -3,17 +3,21 @@ ghost use Rattle.ob_name.specs.Refs.{name_at};
 
 use crate::name::NameRef;
 use crate::space::Space;
+use smallvec::SmallVec;
 use std::alloc::{AllocError, Global};
 use std::marker::Model;
 
-/// A name in memory of its own: one that [`Directory::reserve`] copied, to be entered, or one that an object keeps.
+/// How many bytes a name may have that takes no memory beside itself.
+const INLINE: usize = 16;
+
+/// A name that is borrowed of nobody: one that [`Directory::reserve`] copied, to be entered, or one that an object keeps.
 ///
 /// [`Directory::reserve`]: crate::Directory::reserve
 #[derive(Drop)]
 pub struct Name {
     // The session's number, 0 for the global namespace.
     session: u32,
-    base: Vec<u8>,
+    base: SmallVec<u8, INLINE>,
 }
 
 impl Model for Name {
@@ -32,11 +36,9 @@ impl Name {
     pub fn new(alloc: Global, name: &NameRef<'_>) -> Result<Name, AllocError>
         ensures { IfOk result (λ copy. copy ≡ name_at name.now) }
     {
-        let mut base = Vec::with_capacity(alloc, name.base.len())?;
-        base.extend_from_slice(name.base)?;
         Ok(Name {
             session: name.space.session(),
-            base,
+            base: SmallVec::from_slice(alloc, name.base)?,
         })
     }
 

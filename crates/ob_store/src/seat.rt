@@ -9,20 +9,21 @@ use pin_core::{Descr, Id};
 /// An object in its slot, and how much refers to it.
 #[derive(Drop)]
 pub struct Seat {
+    // What calls read most stands first, on one cache line.
     /// Its Id, whose slot this is.
     pub id: Id,
-    /// Its number, in the order of births, from 0.
-    pub birth: u64,
-    /// What it is, for its whole life.
-    pub descr: Descr,
-    /// The rights that an open or a duplicate may get (*profile*).
-    pub grant: Rights,
     /// How many handles name it.
     pub handles: u32,
+    /// The rights that an open or a duplicate may get (*profile*).
+    pub grant: Rights,
     /// How many places of pending waits name it.
     pub blocks: u64,
     /// Its body: none once nothing refers to it.
     pub body: Option<Body>,
+    /// Its number, in the order of births, from 0.
+    pub birth: u64,
+    /// What it is, for its whole life.
+    pub descr: Descr,
     /// Its name, if it was created with one.
     pub name: Option<Name>,
 }
@@ -41,12 +42,12 @@ impl Seat {
     {
         Seat {
             id,
-            birth,
-            descr,
-            grant,
             handles: 1,
+            grant,
             blocks: 0,
             body: Some(body),
+            birth,
+            descr,
             name,
         }
     }
