@@ -24,14 +24,14 @@ fn making(name: Option<Text>) -> Making {
 }
 
 /// The reply to a call, which is made again where memory was wanting: that changed nothing.
-fn asked<K: PinKeeper>(manager: &mut Manager<K>, call: &Call) -> Reply {
+pub(super) fn asked<K: PinKeeper>(manager: &mut Manager<K>, call: &Call) -> Reply {
     match manager.apply(call) {
         Reply::Refused(Fault::Memory) => manager.apply(call),
         reply => reply,
     }
 }
 
-fn call_for_event(alloc: Global, name: &[u8]) -> Result<Call, Fail> {
+pub(super) fn call_for_event(alloc: Global, name: &[u8]) -> Result<Call, Fail> {
     Ok(Call::MakeEvent {
         thread: 1,
         make: making(Some(text(alloc, name)?)),
@@ -48,7 +48,7 @@ fn call_for_mutex(alloc: Global, name: &[u8]) -> Result<Call, Fail> {
     })
 }
 
-fn call_for_semaphore(alloc: Global, name: &[u8]) -> Result<Call, Fail> {
+pub(super) fn call_for_semaphore(alloc: Global, name: &[u8]) -> Result<Call, Fail> {
     Ok(Call::MakeSemaphore {
         thread: 1,
         make: making(Some(text(alloc, name)?)),

@@ -1,4 +1,5 @@
 //! Children, and duplicates of handles.
+use super::applying::{asked, call_for_event};
 use super::*;
 
 /// The options of a duplicate.

@@ -1,5 +1,6 @@
 ghost use Rattle.std.specs.Prelude.{◌≤◌};
 
+use super::applying::{asked, call_for_event, call_for_semaphore};
 use super::*;
 
 fn code(code: u32) -> Reply {
