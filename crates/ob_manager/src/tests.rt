@@ -81,6 +81,67 @@ fn locked(alloc: Global, limits: Limits) -> Result<Manager<LockedPins>, Fault> {
     }
 }
 
+/// What is played over any manager.
+#[derive(Clone, Copy)]
+enum Play {
+    TwoGenerations,
+    Name,
+    Opens,
+    Releases,
+    Rights,
+    TwoHandles,
+    TwoProcesses,
+    Children,
+    Thread,
+    LastThread,
+    Exit,
+    KeptObject,
+    WaitForAll,
+    TwoWaiters,
+    WaiterForMutex,
+}
+
+fn plays<K: PinKeeper>(rt: &impl Abort, play: Play, manager: &mut Manager<K>) {
+    match play {
+        Play::TwoGenerations => plays_two_generations(rt, manager),
+        Play::Name => plays_a_name(rt, manager),
+        Play::Opens => plays_opens(rt, manager),
+        Play::Releases => plays_releases(rt, manager),
+        Play::Rights => copies::plays_rights(rt, manager),
+        Play::TwoHandles => copies::plays_two_handles(rt, manager),
+        Play::TwoProcesses => copies::plays_two_processes(rt, manager),
+        Play::Children => copies::plays_children(rt, manager),
+        Play::Thread => ends::plays_a_thread(rt, manager),
+        Play::LastThread => ends::plays_the_last_thread(rt, manager),
+        Play::Exit => ends::plays_an_exit(rt, manager),
+        Play::KeptObject => waiting::plays_a_kept_object(rt, manager),
+        Play::WaitForAll => waiting::plays_a_wait_for_all(rt, manager),
+        Play::TwoWaiters => waiting::plays_two_waiters(rt, manager),
+        Play::WaiterForMutex => waiting::plays_a_waiter_for_a_mutex(rt, manager),
+    }
+}
+
+/// Plays over pins under a lock.
+fn over_locked(rt: &impl Abort, alloc: Global, limits: Limits, play: Play) -> Result<(), Fail> {
+    let mut manager = locked(alloc, limits)?;
+    plays(rt, play, &mut manager);
+    Ok(())
+}
+
+/// Plays over pins in words.
+fn over_words(rt: &impl Abort, alloc: Global, limits: Limits, play: Play) -> Result<(), Fail> {
+    let (pins, opening) = Pins::new(alloc, limits.shape())?;
+    let Ok((keeper, reader)) = opening.start(&pins) else {
+        return Err(Fail::from(Fault::Memory));
+    };
+    let Ok(mut manager) = Manager::new(alloc, limits, keeper) else {
+        return Err(Fail::from(Fault::Memory));
+    };
+    plays(rt, play, &mut manager);
+    reader.finish();
+    Ok(())
+}
+
 /// One slot with two generations: it is given twice, and then never again.
 fn plays_two_generations<K: PinKeeper>(rt: &impl Abort, manager: &mut Manager<K>) {
     let (first, second) = (object(0, 1), object(0, 2));
@@ -117,18 +178,8 @@ fn plays_two_generations<K: PinKeeper>(rt: &impl Abort, manager: &mut Manager<K>
 #[test]
 fn a_slot_is_given_again_and_then_retired(rt: HostRuntime) -> Result<(), Fail> {
     let limits = Limits::checked(1, 4, 4, 8, 4, 4, 2, 4)?;
-    let mut manager = locked(rt.alloc(), limits)?;
-    plays_two_generations(&rt, &mut manager);
-    let (pins, opening) = Pins::new(rt.alloc(), limits.shape())?;
-    let Ok((keeper, reader)) = opening.start(&pins) else {
-        return Err(Fail::from(Fault::Memory));
-    };
-    let Ok(mut manager) = Manager::new(rt.alloc(), limits, keeper) else {
-        return Err(Fail::from(Fault::Memory));
-    };
-    plays_two_generations(&rt, &mut manager);
-    reader.finish();
-    Ok(())
+    over_locked(&rt, rt.alloc(), limits, Play::TwoGenerations)?;
+    over_words(&rt, rt.alloc(), limits, Play::TwoGenerations)
 }
 
 /// A name is free once its object has no handle, before the slot is.
@@ -170,18 +221,8 @@ fn plays_a_name<K: PinKeeper>(rt: &impl Abort, manager: &mut Manager<K>) {
 #[test]
 fn a_name_is_given_again(rt: HostRuntime) -> Result<(), Fail> {
     let limits = Limits::default();
-    let mut manager = locked(rt.alloc(), limits)?;
-    plays_a_name(&rt, &mut manager);
-    let (pins, opening) = Pins::new(rt.alloc(), limits.shape())?;
-    let Ok((keeper, reader)) = opening.start(&pins) else {
-        return Err(Fail::from(Fault::Memory));
-    };
-    let Ok(mut manager) = Manager::new(rt.alloc(), limits, keeper) else {
-        return Err(Fail::from(Fault::Memory));
-    };
-    plays_a_name(&rt, &mut manager);
-    reader.finish();
-    Ok(())
+    over_locked(&rt, rt.alloc(), limits, Play::Name)?;
+    over_words(&rt, rt.alloc(), limits, Play::Name)
 }
 
 /// Opens within what a grant allows, and past it.
@@ -282,18 +323,8 @@ fn plays_opens<K: PinKeeper>(rt: &impl Abort, manager: &mut Manager<K>) {
 #[test]
 fn opens_get_what_the_grant_allows(rt: HostRuntime) -> Result<(), Fail> {
     let limits = Limits::default();
-    let mut manager = locked(rt.alloc(), limits)?;
-    plays_opens(&rt, &mut manager);
-    let (pins, opening) = Pins::new(rt.alloc(), limits.shape())?;
-    let Ok((keeper, reader)) = opening.start(&pins) else {
-        return Err(Fail::from(Fault::Memory));
-    };
-    let Ok(mut manager) = Manager::new(rt.alloc(), limits, keeper) else {
-        return Err(Fail::from(Fault::Memory));
-    };
-    plays_opens(&rt, &mut manager);
-    reader.finish();
-    Ok(())
+    over_locked(&rt, rt.alloc(), limits, Play::Opens)?;
+    over_words(&rt, rt.alloc(), limits, Play::Opens)
 }
 
 /// Semaphores are raised to their maximum, and a mutex is released by its owner.
@@ -383,18 +414,8 @@ fn plays_releases<K: PinKeeper>(rt: &impl Abort, manager: &mut Manager<K>) {
 #[test]
 fn semaphores_and_mutexes_are_released(rt: HostRuntime) -> Result<(), Fail> {
     let limits = Limits::default();
-    let mut manager = locked(rt.alloc(), limits)?;
-    plays_releases(&rt, &mut manager);
-    let (pins, opening) = Pins::new(rt.alloc(), limits.shape())?;
-    let Ok((keeper, reader)) = opening.start(&pins) else {
-        return Err(Fail::from(Fault::Memory));
-    };
-    let Ok(mut manager) = Manager::new(rt.alloc(), limits, keeper) else {
-        return Err(Fail::from(Fault::Memory));
-    };
-    plays_releases(&rt, &mut manager);
-    reader.finish();
-    Ok(())
+    over_locked(&rt, rt.alloc(), limits, Play::Releases)?;
+    over_words(&rt, rt.alloc(), limits, Play::Releases)
 }
 
 /// Whether the holder had a copy of the Id, and let it go.

@@ -26,7 +26,7 @@ fn moves<K: PinKeeper>(manager: &mut Manager<K>, handle: u32, target: Option<u32
 }
 
 /// Rights come from the source or from the grant; a duplicate that is refused for one closes its source all the same.
-fn plays_rights<K: PinKeeper>(rt: &impl Abort, manager: &mut Manager<K>) {
+pub(super) fn plays_rights<K: PinKeeper>(rt: &impl Abort, manager: &mut Manager<K>) {
     let first = object(0, 1);
     let make = Make {
         access: Some(Rights::SYNCHRONIZE),
@@ -59,22 +59,12 @@ fn plays_rights<K: PinKeeper>(rt: &impl Abort, manager: &mut Manager<K>) {
 #[test]
 fn a_duplicate_is_granted_its_rights(rt: HostRuntime) -> Result<(), Fail> {
     let limits = Limits::default();
-    let mut manager = locked(rt.alloc(), limits)?;
-    plays_rights(&rt, &mut manager);
-    let (pins, opening) = Pins::new(rt.alloc(), limits.shape())?;
-    let Ok((keeper, reader)) = opening.start(&pins) else {
-        return Err(Fail::from(Fault::Memory));
-    };
-    let Ok(mut manager) = Manager::new(rt.alloc(), limits, keeper) else {
-        return Err(Fail::from(Fault::Memory));
-    };
-    plays_rights(&rt, &mut manager);
-    reader.finish();
-    Ok(())
+    over_locked(&rt, rt.alloc(), limits, Play::Rights)?;
+    over_words(&rt, rt.alloc(), limits, Play::Rights)
 }
 
 /// Two handles for each process: the limit, a target that has ended, and no target.
-fn plays_two_handles<K: PinKeeper>(rt: &impl Abort, manager: &mut Manager<K>) {
+pub(super) fn plays_two_handles<K: PinKeeper>(rt: &impl Abort, manager: &mut Manager<K>) {
     let (first, second) = (object(0, 1), object(1, 1));
     gives(rt, manager.spawn(1), spawned(1, 1));
     gives(
@@ -111,22 +101,12 @@ fn plays_two_handles<K: PinKeeper>(rt: &impl Abort, manager: &mut Manager<K>) {
 #[test]
 fn a_refused_duplicate_closes_its_source(rt: HostRuntime) -> Result<(), Fail> {
     let limits = Limits::checked(64, 64, 256, 2, 8, 8, 8, 8)?;
-    let mut manager = locked(rt.alloc(), limits)?;
-    plays_two_handles(&rt, &mut manager);
-    let (pins, opening) = Pins::new(rt.alloc(), limits.shape())?;
-    let Ok((keeper, reader)) = opening.start(&pins) else {
-        return Err(Fail::from(Fault::Memory));
-    };
-    let Ok(mut manager) = Manager::new(rt.alloc(), limits, keeper) else {
-        return Err(Fail::from(Fault::Memory));
-    };
-    plays_two_handles(&rt, &mut manager);
-    reader.finish();
-    Ok(())
+    over_locked(&rt, rt.alloc(), limits, Play::TwoHandles)?;
+    over_words(&rt, rt.alloc(), limits, Play::TwoHandles)
 }
 
 /// Handles go to another process and back, and on to a child.
-fn plays_two_processes<K: PinKeeper>(rt: &impl Abort, manager: &mut Manager<K>) {
+pub(super) fn plays_two_processes<K: PinKeeper>(rt: &impl Abort, manager: &mut Manager<K>) {
     let first = object(0, 1);
     gives(rt, manager.spawn(1), spawned(1, 1));
     gives(rt, manager.spawn(2), spawned(2, 2));
@@ -159,7 +139,7 @@ fn plays_two_processes<K: PinKeeper>(rt: &impl Abort, manager: &mut Manager<K>) 
 }
 
 /// A child has the inheritable handles of its parent at their values, and so has its child.
-fn plays_children<K: PinKeeper>(rt: &impl Abort, manager: &mut Manager<K>) {
+pub(super) fn plays_children<K: PinKeeper>(rt: &impl Abort, manager: &mut Manager<K>) {
     let (first, second) = (object(0, 1), object(1, 1));
     gives(rt, manager.spawn(1), spawned(1, 1));
     gives(
@@ -191,26 +171,15 @@ fn plays_children<K: PinKeeper>(rt: &impl Abort, manager: &mut Manager<K>) {
 #[test]
 fn a_child_inherits(rt: HostRuntime) -> Result<(), Fail> {
     let limits = Limits::default();
-    let mut manager = locked(rt.alloc(), limits)?;
-    plays_children(&rt, &mut manager);
-    let mut other = locked(rt.alloc(), limits)?;
-    plays_two_processes(&rt, &mut other);
+    over_locked(&rt, rt.alloc(), limits, Play::Children)?;
+    over_locked(&rt, rt.alloc(), limits, Play::TwoProcesses)?;
     Ok(())
 }
 
 #[test]
 fn a_child_inherits_over_words(rt: HostRuntime) -> Result<(), Fail> {
     let limits = Limits::default();
-    let (pins, opening) = Pins::new(rt.alloc(), limits.shape())?;
-    let Ok((keeper, reader)) = opening.start(&pins) else {
-        return Err(Fail::from(Fault::Memory));
-    };
-    let Ok(mut manager) = Manager::new(rt.alloc(), limits, keeper) else {
-        return Err(Fail::from(Fault::Memory));
-    };
-    plays_children(&rt, &mut manager);
-    reader.finish();
-    Ok(())
+    over_words(&rt, rt.alloc(), limits, Play::Children)
 }
 
 /// A child's names are those of its parent's session.

@@ -19,7 +19,7 @@ fn body_in<K: PinKeeper>(manager: &Manager<K>, slot: u32) -> Option<Body> {
 }
 
 /// A thread's mutexes are abandoned with it, and nobody else's; its process stays.
-fn plays_a_thread<K: PinKeeper>(rt: &impl Abort, manager: &mut Manager<K>) {
+pub(super) fn plays_a_thread<K: PinKeeper>(rt: &impl Abort, manager: &mut Manager<K>) {
     gives(rt, manager.spawn(1), spawned(1, 1));
     gives(rt, manager.thread(1), Reply::Started { thread: 2 });
     gives(
@@ -44,7 +44,7 @@ fn plays_a_thread<K: PinKeeper>(rt: &impl Abort, manager: &mut Manager<K>) {
 }
 
 /// With its last thread a process ends: its handles are closed, and its number is gone.
-fn plays_the_last_thread<K: PinKeeper>(rt: &impl Abort, manager: &mut Manager<K>) {
+pub(super) fn plays_the_last_thread<K: PinKeeper>(rt: &impl Abort, manager: &mut Manager<K>) {
     gives(rt, manager.spawn(1), spawned(1, 1));
     gives(rt, manager.thread(1), Reply::Started { thread: 2 });
     gives(
@@ -64,7 +64,7 @@ fn plays_the_last_thread<K: PinKeeper>(rt: &impl Abort, manager: &mut Manager<K>
 }
 
 /// A process ends with all its threads; what others have stays.
-fn plays_an_exit<K: PinKeeper>(rt: &impl Abort, manager: &mut Manager<K>) {
+pub(super) fn plays_an_exit<K: PinKeeper>(rt: &impl Abort, manager: &mut Manager<K>) {
     let (first, second) = (object(0, 1), object(1, 1));
     let make = Make {
         inherit: true,
@@ -93,26 +93,14 @@ fn plays_an_exit<K: PinKeeper>(rt: &impl Abort, manager: &mut Manager<K>) {
 #[test]
 fn threads_and_processes_end(rt: HostRuntime) -> Result<(), Fail> {
     let limits = Limits::default();
-    let mut manager = locked(rt.alloc(), limits)?;
-    plays_a_thread(&rt, &mut manager);
-    let mut manager = locked(rt.alloc(), limits)?;
-    plays_the_last_thread(&rt, &mut manager);
-    let mut manager = locked(rt.alloc(), limits)?;
-    plays_an_exit(&rt, &mut manager);
+    over_locked(&rt, rt.alloc(), limits, Play::Thread)?;
+    over_locked(&rt, rt.alloc(), limits, Play::LastThread)?;
+    over_locked(&rt, rt.alloc(), limits, Play::Exit)?;
     Ok(())
 }
 
 #[test]
 fn a_process_ends_over_words(rt: HostRuntime) -> Result<(), Fail> {
     let limits = Limits::default();
-    let (pins, opening) = Pins::new(rt.alloc(), limits.shape())?;
-    let Ok((keeper, reader)) = opening.start(&pins) else {
-        return Err(Fail::from(Fault::Memory));
-    };
-    let Ok(mut manager) = Manager::new(rt.alloc(), limits, keeper) else {
-        return Err(Fail::from(Fault::Memory));
-    };
-    plays_an_exit(&rt, &mut manager);
-    reader.finish();
-    Ok(())
+    over_words(&rt, rt.alloc(), limits, Play::Exit)
 }

@@ -33,7 +33,7 @@ fn waited(handles: u32, waits: u64) -> Reply {
 }
 
 /// A pending wait keeps its object when the handles are closed, and its thread makes no other call.
-fn plays_a_kept_object<K: PinKeeper>(rt: &impl Abort, manager: &mut Manager<K>) {
+pub(super) fn plays_a_kept_object<K: PinKeeper>(rt: &impl Abort, manager: &mut Manager<K>) {
     let first = object(0, 1);
     gives(rt, manager.spawn(1), spawned(1, 1));
     gives(rt, manager.thread(1), started(2));
@@ -73,22 +73,12 @@ fn plays_a_kept_object<K: PinKeeper>(rt: &impl Abort, manager: &mut Manager<K>) 
 #[test]
 fn a_pending_wait_keeps_its_object(rt: HostRuntime) -> Result<(), Fail> {
     let limits = Limits::default();
-    let mut manager = locked(rt.alloc(), limits)?;
-    plays_a_kept_object(&rt, &mut manager);
-    let (pins, opening) = Pins::new(rt.alloc(), limits.shape())?;
-    let Ok((keeper, reader)) = opening.start(&pins) else {
-        return Err(Fail::from(Fault::Memory));
-    };
-    let Ok(mut manager) = Manager::new(rt.alloc(), limits, keeper) else {
-        return Err(Fail::from(Fault::Memory));
-    };
-    plays_a_kept_object(&rt, &mut manager);
-    reader.finish();
-    Ok(())
+    over_locked(&rt, rt.alloc(), limits, Play::KeptObject)?;
+    over_words(&rt, rt.alloc(), limits, Play::KeptObject)
 }
 
 /// A wait for all takes nothing before each object is signaled.
-fn plays_a_wait_for_all<K: PinKeeper>(rt: &impl Abort, manager: &mut Manager<K>) {
+pub(super) fn plays_a_wait_for_all<K: PinKeeper>(rt: &impl Abort, manager: &mut Manager<K>) {
     gives(rt, manager.spawn(1), spawned(1, 1));
     gives(rt, manager.thread(1), started(2));
     gives(
@@ -128,22 +118,12 @@ fn plays_a_wait_for_all<K: PinKeeper>(rt: &impl Abort, manager: &mut Manager<K>)
 #[test]
 fn a_wait_for_all_takes_all_at_once(rt: HostRuntime) -> Result<(), Fail> {
     let limits = Limits::default();
-    let mut manager = locked(rt.alloc(), limits)?;
-    plays_a_wait_for_all(&rt, &mut manager);
-    let (pins, opening) = Pins::new(rt.alloc(), limits.shape())?;
-    let Ok((keeper, reader)) = opening.start(&pins) else {
-        return Err(Fail::from(Fault::Memory));
-    };
-    let Ok(mut manager) = Manager::new(rt.alloc(), limits, keeper) else {
-        return Err(Fail::from(Fault::Memory));
-    };
-    plays_a_wait_for_all(&rt, &mut manager);
-    reader.finish();
-    Ok(())
+    over_locked(&rt, rt.alloc(), limits, Play::WaitForAll)?;
+    over_words(&rt, rt.alloc(), limits, Play::WaitForAll)
 }
 
 /// The waits for a semaphore are satisfied in the order of their numbers, as far as its count goes.
-fn plays_two_waiters<K: PinKeeper>(rt: &impl Abort, manager: &mut Manager<K>) {
+pub(super) fn plays_two_waiters<K: PinKeeper>(rt: &impl Abort, manager: &mut Manager<K>) {
     gives(rt, manager.spawn(1), spawned(1, 1));
     gives(rt, manager.thread(1), started(2));
     gives(rt, manager.thread(1), started(3));
@@ -179,22 +159,12 @@ fn plays_two_waiters<K: PinKeeper>(rt: &impl Abort, manager: &mut Manager<K>) {
 #[test]
 fn waits_are_satisfied_in_order(rt: HostRuntime) -> Result<(), Fail> {
     let limits = Limits::default();
-    let mut manager = locked(rt.alloc(), limits)?;
-    plays_two_waiters(&rt, &mut manager);
-    let (pins, opening) = Pins::new(rt.alloc(), limits.shape())?;
-    let Ok((keeper, reader)) = opening.start(&pins) else {
-        return Err(Fail::from(Fault::Memory));
-    };
-    let Ok(mut manager) = Manager::new(rt.alloc(), limits, keeper) else {
-        return Err(Fail::from(Fault::Memory));
-    };
-    plays_two_waiters(&rt, &mut manager);
-    reader.finish();
-    Ok(())
+    over_locked(&rt, rt.alloc(), limits, Play::TwoWaiters)?;
+    over_words(&rt, rt.alloc(), limits, Play::TwoWaiters)
 }
 
 /// A mutex goes to the thread that waits for it once its owner released it as often as it acquired it.
-fn plays_a_waiter_for_a_mutex<K: PinKeeper>(rt: &impl Abort, manager: &mut Manager<K>) {
+pub(super) fn plays_a_waiter_for_a_mutex<K: PinKeeper>(rt: &impl Abort, manager: &mut Manager<K>) {
     let first = object(0, 1);
     gives(rt, manager.spawn(1), spawned(1, 1));
     gives(rt, manager.thread(1), started(2));
@@ -226,18 +196,8 @@ fn plays_a_waiter_for_a_mutex<K: PinKeeper>(rt: &impl Abort, manager: &mut Manag
 #[test]
 fn a_mutex_goes_to_its_waiter(rt: HostRuntime) -> Result<(), Fail> {
     let limits = Limits::default();
-    let mut manager = locked(rt.alloc(), limits)?;
-    plays_a_waiter_for_a_mutex(&rt, &mut manager);
-    let (pins, opening) = Pins::new(rt.alloc(), limits.shape())?;
-    let Ok((keeper, reader)) = opening.start(&pins) else {
-        return Err(Fail::from(Fault::Memory));
-    };
-    let Ok(mut manager) = Manager::new(rt.alloc(), limits, keeper) else {
-        return Err(Fail::from(Fault::Memory));
-    };
-    plays_a_waiter_for_a_mutex(&rt, &mut manager);
-    reader.finish();
-    Ok(())
+    over_locked(&rt, rt.alloc(), limits, Play::WaiterForMutex)?;
+    over_words(&rt, rt.alloc(), limits, Play::WaiterForMutex)
 }
 
 /// Each further handle to an object with a name.
