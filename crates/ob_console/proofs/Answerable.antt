@@ -104,6 +104,7 @@ copy_rests s entry source handle (Some target) mask inherit options k closing = 
   where
     copy : Rights → Result Outcome Fault
     copy rights = Ok (record { reply = Duplicated (next_handle s target) entry.id; state = with_entry s target (entry_of entry.id rights inherit) })
+
     by : (closing : Bool) (rights : Result Rights Fault) → Rests (cond closing (Ok (without_source s source handle (rights >>= copy))) (with_source (rights >>= copy))) k
     by true (Ok rights) = refl
     by true (Err e) = refl

@@ -39,8 +39,8 @@ impl Output {
         })
     }
 
-    #[tactic(auto, using(crate::proofs::Written::begins_more, crate::proofs::Written::writes_pending, crate::proofs::Written::writes_flushed))]
     /// Adds an answer; writes first where the block has no room for it.
+    #[tactic(auto, using(crate::proofs::Written::begins_more, crate::proofs::Written::writes_pending, crate::proofs::Written::writes_flushed))]
     pub fn put<W: Sink>(&mut self, sink: &mut W, answer: Answer<'_>) -> Result<(), NotWritten>
         ensures ok { OnOk result (Writes (W.taken sink.old) (W.taken sink.new) (self.old.bytes ++ printed_answer answer.entry) self.new.bytes) }
         ensures err { OnErr result (Begins (W.taken sink.old) (W.taken sink.new) (self.old.bytes ++ printed_answer answer.entry)) }
@@ -70,8 +70,8 @@ impl Output {
     }
 }
 
-#[tactic(auto, using(crate::proofs::Written::writes_none, crate::proofs::Written::writes_more, crate::proofs::Written::writes_all, crate::proofs::Written::writes_begun))]
 /// Writes all of some bytes, with at most so many writes.
+#[tactic(auto, using(crate::proofs::Written::writes_none, crate::proofs::Written::writes_more, crate::proofs::Written::writes_all, crate::proofs::Written::writes_begun))]
 fn write_all<W: Sink>(sink: &mut W, bytes: &[u8], writes_left: &mut u64) -> Result<(), NotWritten>
     ensures ok { OnOk result (W.taken sink.new ≡ W.taken sink.old ++ bytes.now) }
     ensures err { OnErr result (Begins (W.taken sink.old) (W.taken sink.new) bytes.now) }

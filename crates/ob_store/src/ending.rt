@@ -193,8 +193,8 @@ fn leave_process<K: PinKeeper>(
 
 impl<K: PinKeeper> Store<K> {
     /// A live thread ends, and with the last thread of a process that: the thread's wait is dropped, its mutexes are abandoned,
-    /// and the waits settle. It looks at the slots up to the
-    /// last mutex that the thread owned, and at each thread number that was given.
+    /// and the waits settle. It looks at the slots up to the last mutex that the thread owned, and at each thread number that
+    /// was given.
     pub fn end_thread(&mut self, thread: u32, process: u32)
         requires live { slice_index_or self.old.state.threads thread None ≡ Some process }
         ensures state { self.new.state ≡ settled (left self.old.state process thread) }
@@ -224,7 +224,7 @@ impl<K: PinKeeper> Store<K> {
     }
 
     /// A live process ends: its threads end by rising number, then its entries leave by rising value, and the waits settle
-    /// once. It looks at each slot and each thread number that was given.
+    /// once. It looks at the slots up to the last mutex that each thread owned, and at each thread number that was given.
     pub fn exit(&mut self, process: u32)
         requires live { IsSome (slice_index_or self.old.state.processes process None) }
         ensures state { self.new.state ≡ settled (exited self.old.state process) }
