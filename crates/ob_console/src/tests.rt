@@ -1,3 +1,5 @@
+mod options;
+
 use super::*;
 use ob_manager::Limits;
 use std::io::{self, Error, ErrorKind, Read};

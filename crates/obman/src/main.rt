@@ -1,30 +1,56 @@
 //! The program: reads a script from standard input, and prints its answers to standard output.
 #![tactic(auto)]
 
-use ob_console::{RunFault, Wired, run};
-use ob_manager::Limits;
+use ob_console::{Options, OptionsFault, RunFault, Wired, read_options, run};
 use std::env;
+use std::io::{self, ErrorKind};
 use std::process::ExitCode;
 
-/// Ends with 0 at the end of the input, with 1 after a fault, and with 2 where there is any argument.
+/// Ends with 0 at the end of the input, or where the help was asked for; with 1 after a fault; with 2 where the command
+/// line is bad.
 fn main(rt: HostRuntime) -> ExitCode {
-    let Ok(mut args) = env::args(&rt) else {
-        let _ = eprintln!(rt; "obman: no memory");
-        return ExitCode::from(1);
+    let options = match options_of(&rt) {
+        Ok(options) => options,
+        Err(OptionsFault::Help { text }) => return helped(&rt, text.as_str()),
+        Err(OptionsFault::Memory) => return ended(&rt, "no memory", 1),
+        Err(OptionsFault::BadLine) => return ended(&rt, "bad command line", 2),
     };
-    let _program = args.next();
-    if args.next().is_some() {
-        let _ = eprintln!(rt; "obman: bad command line");
-        return ExitCode::from(2);
-    }
     let mut source = Wired::new(rt.stdin());
     let mut sink = Wired::new(rt.stdout());
-    let fault = match run(rt.alloc(), Limits::default(), &mut source, &mut sink) {
-        Ok(()) => return ExitCode::SUCCESS,
-        Err(RunFault::Memory) => "no memory",
-        Err(RunFault::Read) => "read fault",
-        Err(RunFault::Write) => "write fault",
-    };
-    let _ = eprintln!(rt; "obman: {fault}");
-    ExitCode::from(1)
+    match run(rt.alloc(), options.limits, &mut source, &mut sink) {
+        Ok(()) => ExitCode::SUCCESS,
+        Err(RunFault::Memory) => ended(&rt, "no memory", 1),
+        Err(RunFault::Read) => ended(&rt, "read fault", 1),
+        Err(RunFault::Write) => ended(&rt, "write fault", 1),
+    }
+}
+
+/// The options of the command line. An argument that isn't UTF-8 makes it bad.
+fn options_of(rt: &HostRuntime) -> Result<Options, OptionsFault> {
+    let mut words = env::args(rt).map_err(|error| fault_of(&error))?;
+    let _program = words.next();
+    let args: Vec<String> = words.collect(rt.alloc())?;
+    read_options(rt.alloc(), args)
+}
+
+/// Why the arguments can't be had.
+fn fault_of(error: &io::Error) -> OptionsFault {
+    match error.kind() {
+        ErrorKind::OutOfMemory => OptionsFault::Memory,
+        _ => OptionsFault::BadLine,
+    }
+}
+
+/// Prints the help.
+fn helped(rt: &HostRuntime, text: &str) -> ExitCode {
+    match print!(rt; "{text}") {
+        Ok(()) => ExitCode::SUCCESS,
+        Err(_) => ended(rt, "write fault", 1),
+    }
+}
+
+/// Says why the program ends, on standard error.
+fn ended(rt: &HostRuntime, why: &str, status: u8) -> ExitCode {
+    let _ = eprintln!(rt; "obman: {why}");
+    ExitCode::from(status)
 }
