@@ -27,8 +27,6 @@ mod options;
 mod output;
 mod rights;
 mod script;
-#[cfg(test)]
-mod tests;
 mod wired;
 mod words;
 

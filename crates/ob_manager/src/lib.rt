@@ -28,8 +28,6 @@ mod processes;
 mod reaping;
 mod reply;
 mod signaling;
-#[cfg(test)]
-mod tests;
 mod waiting;
 
 pub use call::Call;

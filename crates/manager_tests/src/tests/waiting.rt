@@ -2,6 +2,7 @@ ghost use Rattle.std.specs.Prelude.{◌≤◌};
 
 use super::applying::{asked, call_for_event, call_for_semaphore};
 use super::*;
+use ob_manager::{Call, HandleList};
 
 fn code(code: u32) -> Reply {
     Reply::Code { code }

@@ -1,4 +1,4 @@
-use crate::{Options, OptionsFault, read_options};
+use ob_console::{Options, OptionsFault, read_options};
 use ob_manager::Limits;
 use std::alloc::{AllocError, Global};
 use std::test::Fail;

@@ -3,7 +3,7 @@ mod copies;
 mod ends;
 mod waiting;
 
-use super::*;
+use ob_manager::{Card, Limits, Make, Manager, Mode, Reply, Timeout};
 use ob_rights::{Fault, Kind, Rights};
 use pin_core::{Descr, Id};
 use pin_words::{LockedPins, PinKeeper, Pins, Reclaim};

@@ -1,5 +1,5 @@
 use super::{gives, handled, locked, made, object, opened, reaped, refused, spawned};
-use crate::{Call, Limits, Making, Manager, Reply, Text};
+use ob_manager::{Call, Limits, Making, Manager, Reply, Text};
 use ob_rights::{Fault, Kind, Rights};
 use pin_words::{PinKeeper, Pins, Reclaim};
 use std::alloc::Global;

@@ -1,6 +1,7 @@
 //! Children, and duplicates of handles.
 use super::applying::{asked, call_for_event};
 use super::*;
+use ob_manager::Call;
 
 /// The options of a duplicate.
 const CLOSE_SOURCE: u32 = 1;

@@ -1,6 +1,6 @@
 mod options;
 
-use super::*;
+use ob_console::{Account, RunFault, Sink, Source, Wired, run, run_bounded};
 use ob_manager::Limits;
 use std::io::{self, Error, ErrorKind, Read};
 use std::test::Fail;
