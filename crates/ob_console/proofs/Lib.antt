@@ -11,5 +11,6 @@ pub mod Answerable
 pub mod Going
 pub mod Advancing
 pub mod Listed
+pub mod Printing
 pub mod Feeding
 pub mod Reading

@@ -265,26 +265,26 @@ expire_of (number ∷ more ∷ words) = None
 abbrev pub call_of : List (List ℕ) → Option Call
 call_of [] = None
 call_of (verb ∷ words) =
-    if bytes_eq verb (codes "spawn") then spawn_of words
-    else (if bytes_eq verb (codes "child") then child_of words
-    else (if bytes_eq verb (codes "thread") then thread_of words
-    else (if bytes_eq verb (codes "event") then event_of words
-    else (if bytes_eq verb (codes "mutex") then mutex_of words
-    else (if bytes_eq verb (codes "semaphore") then semaphore_of words
-    else (if bytes_eq verb (codes "open") then open_of words
-    else (if bytes_eq verb (codes "dup") then dup_of words
-    else (if bytes_eq verb (codes "close") then close_of words
+    if bytes_eq verb (codes "close") then close_of words
     else (if bytes_eq verb (codes "set") then set_of words
+    else (if bytes_eq verb (codes "wait") then wait_of words
+    else (if bytes_eq verb (codes "count") then count_of words
+    else (if bytes_eq verb (codes "event") then event_of words
     else (if bytes_eq verb (codes "reset") then reset_of words
     else (if bytes_eq verb (codes "release") then release_of words
     else (if bytes_eq verb (codes "unlock") then unlock_of words
-    else (if bytes_eq verb (codes "wait") then wait_of words
+    else (if bytes_eq verb (codes "open") then open_of words
+    else (if bytes_eq verb (codes "dup") then dup_of words
     else (if bytes_eq verb (codes "result") then result_of words
+    else (if bytes_eq verb (codes "mutex") then mutex_of words
+    else (if bytes_eq verb (codes "semaphore") then semaphore_of words
+    else (if bytes_eq verb (codes "reap") then reap_of words
+    else (if bytes_eq verb (codes "thread") then thread_of words
+    else (if bytes_eq verb (codes "spawn") then spawn_of words
+    else (if bytes_eq verb (codes "child") then child_of words
     else (if bytes_eq verb (codes "expire") then expire_of words
     else (if bytes_eq verb (codes "endthread") then endthread_of words
     else (if bytes_eq verb (codes "exit") then exit_of words
-    else (if bytes_eq verb (codes "reap") then reap_of words
-    else (if bytes_eq verb (codes "count") then count_of words
     else None)))))))))))))))))))
 
 abbrev pub asked : Option Call → Act

@@ -1,4 +1,4 @@
-ghost use Rattle.std.specs.Prelude.{[], ◌++◌, ◌≡◌, ◌+◌, ◌≤◌, IsTrue, codes, decimal, length};
+ghost use Rattle.std.specs.Prelude.{[], ◌++◌, ◌≡◌, ◌+◌, ◌<◌, ◌≤◌, IsTrue, codes, decimal, length};
 ghost use Rattle.ob_name.specs.Refs.{namespace_of};
 ghost use Rattle.ob_console.specs.Printed.{printed_answer, printed_id, printed_reclaim, printed_reply, printed_space};
 
@@ -72,11 +72,11 @@ impl Block {
             Answer::Replied(reply) => self.reply(reply),
             Answer::BadLine(number) => {
                 self.text(b"bad line ");
-                self.number(number);
+                self.wide(number);
             }
             Answer::NameCount(count) => {
                 self.text(b"dir ");
-                self.number(count as u128);
+                self.wide(count as u128);
             }
             Answer::Named(name, id) => {
                 self.space(name.space);
@@ -96,13 +96,13 @@ impl Block {
         match reply {
             Reply::Spawned { process, thread } => {
                 self.text(b"p");
-                self.number(u128::from(process));
+                self.number(u64::from(process));
                 self.text(b" t");
-                self.number(u128::from(thread));
+                self.number(u64::from(thread));
             }
             Reply::Started { thread } => {
                 self.text(b"t");
-                self.number(u128::from(thread));
+                self.number(u64::from(thread));
             }
             Reply::Made { handle, id } => self.handle(handle, b" new ", id),
             Reply::Exists { handle, id } => self.handle(handle, b" exists ", id),
@@ -112,27 +112,27 @@ impl Block {
             Reply::Done => self.text(b"done"),
             Reply::Previous { count } => {
                 self.text(b"previous ");
-                self.number(u128::from(count));
+                self.number(u64::from(count));
             }
             Reply::Code { code } => {
                 self.text(b"code ");
-                self.number(u128::from(code));
+                self.number(u64::from(code));
             }
             Reply::Pending { wait } => {
                 self.text(b"pending w");
-                self.number(u128::from(wait));
+                self.number(u64::from(wait));
             }
             Reply::Expired { wait } => {
                 self.text(b"expired w");
-                self.number(u128::from(wait));
+                self.number(u64::from(wait));
             }
             Reply::Ended { thread } => {
                 self.text(b"ended t");
-                self.number(u128::from(thread));
+                self.number(u64::from(thread));
             }
             Reply::Exited { process } => {
                 self.text(b"exited p");
-                self.number(u128::from(process));
+                self.number(u64::from(process));
             }
             Reply::Reaped { id, outcome } => {
                 self.id(id);
@@ -144,15 +144,15 @@ impl Block {
                 hold,
             } => {
                 self.text(b"handles ");
-                self.number(u128::from(handles));
+                self.number(u64::from(handles));
                 self.text(b" waits ");
-                self.number(u128::from(waits));
+                self.number(u64::from(waits));
                 self.text(b" hold ");
-                self.number(u128::from(hold));
+                self.number(u64::from(hold));
             }
             Reply::Refused(fault) => {
                 self.text(b"error ");
-                self.number(u128::from(code_of(fault)));
+                self.number(u64::from(code_of(fault)));
             }
         }
     }
@@ -165,7 +165,32 @@ impl Block {
         let _ = self.bytes.try_extend_from_slice(text);
     }
 
-    fn number(&mut self, number: u128)
+    fn number(&mut self, number: u64)
+        requires { length self.old + 40 ≤ BLOCK }
+        ensures value { self.new ≡ self.old ++ decimal number }
+        ensures len { length self.new ≤ length self.old + 40 }
+    {
+        if number < 10 {
+            self.digit(number as u8);
+        } else {
+            let mut digits = Buffer::new();
+            self.text(digits.format(number).as_bytes());
+        }
+    }
+
+    // Most numbers of a script are this short.
+    #[tactic(auto, using(crate::proofs::Printing::one_digit))]
+    fn digit(&mut self, digit: u8)
+        requires digit { digit < 10 }
+        requires room { length self.old < BLOCK }
+        ensures value { self.new ≡ self.old ++ decimal digit }
+        ensures len { length self.new ≡ length self.old + 1 }
+    {
+        let _ = self.bytes.try_push(b'0' + digit);
+    }
+
+    // A number that grows with the input.
+    fn wide(&mut self, number: u128)
         requires { length self.old + 40 ≤ BLOCK }
         ensures value { self.new ≡ self.old ++ decimal number }
         ensures len { length self.new ≤ length self.old + 40 }
@@ -180,9 +205,9 @@ impl Block {
         ensures len { length self.new ≤ length self.old + 82 }
     {
         self.text(b"s");
-        self.number(u128::from(id.slot));
+        self.number(u64::from(id.slot));
         self.text(b".");
-        self.number(u128::from(id.generation));
+        self.number(u64::from(id.generation));
     }
 
     fn handle(&mut self, handle: u32, how: &[u8], id: Id)
@@ -192,7 +217,7 @@ impl Block {
         ensures len { length self.new ≤ length self.old + 140 }
     {
         self.text(b"h");
-        self.number(u128::from(handle));
+        self.number(u64::from(handle));
         self.text(how);
         self.id(id);
     }
@@ -207,7 +232,7 @@ impl Block {
             Reclaim::Retired => self.text(b" retired"),
             Reclaim::Held { pins } => {
                 self.text(b" held ");
-                self.number(u128::from(pins));
+                self.number(u64::from(pins));
             }
         }
     }
@@ -221,7 +246,7 @@ impl Block {
             Space::Global => self.text(b"global "),
             Space::Session(session) => {
                 self.text(b"session ");
-                self.number(u128::from(session.number));
+                self.number(u64::from(session.number));
                 self.text(b" ");
             }
         }

@@ -8,7 +8,7 @@ use crate::evaluator::Evaluator;
 use crate::grammar::act_of;
 use crate::held::HeldLine;
 use crate::output::NotWritten;
-use crate::words::cut;
+use crate::words::cut_far;
 use ob_manager::Limits;
 use ob_rights::Fault;
 use std::alloc::Global;
@@ -74,7 +74,7 @@ impl Console {
         ensures cause { OnErr result ((W.faults sink.old < W.faults sink.new) ⊎ (self.new.pending.writes_left ≡ 0)) }
     {
         let mut rest = block;
-        while let Some((end, behind)) = cut(b'\n', rest) {
+        while let Some((end, behind)) = cut_far(b'\n', rest) {
             match self.line(sink, end) {
                 Ok(()) => rest = behind,
                 Err(fault) => return Err(fault),

@@ -49,35 +49,20 @@ fn call_of(mut words: Words<'_>) -> Option<Ask<'_>>
     ensures { option_map call_in result ≡ call_of words.entry }
 {
     let verb = words.next()?;
-    if is(verb, b"spawn") {
-        return spawn_of(words);
-    }
-    if is(verb, b"child") {
-        return child_of(words);
-    }
-    if is(verb, b"thread") {
-        return thread_of(words);
-    }
-    if is(verb, b"event") {
-        return event_of(words);
-    }
-    if is(verb, b"mutex") {
-        return mutex_of(words);
-    }
-    if is(verb, b"semaphore") {
-        return semaphore_of(words);
-    }
-    if is(verb, b"open") {
-        return open_of(words);
-    }
-    if is(verb, b"dup") {
-        return dup_of(words);
-    }
     if is(verb, b"close") {
         return close_of(words);
     }
     if is(verb, b"set") {
         return set_of(words);
+    }
+    if is(verb, b"wait") {
+        return wait_of(words);
+    }
+    if is(verb, b"count") {
+        return count_of(words);
+    }
+    if is(verb, b"event") {
+        return event_of(words);
     }
     if is(verb, b"reset") {
         return reset_of(words);
@@ -88,11 +73,32 @@ fn call_of(mut words: Words<'_>) -> Option<Ask<'_>>
     if is(verb, b"unlock") {
         return unlock_of(words);
     }
-    if is(verb, b"wait") {
-        return wait_of(words);
+    if is(verb, b"open") {
+        return open_of(words);
+    }
+    if is(verb, b"dup") {
+        return dup_of(words);
     }
     if is(verb, b"result") {
         return result_of(words);
+    }
+    if is(verb, b"mutex") {
+        return mutex_of(words);
+    }
+    if is(verb, b"semaphore") {
+        return semaphore_of(words);
+    }
+    if is(verb, b"reap") {
+        return reap_of(words);
+    }
+    if is(verb, b"thread") {
+        return thread_of(words);
+    }
+    if is(verb, b"spawn") {
+        return spawn_of(words);
+    }
+    if is(verb, b"child") {
+        return child_of(words);
     }
     if is(verb, b"expire") {
         return expire_of(words);
@@ -102,12 +108,6 @@ fn call_of(mut words: Words<'_>) -> Option<Ask<'_>>
     }
     if is(verb, b"exit") {
         return exit_of(words);
-    }
-    if is(verb, b"reap") {
-        return reap_of(words);
-    }
-    if is(verb, b"count") {
-        return count_of(words);
     }
     None
 }

@@ -1,7 +1,7 @@
 ghost use Rattle.std.specs.Prelude.{◌≡◌, ◌≢◌, ◌<◌, [], ◌∷◌, length, IfSome, IfNone, IsSome, IsTrue, ◌↔◌, MatchOption};
 ghost use Rattle.std.specs.Str.{bytes_eq};
 ghost use Rattle.std.specs.List.{after_first, before_first, position_or_len};
-ghost use Rattle.memchr.specs.Find.{is_byte};
+ghost use Rattle.memchr.specs.Find.{IsFirstByte, is_byte};
 ghost use Rattle.ob_console.specs.Words.{begins_with, behind, joined, words_of};
 ghost use Rattle.ob_console.specs.WordsLeft.{words_left};
 
@@ -114,9 +114,29 @@ pub fn is(word: &[u8], keyword: &[u8]) -> bool
     word.len() == keyword.len() && word.first() == keyword.first() && word == keyword
 }
 
-/// What stands before and behind the first such byte.
+/// Where such a byte is first, found by a look at one byte after another: words are short.
+fn place_of(byte: u8, text: &[u8]) -> Option<usize>
+    ensures { IsFirstByte (is_byte byte) text.now result }
+{
+    text.iter().position(|b| *b == byte)
+}
+
+/// What stands before and behind the first such byte, which is near.
 #[tactic(auto, using(crate::proofs::Cuts::first_place, crate::proofs::Cuts::no_place))]
 pub fn cut(byte: u8, text: &[u8]) -> Option<(&[u8], &[u8])>
+    ensures within { IfSome result (λ _. position_or_len (is_byte byte) text.now < length text.now) }
+    ensures before { IfSome result (λ parts. parts.0.now ≡ before_first (is_byte byte) text.now) }
+    ensures behind { IfSome result (λ parts. parts.1.now ≡ after_first (is_byte byte) text.now) }
+    ensures none { IfNone result (position_or_len (is_byte byte) text.now ≡ length text.now) }
+{
+    let at = place_of(byte, text)?;
+    let (before, rest) = text.split_at(at);
+    Some((before, &rest[1..]))
+}
+
+/// What stands before and behind the first such byte, which may be far.
+#[tactic(auto, using(crate::proofs::Cuts::first_place, crate::proofs::Cuts::no_place))]
+pub fn cut_far(byte: u8, text: &[u8]) -> Option<(&[u8], &[u8])>
     ensures within { IfSome result (λ _. position_or_len (is_byte byte) text.now < length text.now) }
     ensures before { IfSome result (λ parts. parts.0.now ≡ before_first (is_byte byte) text.now) }
     ensures behind { IfSome result (λ parts. parts.1.now ≡ after_first (is_byte byte) text.now) }
