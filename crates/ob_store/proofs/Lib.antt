@@ -2,6 +2,7 @@ pub mod SeatLaws
 pub mod EndLaws
 pub mod BirthLaws
 pub mod AgreeLaws
+pub mod MeetingLaws
 pub mod ListLaws
 pub mod TiedLaws
 pub mod BySlot

@@ -10,5 +10,6 @@ pub mod Waiting
 pub mod Ends
 pub mod Owners
 pub mod UnderWay
+pub mod Meetings
 pub mod Consistent
 pub mod Stored
