@@ -493,13 +493,32 @@ fn refusals_come_in_their_order(rt: HostRuntime) -> Result<(), Fail> {
     Ok(())
 }
 
+fn resolves(rt: &impl Abort, manager: &Manager<LockedPins>, id: Id) {
+    assert!(rt; manager.resolve(2, 4) == Err(Fault::Parameter));
+    assert!(rt; manager.resolve(1, 8) == Err(Fault::Handle));
+    assert!(rt; manager.resolve(1, 6) == Ok(id));
+}
+
+fn has_card(rt: &impl Abort, manager: &Manager<LockedPins>, card: Card) {
+    assert!(rt; manager.card(card.id) == Some(card));
+    assert!(rt; manager.card(object(0, 2)).is_none());
+}
+
+fn has_seat(rt: &impl Abort, manager: &Manager<LockedPins>) {
+    let Some(seat) = manager.slot(0) else {
+        panic!(rt; "no object")
+    };
+    assert_eq!(rt; seat.handles, 1);
+    assert!(rt; seat.body.is_some());
+    assert!(rt; manager.slot(1).is_none());
+}
+
 /// What is read beside the calls.
 #[test]
 fn what_stands_is_read(rt: HostRuntime) -> Result<(), Fail> {
     let mut manager = locked(rt.alloc(), Limits::default())?;
-    let (first, grant) = (object(0, 1), Rights(3));
+    let (id, grant) = (object(0, 1), Rights(3));
     gives(&rt, manager.spawn(1), spawned(1, 1));
-    assert!(rt; manager.resolve(2, 4) == Err(Fault::Parameter));
     assert!(rt; manager.resolve(1, 4) == Err(Fault::Handle));
     let make = Make {
         grant: Some(grant),
@@ -508,28 +527,15 @@ fn what_stands_is_read(rt: HostRuntime) -> Result<(), Fail> {
     gives(
         &rt,
         manager.create_event(1, &make, true, false),
-        made(4, first),
+        made(4, id),
     );
-    assert!(rt; manager.resolve(1, 6) == Ok(first));
+    resolves(&rt, &manager, id);
     let descr = Descr {
         kind: Kind::Event,
         manual: true,
         max: 0,
     };
-    assert!(rt;
-        manager.card(first)
-            == Some(Card {
-                id: first,
-                descr,
-                grant
-            })
-    );
-    assert!(rt; manager.card(object(0, 2)).is_none());
-    let Some(seat) = manager.slot(0) else {
-        panic!(rt; "no object")
-    };
-    assert_eq!(rt; seat.handles, 1);
-    assert!(rt; seat.body.is_some());
-    assert!(rt; manager.slot(1).is_none());
+    has_card(&rt, &manager, Card { id, descr, grant });
+    has_seat(&rt, &manager);
     Ok(())
 }
