@@ -23,6 +23,7 @@ mod handles;
 mod law;
 mod making;
 mod manager;
+mod meeting;
 mod pinning;
 mod processes;
 mod reaping;

@@ -1,0 +1,44 @@
+ghost use Rattle.std.specs.Prelude.{◌≡◌, ◌<◌, Some};
+ghost use Rattle.pin_core.specs.Holds.{tally, same_id};
+ghost use Rattle.pin_words.specs.Plays.{Show};
+ghost use Rattle.ob_store.specs.Meetings.{IsMet};
+ghost use Rattle.ob_manager.specs.Counting.{card};
+
+use crate::card::Card;
+use crate::counting;
+use crate::manager::Manager;
+use pin_core::Id;
+use pin_words::{Keeper, Reader};
+
+impl<'a> Manager<Keeper<'a>> {
+    /// One look at a slot for a reader of the same pins: what the reader holds there is the keeper's present slot.
+    pub fn meet(&mut self, reader: &mut Reader<'a>, slot: u32)
+        requires slot { slot < self.old.state.limits.slots }
+        requires same { self.old.keeper.table ≡ Some reader.old.table }
+        ensures look { IsMet self.old.keeper reader.old.view slot reader.new.view }
+        ensures same { self.new ≡ self.old }
+        ensures table { reader.new.table ≡ reader.old.table }
+    {
+        self.store.meet(reader, slot);
+    }
+
+    /// What the object of an Id that the reader holds was created as, which is what [`card`](Manager::card) answers: an object
+    /// that somebody holds is there, though it may have ended. Where the reader has read the descriptor under its pin, it is
+    /// this one. One look at the slot.
+    pub fn inspect(&mut self, reader: &mut Reader<'a>, id: Id) -> Card
+        requires held { 0 < tally (same_id id) reader.old.view.held }
+        requires same { self.old.keeper.table ≡ Some reader.old.table }
+        ensures card { card self.old.state id ≡ Some result }
+        ensures id { result.id ≡ id }
+        ensures note { Show id result.descr reader.old.view.notes }
+        ensures look { IsMet self.old.keeper reader.old.view id.slot reader.new.view }
+        ensures same { self.new ≡ self.old }
+        ensures table { reader.new.table ≡ reader.old.table }
+    {
+        self.store.meet_held(reader, id);
+        match counting::card(&self.store, id) {
+            Some(card) => card,
+            None => unreachable!(),
+        }
+    }
+}
