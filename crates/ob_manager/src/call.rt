@@ -1,8 +1,11 @@
+ghost use Rattle.std.specs.Prelude.{◌≡◌, ◌↔◌, IfOk, IsTrue};
+
 use crate::making::{Making, Text};
 use crate::waiting::{HandleList, Timeout};
 use ob_rights::{Kind, Rights};
 use ob_waits::Mode;
 use pin_core::Id;
+use std::alloc::{AllocError, Global};
 
 /// A call of the manager, with its arguments.
 #[derive(Drop)]
@@ -163,4 +166,317 @@ pub enum Call {
         /// The object.
         id: Id,
     },
+}
+
+impl Call {
+    /// An equal one: its name or its handles are copied. The refusal is want of memory.
+    pub fn copy(&self, alloc: Global) -> Result<Call, AllocError>
+        ensures { IfOk result (λ copy. copy ≡ self.now) }
+    {
+        match self {
+            Call::Spawn { session } => Ok(Call::Spawn { session: *session }),
+            Call::Child { thread, inherit } => Ok(Call::Child {
+                thread: *thread,
+                inherit: *inherit,
+            }),
+            Call::StartThread { process } => Ok(Call::StartThread { process: *process }),
+            Call::MakeEvent {
+                thread,
+                make,
+                manual,
+                set,
+            } => Ok(Call::MakeEvent {
+                thread: *thread,
+                make: make.copy(alloc)?,
+                manual: *manual,
+                set: *set,
+            }),
+            Call::MakeMutex {
+                thread,
+                make,
+                owned,
+            } => Ok(Call::MakeMutex {
+                thread: *thread,
+                make: make.copy(alloc)?,
+                owned: *owned,
+            }),
+            Call::MakeSemaphore {
+                thread,
+                make,
+                initial,
+                max,
+            } => Ok(Call::MakeSemaphore {
+                thread: *thread,
+                make: make.copy(alloc)?,
+                initial: *initial,
+                max: *max,
+            }),
+            Call::OpenNamed {
+                thread,
+                kind,
+                mask,
+                inherit,
+                text,
+            } => Ok(Call::OpenNamed {
+                thread: *thread,
+                kind: *kind,
+                mask: *mask,
+                inherit: *inherit,
+                text: Text::new(alloc, text.as_slice())?,
+            }),
+            Call::Duplicate {
+                thread,
+                source,
+                handle,
+                target,
+                mask,
+                inherit,
+                options,
+            } => Ok(Call::Duplicate {
+                thread: *thread,
+                source: *source,
+                handle: *handle,
+                target: *target,
+                mask: *mask,
+                inherit: *inherit,
+                options: *options,
+            }),
+            Call::CloseHandle { thread, handle } => Ok(Call::CloseHandle {
+                thread: *thread,
+                handle: *handle,
+            }),
+            Call::SetEvent { thread, handle } => Ok(Call::SetEvent {
+                thread: *thread,
+                handle: *handle,
+            }),
+            Call::ResetEvent { thread, handle } => Ok(Call::ResetEvent {
+                thread: *thread,
+                handle: *handle,
+            }),
+            Call::ReleaseSemaphore {
+                thread,
+                handle,
+                count,
+            } => Ok(Call::ReleaseSemaphore {
+                thread: *thread,
+                handle: *handle,
+                count: *count,
+            }),
+            Call::ReleaseMutex { thread, handle } => Ok(Call::ReleaseMutex {
+                thread: *thread,
+                handle: *handle,
+            }),
+            Call::WaitFor {
+                thread,
+                mode,
+                timeout,
+                handles,
+            } => Ok(Call::WaitFor {
+                thread: *thread,
+                mode: *mode,
+                timeout: *timeout,
+                handles: HandleList::new(alloc, handles.as_slice())?,
+            }),
+            Call::WaitResult { wait } => Ok(Call::WaitResult { wait: *wait }),
+            Call::Expire { wait } => Ok(Call::Expire { wait: *wait }),
+            Call::EndThread { thread } => Ok(Call::EndThread { thread: *thread }),
+            Call::Exit { process } => Ok(Call::Exit { process: *process }),
+            Call::Reap { slot } => Ok(Call::Reap { slot: *slot }),
+            Call::Counts { id } => Ok(Call::Counts { id: *id }),
+        }
+    }
+
+    /// Whether it is the same call, with the same arguments.
+    pub fn is_same(&self, other: &Call) -> bool
+        ensures { IsTrue result ↔ (self.now ≡ other.now) }
+    {
+        match (self, other) {
+            (
+                Call::Spawn { session },
+                Call::Spawn {
+                    session: other_session,
+                },
+            ) => *session == *other_session,
+            (
+                Call::Child { thread, inherit },
+                Call::Child {
+                    thread: other_thread,
+                    inherit: other_inherit,
+                },
+            ) => *thread == *other_thread && *inherit == *other_inherit,
+            (
+                Call::StartThread { process },
+                Call::StartThread {
+                    process: other_process,
+                },
+            ) => *process == *other_process,
+            (
+                Call::MakeEvent {
+                    thread,
+                    make,
+                    manual,
+                    set,
+                },
+                Call::MakeEvent {
+                    thread: other_thread,
+                    make: other_make,
+                    manual: other_manual,
+                    set: other_set,
+                },
+            ) => *thread == *other_thread
+                && make.is_same(other_make)
+                && *manual == *other_manual
+                && *set == *other_set,
+            (
+                Call::MakeMutex {
+                    thread,
+                    make,
+                    owned,
+                },
+                Call::MakeMutex {
+                    thread: other_thread,
+                    make: other_make,
+                    owned: other_owned,
+                },
+            ) => *thread == *other_thread && make.is_same(other_make) && *owned == *other_owned,
+            (
+                Call::MakeSemaphore {
+                    thread,
+                    make,
+                    initial,
+                    max,
+                },
+                Call::MakeSemaphore {
+                    thread: other_thread,
+                    make: other_make,
+                    initial: other_initial,
+                    max: other_max,
+                },
+            ) => *thread == *other_thread
+                && make.is_same(other_make)
+                && *initial == *other_initial
+                && *max == *other_max,
+            (
+                Call::OpenNamed {
+                    thread,
+                    kind,
+                    mask,
+                    inherit,
+                    text,
+                },
+                Call::OpenNamed {
+                    thread: other_thread,
+                    kind: other_kind,
+                    mask: other_mask,
+                    inherit: other_inherit,
+                    text: other_text,
+                },
+            ) => *thread == *other_thread
+                && *kind == *other_kind
+                && *mask == *other_mask
+                && *inherit == *other_inherit
+                && text.is_same(other_text),
+            (
+                Call::Duplicate {
+                    thread,
+                    source,
+                    handle,
+                    target,
+                    mask,
+                    inherit,
+                    options,
+                },
+                Call::Duplicate {
+                    thread: other_thread,
+                    source: other_source,
+                    handle: other_handle,
+                    target: other_target,
+                    mask: other_mask,
+                    inherit: other_inherit,
+                    options: other_options,
+                },
+            ) => *thread == *other_thread
+                && *source == *other_source
+                && *handle == *other_handle
+                && *target == *other_target
+                && *mask == *other_mask
+                && *inherit == *other_inherit
+                && *options == *other_options,
+            (
+                Call::CloseHandle { thread, handle },
+                Call::CloseHandle {
+                    thread: other_thread,
+                    handle: other_handle,
+                },
+            ) => *thread == *other_thread && *handle == *other_handle,
+            (
+                Call::SetEvent { thread, handle },
+                Call::SetEvent {
+                    thread: other_thread,
+                    handle: other_handle,
+                },
+            ) => *thread == *other_thread && *handle == *other_handle,
+            (
+                Call::ResetEvent { thread, handle },
+                Call::ResetEvent {
+                    thread: other_thread,
+                    handle: other_handle,
+                },
+            ) => *thread == *other_thread && *handle == *other_handle,
+            (
+                Call::ReleaseSemaphore {
+                    thread,
+                    handle,
+                    count,
+                },
+                Call::ReleaseSemaphore {
+                    thread: other_thread,
+                    handle: other_handle,
+                    count: other_count,
+                },
+            ) => *thread == *other_thread && *handle == *other_handle && *count == *other_count,
+            (
+                Call::ReleaseMutex { thread, handle },
+                Call::ReleaseMutex {
+                    thread: other_thread,
+                    handle: other_handle,
+                },
+            ) => *thread == *other_thread && *handle == *other_handle,
+            (
+                Call::WaitFor {
+                    thread,
+                    mode,
+                    timeout,
+                    handles,
+                },
+                Call::WaitFor {
+                    thread: other_thread,
+                    mode: other_mode,
+                    timeout: other_timeout,
+                    handles: other_handles,
+                },
+            ) => *thread == *other_thread
+                && *mode == *other_mode
+                && *timeout == *other_timeout
+                && handles.is_same(other_handles),
+            (Call::WaitResult { wait }, Call::WaitResult { wait: other_wait }) => *wait
+                == *other_wait,
+            (Call::Expire { wait }, Call::Expire { wait: other_wait }) => *wait == *other_wait,
+            (
+                Call::EndThread { thread },
+                Call::EndThread {
+                    thread: other_thread,
+                },
+            ) => *thread == *other_thread,
+            (
+                Call::Exit { process },
+                Call::Exit {
+                    process: other_process,
+                },
+            ) => *process == *other_process,
+            (Call::Reap { slot }, Call::Reap { slot: other_slot }) => *slot == *other_slot,
+            (Call::Counts { id }, Call::Counts { id: other_id }) => *id == *other_id,
+            _ => false,
+        }
+    }
 }

@@ -1,4 +1,4 @@
-ghost use Rattle.std.specs.Prelude.{◌≡◌, IfOk};
+ghost use Rattle.std.specs.Prelude.{◌≡◌, ◌↔◌, IfOk, IsTrue};
 
 use ob_rights::Rights;
 use std::alloc::{AllocError, Global};
@@ -34,6 +34,13 @@ impl Text {
     {
         self.bytes.as_slice()
     }
+
+    /// Whether the bytes are the same.
+    pub fn is_same(&self, other: &Text) -> bool
+        ensures { IsTrue result ↔ (self.now ≡ other.now) }
+    {
+        self.bytes.as_slice() == other.bytes.as_slice()
+    }
 }
 
 /// What a create asks for beside the object's own state, with a borrowed name.
@@ -62,4 +69,37 @@ pub struct Making {
     pub access: Option<Rights>,
     /// The rights that opens of a new object may get.
     pub grant: Option<Rights>,
+}
+
+impl Making {
+    /// An equal one. The refusal is want of memory.
+    pub fn copy(&self, alloc: Global) -> Result<Making, AllocError>
+        ensures { IfOk result (λ copy. copy ≡ self.now) }
+    {
+        let name = match &self.name {
+            Some(text) => Some(Text::new(alloc, text.as_slice())?),
+            None => None,
+        };
+        Ok(Making {
+            name,
+            inherit: self.inherit,
+            access: self.access,
+            grant: self.grant,
+        })
+    }
+
+    /// Whether the same is asked for.
+    pub fn is_same(&self, other: &Making) -> bool
+        ensures { IsTrue result ↔ (self.now ≡ other.now) }
+    {
+        let names_are = match (&self.name, &other.name) {
+            (Some(name), Some(text)) => name.is_same(text),
+            (None, None) => true,
+            _ => false,
+        };
+        names_are
+            && self.inherit == other.inherit
+            && self.access == other.access
+            && self.grant == other.grant
+    }
 }

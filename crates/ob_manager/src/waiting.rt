@@ -1,4 +1,4 @@
-ghost use Rattle.std.specs.Prelude.{[], ℕ, ◌≡◌, ◌≢◌, ◌<◌, ◌≤◌, Err, IfErr, IfOk, IsSome, None, Ok, Some, length, slice_index_or, true};
+ghost use Rattle.std.specs.Prelude.{[], ℕ, ◌≡◌, ◌≢◌, ◌<◌, ◌≤◌, ◌↔◌, Err, IfErr, IfOk, IsSome, IsTrue, None, Ok, Some, length, slice_index_or, true};
 ghost use Rattle.std.specs.List.{list_any};
 ghost use Rattle.ob_waits.specs.Waits as waits;
 ghost use Rattle.ob_waits.specs.Waits.{nowhere, number_of};
@@ -58,6 +58,13 @@ impl HandleList {
         ensures { result.now ≡ self.now }
     {
         self.handles.as_slice()
+    }
+
+    /// Whether the handles are the same.
+    pub fn is_same(&self, other: &HandleList) -> bool
+        ensures { IsTrue result ↔ (self.now ≡ other.now) }
+    {
+        self.handles.as_slice() == other.handles.as_slice()
     }
 }
 
