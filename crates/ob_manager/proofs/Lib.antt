@@ -2,5 +2,6 @@ pub mod Refusing
 pub mod Counts
 pub mod EntryStays
 pub mod StepLaws
+pub mod LimitLaws
 pub mod Waited
 pub mod Rising

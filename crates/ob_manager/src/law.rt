@@ -4,7 +4,8 @@ ghost use Rattle.ob_manager.specs.declared.reply.Reply.{Reply};
 ghost use Rattle.ob_manager.specs.Steps.{Step, next};
 ghost use Rattle.ob_store.specs.State.{Whole};
 
-/// The state after a call is a function of the state before it, the call and its reply.
+/// The state after a call is a function of the state before it, the call and its reply; and no call changes the limits.
 pub fn law_of_steps()
-    ensures { (w v : Whole) (call : Call) (reply : Reply) → Step w call reply v → v.state ≡ next w.state call reply }
+    ensures next { (w v : Whole) (call : Call) (reply : Reply) → Step w call reply v → v.state ≡ next w.state call reply }
+    ensures limits { (w v : Whole) (call : Call) (reply : Reply) → Step w call reply v → v.state.limits ≡ w.state.limits }
 {}
