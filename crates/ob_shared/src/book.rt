@@ -1,0 +1,153 @@
+ghost use Rattle.std.specs.Prelude.{◌≡◌, ◌↔◌, [], ◌∷◌, ◌++◌, IfOk, IfErr, IsTrue, None, slice_index_or};
+ghost use Rattle.ob_rights.specs.declared.fault.Fault.TheVariants.{Memory};
+ghost use Rattle.ob_waits.specs.Waits.{is_pending};
+ghost use Rattle.ob_store.specs.Consistent.{IsConsistent};
+ghost use Rattle.ob_store.specs.State.{opening};
+ghost use Rattle.ob_manager.specs.Counting.{card};
+ghost use Rattle.ob_manager.specs.Steps.{Step};
+ghost use Rattle.ob_shared.specs.Journal.{IsHistory, replay};
+
+use ob_manager::{Call, Card, Manager, Reply};
+use ob_rights::Fault;
+use pin_core::Id;
+use pin_words::PinKeeper;
+use std::alloc::Global;
+use std::marker::Model;
+
+/// A call of a lane, with its reply.
+#[derive(Drop)]
+pub struct Entry {
+    /// Who made it.
+    pub lane: u32,
+    /// The call.
+    pub call: Call,
+    /// What it was answered with.
+    pub reply: Reply,
+}
+
+impl Entry {
+    /// Whether it is the same call of the same lane, with the same reply.
+    pub fn is_same(&self, other: &Entry) -> bool
+        ensures { IsTrue result ↔ (self.now ≡ other.now) }
+    {
+        self.lane == other.lane && self.call.is_same(&other.call) && self.reply == other.reply
+    }
+}
+
+/// That a call was entered in a journal. Only [`Book::enact`] makes one, and it can't be copied.
+#[derive(Drop)]
+pub struct Receipt {
+    entry: Entry,
+}
+
+impl Model for Receipt {
+    ghost use Rattle.ob_shared.specs.declared.book.Entry.{Entry};
+
+    ghost Value = { Entry };
+
+    ghost view = { λ receipt. receipt.entry };
+}
+
+impl Receipt {
+    /// Who made the call, the call, and its reply.
+    pub fn entry(&self) -> &Entry
+        ensures { result.now ≡ self.now }
+    {
+        &self.entry
+    }
+}
+
+/// A manager, with the journal of its calls.
+#[derive(Drop)]
+pub struct Book<K: PinKeeper> {
+    manager: Manager<K>,
+    journal: Vec<Entry>,
+    alloc: Global,
+}
+
+impl<K: PinKeeper> Model for Book<K> {
+    ghost use Rattle.ob_shared.specs.Journal.{BookState, IsHistory};
+
+    ghost Value = { BookState };
+
+    ghost view = { λ book. record { manager = book.manager; journal = book.journal.items } };
+
+    ghost invariant = { λ book. IsHistory book.journal.items book.manager };
+}
+
+impl<K: PinKeeper> Book<K> {
+    /// A manager of which no call was made, and an empty journal.
+    #[tactic(auto, using(crate::proofs::Journals::history_opens))]
+    pub fn new(alloc: Global, manager: Manager<K>) -> Book<K>
+        requires { manager.state ≡ opening manager.state.limits }
+        ensures { result ≡ record { manager = manager; journal = [] } }
+    {
+        Book {
+            manager,
+            journal: Vec::new(alloc),
+            alloc,
+        }
+    }
+
+    /// Makes a call of a lane, and enters it. The refusal is want of memory (8), and has changed nothing.
+    #[tactic(auto, using(crate::proofs::Journals::history_next))]
+    pub fn enact(&mut self, lane: u32, call: Call) -> Result<Receipt, Fault>
+        ensures entered { IfOk result (λ receipt. self.new.journal ≡ self.old.journal ++ receipt ∷ []) }
+        ensures entry { IfOk result (λ receipt. (receipt.lane ≡ lane) × (receipt.call ≡ call)) }
+        ensures step { IfOk result (λ receipt. Step self.old.manager call receipt.reply self.new.manager) }
+        ensures memory { IfErr result (λ fault. (fault ≡ Memory) × (self.new ≡ self.old)) }
+    {
+        let copy = call.copy(self.alloc)?;
+        self.journal.reserve(1)?;
+        let reply = self.manager.apply(&call);
+        self.journal.push_reserved(Entry {
+            lane,
+            call: copy,
+            reply,
+        });
+        Ok(Receipt {
+            entry: Entry { lane, call, reply },
+        })
+    }
+
+    /// Whether the manager says that a wait is pending.
+    pub fn is_pending(&self, wait: u32) -> bool
+        ensures { result ≡ is_pending (slice_index_or self.now.manager.state.waits wait None) }
+    {
+        self.manager.is_pending(wait)
+    }
+
+    /// What the object of an Id was created as, as [`Manager::card`] answers it.
+    pub fn card(&self, id: Id) -> Option<Card>
+        ensures { result ≡ card self.now.manager.state id }
+    {
+        self.manager.card(id)
+    }
+
+    /// What holds of a book: the manager is kept, its journal has all calls since it was made, each of them a step, and its
+    /// state is the one after them.
+    #[tactic(auto, using(crate::proofs::Journals::history_state))]
+    pub fn replays(&self)
+        ensures kept { IsConsistent self.now.manager }
+        ensures history { IsHistory self.now.journal self.now.manager }
+        ensures state { self.now.manager.state ≡ replay (opening self.now.manager.state.limits) self.now.journal }
+    {
+        let _ = &self.journal;
+        self.manager.kept();
+    }
+
+    /// The calls, in the order in which they were made.
+    pub fn journal(&self) -> &[Entry]
+        ensures { result.now ≡ self.now.journal }
+    {
+        self.journal.as_slice()
+    }
+
+    /// The manager and the journal.
+    pub fn into_parts(self) -> (Manager<K>, Vec<Entry>)
+        ensures parts { (result.0 ≡ self.manager) × (result.1.items ≡ self.journal) }
+        ensures history { IsHistory self.journal self.manager }
+    {
+        (self.manager, self.journal)
+    }
+}
