@@ -9,5 +9,9 @@
 #![tactic(auto)]
 
 mod book;
+mod lane;
+mod shared;
 
 pub use book::{Book, Entry, Receipt};
+pub use lane::Lane;
+pub use shared::Shared;

@@ -1,0 +1,129 @@
+ghost use Rattle.std.specs.Prelude.{◌≡◌};
+
+use crate::book::Book;
+use crate::lane::Lane;
+use ob_manager::{Call, Card, Manager, Reply};
+use ob_rights::Fault;
+use pin_core::Id;
+use pin_words::{Keeper, Reader};
+use std::alloc::Global;
+use std::marker::Model;
+use std::sync::{Condvar, Mutex, Wait};
+
+/// How many lanes there may be.
+const LANES_MOST: u32 = 65536;
+
+/// A manager behind a lock, with its journal. Whoever gets the lock finds a [`Book`]: the manager is kept, and the journal
+/// replays to its state. Calls are made in lanes. A contract sees how many lanes there are.
+#[derive(Drop)]
+pub struct Shared<'a> {
+    book: Mutex<Book<Keeper<'a>>>,
+    changed: Condvar,
+    alloc: Global,
+    lanes: u32,
+}
+
+impl<'a> Model for Shared<'a> {
+    ghost use Rattle.std.specs.Prelude.{ℕ};
+
+    ghost Value = { ℕ };
+
+    ghost view = { λ shared. shared.lanes };
+}
+
+impl<'a> Shared<'a> {
+    ghost use Rattle.std.specs.Prelude.{ℕ, ◌≡◌, ◌≢◌, ◌+◌, ◌<◌, ◌≤◌, [], None, IfOk, IfErr, IfSome, slice_index_or};
+    ghost use Rattle.ob_rights.specs.declared.fault.Fault.TheVariants.{Limit};
+    ghost use Rattle.pin_core.specs.Holds.{tally, same_id};
+    ghost use Rattle.ob_waits.specs.Waits.{is_pending};
+    ghost use Rattle.ob_store.specs.State.{opening};
+    ghost use Rattle.ob_manager.specs.declared.call.Call.TheVariants as calls;
+    ghost use Rattle.ob_manager.specs.declared.reply.Reply.{Reply};
+    ghost use Rattle.ob_manager.specs.declared.reply.Reply.TheVariants as replies;
+    ghost use Rattle.ob_shared.specs.Lanes.{Lists};
+
+    /// A manager of which no call was made, and no lane.
+    pub fn new(alloc: Global, manager: Manager<Keeper<'a>>) -> Shared<'a>
+        requires { manager.state ≡ opening manager.state.limits }
+        ensures { result ≡ 0 }
+    {
+        Shared {
+            book: Mutex::new(Book::new(alloc, manager)),
+            changed: Condvar::new(),
+            alloc,
+            lanes: 0,
+        }
+    }
+
+    /// The next lane, by rising number from 0. It is refused with 1450 after 65,536.
+    pub fn lane(&mut self) -> Result<Lane, Fault>
+        ensures ok { IfOk result (λ lane. (lane ≡ record { number = self.old; list = [] }) × (self.new ≡ self.old + 1)) }
+        ensures err { IfErr result (λ fault. (fault ≡ Limit) × (LANES_MOST ≤ self.old) × (self.new ≡ self.old)) }
+    {
+        if self.lanes >= LANES_MOST {
+            return Err(Fault::Limit);
+        }
+        let lane = Lane::new(self.alloc, self.lanes);
+        self.lanes += 1;
+        Ok(lane)
+    }
+
+    /// Makes a call, enters it in the journal, and lists it in its lane. Where memory is wanting the answer is 8, and nothing
+    /// is changed, entered or listed.
+    #[tactic(auto, using(crate::proofs::LaneLists::are_of_more))]
+    pub fn call<R: Wait>(&self, rt: &R, lane: &mut Lane, call: Call) -> Reply
+        ensures { Lists lane.old call result lane.new }
+    {
+        if lane.list.reserve(1).is_err() {
+            return Reply::Refused(Fault::Memory);
+        }
+        let answer = self.book.lock(rt).enact(lane.number, call);
+        self.changed.notify_all();
+        match answer {
+            Ok(receipt) => {
+                let reply = receipt.entry().reply;
+                lane.list.push_reserved(receipt);
+                reply
+            }
+            Err(fault) => Reply::Refused(fault),
+        }
+    }
+
+    /// Waits until a wait is no longer pending, and then asks for its result, under the same lock. It may wait forever.
+    #[tactic(auto, using(crate::proofs::LaneLists::are_of_more))]
+    pub fn block<R: Wait>(&self, rt: &R, lane: &mut Lane, wait: u32) -> Reply
+        ensures listed { Lists lane.old (calls.WaitResult wait) result lane.new }
+        ensures answered { (w : ℕ) → result ≢ replies.Pending w }
+    {
+        if lane.list.reserve(1).is_err() {
+            return Reply::Refused(Fault::Memory);
+        }
+        let mut book = self.changed.wait_while(
+            rt,
+            self.book.lock(rt),
+            |book| -> bool
+                ensures { (result ≡ is_pending (slice_index_or book.entry.now.manager.state.waits wait None)) × (book.exit.now ≡ book.entry.now) }
+            { book.is_pending(wait) },
+        );
+        let answer = book.enact(lane.number, Call::WaitResult { wait });
+        drop(book);
+        self.changed.notify_all();
+        match answer {
+            Ok(receipt) => {
+                let reply = receipt.entry().reply;
+                lane.list.push_reserved(receipt);
+                reply
+            }
+            Err(fault) => Reply::Refused(fault),
+        }
+    }
+
+    /// What the object of an Id was created as, which the reader holds: as [`Manager::card`] answers it under the lock.
+    pub fn inspect<'r, R: Wait>(&self, rt: &R, reader: &Reader<'r>, id: Id) -> Option<Card>
+        requires { 0 < tally (same_id id) reader.now.view.held }
+        ensures { IfSome result (λ card. card.id ≡ id) }
+    {
+        let _ = reader.slot_of_held(id);
+        self.book.lock(rt).card(id)
+    }
+}
