@@ -1,2 +1,3 @@
 pub mod Journal
 pub mod Lanes
+pub mod Closing

@@ -9,9 +9,11 @@
 #![tactic(auto)]
 
 mod book;
+mod closing;
 mod lane;
 mod shared;
 
 pub use book::{Book, Entry, Receipt};
+pub use closing::CloseCause;
 pub use lane::Lane;
 pub use shared::Shared;
