@@ -1,2 +1,3 @@
 pub mod Journals
 pub mod LaneLists
+pub mod Parts
