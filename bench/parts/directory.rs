@@ -8,6 +8,10 @@ pub fn text(number: u32) -> [u8; 16] {
     format!("event-{number:010}").into_bytes().try_into().unwrap()
 }
 
+/// The namespace that all sessions share; each session's own has its number.
+#[allow(dead_code)]
+pub const GLOBAL: u64 = 1 << 32;
+
 /// A name with its object.
 pub struct Row {
     hash: u64,
