@@ -108,9 +108,7 @@ pub(crate) struct WaitAndSet;
 impl Case for WaitAndSet {
     fn home(alloc: Global, count: u32) -> Result<Home, Fault> {
         let mut home = empty_home(alloc)?;
-        let home_now = &mut home;
-        add_waits(home_now, count)?;
-        add_waiter(home_now)?;
+        add_waits(&mut home, count)?;
         Ok(home)
     }
 
@@ -122,13 +120,13 @@ impl Case for WaitAndSet {
     }
 }
 
-/// So many threads, each of which waits for an event of its own.
+/// So many threads, each of which waits for an event of its own, and one more that doesn't yet.
 fn add_waits(home: &mut Home, count: u32) -> Result<(), Fault> {
     for _ in 0..count {
         add_waiter(home)?;
         wait_for_last(home)?;
     }
-    Ok(())
+    add_waiter(home)
 }
 
 /// One more event, and one more thread.

@@ -169,7 +169,10 @@ fn come_and_go(
 
 fn run(rt: &(impl Print + Clock), alloc: Global, plan: Plan, count: u32) -> Result<()> {
     let mut scene = prepared(alloc, count)?;
-    let scene = &mut scene;
+    run_in(rt, alloc, plan, &mut scene)
+}
+
+fn run_in(rt: &(impl Print + Clock), alloc: Global, plan: Plan, scene: &mut Scene) -> Result<()> {
     come_and_go(
         rt,
         alloc,
