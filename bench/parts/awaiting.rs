@@ -9,20 +9,25 @@ const MAXIMUM_WAIT_OBJECTS: usize = 64;
 
 const NOWHERE: Id = Id { slot: 0, generation: 0 };
 
-/// Whether a number stands twice: not where they rise, as they mostly do.
-fn has_twice(numbers: impl Iterator<Item = u64> + Clone) -> bool {
-    if numbers.clone().zip(numbers.clone().skip(1)).all(|(one, next)| one < next) {
-        return false;
-    }
-    let mut sorted: Vec<u64> = numbers.collect();
-    sorted.sort_unstable();
-    sorted.windows(2).any(|pair| pair[0] == pair[1])
+/// Whether a number stands twice in a list that doesn't rise.
+#[cold]
+fn stands_twice(mut numbers: Vec<u32>) -> bool {
+    numbers.sort_unstable();
+    numbers.windows(2).any(|pair| pair[0] == pair[1])
+}
+
+fn has_handle_twice(handles: &[u32]) -> bool {
+    let do_rise = handles.windows(2).all(|pair| pair[0] / 4 < pair[1] / 4);
+    !do_rise && stands_twice(handles.iter().map(|handle| handle / 4).collect())
+}
+
+fn has_object_twice(ids: &[Id]) -> bool {
+    let do_rise = ids.windows(2).all(|pair| pair[0].slot < pair[1].slot);
+    !do_rise && stands_twice(ids.iter().map(|id| id.slot).collect())
 }
 
 fn is_misshapen(handles: &[u32]) -> bool {
-    handles.is_empty()
-        || handles.len() > MAXIMUM_WAIT_OBJECTS
-        || has_twice(handles.iter().map(|handle| u64::from(*handle / 4)))
+    handles.is_empty() || handles.len() > MAXIMUM_WAIT_OBJECTS || has_handle_twice(handles)
 }
 
 impl Manager {
@@ -67,7 +72,7 @@ impl Manager {
 
     #[inline(always)]
     fn wait_on(&mut self, thread: u32, mode: Mode, timeout: Timeout, ids: &[Id]) -> Result<Reply, Fault> {
-        if mode == Mode::All && has_twice(ids.iter().map(|id| u64::from(id.slot))) {
+        if mode == Mode::All && has_object_twice(ids) {
             return Err(Fault::Parameter);
         }
         if !ids.iter().all(|id| self.objects.body(id.slot).is_none_or(|body| body.has_room(thread))) {
