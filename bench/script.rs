@@ -1,5 +1,5 @@
-//! What obman does with a script, over the manager by hand: lines from standard input, their answers to standard output, both in
-//! blocks of 64 KiB. It has obman's options of limits but those of pins and recursion, each as `--slots 4`.
+//! What obman does with a script, over the manager by hand: lines from standard input, their answers to standard output, both
+//! in blocks of 64 KiB. It has obman's options of limits but those of pins and recursion, each as `--slots 4`.
 
 #[path = "parts/answers.rs"]
 mod answers;
