@@ -1,21 +1,44 @@
 //! The rounds of crates/bench_calls, over a manager by hand in plain Rust.
 
+#[path = "parts/answers.rs"]
+mod answers;
+#[path = "parts/awaiting.rs"]
+mod awaiting;
 #[path = "parts/bits.rs"]
 mod bits;
 #[path = "parts/body.rs"]
 mod body;
+#[path = "parts/cases.rs"]
+mod cases;
+#[path = "parts/creating.rs"]
+mod creating;
 #[path = "parts/directory.rs"]
 mod directory;
+#[path = "parts/given.rs"]
+mod given;
+#[path = "parts/handles.rs"]
+mod handles;
 #[path = "parts/id.rs"]
 mod id;
+#[path = "parts/lives.rs"]
+mod lives;
 #[path = "parts/manager.rs"]
 mod manager;
+#[path = "parts/objects.rs"]
+mod objects;
 #[path = "parts/table.rs"]
 mod table;
+#[path = "parts/waiting.rs"]
+mod waiting;
 
+use answers::{Fault, Kind, Limits, MODIFY_STATE, Mode, Reply, Timeout};
+use cases::{
+    Case, ChildAndExit, OwnerAndEnd, ThreadAndEnd, WaitAndSet, WaitForAll, WaitForAny, code_of, rounds_at,
+};
 use directory::text;
+use given::{done, given, plain, refusal};
 use id::Id;
-use manager::{Fault, Kind, Limits, MODIFY_STATE, Make, Manager, Reply};
+use manager::Manager;
 use std::time::{Duration, Instant};
 
 /// How many objects a process makes before the next one does.
@@ -27,7 +50,17 @@ const STRIDE: usize = 7919;
 /// How many events come and go in a batch.
 const BATCH: u32 = 256;
 
-const LIMITS: Limits = Limits { slots: 65_536, processes: 16, threads: 16, handles: 16_384, max_gen: u32::MAX };
+/// The option of a duplicate that gives it the rights of its source.
+const SAME_ACCESS: u32 = 2;
+
+const LIMITS: Limits = Limits {
+    slots: 65_536,
+    processes: 65_536,
+    threads: 65_536,
+    handles: 16_384,
+    waits: u32::MAX,
+    max_gen: u32::MAX,
+};
 
 type Text = [u8; 16];
 
@@ -45,37 +78,14 @@ struct Live {
 struct Plan {
     batches: u32,
     rounds: u32,
+    managers: u32,
+    lives: u32,
     is_timed: bool,
 }
 
-const MEASURED: Plan = Plan { batches: 1000, rounds: 1_000_000, is_timed: true };
+const MEASURED: Plan = Plan { batches: 1000, rounds: 1_000_000, managers: 20, lives: 1000, is_timed: true };
 
-const SHOWN: Plan = Plan { batches: 2, rounds: 100, is_timed: false };
-
-fn given(reply: Reply) -> Result<(u32, Id), Fault> {
-    match reply {
-        Reply::Made { handle, id } | Reply::Exists { handle, id } | Reply::Opened { handle, id } => Ok((handle, id)),
-        _ => Err(refusal(reply)),
-    }
-}
-
-fn done(reply: Reply) -> Result<(), Fault> {
-    match reply {
-        Reply::Closed | Reply::Done => Ok(()),
-        _ => Err(refusal(reply)),
-    }
-}
-
-fn refusal(reply: Reply) -> Fault {
-    match reply {
-        Reply::Refused(fault) => fault,
-        _ => Fault::Parameter,
-    }
-}
-
-fn plain(name: Option<&[u8]>) -> Make<'_> {
-    Make { name, inherit: false, access: None, grant: None }
-}
+const SHOWN: Plan = Plan { batches: 2, rounds: 100, managers: 2, lives: 10, is_timed: false };
 
 fn live_events(manager: &mut Manager, count: u32) -> Result<Vec<Live>, Fault> {
     let (mut process, mut thread) = (0, 0);
@@ -83,10 +93,10 @@ fn live_events(manager: &mut Manager, count: u32) -> Result<Vec<Live>, Fault> {
     for number in 0..count {
         if number % HANDLES == 0 {
             let spawned = manager.spawn(1);
-            let Reply::Spawned { .. } = spawned else {
+            let Reply::Spawned { process: next, thread: first } = spawned else {
                 return Err(refusal(spawned));
             };
-            (process, thread) = (process + 1, thread + 1);
+            (process, thread) = (next, first);
         }
         let text = text(number);
         let (handle, id) = given(manager.create_event(thread, &plain(Some(&text)), false, false))?;
@@ -105,6 +115,19 @@ fn set_and_reset(manager: &mut Manager, event: &Live) -> Result<u32, Fault> {
     done(manager.set_event(event.thread, event.handle))?;
     done(manager.reset_event(event.thread, event.handle))?;
     Ok(1)
+}
+
+fn duplicate_and_close(manager: &mut Manager, event: &Live) -> Result<u32, Fault> {
+    let (thread, process) = (event.thread, event.process);
+    let reply = manager.duplicate(thread, process, event.handle, Some(process), 0, false, SAME_ACCESS);
+    let (handle, _) = given(reply)?;
+    done(manager.close(thread, handle))?;
+    Ok(handle)
+}
+
+fn set_and_wait(manager: &mut Manager, event: &Live) -> Result<u32, Fault> {
+    done(manager.set_event(event.thread, event.handle))?;
+    Ok(code_of(manager.wait(event.thread, Mode::Any, Timeout::Zero, &[event.handle]))? + 1)
 }
 
 fn counts(manager: &mut Manager, event: &Live) -> Result<u32, Fault> {
@@ -140,6 +163,14 @@ fn rounds(
     Ok(sum)
 }
 
+fn report(plan: Plan, case: &str, count: usize, rounds: u32, taken: Duration, sum: u64) {
+    if plan.is_timed && sum > 0 {
+        println!("{case}, {count}: {rounds} in {}", taken.as_nanos());
+        return;
+    }
+    println!("{case}, {count}: sum {sum}");
+}
+
 /// A manager and its events, and the names that come and go.
 struct Scene {
     manager: Manager,
@@ -154,15 +185,6 @@ impl Scene {
         Ok(Scene { manager, events, texts: (count..count + BATCH).map(text).collect() })
     }
 
-    fn report(&self, plan: Plan, case: &str, rounds: u32, taken: Duration, sum: u64) {
-        let count = self.events.len();
-        if plan.is_timed && sum > 0 {
-            println!("{case}, {count}: {rounds} in {}", taken.as_nanos());
-            return;
-        }
-        println!("{case}, {count}: sum {sum}");
-    }
-
     fn measure(
         &mut self,
         plan: Plan,
@@ -171,7 +193,7 @@ impl Scene {
     ) -> Result<(), Fault> {
         let started = Instant::now();
         let sum = rounds(&mut self.manager, &self.events, plan.rounds, round)?;
-        self.report(plan, case, plan.rounds, started.elapsed(), sum);
+        report(plan, case, self.events.len(), plan.rounds, started.elapsed(), sum);
         Ok(())
     }
 
@@ -210,8 +232,8 @@ impl Scene {
             sum += self.reap(&slots)?;
             reaping += started.elapsed();
         }
-        self.report(plan, made, plan.batches * BATCH, making, sum);
-        self.report(plan, reaped, plan.batches * BATCH, reaping, sum);
+        report(plan, made, self.events.len(), plan.batches * BATCH, making, sum);
+        report(plan, reaped, self.events.len(), plan.batches * BATCH, reaping, sum);
         Ok(())
     }
 }
@@ -223,12 +245,57 @@ fn run(plan: Plan, count: u32) -> Result<(), Fault> {
     scene.measure(plan, "open and close", open_and_close)?;
     scene.measure(plan, "set and reset", set_and_reset)?;
     scene.measure(plan, "counts", counts)?;
-    scene.measure(plan, "resolve", resolve)
+    scene.measure(plan, "resolve", resolve)?;
+    scene.measure(plan, "duplicate and close", duplicate_and_close)?;
+    scene.measure(plan, "set and wait", set_and_wait)
+}
+
+/// So many rounds in each of so many managers, which are made outside of what is timed.
+fn measure_anew<C: Case>(plan: Plan, case: &str, count: u32, managers: u32, rounds: u32) -> Result<(), Fault> {
+    let (mut taken, mut sum) = (Duration::ZERO, 0);
+    for _ in 0..managers {
+        let mut home = C::home(LIMITS, count)?;
+        let started = Instant::now();
+        sum += rounds_at::<C>(&mut home, rounds)?;
+        taken += started.elapsed();
+    }
+    report(plan, case, count as usize, managers * rounds, taken, sum);
+    Ok(())
+}
+
+fn measure_wait<C: Case>(plan: Plan, case: &str, count: u32) -> Result<(), Fault> {
+    measure_anew::<C>(plan, case, count, 1, plan.rounds)
+}
+
+fn measure_life<C: Case>(plan: Plan, case: &str, count: u32) -> Result<(), Fault> {
+    measure_anew::<C>(plan, case, count, plan.managers, plan.lives)
+}
+
+fn run_waits(plan: Plan, beside: u32) -> Result<(), Fault> {
+    measure_wait::<WaitForAny>(plan, "wait for any", 64)?;
+    measure_wait::<WaitForAll>(plan, "wait for all", 64)?;
+    measure_wait::<WaitAndSet>(plan, "wait, set and result, waits beside", 0)?;
+    measure_wait::<WaitAndSet>(plan, "wait, set and result, waits beside", beside)
+}
+
+fn run_children(plan: Plan, handles: u32) -> Result<(), Fault> {
+    measure_life::<ChildAndExit>(plan, "child and exit, handles", handles)
+}
+
+fn run_threads(plan: Plan, count: u32) -> Result<(), Fault> {
+    measure_life::<ThreadAndEnd>(plan, "thread and end", count)?;
+    measure_life::<OwnerAndEnd>(plan, "thread, mutex and end", count)
 }
 
 fn main() -> Result<(), Fault> {
     if std::env::args().count() > 1 {
-        return [16, 1000, 60000].into_iter().try_for_each(|count| run(MEASURED, count));
+        [16, 1000, 60000].into_iter().try_for_each(|count| run(MEASURED, count))?;
+        run_waits(MEASURED, 10000)?;
+        [16, 1000].into_iter().try_for_each(|handles| run_children(MEASURED, handles))?;
+        return [16, 60000].into_iter().try_for_each(|count| run_threads(MEASURED, count));
     }
-    run(SHOWN, 16)
+    run(SHOWN, 16)?;
+    run_waits(SHOWN, 16)?;
+    run_children(SHOWN, 16)?;
+    run_threads(SHOWN, 16)
 }

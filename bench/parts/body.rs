@@ -26,6 +26,15 @@ impl Body {
         }
     }
 
+    /// Whether some thread that waits could take it.
+    pub fn is_free(&self) -> bool {
+        match self {
+            Body::Event { set, .. } => *set,
+            Body::Mutex(mutex) => mutex.owner.is_none(),
+            Body::Semaphore { count, .. } => *count > 0,
+        }
+    }
+
     pub fn has_room(&self, thread: u32) -> bool {
         match self {
             Body::Mutex(mutex) => mutex.owner != Some(thread) || mutex.recursion < RECURSION_MAX,

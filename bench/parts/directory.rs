@@ -4,9 +4,14 @@
 use crate::id::Id;
 
 /// A name of 16 bytes.
+#[allow(dead_code)]
 pub fn text(number: u32) -> [u8; 16] {
     format!("event-{number:010}").into_bytes().try_into().unwrap()
 }
+
+/// The namespace that all sessions share; each session's own has its number.
+#[allow(dead_code)]
+pub const GLOBAL: u64 = 1 << 32;
 
 /// A name with its object.
 pub struct Row {
@@ -137,6 +142,17 @@ impl Directory {
         } else {
             self.settle(self.table.len() * 2);
         }
+    }
+
+    #[allow(dead_code)]
+    pub fn len(&self) -> usize {
+        self.count
+    }
+
+    /// The namespace, the object and the rest of the text of each name, in the order of entry.
+    #[allow(dead_code)]
+    pub fn rows(&self) -> impl Iterator<Item = (u64, Id, &[u8])> {
+        self.rows.iter().flatten().map(|row| (row.space, row.id, row.base.as_slice()))
     }
 
     /// The row of this hash that is wanted leaves.

@@ -2,6 +2,9 @@
 
 use crate::id::Id;
 
+#[allow(dead_code)]
+pub const INHERIT: u32 = 1;
+
 /// Numbers that are free.
 pub trait Free: Default {
     fn least(&self) -> Option<u32>;
@@ -49,6 +52,21 @@ impl<F: Free> Table<F> {
         }
         self.places.push(Some(entry));
         Some(4 * (place + 1))
+    }
+
+    /// The entries with a flag, at their values.
+    #[allow(dead_code)]
+    pub fn with(&self, flag: u32) -> Table<F> {
+        let flagged = |place: &Option<Entry>| place.filter(|entry| entry.flags & flag != 0);
+        let len = self.places.iter().rposition(|place| flagged(place).is_some()).map_or(0, |last| last + 1);
+        let places: Vec<Option<Entry>> = self.places[..len].iter().map(flagged).collect();
+        let mut free = F::default();
+        for (place, entry) in places.iter().enumerate() {
+            if entry.is_none() {
+                free.give_back(place as u32);
+            }
+        }
+        Table { places, free }
     }
 
     pub fn remove(&mut self, value: u32) -> Option<Entry> {

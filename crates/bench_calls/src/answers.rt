@@ -5,8 +5,10 @@ use pin_core::Id;
 /// The handle and the object that a call gave.
 pub(crate) fn given(reply: Reply) -> Result<(u32, Id), Fault> {
     match reply {
-        Reply::Made { handle, id } | Reply::Exists { handle, id } | Reply::Opened { handle, id } =>
-            Ok((handle, id)),
+        Reply::Made { handle, id }
+        | Reply::Exists { handle, id }
+        | Reply::Opened { handle, id }
+        | Reply::Duplicated { handle, id } => Ok((handle, id)),
         _ => Err(refusal(reply)),
     }
 }
@@ -15,6 +17,46 @@ pub(crate) fn given(reply: Reply) -> Result<(u32, Id), Fault> {
 pub(crate) fn spawned(reply: Reply) -> Result<(u32, u32), Fault> {
     match reply {
         Reply::Spawned { process, thread } => Ok((process, thread)),
+        _ => Err(refusal(reply)),
+    }
+}
+
+/// The thread that a call gave.
+pub(crate) fn started(reply: Reply) -> Result<u32, Fault> {
+    match reply {
+        Reply::Started { thread } => Ok(thread),
+        _ => Err(refusal(reply)),
+    }
+}
+
+/// The thread that a call ended.
+pub(crate) fn ended(reply: Reply) -> Result<u32, Fault> {
+    match reply {
+        Reply::Ended { thread } => Ok(thread),
+        _ => Err(refusal(reply)),
+    }
+}
+
+/// The process that a call ended.
+pub(crate) fn exited(reply: Reply) -> Result<u32, Fault> {
+    match reply {
+        Reply::Exited { process } => Ok(process),
+        _ => Err(refusal(reply)),
+    }
+}
+
+/// The code that a wait was answered with.
+pub(crate) fn code_of(reply: Reply) -> Result<u32, Fault> {
+    match reply {
+        Reply::Code { code } => Ok(code),
+        _ => Err(refusal(reply)),
+    }
+}
+
+/// The wait that became pending.
+pub(crate) fn pending(reply: Reply) -> Result<u32, Fault> {
+    match reply {
+        Reply::Pending { wait } => Ok(wait),
         _ => Err(refusal(reply)),
     }
 }

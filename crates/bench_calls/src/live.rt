@@ -54,9 +54,19 @@ pub(crate) fn plain(name: Option<&[u8]>) -> Make<'_> {
     }
 }
 
-/// A manager with as many slots as there can be.
+/// The same of an event whose handle is inheritable.
+pub(crate) fn inheritable() -> Make<'static> {
+    Make {
+        name: None,
+        inherit: true,
+        access: None,
+        grant: None,
+    }
+}
+
+/// A manager with as many slots, processes and threads as there can be.
 pub(crate) fn locked(alloc: Global) -> Result<Locked, Fault> {
-    let limits = Limits::checked(65_536, 16, 16, 16_384, 1, 16, u32::MAX, 1)?;
+    let limits = Limits::checked(65_536, 65_536, 65_536, 16_384, u32::MAX, 16, u32::MAX, 1)?;
     let keeper = LockedPins::new(alloc, limits.shape())?;
     match Manager::new(alloc, limits, keeper) {
         Ok(manager) => Ok(manager),

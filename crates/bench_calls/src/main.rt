@@ -3,15 +3,26 @@
 //!
 //! What comes and goes does so in batches: 256 events are made and closed one after another, then their slots are taken back.
 //! Each half is timed alone, so a reap has its own line.
+//!
+//! Numbers of processes and threads are never given again, so processes and threads come and go in a manager of its own for
+//! every 1000 rounds, which is made outside of what is timed.
 #![tactic(auto)]
 
 mod answers;
+mod cases;
 mod live;
 mod rounds;
 
 use anyhow::Result;
+use cases::{
+    Case, ChildAndExit, Home, OwnerAndEnd, ThreadAndEnd, WaitAndSet, WaitForAll, WaitForAny,
+    rounds_at,
+};
 use live::{Live, Locked, Text, live_events, locked, texts};
-use rounds::{Counts, OpenAndClose, Resolve, Round, SetAndReset, make, reap, rounds};
+use rounds::{
+    Counts, DuplicateAndClose, OpenAndClose, Resolve, Round, SetAndReset, SetAndWait, make, reap,
+    rounds,
+};
 use std::alloc::Global;
 use std::env;
 use std::time::{Clock, Instant};
@@ -24,18 +35,24 @@ const BATCH: u32 = 256;
 struct Plan {
     batches: u32,
     rounds: u32,
+    managers: u32,
+    lives: u32,
     is_timed: bool,
 }
 
 const MEASURED: Plan = Plan {
     batches: 1000,
     rounds: 1_000_000,
+    managers: 20,
+    lives: 1000,
     is_timed: true,
 };
 
 const SHOWN: Plan = Plan {
     batches: 2,
     rounds: 100,
+    managers: 2,
+    lives: 10,
     is_timed: false,
 };
 
@@ -61,12 +78,11 @@ fn report(
     rt: &impl Print,
     plan: Plan,
     case: &str,
-    scene: &Scene,
+    count: usize,
     rounds: u32,
     nanos: u128,
     sum: u64,
 ) -> Result<()> {
-    let count = scene.events.len();
     if plan.is_timed && sum > 0 {
         rt.print(format_args!("{case}, {count}: {rounds} in {nanos}\n"))?;
         return Ok(());
@@ -84,7 +100,7 @@ fn measure<R: Round>(
     let started = Instant::now(rt)?;
     let sum = rounds::<R>(&mut scene.manager, &scene.events, plan.rounds)?;
     let nanos = started.elapsed(rt)?.as_nanos();
-    report(rt, plan, case, scene, plan.rounds, nanos, sum)
+    report(rt, plan, case, scene.events.len(), plan.rounds, nanos, sum)
 }
 
 /// What batches took, and the sum of the slots that they left.
@@ -146,13 +162,17 @@ fn come_and_go(
 ) -> Result<()> {
     let taken = batches(rt, alloc, plan, scene, is_named)?;
     let rounds = plan.batches.saturating_mul(BATCH);
-    report(rt, plan, made, scene, rounds, taken.made, taken.sum)?;
-    report(rt, plan, reaped, scene, rounds, taken.reaped, taken.sum)
+    let count = scene.events.len();
+    report(rt, plan, made, count, rounds, taken.made, taken.sum)?;
+    report(rt, plan, reaped, count, rounds, taken.reaped, taken.sum)
 }
 
 fn run(rt: &(impl Print + Clock), alloc: Global, plan: Plan, count: u32) -> Result<()> {
     let mut scene = prepared(alloc, count)?;
-    let scene = &mut scene;
+    run_in(rt, alloc, plan, &mut scene)
+}
+
+fn run_in(rt: &(impl Print + Clock), alloc: Global, plan: Plan, scene: &mut Scene) -> Result<()> {
     come_and_go(
         rt,
         alloc,
@@ -174,15 +194,128 @@ fn run(rt: &(impl Print + Clock), alloc: Global, plan: Plan, count: u32) -> Resu
     measure::<OpenAndClose>(rt, plan, "open and close", scene)?;
     measure::<SetAndReset>(rt, plan, "set and reset", scene)?;
     measure::<Counts>(rt, plan, "counts", scene)?;
-    measure::<Resolve>(rt, plan, "resolve", scene)
+    measure::<Resolve>(rt, plan, "resolve", scene)?;
+    measure::<DuplicateAndClose>(rt, plan, "duplicate and close", scene)?;
+    measure::<SetAndWait>(rt, plan, "set and wait", scene)
+}
+
+/// What rounds took, and what they add up to.
+#[derive(Clone, Copy)]
+struct Spent {
+    nanos: u128,
+    sum: u64,
+}
+
+fn timed<C: Case>(rt: &impl Clock, home: &mut Home, rounds: u32) -> Result<Spent> {
+    let started = Instant::now(rt)?;
+    let sum = rounds_at::<C>(home, rounds)?;
+    let nanos = started.elapsed(rt)?.as_nanos();
+    Ok(Spent { nanos, sum })
+}
+
+fn timed_anew<C: Case>(rt: &impl Clock, alloc: Global, count: u32, rounds: u32) -> Result<Spent> {
+    let mut home = C::home(alloc, count)?;
+    timed::<C>(rt, &mut home, rounds)
+}
+
+/// So many rounds in each of so many managers.
+fn repeated<C: Case>(
+    rt: &impl Clock,
+    alloc: Global,
+    count: u32,
+    managers: u32,
+    rounds: u32,
+) -> Result<Spent> {
+    let mut all = Spent { nanos: 0, sum: 0 };
+    for _ in 0..managers {
+        let spent = timed_anew::<C>(rt, alloc, count, rounds)?;
+        all.nanos = all.nanos.saturating_add(spent.nanos);
+        all.sum = all.sum.wrapping_add(spent.sum);
+    }
+    Ok(all)
+}
+
+fn measure_wait<C: Case>(
+    rt: &(impl Print + Clock),
+    alloc: Global,
+    plan: Plan,
+    case: &str,
+    count: u32,
+) -> Result<()> {
+    let spent = repeated::<C>(rt, alloc, count, 1, plan.rounds)?;
+    report(
+        rt,
+        plan,
+        case,
+        count as usize,
+        plan.rounds,
+        spent.nanos,
+        spent.sum,
+    )
+}
+
+fn measure_life<C: Case>(
+    rt: &(impl Print + Clock),
+    alloc: Global,
+    plan: Plan,
+    case: &str,
+    count: u32,
+) -> Result<()> {
+    let spent = repeated::<C>(rt, alloc, count, plan.managers, plan.lives)?;
+    let rounds = plan.managers.saturating_mul(plan.lives);
+    report(
+        rt,
+        plan,
+        case,
+        count as usize,
+        rounds,
+        spent.nanos,
+        spent.sum,
+    )
+}
+
+fn run_waits(rt: &(impl Print + Clock), alloc: Global, plan: Plan, beside: u32) -> Result<()> {
+    measure_wait::<WaitForAny>(rt, alloc, plan, "wait for any", 64)?;
+    measure_wait::<WaitForAll>(rt, alloc, plan, "wait for all", 64)?;
+    measure_wait::<WaitAndSet>(rt, alloc, plan, "wait, set and result, waits beside", 0)?;
+    measure_wait::<WaitAndSet>(
+        rt,
+        alloc,
+        plan,
+        "wait, set and result, waits beside",
+        beside,
+    )
+}
+
+fn run_children(rt: &(impl Print + Clock), alloc: Global, plan: Plan, handles: u32) -> Result<()> {
+    measure_life::<ChildAndExit>(rt, alloc, plan, "child and exit, handles", handles)
+}
+
+fn run_threads(rt: &(impl Print + Clock), alloc: Global, plan: Plan, count: u32) -> Result<()> {
+    measure_life::<ThreadAndEnd>(rt, alloc, plan, "thread and end", count)?;
+    measure_life::<OwnerAndEnd>(rt, alloc, plan, "thread, mutex and end", count)
+}
+
+fn run_all(rt: &(impl Print + Clock), alloc: Global) -> Result<()> {
+    for count in [16, 1000, 60000] {
+        run(rt, alloc, MEASURED, count)?;
+    }
+    run_waits(rt, alloc, MEASURED, 10000)?;
+    for handles in [16, 1000] {
+        run_children(rt, alloc, MEASURED, handles)?;
+    }
+    for count in [16, 60000] {
+        run_threads(rt, alloc, MEASURED, count)?;
+    }
+    Ok(())
 }
 
 fn main(rt: HostRuntime) -> Result<()> {
     if env::args(&rt)?.count() > 1 {
-        for count in [16, 1000, 60000] {
-            run(&rt, rt.alloc(), MEASURED, count)?;
-        }
-        return Ok(());
+        return run_all(&rt, rt.alloc());
     }
-    run(&rt, rt.alloc(), SHOWN, 16)
+    run(&rt, rt.alloc(), SHOWN, 16)?;
+    run_waits(&rt, rt.alloc(), SHOWN, 16)?;
+    run_children(&rt, rt.alloc(), SHOWN, 16)?;
+    run_threads(&rt, rt.alloc(), SHOWN, 16)
 }

@@ -1,9 +1,13 @@
-use crate::answers::{counted, done, given, reaped};
+use crate::answers::{code_of, counted, done, given, reaped};
 use crate::live::{Live, Locked, Text, plain};
+use ob_manager::{Mode, Timeout};
 use ob_rights::{Fault, Kind, Rights};
 
 /// Prime to each number of events, so that a walk by it comes to each of them.
 const STRIDE: usize = 7919;
+
+/// The option of a duplicate that gives it the rights of its source.
+const SAME_ACCESS: u32 = 2;
 
 /// What is done in a round with an event that stays.
 pub(crate) trait Round {
@@ -37,6 +41,37 @@ impl Round for SetAndReset {
         done(manager.set_event(event.thread, event.handle))?;
         done(manager.reset_event(event.thread, event.handle))?;
         Ok(1)
+    }
+}
+
+/// Another handle of the process to the event, with the same rights, which is closed.
+pub(crate) struct DuplicateAndClose;
+
+impl Round for DuplicateAndClose {
+    fn round(manager: &mut Locked, event: &Live) -> Result<u32, Fault> {
+        let duplicated = manager.duplicate(
+            event.thread,
+            event.process,
+            event.handle,
+            Some(event.process),
+            Rights(0),
+            false,
+            SAME_ACCESS,
+        );
+        let (handle, _) = given(duplicated)?;
+        done(manager.close(event.thread, handle))?;
+        Ok(handle)
+    }
+}
+
+/// The event is set, and a wait for it takes that.
+pub(crate) struct SetAndWait;
+
+impl Round for SetAndWait {
+    fn round(manager: &mut Locked, event: &Live) -> Result<u32, Fault> {
+        done(manager.set_event(event.thread, event.handle))?;
+        let waited = manager.wait(event.thread, Mode::Any, Timeout::Zero, &[event.handle]);
+        Ok(code_of(waited)?.wrapping_add(1))
     }
 }
 

@@ -1,0 +1,103 @@
+//! A thread waits for a list of handles.
+
+use crate::answers::{Fault, Mode, Reply, SYNCHRONIZE, Timeout, WAIT_TIMEOUT, within};
+use crate::id::Id;
+use crate::manager::Manager;
+use crate::waiting::try_now;
+
+const MAXIMUM_WAIT_OBJECTS: usize = 64;
+
+const NOWHERE: Id = Id { slot: 0, generation: 0 };
+
+/// Whether a number stands twice in a list that doesn't rise.
+#[cold]
+fn stands_twice(mut numbers: Vec<u32>) -> bool {
+    numbers.sort_unstable();
+    numbers.windows(2).any(|pair| pair[0] == pair[1])
+}
+
+fn has_handle_twice(handles: &[u32]) -> bool {
+    let do_rise = handles.windows(2).all(|pair| pair[0] / 4 < pair[1] / 4);
+    !do_rise && stands_twice(handles.iter().map(|handle| handle / 4).collect())
+}
+
+fn has_object_twice(ids: &[Id]) -> bool {
+    let do_rise = ids.windows(2).all(|pair| pair[0].slot < pair[1].slot);
+    !do_rise && stands_twice(ids.iter().map(|id| id.slot).collect())
+}
+
+fn is_misshapen(handles: &[u32]) -> bool {
+    handles.is_empty() || handles.len() > MAXIMUM_WAIT_OBJECTS || has_handle_twice(handles)
+}
+
+impl Manager {
+    #[inline(always)]
+    pub(crate) fn waited(&mut self, thread: u32, mode: Mode, timeout: Timeout, handles: &[u32]) -> Result<Reply, Fault> {
+        let process = self.caller(thread)?;
+        if let [handle] = handles {
+            let entry = self.found(process, *handle)?;
+            if !within(SYNCHRONIZE, entry.rights) {
+                return Err(Fault::Access);
+            }
+            return self.wait_on(thread, mode, timeout, &[entry.id]);
+        }
+        self.waited_for_some(process, thread, mode, timeout, handles)
+    }
+
+    #[inline(never)]
+    fn waited_for_some(
+        &mut self,
+        process: u32,
+        thread: u32,
+        mode: Mode,
+        timeout: Timeout,
+        handles: &[u32],
+    ) -> Result<Reply, Fault> {
+        if is_misshapen(handles) {
+            return Err(Fault::Parameter);
+        }
+        let mut ids = [NOWHERE; MAXIMUM_WAIT_OBJECTS];
+        let mut lacks = false;
+        let table = &self.processes[process as usize].as_ref().ok_or(Fault::Parameter)?.table;
+        for (id, handle) in ids.iter_mut().zip(handles) {
+            let entry = table.entry(*handle).ok_or(Fault::Handle)?;
+            *id = entry.id;
+            lacks |= !within(SYNCHRONIZE, entry.rights);
+        }
+        if lacks {
+            return Err(Fault::Access);
+        }
+        self.wait_on(thread, mode, timeout, &ids[..handles.len()])
+    }
+
+    #[inline(always)]
+    fn wait_on(&mut self, thread: u32, mode: Mode, timeout: Timeout, ids: &[Id]) -> Result<Reply, Fault> {
+        if mode == Mode::All && has_object_twice(ids) {
+            return Err(Fault::Parameter);
+        }
+        if !ids.iter().all(|id| self.objects.body(id.slot).is_none_or(|body| body.has_room(thread))) {
+            return Err(Fault::Limit);
+        }
+        if let Some(code) = try_now(&mut self.objects, thread, mode, ids) {
+            return Ok(Reply::Code { code });
+        }
+        if timeout == Timeout::Zero {
+            return Ok(Reply::Code { code: WAIT_TIMEOUT });
+        }
+        let wait = self.waits.add(&mut self.objects, thread, mode, ids)?;
+        if let Some(thread) = &mut self.threads[thread as usize] {
+            thread.wait = Some(wait);
+        }
+        Ok(Reply::Pending { wait })
+    }
+
+    pub(crate) fn result(&mut self, wait: u32) -> Result<Reply, Fault> {
+        let Some((thread, code)) = self.waits.take_result(wait)? else {
+            return Ok(Reply::Pending { wait });
+        };
+        if let Some(thread) = &mut self.threads[thread as usize] {
+            thread.wait = None;
+        }
+        Ok(Reply::Code { code })
+    }
+}

@@ -1,0 +1,169 @@
+//! The objects in their slots, and which mutexes each thread owns.
+//!
+//! A slot's generation and phase stand beside its object, on one cache line.
+
+use crate::answers::{Fault, Kind};
+use crate::body::Body;
+use crate::id::Id;
+
+#[allow(dead_code)]
+pub struct Object {
+    pub birth: u64,
+    pub kind: Kind,
+    pub manual: bool,
+    pub max: u32,
+    pub grant: u32,
+    pub handles: u32,
+    pub blocks: u64,
+    pub body: Option<Body>,
+    pub is_named: bool,
+    /// The hash of its name, if it has one.
+    pub hash: u64,
+}
+
+#[derive(Clone, Copy, PartialEq, Eq)]
+pub enum Phase {
+    Free,
+    Live,
+    Closing,
+    Retired,
+}
+
+#[repr(align(64))]
+pub struct Slot {
+    pub generation: u32,
+    pub phase: Phase,
+    pub object: Option<Object>,
+}
+
+const _: () = assert!(size_of::<Slot>() == 64);
+
+pub struct Objects {
+    pub slots: Vec<Slot>,
+    /// By thread, the slots of the mutexes that it owns.
+    pub owned: Vec<Vec<u32>>,
+}
+
+impl Objects {
+    pub fn new(slots: u32) -> Objects {
+        let slot = || Slot { generation: 1, phase: Phase::Free, object: None };
+        Objects { slots: (0..slots).map(|_| slot()).collect(), owned: vec![Vec::new()] }
+    }
+
+    pub fn look(&self, slot: u32) -> Option<&Object> {
+        self.slots.get(slot as usize)?.object.as_ref()
+    }
+
+    pub fn object(&mut self, slot: u32) -> Option<&mut Object> {
+        self.slots.get_mut(slot as usize)?.object.as_mut()
+    }
+
+    pub fn body(&self, slot: u32) -> Option<&Body> {
+        self.look(slot)?.body.as_ref()
+    }
+
+    /// Whether some thread that waits could take it.
+    pub fn is_free(&self, slot: u32) -> bool {
+        self.body(slot).is_some_and(Body::is_free)
+    }
+
+    pub fn is_signaled(&self, thread: u32, slot: u32) -> bool {
+        self.body(slot).is_some_and(|body| body.signaled_for(thread))
+    }
+
+    /// Whether it was abandoned.
+    pub fn acquire(&mut self, thread: u32, slot: u32) -> bool {
+        let Some(Object { body: Some(body), .. }) = self.object(slot) else {
+            return false;
+        };
+        let was_abandoned = body.is_abandoned();
+        let is_new = matches!(body, Body::Mutex(mutex) if mutex.owner.is_none());
+        body.acquire(thread);
+        if is_new {
+            self.owned[thread as usize].push(slot);
+        }
+        was_abandoned
+    }
+
+    fn disown(&mut self, thread: u32, slot: u32) {
+        let owned = &mut self.owned[thread as usize];
+        if let Some(at) = owned.iter().position(|other| *other == slot) {
+            owned.swap_remove(at);
+        }
+    }
+
+    /// A mutex is owned once less. Whether nobody owns it now.
+    pub fn unlock(&mut self, thread: u32, slot: u32) -> Result<bool, Fault> {
+        let Some(Object { body: Some(Body::Mutex(mutex)), .. }) = self.object(slot) else {
+            return Err(Fault::Handle);
+        };
+        if mutex.owner != Some(thread) {
+            return Err(Fault::NotOwner);
+        }
+        mutex.recursion -= 1;
+        if mutex.recursion > 0 {
+            return Ok(false);
+        }
+        mutex.owner = None;
+        self.disown(thread, slot);
+        Ok(true)
+    }
+
+    /// The mutexes that a thread owns are abandoned; their slots.
+    pub fn abandon(&mut self, thread: u32) -> Vec<u32> {
+        let slots = std::mem::take(&mut self.owned[thread as usize]);
+        for slot in &slots {
+            if let Some(Object { body: Some(Body::Mutex(mutex)), .. }) = self.object(*slot) {
+                mutex.owner = None;
+                mutex.recursion = 0;
+                mutex.abandoned = true;
+            }
+        }
+        slots
+    }
+
+    /// Nothing refers to it any more.
+    fn end(&mut self, slot: u32) {
+        let place = &mut self.slots[slot as usize];
+        place.phase = Phase::Closing;
+        let body = place.object.as_mut().and_then(|object| object.body.take());
+        if let Some(Body::Mutex(mutex)) = body {
+            if let Some(owner) = mutex.owner {
+                self.disown(owner, slot);
+            }
+        }
+    }
+
+    /// Whether it was the last handle of an object that has a name; then its hash.
+    #[inline(always)]
+    pub fn handle_left(&mut self, slot: u32) -> Option<u64> {
+        let object = self.object(slot)?;
+        object.handles -= 1;
+        if object.handles > 0 {
+            return None;
+        }
+        let hash = object.is_named.then_some(object.hash);
+        if object.blocks == 0 {
+            self.end(slot);
+        }
+        hash
+    }
+
+    pub fn blocks_came(&mut self, ids: &[Id]) {
+        for id in ids {
+            if let Some(object) = self.object(id.slot) {
+                object.blocks += 1;
+            }
+        }
+    }
+
+    pub fn block_left(&mut self, slot: u32) {
+        let Some(object) = self.object(slot) else {
+            return;
+        };
+        object.blocks -= 1;
+        if object.blocks == 0 && object.handles == 0 {
+            self.end(slot);
+        }
+    }
+}
