@@ -1,4 +1,4 @@
-ghost use Rattle.std.specs.Prelude.{◌≡◌, ◌<◌, ◌≤◌, ℕ, IfOk, IsTrue, length, replicate, slice_index_or};
+ghost use Rattle.std.specs.Prelude.{◌≡◌, ◌<◌, ◌≤◌, ◌+◌, ◌-◌, ℕ, IfOk, IsTrue, length, replicate, slice_index_or, slice_set};
 ghost use Rattle.ob_store.specs.Owners.{owned_came, owned_left, owned_moved};
 
 use std::alloc::{AllocError, Global};
@@ -36,30 +36,50 @@ impl Owners {
         at < self.counts.len() && self.counts[at] == 0
     }
 
-    fn left(&mut self, owner: Option<u32>)
-        ensures { self.new ≡ owned_left self.old owner }
+    #[inline(never)]
+    fn fewer(&mut self, thread: u32)
+        ensures { self.new ≡ slice_set self.old thread (slice_index_or self.old thread 0 - 1) }
     {
-        if let Some(thread) = owner {
-            let at = thread as usize;
-            if at < self.counts.len() {
-                self.counts[at] = self.counts[at].saturating_sub(1);
-            }
+        let at = thread as usize;
+        if at < self.counts.len() {
+            self.counts[at] = self.counts[at].saturating_sub(1);
         }
     }
 
-    fn came(&mut self, owner: Option<u32>)
+    #[inline(never)]
+    fn more(&mut self, thread: u32)
+        requires { (t : ℕ) → slice_index_or self.old t 0 ≤ 65536 }
+        ensures { self.new ≡ slice_set self.old thread (slice_index_or self.old thread 0 + 1) }
+    {
+        let at = thread as usize;
+        if at < self.counts.len() {
+            self.counts[at] += 1;
+        }
+    }
+
+    /// A body with this owner went. Most have none.
+    #[inline]
+    pub(crate) fn left(&mut self, owner: Option<u32>)
+        ensures { self.new ≡ owned_left self.old owner }
+    {
+        if let Some(thread) = owner {
+            self.fewer(thread);
+        }
+    }
+
+    /// A body with this owner came.
+    #[inline]
+    pub(crate) fn came(&mut self, owner: Option<u32>)
         requires { (t : ℕ) → slice_index_or self.old t 0 ≤ 65536 }
         ensures { self.new ≡ owned_came self.old owner }
     {
         if let Some(thread) = owner {
-            let at = thread as usize;
-            if at < self.counts.len() {
-                self.counts[at] += 1;
-            }
+            self.more(thread);
         }
     }
 
-    /// A mutex had one owner, and has another.
+    /// A body had one owner, and has another.
+    #[inline]
     #[tactic(auto, using(crate::proofs::OwnerLaws::few_left))]
     pub(crate) fn moved(&mut self, before: Option<u32>, after: Option<u32>)
         requires { (t : ℕ) → slice_index_or self.old t 0 ≤ 65536 }
