@@ -47,14 +47,14 @@ fn owner_of(body: Option<Body>) -> Option<u32>
 }
 
 impl Seats {
-    /// Slots without an object. The mutexes of threads below `threads` are counted.
+    /// Slots without an object. The mutexes of threads below `threads` are counted and listed.
     pub(crate) fn new(alloc: Global, slots: u32, threads: u32) -> Result<Seats, AllocError>
         requires { slots ≤ SLOTS_MAX }
         ensures { IfOk result (λ seats. seats ≡ vacant_places slots) }
     {
         Ok(Seats {
             arena: Arena::new(alloc, slots)?,
-            owners: Owners::new(alloc, threads)?,
+            owners: Owners::new(alloc, slots, threads)?,
         })
     }
 
@@ -63,6 +63,16 @@ impl Seats {
         ensures { IsTrue result → (k : ℕ) → is_owner thread (slot_owner (slice_index_or self.now.seen.bodies k None)) ≡ false }
     {
         self.owners.has_none(thread)
+    }
+
+    /// How many mutexes a thread owns, as far as they are counted.
+    pub(crate) fn owned(&self, thread: u32) -> u32 {
+        self.owners.count(thread)
+    }
+
+    /// A slot where a mutex of the thread may be, or a number past all slots.
+    pub(crate) fn hint(&self, thread: u32) -> u32 {
+        self.owners.first(thread)
     }
 
     /// How many slots there are.
@@ -109,7 +119,7 @@ impl Seats {
     {
         self.arena
             .put(id.slot, Seat::new(id, birth, descr, grant, name, body));
-        self.owners.came(body.owner());
+        self.owners.came(id.slot, body.owner());
     }
 
     /// One handle more.
@@ -129,7 +139,7 @@ impl Seats {
         ensures ended { result ≡ is_some (slice_index_or self.old.seen.bodies slot None) && is_last_handle self.old slot }
     {
         let gone = self.arena.get_mut(slot).handle_left();
-        self.owners.left(owner_of(gone));
+        self.owners.left(slot, owner_of(gone));
         gone.is_some()
     }
 
@@ -177,7 +187,7 @@ impl Seats {
         ensures rest { rest_of self.new ≡ rest_of self.old }
     {
         let before = self.arena.get_mut(id.slot).put(body);
-        self.owners.moved(owner_of(before), body.owner());
+        self.owners.moved(id.slot, owner_of(before), body.owner());
     }
 
     /// One block fewer, where there is one; whether the object ended.
@@ -190,7 +200,7 @@ impl Seats {
             return false;
         }
         let gone = self.arena.get_mut(id.slot).block_left();
-        self.owners.left(owner_of(gone));
+        self.owners.left(id.slot, owner_of(gone));
         gone.is_some()
     }
 }
