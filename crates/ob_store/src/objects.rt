@@ -111,6 +111,7 @@ impl<K: PinKeeper> Objects<K> {
     }
 
     /// A new object in a vacant slot, with one handle; its Id. Its number is how many objects were made before it.
+    #[inline]
     pub fn add(
         &mut self,
         slot: u32,

@@ -104,6 +104,7 @@ impl Seats {
     }
 
     /// Puts an object with one handle into the vacant slot of its Id.
+    #[inline]
     pub(crate) fn add(
         &mut self,
         id: Id,
