@@ -251,7 +251,8 @@ impl<K: PinKeeper> Objects<K> {
         }
     }
 
-    /// The mutexes that a thread owns are abandoned. It looks at these alone, and of a thread that isn't counted at all slots.
+    /// The mutexes that a thread owns are abandoned. Where its list is right, it looks at these alone, and else at the slots up to
+    /// the last of them. For a thread that isn't counted it looks at all slots.
     pub fn abandon(&mut self, thread: u32)
         ensures seen { self.new.seen ≡ record self.old.seen { bodies = map (slot_left_by thread) self.old.seen.bodies } }
         ensures rest { kept_rest self.new ≡ kept_rest self.old }
