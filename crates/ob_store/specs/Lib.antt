@@ -1,5 +1,6 @@
 pub mod Limits
 pub mod Lives
+pub mod Members
 pub mod Objects
 pub mod Agreement
 pub mod State

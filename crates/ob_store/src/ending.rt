@@ -79,7 +79,7 @@ fn end_of<K: PinKeeper>(
     }
 }
 
-/// The threads of a process end, by rising number. It looks at each thread number that was given.
+/// The threads of a process end, by rising number. It looks at the threads that the process was given.
 fn end_all<K: PinKeeper>(
     limits: Limits,
     lives: &mut Lives,
@@ -92,10 +92,13 @@ fn end_all<K: PinKeeper>(
     ensures way { (first : KeeperState) (s : State) → IsUnderWay first limits lives.old tables.now objects.old waits.old names.now.rows s → IsUnderWay first limits lives.new tables.now objects.new waits.new names.now.rows (threads_ended s process (length lives.old.threads)) }
     ensures gone { (t : ℕ) → slice_index_or lives.new.threads t None ≡ Some process → ⊥ }
 {
-    for thread in 0..lives.next_thread() {
+    let end = lives.next_thread();
+    let mut thread = lives.first_of(process);
+    while thread < end {
         end_of(
             limits, lives, tables, objects, waits, names, process, thread,
         );
+        thread = lives.next_of(process, thread);
     }
 }
 
@@ -193,8 +196,7 @@ fn leave_process<K: PinKeeper>(
 
 impl<K: PinKeeper> Store<K> {
     /// A live thread ends, and with the last thread of a process that: the thread's wait is dropped, its mutexes are abandoned,
-    /// and the waits settle. It looks at the slots up to the last mutex that the thread owned, and at each thread number that
-    /// was given.
+    /// and the waits settle. It looks at the slots up to the last mutex that the thread owned, and at no other thread.
     pub fn end_thread(&mut self, thread: u32, process: u32)
         requires live { slice_index_or self.old.state.threads thread None ≡ Some process }
         ensures state { self.new.state ≡ settled (left self.old.state process thread) }
@@ -224,7 +226,7 @@ impl<K: PinKeeper> Store<K> {
     }
 
     /// A live process ends: its threads end by rising number, then its entries leave by rising value, and the waits settle
-    /// once. It looks at the slots up to the last mutex that each thread owned, and at each thread number that was given.
+    /// once. It looks at the slots up to the last mutex that each thread owned, and at the threads that the process was given.
     pub fn exit(&mut self, process: u32)
         requires live { IsSome (slice_index_or self.old.state.processes process None) }
         ensures state { self.new.state ≡ settled (exited self.old.state process) }

@@ -21,6 +21,7 @@ mod ending;
 mod entries;
 mod limits;
 mod lives;
+mod members;
 mod numbers;
 mod objects;
 mod owners;

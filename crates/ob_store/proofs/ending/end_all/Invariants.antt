@@ -1,4 +1,4 @@
-use Rattle.std.proofs.Common.{◌≡◌, ℕ, ◌<◌, ◌≤◌, Some, None, length, get_or}
+use Rattle.std.proofs.Common.{◌≡◌, ℕ, ◌-◌, ◌<◌, Some, None, length, get_or}
 use Rattle.pin_words.specs.Keepers.{KeeperState}
 use Rattle.ob_store.specs.Ends.{threads_ended}
 use Rattle.ob_store.specs.State.{State}
@@ -9,6 +9,8 @@ abbrev pub invariant-loop-thread : goal.invariant-loop-thread
 invariant-loop-thread g l = record {
   way : (first : KeeperState) (s : State) → IsUnderWay first l.limits l.fn.lives l.tables l.fn.objects l.fn.waits l.names.rows s → IsUnderWay first l.limits l.lives l.tables l.objects l.waits l.names.rows (threads_ended s l.process l.thread);
   long : length l.lives.threads ≡ length l.fn.lives.threads;
-  few : l.thread ≤ l.thread-end;
   gone : (t : ℕ) → t < l.thread → get_or l.lives.threads t None ≡ Some l.process → ⊥;
 }
+
+abbrev pub decreases-loop-thread : goal.decreases-loop-thread
+decreases-loop-thread g l = l.end - l.thread
