@@ -20,6 +20,7 @@ pub mod RemovedLaws
 pub mod EmptiedLaws
 pub mod EndingLaws
 pub mod PassedLaws
+pub mod EnoughLaws
 pub mod Yielding
 pub mod OpeningLaws
 pub mod PlacedLaws

@@ -11,5 +11,6 @@ pub mod Waiting
 pub mod Ends
 pub mod Owners
 pub mod UnderWay
+pub mod Abandoned
 pub mod Consistent
 pub mod Stored

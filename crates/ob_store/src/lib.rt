@@ -15,6 +15,7 @@
 //! ```
 #![tactic(auto)]
 
+mod abandoned;
 mod children;
 mod creation;
 mod ending;

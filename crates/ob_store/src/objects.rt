@@ -216,7 +216,7 @@ impl<K: PinKeeper> Objects<K> {
     }
 
     /// Whether it is known that a thread owns no mutex.
-    fn owns_none(&self, thread: u32) -> bool
+    pub(crate) fn owns_none(&self, thread: u32) -> bool
         ensures { IsTrue result → (k : ℕ) → is_owner thread (slot_owner (slice_index_or self.now.seen.bodies k None)) ≡ false }
     {
         self.seats.owns_none(thread)

@@ -10,6 +10,7 @@ loop-thread-init g c = record {
   way = λ first s way.
       way_passed first c.args.limits c.args.lives.now c.args.tables.now c.args.objects.now c.args.waits.now c.args.names.now.rows s c.args.process 0 c.first_of-thread.result (omega arith)
       (λ t above below h. let a = c.first_of-thread.ensures t h in omega (arith, a, below)) way;
+  enough = λ enough. enough;
   long = refl;
   gone = λ t below h. (let a = c.first_of-thread.ensures t h in omega (arith, a, below));
 }
@@ -23,6 +24,7 @@ loop-thread-preserved g c =
           way_passed first c.args.limits c.end_of.new.lives c.args.tables.now c.end_of.new.objects c.end_of.new.waits c.args.names.now.rows s c.args.process (suc i) c.next_of-thread.result (omega (arith, more))
           (λ t above below h. let a = c.next_of-thread.ensures.none t h (omega (arith, above)) in omega (arith, a, below))
           (c.end_of.ensures.way first (threads_ended s c.args.process i) (c.loop-thread.invariant.way first s way));
+      enough = λ enough. c.end_of.ensures.enough (c.loop-thread.invariant.enough enough);
       long = c.end_of.ensures.long ∙ c.loop-thread.invariant.long;
       gone = λ t lt is. elim (cases_eq t i) [
         | inl same ↦ c.end_of.ensures.gone (ap (λ j. get_or c.end_of.new.lives.threads j None) (sym same) ∙ is)
