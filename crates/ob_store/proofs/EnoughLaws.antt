@@ -98,13 +98,16 @@ grows_more a b c ab bc = record {
 pub noted_still : (a b : AbandonedState) (bodies : List (Option Body)) (t k : ℕ) → Grows a b → IsNoted a bodies t k → IsNoted b bodies t k
 noted_still a b bodies t k grown noted = λ whole out. noted (grown.whole whole) (grown.out whole k out)
 
--- a thread ends: its blocks leave, its wait, and its mutexes are abandoned
-pub enough_ended : (a b : AbandonedState) (o p q : Objects) (ws : List (Option Wait)) (t : ℕ) (ids : List Id) → p ≡ without_blocks o ids → q ≡ record p { bodies = map (slot_left_by t) p.bodies } → Grows a b → ((k : ℕ) → IsNoted b p.bodies t k)
-    → IsEnough a o.bodies ws → IsEnough b q.bodies (map (unless_of t) ws)
-enough_ended a b o p q ws t ids blocks seen grown noted enough =
+-- a thread's mutexes are abandoned, whose slots were all noted
+pub enough_noted : (a b : AbandonedState) (p q : Objects) (t : ℕ) → q ≡ record p { bodies = map (slot_left_by t) p.bodies } → Grows a b → ((k : ℕ) → IsNoted b p.bodies t k)
+    → (ws : List (Option Wait)) → IsEnough a p.bodies ws → IsEnough b q.bodies ws
+enough_noted a b p q t seen grown noted = enough_abandoned a b p.bodies q.bodies t (ap (λ (x : Objects). x.bodies) seen) grown.whole grown.named (λ whole k. noted k whole)
+
+-- a thread's blocks leave, and its wait
+pub enough_unwaited : (a : AbandonedState) (o p : Objects) (ws : List (Option Wait)) (t : ℕ) (ids : List Id) → p ≡ without_blocks o ids → IsEnough a o.bodies ws → IsEnough a p.bodies (map (unless_of t) ws)
+enough_unwaited a o p ws t ids blocks enough =
     let fewer : AreLeft o.bodies p.bodies = subst (λ (x : Objects). AreLeft o.bodies x.bodies) (sym blocks) (left_blocks ids o) in
-    enough_abandoned a b p.bodies q.bodies t (ap (λ (x : Objects). x.bodies) seen) grown.whole grown.named (λ whole k. noted k whole) (map (unless_of t) ws)
-    (enough_dropped a p.bodies ws t (enough_left a o.bodies p.bodies ws fewer enough))
+    enough_dropped a p.bodies ws t (enough_left a o.bodies p.bodies ws fewer enough)
 
 -- what is sound is under way to its own state
 pub way_self : (limits : Limits) (l : LivesState) (ts : HandleTables) (o : ObjectsState) (ws : WaitList) (rows : Rows) → IsTied o → IsSound limits l ts o ws rows → IsUnderWay o.keeper limits l ts o ws rows (state_of limits l ts o ws)

@@ -1,14 +1,15 @@
-ghost use Rattle.std.specs.Prelude.{◌≡◌, ◌<◌, ℕ, IsSome, None, Some, if◌then◌else◌, length, slice_index_or, slice_set};
+ghost use Rattle.std.specs.Prelude.{◌≡◌, ◌<◌, ℕ, List, Option, IsSome, None, Some, if◌then◌else◌, length, map, slice_index_or, slice_set};
 ghost use Rattle.pin_words.specs.Keepers.{KeeperState};
 ghost use Rattle.ob_tables.specs.Tables.{table_of, without_entries};
 ghost use Rattle.ob_tables.specs.Table.{value_of};
 ghost use Rattle.ob_waits.specs.Objects.{without_blocks};
 ghost use Rattle.ob_waits.specs.Rules.{IsKept as AreWaits, IsSettled, WaitsHaveRoom};
+ghost use Rattle.ob_waits.specs.declared.wait.Wait.{Wait};
 ghost use Rattle.ob_waits.specs.Waits.{settled as waits_settled};
 ghost use Rattle.ob_store.specs.Abandoned.{Grows, IsEnough, IsNoted};
 ghost use Rattle.ob_waits.specs.Waits.{thread_ids};
 ghost use Rattle.ob_store.specs.Agreement.{IsTied};
-ghost use Rattle.ob_store.specs.Ends.{exited, left, process_ended, thread_ended, threads_ended, unless_threads};
+ghost use Rattle.ob_store.specs.Ends.{exited, left, process_ended, slot_left_by, thread_ended, threads_ended, unless_threads};
 ghost use Rattle.ob_store.specs.Lives.{is_of};
 ghost use Rattle.ob_store.specs.Moves.{OnlyCloses};
 ghost use Rattle.ob_store.specs.Objects.{kept_rest};
@@ -75,6 +76,16 @@ fn note_all<K: PinKeeper>(objects: &Objects<K>, abandoned: &mut Abandoned, threa
     }
 }
 
+/// The mutexes that a thread owns are abandoned, and their slots noted.
+fn abandon<K: PinKeeper>(objects: &mut Objects<K>, abandoned: &mut Abandoned, thread: u32)
+    ensures seen { objects.new.seen ≡ record objects.old.seen { bodies = map (slot_left_by thread) objects.old.seen.bodies } }
+    ensures rest { kept_rest objects.new ≡ kept_rest objects.old }
+    ensures enough { (waits : List (Option Wait)) → IsEnough abandoned.old objects.old.seen.bodies waits → IsEnough abandoned.new objects.new.seen.bodies waits }
+{
+    note_all(objects, abandoned, thread);
+    objects.abandon(thread);
+}
+
 /// A thread ends, and nothing settles yet: its wait is dropped, then its mutexes are abandoned.
 fn end_one<K: PinKeeper>(
     limits: Limits,
@@ -92,8 +103,7 @@ fn end_one<K: PinKeeper>(
 {
     leave_wait(objects, waits, thread);
     waits.drop_thread(thread);
-    note_all(objects, abandoned, thread);
-    objects.abandon(thread);
+    abandon(objects, abandoned, thread);
     objects.kept();
     lives.end_thread(thread);
 }
