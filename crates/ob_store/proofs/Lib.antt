@@ -15,10 +15,13 @@ pub mod ListingLaws
 pub mod SettledLaws
 pub mod KeptLaws
 pub mod OwnerLaws
+pub mod MemberLaws
 pub mod LeavingLaws
 pub mod RemovedLaws
 pub mod EmptiedLaws
 pub mod EndingLaws
+pub mod PassedLaws
+pub mod EnoughLaws
 pub mod Yielding
 pub mod OpeningLaws
 pub mod PlacedLaws

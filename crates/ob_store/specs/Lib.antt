@@ -1,5 +1,6 @@
 pub mod Limits
 pub mod Lives
+pub mod Members
 pub mod Objects
 pub mod Agreement
 pub mod State
@@ -11,5 +12,6 @@ pub mod Ends
 pub mod Owners
 pub mod UnderWay
 pub mod Meetings
+pub mod Abandoned
 pub mod Consistent
 pub mod Stored

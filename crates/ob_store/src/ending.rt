@@ -1,26 +1,32 @@
-ghost use Rattle.std.specs.Prelude.{◌≡◌, ◌<◌, ℕ, IsSome, None, Some, if◌then◌else◌, length, slice_index_or, slice_set};
+ghost use Rattle.std.specs.Prelude.{◌≡◌, ◌<◌, ℕ, List, Option, IsSome, None, Some, if◌then◌else◌, length, map, slice_index_or, slice_set};
 ghost use Rattle.pin_words.specs.Keepers.{KeeperState};
 ghost use Rattle.ob_tables.specs.Tables.{table_of, without_entries};
 ghost use Rattle.ob_tables.specs.Table.{value_of};
 ghost use Rattle.ob_waits.specs.Objects.{without_blocks};
-ghost use Rattle.ob_waits.specs.Rules.{IsKept as AreWaits};
+ghost use Rattle.ob_waits.specs.Rules.{IsKept as AreWaits, IsSettled, WaitsHaveRoom};
+ghost use Rattle.ob_waits.specs.declared.wait.Wait.{Wait};
+ghost use Rattle.ob_waits.specs.Waits.{settled as waits_settled};
+ghost use Rattle.ob_store.specs.Abandoned.{Grows, IsEnough, IsNoted};
 ghost use Rattle.ob_waits.specs.Waits.{thread_ids};
 ghost use Rattle.ob_store.specs.Agreement.{IsTied};
-ghost use Rattle.ob_store.specs.Ends.{exited, left, process_ended, thread_ended, threads_ended, unless_threads};
+ghost use Rattle.ob_store.specs.Ends.{exited, left, process_ended, slot_left_by, thread_ended, threads_ended, unless_threads};
 ghost use Rattle.ob_store.specs.Lives.{is_of};
 ghost use Rattle.ob_store.specs.Moves.{OnlyCloses};
 ghost use Rattle.ob_store.specs.Objects.{kept_rest};
 ghost use Rattle.ob_store.specs.State.{State, settled};
 ghost use Rattle.ob_store.specs.UnderWay.{IsEmptied, IsSound, IsUnderWay};
 
+use crate::abandoned::Abandoned;
 use crate::entries::leave_directory;
 use crate::limits::Limits;
 use crate::lives::Lives;
 use crate::objects::Objects;
 use crate::store::Store;
+use ob_body::RECURSION_MAX;
 use ob_name::Directory;
 use ob_tables::Tables;
-use ob_waits::{Waits, leave_all};
+use ob_waits::{Bodies, Waits, leave_all};
+use pin_core::Id;
 use pin_words::PinKeeper;
 
 /// The blocks of a thread's wait leave.
@@ -38,6 +44,48 @@ fn leave_wait<K: PinKeeper>(objects: &mut Objects<K>, waits: &Waits, thread: u32
     leave_all(objects, ids);
 }
 
+/// The slot is noted, if the thread owns the mutex in it.
+fn note_at<K: PinKeeper>(objects: &Objects<K>, abandoned: &mut Abandoned, thread: u32, slot: u32)
+    ensures grown { Grows abandoned.old abandoned.new }
+    ensures noted { IsNoted abandoned.new objects.now.seen.bodies thread slot }
+{
+    let id = Id {
+        slot,
+        generation: 0,
+    };
+    let Some(body) = objects.body(id) else {
+        return;
+    };
+    if body.owner() == Some(thread) {
+        abandoned.add(id);
+    }
+}
+
+/// The slots of the mutexes that a thread owns are noted. It looks at no slot where the thread owns none, else at each.
+fn note_all<K: PinKeeper>(objects: &Objects<K>, abandoned: &mut Abandoned, thread: u32)
+    ensures grown { Grows abandoned.old abandoned.new }
+    ensures noted { (k : ℕ) → IsNoted abandoned.new objects.now.seen.bodies thread k }
+{
+    if objects.owns_none(thread) {
+        return;
+    }
+    // What it says is wanted here: that there are as many bodies as slots.
+    objects.kept();
+    for slot in 0..objects.slots() {
+        note_at(objects, abandoned, thread, slot);
+    }
+}
+
+/// The mutexes that a thread owns are abandoned, and their slots noted.
+fn abandon<K: PinKeeper>(objects: &mut Objects<K>, abandoned: &mut Abandoned, thread: u32)
+    ensures seen { objects.new.seen ≡ record objects.old.seen { bodies = map (slot_left_by thread) objects.old.seen.bodies } }
+    ensures rest { kept_rest objects.new ≡ kept_rest objects.old }
+    ensures enough { (waits : List (Option Wait)) → IsEnough abandoned.old objects.old.seen.bodies waits → IsEnough abandoned.new objects.new.seen.bodies waits }
+{
+    note_all(objects, abandoned, thread);
+    objects.abandon(thread);
+}
+
 /// A thread ends, and nothing settles yet: its wait is dropped, then its mutexes are abandoned.
 fn end_one<K: PinKeeper>(
     limits: Limits,
@@ -46,14 +94,16 @@ fn end_one<K: PinKeeper>(
     objects: &mut Objects<K>,
     waits: &mut Waits,
     names: &Directory,
+    abandoned: &mut Abandoned,
     thread: u32,
 )
     ensures way { (first : KeeperState) (s : State) → IsUnderWay first limits lives.old tables.now objects.old waits.old names.now.rows s → IsUnderWay first limits lives.new tables.now objects.new waits.new names.now.rows (thread_ended s thread) }
     ensures lives { lives.new ≡ record lives.old { threads = slice_set lives.old.threads thread None } }
+    ensures enough { IsEnough abandoned.old objects.old.seen.bodies waits.old.waits → IsEnough abandoned.new objects.new.seen.bodies waits.new.waits }
 {
     leave_wait(objects, waits, thread);
     waits.drop_thread(thread);
-    objects.abandon(thread);
+    abandon(objects, abandoned, thread);
     objects.kept();
     lives.end_thread(thread);
 }
@@ -66,20 +116,24 @@ fn end_of<K: PinKeeper>(
     objects: &mut Objects<K>,
     waits: &mut Waits,
     names: &Directory,
+    abandoned: &mut Abandoned,
     process: u32,
     thread: u32,
 )
     ensures way { (first : KeeperState) (s : State) → IsUnderWay first limits lives.old tables.now objects.old waits.old names.now.rows s → IsUnderWay first limits lives.new tables.now objects.new waits.new names.now.rows (if is_of process (slice_index_or s.threads thread None) then thread_ended s thread else s) }
     ensures long { length lives.new.threads ≡ length lives.old.threads }
     ensures gone { slice_index_or lives.new.threads thread None ≡ Some process → ⊥ }
+    ensures enough { IsEnough abandoned.old objects.old.seen.bodies waits.old.waits → IsEnough abandoned.new objects.new.seen.bodies waits.new.waits }
     ensures fewer { (t q : ℕ) → slice_index_or lives.new.threads t None ≡ Some q → slice_index_or lives.old.threads t None ≡ Some q }
 {
     if lives.process(thread) == Some(process) {
-        end_one(limits, lives, tables, objects, waits, names, thread);
+        end_one(
+            limits, lives, tables, objects, waits, names, abandoned, thread,
+        );
     }
 }
 
-/// The threads of a process end, by rising number. It looks at each thread number that was given.
+/// The threads of a process end, by rising number. It looks at the threads that the process was given.
 fn end_all<K: PinKeeper>(
     limits: Limits,
     lives: &mut Lives,
@@ -87,15 +141,20 @@ fn end_all<K: PinKeeper>(
     objects: &mut Objects<K>,
     waits: &mut Waits,
     names: &Directory,
+    abandoned: &mut Abandoned,
     process: u32,
 )
     ensures way { (first : KeeperState) (s : State) → IsUnderWay first limits lives.old tables.now objects.old waits.old names.now.rows s → IsUnderWay first limits lives.new tables.now objects.new waits.new names.now.rows (threads_ended s process (length lives.old.threads)) }
     ensures gone { (t : ℕ) → slice_index_or lives.new.threads t None ≡ Some process → ⊥ }
+    ensures enough { IsEnough abandoned.old objects.old.seen.bodies waits.old.waits → IsEnough abandoned.new objects.new.seen.bodies waits.new.waits }
 {
-    for thread in 0..lives.next_thread() {
+    let end = lives.next_thread();
+    let mut thread = lives.first_of(process);
+    while thread < end {
         end_of(
-            limits, lives, tables, objects, waits, names, process, thread,
+            limits, lives, tables, objects, waits, names, abandoned, process, thread,
         );
+        thread = lives.next_of(process, thread);
     }
 }
 
@@ -191,10 +250,28 @@ fn leave_process<K: PinKeeper>(
     end_process(limits, lives, tables, objects, waits, names, process);
 }
 
+/// The waits settle: where all slots of abandoned mutexes are noted by the waits for these alone, and where there are none not at
+/// all.
+fn settle<K: PinKeeper>(objects: &mut Objects<K>, waits: &mut Waits, abandoned: &Abandoned)
+    requires room { WaitsHaveRoom RECURSION_MAX objects.old.seen.bodies waits.old.waits }
+    requires enough { IsEnough abandoned.now objects.old.seen.bodies waits.old.waits }
+    ensures value { record { objects = objects.new.seen; waits = waits.new.waits } ≡ waits_settled (record { objects = objects.old.seen; waits = waits.old.waits }) }
+    ensures limit { waits.new.limit ≡ waits.old.limit }
+    ensures rest { kept_rest objects.new ≡ kept_rest objects.old }
+    ensures settled { IsSettled objects.new.seen.bodies waits.new.waits }
+    ensures room { (limit : ℕ) → WaitsHaveRoom limit objects.old.seen.bodies waits.old.waits → WaitsHaveRoom limit objects.new.seen.bodies waits.new.waits }
+{
+    if abandoned.is_whole() {
+        waits.settle_after_each(objects, abandoned.ids());
+    } else {
+        waits.settle(objects);
+    }
+}
+
 impl<K: PinKeeper> Store<K> {
     /// A live thread ends, and with the last thread of a process that: the thread's wait is dropped, its mutexes are abandoned,
-    /// and the waits settle. It looks at the slots up to the last mutex that the thread owned, and at each thread number that
-    /// was given.
+    /// and the waits settle. It looks at no other thread, and of the pending waits at those for the abandoned mutexes alone.
+    /// Where the thread owned a mutex it looks at each slot, else at none.
     pub fn end_thread(&mut self, thread: u32, process: u32)
         requires live { slice_index_or self.old.state.threads thread None ≡ Some process }
         ensures state { self.new.state ≡ settled (left self.old.state process thread) }
@@ -202,6 +279,7 @@ impl<K: PinKeeper> Store<K> {
     {
         // What it says is wanted here.
         self.objects.kept();
+        self.abandoned.clear();
         end_one(
             self.limits,
             &mut self.lives,
@@ -209,6 +287,7 @@ impl<K: PinKeeper> Store<K> {
             &mut self.objects,
             &mut self.waits,
             &self.names,
+            &mut self.abandoned,
             thread,
         );
         leave_process(
@@ -220,11 +299,12 @@ impl<K: PinKeeper> Store<K> {
             &mut self.names,
             process,
         );
-        self.waits.settle(&mut self.objects);
+        settle(&mut self.objects, &mut self.waits, &self.abandoned);
     }
 
     /// A live process ends: its threads end by rising number, then its entries leave by rising value, and the waits settle
-    /// once. It looks at the slots up to the last mutex that each thread owned, and at each thread number that was given.
+    /// once. It looks at the threads that the process was given, and of the pending waits at those for the abandoned mutexes
+    /// alone. For each thread that owned a mutex it looks at each slot.
     pub fn exit(&mut self, process: u32)
         requires live { IsSome (slice_index_or self.old.state.processes process None) }
         ensures state { self.new.state ≡ settled (exited self.old.state process) }
@@ -232,6 +312,7 @@ impl<K: PinKeeper> Store<K> {
     {
         // What it says is wanted here.
         self.objects.kept();
+        self.abandoned.clear();
         end_all(
             self.limits,
             &mut self.lives,
@@ -239,6 +320,7 @@ impl<K: PinKeeper> Store<K> {
             &mut self.objects,
             &mut self.waits,
             &self.names,
+            &mut self.abandoned,
             process,
         );
         end_process(
@@ -250,6 +332,6 @@ impl<K: PinKeeper> Store<K> {
             &mut self.names,
             process,
         );
-        self.waits.settle(&mut self.objects);
+        settle(&mut self.objects, &mut self.waits, &self.abandoned);
     }
 }

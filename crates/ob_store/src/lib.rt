@@ -15,6 +15,7 @@
 //! ```
 #![tactic(auto)]
 
+mod abandoned;
 mod children;
 mod creation;
 mod ending;
@@ -23,6 +24,7 @@ mod limits;
 mod links;
 mod lives;
 mod meeting;
+mod members;
 mod numbers;
 mod objects;
 mod owners;

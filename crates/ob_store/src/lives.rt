@@ -1,7 +1,9 @@
 ghost use Rattle.std.specs.Prelude.{ℕ, ◌∷◌, [], ◌++◌, ◌≡◌, ◌<◌, ◌≤◌, None, Some, IfOk, OnOk, OnErr, length, slice_index_or, slice_set};
 ghost use Rattle.std.specs.List.{list_any};
 ghost use Rattle.ob_store.specs.Lives.{LivesState, is_of, no_lives, with_process, with_thread};
+ghost use Rattle.ob_store.specs.Members.{IsNewest};
 
+use crate::members::Members;
 use crate::numbers::Numbers;
 use std::alloc::{AllocError, Global};
 use std::marker::Model;
@@ -11,6 +13,7 @@ use std::marker::Model;
 pub(crate) struct Lives {
     processes: Numbers,
     threads: Numbers,
+    members: Members,
 }
 
 impl Model for Lives {
@@ -18,7 +21,13 @@ impl Model for Lives {
 
     ghost Value = { LivesState };
 
+    ghost use Rattle.std.specs.Prelude.{length};
+    ghost use Rattle.ob_store.specs.Members.{AreMembers};
+
     ghost view = { λ l. record { processes = l.processes; threads = l.threads } };
+
+    // Hidden from the value: how many live threads each process has, and which it was given.
+    ghost invariant = { λ l. AreMembers (length l.processes) l.threads l.members };
 }
 
 impl Lives {
@@ -27,7 +36,12 @@ impl Lives {
     {
         let processes = Numbers::new(alloc)?;
         let threads = Numbers::new(alloc)?;
-        Ok(Lives { processes, threads })
+        let members = Members::new(alloc)?;
+        Ok(Lives {
+            processes,
+            threads,
+            members,
+        })
     }
 
     /// The next process number.
@@ -67,34 +81,67 @@ impl Lives {
     {
         let process = self.processes.next();
         self.processes.give(session)?;
-        if let Err(error) = self.threads.give(process) {
+        if self.threads.give(process).is_err() {
             self.processes.take_back();
-            return Err(error);
+            return Err(AllocError);
+        }
+        if self.members.add_process().is_err() {
+            self.processes.take_back();
+            self.threads.take_back();
+            return Err(AllocError);
         }
         Ok(())
     }
 
-    /// Takes back the process that was added last, with its first thread.
+    /// Takes back the process that was added last, with its first thread, which is its only one.
     pub(crate) fn take_back(&mut self)
-        requires processes { 0 < length self.old.processes }
-        requires threads { 0 < length self.old.threads }
+        requires { IsNewest self.old }
         ensures { (before : LivesState) (session : ℕ) → self.old ≡ with_process before session → self.new ≡ before }
     {
         self.processes.take_back();
         self.threads.take_back();
+        self.members.take_back();
     }
 
     /// Whether a process has live threads.
     pub(crate) fn has_threads(&self, process: u32) -> bool
         ensures { result ≡ list_any (is_of process) self.now.threads }
     {
-        self.threads.has(process)
+        self.members.has_live(process)
+    }
+
+    /// A number that no live thread of a process is below.
+    pub(crate) fn first_of(&self, process: u32) -> u32
+        ensures { (t : ℕ) → slice_index_or self.now.threads t None ≡ Some process → result ≤ t }
+    {
+        self.members.first(process)
+    }
+
+    /// A greater number, with no live thread of the process between. Behind a thread of the process it is the next that the
+    /// process was given.
+    pub(crate) fn next_of(&self, process: u32, thread: u32) -> u32
+        requires { thread < length self.now.threads }
+        ensures greater { thread < result }
+        ensures none { (t : ℕ) → slice_index_or self.now.threads t None ≡ Some process → thread < t → result ≤ t }
+    {
+        let member = self.members.member(thread);
+        if member.process != process || thread < self.members.first(process) {
+            return thread + 1;
+        }
+        if thread < member.next {
+            return member.next;
+        }
+        self.threads.next()
     }
 
     /// A thread's number is gone.
     pub(crate) fn end_thread(&mut self, thread: u32)
         ensures { self.new ≡ record self.old { threads = slice_set self.old.threads thread None } }
     {
+        let Some(process) = self.threads.get(thread) else {
+            return;
+        };
+        self.members.end_thread(process);
         self.threads.leave(thread);
     }
 
@@ -107,11 +154,16 @@ impl Lives {
 
     /// A new thread of a process.
     pub(crate) fn add_thread(&mut self, process: u32) -> Result<(), AllocError>
-        requires { length self.old.threads ≤ 65536 }
+        requires process { process < length self.old.processes }
+        requires threads { length self.old.threads ≤ 65536 }
         ensures ok { OnOk result (self.new ≡ with_thread self.old process) }
         ensures err { OnErr result (self.new ≡ self.old) }
     {
         self.threads.give(process)?;
+        if self.members.add_thread(process).is_err() {
+            self.threads.take_back();
+            return Err(AllocError);
+        }
         Ok(())
     }
 }

@@ -1,6 +1,4 @@
 ghost use Rattle.std.specs.Prelude.{ℕ, List, Option, [], ◌∷◌, ◌++◌, ◌≡◌, ◌<◌, ◌≤◌, None, Some, IfOk, OnOk, OnErr, length, slice_index_or, slice_set};
-ghost use Rattle.std.specs.List.{list_any};
-ghost use Rattle.ob_store.specs.Lives.{is_of};
 
 use std::alloc::{AllocError, Global};
 use std::marker::Model;
@@ -71,13 +69,6 @@ impl Numbers {
         }
     }
 
-    /// Whether this stands at a number.
-    pub fn has(&self, value: u32) -> bool
-        ensures { result ≡ list_any (is_of value) self.now }
-    {
-        self.places.iter().any(|place| is_of(value, *place))
-    }
-
     /// Takes back the number that was given last.
     #[tactic(auto, using(crate::proofs::Places::same_front))]
     pub fn take_back(&mut self)
@@ -85,15 +76,5 @@ impl Numbers {
         ensures { (before : List (Option ℕ)) (value : Option ℕ) → self.old ≡ before ++ value ∷ [] → self.new ≡ before }
     {
         let _ = self.places.pop();
-    }
-}
-
-/// Whether this stands at a place.
-fn is_of(value: u32, place: Option<u32>) -> bool
-    ensures { result ≡ is_of value place }
-{
-    match place {
-        Some(other) => other == value,
-        None => false,
     }
 }

@@ -12,6 +12,7 @@ ghost use Rattle.ob_store.specs.State.{handles_of, blocks_of, id_at, is_full, op
 ghost use Rattle.ob_store.specs.Consistent.{IsConsistent};
 ghost use Rattle.ob_store.specs.Directory.{directory_of};
 
+use crate::abandoned::Abandoned;
 use crate::limits::Limits;
 use crate::lives::Lives;
 use crate::objects::Objects;
@@ -34,6 +35,7 @@ pub struct Store<K: PinKeeper> {
     pub(crate) objects: Objects<K>,
     pub(crate) waits: Waits,
     pub(crate) names: Directory,
+    pub(crate) abandoned: Abandoned,
     pub(crate) alloc: Global,
 }
 
@@ -61,6 +63,9 @@ impl<K: PinKeeper> Store<K> {
         let Ok(tables) = Tables::new(alloc, limits.processes, limits.handles) else {
             return Err(keeper);
         };
+        let Ok(abandoned) = Abandoned::new(alloc, limits.slots) else {
+            return Err(keeper);
+        };
         match Objects::new(alloc, limits.slots, limits.threads + 1, keeper) {
             Ok(objects) => {
                 return Ok(Store {
@@ -70,6 +75,7 @@ impl<K: PinKeeper> Store<K> {
                     objects,
                     waits: Waits::new(alloc, limits.waits),
                     names: Directory::new(alloc),
+                    abandoned,
                     alloc,
                 });
             }

@@ -10,6 +10,7 @@ use Rattle.ob_store.specs.Lives.{LivesState}
 use Rattle.ob_store.specs.Objects.{ObjectsState, with_handles_of}
 use Rattle.ob_store.specs.State.{Whole, settled, whole_of, with_child}
 use Rattle.ob_store.proofs.ChildLaws.{kept_child, whole_child, inherited_live, inherited_few, last_table}
+use Rattle.ob_store.proofs.MemberLaws.{newest}
 use Rattle.ob_store.proofs.store.Store.add_child.Goals as goal
 
 pub handles_came-requires-clause-live : goal.handles_came-requires-clause-live
@@ -55,3 +56,8 @@ returns-in-Ok-clause-ok g c =
     ∙ ap (λ (o : ObjectsState). whole_of s.limits (lives.with_process s.lives c.args.session) (record s.tables { tables = tables.with_child s.tables.tables c.args.parent }) o s.waits) came
     ∙ whole_child s.limits s.lives s.tables s.objects s.waits s.names.rows c.self.invariant c.args.parent table c.args.session processes threads (subst IsTied came c.kept-in-Ok.ensures)
     ∙ ap (λ (w : Whole). record w { state = settled (with_child w.state c.args.parent c.args.session) }) c.self.view_is
+
+pub take_back-requires : goal.take_back-requires
+take_back-requires g c =
+    let s = c.self.inside in
+    rw c.in_ok-add_process.ensures.ok (newest s.limits s.lives (length s.tables.tables) c.args.session c.self.invariant.lives_kept)

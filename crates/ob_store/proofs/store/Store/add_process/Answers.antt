@@ -4,6 +4,7 @@ use Rattle.ob_store.specs.Lives as lives
 use Rattle.ob_store.specs.Lives.{LivesState}
 use Rattle.ob_store.specs.State.{Whole, settled, whole_of, with_process}
 use Rattle.ob_store.proofs.KeptLaws.{kept_process, whole_process}
+use Rattle.ob_store.proofs.MemberLaws.{newest}
 use Rattle.ob_store.proofs.store.Store.add_process.Goals as goal
 
 pub invariant_of-self-in-Ok : goal.invariant_of-self-in-Ok
@@ -22,3 +23,8 @@ returns-in-Ok-clause-ok g c =
     ∙ ap (λ (t : HandleTables). whole_of s.limits (lives.with_process s.lives c.args.session) t s.objects s.waits) c.in-Ok.ensures.ok
     ∙ whole_process s.limits s.lives s.tables s.objects s.waits s.names.rows c.self.invariant c.args.session processes threads c.kept.ensures
     ∙ ap (λ (w : Whole). record w { state = settled (with_process w.state c.args.session) }) c.self.view_is
+
+pub take_back-requires : goal.take_back-requires
+take_back-requires g c =
+    let s = c.self.inside in
+    rw c.in_ok-add_process.ensures.ok (newest s.limits s.lives (length s.tables.tables) c.args.session c.self.invariant.lives_kept)

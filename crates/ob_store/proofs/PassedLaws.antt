@@ -1,0 +1,68 @@
+-- Numbers that no live thread of a process has are passed by.
+use Rattle.std.proofs.Common.{◌≡◌, ℕ, zero, suc, ◌+◌, ◌-◌, ◌<◌, ◌≤◌, length, Option, Some, None, refl, ap, ◌∙◌, sym, subst, arith, get_or, Bool, true, false, cond, eqb}
+use Rattle.std.proofs.lemmas.List.{length-set, get_or_past}
+use Rattle.std.proofs.lemmas.Bool.Decides.{nat_tests}
+use Rattle.pin_words.specs.Keepers.{KeeperState}
+use Rattle.ob_name.specs.Listing.{Rows}
+use Rattle.ob_tables.specs.Tables.{HandleTables}
+use Rattle.ob_waits.specs.Waits.{WaitList}
+use Rattle.ob_store.specs.declared.limits.Limits.{Limits}
+use Rattle.ob_store.specs.Objects.{ObjectsState}
+use Rattle.ob_store.specs.UnderWay.{IsUnderWay}
+use Rattle.ob_store.specs.Ends.{thread_ended, threads_ended}
+use Rattle.ob_store.specs.Lives.{LivesState, is_of}
+use Rattle.ob_store.specs.State.{State}
+
+is_of_none : (p : ℕ) (x : Option ℕ) → (x ≡ Some p → ⊥) → is_of p x ≡ false
+is_of_none p None other = refl
+is_of_none p (Some q) other = by (eqb q p) refl
+  where
+    by : (b : Bool) → eqb q p ≡ b → eqb q p ≡ false
+    by true is = absurd (let same : q ≡ p = grind (arith, nat_tests, is) in other (ap Some same))
+    by false is = is
+
+-- nothing of the process is between
+pub passed : (s : State) (p a d : ℕ) → ((t : ℕ) → a ≤ t → t < a + d → get_or (threads_ended s p a).threads t None ≡ Some p → ⊥) → threads_ended s p (a + d) ≡ threads_ended s p a
+passed s p a zero none = let same : a + 0 ≡ a = omega arith in ap (threads_ended s p) same
+passed s p a (suc d) none =
+    let rest : threads_ended s p (a + d) ≡ threads_ended s p a = passed s p a d (λ t le lt. none t le (omega (arith, lt))) in
+    let at = ap (λ (x : State). get_or x.threads (a + d) None) rest in
+    let other = is_of_none p (get_or (threads_ended s p (a + d)).threads (a + d) None) (λ h. none (a + d) (omega arith) (omega arith) (sym at ∙ h)) in
+    let more : a + suc d ≡ suc (a + d) = omega arith in
+    ap (threads_ended s p) more
+    ∙ ap (λ b. cond b (thread_ended (threads_ended s p (a + d)) (a + d)) (threads_ended s p (a + d))) other
+    ∙ rest
+
+pub passed_to : (s : State) (p a b : ℕ) → a ≤ b → ((t : ℕ) → a ≤ t → t < b → get_or (threads_ended s p a).threads t None ≡ Some p → ⊥) → threads_ended s p b ≡ threads_ended s p a
+passed_to s p a b le none =
+    let is : a + (b - a) ≡ b = omega (arith, le) in
+    ap (threads_ended s p) (sym is) ∙ passed s p a (b - a) (λ t above below. none t above (omega (arith, below, is)))
+
+-- what is under way says which threads are live
+pub way_threads : (first : KeeperState) (limits : Limits) (l : LivesState) (ts : HandleTables) (o : ObjectsState) (ws : WaitList) (rows : Rows) (s : State) (t p : ℕ)
+    → IsUnderWay first limits l ts o ws rows s → get_or s.threads t None ≡ Some p → get_or l.threads t None ≡ Some p
+way_threads first limits l ts o ws rows s t p way h = ap (λ (x : State). get_or x.threads t None) way.rest ∙ h
+
+-- the parts are on their way as well to where no thread between has ended
+pub way_passed : (first : KeeperState) (limits : Limits) (l : LivesState) (ts : HandleTables) (o : ObjectsState) (ws : WaitList) (rows : Rows) (s : State) (p a b : ℕ)
+    → a ≤ b → ((t : ℕ) → a ≤ t → t < b → get_or l.threads t None ≡ Some p → ⊥)
+    → IsUnderWay first limits l ts o ws rows (threads_ended s p a) → IsUnderWay first limits l ts o ws rows (threads_ended s p b)
+way_passed first limits l ts o ws rows s p a b le none way =
+    subst (λ (x : State). IsUnderWay first limits l ts o ws rows x)
+    (sym (passed_to s p a b le (λ t above below h. none t above below (way_threads first limits l ts o ws rows (threads_ended s p a) t p way h)))) way
+
+-- or on their way back
+pub way_unpassed : (first : KeeperState) (limits : Limits) (l : LivesState) (ts : HandleTables) (o : ObjectsState) (ws : WaitList) (rows : Rows) (s : State) (p a b : ℕ)
+    → a ≤ b → length s.threads ≤ a
+    → IsUnderWay first limits l ts o ws rows (threads_ended s p b) → IsUnderWay first limits l ts o ws rows (threads_ended s p a)
+way_unpassed first limits l ts o ws rows s p a b le past way =
+    subst (λ (x : State). IsUnderWay first limits l ts o ws rows x)
+    (passed_to s p a b le (λ t above below h. let e = get_or_past (threads_ended s p a).threads t None (let long = threads_long s p a in omega (arith, long, above, past)) in cc (e, h))) way
+  where
+    threads_long : (s : State) (p n : ℕ) → length (threads_ended s p n).threads ≡ length s.threads
+    threads_long s p zero = refl
+    threads_long s p (suc n) = by (is_of p (get_or (threads_ended s p n).threads n None)) (threads_long s p n)
+      where
+        by : (b : Bool) → length (threads_ended s p n).threads ≡ length s.threads → length (cond b (thread_ended (threads_ended s p n) n) (threads_ended s p n)).threads ≡ length s.threads
+        by true long = length-set (threads_ended s p n).threads n None ∙ long
+        by false long = long

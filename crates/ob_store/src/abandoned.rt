@@ -1,0 +1,71 @@
+ghost use Rattle.std.specs.Prelude.{◌≡◌, ◌++◌, ◌∷◌, [], true, false, IfOk};
+ghost use Rattle.ob_store.specs.Abandoned.{AbandonedState, none_abandoned};
+
+use pin_core::Id;
+use std::alloc::{AllocError, Global};
+use std::marker::Model;
+
+/// The slots whose mutexes a call abandoned, as long as there is room for them.
+#[derive(Drop)]
+pub(crate) struct Abandoned {
+    ids: Vec<Id>,
+    is_whole: bool,
+}
+
+impl Model for Abandoned {
+    ghost use Rattle.ob_store.specs.Abandoned.{AbandonedState};
+
+    ghost Value = { AbandonedState };
+
+    ghost view = { λ a. record { ids = a.ids.items; whole = a.is_whole } };
+}
+
+impl Abandoned {
+    /// None, with room for as many as there are slots: 8 bytes each.
+    pub(crate) fn new(alloc: Global, slots: u32) -> Result<Abandoned, AllocError>
+        ensures { IfOk result (λ abandoned. abandoned ≡ none_abandoned) }
+    {
+        Ok(Abandoned {
+            ids: Vec::with_capacity(alloc, slots as usize)?,
+            is_whole: true,
+        })
+    }
+
+    /// None any more; the room stays.
+    pub(crate) fn clear(&mut self)
+        ensures { self.new ≡ none_abandoned }
+    {
+        self.ids.clear();
+        self.is_whole = true;
+    }
+
+    /// One more, or without room for it not all any more.
+    pub(crate) fn add(&mut self, id: Id)
+        ensures added { self.new.whole ≡ true → self.new.ids ≡ self.old.ids ++ id ∷ [] }
+        ensures before { self.new.whole ≡ true → self.old.whole ≡ true }
+    {
+        if self.ids.push(id).is_err() {
+            self.is_whole = false;
+        }
+    }
+
+    /// There are others.
+    pub(crate) fn miss(&mut self)
+        ensures { self.new ≡ record self.old { whole = false } }
+    {
+        self.is_whole = false;
+    }
+
+    /// Whether all are there.
+    pub(crate) fn is_whole(&self) -> bool
+        ensures { result ≡ self.now.whole }
+    {
+        self.is_whole
+    }
+
+    pub(crate) fn ids(&self) -> &[Id]
+        ensures { result.now ≡ self.now.ids }
+    {
+        &self.ids
+    }
+}
