@@ -21,6 +21,7 @@ mod creation;
 mod ending;
 mod entries;
 mod limits;
+mod links;
 mod lives;
 mod members;
 mod numbers;
