@@ -1,8 +1,8 @@
 -- The slots by which it is enough to settle, while bodies and waits go and mutexes are abandoned.
-use Rattle.std.proofs.Common.{◌≡◌, ℕ, zero, suc, ◌<◌, List, [], ◌∷◌, length, Option, None, refl, ap, ◌∙◌, sym, subst, arith, cond, get_or, map, Bool, true, false, inl, inr}
+use Rattle.std.proofs.Common.{◌≡◌, ℕ, zero, suc, ◌<◌, List, [], ◌∷◌, length, Option, None, refl, ap, ◌∙◌, sym, subst, arith, cond, get_or, set, map, Bool, true, false, inl, inr}
 use Rattle.std.specs.List.{list_any}
-use Rattle.std.proofs.lemmas.List.{length-map, get_or-map, get_or_past}
-use Rattle.std.proofs.lemmas.Bool.{cases_lt}
+use Rattle.std.proofs.lemmas.List.{length-map, get_or-map, get_or_past, get_or-set_other, set-get_or}
+use Rattle.std.proofs.lemmas.Bool.{cases_eq, cases_lt}
 use Rattle.pin_core.specs.declared.id.Id.{Id}
 use Rattle.ob_body.specs.declared.body.Body.{Body}
 use Rattle.ob_body.specs.Mutex.{is_owner}
@@ -102,6 +102,20 @@ noted_still a b bodies t k grown noted = λ whole out. noted (grown.whole whole)
 pub enough_noted : (a b : AbandonedState) (p q : Objects) (t : ℕ) → q ≡ record p { bodies = map (slot_left_by t) p.bodies } → Grows a b → ((k : ℕ) → IsNoted b p.bodies t k)
     → (ws : List (Option Wait)) → IsEnough a p.bodies ws → IsEnough b q.bodies ws
 enough_noted a b p q t seen grown noted = enough_abandoned a b p.bodies q.bodies t (ap (λ (x : Objects). x.bodies) seen) grown.whole grown.named (λ whole k. noted k whole)
+
+-- one slot was noted, and the mutex in it is abandoned
+pub enough_at : (a b : AbandonedState) (p q : Objects) (t k : ℕ) → q ≡ record p { bodies = set p.bodies k (slot_left_by t (get_or p.bodies k None)) } → Grows a b → IsNoted b p.bodies t k
+    → (ws : List (Option Wait)) → IsEnough a p.bodies ws → IsEnough b q.bodies ws
+enough_at a b p q t k is grown noted ws enough = record {
+  each = λ whole. ready_more p.bodies q.bodies ws a.ids b.ids (grown.named whole)
+      (λ j out. ap (λ (x : Objects). get_or x.bodies j None) is ∙ elim (cases_eq j k) [
+        | inl same ↦
+            let stays : slot_left_by t (get_or p.bodies k None) ≡ get_or p.bodies k None = left_by_other t (get_or p.bodies k None) (noted whole (λ i lt at. out i lt (at ∙ sym same))) in
+            ap (λ x. get_or (set p.bodies k x) j None) stays ∙ ap (λ (l : List (Option Body)). get_or l j None) (set-get_or p.bodies k None)
+        | inr other ↦ get_or-set_other p.bodies k j (slot_left_by t (get_or p.bodies k None)) None other
+      ])
+      (enough.each (grown.whole whole));
+}
 
 -- a thread's blocks leave, and its wait
 pub enough_unwaited : (a : AbandonedState) (o p : Objects) (ws : List (Option Wait)) (t : ℕ) (ids : List Id) → p ≡ without_blocks o ids → IsEnough a o.bodies ws → IsEnough a p.bodies (map (unless_of t) ws)

@@ -76,12 +76,28 @@ fn note_all<K: PinKeeper>(objects: &Objects<K>, abandoned: &mut Abandoned, threa
     }
 }
 
-/// The mutexes that a thread owns are abandoned, and their slots noted.
+/// The mutexes of a thread that are listed are abandoned, and their slots noted: all that it owns, unless the list is wrong or
+/// the thread isn't counted.
+fn abandon_listed<K: PinKeeper>(objects: &mut Objects<K>, abandoned: &mut Abandoned, thread: u32)
+    ensures seen { record objects.new.seen { bodies = map (slot_left_by thread) objects.new.seen.bodies } ≡ record objects.old.seen { bodies = map (slot_left_by thread) objects.old.seen.bodies } }
+    ensures rest { kept_rest objects.new ≡ kept_rest objects.old }
+    ensures enough { (waits : List (Option Wait)) → IsEnough abandoned.old objects.old.seen.bodies waits → IsEnough abandoned.new objects.new.seen.bodies waits }
+{
+    for _ in 0..objects.owned(thread) {
+        let slot = objects.hint(thread);
+        note_at(objects, abandoned, thread, slot);
+        objects.abandon_at(slot, thread);
+    }
+}
+
+/// The mutexes that a thread owns are abandoned, and their slots noted. Where its list is right, it looks at these alone, and
+/// else at each slot.
 fn abandon<K: PinKeeper>(objects: &mut Objects<K>, abandoned: &mut Abandoned, thread: u32)
     ensures seen { objects.new.seen ≡ record objects.old.seen { bodies = map (slot_left_by thread) objects.old.seen.bodies } }
     ensures rest { kept_rest objects.new ≡ kept_rest objects.old }
     ensures enough { (waits : List (Option Wait)) → IsEnough abandoned.old objects.old.seen.bodies waits → IsEnough abandoned.new objects.new.seen.bodies waits }
 {
+    abandon_listed(objects, abandoned, thread);
     note_all(objects, abandoned, thread);
     objects.abandon(thread);
 }
@@ -270,8 +286,8 @@ fn settle<K: PinKeeper>(objects: &mut Objects<K>, waits: &mut Waits, abandoned: 
 
 impl<K: PinKeeper> Store<K> {
     /// A live thread ends, and with the last thread of a process that: the thread's wait is dropped, its mutexes are abandoned,
-    /// and the waits settle. It looks at no other thread, and of the pending waits at those for the abandoned mutexes alone.
-    /// Where the thread owned a mutex it looks at each slot, else at none.
+    /// and the waits settle. It looks at no other thread, at no slot but those of its mutexes and of the handles that leave, and
+    /// of the pending waits at those for the abandoned mutexes alone.
     pub fn end_thread(&mut self, thread: u32, process: u32)
         requires live { slice_index_or self.old.state.threads thread None ≡ Some process }
         ensures state { self.new.state ≡ settled (left self.old.state process thread) }
@@ -303,8 +319,8 @@ impl<K: PinKeeper> Store<K> {
     }
 
     /// A live process ends: its threads end by rising number, then its entries leave by rising value, and the waits settle
-    /// once. It looks at the threads that the process was given, and of the pending waits at those for the abandoned mutexes
-    /// alone. For each thread that owned a mutex it looks at each slot.
+    /// once. It looks at the threads that the process was given, at no slot but those of their mutexes and of the handles that
+    /// leave, and of the pending waits at those for the abandoned mutexes alone.
     pub fn exit(&mut self, process: u32)
         requires live { IsSome (slice_index_or self.old.state.processes process None) }
         ensures state { self.new.state ≡ settled (exited self.old.state process) }

@@ -199,7 +199,7 @@ impl<K: PinKeeper> Objects<K> {
     }
 
     /// The mutex in a slot is abandoned, where the thread owns it.
-    fn abandon_at(&mut self, slot: u32, thread: u32)
+    pub(crate) fn abandon_at(&mut self, slot: u32, thread: u32)
         ensures seen { self.new.seen ≡ record self.old.seen { bodies = slice_set self.old.seen.bodies slot (slot_left_by thread (slice_index_or self.old.seen.bodies slot None)) } }
         ensures rest { kept_rest self.new ≡ kept_rest self.old }
     {
@@ -281,6 +281,16 @@ impl<K: PinKeeper> Objects<K> {
             }
             Reclaim::Held { pins } => return Reclaim::Held { pins },
         }
+    }
+
+    /// How many mutexes a thread owns, as far as they are counted.
+    pub(crate) fn owned(&self, thread: u32) -> u32 {
+        self.seats.owned(thread)
+    }
+
+    /// A slot where a mutex of the thread may be, or a number past all slots.
+    pub(crate) fn hint(&self, thread: u32) -> u32 {
+        self.seats.hint(thread)
     }
 }
 

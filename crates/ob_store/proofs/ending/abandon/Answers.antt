@@ -1,5 +1,12 @@
+use Rattle.std.proofs.Common.{◌∙◌}
 use Rattle.ob_store.proofs.EnoughLaws.{enough_noted}
 use Rattle.ob_store.proofs.ending.abandon.Goals as goal
 
-pub returns-clause-enough : goal.returns-clause-enough
-returns-clause-enough g c = enough_noted c.args.abandoned.now c.note_all.new.abandoned c.args.objects.now.seen c.abandon.new.self.seen c.args.thread c.abandon.ensures.seen c.note_all.ensures.grown c.note_all.ensures.noted
+pub returns : goal.returns
+returns g c = record {
+  seen = c.abandon.ensures.seen ∙ c.abandon_listed.ensures.seen;
+  rest = c.abandon.ensures.rest ∙ c.abandon_listed.ensures.rest;
+  enough = λ waits enough.
+      enough_noted c.abandon_listed.new.abandoned c.note_all.new.abandoned c.abandon_listed.new.objects.seen c.abandon.new.self.seen c.args.thread c.abandon.ensures.seen c.note_all.ensures.grown c.note_all.ensures.noted waits
+      (c.abandon_listed.ensures.enough waits enough);
+}
