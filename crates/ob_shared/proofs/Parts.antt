@@ -1,9 +1,10 @@
 -- A lane's list beside its part of the journal.
-use Rattle.std.proofs.Common.{◌≡◌, ◌≢◌, ◌==◌, ℕ, zero, suc, ◌+◌, ◌<◌, ◌≤◌, Bool, true, false, List, [], ◌∷◌, ◌++◌, Option, Some, None, length, take, drop, get_or, refl, sym, ap, ◌∙◌, subst, arith, append-nil}
-use Rattle.std.proofs.lemmas.List.{take_more, drop_more, take-append-drop}
-use Rattle.std.proofs.lemmas.Option.{slice_get_past, slice_get-get_or}
-use Rattle.std.proofs.Math.Seq.{take-length}
+use Rattle.std.proofs.Common.{◌≡◌, ◌≢◌, ◌==◌, ℕ, ◌+◌, ◌<◌, ◌≤◌, Bool, true, false, List, [], ◌∷◌, ◌++◌, Some, None, length, take, drop, get_or, refl, sym, ap, ◌∙◌, subst, arith, append-nil, inl, inr}
+use Rattle.std.proofs.lemmas.List.{take_more, drop_more, take-append-drop, length-take}
+use Rattle.std.proofs.lemmas.Option.{get_or_from_slice_get, slice_get_cases, slice_get_within}
+use Rattle.std.proofs.Math.Seq.{drop-length, take-length}
 use Rattle.std.specs.List.{slice_get}
+use Rattle.std.specs.Prelude.{is_some}
 use Rattle.ob_shared.specs.declared.book.Entry.{Entry}
 use Rattle.ob_shared.specs.Closing.{DifferAt}
 use Rattle.ob_shared.specs.Lanes.{part}
@@ -57,17 +58,35 @@ take_seam (z ∷ zs) ys = ap (λ (xs : List Entry). z ∷ xs) (take_seam zs ys)
 differ_seam : (xs zs ys : List Entry) → take (length zs) xs ≡ zs → slice_get xs (length zs) ≢ slice_get ys 0 → DifferAt xs (zs ++ ys) (length zs)
 differ_seam xs zs ys same differs = record { before = same ∙ sym (take_seam zs ys); differs = λ (is : slice_get xs (length zs) ≡ slice_get (zs ++ ys) (length zs)). differs (is ∙ seam zs ys) }
 
-differ_part : (k : ℕ) (js xs : List Entry) (i p : ℕ) → p ≡ length (part k (take i js)) → take p xs ≡ part k (take i js) → slice_get xs p ≢ slice_get (part k (drop i js)) 0 → DifferAt xs (part k js) p
-differ_part k js xs i p long same differs =
+differ_part : (k : ℕ) (js xs : List Entry) (i p : ℕ) → p ≤ length xs → take p xs ≡ part k (take i js) → slice_get xs p ≢ slice_get (part k (drop i js)) 0 → DifferAt xs (part k js) p
+differ_part k js xs i p room same differs =
+    let long : p ≡ length (part k (take i js)) = omega (arith, length-take p xs, ap length same) in
     subst (λ (ys : List Entry). DifferAt xs ys p) (sym (part_split k i js))
-      (subst (λ (n : ℕ). DifferAt xs (part k (take i js) ++ part k (drop i js)) n) (sym long)
-        (differ_seam xs (part k (take i js)) (part k (drop i js)) (ap (λ (n : ℕ). take n xs) (sym long) ∙ same)
-          (λ (is : slice_get xs (length (part k (take i js))) ≡ slice_get (part k (drop i js)) 0). differs (ap (slice_get xs) long ∙ is))))
+    (subst (λ (n : ℕ). DifferAt xs (part k (take i js) ++ part k (drop i js)) n) (sym long)
+    (differ_seam xs (part k (take i js)) (part k (drop i js)) (ap (λ (n : ℕ). take n xs) (sym long) ∙ same)
+    (λ (is : slice_get xs (length (part k (take i js))) ≡ slice_get (part k (drop i js)) 0). differs (ap (slice_get xs) long ∙ is))))
 
 -- the next entry of the lane isn't what its list has
-pub differ_next : (k : ℕ) (js xs : List Entry) (i p : ℕ) (e : Entry) → i < length js → p ≡ length (part k (take i js)) → e ≡ get_or js i e → e.lane ≡ k → take p xs ≡ part k (take i js)
+pub differ_next : (k : ℕ) (js xs : List Entry) (i p : ℕ) (e : Entry) → i < length js → p ≤ length xs → e ≡ get_or js i e → e.lane ≡ k → take p xs ≡ part k (take i js)
     → slice_get xs p ≢ Some e → DifferAt xs (part k js) p
-differ_next k js xs i p e inside long at is same differs = differ_part k js xs i p long same (λ (q : slice_get xs p ≡ slice_get (part k (drop i js)) 0). differs (q ∙ next))
+differ_next k js xs i p e inside room at is same differs = differ_part k js xs i p room same (λ (q : slice_get xs p ≡ slice_get (part k (drop i js)) 0). differs (q ∙ next))
   where
     next : slice_get (part k (drop i js)) 0 ≡ Some e
     next = rw (drop_more js i e inside, ← at, part_of k e (drop (i + 1) js) is) refl
+
+-- the list has more than the journal
+pub differ_end : (k : ℕ) (js xs : List Entry) (i p : ℕ) → i ≡ length js → p < length xs → take p xs ≡ part k (take i js) → DifferAt xs (part k js) p
+differ_end k js xs i p ends room same = differ_part k js xs i p (omega (arith, room)) same (λ (q : slice_get xs p ≡ slice_get (part k (drop i js)) 0). past (q ∙ nothing))
+  where
+    nothing : slice_get (part k (drop i js)) 0 ≡ None
+    nothing = ap (λ (n : ℕ). slice_get (part k (drop n js)) 0) ends ∙ ap (λ (ys : List Entry). slice_get (part k ys) 0) (drop-length js)
+
+    past : slice_get xs p ≡ None → ⊥
+    past none = elim (slice_get_cases xs p).1 as (λ _. ⊥) [ inl x ↦ grind (arith, ap is_some (sym x.2 ∙ none)) | inr y ↦ omega (arith, room, y.0) ]
+
+-- the next entry of the lane is what its list has
+pub part_found : (k : ℕ) (js xs : List Entry) (i p : ℕ) (e : Entry) → i < length js → e ≡ get_or js i e → e.lane ≡ k → slice_get xs p ≡ Some e → take p xs ≡ part k (take i js)
+    → (p + 1 ≤ length xs) × (take (p + 1) xs ≡ part k (take (i + 1) js))
+part_found k js xs i p e inside at is found old =
+    let within : p < length xs = slice_get_within xs p e found in
+    (omega (arith, within), part_more k js xs i p e inside within at (sym (get_or_from_slice_get xs p e e found)) is old)

@@ -1,5 +1,5 @@
 -- How the lanes that are handed in compare with the journal.
-use Rattle.std.specs.Prelude.{◌≡◌, ◌≢◌, ℕ, ◌<◌, ◌==◌, ◌||◌, Bool, false, true, not, nat_le, List, [], ◌∷◌, take, length, slice_index_or}
+use Rattle.std.specs.Prelude.{◌≡◌, ◌≢◌, All, ℕ, ◌<◌, ◌==◌, ◌||◌, Bool, false, true, not, nat_le, List, [], ◌∷◌, take, length, slice_index_or}
 use Rattle.std.specs.List.{list_any, range_with_len, slice_get}
 use Rattle.ob_shared.specs.declared.book.Entry.{Entry}
 use Rattle.ob_shared.specs.declared.closing.CloseCause.{CloseCause}
@@ -45,3 +45,17 @@ pub record FirstDiffers (lanes : List LaneState) (journal : List Entry) (number 
   pub before : (k : ℕ) (d : LaneState) → k < at → IsPart journal (slice_index_or lanes k d)
   pub named : (d : LaneState) → (slice_index_or lanes at d).number ≡ number
   pub differs : (d : LaneState) → DifferAt (slice_index_or lanes at d).list (part number journal) place
+
+-- the lanes have the numbers that were given, each once, with each of the journal's, and each has its part
+pub record AreWhole (given : ℕ) (lanes : List LaneState) (journal : List Entry) : Type 0 where
+  pub no_stranger : list_any (is_stranger given) lanes ≡ false
+  pub apart : has_twice lanes ≡ false
+  pub all : misses given lanes journal ≡ false
+  pub parts : All (IsPart journal) lanes
+
+-- the first cause, in this order: a stranger, a number twice, a number missing, and a list that differs
+abbrev pub IsCause : ℕ → List LaneState → List Entry → CloseCause → Type 0
+IsCause given lanes journal LaneStranger = list_any (is_stranger given) lanes ≡ true
+IsCause given lanes journal LaneTwice = (list_any (is_stranger given) lanes ≡ false) × (has_twice lanes ≡ true)
+IsCause given lanes journal LaneMissing = (list_any (is_stranger given) lanes ≡ false) × (has_twice lanes ≡ false) × (misses given lanes journal ≡ true)
+IsCause given lanes journal (LanesDiffer number place) = (list_any (is_stranger given) lanes ≡ false) × (has_twice lanes ≡ false) × (misses given lanes journal ≡ false) × FirstDiffers lanes journal number place

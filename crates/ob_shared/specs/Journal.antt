@@ -1,6 +1,5 @@
 -- A journal, and what it means that a manager is the one after it.
 use Rattle.std.specs.Prelude.{◌≡◌, List, [], ◌∷◌}
-use Rattle.ob_store.specs.declared.limits.Limits.{Limits}
 use Rattle.ob_store.specs.State.{State, Whole, opening}
 use Rattle.ob_manager.specs.Steps.{Step, next}
 use Rattle.ob_shared.specs.declared.book.Entry.{Entry}

@@ -1,7 +1,6 @@
 ghost use Rattle.std.specs.Prelude.{◌≡◌, ◌||◌, IfNone, IfSome, All};
 ghost use Rattle.std.specs.List.{list_any, range_with_len};
-ghost use Rattle.ob_shared.specs.Closing.{DifferAt, FirstDiffers, IsPart, has_number, has_twice, is_entry_missing, is_missing, is_stranger, misses};
-ghost use Rattle.ob_shared.specs.Lanes.{part};
+ghost use Rattle.ob_shared.specs.Closing.{AreWhole, FirstDiffers, IsCause, IsPart, has_number, has_twice, is_entry_missing, is_missing, is_stranger, misses};
 
 use crate::book::Entry;
 use crate::lane::Lane;
@@ -25,7 +24,7 @@ pub enum CloseCause {
 }
 
 /// Whether a lane has a number that wasn't given.
-pub(crate) fn has_stranger(given: u32, lanes: &[Lane]) -> bool
+fn has_stranger(given: u32, lanes: &[Lane]) -> bool
     ensures { result ≡ list_any (is_stranger given) lanes.now }
 {
     lanes.iter().any(|lane| lane.number >= given)
@@ -39,7 +38,7 @@ fn has(lanes: &[Lane], number: u32) -> bool
 }
 
 /// Whether two lanes have one number.
-pub(crate) fn has_twice(lanes: &[Lane]) -> bool
+fn has_twice(lanes: &[Lane]) -> bool
     ensures { result ≡ has_twice lanes.now }
 {
     for (i, lane) in lanes.iter().enumerate() {
@@ -65,8 +64,40 @@ fn misses_entry(lanes: &[Lane], journal: &[Entry]) -> bool
 }
 
 /// Whether one of these is.
-pub(crate) fn misses(given: u32, lanes: &[Lane], journal: &[Entry]) -> bool
+fn misses(given: u32, lanes: &[Lane], journal: &[Entry]) -> bool
     ensures { result ≡ misses given lanes.now journal.now }
 {
     misses_number(given, lanes) || misses_entry(lanes, journal)
+}
+
+/// The first lane whose list differs from its part of the journal, and the place.
+fn first_difference(lanes: &[Lane], journal: &[Entry]) -> Option<(u32, usize)>
+    ensures none { IfNone result (All (IsPart journal.now) lanes.now) }
+    ensures some { IfSome result (λ found. FirstDiffers lanes.now journal.now found.0 found.1) }
+{
+    for lane in lanes {
+        if let Some(place) = lane.difference(journal) {
+            return Some((lane.number(), place));
+        }
+    }
+    None
+}
+
+/// Why lanes aren't whole beside a journal, when so many numbers are given. It takes a time that grows with the number of
+/// lanes times the length of the journal.
+pub(crate) fn cause_of(given: u32, lanes: &[Lane], journal: &[Entry]) -> Option<CloseCause>
+    ensures whole { IfNone result (AreWhole given lanes.now journal.now) }
+    ensures cause { IfSome result (λ cause. IsCause given lanes.now journal.now cause) }
+{
+    if has_stranger(given, lanes) {
+        return Some(CloseCause::LaneStranger);
+    }
+    if has_twice(lanes) {
+        return Some(CloseCause::LaneTwice);
+    }
+    if misses(given, lanes, journal) {
+        return Some(CloseCause::LaneMissing);
+    }
+    let (lane, place) = first_difference(lanes, journal)?;
+    Some(CloseCause::LanesDiffer { lane, place })
 }

@@ -1,6 +1,9 @@
-ghost use Rattle.std.specs.Prelude.{◌≡◌, []};
+ghost use Rattle.std.specs.Prelude.{◌≡◌, ◌↔◌, [], IfNone, IfSome, IsTrue, Some};
+ghost use Rattle.std.specs.List.{slice_get};
+ghost use Rattle.ob_shared.specs.Closing.{DifferAt, IsPart};
+ghost use Rattle.ob_shared.specs.Lanes.{part};
 
-use crate::book::Receipt;
+use crate::book::{Entry, Receipt};
 use std::alloc::Global;
 use std::marker::Model;
 
@@ -44,4 +47,40 @@ impl Lane {
     {
         self.list.as_slice()
     }
+
+    /// The first place where the list differs from the lane's part of a journal.
+    pub(crate) fn difference(&self, journal: &[Entry]) -> Option<usize>
+        ensures none { IfNone result (IsPart journal.now self.now) }
+        ensures some { IfSome result (λ place. DifferAt self.now.list (part self.now.number journal.now) place) }
+    {
+        difference(self.number, self.list.as_slice(), journal)
+    }
+}
+
+/// Whether the entry stands at a place of the list.
+fn has_at(list: &[Receipt], place: usize, entry: &Entry) -> bool
+    ensures { IsTrue result ↔ (slice_get list.now place ≡ Some entry.now) }
+{
+    place < list.len() && list[place].entry().is_same(entry)
+}
+
+/// The first place where a list differs from the part of a journal that is a lane's.
+#[tactic(auto, using(crate::proofs::Parts::part_whole))]
+fn difference(number: u32, list: &[Receipt], journal: &[Entry]) -> Option<usize>
+    ensures none { IfNone result (list.now ≡ part number journal.now) }
+    ensures some { IfSome result (λ place. DifferAt list.now (part number journal.now) place) }
+{
+    let mut place = 0;
+    for entry in journal {
+        if entry.lane == number {
+            if !has_at(list, place, entry) {
+                return Some(place);
+            }
+            place += 1;
+        }
+    }
+    if place < list.len() {
+        return Some(place);
+    }
+    None
 }

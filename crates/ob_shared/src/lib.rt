@@ -16,4 +16,4 @@ mod shared;
 pub use book::{Book, Entry, Receipt};
 pub use closing::CloseCause;
 pub use lane::Lane;
-pub use shared::Shared;
+pub use shared::{Closed, NotClosed, Shared};

@@ -1,6 +1,7 @@
 ghost use Rattle.std.specs.Prelude.{◌≡◌};
 
-use crate::book::Book;
+use crate::book::{Book, Entry};
+use crate::closing::{CloseCause, cause_of};
 use crate::lane::Lane;
 use ob_manager::{Call, Card, Manager, Reply};
 use ob_rights::Fault;
@@ -32,14 +33,18 @@ impl<'a> Model for Shared<'a> {
 }
 
 impl<'a> Shared<'a> {
-    ghost use Rattle.std.specs.Prelude.{ℕ, ◌≡◌, ◌≢◌, ◌+◌, ◌<◌, ◌≤◌, [], None, IfOk, IfErr, IfSome, slice_index_or};
+    ghost use Rattle.std.specs.Prelude.{ℕ, List, ◌≡◌, ◌≢◌, ◌+◌, ◌<◌, ◌≤◌, [], None, IfOk, IfErr, IfSome, slice_index_or};
     ghost use Rattle.ob_rights.specs.declared.fault.Fault.TheVariants.{Limit};
     ghost use Rattle.pin_core.specs.Holds.{tally, same_id};
     ghost use Rattle.ob_waits.specs.Waits.{is_pending};
-    ghost use Rattle.ob_store.specs.State.{opening};
+    ghost use Rattle.ob_store.specs.State.{Whole, opening};
     ghost use Rattle.ob_manager.specs.declared.call.Call.TheVariants as calls;
     ghost use Rattle.ob_manager.specs.declared.reply.Reply.{Reply};
     ghost use Rattle.ob_manager.specs.declared.reply.Reply.TheVariants as replies;
+    ghost use Rattle.ob_store.specs.Consistent.{IsConsistent};
+    ghost use Rattle.ob_shared.specs.declared.book.Entry.{Entry};
+    ghost use Rattle.ob_shared.specs.Closing.{AreWhole, IsCause};
+    ghost use Rattle.ob_shared.specs.Journal.{IsHistory, replay};
     ghost use Rattle.ob_shared.specs.Lanes.{Lists};
 
     /// A manager of which no call was made, and no lane.
@@ -126,4 +131,62 @@ impl<'a> Shared<'a> {
         let _ = reader.slot_of_held(id);
         self.book.lock(rt).card(id)
     }
+
+    /// The manager and its journal, where the lanes that are handed in are whole: they have the numbers that were given, each
+    /// once, each entry of the journal is of one of them, and the list of each is its part of the journal. Otherwise all is
+    /// handed back, with the first cause why not.
+    pub fn close(self, lanes: Vec<Lane>) -> Result<Closed<'a>, NotClosed<'a>>
+        ensures kept { IfOk result (λ closed. IsConsistent closed.manager) }
+        ensures history { IfOk result (λ closed. IsHistory closed.journal.items closed.manager) }
+        ensures state { IfOk result (λ closed. closed.manager.state ≡ replay (opening closed.manager.state.limits) closed.journal.items) }
+        ensures whole { IfOk result (λ closed. AreWhole self.entry lanes.items closed.journal.items) }
+        ensures cause { IfErr result (λ refused. (journal : List Entry) × (w : Whole) × IsHistory journal w × IsCause self.entry lanes.items journal refused.cause) }
+        ensures back { IfErr result (λ refused. (refused.shared ≡ self.entry) × (refused.lanes ≡ lanes)) }
+    {
+        let Shared {
+            book,
+            changed,
+            alloc,
+            lanes: given,
+        } = self;
+        let book = book.into_inner();
+        // What it says is wanted here.
+        book.replays();
+        match cause_of(given, lanes.as_slice(), book.journal()) {
+            None => {
+                let (manager, journal) = book.into_parts();
+                Ok(Closed { manager, journal })
+            }
+            Some(cause) => Err(NotClosed {
+                shared: Shared {
+                    book: Mutex::new(book),
+                    changed,
+                    alloc,
+                    lanes: given,
+                },
+                lanes,
+                cause,
+            }),
+        }
+    }
+}
+
+/// What a [`Shared`] was, once its lanes are whole.
+#[derive(Drop)]
+pub struct Closed<'a> {
+    /// The manager.
+    pub manager: Manager<Keeper<'a>>,
+    /// Its calls, in the order in which they were made.
+    pub journal: Vec<Entry>,
+}
+
+/// A [`Shared`] that isn't closed, with all that was handed in.
+#[derive(Drop)]
+pub struct NotClosed<'a> {
+    /// What was to be closed.
+    pub shared: Shared<'a>,
+    /// The lanes that were handed in.
+    pub lanes: Vec<Lane>,
+    /// Why it isn't closed.
+    pub cause: CloseCause,
 }

@@ -1,16 +1,18 @@
 -- How many mutexes each thread owns, while bodies change.
-use Rattle.std.proofs.Common.{◌≡◌, ◌≢◌, ℕ, zero, suc, ◌-◌, ◌+◌, ◌<◌, ◌≤◌, List, length, Option, Some, None, refl, ap, ◌∙◌, sym, arith, get_or, set, map, replicate, Bool, true, false, cond, inl, inr, eqb}
+use Rattle.std.proofs.Common.{◌≡◌, ◌≢◌, ℕ, zero, suc, ◌-◌, ◌+◌, ◌<◌, ◌≤◌, List, length, Option, Some, None, refl, ap, ◌∙◌, sym, subst, arith, get_or, set, map, replicate, Bool, true, false, cond, inl, inr, eqb}
 use Rattle.std.specs.Prelude.{count_by, is_some, IsSome}
 use Rattle.std.proofs.lemmas.List.{length-set, length-map, length-replicate, get_or_past, get_or-set_same, get_or-set_other, get_or-map}
 use Rattle.std.proofs.lemmas.List.Sums.{sum_by-set, sum_by-cons, get_or-le-sum_by, count_by-le-length}
+use Rattle.std.proofs.Math.Seq.{map-set_same}
 use Rattle.std.proofs.lemmas.Bool.{cases_eq, cases_lt}
 use Rattle.std.proofs.lemmas.Bool.Decides.{nat_tests}
 use Rattle.ob_body.specs.declared.body.Body.{Body}
 use Rattle.ob_body.specs.declared.body.Body.TheVariants.{Event, Mutex, Semaphore}
-use Rattle.ob_body.specs.Mutex.{is_owner}
+use Rattle.ob_body.specs.Mutex.{after_abandon, free_mutex, is_owner}
 use Rattle.ob_arena.specs.Slots.{Slots, is_vacant_at}
 use Rattle.ob_arena.proofs.SlotLemmas.{vacant_empty, vacant_within}
 use Rattle.ob_waits.specs.Form.{slot_owner}
+use Rattle.ob_waits.specs.Objects.{Objects}
 use Rattle.ob_store.specs.declared.seat.Seat.{Seat}
 use Rattle.ob_store.specs.Ends.{slot_left_by}
 use Rattle.ob_store.specs.Objects.{places_of, seat_body, seat_object, vacancy}
@@ -114,14 +116,22 @@ pub seat_within : (xs : List (Option Seat)) (k : ℕ) (x : Seat) → get_or xs k
 seat_within xs k x is = some_there xs k x is
 
 -- a seat changed, with its owner or not
-pub owned_set : (xs : List (Option Seat)) (counts : List ℕ) (k : ℕ) (x : Seat) (y : Option Seat) (before after : Option ℕ) → IsOwned xs counts → get_or xs k None ≡ Some x → before ≡ seat_owner (get_or xs k None) → after ≡ seat_owner (get_or (set xs k y) k None)
-    → IsOwned (set xs k y) (owned_moved counts before after)
-owned_set xs counts k x y before after owned there was now =
-    let lt = some_there xs k x there in
-    moved_owned xs counts k y before after owned lt was (now ∙ ap seat_owner (get_or-set_same xs k y None lt))
+pub owned_set : (xs : List (Option Seat)) (counts : List ℕ) (k : ℕ) (x y : Seat) (before after : Option ℕ) → IsOwned xs counts → get_or xs k None ≡ Some x → before ≡ slot_owner x.body → after ≡ slot_owner y.body
+    → IsOwned (set xs k (Some y)) (owned_moved counts before after)
+owned_set xs counts k x y before after owned there was now = moved_owned xs counts k (Some y) before after owned (some_there xs k x there) (was ∙ ap seat_owner (sym there)) now
 
 pub owned_stays : (xs : List (Option Seat)) (counts : List ℕ) (k : ℕ) (x y : Seat) → IsOwned xs counts → get_or xs k None ≡ Some x → y.body ≡ x.body → IsOwned (set xs k (Some y)) counts
 owned_stays xs counts k x y owned there same = same_owned xs counts k (Some y) owned (ap slot_owner same ∙ sym (ap seat_owner there)) (some_there xs k x there)
+
+-- a body goes, or stays
+pub owned_left_at : (xs : List (Option Seat)) (counts : List ℕ) (k : ℕ) (x y : Seat) (b : Bool) (o : Option Body) → IsOwned xs counts → get_or xs k None ≡ Some x → o ≡ cond b x.body None → y.body ≡ cond b None x.body
+    → IsOwned (set xs k (Some y)) (owned_left counts (slot_owner o))
+owned_left_at xs counts k x y true o owned there went none = owned_set xs counts k x y (slot_owner o) None owned there (ap slot_owner went) (sym (ap slot_owner none))
+owned_left_at xs counts k x y false o owned there went same = subst (λ (z : Option Body). IsOwned (set xs k (Some y)) (owned_left counts (slot_owner z))) (sym went) (owned_stays xs counts k x y owned there same)
+
+-- an object without a body leaves
+pub owned_removed : (xs : List (Option Seat)) (counts : List ℕ) (k : ℕ) → IsOwned xs counts → get_or (map seat_body xs) k None ≡ None → k < length xs → IsOwned (set xs k None) counts
+owned_removed xs counts k owned ended lt = same_owned xs counts k None owned (ap slot_owner (sym ended ∙ get_or-map seat_body xs k None None lt)) lt
 
 -- a thread that owns none owns no body
 pub none_owned : (xs : List (Option Seat)) (counts : List ℕ) (t : ℕ) → IsOwned xs counts → t < length counts → get_or counts t 0 ≡ 0 → (k : ℕ) → is_owner t (slot_owner (get_or (map seat_body xs) k None)) ≡ false
@@ -150,6 +160,24 @@ left_by_other t None h = refl
 left_by_other t (Some (Event e)) h = refl
 left_by_other t (Some (Mutex m)) h = ap (λ b. Some (Mutex (cond b (record { owner = None; recursion = 0; abandoned = true }) m))) h
 left_by_other t (Some (Semaphore s)) h = refl
+
+-- what a thread left it doesn't own, so it leaves it again as it is
+left_twice : (t : ℕ) (x : Option Body) → slot_left_by t (slot_left_by t x) ≡ slot_left_by t x
+left_twice t None = refl
+left_twice t (Some (Event e)) = refl
+left_twice t (Some (Semaphore s)) = refl
+left_twice t (Some (Mutex m)) = ap (λ z. Some (Mutex z)) (by (is_owner t m.owner) refl)
+  where
+    by : (b : Bool) → is_owner t m.owner ≡ b → after_abandon t (cond b (free_mutex true) m) ≡ cond b (free_mutex true) m
+    by true is = refl
+    by false is = ap (λ b. cond b (free_mutex true) m) is
+
+-- a slot that was left before the others are
+pub left_before : (t k : ℕ) (o p : Objects) → p ≡ record o { bodies = set o.bodies k (slot_left_by t (get_or o.bodies k None)) } → record p { bodies = map (slot_left_by t) p.bodies } ≡ record o { bodies = map (slot_left_by t) o.bodies }
+left_before t k o p is =
+    let f = slot_left_by t in
+    let bodies : map f (set o.bodies k (f (get_or o.bodies k None))) ≡ map f o.bodies = map-set_same f o.bodies k (f (get_or o.bodies k None)) None (left_twice t (get_or o.bodies k None)) in
+    ap (λ (z : Objects). record z { bodies = map f z.bodies }) is ∙ (λ i. record o { bodies = bodies i })
 
 -- a vacant slot has no seat
 pub vacant_seat : (s : Slots Seat) (k : ℕ) → is_vacant_at (vacancy (places_of s)) k ≡ true → (k < length s.bodies) × (get_or s.bodies k None ≡ None)

@@ -20,6 +20,7 @@ mod creation;
 mod ending;
 mod entries;
 mod limits;
+mod links;
 mod lives;
 mod meeting;
 mod numbers;

@@ -47,7 +47,8 @@ impl<K: PinKeeper> Model for Objects<K> {
 
 impl<K: PinKeeper> Objects<K> {
     /// As many slots as the keeper has, and no object. The keeper comes back where memory is wanting. The mutexes of threads
-    /// below `threads` are counted, so that [`abandon`](Objects::abandon) looks no further than for what a thread has.
+    /// below `threads` are counted and listed, so that [`abandon`](Objects::abandon) looks at what a thread has alone. That
+    /// takes 8 bytes for each slot and 8 for each of these threads.
     pub fn new(alloc: Global, slots: u32, threads: u32, keeper: K) -> Result<Objects<K>, K>
         requires fresh { IsFresh (K.kept keeper) (K.kept keeper).shape }
         requires slots { slots ≡ (K.kept keeper).shape.slots }
@@ -110,6 +111,7 @@ impl<K: PinKeeper> Objects<K> {
     }
 
     /// A new object in a vacant slot, with one handle; its Id. Its number is how many objects were made before it.
+    #[inline]
     pub fn add(
         &mut self,
         slot: u32,
@@ -216,15 +218,26 @@ impl<K: PinKeeper> Objects<K> {
     }
 
     /// Whether it is known that a thread owns no mutex.
-    fn owns_none(&self, thread: u32) -> bool
+    pub(crate) fn owns_none(&self, thread: u32) -> bool
         ensures { IsTrue result → (k : ℕ) → is_owner thread (slot_owner (slice_index_or self.now.seen.bodies k None)) ≡ false }
     {
         self.seats.owns_none(thread)
     }
 
-    /// The mutexes that a thread owns are abandoned. It looks at the slots up to the last of them, and at none where the
-    /// thread owns none.
-    pub fn abandon(&mut self, thread: u32)
+    /// The mutexes of a thread that are listed are abandoned: all that it owns, unless the list is wrong or the thread isn't
+    /// counted.
+    pub(crate) fn abandon_listed(&mut self, thread: u32)
+        ensures seen { record self.new.seen { bodies = map (slot_left_by thread) self.new.seen.bodies } ≡ record self.old.seen { bodies = map (slot_left_by thread) self.old.seen.bodies } }
+        ensures rest { kept_rest self.new ≡ kept_rest self.old }
+    {
+        for _ in 0..self.seats.owned(thread) {
+            let slot = self.seats.hint(thread);
+            self.abandon_at(slot, thread);
+        }
+    }
+
+    /// The mutexes that a thread owns are abandoned, by a pass over the slots up to the last of them.
+    fn abandon_all(&mut self, thread: u32)
         ensures seen { self.new.seen ≡ record self.old.seen { bodies = map (slot_left_by thread) self.old.seen.bodies } }
         ensures rest { kept_rest self.new ≡ kept_rest self.old }
     {
@@ -236,6 +249,16 @@ impl<K: PinKeeper> Objects<K> {
             }
             self.abandon_at(slot, thread);
         }
+    }
+
+    /// The mutexes that a thread owns are abandoned. Where its list is right, it looks at these alone, and else at the slots up to
+    /// the last of them. For a thread that isn't counted it looks at all slots.
+    pub fn abandon(&mut self, thread: u32)
+        ensures seen { self.new.seen ≡ record self.old.seen { bodies = map (slot_left_by thread) self.old.seen.bodies } }
+        ensures rest { kept_rest self.new ≡ kept_rest self.old }
+    {
+        self.abandon_listed(thread);
+        self.abandon_all(thread);
     }
 
     /// Takes the slot of an ended object back, unless somebody holds it: the object leaves it, and where it was at its last

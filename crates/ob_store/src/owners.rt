@@ -1,13 +1,15 @@
-ghost use Rattle.std.specs.Prelude.{◌≡◌, ◌<◌, ◌≤◌, ℕ, IfOk, IsTrue, length, replicate, slice_index_or};
+ghost use Rattle.std.specs.Prelude.{◌≡◌, ◌<◌, ◌≤◌, ◌+◌, ◌-◌, ℕ, IfOk, IsTrue, length, replicate, slice_index_or, slice_set};
 ghost use Rattle.ob_store.specs.Owners.{owned_came, owned_left, owned_moved};
 
+use crate::links::Links;
 use std::alloc::{AllocError, Global};
 use std::marker::Model;
 
-/// How many mutexes each thread owns, of the threads below a limit.
+/// How many mutexes each thread owns, of the threads below a limit, and a hint of where they are.
 #[derive(Drop)]
 pub(crate) struct Owners {
     counts: Vec<u32>,
+    links: Links,
 }
 
 impl Model for Owners {
@@ -19,11 +21,12 @@ impl Model for Owners {
 }
 
 impl Owners {
-    pub(crate) fn new(alloc: Global, threads: u32) -> Result<Owners, AllocError>
+    pub(crate) fn new(alloc: Global, slots: u32, threads: u32) -> Result<Owners, AllocError>
         ensures { IfOk result (λ owners. owners ≡ replicate threads 0) }
     {
         Ok(Owners {
             counts: vec![in alloc; 0; threads as usize]?,
+            links: Links::new(alloc, slots, threads)?,
         })
     }
 
@@ -36,36 +39,70 @@ impl Owners {
         at < self.counts.len() && self.counts[at] == 0
     }
 
-    fn left(&mut self, owner: Option<u32>)
+    /// How many a thread owns, as far as they are counted.
+    pub(crate) fn count(&self, thread: u32) -> u32
+        ensures { result ≡ slice_index_or self.now thread 0 }
+    {
+        self.counts.get(thread as usize).copied().unwrap_or(0)
+    }
+
+    /// The slot that is listed first for a thread, or a number past all slots.
+    pub(crate) fn first(&self, thread: u32) -> u32 {
+        self.links.first(thread)
+    }
+
+    #[inline(never)]
+    fn fewer(&mut self, slot: u32, thread: u32)
+        ensures { self.new ≡ slice_set self.old thread (slice_index_or self.old thread 0 - 1) }
+    {
+        let at = thread as usize;
+        if at < self.counts.len() {
+            self.counts[at] = self.counts[at].saturating_sub(1);
+        }
+        self.links.remove(thread, slot);
+    }
+
+    #[inline(never)]
+    fn more(&mut self, slot: u32, thread: u32)
+        requires { (t : ℕ) → slice_index_or self.old t 0 ≤ 65536 }
+        ensures { self.new ≡ slice_set self.old thread (slice_index_or self.old thread 0 + 1) }
+    {
+        let at = thread as usize;
+        if at < self.counts.len() {
+            self.counts[at] += 1;
+        }
+        self.links.add(thread, slot);
+    }
+
+    /// The body of a slot went, and had this owner. Most have none.
+    #[inline]
+    pub(crate) fn left(&mut self, slot: u32, owner: Option<u32>)
         ensures { self.new ≡ owned_left self.old owner }
     {
         if let Some(thread) = owner {
-            let at = thread as usize;
-            if at < self.counts.len() {
-                self.counts[at] = self.counts[at].saturating_sub(1);
-            }
+            self.fewer(slot, thread);
         }
     }
 
-    fn came(&mut self, owner: Option<u32>)
+    /// A body with this owner came to a slot.
+    #[inline]
+    pub(crate) fn came(&mut self, slot: u32, owner: Option<u32>)
         requires { (t : ℕ) → slice_index_or self.old t 0 ≤ 65536 }
         ensures { self.new ≡ owned_came self.old owner }
     {
         if let Some(thread) = owner {
-            let at = thread as usize;
-            if at < self.counts.len() {
-                self.counts[at] += 1;
-            }
+            self.more(slot, thread);
         }
     }
 
-    /// A mutex had one owner, and has another.
+    /// The body of a slot had one owner, and has another.
+    #[inline]
     #[tactic(auto, using(crate::proofs::OwnerLaws::few_left))]
-    pub(crate) fn moved(&mut self, before: Option<u32>, after: Option<u32>)
+    pub(crate) fn moved(&mut self, slot: u32, before: Option<u32>, after: Option<u32>)
         requires { (t : ℕ) → slice_index_or self.old t 0 ≤ 65536 }
         ensures { self.new ≡ owned_moved self.old before after }
     {
-        self.left(before);
-        self.came(after);
+        self.left(slot, before);
+        self.came(slot, after);
     }
 }

@@ -1,4 +1,4 @@
-ghost use Rattle.std.specs.Prelude.{◌≡◌, ◌<◌, ◌+◌, ◌-◌, ◌==◌, ◌&&◌, None, Some, is_some, if◌then◌else◌};
+ghost use Rattle.std.specs.Prelude.{◌≡◌, ◌<◌, ◌+◌, ◌-◌, ◌==◌, None, Some, if◌then◌else◌};
 ghost use Rattle.ob_store.specs.Objects.{seat_handle_left, seat_block_left};
 
 use ob_body::Body;
@@ -52,33 +52,41 @@ impl Seat {
         }
     }
 
-    /// One handle fewer: the body goes with the last reference. Whether it did.
-    pub(crate) fn handle_left(&mut self) -> bool
+    /// It gets a body. The body that it had.
+    pub(crate) fn put(&mut self, body: Body) -> Option<Body>
+        ensures value { self.new ≡ record self.old { body = Some body } }
+        ensures before { result ≡ self.old.body }
+    {
+        self.body.replace(body)
+    }
+
+    /// One handle fewer: the body goes with the last reference. The body that went.
+    pub(crate) fn handle_left(&mut self) -> Option<Body>
         requires { 0 < self.old.handles }
         ensures value { self.new ≡ seat_handle_left self.old }
-        ensures ended { result ≡ is_some self.old.body && ((self.old.handles - 1) + self.old.blocks == 0) }
+        ensures gone { result ≡ if (self.old.handles - 1) + self.old.blocks == 0 then self.old.body else None }
     {
         self.handles -= 1;
         self.end_if_free()
     }
 
-    /// One block fewer, where there is one: the body goes with the last reference. Whether it did.
-    pub(crate) fn block_left(&mut self) -> bool
+    /// One block fewer, where there is one: the body goes with the last reference. The body that went.
+    pub(crate) fn block_left(&mut self) -> Option<Body>
         ensures value { self.new ≡ seat_block_left self.old }
-        ensures ended { result ≡ is_some self.old.body && (self.old.handles + (self.old.blocks - 1) == 0) }
+        ensures gone { result ≡ if self.old.handles + (self.old.blocks - 1) == 0 then self.old.body else None }
     {
         self.blocks = self.blocks.saturating_sub(1);
         self.end_if_free()
     }
 
     // The body goes where nothing refers to the object.
-    fn end_if_free(&mut self) -> bool
+    fn end_if_free(&mut self) -> Option<Body>
         ensures value { self.new ≡ record self.old { body = if self.old.handles + self.old.blocks == 0 then None else self.old.body } }
-        ensures ended { result ≡ is_some self.old.body && (self.old.handles + self.old.blocks == 0) }
+        ensures gone { result ≡ if self.old.handles + self.old.blocks == 0 then self.old.body else None }
     {
         if self.handles > 0 || self.blocks > 0 {
-            return false;
+            return None;
         }
-        self.body.take().is_some()
+        self.body.take()
     }
 }

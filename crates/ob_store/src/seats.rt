@@ -2,7 +2,6 @@ ghost use Rattle.std.specs.Prelude.{◌≡◌, ◌<◌, ◌≤◌, ◌&&◌, ℕ
 ghost use Rattle.std.specs.Option.{option_map};
 ghost use Rattle.ob_body.specs.Mutex.{is_owner};
 ghost use Rattle.ob_waits.specs.Form.{slot_owner};
-ghost use Rattle.ob_store.specs.Owners.{seat_owner};
 ghost use Rattle.ob_arena.specs.Slots.{is_vacant_at, least_vacant};
 ghost use Rattle.ob_waits.specs.Objects.{body_of, with_body, without_block};
 ghost use Rattle.ob_store.specs.Objects.{object_of, rest_of, vacant_places, vacancy, with_seat, with_handle, without_handle, is_last_handle, with_block, is_last_block, without_seat, with_retired};
@@ -37,28 +36,25 @@ impl Model for Seats {
     ghost invariant = { λ s. IsOwned s.arena.bodies s.owners };
 }
 
-/// The thread that owns the mutex in a slot.
-fn owner_in(arena: &Arena<Seat>, slot: u32) -> Option<u32>
-    ensures { result ≡ seat_owner (slice_index_or arena.now.bodies slot None) }
+/// The thread that owns the mutex that a body is.
+fn owner_of(body: Option<Body>) -> Option<u32>
+    ensures { result ≡ slot_owner body }
 {
-    if !arena.is_occupied(slot) {
-        return None;
-    }
-    match arena.get(slot).body {
+    match body {
         Some(body) => body.owner(),
         None => None,
     }
 }
 
 impl Seats {
-    /// Slots without an object. The mutexes of threads below `threads` are counted.
+    /// Slots without an object. The mutexes of threads below `threads` are counted and listed.
     pub(crate) fn new(alloc: Global, slots: u32, threads: u32) -> Result<Seats, AllocError>
         requires { slots ≤ SLOTS_MAX }
         ensures { IfOk result (λ seats. seats ≡ vacant_places slots) }
     {
         Ok(Seats {
             arena: Arena::new(alloc, slots)?,
-            owners: Owners::new(alloc, threads)?,
+            owners: Owners::new(alloc, slots, threads)?,
         })
     }
 
@@ -67,6 +63,16 @@ impl Seats {
         ensures { IsTrue result → (k : ℕ) → is_owner thread (slot_owner (slice_index_or self.now.seen.bodies k None)) ≡ false }
     {
         self.owners.has_none(thread)
+    }
+
+    /// How many mutexes a thread owns, as far as they are counted.
+    pub(crate) fn owned(&self, thread: u32) -> u32 {
+        self.owners.count(thread)
+    }
+
+    /// A slot where a mutex of the thread may be, or a number past all slots.
+    pub(crate) fn hint(&self, thread: u32) -> u32 {
+        self.owners.first(thread)
     }
 
     /// How many slots there are.
@@ -98,6 +104,7 @@ impl Seats {
     }
 
     /// Puts an object with one handle into the vacant slot of its Id.
+    #[inline]
     pub(crate) fn add(
         &mut self,
         id: Id,
@@ -113,7 +120,7 @@ impl Seats {
     {
         self.arena
             .put(id.slot, Seat::new(id, birth, descr, grant, name, body));
-        self.owners.moved(None, body.owner());
+        self.owners.came(id.slot, body.owner());
     }
 
     /// One handle more.
@@ -132,11 +139,9 @@ impl Seats {
         ensures value { self.new ≡ without_handle self.old slot }
         ensures ended { result ≡ is_some (slice_index_or self.old.seen.bodies slot None) && is_last_handle self.old slot }
     {
-        let before = owner_in(&self.arena, slot);
-        let ended = self.arena.get_mut(slot).handle_left();
-        let after = owner_in(&self.arena, slot);
-        self.owners.moved(before, after);
-        ended
+        let gone = self.arena.get_mut(slot).handle_left();
+        self.owners.left(slot, owner_of(gone));
+        gone.is_some()
     }
 
     /// One more place of a pending wait names the object.
@@ -148,15 +153,14 @@ impl Seats {
         self.arena.get_mut(slot).blocks += 1;
     }
 
-    /// The object leaves the slot, which is vacant then.
+    /// An object without a body leaves the slot, which is vacant then.
     pub(crate) fn remove(&mut self, slot: u32)
-        requires { IsSome (slice_index_or self.old.objects slot None) }
+        requires there { IsSome (slice_index_or self.old.objects slot None) }
+        requires ended { slice_index_or self.old.seen.bodies slot None ≡ None }
         ensures value { self.new ≡ without_seat self.old slot }
         ensures vacant { is_vacant_at (vacancy self.new) slot ≡ true }
     {
-        let before = owner_in(&self.arena, slot);
         drop(self.arena.take(slot));
-        self.owners.moved(before, None);
     }
 
     /// A vacant slot is never given again.
@@ -183,9 +187,8 @@ impl Seats {
         ensures objects { self.new.seen ≡ with_body self.old.seen id body }
         ensures rest { rest_of self.new ≡ rest_of self.old }
     {
-        let before = owner_in(&self.arena, id.slot);
-        self.arena.get_mut(id.slot).body = Some(body);
-        self.owners.moved(before, body.owner());
+        let before = self.arena.get_mut(id.slot).put(body);
+        self.owners.moved(id.slot, owner_of(before), body.owner());
     }
 
     /// One block fewer, where there is one; whether the object ended.
@@ -197,10 +200,8 @@ impl Seats {
         if !self.arena.is_occupied(id.slot) {
             return false;
         }
-        let before = owner_in(&self.arena, id.slot);
-        let ended = self.arena.get_mut(id.slot).block_left();
-        let after = owner_in(&self.arena, id.slot);
-        self.owners.moved(before, after);
-        ended
+        let gone = self.arena.get_mut(id.slot).block_left();
+        self.owners.left(id.slot, owner_of(gone));
+        gone.is_some()
     }
 }

@@ -1,7 +1,7 @@
 ghost use Rattle.std.specs.Prelude.{◌≡◌, ℕ, slice_index_or};
 
 use crate::Objects;
-use ob_body::Body;
+use ob_body::{Body, RECURSION_MAX};
 use ob_rights::{Fault, Kind, all_access};
 use ob_waits::Bodies;
 use pin_core::{Descr, Id, Shape};
@@ -219,5 +219,87 @@ fn a_pinned_slot_is_held(rt: HostRuntime) -> Result<(), Fail> {
     assert!(rt; has_let_go(&mut objects, id));
     assert!(rt; !has_let_go(&mut objects, id));
     assert!(rt; reclaimed(&mut objects, 0) == Some(Reclaim::Freed));
+    Ok(())
+}
+
+/// The Id of a slot's first object.
+fn first_of(slot: u32) -> Id {
+    Id {
+        slot,
+        generation: 1,
+    }
+}
+
+/// Whether the thread could take the mutex of the slot, and has.
+fn has_taken<K: PinKeeper>(objects: &mut Objects<K>, thread: u32, slot: u32) -> bool {
+    let id = first_of(slot);
+    let Some(mut body) = objects.body(id) else {
+        return false;
+    };
+    if !body.signaled_for(thread) || !body.has_room(thread, RECURSION_MAX) {
+        return false;
+    }
+    body.acquire(thread);
+    objects.put(id, body);
+    true
+}
+
+/// Whether the thread owned the mutex of the slot, and has released it once.
+fn has_released<K: PinKeeper>(objects: &mut Objects<K>, thread: u32, slot: u32) -> bool {
+    let id = first_of(slot);
+    let Some(mut body) = objects.body(id) else {
+        return false;
+    };
+    if body.kind() != Kind::Mutex || body.unlock(thread).is_err() {
+        return false;
+    }
+    objects.put(id, body);
+    true
+}
+
+/// Mutexes in seven slots: thread 1 owns those of 0 to 4, the last of them twice, and thread 2 that of 5.
+fn takes_six<K: PinKeeper>(rt: &impl Abort, objects: &mut Objects<K>) {
+    for _ in 0..7 {
+        assert!(rt; made(objects, MUTEX).is_some());
+    }
+    for slot in 0..5 {
+        assert!(rt; has_taken(objects, 1, slot));
+    }
+    assert!(rt; has_taken(objects, 1, 4));
+    assert!(rt; has_taken(objects, 2, 5));
+    assert!(rt; !has_taken(objects, 2, 4));
+}
+
+/// Thread 1 loses a mutex from the middle of its list, then its neighbour, then the first, and takes another. Thread 2 loses
+/// its last.
+fn loses_some<K: PinKeeper>(rt: &impl Abort, objects: &mut Objects<K>) {
+    assert!(rt; has_released(objects, 1, 2));
+    assert!(rt; has_lost_a_handle(objects, 1));
+    assert!(rt; has_released(objects, 1, 4));
+    assert!(rt; has_released(objects, 1, 4));
+    assert!(rt; !has_released(objects, 1, 4));
+    assert!(rt; has_taken(objects, 1, 6));
+    assert!(rt; has_taken(objects, 2, 2));
+    assert!(rt; has_released(objects, 2, 5));
+}
+
+#[test]
+fn a_list_has_all_that_a_thread_owns(rt: HostRuntime) -> Result<(), Fail> {
+    let Some(shape) = Shape::checked(7, 4, 2) else {
+        return Err(Fail::from(Fault::Parameter));
+    };
+    let keeper = LockedPins::new(rt.alloc(), shape)?;
+    let Ok(mut objects) = Objects::new(rt.alloc(), 7, 4, keeper) else {
+        return Err(Fail::from(Fault::Memory));
+    };
+    takes_six(&rt, &mut objects);
+    loses_some(&rt, &mut objects);
+    assert!(rt; !objects.owns_none(1));
+    objects.abandon_listed(1);
+    assert!(rt; objects.owns_none(1));
+    assert!(rt; !objects.owns_none(2));
+    assert!(rt; has_taken(&mut objects, 2, 3));
+    objects.abandon_listed(2);
+    assert!(rt; objects.owns_none(2));
     Ok(())
 }

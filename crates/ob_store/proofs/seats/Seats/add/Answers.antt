@@ -23,8 +23,8 @@ returns-clause-handle c =
     ap (λ (s : Slots Seat). get_or (map seat_handles s.bodies) c.args.id.slot 0) arena
     ∙ added_handle c.self.inside.arena c.args.id.slot seat refl (subst (λ (p : Places). is_vacant_at (vacancy p) c.args.id.slot ≡ true) (sym c.self.view_is) c.requires)
 
-pub moved-requires : goal.moved-requires
-moved-requires c = owned_few c.self.inside.arena.bodies c.self.inside.owners c.self.invariant
+pub came-requires : goal.came-requires
+came-requires c = owned_few c.self.inside.arena.bodies c.self.inside.owners c.self.invariant
 
 pub invariant_of-self : goal.invariant_of-self
 invariant_of-self c =
@@ -32,5 +32,5 @@ invariant_of-self c =
     let arena : c.put.new.self ≡ record c.self.inside.arena { bodies = set c.self.inside.arena.bodies c.args.id.slot (Some seat) } =
     c.put.ensures ∙ ap (λ (x : Seat). record c.self.inside.arena { bodies = set c.self.inside.arena.bodies c.args.id.slot (Some x) }) c.new.ensures in
     let vacant = vacant_seat c.self.inside.arena c.args.id.slot (subst (λ (p : Places). is_vacant_at (vacancy p) c.args.id.slot ≡ true) (sym c.self.view_is) c.requires) in
-    subst (λ (s : Slots Seat). IsOwned s.bodies c.moved.new.self) (sym arena) (rw c.moved.ensures (moved_owned c.self.inside.arena.bodies c.self.inside.owners c.args.id.slot (Some seat) None c.owner.result c.self.invariant
+    subst (λ (s : Slots Seat). IsOwned s.bodies c.came.new.self) (sym arena) (rw c.came.ensures (moved_owned c.self.inside.arena.bodies c.self.inside.owners c.args.id.slot (Some seat) None c.owner.result c.self.invariant
     vacant.0 (ap seat_owner (sym vacant.1)) c.owner.ensures.owner))

@@ -3,18 +3,18 @@ use Rattle.ob_waits.specs.Objects.{without_block}
 use Rattle.ob_store.specs.declared.seat.Seat.{Seat}
 use Rattle.ob_store.specs.Objects.{Places, rest_of, seen_in, seat_object}
 use Rattle.ob_store.proofs.SeatLaws.{seen_block_left, seen_absent, rest_same, none_of}
-use Rattle.ob_store.proofs.OwnerLaws.{owned_few, owned_set}
+use Rattle.ob_store.proofs.OwnerLaws.{owned_left_at}
 use Rattle.ob_store.proofs.seats.Seats.block_left.Goals as goal
 
 pub returns-clause-objects : goal.returns-clause-objects
 returns-clause-objects c =
-    ap (λ (x : Seat). seen_in (set c.self.inside.arena.bodies c.args.id.slot (Some x))) c.block_left-ended.ensures.value
+    ap (λ (x : Seat). seen_in (set c.self.inside.arena.bodies c.args.id.slot (Some x))) c.block_left-gone.ensures.value
     ∙ seen_block_left c.self.inside.arena.bodies c.args.id.slot c.get_mut.result.now c.get_mut.ensures.value ∙ ap (λ (p : Places). without_block p.seen c.args.id) c.self.view_is
 
 pub returns-clause-rest : goal.returns-clause-rest
 returns-clause-rest c =
-    rest_same c.self.inside.arena.bodies c.args.id.slot c.get_mut.result.now c.get_mut.ensures.value c.self.inside.arena.retired c.block_left-ended.new.self
-    (ap (λ (x : Seat). seat_object (Some x)) c.block_left-ended.ensures.value) (ap (λ (x : Seat). x.handles) c.block_left-ended.ensures.value)
+    rest_same c.self.inside.arena.bodies c.args.id.slot c.get_mut.result.now c.get_mut.ensures.value c.self.inside.arena.retired c.block_left-gone.new.self
+    (ap (λ (x : Seat). seat_object (Some x)) c.block_left-gone.ensures.value) (ap (λ (x : Seat). x.handles) c.block_left-gone.ensures.value)
     ∙ ap rest_of c.self.view_is
 
 pub returns-then-not-is_occupied-clause-objects : goal.returns-then-not-is_occupied-clause-objects
@@ -23,9 +23,6 @@ returns-then-not-is_occupied-clause-objects c =
     ∙ seen_absent c.self.inside.arena.bodies c.args.id (none_of (get_or c.self.inside.arena.bodies c.args.id.slot None) (sym c.is_occupied.ensures ∙ c.if-not-is_occupied.true))
     ∙ ap (λ (p : Places). without_block p.seen c.args.id) c.self.view_is
 
-pub moved-requires : goal.moved-requires
-moved-requires c = owned_few c.self.inside.arena.bodies c.self.inside.owners c.self.invariant
-
 pub invariant_of-self : goal.invariant_of-self
-invariant_of-self c = rw c.moved.ensures (owned_set c.self.inside.arena.bodies c.self.inside.owners c.args.id.slot c.get_mut.result.now (Some c.block_left-ended.new.self) c.owner_in-before.result c.owner_in-after.result c.self.invariant
-    c.get_mut.ensures.value c.owner_in-before.ensures c.owner_in-after.ensures)
+invariant_of-self c = rw c.left.ensures (rw c.owner_of.ensures (owned_left_at c.self.inside.arena.bodies c.self.inside.owners c.args.id.slot c.get_mut.result.now c.block_left-gone.new.self _ c.block_left-gone.result c.self.invariant
+    c.get_mut.ensures.value c.block_left-gone.ensures.gone (ap (λ (x : Seat). x.body) c.block_left-gone.ensures.value)))

@@ -2,17 +2,14 @@ use Rattle.std.proofs.Common.{◌∙◌, ap, set, Some}
 use Rattle.ob_store.specs.declared.seat.Seat.{Seat}
 use Rattle.ob_store.specs.Objects.{Places, places_of, without_handle}
 use Rattle.ob_store.proofs.SeatLaws.{places_handle_left}
-use Rattle.ob_store.proofs.OwnerLaws.{owned_few, owned_set}
+use Rattle.ob_store.proofs.OwnerLaws.{owned_left_at}
 use Rattle.ob_store.proofs.seats.Seats.handle_left.Goals as goal
 
 pub returns-clause-value : goal.returns-clause-value
 returns-clause-value c =
-    ap (λ (x : Seat). places_of (record { bodies = set c.self.inside.arena.bodies c.args.slot (Some x); retired = c.self.inside.arena.retired })) c.handle_left-ended.ensures.value
+    ap (λ (x : Seat). places_of (record { bodies = set c.self.inside.arena.bodies c.args.slot (Some x); retired = c.self.inside.arena.retired })) c.handle_left-gone.ensures.value
     ∙ places_handle_left c.self.inside.arena.bodies c.args.slot c.get_mut.result.now c.get_mut.ensures.value c.self.inside.arena.retired ∙ ap (λ (p : Places). without_handle p c.args.slot) c.self.view_is
 
-pub moved-requires : goal.moved-requires
-moved-requires c = owned_few c.self.inside.arena.bodies c.self.inside.owners c.self.invariant
-
 pub invariant_of-self : goal.invariant_of-self
-invariant_of-self c = rw c.moved.ensures (owned_set c.self.inside.arena.bodies c.self.inside.owners c.args.slot c.get_mut.result.now (Some c.handle_left-ended.new.self) c.owner_in-before.result c.owner_in-after.result c.self.invariant
-    c.get_mut.ensures.value c.owner_in-before.ensures c.owner_in-after.ensures)
+invariant_of-self c = rw c.left.ensures (rw c.owner_of.ensures (owned_left_at c.self.inside.arena.bodies c.self.inside.owners c.args.slot c.get_mut.result.now c.handle_left-gone.new.self _ c.handle_left-gone.result c.self.invariant
+    c.get_mut.ensures.value c.handle_left-gone.ensures.gone (ap (λ (x : Seat). x.body) c.handle_left-gone.ensures.value)))

@@ -1,21 +1,19 @@
-use Rattle.std.proofs.Common.{◌∙◌, ap, sym, subst, refl, get_or, None}
+use Rattle.std.proofs.Common.{◌≡◌, ◌∙◌, ap, sym, subst, get_or, None}
 use Rattle.ob_store.specs.Objects.{Places, places_of, without_seat}
 use Rattle.ob_store.proofs.SeatLaws.{places_removed}
 use Rattle.std.specs.Prelude.{IsSome}
 use Rattle.ob_arena.specs.Slots.{Slots}
 use Rattle.ob_store.specs.declared.seat.Seat.{Seat}
 use Rattle.ob_store.specs.Owners.{IsOwned}
-use Rattle.ob_store.proofs.OwnerLaws.{moved_owned, object_within, owned_few}
+use Rattle.ob_store.proofs.OwnerLaws.{object_within, owned_removed}
 use Rattle.ob_store.proofs.seats.Seats.remove.Goals as goal
 
 pub returns-clause-value : goal.returns-clause-value
 returns-clause-value c = ap places_of c.take.ensures.after ∙ places_removed c.self.inside.arena c.args.slot ∙ ap (λ (p : Places). without_seat p c.args.slot) c.self.view_is
 
-pub moved-requires : goal.moved-requires
-moved-requires c = owned_few c.self.inside.arena.bodies c.self.inside.owners c.self.invariant
-
 pub invariant_of-self : goal.invariant_of-self
 invariant_of-self c =
-    let there = subst (λ (p : Places). IsSome (get_or p.objects c.args.slot None)) (sym c.self.view_is) c.requires in
-    subst (λ (s : Slots Seat). IsOwned s.bodies c.moved.new.self) (sym c.take.ensures.after) (rw c.moved.ensures (moved_owned c.self.inside.arena.bodies c.self.inside.owners c.args.slot None c.owner_in-before.result None c.self.invariant
-    (object_within c.self.inside.arena c.args.slot there) c.owner_in-before.ensures refl))
+    let there = subst (λ (p : Places). IsSome (get_or p.objects c.args.slot None)) (sym c.self.view_is) c.requires.there in
+    let ended = subst (λ (p : Places). get_or p.seen.bodies c.args.slot None ≡ None) (sym c.self.view_is) c.requires.ended in
+    subst (λ (s : Slots Seat). IsOwned s.bodies c.self.inside.owners) (sym c.take.ensures.after)
+    (owned_removed c.self.inside.arena.bodies c.self.inside.owners c.args.slot c.self.invariant ended (object_within c.self.inside.arena c.args.slot there))

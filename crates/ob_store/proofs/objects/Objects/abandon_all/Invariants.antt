@@ -1,7 +1,7 @@
 use Rattle.std.proofs.Common.{◌≡◌, ℕ, ◌<◌, ◌≤◌, None, length, get_or}
 use Rattle.ob_store.specs.Objects.{kept_rest}
 use Rattle.ob_store.specs.Ends.{slot_left_by}
-use Rattle.ob_store.proofs.objects.Objects.abandon.Given as goal
+use Rattle.ob_store.proofs.objects.Objects.abandon_all.Given as goal
 
 abbrev pub invariant-loop-slot : goal.invariant-loop-slot
 invariant-loop-slot g l = record {

@@ -1,7 +1,7 @@
 use Rattle.std.proofs.Common.{◌∙◌, None, ap, arith, length, get_or}
 use Rattle.std.proofs.lemmas.List.{length-set, get_or-set_other}
 use Rattle.ob_store.proofs.EndingLaws.{abandoned_early, abandoned_more, all_abandoned}
-use Rattle.ob_store.proofs.objects.Objects.abandon.Goals as goal
+use Rattle.ob_store.proofs.objects.Objects.abandon_all.Goals as goal
 
 pub loop-slot-preserved : goal.loop-slot-preserved
 loop-slot-preserved g c =
