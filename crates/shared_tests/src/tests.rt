@@ -1,4 +1,5 @@
 mod blocking;
+mod closing;
 mod holding;
 mod lanes;
 mod racing;

@@ -1,3 +1,4 @@
+use super::closing::ends;
 use super::{gives, made, object, plain, reaped, spawn, spawned};
 use ob_manager::{Call, Limits, Manager, Reply};
 use ob_rights::{Fault, Kind};
@@ -32,7 +33,7 @@ fn call_to_make(id: Id) -> Call {
         thread: 1,
         make: plain(),
         initial: 0,
-        max: descr_of(id).max as i32,
+        max: i32::try_from(descr_of(id).max).unwrap_or(1),
     }
 }
 
@@ -191,5 +192,8 @@ fn readers_see_what_was_made(rt: HostRuntime) -> Result<(), Fail> {
             &mut fourth
         )
     );
+    let mut lanes = Vec::new(rt.alloc());
+    lanes.push(lane)?;
+    ends(&rt, shared, lanes, None);
     Ok(())
 }
