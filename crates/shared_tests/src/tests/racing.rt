@@ -103,7 +103,8 @@ fn renews<R: Abort + Wait>(rt: &R, shared: &Shared<'_>, lane: &mut Lane, id: Id)
     );
 }
 
-fn writes<R: Abort + Wait>(rt: &R, shared: &Shared<'_>, lane: &mut Lane, rounds: u32) {
+/// The first object of each slot.
+fn makes_all<R: Abort + Wait>(rt: &R, shared: &Shared<'_>, lane: &mut Lane) {
     gives(rt, shared.call(rt, lane, spawn()), spawned());
     for slot in 0..SLOTS {
         let id = object(slot, 1);
@@ -113,6 +114,9 @@ fn writes<R: Abort + Wait>(rt: &R, shared: &Shared<'_>, lane: &mut Lane, rounds:
             made(handle_of(slot), id),
         );
     }
+}
+
+fn renews_all<R: Abort + Wait>(rt: &R, shared: &Shared<'_>, lane: &mut Lane, rounds: u32) {
     for round in 0..rounds {
         renews(rt, shared, lane, object(round % SLOTS, round / SLOTS + 1));
     }
@@ -158,10 +162,12 @@ fn races<R: Abort + Wait + Threads + Sync>(
     third: &mut Reader<'_>,
     fourth: &mut Reader<'_>,
 ) -> bool {
+    // Before the readers begin, so that each has something to pin.
+    makes_all(rt, shared, lane);
     let (are_right, ()) = join(
         rt,
         || four_read(rt, first, second, third, fourth),
-        || writes(rt, shared, lane, ROUNDS),
+        || renews_all(rt, shared, lane, ROUNDS),
     );
     are_right
 }
