@@ -1,11 +1,28 @@
 use super::{Play, gives, is_listed, made, make_event, object, over_shared, spawn, spawned};
 use ob_manager::{Call, HandleList, Mode, Reply, Timeout};
-use ob_shared::Shared;
+use ob_rights::Fault;
+use ob_shared::{Lane, Shared};
 use std::alloc::Global;
 use std::process::Abort;
 use std::sync::Wait;
 use std::test::Fail;
 use std::thread::{Threads, join};
+
+fn set_event() -> Call {
+    Call::SetEvent {
+        thread: 1,
+        handle: 4,
+    }
+}
+
+/// Sets the event, and asks again where memory was wanting: somebody waits for it.
+fn sets<R: Wait>(rt: &R, shared: &Shared<'_>, lane: &mut Lane) -> Reply {
+    let reply = shared.call(rt, lane, set_event());
+    if reply != Reply::Refused(Fault::Memory) {
+        return reply;
+    }
+    shared.call(rt, lane, set_event())
+}
 
 /// A wait that another thread answers.
 pub(super) fn plays_a_block<R: Abort + Wait + Threads + Sync>(
@@ -22,10 +39,6 @@ pub(super) fn plays_a_block<R: Abort + Wait + Threads + Sync>(
         mode: Mode::Any,
         timeout: Timeout::Infinite,
         handles: HandleList::new(alloc, &[4])?,
-    };
-    let set = Call::SetEvent {
-        thread: 1,
-        handle: 4,
     };
     gives(rt, shared.call(rt, &mut setter, spawn()), spawned());
     gives(
@@ -46,7 +59,7 @@ pub(super) fn plays_a_block<R: Abort + Wait + Threads + Sync>(
     let (answer, done) = join(
         rt,
         || shared.block(rt, &mut waiter, 1),
-        || shared.call(rt, &mut setter, set),
+        || sets(rt, shared, &mut setter),
     );
     gives(rt, done, Reply::Done);
     gives(rt, answer, Reply::Code { code: 0 });
