@@ -123,6 +123,10 @@ impl Manager {
         self.result(wait).into()
     }
 
+    pub fn is_pending(&self, wait: u32) -> bool {
+        self.waits.is_pending(wait)
+    }
+
     pub fn expire(&mut self, wait: u32) -> Reply {
         self.waits.expire(&mut self.objects, wait).map(|()| Reply::Expired { wait }).into()
     }

@@ -121,6 +121,11 @@ impl Waits {
         Ok(number)
     }
 
+    #[allow(dead_code)]
+    pub fn is_pending(&self, number: u32) -> bool {
+        self.live.get(&number).is_some_and(|wait| matches!(wait.state, State::Pending(..)))
+    }
+
     /// The waits for a slot take effect, by rising number, as long as it has something to take.
     pub fn settle_after(&mut self, objects: &mut Objects, slot: u32) {
         let mut at = 0;

@@ -1,20 +1,15 @@
 //! Measures pins with their releases: with the argument `measure` it prints a line `CASE: PAIRS in NANOSECONDS` for each
 //! case, and without it only says so.
-//!
-//! The middle one of the times of many short runs counts, since two threads that contend for a cache line are faster
-//! where their processors share one cache. Left out are the runs in which not all threads were at work for more than half
-//! of the time.
 #![tactic(auto)]
 
+use bench_threads::{RUNS, Span, Start, begin, both, end, report, time_of};
 use pin_core::{Id, Phase, Shape};
 use pin_words::{Keeper, Pins, Reader};
 use std::sync::Wait;
-use std::sync::atomic::{AtomicU64, Ordering};
+use std::sync::atomic::AtomicU64;
 use std::thread::{Threads, join};
 use std::time::{Clock, Instant};
 use std::{env, io};
-
-const RUNS: usize = 61;
 
 // Pairs of each thread in a run.
 const PAIRS: u64 = 40000;
@@ -24,43 +19,6 @@ const APART: [u32; 4] = [64, 128, 192, 256];
 
 // Slots whose words are all on one cache line.
 const NEAR: [u32; 4] = [8, 9, 10, 11];
-
-// The threads of a run wait for one another before they begin.
-#[derive(Clone, Copy)]
-struct Start<'a> {
-    ready: &'a AtomicU64,
-    threads: u64,
-    origin: Instant,
-}
-
-// When the first and the last thread began and ended, in nanoseconds.
-#[derive(Clone, Copy)]
-struct Span {
-    first_began: u128,
-    last_began: u128,
-    first_ended: u128,
-    last_ended: u128,
-}
-
-impl Span {
-    fn taken(self) -> u128 {
-        self.last_ended.saturating_sub(self.first_began)
-    }
-
-    fn is_together(self) -> bool {
-        self.taken() / 2 < self.first_ended.saturating_sub(self.last_began)
-    }
-}
-
-fn both(x: Option<Span>, y: Option<Span>) -> Option<Span> {
-    let (x, y) = (x?, y?);
-    Some(Span {
-        first_began: x.first_began.min(y.first_began),
-        last_began: x.last_began.max(y.last_began),
-        first_ended: x.first_ended.min(y.first_ended),
-        last_ended: x.last_ended.max(y.last_ended),
-    })
-}
 
 // The reader is the thread's own, so that no two threads write to one line for it.
 fn spin<R: Wait + Clock>(
@@ -73,26 +31,14 @@ fn spin<R: Wait + Clock>(
         slot,
         generation: 1,
     };
-    start.ready.fetch_add(1, Ordering::SeqCst);
-    for _ in rt.forever() {
-        if start.ready.load(Ordering::SeqCst) >= start.threads {
-            break;
-        }
-    }
-    let began = start.origin.elapsed(rt).ok()?.as_nanos();
+    let began = begin(rt, start)?;
     for _ in 0..PAIRS {
         if let Err(_) = reader.pin(rt, id) {
             return None;
         }
         reader.release(id);
     }
-    let ended = start.origin.elapsed(rt).ok()?.as_nanos();
-    Some(Span {
-        first_began: began,
-        last_began: began,
-        first_ended: ended,
-        last_ended: ended,
-    })
+    end(rt, start, began)
 }
 
 fn one<R: Wait + Clock>(
@@ -176,16 +122,9 @@ fn measure<R: Threads + Wait + Clock + Print + Sync>(
 ) -> io::Result<()> {
     let mut times = [u128::MAX; RUNS];
     for i in 0..RUNS {
-        if let Some(span) = run(rt, keeper, threads, slots) {
-            if span.is_together() {
-                times[i] = span.taken();
-            }
-        }
+        times[i] = time_of(run(rt, keeper, threads, slots));
     }
-    times.sort_unstable();
-    let counted = times.iter().filter(|time| **time < u128::MAX).count();
-    let middle = times.get(counted / 2).copied().unwrap_or(u128::MAX);
-    println!(rt; "{case}: {} in {middle}", PAIRS.saturating_mul(threads))
+    report(rt, case, PAIRS.saturating_mul(threads), times)
 }
 
 fn measure_all<R: Threads + Wait + Clock + Print + Sync>(

@@ -24,8 +24,6 @@ mod places;
 mod rows;
 mod session;
 mod space;
-#[cfg(test)]
-mod tests;
 
 pub use directory::Directory;
 pub use law::law_of_names;

@@ -37,8 +37,6 @@ mod seats;
 mod signaling;
 mod store;
 mod stored;
-#[cfg(test)]
-mod tests;
 mod waiting;
 
 pub use creation::Creation;

@@ -218,7 +218,7 @@ impl<K: PinKeeper> Objects<K> {
     }
 
     /// Whether it is known that a thread owns no mutex.
-    pub(crate) fn owns_none(&self, thread: u32) -> bool
+    pub fn owns_none(&self, thread: u32) -> bool
         ensures { IsTrue result → (k : ℕ) → is_owner thread (slot_owner (slice_index_or self.now.seen.bodies k None)) ≡ false }
     {
         self.seats.owns_none(thread)
@@ -226,7 +226,7 @@ impl<K: PinKeeper> Objects<K> {
 
     /// The mutexes of a thread that are listed are abandoned: all that it owns, unless the list is wrong or the thread isn't
     /// counted.
-    pub(crate) fn abandon_listed(&mut self, thread: u32)
+    pub fn abandon_listed(&mut self, thread: u32)
         ensures seen { record self.new.seen { bodies = map (slot_left_by thread) self.new.seen.bodies } ≡ record self.old.seen { bodies = map (slot_left_by thread) self.old.seen.bodies } }
         ensures rest { kept_rest self.new ≡ kept_rest self.old }
     {

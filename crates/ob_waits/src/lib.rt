@@ -19,8 +19,6 @@ mod pass;
 mod places;
 mod roster;
 mod take;
-#[cfg(test)]
-mod tests;
 mod threads;
 mod wait;
 mod waits;

@@ -13,8 +13,6 @@ mod id;
 mod law;
 mod schedule;
 mod shape;
-#[cfg(test)]
-mod tests;
 mod word;
 mod world;
 

@@ -19,8 +19,6 @@ mod pin_keeper;
 mod pins;
 mod plays;
 mod reader;
-#[cfg(test)]
-mod tests;
 mod view;
 
 pub use fault::{PinFault, Verdict};

@@ -1,0 +1,5 @@
+mod names;
+mod pins;
+mod schedules;
+mod store;
+mod waits;

@@ -1,0 +1,557 @@
+ghost use Rattle.std.specs.Prelude.{◌≡◌, ◌≢◌, ◌<◌, ◌≤◌, [], ◌∷◌, true, length, slice_index_or, IsTrue, IsSome, ℕ, Some, None};
+ghost use Rattle.ob_waits.specs.Objects.{body_of, slot_room};
+ghost use Rattle.ob_waits.specs.Rules.{HasRoom, IsWaitable};
+ghost use Rattle.ob_waits.specs.Waits.{state_at};
+
+use ob_body::{Body, RECURSION_MAX};
+use ob_rights::{Fault, Kind};
+use ob_waits::{Bodies, MAXIMUM_WAIT_OBJECTS, Mode, WAIT_TIMEOUT, WaitState, Waits, try_now};
+use pin_core::Id;
+use std::alloc::{AllocError, Global};
+use std::marker::Model;
+use std::process::Abort;
+use std::test::Fail;
+
+/// Bodies in four slots.
+#[derive(Drop)]
+struct Slots {
+    bodies: Vec<Option<Body>>,
+    handles: Vec<u32>,
+    blocks: Vec<u32>,
+}
+
+impl Model for Slots {
+    ghost use Rattle.ob_waits.specs.Objects.{Objects};
+
+    ghost Value = { Objects };
+
+    ghost view = { λ s. record { bodies = s.bodies.items; handles = s.handles.items; blocks = s.blocks.items } };
+}
+
+fn count_at(counts: &[u32], at: usize) -> u32
+    ensures { result ≡ slice_index_or counts.now at 0 }
+{
+    if at < counts.len() { counts[at] } else { 0 }
+}
+
+impl Bodies for Slots {
+    ghost objects = { λ s. s };
+
+    ghost rest = { λ _. tt };
+
+    fn body(&self, id: Id) -> Option<Body> {
+        let at = id.slot as usize;
+        if at < self.bodies.len() {
+            self.bodies[at]
+        } else {
+            None
+        }
+    }
+
+    fn put(&mut self, id: Id, body: Body) {
+        let at = id.slot as usize;
+        if at < self.bodies.len() {
+            self.bodies[at] = Some(body);
+        }
+    }
+
+    fn block_left(&mut self, id: Id) {
+        let at = id.slot as usize;
+        let left = count_at(&self.blocks, at).saturating_sub(1);
+        if at < self.blocks.len() {
+            self.blocks[at] = left;
+        }
+        if count_at(&self.handles, at) == 0 && left == 0 && at < self.bodies.len() {
+            self.bodies[at] = None;
+        }
+    }
+}
+
+/// How many wait numbers there are, and what each slot counts at first.
+#[derive(Clone, Copy)]
+struct Opening {
+    limit: u32,
+    handles: u32,
+    blocks: u32,
+}
+
+/// Three wait numbers, and objects that last.
+const THREE: Opening = Opening {
+    limit: 3,
+    handles: 1,
+    blocks: 7,
+};
+
+/// Slots and waits with nothing left to settle.
+#[derive(Drop)]
+struct World {
+    slots: Slots,
+    waits: Waits,
+}
+
+impl Model for World {
+    ghost use Rattle.ob_waits.specs.Waits.{Scene};
+    ghost use Rattle.ob_waits.specs.Rules.{WaitsHaveRoom, IsSettled};
+
+    ghost Value = { Scene };
+
+    ghost view = { λ w. record { objects = w.slots; waits = w.waits.waits } };
+
+    ghost invariant = { λ w. WaitsHaveRoom 2147483647 w.slots.bodies w.waits.waits × IsSettled w.slots.bodies w.waits.waits };
+}
+
+fn id(slot: u32) -> Id
+    ensures { result ≡ record { slot = slot; generation = 1 } }
+{
+    Id {
+        slot,
+        generation: 1,
+    }
+}
+
+fn have_room(slots: &Slots, thread: u32, ids: &[Id]) -> bool
+    ensures { IsTrue result → HasRoom RECURSION_MAX thread slots.now.bodies ids.now }
+{
+    for id in ids {
+        if let Some(body) = slots.body(*id) {
+            if !body.has_room(thread, RECURSION_MAX) {
+                return false;
+            }
+        }
+    }
+    true
+}
+
+impl World {
+    fn new(alloc: Global, opening: Opening, bodies: &[Option<Body>]) -> Result<World, AllocError> {
+        Ok(World {
+            slots: Slots {
+                bodies: Vec::from_slice(alloc, bodies)?,
+                handles: vec![in alloc; opening.handles; 4]?,
+                blocks: vec![in alloc; opening.blocks; 4]?,
+            },
+            waits: Waits::new(alloc, opening.limit),
+        })
+    }
+
+    fn wait(
+        &mut self,
+        rt: &impl Abort,
+        thread: u32,
+        mode: Mode,
+        ids: &[Id],
+    ) -> Result<Option<u32>, Fault>
+        requires { IsWaitable mode ids.now }
+    {
+        let room = have_room(&self.slots, thread, ids);
+        assert!(rt; room);
+        let None = self.waits.wait_of(thread) else {
+            panic!(rt; "the thread waits")
+        };
+        if let Some(code) = try_now(&mut self.slots, thread, mode, ids) {
+            return Ok(Some(code));
+        }
+        self.waits.add(thread, mode, ids)?;
+        Ok(None)
+    }
+
+    /// A wait for any of some objects: its code, or none where it is pending.
+    fn wait_any(&mut self, rt: &impl Abort, thread: u32, ids: &[Id]) -> Result<Option<u32>, Fault> {
+        assert!(rt; ids.len() > 0);
+        assert!(rt; ids.len() <= MAXIMUM_WAIT_OBJECTS);
+        self.wait(rt, thread, Mode::Any, ids)
+    }
+
+    /// A wait for both of two objects.
+    fn wait_both(
+        &mut self,
+        rt: &impl Abort,
+        thread: u32,
+        first: Id,
+        second: Id,
+    ) -> Result<Option<u32>, Fault> {
+        assert!(rt; first.slot != second.slot);
+        self.wait(rt, thread, Mode::All, &[first, second])
+    }
+
+    /// Changes a body, and settles: by all waits, or by those of the object.
+    fn change(&mut self, id: Id, body: Body, plain: bool)
+        requires there { IsSome (body_of self.old.objects.bodies id) }
+        requires room { (t : ℕ) → slot_room RECURSION_MAX t (body_of self.old.objects.bodies id) ≡ true → slot_room RECURSION_MAX t (Some body) ≡ true }
+    {
+        self.slots.put(id, body);
+        if plain {
+            self.waits.settle(&mut self.slots);
+            return;
+        }
+        self.waits.settle_after(&mut self.slots, id);
+    }
+
+    /// Changes two bodies, and settles then by the waits of the two objects.
+    fn change_both(&mut self, first: Id, body: Body, second: Id, other: Body)
+        requires apart { second.slot ≢ first.slot }
+        requires there { IsSome (body_of self.old.objects.bodies first) }
+        requires there_too { IsSome (body_of self.old.objects.bodies second) }
+        requires room { (t : ℕ) → slot_room RECURSION_MAX t (body_of self.old.objects.bodies first) ≡ true → slot_room RECURSION_MAX t (Some body) ≡ true }
+        requires room_too { (t : ℕ) → slot_room RECURSION_MAX t (body_of self.old.objects.bodies second) ≡ true → slot_room RECURSION_MAX t (Some other) ≡ true }
+    {
+        self.slots.put(first, body);
+        self.slots.put(second, other);
+        self.waits
+            .settle_after_each(&mut self.slots, &[first, second]);
+    }
+
+    /// Sets two events at once.
+    fn set_both(&mut self, rt: &impl Abort, first: Id, second: Id) {
+        let Some(mut body) = self.slots.body(first) else {
+            panic!(rt; "no body")
+        };
+        let Kind::Event = body.kind() else {
+            panic!(rt; "no event")
+        };
+        let Some(mut other) = self.slots.body(second) else {
+            panic!(rt; "no body")
+        };
+        let Kind::Event = other.kind() else {
+            panic!(rt; "no event")
+        };
+        assert!(rt; first.slot != second.slot);
+        body.set();
+        other.set();
+        self.change_both(first, body, second, other);
+    }
+
+    fn set(&mut self, rt: &impl Abort, id: Id, plain: bool) {
+        let Some(mut body) = self.slots.body(id) else {
+            panic!(rt; "no body")
+        };
+        let Kind::Event = body.kind() else {
+            panic!(rt; "no event")
+        };
+        body.set();
+        self.change(id, body, plain);
+    }
+
+    fn post(&mut self, rt: &impl Abort, id: Id, count: u32, plain: bool) {
+        let Some(mut body) = self.slots.body(id) else {
+            panic!(rt; "no body")
+        };
+        let Kind::Semaphore = body.kind() else {
+            panic!(rt; "no semaphore")
+        };
+        let posted = body.post(count).is_ok();
+        assert!(rt; posted);
+        self.change(id, body, plain);
+    }
+
+    fn abandon(&mut self, rt: &impl Abort, id: Id, thread: u32, plain: bool) {
+        let Some(mut body) = self.slots.body(id) else {
+            panic!(rt; "no body")
+        };
+        let Kind::Mutex = body.kind() else {
+            panic!(rt; "no mutex")
+        };
+        body.abandon(thread);
+        self.change(id, body, plain);
+    }
+
+    /// Ends the thread's pending wait with 258.
+    fn expire(&mut self, rt: &impl Abort, thread: u32) {
+        let Some(number) = self.waits.wait_of(thread) else {
+            panic!(rt; "no wait")
+        };
+        let Some(WaitState::Pending) = self.state_at(number) else {
+            panic!(rt; "not pending")
+        };
+        self.waits.expire(number);
+    }
+
+    /// The code of the thread's wait, which is over with it.
+    fn take_result(&mut self, rt: &impl Abort, thread: u32) -> u32 {
+        let Some(number) = self.waits.wait_of(thread) else {
+            panic!(rt; "no wait")
+        };
+        let Some(WaitState::Answered(_)) = self.state_at(number) else {
+            panic!(rt; "not answered")
+        };
+        self.waits.take_result(number)
+    }
+
+    fn drop_thread(&mut self, thread: u32) {
+        self.waits.drop_thread(thread);
+    }
+
+    /// Where the wait of a number stands.
+    fn state_at(&self, number: u32) -> Option<WaitState>
+        ensures { result ≡ state_at (slice_index_or self.now.waits number None) }
+    {
+        match self.waits.look(number) {
+            Some((state, _)) => Some(state),
+            None => None,
+        }
+    }
+
+    /// Where the thread's wait stands.
+    fn state_of(&self, thread: u32) -> Option<WaitState> {
+        match self.waits.wait_of(thread) {
+            Some(number) => self.state_at(number),
+            None => None,
+        }
+    }
+}
+
+/// What happens, with what is answered; or what is seen then.
+#[derive(Clone, Copy)]
+enum Act<'a> {
+    /// A thread waits for any of some objects: its code, or none where it is pending.
+    Any(u32, &'a [Id], Option<u32>),
+    /// A thread waits for both of two objects.
+    Both(u32, Id, Id, Option<u32>),
+    /// A thread would wait for an object, and no number is left.
+    Full(u32, Id),
+    Set(Id),
+    /// Two events are set at once.
+    SetBoth(Id, Id),
+    Post(Id, u32),
+    Abandon(Id, u32),
+    /// The time of a thread's wait is over.
+    Expire(u32),
+    /// A thread ends.
+    End(u32),
+    /// A thread takes the code of its wait.
+    Result(u32, u32),
+    /// Where a thread's wait stands.
+    Stands(u32, Option<WaitState>),
+    /// The number of a thread's wait.
+    Number(u32, Option<u32>),
+    Blocks(Id, u64),
+    /// How many blocks a slot counts, and whether it has a body.
+    Slot(usize, u32, bool),
+}
+
+impl World {
+    fn act(&mut self, rt: &impl Abort, act: Act<'_>, plain: bool) -> Result<(), Fail> {
+        match act {
+            Act::Any(thread, ids, code) => assert_eq!(rt; self.wait_any(rt, thread, ids)?, code),
+            Act::Both(thread, first, second, code) => {
+                assert_eq!(rt; self.wait_both(rt, thread, first, second)?, code);
+            }
+            Act::Full(thread, id) => {
+                assert_eq!(rt; self.wait_any(rt, thread, &[id]), Err(Fault::Limit));
+            }
+            Act::Set(id) => self.set(rt, id, plain),
+            Act::SetBoth(first, second) => self.set_both(rt, first, second),
+            Act::Post(id, count) => self.post(rt, id, count, plain),
+            Act::Abandon(id, thread) => self.abandon(rt, id, thread, plain),
+            Act::Expire(thread) => self.expire(rt, thread),
+            Act::End(thread) => self.drop_thread(thread),
+            Act::Result(thread, code) => assert_eq!(rt; self.take_result(rt, thread), code),
+            Act::Stands(thread, state) => assert_eq!(rt; self.state_of(thread), state),
+            Act::Number(thread, number) => assert_eq!(rt; self.waits.wait_of(thread), number),
+            Act::Blocks(id, blocks) => assert_eq!(rt; self.waits.blocks_of(id), blocks),
+            Act::Slot(slot, blocks, has_body) => {
+                assert_eq!(rt; self.slots.blocks.get(slot).copied(), Some(blocks));
+                let body = self.slots.bodies.get(slot).copied().flatten();
+                assert_eq!(rt; body.is_some(), has_body);
+            }
+        }
+        Ok(())
+    }
+}
+
+/// Plays acts over four bodies, settling by all waits and then, from the start again, by those of the object.
+fn play(
+    rt: &impl Abort,
+    alloc: Global,
+    opening: Opening,
+    bodies: &[Option<Body>],
+    acts: &[Act<'_>],
+) -> Result<(), Fail> {
+    for plain in [true, false] {
+        let mut world = World::new(alloc, opening, bodies)?;
+        for act in acts {
+            world.act(rt, *act, plain)?;
+        }
+    }
+    Ok(())
+}
+
+#[test]
+fn an_auto_reset_event_satisfies_one_waiter_after_another(rt: HostRuntime) -> Result<(), Fail> {
+    let bodies = [Some(Body::new_event(false, false)), None, None, None];
+    let acts = [
+        Act::Any(1, &[id(0)], None),
+        Act::Any(2, &[id(0)], None),
+        Act::Any(3, &[id(0)], None),
+        Act::Blocks(id(0), 3),
+        Act::Set(id(0)),
+        Act::Stands(1, Some(WaitState::Answered(0))),
+        Act::Stands(2, Some(WaitState::Pending)),
+        Act::Set(id(0)),
+        Act::Stands(2, Some(WaitState::Answered(0))),
+        Act::Stands(3, Some(WaitState::Pending)),
+        Act::Blocks(id(0), 1),
+        Act::Slot(0, 5, true),
+        Act::Full(4, id(0)),
+    ];
+    play(&rt, rt.alloc(), THREE, &bodies, &acts)
+}
+
+#[test]
+fn a_semaphore_satisfies_as_many_as_it_counts(rt: HostRuntime) -> Result<(), Fail> {
+    let bodies = [None, Some(Body::new_semaphore(0, 5)), None, None];
+    let acts = [
+        Act::Any(9, &[id(1)], None),
+        Act::Any(7, &[id(1)], None),
+        Act::Any(8, &[id(1)], None),
+        Act::Post(id(1), 2),
+        Act::Stands(9, Some(WaitState::Answered(0))),
+        Act::Stands(7, Some(WaitState::Answered(0))),
+        Act::Stands(8, Some(WaitState::Pending)),
+    ];
+    play(&rt, rt.alloc(), THREE, &bodies, &acts)
+}
+
+#[test]
+fn a_wait_for_all_takes_nothing_until_all_are_signaled(rt: HostRuntime) -> Result<(), Fail> {
+    let mutex = Some(Body::new_mutex(Some(5)));
+    let event = Some(Body::new_event(false, true));
+    let acts = [
+        Act::Both(1, id(1), id(0), None),
+        Act::Any(2, &[id(0), id(1)], Some(1)),
+        Act::Abandon(id(0), 5),
+        Act::Stands(1, Some(WaitState::Pending)),
+        Act::Set(id(1)),
+        Act::Stands(1, Some(WaitState::Answered(128))),
+        Act::Any(2, &[id(1), id(0)], None),
+        Act::Abandon(id(0), 1),
+        Act::Stands(2, Some(WaitState::Answered(129))),
+        Act::Any(3, &[id(0)], None),
+        Act::Number(3, Some(3)),
+        Act::Blocks(id(0), 1),
+    ];
+    play(&rt, rt.alloc(), THREE, &[mutex, event, None, None], &acts)
+}
+
+#[test]
+fn a_wait_ends_by_its_time_its_thread_or_its_answer(rt: HostRuntime) -> Result<(), Fail> {
+    let bodies = [Some(Body::new_event(false, false)), None, None, None];
+    let other = Id {
+        slot: 0,
+        generation: 2,
+    };
+    let acts = [
+        Act::Any(1, &[id(0), id(0)], None),
+        Act::Any(2, &[id(0)], None),
+        Act::Blocks(id(0), 3),
+        Act::Expire(1),
+        Act::Blocks(id(0), 1),
+        Act::Result(1, WAIT_TIMEOUT),
+        Act::Number(1, None),
+        Act::Blocks(other, 0),
+        Act::End(2),
+        Act::End(2),
+        Act::Stands(2, None),
+        Act::Blocks(id(0), 0),
+        Act::Any(1, &[id(0)], None),
+        Act::Number(1, Some(3)),
+        Act::Set(id(0)),
+        Act::Result(1, 0),
+    ];
+    play(&rt, rt.alloc(), THREE, &bodies, &acts)
+}
+
+#[test]
+fn two_objects_signaled_at_once_serve_waits_by_number(rt: HostRuntime) -> Result<(), Fail> {
+    let bodies = [
+        Some(Body::new_event(false, false)),
+        Some(Body::new_event(false, false)),
+        None,
+        Some(Body::new_event(false, false)),
+    ];
+    let opening = Opening { limit: 20, ..THREE };
+    // By the first event alone the wait for both would come first, before an older one for the second event.
+    let acts = [
+        Act::Any(1, &[id(1)], None),
+        Act::Both(2, id(0), id(1), None),
+        Act::Any(3, &[id(3)], None),
+        Act::Any(4, &[id(3)], None),
+        Act::Any(5, &[id(3)], None),
+        Act::Any(6, &[id(3)], None),
+        Act::Any(7, &[id(3)], None),
+        Act::SetBoth(id(0), id(1)),
+        Act::Stands(1, Some(WaitState::Answered(0))),
+        Act::Stands(2, Some(WaitState::Pending)),
+        Act::Set(id(1)),
+        Act::Stands(2, Some(WaitState::Answered(0))),
+        Act::SetBoth(id(1), id(3)),
+        Act::Stands(3, Some(WaitState::Answered(0))),
+        Act::Stands(4, Some(WaitState::Pending)),
+        Act::Result(2, 0),
+        Act::Any(2, &[id(1)], Some(0)),
+    ];
+    play(&rt, rt.alloc(), opening, &bodies, &acts)
+}
+
+#[test]
+fn the_last_block_ends_the_body(rt: HostRuntime) -> Result<(), Fail> {
+    let bodies = [Some(Body::new_event(false, false)), None, None, None];
+    let opening = Opening {
+        handles: 0,
+        blocks: 2,
+        ..THREE
+    };
+    let acts = [
+        Act::Any(1, &[id(0)], None),
+        Act::Any(2, &[id(0)], None),
+        Act::Set(id(0)),
+        Act::Stands(1, Some(WaitState::Answered(0))),
+        Act::Slot(0, 1, true),
+        Act::Set(id(0)),
+        Act::Stands(2, Some(WaitState::Answered(0))),
+        Act::Slot(0, 0, false),
+    ];
+    play(&rt, rt.alloc(), opening, &bodies, &acts)
+}
+
+#[test]
+fn a_refused_add_changes_nothing(rt: HostRuntime) {
+    let mut waits = Waits::new(rt.alloc(), 3);
+    let first = waits.add(5, Mode::Any, &[id(3), id(70)]);
+    if first.is_err() {
+        assert_eq!(rt; first, Err(Fault::Memory));
+        assert_eq!(rt; waits.wait_of(5), None);
+        assert_eq!(rt; waits.blocks_of(id(3)), 0);
+        assert_eq!(rt; waits.add(5, Mode::Any, &[id(3), id(70)]), Ok(1));
+    }
+    assert_eq!(rt; waits.wait_of(5), Some(1));
+    assert_eq!(rt; waits.blocks_of(id(3)), 1);
+    assert_eq!(rt; waits.blocks_of(id(70)), 1);
+}
+
+/// Adds the wait of a thread that has none. Where memory fails nothing has changed, and the call is made again.
+fn added(rt: &impl Abort, waits: &mut Waits, thread: u32) {
+    assert_eq!(rt; waits.wait_of(thread), None);
+    let blocks = waits.blocks_of(id(3));
+    let added = waits.add(thread, Mode::Any, &[id(3)]);
+    if added.is_err() {
+        assert_eq!(rt; added, Err(Fault::Memory));
+        assert_eq!(rt; waits.wait_of(thread), None);
+        assert_eq!(rt; waits.blocks_of(id(3)), blocks);
+        assert_eq!(rt; waits.add(thread, Mode::Any, &[id(3)]), Ok(thread));
+    }
+}
+
+#[test]
+fn waits_that_last_are_found_behind_newer_ones(rt: HostRuntime) {
+    let mut waits = Waits::new(rt.alloc(), 200);
+    for thread in 1..131 {
+        added(&rt, &mut waits, thread);
+    }
+    assert_eq!(rt; waits.blocks_of(id(3)), 130);
+    for thread in 1..131 {
+        assert_eq!(rt; waits.wait_of(thread), Some(thread));
+        let found = waits.look(thread);
+        assert!(rt; matches!(found, Some((WaitState::Pending, _))));
+    }
+}
