@@ -2,6 +2,7 @@ ghost use Rattle.std.specs.Prelude.{◌≡◌, ◌<◌, Some};
 ghost use Rattle.pin_core.specs.Holds.{tally, same_id};
 ghost use Rattle.pin_words.specs.Plays.{Show};
 ghost use Rattle.ob_store.specs.Meetings.{IsMet};
+ghost use Rattle.ob_store.specs.State.{shape_of};
 ghost use Rattle.ob_manager.specs.Counting.{card};
 
 use crate::card::Card;
@@ -11,6 +12,15 @@ use pin_core::Id;
 use pin_words::{Keeper, Reader};
 
 impl<'a> Manager<Keeper<'a>> {
+    /// A reader of the same pins sees as many slots, pins and generations as the limits say.
+    pub fn same_shape(&self, reader: &Reader<'a>)
+        requires { self.now.keeper.table ≡ Some reader.now.table }
+        ensures { reader.now.view.shape ≡ shape_of self.now.state.limits }
+    {
+        self.store.kept();
+        self.store.same_shape(reader);
+    }
+
     /// One look at a slot for a reader of the same pins: what the reader holds there is the keeper's present slot.
     pub fn meet(&mut self, reader: &mut Reader<'a>, slot: u32)
         requires slot { slot < self.old.state.limits.slots }

@@ -1,5 +1,5 @@
 -- What a store keeps, told of its state.
-use Rattle.std.proofs.Common.{◌+◌, length, ◌∙◌, subst, ltb}
+use Rattle.std.proofs.Common.{◌+◌, length, refl, ◌∙◌, subst, ltb}
 use Rattle.ob_name.specs.Listing.{Rows, AreDistinct}
 use Rattle.ob_tables.specs.Tables.{HandleTables}
 use Rattle.ob_waits.specs.Rules as rules
@@ -20,6 +20,7 @@ consistent limits l ts o ws rows kept tied waits = record {
   lives = kept.lives_kept;
   slots = tied.agreed.each;
   shape = kept.limited.shape_is;
+  generations = refl;
   published = tied.listed;
   born = tied.born;
   named = kept.named;

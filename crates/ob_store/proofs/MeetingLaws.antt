@@ -16,7 +16,7 @@ vacant_unheld : (retired : Bool) → may_be_held (vacant_phase retired) ≡ fals
 vacant_unheld true = refl
 vacant_unheld false = refl
 
-found_in : (id : Id) (r : ReaderView) (x : Option Object) (body : Option Body) (retired : Bool) (slot : Slot) → Agrees id.slot x body retired slot
+pub found_in : (id : Id) (r : ReaderView) (x : Option Object) (body : Option Body) (retired : Bool) (slot : Slot) → Agrees id.slot x body retired slot
     → id ≡ record { slot = id.slot; generation = slot.generation } → may_be_held slot.phase ≡ true → Show id slot.descr r.notes → IsFound id r x
 found_in id r None body retired slot agrees same held show = absurd (grind (arith, sym held ∙ ap may_be_held agrees.1 ∙ vacant_unheld retired))
 found_in id r (Some o) body retired slot agrees same held show =

@@ -1,11 +1,11 @@
 -- What a reader is told of the state and the keeper whenever no call is under way.
-use Rattle.std.specs.Prelude.{◌≡◌, ℕ, ◌+◌, ◌<◌, nat_lt, false, None, length, is_some, slice_index_or}
+use Rattle.std.specs.Prelude.{◌≡◌, ℕ, ◌+◌, ◌<◌, nat_lt, false, None, length, is_some, map, slice_index_or}
 use Rattle.pin_core.specs.declared.id.Id.{Id}
 use Rattle.pin_core.specs.Worlds.{slot_of}
 use Rattle.ob_name.specs.Listing.{AreDistinct}
 use Rattle.ob_waits.specs.Rules.{IsKept}
 use Rattle.ob_store.specs.Agreement.{Agrees, AreBorn, IsListed}
-use Rattle.ob_store.specs.State.{Whole, handles_of, blocks_of, settled, shape_of}
+use Rattle.ob_store.specs.State.{Whole, generation_of, handles_of, blocks_of, settled, shape_of}
 use Rattle.ob_store.specs.Directory.{directory_of}
 use Rattle.ob_store.specs.Kept.{AreFormed, AreOfLive, IsNamed, IsQuiet, IsThere, LivesKept}
 
@@ -15,6 +15,8 @@ pub record IsConsistent (w : Whole) : Type 0 where
   -- slot by slot: free, or given up, or with one object of the slot's Id and descriptor, live with a body and closing without
   pub slots : (k : ℕ) → k < w.keeper.shape.slots → Agrees k (slice_index_or w.state.objects k None) (slice_index_or w.state.bodies k None) (slice_index_or w.state.retired k false) (slot_of w.keeper.slots k)
   pub shape : w.keeper.shape ≡ shape_of w.state.limits
+  -- the generations are the keeper's
+  pub generations : w.state.generations ≡ map generation_of w.keeper.slots
   -- each object's Id is published with its descriptor, where the keeper lists what it published
   pub published : IsListed w.keeper.published w.state.objects
   -- births are distinct, and below their count

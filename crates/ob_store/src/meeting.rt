@@ -19,6 +19,14 @@ impl<'a> Objects<Keeper<'a>> {
         self.keeper.meet(reader, slot);
     }
 
+    /// The keeper and a reader of the same pins have one shape.
+    pub fn same_shape(&self, reader: &Reader<'a>)
+        requires { self.now.keeper.table ≡ Some reader.now.table }
+        ensures { reader.now.view.shape ≡ self.now.keeper.shape }
+    {
+        self.keeper.same_shape(reader);
+    }
+
     /// One look at the slot of an Id that the reader holds, after which the object of the Id is known to be there.
     #[tactic(auto, using(crate::proofs::MeetingLaws::held_found))]
     pub fn meet_held(&mut self, reader: &mut Reader<'a>, id: Id)
@@ -46,6 +54,14 @@ impl<'a> Store<Keeper<'a>> {
         ensures table { reader.new.table ≡ reader.old.table }
     {
         self.objects.meet(reader, slot);
+    }
+
+    /// The keeper and a reader of the same pins have one shape.
+    pub fn same_shape(&self, reader: &Reader<'a>)
+        requires { self.now.keeper.table ≡ Some reader.now.table }
+        ensures { reader.now.view.shape ≡ self.now.keeper.shape }
+    {
+        self.objects.same_shape(reader);
     }
 
     /// One look at the slot of an Id that the reader holds, after which the object of the Id is known to be there.

@@ -1,0 +1,4 @@
+pub mod StepLaws
+pub mod Found
+pub mod Attempting
+pub mod Sparing

@@ -1,0 +1,120 @@
+-- A slot of which something is held isn't taken back.
+use Rattle.std.proofs.Common.{◌≡◌, ℕ, zero, suc, ◌<◌, true, List, [], ◌∷◌, Option, Some, None, Result, Ok, Err, length, get_or, position, set, slice_index_or, sym, refl, ap, subst, ◌∙◌, arith}
+use Rattle.std.proofs.lemmas.Grind.{common_steps}
+use Rattle.std.proofs.lemmas.List.Quantifiers.{position-Some}
+use Rattle.ob_rights.specs.declared.fault.Fault.{Fault}
+use Rattle.pin_core.specs.declared.id.Id.{Id}
+use Rattle.pin_core.specs.Holds.{tally, weight, same_id}
+use Rattle.pin_core.proofs.Counts.{none-found}
+use Rattle.pin_words.specs.declared.pin_keeper.Reclaim.{Reclaim}
+use Rattle.pin_words.specs.declared.pin_keeper.Reclaim.TheVariants.{Freed, Retired, Held}
+use Rattle.pin_words.specs.declared.view.ReaderView.{ReaderView}
+use Rattle.pin_words.specs.Views.{sits}
+use Rattle.ob_store.specs.Consistent.{IsConsistent}
+use Rattle.ob_store.specs.Meetings.{IsMet}
+use Rattle.ob_store.specs.Moves.{after_reclaim}
+use Rattle.ob_store.specs.Objects.{Object}
+use Rattle.ob_store.specs.State.{State, Whole, settled}
+use Rattle.ob_manager.specs.declared.call.Call.TheVariants as calls
+use Rattle.ob_manager.specs.declared.reply.Reply.{Reply}
+use Rattle.ob_manager.specs.declared.reply.Reply.TheVariants.{Spawned, Started, Made, Exists, Opened, Duplicated, Closed, Done, Previous, Code, Pending, Expired, Ended, Exited, Reaped, CountsAre, Refused}
+use Rattle.ob_manager.specs.Outcomes.{Outcome, ◌>>=◌}
+use Rattle.ob_manager.specs.Reaping.{IfReaped, if_ended}
+use Rattle.ob_manager.specs.Steps.{Step, does, closes, lacks, final}
+use Rattle.ob_reader.specs.Pinning.{SparesHeld}
+use Rattle.ob_reader.proofs.Found.{met_found}
+
+-- the element at the place of a copy is that of some Id, which is counted
+same : (id : Id) → same_id id id ≡ true
+same id = grind arith
+
+counted : (held : List Id) (at : ℕ) (d : Id) → at < length held → 0 < tally (same_id (get_or held at d)) held
+counted [] at d inside = absurd (let c : ⊥ = omega arith in c)
+counted (x ∷ held) zero d inside = let one : weight (same_id x x) ≡ 1 = ap weight (same x) in omega arith
+counted (x ∷ held) (suc at) d inside = let more = counted held at d (omega arith) in omega arith
+
+pub there : (slot : ℕ) (held : List Id) (at : ℕ) (d : Id) → position (sits slot) held ≡ Some at → ((get_or held at d).slot ≡ slot) × (0 < tally (same_id (get_or held at d)) held)
+there slot held at d found = let found = position-Some (sits slot) held at d found in (grind (arith, common_steps), counted held at d found.0)
+
+pub nowhere : (slot : ℕ) (held : List Id) → position (sits slot) held ≡ None → tally (sits slot) held ≡ 0
+nowhere slot held none = none-found (sits slot) held none
+
+-- a slot that was taken back has no object
+abbrev reaped_as : State → ℕ → Reclaim → Result (Unit {0}) Fault → Result Id Fault → Result Outcome Fault
+reaped_as s slot outcome there ended = there >>= (λ _. ended >>= (λ id. Ok (record { reply = Reaped id outcome; state = settled (after_reclaim s slot outcome) })))
+
+became : (s t : State) (slot : ℕ) (id : Id) (outcome : Reclaim) (there : Result (Unit {0}) Fault) (ended : Result Id Fault) → final s (reaped_as s slot outcome there ended) ≡ record { reply = Reaped id outcome; state = t } → t ≡ settled (after_reclaim s slot outcome)
+became s t slot id outcome (Err fault) ended is = let reply : Refused fault ≡ Reaped id outcome = ap (λ (o : Outcome). o.reply) is in cc
+became s t slot id outcome (Ok unit) (Err fault) is = let reply : Refused fault ≡ Reaped id outcome = ap (λ (o : Outcome). o.reply) is in cc
+became s t slot id outcome (Ok unit) (Ok ended) is = ap (λ (o : Outcome). o.state) (sym is)
+
+after : (w v : Whole) (slot : ℕ) (id : Id) (outcome : Reclaim) → Step w (calls.Reap slot) (Reaped id outcome) v → v.state ≡ settled (after_reclaim w.state slot outcome)
+after w v slot id outcome (does comes keeps) = became w.state v.state slot id outcome _ (if_ended (slice_index_or w.state.objects slot None) (slice_index_or w.state.bodies slot None)) comes
+after w v slot id outcome (closes is comes keeps) = cc
+after w v slot id outcome (lacks takes there fault same) = cc
+
+emptied : (xs : List (Option Object)) (i : ℕ) → get_or (set xs i None) i None ≡ None
+emptied [] i = refl
+emptied (x ∷ xs) zero = refl
+emptied (x ∷ xs) (suc i) = emptied xs i
+
+is_not_none : (o : Object) → Some o ≡ None → ⊥
+is_not_none o is = cc
+
+-- so who meets the keeper there holds nothing of it
+vacant : (v : Whole) (r r' : ReaderView) (id : Id) → IsConsistent v → id.slot < v.state.limits.slots → 0 < tally (same_id id) r.held → IsMet v.keeper r id.slot r' → slice_index_or v.state.objects id.slot None ≡ None → ⊥
+vacant v r r' id consistent inside held met none = let found = met_found v r r' id consistent inside held met in is_not_none found.object (sym found.is ∙ none)
+
+spared : (w v : Whole) (r r' : ReaderView) (id named : Id) (outcome : Reclaim) → Step w (calls.Reap id.slot) (Reaped named outcome) v → IsConsistent v → id.slot < v.state.limits.slots → 0 < tally (same_id id) r.held → IsMet v.keeper r id.slot r'
+    → SparesHeld r.held id.slot outcome
+spared w v r r' id named Freed step consistent inside held met =
+    absurd (vacant v r r' id consistent inside held met (subst (λ (s : State). slice_index_or s.objects id.slot None ≡ None) (sym (after w v id.slot named Freed step)) (emptied w.state.objects id.slot)))
+spared w v r r' id named Retired step consistent inside held met =
+    absurd (vacant v r r' id consistent inside held met (subst (λ (s : State). slice_index_or s.objects id.slot None ≡ None) (sym (after w v id.slot named Retired step)) (emptied w.state.objects id.slot)))
+spared w v r r' id named (Held pins) step consistent inside held met = tt
+
+-- the same of each reply
+pub spares : (w v : Whole) (r r' : ReaderView) (id : Id) (reply : Reply) → Step w (calls.Reap id.slot) reply v → IsConsistent v → id.slot < v.state.limits.slots → 0 < tally (same_id id) r.held → IsMet v.keeper r id.slot r'
+    → IfReaped reply (SparesHeld r.held id.slot)
+spares w v r r' id (Reaped named outcome) step consistent inside held met = spared w v r r' id named outcome step consistent inside held met
+spares w v r r' id (Spawned process thread) step consistent inside held met = tt
+spares w v r r' id (Started thread) step consistent inside held met = tt
+spares w v r r' id (Made handle made) step consistent inside held met = tt
+spares w v r r' id (Exists handle there) step consistent inside held met = tt
+spares w v r r' id (Opened handle there) step consistent inside held met = tt
+spares w v r r' id (Duplicated handle there) step consistent inside held met = tt
+spares w v r r' id Closed step consistent inside held met = tt
+spares w v r r' id Done step consistent inside held met = tt
+spares w v r r' id (Previous count) step consistent inside held met = tt
+spares w v r r' id (Code code) step consistent inside held met = tt
+spares w v r r' id (Pending number) step consistent inside held met = tt
+spares w v r r' id (Expired number) step consistent inside held met = tt
+spares w v r r' id (Ended thread) step consistent inside held met = tt
+spares w v r r' id (Exited process) step consistent inside held met = tt
+spares w v r r' id (CountsAre handles waits hold) step consistent inside held met = tt
+spares w v r r' id (Refused fault) step consistent inside held met = tt
+
+-- where nothing is held
+unheld : (held : List Id) (slot : ℕ) (outcome : Reclaim) → tally (sits slot) held ≡ 0 → SparesHeld held slot outcome
+unheld held slot Freed none = none
+unheld held slot Retired none = none
+unheld held slot (Held pins) none = tt
+
+pub spares_none : (held : List Id) (slot : ℕ) (reply : Reply) → tally (sits slot) held ≡ 0 → IfReaped reply (SparesHeld held slot)
+spares_none held slot (Reaped named outcome) none = unheld held slot outcome none
+spares_none held slot (Spawned process thread) none = tt
+spares_none held slot (Started thread) none = tt
+spares_none held slot (Made handle made) none = tt
+spares_none held slot (Exists handle there) none = tt
+spares_none held slot (Opened handle there) none = tt
+spares_none held slot (Duplicated handle there) none = tt
+spares_none held slot Closed none = tt
+spares_none held slot Done none = tt
+spares_none held slot (Previous count) none = tt
+spares_none held slot (Code code) none = tt
+spares_none held slot (Pending number) none = tt
+spares_none held slot (Expired number) none = tt
+spares_none held slot (Ended thread) none = tt
+spares_none held slot (Exited process) none = tt
+spares_none held slot (CountsAre handles waits hold) none = tt
+spares_none held slot (Refused fault) none = tt

@@ -1,0 +1,79 @@
+-- What one thread is answered that has a manager and a reader of the same pins, over the manager's state and the copies that the
+-- reader holds.
+use Rattle.std.specs.Prelude.{◌≡◌, ◌⊎◌, ℕ, ◌<◌, ◌≤◌, nat_lt, Bool, false, if◌then◌else◌, List, [], ◌∷◌, ◌++◌, length, Option, Some, None, Result, Ok, Err, slice_index_or}
+use Rattle.pin_core.specs.declared.id.Id.{Id}
+use Rattle.pin_core.specs.declared.descr.Descr.{Descr}
+use Rattle.pin_core.specs.declared.word.Word.{Word}
+use Rattle.pin_core.specs.declared.word.Phase.{Phase}
+use Rattle.pin_core.specs.Holds.{tally, drop_first, same_id}
+use Rattle.pin_words.specs.declared.fault.Verdict.{Verdict}
+use Rattle.pin_words.specs.declared.fault.Verdict.TheVariants.{Unborn, Stale, PinsFull, Go}
+use Rattle.pin_words.specs.declared.fault.PinFault.{PinFault}
+use Rattle.pin_words.specs.declared.fault.PinFault.TheVariants as fault
+use Rattle.pin_words.specs.declared.pin_keeper.Reclaim.{Reclaim}
+use Rattle.pin_words.specs.declared.pin_keeper.Reclaim.TheVariants.{Freed, Retired, Held}
+use Rattle.pin_words.specs.Verdicts.{verdict_of}
+use Rattle.pin_words.specs.Views.{sits}
+use Rattle.ob_body.specs.declared.body.Body.{Body}
+use Rattle.ob_store.specs.Objects.{Object}
+use Rattle.ob_store.specs.Agreement.{phase_of, vacant_phase}
+use Rattle.ob_store.specs.State.{State}
+use Rattle.ob_manager.specs.declared.card.Card.{Card}
+use Rattle.ob_manager.specs.Counting.{card}
+
+abbrev pub is_held : Id → List Id → Bool
+is_held id held = nat_lt 0 (tally (same_id id) held)
+
+-- the phase of a slot: live while its object has a body and closing once it ended; without an object free, or retired for good
+abbrev pub phase_in : Option Object → Option Body → Bool → Phase
+phase_in (Some object) body retired = phase_of body
+phase_in None body retired = vacant_phase retired
+
+abbrev pub phase_at : State → ℕ → Phase
+phase_at s slot = phase_in (slice_index_or s.objects slot None) (slice_index_or s.bodies slot None) (slice_index_or s.retired slot false)
+
+-- a word that the slot may have: its generation, its phase, and among its pins the copies that the reader holds there
+pub record IsWord (s : State) (held : List Id) (slot : ℕ) (w : Word) : Type 0 where
+  pub generation : w.generation ≡ slice_index_or s.generations slot 1
+  pub phase : w.phase ≡ phase_at s slot
+  pub pins : tally (sits slot) held ≤ w.pins
+
+-- one copy more is held, and the answer is the object's descriptor
+pub record IsPinned (s : State) (held : List Id) (id : Id) (res : Result Descr PinFault) (held' : List Id) : Type 0 where
+  pub made : Card
+  pub there : card s id ≡ Some made
+  pub told : res ≡ Ok made.descr
+  pub more : held' ≡ held ++ id ∷ []
+
+-- another word was found by the exchange
+pub record IsBusy (held : List Id) (res : Result Descr PinFault) (held' : List Id) : Type 0 where
+  pub seen : Word
+  pub told : res ≡ Err (fault.Busy seen)
+  pub same : held' ≡ held
+
+-- the answer by what a word says of the Id
+abbrev pub Judged : Verdict → State → List Id → Id → Result Descr PinFault → List Id → Type 0
+Judged Unborn s held id res held' = (res ≡ Err fault.Unborn) × (held' ≡ held)
+Judged Stale s held id res held' = (res ≡ Err fault.Stale) × (held' ≡ held)
+Judged PinsFull s held id res held' = (res ≡ Err fault.PinsFull) × (held' ≡ held)
+Judged Go s held id res held' = IsPinned s held id res held' ⊎ IsBusy held res held'
+
+-- a pin: two refusals are exact, and else it is judged by some word that the slot may have
+pub record Pins (s : State) (held : List Id) (id : Id) (res : Result Descr PinFault) (held' : List Id) : Type 0 where
+  pub no_slot : s.limits.slots ≤ id.slot → (res ≡ Err fault.NoSuchSlot) × (held' ≡ held)
+  pub full : id.slot < s.limits.slots → 16 ≤ length held → (res ≡ Err fault.HeldFull) × (held' ≡ held)
+  pub tried : id.slot < s.limits.slots → length held < 16 → (w : Word) × IsWord s held id.slot w × Judged (verdict_of s.limits.max_pins id w) s held id res held'
+
+-- an unpin: whether the Id is held, and then one copy less
+abbrev pub Unpins : List Id → Id → Bool → List Id → Type 0
+Unpins held id done held' = (done ≡ is_held id held) × (held' ≡ (if is_held id held then drop_first (same_id id) held else held))
+
+-- the card of an Id that is held
+abbrev pub shown_of : State → List Id → Id → Option Card
+shown_of s held id = if is_held id held then card s id else None
+
+-- a slot where a copy is held is not taken back
+abbrev pub SparesHeld : List Id → ℕ → Reclaim → Type 0
+SparesHeld held slot Freed = tally (sits slot) held ≡ 0
+SparesHeld held slot Retired = tally (sits slot) held ≡ 0
+SparesHeld held slot (Held pins) = Unit {0}

@@ -1,0 +1,49 @@
+ghost use Rattle.std.specs.Prelude.{◌≡◌, ◌<◌, IfNone, IfSome, Some, position};
+ghost use Rattle.pin_core.specs.Holds.{tally, same_id};
+ghost use Rattle.pin_words.specs.Keepers.{ReclaimsFound};
+ghost use Rattle.pin_words.specs.Views.{sits};
+ghost use Rattle.ob_manager.specs.Reaping.{IfReaped};
+ghost use Rattle.ob_manager.specs.Steps.{Step};
+ghost use Rattle.ob_manager.specs.declared.call.Call.TheVariants as Call;
+ghost use Rattle.ob_reader.specs.Pinning.{SparesHeld};
+
+use ob_manager::{Manager, Reply};
+use pin_core::Id;
+use pin_words::{Keeper, Reader};
+
+/// [`Manager::reap`], and a meeting where the reader holds something at the slot: that slot isn't taken back.
+#[tactic(auto, using(crate::proofs::StepLaws::step_table, crate::proofs::Sparing::spares_none))]
+pub fn reap<'a>(manager: &mut Manager<Keeper<'a>>, reader: &mut Reader<'a>, slot: u32) -> Reply
+    requires { manager.old.keeper.table ≡ Some reader.old.table }
+    ensures step { Step manager.old (Call.Reap slot) result manager.new }
+    ensures spares { IfReaped result (SparesHeld reader.old.view.held slot) }
+    ensures exact { IfReaped result (λ outcome. ReclaimsFound manager.old.keeper slot outcome manager.new.keeper) }
+    ensures held { reader.new.view.held ≡ reader.old.view.held }
+    ensures same { manager.new.keeper.table ≡ Some reader.new.table }
+    ensures table { reader.new.table ≡ reader.old.table }
+{
+    let reply = manager.reap(slot);
+    if let Some(id) = held_at(reader.held(), slot) {
+        let slot = reader.slot_of_held(id);
+        manager.same_shape(reader);
+        manager.kept();
+        manager.meet(reader, slot);
+    }
+    reply
+}
+
+/// An Id of this slot of which there is a copy.
+#[tactic(auto, using(crate::proofs::Sparing::there, crate::proofs::Sparing::nowhere))]
+fn held_at(held: &[Id], slot: u32) -> Option<Id>
+    ensures there { IfSome result (λ id. (id.slot ≡ slot) × (0 < tally (same_id id) held.now)) }
+    ensures none { IfNone result (tally (sits slot) held.now ≡ 0) }
+{
+    let place = place_at(held, slot)?;
+    Some(held[place])
+}
+
+fn place_at(held: &[Id], slot: u32) -> Option<usize>
+    ensures { result ≡ position (sits slot) held.now }
+{
+    held.iter().position(|id| id.slot == slot)
+}
