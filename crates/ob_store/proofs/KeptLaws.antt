@@ -20,7 +20,7 @@ use Rattle.ob_waits.specs.Waits.{WaitList, Scene, slot_blocks}
 use Rattle.ob_waits.proofs.Ends.{same_set, ends_taken}
 use Rattle.ob_body.specs.Body.{is_signaled}
 use Rattle.ob_waits.proofs.Apart.{ready_at_change}
-use Rattle.ob_waits.proofs.Settled.{settled_less}
+use Rattle.ob_waits.proofs.Settled.{settled_less, settled_unnamed}
 use Rattle.ob_waits.proofs.Settling.{settled_same}
 use Rattle.ob_store.specs.declared.limits.Limits.{Limits}
 use Rattle.ob_store.specs.Lives as lives
@@ -30,7 +30,8 @@ use Rattle.ob_store.specs.Agreement.{IsTied}
 use Rattle.ob_store.specs.State as state
 use Rattle.ob_store.specs.State.{State, state_of, whole_of, objects_of, scene_of, with_scene, settled, by_slot, generation_of}
 use Rattle.ob_store.specs.Kept.{IsKept, IsCounted, AreFormed, IsListing, LivesKept, IsNamed, IsQuiet, IsLive, Yields}
-use Rattle.ob_store.proofs.CountedLaws.{handles_at, handles_few, counted_placed, counted_process, counted_settled}
+use Rattle.ob_store.proofs.AgreeLaws.{body_within}
+use Rattle.ob_store.proofs.CountedLaws.{blocks_at, handles_at, handles_few, counted_placed, counted_process, counted_settled}
 use Rattle.ob_store.proofs.NamedLaws.{there_within, named_placed, named_process, named_settled}
 use Rattle.ob_store.proofs.BodyLaws.{of_live_more, formed_put, of_live_put, room_put, less_put, formed_settled, of_live_settled}
 use Rattle.ob_store.proofs.ListingLaws.{listing_process, listing_placed}
@@ -244,5 +245,18 @@ module _ (limits : Limits) (l : LivesState) (ts : HandleTables) (o p q : Objects
     settled = subst (λ (x : Objects). IsSettled x.bodies ws.waits) (sym put) (settled_less o.seen.bodies (set o.seen.bodies id.slot (Some new)) ws.waits (less_put o.seen.bodies id.slot old new there yields less) kept.quiet.settled);
   }
 
-  pub less_value : ((t : ℕ) → is_signaled t new ≡ true → is_signaled t old ≡ true) → ◌≡◌ {A = Scene} (record { objects = p.seen; waits = ws.waits }) (waits.settled (record { objects = p.seen; waits = ws.waits }))
-  less_value less = sym (settled_same (record { objects = p.seen; waits = ws.waits }) (quiet_less less).settled)
+  -- no pending wait is for it: so nothing settles
+  pub quiet_unnamed : get_or o.seen.blocks id.slot 0 ≡ 0 → IsQuiet limits.max_recursion p.seen.bodies ws.waits
+  quiet_unnamed none = record {
+    room = room;
+    settled = subst (λ (x : Objects). IsSettled x.bodies ws.waits) (sym put) (settled_unnamed o.seen.bodies ws.waits id.slot (Some new) unnamed kept.quiet.settled);
+  }
+    where
+      within : id.slot < length o.objects
+      within = let lt = body_within o id.slot (ap is_some there) tied.agreed in let long = tied.agreed.long in omega (arith, lt, long)
+
+      unnamed : slot_blocks id.slot ws.waits ≡ 0
+      unnamed = sym (blocks_at o.seen (length o.objects) ts.tables ws.waits kept.counted id.slot within) ∙ none
+
+  pub quiet_value : IsQuiet limits.max_recursion p.seen.bodies ws.waits → ◌≡◌ {A = Scene} (record { objects = p.seen; waits = ws.waits }) (waits.settled (record { objects = p.seen; waits = ws.waits }))
+  quiet_value quiet = sym (settled_same (record { objects = p.seen; waits = ws.waits }) quiet.settled)

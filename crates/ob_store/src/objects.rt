@@ -101,6 +101,14 @@ impl<K: PinKeeper> Objects<K> {
         self.seats.look(slot)
     }
 
+    /// How many places of pending waits name the object of a slot, which has a body.
+    pub fn blocks(&self, slot: u32) -> u64
+        requires { IsSome (slice_index_or self.now.seen.bodies slot None) }
+        ensures { result ≡ slice_index_or self.now.seen.blocks slot 0 }
+    {
+        self.seats.blocks(slot)
+    }
+
     /// The Id of a slot at its present generation.
     pub fn id_at(&self, slot: u32) -> Id
         requires { slot < self.now.keeper.shape.slots }

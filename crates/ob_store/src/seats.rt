@@ -103,6 +103,14 @@ impl Seats {
         Some(self.arena.get(slot))
     }
 
+    /// How many places of pending waits name the object in a slot.
+    pub(crate) fn blocks(&self, slot: u32) -> u64
+        requires { IsSome (slice_index_or self.now.objects slot None) }
+        ensures { result ≡ slice_index_or self.now.seen.blocks slot 0 }
+    {
+        self.arena.get(slot).blocks
+    }
+
     /// Puts an object with one handle into the vacant slot of its Id.
     #[inline]
     pub(crate) fn add(

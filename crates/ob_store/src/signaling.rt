@@ -20,9 +20,14 @@ impl<K: PinKeeper> Store<K> {
         ensures state { self.new.state ≡ settled (with_body self.old.state id new) }
         ensures keeper { OnlyCloses self.old.keeper self.new.keeper }
     {
-        // What it says is wanted here.
+        // What it says is wanted here, before and after.
         self.objects.kept();
+        let blocks = self.objects.blocks(id.slot);
         self.objects.put(id, new);
+        if blocks == 0 {
+            self.objects.kept();
+            return;
+        }
         self.waits.settle_after(&mut self.objects, id);
     }
 

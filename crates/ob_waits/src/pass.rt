@@ -7,7 +7,7 @@ ghost use Rattle.ob_waits.specs.Waits.{passed, settled};
 use crate::bodies::Bodies;
 use crate::live::Live;
 use crate::roster::Roster;
-use crate::take::{is_list_ready, take};
+use crate::take::try_now;
 use crate::wait::State;
 use ob_body::RECURSION_MAX;
 use pin_core::Id;
@@ -35,10 +35,9 @@ fn take_effect<B: Bodies>(live: &mut Live, bodies: &mut B, number: u32)
     let State::Pending(mode, ids) = &wait.state else {
         return;
     };
-    if !is_list_ready(bodies, wait.thread, *mode, ids.as_slice()) {
+    let Some(code) = try_now(bodies, wait.thread, *mode, ids.as_slice()) else {
         return;
-    }
-    let code = take(bodies, wait.thread, *mode, ids.as_slice());
+    };
     leave_all(bodies, ids.as_slice());
     live.answer(number, code);
 }

@@ -44,16 +44,6 @@ fn are_all_signaled<B: Bodies>(bodies: &B, thread: u32, ids: &[Id]) -> bool
     true
 }
 
-/// Whether a thread's wait for these objects is satisfied now.
-pub(crate) fn is_list_ready<B: Bodies>(bodies: &B, thread: u32, mode: Mode, ids: &[Id]) -> bool
-    ensures { result ≡ list_ready mode thread (B.objects bodies.now).bodies ids.now }
-{
-    match mode {
-        Mode::Any => first_signaled(bodies, thread, ids) < ids.len(),
-        Mode::All => are_all_signaled(bodies, thread, ids),
-    }
-}
-
 /// A thread acquires one object; whether that was an abandoned mutex.
 fn take_one<B: Bodies>(bodies: &mut B, thread: u32, id: Id) -> bool
     requires signaled { is_signaled thread (B.objects bodies.old).bodies id ≡ true }
@@ -88,30 +78,41 @@ fn take_all<B: Bodies>(bodies: &mut B, thread: u32, ids: &[Id]) -> bool
     was_abandoned
 }
 
-/// What a list that is ready takes, and its code.
-pub(crate) fn take<B: Bodies>(bodies: &mut B, thread: u32, mode: Mode, ids: &[Id]) -> u32
-    requires ready { list_ready mode thread (B.objects bodies.old).bodies ids.now ≡ true }
+/// Takes the first object that is signaled, if there is one, and gives the code.
+fn take_any<B: Bodies>(bodies: &mut B, thread: u32, ids: &[Id]) -> Option<u32>
+    requires few { length ids.now ≤ 64 }
     requires room { HasRoom RECURSION_MAX thread (B.objects bodies.old).bodies ids.now }
-    requires waitable { IsWaitable mode ids.now }
-    ensures code { result ≡ code_of mode thread (B.objects bodies.old).bodies ids.now }
-    ensures objects { B.objects bodies.new ≡ record (B.objects bodies.old) { bodies = bodies_after mode thread (B.objects bodies.old).bodies ids.now } }
+    ensures code { result ≡ code_now Mode.Any thread (B.objects bodies.old).bodies ids.now }
+    ensures objects { B.objects bodies.new ≡ objects_now Mode.Any thread (B.objects bodies.old) ids.now }
     ensures rest { B.rest bodies.new ≡ B.rest bodies.old }
+    ensures unready { IfNone result (bodies.new ≡ bodies.old) }
 {
-    match mode {
-        Mode::Any => {
-            let index = first_signaled(bodies, thread, ids);
-            if take_one(bodies, thread, ids[index]) {
-                return index as u32 + WAIT_ABANDONED_0;
-            }
-            index as u32
-        }
-        Mode::All => {
-            if take_all(bodies, thread, ids) {
-                return WAIT_ABANDONED_0;
-            }
-            0
-        }
+    let index = first_signaled(bodies, thread, ids);
+    if index >= ids.len() {
+        return None;
     }
+    if take_one(bodies, thread, ids[index]) {
+        return Some(index as u32 + WAIT_ABANDONED_0);
+    }
+    Some(index as u32)
+}
+
+/// Takes all objects together, if each is signaled, and gives the code.
+fn take_each<B: Bodies>(bodies: &mut B, thread: u32, ids: &[Id]) -> Option<u32>
+    requires room { HasRoom RECURSION_MAX thread (B.objects bodies.old).bodies ids.now }
+    requires once { IsDistinct ids.now }
+    ensures code { result ≡ code_now Mode.All thread (B.objects bodies.old).bodies ids.now }
+    ensures objects { B.objects bodies.new ≡ objects_now Mode.All thread (B.objects bodies.old) ids.now }
+    ensures rest { B.rest bodies.new ≡ B.rest bodies.old }
+    ensures unready { IfNone result (bodies.new ≡ bodies.old) }
+{
+    if !are_all_signaled(bodies, thread, ids) {
+        return None;
+    }
+    if take_all(bodies, thread, ids) {
+        return Some(WAIT_ABANDONED_0);
+    }
+    Some(0)
 }
 
 /// Takes what a wait of the thread for these objects is satisfied by, where it is satisfied now, and
@@ -128,8 +129,8 @@ pub fn try_now<B: Bodies>(bodies: &mut B, thread: u32, mode: Mode, ids: &[Id]) -
     ensures rest { B.rest bodies.new ≡ B.rest bodies.old }
     ensures unready { IfNone result (bodies.new ≡ bodies.old) }
 {
-    if !is_list_ready(bodies, thread, mode, ids) {
-        return None;
+    match mode {
+        Mode::Any => take_any(bodies, thread, ids),
+        Mode::All => take_each(bodies, thread, ids),
     }
-    Some(take(bodies, thread, mode, ids))
 }

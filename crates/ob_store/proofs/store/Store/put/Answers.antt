@@ -1,7 +1,8 @@
-use Rattle.std.proofs.Common.{◌≡◌, ◌∙◌, ap, sym, subst, get_or, Some, None}
+use Rattle.std.proofs.Common.{◌≡◌, ◌∙◌, ap, sym, subst, refl, get_or, Some, None, arith}
+use Rattle.std.proofs.lemmas.Bool.Decides.{nat_tests}
 use Rattle.ob_waits.proofs.Room.{rooms_at_more}
 use Rattle.ob_store.specs.State.{Whole, settled, with_body}
-use Rattle.ob_store.proofs.KeptLaws.{kept_put, put_state, ready, room}
+use Rattle.ob_store.proofs.KeptLaws.{kept_put, put_state, quiet_unnamed, quiet_value, ready, room}
 use Rattle.ob_store.proofs.store.Store.put.Goals as goal
 
 pub settle_after-requires-clause-room : goal.settle_after-requires-clause-room
@@ -17,8 +18,8 @@ settle_after-requires-clause-ready g c =
     let there : get_or s.objects.seen.bodies c.args.id.slot None ≡ Some c.args.old = subst (λ (w : Whole). get_or w.state.bodies c.args.id.slot None ≡ Some c.args.old) (sym c.self.view_is) c.requires.there in
     ready s.limits s.lives s.tables s.objects c.put.new.self c.put.new.self s.waits s.waits s.names.rows c.args.id c.args.old c.args.new c.self.invariant c.kept.ensures there c.requires.yields c.put.ensures.objects c.put.ensures.rest
 
-pub invariant_of-self : goal.invariant_of-self
-invariant_of-self g c =
+pub invariant_of-self-2 : goal.invariant_of-self-2
+invariant_of-self-2 g c =
     let s = c.self.inside in
     let there : get_or s.objects.seen.bodies c.args.id.slot None ≡ Some c.args.old = subst (λ (w : Whole). get_or w.state.bodies c.args.id.slot None ≡ Some c.args.old) (sym c.self.view_is) c.requires.there in
     let before = room s.limits s.lives s.tables s.objects c.put.new.self c.settle_after.new.bodies s.waits c.settle_after.new.self s.names.rows c.args.id c.args.old c.args.new c.self.invariant c.kept.ensures there c.requires.yields c.put.ensures.objects c.put.ensures.rest in
@@ -32,4 +33,23 @@ returns-clause-state g c =
     let before = room s.limits s.lives s.tables s.objects c.put.new.self c.settle_after.new.bodies s.waits c.settle_after.new.self s.names.rows c.args.id c.args.old c.args.new c.self.invariant c.kept.ensures there c.requires.yields c.put.ensures.objects c.put.ensures.rest in
     put_state s.limits s.lives s.tables s.objects c.put.new.self c.settle_after.new.bodies s.waits c.settle_after.new.self s.names.rows c.args.id c.args.old c.args.new c.self.invariant c.kept.ensures there c.requires.yields c.put.ensures.objects c.put.ensures.rest
     c.settle_after.ensures.value c.settle_after.ensures.limit c.settle_after.ensures.rest (record { room = c.settle_after.ensures.room s.limits.max_recursion before; settled = c.settle_after.ensures.settled })
+    ∙ ap (λ (w : Whole). settled (with_body w.state c.args.id c.args.new)) c.self.view_is
+
+pub invariant_of-self : goal.invariant_of-self
+invariant_of-self g c =
+    let s = c.self.inside in
+    let there : get_or s.objects.seen.bodies c.args.id.slot None ≡ Some c.args.old = subst (λ (w : Whole). get_or w.state.bodies c.args.id.slot None ≡ Some c.args.old) (sym c.self.view_is) c.requires.there in
+    let none : get_or s.objects.seen.blocks c.args.id.slot 0 ≡ 0 = sym c.blocks-blocks.ensures ∙ grind (arith, nat_tests, c.if-blocks-eq0.true) in
+    let quiet = quiet_unnamed s.limits s.lives s.tables s.objects c.put.new.self c.put.new.self s.waits s.waits s.names.rows c.args.id c.args.old c.args.new c.self.invariant c.kept.ensures there c.requires.yields c.put.ensures.objects c.put.ensures.rest none in
+    kept_put s.limits s.lives s.tables s.objects c.put.new.self c.put.new.self s.waits s.waits s.names.rows c.args.id c.args.old c.args.new c.self.invariant c.kept.ensures there c.requires.yields c.put.ensures.objects c.put.ensures.rest
+    (quiet_value s.limits s.lives s.tables s.objects c.put.new.self c.put.new.self s.waits s.waits s.names.rows c.args.id c.args.old c.args.new c.self.invariant c.kept.ensures there c.requires.yields c.put.ensures.objects c.put.ensures.rest quiet) refl refl quiet
+
+pub returns-then-blocks-eq0-clause-state : goal.returns-then-blocks-eq0-clause-state
+returns-then-blocks-eq0-clause-state g c =
+    let s = c.self.inside in
+    let there : get_or s.objects.seen.bodies c.args.id.slot None ≡ Some c.args.old = subst (λ (w : Whole). get_or w.state.bodies c.args.id.slot None ≡ Some c.args.old) (sym c.self.view_is) c.requires.there in
+    let none : get_or s.objects.seen.blocks c.args.id.slot 0 ≡ 0 = sym c.blocks-blocks.ensures ∙ grind (arith, nat_tests, c.if-blocks-eq0.true) in
+    let quiet = quiet_unnamed s.limits s.lives s.tables s.objects c.put.new.self c.put.new.self s.waits s.waits s.names.rows c.args.id c.args.old c.args.new c.self.invariant c.kept.ensures there c.requires.yields c.put.ensures.objects c.put.ensures.rest none in
+    put_state s.limits s.lives s.tables s.objects c.put.new.self c.put.new.self s.waits s.waits s.names.rows c.args.id c.args.old c.args.new c.self.invariant c.kept.ensures there c.requires.yields c.put.ensures.objects c.put.ensures.rest
+    (quiet_value s.limits s.lives s.tables s.objects c.put.new.self c.put.new.self s.waits s.waits s.names.rows c.args.id c.args.old c.args.new c.self.invariant c.kept.ensures there c.requires.yields c.put.ensures.objects c.put.ensures.rest quiet) refl refl quiet
     ∙ ap (λ (w : Whole). settled (with_body w.state c.args.id c.args.new)) c.self.view_is
