@@ -13,7 +13,6 @@ mod cases;
 mod live;
 mod rounds;
 
-use anyhow::Result;
 use cases::{
     Case, ChildAndExit, Home, OwnerAndEnd, ThreadAndEnd, WaitAndSet, WaitForAll, WaitForAny,
     rounds_at,
@@ -24,8 +23,8 @@ use rounds::{
     rounds,
 };
 use std::alloc::Global;
-use std::env;
 use std::time::{Clock, Instant};
+use std::{env, io};
 
 /// How many events come and go in a batch.
 const BATCH: u32 = 256;
@@ -64,13 +63,13 @@ struct Scene {
     texts: Vec<Text>,
 }
 
-fn prepared(alloc: Global, count: u32) -> Result<Scene> {
-    let mut manager = locked(alloc)?;
-    let events = live_events(alloc, &mut manager, count)?;
-    Ok(Scene {
+fn prepared(alloc: Global, count: u32) -> Option<Scene> {
+    let mut manager = locked(alloc).ok()?;
+    let events = live_events(alloc, &mut manager, count).ok()?;
+    Some(Scene {
         manager,
         events,
-        texts: texts(alloc, count, BATCH)?,
+        texts: texts(alloc, count, BATCH).ok()?,
     })
 }
 
@@ -82,13 +81,14 @@ fn report(
     rounds: u32,
     nanos: u128,
     sum: u64,
-) -> Result<()> {
+) -> Option<()> {
     if plan.is_timed && sum > 0 {
-        rt.print(format_args!("{case}, {count}: {rounds} in {nanos}\n"))?;
-        return Ok(());
+        rt.print(format_args!("{case}, {count}: {rounds} in {nanos}\n"))
+            .ok()?;
+        return Some(());
     }
-    rt.print(format_args!("{case}, {count}: sum {sum}\n"))?;
-    Ok(())
+    rt.print(format_args!("{case}, {count}: sum {sum}\n")).ok()?;
+    Some(())
 }
 
 fn measure<R: Round>(
@@ -96,10 +96,10 @@ fn measure<R: Round>(
     plan: Plan,
     case: &str,
     scene: &mut Scene,
-) -> Result<()> {
-    let started = Instant::now(rt)?;
-    let sum = rounds::<R>(&mut scene.manager, &scene.events, plan.rounds)?;
-    let nanos = started.elapsed(rt)?.as_nanos();
+) -> Option<()> {
+    let started = Instant::now(rt).ok()?;
+    let sum = rounds::<R>(&mut scene.manager, &scene.events, plan.rounds).ok()?;
+    let nanos = started.elapsed(rt).ok()?.as_nanos();
     report(rt, plan, case, scene.events.len(), plan.rounds, nanos, sum)
 }
 
@@ -117,15 +117,15 @@ fn batch(
     thread: u32,
     is_named: bool,
     slots: &mut Vec<u32>,
-) -> Result<Taken> {
+) -> Option<Taken> {
     slots.clear();
-    let started = Instant::now(rt)?;
-    make(&mut scene.manager, thread, &scene.texts, is_named, slots)?;
-    let made = started.elapsed(rt)?.as_nanos();
-    let started = Instant::now(rt)?;
-    let sum = reap(&mut scene.manager, slots)?;
-    let reaped = started.elapsed(rt)?.as_nanos();
-    Ok(Taken { made, reaped, sum })
+    let started = Instant::now(rt).ok()?;
+    make(&mut scene.manager, thread, &scene.texts, is_named, slots).ok()?;
+    let made = started.elapsed(rt).ok()?.as_nanos();
+    let started = Instant::now(rt).ok()?;
+    let sum = reap(&mut scene.manager, slots).ok()?;
+    let reaped = started.elapsed(rt).ok()?.as_nanos();
+    Some(Taken { made, reaped, sum })
 }
 
 fn batches(
@@ -134,7 +134,7 @@ fn batches(
     plan: Plan,
     scene: &mut Scene,
     is_named: bool,
-) -> Result<Taken> {
+) -> Option<Taken> {
     let mut slots = Vec::new(alloc);
     let mut all = Taken {
         made: 0,
@@ -148,7 +148,7 @@ fn batches(
         all.reaped = all.reaped.saturating_add(taken.reaped);
         all.sum = all.sum.wrapping_add(taken.sum);
     }
-    Ok(all)
+    Some(all)
 }
 
 fn come_and_go(
@@ -159,7 +159,7 @@ fn come_and_go(
     reaped: &str,
     scene: &mut Scene,
     is_named: bool,
-) -> Result<()> {
+) -> Option<()> {
     let taken = batches(rt, alloc, plan, scene, is_named)?;
     let rounds = plan.batches.saturating_mul(BATCH);
     let count = scene.events.len();
@@ -167,12 +167,12 @@ fn come_and_go(
     report(rt, plan, reaped, count, rounds, taken.reaped, taken.sum)
 }
 
-fn run(rt: &(impl Print + Clock), alloc: Global, plan: Plan, count: u32) -> Result<()> {
+fn run(rt: &(impl Print + Clock), alloc: Global, plan: Plan, count: u32) -> Option<()> {
     let mut scene = prepared(alloc, count)?;
     run_in(rt, alloc, plan, &mut scene)
 }
 
-fn run_in(rt: &(impl Print + Clock), alloc: Global, plan: Plan, scene: &mut Scene) -> Result<()> {
+fn run_in(rt: &(impl Print + Clock), alloc: Global, plan: Plan, scene: &mut Scene) -> Option<()> {
     come_and_go(
         rt,
         alloc,
@@ -206,15 +206,15 @@ struct Spent {
     sum: u64,
 }
 
-fn timed<C: Case>(rt: &impl Clock, home: &mut Home, rounds: u32) -> Result<Spent> {
-    let started = Instant::now(rt)?;
-    let sum = rounds_at::<C>(home, rounds)?;
-    let nanos = started.elapsed(rt)?.as_nanos();
-    Ok(Spent { nanos, sum })
+fn timed<C: Case>(rt: &impl Clock, home: &mut Home, rounds: u32) -> Option<Spent> {
+    let started = Instant::now(rt).ok()?;
+    let sum = rounds_at::<C>(home, rounds).ok()?;
+    let nanos = started.elapsed(rt).ok()?.as_nanos();
+    Some(Spent { nanos, sum })
 }
 
-fn timed_anew<C: Case>(rt: &impl Clock, alloc: Global, count: u32, rounds: u32) -> Result<Spent> {
-    let mut home = C::home(alloc, count)?;
+fn timed_anew<C: Case>(rt: &impl Clock, alloc: Global, count: u32, rounds: u32) -> Option<Spent> {
+    let mut home = C::home(alloc, count).ok()?;
     timed::<C>(rt, &mut home, rounds)
 }
 
@@ -225,14 +225,14 @@ fn repeated<C: Case>(
     count: u32,
     managers: u32,
     rounds: u32,
-) -> Result<Spent> {
+) -> Option<Spent> {
     let mut all = Spent { nanos: 0, sum: 0 };
     for _ in 0..managers {
         let spent = timed_anew::<C>(rt, alloc, count, rounds)?;
         all.nanos = all.nanos.saturating_add(spent.nanos);
         all.sum = all.sum.wrapping_add(spent.sum);
     }
-    Ok(all)
+    Some(all)
 }
 
 fn measure_wait<C: Case>(
@@ -241,7 +241,7 @@ fn measure_wait<C: Case>(
     plan: Plan,
     case: &str,
     count: u32,
-) -> Result<()> {
+) -> Option<()> {
     let spent = repeated::<C>(rt, alloc, count, 1, plan.rounds)?;
     report(
         rt,
@@ -260,7 +260,7 @@ fn measure_life<C: Case>(
     plan: Plan,
     case: &str,
     count: u32,
-) -> Result<()> {
+) -> Option<()> {
     let spent = repeated::<C>(rt, alloc, count, plan.managers, plan.lives)?;
     let rounds = plan.managers.saturating_mul(plan.lives);
     report(
@@ -274,7 +274,7 @@ fn measure_life<C: Case>(
     )
 }
 
-fn run_waits(rt: &(impl Print + Clock), alloc: Global, plan: Plan, beside: u32) -> Result<()> {
+fn run_waits(rt: &(impl Print + Clock), alloc: Global, plan: Plan, beside: u32) -> Option<()> {
     measure_wait::<WaitForAny>(rt, alloc, plan, "wait for any", 64)?;
     measure_wait::<WaitForAll>(rt, alloc, plan, "wait for all", 64)?;
     measure_wait::<WaitAndSet>(rt, alloc, plan, "wait, set and result, waits beside", 0)?;
@@ -287,16 +287,16 @@ fn run_waits(rt: &(impl Print + Clock), alloc: Global, plan: Plan, beside: u32) 
     )
 }
 
-fn run_children(rt: &(impl Print + Clock), alloc: Global, plan: Plan, handles: u32) -> Result<()> {
+fn run_children(rt: &(impl Print + Clock), alloc: Global, plan: Plan, handles: u32) -> Option<()> {
     measure_life::<ChildAndExit>(rt, alloc, plan, "child and exit, handles", handles)
 }
 
-fn run_threads(rt: &(impl Print + Clock), alloc: Global, plan: Plan, count: u32) -> Result<()> {
+fn run_threads(rt: &(impl Print + Clock), alloc: Global, plan: Plan, count: u32) -> Option<()> {
     measure_life::<ThreadAndEnd>(rt, alloc, plan, "thread and end", count)?;
     measure_life::<OwnerAndEnd>(rt, alloc, plan, "thread, mutex and end", count)
 }
 
-fn run_all(rt: &(impl Print + Clock), alloc: Global) -> Result<()> {
+fn run_all(rt: &(impl Print + Clock), alloc: Global) -> Option<()> {
     for count in [16, 1000, 60000] {
         run(rt, alloc, MEASURED, count)?;
     }
@@ -307,15 +307,21 @@ fn run_all(rt: &(impl Print + Clock), alloc: Global) -> Result<()> {
     for count in [16, 60000] {
         run_threads(rt, alloc, MEASURED, count)?;
     }
-    Ok(())
+    Some(())
 }
 
-fn main(rt: HostRuntime) -> Result<()> {
-    if env::args(&rt)?.count() > 1 {
-        return run_all(&rt, rt.alloc());
-    }
-    run(&rt, rt.alloc(), SHOWN, 16)?;
-    run_waits(&rt, rt.alloc(), SHOWN, 16)?;
-    run_children(&rt, rt.alloc(), SHOWN, 16)?;
-    run_threads(&rt, rt.alloc(), SHOWN, 16)
+fn show_all(rt: &(impl Print + Clock), alloc: Global) -> Option<()> {
+    run(rt, alloc, SHOWN, 16)?;
+    run_waits(rt, alloc, SHOWN, 16)?;
+    run_children(rt, alloc, SHOWN, 16)?;
+    run_threads(rt, alloc, SHOWN, 16)
+}
+
+fn main(rt: HostRuntime) -> io::Result<()> {
+    let done = if env::args(&rt)?.count() > 1 {
+        run_all(&rt, rt.alloc())
+    } else {
+        show_all(&rt, rt.alloc())
+    };
+    done.ok_or(io::Error::from(io::ErrorKind::Other))
 }
