@@ -153,3 +153,54 @@ fn lines_are_bad_or_nothing_by_their_length(rt: HostRuntime) -> Result<(), Fail>
     assert_eq!(rt; out.as_slice(), expected.as_slice());
     Ok(())
 }
+
+#[test]
+fn a_pin_that_nothing_races_is_never_busy(rt: HostRuntime) -> Result<(), Fail> {
+    let mut text = Vec::new(rt.alloc());
+    let mut due = Vec::new(rt.alloc());
+    text.extend_from_slice(b"spawn 1\nsemaphore t1 0 5 grant 0x2\n")?;
+    due.extend_from_slice(b"p1 t1\nh4 new s0.1\n")?;
+    for _ in 0..20 {
+        text.extend_from_slice(b"pin s0.1\ncard s0.1\nunpin s0.1\n")?;
+        due.extend_from_slice(
+            b"pinned s0.1 semaphore 5\ncard s0.1 semaphore 5 grant 0x2\nunpinned s0.1\n",
+        )?;
+    }
+    let mut out = Vec::new(rt.alloc());
+    let mut source = Wired::new(text.as_slice());
+    let ended = run(
+        rt.alloc(),
+        Limits::default(),
+        &mut source,
+        &mut Wired::new(&mut out),
+    );
+    assert_eq!(rt; ended, Ok(()));
+    assert_eq!(rt; out.as_slice(), due.as_slice());
+    Ok(())
+}
+
+#[test]
+fn pins_are_printed_by_kind(rt: HostRuntime) -> Result<(), Fail> {
+    let mut text = Vec::new(rt.alloc());
+    text.extend_from_slice(b"spawn 1\nmutex t1 free\nevent t1 manual set grant 0x0\n")?;
+    text.extend_from_slice(b"pin s00.001\npin s1.1\ncard s1.1\nunpin s1.2\n")?;
+    text.extend_from_slice(b"pin s4294967295.1\ncard s4294967295.1\npin s2.1\n")?;
+    text.extend_from_slice(b"pin s0\nunpin s0.1 \ncard\n")?;
+    let mut due = Vec::new(rt.alloc());
+    due.extend_from_slice(b"p1 t1\nh4 new s0.1\nh8 new s1.1\n")?;
+    due.extend_from_slice(b"pinned s0.1 mutex\npinned s1.1 event manual\n")?;
+    due.extend_from_slice(b"card s1.1 event manual grant 0x0\nnot held\n")?;
+    due.extend_from_slice(b"no slot\nnot held\nunborn\n")?;
+    due.extend_from_slice(b"bad line 11\nbad line 12\nbad line 13\n")?;
+    let mut out = Vec::new(rt.alloc());
+    let mut source = Wired::new(text.as_slice());
+    let ended = run(
+        rt.alloc(),
+        Limits::default(),
+        &mut source,
+        &mut Wired::new(&mut out),
+    );
+    assert_eq!(rt; ended, Ok(()));
+    assert_eq!(rt; out.as_slice(), due.as_slice());
+    Ok(())
+}

@@ -1,6 +1,7 @@
 mod applying;
 mod copies;
 mod ends;
+mod pinning;
 mod waiting;
 
 use ob_manager::{Card, Limits, Make, Manager, Mode, Reply, Timeout};

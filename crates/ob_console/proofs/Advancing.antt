@@ -9,7 +9,7 @@ use Rattle.ob_store.specs.declared.limits.Limits.{Limits}
 use Rattle.ob_console.specs.Acts.{Act}
 use Rattle.ob_console.specs.Grammar.{act_of}
 use Rattle.ob_console.specs.Printed.{line_end}
-use Rattle.ob_console.specs.Runs.{Prints, Run, Splits, IsWithin, AnswersLines, AnswersAll, AnswersPart, last_line, opening_whole}
+use Rattle.ob_console.specs.Runs.{Prints, Run, Splits, IsWithin, AnswersLines, AnswersAll, AnswersPart, IsOpening, Point, last_line}
 use Rattle.ob_console.specs.Held.{capped, more_held, act_of_held}
 use Rattle.ob_console.specs.Sessions.{ConsoleState, Session, Advances, Finishes}
 use Rattle.ob_console.proofs.Texts.{act_of_capped, more_capped}
@@ -29,32 +29,36 @@ concat-push : (outputs : List (List ℕ)) (output : List ℕ) → concat (output
 concat-push outputs output = concat-append outputs (output ∷ []) ∙ ap (λ back. concat outputs ++ back) (append-nil output)
 
 -- a line ends
-pub line_advances : (old new : ConsoleState) (act : Act) (bytes output : List ℕ) → IsWithin bytes → act ≡ act_of_held (more_held old.held bytes) → Prints old.whole (old.lines + 1) act output new.whole → new.lines ≡ old.lines + 1 → new.held ≡ Some [] → Advances old (bytes ++ line_end) output new
+pub line_advances : (old new : ConsoleState) (act : Act) (bytes output : List ℕ) → IsWithin bytes → act ≡ act_of_held (more_held old.held bytes) → Prints old.point (old.lines + 1) act output new.point → new.lines ≡ old.lines + 1 → new.held ≡ Some [] → Advances old (bytes ++ line_end) output new
 line_advances old new act bytes output within is prints counted held limits input before session =
     let line = session.rest ++ bytes in
-    let of_line : Prints old.whole (1 + length session.lines) (act_of line) output new.whole =
-    subst (λ a. Prints old.whole (1 + length session.lines) a output new.whole) (is ∙ held_act session.rest bytes old.held session.held)
-    (subst (λ n. Prints old.whole n act output new.whole) (omega (arith, session.counted)) prints) in
+    let of_line : Prints old.point (1 + length session.lines) (act_of line) output new.point =
+    subst (λ a. Prints old.point (1 + length session.lines) a output new.point) (is ∙ held_act session.rest bytes old.held session.held)
+    (subst (λ n. Prints old.point n act output new.point) (omega (arith, session.counted)) prints) in
     let one : Splits (session.rest ++ (bytes ++ line_end)) (line ∷ []) [] = splits_one session.rest bytes session.splits.open_ended within in
     record {
       lines = session.lines ++ line ∷ [];
       rest = [];
+      first = session.first;
+      opens = session.opens;
       outputs = session.outputs ++ output ∷ [];
       splits = splits_on input session.lines session.rest (bytes ++ line_end) (line ∷ []) [] session.splits one;
-      run = run-append (opening_whole limits) 1 session.lines session.outputs old.whole (line ∷ []) (output ∷ []) new.whole session.run (new.whole, of_line, refl);
+      run = run-append session.first 1 session.lines session.outputs old.point (line ∷ []) (output ∷ []) new.point session.run (new.point, of_line, refl);
       whole = ap (λ front. front ++ output) session.whole ∙ sym (concat-push session.outputs output);
       counted = omega (arith, counted, session.counted, length-append session.lines (line ∷ []));
       held = held;
     }
 
 -- a part of a line comes
-pub part_advances : (old new : ConsoleState) (bytes : List ℕ) → IsWithin bytes → new.whole ≡ old.whole → new.lines ≡ old.lines → new.held ≡ more_held old.held bytes → Advances old bytes [] new
+pub part_advances : (old new : ConsoleState) (bytes : List ℕ) → IsWithin bytes → new.point ≡ old.point → new.lines ≡ old.lines → new.held ≡ more_held old.held bytes → Advances old bytes [] new
 part_advances old new bytes within state_is lines_is held_is limits input before session = record {
   lines = session.lines;
   rest = session.rest ++ bytes;
+  first = session.first;
+  opens = session.opens;
   outputs = session.outputs;
   splits = splits_more input session.lines session.rest bytes within session.splits;
-  run = subst (λ t. Run (opening_whole limits) 1 session.lines session.outputs t) (sym state_is) session.run;
+  run = subst (λ t. Run session.first 1 session.lines session.outputs t) (sym state_is) session.run;
   whole = append-nil before ∙ session.whole;
   counted = lines_is ∙ session.counted;
   held = held_is ∙ ap (λ held. more_held held bytes) session.held ∙ more_capped session.rest bytes;
@@ -73,13 +77,15 @@ advances_none a limits input before session =
     subst (λ bytes. Session limits bytes (before ++ []) a) (sym (append-nil input)) (subst (λ written. Session limits input written a) (sym (append-nil before)) session)
 
 -- the opening console
-pub opens : (limits : Limits) (console : ConsoleState) → console.whole ≡ opening_whole limits → console.lines ≡ 0 → console.held ≡ Some [] → Session limits [] [] console
-opens limits console state_is lines_is held_is = record {
+pub opens : (limits : Limits) (console : ConsoleState) → IsOpening limits console.point → console.lines ≡ 0 → console.held ≡ Some [] → Session limits [] [] console
+opens limits console opening lines_is held_is = record {
   lines = [];
   rest = [];
   outputs = [];
   splits = splits_nothing;
-  run = state_is;
+  first = console.point;
+  opens = opening;
+  run = refl;
   whole = refl;
   counted = lines_is;
   held = held_is;
@@ -91,7 +97,7 @@ answers_lines limits input output console session = record {
   lines = session.lines;
   rest = session.rest;
   splits = session.splits;
-  answers = record { outputs = session.outputs; last = console.whole; run = session.run; whole = session.whole };
+  answers = record { first = session.first; opens = session.opens; outputs = session.outputs; last = console.point; run = session.run; whole = session.whole };
 }
 
 -- where nothing is held, the whole input is answered
@@ -101,9 +107,11 @@ answers_all limits input output console held session = record {
   rest = session.rest;
   splits = session.splits;
   answers = record {
+    first = session.first;
+    opens = session.opens;
     outputs = session.outputs;
-    last = console.whole;
-    run = subst (λ lines. Run (opening_whole limits) 1 lines session.outputs console.whole) (sym (no_last session.rest (sym session.held ∙ held))) session.run;
+    last = console.point;
+    run = subst (λ lines. Run session.first 1 lines session.outputs console.point) (sym (no_last session.rest (sym session.held ∙ held))) session.run;
     whole = session.whole;
   };
 }
@@ -113,20 +121,22 @@ answers_all limits input output console held session = record {
     no_last (byte ∷ rest) is = absurd (not_empty byte rest is)
 
 -- a last line without a line feed
-pub last_answered : (limits : Limits) (input before output : List ℕ) (old new : ConsoleState) → (old.held ≡ Some [] → ⊥) → Prints old.whole (old.lines + 1) (act_of_held old.held) output new.whole → Session limits input before old → AnswersAll limits input (before ++ output)
+pub last_answered : (limits : Limits) (input before output : List ℕ) (old new : ConsoleState) → (old.held ≡ Some [] → ⊥) → Prints old.point (old.lines + 1) (act_of_held old.held) output new.point → Session limits input before old → AnswersAll limits input (before ++ output)
 last_answered limits input before output old new some prints session =
-    let of_line : Prints old.whole (1 + length session.lines) (act_of session.rest) output new.whole =
-    subst (λ a. Prints old.whole (1 + length session.lines) a output new.whole) (ap act_of_held session.held ∙ act_of_capped session.rest)
-    (subst (λ n. Prints old.whole n (act_of_held old.held) output new.whole) (omega (arith, session.counted)) prints) in
+    let of_line : Prints old.point (1 + length session.lines) (act_of session.rest) output new.point =
+    subst (λ a. Prints old.point (1 + length session.lines) a output new.point) (ap act_of_held session.held ∙ act_of_capped session.rest)
+    (subst (λ n. Prints old.point n (act_of_held old.held) output new.point) (omega (arith, session.counted)) prints) in
     record {
       lines = session.lines;
       rest = session.rest;
       splits = session.splits;
       answers = record {
+        first = session.first;
+        opens = session.opens;
         outputs = session.outputs ++ output ∷ [];
-        last = new.whole;
-        run = subst (λ last. Run (opening_whole limits) 1 (session.lines ++ last) (session.outputs ++ output ∷ []) new.whole) (is_last session.rest session.held)
-            (run-append (opening_whole limits) 1 session.lines session.outputs old.whole (session.rest ∷ []) (output ∷ []) new.whole session.run (new.whole, of_line, refl));
+        last = new.point;
+        run = subst (λ last. Run session.first 1 (session.lines ++ last) (session.outputs ++ output ∷ []) new.point) (is_last session.rest session.held)
+            (run-append session.first 1 session.lines session.outputs old.point (session.rest ∷ []) (output ∷ []) new.point session.run (new.point, of_line, refl));
         whole = ap (λ front. front ++ output) session.whole ∙ sym (concat-push session.outputs output);
       };
     }
@@ -140,9 +150,9 @@ pub answers_part : (limits : Limits) (input output done missing more : List ℕ)
 answers_part limits input output done missing more console part session =
     let behind = has_lines (session.rest ++ more) in
     let later = behind.lines ++ last_line behind.rest in
-    let pins : 0 < console.whole.keeper.shape.max_pins =
-    subst (λ (shape : Shape). 0 < shape.max_pins) (sym (run_shape (opening_whole limits) 1 session.lines session.outputs console.whole session.run)) limits.in_range.max_pins_in_range.0 in
-    let on = runs_some console.whole (1 + length session.lines) later pins in
+    let pins : 0 < console.point.whole.keeper.shape.max_pins =
+    subst (λ (shape : Shape). 0 < shape.max_pins) (sym (run_shape session.first 1 session.lines session.outputs console.point session.run ∙ session.opens.keeper.shape_is)) limits.in_range.max_pins_in_range.0 in
+    let on = runs_some console.point (1 + length session.lines) later pins in
     record {
       missing = missing ++ concat on.outputs;
       answers = record {
@@ -150,10 +160,12 @@ answers_part limits input output done missing more console part session =
         rest = behind.rest;
         splits = splits_on input session.lines session.rest more behind.lines behind.rest session.splits behind.splits;
         answers = record {
+          first = session.first;
+          opens = session.opens;
           outputs = session.outputs ++ on.outputs;
           last = on.last;
-          run = subst (λ lines. Run (opening_whole limits) 1 lines (session.outputs ++ on.outputs) on.last) (sym (append_assoc session.lines behind.lines (last_line behind.rest)))
-              (run-append (opening_whole limits) 1 session.lines session.outputs console.whole later on.outputs on.last session.run on.run);
+          run = subst (λ lines. Run session.first 1 lines (session.outputs ++ on.outputs) on.last) (sym (append_assoc session.lines behind.lines (last_line behind.rest)))
+              (run-append session.first 1 session.lines session.outputs console.point later on.outputs on.last session.run on.run);
           whole = sym (append_assoc done missing (concat on.outputs)) ∙ ap (λ front. front ++ concat on.outputs) (part ∙ session.whole) ∙ sym (concat-append session.outputs on.outputs);
         };
       };
@@ -163,11 +175,11 @@ answers_part limits input output done missing more console part session =
 pub finishes_empty : (console : ConsoleState) → console.held ≡ Some [] → Finishes console []
 finishes_empty console held limits input before session = subst (λ written. AnswersAll limits input written) (sym (append-nil before)) (answers_all limits input before console held session)
 
-pub finishes_line : (old new : ConsoleState) (output : List ℕ) → (old.held ≡ Some [] → ⊥) → Prints old.whole (old.lines + 1) (act_of_held old.held) output new.whole → Finishes old output
+pub finishes_line : (old new : ConsoleState) (output : List ℕ) → (old.held ≡ Some [] → ⊥) → Prints old.point (old.lines + 1) (act_of_held old.held) output new.point → Finishes old output
 finishes_line old new output some prints limits input before session = last_answered limits input before output old new some prints session
 
 -- what is pending is apart from what was answered
-pub advances_apart : (old mid new : ConsoleState) (bytes output : List ℕ) → new.whole ≡ mid.whole → new.held ≡ mid.held → new.lines ≡ mid.lines → Advances old bytes output mid → Advances old bytes output new
+pub advances_apart : (old mid new : ConsoleState) (bytes output : List ℕ) → new.point ≡ mid.point → new.held ≡ mid.held → new.lines ≡ mid.lines → Advances old bytes output mid → Advances old bytes output new
 advances_apart old mid new bytes output state_is held_is lines_is advances limits input before session =
     let after = advances limits input before session in
     record {
@@ -175,7 +187,9 @@ advances_apart old mid new bytes output state_is held_is lines_is advances limit
       rest = after.rest;
       outputs = after.outputs;
       splits = after.splits;
-      run = subst (λ t. Run (opening_whole limits) 1 after.lines after.outputs t) (sym state_is) after.run;
+      first = after.first;
+      opens = after.opens;
+      run = subst (λ t. Run after.first 1 after.lines after.outputs t) (sym state_is) after.run;
       whole = after.whole;
       counted = lines_is ∙ after.counted;
       held = held_is ∙ after.held;

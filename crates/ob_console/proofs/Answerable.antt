@@ -1,10 +1,10 @@
--- Every call may be answered, in any state whose slots may be pinned at all; and no call changes the shape of the slots.
+-- Every call may be answered, in any state whose slots may be pinned at all, and whatever a reader holds.
 use Rattle.std.proofs.Common.{◌≡◌, ℕ, ◌<◌, List, Bool, true, false, cond, not, Option, Some, None, Result, Ok, Err, inl, refl, ap, arith}
 use Rattle.std.specs.Prelude.{is_ok, nat_le, slice_index_or}
 use Rattle.pin_core.specs.declared.id.Id.{Id}
 use Rattle.pin_words.specs.declared.pin_keeper.Reclaim.{Reclaim}
 use Rattle.pin_words.specs.declared.pin_keeper.Reclaim.TheVariants as reclaim
-use Rattle.pin_words.specs.Keepers.{KeeperState, Reclaims}
+use Rattle.pin_words.specs.Keepers.{KeeperState}
 use Rattle.ob_rights.specs.declared.fault.Fault.{Fault}
 use Rattle.ob_rights.specs.declared.fault.Fault.TheVariants as fault
 use Rattle.ob_rights.specs.declared.kind.Kind.TheVariants as kind
@@ -37,13 +37,19 @@ use Rattle.ob_manager.specs.Ending.{end_thread, exit}
 use Rattle.ob_manager.specs.Signaling.{modify_state, set_event, reset_event, release_semaphore, release_mutex}
 use Rattle.ob_manager.specs.Counting.{counts, object_of}
 use Rattle.ob_manager.specs.Reaping.{if_ended, reap}
-use Rattle.ob_manager.specs.Steps.{Step, does, closes, lacks, outcome_of, takes_memory, final, Keeps, Publishes}
+use Rattle.ob_manager.specs.Steps.{Step, does, lacks, outcome_of, takes_memory, final, Keeps}
+use Rattle.ob_console.specs.Runs.{Spares}
 
--- an answer to a call
+-- an answer to a call, by which no slot is taken back where something is held
 pub record CanAnswer (w : Whole) (call : Call) : Type 0 where
   pub reply : Reply
   pub next : Whole
   pub step : Step w call reply next
+  pub spares : (held : List Id) → Spares held call reply
+
+-- no answer to the call takes a slot back
+abbrev SparesAll : Call → Type 0
+SparesAll call = (held : List Id) (reply : Reply) → Spares held call reply
 
 -- a reply of this outcome leaves the keeper as it is
 abbrev Rests : Result Outcome Fault → KeeperState → Type 0
@@ -55,26 +61,27 @@ rests_behind k (Ok x) f rests = rests x
 rests_behind k (Err fault) f rests = tt
 
 -- a call whose outcome is determined
-answered : (w : Whole) (call : Call) (outcome : Result Outcome Fault) → ((reply : Reply) → outcome_of w.state call reply ≡ outcome) → Rests outcome w.keeper → CanAnswer w call
-answered w call (Ok outcome) is rests = record { reply = outcome.reply; next = record { state = outcome.state; keeper = w.keeper }; step = does (ap (final w.state) (is outcome.reply)) rests }
-answered w call (Err fault) is rests = record { reply = Refused fault; next = w; step = does (ap (final w.state) (is (Refused fault))) refl }
+answered : (w : Whole) (call : Call) (outcome : Result Outcome Fault) → SparesAll call → ((reply : Reply) → outcome_of w.state call reply ≡ outcome) → Rests outcome w.keeper → CanAnswer w call
+answered w call (Ok outcome) spares is rests = record { reply = outcome.reply; next = record { state = outcome.state; keeper = w.keeper }; step = does (ap (final w.state) (is outcome.reply)) rests; spares = λ held. spares held outcome.reply }
+answered w call (Err fault) spares is rests = record { reply = Refused fault; next = w; step = does (ap (final w.state) (is (Refused fault))) refl; spares = λ held. spares held (Refused fault) }
 
 -- a call that takes memory, where it is wanting
-refused : (w : Whole) (call : Call) (outcome : Result Outcome Fault) → takes_memory w.state call ≡ true → ((reply : Reply) → outcome_of w.state call reply ≡ outcome) → CanAnswer w call
-refused w call (Ok outcome) takes is = record { reply = Refused fault.Memory; next = w; step = lacks takes (ap is_ok (is (Refused fault.Memory))) refl refl }
-refused w call (Err fault) takes is = record { reply = Refused fault; next = w; step = does (ap (final w.state) (is (Refused fault))) refl }
+refused : (w : Whole) (call : Call) (outcome : Result Outcome Fault) → SparesAll call → takes_memory w.state call ≡ true → ((reply : Reply) → outcome_of w.state call reply ≡ outcome) → CanAnswer w call
+refused w call (Ok outcome) spares takes is = record { reply = Refused fault.Memory; next = w; step = lacks takes (ap is_ok (is (Refused fault.Memory))) refl refl; spares = λ held. spares held (Refused fault.Memory) }
+refused w call (Err fault) spares takes is = record { reply = Refused fault; next = w; step = does (ap (final w.state) (is (Refused fault))) refl; spares = λ held. spares held (Refused fault) }
 
 -- a slot that is reaped may be pinned
 abbrev reaped_as : State → ℕ → Reclaim → Result (Unit {0}) Fault → Result Id Fault → Result Outcome Fault
 reaped_as s slot outcome there ended = there >>= (λ _. ended >>= (λ id. Ok (record { reply = Reaped id outcome; state = settled (after_reclaim s slot outcome) })))
 
 held_back : (w : Whole) (slot : ℕ) (there : Result (Unit {0}) Fault) (ended : Result Id Fault) → 0 < w.keeper.shape.max_pins → ((outcome : Reclaim) → reap w.state slot outcome ≡ reaped_as w.state slot outcome there ended) → CanAnswer w (calls.Reap slot)
-held_back w slot (Err fault) ended pins is = record { reply = Refused fault; next = w; step = does (ap (final w.state) (is reclaim.Freed)) refl }
-held_back w slot (Ok unit) (Err fault) pins is = record { reply = Refused fault; next = w; step = does (ap (final w.state) (is reclaim.Freed)) refl }
+held_back w slot (Err fault) ended pins is = record { reply = Refused fault; next = w; step = does (ap (final w.state) (is reclaim.Freed)) refl; spares = λ held. tt }
+held_back w slot (Ok unit) (Err fault) pins is = record { reply = Refused fault; next = w; step = does (ap (final w.state) (is reclaim.Freed)) refl; spares = λ held. tt }
 held_back w slot (Ok unit) (Ok id) pins is = record {
   reply = Reaped id (reclaim.Held 1);
   next = record { state = settled (after_reclaim w.state slot (reclaim.Held 1)); keeper = w.keeper };
   step = does (ap (final w.state) (is (reclaim.Held 1))) (refl, omega arith, omega (arith, pins), inl refl);
+  spares = λ held. tt;
 }
 
 -- a wait, satisfied or not
@@ -112,77 +119,43 @@ copy_rests s entry source handle (Some target) mask inherit options k closing = 
     by false (Err e) = tt
 
 pub can_answer : (w : Whole) (call : Call) → 0 < w.keeper.shape.max_pins → CanAnswer w call
-can_answer w (calls.Spawn session) pins = refused w (calls.Spawn session) _ refl (λ reply. refl)
-can_answer w (calls.Child thread inherit) pins = refused w (calls.Child thread inherit) _ refl (λ reply. refl)
-can_answer w (calls.StartThread process) pins = refused w (calls.StartThread process) _ refl (λ reply. refl)
-can_answer w (calls.MakeEvent thread make manual set) pins = refused w (calls.MakeEvent thread make manual set) _ refl (λ reply. refl)
-can_answer w (calls.MakeMutex thread make owned) pins = refused w (calls.MakeMutex thread make owned) _ refl (λ reply. refl)
-can_answer w (calls.MakeSemaphore thread make initial max) pins = refused w (calls.MakeSemaphore thread make initial max) _ refl (λ reply. refl)
-can_answer w (calls.OpenNamed thread kind mask inherit text) pins = refused w (calls.OpenNamed thread kind mask inherit text) _ refl (λ reply. refl)
+can_answer w (calls.Spawn session) pins = refused w (calls.Spawn session) _ (λ held reply. tt) refl (λ reply. refl)
+can_answer w (calls.Child thread inherit) pins = refused w (calls.Child thread inherit) _ (λ held reply. tt) refl (λ reply. refl)
+can_answer w (calls.StartThread process) pins = refused w (calls.StartThread process) _ (λ held reply. tt) refl (λ reply. refl)
+can_answer w (calls.MakeEvent thread make manual set) pins = refused w (calls.MakeEvent thread make manual set) _ (λ held reply. tt) refl (λ reply. refl)
+can_answer w (calls.MakeMutex thread make owned) pins = refused w (calls.MakeMutex thread make owned) _ (λ held reply. tt) refl (λ reply. refl)
+can_answer w (calls.MakeSemaphore thread make initial max) pins = refused w (calls.MakeSemaphore thread make initial max) _ (λ held reply. tt) refl (λ reply. refl)
+can_answer w (calls.OpenNamed thread kind mask inherit text) pins = refused w (calls.OpenNamed thread kind mask inherit text) _ (λ held reply. tt) refl (λ reply. refl)
 can_answer w (calls.Duplicate thread source handle target mask inherit options) pins =
-    answered w (calls.Duplicate thread source handle target mask inherit options) (duplicate w.state thread source handle target mask inherit options) (λ reply. refl)
+    answered w (calls.Duplicate thread source handle target mask inherit options) (duplicate w.state thread source handle target mask inherit options) (λ held reply. tt) (λ reply. refl)
     (rests_behind w.keeper (caller w.state thread) _ (λ process. rests_behind w.keeper (or_refuse (slice_index_or w.state.processes source None) fault.Parameter) _ (λ session.
     rests_behind w.keeper (refuse_if (is_wrong options target) fault.Parameter) _ (λ right. rests_behind w.keeper (found w.state source handle) _ (λ entry.
     copy_rests w.state entry source handle target mask inherit options w.keeper (copying.closes options))))))
-can_answer w (calls.CloseHandle thread handle) pins = answered w (calls.CloseHandle thread handle) (close w.state thread handle) (λ reply. refl)
+can_answer w (calls.CloseHandle thread handle) pins = answered w (calls.CloseHandle thread handle) (close w.state thread handle) (λ held reply. tt) (λ reply. refl)
     (rests_behind w.keeper (caller w.state thread) _ (λ process. rests_behind w.keeper (found w.state process handle) _ (λ entry. refl)))
-can_answer w (calls.SetEvent thread handle) pins = answered w (calls.SetEvent thread handle) (set_event w.state thread handle) (λ reply. refl)
+can_answer w (calls.SetEvent thread handle) pins = answered w (calls.SetEvent thread handle) (set_event w.state thread handle) (λ held reply. tt) (λ reply. refl)
     (rests_behind w.keeper (caller w.state thread) _ (λ process. rests_behind w.keeper (found w.state process handle) _ (λ entry.
     rests_behind w.keeper (body_of w.state entry.id kind.Event) _ (λ event. rests_behind w.keeper (granted modify_state entry) _ (λ granted. refl)))))
-can_answer w (calls.ResetEvent thread handle) pins = answered w (calls.ResetEvent thread handle) (reset_event w.state thread handle) (λ reply. refl)
+can_answer w (calls.ResetEvent thread handle) pins = answered w (calls.ResetEvent thread handle) (reset_event w.state thread handle) (λ held reply. tt) (λ reply. refl)
     (rests_behind w.keeper (caller w.state thread) _ (λ process. rests_behind w.keeper (found w.state process handle) _ (λ entry.
     rests_behind w.keeper (body_of w.state entry.id kind.Event) _ (λ event. rests_behind w.keeper (granted modify_state entry) _ (λ granted. refl)))))
-can_answer w (calls.ReleaseSemaphore thread handle count) pins = answered w (calls.ReleaseSemaphore thread handle count) (release_semaphore w.state thread handle count) (λ reply. refl)
+can_answer w (calls.ReleaseSemaphore thread handle count) pins = answered w (calls.ReleaseSemaphore thread handle count) (release_semaphore w.state thread handle count) (λ held reply. tt) (λ reply. refl)
     (rests_behind w.keeper (caller w.state thread) _ (λ process. rests_behind w.keeper (or_refuse (positive count) fault.Parameter) _ (λ more. rests_behind w.keeper (found w.state process handle) _ (λ entry.
     rests_behind w.keeper (body_of w.state entry.id kind.Semaphore) _ (λ semaphore. rests_behind w.keeper (granted modify_state entry) _ (λ granted. rests_behind w.keeper (post_answer more semaphore) _ (λ previous. refl)))))))
-can_answer w (calls.ReleaseMutex thread handle) pins = answered w (calls.ReleaseMutex thread handle) (release_mutex w.state thread handle) (λ reply. refl)
+can_answer w (calls.ReleaseMutex thread handle) pins = answered w (calls.ReleaseMutex thread handle) (release_mutex w.state thread handle) (λ held reply. tt) (λ reply. refl)
     (rests_behind w.keeper (caller w.state thread) _ (λ process. rests_behind w.keeper (found w.state process handle) _ (λ entry.
     rests_behind w.keeper (body_of w.state entry.id kind.Mutex) _ (λ mutex. rests_behind w.keeper (unlock_answer thread mutex) _ (λ released. refl)))))
-can_answer w (calls.WaitFor thread mode timeout handles) pins = answered w (calls.WaitFor thread mode timeout handles) (wait w.state thread mode timeout handles) (λ reply. refl)
+can_answer w (calls.WaitFor thread mode timeout handles) pins = answered w (calls.WaitFor thread mode timeout handles) (wait w.state thread mode timeout handles) (λ held reply. tt) (λ reply. refl)
     (rests_behind w.keeper (caller w.state thread) _ (λ process. rests_behind w.keeper (refuse_if (is_misshapen handles) fault.Parameter) _ (λ shaped.
     rests_behind w.keeper (objects_of w.state process handles) _ (λ ids. wait_rests w.state thread mode timeout ids w.keeper))))
-can_answer w (calls.WaitResult number) pins = answered w (calls.WaitResult number) (wait_result w.state number) (λ reply. refl)
+can_answer w (calls.WaitResult number) pins = answered w (calls.WaitResult number) (wait_result w.state number) (λ held reply. tt) (λ reply. refl)
     (rests_behind w.keeper (or_refuse (state_at (slice_index_or w.state.waits number None)) fault.Parameter) _ (λ x. shown_rests w.state number x w.keeper))
-can_answer w (calls.Expire number) pins = answered w (calls.Expire number) (waiting.expire w.state number) (λ reply. refl)
+can_answer w (calls.Expire number) pins = answered w (calls.Expire number) (waiting.expire w.state number) (λ held reply. tt) (λ reply. refl)
     (rests_behind w.keeper (refuse_if (not (is_pending (slice_index_or w.state.waits number None))) fault.Parameter) _ (λ pending. refl))
-can_answer w (calls.EndThread thread) pins = answered w (calls.EndThread thread) (end_thread w.state thread) (λ reply. refl)
+can_answer w (calls.EndThread thread) pins = answered w (calls.EndThread thread) (end_thread w.state thread) (λ held reply. tt) (λ reply. refl)
     (rests_behind w.keeper (or_refuse (slice_index_or w.state.threads thread None) fault.Parameter) _ (λ process. refl))
-can_answer w (calls.Exit process) pins = answered w (calls.Exit process) (exit w.state process) (λ reply. refl)
+can_answer w (calls.Exit process) pins = answered w (calls.Exit process) (exit w.state process) (λ held reply. tt) (λ reply. refl)
     (rests_behind w.keeper (or_refuse (slice_index_or w.state.processes process None) fault.Parameter) _ (λ session. refl))
 can_answer w (calls.Reap slot) pins = held_back w slot (refuse_if (nat_le w.state.limits.slots slot) fault.Parameter) (if_ended (slice_index_or w.state.objects slot None) (slice_index_or w.state.bodies slot None)) pins (λ outcome. refl)
-can_answer w (calls.Counts id) pins = answered w (calls.Counts id) (counts w.state id) (λ reply. refl)
+can_answer w (calls.Counts id) pins = answered w (calls.Counts id) (counts w.state id) (λ held reply. tt) (λ reply. refl)
     (rests_behind w.keeper (refuse_if (nat_le w.state.limits.slots id.slot) fault.Parameter) _ (λ there. rests_behind w.keeper (or_refuse (object_of w.state id) fault.Handle) _ (λ found. refl)))
-
--- what a call does to the keeper leaves the shape of the slots
-publishes_shape : (o : Option Object) (slot : ℕ) (k k' : KeeperState) → Publishes o slot k k' → k'.shape ≡ k.shape
-publishes_shape None slot k k' keeps = absurd keeps
-publishes_shape (Some o) slot k k' keeps = ap (λ (k : KeeperState). k.shape) keeps
-
-reclaims_shape : (k : KeeperState) (slot : ℕ) (outcome : Reclaim) (k' : KeeperState) → Reclaims k slot outcome k' → k'.shape ≡ k.shape
-reclaims_shape k slot reclaim.Freed k' keeps = ap (λ (k : KeeperState). k.shape) keeps.0
-reclaims_shape k slot reclaim.Retired k' keeps = ap (λ (k : KeeperState). k.shape) keeps.0
-reclaims_shape k slot (reclaim.Held pins) k' keeps = ap (λ (k : KeeperState). k.shape) keeps.0
-
-keeps_shape : (reply : Reply) (s : State) (k k' : KeeperState) → Keeps reply s k k' → k'.shape ≡ k.shape
-keeps_shape (Made handle id) s k k' keeps = publishes_shape (slice_index_or s.objects id.slot None) id.slot k k' keeps
-keeps_shape (Reaped id outcome) s k k' keeps = reclaims_shape k id.slot outcome k' keeps
-keeps_shape (Spawned process thread) s k k' keeps = ap (λ (k : KeeperState). k.shape) keeps
-keeps_shape (Started thread) s k k' keeps = ap (λ (k : KeeperState). k.shape) keeps
-keeps_shape (Exists handle id) s k k' keeps = ap (λ (k : KeeperState). k.shape) keeps
-keeps_shape (Opened handle id) s k k' keeps = ap (λ (k : KeeperState). k.shape) keeps
-keeps_shape (Duplicated handle id) s k k' keeps = ap (λ (k : KeeperState). k.shape) keeps
-keeps_shape (Code code) s k k' keeps = ap (λ (k : KeeperState). k.shape) keeps
-keeps_shape (Pending number) s k k' keeps = ap (λ (k : KeeperState). k.shape) keeps
-keeps_shape (Expired number) s k k' keeps = ap (λ (k : KeeperState). k.shape) keeps
-keeps_shape (Ended thread) s k k' keeps = ap (λ (k : KeeperState). k.shape) keeps
-keeps_shape (Exited process) s k k' keeps = ap (λ (k : KeeperState). k.shape) keeps
-keeps_shape (CountsAre handles waits hold) s k k' keeps = ap (λ (k : KeeperState). k.shape) keeps
-keeps_shape (Refused fault) s k k' keeps = ap (λ (k : KeeperState). k.shape) keeps
-keeps_shape Closed s k k' keeps = ap (λ (k : KeeperState). k.shape) keeps
-keeps_shape Done s k k' keeps = ap (λ (k : KeeperState). k.shape) keeps
-keeps_shape (Previous count) s k k' keeps = ap (λ (k : KeeperState). k.shape) keeps
-
-pub step_shape : (w : Whole) (call : Call) (reply : Reply) (v : Whole) → Step w call reply v → v.keeper.shape ≡ w.keeper.shape
-step_shape w call reply v (does outcome keeps) = keeps_shape reply v.state w.keeper v.keeper keeps
-step_shape w call reply v (closes is comes keeps) = ap (λ (k : KeeperState). k.shape) keeps
-step_shape w call reply v (lacks takes there fault same) = ap (λ (whole : Whole). whole.keeper.shape) same

@@ -80,7 +80,7 @@ pub behind_shorter : (text : List ℕ) → position_or_len (is_byte 10) text < l
 behind_shorter text within = omega (arith, length-drop (position_or_len (is_byte 10) text + 1) text)
 
 -- what was fed is written
-pub fed_written : (old mid new : ConsoleState) (block before taken later : List ℕ) → IsFed old mid block [] before taken → new.whole ≡ mid.whole → new.held ≡ mid.held → new.lines ≡ mid.lines → new.pending.bytes ≡ [] → later ≡ taken ++ mid.pending.bytes → IsFed old new block [] before later
+pub fed_written : (old mid new : ConsoleState) (block before taken later : List ℕ) → IsFed old mid block [] before taken → new.point ≡ mid.point → new.held ≡ mid.held → new.lines ≡ mid.lines → new.pending.bytes ≡ [] → later ≡ taken ++ mid.pending.bytes → IsFed old new block [] before later
 fed_written old mid new block before taken later fed state_is held_is lines_is empty written = record {
   front = fed.front;
   printed = fed.printed;
@@ -94,7 +94,7 @@ fed_written old mid new block before taken later fed state_is held_is lines_is e
 }
 
 -- the sink fails while what was fed is written
-pub fed_cut_short : (old mid new : ConsoleState) (block before taken later : List ℕ) → IsFed old mid block [] before taken → new.whole ≡ mid.whole → new.held ≡ mid.held → new.lines ≡ mid.lines → Begins taken later mid.pending.bytes → IsCutShort old new block before later
+pub fed_cut_short : (old mid new : ConsoleState) (block before taken later : List ℕ) → IsFed old mid block [] before taken → new.point ≡ mid.point → new.held ≡ mid.held → new.lines ≡ mid.lines → Begins taken later mid.pending.bytes → IsCutShort old new block before later
 fed_cut_short old mid new block before taken later fed state_is held_is lines_is begins = record {
   front = fed.front;
   rest = [];

@@ -2,12 +2,14 @@ pub mod Cuts
 pub mod Fieldless
 pub mod Digits
 pub mod Hex
+pub mod Hexadecimal
 pub mod Texts
 pub mod Written
 pub mod Flushed
 pub mod Lines
 pub mod Waited
 pub mod Answerable
+pub mod Pinnable
 pub mod Going
 pub mod Advancing
 pub mod Listed

@@ -1,4 +1,5 @@
 -- What a line asks for.
+use Rattle.pin_core.specs.declared.id.Id.{Id}
 use Rattle.ob_console.specs.Words.{handles_in}
 use Rattle.ob_console.specs.WordsLeft.{words_left}
 use Rattle.ob_manager.specs.declared.call.Call.{Call}
@@ -14,6 +15,9 @@ pub data Act : Type 0 where
   Bad : Act  -- a line outside the grammar
   ListNames : Act  -- the names of objects are asked for
   Asks : Call → Act  -- a call
+  Pin : Id → Act  -- one copy more, for the reader
+  Unpin : Id → Act  -- one copy less
+  ShowCard : Id → Act  -- what the object of a held Id was created as
 
 -- which call it is, with its name and its handles as lists
 abbrev pub call_in : Ask → Call
@@ -43,3 +47,6 @@ act_in code.Nothing = Nothing
 act_in code.Bad = Bad
 act_in code.ListNames = ListNames
 act_in (code.Ask ask) = Asks (call_in ask)
+act_in (code.Pin id) = Pin id
+act_in (code.Unpin id) = Unpin id
+act_in (code.ShowCard id) = ShowCard id

@@ -1,6 +1,7 @@
 -- The grammar of a script: what each line is.
 use Rattle.std.specs.Prelude.{ℕ, ◌+◌, ◌-◌, ◌==◌, ◌||◌, nat_lt, List, [], ◌∷◌, Option, Some, None, if◌then◌else◌, length, codes, slice_index, take}
 use Rattle.std.specs.Str.{bytes_eq}
+use Rattle.pin_core.specs.declared.id.Id.{Id}
 use Rattle.ob_rights.specs.declared.rights.Rights.{Rights}
 use Rattle.ob_waits.specs.declared.wait.Mode.{Mode}
 use Rattle.ob_waits.specs.declared.wait.Mode.TheVariants.{Any, All}
@@ -9,7 +10,7 @@ use Rattle.ob_manager.specs.declared.waiting.Timeout.TheVariants.{Zero, Infinite
 use Rattle.ob_manager.specs.declared.making.Making.{Making}
 use Rattle.ob_manager.specs.declared.call.Call.{Call}
 use Rattle.ob_manager.specs.declared.call.Call.TheVariants.{Spawn, Child, StartThread, MakeEvent, MakeMutex, MakeSemaphore, OpenNamed, Duplicate, CloseHandle, SetEvent, ResetEvent, ReleaseSemaphore, ReleaseMutex, WaitFor, WaitResult, Expire, EndThread, Exit, Reap, Counts}
-use Rattle.ob_console.specs.Acts.{Act, Nothing, Bad, ListNames, Asks}
+use Rattle.ob_console.specs.Acts.{Act, Nothing, Bad, ListNames, Asks, Pin, Unpin, ShowCard}
 use Rattle.ob_console.specs.Words.{words_of, joined, begins_with, behind, number_of, signed_of, mask_of, kind_of, labelled, id_of, either_of, are_handles, handles_in, ◌>>=◌}
 
 -- `[KEYWORD M]`: the mask, where there is one, and the words behind it
@@ -287,9 +288,47 @@ call_of (verb ∷ words) =
     else (if bytes_eq verb (codes "exit") then exit_of words
     else None)))))))))))))))))))
 
-abbrev pub asked : Option Call → Act
-asked None = Bad
-asked (Some call) = Asks call
+-- `VERB S`: the object
+abbrev pub object_of : List (List ℕ) → Option Id
+object_of [] = None
+object_of (object ∷ []) = id_of object
+object_of (object ∷ more ∷ words) = None
+
+-- `pin S`
+abbrev pub pin_of : List (List ℕ) → Option Act
+pin_of words = do
+  id ← object_of words
+  Some (Pin id)
+
+-- `unpin S`
+abbrev pub unpin_of : List (List ℕ) → Option Act
+unpin_of words = do
+  id ← object_of words
+  Some (Unpin id)
+
+-- `card S`
+abbrev pub card_of : List (List ℕ) → Option Act
+card_of words = do
+  id ← object_of words
+  Some (ShowCard id)
+
+-- what the words of a line ask of the reader
+abbrev pub reading_of : List (List ℕ) → Option Act
+reading_of [] = None
+reading_of (verb ∷ words) =
+    if bytes_eq verb (codes "pin") then pin_of words
+    else (if bytes_eq verb (codes "unpin") then unpin_of words
+    else (if bytes_eq verb (codes "card") then card_of words
+    else None))
+
+abbrev pub or_bad : Option Act → Act
+or_bad None = Bad
+or_bad (Some act) = act
+
+-- what is no call may be asked of the reader
+abbrev pub asked : Option Call → List (List ℕ) → Act
+asked (Some call) words = Asks call
+asked None words = or_bad (reading_of words)
 
 -- the text of a line: one carriage return at its end is dropped
 abbrev pub text_of : List ℕ → List ℕ
@@ -301,7 +340,7 @@ act_of_text text =
     if nat_lt 4096 (length text) then Bad
     else (if (length text == 0) || (slice_index text 0 == 35) then Nothing
     else (if bytes_eq text (codes "dir") then ListNames
-    else asked (call_of (words_of text))))
+    else asked (call_of (words_of text)) (words_of text)))
 
 abbrev pub act_of : List ℕ → Act
 act_of line = act_of_text (text_of line)

@@ -1,35 +1,57 @@
 -- A run of a script: the lines of an input, and what is printed for them.
-use Rattle.std.specs.Prelude.{◌≡◌, ◌≢◌, ℕ, ◌+◌, List, [], ◌∷◌, ◌++◌, All, replicate, Result, Ok, Err}
+use Rattle.std.specs.Prelude.{◌≡◌, ◌≢◌, ℕ, ◌+◌, Bool, List, [], ◌∷◌, ◌++◌, All, Result, Ok, Err}
 use Rattle.std.specs.List.{concat, flat_map}
-use Rattle.pin_core.specs.Worlds.{opening_slot}
-use Rattle.pin_words.specs.Keepers.{locked}
+use Rattle.pin_core.specs.declared.id.Id.{Id}
+use Rattle.pin_core.specs.declared.descr.Descr.{Descr}
+use Rattle.pin_words.specs.declared.fault.PinFault.{PinFault}
+use Rattle.pin_words.specs.Keepers.{IsFresh}
 use Rattle.ob_store.specs.declared.limits.Limits.{Limits}
 use Rattle.ob_store.specs.State.{Whole, opening, shape_of}
 use Rattle.ob_store.specs.Directory.{directory_of}
+use Rattle.ob_manager.specs.declared.call.Call.{Call}
 use Rattle.ob_manager.specs.declared.reply.Reply.{Reply}
+use Rattle.ob_manager.specs.Reaping.{IfReap, IfReaped}
 use Rattle.ob_manager.specs.Steps.{Step}
-use Rattle.ob_console.specs.Acts.{Act, Nothing, Bad, ListNames, Asks}
+use Rattle.ob_reader.specs.Pinning.{Pins, SparesHeld, Unpins, shown_of}
+use Rattle.ob_console.specs.Acts.{Act, Nothing, Bad, ListNames, Asks, Pin, Unpin, ShowCard}
 use Rattle.ob_console.specs.declared.script.RunFault.{RunFault}
 use Rattle.ob_console.specs.declared.script.RunFault.TheVariants.{Memory, Read, Write}
 use Rattle.ob_console.specs.Grammar.{act_of}
-use Rattle.ob_console.specs.Printed.{printed, printed_names, bad_line, line_end}
+use Rattle.ob_console.specs.Printed.{printed, printed_card, printed_names, printed_pin, printed_unpin, bad_line, line_end}
 
--- the state before any line, over pins under a lock of which nothing was asked yet
-abbrev pub opening_whole : Limits → Whole
-opening_whole limits = record { state = opening limits; keeper = locked (shape_of limits) (replicate limits.slots opening_slot) [] }
+-- the state with what the keeper says, and the copies that the reader holds
+pub record Point : Type 0 where
+  pub whole : Whole
+  pub held : List Id
 
--- From a state and what the keeper says, the line of this number may print this and go on: nothing, that the line is bad, the
--- names of objects, or the reply of a step.
-abbrev pub Prints : Whole → ℕ → Act → List ℕ → Whole → Type 0
-Prints s number Nothing output t = (output ≡ []) × (t ≡ s)
-Prints s number Bad output t = (output ≡ bad_line number) × (t ≡ s)
-Prints s number ListNames output t = (output ≡ printed_names (directory_of s.state)) × (t ≡ s)
-Prints s number (Asks call) output t = (reply : Reply) × Step s call reply t × (output ≡ printed reply)
+abbrev pub point : Whole → List Id → Point
+point whole held = record { whole = whole; held = held }
+
+-- before any line: nothing was asked of the manager and of its keeper, and nothing is held
+pub record IsOpening (limits : Limits) (p : Point) : Type 0 where
+  pub state : p.whole.state ≡ opening limits
+  pub keeper : IsFresh p.whole.keeper (shape_of limits)
+  pub held : p.held ≡ []
+
+-- a slot that is reaped is not taken back while something is held there
+abbrev pub Spares : List Id → Call → Reply → Type 0
+Spares held call reply = IfReap call (λ slot. IfReaped reply (SparesHeld held slot))
+
+-- From a point, the line of this number may print this and go on: nothing, that the line is bad, the names of objects, the reply
+-- of a step, or what the reader is answered.
+abbrev pub Prints : Point → ℕ → Act → List ℕ → Point → Type 0
+Prints p number Nothing output q = (output ≡ []) × (q ≡ p)
+Prints p number Bad output q = (output ≡ bad_line number) × (q ≡ p)
+Prints p number ListNames output q = (output ≡ printed_names (directory_of p.whole.state)) × (q ≡ p)
+Prints p number (Asks call) output q = (reply : Reply) × Step p.whole call reply q.whole × Spares p.held call reply × (q.held ≡ p.held) × (output ≡ printed reply)
+Prints p number (Pin id) output q = (answer : Result Descr PinFault) × Pins p.whole.state p.held id answer q.held × (q.whole ≡ p.whole) × (output ≡ printed_pin id answer ++ line_end)
+Prints p number (Unpin id) output q = (done : Bool) × Unpins p.held id done q.held × (q.whole ≡ p.whole) × (output ≡ printed_unpin id done ++ line_end)
+Prints p number (ShowCard id) output q = (output ≡ printed_card (shown_of p.whole.state p.held id) ++ line_end) × (q ≡ p)
 
 -- From there, the lines from this number on may print these, one after another, and end with the last.
-abbrev pub Run : Whole → ℕ → List (List ℕ) → List (List ℕ) → Whole → Type 0
+abbrev pub Run : Point → ℕ → List (List ℕ) → List (List ℕ) → Point → Type 0
 Run s number [] [] t = t ≡ s
-Run s number (line ∷ lines) (output ∷ outputs) t = (next : Whole) × Prints s number (act_of line) output next × Run next (number + 1) lines outputs t
+Run s number (line ∷ lines) (output ∷ outputs) t = (next : Point) × Prints s number (act_of line) output next × Run next (number + 1) lines outputs t
 Run s number [] (output ∷ outputs) t = ⊥
 Run s number (line ∷ lines) [] t = ⊥
 
@@ -52,11 +74,13 @@ abbrev pub last_line : List ℕ → List (List ℕ)
 last_line [] = []
 last_line (byte ∷ bytes) = (byte ∷ bytes) ∷ []
 
--- the output is what a run over these lines prints, from a manager with these limits
+-- the output is what a run over these lines prints, from a new manager with these limits and a new reader
 pub record IsOutput (limits : Limits) (lines : List (List ℕ)) (output : List ℕ) : Type 0 where
+  pub first : Point
+  pub opens : IsOpening limits first
   pub outputs : List (List ℕ)
-  pub last : Whole
-  pub run : Run (opening_whole limits) 1 lines outputs last
+  pub last : Point
+  pub run : Run first 1 lines outputs last
   pub whole : output ≡ concat outputs
 
 -- each complete line of the input is answered, and nothing else

@@ -2,21 +2,20 @@
 use Rattle.std.specs.Prelude.{◌≡◌, ℕ, List, ◌++◌, Option, Result, length, MatchResult}
 use Rattle.std.specs.List.{concat}
 use Rattle.ob_store.specs.declared.limits.Limits.{Limits}
-use Rattle.ob_store.specs.State.{Whole}
 use Rattle.ob_console.specs.declared.output.NotWritten.{NotWritten}
 use Rattle.ob_console.specs.Pending.{Pending}
-use Rattle.ob_console.specs.Runs.{Run, Splits, AnswersAll, opening_whole}
+use Rattle.ob_console.specs.Runs.{Point, Run, Splits, AnswersAll, IsOpening}
 use Rattle.ob_console.specs.Held.{capped}
 use Rattle.ob_console.specs.Devices.{Writes, Begins}
 
 -- what an evaluator has
 pub record Evaluation : Type 0 where
-  pub whole : Whole  -- the manager's
+  pub point : Point  -- the manager's state, and what the reader holds
   pub pending : Pending  -- answers that are not yet written
   pub lines : ℕ  -- how many lines have ended
 
 pub record ConsoleState : Type 0 where
-  pub whole : Whole  -- the manager's
+  pub point : Point  -- the manager's state, and what the reader holds
   pub pending : Pending  -- answers that are not yet written
   pub held : Option (List ℕ)  -- the beginning of the next line
   pub lines : ℕ  -- how many lines have ended
@@ -27,7 +26,9 @@ pub record Session (limits : Limits) (input output : List ℕ) (console : Consol
   pub rest : List ℕ
   pub outputs : List (List ℕ)
   pub splits : Splits input lines rest
-  pub run : Run (opening_whole limits) 1 lines outputs console.whole
+  pub first : Point
+  pub opens : IsOpening limits first
+  pub run : Run first 1 lines outputs console.point
   pub whole : output ≡ concat outputs
   pub counted : console.lines ≡ length lines
   pub held : console.held ≡ capped rest

@@ -13,6 +13,12 @@ pub enum Act<'a> {
     ListNames,
     /// A call.
     Ask(Ask<'a>),
+    /// The reader is to hold one copy more of an Id.
+    Pin(Id),
+    /// The reader is to let one copy of an Id go.
+    Unpin(Id),
+    /// What the object of an Id that the reader holds was created as is asked for.
+    ShowCard(Id),
 }
 
 /// A call of the manager, with names and handles as they stand in the line.

@@ -1,6 +1,7 @@
-use ob_manager::Reply;
+use ob_manager::{Card, Reply};
 use ob_name::NameRef;
-use pin_core::Id;
+use pin_core::{Descr, Id};
+use pin_words::PinFault;
 
 /// What a line of the output says.
 #[derive(Clone, Copy)]
@@ -13,4 +14,10 @@ pub enum Answer<'a> {
     NameCount(usize),
     /// A name of the directory, with its object.
     Named(NameRef<'a>, Id),
+    /// An Id is pinned, or why not.
+    Pinned(Id, Result<Descr, PinFault>),
+    /// Whether a copy of an Id was let go.
+    Unpinned(Id, bool),
+    /// What the object of an Id was created as, where the Id is held.
+    Shown(Option<Card>),
 }

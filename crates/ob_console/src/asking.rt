@@ -1,19 +1,29 @@
-ghost use Rattle.std.specs.Prelude.{◌≡◌, take};
+ghost use Rattle.std.specs.Prelude.{◌≡◌, Some, take};
 ghost use Rattle.ob_manager.specs.Steps.{Step};
 ghost use Rattle.ob_manager.specs.declared.call.Call.TheVariants as Call;
 ghost use Rattle.ob_console.specs.Words.{handles_in};
 ghost use Rattle.ob_console.specs.Acts.{call_in};
+ghost use Rattle.ob_console.specs.Runs.{Spares};
 
 use crate::act::Ask;
 use crate::numbers::labelled;
 use crate::words::Words;
 use arrayvec::ArrayVec;
 use ob_manager::{Manager, Mode, Reply, Timeout};
-use pin_words::LockedPins;
+use ob_reader::reap;
+use pin_words::{Keeper, Reader};
 
-/// Makes a call.
-pub fn reply_to(manager: &mut Manager<LockedPins>, ask: Ask<'_>) -> Reply
-    ensures { Step manager.old (call_in ask.entry) result manager.new }
+/// Makes a call. The reader meets the manager where a slot is reaped of which it holds something.
+pub fn reply_to<'a>(
+    manager: &mut Manager<Keeper<'a>>,
+    reader: &mut Reader<'a>,
+    ask: Ask<'_>,
+) -> Reply
+    requires { manager.old.keeper.table ≡ Some reader.old.table }
+    ensures step { Step manager.old (call_in ask.entry) result manager.new }
+    ensures spares { Spares reader.old.view.held (call_in ask.entry) result }
+    ensures held { reader.new.view.held ≡ reader.old.view.held }
+    ensures table { reader.new.table ≡ reader.old.table }
 {
     match ask {
         Ask::Spawn { session } => manager.spawn(session),
@@ -71,14 +81,14 @@ pub fn reply_to(manager: &mut Manager<LockedPins>, ask: Ask<'_>) -> Reply
         Ask::Expire { wait } => manager.expire(wait),
         Ask::EndThread { thread } => manager.end_thread(thread),
         Ask::Exit { process } => manager.exit(process),
-        Ask::Reap { slot } => manager.reap(slot),
+        Ask::Reap { slot } => reap(manager, reader, slot),
         Ask::Counts { id } => manager.counts(id),
     }
 }
 
 /// Waits for objects. Of a list that is too long no more than its beginning is asked for: the answer is the same.
-fn wait_for(
-    manager: &mut Manager<LockedPins>,
+fn wait_for<'a>(
+    manager: &mut Manager<Keeper<'a>>,
     thread: u32,
     mode: Mode,
     timeout: Timeout,

@@ -1,15 +1,16 @@
-ghost use Rattle.std.specs.Prelude.{[], ◌++◌, ◌≡◌, ◌+◌, ◌<◌, ◌≤◌, IsTrue, codes, decimal, length};
+ghost use Rattle.std.specs.Prelude.{[], ◌∷◌, ◌++◌, ◌≡◌, ◌+◌, ◌^◌, ◌<◌, ◌≤◌, IsTrue, codes, decimal, false, length};
+ghost use Rattle.std.specs.Fmt.{digit_glyph, digits};
 ghost use Rattle.ob_name.specs.Refs.{namespace_of};
-ghost use Rattle.ob_console.specs.Printed.{printed_answer, printed_id, printed_reclaim, printed_reply, printed_space};
+ghost use Rattle.ob_console.specs.Printed.{printed_answer, printed_card, printed_descr, printed_fault, printed_id, printed_pin, printed_reclaim, printed_reply, printed_space, printed_unpin};
 
 use crate::answer::Answer;
 use arrayvec::ArrayVec;
 use itoa::Buffer;
-use ob_manager::Reply;
+use ob_manager::{Card, Reply};
 use ob_name::Space;
-use ob_rights::code_of;
-use pin_core::Id;
-use pin_words::Reclaim;
+use ob_rights::{Kind, code_of};
+use pin_core::{Descr, Id};
+use pin_words::{PinFault, Reclaim};
 use std::marker::Model;
 
 /// The size of a block, in bytes.
@@ -84,6 +85,9 @@ impl Block {
                 self.text(b" ");
                 self.text(name.base);
             }
+            Answer::Pinned(id, answer) => self.pin(id, answer),
+            Answer::Unpinned(id, done) => self.unpin(id, done),
+            Answer::Shown(card) => self.card(card),
         }
         self.text(b"\n");
     }
@@ -237,6 +241,84 @@ impl Block {
         }
     }
 
+    fn pin(&mut self, id: Id, answer: Result<Descr, PinFault>)
+        requires { length self.old + 300 ≤ BLOCK }
+        ensures value { self.new ≡ self.old ++ printed_pin id answer }
+        ensures len { length self.new ≤ length self.old + 200 }
+    {
+        match answer {
+            Ok(descr) => {
+                self.text(b"pinned ");
+                self.id(id);
+                self.text(b" ");
+                self.descr(descr);
+            }
+            Err(fault) => self.fault(fault),
+        }
+    }
+
+    fn fault(&mut self, fault: PinFault)
+        requires { length self.old + 100 ≤ BLOCK }
+        ensures value { self.new ≡ self.old ++ printed_fault fault }
+        ensures len { length self.new ≤ length self.old + 10 }
+    {
+        match fault {
+            PinFault::NoSuchSlot => self.text(b"no slot"),
+            PinFault::Unborn => self.text(b"unborn"),
+            PinFault::Stale => self.text(b"stale"),
+            PinFault::Busy { seen: _ } => self.text(b"busy"),
+            PinFault::PinsFull => self.text(b"pins full"),
+            PinFault::HeldFull => self.text(b"held full"),
+        }
+    }
+
+    fn unpin(&mut self, id: Id, done: bool)
+        requires { length self.old + 300 ≤ BLOCK }
+        ensures value { self.new ≡ self.old ++ printed_unpin id done }
+        ensures len { length self.new ≤ length self.old + 200 }
+    {
+        if done {
+            self.text(b"unpinned ");
+            self.id(id);
+        } else {
+            self.text(b"not held");
+        }
+    }
+
+    fn card(&mut self, card: Option<Card>)
+        requires { length self.old + 300 ≤ BLOCK }
+        ensures value { self.new ≡ self.old ++ printed_card card }
+        ensures len { length self.new ≤ length self.old + 200 }
+    {
+        match card {
+            Some(card) => {
+                self.text(b"card ");
+                self.id(card.id);
+                self.text(b" ");
+                self.descr(card.descr);
+                self.text(b" grant 0x");
+                self.hexadecimal(card.grant.0, 8);
+            }
+            None => self.text(b"not held"),
+        }
+    }
+
+    fn descr(&mut self, descr: Descr)
+        requires { length self.old + 100 ≤ BLOCK }
+        ensures value { self.new ≡ self.old ++ printed_descr descr }
+        ensures len { length self.new ≤ length self.old + 60 }
+    {
+        match descr.kind {
+            Kind::Event if descr.manual => self.text(b"event manual"),
+            Kind::Event => self.text(b"event auto"),
+            Kind::Mutex => self.text(b"mutex"),
+            Kind::Semaphore => {
+                self.text(b"semaphore ");
+                self.number(u64::from(descr.max));
+            }
+        }
+    }
+
     fn space(&mut self, space: Space)
         requires { length self.old + 100 ≤ BLOCK }
         ensures value { self.new ≡ self.old ++ printed_space (namespace_of space) }
@@ -250,5 +332,35 @@ impl Block {
                 self.text(b" ");
             }
         }
+    }
+
+    // A number in lower-case hexadecimal, which has at most so many digits.
+    #[tactic(auto, using(crate::proofs::Hexadecimal::one_digit, crate::proofs::Hexadecimal::fits))]
+    fn hexadecimal(&mut self, number: u32, most: u32)
+        requires fits { number < 16 ^ most }
+        requires some { 0 < most }
+        requires room { length self.old + most ≤ BLOCK }
+        ensures value { self.new ≡ self.old ++ digits 16 false number }
+        ensures len { length self.new ≤ length self.old + most }
+    {
+        if number < 16 {
+            return self.glyph(number);
+        }
+        self.hexadecimal(number / 16, most - 1);
+        self.glyph(number % 16);
+    }
+
+    fn glyph(&mut self, digit: u32)
+        requires digit { digit < 16 }
+        requires room { length self.old < BLOCK }
+        ensures value { self.new ≡ self.old ++ digit_glyph false digit ∷ [] }
+        ensures len { length self.new ≡ length self.old + 1 }
+    {
+        let glyph = if digit < 10 {
+            b'0' + digit as u8
+        } else {
+            b'a' + (digit as u8 - 10)
+        };
+        let _ = self.bytes.try_push(glyph);
     }
 }

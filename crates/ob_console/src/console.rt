@@ -1,5 +1,5 @@
 ghost use Rattle.std.specs.Prelude.{◌≡◌, ◌+◌, ◌<◌, ◌≤◌, ◌^◌, ◌++◌, ◌⊎◌, ◌≢◌, All, [], None, Some, List, ℕ, IfErr, IfOk, OnOk, OnErr, length};
-ghost use Rattle.ob_console.specs.Runs.{IsWithin, AnswersAll, opening_whole};
+ghost use Rattle.ob_console.specs.Runs.{IsWithin, AnswersAll, point};
 ghost use Rattle.ob_console.specs.Printed.{line_end};
 ghost use Rattle.ob_console.specs.Sessions.{Advances, IsWritten, Session, Finishes, IsFed, IsCutShort};
 
@@ -9,33 +9,40 @@ use crate::grammar::act_of;
 use crate::held::HeldLine;
 use crate::output::NotWritten;
 use crate::words::cut_far;
-use ob_manager::Limits;
+use ob_manager::Manager;
 use ob_rights::Fault;
+use pin_words::{Keeper, Reader};
 use std::alloc::Global;
 use std::marker::Model;
 
-/// A manager, and what a script has of it so far.
+/// A manager and a reader of the same pins, and what a script has of them so far.
 #[derive(Drop)]
-pub struct Console {
-    evaluator: Evaluator,
+pub struct Console<'a> {
+    evaluator: Evaluator<'a>,
     held: HeldLine,
 }
 
-impl Model for Console {
+impl<'a> Model for Console<'a> {
     ghost use Rattle.ob_console.specs.Sessions.{ConsoleState};
 
     ghost Value = { ConsoleState };
 
-    ghost view = { λ console. record { whole = console.evaluator.whole; pending = console.evaluator.pending; held = console.held; lines = console.evaluator.lines } };
+    ghost view = { λ console. record { point = console.evaluator.point; pending = console.evaluator.pending; held = console.held; lines = console.evaluator.lines } };
 }
 
-impl Console {
+impl<'a> Console<'a> {
     /// No line has come. Takes all the memory that it will need, other than that of the manager's calls.
-    pub fn new(alloc: Global, limits: Limits, writes: u64) -> Result<Console, Fault>
-        ensures opening { IfOk result (λ console. console ≡ record { whole = opening_whole limits; pending = record { bytes = []; writes_left = writes }; held = Some []; lines = 0 }) }
+    pub fn new(
+        alloc: Global,
+        manager: Manager<Keeper<'a>>,
+        reader: Reader<'a>,
+        writes: u64,
+    ) -> Result<Console<'a>, Fault>
+        requires { manager.keeper.table ≡ Some reader.table }
+        ensures opening { IfOk result (λ console. console ≡ record { point = point manager.entry reader.entry.view.held; pending = record { bytes = []; writes_left = writes }; held = Some []; lines = 0 }) }
         ensures memory { IfErr result (λ fault. fault ≡ Fault.Memory) }
     {
-        let evaluator = Evaluator::new(alloc, limits, writes)?;
+        let evaluator = Evaluator::new(alloc, manager, reader, writes)?;
         Ok(Console {
             evaluator,
             held: HeldLine::new(),

@@ -1,8 +1,8 @@
-ghost use Rattle.std.specs.Prelude.{◌≡◌, ◌+◌, ◌<◌, ◌≤◌, ◌^◌, ◌++◌, ◌⊎◌, List, ℕ, IfErr, IfOk, OnErr, OnOk, []};
+ghost use Rattle.std.specs.Prelude.{◌≡◌, ◌+◌, ◌<◌, ◌≤◌, ◌^◌, ◌++◌, ◌⊎◌, List, ℕ, IfErr, IfOk, OnErr, OnOk, Some, []};
 ghost use Rattle.ob_store.specs.Directory.{directory_of};
 ghost use Rattle.ob_console.specs.Acts.{act_in};
 ghost use Rattle.ob_console.specs.Printed.{printed_names};
-ghost use Rattle.ob_console.specs.Runs.{Prints, opening_whole};
+ghost use Rattle.ob_console.specs.Runs.{Prints, point};
 ghost use Rattle.ob_console.specs.Sessions.{IsWritten};
 ghost use Rattle.ob_console.specs.Devices.{Begins};
 
@@ -11,38 +11,50 @@ use crate::answer::Answer;
 use crate::asking::reply_to;
 use crate::device::Sink;
 use crate::output::{NotWritten, Output};
-use ob_manager::{Limits, Manager};
+use ob_manager::Manager;
+use ob_reader::{card, pin, unpin};
 use ob_rights::Fault;
-use pin_words::LockedPins;
+use pin_words::{Keeper, Reader};
 use std::alloc::Global;
 use std::marker::Model;
 
-/// A manager, and the answers that it gave.
+/// A manager and a reader of the same pins, and the answers that they gave.
 #[derive(Drop)]
-pub struct Evaluator {
-    manager: Manager<LockedPins>,
+pub struct Evaluator<'a> {
+    manager: Manager<Keeper<'a>>,
+    reader: Reader<'a>,
     output: Output,
     lines: u128,
 }
 
-impl Model for Evaluator {
+impl<'a> Model for Evaluator<'a> {
+    ghost use Rattle.std.specs.Prelude.{◌≡◌, Some};
+    ghost use Rattle.ob_console.specs.Runs.{point};
     ghost use Rattle.ob_console.specs.Sessions.{Evaluation};
 
     ghost Value = { Evaluation };
 
-    ghost view = { λ evaluator. record { whole = evaluator.manager; pending = evaluator.output; lines = evaluator.lines } };
+    ghost view = { λ evaluator. record { point = point evaluator.manager evaluator.reader.view.held; pending = evaluator.output; lines = evaluator.lines } };
+
+    ghost invariant = { λ evaluator. evaluator.manager.keeper.table ≡ Some evaluator.reader.table };
 }
 
-impl Evaluator {
+impl<'a> Evaluator<'a> {
     /// No line has come. Takes all the memory that it will need, other than that of the manager's calls.
-    pub fn new(alloc: Global, limits: Limits, writes: u64) -> Result<Evaluator, Fault>
-        ensures opening { IfOk result (λ evaluator. evaluator ≡ record { whole = opening_whole limits; pending = record { bytes = []; writes_left = writes }; lines = 0 }) }
+    pub fn new(
+        alloc: Global,
+        manager: Manager<Keeper<'a>>,
+        reader: Reader<'a>,
+        writes: u64,
+    ) -> Result<Evaluator<'a>, Fault>
+        requires { manager.keeper.table ≡ Some reader.table }
+        ensures opening { IfOk result (λ evaluator. evaluator ≡ record { point = point manager.entry reader.entry.view.held; pending = record { bytes = []; writes_left = writes }; lines = 0 }) }
         ensures memory { IfErr result (λ fault. fault ≡ Fault.Memory) }
     {
-        let manager = opened(alloc, limits)?;
         let output = Output::new(alloc, writes)?;
         Ok(Evaluator {
             manager,
+            reader,
             output,
             lines: 0,
         })
@@ -51,7 +63,7 @@ impl Evaluator {
     /// Does what a line asks, and prints its answer.
     pub fn answer<W: Sink>(&mut self, sink: &mut W, act: Act<'_>) -> Result<(), NotWritten>
         requires { self.old.lines < 2 ^ 127 }
-        ensures prints { (printed : List ℕ) × Prints self.old.whole (self.old.lines + 1) (act_in act.entry) printed self.new.whole
+        ensures prints { (printed : List ℕ) × Prints self.old.point (self.old.lines + 1) (act_in act.entry) printed self.new.point
             × IsWritten result (W.taken sink.old) (W.taken sink.new) (self.old.pending.bytes ++ printed) self.new.pending.bytes }
         ensures lines { self.new.lines ≡ self.old.lines + 1 }
         ensures calls { W.calls sink.new + self.new.pending.writes_left ≡ W.calls sink.old + self.old.pending.writes_left }
@@ -63,14 +75,17 @@ impl Evaluator {
             Act::Nothing => return Ok(()),
             Act::ListNames => return list(&self.manager, &mut self.output, sink),
             Act::Bad => Answer::BadLine(self.lines),
-            Act::Ask(ask) => Answer::Replied(reply_to(&mut self.manager, ask)),
+            Act::Ask(ask) => { Answer::Replied(reply_to(&mut self.manager, &mut self.reader, ask)) }
+            Act::Pin(id) => Answer::Pinned(id, pin(&mut self.manager, &mut self.reader, id)),
+            Act::Unpin(id) => Answer::Unpinned(id, unpin(&mut self.reader, id)),
+            Act::ShowCard(id) => { Answer::Shown(card(&mut self.manager, &mut self.reader, id)) }
         };
         self.output.put(sink, answer)
     }
 
     /// Writes all that is printed.
     pub fn flush<W: Sink>(&mut self, sink: &mut W) -> Result<(), NotWritten>
-        ensures whole { self.new.whole ≡ self.old.whole }
+        ensures point { self.new.point ≡ self.old.point }
         ensures lines { self.new.lines ≡ self.old.lines }
         ensures ok { OnOk result (W.taken sink.new ≡ W.taken sink.old ++ self.old.pending.bytes) }
         ensures empty { OnOk result (self.new.pending.bytes ≡ []) }
@@ -83,21 +98,9 @@ impl Evaluator {
     }
 }
 
-/// A manager with no process, over pins under a lock.
-fn opened(alloc: Global, limits: Limits) -> Result<Manager<LockedPins>, Fault>
-    ensures opening { IfOk result (λ manager. manager ≡ opening_whole limits) }
-    ensures memory { IfErr result (λ fault. fault ≡ Fault.Memory) }
-{
-    let keeper = LockedPins::new(alloc, limits.shape())?;
-    match Manager::new(alloc, limits, keeper) {
-        Ok(manager) => Ok(manager),
-        Err(_) => Err(Fault::Memory),
-    }
-}
-
 /// Prints the names of objects.
-fn list<W: Sink>(
-    manager: &Manager<LockedPins>,
+fn list<'a, W: Sink>(
+    manager: &Manager<Keeper<'a>>,
     output: &mut Output,
     sink: &mut W,
 ) -> Result<(), NotWritten>

@@ -2,7 +2,7 @@ ghost use Rattle.std.specs.Prelude.{◌≡◌, ◌≤◌, IfSome};
 ghost use Rattle.std.specs.Option.{option_map};
 ghost use Rattle.ob_console.specs.Words.{are_handles, words_of};
 ghost use Rattle.ob_console.specs.Acts.{act_in, call_in};
-ghost use Rattle.ob_console.specs.Grammar.{access_of, act_of, call_of, child_of, close_of, closing_of, count_of, dup_of, endthread_of, event_of, exit_of, expire_of, handle_of, mode_of, mutex_of, open_of, reap_of, release_of, reset_of, result_of, semaphore_of, set_of, spawn_of, target_of, text_of, thread_of, timeout_of, unlock_of, wait_of};
+ghost use Rattle.ob_console.specs.Grammar.{access_of, act_of, call_of, card_of, child_of, close_of, closing_of, count_of, dup_of, endthread_of, event_of, exit_of, expire_of, handle_of, mode_of, mutex_of, object_of, open_of, pin_of, reading_of, reap_of, release_of, reset_of, result_of, semaphore_of, set_of, spawn_of, target_of, text_of, thread_of, timeout_of, unlock_of, unpin_of, wait_of};
 
 use crate::act::{Act, Ask};
 use crate::naming::{make_of, name_of};
@@ -11,6 +11,7 @@ use crate::rights::{kind_of, mask_of};
 use crate::words::{Words, is};
 use ob_manager::{Mode, Timeout};
 use ob_rights::Rights;
+use pin_core::Id;
 
 /// The longest text of a line, in bytes.
 pub const TEXT_MOST: usize = 4096;
@@ -29,8 +30,11 @@ pub fn act_of(line: &[u8]) -> Act<'_>
     if is(text, b"dir") {
         return Act::ListNames;
     }
-    match call_of(Words::of(text)) {
-        Some(ask) => Act::Ask(ask),
+    if let Some(ask) = call_of(Words::of(text)) {
+        return Act::Ask(ask);
+    }
+    match reading_of(Words::of(text)) {
+        Some(act) => act,
         None => Act::Bad,
     }
 }
@@ -442,4 +446,51 @@ fn count_of(mut words: Words<'_>) -> Option<Ask<'_>>
     words.end()?;
     let id = id_of(object)?;
     Some(Ask::Counts { id })
+}
+
+/// What is asked of the reader.
+fn reading_of(mut words: Words<'_>) -> Option<Act<'_>>
+    ensures { option_map act_in result ≡ reading_of words.entry }
+{
+    let verb = words.next()?;
+    if is(verb, b"pin") {
+        return pin_of(words);
+    }
+    if is(verb, b"unpin") {
+        return unpin_of(words);
+    }
+    if is(verb, b"card") {
+        return card_of(words);
+    }
+    None
+}
+
+fn pin_of(words: Words<'_>) -> Option<Act<'_>>
+    ensures { option_map act_in result ≡ pin_of words.entry }
+{
+    let id = object_of(words)?;
+    Some(Act::Pin(id))
+}
+
+fn unpin_of(words: Words<'_>) -> Option<Act<'_>>
+    ensures { option_map act_in result ≡ unpin_of words.entry }
+{
+    let id = object_of(words)?;
+    Some(Act::Unpin(id))
+}
+
+fn card_of(words: Words<'_>) -> Option<Act<'_>>
+    ensures { option_map act_in result ≡ card_of words.entry }
+{
+    let id = object_of(words)?;
+    Some(Act::ShowCard(id))
+}
+
+/// An object, behind which nothing stands.
+fn object_of(mut words: Words<'_>) -> Option<Id>
+    ensures { result ≡ object_of words.entry }
+{
+    let object = words.next()?;
+    words.end()?;
+    id_of(object)
 }

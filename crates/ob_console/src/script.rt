@@ -1,11 +1,13 @@
-ghost use Rattle.std.specs.Prelude.{◌≡◌, ◌+◌, ◌<◌, ◌≤◌, ◌++◌, ◌⊎◌, [], List, ℕ, IfOk, OnOk, IsErrOf, length, vec_len};
+ghost use Rattle.std.specs.Prelude.{◌≡◌, ◌+◌, ◌<◌, ◌≤◌, ◌++◌, ◌⊎◌, [], List, ℕ, IfOk, IfSome, OnOk, IsErrOf, Some, length, vec_len};
 ghost use Rattle.ob_store.specs.declared.limits.Limits.{Limits};
+ghost use Rattle.ob_store.specs.State.{shape_of};
 ghost use Rattle.ob_console.specs.Sessions.{Session};
-ghost use Rattle.ob_console.specs.Runs.{IsEnded};
+ghost use Rattle.ob_console.specs.Runs.{IsEnded, IsOpening};
 
 use crate::console::Console;
 use crate::device::{Sink, Source, Trouble};
-use ob_manager::Limits;
+use ob_manager::{Limits, Manager};
+use pin_words::{Opening, Pins};
 use std::alloc::{AllocError, Global};
 
 /// Why a run ended before the whole input was answered.
@@ -25,8 +27,8 @@ const BLOCK: usize = 65536;
 /// How many reads, and how many writes, [`run`] makes at most.
 pub const CALLS_MOST: u64 = 1_000_000_000;
 
-/// Runs a script: reads blocks to the end of the input, answers each line, and writes all answers to a block before it
-/// reads on. Takes memory only at its start, but for the manager's calls.
+/// Runs a script over a new manager and one reader of its pins: reads blocks to the end of the input, answers each line, and
+/// writes all answers to a block before it reads on. Takes memory only at its start, but for the manager's calls.
 pub fn run<R: Source, W: Sink>(
     alloc: Global,
     limits: Limits,
@@ -63,7 +65,10 @@ pub fn run_bounded<R: Source, W: Sink>(
     ensures reads { R.calls reader.new ≤ R.calls reader.old + reads }
     ensures writes { W.calls writer.new ≤ W.calls writer.old + writes }
 {
-    let Ok(mut console) = Console::new(alloc, limits, writes) else {
+    let Ok((pins, opening)) = Pins::new(alloc, limits.shape()) else {
+        return Err(RunFault::Memory);
+    };
+    let Some(mut console) = opened(alloc, limits, &pins, opening, writes) else {
         return Err(RunFault::Memory);
     };
     let Ok(mut block) = zeros(alloc, BLOCK) else {
@@ -72,9 +77,37 @@ pub fn run_bounded<R: Source, W: Sink>(
     answer_all(&mut console, &mut block, reads, reader, writer)
 }
 
+/// A console of which no line has come, over a manager with no process and a reader that holds nothing; none where memory is
+/// wanting.
+fn opened<'a>(
+    alloc: Global,
+    limits: Limits,
+    pins: &'a Pins,
+    opening: Opening,
+    writes: u64,
+) -> Option<Console<'a>>
+    requires same { opening ≡ pins.now }
+    requires shape { opening.shape ≡ shape_of limits }
+    ensures opens { IfSome result (λ console. IsOpening limits console.point) }
+    ensures lines { IfSome result (λ console. console.lines ≡ 0) }
+    ensures held { IfSome result (λ console. console.held ≡ Some []) }
+    ensures pending { IfSome result (λ console. console.pending ≡ record { bytes = []; writes_left = writes }) }
+{
+    let Ok((keeper, reader)) = opening.start(pins) else {
+        return None;
+    };
+    let Ok(manager) = Manager::new(alloc, limits, keeper) else {
+        return None;
+    };
+    match Console::new(alloc, manager, reader, writes) {
+        Ok(console) => Some(console),
+        Err(_) => None,
+    }
+}
+
 /// Answers a script block by block, from a console of which no line has come, with at most so many reads.
 fn answer_all<R: Source, W: Sink>(
-    console: &mut Console,
+    console: &mut Console<'_>,
     block: &mut [u8],
     reads: u64,
     reader: &mut R,

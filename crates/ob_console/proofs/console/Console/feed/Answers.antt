@@ -27,7 +27,7 @@ loop-end-preserved g c =
 
 pub returns-clause-ok : goal.returns-clause-ok
 returns-clause-ok g c =
-    let now : ConsoleState = record { whole = c.self.inside.evaluator.whole; pending = c.self.inside.evaluator.pending; held = c.self.inside.held; lines = c.self.inside.evaluator.lines } in
+    let now : ConsoleState = record { point = c.self.inside.evaluator.point; pending = c.self.inside.evaluator.pending; held = c.self.inside.held; lines = c.self.inside.evaluator.lines } in
     let new : ConsoleState = record now { held = c.extend.new.self } in
     fed_rest c.args.self.now now new c.args.block.now c.loop-end.rest.now (g.W.Sink.taken c.args.sink.now) (g.W.Sink.taken c.loop-end.sink)
     (subst (λ (console : ConsoleState). IsFed c.args.self.now console c.args.block.now c.loop-end.rest.now (g.W.Sink.taken c.args.sink.now) (g.W.Sink.taken c.loop-end.sink)) (sym c.self.view_is) c.loop-end.invariant.fed)

@@ -12,8 +12,8 @@ returns-then-is_empty-clause-finishes g c =
 
 pub returns-clause-finishes : goal.returns-clause-finishes
 returns-clause-finishes g c =
-    let old : ConsoleState = record { whole = c.self.inside.evaluator.whole; pending = c.self.inside.evaluator.pending; held = c.self.inside.held; lines = c.self.inside.evaluator.lines } in
-    let new : ConsoleState = record { whole = c.answer.new.self.whole; pending = c.answer.new.self.pending; held = c.self.inside.held; lines = c.answer.new.self.lines } in
+    let old : ConsoleState = record { point = c.self.inside.evaluator.point; pending = c.self.inside.evaluator.pending; held = c.self.inside.held; lines = c.self.inside.evaluator.lines } in
+    let new : ConsoleState = record { point = c.answer.new.self.point; pending = c.answer.new.self.pending; held = c.self.inside.held; lines = c.answer.new.self.lines } in
     let prints = c.answer.ensures.prints in
     subst (λ (old : ConsoleState). (printed : List ℕ) × Finishes old printed
     × IsWritten c.answer.result (g.W.Sink.taken c.args.sink.now) (g.W.Sink.taken c.answer.new.sink) (old.pending.bytes ++ printed) c.answer.new.self.pending.bytes)
@@ -21,6 +21,6 @@ returns-clause-finishes g c =
       prints.0,
       finishes_line old new prints.0
           (λ empty. let passes = c.is_empty.ensures.1 empty in let fails = c.if-is_empty.false in cc)
-          (subst (λ (act : Act). Prints old.whole (old.lines + 1) act prints.0 new.whole) c.act.ensures prints.1),
+          (subst (λ (act : Act). Prints old.point (old.lines + 1) act prints.0 new.point) c.act.ensures prints.1),
       prints.2,
     )

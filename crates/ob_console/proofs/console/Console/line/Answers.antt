@@ -9,8 +9,8 @@ use Rattle.ob_console.proofs.console.Console.line.Goals as goal
 
 pub returns-then-is_empty-clause-advances : goal.returns-then-is_empty-clause-advances
 returns-then-is_empty-clause-advances g c =
-    let old : ConsoleState = record { whole = c.self.inside.evaluator.whole; pending = c.self.inside.evaluator.pending; held = c.self.inside.held; lines = c.self.inside.evaluator.lines } in
-    let new : ConsoleState = record { whole = c.answer.new.self.whole; pending = c.answer.new.self.pending; held = c.self.inside.held; lines = c.answer.new.self.lines } in
+    let old : ConsoleState = record { point = c.self.inside.evaluator.point; pending = c.self.inside.evaluator.pending; held = c.self.inside.held; lines = c.self.inside.evaluator.lines } in
+    let new : ConsoleState = record { point = c.answer.new.self.point; pending = c.answer.new.self.pending; held = c.self.inside.held; lines = c.answer.new.self.lines } in
     let empty = c.is_empty.ensures.0 c.if-is_empty.true in
     let prints = c.answer.ensures.prints in
     subst (λ (old : ConsoleState). (printed : List ℕ) × Advances old (c.args.end.now ++ line_end) printed new
@@ -25,8 +25,8 @@ returns-then-is_empty-clause-advances g c =
 
 pub returns-clause-advances : goal.returns-clause-advances
 returns-clause-advances g c =
-    let old : ConsoleState = record { whole = c.self.inside.evaluator.whole; pending = c.self.inside.evaluator.pending; held = c.self.inside.held; lines = c.self.inside.evaluator.lines } in
-    let new : ConsoleState = record { whole = c.answer-answered.new.self.whole; pending = c.answer-answered.new.self.pending; held = c.clear.new.self; lines = c.answer-answered.new.self.lines } in
+    let old : ConsoleState = record { point = c.self.inside.evaluator.point; pending = c.self.inside.evaluator.pending; held = c.self.inside.held; lines = c.self.inside.evaluator.lines } in
+    let new : ConsoleState = record { point = c.answer-answered.new.self.point; pending = c.answer-answered.new.self.pending; held = c.clear.new.self; lines = c.answer-answered.new.self.lines } in
     let prints = c.answer-answered.ensures.prints in
     subst (λ (old : ConsoleState). (printed : List ℕ) × Advances old (c.args.end.now ++ line_end) printed new
     × IsWritten c.answer-answered.result (g.W.Sink.taken c.args.sink.now) (g.W.Sink.taken c.answer-answered.new.sink) (old.pending.bytes ++ printed) c.answer-answered.new.self.pending.bytes)

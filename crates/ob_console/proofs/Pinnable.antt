@@ -1,0 +1,66 @@
+-- Every pin may be answered, in any state and whatever is held.
+use Rattle.std.proofs.Common.{◌≡◌, ℕ, ◌<◌, ◌≤◌, Bool, true, false, List, length, false, None, nat_lt, slice_index_or, refl, inr, arith}
+use Rattle.std.specs.Prelude.{Result, Ok, Err}
+use Rattle.std.proofs.lemmas.Grind.{common_steps}
+use Rattle.pin_core.specs.declared.id.Id.{Id}
+use Rattle.pin_core.specs.declared.descr.Descr.{Descr}
+use Rattle.pin_core.specs.declared.word.Word.{Word}
+use Rattle.pin_core.specs.Holds.{tally}
+use Rattle.pin_words.specs.declared.fault.Verdict.{Verdict}
+use Rattle.pin_words.specs.declared.fault.Verdict.TheVariants.{Unborn, Stale, PinsFull, Go}
+use Rattle.pin_words.specs.declared.fault.PinFault.{PinFault}
+use Rattle.pin_words.specs.declared.fault.PinFault.TheVariants as fault
+use Rattle.pin_words.specs.Verdicts.{verdict_of}
+use Rattle.pin_words.specs.Views.{sits}
+use Rattle.ob_store.specs.State.{State}
+use Rattle.ob_reader.specs.Pinning.{Judged, Pins, phase_at}
+
+pub record CanPin (s : State) (held : List Id) (id : Id) : Type 0 where
+  pub answer : Result Descr PinFault
+  pub next : List Id
+  pub pins : Pins s held id answer next
+
+-- a word that the slot may have: nobody else pins it
+abbrev some_word : State → List Id → ℕ → Word
+some_word s held slot = record { generation = slice_index_or s.generations slot 1; phase = phase_at s slot; pins = tally (sits slot) held }
+
+record CanJudge (verdict : Verdict) (s : State) (held : List Id) (id : Id) : Type 0 where
+  pub answer : Result Descr PinFault
+  pub next : List Id
+  pub judged : Judged verdict s held id answer next
+
+-- where the word lets it be pinned, it may be busy
+can_judge : (verdict : Verdict) (s : State) (held : List Id) (id : Id) → CanJudge verdict s held id
+can_judge Unborn s held id = record { answer = Err fault.Unborn; next = held; judged = (refl, refl) }
+can_judge Stale s held id = record { answer = Err fault.Stale; next = held; judged = (refl, refl) }
+can_judge PinsFull s held id = record { answer = Err fault.PinsFull; next = held; judged = (refl, refl) }
+can_judge Go s held id =
+    let word : Word = some_word s held id.slot in
+    record { answer = Err (fault.Busy word); next = held; judged = inr (record { seen = word; told = refl; same = refl }) }
+
+pub can_pin : (s : State) (held : List Id) (id : Id) → CanPin s held id
+can_pin s held id = by_slot (nat_lt id.slot s.limits.slots) refl
+  where
+    by_room : id.slot < s.limits.slots → (b : Bool) → nat_lt (length held) 16 ≡ b → CanPin s held id
+    by_room inside true e =
+        let room : length held < 16 = grind (arith, common_steps) in
+        let word : Word = some_word s held id.slot in
+        let j = can_judge (verdict_of s.limits.max_pins id word) s held id in
+        record {
+          answer = j.answer;
+          next = j.next;
+          pins = record {
+            no_slot = λ out. absurd (let c : ⊥ = omega arith in c);
+            full = λ _ many. absurd (let c : ⊥ = omega arith in c);
+            tried = λ _ _. (word, record { generation = refl; phase = refl; pins = (let c : tally (sits id.slot) held ≤ tally (sits id.slot) held = omega arith in c) }, j.judged);
+          };
+        }
+    by_room inside false e =
+        let many : 16 ≤ length held = grind (arith, common_steps) in
+        record { answer = Err fault.HeldFull; next = held; pins = record { no_slot = λ out. absurd (let c : ⊥ = omega arith in c); full = λ _ _. (refl, refl); tried = λ _ few. absurd (let c : ⊥ = omega arith in c) } }
+
+    by_slot : (b : Bool) → nat_lt id.slot s.limits.slots ≡ b → CanPin s held id
+    by_slot true e = by_room (grind (arith, common_steps)) (nat_lt (length held) 16) refl
+    by_slot false e =
+        let out : s.limits.slots ≤ id.slot = grind (arith, common_steps) in
+        record { answer = Err fault.NoSuchSlot; next = held; pins = record { no_slot = λ _. (refl, refl); full = λ inside _. absurd (let c : ⊥ = omega arith in c); tried = λ inside _. absurd (let c : ⊥ = omega arith in c) } }
