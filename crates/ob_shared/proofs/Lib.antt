@@ -1,3 +1,5 @@
+pub mod Going
 pub mod Journals
 pub mod LaneLists
 pub mod Parts
+pub mod Room

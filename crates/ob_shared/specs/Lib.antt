@@ -1,3 +1,4 @@
 pub mod Journal
 pub mod Lanes
 pub mod Closing
+pub mod Members

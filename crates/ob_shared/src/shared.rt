@@ -1,6 +1,7 @@
-ghost use Rattle.std.specs.Prelude.{◌≡◌};
+ghost use Rattle.std.specs.Prelude.{◌≡◌, ◌<◌, [], ◌∷◌, ◌++◌, IfOk, IfErr, vec_len, vec_capacity};
+ghost use Rattle.ob_manager.specs.declared.reply.Reply.TheVariants.{Refused};
 
-use crate::book::{Book, Entry};
+use crate::book::{Book, Entry, Receipt};
 use crate::closing::{CloseCause, cause_of};
 use crate::lane::Lane;
 use ob_manager::{Call, Card, Manager, Reply};
@@ -60,6 +61,10 @@ impl<'a> Shared<'a> {
         }
     }
 
+    pub(crate) fn alloc(&self) -> Global {
+        self.alloc
+    }
+
     /// The next lane, by rising number from 0. It is refused with 1450 after 65,536.
     pub fn lane(&mut self) -> Result<Lane, Fault>
         ensures ok { IfOk result (λ lane. (lane ≡ record { number = self.old; list = [] }) × (self.new ≡ self.old + 1)) }
@@ -77,21 +82,15 @@ impl<'a> Shared<'a> {
     /// is changed, entered or listed.
     #[tactic(auto, using(crate::proofs::LaneLists::are_of_more))]
     pub fn call<R: Wait>(&self, rt: &R, lane: &mut Lane, call: Call) -> Reply
-        ensures { Lists lane.old call result lane.new }
+        ensures listed { Lists lane.old call result lane.new }
+        ensures number { lane.new.number ≡ lane.old.number }
     {
         if lane.list.reserve(1).is_err() {
             return Reply::Refused(Fault::Memory);
         }
         let answer = self.book.lock(rt).enact(lane.number, call);
         self.changed.notify_all();
-        match answer {
-            Ok(receipt) => {
-                let reply = receipt.entry().reply;
-                lane.list.push_reserved(receipt);
-                reply
-            }
-            Err(fault) => Reply::Refused(fault),
-        }
+        list(&mut lane.list, answer)
     }
 
     /// Waits until a wait is no longer pending, and then asks for its result, under the same lock. It may wait forever.
@@ -99,6 +98,7 @@ impl<'a> Shared<'a> {
     pub fn block<R: Wait>(&self, rt: &R, lane: &mut Lane, wait: u32) -> Reply
         ensures listed { Lists lane.old (calls.WaitResult wait) result lane.new }
         ensures answered { (w : ℕ) → result ≢ replies.Pending w }
+        ensures number { lane.new.number ≡ lane.old.number }
     {
         if lane.list.reserve(1).is_err() {
             return Reply::Refused(Fault::Memory);
@@ -113,14 +113,7 @@ impl<'a> Shared<'a> {
         let answer = book.enact(lane.number, Call::WaitResult { wait });
         drop(book);
         self.changed.notify_all();
-        match answer {
-            Ok(receipt) => {
-                let reply = receipt.entry().reply;
-                lane.list.push_reserved(receipt);
-                reply
-            }
-            Err(fault) => Reply::Refused(fault),
-        }
+        list(&mut lane.list, answer)
     }
 
     /// What the object of an Id was created as, which the reader holds: as [`Manager::card`] answers it under the lock.
@@ -168,6 +161,22 @@ impl<'a> Shared<'a> {
                 cause,
             }),
         }
+    }
+}
+
+/// Lists a call that was entered, where there is room for one, and gives its reply.
+fn list(receipts: &mut Vec<Receipt>, answer: Result<Receipt, Fault>) -> Reply
+    requires { vec_len receipts.old < vec_capacity receipts.old }
+    ensures ok { IfOk answer (λ receipt. (receipts.new.items ≡ receipts.old.items ++ receipt ∷ []) × (result ≡ receipt.reply)) }
+    ensures err { IfErr answer (λ fault. (receipts.new.items ≡ receipts.old.items) × (result ≡ Refused fault)) }
+{
+    match answer {
+        Ok(receipt) => {
+            let reply = receipt.entry().reply;
+            receipts.push_reserved(receipt);
+            reply
+        }
+        Err(fault) => Reply::Refused(fault),
     }
 }
 

@@ -1,0 +1,146 @@
+ghost use Rattle.std.specs.Prelude.{◌≡◌, ◌<◌, false, true, [], IfNone, IfSome, vec_len, vec_capacity};
+ghost use Rattle.ob_shared.specs.declared.gate.Pass.TheVariants.{Go, Stop};
+ghost use Rattle.ob_shared.specs.Lanes.{Lists};
+ghost use Rattle.ob_shared.specs.Members.{Answers, Blocks, IsDriven, IsReady, between, is_wait, with_wait};
+
+use crate::act::{Act, Seen};
+use crate::gate::{Gate, Pass};
+use crate::lane::Lane;
+use crate::reading::{pin_descr, show, unpin};
+use crate::shared::Shared;
+use ob_manager::{Call, Reply};
+use ob_rights::Fault;
+use pin_words::Reader;
+use std::sync::Wait;
+
+/// Who makes calls of a [`Shared`] on a thread, by a script.
+#[derive(Drop)]
+pub struct Member<'a> {
+    /// Where its calls are listed.
+    pub lane: Lane,
+    /// What it pins by.
+    pub reader: Reader<'a>,
+    /// What it is to do, in this order.
+    pub script: Vec<Act>,
+    /// What its acts were answered with, in their order.
+    pub seen: Vec<Seen>,
+}
+
+/// Whether a call is one to wait.
+fn is_wait(call: &Call) -> bool
+    ensures { result ≡ is_wait call.now }
+{
+    matches!(call, Call::WaitFor { .. })
+}
+
+/// Keeps a wait that is pending, so that it can be blocked on.
+fn keep(waits: &mut Vec<u32>, waited: bool, reply: Reply)
+    requires { vec_len waits.old < vec_capacity waits.old }
+    ensures { waits.new.items ≡ with_wait waited reply waits.old.items }
+{
+    match reply {
+        Reply::Pending { wait } if waited => waits.push_reserved(wait),
+        _ => {}
+    }
+}
+
+/// Makes a copy of a call. Without memory the answer is 8.
+fn ask<'s, R: Wait>(
+    rt: &R,
+    shared: &Shared<'s>,
+    lane: &mut Lane,
+    waits: &mut Vec<u32>,
+    call: &Call,
+) -> Reply
+    ensures listed { Lists lane.old call.now result lane.new }
+    ensures number { lane.new.number ≡ lane.old.number }
+    ensures waits { waits.new.items ≡ with_wait (is_wait call.now) result waits.old.items }
+{
+    let Ok(copy) = call.copy(shared.alloc()) else {
+        return Reply::Refused(Fault::Memory);
+    };
+    if waits.reserve(1).is_err() {
+        return Reply::Refused(Fault::Memory);
+    }
+    let reply = shared.call(rt, lane, copy);
+    keep(waits, is_wait(call), reply);
+    reply
+}
+
+/// Waits for the last wait, and takes it.
+fn block<'s, R: Wait>(
+    rt: &R,
+    shared: &Shared<'s>,
+    lane: &mut Lane,
+    waits: &mut Vec<u32>,
+) -> Option<Reply>
+    ensures none { IfNone result ((waits.old.items ≡ []) × (waits.new.items ≡ []) × (lane.new ≡ lane.old)) }
+    ensures some { IfSome result (λ reply. Blocks reply lane.old waits.old.items lane.new waits.new.items) }
+    ensures number { lane.new.number ≡ lane.old.number }
+{
+    let wait = waits.pop()?;
+    let reply = shared.block(rt, lane, wait);
+    if reply == Reply::Refused(Fault::Memory) {
+        waits.push_reserved(wait);
+    }
+    Some(reply)
+}
+
+/// What an act is answered with.
+fn answer<'a, 's, R: Wait>(
+    rt: &R,
+    shared: &Shared<'s>,
+    lane: &mut Lane,
+    reader: &mut Reader<'a>,
+    waits: &mut Vec<u32>,
+    act: &Act,
+) -> Seen
+    ensures answers { Answers act.now result (between lane.old waits.old.items reader.old) (between lane.new waits.new.items reader.new) }
+    ensures number { lane.new.number ≡ lane.old.number }
+{
+    match act {
+        Act::Ask(call) => Seen::Reply(ask(rt, shared, lane, waits, call)),
+        Act::Pin(id) => Seen::Pinned(pin_descr(rt, reader, *id)),
+        Act::Unpin(id) => Seen::Unpinned(unpin(reader, *id)),
+        Act::ShowCard(id) => Seen::Shown(show(rt, shared, reader, *id)),
+        Act::Block => Seen::Blocked(block(rt, shared, lane, waits)),
+    }
+}
+
+/// Whether the gate lets a member of the lane do its act at the place.
+fn passes<R: Wait, G: Gate>(rt: &R, gate: &G, lane: u32, place: usize) -> bool
+    ensures go { result ≡ true → G.may_answer gate.now lane place Go }
+    ensures stop { result ≡ false → G.may_answer gate.now lane place Stop }
+{
+    gate.enter(rt, lane, place) == Pass::Go
+}
+
+/// Does a member's acts, as long as the gate lets it pass.
+#[tactic(auto, using(crate::proofs::Going::goes_on, crate::proofs::Going::run_stopped, crate::proofs::Going::run_whole))]
+pub(crate) fn run<'a, 's, R: Wait, G: Gate>(
+    rt: &R,
+    shared: &Shared<'s>,
+    gate: &G,
+    member: &mut Member<'a>,
+)
+    requires { IsReady member.old }
+    ensures { IsDriven (G.may_answer gate.now) member.old member.new }
+{
+    let mut waits = Vec::new(shared.alloc());
+    for place in 0..member.script.len() {
+        if !passes(rt, gate, member.lane.number(), place) {
+            member.seen.push_reserved(Seen::Stopped);
+            return;
+        }
+        let seen = answer(
+            rt,
+            shared,
+            &mut member.lane,
+            &mut member.reader,
+            &mut waits,
+            &member.script[place],
+        );
+        gate.leave(rt, member.lane.number(), place);
+        member.seen.push_reserved(seen);
+    }
+}
