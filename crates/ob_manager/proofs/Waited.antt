@@ -110,6 +110,10 @@ module _ (s : State) (p : ℕ) where
   all_collected hs ids lacks i all none is =
       entered hs ids (ap (λ (b : Bool). objects_from s p ids b []) (sym none) ∙ ap (objects_from s p ids lacks) (sym (drop_all i hs all)) ∙ is)
 
+-- the object of one handle
+pub single_there : (s : State) (p h : ℕ) (e : Entry) → entry_at (table_of s.tables p) h ≡ Some e → (i : ℕ) → i < length (e.id ∷ []) → 0 < handles_of s (get_or (e.id ∷ []) i nowhere)
+single_there s p h e is i lt = elim i as (λ i. i < length (e.id ∷ []) → 0 < handles_of s (get_or (e.id ∷ []) i nowhere)) [ zero ↦ λ lt. found_counts s.tables p h e is | suc i ↦ λ lt. absurd (omega (arith, lt)) ] lt
+
 -- objects of which none stands twice
 twice_not : (x : Id) (xs : List Id) → list_any (same_id x) xs ≡ false → (i : ℕ) → i < length xs → same_id x (get_or xs i nowhere) ≡ false
 twice_not x xs none i lt = by (same_id x (get_or xs i nowhere)) refl

@@ -62,9 +62,9 @@ objects_of s process handles = do
   Ok (map id_of entries)
 
 -- the objects that a body collected
-abbrev pub collected : Result (ArrayVec Id) Fault → Result (List Id) Fault
-collected (Ok ids) = Ok ids.items
-collected (Err e) = Err e
+abbrev pub collected : Result (Unit {0}) Fault → ArrayVec Id → Result (List Id) Fault
+collected (Ok done) ids = Ok ids.items
+collected (Err e) ids = Err e
 
 -- whether a wait for all is for one object twice
 abbrev pub is_for_one_twice : Mode → List Id → Bool

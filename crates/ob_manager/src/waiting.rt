@@ -1,9 +1,10 @@
-ghost use Rattle.std.specs.Prelude.{[], ℕ, ◌≡◌, ◌≢◌, ◌<◌, ◌≤◌, ◌↔◌, Err, IfErr, IfOk, IsSome, IsTrue, None, Ok, Some, length, slice_index_or, true};
+ghost use Rattle.std.specs.Prelude.{[], ◌∷◌, ℕ, ◌≡◌, ◌≢◌, ◌<◌, ◌≤◌, ◌↔◌, Err, IfErr, IfOk, IsSome, IsTrue, None, Ok, OnOk, Some, length, slice_index_or, true};
 ghost use Rattle.std.specs.List.{list_any};
 ghost use Rattle.ob_waits.specs.Waits as waits;
 ghost use Rattle.ob_waits.specs.Waits.{nowhere, number_of};
 ghost use Rattle.ob_store.specs.State.{handles_of};
 ghost use Rattle.ob_manager.specs.Waiting.{becomes_pending, collected, expire, has_twice, have_room, is_for_one_twice, is_misshapen, lacks_synchronize, objects_of, same_handle, wait, wait_on, wait_result};
+ghost use Rattle.ob_manager.specs.Checks.{caller};
 ghost use Rattle.ob_manager.specs.Steps.{Gives, GivesOrLacks};
 ghost use Rattle.pin_core.specs.Holds.{same_id};
 ghost use Rattle.ob_manager.specs.Rising.{place_of_handle, place_of_object, rise};
@@ -119,20 +120,21 @@ fn lacks_synchronize(entry: Entry) -> bool
     !within(Rights::SYNCHRONIZE, entry.rights)
 }
 
-/// The objects of handles: refused with 6 where there is no such handle, and where all are there with 5 where one wasn't
-/// granted SYNCHRONIZE.
+/// Writes the objects of handles into an empty list: refused with 6 where there is no such handle, and where all are there with
+/// 5 where one wasn't granted SYNCHRONIZE.
 fn objects_of<K: PinKeeper>(
     store: &Store<K>,
     process: u32,
     handles: &[u32],
-) -> Result<ArrayVec<Id, 64>, Fault>
-    requires { length handles.now ≤ 64 }
-    ensures value { collected result ≡ objects_of store.now.state process handles.now }
+    ids: &mut ArrayVec<Id, 64>,
+) -> Result<(), Fault>
+    requires few { length handles.now ≤ 64 }
+    requires empty { ids.old.items ≡ [] }
+    ensures value { collected result ids.new ≡ objects_of store.now.state process handles.now }
     ensures refusal { IfErr result (λ fault. fault ≢ Fault.Memory) }
-    ensures many { IfOk result (λ ids. length ids.items ≡ length handles.now) }
-    ensures there { IfOk result (λ ids. (i : ℕ) → i < length ids.items → 0 < handles_of store.now.state (slice_index_or ids.items i nowhere)) }
+    ensures many { OnOk result (length ids.new.items ≡ length handles.now) }
+    ensures there { OnOk result ((i : ℕ) → i < length ids.new.items → 0 < handles_of store.now.state (slice_index_or ids.new.items i nowhere)) }
 {
-    let mut ids = ArrayVec::new();
     let mut lacks = false;
     for handle in handles {
         let entry = found(store, process, *handle)?;
@@ -142,7 +144,7 @@ fn objects_of<K: PinKeeper>(
     if lacks {
         return Err(Fault::Access);
     }
-    Ok(ids)
+    Ok(())
 }
 
 /// Whether an object stands in a list.
@@ -243,6 +245,53 @@ fn wait_on<K: PinKeeper>(
     }
 }
 
+/// A thread waits for the object of one handle. It makes no list.
+#[inline]
+fn wait_for_one<K: PinKeeper>(
+    store: &mut Store<K>,
+    process: u32,
+    thread: u32,
+    mode: Mode,
+    timeout: Timeout,
+    handle: u32,
+) -> Result<Reply, Fault>
+    requires caller { caller store.old.state thread ≡ Ok process }
+    requires live { IsSome (slice_index_or store.old.state.threads thread None) }
+    requires alone { number_of thread store.old.state.waits ≡ None }
+    ensures gives { GivesOrLacks result store.old store.new (wait store.old.state thread mode timeout (handle ∷ [])) }
+    ensures memory { result ≡ Err Fault.Memory → becomes_pending (wait store.old.state thread mode timeout (handle ∷ [])) ≡ true }
+{
+    let entry = found(store, process, handle)?;
+    if lacks_synchronize(entry) {
+        return Err(Fault::Access);
+    }
+    wait_on(store, thread, mode, timeout, &[entry.id])
+}
+
+/// A thread waits for the objects of some handles.
+#[inline(never)]
+fn wait_for_some<K: PinKeeper>(
+    store: &mut Store<K>,
+    process: u32,
+    thread: u32,
+    mode: Mode,
+    timeout: Timeout,
+    handles: &[u32],
+) -> Result<Reply, Fault>
+    requires caller { caller store.old.state thread ≡ Ok process }
+    requires live { IsSome (slice_index_or store.old.state.threads thread None) }
+    requires alone { number_of thread store.old.state.waits ≡ None }
+    ensures gives { GivesOrLacks result store.old store.new (wait store.old.state thread mode timeout handles.now) }
+    ensures memory { result ≡ Err Fault.Memory → becomes_pending (wait store.old.state thread mode timeout handles.now) ≡ true }
+{
+    if is_misshapen(handles) {
+        return Err(Fault::Parameter);
+    }
+    let mut ids = ArrayVec::new();
+    objects_of(store, process, handles, &mut ids)?;
+    wait_on(store, thread, mode, timeout, ids.as_slice())
+}
+
 /// A thread waits for the objects of handles.
 pub fn wait<K: PinKeeper>(
     store: &mut Store<K>,
@@ -255,11 +304,10 @@ pub fn wait<K: PinKeeper>(
     ensures memory { result ≡ Err Fault.Memory → becomes_pending (wait store.old.state thread mode timeout handles.now) ≡ true }
 {
     let process = caller(store, thread)?;
-    if is_misshapen(handles) {
-        return Err(Fault::Parameter);
+    if let [handle] = handles {
+        return wait_for_one(store, process, thread, mode, timeout, *handle);
     }
-    let ids = objects_of(store, process, handles)?;
-    wait_on(store, thread, mode, timeout, ids.as_slice())
+    wait_for_some(store, process, thread, mode, timeout, handles)
 }
 
 /// What became of a wait.

@@ -140,3 +140,8 @@ module _ (bodies : List (Option Body)) (k : ℕ) (old new : Body) (there : get_o
       | inr put ↦ ap (slot_signaled t) (ap (λ i. get_or bodies i None) put.0 ∙ there) ∙ less t (sym (ap (slot_signaled t) put.2) ∙ h)
     ];
   }
+
+-- what is signaled is there
+pub signaled_some : (thread : ℕ) (b : Option Body) → slot_signaled thread b ≡ true → is_some b ≡ true
+signaled_some thread None h = absurd (cc)
+signaled_some thread (Some b) h = refl

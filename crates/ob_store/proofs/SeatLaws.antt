@@ -9,7 +9,7 @@ use Rattle.pin_core.specs.declared.id.Id.{Id}
 use Rattle.ob_body.specs.declared.body.Body.{Body}
 use Rattle.ob_arena.specs.Slots.{Slots, is_vacant_at, least_vacant}
 use Rattle.ob_arena.proofs.SlotLemmas.{vacant_least, vacant_within}
-use Rattle.ob_waits.specs.Objects.{without_block}
+use Rattle.ob_waits.specs.Objects.{slot_acquired, without_block}
 use Rattle.ob_store.specs.declared.seat.Seat.{Seat}
 use Rattle.ob_store.specs.Objects.{Object, Places, places_of, rest_of, seen_in, object_of, seat_object, seat_body, seat_handles, seat_blocks, seat_handle_left, seat_block_left, vacancy, vacant_places, with_seat, with_handle, without_handle, with_block, without_seat, is_last_handle}
 
@@ -45,6 +45,15 @@ module _ (xs : List (Option Seat)) (k : ℕ) (x : Seat) (is : get_or xs k None �
   bodies_end : (b : Bool) (y : Seat) → y.body ≡ cond b None x.body → map seat_body (set xs k (Some y)) ≡ cond b (set (map seat_body xs) k None) (map seat_body xs)
   bodies_end true y gone = map-set seat_body xs k (Some y) ∙ ap (set (map seat_body xs) k) gone
   bodies_end false y stays = bodies_same y stays
+
+  pub body_here : get_or (map seat_body xs) k None ≡ x.body
+  body_here = read seat_body xs k ∙ ap seat_body is
+
+  -- a thread acquires it
+  pub seen_acquired : (thread : ℕ) → seen_in (set xs k (Some (record x { body = slot_acquired thread x.body }))) ≡ record (seen_in xs) { bodies = set (map seat_body xs) k (slot_acquired thread (get_or (map seat_body xs) k None)) }
+  seen_acquired thread =
+      let y : Seat = record x { body = slot_acquired thread x.body } in
+      λ i. record { bodies = (map-set seat_body xs k (Some y) ∙ ap (λ b. set (map seat_body xs) k (slot_acquired thread b)) (sym body_here)) i; handles = handles_same y refl i; blocks = blocks_same y refl i }
 
   pub seen_put : (b : Body) → seen_in (set xs k (Some (record x { body = Some b }))) ≡ record (seen_in xs) { bodies = set (map seat_body xs) k (Some b) }
   seen_put b = let y : Seat = record x { body = Some b } in λ i. record { bodies = map-set seat_body xs k (Some y) i; handles = handles_same y refl i; blocks = blocks_same y refl i }

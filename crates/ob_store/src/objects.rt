@@ -319,6 +319,11 @@ impl<K: PinKeeper> Bodies for Objects<K> {
         self.seats.put(id, body);
     }
 
+    #[tactic(auto, using(crate::proofs::BodyLaws::signaled_some))]
+    fn acquire(&mut self, id: Id, thread: u32) -> bool {
+        self.seats.acquire(id, thread)
+    }
+
     fn block_left(&mut self, id: Id) {
         if self.seats.block_left(id) {
             self.keeper.close_slot(id.slot);

@@ -1,7 +1,9 @@
-ghost use Rattle.std.specs.Prelude.{◌≡◌, ◌<◌, ◌+◌, ◌-◌, ◌==◌, None, Some, if◌then◌else◌};
+ghost use Rattle.std.specs.Prelude.{◌≡◌, ◌<◌, ◌+◌, ◌-◌, ◌==◌, true, None, Some, if◌then◌else◌};
+ghost use Rattle.ob_waits.specs.Form.{slot_owner};
+ghost use Rattle.ob_waits.specs.Objects.{slot_abandoned, slot_acquired, slot_room, slot_signaled};
 ghost use Rattle.ob_store.specs.Objects.{seat_handle_left, seat_block_left};
 
-use ob_body::Body;
+use ob_body::{Body, RECURSION_MAX};
 use ob_name::Name;
 use ob_rights::Rights;
 use pin_core::{Descr, Id};
@@ -26,6 +28,14 @@ pub struct Seat {
     pub descr: Descr,
     /// Its name, if it was created with one.
     pub name: Option<Name>,
+}
+
+/// What a thread acquired: whether it was an abandoned mutex, and which thread owned it before and owns it after.
+#[derive(Clone, Copy)]
+pub(crate) struct Acquired {
+    pub(crate) was_abandoned: bool,
+    pub(crate) before: Option<u32>,
+    pub(crate) after: Option<u32>,
 }
 
 impl Seat {
@@ -58,6 +68,27 @@ impl Seat {
         ensures before { result ≡ self.old.body }
     {
         self.body.replace(body)
+    }
+
+    /// A thread acquires it, which is signaled for the thread.
+    pub(crate) fn acquire(&mut self, thread: u32) -> Acquired
+        requires signaled { slot_signaled thread self.old.body ≡ true }
+        requires room { slot_room RECURSION_MAX thread self.old.body ≡ true }
+        ensures value { self.new ≡ record self.old { body = slot_acquired thread self.old.body } }
+        ensures was_abandoned { result.was_abandoned ≡ slot_abandoned self.old.body }
+        ensures before { result.before ≡ slot_owner self.old.body }
+        ensures after { result.after ≡ slot_owner self.new.body }
+    {
+        let Some(body) = &mut self.body else {
+            unreachable!()
+        };
+        let before = body.owner();
+        let was_abandoned = body.acquire(thread);
+        Acquired {
+            was_abandoned,
+            before,
+            after: body.owner(),
+        }
     }
 
     /// One handle fewer: the body goes with the last reference. The body that went.

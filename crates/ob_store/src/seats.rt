@@ -3,13 +3,14 @@ ghost use Rattle.std.specs.Option.{option_map};
 ghost use Rattle.ob_body.specs.Mutex.{is_owner};
 ghost use Rattle.ob_waits.specs.Form.{slot_owner};
 ghost use Rattle.ob_arena.specs.Slots.{is_vacant_at, least_vacant};
-ghost use Rattle.ob_waits.specs.Objects.{body_of, with_body, without_block};
+ghost use Rattle.ob_waits.specs.Objects.{body_of, slot_room, with_body, without_block};
+ghost use Rattle.ob_waits.specs.Waits.{is_abandoned, is_signaled, with_acquired};
 ghost use Rattle.ob_store.specs.Objects.{object_of, rest_of, vacant_places, vacancy, with_seat, with_handle, without_handle, is_last_handle, with_block, is_last_block, without_seat, with_retired};
 
 use crate::owners::Owners;
 use crate::seat::Seat;
 use ob_arena::{Arena, SLOTS_MAX};
-use ob_body::Body;
+use ob_body::{Body, RECURSION_MAX};
 use ob_name::Name;
 use ob_rights::Rights;
 use pin_core::{Descr, Id};
@@ -197,6 +198,20 @@ impl Seats {
     {
         let before = self.arena.get_mut(id.slot).put(body);
         self.owners.moved(id.slot, owner_of(before), body.owner());
+    }
+
+    /// A thread acquires an object that is signaled for it; whether that was an abandoned mutex.
+    pub(crate) fn acquire(&mut self, id: Id, thread: u32) -> bool
+        requires there { IsSome (body_of self.old.seen.bodies id) }
+        requires signaled { is_signaled thread self.old.seen.bodies id ≡ true }
+        requires room { slot_room RECURSION_MAX thread (body_of self.old.seen.bodies id) ≡ true }
+        ensures was_abandoned { result ≡ is_abandoned self.old.seen.bodies id }
+        ensures objects { self.new.seen ≡ record self.old.seen { bodies = with_acquired thread self.old.seen.bodies id } }
+        ensures rest { rest_of self.new ≡ rest_of self.old }
+    {
+        let acquired = self.arena.get_mut(id.slot).acquire(thread);
+        self.owners.moved(id.slot, acquired.before, acquired.after);
+        acquired.was_abandoned
     }
 
     /// One block fewer, where there is one; whether the object ended.

@@ -1,7 +1,8 @@
-ghost use Rattle.std.specs.Prelude.{◌≡◌, IsSome};
-ghost use Rattle.ob_waits.specs.Objects.{Objects, body_of, with_body, without_block};
+ghost use Rattle.std.specs.Prelude.{◌≡◌, true, IsSome};
+ghost use Rattle.ob_waits.specs.Objects.{Objects, body_of, slot_room, with_body, without_block};
+ghost use Rattle.ob_waits.specs.Waits.{is_abandoned, is_signaled, with_acquired};
 
-use ob_body::Body;
+use ob_body::{Body, RECURSION_MAX};
 use pin_core::Id;
 
 /// The objects that waits are for: the body of each, by its Id.
@@ -28,6 +29,22 @@ pub trait Bodies {
         requires there { IsSome (body_of (objects self.old).bodies id) }
         ensures objects { objects self.new ≡ with_body (objects self.old) id body }
         ensures rest { rest self.new ≡ rest self.old };
+
+    /// A thread acquires an object that is signaled for it; whether that was an abandoned mutex.
+    fn acquire(&mut self, id: Id, thread: u32) -> bool
+        requires signaled { is_signaled thread (objects self.old).bodies id ≡ true }
+        requires room { slot_room RECURSION_MAX thread (body_of (objects self.old).bodies id) ≡ true }
+        ensures was_abandoned { result ≡ is_abandoned (objects self.old).bodies id }
+        ensures objects { objects self.new ≡ record (objects self.old) { bodies = with_acquired thread (objects self.old).bodies id } }
+        ensures rest { rest self.new ≡ rest self.old }
+    {
+        let Some(mut body) = self.body(id) else {
+            unreachable!()
+        };
+        let was_abandoned = body.acquire(thread);
+        self.put(id, body);
+        was_abandoned
+    }
 
     /// A pending wait that named the object, at one place of its list, is pending no more.
     fn block_left(&mut self, id: Id)

@@ -44,22 +44,6 @@ fn are_all_signaled<B: Bodies>(bodies: &B, thread: u32, ids: &[Id]) -> bool
     true
 }
 
-/// A thread acquires one object; whether that was an abandoned mutex.
-fn take_one<B: Bodies>(bodies: &mut B, thread: u32, id: Id) -> bool
-    requires signaled { is_signaled thread (B.objects bodies.old).bodies id ≡ true }
-    requires room { slot_room RECURSION_MAX thread (slice_index_or (B.objects bodies.old).bodies id.slot None) ≡ true }
-    ensures was_abandoned { result ≡ is_abandoned (B.objects bodies.old).bodies id }
-    ensures objects { B.objects bodies.new ≡ record (B.objects bodies.old) { bodies = with_acquired thread (B.objects bodies.old).bodies id } }
-    ensures rest { B.rest bodies.new ≡ B.rest bodies.old }
-{
-    let Some(mut body) = bodies.body(id) else {
-        unreachable!()
-    };
-    let was_abandoned = body.acquire(thread);
-    bodies.put(id, body);
-    was_abandoned
-}
-
 /// A thread acquires each of some objects; whether one was an abandoned mutex.
 fn take_all<B: Bodies>(bodies: &mut B, thread: u32, ids: &[Id]) -> bool
     requires ready { list_all (is_signaled thread (B.objects bodies.old).bodies) ids.now ≡ true }
@@ -71,7 +55,7 @@ fn take_all<B: Bodies>(bodies: &mut B, thread: u32, ids: &[Id]) -> bool
 {
     let mut was_abandoned = false;
     for id in ids {
-        if take_one(bodies, thread, *id) {
+        if bodies.acquire(*id, thread) {
             was_abandoned = true;
         }
     }
@@ -91,7 +75,7 @@ fn take_any<B: Bodies>(bodies: &mut B, thread: u32, ids: &[Id]) -> Option<u32>
     if index >= ids.len() {
         return None;
     }
-    if take_one(bodies, thread, ids[index]) {
+    if bodies.acquire(ids[index], thread) {
         return Some(index as u32 + WAIT_ABANDONED_0);
     }
     Some(index as u32)

@@ -1,0 +1,27 @@
+use Rattle.std.proofs.Common.{◌∙◌, ap, set, Some}
+use Rattle.ob_waits.specs.Objects.{slot_abandoned, slot_acquired, slot_room, slot_signaled}
+use Rattle.ob_waits.specs.Waits.{with_acquired}
+use Rattle.ob_store.specs.declared.seat.Seat.{Seat}
+use Rattle.ob_store.specs.Objects.{Places, rest_of, seat_object, seen_in}
+use Rattle.ob_store.proofs.SeatLaws.{body_here, rest_same, seen_acquired}
+use Rattle.ob_store.proofs.OwnerLaws.{owned_few, owned_set}
+use Rattle.ob_store.proofs.seats.Seats.acquire.Goals as goal
+
+pub returns-clause-objects : goal.returns-clause-objects
+returns-clause-objects c =
+    ap (λ (x : Seat). seen_in (set c.self.inside.arena.bodies c.args.id.slot (Some x))) c.acquire-acquired.ensures.value
+    ∙ seen_acquired c.self.inside.arena.bodies c.args.id.slot c.get_mut.result.now c.get_mut.ensures.value c.args.thread
+    ∙ ap (λ (p : Places). record p.seen { bodies = with_acquired c.args.thread p.seen.bodies c.args.id }) c.self.view_is
+
+pub returns-clause-rest : goal.returns-clause-rest
+returns-clause-rest c =
+    rest_same c.self.inside.arena.bodies c.args.id.slot c.get_mut.result.now c.get_mut.ensures.value c.self.inside.arena.retired c.acquire-acquired.new.self
+    (ap (λ (x : Seat). seat_object (Some x)) c.acquire-acquired.ensures.value) (ap (λ (x : Seat). x.handles) c.acquire-acquired.ensures.value)
+    ∙ ap rest_of c.self.view_is
+
+pub moved-requires : goal.moved-requires
+moved-requires c = owned_few c.self.inside.arena.bodies c.self.inside.owners c.self.invariant
+
+pub invariant_of-self : goal.invariant_of-self
+invariant_of-self c = rw c.moved.ensures (owned_set c.self.inside.arena.bodies c.self.inside.owners c.args.id.slot c.get_mut.result.now c.acquire-acquired.new.self c.acquire-acquired.result.before c.acquire-acquired.result.after c.self.invariant
+    c.get_mut.ensures.value c.acquire-acquired.ensures.before c.acquire-acquired.ensures.after)
