@@ -58,7 +58,7 @@ impl<K: PinKeeper> Store<K> {
 }
 
 /// The name of an object leaves the directory where the object has no handle left.
-#[inline]
+#[inline(always)]
 pub(crate) fn leave_directory(names: &mut Directory, seat: Option<&Seat>)
     ensures { names.new.rows ≡ rows_left names.old.rows (option_map (λ s. s.now.handles) seat.entry) (option_map (λ s. object_of s.now) seat.entry) }
 {

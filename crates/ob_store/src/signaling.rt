@@ -47,6 +47,7 @@ impl<K: PinKeeper> Store<K> {
     }
 
     /// Resets an event: nothing is signaled by it, so nothing settles.
+    #[inline(always)]
     pub fn reset(&mut self, id: Id, event: Body)
         requires there { slice_index_or self.old.state.bodies id.slot None ≡ Some event }
         requires event { spec.kind_of event ≡ Event }
