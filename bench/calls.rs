@@ -60,6 +60,7 @@ const LIMITS: Limits = Limits {
     handles: 16_384,
     waits: u32::MAX,
     max_gen: u32::MAX,
+    max_recursion: 1,
 };
 
 type Text = [u8; 16];

@@ -172,8 +172,15 @@ fn memchr(text: &[u8]) -> Option<usize> {
 }
 
 fn limits_of(mut args: impl Iterator<Item = String>) -> Limits {
-    let mut limits =
-        Limits { slots: 64, processes: 64, threads: 256, handles: 1_024, waits: 1_000_000, max_gen: u32::MAX };
+    let mut limits = Limits {
+        slots: 64,
+        processes: 64,
+        threads: 256,
+        handles: 1_024,
+        waits: 1_000_000,
+        max_gen: u32::MAX,
+        max_recursion: 2_147_483_647,
+    };
     while let (Some(option), Some(value)) = (args.next(), args.next()) {
         let limit = match option.as_str() {
             "--slots" => &mut limits.slots,
@@ -182,6 +189,7 @@ fn limits_of(mut args: impl Iterator<Item = String>) -> Limits {
             "--handles" => &mut limits.handles,
             "--waits" => &mut limits.waits,
             "--max-gen" => &mut limits.max_gen,
+            "--max-recursion" => &mut limits.max_recursion,
             _ => panic!("no such option: {option}"),
         };
         *limit = value.parse().expect("a number");

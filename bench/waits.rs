@@ -288,7 +288,7 @@ impl World {
     }
 
     fn wait(&mut self, thread: u32, mode: Mode, ids: &[Id]) -> Result<Option<u32>, Fault> {
-        if !ids.iter().all(|id| self.slots.body(*id).is_none_or(|body| body.has_room(thread))) {
+        if !ids.iter().all(|id| self.slots.body(*id).is_none_or(|body| body.has_room(thread, body::RECURSION_MAX))) {
             return Err(Fault::Limit);
         }
         if self.waits.wait_of(thread).is_some() {

@@ -116,6 +116,7 @@ pub struct Limits {
     pub handles: u32,
     pub waits: u32,
     pub max_gen: u32,
+    pub max_recursion: u32,
 }
 
 pub fn within(asked: u32, held: u32) -> bool {

@@ -75,7 +75,8 @@ impl Manager {
         if mode == Mode::All && has_object_twice(ids) {
             return Err(Fault::Parameter);
         }
-        if !ids.iter().all(|id| self.objects.body(id.slot).is_none_or(|body| body.has_room(thread))) {
+        let limit = self.limits.max_recursion;
+        if !ids.iter().all(|id| self.objects.body(id.slot).is_none_or(|body| body.has_room(thread, limit))) {
             return Err(Fault::Limit);
         }
         if let Some(code) = try_now(&mut self.objects, thread, mode, ids) {

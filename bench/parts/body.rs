@@ -1,7 +1,7 @@
 //! What an object is now.
 #![allow(dead_code)]
 
-const RECURSION_MAX: u32 = 2_147_483_647;
+pub const RECURSION_MAX: u32 = 2_147_483_647;
 
 #[derive(Clone, Copy)]
 pub struct Mutex {
@@ -35,9 +35,9 @@ impl Body {
         }
     }
 
-    pub fn has_room(&self, thread: u32) -> bool {
+    pub fn has_room(&self, thread: u32, max_recursion: u32) -> bool {
         match self {
-            Body::Mutex(mutex) => mutex.owner != Some(thread) || mutex.recursion < RECURSION_MAX,
+            Body::Mutex(mutex) => mutex.owner != Some(thread) || mutex.recursion < max_recursion,
             _ => true,
         }
     }

@@ -264,6 +264,7 @@ fn named_object<K: PinKeeper>(
 }
 
 /// A new object, or a handle to one that has the name already.
+#[inline(always)]
 #[tactic(auto, using(crate::proofs::Refusing::refuses_err))]
 fn create<K: PinKeeper>(
     store: &mut Store<K>,

@@ -490,10 +490,26 @@ fn borrowed(make: &Making) -> Make<'_>
 }
 
 /// The reply of a body's answer.
+// It names the parts of each reply, so that these are handed over one by one, and not as bytes that were just written in parts.
+#[inline(always)]
 pub(crate) fn reply_of(answer: Result<Reply, Fault>) -> Reply
     ensures { result ≡ reply_of answer }
 {
     match answer {
+        Ok(Reply::Spawned { process, thread }) => Reply::Spawned { process, thread },
+        Ok(Reply::Started { thread }) => Reply::Started { thread },
+        Ok(Reply::Made { handle, id }) => Reply::Made { handle, id },
+        Ok(Reply::Exists { handle, id }) => Reply::Exists { handle, id },
+        Ok(Reply::Opened { handle, id }) => Reply::Opened { handle, id },
+        Ok(Reply::Duplicated { handle, id }) => Reply::Duplicated { handle, id },
+        Ok(Reply::Closed) => Reply::Closed,
+        Ok(Reply::Done) => Reply::Done,
+        Ok(Reply::Previous { count }) => Reply::Previous { count },
+        Ok(Reply::Code { code }) => Reply::Code { code },
+        Ok(Reply::Pending { wait }) => Reply::Pending { wait },
+        Ok(Reply::Expired { wait }) => Reply::Expired { wait },
+        Ok(Reply::Ended { thread }) => Reply::Ended { thread },
+        Ok(Reply::Exited { process }) => Reply::Exited { process },
         Ok(reply) => reply,
         Err(fault) => Reply::Refused(fault),
     }

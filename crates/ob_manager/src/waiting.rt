@@ -210,6 +210,7 @@ fn have_room<K: PinKeeper>(store: &Store<K>, thread: u32, ids: &[Id]) -> bool
 }
 
 /// A wait for objects.
+#[inline(always)]
 fn wait_on<K: PinKeeper>(
     store: &mut Store<K>,
     thread: u32,
@@ -246,7 +247,7 @@ fn wait_on<K: PinKeeper>(
 }
 
 /// A thread waits for the object of one handle. It makes no list.
-#[inline]
+#[inline(always)]
 fn wait_for_one<K: PinKeeper>(
     store: &mut Store<K>,
     process: u32,

@@ -17,6 +17,7 @@ use pin_words::PinKeeper;
 
 impl<K: PinKeeper> Store<K> {
     /// One more entry of an object that has one, at the least free value of a process; the value.
+    #[inline(always)]
     pub fn place_entry(&mut self, process: u32, entry: Entry) -> Result<u32, Fault>
         requires process { process < length self.old.state.tables }
         requires there { 0 < handles_among entry.id self.old.state.tables }
@@ -57,6 +58,7 @@ impl<K: PinKeeper> Store<K> {
 }
 
 /// The name of an object leaves the directory where the object has no handle left.
+#[inline(always)]
 pub(crate) fn leave_directory(names: &mut Directory, seat: Option<&Seat>)
     ensures { names.new.rows ≡ rows_left names.old.rows (option_map (λ s. s.now.handles) seat.entry) (option_map (λ s. object_of s.now) seat.entry) }
 {

@@ -315,6 +315,7 @@ impl<K: PinKeeper> Bodies for Objects<K> {
         self.seats.body(id)
     }
 
+    #[inline(always)]
     fn put(&mut self, id: Id, body: Body) {
         self.seats.put(id, body);
     }

@@ -191,6 +191,7 @@ impl Seats {
     }
 
     /// Changes the body of an object that has one.
+    #[inline(always)]
     pub(crate) fn put(&mut self, id: Id, body: Body)
         requires { IsSome (body_of self.old.seen.bodies id) }
         ensures objects { self.new.seen ≡ with_body self.old.seen id body }

@@ -14,6 +14,7 @@ use pin_words::PinKeeper;
 
 impl<K: PinKeeper> Store<K> {
     /// An object has another body, and the waits for it settle.
+    #[inline(always)]
     pub(crate) fn put(&mut self, id: Id, old: Body, new: Body)
         requires there { slice_index_or self.old.state.bodies id.slot None ≡ Some old }
         requires yields { Yields old new }
@@ -32,6 +33,7 @@ impl<K: PinKeeper> Store<K> {
     }
 
     /// Sets an event.
+    #[inline(always)]
     #[tactic(auto, using(crate::proofs::Yielding::set_yields))]
     pub fn set(&mut self, id: Id, event: Body)
         requires there { slice_index_or self.old.state.bodies id.slot None ≡ Some event }
@@ -45,6 +47,7 @@ impl<K: PinKeeper> Store<K> {
     }
 
     /// Resets an event: nothing is signaled by it, so nothing settles.
+    #[inline(always)]
     pub fn reset(&mut self, id: Id, event: Body)
         requires there { slice_index_or self.old.state.bodies id.slot None ≡ Some event }
         requires event { spec.kind_of event ≡ Event }

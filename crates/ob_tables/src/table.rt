@@ -5,7 +5,8 @@ ghost use Rattle.ob_tables.specs.Inheritance.{inheritable, inherited};
 
 use crate::entry::{Entry, inheritable};
 use least_free::LeastFree;
-use ob_rights::{Fault, HandleFlags};
+use ob_rights::{Fault, HandleFlags, Rights};
+use pin_core::Id;
 use std::alloc::{AllocError, Global};
 use std::marker::Model;
 
@@ -113,22 +114,22 @@ impl Table {
             self.places[place] = Some(entry);
             return Ok(value_of(place));
         }
-        let Ok(()) = self.push(entry) else {
+        let Ok(()) = self.push(entry.id, entry.rights, entry.flags) else {
             return Err(Fault::Memory);
         };
         Ok(value_of(place))
     }
 
-    /// Adds a place with an entry.
+    /// Adds a place with an entry. It takes the entry in parts, so that its caller need not put it into memory first.
     #[inline(never)]
-    fn push(&mut self, entry: Entry) -> Result<(), AllocError>
+    fn push(&mut self, id: Id, rights: Rights, flags: HandleFlags) -> Result<(), AllocError>
         requires { length self.old < HANDLES_MAX }
-        ensures ok { OnOk result (self.new ≡ self.old ++ Some entry ∷ []) }
+        ensures ok { OnOk result (self.new ≡ self.old ++ Some (record { id = id; rights = rights; flags = flags }) ∷ []) }
         ensures err { OnErr result (self.new ≡ self.old) }
     {
         self.places.reserve(1)?;
         self.free.grow()?;
-        self.places.push(Some(entry))?;
+        self.places.push(Some(Entry { id, rights, flags }))?;
         Ok(())
     }
 

@@ -63,6 +63,7 @@ fn take_all<B: Bodies>(bodies: &mut B, thread: u32, ids: &[Id]) -> bool
 }
 
 /// Takes the first object that is signaled, if there is one, and gives the code.
+#[inline(always)]
 fn take_any<B: Bodies>(bodies: &mut B, thread: u32, ids: &[Id]) -> Option<u32>
     requires few { length ids.now ≤ 64 }
     requires room { HasRoom RECURSION_MAX thread (B.objects bodies.old).bodies ids.now }
@@ -105,6 +106,7 @@ fn take_each<B: Bodies>(bodies: &mut B, thread: u32, ids: &[Id]) -> Option<u32>
 /// nothing changes.
 ///
 /// [Wait Functions]: https://learn.microsoft.com/windows/win32/sync/wait-functions
+#[inline]
 pub fn try_now<B: Bodies>(bodies: &mut B, thread: u32, mode: Mode, ids: &[Id]) -> Option<u32>
     requires waitable { IsWaitable mode ids.now }
     requires room { HasRoom RECURSION_MAX thread (B.objects bodies.old).bodies ids.now }

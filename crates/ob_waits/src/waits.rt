@@ -162,6 +162,7 @@ impl Waits {
 
     /// The same as [`settle`](Waits::settle) where each wait that is satisfied names the slot of this
     /// object, as after a change of its body in a settled state. It looks at no other wait.
+    #[inline(never)]
     pub fn settle_after<B: Bodies>(&mut self, bodies: &mut B, id: Id)
         requires room { WaitsHaveRoom RECURSION_MAX (B.objects bodies.old).bodies self.old.waits }
         requires ready { IsReadyAt id.slot (B.objects bodies.old).bodies self.old.waits }
