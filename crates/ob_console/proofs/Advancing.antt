@@ -9,7 +9,7 @@ use Rattle.ob_store.specs.declared.limits.Limits.{Limits}
 use Rattle.ob_console.specs.Acts.{Act}
 use Rattle.ob_console.specs.Grammar.{act_of}
 use Rattle.ob_console.specs.Printed.{line_end}
-use Rattle.ob_console.specs.Runs.{Prints, Run, Splits, IsWithin, AnswersLines, AnswersAll, AnswersPart, IsOpening, Point, last_line}
+use Rattle.ob_console.specs.Runs.{Prints, Run, Splits, IsWithin, AnswersLines, AnswersAll, AnswersPart, IsOpening, last_line}
 use Rattle.ob_console.specs.Held.{capped, more_held, act_of_held}
 use Rattle.ob_console.specs.Sessions.{ConsoleState, Session, Advances, Finishes}
 use Rattle.ob_console.proofs.Texts.{act_of_capped, more_capped}
