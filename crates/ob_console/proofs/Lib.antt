@@ -1,7 +1,4 @@
-pub mod Cuts
 pub mod Fieldless
-pub mod Digits
-pub mod Hex
 pub mod Hexadecimal
 pub mod Texts
 pub mod Written

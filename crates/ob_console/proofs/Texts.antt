@@ -3,8 +3,8 @@ use Rattle.std.proofs.Common.{◌≡◌, ℕ, ◌+◌, ◌-◌, ◌<◌, ◌≤�
 use Rattle.std.proofs.lemmas.Bool.Decides.{nat_tests}
 use Rattle.std.proofs.lemmas.Bool.{cases_lt}
 use Rattle.std.proofs.lemmas.List.{length-append, length-take}
-use Rattle.ob_console.specs.Acts.{Bad}
-use Rattle.ob_console.specs.Grammar.{act_of, act_of_text, text_of}
+use Rattle.ob_script.specs.Acts.{Bad}
+use Rattle.ob_script.specs.Grammar.{act_of, act_of_text, text_of}
 use Rattle.ob_console.specs.Held.{capped, more_held, act_of_held}
 
 -- a text is at most one byte shorter than its line

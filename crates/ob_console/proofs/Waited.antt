@@ -1,8 +1,7 @@
 -- Of a list of handles that is too long the beginning is refused as the whole is.
-use Rattle.std.proofs.Common.{◌≡◌, ℕ, ◌<◌, ◌≤◌, List, Bool, true, false, Err, ◌++◌, [], refl, ap, sym, ◌∙◌, arith, length, take, ltb}
+use Rattle.std.proofs.Common.{◌≡◌, ℕ, ◌<◌, List, Bool, true, false, Err, refl, ap, sym, ◌∙◌, arith, length, take, ltb}
 use Rattle.std.proofs.lemmas.Bool.Decides.{nat_tests}
-use Rattle.std.proofs.Math.Seq.{take-append_seam}
-use Rattle.std.proofs.lemmas.List.{append-nil, length-take-le, take_all}
+use Rattle.std.proofs.lemmas.List.{length-take-le, take_all}
 use Rattle.std.specs.Prelude.{is_ok}
 use Rattle.ob_rights.specs.declared.fault.Fault.TheVariants as fault
 use Rattle.ob_waits.specs.declared.wait.Mode.{Mode}
@@ -14,13 +13,6 @@ use Rattle.ob_manager.specs.Outcomes.{◌>>=◌, refuse_if}
 use Rattle.ob_manager.specs.Checks.{caller}
 use Rattle.ob_manager.specs.Waiting.{becomes_pending, is_misshapen, objects_of, wait, wait_on}
 use Rattle.ob_manager.specs.Steps.{Step, does, closes, lacks, final}
-
--- handles that are so many as are kept, or all
-pub first_part : (items rest all : List ℕ) → items ++ rest ≡ all → length items ≡ 65 → items ≡ take 65 all
-first_part items rest all whole is = sym (ap (take 65) (sym whole) ∙ ap (λ n. take n (items ++ rest)) (sym is) ∙ take-append_seam items rest)
-
-pub all_parts : (items all : List ℕ) → items ++ [] ≡ all → length items ≤ 65 → items ≡ take 65 all
-all_parts items all whole few = sym (ap (take 65) (sym whole ∙ append-nil items) ∙ take_all 65 items few)
 
 misshapen : (handles : List ℕ) → 64 < length handles → is_misshapen handles ≡ true
 misshapen handles long = grind (arith, nat_tests, long)

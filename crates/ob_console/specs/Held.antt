@@ -1,7 +1,7 @@
 -- The beginning of a line whose end has not come.
 use Rattle.std.specs.Prelude.{ℕ, nat_le, Bool, true, false, List, ◌++◌, Option, Some, None, if◌then◌else◌, length}
-use Rattle.ob_console.specs.Acts.{Act, Bad}
-use Rattle.ob_console.specs.Grammar.{act_of}
+use Rattle.ob_script.specs.Acts.{Act, Bad}
+use Rattle.ob_script.specs.Grammar.{act_of}
 
 -- what is kept of a text: all of it, unless it has more bytes than a line that is none too long with its carriage return
 abbrev pub capped : List ℕ → Option (List ℕ)

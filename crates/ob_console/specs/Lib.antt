@@ -1,7 +1,3 @@
-pub mod Acts
-pub mod Words
-pub mod WordsLeft
-pub mod Grammar
 pub mod Accounts
 pub mod Printed
 pub mod Runs

@@ -13,10 +13,10 @@ use Rattle.ob_manager.specs.declared.reply.Reply.{Reply}
 use Rattle.ob_manager.specs.Reaping.{IfReap, IfReaped}
 use Rattle.ob_manager.specs.Steps.{Step}
 use Rattle.ob_reader.specs.Pinning.{Pins, SparesHeld, Unpins, shown_of}
-use Rattle.ob_console.specs.Acts.{Act, Nothing, Bad, ListNames, Asks, Pin, Unpin, ShowCard}
+use Rattle.ob_script.specs.Acts.{Act, Nothing, Bad, ListNames, Asks, Pin, Unpin, ShowCard}
 use Rattle.ob_console.specs.declared.script.RunFault.{RunFault}
 use Rattle.ob_console.specs.declared.script.RunFault.TheVariants.{Memory, Read, Write}
-use Rattle.ob_console.specs.Grammar.{act_of}
+use Rattle.ob_script.specs.Grammar.{act_of}
 use Rattle.ob_console.specs.Printed.{printed, printed_card, printed_names, printed_pin, printed_unpin, bad_line, line_end}
 
 -- the state with what the keeper says, and the copies that the reader holds

@@ -1,16 +1,14 @@
-ghost use Rattle.std.specs.Prelude.{◌≡◌, Some, take};
+ghost use Rattle.std.specs.Prelude.{◌≡◌, Some};
 ghost use Rattle.ob_manager.specs.Steps.{Step};
 ghost use Rattle.ob_manager.specs.declared.call.Call.TheVariants as Call;
-ghost use Rattle.ob_console.specs.Words.{handles_in};
-ghost use Rattle.ob_console.specs.Acts.{call_in};
+ghost use Rattle.ob_script.specs.Words.{handles_in};
+ghost use Rattle.ob_script.specs.WordsLeft.{words_left};
+ghost use Rattle.ob_script.specs.Acts.{call_in};
 ghost use Rattle.ob_console.specs.Runs.{Spares};
 
-use crate::act::Ask;
-use crate::numbers::labelled;
-use crate::words::Words;
-use arrayvec::ArrayVec;
 use ob_manager::{Manager, Mode, Reply, Timeout};
 use ob_reader::reap;
+use ob_script::{Ask, handles_of};
 use pin_words::{Keeper, Reader};
 
 /// Makes a call. The reader meets the manager where a slot is reaped of which it holds something.
@@ -76,7 +74,7 @@ pub fn reply_to<'a>(
             mode,
             timeout,
             rest,
-        } => wait_for(manager, thread, mode, timeout, Words::of_rest(rest)),
+        } => wait_for(manager, thread, mode, timeout, rest),
         Ask::WaitResult { wait } => manager.wait_result(wait),
         Ask::Expire { wait } => manager.expire(wait),
         Ask::EndThread { thread } => manager.end_thread(thread),
@@ -92,25 +90,10 @@ fn wait_for<'a>(
     thread: u32,
     mode: Mode,
     timeout: Timeout,
-    words: Words<'_>,
+    rest: Option<&[u8]>,
 ) -> Reply
-    ensures { Step manager.old (Call.WaitFor thread mode timeout (handles_in words.entry)) result manager.new }
+    ensures { Step manager.old (Call.WaitFor thread mode timeout (handles_in (words_left rest.entry))) result manager.new }
 {
-    let handles = handles_of(words);
+    let handles = handles_of(rest);
     manager.wait(thread, mode, timeout, handles.as_slice())
-}
-
-/// The handles that words are, or the first 65.
-fn handles_of(mut words: Words<'_>) -> ArrayVec<u32, 65>
-    ensures { result.items ≡ take 65 (handles_in words.entry) }
-{
-    let mut handles = ArrayVec::new();
-    while let Some(word) = words.next() {
-        let handle = labelled(b'h', word).unwrap_or(0);
-        match handles.try_push(handle) {
-            Ok(()) => {}
-            Err(_) => return handles,
-        }
-    }
-    handles
 }

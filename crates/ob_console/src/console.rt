@@ -5,12 +5,11 @@ ghost use Rattle.ob_console.specs.Sessions.{Advances, IsWritten, Session, Finish
 
 use crate::device::Sink;
 use crate::evaluator::Evaluator;
-use crate::grammar::act_of;
 use crate::held::HeldLine;
 use crate::output::NotWritten;
-use crate::words::cut_far;
 use ob_manager::Manager;
 use ob_rights::Fault;
+use ob_script::{act_of, cut_far};
 use pin_words::{Keeper, Reader};
 use std::alloc::Global;
 use std::marker::Model;

@@ -1,10 +1,9 @@
 ghost use Rattle.std.specs.Prelude.{◌≡◌, ◌↔◌, [], Some, IsTrue};
-ghost use Rattle.ob_console.specs.Acts.{act_in};
+ghost use Rattle.ob_script.specs.Acts.{act_in};
 ghost use Rattle.ob_console.specs.Held.{act_of_held, more_held};
 
-use crate::act::Act;
-use crate::grammar::act_of;
 use arrayvec::ArrayVec;
+use ob_script::{Act, act_of};
 use std::marker::Model;
 
 /// The beginning of a line whose end has not come. A line that is too long for any act is not kept.

@@ -1,7 +1,8 @@
-//! The console: reads a script, makes the calls of its lines, and prints their answers.
+//! The console: reads a script, makes the calls of its lines, pins what they ask for, and prints the answers.
 //!
-//! [`run`] works over any [`Source`] and [`Sink`], whose bytes its contract names; [`Wired`] makes a reader or a writer
-//! of std one. [`read_options`] reads the program's command line.
+//! [`run`] has a manager of its own and one reader of the manager's pins. It works over any [`Source`] and [`Sink`], whose
+//! bytes its contract names; [`Wired`] makes a reader or a writer of std one. [`read_options`] reads the program's command
+//! line.
 //!
 //! ```text
 //! let options = read_options(rt.alloc(), args)?;
@@ -12,23 +13,17 @@
 #![tactic(auto)]
 
 mod account;
-mod act;
 mod answer;
 mod asking;
 mod block;
 mod console;
 mod device;
 mod evaluator;
-mod grammar;
 mod held;
-mod naming;
-mod numbers;
 mod options;
 mod output;
-mod rights;
 mod script;
 mod wired;
-mod words;
 
 pub use account::Account;
 pub use device::{Sink, Source, Trouble};

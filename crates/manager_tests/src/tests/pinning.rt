@@ -5,12 +5,7 @@ use pin_words::{LockedPins, PinFault, Reclaim};
 use std::process::Abort;
 use std::test::Fail;
 
-fn pins(
-    rt: &impl Abort,
-    manager: &mut Manager<LockedPins>,
-    id: Id,
-    due: Result<(), PinFault>,
-) {
+fn pins(rt: &impl Abort, manager: &mut Manager<LockedPins>, id: Id, due: Result<(), PinFault>) {
     assert_eq!(rt; manager.pin_locked(id), due);
 }
 
@@ -27,18 +22,30 @@ fn unpins(manager: &mut Manager<LockedPins>, id: Id) -> bool {
 fn plays_pins(rt: &impl Abort, manager: &mut Manager<LockedPins>) {
     let (first, next) = (object(0, 1), object(0, 2));
     gives(rt, manager.spawn(1), spawned(1, 1));
-    gives(rt, manager.create_event(1, &PLAIN, false, false), made(4, first));
+    gives(
+        rt,
+        manager.create_event(1, &PLAIN, false, false),
+        made(4, first),
+    );
     pins(rt, manager, object(64, 1), Err(PinFault::NoSuchSlot));
     pins(rt, manager, next, Err(PinFault::Unborn));
     pins(rt, manager, object(1, 1), Err(PinFault::Unborn));
     pins(rt, manager, first, Ok(()));
     gives(rt, manager.close(1, 4), Reply::Closed);
-    gives(rt, manager.reap(0), reaped(first, Reclaim::Held { pins: 1 }));
+    gives(
+        rt,
+        manager.reap(0),
+        reaped(first, Reclaim::Held { pins: 1 }),
+    );
     pins(rt, manager, first, Err(PinFault::Stale));
     assert!(rt; unpins(manager, first));
     assert!(rt; !unpins(manager, first));
     gives(rt, manager.reap(0), reaped(first, Reclaim::Freed));
-    gives(rt, manager.create_event(1, &PLAIN, true, false), made(4, next));
+    gives(
+        rt,
+        manager.create_event(1, &PLAIN, true, false),
+        made(4, next),
+    );
     pins(rt, manager, first, Err(PinFault::Stale));
     pins(rt, manager, next, Ok(()));
 }

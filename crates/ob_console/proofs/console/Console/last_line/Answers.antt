@@ -1,6 +1,6 @@
 use Rattle.std.proofs.Common.{List, ℕ, [], ◌+◌, ◌++◌, sym, subst, ◌∙◌, ap}
 use Rattle.std.proofs.lemmas.List.{append-nil}
-use Rattle.ob_console.specs.Acts.{Act}
+use Rattle.ob_script.specs.Acts.{Act}
 use Rattle.ob_console.specs.Runs.{Prints}
 use Rattle.ob_console.specs.Sessions.{ConsoleState, Finishes, IsWritten}
 use Rattle.ob_console.proofs.Advancing.{finishes_empty, finishes_line}

@@ -1,5 +1,5 @@
 use Rattle.std.proofs.Common.{ℕ, List, Option, ◌++◌, subst, sym, ap, ◌∙◌}
-use Rattle.ob_console.specs.Acts.{act_in}
+use Rattle.ob_script.specs.Acts.{act_in}
 use Rattle.ob_console.specs.Held.{act_of_held, more_held}
 use Rattle.ob_console.specs.Printed.{line_end}
 use Rattle.ob_console.specs.Sessions.{ConsoleState, Advances, IsWritten}

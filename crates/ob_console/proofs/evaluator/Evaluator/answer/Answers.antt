@@ -1,9 +1,9 @@
 use Rattle.std.proofs.Common.{List, ℕ, ◌+◌, ◌++◌, Option, ap, refl, sym, subst}
 use Rattle.ob_manager.specs.declared.card.Card.{Card}
 use Rattle.ob_store.specs.Directory.{directory_of}
-use Rattle.ob_console.specs.declared.act.Act.{Act}
+use Rattle.ob_script.specs.declared.act.Act.{Act}
 use Rattle.ob_console.specs.declared.evaluator.Evaluator.TheInside.{Inside}
-use Rattle.ob_console.specs.Acts.{act_in}
+use Rattle.ob_script.specs.Acts.{act_in}
 use Rattle.ob_console.specs.Printed.{bad_line, line_end, printed_answer, printed_card, printed_names, printed_pin, printed_unpin, printed as answered}
 use Rattle.ob_console.specs.Runs.{Point, Prints, point}
 use Rattle.ob_console.specs.Sessions.{Evaluation, IsWritten}

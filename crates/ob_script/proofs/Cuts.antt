@@ -1,0 +1,51 @@
+-- Where a byte is first found, in the words of lists.
+use Rattle.std.proofs.Common.{◌≡◌, ◌≢◌, Option, ℕ, ◌+◌, ◌-◌, ◌<◌, List, [], ◌∷◌, length, take, drop, Some, None, Bool, true, false, arith, refl, ap, sym, ◌∙◌}
+use Rattle.std.specs.Prelude.{MatchOption}
+use Rattle.std.specs.Borrow.{Bor}
+use Rattle.std.specs.List.{position_or_len, before_first, after_first}
+use Rattle.std.proofs.lemmas.List.{take_rest, drop-drop}
+use Rattle.std.proofs.lemmas.List.Sums.{position_or_len_is, fails_before_first}
+use Rattle.std.proofs.lemmas.List.Elements.{All-from_get_or}
+use Rattle.std.proofs.lemmas.List.Splits.{slice_split_first, slice_split_none, length-slice_split, join_with_byte-slice_split}
+use Rattle.memchr.specs.Find.{IsFirstByte, is_byte}
+use Rattle.ob_script.specs.Words.{words_of, joined}
+use Rattle.ob_script.specs.WordsLeft.{words_left}
+
+not_true : (b : Bool) → (b ≡ true → ⊥) → b ≡ false
+not_true true h = absurd (h refl)
+not_true false h = refl
+
+-- the place that is found is the first
+pub first_place : (byte : ℕ) (text : List ℕ) (at : ℕ) → IsFirstByte (is_byte byte) text (Some at) → (position_or_len (is_byte byte) text ≡ at) × (at < length text)
+first_place byte text at found =
+    (position_or_len_is (is_byte byte) text at 0 (omega (arith, found.0.high)) (λ k before. not_true _ (found.0.before k (omega arith) before)) (λ within. found.1), found.0.high)
+
+-- where none is found, the first place is the length
+pub no_place : (byte : ℕ) (text : List ℕ) → IsFirstByte (is_byte byte) text None → position_or_len (is_byte byte) text ≡ length text
+no_place byte text none =
+    position_or_len_is (is_byte byte) text (length text) 0 (omega arith) (λ k before. not_true _ (none k (omega arith) before)) (λ past. absurd (omega arith))
+
+-- what is behind the first place
+pub behind_first : (byte : ℕ) (text rest : List ℕ) (at : ℕ) → IsFirstByte (is_byte byte) text (Some at) → rest ≡ drop at text → take (length rest - 1) (drop 1 rest) ≡ after_first (is_byte byte) text
+behind_first byte text rest at found rest_is =
+    take_rest rest 1 ∙ ap (drop 1) rest_is ∙ drop-drop 1 at text ∙ ap (λ n. drop (n + 1) text) (sym (first_place byte text at found).0)
+
+-- the first word ends at the first space, or is the last
+pub words_first : (text : List ℕ) → position_or_len (is_byte 32) text < length text → words_of text ≡ before_first (is_byte 32) text ∷ words_of (after_first (is_byte 32) text)
+words_first text within = slice_split_first (is_byte 32) text 0 within
+
+pub words_last : (text : List ℕ) → position_or_len (is_byte 32) text ≡ length text → words_of text ≡ text ∷ []
+words_last text none = slice_split_none (is_byte 32) text (All-from_get_or (λ byte. is_byte 32 byte ≡ false) text 0 (λ k within. fails_before_first (is_byte 32) text k 0 (omega arith)))
+
+-- a text has a word
+pub words_some : (text : List ℕ) → words_of text ≡ [] → ⊥
+words_some text none = omega (arith, length-slice_split (is_byte 32) text, ap length none)
+
+-- words, joined again, are their text
+pub words_joined : (text : List ℕ) → joined (words_of text) ≡ text
+words_joined text = join_with_byte-slice_split 32 text
+
+-- what is left of a text
+pub text_left : (rest : Option (Bor (List ℕ))) (words : List (List ℕ)) → words_left rest ≡ words → MatchOption rest (words ≡ []) (λ text. (text.now ≡ joined words) × (words ≢ []))
+text_left None words is = sym is
+text_left (Some rest) words is = (sym (words_joined rest.now) ∙ ap joined is, λ none. words_some rest.now (is ∙ none))

@@ -1,0 +1,346 @@
+-- The grammar of a script: what each line is.
+use Rattle.std.specs.Prelude.{ℕ, ◌+◌, ◌-◌, ◌==◌, ◌||◌, nat_lt, List, [], ◌∷◌, Option, Some, None, if◌then◌else◌, length, codes, slice_index, take}
+use Rattle.std.specs.Str.{bytes_eq}
+use Rattle.pin_core.specs.declared.id.Id.{Id}
+use Rattle.ob_rights.specs.declared.rights.Rights.{Rights}
+use Rattle.ob_waits.specs.declared.wait.Mode.{Mode}
+use Rattle.ob_waits.specs.declared.wait.Mode.TheVariants.{Any, All}
+use Rattle.ob_manager.specs.declared.waiting.Timeout.{Timeout}
+use Rattle.ob_manager.specs.declared.waiting.Timeout.TheVariants.{Zero, Infinite}
+use Rattle.ob_manager.specs.declared.making.Making.{Making}
+use Rattle.ob_manager.specs.declared.call.Call.{Call}
+use Rattle.ob_manager.specs.declared.call.Call.TheVariants.{Spawn, Child, StartThread, MakeEvent, MakeMutex, MakeSemaphore, OpenNamed, Duplicate, CloseHandle, SetEvent, ResetEvent, ReleaseSemaphore, ReleaseMutex, WaitFor, WaitResult, Expire, EndThread, Exit, Reap, Counts}
+use Rattle.ob_script.specs.Acts.{Act, Nothing, Bad, ListNames, Asks, Pin, Unpin, ShowCard}
+use Rattle.ob_script.specs.Words.{words_of, joined, begins_with, behind, number_of, signed_of, mask_of, kind_of, labelled, id_of, either_of, are_handles, handles_in, ◌>>=◌}
+
+-- `[KEYWORD M]`: the mask, where there is one, and the words behind it
+abbrev pub some_mask : List (List ℕ) → Option (Option Rights × List (List ℕ))
+some_mask [] = None
+some_mask (mask ∷ words) = do
+  mask ← mask_of mask
+  Some (Some mask, words)
+
+abbrev pub masked : List ℕ → List (List ℕ) → Option (Option Rights × List (List ℕ))
+masked keyword words = if begins_with keyword words then some_mask (behind keyword words) else Some (None, words)
+
+-- `name TEXT`: the text is all that is left, as it stands
+abbrev pub text_of_words : List (List ℕ) → Option (List ℕ)
+text_of_words [] = None
+text_of_words (word ∷ words) = Some (joined (word ∷ words))
+
+abbrev pub name_of : List (List ℕ) → Option (List ℕ)
+name_of words = if begins_with (codes "name") words then text_of_words (behind (codes "name") words) else None
+
+-- `[name TEXT]`
+abbrev pub named : List (List ℕ) → Option (Option (List ℕ))
+named [] = Some None
+named (word ∷ words) = do
+  name ← name_of (word ∷ words)
+  Some (Some name)
+
+-- `[inherit] [access M] [grant M] [name TEXT]`
+abbrev pub make_of : List (List ℕ) → Option Making
+make_of words = do
+  access ← masked (codes "access") (behind (codes "inherit") words)
+  grant ← masked (codes "grant") access.1
+  name ← named grant.1
+  Some (record { name = name; inherit = begins_with (codes "inherit") words; access = access.0; grant = grant.0 })
+
+-- `spawn N`, behind its first word
+abbrev pub spawn_of : List (List ℕ) → Option Call
+spawn_of [] = None
+spawn_of (session ∷ []) = do
+  session ← number_of session
+  Some (Spawn session)
+spawn_of (session ∷ more ∷ words) = None
+
+-- `child T inherit|plain`
+abbrev pub child_of : List (List ℕ) → Option Call
+child_of [] = None
+child_of (thread ∷ []) = None
+child_of (thread ∷ inherit ∷ []) = do
+  thread ← labelled 116 thread
+  inherit ← either_of (codes "plain") (codes "inherit") inherit
+  Some (Child thread inherit)
+child_of (thread ∷ inherit ∷ more ∷ words) = None
+
+-- `thread P`
+abbrev pub thread_of : List (List ℕ) → Option Call
+thread_of [] = None
+thread_of (process ∷ []) = do
+  process ← labelled 112 process
+  Some (StartThread process)
+thread_of (process ∷ more ∷ words) = None
+
+-- `event T auto|manual clear|set [inherit] [access M] [grant M] [name TEXT]`
+abbrev pub event_of : List (List ℕ) → Option Call
+event_of [] = None
+event_of (thread ∷ []) = None
+event_of (thread ∷ reset ∷ []) = None
+event_of (thread ∷ reset ∷ state ∷ words) = do
+  thread ← labelled 116 thread
+  manual ← either_of (codes "auto") (codes "manual") reset
+  set ← either_of (codes "clear") (codes "set") state
+  make ← make_of words
+  Some (MakeEvent thread make manual set)
+
+-- `mutex T free|owned [inherit] [access M] [grant M] [name TEXT]`
+abbrev pub mutex_of : List (List ℕ) → Option Call
+mutex_of [] = None
+mutex_of (thread ∷ []) = None
+mutex_of (thread ∷ state ∷ words) = do
+  thread ← labelled 116 thread
+  owned ← either_of (codes "free") (codes "owned") state
+  make ← make_of words
+  Some (MakeMutex thread make owned)
+
+-- `semaphore T I I [inherit] [access M] [grant M] [name TEXT]`: the first count and the maximum
+abbrev pub semaphore_of : List (List ℕ) → Option Call
+semaphore_of [] = None
+semaphore_of (thread ∷ []) = None
+semaphore_of (thread ∷ initial ∷ []) = None
+semaphore_of (thread ∷ initial ∷ max ∷ words) = do
+  thread ← labelled 116 thread
+  initial ← signed_of initial
+  max ← signed_of max
+  make ← make_of words
+  Some (MakeSemaphore thread make initial max)
+
+-- `open T event|mutex|semaphore M [inherit] name TEXT`
+abbrev pub open_of : List (List ℕ) → Option Call
+open_of [] = None
+open_of (thread ∷ []) = None
+open_of (thread ∷ kind ∷ []) = None
+open_of (thread ∷ kind ∷ mask ∷ words) = do
+  thread ← labelled 116 thread
+  kind ← kind_of kind
+  mask ← mask_of mask
+  name ← name_of (behind (codes "inherit") words)
+  Some (OpenNamed thread kind mask (begins_with (codes "inherit") words) name)
+
+-- `VERB T H`: the thread and the handle
+abbrev pub handle_of : List (List ℕ) → Option (ℕ × ℕ)
+handle_of [] = None
+handle_of (thread ∷ []) = None
+handle_of (thread ∷ handle ∷ []) = do
+  thread ← labelled 116 thread
+  handle ← labelled 104 handle
+  Some (thread, handle)
+handle_of (thread ∷ handle ∷ more ∷ words) = None
+
+-- `close T H`, `set T H`, `reset T H`, `unlock T H`
+abbrev pub close_of : List (List ℕ) → Option Call
+close_of words = do
+  named ← handle_of words
+  Some (CloseHandle named.0 named.1)
+
+abbrev pub set_of : List (List ℕ) → Option Call
+set_of words = do
+  named ← handle_of words
+  Some (SetEvent named.0 named.1)
+
+abbrev pub reset_of : List (List ℕ) → Option Call
+reset_of words = do
+  named ← handle_of words
+  Some (ResetEvent named.0 named.1)
+
+abbrev pub unlock_of : List (List ℕ) → Option Call
+unlock_of words = do
+  named ← handle_of words
+  Some (ReleaseMutex named.0 named.1)
+
+-- `release T H I`
+abbrev pub release_of : List (List ℕ) → Option Call
+release_of [] = None
+release_of (thread ∷ []) = None
+release_of (thread ∷ handle ∷ []) = None
+release_of (thread ∷ handle ∷ count ∷ []) = do
+  thread ← labelled 116 thread
+  handle ← labelled 104 handle
+  count ← signed_of count
+  Some (ReleaseSemaphore thread handle count)
+release_of (thread ∷ handle ∷ count ∷ more ∷ words) = None
+
+-- `reap K`
+abbrev pub reap_of : List (List ℕ) → Option Call
+reap_of [] = None
+reap_of (slot ∷ []) = do
+  slot ← labelled 115 slot
+  Some (Reap slot)
+reap_of (slot ∷ more ∷ words) = None
+
+-- `count S`
+abbrev pub count_of : List (List ℕ) → Option Call
+count_of [] = None
+count_of (object ∷ []) = do
+  id ← id_of object
+  Some (Counts id)
+count_of (object ∷ more ∷ words) = None
+
+-- `P`, or `-` for no target
+abbrev pub target_of : List ℕ → Option (Option ℕ)
+target_of word = if bytes_eq word (codes "-") then Some None else (do
+  process ← labelled 112 word
+  Some (Some process))
+
+-- `same`, which is the option 2, or `M`
+abbrev pub access_of : List ℕ → Option (Rights × ℕ)
+access_of word = if bytes_eq word (codes "same") then Some (record { 0 = 0 }, 2) else (do
+  mask ← mask_of word
+  Some (mask, 0))
+
+-- `[close]`, which is the option 1
+abbrev pub closing_of : List (List ℕ) → Option ℕ
+closing_of [] = Some 0
+closing_of (word ∷ []) = if bytes_eq word (codes "close") then Some 1 else None
+closing_of (word ∷ more ∷ words) = None
+
+-- `dup T P H P|- same|M [inherit] [close]`
+abbrev pub dup_of : List (List ℕ) → Option Call
+dup_of [] = None
+dup_of (thread ∷ []) = None
+dup_of (thread ∷ source ∷ []) = None
+dup_of (thread ∷ source ∷ handle ∷ []) = None
+dup_of (thread ∷ source ∷ handle ∷ target ∷ []) = None
+dup_of (thread ∷ source ∷ handle ∷ target ∷ access ∷ words) = do
+  thread ← labelled 116 thread
+  source ← labelled 112 source
+  handle ← labelled 104 handle
+  target ← target_of target
+  access ← access_of access
+  closing ← closing_of (behind (codes "inherit") words)
+  Some (Duplicate thread source handle target access.0 (begins_with (codes "inherit") words) (access.1 + closing))
+
+-- `any` or `all`
+abbrev pub mode_of : List ℕ → Option Mode
+mode_of word = if bytes_eq word (codes "any") then Some Any else (if bytes_eq word (codes "all") then Some All else None)
+
+-- `0` or `inf`
+abbrev pub timeout_of : List ℕ → Option Timeout
+timeout_of word = if bytes_eq word (codes "0") then Some Zero else (if bytes_eq word (codes "inf") then Some Infinite else None)
+
+-- `wait T any|all 0|inf`, and then handles
+abbrev pub wait_of : List (List ℕ) → Option Call
+wait_of [] = None
+wait_of (thread ∷ []) = None
+wait_of (thread ∷ mode ∷ []) = None
+wait_of (thread ∷ mode ∷ timeout ∷ words) = do
+  thread ← labelled 116 thread
+  mode ← mode_of mode
+  timeout ← timeout_of timeout
+  if are_handles words then Some (WaitFor thread mode timeout (handles_in words)) else None
+
+-- `endthread T`
+abbrev pub endthread_of : List (List ℕ) → Option Call
+endthread_of [] = None
+endthread_of (thread ∷ []) = do
+  thread ← labelled 116 thread
+  Some (EndThread thread)
+endthread_of (thread ∷ more ∷ words) = None
+
+-- `exit P`
+abbrev pub exit_of : List (List ℕ) → Option Call
+exit_of [] = None
+exit_of (process ∷ []) = do
+  process ← labelled 112 process
+  Some (Exit process)
+exit_of (process ∷ more ∷ words) = None
+
+-- `result W`
+abbrev pub result_of : List (List ℕ) → Option Call
+result_of [] = None
+result_of (number ∷ []) = do
+  number ← labelled 119 number
+  Some (WaitResult number)
+result_of (number ∷ more ∷ words) = None
+
+-- `expire W`
+abbrev pub expire_of : List (List ℕ) → Option Call
+expire_of [] = None
+expire_of (number ∷ []) = do
+  number ← labelled 119 number
+  Some (Expire number)
+expire_of (number ∷ more ∷ words) = None
+
+-- the call that the words of a line ask for
+abbrev pub call_of : List (List ℕ) → Option Call
+call_of [] = None
+call_of (verb ∷ words) =
+    if bytes_eq verb (codes "close") then close_of words
+    else (if bytes_eq verb (codes "set") then set_of words
+    else (if bytes_eq verb (codes "wait") then wait_of words
+    else (if bytes_eq verb (codes "count") then count_of words
+    else (if bytes_eq verb (codes "event") then event_of words
+    else (if bytes_eq verb (codes "reset") then reset_of words
+    else (if bytes_eq verb (codes "release") then release_of words
+    else (if bytes_eq verb (codes "unlock") then unlock_of words
+    else (if bytes_eq verb (codes "open") then open_of words
+    else (if bytes_eq verb (codes "dup") then dup_of words
+    else (if bytes_eq verb (codes "result") then result_of words
+    else (if bytes_eq verb (codes "mutex") then mutex_of words
+    else (if bytes_eq verb (codes "semaphore") then semaphore_of words
+    else (if bytes_eq verb (codes "reap") then reap_of words
+    else (if bytes_eq verb (codes "thread") then thread_of words
+    else (if bytes_eq verb (codes "spawn") then spawn_of words
+    else (if bytes_eq verb (codes "child") then child_of words
+    else (if bytes_eq verb (codes "expire") then expire_of words
+    else (if bytes_eq verb (codes "endthread") then endthread_of words
+    else (if bytes_eq verb (codes "exit") then exit_of words
+    else None)))))))))))))))))))
+
+-- `VERB S`: the object
+abbrev pub object_of : List (List ℕ) → Option Id
+object_of [] = None
+object_of (object ∷ []) = id_of object
+object_of (object ∷ more ∷ words) = None
+
+-- `pin S`
+abbrev pub pin_of : List (List ℕ) → Option Act
+pin_of words = do
+  id ← object_of words
+  Some (Pin id)
+
+-- `unpin S`
+abbrev pub unpin_of : List (List ℕ) → Option Act
+unpin_of words = do
+  id ← object_of words
+  Some (Unpin id)
+
+-- `card S`
+abbrev pub card_of : List (List ℕ) → Option Act
+card_of words = do
+  id ← object_of words
+  Some (ShowCard id)
+
+-- what the words of a line ask of the reader
+abbrev pub reading_of : List (List ℕ) → Option Act
+reading_of [] = None
+reading_of (verb ∷ words) =
+    if bytes_eq verb (codes "pin") then pin_of words
+    else (if bytes_eq verb (codes "unpin") then unpin_of words
+    else (if bytes_eq verb (codes "card") then card_of words
+    else None))
+
+abbrev pub or_bad : Option Act → Act
+or_bad None = Bad
+or_bad (Some act) = act
+
+-- what is no call may be asked of the reader
+abbrev pub asked : Option Call → List (List ℕ) → Act
+asked (Some call) words = Asks call
+asked None words = or_bad (reading_of words)
+
+-- the text of a line: one carriage return at its end is dropped
+abbrev pub text_of : List ℕ → List ℕ
+text_of line = if slice_index line (length line - 1) == 13 then take (length line - 1) line else line
+
+-- A text of more than 4,096 bytes is bad; an empty text and a text that begins with # are nothing; `dir` lists names.
+abbrev pub act_of_text : List ℕ → Act
+act_of_text text =
+    if nat_lt 4096 (length text) then Bad
+    else (if (length text == 0) || (slice_index text 0 == 35) then Nothing
+    else (if bytes_eq text (codes "dir") then ListNames
+    else asked (call_of (words_of text)) (words_of text)))
+
+abbrev pub act_of : List ℕ → Act
+act_of line = act_of_text (text_of line)

@@ -1,0 +1,4 @@
+pub mod Acts
+pub mod Words
+pub mod WordsLeft
+pub mod Grammar

@@ -1,0 +1,496 @@
+ghost use Rattle.std.specs.Prelude.{◌≡◌, ◌≤◌, IfSome};
+ghost use Rattle.std.specs.Option.{option_map};
+ghost use Rattle.ob_script.specs.Words.{are_handles, words_of};
+ghost use Rattle.ob_script.specs.Acts.{act_in, call_in};
+ghost use Rattle.ob_script.specs.Grammar.{access_of, act_of, call_of, card_of, child_of, close_of, closing_of, count_of, dup_of, endthread_of, event_of, exit_of, expire_of, handle_of, mode_of, mutex_of, object_of, open_of, pin_of, reading_of, reap_of, release_of, reset_of, result_of, semaphore_of, set_of, spawn_of, target_of, text_of, thread_of, timeout_of, unlock_of, unpin_of, wait_of};
+
+use crate::act::{Act, Ask};
+use crate::naming::{make_of, name_of};
+use crate::numbers::{either_of, id_of, labelled, number_of, signed_of};
+use crate::rights::{kind_of, mask_of};
+use crate::words::{Words, is};
+use ob_manager::{Mode, Timeout};
+use ob_rights::Rights;
+use pin_core::Id;
+
+/// The longest text of a line, in bytes.
+pub const TEXT_MOST: usize = 4096;
+
+/// What a line is, without its line feed.
+pub fn act_of(line: &[u8]) -> Act<'_>
+    ensures { act_in result ≡ act_of line.now }
+{
+    let text = text_of(line);
+    if text.len() > TEXT_MOST {
+        return Act::Bad;
+    }
+    if text.is_empty() || text[0] == b'#' {
+        return Act::Nothing;
+    }
+    if is(text, b"dir") {
+        return Act::ListNames;
+    }
+    if let Some(ask) = call_of(Words::of(text)) {
+        return Act::Ask(ask);
+    }
+    match reading_of(Words::of(text)) {
+        Some(act) => act,
+        None => Act::Bad,
+    }
+}
+
+/// The text of a line: one carriage return at its end is dropped.
+fn text_of(line: &[u8]) -> &[u8]
+    ensures { result.now ≡ text_of line.now }
+{
+    match line {
+        [text @ .., b'\r'] => text,
+        _ => line,
+    }
+}
+
+fn call_of(mut words: Words<'_>) -> Option<Ask<'_>>
+    ensures { option_map call_in result ≡ call_of words.entry }
+{
+    let verb = words.next()?;
+    if is(verb, b"close") {
+        return close_of(words);
+    }
+    if is(verb, b"set") {
+        return set_of(words);
+    }
+    if is(verb, b"wait") {
+        return wait_of(words);
+    }
+    if is(verb, b"count") {
+        return count_of(words);
+    }
+    if is(verb, b"event") {
+        return event_of(words);
+    }
+    if is(verb, b"reset") {
+        return reset_of(words);
+    }
+    if is(verb, b"release") {
+        return release_of(words);
+    }
+    if is(verb, b"unlock") {
+        return unlock_of(words);
+    }
+    if is(verb, b"open") {
+        return open_of(words);
+    }
+    if is(verb, b"dup") {
+        return dup_of(words);
+    }
+    if is(verb, b"result") {
+        return result_of(words);
+    }
+    if is(verb, b"mutex") {
+        return mutex_of(words);
+    }
+    if is(verb, b"semaphore") {
+        return semaphore_of(words);
+    }
+    if is(verb, b"reap") {
+        return reap_of(words);
+    }
+    if is(verb, b"thread") {
+        return thread_of(words);
+    }
+    if is(verb, b"spawn") {
+        return spawn_of(words);
+    }
+    if is(verb, b"child") {
+        return child_of(words);
+    }
+    if is(verb, b"expire") {
+        return expire_of(words);
+    }
+    if is(verb, b"endthread") {
+        return endthread_of(words);
+    }
+    if is(verb, b"exit") {
+        return exit_of(words);
+    }
+    None
+}
+
+fn spawn_of(mut words: Words<'_>) -> Option<Ask<'_>>
+    ensures { option_map call_in result ≡ spawn_of words.entry }
+{
+    let session = words.next()?;
+    words.end()?;
+    let session = number_of(session)?;
+    Some(Ask::Spawn { session })
+}
+
+fn child_of(mut words: Words<'_>) -> Option<Ask<'_>>
+    ensures { option_map call_in result ≡ child_of words.entry }
+{
+    let thread = words.next()?;
+    let inherit = words.next()?;
+    words.end()?;
+    let thread = labelled(b't', thread)?;
+    let inherit = either_of(b"plain", b"inherit", inherit)?;
+    Some(Ask::Child { thread, inherit })
+}
+
+fn thread_of(mut words: Words<'_>) -> Option<Ask<'_>>
+    ensures { option_map call_in result ≡ thread_of words.entry }
+{
+    let process = words.next()?;
+    words.end()?;
+    let process = labelled(b'p', process)?;
+    Some(Ask::StartThread { process })
+}
+
+fn event_of(mut words: Words<'_>) -> Option<Ask<'_>>
+    ensures { option_map call_in result ≡ event_of words.entry }
+{
+    let thread = words.next()?;
+    let reset = words.next()?;
+    let state = words.next()?;
+    let thread = labelled(b't', thread)?;
+    let manual = either_of(b"auto", b"manual", reset)?;
+    let set = either_of(b"clear", b"set", state)?;
+    let make = make_of(words)?;
+    Some(Ask::MakeEvent {
+        thread,
+        make,
+        manual,
+        set,
+    })
+}
+
+fn mutex_of(mut words: Words<'_>) -> Option<Ask<'_>>
+    ensures { option_map call_in result ≡ mutex_of words.entry }
+{
+    let thread = words.next()?;
+    let state = words.next()?;
+    let thread = labelled(b't', thread)?;
+    let owned = either_of(b"free", b"owned", state)?;
+    let make = make_of(words)?;
+    Some(Ask::MakeMutex {
+        thread,
+        make,
+        owned,
+    })
+}
+
+fn semaphore_of(mut words: Words<'_>) -> Option<Ask<'_>>
+    ensures { option_map call_in result ≡ semaphore_of words.entry }
+{
+    let thread = words.next()?;
+    let initial = words.next()?;
+    let max = words.next()?;
+    let thread = labelled(b't', thread)?;
+    let initial = signed_of(initial)?;
+    let max = signed_of(max)?;
+    let make = make_of(words)?;
+    Some(Ask::MakeSemaphore {
+        thread,
+        make,
+        initial,
+        max,
+    })
+}
+
+fn open_of(mut words: Words<'_>) -> Option<Ask<'_>>
+    ensures { option_map call_in result ≡ open_of words.entry }
+{
+    let thread = words.next()?;
+    let kind = words.next()?;
+    let mask = words.next()?;
+    let thread = labelled(b't', thread)?;
+    let kind = kind_of(kind)?;
+    let mask = mask_of(mask)?;
+    let inherit = words.skip(b"inherit");
+    let text = name_of(words)?;
+    Some(Ask::OpenNamed {
+        thread,
+        kind,
+        mask,
+        inherit,
+        text,
+    })
+}
+
+fn dup_of(mut words: Words<'_>) -> Option<Ask<'_>>
+    ensures { option_map call_in result ≡ dup_of words.entry }
+{
+    let thread = words.next()?;
+    let source = words.next()?;
+    let handle = words.next()?;
+    let target = words.next()?;
+    let access = words.next()?;
+    let thread = labelled(b't', thread)?;
+    let source = labelled(b'p', source)?;
+    let handle = labelled(b'h', handle)?;
+    let target = target_of(target)?;
+    let (mask, sameness) = access_of(access)?;
+    let inherit = words.skip(b"inherit");
+    let closing = closing_of(words)?;
+    Some(Ask::Duplicate {
+        thread,
+        source,
+        handle,
+        target,
+        mask,
+        inherit,
+        options: sameness + closing,
+    })
+}
+
+/// A process, or a hyphen for none.
+fn target_of(word: &[u8]) -> Option<Option<u32>>
+    ensures { result ≡ target_of word.now }
+{
+    if is(word, b"-") {
+        return Some(None);
+    }
+    let process = labelled(b'p', word)?;
+    Some(Some(process))
+}
+
+/// The keyword for the option `DUPLICATE_SAME_ACCESS`, 2, or a mask.
+fn access_of(word: &[u8]) -> Option<(Rights, u32)>
+    ensures value { result ≡ access_of word.now }
+    ensures few { IfSome result (λ access. access.1 ≤ 2) }
+{
+    if is(word, b"same") {
+        return Some((Rights(0), 2));
+    }
+    let mask = mask_of(word)?;
+    Some((mask, 0))
+}
+
+/// The keyword for the option `DUPLICATE_CLOSE_SOURCE`, 1, if it stands there.
+fn closing_of(mut words: Words<'_>) -> Option<u32>
+    ensures value { result ≡ closing_of words.entry }
+    ensures few { IfSome result (λ closing. closing ≤ 1) }
+{
+    if words.is_empty() {
+        return Some(0);
+    }
+    if !words.skip(b"close") {
+        return None;
+    }
+    words.end()?;
+    Some(1)
+}
+
+/// A thread and a handle.
+fn handle_of(mut words: Words<'_>) -> Option<(u32, u32)>
+    ensures { result ≡ handle_of words.entry }
+{
+    let thread = words.next()?;
+    let handle = words.next()?;
+    words.end()?;
+    let thread = labelled(b't', thread)?;
+    let handle = labelled(b'h', handle)?;
+    Some((thread, handle))
+}
+
+fn close_of(words: Words<'_>) -> Option<Ask<'_>>
+    ensures { option_map call_in result ≡ close_of words.entry }
+{
+    let (thread, handle) = handle_of(words)?;
+    Some(Ask::CloseHandle { thread, handle })
+}
+
+fn set_of(words: Words<'_>) -> Option<Ask<'_>>
+    ensures { option_map call_in result ≡ set_of words.entry }
+{
+    let (thread, handle) = handle_of(words)?;
+    Some(Ask::SetEvent { thread, handle })
+}
+
+fn reset_of(words: Words<'_>) -> Option<Ask<'_>>
+    ensures { option_map call_in result ≡ reset_of words.entry }
+{
+    let (thread, handle) = handle_of(words)?;
+    Some(Ask::ResetEvent { thread, handle })
+}
+
+fn unlock_of(words: Words<'_>) -> Option<Ask<'_>>
+    ensures { option_map call_in result ≡ unlock_of words.entry }
+{
+    let (thread, handle) = handle_of(words)?;
+    Some(Ask::ReleaseMutex { thread, handle })
+}
+
+fn release_of(mut words: Words<'_>) -> Option<Ask<'_>>
+    ensures { option_map call_in result ≡ release_of words.entry }
+{
+    let thread = words.next()?;
+    let handle = words.next()?;
+    let count = words.next()?;
+    words.end()?;
+    let thread = labelled(b't', thread)?;
+    let handle = labelled(b'h', handle)?;
+    let count = signed_of(count)?;
+    Some(Ask::ReleaseSemaphore {
+        thread,
+        handle,
+        count,
+    })
+}
+
+fn wait_of(mut words: Words<'_>) -> Option<Ask<'_>>
+    ensures { option_map call_in result ≡ wait_of words.entry }
+{
+    let thread = words.next()?;
+    let mode = words.next()?;
+    let timeout = words.next()?;
+    let thread = labelled(b't', thread)?;
+    let mode = mode_of(mode)?;
+    let timeout = timeout_of(timeout)?;
+    let rest = words.rest();
+    if !are_handles(words) {
+        return None;
+    }
+    Some(Ask::WaitFor {
+        thread,
+        mode,
+        timeout,
+        rest,
+    })
+}
+
+fn mode_of(word: &[u8]) -> Option<Mode>
+    ensures { result ≡ mode_of word.now }
+{
+    if is(word, b"any") {
+        Some(Mode::Any)
+    } else if is(word, b"all") {
+        Some(Mode::All)
+    } else {
+        None
+    }
+}
+
+fn timeout_of(word: &[u8]) -> Option<Timeout>
+    ensures { result ≡ timeout_of word.now }
+{
+    if is(word, b"0") {
+        Some(Timeout::Zero)
+    } else if is(word, b"inf") {
+        Some(Timeout::Infinite)
+    } else {
+        None
+    }
+}
+
+/// Whether each word is a handle.
+fn are_handles(mut words: Words<'_>) -> bool
+    ensures { result ≡ are_handles words.entry }
+{
+    while let Some(word) = words.next() {
+        if labelled(b'h', word).is_none() {
+            return false;
+        }
+    }
+    true
+}
+
+fn result_of(mut words: Words<'_>) -> Option<Ask<'_>>
+    ensures { option_map call_in result ≡ result_of words.entry }
+{
+    let wait = words.next()?;
+    words.end()?;
+    let wait = labelled(b'w', wait)?;
+    Some(Ask::WaitResult { wait })
+}
+
+fn expire_of(mut words: Words<'_>) -> Option<Ask<'_>>
+    ensures { option_map call_in result ≡ expire_of words.entry }
+{
+    let wait = words.next()?;
+    words.end()?;
+    let wait = labelled(b'w', wait)?;
+    Some(Ask::Expire { wait })
+}
+
+fn endthread_of(mut words: Words<'_>) -> Option<Ask<'_>>
+    ensures { option_map call_in result ≡ endthread_of words.entry }
+{
+    let thread = words.next()?;
+    words.end()?;
+    let thread = labelled(b't', thread)?;
+    Some(Ask::EndThread { thread })
+}
+
+fn exit_of(mut words: Words<'_>) -> Option<Ask<'_>>
+    ensures { option_map call_in result ≡ exit_of words.entry }
+{
+    let process = words.next()?;
+    words.end()?;
+    let process = labelled(b'p', process)?;
+    Some(Ask::Exit { process })
+}
+
+fn reap_of(mut words: Words<'_>) -> Option<Ask<'_>>
+    ensures { option_map call_in result ≡ reap_of words.entry }
+{
+    let slot = words.next()?;
+    words.end()?;
+    let slot = labelled(b's', slot)?;
+    Some(Ask::Reap { slot })
+}
+
+fn count_of(mut words: Words<'_>) -> Option<Ask<'_>>
+    ensures { option_map call_in result ≡ count_of words.entry }
+{
+    let object = words.next()?;
+    words.end()?;
+    let id = id_of(object)?;
+    Some(Ask::Counts { id })
+}
+
+/// What is asked of the reader.
+fn reading_of(mut words: Words<'_>) -> Option<Act<'_>>
+    ensures { option_map act_in result ≡ reading_of words.entry }
+{
+    let verb = words.next()?;
+    if is(verb, b"pin") {
+        return pin_of(words);
+    }
+    if is(verb, b"unpin") {
+        return unpin_of(words);
+    }
+    if is(verb, b"card") {
+        return card_of(words);
+    }
+    None
+}
+
+fn pin_of(words: Words<'_>) -> Option<Act<'_>>
+    ensures { option_map act_in result ≡ pin_of words.entry }
+{
+    let id = object_of(words)?;
+    Some(Act::Pin(id))
+}
+
+fn unpin_of(words: Words<'_>) -> Option<Act<'_>>
+    ensures { option_map act_in result ≡ unpin_of words.entry }
+{
+    let id = object_of(words)?;
+    Some(Act::Unpin(id))
+}
+
+fn card_of(words: Words<'_>) -> Option<Act<'_>>
+    ensures { option_map act_in result ≡ card_of words.entry }
+{
+    let id = object_of(words)?;
+    Some(Act::ShowCard(id))
+}
+
+/// An object, behind which nothing stands.
+fn object_of(mut words: Words<'_>) -> Option<Id>
+    ensures { result ≡ object_of words.entry }
+{
+    let object = words.next()?;
+    words.end()?;
+    id_of(object)
+}

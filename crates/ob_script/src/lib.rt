@@ -1,0 +1,24 @@
+//! A script, line by line: what each line asks for, by a grammar (`specs/Grammar.antt`).
+//!
+//! A line takes no memory: names stay as they stand in it, and so do the handles of a wait, until they are asked for.
+//!
+//! ```text
+//! act_of(b"close t1 h4");                            // Act::Ask(Ask::CloseHandle { thread: 1, handle: 4 })
+//! act_of(b"pin s0.1");                               // Act::Pin(Id { slot: 0, generation: 1 })
+//! act_of(b"# a comment");                            // Act::Nothing
+//! act_of(b"close t1");                               // Act::Bad
+//! ```
+#![tactic(auto)]
+
+mod act;
+mod grammar;
+mod handles;
+mod naming;
+mod numbers;
+mod rights;
+mod words;
+
+pub use act::{Act, Ask};
+pub use grammar::act_of;
+pub use handles::handles_of;
+pub use words::cut_far;

@@ -1,0 +1,148 @@
+ghost use Rattle.std.specs.Prelude.{◌≡◌, ◌≢◌, ◌<◌, [], ◌∷◌, length, IfSome, IfNone, IsSome, IsTrue, ◌↔◌, MatchOption};
+ghost use Rattle.std.specs.Str.{bytes_eq};
+ghost use Rattle.std.specs.List.{after_first, before_first, position_or_len};
+ghost use Rattle.memchr.specs.Find.{IsFirstByte, is_byte};
+ghost use Rattle.ob_script.specs.Words.{begins_with, behind, joined, words_of};
+ghost use Rattle.ob_script.specs.WordsLeft.{words_left};
+
+use memchr::memchr;
+use std::marker::Model;
+
+/// The words of a text that are left: what stands between single spaces. A clause sees them as a list.
+#[derive(Drop)]
+pub struct Words<'a> {
+    rest: Option<&'a [u8]>,
+}
+
+impl<'a> Model for Words<'a> {
+    ghost use Rattle.std.specs.Prelude.{ℕ, List};
+    ghost use Rattle.ob_script.specs.WordsLeft.{words_left};
+
+    ghost Value = { List (List ℕ) };
+
+    ghost view = { λ words. words_left words.rest };
+}
+
+impl<'a> Words<'a> {
+    /// The words of a text.
+    pub fn of(text: &'a [u8]) -> Words<'a>
+        ensures { result ≡ words_of text.now }
+    {
+        Words { rest: Some(text) }
+    }
+
+    /// The words of what another has left.
+    pub fn of_rest(rest: Option<&'a [u8]>) -> Words<'a>
+        ensures { result ≡ words_left rest.entry }
+    {
+        Words { rest }
+    }
+
+    /// What is left.
+    pub fn rest(&self) -> Option<&'a [u8]>
+        ensures { words_left result ≡ self.now }
+    {
+        self.rest
+    }
+
+    /// The next word.
+    pub fn next(&mut self) -> Option<&'a [u8]>
+        ensures { MatchOption result (self.old ≡ []) (λ word. self.old ≡ word.now ∷ self.new) }
+    {
+        let rest = self.rest?;
+        match cut(b' ', rest) {
+            Some((word, tail)) => {
+                self.rest = Some(tail);
+                Some(word)
+            }
+            None => {
+                self.rest = None;
+                Some(rest)
+            }
+        }
+    }
+
+    /// Whether a keyword comes next. If it does, it is passed.
+    pub fn skip(&mut self, keyword: &[u8]) -> bool
+        ensures skips { result ≡ begins_with keyword.now self.old }
+        ensures rest { self.new ≡ behind keyword.now self.old }
+    {
+        let mut later = Words { rest: self.rest };
+        let Some(word) = later.next() else {
+            return false;
+        };
+        if !is(word, keyword) {
+            return false;
+        }
+        self.rest = later.rest;
+        true
+    }
+
+    /// The text that is left, its spaces as they stand; none where no word is left.
+    pub fn text(self) -> Option<&'a [u8]>
+        ensures { MatchOption result (self.entry ≡ []) (λ text. (text.now ≡ joined self.entry) × (self.entry ≢ [])) }
+    {
+        self.rest
+    }
+
+    /// Whether no word is left.
+    pub fn is_empty(&self) -> bool
+        ensures { IsTrue result ↔ (self.now ≡ []) }
+    {
+        match self.rest {
+            Some(_) => false,
+            None => true,
+        }
+    }
+
+    /// Some where no word is left.
+    pub fn end(self) -> Option<()>
+        ensures { IsSome result ↔ (self.entry ≡ []) }
+    {
+        match self.rest {
+            Some(_) => None,
+            None => Some(()),
+        }
+    }
+}
+
+/// Whether a word is this keyword. Most words that are not differ in their length or their first byte.
+#[inline(always)]
+pub fn is(word: &[u8], keyword: &[u8]) -> bool
+    ensures { result ≡ bytes_eq word.now keyword.now }
+{
+    word.len() == keyword.len() && word.first() == keyword.first() && word == keyword
+}
+
+/// Where such a byte is first, found by a look at one byte after another: words are short.
+fn place_of(byte: u8, text: &[u8]) -> Option<usize>
+    ensures { IsFirstByte (is_byte byte) text.now result }
+{
+    text.iter().position(|b| *b == byte)
+}
+
+/// What stands before and behind the first such byte, which is near.
+#[tactic(auto, using(crate::proofs::Cuts::first_place, crate::proofs::Cuts::no_place))]
+pub fn cut(byte: u8, text: &[u8]) -> Option<(&[u8], &[u8])>
+    ensures within { IfSome result (λ _. position_or_len (is_byte byte) text.now < length text.now) }
+    ensures before { IfSome result (λ parts. parts.0.now ≡ before_first (is_byte byte) text.now) }
+    ensures behind { IfSome result (λ parts. parts.1.now ≡ after_first (is_byte byte) text.now) }
+    ensures none { IfNone result (position_or_len (is_byte byte) text.now ≡ length text.now) }
+{
+    let at = place_of(byte, text)?;
+    let (before, rest) = text.split_at(at);
+    Some((before, &rest[1..]))
+}
+
+/// What stands before and behind the first such byte, which may be far.
+#[tactic(auto, using(crate::proofs::Cuts::first_place, crate::proofs::Cuts::no_place))]
+pub fn cut_far(byte: u8, text: &[u8]) -> Option<(&[u8], &[u8])>
+    ensures within { IfSome result (λ _. position_or_len (is_byte byte) text.now < length text.now) }
+    ensures before { IfSome result (λ parts. parts.0.now ≡ before_first (is_byte byte) text.now) }
+    ensures behind { IfSome result (λ parts. parts.1.now ≡ after_first (is_byte byte) text.now) }
+    ensures none { IfNone result (position_or_len (is_byte byte) text.now ≡ length text.now) }
+{
+    let at = memchr(byte, text)?;
+    let (before, rest) = text.split_at(at);
+    Some((before, &rest[1..]))
+}
