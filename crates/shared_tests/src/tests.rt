@@ -1,8 +1,12 @@
 mod blocking;
 mod closing;
+mod crowd;
 mod holding;
 mod lanes;
+mod members;
 mod racing;
+mod turns;
+mod wanting;
 
 use ob_manager::{Call, Limits, Making, Manager, Reply};
 use ob_rights::Fault;
