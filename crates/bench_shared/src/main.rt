@@ -185,6 +185,7 @@ fn two_pin<R: Threads + Wait + Clock + Sync>(
 }
 
 /// The readers of a run, and how many of them are at work.
+#[derive(Drop)]
 struct Readers<'a> {
     first: Reader<'a>,
     second: Reader<'a>,
@@ -230,7 +231,7 @@ fn calls_beside<R: Wait + Clock>(
 ) {
     let _ = begin(rt, start);
     for _ in rt.forever() {
-        if ended.load(Ordering::SeqCst) + 1 >= start.threads {
+        if ended.load(Ordering::SeqCst).saturating_add(1) >= start.threads {
             break;
         }
         sets(rt, shared, lane, 0);
