@@ -57,20 +57,31 @@ fn pins_under_the_lock_keep_a_slot(rt: HostRuntime) -> Result<(), Fail> {
     Ok(())
 }
 
-#[test]
-fn pins_under_the_lock_are_limited(rt: HostRuntime) -> Result<(), Fail> {
+/// So many pins of one object are taken, and no more.
+fn plays_most(rt: &impl Abort, manager: &mut Manager<LockedPins>, most: u32, due: PinFault) {
     let id = object(0, 1);
-    let mut one = locked(rt.alloc(), Limits::checked(1, 1, 1, 1, 1, 1, 1, 1)?)?;
-    gives(&rt, one.spawn(1), spawned(1, 1));
-    gives(&rt, one.create_event(1, &PLAIN, false, false), made(4, id));
-    pins(&rt, &mut one, id, Ok(()));
-    pins(&rt, &mut one, id, Err(PinFault::PinsFull));
-    let mut many = locked(rt.alloc(), Limits::default())?;
-    gives(&rt, many.spawn(1), spawned(1, 1));
-    gives(&rt, many.create_event(1, &PLAIN, false, false), made(4, id));
-    for _ in 0..16 {
-        pins(&rt, &mut many, id, Ok(()));
+    gives(rt, manager.spawn(1), spawned(1, 1));
+    gives(
+        rt,
+        manager.create_event(1, &PLAIN, false, false),
+        made(4, id),
+    );
+    for _ in 0..most {
+        pins(rt, manager, id, Ok(()));
     }
-    pins(&rt, &mut many, id, Err(PinFault::HeldFull));
+    pins(rt, manager, id, Err(due));
+}
+
+#[test]
+fn a_slot_has_as_many_pins_as_it_may(rt: HostRuntime) -> Result<(), Fail> {
+    let mut manager = locked(rt.alloc(), Limits::checked(1, 1, 1, 1, 1, 1, 1, 1)?)?;
+    plays_most(&rt, &mut manager, 1, PinFault::PinsFull);
+    Ok(())
+}
+
+#[test]
+fn a_holder_has_sixteen_pins(rt: HostRuntime) -> Result<(), Fail> {
+    let mut manager = locked(rt.alloc(), Limits::default())?;
+    plays_most(&rt, &mut manager, 16, PinFault::HeldFull);
     Ok(())
 }
