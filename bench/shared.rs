@@ -50,8 +50,15 @@ const CALLS: u64 = 20_000;
 /// Pins of each reader in a run.
 const PAIRS: u64 = 20_000;
 
-const LIMITS: Limits =
-    Limits { slots: 64, processes: 64, threads: 256, handles: 1024, waits: 1_000_000, max_gen: u32::MAX };
+const LIMITS: Limits = Limits {
+    slots: 64,
+    processes: 64,
+    threads: 256,
+    handles: 1024,
+    waits: 1_000_000,
+    max_gen: u32::MAX,
+    max_recursion: 2_147_483_647,
+};
 
 fn event() -> Call {
     let make = Making { name: None, inherit: false, access: None, grant: None };
