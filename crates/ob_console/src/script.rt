@@ -5,7 +5,6 @@ ghost use Rattle.ob_console.specs.Sessions.{Session};
 ghost use Rattle.ob_console.specs.Runs.{IsEnded, IsOpening};
 
 use crate::console::Console;
-use crate::device::{Sink, Source, Trouble};
 use ob_manager::{Limits, Manager};
 use pin_words::{Opening, Pins};
 use std::alloc::{AllocError, Global};
