@@ -6,6 +6,7 @@ ghost use Rattle.ob_console.specs.Runs.{IsEnded, IsOpening};
 
 use crate::console::Console;
 use ob_manager::{Limits, Manager};
+use ob_output::{Sink, Source, Trouble};
 use pin_words::{Opening, Pins};
 use std::alloc::{AllocError, Global};
 
