@@ -5,6 +5,8 @@
 //! made and dropped outside of what is timed.
 #![tactic(auto)]
 
+ghost use Rattle.std.specs.Prelude.{◌≡◌};
+
 mod calling;
 mod driven;
 mod pinning;
@@ -16,7 +18,7 @@ use ob_manager::{Limits, Manager};
 use ob_shared::Shared;
 use pin_words::{Keeper, Pins, Reader};
 use pinning::{PAIRS, pinners_of, readers_pin};
-use std::alloc::Global;
+use std::alloc::{AllocError, Global};
 use std::sync::Wait;
 use std::sync::atomic::AtomicU64;
 use std::thread::Threads;
@@ -73,17 +75,17 @@ fn readers_of<'a>(
     keeper: &mut Keeper<'a>,
     first: Reader<'a>,
     count: u64,
-) -> Option<Vec<Reader<'a>>>
+) -> Result<Vec<Reader<'a>>, AllocError>
     ensures slots { keeper.new.view.slots ≡ keeper.old.view.slots }
     ensures published { keeper.new.view.published ≡ keeper.old.view.published }
     ensures shape { keeper.new.view.shape ≡ keeper.old.view.shape }
 {
     let mut readers = Vec::new(alloc);
-    readers.push(first).ok()?;
+    readers.push(first)?;
     for _ in 1..count {
-        readers.push(keeper.reader()).ok()?;
+        readers.push(keeper.reader())?;
     }
-    Some(readers)
+    Ok(readers)
 }
 
 fn run<R: Threads + Wait + Clock + Sync>(rt: &R, alloc: Global, case: Case) -> Option<u128> {
@@ -98,7 +100,7 @@ fn run<R: Threads + Wait + Clock + Sync>(rt: &R, alloc: Global, case: Case) -> O
         Case::Lanes(_) => 1,
         Case::Readers(count) | Case::Members(count) => count,
     };
-    let readers = readers_of(alloc, &mut keeper, first, count)?;
+    let readers = readers_of(alloc, &mut keeper, first, count).ok()?;
     let Ok(manager) = Manager::new(alloc, limits, keeper) else {
         return None;
     };

@@ -36,7 +36,7 @@ pub fn pinners_of(alloc: Global, readers: Vec<Reader<'_>>) -> Option<Vec<Pinner<
                 span: None,
             })
             .ok()?;
-        slot = (slot + APART) % 64;
+        slot = slot.wrapping_add(APART) % 64;
     }
     Some(pinners)
 }
