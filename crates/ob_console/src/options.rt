@@ -1,3 +1,5 @@
+ghost use Rattle.std.specs.Prelude.{◌≤◌, IfOk};
+
 use clap::error::ErrorKind;
 use clap::{Arg, ArgAction, ArgMatches, Command, Error, value_parser};
 use ob_manager::Limits;
@@ -35,7 +37,9 @@ impl From<AllocError> for OptionsFault {
 /// Reads the arguments after the program's name, by the habits of `clap`: `--slots 4` or `--slots=4`, in any order,
 /// each option at most once, and `--help` or `-h`. The options are the *profile*'s: one for each limit of [`Limits`], and
 /// `--lanes`.
-pub fn read_options(alloc: Global, args: Vec<String>) -> Result<Options, OptionsFault> {
+pub fn read_options(alloc: Global, args: Vec<String>) -> Result<Options, OptionsFault>
+    ensures lanes { IfOk result (λ options. options.lanes ≤ LANES_MOST) }
+{
     match command(alloc)?.try_get_matches_from(args.as_slice()) {
         Ok(matches) => Ok(Options {
             limits: limits_of(&matches)?,
@@ -126,7 +130,9 @@ fn limits_of(matches: &ArgMatches<'_>) -> Result<Limits, OptionsFault> {
 }
 
 /// The lanes that were given, by default none.
-fn lanes_of(matches: &ArgMatches<'_>) -> Result<u32, OptionsFault> {
+fn lanes_of(matches: &ArgMatches<'_>) -> Result<u32, OptionsFault>
+    ensures { IfOk result (λ lanes. lanes ≤ LANES_MOST) }
+{
     let lanes = given(matches, "lanes", 0);
     if lanes > LANES_MOST {
         return Err(OptionsFault::BadLine);
