@@ -7,11 +7,8 @@ mod pins;
 #[path = "parts/spans.rs"]
 mod spans;
 
-use id::Id;
 use pins::Words;
-use spans::{Span, Start, measure};
-use std::hint::black_box;
-use std::thread;
+use spans::{Start, measure, on_threads, time_of};
 
 // Pairs of each thread in a run.
 const PAIRS: u64 = 40000;
@@ -20,25 +17,14 @@ const APART: [u32; 4] = [64, 128, 192, 256];
 
 const NEAR: [u32; 4] = [8, 9, 10, 11];
 
-fn spin(words: &Words, slot: u32, start: &Start) -> Span {
-    let id = black_box(Id { slot, generation: 1 });
-    let began = start.begin();
-    for _ in 0..PAIRS {
-        if words.pin(id).is_err() {
-            panic!("the slot is live");
-        }
-        words.release(id);
-    }
-    start.end(began)
-}
-
-fn run(words: &Words, slots: &[u32]) -> Vec<Span> {
-    let start = &Start::new(slots.len() as u64);
-    thread::scope(|scope| {
-        let others: Vec<_> = slots[1..].iter().map(|&slot| scope.spawn(move || spin(words, slot, start))).collect();
-        let own = spin(words, slots[0], start);
-        others.into_iter().map(|thread| thread.join().unwrap()).chain(Some(own)).collect()
-    })
+fn run(words: &Words, slots: &[u32]) -> Option<u128> {
+    let start = Start::new(slots.len() as u64);
+    let spans = on_threads(&mut slots.to_vec(), |slot| {
+        let began = start.begin();
+        words.spin(*slot, PAIRS);
+        start.end(began)
+    });
+    time_of(&spans)
 }
 
 fn measure_at(case: &str, words: &Words, slots: &[u32]) {

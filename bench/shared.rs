@@ -1,5 +1,5 @@
 //! A manager by hand in plain Rust behind a lock, with the journal of its calls and a list of them for each lane; and pins beside
-//! its calls.
+//! its calls, and members that make the calls of their scripts at once.
 
 #[path = "parts/answers.rs"]
 mod answers;
@@ -35,20 +35,25 @@ mod table;
 mod waiting;
 
 use answers::{Limits, Reply};
-use id::Id;
 use journal::{Call, Lane, Making, Shared};
 use manager::Manager;
 use pins::Words;
-use spans::{Span, Start, measure};
-use std::hint::black_box;
+use spans::{Span, Start, measure, on_threads, time_of};
 use std::sync::atomic::{AtomicU64, Ordering::SeqCst};
 use std::thread;
+use std::time::Instant;
 
 /// Calls of each lane in a run.
 const CALLS: u64 = 20_000;
 
-/// Pins of each reader in a run.
-const PAIRS: u64 = 20_000;
+/// Pins of each reader in a run: enough that threads which share a processor all come to work.
+const PAIRS: u64 = 1_000_000;
+
+/// How many events there are. Their slots' words take several cache lines.
+const EVENTS: u32 = 64;
+
+/// So far from each other are the slots that two readers pin, so that they share no cache line.
+const APART: u32 = 16;
 
 const LIMITS: Limits = Limits {
     slots: 64,
@@ -65,79 +70,91 @@ fn event() -> Call {
     Call::MakeEvent { thread: 1, make, manual: true, set: false }
 }
 
-/// Threads 1 to 4 of one process, and an event with one handle for each.
+/// Threads 1 to 8 of one process, and the events, with one handle for each.
 fn prepared() -> (Shared, Lane) {
     let mut shared = Shared::new(Manager::new(LIMITS));
     let mut lane = shared.lane();
     shared.call(&mut lane, Call::Spawn { session: 1 });
-    for _ in 0..3 {
+    for _ in 0..7 {
         shared.call(&mut lane, Call::StartThread { process: 1 });
     }
-    for _ in 0..4 {
+    for _ in 0..EVENTS {
         shared.call(&mut lane, event());
     }
     (shared, lane)
 }
 
-/// Whether the thread of a lane sets its event.
-fn sets(shared: &Shared, lane: &mut Lane, number: u32) -> bool {
-    matches!(shared.call(lane, Call::SetEvent { thread: number + 1, handle: number * 4 + 4 }), Reply::Done)
+/// The thread of a lane sets its event.
+fn set(lane: u32) -> Call {
+    Call::SetEvent { thread: lane % 8 + 1, handle: lane % 8 * 4 + 4 }
 }
 
-fn calls(start: &Start, shared: &Shared, lane: &mut Lane, number: u32) -> Span {
-    let began = start.begin();
+fn calls(start: &Start, shared: &Shared, lane: &mut Lane) -> Span {
+    let (began, number) = (start.begin(), lane.number());
     for _ in 0..CALLS {
-        assert!(sets(shared, lane, number));
+        assert!(matches!(shared.call(lane, set(number)), Reply::Done));
     }
     start.end(began)
 }
 
-fn lanes_call(count: u64) -> Vec<Span> {
-    let (mut shared, first) = prepared();
-    let mut lanes: Vec<Lane> = (1..count).map(|_| shared.lane()).collect();
-    lanes.push(first);
-    let (shared, start) = (&shared, &Start::new(count));
-    thread::scope(|scope| {
-        let (own, others) = lanes.split_first_mut().unwrap();
-        let others: Vec<_> = others
-            .iter_mut()
-            .zip(1..)
-            .map(|(lane, number)| scope.spawn(move || calls(start, shared, lane, number)))
-            .collect();
-        let own = calls(start, shared, own, 0);
-        others.into_iter().map(|thread| thread.join().unwrap()).chain(Some(own)).collect()
-    })
+fn lanes_call(count: u64) -> Option<u128> {
+    let (mut shared, _first) = prepared();
+    let mut lanes: Vec<Lane> = (0..count).map(|_| shared.lane()).collect();
+    let start = Start::new(count);
+    time_of(&on_threads(&mut lanes, |lane| calls(&start, &shared, lane)))
 }
 
 fn pins(start: &Start, words: &Words, ended: &AtomicU64, slot: u32) -> Span {
-    let id = black_box(Id { slot, generation: 1 });
     let began = start.begin();
-    for _ in 0..PAIRS {
-        if words.pin(id).is_err() {
-            panic!("the slot is live");
-        }
-        words.release(id);
-    }
+    words.spin(slot, PAIRS);
     let span = start.end(began);
     ended.fetch_add(1, SeqCst);
     span
 }
 
 /// The readers pin while a lane sets an event again and again.
-fn readers_pin(count: u64) -> Vec<Span> {
+fn readers_pin(count: u64) -> Option<u128> {
     let (shared, mut lane) = prepared();
-    let (words, ended) = (Words::new(64, 1073741823), AtomicU64::new(0));
-    (0..4).for_each(|slot| words.publish(slot));
-    let (words, ended, start) = (&words, &ended, &Start::new(count + 1));
+    let (words, ended, start) = (Words::new(64, 1073741823), AtomicU64::new(0), Start::new(count + 1));
+    (0..EVENTS).for_each(|slot| words.publish(slot));
+    let mut slots: Vec<u32> = (0..count as u32).map(|number| number * APART % 64).collect();
     thread::scope(|scope| {
-        let readers: Vec<_> =
-            (0..count as u32).map(|slot| scope.spawn(move || pins(start, words, ended, slot))).collect();
+        let readers = scope.spawn(|| on_threads(&mut slots, |slot| pins(&start, &words, &ended, *slot)));
         start.begin();
         while ended.load(SeqCst) < count {
-            sets(&shared, &mut lane, 0);
+            shared.call(&mut lane, set(0));
         }
-        readers.into_iter().map(|thread| thread.join().unwrap()).collect()
+        time_of(&readers.join().unwrap())
     })
+}
+
+/// Who makes the calls of a script, each of which it keeps, and its answers.
+struct Member {
+    lane: Lane,
+    script: Vec<Call>,
+    seen: Vec<Reply>,
+}
+
+/// Members make the calls of their scripts at once, their threads' start and end included.
+fn driven(count: u64) -> Option<u128> {
+    let (mut shared, _first) = prepared();
+    let mut members: Vec<Member> = (0..count)
+        .map(|_| {
+            let lane = shared.lane();
+            let script = (0..CALLS).map(|_| set(lane.number())).collect();
+            Member { lane, script, seen: Vec::new() }
+        })
+        .collect();
+    let began = Instant::now();
+    members.iter_mut().for_each(|member| member.seen.reserve(member.script.len()));
+    on_threads(&mut members, |member| {
+        for call in &member.script {
+            member.seen.push(shared.call(&mut member.lane, call.clone()));
+        }
+    });
+    let taken = began.elapsed().as_nanos();
+    assert!(members.iter().all(|member| member.seen.iter().all(|reply| matches!(reply, Reply::Done))));
+    Some(taken)
 }
 
 fn main() {
@@ -147,4 +164,8 @@ fn main() {
     measure("pins of one beside calls", PAIRS, || readers_pin(1));
     measure("pins of two beside calls", 2 * PAIRS, || readers_pin(2));
     measure("pins of four beside calls", 4 * PAIRS, || readers_pin(4));
+    measure("set, one member", CALLS, || driven(1));
+    measure("set, two members", 2 * CALLS, || driven(2));
+    measure("set, four members", 4 * CALLS, || driven(4));
+    measure("set, eight members", 8 * CALLS, || driven(8));
 }

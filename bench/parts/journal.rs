@@ -90,6 +90,12 @@ pub struct Lane {
     list: Vec<Entry>,
 }
 
+impl Lane {
+    pub fn number(&self) -> u32 {
+        self.number
+    }
+}
+
 struct Book {
     manager: Manager,
     journal: Vec<Entry>,

@@ -1,6 +1,7 @@
 //! Pins and releases on bare words: a load, the verdict on the word, a compare-exchange and a fetch-sub.
 
 use crate::id::Id;
+use std::hint::black_box;
 use std::sync::atomic::{AtomicU64, Ordering::SeqCst};
 
 const LIVE: u64 = 1 << 30;
@@ -70,5 +71,16 @@ impl Words {
 
     pub fn release(&self, id: Id) {
         self.words[id.slot as usize].fetch_sub(1, SeqCst);
+    }
+
+    /// Pins a slot's first object and lets it go, so many times.
+    pub fn spin(&self, slot: u32, pairs: u64) {
+        let id = black_box(Id { slot, generation: 1 });
+        for _ in 0..pairs {
+            if self.pin(id).is_err() {
+                panic!("the slot is live");
+            }
+            self.release(id);
+        }
     }
 }

@@ -4,6 +4,7 @@
 //! than half of the time.
 
 use std::sync::atomic::{AtomicU64, Ordering::SeqCst};
+use std::thread;
 use std::time::Instant;
 
 pub const RUNS: usize = 61;
@@ -34,19 +35,30 @@ impl Start {
     }
 }
 
+/// Does the work of each item on a thread of its own, of which the calling one is the first.
+pub fn on_threads<T: Send, S: Send>(items: &mut [T], work: impl Fn(&mut T) -> S + Sync) -> Vec<S> {
+    let work = &work;
+    thread::scope(|scope| {
+        let (own, others) = items.split_first_mut().unwrap();
+        let others: Vec<_> = others.iter_mut().map(|item| scope.spawn(move || work(item))).collect();
+        let own = work(own);
+        others.into_iter().map(|thread| thread.join().unwrap()).chain(Some(own)).collect()
+    })
+}
+
 /// What a run counts as: its time, or no time at all.
-fn time_of(spans: &[Span]) -> u128 {
+pub fn time_of(spans: &[Span]) -> Option<u128> {
     let first_began = spans.iter().map(|span| span.0).min().unwrap();
     let last_began = spans.iter().map(|span| span.0).max().unwrap();
     let first_ended = spans.iter().map(|span| span.1).min().unwrap();
     let last_ended = spans.iter().map(|span| span.1).max().unwrap();
     let taken = last_ended - first_began;
-    if taken / 2 < first_ended.saturating_sub(last_began) { taken } else { u128::MAX }
+    (taken / 2 < first_ended.saturating_sub(last_began)).then_some(taken)
 }
 
 /// Prints the middle of the times that count, for so many rounds a run.
-pub fn measure(case: &str, rounds: u64, run: impl Fn() -> Vec<Span>) {
-    let mut times: Vec<u128> = (0..RUNS).map(|_| time_of(&run())).collect();
+pub fn measure(case: &str, rounds: u64, run: impl Fn() -> Option<u128>) {
+    let mut times: Vec<u128> = (0..RUNS).map(|_| run().unwrap_or(u128::MAX)).collect();
     times.sort_unstable();
     let counted = times.iter().filter(|time| **time < u128::MAX).count();
     println!("{case}: {rounds} in {}", times.get(counted / 2).unwrap_or(&u128::MAX));

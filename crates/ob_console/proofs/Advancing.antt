@@ -8,11 +8,11 @@ use Rattle.pin_core.specs.declared.shape.Shape.{Shape}
 use Rattle.ob_store.specs.declared.limits.Limits.{Limits}
 use Rattle.ob_script.specs.Acts.{Act}
 use Rattle.ob_script.specs.Grammar.{act_of}
-use Rattle.ob_console.specs.Printed.{line_end}
+use Rattle.ob_output.specs.Printed.{line_end}
 use Rattle.ob_console.specs.Runs.{Prints, Run, Splits, IsWithin, AnswersLines, AnswersAll, AnswersPart, IsOpening, last_line}
-use Rattle.ob_console.specs.Held.{capped, more_held, act_of_held}
+use Rattle.ob_script.specs.Held.{capped, more_held, act_of_held}
 use Rattle.ob_console.specs.Sessions.{ConsoleState, Session, Advances, Finishes}
-use Rattle.ob_console.proofs.Texts.{act_of_capped, more_capped}
+use Rattle.ob_script.proofs.Texts.{act_of_capped, more_capped}
 use Rattle.ob_console.proofs.Lines.{has_lines, splits_more, splits_nothing, splits_on, splits_one}
 use Rattle.ob_console.proofs.Going.{run-append, run_shape, runs_some}
 

@@ -6,11 +6,11 @@ use Rattle.std.proofs.lemmas.List.Elements.{All-from_get_or}
 use Rattle.std.proofs.lemmas.List.Sums.{fails_before_first, passes_at_first}
 use Rattle.std.proofs.lemmas.Bool.Decides.{nat_tests}
 use Rattle.memchr.specs.Find.{is_byte}
-use Rattle.ob_console.specs.Printed.{line_end}
+use Rattle.ob_output.specs.Printed.{line_end}
 use Rattle.ob_console.specs.Runs.{IsWithin}
-use Rattle.ob_console.specs.Devices.{Writes, Begins}
+use Rattle.ob_output.specs.Devices.{Writes, Begins}
 use Rattle.ob_console.specs.Sessions.{ConsoleState, Advances, IsFed, IsCutShort}
-use Rattle.ob_console.proofs.Written.{writes_on, begins_on}
+use Rattle.ob_output.proofs.Written.{writes_on, begins_on}
 use Rattle.ob_console.proofs.Advancing.{advances_on, advances_none, advances_apart}
 
 -- the first line, its end, and what is behind

@@ -1,8 +1,3 @@
-pub mod Fieldless
-pub mod Hexadecimal
-pub mod Texts
-pub mod Written
-pub mod Flushed
 pub mod Lines
 pub mod Waited
 pub mod Answerable
@@ -10,6 +5,5 @@ pub mod Pinnable
 pub mod Going
 pub mod Advancing
 pub mod Listed
-pub mod Printing
 pub mod Feeding
 pub mod Reading

@@ -4,7 +4,7 @@ use Rattle.std.proofs.Math.Seq.{take-append_seam}
 use Rattle.std.proofs.lemmas.List.{append_assoc, append-nil}
 use Rattle.ob_store.specs.declared.limits.Limits.{Limits}
 use Rattle.ob_console.specs.Runs.{AnswersAll, AnswersLines, AnswersPart}
-use Rattle.ob_console.specs.Devices.{Writes, Begins}
+use Rattle.ob_output.specs.Devices.{Writes, Begins}
 use Rattle.ob_console.specs.Sessions.{ConsoleState, Session, IsFed, IsCutShort, Finishes}
 use Rattle.ob_console.proofs.Advancing.{answers_lines, answers_part}
 

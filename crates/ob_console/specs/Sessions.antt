@@ -1,12 +1,11 @@
 -- A console between two blocks of its input.
-use Rattle.std.specs.Prelude.{◌≡◌, ℕ, List, ◌++◌, Option, Result, length, MatchResult}
+use Rattle.std.specs.Prelude.{◌≡◌, ℕ, List, ◌++◌, Option, length}
 use Rattle.std.specs.List.{concat}
 use Rattle.ob_store.specs.declared.limits.Limits.{Limits}
-use Rattle.ob_console.specs.declared.output.NotWritten.{NotWritten}
-use Rattle.ob_console.specs.Pending.{Pending}
+use Rattle.ob_output.specs.Pending.{Pending}
 use Rattle.ob_console.specs.Runs.{Point, Run, Splits, AnswersAll, IsOpening}
-use Rattle.ob_console.specs.Held.{capped}
-use Rattle.ob_console.specs.Devices.{Writes, Begins}
+use Rattle.ob_script.specs.Held.{capped}
+use Rattle.ob_output.specs.Devices.{Writes, Begins}
 
 -- what an evaluator has
 pub record Evaluation : Type 0 where
@@ -36,10 +35,6 @@ pub record Session (limits : Limits) (input output : List ℕ) (console : Consol
 -- from the one console to the other these bytes came, and these were printed
 abbrev pub Advances : ConsoleState → List ℕ → List ℕ → ConsoleState → Type 0
 Advances old bytes printed new = (limits : Limits) (input output : List ℕ) → Session limits input output old → Session limits (input ++ bytes) (output ++ printed) new
-
--- What was to be written is written or pending, or its beginning is written where the sink failed.
-abbrev pub IsWritten : Result (Unit {0}) NotWritten → List ℕ → List ℕ → List ℕ → List ℕ → Type 0
-IsWritten result before after whole pending = MatchResult result (λ _. Writes before after whole pending) (λ _. Begins before after whole)
 
 -- the console took the front of a block, up to this rest, and what it printed is written or pending
 pub record IsFed (old new : ConsoleState) (block rest taken_before taken : List ℕ) : Type 0 where

@@ -1,15 +1,14 @@
 ghost use Rattle.std.specs.Prelude.{◌≡◌, ◌+◌, ◌<◌, ◌≤◌, ◌^◌, ◌++◌, ◌⊎◌, ◌≢◌, All, [], None, Some, List, ℕ, IfErr, IfOk, OnOk, OnErr, length};
 ghost use Rattle.ob_console.specs.Runs.{IsWithin, AnswersAll, point};
-ghost use Rattle.ob_console.specs.Printed.{line_end};
-ghost use Rattle.ob_console.specs.Sessions.{Advances, IsWritten, Session, Finishes, IsFed, IsCutShort};
+ghost use Rattle.ob_output.specs.Pending.{IsWritten};
+ghost use Rattle.ob_output.specs.Printed.{line_end};
+ghost use Rattle.ob_console.specs.Sessions.{Advances, Session, Finishes, IsFed, IsCutShort};
 
-use crate::device::Sink;
 use crate::evaluator::Evaluator;
-use crate::held::HeldLine;
-use crate::output::NotWritten;
 use ob_manager::Manager;
+use ob_output::{NotWritten, Sink};
 use ob_rights::Fault;
-use ob_script::{act_of, cut_far};
+use ob_script::{HeldLine, act_of, cut_far};
 use pin_words::{Keeper, Reader};
 use std::alloc::Global;
 use std::marker::Model;

@@ -1,16 +1,14 @@
 ghost use Rattle.std.specs.Prelude.{◌≡◌, ◌+◌, ◌<◌, ◌≤◌, ◌^◌, ◌++◌, ◌⊎◌, List, ℕ, IfErr, IfOk, OnErr, OnOk, Some, []};
 ghost use Rattle.ob_store.specs.Directory.{directory_of};
 ghost use Rattle.ob_script.specs.Acts.{act_in};
-ghost use Rattle.ob_console.specs.Printed.{printed_names};
+ghost use Rattle.ob_output.specs.Printed.{printed_names};
 ghost use Rattle.ob_console.specs.Runs.{Prints, point};
-ghost use Rattle.ob_console.specs.Sessions.{IsWritten};
-ghost use Rattle.ob_console.specs.Devices.{Begins};
+ghost use Rattle.ob_output.specs.Pending.{IsWritten};
+ghost use Rattle.ob_output.specs.Devices.{Begins};
 
-use crate::answer::Answer;
 use crate::asking::reply_to;
-use crate::device::Sink;
-use crate::output::{NotWritten, Output};
 use ob_manager::Manager;
+use ob_output::{Answer, NotWritten, Output, Sink};
 use ob_reader::{card, pin, unpin};
 use ob_rights::Fault;
 use ob_script::Act;

@@ -12,21 +12,12 @@
 //! ```
 #![tactic(auto)]
 
-mod account;
-mod answer;
 mod asking;
-mod block;
 mod console;
-mod device;
 mod evaluator;
-mod held;
 mod options;
-mod output;
 mod script;
-mod wired;
 
-pub use account::Account;
-pub use device::{Sink, Source, Trouble};
+pub use ob_output::{Account, Sink, Source, Trouble, Wired};
 pub use options::{Options, OptionsFault, read_options};
 pub use script::{CALLS_MOST, RunFault, run, run_bounded};
-pub use wired::Wired;

@@ -8,7 +8,12 @@ use std::alloc::{AllocError, Global};
 pub struct Options {
     /// How much the manager may hold: each limit as its option says, or at its default.
     pub limits: Limits,
+    /// How many lanes a script has beside lane 0, at most 64, or 0 where all its lines are answered one after another.
+    pub lanes: u32,
 }
+
+/// How many lanes the option gives at most.
+const LANES_MOST: u32 = 64;
 
 /// Why a command line gives no options.
 #[derive(Debug, Drop)]
@@ -28,11 +33,13 @@ impl From<AllocError> for OptionsFault {
 }
 
 /// Reads the arguments after the program's name, by the habits of `clap`: `--slots 4` or `--slots=4`, in any order,
-/// each option at most once, and `--help` or `-h`. The options are the *profile*'s: one for each limit of [`Limits`].
+/// each option at most once, and `--help` or `-h`. The options are the *profile*'s: one for each limit of [`Limits`], and
+/// `--lanes`.
 pub fn read_options(alloc: Global, args: Vec<String>) -> Result<Options, OptionsFault> {
     match command(alloc)?.try_get_matches_from(args.as_slice()) {
         Ok(matches) => Ok(Options {
             limits: limits_of(&matches)?,
+            lanes: lanes_of(&matches)?,
         }),
         Err(error) => Err(fault_of(alloc, &error)),
     }
@@ -45,50 +52,55 @@ fn command<'a>(alloc: Global) -> Result<Command<'a>, AllocError> {
         .about(
             "Reads a script of object manager calls from standard input and prints their answers.",
         )
-        .arg(limit(
+        .arg(number(
             alloc,
             "slots",
             "Slots for objects: 1 to 65536, default 64. A creation that finds none free answers 1450",
         ))?
-        .arg(limit(
+        .arg(number(
             alloc,
             "processes",
             "Process numbers ever given: 1 to 65536, default 64. A start of one more answers 1450",
         ))?
-        .arg(limit(
+        .arg(number(
             alloc,
             "threads",
             "Thread numbers ever given: 1 to 65536, default 256. A start of one more answers 1450",
         ))?
-        .arg(limit(
+        .arg(number(
             alloc,
             "handles",
             "Handles of one process: 1 to 16384, default 1024. A call that would give one more answers 1450",
         ))?
-        .arg(limit(
+        .arg(number(
             alloc,
             "waits",
             "Wait numbers ever given: 1 to 4294967295, default 1000000. A wait that would need one more answers 1450",
         ))?
-        .arg(limit(
+        .arg(number(
             alloc,
             "max-pins",
             "Pins of one slot: 1 to 1073741823, the default. One more is refused",
         ))?
-        .arg(limit(
+        .arg(number(
             alloc,
             "max-gen",
             "Generations of one slot: 1 to 4294967295, the default. After the last the slot is retired",
         ))?
-        .arg(limit(
+        .arg(number(
             alloc,
             "max-recursion",
             "Recursion of a mutex: 1 to 2147483647, the default. A wait of its owner at it answers 1450",
+        ))?
+        .arg(number(
+            alloc,
+            "lanes",
+            "Lanes of the script, each on a thread: 0 to 64, default 0. A line `@2 ..` is lane 2's, lines before the first of these come before all lanes, and answers are printed lane by lane",
         ))
 }
 
-/// The option of one limit. `Limits::checked` tests its range.
-fn limit<'a>(alloc: Global, name: &'a str, help: &'a str) -> Arg<'a> {
+/// The option of one number. Its range is tested where it is used.
+fn number<'a>(alloc: Global, name: &'a str, help: &'a str) -> Arg<'a> {
     Arg::new(alloc, name)
         .long(name)
         .value_name("NUMBER")
@@ -111,6 +123,15 @@ fn limits_of(matches: &ArgMatches<'_>) -> Result<Limits, OptionsFault> {
         given(matches, "max-recursion", usual.max_recursion),
     );
     limits.map_err(|_| OptionsFault::BadLine)
+}
+
+/// The lanes that were given, by default none.
+fn lanes_of(matches: &ArgMatches<'_>) -> Result<u32, OptionsFault> {
+    let lanes = given(matches, "lanes", 0);
+    if lanes > LANES_MOST {
+        return Err(OptionsFault::BadLine);
+    }
+    Ok(lanes)
 }
 
 /// The number that was given for an option, or else the usual one.

@@ -5,8 +5,8 @@ ghost use Rattle.ob_console.specs.Sessions.{Session};
 ghost use Rattle.ob_console.specs.Runs.{IsEnded, IsOpening};
 
 use crate::console::Console;
-use crate::device::{Sink, Source, Trouble};
 use ob_manager::{Limits, Manager};
+use ob_output::{Sink, Source, Trouble};
 use pin_words::{Opening, Pins};
 use std::alloc::{AllocError, Global};
 

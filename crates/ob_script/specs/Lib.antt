@@ -2,3 +2,4 @@ pub mod Acts
 pub mod Words
 pub mod WordsLeft
 pub mod Grammar
+pub mod Held

@@ -13,6 +13,7 @@
 mod act;
 mod grammar;
 mod handles;
+mod held;
 mod naming;
 mod numbers;
 mod rights;
@@ -21,4 +22,5 @@ mod words;
 pub use act::{Act, Ask};
 pub use grammar::act_of;
 pub use handles::handles_of;
+pub use held::HeldLine;
 pub use words::cut_far;

@@ -36,6 +36,14 @@ fn limits_read(alloc: Global, words: &[&str]) -> Result<Option<[u32; 8]>, AllocE
     }
 }
 
+/// The lanes that are read of these arguments.
+fn lanes_read(alloc: Global, words: &[&str]) -> Result<Option<u32>, AllocError> {
+    match read(alloc, words)? {
+        Ok(options) => Ok(Some(options.lanes)),
+        Err(_) => Ok(None),
+    }
+}
+
 fn numbers_of(limits: &Limits) -> [u32; 8] {
     [
         limits.slots,
@@ -102,6 +110,29 @@ fn a_number_out_of_its_range_is_refused(rt: HostRuntime) -> Result<(), Fail> {
 }
 
 #[test]
+fn lanes_are_none_by_default_and_at_most_64(rt: HostRuntime) -> Result<(), Fail> {
+    assert_eq!(rt; lanes_read(rt.alloc(), &[])?, Some(0));
+    for lanes in [0, 1, 2, 64] {
+        let number = format!(in rt.alloc(); "{lanes}")?;
+        let joined = format!(in rt.alloc(); "--lanes={lanes}")?;
+        let parted = lanes_read(rt.alloc(), &["--slots=4", "--lanes", number.as_str()])?;
+        assert_eq!(rt; parted, Some(lanes));
+        assert_eq!(rt; lanes_read(rt.alloc(), &[joined.as_str()])?, Some(lanes));
+    }
+    for words in [
+        &["--lanes=65"],
+        &["--lanes=4294967295"],
+        &["--lanes=-1"],
+        &["--lanes"],
+        &["--lanes="],
+    ] {
+        assert!(rt; is_bad(rt.alloc(), words)?);
+    }
+    assert!(rt; is_bad(rt.alloc(), &["--lanes=2", "--lanes=2"])?);
+    Ok(())
+}
+
+#[test]
 fn what_is_no_number_is_refused(rt: HostRuntime) -> Result<(), Fail> {
     let alloc = rt.alloc();
     assert!(rt; is_bad(alloc, &["--slots"])?);
@@ -153,6 +184,8 @@ fn the_help_names_each_option_with_its_range(rt: HostRuntime) -> Result<(), Fail
             let range = format!(in rt.alloc(); "1 to {most}, ")?;
             assert!(rt; text.as_str().contains(range.as_str()));
         }
+        assert!(rt; text.as_str().contains("--lanes <NUMBER>"));
+        assert!(rt; text.as_str().contains("0 to 64, default 0"));
     }
     Ok(())
 }

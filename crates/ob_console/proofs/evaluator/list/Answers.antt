@@ -1,7 +1,7 @@
 use Rattle.std.proofs.Common.{List, ℕ, ◌++◌, ap, subst, arith}
 use Rattle.ob_store.specs.Directory.{directory_of}
-use Rattle.ob_console.specs.Printed.{printed_count}
-use Rattle.ob_console.specs.Devices.{Begins}
+use Rattle.ob_output.specs.Printed.{printed_count}
+use Rattle.ob_output.specs.Devices.{Begins}
 use Rattle.ob_name.specs.Listing.{Rows}
 use Rattle.ob_name.specs.Refs.{row_at}
 use Rattle.ob_console.proofs.Listed.{IsListed, head_begun, row_begun, row_written}

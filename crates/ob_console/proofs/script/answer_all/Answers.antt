@@ -1,8 +1,8 @@
 use Rattle.std.proofs.Common.{arith, ◌∙◌, ap, ◌++◌, take, Err}
 use Rattle.std.proofs.lemmas.List.{length-take-le}
 use Rattle.ob_console.proofs.Reading.{reading_on, reading_same, reading_fails, writing_fails, reading_ends, ending_fails}
-use Rattle.ob_console.specs.Devices.{read_faults}
-use Rattle.ob_console.specs.declared.device.Trouble.{Trouble}
+use Rattle.ob_output.specs.Devices.{read_faults}
+use Rattle.ob_output.specs.declared.device.Trouble.{Trouble}
 use Rattle.ob_console.proofs.script.answer_all.Goals as goal
 use Rattle.ob_console.proofs.script.answer_all.Goals.{in-Ok+in-Ok-take, in-Err-Interrupted}
 

@@ -1,5 +1,5 @@
 use Rattle.std.proofs.Common.{ap, inl, inr, arith}
-use Rattle.ob_console.specs.Pending.{Pending}
+use Rattle.ob_output.specs.Pending.{Pending}
 use Rattle.ob_console.proofs.Advancing.{opens}
 use Rattle.ob_console.proofs.script.run_bounded.Goals as goal
 

@@ -1,5 +1,5 @@
 use Rattle.std.proofs.Common.{ℕ, List, ◌++◌, refl, subst, sym, arith}
-use Rattle.ob_console.specs.Printed.{line_end}
+use Rattle.ob_output.specs.Printed.{line_end}
 use Rattle.ob_console.specs.Sessions.{ConsoleState, Advances, IsFed}
 use Rattle.ob_console.proofs.Advancing.{part_advances}
 use Rattle.ob_console.proofs.Feeding.{fed_line, fed_rest, cut_short, rest_within, behind_shorter}

@@ -1,7 +1,7 @@
 use Rattle.std.proofs.Common.{◌++◌, sym, subst}
-use Rattle.ob_console.specs.Devices.{Writes}
+use Rattle.ob_output.specs.Devices.{Writes}
 use Rattle.ob_console.specs.Sessions.{ConsoleState}
-use Rattle.ob_console.proofs.Flushed.{flush_writes}
+use Rattle.ob_output.proofs.Flushed.{flush_writes}
 use Rattle.ob_console.proofs.console.Console.finish.Goals as goal
 
 pub returns-in-Ok-clause-finishes : goal.returns-in-Ok-clause-finishes

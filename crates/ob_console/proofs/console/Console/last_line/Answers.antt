@@ -2,7 +2,8 @@ use Rattle.std.proofs.Common.{List, ℕ, [], ◌+◌, ◌++◌, sym, subst, ◌�
 use Rattle.std.proofs.lemmas.List.{append-nil}
 use Rattle.ob_script.specs.Acts.{Act}
 use Rattle.ob_console.specs.Runs.{Prints}
-use Rattle.ob_console.specs.Sessions.{ConsoleState, Finishes, IsWritten}
+use Rattle.ob_console.specs.Sessions.{ConsoleState, Finishes}
+use Rattle.ob_output.specs.Pending.{IsWritten}
 use Rattle.ob_console.proofs.Advancing.{finishes_empty, finishes_line}
 use Rattle.ob_console.proofs.console.Console.last_line.Goals as goal
 

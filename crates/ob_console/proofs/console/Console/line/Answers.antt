@@ -1,10 +1,11 @@
 use Rattle.std.proofs.Common.{ℕ, List, Option, ◌++◌, subst, sym, ap, ◌∙◌}
 use Rattle.ob_script.specs.Acts.{act_in}
-use Rattle.ob_console.specs.Held.{act_of_held, more_held}
-use Rattle.ob_console.specs.Printed.{line_end}
-use Rattle.ob_console.specs.Sessions.{ConsoleState, Advances, IsWritten}
+use Rattle.ob_script.specs.Held.{act_of_held, more_held}
+use Rattle.ob_output.specs.Printed.{line_end}
+use Rattle.ob_console.specs.Sessions.{ConsoleState, Advances}
+use Rattle.ob_output.specs.Pending.{IsWritten}
 use Rattle.ob_console.proofs.Advancing.{line_advances}
-use Rattle.ob_console.proofs.Texts.{act_of_capped}
+use Rattle.ob_script.proofs.Texts.{act_of_capped}
 use Rattle.ob_console.proofs.console.Console.line.Goals as goal
 
 pub returns-then-is_empty-clause-advances : goal.returns-then-is_empty-clause-advances

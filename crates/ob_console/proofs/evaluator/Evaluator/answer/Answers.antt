@@ -4,10 +4,11 @@ use Rattle.ob_store.specs.Directory.{directory_of}
 use Rattle.ob_script.specs.declared.act.Act.{Act}
 use Rattle.ob_console.specs.declared.evaluator.Evaluator.TheInside.{Inside}
 use Rattle.ob_script.specs.Acts.{act_in}
-use Rattle.ob_console.specs.Printed.{bad_line, line_end, printed_answer, printed_card, printed_names, printed_pin, printed_unpin, printed as answered}
+use Rattle.ob_output.specs.Printed.{bad_line, line_end, printed_answer, printed_card, printed_names, printed_pin, printed_unpin, printed as answered}
 use Rattle.ob_console.specs.Runs.{Point, Prints, point}
-use Rattle.ob_console.specs.Sessions.{Evaluation, IsWritten}
-use Rattle.ob_console.proofs.Written.{put_written}
+use Rattle.ob_output.specs.Pending.{IsWritten}
+use Rattle.ob_console.specs.Sessions.{Evaluation}
+use Rattle.ob_output.proofs.Written.{put_written}
 use Rattle.ob_console.proofs.evaluator.Evaluator.answer.Goals as goal
 use Rattle.ob_console.proofs.evaluator.Evaluator.answer.Goals.{in-Bad, in-Ask, in-Pin, in-Unpin, in-ShowCard}
 

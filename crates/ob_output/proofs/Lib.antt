@@ -1,0 +1,5 @@
+pub mod Fieldless
+pub mod Hexadecimal
+pub mod Printing
+pub mod Written
+pub mod Flushed

@@ -1,0 +1,4 @@
+pub mod Accounts
+pub mod Devices
+pub mod Printed
+pub mod Pending

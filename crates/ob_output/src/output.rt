@@ -1,0 +1,96 @@
+ghost use Rattle.std.specs.Prelude.{◌≡◌, ◌+◌, ◌<◌, ◌≤◌, ◌++◌, ◌⊎◌, [], IfOk, OnOk, OnErr};
+ghost use Rattle.ob_output.specs.Devices.{Begins, Writes};
+ghost use Rattle.ob_output.specs.Printed.{printed_answer};
+
+use crate::answer::Answer;
+use crate::block::Block;
+use crate::device::{Sink, Trouble};
+use std::alloc::{AllocError, Global};
+use std::marker::Model;
+
+/// The sink failed, took no byte, or needed one write more than may be made.
+#[derive(Clone, Copy, Debug, PartialEq, Eq)]
+pub struct NotWritten;
+
+/// Answers that are printed and not yet written, in a block of fixed size.
+#[derive(Drop)]
+pub struct Output {
+    block: Box<Block>,
+    writes_left: u64,
+}
+
+impl Model for Output {
+    ghost use Rattle.ob_output.specs.Pending.{Pending};
+
+    ghost Value = { Pending };
+
+    ghost view = { λ output. record { bytes = output.block.value; writes_left = output.writes_left } };
+}
+
+impl Output {
+    /// Nothing is printed yet. Takes all the memory that it will need.
+    pub fn new(alloc: Global, writes: u64) -> Result<Output, AllocError>
+        ensures { IfOk result (λ output. output ≡ record { bytes = []; writes_left = writes }) }
+    {
+        let block = Box::new(alloc, Block::new())?;
+        Ok(Output {
+            block,
+            writes_left: writes,
+        })
+    }
+
+    /// Adds an answer; writes first where the block has no room for it.
+    #[tactic(auto, using(crate::proofs::Written::begins_more, crate::proofs::Written::writes_pending, crate::proofs::Written::writes_flushed))]
+    pub fn put<W: Sink>(&mut self, sink: &mut W, answer: Answer<'_>) -> Result<(), NotWritten>
+        ensures ok { OnOk result (Writes (W.taken sink.old) (W.taken sink.new) (self.old.bytes ++ printed_answer answer.entry) self.new.bytes) }
+        ensures err { OnErr result (Begins (W.taken sink.old) (W.taken sink.new) (self.old.bytes ++ printed_answer answer.entry)) }
+        ensures calls { W.calls sink.new + self.new.writes_left ≡ W.calls sink.old + self.old.writes_left }
+        ensures faults { W.faults sink.old ≤ W.faults sink.new }
+        ensures cause { OnErr result ((W.faults sink.old < W.faults sink.new) ⊎ (self.new.writes_left ≡ 0)) }
+    {
+        if !self.block.has_room() {
+            self.flush(sink)?;
+        }
+        self.block.add(answer);
+        Ok(())
+    }
+
+    /// Writes all that is printed.
+    pub fn flush<W: Sink>(&mut self, sink: &mut W) -> Result<(), NotWritten>
+        ensures ok { OnOk result (W.taken sink.new ≡ W.taken sink.old ++ self.old.bytes) }
+        ensures empty { OnOk result (self.new.bytes ≡ []) }
+        ensures err { OnErr result (Begins (W.taken sink.old) (W.taken sink.new) self.old.bytes) }
+        ensures calls { W.calls sink.new + self.new.writes_left ≡ W.calls sink.old + self.old.writes_left }
+        ensures faults { W.faults sink.old ≤ W.faults sink.new }
+        ensures cause { OnErr result ((W.faults sink.old < W.faults sink.new) ⊎ (self.new.writes_left ≡ 0)) }
+    {
+        write_all(sink, self.block.as_slice(), &mut self.writes_left)?;
+        self.block.clear();
+        Ok(())
+    }
+}
+
+/// Writes all of some bytes, with at most so many writes.
+#[tactic(auto, using(crate::proofs::Written::writes_none, crate::proofs::Written::writes_more, crate::proofs::Written::writes_all, crate::proofs::Written::writes_begun))]
+fn write_all<W: Sink>(sink: &mut W, bytes: &[u8], writes_left: &mut u64) -> Result<(), NotWritten>
+    ensures ok { OnOk result (W.taken sink.new ≡ W.taken sink.old ++ bytes.now) }
+    ensures err { OnErr result (Begins (W.taken sink.old) (W.taken sink.new) bytes.now) }
+    ensures calls { W.calls sink.new + writes_left.new ≡ W.calls sink.old + writes_left.old }
+    ensures faults { W.faults sink.old ≤ W.faults sink.new }
+    ensures cause { OnErr result ((W.faults sink.old < W.faults sink.new) ⊎ (writes_left.new ≡ 0)) }
+{
+    let mut rest = bytes;
+    while !rest.is_empty() {
+        if *writes_left == 0 {
+            return Err(NotWritten);
+        }
+        *writes_left -= 1;
+        match sink.write(rest) {
+            Ok(0) => return Err(NotWritten),
+            Ok(count) => rest = &rest[count..],
+            Err(Trouble::Interrupted) => {}
+            Err(Trouble::Failed) => return Err(NotWritten),
+        }
+    }
+    Ok(())
+}

@@ -1,0 +1,83 @@
+ghost use Rattle.std.specs.Prelude.{◌≡◌, ◌↔◌, [], None, Some, IsTrue, MatchOption};
+ghost use Rattle.ob_script.specs.Acts.{act_in};
+ghost use Rattle.ob_script.specs.Held.{act_of_held, more_held};
+
+use crate::act::Act;
+use crate::grammar::act_of;
+use arrayvec::ArrayVec;
+use std::marker::Model;
+
+/// The beginning of a line whose end has not come. A line that is too long for any act is not kept.
+#[derive(Drop)]
+pub struct HeldLine {
+    bytes: ArrayVec<u8, 4097>,
+    is_long: bool,
+}
+
+impl Model for HeldLine {
+    ghost use Rattle.std.specs.Prelude.{ℕ, List, Option};
+    ghost use Rattle.ob_script.specs.Held.{held_of};
+
+    ghost Value = { Option (List ℕ) };
+
+    ghost view = { λ line. held_of line.is_long line.bytes.items };
+}
+
+impl HeldLine {
+    /// Nothing has come.
+    pub fn new() -> HeldLine
+        ensures { result ≡ Some [] }
+    {
+        HeldLine {
+            bytes: ArrayVec::new(),
+            is_long: false,
+        }
+    }
+
+    /// Whether nothing has come.
+    pub fn is_empty(&self) -> bool
+        ensures { IsTrue result ↔ (self.now ≡ Some []) }
+    {
+        !self.is_long && self.bytes.is_empty()
+    }
+
+    /// More of the line.
+    pub fn extend(&mut self, part: &[u8])
+        ensures { self.new ≡ more_held self.old part.now }
+    {
+        if self.is_long {
+            return;
+        }
+        if self.bytes.try_extend_from_slice(part).is_err() {
+            self.is_long = true;
+        }
+    }
+
+    /// What has come of the line; none where it is too long for any act.
+    pub fn line(&self) -> Option<&[u8]>
+        ensures { MatchOption result (self.now ≡ None) (λ line. self.now ≡ Some line.now) }
+    {
+        if self.is_long {
+            return None;
+        }
+        Some(self.bytes.as_slice())
+    }
+
+    /// What the line is, if it ends here.
+    pub fn act(&self) -> Act<'_>
+        ensures { act_in result ≡ act_of_held self.now }
+    {
+        match self.line() {
+            Some(line) => act_of(line),
+            None => Act::Bad,
+        }
+    }
+
+    /// The next line.
+    pub fn clear(&mut self)
+        ensures { self.new ≡ Some [] }
+    {
+        self.bytes.clear();
+        self.is_long = false;
+    }
+}
