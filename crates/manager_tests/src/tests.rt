@@ -1,6 +1,7 @@
 mod applying;
 mod copies;
 mod ends;
+mod flags;
 mod pinning;
 mod waiting;
 

@@ -29,8 +29,7 @@ use Rattle.ob_manager.specs.declared.waiting.Timeout.TheVariants.{Zero, Infinite
 use Rattle.ob_manager.specs.Outcomes.{Outcome, ◌>>=◌, or_refuse, refuse_if}
 use Rattle.ob_manager.specs.Checks.{caller, found}
 use Rattle.ob_manager.specs.Creating.{create, created, named_object, new_event, new_handle, new_mutex, new_object, new_semaphore}
-use Rattle.ob_manager.specs.Copying as copying
-use Rattle.ob_manager.specs.Copying.{copied_to, is_wrong, with_source, without_source}
+use Rattle.ob_manager.specs.Copying.{copied_to, is_stuck, is_wrong, leaves, with_source, without_source}
 use Rattle.ob_manager.specs.Reaping.{reap}
 use Rattle.ob_manager.specs.Waiting.{satisfied, shown, unsatisfied, wait_on}
 use Rattle.ob_manager.specs.Steps.{Step, does, closes, lacks, final, outcome_of}
@@ -133,8 +132,10 @@ outcome_keeps s (calls.MakeSemaphore t m initial max) reply = create_keeps s t m
 outcome_keeps s (calls.OpenNamed t k mask inherit text) reply = search (then_keeps, state_then, handle_keeps)
 outcome_keeps s (calls.Duplicate t source h target mask inherit options) reply =
     then_keeps s.limits (caller s t) _ (λ p. then_keeps s.limits (or_refuse (get_or s.processes source None) fault.Parameter) _ (λ session. then_keeps s.limits (refuse_if (is_wrong options target) fault.Parameter) _ (λ tested.
-    then_keeps s.limits (found s source h) _ (λ e. closed_keeps (copying.closes options) s source h (copied_to s e target mask inherit options) (copied_keeps s e target mask inherit options)))))
+    then_keeps s.limits (found s source h) _ (λ e. then_keeps s.limits (refuse_if (is_stuck target e) fault.Handle) _ (λ free. closed_keeps (leaves options e) s source h (copied_to s e target mask inherit options) (copied_keeps s e target mask inherit options))))))
 outcome_keeps s (calls.CloseHandle t h) reply = search (then_keeps)
+outcome_keeps s (calls.GetFlags t h) reply = search (then_keeps)
+outcome_keeps s (calls.SetFlags t h mask flags) reply = search (then_keeps)
 outcome_keeps s (calls.SetEvent t h) reply = search (then_keeps)
 outcome_keeps s (calls.ResetEvent t h) reply = search (then_keeps)
 outcome_keeps s (calls.ReleaseSemaphore t h count) reply = search (then_keeps) depth 8

@@ -28,8 +28,7 @@ use Rattle.ob_manager.specs.declared.reply.Reply.{Reply}
 use Rattle.ob_manager.specs.Outcomes.{Outcome, ◌>>=◌, or_refuse, refuse_if}
 use Rattle.ob_manager.specs.Checks.{caller, found, if_kind, same_kind}
 use Rattle.ob_manager.specs.Creating.{create, created, name_in, named_object, new_event, new_handle, new_mutex, new_object, new_semaphore, own_name, room_for, semaphore_of}
-use Rattle.ob_manager.specs.Copying as copying
-use Rattle.ob_manager.specs.Copying.{admitted, asked_rights, copied_to, copy_rights, is_wrong, keeps_rights, with_source, without_source}
+use Rattle.ob_manager.specs.Copying.{admitted, asked_rights, copied_to, copy_rights, is_stuck, is_wrong, keeps_rights, leaves, with_source, without_source}
 use Rattle.ob_manager.specs.Reaping.{if_ended}
 use Rattle.ob_manager.specs.Waiting.{all_found, objects_of, satisfied, shown, unsatisfied, wait_on}
 use Rattle.ob_manager.specs.declared.waiting.Timeout.{Timeout}
@@ -215,8 +214,10 @@ outcome_answers s (calls.OpenNamed t k mask inherit text) reply = search (andThe
 outcome_answers s (calls.Duplicate t source h target mask inherit options) reply =
     andThen (caller s t) _ (caller_wants s t) (λ p. andThen (or_refuse (get_or s.processes source None) fault.Parameter) _ (or_wants _ fault.Parameter refl) (λ session.
     andThen (refuse_if (is_wrong options target) fault.Parameter) _ (refuse_wants _ fault.Parameter refl) (λ tested. andThen (found s source h) _ (found_wants s source h) (λ e.
-    closed_answers (copying.closes options) s source h (copied_to s e target mask inherit options) (copied_answers s e target mask inherit options)))))
-outcome_answers s (calls.CloseHandle t h) reply = search (andThen, caller_wants, found_wants)
+    andThen (refuse_if (is_stuck target e) fault.Handle) _ (refuse_wants _ fault.Handle refl) (λ free. closed_answers (leaves options e) s source h (copied_to s e target mask inherit options) (copied_answers s e target mask inherit options))))))
+outcome_answers s (calls.CloseHandle t h) reply = search (andThen, caller_wants, found_wants, refuse_wants)
+outcome_answers s (calls.GetFlags t h) reply = search (andThen, caller_wants, found_wants)
+outcome_answers s (calls.SetFlags t h mask flags) reply = search (andThen, caller_wants, refuse_wants, found_wants)
 outcome_answers s (calls.SetEvent t h) reply = search (andThen, caller_wants, found_wants, kind_wants, refuse_wants)
 outcome_answers s (calls.ResetEvent t h) reply = search (andThen, caller_wants, found_wants, kind_wants, refuse_wants)
 outcome_answers s (calls.ReleaseSemaphore t h count) reply = search (andThen, caller_wants, or_wants, found_wants, kind_wants, refuse_wants, post_wants) depth 8

@@ -1,8 +1,9 @@
 -- Duplicating handles.
-use Rattle.std.specs.Prelude.{ℕ, ◌==◌, ◌||◌, nat_lt, Bool, true, false, not, bit_and, bit_or, Option, Some, None, Result, Ok, Err, if◌then◌else◌, slice_index_or}
+use Rattle.std.specs.Prelude.{ℕ, ◌==◌, ◌&&◌, ◌||◌, nat_lt, Bool, true, false, not, bit_and, bit_or, Option, Some, None, Result, Ok, Err, if◌then◌else◌, slice_index_or}
 use Rattle.ob_rights.specs.declared.fault.Fault.{Fault}
 use Rattle.ob_rights.specs.declared.fault.Fault.TheVariants as fault
 use Rattle.ob_rights.specs.declared.rights.Rights.{Rights}
+use Rattle.ob_rights.specs.Flags.{is_protected}
 use Rattle.ob_rights.specs.Rights.{within}
 use Rattle.ob_tables.specs.declared.entry.Entry.{Entry}
 use Rattle.ob_manager.specs.declared.reply.Reply.{Reply}
@@ -61,6 +62,15 @@ abbrev pub with_source : Result Outcome Fault → Result Outcome Fault
 with_source (Ok o) = Ok (record { reply = o.reply; state = settled o.state })
 with_source (Err e) = Err e
 
+-- whether the source leaves: it is to be closed, and isn't protected from that
+abbrev pub leaves : ℕ → Entry → Bool
+leaves options entry = closes options && not (is_protected entry.flags)
+
+-- whether there is nothing to do but to close the source, which is protected from that
+abbrev pub is_stuck : Option ℕ → Entry → Bool
+is_stuck None entry = is_protected entry.flags
+is_stuck (Some target) entry = false
+
 -- the tests of the caller, of the source process and of the options come before the source; those of the copy after it
 abbrev pub duplicate : State → ℕ → ℕ → ℕ → Option ℕ → Rights → Bool → ℕ → Result Outcome Fault
 duplicate s thread source handle target mask inherit options = do
@@ -68,7 +78,8 @@ duplicate s thread source handle target mask inherit options = do
   _ ← or_refuse (slice_index_or s.processes source None) fault.Parameter
   _ ← refuse_if (is_wrong options target) fault.Parameter
   entry ← found s source handle
-  if closes options then Ok (without_source s source handle (copied_to s entry target mask inherit options)) else with_source (copied_to s entry target mask inherit options)
+  _ ← refuse_if (is_stuck target entry) fault.Handle
+  if leaves options entry then Ok (without_source s source handle (copied_to s entry target mask inherit options)) else with_source (copied_to s entry target mask inherit options)
 
 -- whether it comes to a copy
 abbrev pub is_duplicated : Reply → Bool

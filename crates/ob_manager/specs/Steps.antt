@@ -6,7 +6,7 @@ use Rattle.pin_words.specs.declared.pin_keeper.Reclaim.TheVariants as reclaim
 use Rattle.ob_rights.specs.declared.fault.Fault.{Fault}
 use Rattle.ob_rights.specs.declared.fault.Fault.TheVariants as fault
 use Rattle.ob_manager.specs.declared.reply.Reply.{Reply}
-use Rattle.ob_manager.specs.declared.reply.Reply.TheVariants.{Spawned, Started, Made, Exists, Opened, Duplicated, Closed, Done, Previous, Code, Pending, Expired, Ended, Exited, Reaped, CountsAre, Refused}
+use Rattle.ob_manager.specs.declared.reply.Reply.TheVariants.{Spawned, Started, Made, Exists, Opened, Duplicated, Closed, Done, Flags, Previous, Code, Pending, Expired, Ended, Exited, Reaped, CountsAre, Refused}
 use Rattle.ob_manager.specs.declared.call.Call.{Call}
 use Rattle.ob_manager.specs.declared.call.Call.TheVariants as calls
 use Rattle.ob_store.specs.Objects.{Object}
@@ -15,7 +15,7 @@ use Rattle.ob_store.specs.Moves.{OnlyCloses}
 use Rattle.ob_manager.specs.Outcomes.{Outcome, Refuses}
 use Rattle.ob_manager.specs.Processes.{spawn, child, thread}
 use Rattle.ob_manager.specs.Creating.{create_event, create_mutex, create_semaphore, open_named}
-use Rattle.ob_manager.specs.Handles.{close}
+use Rattle.ob_manager.specs.Handles.{close, handle_flags, set_handle_flags}
 use Rattle.ob_manager.specs.Copying.{duplicate, is_copy}
 use Rattle.ob_manager.specs.Signaling.{set_event, reset_event, release_semaphore, release_mutex}
 use Rattle.ob_manager.specs.Counting.{counts}
@@ -39,6 +39,8 @@ outcome_of s (calls.MakeSemaphore thread making initial max) reply = create_sema
 outcome_of s (calls.OpenNamed thread kind mask inherit text) reply = open_named s thread kind mask inherit text
 outcome_of s (calls.Duplicate thread source handle target mask inherit options) reply = duplicate s thread source handle target mask inherit options
 outcome_of s (calls.CloseHandle thread handle) reply = close s thread handle
+outcome_of s (calls.GetFlags thread handle) reply = handle_flags s thread handle
+outcome_of s (calls.SetFlags thread handle mask flags) reply = set_handle_flags s thread handle mask flags
 outcome_of s (calls.SetEvent thread handle) reply = set_event s thread handle
 outcome_of s (calls.ResetEvent thread handle) reply = reset_event s thread handle
 outcome_of s (calls.ReleaseSemaphore thread handle count) reply = release_semaphore s thread handle count
@@ -62,6 +64,8 @@ takes_memory s (calls.MakeSemaphore thread making initial max) = true
 takes_memory s (calls.OpenNamed thread kind mask inherit text) = true
 takes_memory s (calls.Duplicate thread source handle target mask inherit options) = is_copy (duplicate s thread source handle target mask inherit options)
 takes_memory s (calls.CloseHandle thread handle) = false
+takes_memory s (calls.GetFlags thread handle) = false
+takes_memory s (calls.SetFlags thread handle mask flags) = false
 takes_memory s (calls.SetEvent thread handle) = false
 takes_memory s (calls.ResetEvent thread handle) = false
 takes_memory s (calls.ReleaseSemaphore thread handle count) = false
@@ -92,6 +96,7 @@ Keeps (Spawned process thread) s k k' = k' ≡ k
 Keeps (Started thread) s k k' = k' ≡ k
 Keeps (Exists handle id) s k k' = k' ≡ k
 Keeps (Opened handle id) s k k' = k' ≡ k
+Keeps (Flags bits) s k k' = k' ≡ k
 Keeps (Pending number) s k k' = k' ≡ k
 Keeps (CountsAre handles waits hold) s k k' = k' ≡ k
 Keeps (Refused fault) s k k' = k' ≡ k

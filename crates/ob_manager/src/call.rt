@@ -95,6 +95,24 @@ pub enum Call {
         /// The handle.
         handle: u32,
     },
+    /// `Manager::handle_flags`.
+    GetFlags {
+        /// The calling thread.
+        thread: u32,
+        /// The handle.
+        handle: u32,
+    },
+    /// `Manager::set_handle_flags`.
+    SetFlags {
+        /// The calling thread.
+        thread: u32,
+        /// The handle.
+        handle: u32,
+        /// Which flags are set.
+        mask: u32,
+        /// What they become.
+        flags: u32,
+    },
     /// `Manager::set_event`.
     SetEvent {
         /// The calling thread.
@@ -244,6 +262,21 @@ impl Call {
             Call::CloseHandle { thread, handle } => Ok(Call::CloseHandle {
                 thread: *thread,
                 handle: *handle,
+            }),
+            Call::GetFlags { thread, handle } => Ok(Call::GetFlags {
+                thread: *thread,
+                handle: *handle,
+            }),
+            Call::SetFlags {
+                thread,
+                handle,
+                mask,
+                flags,
+            } => Ok(Call::SetFlags {
+                thread: *thread,
+                handle: *handle,
+                mask: *mask,
+                flags: *flags,
             }),
             Call::SetEvent { thread, handle } => Ok(Call::SetEvent {
                 thread: *thread,
@@ -409,6 +442,30 @@ impl Call {
                     handle: other_handle,
                 },
             ) => *thread == *other_thread && *handle == *other_handle,
+            (
+                Call::GetFlags { thread, handle },
+                Call::GetFlags {
+                    thread: other_thread,
+                    handle: other_handle,
+                },
+            ) => *thread == *other_thread && *handle == *other_handle,
+            (
+                Call::SetFlags {
+                    thread,
+                    handle,
+                    mask,
+                    flags,
+                },
+                Call::SetFlags {
+                    thread: other_thread,
+                    handle: other_handle,
+                    mask: other_mask,
+                    flags: other_flags,
+                },
+            ) => *thread == *other_thread
+                && *handle == *other_handle
+                && *mask == *other_mask
+                && *flags == *other_flags,
             (
                 Call::SetEvent { thread, handle },
                 Call::SetEvent {

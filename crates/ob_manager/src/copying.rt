@@ -3,7 +3,7 @@ ghost use Rattle.ob_rights.specs.declared.fault.Fault.TheVariants.{Memory};
 ghost use Rattle.ob_tables.specs.Table.{entry_at};
 ghost use Rattle.ob_tables.specs.Tables.{table_of};
 ghost use Rattle.ob_store.specs.State.{handles_of, is_full};
-ghost use Rattle.ob_manager.specs.Copying.{admitted, closes, copied, copied_to, copy_rights, duplicate, is_copy, is_wrong, keeps_rights};
+ghost use Rattle.ob_manager.specs.Copying.{admitted, closes, copied, copied_to, copy_rights, duplicate, is_copy, is_stuck, is_wrong, keeps_rights, leaves};
 ghost use Rattle.ob_manager.specs.Steps.{Copies, Duplicates};
 
 use crate::checks::{caller, found};
@@ -27,6 +27,20 @@ fn closes(options: u32) -> bool
     ensures { result ≡ closes options }
 {
     options & CLOSE_SOURCE == CLOSE_SOURCE
+}
+
+/// Whether the source leaves: it is to be closed, and isn't protected from that.
+fn leaves(options: u32, entry: Entry) -> bool
+    ensures { result ≡ leaves options entry }
+{
+    closes(options) && !entry.flags.is_protected()
+}
+
+/// Whether there is nothing to do but to close the source, which is protected from that.
+fn is_stuck(target: Option<u32>, entry: Entry) -> bool
+    ensures { result ≡ is_stuck target entry }
+{
+    target.is_none() && entry.flags.is_protected()
 }
 
 /// Whether the copy has the rights of the source.
@@ -156,8 +170,11 @@ pub fn duplicate<K: PinKeeper>(
         return Err(Fault::Parameter);
     }
     let entry = found(store, source, handle)?;
+    if is_stuck(target, entry) {
+        return Err(Fault::Handle);
+    }
     let answer = copied_to(store, entry, target, mask, inherit, options)?;
-    if closes(options) {
+    if leaves(options, entry) {
         store.remove_entry(source, handle, entry);
         return Ok(reply_of(answer));
     }

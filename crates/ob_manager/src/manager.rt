@@ -200,7 +200,9 @@ impl<K: PinKeeper> Manager<K> {
     /// handle; and 8 for want of memory, only with a target.
     ///
     /// Once the source is found `DUPLICATE_CLOSE_SOURCE` closes it, whatever the answer is, want of memory excepted
-    /// (*profile*): a refusal by the target, by a right or by the limit then leaves all but the source as it was.
+    /// (*profile*): a refusal by the target, by a right or by the limit then leaves all but the source as it was. A source that is
+    /// protected from close stays, whatever the answer is; without a target that is then 6 (*profile*). The copy isn't
+    /// protected.
     ///
     /// [DuplicateHandle]: https://learn.microsoft.com/windows/win32/api/handleapi/nf-handleapi-duplicatehandle
     pub fn duplicate(
@@ -230,13 +232,39 @@ impl<K: PinKeeper> Manager<K> {
     /// Closes a handle of the thread's process, whose two lowest bits are ignored (*profile*): `Closed`. With its last handle
     /// an object's name leaves the directory, and with the last reference the object ends ([CloseHandle]).
     ///
-    /// Refused with 87 where the thread isn't live, 170 where it waits, and 6 where there is no such handle.
+    /// Refused with 87 where the thread isn't live, 170 where it waits, and 6 where there is no such handle or it is protected
+    /// from close (*profile*).
     ///
     /// [CloseHandle]: https://learn.microsoft.com/windows/win32/api/handleapi/nf-handleapi-closehandle
     pub fn close(&mut self, thread: u32, handle: u32) -> Reply
         ensures { Step self.old (Call.CloseHandle thread handle) result self.new }
     {
         reply_of(handles::close(&mut self.store, thread, handle))
+    }
+
+    /// The flags of a handle: `Flags` ([GetHandleInformation]).
+    ///
+    /// Refused with 87 where the thread isn't live, 170 where it waits, and 6 where there is no such handle.
+    ///
+    /// [GetHandleInformation]: https://learn.microsoft.com/windows/win32/api/handleapi/nf-handleapi-gethandleinformation
+    pub fn handle_flags(&self, thread: u32, handle: u32) -> Reply
+        ensures { Step self.now (Call.GetFlags thread handle) result self.now }
+    {
+        reply_of(handles::handle_flags(&self.store, thread, handle))
+    }
+
+    /// Sets the flags of a handle that are in the mask to what they are in `flags`, whose other bits are ignored (*profile*):
+    /// `Done` ([SetHandleInformation]). `HANDLE_FLAG_INHERIT` is 1, `HANDLE_FLAG_PROTECT_FROM_CLOSE` 2. A handle that is
+    /// protected from close is closed only with its process.
+    ///
+    /// Refused with 87 where the thread isn't live, 170 where it waits, 87 for a mask with another bit (*profile*), and 6 where
+    /// there is no such handle.
+    ///
+    /// [SetHandleInformation]: https://learn.microsoft.com/windows/win32/api/handleapi/nf-handleapi-sethandleinformation
+    pub fn set_handle_flags(&mut self, thread: u32, handle: u32, mask: u32, flags: u32) -> Reply
+        ensures { Step self.old (Call.SetFlags thread handle mask flags) result self.new }
+    {
+        reply_of(handles::set_handle_flags(&mut self.store, thread, handle, mask, flags))
     }
 
     /// Sets an event, and lets what waits for it be satisfied: `Done` ([SetEvent]).
@@ -453,6 +481,13 @@ impl<K: PinKeeper> Manager<K> {
                 *thread, *source, *handle, *target, *mask, *inherit, *options,
             ),
             Call::CloseHandle { thread, handle } => self.close(*thread, *handle),
+            Call::GetFlags { thread, handle } => self.handle_flags(*thread, *handle),
+            Call::SetFlags {
+                thread,
+                handle,
+                mask,
+                flags,
+            } => self.set_handle_flags(*thread, *handle, *mask, *flags),
             Call::SetEvent { thread, handle } => self.set_event(*thread, *handle),
             Call::ResetEvent { thread, handle } => self.reset_event(*thread, *handle),
             Call::ReleaseSemaphore {

@@ -47,8 +47,13 @@ pub enum Reply {
     },
     /// The handle was closed.
     Closed,
-    /// An event was set or reset, a mutex released.
+    /// An event was set or reset, a mutex released, or the flags of a handle were set.
     Done,
+    /// The flags of a handle.
+    Flags {
+        /// Their bits: `HANDLE_FLAG_INHERIT` is 1, `HANDLE_FLAG_PROTECT_FROM_CLOSE` 2.
+        bits: u32,
+    },
     /// A semaphore's count was raised.
     Previous {
         /// The count before.

@@ -17,7 +17,7 @@ use Rattle.ob_store.specs.Objects.{Object}
 use Rattle.ob_store.specs.State.{State, Whole, settled}
 use Rattle.ob_manager.specs.declared.call.Call.TheVariants as calls
 use Rattle.ob_manager.specs.declared.reply.Reply.{Reply}
-use Rattle.ob_manager.specs.declared.reply.Reply.TheVariants.{Spawned, Started, Made, Exists, Opened, Duplicated, Closed, Done, Previous, Code, Pending, Expired, Ended, Exited, Reaped, CountsAre, Refused}
+use Rattle.ob_manager.specs.declared.reply.Reply.TheVariants.{Spawned, Started, Made, Exists, Opened, Duplicated, Closed, Done, Flags, Previous, Code, Pending, Expired, Ended, Exited, Reaped, CountsAre, Refused}
 use Rattle.ob_manager.specs.Outcomes.{Outcome, ◌>>=◌}
 use Rattle.ob_manager.specs.Reaping.{IfReaped, if_ended}
 use Rattle.ob_manager.specs.Steps.{Step, does, closes, lacks, final}
@@ -85,6 +85,7 @@ spares w v r r' id (Opened handle there) step consistent inside held met = tt
 spares w v r r' id (Duplicated handle there) step consistent inside held met = tt
 spares w v r r' id Closed step consistent inside held met = tt
 spares w v r r' id Done step consistent inside held met = tt
+spares w v r r' id (Flags bits) step consistent inside held met = tt
 spares w v r r' id (Previous count) step consistent inside held met = tt
 spares w v r r' id (Code code) step consistent inside held met = tt
 spares w v r r' id (Pending number) step consistent inside held met = tt
@@ -110,6 +111,7 @@ spares_none held slot (Opened handle there) none = tt
 spares_none held slot (Duplicated handle there) none = tt
 spares_none held slot Closed none = tt
 spares_none held slot Done none = tt
+spares_none held slot (Flags bits) none = tt
 spares_none held slot (Previous count) none = tt
 spares_none held slot (Code code) none = tt
 spares_none held slot (Pending number) none = tt

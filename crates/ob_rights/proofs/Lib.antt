@@ -1,1 +1,2 @@
+mod Changing
 mod Inclusion

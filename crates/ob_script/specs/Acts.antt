@@ -8,7 +8,7 @@ use Rattle.ob_manager.specs.Makings.{making_of}
 use Rattle.ob_script.specs.declared.act.Act.{Act as Read}
 use Rattle.ob_script.specs.declared.act.Act.TheVariants as code
 use Rattle.ob_script.specs.declared.act.Ask.{Ask}
-use Rattle.ob_script.specs.declared.act.Ask.TheVariants.{Spawn, Child, StartThread, MakeEvent, MakeMutex, MakeSemaphore, OpenNamed, Duplicate, CloseHandle, SetEvent, ResetEvent, ReleaseSemaphore, ReleaseMutex, WaitFor, WaitResult, Expire, EndThread, Exit, Reap, Counts}
+use Rattle.ob_script.specs.declared.act.Ask.TheVariants.{Spawn, Child, StartThread, MakeEvent, MakeMutex, MakeSemaphore, OpenNamed, Duplicate, CloseHandle, GetFlags, SetFlags, SetEvent, ResetEvent, ReleaseSemaphore, ReleaseMutex, WaitFor, WaitResult, Expire, EndThread, Exit, Reap, Counts}
 
 pub data Act : Type 0 where
   Nothing : Act  -- an empty line or a comment, for which nothing is printed
@@ -30,6 +30,8 @@ call_in (MakeSemaphore thread make initial max) = call.MakeSemaphore thread (mak
 call_in (OpenNamed thread kind mask inherit text) = call.OpenNamed thread kind mask inherit text.now
 call_in (Duplicate thread source handle target mask inherit options) = call.Duplicate thread source handle target mask inherit options
 call_in (CloseHandle thread handle) = call.CloseHandle thread handle
+call_in (GetFlags thread handle) = call.GetFlags thread handle
+call_in (SetFlags thread handle mask flags) = call.SetFlags thread handle mask flags
 call_in (SetEvent thread handle) = call.SetEvent thread handle
 call_in (ResetEvent thread handle) = call.ResetEvent thread handle
 call_in (ReleaseSemaphore thread handle count) = call.ReleaseSemaphore thread handle count

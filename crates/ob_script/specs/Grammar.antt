@@ -9,7 +9,7 @@ use Rattle.ob_manager.specs.declared.waiting.Timeout.{Timeout}
 use Rattle.ob_manager.specs.declared.waiting.Timeout.TheVariants.{Zero, Infinite}
 use Rattle.ob_manager.specs.declared.making.Making.{Making}
 use Rattle.ob_manager.specs.declared.call.Call.{Call}
-use Rattle.ob_manager.specs.declared.call.Call.TheVariants.{Spawn, Child, StartThread, MakeEvent, MakeMutex, MakeSemaphore, OpenNamed, Duplicate, CloseHandle, SetEvent, ResetEvent, ReleaseSemaphore, ReleaseMutex, WaitFor, WaitResult, Expire, EndThread, Exit, Reap, Counts}
+use Rattle.ob_manager.specs.declared.call.Call.TheVariants.{Spawn, Child, StartThread, MakeEvent, MakeMutex, MakeSemaphore, OpenNamed, Duplicate, CloseHandle, GetFlags, SetFlags, SetEvent, ResetEvent, ReleaseSemaphore, ReleaseMutex, WaitFor, WaitResult, Expire, EndThread, Exit, Reap, Counts}
 use Rattle.ob_script.specs.Acts.{Act, Nothing, Bad, ListNames, Asks, Pin, Unpin, ShowCard}
 use Rattle.ob_script.specs.Words.{words_of, joined, begins_with, behind, number_of, signed_of, mask_of, kind_of, labelled, id_of, either_of, are_handles, handles_in, ◌>>=◌}
 
@@ -128,11 +128,16 @@ handle_of (thread ∷ handle ∷ []) = do
   Some (thread, handle)
 handle_of (thread ∷ handle ∷ more ∷ words) = None
 
--- `close T H`, `set T H`, `reset T H`, `unlock T H`
+-- `close T H`, `flags T H`, `set T H`, `reset T H`, `unlock T H`
 abbrev pub close_of : List (List ℕ) → Option Call
 close_of words = do
   named ← handle_of words
   Some (CloseHandle named.0 named.1)
+
+abbrev pub flags_of : List (List ℕ) → Option Call
+flags_of words = do
+  named ← handle_of words
+  Some (GetFlags named.0 named.1)
 
 abbrev pub set_of : List (List ℕ) → Option Call
 set_of words = do
@@ -148,6 +153,20 @@ abbrev pub unlock_of : List (List ℕ) → Option Call
 unlock_of words = do
   named ← handle_of words
   Some (ReleaseMutex named.0 named.1)
+
+-- `setflags T H N N`: the mask and the flags
+abbrev pub setflags_of : List (List ℕ) → Option Call
+setflags_of [] = None
+setflags_of (thread ∷ []) = None
+setflags_of (thread ∷ handle ∷ []) = None
+setflags_of (thread ∷ handle ∷ mask ∷ []) = None
+setflags_of (thread ∷ handle ∷ mask ∷ flags ∷ []) = do
+  thread ← labelled 116 thread
+  handle ← labelled 104 handle
+  mask ← number_of mask
+  flags ← number_of flags
+  Some (SetFlags thread handle mask flags)
+setflags_of (thread ∷ handle ∷ mask ∷ flags ∷ more ∷ words) = None
 
 -- `release T H I`
 abbrev pub release_of : List (List ℕ) → Option Call
@@ -286,7 +305,9 @@ call_of (verb ∷ words) =
     else (if bytes_eq verb (codes "expire") then expire_of words
     else (if bytes_eq verb (codes "endthread") then endthread_of words
     else (if bytes_eq verb (codes "exit") then exit_of words
-    else None)))))))))))))))))))
+    else (if bytes_eq verb (codes "flags") then flags_of words
+    else (if bytes_eq verb (codes "setflags") then setflags_of words
+    else None)))))))))))))))))))))
 
 -- `VERB S`: the object
 abbrev pub object_of : List (List ℕ) → Option Id

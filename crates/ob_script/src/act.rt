@@ -109,6 +109,24 @@ pub enum Ask<'a> {
         /// The handle.
         handle: u32,
     },
+    /// `flags T H`.
+    GetFlags {
+        /// The calling thread.
+        thread: u32,
+        /// The handle.
+        handle: u32,
+    },
+    /// `setflags T H N N`.
+    SetFlags {
+        /// The calling thread.
+        thread: u32,
+        /// The handle.
+        handle: u32,
+        /// Which flags are set.
+        mask: u32,
+        /// What they become.
+        flags: u32,
+    },
     /// `set T H`.
     SetEvent {
         /// The calling thread.

@@ -2,7 +2,7 @@ ghost use Rattle.std.specs.Prelude.{◌≡◌, ◌≤◌, IfSome};
 ghost use Rattle.std.specs.Option.{option_map};
 ghost use Rattle.ob_script.specs.Words.{are_handles, words_of};
 ghost use Rattle.ob_script.specs.Acts.{act_in, call_in};
-ghost use Rattle.ob_script.specs.Grammar.{access_of, act_of, call_of, card_of, child_of, close_of, closing_of, count_of, dup_of, endthread_of, event_of, exit_of, expire_of, handle_of, mode_of, mutex_of, object_of, open_of, pin_of, reading_of, reap_of, release_of, reset_of, result_of, semaphore_of, set_of, spawn_of, target_of, text_of, thread_of, timeout_of, unlock_of, unpin_of, wait_of};
+ghost use Rattle.ob_script.specs.Grammar.{access_of, act_of, call_of, card_of, child_of, close_of, closing_of, count_of, dup_of, endthread_of, event_of, exit_of, expire_of, flags_of, handle_of, mode_of, mutex_of, object_of, open_of, pin_of, reading_of, reap_of, release_of, reset_of, result_of, semaphore_of, set_of, setflags_of, spawn_of, target_of, text_of, thread_of, timeout_of, unlock_of, unpin_of, wait_of};
 
 use crate::act::{Act, Ask};
 use crate::naming::{make_of, name_of};
@@ -112,6 +112,12 @@ fn call_of(mut words: Words<'_>) -> Option<Ask<'_>>
     }
     if is(verb, b"exit") {
         return exit_of(words);
+    }
+    if is(verb, b"flags") {
+        return flags_of(words);
+    }
+    if is(verb, b"setflags") {
+        return setflags_of(words);
     }
     None
 }
@@ -297,6 +303,33 @@ fn close_of(words: Words<'_>) -> Option<Ask<'_>>
 {
     let (thread, handle) = handle_of(words)?;
     Some(Ask::CloseHandle { thread, handle })
+}
+
+fn flags_of(words: Words<'_>) -> Option<Ask<'_>>
+    ensures { option_map call_in result ≡ flags_of words.entry }
+{
+    let (thread, handle) = handle_of(words)?;
+    Some(Ask::GetFlags { thread, handle })
+}
+
+fn setflags_of(mut words: Words<'_>) -> Option<Ask<'_>>
+    ensures { option_map call_in result ≡ setflags_of words.entry }
+{
+    let thread = words.next()?;
+    let handle = words.next()?;
+    let mask = words.next()?;
+    let flags = words.next()?;
+    words.end()?;
+    let thread = labelled(b't', thread)?;
+    let handle = labelled(b'h', handle)?;
+    let mask = number_of(mask)?;
+    let flags = number_of(flags)?;
+    Some(Ask::SetFlags {
+        thread,
+        handle,
+        mask,
+        flags,
+    })
 }
 
 fn set_of(words: Words<'_>) -> Option<Ask<'_>>

@@ -2,11 +2,12 @@
 use Rattle.std.proofs.Common.{◌≡◌, ℕ, ◌+◌, ◌-◌, ◌<◌, List, [], ◌∷◌, length, Option, Some, None, refl, ap, ◌∙◌, sym, arith, get_or, set}
 use Rattle.std.specs.Prelude.{replicate}
 use Rattle.ob_body.specs.declared.body.Body.{Body}
+use Rattle.ob_rights.specs.declared.handle_flags.HandleFlags.{HandleFlags}
 use Rattle.ob_tables.specs.declared.entry.Entry.{Entry}
 use Rattle.ob_tables.specs.Table.{entry_at}
 use Rattle.ob_tables.specs.Counts.{slot_handles}
-use Rattle.ob_tables.specs.Tables.{table_of, with_process, with_entry_of, without_entry_of, IsBounded}
-use Rattle.ob_tables.proofs.SlotCounts.{one_in-same, one_in-other, slot_handles-with_entry, slot_handles-without_entry, slot_handles-with_process, slot_handles-few}
+use Rattle.ob_tables.specs.Tables.{table_of, with_process, with_entry_of, with_flags_of, without_entry_of, IsBounded}
+use Rattle.ob_tables.proofs.SlotCounts.{one_in-same, one_in-other, slot_handles-with_entry, slot_handles-without_entry, slot_handles-with_flags, slot_handles-with_process, slot_handles-few}
 use Rattle.ob_waits.specs.declared.wait.Wait.{Wait}
 use Rattle.ob_waits.specs.Objects.{Objects}
 use Rattle.ob_waits.specs.Waits.{Scene, settled, slot_blocks}
@@ -65,6 +66,13 @@ module _ (seen : Objects) (n : ℕ) (ts : List (List (Option Entry))) (ws : List
     handles = recounted_one seen.handles n (λ k. slot_handles k ts) (λ k. slot_handles k (without_entry_of ts p value)) e.id.slot _ counted.handles
         (λ k other. let x = slot_handles-without_entry k ts p value e found in let y = one_in-other e k other in omega (arith, x, y))
         (λ lt. let x = one_less p value e found in let z = handles_at e.id.slot lt in omega (arith, x, z));
+    blocks = counted.blocks;
+  }
+
+  -- an entry has other flags
+  pub counted_flags : (p value : ℕ) (e : Entry) (flags : HandleFlags) → entry_at (table_of ts p) value ≡ Some e → IsCounted seen n (with_flags_of ts p value flags) ws
+  counted_flags p value e flags found = record {
+    handles = counted.handles ∙ ap (by_slot n) (λ i k. sym (slot_handles-with_flags k ts p value e flags found) i);
     blocks = counted.blocks;
   }
 

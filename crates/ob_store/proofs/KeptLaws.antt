@@ -8,9 +8,11 @@ use Rattle.pin_core.specs.declared.world.Slot.{Slot}
 use Rattle.pin_words.specs.Keepers.{KeeperState}
 use Rattle.ob_body.specs.declared.body.Body.{Body}
 use Rattle.ob_name.specs.Listing.{Rows}
+use Rattle.ob_rights.specs.declared.handle_flags.HandleFlags.{HandleFlags}
 use Rattle.ob_tables.specs.declared.entry.Entry.{Entry}
 use Rattle.ob_tables.specs.Counts.{handles_among}
-use Rattle.ob_tables.specs.Tables.{HandleTables, IsBounded, table_of, with_entry_of, without_entry_of}
+use Rattle.ob_tables.specs.Table.{entry_at}
+use Rattle.ob_tables.specs.Tables.{HandleTables, IsBounded, table_of, with_entry_of, with_flags_of, without_entry_of}
 use Rattle.ob_tables.specs.Tables as tables
 use Rattle.ob_tables.proofs.SlotCounts.{slot_handles-le}
 use Rattle.ob_waits.specs.Objects.{Objects}
@@ -31,10 +33,10 @@ use Rattle.ob_store.specs.State as state
 use Rattle.ob_store.specs.State.{State, state_of, whole_of, objects_of, scene_of, with_scene, settled, by_slot, generation_of}
 use Rattle.ob_store.specs.Kept.{IsKept, IsCounted, AreFormed, IsListing, LivesKept, IsNamed, IsQuiet, IsLive, Yields}
 use Rattle.ob_store.proofs.AgreeLaws.{body_within}
-use Rattle.ob_store.proofs.CountedLaws.{blocks_at, handles_at, handles_few, counted_placed, counted_process, counted_settled}
-use Rattle.ob_store.proofs.NamedLaws.{there_within, named_placed, named_process, named_settled}
+use Rattle.ob_store.proofs.CountedLaws.{blocks_at, handles_at, handles_few, counted_flags, counted_placed, counted_process, counted_settled}
+use Rattle.ob_store.proofs.NamedLaws.{there_within, named_flags, named_placed, named_process, named_settled}
 use Rattle.ob_store.proofs.BodyLaws.{of_live_more, formed_put, of_live_put, room_put, less_put, formed_settled, of_live_settled}
-use Rattle.ob_store.proofs.ListingLaws.{listing_process, listing_placed}
+use Rattle.ob_store.proofs.ListingLaws.{listing_flags, listing_process, listing_placed}
 use Rattle.ob_store.proofs.SettledLaws.{settled_still, settled_waits}
 
 -- as many tables as there are processes
@@ -96,6 +98,27 @@ module _ (limits : Limits) (l : LivesState) (ts : HandleTables) (o : ObjectsStat
     state = sym (settled_kept limits l (record ts { tables = with_entry_of ts.tables p e }) (with_handle_of o e.id.slot) ws rows (kept_placed p e table some) after) i;
     keeper = o.keeper;
   }
+
+  -- an entry has other flags
+  module _ (p value : ℕ) (flags : HandleFlags) (some : IsSome (entry_at (table_of ts.tables p) value)) where
+    pub kept_flags : IsKept limits l (record ts { tables = with_flags_of ts.tables p value flags }) o ws rows
+    kept_flags = by (entry_at (table_of ts.tables p) value) refl some
+      where
+        by : (x : Option Entry) → entry_at (table_of ts.tables p) value ≡ x → IsSome x → IsKept limits l (record ts { tables = with_flags_of ts.tables p value flags }) o ws rows
+        by None found none = absurd (cc)
+        by (Some e) found _ = record {
+          limited = record { processes = kept.limited.processes; handles = kept.limited.handles; waits_limit = kept.limited.waits_limit; shape_is = kept.limited.shape_is };
+          lives_kept = lives_same limits l (length ts.tables) (length (with_flags_of ts.tables p value flags)) (length-set ts.tables p _) kept.lives_kept;
+          counted = counted_flags o.seen (length o.objects) ts.tables ws.waits kept.counted p value e flags found;
+          named = named_flags o.objects ts.tables ws.waits kept.named p value e flags found;
+          formed = kept.formed;
+          of_live = kept.of_live;
+          quiet = kept.quiet;
+          listing = listing_flags rows ts.tables o.objects o.births kept.listing p value e flags found;
+        }
+
+    pub whole_flags : IsTied o → whole_of limits l (record ts { tables = with_flags_of ts.tables p value flags }) o ws ≡ record (whole_of limits l ts o ws) { state = settled (state.with_flags (state_of limits l ts o ws) p value flags) }
+    whole_flags tied = λ i. record { state = sym (settled_kept limits l (record ts { tables = with_flags_of ts.tables p value flags }) o ws rows kept_flags tied) i; keeper = o.keeper }
 
   -- a process comes
   pub kept_process : (session : ℕ) → length l.processes ≤ limits.processes → length l.threads ≤ limits.threads → IsKept limits (lives.with_process l session) (record ts { tables = tables.with_process ts.tables }) o ws rows

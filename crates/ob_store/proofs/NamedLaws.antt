@@ -7,11 +7,12 @@ use Rattle.std.proofs.lemmas.Bool.{cases_lt}
 use Rattle.std.proofs.lemmas.Bool.Decides.{nat_tests}
 use Rattle.pin_core.specs.Holds.{same_id}
 use Rattle.pin_core.specs.declared.id.Id.{Id}
+use Rattle.ob_rights.specs.declared.handle_flags.HandleFlags.{HandleFlags}
 use Rattle.ob_tables.specs.declared.entry.Entry.{Entry}
 use Rattle.ob_tables.specs.Table.{at, entry_at}
 use Rattle.ob_tables.specs.Counts.{names, handles_in, handles_among, slot_handles}
-use Rattle.ob_tables.specs.Tables.{table_of, with_process, with_entry_of, without_entry_of}
-use Rattle.ob_tables.proofs.Counting.{same_id-same, one_id, one_of, some_within, found_counts, handles_among-with_entry, handles_among-without_entry, handles_among-with_process}
+use Rattle.ob_tables.specs.Tables.{table_of, with_process, with_entry_of, with_flags_of, without_entry_of}
+use Rattle.ob_tables.proofs.Counting.{same_id-same, one_id, one_of, some_within, found_counts, handles_among-with_entry, handles_among-with_flags, handles_among-without_entry, handles_among-with_process}
 use Rattle.ob_tables.proofs.SlotCounts.{slot_handles-one}
 use Rattle.ob_waits.specs.declared.wait.Wait.{Wait}
 use Rattle.ob_waits.specs.Waits.{Scene, settled, nowhere, ids_of, slot_places, slot_blocks, blocks_in, blocks_among}
@@ -96,6 +97,10 @@ module _ (objects : List (Option Object)) (ts : List (List (Option Entry))) (ws 
   -- an entry leaves
   pub named_removed : (p value : ℕ) (e : Entry) → entry_at (table_of ts p) value ≡ Some e → IsNamed objects (without_entry_of ts p value) ws
   named_removed p value e found = named_fewer objects ts (without_entry_of ts p value) ws ws (λ id. let x = handles_among-without_entry id ts p value e found in omega (arith, x)) (λ id. omega arith) named
+
+  -- an entry has other flags
+  pub named_flags : (p value : ℕ) (e : Entry) (flags : HandleFlags) → entry_at (table_of ts p) value ≡ Some e → IsNamed objects (with_flags_of ts p value flags) ws
+  named_flags p value e flags found = named_fewer objects ts (with_flags_of ts p value flags) ws ws (λ id. let x = handles_among-with_flags id ts p value e flags found in omega (arith, x)) (λ id. omega arith) named
 
   -- a process comes
   pub named_process : IsNamed objects (with_process ts) ws

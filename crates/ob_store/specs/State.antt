@@ -8,9 +8,10 @@ use Rattle.pin_core.specs.declared.world.Slot.{Slot}
 use Rattle.pin_words.specs.Keepers.{KeeperState}
 use Rattle.ob_body.specs.declared.body.Body.{Body}
 use Rattle.ob_arena.specs.Slots.{Slots}
+use Rattle.ob_rights.specs.declared.handle_flags.HandleFlags.{HandleFlags}
 use Rattle.ob_tables.specs.declared.entry.Entry.{Entry}
 use Rattle.ob_tables.specs.Tables as tables
-use Rattle.ob_tables.specs.Tables.{HandleTables, with_entry_of, without_entry_of}
+use Rattle.ob_tables.specs.Tables.{HandleTables, with_entry_of, with_flags_of, without_entry_of}
 use Rattle.ob_tables.specs.Counts.{entries_in, handles_among, slot_handles}
 use Rattle.ob_waits.specs.Objects as waits
 use Rattle.ob_waits.specs.declared.wait.Wait.{Wait}
@@ -107,6 +108,10 @@ with_entry s process entry = record s { tables = with_entry_of s.tables process 
 -- the entry of a handle leaves
 abbrev pub without_entry : State → ℕ → ℕ → State
 without_entry s process handle = record s { tables = without_entry_of s.tables process handle }
+
+-- the entry of a handle has other flags
+abbrev pub with_flags : State → ℕ → ℕ → HandleFlags → State
+with_flags s process handle flags = record s { tables = with_flags_of s.tables process handle flags }
 
 -- the Id that the next object of a slot has
 abbrev pub id_at : State → ℕ → Id

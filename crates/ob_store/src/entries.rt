@@ -1,9 +1,9 @@
-ghost use Rattle.std.specs.Prelude.{◌≡◌, ◌<◌, ◌↔◌, ◌⊎◌, Err, IfErr, IfOk, OnErr, OnOk, Some, length};
+ghost use Rattle.std.specs.Prelude.{◌≡◌, ◌<◌, ◌↔◌, ◌⊎◌, Err, IfErr, IfOk, IsSome, OnErr, OnOk, Some, length};
 ghost use Rattle.ob_rights.specs.declared.fault.Fault.TheVariants.{Limit, Memory};
 ghost use Rattle.ob_tables.specs.Counts.{entries_in, handles_among};
 ghost use Rattle.ob_tables.specs.Table.{entry_at, free_place, value_of};
 ghost use Rattle.ob_tables.specs.Tables.{table_of};
-ghost use Rattle.ob_store.specs.State.{settled, with_entry, without_entry};
+ghost use Rattle.ob_store.specs.State.{settled, with_entry, with_flags, without_entry};
 ghost use Rattle.std.specs.Option.{option_map};
 ghost use Rattle.ob_store.specs.Objects.{object_of};
 ghost use Rattle.ob_store.specs.Moves.{OnlyCloses, rows_left};
@@ -11,7 +11,7 @@ ghost use Rattle.ob_store.specs.Moves.{OnlyCloses, rows_left};
 use crate::seat::Seat;
 use crate::store::Store;
 use ob_name::Directory;
-use ob_rights::Fault;
+use ob_rights::{Fault, HandleFlags};
 use ob_tables::Entry;
 use pin_words::PinKeeper;
 
@@ -54,6 +54,16 @@ impl<K: PinKeeper> Store<K> {
         self.objects.handle_left(entry.id.slot);
         self.objects.kept();
         leave_directory(&mut self.names, self.objects.look(entry.id.slot));
+    }
+
+    /// The entry of a handle has other flags.
+    pub fn set_flags(&mut self, process: u32, handle: u32, flags: HandleFlags)
+        requires { IsSome (entry_at (table_of self.old.state.tables process) handle) }
+        ensures { self.new ≡ record self.old { state = settled (with_flags self.old.state process handle flags) } }
+    {
+        // What it says is wanted here.
+        self.objects.kept();
+        self.tables.set_flags(process, handle, flags);
     }
 }
 

@@ -8,7 +8,7 @@ use Rattle.ob_store.specs.State.{State, Whole}
 use Rattle.ob_store.specs.Moves.{OnlyCloses}
 use Rattle.ob_manager.specs.declared.call.Call.{Call}
 use Rattle.ob_manager.specs.declared.reply.Reply.{Reply}
-use Rattle.ob_manager.specs.declared.reply.Reply.TheVariants.{Spawned, Started, Made, Exists, Opened, Duplicated, Closed, Done, Previous, Code, Pending, Expired, Ended, Exited, Reaped, CountsAre, Refused}
+use Rattle.ob_manager.specs.declared.reply.Reply.TheVariants.{Spawned, Started, Made, Exists, Opened, Duplicated, Closed, Done, Flags, Previous, Code, Pending, Expired, Ended, Exited, Reaped, CountsAre, Refused}
 use Rattle.ob_manager.specs.Steps.{Step, does, closes, lacks, Keeps, Publishes}
 
 same_table : (k l : KeeperState) → l ≡ k → l.table ≡ k.table
@@ -33,6 +33,7 @@ keeps_table (Spawned process thread) s k l h = same_table k l h
 keeps_table (Started thread) s k l h = same_table k l h
 keeps_table (Exists handle id) s k l h = same_table k l h
 keeps_table (Opened handle id) s k l h = same_table k l h
+keeps_table (Flags bits) s k l h = same_table k l h
 keeps_table (Pending number) s k l h = same_table k l h
 keeps_table (CountsAre handles waits hold) s k l h = same_table k l h
 keeps_table (Refused fault) s k l h = same_table k l h
