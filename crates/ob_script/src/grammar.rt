@@ -40,7 +40,7 @@ pub fn act_of(line: &[u8]) -> Act<'_>
 }
 
 /// The text of a line: one carriage return at its end is dropped.
-fn text_of(line: &[u8]) -> &[u8]
+pub fn text_of(line: &[u8]) -> &[u8]
     ensures { result.now ≡ text_of line.now }
 {
     match line {

@@ -1,0 +1,13 @@
+use Rattle.std.proofs.Common.{◌≡◌, ◌+◌, ◌*◌, ◌≤◌, length}
+use Rattle.ob_lanes.proofs.reading.Reading.read_all.Given as goal
+
+abbrev pub invariant-loop-i : goal.invariant-loop-i
+invariant-loop-i g l = record {
+  lanes : l.self.intake.scripts.lanes ≡ l.fn.self.intake.scripts.lanes;
+  block : length l.block ≡ 65536;
+  lines : l.self.intake.lines ≤ 65536 * l.i;
+  reads : g.R.Source.calls l.reader ≡ g.R.Source.calls l.fn.reader + l.i;
+  read_faults : g.R.Source.faults l.reader ≡ g.R.Source.faults l.fn.reader;
+  writes : g.W.Sink.calls l.writer + l.self.intake.output.writes_left ≡ g.W.Sink.calls l.fn.writer + l.fn.self.intake.output.writes_left;
+  write_faults : g.W.Sink.faults l.fn.writer ≤ g.W.Sink.faults l.writer;
+}

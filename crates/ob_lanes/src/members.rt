@@ -1,0 +1,135 @@
+ghost use Rattle.std.specs.Prelude.{◌≡◌, ◌+◌, ◌<◌, ◌≤◌, All, IfOk, IfSome, length, vec_len};
+ghost use Rattle.ob_store.specs.State.{shape_of};
+ghost use Rattle.ob_shared.specs.Members.{IsNew};
+
+use crate::scripts::Script;
+use ob_manager::{Limits, Manager};
+use ob_shared::{Lane, Member, OpenGate, Shared, drive};
+use pin_words::{Keeper, Opening, Pins, Reader};
+use std::alloc::{AllocError, Global};
+use std::sync::Wait;
+use std::thread::Threads;
+
+/// A manager behind its lock, of which nothing was asked, and so many readers of its pins; none where memory is wanting.
+pub fn started<'a>(
+    alloc: Global,
+    limits: Limits,
+    pins: &'a Pins,
+    opening: Opening,
+    count: usize,
+) -> Option<(Shared<'a>, Vec<Reader<'a>>)>
+    requires opens { opening ≡ pins.now }
+    requires shape { pins.now.shape ≡ shape_of limits }
+    requires some { 1 ≤ count }
+    ensures lanes { IfSome result (λ parts. parts.0 ≡ 0) }
+    ensures readers { IfSome result (λ parts. vec_len parts.1 ≡ count) }
+{
+    let Ok((mut keeper, first)) = opening.start(pins) else {
+        return None;
+    };
+    let Ok(readers) = readers_of(alloc, &mut keeper, first, count) else {
+        return None;
+    };
+    match Manager::new(alloc, limits, keeper) {
+        Ok(manager) => Some((Shared::new(alloc, manager), readers)),
+        Err(_) => None,
+    }
+}
+
+/// So many readers of a keeper's pins, of which the first is given.
+fn readers_of<'a>(
+    alloc: Global,
+    keeper: &mut Keeper<'a>,
+    first: Reader<'a>,
+    count: usize,
+) -> Result<Vec<Reader<'a>>, AllocError>
+    requires { 1 ≤ count }
+    ensures slots { keeper.new.view.slots ≡ keeper.old.view.slots }
+    ensures published { keeper.new.view.published ≡ keeper.old.view.published }
+    ensures shape { keeper.new.view.shape ≡ keeper.old.view.shape }
+    ensures count { IfOk result (λ readers. vec_len readers ≡ count) }
+{
+    let mut readers = Vec::new(alloc);
+    readers.push(first)?;
+    for number in 1..count {
+        let _number = number;
+        readers.push(keeper.reader())?;
+    }
+    Ok(readers)
+}
+
+/// A member of the next lane, which does what the script says.
+fn member<'a>(
+    alloc: Global,
+    shared: &mut Shared<'_>,
+    reader: Reader<'a>,
+    script: Script,
+) -> Member<'a>
+    requires { shared.old < 65536 }
+    ensures new { IsNew result }
+    ensures number { result.lane.number ≡ shared.old }
+    ensures acts { result.script.items ≡ script }
+    ensures lanes { shared.new ≡ shared.old + 1 }
+{
+    let Ok(lane) = shared.lane() else {
+        unreachable!();
+    };
+    Member {
+        lane,
+        reader,
+        script: script.into_acts(),
+        seen: Vec::new(alloc),
+    }
+}
+
+/// A member for each script, in the lanes from the next one on. There are as many readers.
+pub fn members_of<'a>(
+    alloc: Global,
+    shared: &mut Shared<'_>,
+    mut readers: Vec<Reader<'a>>,
+    scripts: Vec<Script>,
+) -> Result<Vec<Member<'a>>, AllocError>
+    requires few { shared.old + vec_len scripts ≤ 65536 }
+    requires readers { vec_len readers ≡ vec_len scripts }
+    ensures new { IfOk result (λ members. All IsNew members.items) }
+    ensures len { IfOk result (λ members. vec_len members ≡ vec_len scripts) }
+{
+    let mut members = Vec::new(alloc);
+    for script in scripts {
+        let Some(reader) = readers.pop() else {
+            unreachable!();
+        };
+        members.push(member(alloc, shared, reader, script))?;
+    }
+    Ok(members)
+}
+
+/// Does the acts of the first member, and then those of the others at once.
+pub fn drive_all<'a, 's, R: Threads + Wait + Sync>(
+    rt: &R,
+    shared: &Shared<'s>,
+    members: &mut [Member<'a>],
+) -> Result<(), AllocError>
+    requires new { All IsNew members.old }
+    requires some { 1 ≤ length members.old }
+    requires few { length members.old ≤ 65 }
+{
+    let (prologue, others) = members.split_at_mut(1);
+    let Ok(()) = drive(rt, shared, &OpenGate, prologue) else {
+        return Err(AllocError);
+    };
+    let Ok(()) = drive(rt, shared, &OpenGate, others) else {
+        return Err(AllocError);
+    };
+    Ok(())
+}
+
+/// The lanes of members.
+pub fn lanes_of(alloc: Global, members: Vec<Member<'_>>) -> Result<Vec<Lane>, AllocError> {
+    let mut lanes = Vec::new(alloc);
+    for member in members {
+        let Member { lane, .. } = member;
+        lanes.push(lane)?;
+    }
+    Ok(lanes)
+}

@@ -1,0 +1,130 @@
+ghost use Rattle.std.specs.Prelude.{◌≡◌, ◌+◌, ◌<◌, ◌≤◌, ◌⊎◌, IfOk, IsErrOf, OnOk, length, vec_len};
+
+use crate::fault::LanesFault;
+use crate::members::{drive_all, lanes_of, members_of, started};
+use crate::printing::print_members;
+use crate::reading::{BLOCK, CALLS_MOST, Reading};
+use crate::scripts::Script;
+use ob_manager::Limits;
+use ob_output::{Answer, Output, Sink, Source};
+use ob_shared::{Lane, Shared};
+use pin_words::{Pins, Reader};
+use std::alloc::{AllocError, Global};
+use std::sync::Wait;
+use std::thread::Threads;
+
+/// Runs a script with so many lanes over a new manager behind its lock: reads the script to its end and prints meanwhile which
+/// lines are bad; makes the calls of the prologue, which is lane 0, and then those of the other lanes at once; prints the answers
+/// lane by lane; and closes the lanes. It may wait forever, since a lane may.
+///
+/// At most 1,000,000,000 reads and as many writes are made. The answers are those of members: [`drive`](ob_shared::drive).
+pub fn run_lanes<R: Threads + Wait + Sync, I: Source, O: Sink>(
+    rt: &R,
+    alloc: Global,
+    limits: Limits,
+    lanes: u32,
+    reader: &mut I,
+    writer: &mut O,
+) -> Result<(), LanesFault>
+    requires some { 1 ≤ lanes }
+    requires few { lanes ≤ 64 }
+    ensures ended { OnOk result (I.HasEnded reader.new) }
+    ensures read { IsErrOf result LanesFault.Read → (I.faults reader.old < I.faults reader.new) ⊎ (I.calls reader.new ≡ I.calls reader.old + CALLS_MOST) }
+    ensures write { IsErrOf result LanesFault.Write → (O.faults writer.old < O.faults writer.new) ⊎ (O.calls writer.new ≡ O.calls writer.old + CALLS_MOST) }
+    ensures reads { I.calls reader.new ≤ I.calls reader.old + CALLS_MOST }
+    ensures writes { O.calls writer.new ≤ O.calls writer.old + CALLS_MOST }
+{
+    let mut reading = Reading::new(alloc, lanes, CALLS_MOST)?;
+    let mut block = zeros(alloc, BLOCK)?;
+    reading.read_all(&mut block, CALLS_MOST, reader, writer)?;
+    drop(block);
+    let (scripts, mut output) = reading.into_parts();
+    run_scripts(
+        rt,
+        alloc,
+        limits,
+        scripts.into_scripts(),
+        &mut output,
+        writer,
+    )
+}
+
+/// Makes the calls of scripts, of which the first is the prologue's, prints the answers, and closes the lanes.
+fn run_scripts<R: Threads + Wait + Sync, O: Sink>(
+    rt: &R,
+    alloc: Global,
+    limits: Limits,
+    scripts: Vec<Script>,
+    output: &mut Output,
+    writer: &mut O,
+) -> Result<(), LanesFault>
+    requires some { 2 ≤ vec_len scripts }
+    requires few { vec_len scripts ≤ 65 }
+    ensures read { IsErrOf result LanesFault.Read → ⊥ }
+    ensures write { IsErrOf result LanesFault.Write → (O.faults writer.old < O.faults writer.new) ⊎ (output.new.writes_left ≡ 0) }
+    ensures calls { O.calls writer.new + output.new.writes_left ≡ O.calls writer.old + output.old.writes_left }
+{
+    let Ok((pins, opening)) = Pins::new(alloc, limits.shape()) else {
+        return Err(LanesFault::Memory);
+    };
+    let Some((mut shared, readers)) = started(alloc, limits, &pins, opening, scripts.len()) else {
+        return Err(LanesFault::Memory);
+    };
+    match answer_scripts(rt, alloc, &mut shared, readers, scripts, output, writer) {
+        Ok(lanes) => close(shared, lanes, output, writer),
+        Err(fault) => Err(fault),
+    }
+}
+
+/// Makes the calls of scripts over a manager behind its lock, by a member for each, and prints the answers. Their lanes.
+fn answer_scripts<'a, R: Threads + Wait + Sync, O: Sink>(
+    rt: &R,
+    alloc: Global,
+    shared: &mut Shared<'a>,
+    readers: Vec<Reader<'a>>,
+    scripts: Vec<Script>,
+    output: &mut Output,
+    writer: &mut O,
+) -> Result<Vec<Lane>, LanesFault>
+    requires fresh { shared.old ≡ 0 }
+    requires readers { vec_len readers ≡ vec_len scripts }
+    requires some { 2 ≤ vec_len scripts }
+    requires few { vec_len scripts ≤ 65 }
+    ensures read { IsErrOf result LanesFault.Read → ⊥ }
+    ensures write { IsErrOf result LanesFault.Write → (O.faults writer.old < O.faults writer.new) ⊎ (output.new.writes_left ≡ 0) }
+    ensures calls { O.calls writer.new + output.new.writes_left ≡ O.calls writer.old + output.old.writes_left }
+    ensures faults { O.faults writer.old ≤ O.faults writer.new }
+{
+    let mut members = members_of(alloc, shared, readers, scripts)?;
+    drive_all(rt, shared, members.as_mut_slice())?;
+    print_members(output, writer, members.as_slice())?;
+    Ok(lanes_of(alloc, members)?)
+}
+
+/// Closes the lanes, and prints how many calls were made.
+fn close<O: Sink>(
+    shared: Shared<'_>,
+    lanes: Vec<Lane>,
+    output: &mut Output,
+    writer: &mut O,
+) -> Result<(), LanesFault>
+    ensures read { IsErrOf result LanesFault.Read → ⊥ }
+    ensures write { IsErrOf result LanesFault.Write → (O.faults writer.old < O.faults writer.new) ⊎ (output.new.writes_left ≡ 0) }
+    ensures calls { O.calls writer.new + output.new.writes_left ≡ O.calls writer.old + output.old.writes_left }
+    ensures faults { O.faults writer.old ≤ O.faults writer.new }
+{
+    let Ok(closed) = shared.close(lanes) else {
+        output.flush(writer)?;
+        return Err(LanesFault::Differ);
+    };
+    output.put(writer, Answer::Journaled(closed.journal.len()))?;
+    output.flush(writer)?;
+    Ok(())
+}
+
+/// So many bytes, each 0.
+fn zeros(alloc: Global, count: usize) -> Result<Vec<u8>, AllocError>
+    ensures { IfOk result (λ bytes. vec_len bytes ≡ count) }
+{
+    vec![in alloc; 0u8; count]
+}
