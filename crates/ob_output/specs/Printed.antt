@@ -16,7 +16,7 @@ use Rattle.ob_name.specs.Listing.{Rows}
 use Rattle.ob_name.specs.Refs.{row_at}
 use Rattle.ob_manager.specs.declared.card.Card.{Card}
 use Rattle.ob_manager.specs.declared.reply.Reply.{Reply}
-use Rattle.ob_manager.specs.declared.reply.Reply.TheVariants.{Spawned, Started, Made, Exists, Opened, Duplicated, Closed, Done, Previous, Code, Pending, Expired, Ended, Exited, Reaped, CountsAre, Refused}
+use Rattle.ob_manager.specs.declared.reply.Reply.TheVariants.{Spawned, Started, Made, Exists, Opened, Duplicated, Closed, Done, Flags, Previous, Code, Pending, Expired, Ended, Exited, Reaped, CountsAre, Refused}
 use Rattle.ob_output.specs.declared.answer.Answer.{Answer}
 use Rattle.ob_output.specs.declared.answer.Answer.TheVariants.{Replied, BadLine, NameCount, Named, Pinned, Unpinned, Shown, NoWait, Lane, Journaled}
 
@@ -46,6 +46,7 @@ printed_reply (Opened handle id) = printed_handle handle (codes " opened ") id
 printed_reply (Duplicated handle id) = printed_handle handle (codes " dup ") id
 printed_reply Closed = codes "closed"
 printed_reply Done = codes "done"
+printed_reply (Flags bits) = codes "flags " ++ decimal bits
 printed_reply (Previous count) = codes "previous " ++ decimal count
 printed_reply (Code code) = codes "code " ++ decimal code
 printed_reply (Pending number) = codes "pending w" ++ decimal number

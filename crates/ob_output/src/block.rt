@@ -123,6 +123,10 @@ impl Block {
             Reply::Duplicated { handle, id } => self.handle(handle, b" dup ", id),
             Reply::Closed => self.text(b"closed"),
             Reply::Done => self.text(b"done"),
+            Reply::Flags { bits } => {
+                self.text(b"flags ");
+                self.number(u64::from(bits));
+            }
             Reply::Previous { count } => {
                 self.text(b"previous ");
                 self.number(u64::from(count));
