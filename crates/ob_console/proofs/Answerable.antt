@@ -1,6 +1,6 @@
 -- Every call may be answered, in any state whose slots may be pinned at all, and whatever a reader holds.
 use Rattle.std.proofs.Common.{◌≡◌, ℕ, ◌<◌, List, Bool, true, false, cond, not, Option, Some, None, Result, Ok, Err, inl, refl, ap, arith}
-use Rattle.std.specs.Prelude.{is_ok, nat_le, slice_index_or}
+use Rattle.std.specs.Prelude.{is_ok, nat_le, nat_lt, slice_index_or}
 use Rattle.pin_core.specs.declared.id.Id.{Id}
 use Rattle.pin_words.specs.declared.pin_keeper.Reclaim.{Reclaim}
 use Rattle.pin_words.specs.declared.pin_keeper.Reclaim.TheVariants as reclaim
@@ -8,6 +8,7 @@ use Rattle.pin_words.specs.Keepers.{KeeperState}
 use Rattle.ob_rights.specs.declared.fault.Fault.{Fault}
 use Rattle.ob_rights.specs.declared.fault.Fault.TheVariants as fault
 use Rattle.ob_rights.specs.declared.kind.Kind.TheVariants as kind
+use Rattle.ob_rights.specs.Flags.{is_protected}
 use Rattle.ob_body.specs.Body.{post_answer, unlock_answer}
 use Rattle.ob_store.specs.State.{State, Whole, settled, with_entry}
 use Rattle.ob_store.specs.Moves.{after_reclaim}
@@ -27,9 +28,8 @@ use Rattle.ob_manager.specs.declared.reply.Reply.TheVariants.{Duplicated, Reaped
 use Rattle.ob_manager.specs.Outcomes.{Outcome, ◌>>=◌, or_refuse, refuse_if}
 use Rattle.ob_manager.specs.Checks.{caller, found, body_of, granted, positive}
 use Rattle.ob_manager.specs.Creating.{entry_of, next_handle}
-use Rattle.ob_manager.specs.Handles.{close}
-use Rattle.ob_manager.specs.Copying as copying
-use Rattle.ob_manager.specs.Copying.{admitted, copied_to, duplicate, is_wrong, with_source, without_source}
+use Rattle.ob_manager.specs.Handles.{close, handle_flags, set_handle_flags}
+use Rattle.ob_manager.specs.Copying.{admitted, copied_to, duplicate, is_stuck, is_wrong, leaves, with_source, without_source}
 use Rattle.ob_manager.specs.Waiting as waiting
 use Rattle.ob_manager.specs.Waiting.{have_room, is_for_one_twice, is_misshapen, objects_of, satisfied, shown, unsatisfied, wait, wait_on, wait_result}
 use Rattle.ob_manager.specs.Ending.{end_thread, exit}
@@ -128,10 +128,14 @@ can_answer w (calls.OpenNamed thread kind mask inherit text) pins = refused w (c
 can_answer w (calls.Duplicate thread source handle target mask inherit options) pins =
     answered w (calls.Duplicate thread source handle target mask inherit options) (duplicate w.state thread source handle target mask inherit options) (λ held reply. tt) (λ reply. refl)
     (rests_behind w.keeper (caller w.state thread) _ (λ process. rests_behind w.keeper (or_refuse (slice_index_or w.state.processes source None) fault.Parameter) _ (λ session.
-    rests_behind w.keeper (refuse_if (is_wrong options target) fault.Parameter) _ (λ right. rests_behind w.keeper (found w.state source handle) _ (λ entry.
-    copy_rests w.state entry source handle target mask inherit options w.keeper (copying.closes options))))))
+    rests_behind w.keeper (refuse_if (is_wrong options target) fault.Parameter) _ (λ right. rests_behind w.keeper (found w.state source handle) _ (λ entry. rests_behind w.keeper (refuse_if (is_stuck target entry) fault.Handle) _ (λ free.
+    copy_rests w.state entry source handle target mask inherit options w.keeper (leaves options entry)))))))
 can_answer w (calls.CloseHandle thread handle) pins = answered w (calls.CloseHandle thread handle) (close w.state thread handle) (λ held reply. tt) (λ reply. refl)
+    (rests_behind w.keeper (caller w.state thread) _ (λ process. rests_behind w.keeper (found w.state process handle) _ (λ entry. rests_behind w.keeper (refuse_if (is_protected entry.flags) fault.Handle) _ (λ free. refl))))
+can_answer w (calls.GetFlags thread handle) pins = answered w (calls.GetFlags thread handle) (handle_flags w.state thread handle) (λ held reply. tt) (λ reply. refl)
     (rests_behind w.keeper (caller w.state thread) _ (λ process. rests_behind w.keeper (found w.state process handle) _ (λ entry. refl)))
+can_answer w (calls.SetFlags thread handle mask flags) pins = answered w (calls.SetFlags thread handle mask flags) (set_handle_flags w.state thread handle mask flags) (λ held reply. tt) (λ reply. refl)
+    (rests_behind w.keeper (caller w.state thread) _ (λ process. rests_behind w.keeper (refuse_if (nat_lt 3 mask) fault.Parameter) _ (λ known. rests_behind w.keeper (found w.state process handle) _ (λ entry. refl))))
 can_answer w (calls.SetEvent thread handle) pins = answered w (calls.SetEvent thread handle) (set_event w.state thread handle) (λ held reply. tt) (λ reply. refl)
     (rests_behind w.keeper (caller w.state thread) _ (λ process. rests_behind w.keeper (found w.state process handle) _ (λ entry.
     rests_behind w.keeper (body_of w.state entry.id kind.Event) _ (λ event. rests_behind w.keeper (granted modify_state entry) _ (λ granted. refl)))))

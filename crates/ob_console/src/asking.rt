@@ -61,6 +61,13 @@ pub fn reply_to<'a>(
             options,
         } => manager.duplicate(thread, source, handle, target, mask, inherit, options),
         Ask::CloseHandle { thread, handle } => manager.close(thread, handle),
+        Ask::GetFlags { thread, handle } => manager.handle_flags(thread, handle),
+        Ask::SetFlags {
+            thread,
+            handle,
+            mask,
+            flags,
+        } => manager.set_handle_flags(thread, handle, mask, flags),
         Ask::SetEvent { thread, handle } => manager.set_event(thread, handle),
         Ask::ResetEvent { thread, handle } => manager.reset_event(thread, handle),
         Ask::ReleaseSemaphore {
