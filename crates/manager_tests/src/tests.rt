@@ -1,6 +1,7 @@
 mod applying;
 mod copies;
 mod ends;
+mod filling;
 mod pinning;
 mod playing;
 mod waiting;

@@ -4,7 +4,7 @@ use super::{FIRST, NAMED_A, SECOND};
 use call_tables::Ask::{
     Child, CloseHandle, Counts, Duplicate, Exit, MakeEvent, OpenNamed, Reap, SetEvent, Spawn,
 };
-use call_tables::{INHERITANCE, Line, PLAIN, RIGHTS_OF_DUPLICATES, Step};
+use call_tables::{GRANTS_ACROSS_PROCESSES, INHERITANCE, Line, PLAIN, RIGHTS_OF_DUPLICATES, Step};
 use ob_manager::Limits;
 use ob_manager::Reply::{
     Closed, CountsAre, Done, Duplicated, Exited, Made, Opened, Reaped, Refused, Spawned,
@@ -30,6 +30,13 @@ fn a_duplicate_is_granted_its_rights(rt: HostRuntime) -> Result<(), Fail> {
         Limits::default(),
         &[Step::Calls(RIGHTS_OF_DUPLICATES)],
     )?;
+    Ok(())
+}
+
+#[test]
+fn grants_hold_across_processes(rt: HostRuntime) -> Result<(), Fail> {
+    let steps = &[Step::Calls(GRANTS_ACROSS_PROCESSES)];
+    over_both(&rt, rt.alloc(), Limits::default(), steps)?;
     Ok(())
 }
 

@@ -1,4 +1,5 @@
 //! Pins of the one holder under the lock.
+use super::filling::{Fill, fills};
 use super::playing::{answers, plays};
 use super::{AGAIN, FIRST, SECOND};
 use call_tables::Ask::{CloseHandle, MakeEvent, Reap, Spawn};
@@ -27,6 +28,8 @@ pub(super) enum Move<'a> {
     Unpins(Id, bool),
     /// What an object was created as.
     IsCard(Id, Option<Card>),
+    /// Something is made until there is no more.
+    Fills(Fill),
 }
 
 /// Lets one copy go, where there is one: whether there was.
@@ -61,6 +64,7 @@ fn makes(
         Move::PinsOften(many, id) => assert!(rt; pins_often(manager, many, id)),
         Move::Unpins(id, due) => assert_eq!(rt; unpins(manager, id), due),
         Move::IsCard(id, due) => assert!(rt; manager.card(id) == due),
+        Move::Fills(fill) => assert!(rt; fills(manager, fill)),
     }
     Ok(())
 }

@@ -13,7 +13,11 @@ use std::alloc::Global;
 use std::process::Abort;
 
 /// The reply to a call. One that may take memory is made again where that was wanting: it changed nothing.
-fn asked<K: PinKeeper>(manager: &mut Manager<K>, call: &Call, takes_memory: bool) -> Reply {
+pub(super) fn asked<K: PinKeeper>(
+    manager: &mut Manager<K>,
+    call: &Call,
+    takes_memory: bool,
+) -> Reply {
     let reply = manager.apply(call);
     if takes_memory && reply == Reply::Refused(Fault::Memory) {
         return manager.apply(call);

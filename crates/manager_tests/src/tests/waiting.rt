@@ -5,7 +5,7 @@ use call_tables::Ask::{
     CloseHandle, Counts, Expire, MakeEvent, MakeMutex, MakeSemaphore, OpenNamed, Reap,
     ReleaseMutex, ReleaseSemaphore, Spawn, StartThread, WaitFor, WaitResult,
 };
-use call_tables::{KEPT_BY_A_WAIT, Line, PLAIN, Step, WAIT_FOR_ALL};
+use call_tables::{KEPT_BY_A_WAIT, Line, NAMED_EVENT_WAITS, PLAIN, Step, WAIT_FOR_ALL};
 use ob_manager::Reply::{
     Closed, Code, CountsAre, Done, Expired, Made, Opened, Pending, Previous, Reaped, Refused,
     Spawned, Started,
@@ -19,6 +19,13 @@ use std::test::Fail;
 const ANY: Mode = Mode::Any;
 
 const ALL: Mode = Mode::All;
+
+#[test]
+fn a_named_event_is_waited_for(rt: HostRuntime) -> Result<(), Fail> {
+    let steps = &[Step::Calls(NAMED_EVENT_WAITS)];
+    over_both(&rt, rt.alloc(), Limits::default(), steps)?;
+    Ok(())
+}
 
 #[test]
 fn a_pending_wait_keeps_its_object(rt: HostRuntime) -> Result<(), Fail> {
