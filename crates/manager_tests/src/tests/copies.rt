@@ -1,240 +1,143 @@
 //! Children, and duplicates of handles.
-use super::applying::{asked, call_for_event};
-use super::*;
-use ob_manager::Call;
+use super::playing::{over_both, over_locked, over_words};
+use super::{FIRST, NAMED_A, SECOND};
+use call_tables::Ask::{
+    Child, CloseHandle, Counts, Duplicate, Exit, MakeEvent, OpenNamed, Reap, SetEvent, Spawn,
+};
+use call_tables::{GRANTS_ACROSS_PROCESSES, INHERITANCE, Line, PLAIN, RIGHTS_OF_DUPLICATES, Step};
+use ob_manager::Limits;
+use ob_manager::Reply::{
+    Closed, CountsAre, Done, Duplicated, Exited, Made, Opened, Reaped, Refused, Spawned,
+};
+use ob_rights::{Fault, Kind, Rights};
+use pin_core::Id;
+use pin_words::Reclaim;
+use std::test::Fail;
 
 /// The options of a duplicate.
 const CLOSE_SOURCE: u32 = 1;
 
 const SAME_ACCESS: u32 = 2;
 
-fn duplicated(handle: u32, id: Id) -> Reply {
-    Reply::Duplicated { handle, id }
-}
-
-/// What an inheritable handle to a plain object is asked for.
-const INHERITABLE: Make<'static> = Make {
-    name: None,
-    inherit: true,
-    access: None,
-    grant: None,
-};
-
 /// The source's rights for another handle, with the source closed.
-fn moves<K: PinKeeper>(manager: &mut Manager<K>, handle: u32, target: Option<u32>) -> Reply {
-    let options = CLOSE_SOURCE | SAME_ACCESS;
-    manager.duplicate(1, 1, handle, target, Rights(0), false, options)
-}
-
-/// Rights come from the source or from the grant; a duplicate that is refused for one closes its source all the same.
-pub(super) fn plays_rights<K: PinKeeper>(rt: &impl Abort, manager: &mut Manager<K>) {
-    let first = object(0, 1);
-    let make = Make {
-        access: Some(Rights::SYNCHRONIZE),
-        grant: Some(Rights(0x10_0002)),
-        ..PLAIN
-    };
-    gives(rt, manager.spawn(1), spawned(1, 1));
-    gives(
-        rt,
-        manager.create_event(1, &make, false, false),
-        made(4, first),
-    );
-    gives(rt, manager.set_event(1, 4), refused(Fault::Access));
-    gives(
-        rt,
-        manager.duplicate(1, 1, 4, Some(1), Rights(0x10_0002), false, 0),
-        duplicated(8, first),
-    );
-    gives(rt, manager.set_event(1, 8), Reply::Done);
-    gives(
-        rt,
-        manager.duplicate(1, 1, 4, Some(1), Rights(0x12_0000), false, CLOSE_SOURCE),
-        refused(Fault::Access),
-    );
-    gives(rt, manager.close(1, 4), refused(Fault::Handle));
-    gives(rt, moves(manager, 8, Some(1)), duplicated(4, first));
-    gives(rt, manager.counts(first), handled(1));
-}
+const MOVE: u32 = CLOSE_SOURCE | SAME_ACCESS;
 
 #[test]
 fn a_duplicate_is_granted_its_rights(rt: HostRuntime) -> Result<(), Fail> {
-    let limits = Limits::default();
-    over_locked(&rt, rt.alloc(), limits, Play::Rights)?;
-    over_words(&rt, rt.alloc(), limits, Play::Rights)
+    over_both(
+        &rt,
+        rt.alloc(),
+        Limits::default(),
+        &[Step::Calls(RIGHTS_OF_DUPLICATES)],
+    )?;
+    Ok(())
+}
+
+#[test]
+fn grants_hold_across_processes(rt: HostRuntime) -> Result<(), Fail> {
+    let steps = &[Step::Calls(GRANTS_ACROSS_PROCESSES)];
+    over_both(&rt, rt.alloc(), Limits::default(), steps)?;
+    Ok(())
 }
 
 /// Two handles for each process: the limit, a target that has ended, and no target.
-pub(super) fn plays_two_handles<K: PinKeeper>(rt: &impl Abort, manager: &mut Manager<K>) {
-    let (first, second) = (object(0, 1), object(1, 1));
-    gives(rt, manager.spawn(1), spawned(1, 1));
-    gives(
-        rt,
-        manager.create_event(1, &PLAIN, false, false),
-        made(4, first),
-    );
-    gives(
-        rt,
-        manager.create_event(1, &PLAIN, false, false),
-        made(8, second),
-    );
-    gives(
-        rt,
-        manager.duplicate(1, 1, 8, None, Rights(0), false, SAME_ACCESS),
-        refused(Fault::Parameter),
-    );
-    gives(rt, moves(manager, 8, Some(1)), refused(Fault::Limit));
-    gives(rt, manager.close(1, 8), refused(Fault::Handle));
-    gives(rt, manager.counts(second), handled(0));
-    gives(rt, moves(manager, 4, None), Reply::Closed);
-    gives(rt, manager.reap(1), reaped(second, Reclaim::Freed));
-    gives(rt, manager.spawn(1), spawned(2, 2));
-    gives(rt, manager.exit(2), Reply::Exited { process: 2 });
-    gives(
-        rt,
-        manager.create_event(1, &PLAIN, false, false),
-        made(4, object(1, 2)),
-    );
-    gives(rt, moves(manager, 4, Some(2)), refused(Fault::Parameter));
-    gives(rt, manager.close(1, 4), refused(Fault::Handle));
-}
+#[rattlefmt::skip]
+const TWO_HANDLES: &[Line<'static>] = &[
+    (Spawn { session: 1 }, Spawned { process: 1, thread: 1 }),
+    (MakeEvent { thread: 1, make: PLAIN, manual: false, set: false }, Made { handle: 4, id: FIRST }),
+    (MakeEvent { thread: 1, make: PLAIN, manual: false, set: false }, Made { handle: 8, id: SECOND }),
+    (Duplicate { thread: 1, source: 1, handle: 8, target: None, mask: Rights(0), inherit: false, options: SAME_ACCESS }, Refused(Fault::Parameter)),
+    (Duplicate { thread: 1, source: 1, handle: 8, target: Some(1), mask: Rights(0), inherit: false, options: MOVE }, Refused(Fault::Limit)),
+    (CloseHandle { thread: 1, handle: 8 }, Refused(Fault::Handle)),
+    (Counts { id: SECOND }, CountsAre { handles: 0, waits: 0, hold: 1 }),
+    (Duplicate { thread: 1, source: 1, handle: 4, target: None, mask: Rights(0), inherit: false, options: MOVE }, Closed),
+    (Reap { slot: 1 }, Reaped { id: SECOND, outcome: Reclaim::Freed }),
+    (Spawn { session: 1 }, Spawned { process: 2, thread: 2 }),
+    (Exit { process: 2 }, Exited { process: 2 }),
+    (MakeEvent { thread: 1, make: PLAIN, manual: false, set: false }, Made { handle: 4, id: Id { slot: 1, generation: 2 } }),
+    (Duplicate { thread: 1, source: 1, handle: 4, target: Some(2), mask: Rights(0), inherit: false, options: MOVE }, Refused(Fault::Parameter)),
+    (CloseHandle { thread: 1, handle: 4 }, Refused(Fault::Handle)),
+];
 
 #[test]
 fn a_refused_duplicate_closes_its_source(rt: HostRuntime) -> Result<(), Fail> {
     let limits = Limits::checked(64, 64, 256, 2, 8, 8, 8, 8)?;
-    over_locked(&rt, rt.alloc(), limits, Play::TwoHandles)?;
-    over_words(&rt, rt.alloc(), limits, Play::TwoHandles)
+    over_both(&rt, rt.alloc(), limits, &[Step::Calls(TWO_HANDLES)])?;
+    Ok(())
 }
 
 /// Handles go to another process and back, and on to a child.
-pub(super) fn plays_two_processes<K: PinKeeper>(rt: &impl Abort, manager: &mut Manager<K>) {
-    let first = object(0, 1);
-    gives(rt, manager.spawn(1), spawned(1, 1));
-    gives(rt, manager.spawn(2), spawned(2, 2));
-    gives(
-        rt,
-        manager.create_event(1, &PLAIN, false, false),
-        made(4, first),
-    );
-    gives(
-        rt,
-        manager.duplicate(1, 1, 4, Some(2), Rights::SYNCHRONIZE, true, 0),
-        duplicated(4, first),
-    );
-    gives(rt, manager.set_event(2, 4), refused(Fault::Access));
-    gives(
-        rt,
-        manager.duplicate(2, 2, 4, Some(1), Rights::MODIFY_STATE, false, 0),
-        duplicated(8, first),
-    );
-    gives(rt, manager.set_event(1, 8), Reply::Done);
-    gives(
-        rt,
-        manager.duplicate(2, 1, 8, Some(9), Rights(0), false, 3),
-        refused(Fault::Parameter),
-    );
-    gives(rt, manager.close(1, 8), refused(Fault::Handle));
-    gives(rt, manager.child(2, true), spawned(3, 3));
-    gives(rt, manager.close(3, 4), Reply::Closed);
-    gives(rt, manager.counts(first), handled(2));
-}
+#[rattlefmt::skip]
+const TWO_PROCESSES: &[Line<'static>] = &[
+    (Spawn { session: 1 }, Spawned { process: 1, thread: 1 }),
+    (Spawn { session: 2 }, Spawned { process: 2, thread: 2 }),
+    (MakeEvent { thread: 1, make: PLAIN, manual: false, set: false }, Made { handle: 4, id: FIRST }),
+    (Duplicate { thread: 1, source: 1, handle: 4, target: Some(2), mask: Rights::SYNCHRONIZE, inherit: true, options: 0 }, Duplicated { handle: 4, id: FIRST }),
+    (SetEvent { thread: 2, handle: 4 }, Refused(Fault::Access)),
+    (Duplicate { thread: 2, source: 2, handle: 4, target: Some(1), mask: Rights::MODIFY_STATE, inherit: false, options: 0 }, Duplicated { handle: 8, id: FIRST }),
+    (SetEvent { thread: 1, handle: 8 }, Done),
+    (Duplicate { thread: 2, source: 1, handle: 8, target: Some(9), mask: Rights(0), inherit: false, options: MOVE }, Refused(Fault::Parameter)),
+    (CloseHandle { thread: 1, handle: 8 }, Refused(Fault::Handle)),
+    (Child { thread: 2, inherit: true }, Spawned { process: 3, thread: 3 }),
+    (CloseHandle { thread: 3, handle: 4 }, Closed),
+    (Counts { id: FIRST }, CountsAre { handles: 2, waits: 0, hold: 0 }),
+];
 
-/// A child has the inheritable handles of its parent at their values, and so has its child.
-pub(super) fn plays_children<K: PinKeeper>(rt: &impl Abort, manager: &mut Manager<K>) {
-    let (first, second) = (object(0, 1), object(1, 1));
-    gives(rt, manager.spawn(1), spawned(1, 1));
-    gives(
-        rt,
-        manager.create_event(1, &PLAIN, false, false),
-        made(4, first),
-    );
-    gives(
-        rt,
-        manager.create_event(1, &INHERITABLE, false, false),
-        made(8, second),
-    );
-    gives(rt, manager.child(1, true), spawned(2, 2));
-    gives(rt, manager.close(2, 4), refused(Fault::Handle));
-    gives(
-        rt,
-        manager.create_event(2, &PLAIN, false, false),
-        made(4, object(2, 1)),
-    );
-    gives(rt, manager.child(2, true), spawned(3, 3));
-    gives(rt, manager.close(3, 4), refused(Fault::Handle));
-    gives(rt, manager.set_event(3, 8), Reply::Done);
-    gives(rt, manager.child(1, false), spawned(4, 4));
-    gives(rt, manager.close(4, 8), refused(Fault::Handle));
-    gives(rt, manager.counts(second), handled(3));
-    gives(rt, manager.child(9, true), refused(Fault::Parameter));
-}
+const CHILDREN: &[Step<'static>] = &[
+    Step::Calls(INHERITANCE),
+    Step::Calls(&[(
+        Child {
+            thread: 9,
+            inherit: true,
+        },
+        Refused(Fault::Parameter),
+    )]),
+];
 
 #[test]
 fn a_child_inherits(rt: HostRuntime) -> Result<(), Fail> {
     let limits = Limits::default();
-    over_locked(&rt, rt.alloc(), limits, Play::Children)?;
-    over_locked(&rt, rt.alloc(), limits, Play::TwoProcesses)?;
+    over_locked(&rt, rt.alloc(), limits, CHILDREN)?;
+    over_locked(&rt, rt.alloc(), limits, &[Step::Calls(TWO_PROCESSES)])?;
     Ok(())
 }
 
 #[test]
 fn a_child_inherits_over_words(rt: HostRuntime) -> Result<(), Fail> {
-    let limits = Limits::default();
-    over_words(&rt, rt.alloc(), limits, Play::Children)
+    over_words(&rt, rt.alloc(), Limits::default(), CHILDREN)?;
+    Ok(())
 }
 
 /// A child's names are those of its parent's session.
+#[rattlefmt::skip]
+const SESSIONS: &[Line<'static>] = &[
+    (Spawn { session: 7 }, Spawned { process: 1, thread: 1 }),
+    (MakeEvent { thread: 1, make: NAMED_A, manual: false, set: false }, Made { handle: 4, id: FIRST }),
+    (Child { thread: 1, inherit: false }, Spawned { process: 2, thread: 2 }),
+    (OpenNamed { thread: 2, kind: Kind::Event, mask: Rights::MODIFY_STATE, inherit: false, text: b"A" }, Opened { handle: 4, id: FIRST }),
+    (Child { thread: 2, inherit: false }, Refused(Fault::Limit)),
+];
+
 #[test]
 fn a_child_has_its_parents_session(rt: HostRuntime) -> Result<(), Fail> {
-    let mut manager = locked(rt.alloc(), Limits::checked(4, 2, 4, 4, 4, 4, 4, 4)?)?;
-    gives(&rt, manager.spawn(7), spawned(1, 1));
-    gives(
-        &rt,
-        manager.create_event(1, &named(b"A"), false, false),
-        made(4, object(0, 1)),
-    );
-    gives(&rt, manager.child(1, false), spawned(2, 2));
-    gives(
-        &rt,
-        manager.open_named(2, Kind::Event, Rights::MODIFY_STATE, false, b"A"),
-        opened(4, object(0, 1)),
-    );
-    gives(&rt, manager.child(2, false), refused(Fault::Limit));
+    let limits = Limits::checked(4, 2, 4, 4, 4, 4, 4, 4)?;
+    over_locked(&rt, rt.alloc(), limits, &[Step::Calls(SESSIONS)])?;
     Ok(())
 }
 
 /// Want of memory changes nothing: a duplicate then doesn't close its source.
+#[rattlefmt::skip]
+const MOVED: &[Line<'static>] = &[
+    (Spawn { session: 1 }, Spawned { process: 1, thread: 1 }),
+    (MakeEvent { thread: 1, make: NAMED_A, manual: false, set: false }, Made { handle: 4, id: FIRST }),
+    (Child { thread: 1, inherit: true }, Spawned { process: 2, thread: 2 }),
+    (Duplicate { thread: 1, source: 1, handle: 4, target: Some(2), mask: Rights(0), inherit: true, options: MOVE }, Duplicated { handle: 4, id: FIRST }),
+    (Counts { id: FIRST }, CountsAre { handles: 1, waits: 0, hold: 0 }),
+    (Duplicate { thread: 1, source: 1, handle: 4, target: Some(2), mask: Rights(0), inherit: true, options: MOVE }, Refused(Fault::Handle)),
+];
+
 #[test]
 fn want_of_memory_leaves_the_source(rt: HostRuntime) -> Result<(), Fail> {
-    let mut manager = locked(rt.alloc(), Limits::default())?;
-    let (thread, first) = (1, object(0, 1));
-    gives(
-        &rt,
-        asked(&mut manager, &Call::Spawn { session: 1 }),
-        spawned(1, 1),
-    );
-    gives(
-        &rt,
-        asked(&mut manager, &call_for_event(rt.alloc(), b"E")?),
-        made(4, first),
-    );
-    let inherit = true;
-    gives(
-        &rt,
-        asked(&mut manager, &Call::Child { thread, inherit }),
-        spawned(2, 2),
-    );
-    let call = Call::Duplicate {
-        thread,
-        source: 1,
-        handle: 4,
-        target: Some(2),
-        mask: Rights(0),
-        inherit,
-        options: 3,
-    };
-    gives(&rt, asked(&mut manager, &call), duplicated(4, first));
-    gives(&rt, manager.counts(first), handled(1));
-    gives(&rt, manager.apply(&call), refused(Fault::Handle));
+    over_locked(&rt, rt.alloc(), Limits::default(), &[Step::Calls(MOVED)])?;
     Ok(())
 }

@@ -1,106 +1,105 @@
 //! The ends of threads and processes.
-use super::*;
-use ob_body::Body;
+use super::playing::{over_locked, over_words};
+use super::{FIRST, NAMED_E, NAMED_M, SECOND};
+use call_tables::Ask::{
+    Child, CloseHandle, Counts, EndThread, Exit, MakeEvent, MakeMutex, Reap, ReleaseMutex, Spawn,
+    StartThread,
+};
+use call_tables::{PLAIN, Step};
+use ob_manager::Reply::{
+    Closed, CountsAre, Done, Ended, Exited, Made, Reaped, Refused, Spawned, Started,
+};
+use ob_manager::{Limits, Make};
+use ob_rights::Fault;
+use pin_words::Reclaim;
+use std::test::Fail;
 
-fn ended(thread: u32) -> Reply {
-    Reply::Ended { thread }
-}
-
-/// A mutex whose owner ended.
-fn abandoned() -> Body {
-    let mut mutex = Body::new_mutex(Some(2));
-    mutex.abandon(2);
-    mutex
-}
-
-/// What is in a slot, if there is something.
-fn body_in<K: PinKeeper>(manager: &Manager<K>, slot: u32) -> Option<Body> {
-    manager.slot(slot)?.body
-}
+const INHERITED_M: Make<'static> = Make {
+    name: Some(b"M"),
+    inherit: true,
+    access: None,
+    grant: None,
+};
 
 /// A thread's mutexes are abandoned with it, and nobody else's; its process stays.
-pub(super) fn plays_a_thread<K: PinKeeper>(rt: &impl Abort, manager: &mut Manager<K>) {
-    gives(rt, manager.spawn(1), spawned(1, 1));
-    gives(rt, manager.thread(1), Reply::Started { thread: 2 });
-    gives(
-        rt,
-        manager.create_mutex(1, &PLAIN, true),
-        made(4, object(0, 1)),
-    );
-    gives(
-        rt,
-        manager.create_mutex(2, &PLAIN, true),
-        made(8, object(1, 1)),
-    );
-    gives(rt, manager.end_thread(2), ended(2));
-    assert!(rt; body_in(manager, 0) == Some(Body::new_mutex(Some(1))));
-    assert!(rt; body_in(manager, 1) == Some(abandoned()));
-    gives(rt, manager.end_thread(2), refused(Fault::Parameter));
-    gives(rt, manager.close(2, 8), refused(Fault::Parameter));
-    gives(rt, manager.release_mutex(1, 8), refused(Fault::NotOwner));
-    gives(rt, manager.release_mutex(1, 4), Reply::Done);
-    gives(rt, manager.counts(object(1, 1)), handled(1));
-    gives(rt, manager.thread(1), Reply::Started { thread: 3 });
-}
+#[rattlefmt::skip]
+const THREAD: &[Step<'static>] = &[
+    Step::Calls(&[
+        (Spawn { session: 1 }, Spawned { process: 1, thread: 1 }),
+        (StartThread { process: 1 }, Started { thread: 2 }),
+        (MakeMutex { thread: 1, make: PLAIN, owned: true }, Made { handle: 4, id: FIRST }),
+        (MakeMutex { thread: 2, make: PLAIN, owned: true }, Made { handle: 8, id: SECOND }),
+        (EndThread { thread: 2 }, Ended { thread: 2 }),
+    ]),
+    Step::IsOwned(0, 1),
+    Step::IsAbandoned(1, 2),
+    Step::Calls(&[
+        (EndThread { thread: 2 }, Refused(Fault::Parameter)),
+        (CloseHandle { thread: 2, handle: 8 }, Refused(Fault::Parameter)),
+        (ReleaseMutex { thread: 1, handle: 8 }, Refused(Fault::NotOwner)),
+        (ReleaseMutex { thread: 1, handle: 4 }, Done),
+        (Counts { id: SECOND }, CountsAre { handles: 1, waits: 0, hold: 0 }),
+        (StartThread { process: 1 }, Started { thread: 3 }),
+    ]),
+];
 
 /// With its last thread a process ends: its handles are closed, and its number is gone.
-pub(super) fn plays_the_last_thread<K: PinKeeper>(rt: &impl Abort, manager: &mut Manager<K>) {
-    gives(rt, manager.spawn(1), spawned(1, 1));
-    gives(rt, manager.thread(1), Reply::Started { thread: 2 });
-    gives(
-        rt,
-        manager.create_mutex(1, &named(b"M"), true),
-        made(4, object(0, 1)),
-    );
-    gives(rt, manager.end_thread(1), ended(1));
-    assert_eq!(rt; manager.directory_len(), 1);
-    gives(rt, manager.end_thread(2), ended(2));
-    assert_eq!(rt; manager.directory_len(), 0);
-    gives(rt, manager.counts(object(0, 1)), handled(0));
-    gives(rt, manager.thread(1), refused(Fault::Parameter));
-    gives(rt, manager.exit(1), refused(Fault::Parameter));
-    gives(rt, manager.reap(0), reaped(object(0, 1), Reclaim::Freed));
-    gives(rt, manager.spawn(1), spawned(2, 3));
-}
+#[rattlefmt::skip]
+const LAST_THREAD: &[Step<'static>] = &[
+    Step::Calls(&[
+        (Spawn { session: 1 }, Spawned { process: 1, thread: 1 }),
+        (StartThread { process: 1 }, Started { thread: 2 }),
+        (MakeMutex { thread: 1, make: NAMED_M, owned: true }, Made { handle: 4, id: FIRST }),
+        (EndThread { thread: 1 }, Ended { thread: 1 }),
+    ]),
+    Step::Names(1),
+    Step::Calls(&[(EndThread { thread: 2 }, Ended { thread: 2 })]),
+    Step::Names(0),
+    Step::Calls(&[
+        (Counts { id: FIRST }, CountsAre { handles: 0, waits: 0, hold: 1 }),
+        (StartThread { process: 1 }, Refused(Fault::Parameter)),
+        (Exit { process: 1 }, Refused(Fault::Parameter)),
+        (Reap { slot: 0 }, Reaped { id: FIRST, outcome: Reclaim::Freed }),
+        (Spawn { session: 1 }, Spawned { process: 2, thread: 3 }),
+    ]),
+];
 
 /// A process ends with all its threads; what others have stays.
-pub(super) fn plays_an_exit<K: PinKeeper>(rt: &impl Abort, manager: &mut Manager<K>) {
-    let (first, second) = (object(0, 1), object(1, 1));
-    let make = Make {
-        inherit: true,
-        ..named(b"M")
-    };
-    gives(rt, manager.spawn(1), spawned(1, 1));
-    gives(rt, manager.create_mutex(1, &make, true), made(4, first));
-    gives(
-        rt,
-        manager.create_event(1, &named(b"E"), false, false),
-        made(8, second),
-    );
-    gives(rt, manager.child(1, true), spawned(2, 2));
-    gives(rt, manager.thread(1), Reply::Started { thread: 3 });
-    gives(rt, manager.exit(1), Reply::Exited { process: 1 });
-    gives(rt, manager.end_thread(3), refused(Fault::Parameter));
-    gives(rt, manager.exit(1), refused(Fault::Parameter));
-    assert_eq!(rt; manager.directory_len(), 1);
-    gives(rt, manager.counts(first), handled(1));
-    gives(rt, manager.counts(second), handled(0));
-    assert!(rt; body_in(manager, 0) == Some(abandoned()));
-    gives(rt, manager.release_mutex(2, 4), refused(Fault::NotOwner));
-    gives(rt, manager.close(2, 4), Reply::Closed);
-}
+#[rattlefmt::skip]
+const EXIT: &[Step<'static>] = &[
+    Step::Calls(&[
+        (Spawn { session: 1 }, Spawned { process: 1, thread: 1 }),
+        (MakeMutex { thread: 1, make: INHERITED_M, owned: true }, Made { handle: 4, id: FIRST }),
+        (MakeEvent { thread: 1, make: NAMED_E, manual: false, set: false }, Made { handle: 8, id: SECOND }),
+        (Child { thread: 1, inherit: true }, Spawned { process: 2, thread: 2 }),
+        (StartThread { process: 1 }, Started { thread: 3 }),
+        (Exit { process: 1 }, Exited { process: 1 }),
+        (EndThread { thread: 3 }, Refused(Fault::Parameter)),
+        (Exit { process: 1 }, Refused(Fault::Parameter)),
+    ]),
+    Step::Names(1),
+    Step::Calls(&[
+        (Counts { id: FIRST }, CountsAre { handles: 1, waits: 0, hold: 0 }),
+        (Counts { id: SECOND }, CountsAre { handles: 0, waits: 0, hold: 1 }),
+    ]),
+    Step::IsAbandoned(0, 1),
+    Step::Calls(&[
+        (ReleaseMutex { thread: 2, handle: 4 }, Refused(Fault::NotOwner)),
+        (CloseHandle { thread: 2, handle: 4 }, Closed),
+    ]),
+];
 
 #[test]
 fn threads_and_processes_end(rt: HostRuntime) -> Result<(), Fail> {
     let limits = Limits::default();
-    over_locked(&rt, rt.alloc(), limits, Play::Thread)?;
-    over_locked(&rt, rt.alloc(), limits, Play::LastThread)?;
-    over_locked(&rt, rt.alloc(), limits, Play::Exit)?;
+    over_locked(&rt, rt.alloc(), limits, THREAD)?;
+    over_locked(&rt, rt.alloc(), limits, LAST_THREAD)?;
+    over_locked(&rt, rt.alloc(), limits, EXIT)?;
     Ok(())
 }
 
 #[test]
 fn a_process_ends_over_words(rt: HostRuntime) -> Result<(), Fail> {
-    let limits = Limits::default();
-    over_words(&rt, rt.alloc(), limits, Play::Exit)
+    over_words(&rt, rt.alloc(), Limits::default(), EXIT)?;
+    Ok(())
 }

@@ -1,12 +1,35 @@
-use super::{PLAIN, gives, locked, made, object, reaped, spawned};
-use ob_manager::{Limits, Manager, Reply};
-use pin_core::Id;
+//! Pins of the one holder under the lock.
+use super::filling::{Fill, fills};
+use super::playing::{answers, plays};
+use super::{AGAIN, FIRST, SECOND};
+use call_tables::Ask::{CloseHandle, MakeEvent, Reap, Spawn};
+use call_tables::{Line, PLAIN, Step, locked_manager};
+use ob_manager::Reply::{Closed, Made, Reaped, Spawned};
+use ob_manager::{Card, Limits, Manager};
+use ob_rights::{Fault, Kind, Rights};
+use pin_core::{Descr, Id};
 use pin_words::{LockedPins, PinFault, Reclaim};
+use std::alloc::Global;
 use std::process::Abort;
 use std::test::Fail;
 
-fn pins(rt: &impl Abort, manager: &mut Manager<LockedPins>, id: Id, due: Result<(), PinFault>) {
-    assert_eq!(rt; manager.pin_locked(id), due);
+/// What is done with a manager and its pins.
+#[derive(Clone, Copy)]
+pub(super) enum Move<'a> {
+    /// Steps, one after another.
+    Steps(&'a [Step<'a>]),
+    /// Calls, one after another.
+    Calls(&'a [Line<'a>]),
+    /// The holder is to have one copy more of an Id.
+    Pins(Id, Result<(), PinFault>),
+    /// It is to have so many copies more.
+    PinsOften(u32, Id),
+    /// Lets one copy of an Id go, where there is one: whether there was.
+    Unpins(Id, bool),
+    /// What an object was created as.
+    IsCard(Id, Option<Card>),
+    /// Something is made until there is no more.
+    Fills(Fill),
 }
 
 /// Lets one copy go, where there is one: whether there was.
@@ -18,70 +41,146 @@ fn unpins(manager: &mut Manager<LockedPins>, id: Id) -> bool {
     true
 }
 
-/// What nobody else pins is pinned, keeps its slot although its object ended, and is stale from then on.
-fn plays_pins(rt: &impl Abort, manager: &mut Manager<LockedPins>) {
-    let (first, next) = (object(0, 1), object(0, 2));
-    gives(rt, manager.spawn(1), spawned(1, 1));
-    gives(
-        rt,
-        manager.create_event(1, &PLAIN, false, false),
-        made(4, first),
-    );
-    pins(rt, manager, object(64, 1), Err(PinFault::NoSuchSlot));
-    pins(rt, manager, next, Err(PinFault::Unborn));
-    pins(rt, manager, object(1, 1), Err(PinFault::Unborn));
-    pins(rt, manager, first, Ok(()));
-    gives(rt, manager.close(1, 4), Reply::Closed);
-    gives(
-        rt,
-        manager.reap(0),
-        reaped(first, Reclaim::Held { pins: 1 }),
-    );
-    pins(rt, manager, first, Err(PinFault::Stale));
-    assert!(rt; unpins(manager, first));
-    assert!(rt; !unpins(manager, first));
-    gives(rt, manager.reap(0), reaped(first, Reclaim::Freed));
-    gives(
-        rt,
-        manager.create_event(1, &PLAIN, true, false),
-        made(4, next),
-    );
-    pins(rt, manager, first, Err(PinFault::Stale));
-    pins(rt, manager, next, Ok(()));
+/// Whether so many copies more of an Id are pinned.
+fn pins_often(manager: &mut Manager<LockedPins>, many: u32, id: Id) -> bool {
+    for _ in 0..many {
+        if manager.pin_locked(id).is_err() {
+            return false;
+        }
+    }
+    true
 }
+
+fn makes(
+    rt: &impl Abort,
+    alloc: Global,
+    manager: &mut Manager<LockedPins>,
+    step: &Move<'_>,
+) -> Result<(), Fault> {
+    match *step {
+        Move::Steps(steps) => plays(rt, alloc, manager, steps)?,
+        Move::Calls(table) => answers(rt, alloc, manager, table)?,
+        Move::Pins(id, due) => assert_eq!(rt; manager.pin_locked(id), due),
+        Move::PinsOften(many, id) => assert!(rt; pins_often(manager, many, id)),
+        Move::Unpins(id, due) => assert_eq!(rt; unpins(manager, id), due),
+        Move::IsCard(id, due) => assert!(rt; manager.card(id) == due),
+        Move::Fills(fill) => assert!(rt; fills(manager, fill)),
+    }
+    Ok(())
+}
+
+/// Makes all moves, one after another.
+fn makes_all(
+    rt: &impl Abort,
+    alloc: Global,
+    manager: &mut Manager<LockedPins>,
+    moves: &[Move<'_>],
+) -> Result<(), Fault> {
+    for step in moves {
+        makes(rt, alloc, manager, step)?;
+    }
+    Ok(())
+}
+
+/// Makes all moves over a new manager.
+pub(super) fn plays_moves(
+    rt: &impl Abort,
+    alloc: Global,
+    limits: Limits,
+    moves: &[Move<'_>],
+) -> Result<(), Fault> {
+    let mut manager = locked_manager(alloc, limits)?;
+    makes_all(rt, alloc, &mut manager, moves)
+}
+
+/// An event that is reset by itself.
+#[rattlefmt::skip]
+const EVENT: &[Line<'static>] = &[
+    (Spawn { session: 1 }, Spawned { process: 1, thread: 1 }),
+    (MakeEvent { thread: 1, make: PLAIN, manual: false, set: false }, Made { handle: 4, id: FIRST }),
+];
+
+const CARD: Card = Card {
+    id: FIRST,
+    descr: Descr {
+        kind: Kind::Event,
+        manual: false,
+        max: 0,
+    },
+    grant: Rights(0x001F_0003),
+};
+
+#[rattlefmt::skip]
+const HELD: &[Move<'static>] = &[
+    Move::Pins(FIRST, Err(PinFault::Unborn)),
+    Move::Calls(EVENT),
+    Move::Pins(FIRST, Ok(())),
+    Move::Calls(&[(CloseHandle { thread: 1, handle: 4 }, Closed)]),
+    Move::Pins(FIRST, Err(PinFault::Stale)),
+    Move::Calls(&[(Reap { slot: 0 }, Reaped { id: FIRST, outcome: Reclaim::Held { pins: 1 } })]),
+    Move::IsCard(FIRST, Some(CARD)),
+    Move::Unpins(FIRST, true),
+    Move::Unpins(FIRST, false),
+    Move::Calls(&[(Reap { slot: 0 }, Reaped { id: FIRST, outcome: Reclaim::Freed })]),
+    Move::IsCard(FIRST, None),
+];
+
+#[test]
+fn a_pinned_slot_is_held(rt: HostRuntime) -> Result<(), Fail> {
+    plays_moves(&rt, rt.alloc(), Limits::default(), HELD)?;
+    Ok(())
+}
+
+/// What nobody else pins is pinned, keeps its slot although its object ended, and is stale from then on.
+#[rattlefmt::skip]
+const STALE: &[Move<'static>] = &[
+    Move::Calls(EVENT),
+    Move::Pins(Id { slot: 64, generation: 1 }, Err(PinFault::NoSuchSlot)),
+    Move::Pins(AGAIN, Err(PinFault::Unborn)),
+    Move::Pins(SECOND, Err(PinFault::Unborn)),
+    Move::Pins(FIRST, Ok(())),
+    Move::Calls(&[
+        (CloseHandle { thread: 1, handle: 4 }, Closed),
+        (Reap { slot: 0 }, Reaped { id: FIRST, outcome: Reclaim::Held { pins: 1 } }),
+    ]),
+    Move::Pins(FIRST, Err(PinFault::Stale)),
+    Move::Unpins(FIRST, true),
+    Move::Unpins(FIRST, false),
+    Move::Calls(&[
+        (Reap { slot: 0 }, Reaped { id: FIRST, outcome: Reclaim::Freed }),
+        (MakeEvent { thread: 1, make: PLAIN, manual: true, set: false }, Made { handle: 4, id: AGAIN }),
+    ]),
+    Move::Pins(FIRST, Err(PinFault::Stale)),
+    Move::Pins(AGAIN, Ok(())),
+];
 
 #[test]
 fn pins_under_the_lock_keep_a_slot(rt: HostRuntime) -> Result<(), Fail> {
-    let mut manager = locked(rt.alloc(), Limits::default())?;
-    plays_pins(&rt, &mut manager);
+    plays_moves(&rt, rt.alloc(), Limits::default(), STALE)?;
     Ok(())
 }
 
-/// So many pins of one object are taken, and no more.
-fn plays_most(rt: &impl Abort, manager: &mut Manager<LockedPins>, most: u32, due: PinFault) {
-    let id = object(0, 1);
-    gives(rt, manager.spawn(1), spawned(1, 1));
-    gives(
-        rt,
-        manager.create_event(1, &PLAIN, false, false),
-        made(4, id),
-    );
-    for _ in 0..most {
-        pins(rt, manager, id, Ok(()));
-    }
-    pins(rt, manager, id, Err(due));
-}
+const FULL: &[Move<'static>] = &[
+    Move::Calls(EVENT),
+    Move::Pins(FIRST, Ok(())),
+    Move::Pins(FIRST, Err(PinFault::PinsFull)),
+];
 
 #[test]
 fn a_slot_has_as_many_pins_as_it_may(rt: HostRuntime) -> Result<(), Fail> {
-    let mut manager = locked(rt.alloc(), Limits::checked(1, 1, 1, 1, 1, 1, 1, 1)?)?;
-    plays_most(&rt, &mut manager, 1, PinFault::PinsFull);
+    let limits = Limits::checked(1, 1, 1, 1, 1, 1, 1, 1)?;
+    plays_moves(&rt, rt.alloc(), limits, FULL)?;
     Ok(())
 }
 
+const MOST: &[Move<'static>] = &[
+    Move::Calls(EVENT),
+    Move::PinsOften(16, FIRST),
+    Move::Pins(FIRST, Err(PinFault::HeldFull)),
+];
+
 #[test]
 fn a_holder_has_sixteen_pins(rt: HostRuntime) -> Result<(), Fail> {
-    let mut manager = locked(rt.alloc(), Limits::default())?;
-    plays_most(&rt, &mut manager, 16, PinFault::HeldFull);
+    plays_moves(&rt, rt.alloc(), Limits::default(), MOST)?;
     Ok(())
 }

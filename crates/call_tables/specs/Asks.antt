@@ -1,0 +1,31 @@
+-- Which call a line of a table asks for.
+use Rattle.ob_manager.specs.declared.call.Call.{Call}
+use Rattle.ob_manager.specs.declared.call.Call.TheVariants as call
+use Rattle.ob_manager.specs.Makings.{making_of}
+use Rattle.call_tables.specs.declared.ask.Ask.{Ask}
+use Rattle.call_tables.specs.declared.ask.Ask.TheVariants.{Spawn, Child, StartThread, MakeEvent, MakeMutex, MakeSemaphore, OpenNamed, Duplicate, CloseHandle, GetFlags, SetFlags, SetEvent, ResetEvent, ReleaseSemaphore, ReleaseMutex, WaitFor, WaitResult, Expire, EndThread, Exit, Reap, Counts}
+
+-- the same call, with its name and its handles as lists
+abbrev pub call_in : Ask → Call
+call_in (Spawn session) = call.Spawn session
+call_in (Child thread inherit) = call.Child thread inherit
+call_in (StartThread process) = call.StartThread process
+call_in (MakeEvent thread make manual set) = call.MakeEvent thread (making_of make) manual set
+call_in (MakeMutex thread make owned) = call.MakeMutex thread (making_of make) owned
+call_in (MakeSemaphore thread make initial max) = call.MakeSemaphore thread (making_of make) initial max
+call_in (OpenNamed thread kind mask inherit text) = call.OpenNamed thread kind mask inherit text.now
+call_in (Duplicate thread source handle target mask inherit options) = call.Duplicate thread source handle target mask inherit options
+call_in (CloseHandle thread handle) = call.CloseHandle thread handle
+call_in (GetFlags thread handle) = call.GetFlags thread handle
+call_in (SetFlags thread handle mask flags) = call.SetFlags thread handle mask flags
+call_in (SetEvent thread handle) = call.SetEvent thread handle
+call_in (ResetEvent thread handle) = call.ResetEvent thread handle
+call_in (ReleaseSemaphore thread handle count) = call.ReleaseSemaphore thread handle count
+call_in (ReleaseMutex thread handle) = call.ReleaseMutex thread handle
+call_in (WaitFor thread mode timeout handles) = call.WaitFor thread mode timeout handles.now
+call_in (WaitResult number) = call.WaitResult number
+call_in (Expire number) = call.Expire number
+call_in (EndThread thread) = call.EndThread thread
+call_in (Exit process) = call.Exit process
+call_in (Reap slot) = call.Reap slot
+call_in (Counts id) = call.Counts id
