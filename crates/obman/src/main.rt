@@ -1,11 +1,8 @@
 //! The program: reads a script from standard input, and prints its answers to standard output.
 #![tactic(auto)]
 
-ghost use Rattle.std.specs.Prelude.{◌≤◌};
-
 use ob_console::{Options, OptionsFault, RunFault, read_options, run};
 use ob_lanes::{LanesFault, run_lanes};
-use ob_manager::Limits;
 use ob_output::Wired;
 use std::env;
 use std::io::{self, ErrorKind};
@@ -20,32 +17,24 @@ fn main(rt: HostRuntime) -> ExitCode {
         Err(OptionsFault::Memory) => return ended(&rt, "no memory", 1),
         Err(OptionsFault::BadLine) => return ended(&rt, "bad command line", 2),
     };
+    let mut source = Wired::new(rt.stdin());
+    let mut sink = Wired::new(rt.stdout());
+    let (alloc, limits) = (rt.alloc(), options.limits);
     if options.lanes > 0 {
-        return answered_in_lanes(&rt, options.limits, options.lanes);
+        let answered = run_lanes(&rt, alloc, limits, options.lanes, &mut source, &mut sink);
+        return ended_lanes(&rt, answered);
     }
-    answered(&rt, options.limits)
-}
-
-/// Answers each line as it comes.
-fn answered(rt: &HostRuntime, limits: Limits) -> ExitCode {
-    let mut source = Wired::new(rt.stdin());
-    let mut sink = Wired::new(rt.stdout());
-    match run(rt.alloc(), limits, &mut source, &mut sink) {
+    match run(alloc, limits, &mut source, &mut sink) {
         Ok(()) => ExitCode::SUCCESS,
-        Err(RunFault::Memory) => ended(rt, "no memory", 1),
-        Err(RunFault::Read) => ended(rt, "read fault", 1),
-        Err(RunFault::Write) => ended(rt, "write fault", 1),
+        Err(RunFault::Memory) => ended(&rt, "no memory", 1),
+        Err(RunFault::Read) => ended(&rt, "read fault", 1),
+        Err(RunFault::Write) => ended(&rt, "write fault", 1),
     }
 }
 
-/// Reads all lines, and answers them lane by lane.
-fn answered_in_lanes(rt: &HostRuntime, limits: Limits, lanes: u32) -> ExitCode
-    requires some { 1 ≤ lanes }
-    requires few { lanes ≤ 64 }
-{
-    let mut source = Wired::new(rt.stdin());
-    let mut sink = Wired::new(rt.stdout());
-    match run_lanes(rt, rt.alloc(), limits, lanes, &mut source, &mut sink) {
+/// How a script with lanes ends.
+fn ended_lanes(rt: &HostRuntime, answered: Result<(), LanesFault>) -> ExitCode {
+    match answered {
         Ok(()) => ExitCode::SUCCESS,
         Err(LanesFault::Memory) => ended(rt, "no memory", 1),
         Err(LanesFault::Read) => ended(rt, "read fault", 1),
