@@ -85,8 +85,8 @@ fn a_block_takes_the_last_pending_wait_of_its_lane(rt: HostRuntime) -> Result<()
         &rt,
         rt.alloc(),
         1,
-        b"spawn 1\nthread p1\nthread p1\nevent t1 manual clear\nwait t3 any inf h4\n@1 block\n@1 wait t2 any inf h4\n@1 expire w2\n@1 expire w2\n@1 result w1\n@1 block\n@1 block\n@1 set t1 h4\n@1 result w1\n",
-        b"lane 0\np1 t1\nt2\nt3\nh4 new s0.1\npending w1\nlane 1\nnone\npending w2\nexpired w2\nerror 87\npending w1\ncode 258\nnone\ndone\ncode 0\nclosed 12\n",
+        b"spawn 1\nthread p1\nthread p1\nevent t1 manual clear\nwait t3 any inf h4\n@1 block\n@1 wait t2 any inf h4\n@1 result w1\n@1 set t1 h4\n@1 set t1 h4\n@1 block\n@1 block\n@1 result w1\n",
+        b"lane 0\np1 t1\nt2\nt3\nh4 new s0.1\npending w1\nlane 1\nnone\npending w2\npending w1\ndone\ndone\ncode 0\nnone\ncode 0\nclosed 11\n",
     );
     Ok(())
 }
