@@ -105,8 +105,8 @@ impl<K: PinKeeper> Manager<K> {
     }
 
     /// A new process of the session of the thread's process, with its first thread: `Spawned`. With `inherit` it has each
-    /// inheritable entry of the thread's process, at the same value and with the same rights, and inheritable in turn
-    /// ([Handle inheritance]).
+    /// inheritable entry of the thread's process, at the same value and with the same rights and flags, so inheritable in turn
+    /// and protected from close where that one is ([Handle inheritance]; that the flags are the same is *profile*).
     ///
     /// Refused with 87 where the thread isn't live, 170 where it waits, 1450 where each process number or each thread number
     /// was given, and with 8 for want of memory.
@@ -367,8 +367,8 @@ impl<K: PinKeeper> Manager<K> {
     }
 
     /// Ends a process: `Exited`. Its threads end by rising number, as by [`end_thread`](Manager::end_thread), then its handles
-    /// are closed by rising value, and then who waits may get what is signaled (the order is *profile*; [Terminating a
-    /// Process] has what is done).
+    /// are closed by rising value, protected ones too, and then who waits may get what is signaled (the order is *profile*;
+    /// [Terminating a Process] has what is done).
     ///
     /// Refused with 87 where the process isn't live.
     ///
