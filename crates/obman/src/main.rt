@@ -1,6 +1,8 @@
 //! The program: reads a script from standard input, and prints its answers to standard output.
 #![tactic(auto)]
 
+ghost use Rattle.std.specs.Prelude.{◌≤◌, IfOk};
+
 use ob_console::{Options, OptionsFault, RunFault, read_options, run};
 use ob_lanes::{LanesFault, run_lanes};
 use ob_output::Wired;
@@ -44,7 +46,9 @@ fn ended_lanes(rt: &HostRuntime, answered: Result<(), LanesFault>) -> ExitCode {
 }
 
 /// The options of the command line. An argument that isn't UTF-8 makes it bad.
-fn options_of(rt: &HostRuntime) -> Result<Options, OptionsFault> {
+fn options_of(rt: &HostRuntime) -> Result<Options, OptionsFault>
+    ensures { IfOk result (λ options. options.lanes ≤ 64) }
+{
     let mut words = env::args(rt).map_err(|error| fault_of(&error))?;
     let _program = words.next();
     let args: Vec<String> = words.collect(rt.alloc())?;
