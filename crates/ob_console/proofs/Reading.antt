@@ -1,5 +1,5 @@
 -- A run between two reads, and how it ends.
-use Rattle.std.proofs.Common.{◌≡◌, ℕ, ◌≤◌, List, [], ◌++◌, length, take, drop, ap, sym, subst, ◌∙◌}
+use Rattle.std.proofs.Common.{◌≡◌, ℕ, ◌≤◌, List, [], ◌++◌, length, take, drop, ap, refl, sym, subst, ◌∙◌}
 use Rattle.std.proofs.Math.Seq.{take-append_seam}
 use Rattle.std.proofs.lemmas.List.{append_assoc, append-nil}
 use Rattle.ob_store.specs.declared.limits.Limits.{Limits}
@@ -107,3 +107,16 @@ ending_fails limits console given_before given more taken_before taken later pri
 pub read_front : (block items : List ℕ) (len count : ℕ) → count ≤ length block → length block ≡ len → take count (take len (block ++ drop (length block) items)) ≡ take count block
 read_front block items len count within whole =
     ap (take count) (ap (λ n. take n (block ++ drop (length block) items)) (sym whole) ∙ take-append_seam block (drop (length block) items))
+
+-- a whole script came as one block
+pub reading_whole : (limits : Limits) (old new : ConsoleState) (script taken later : List ℕ) → Session limits [] [] old → old.pending.bytes ≡ [] → new.pending.bytes ≡ [] → IsFed old new script [] taken later → IsReading limits new [] script taken later
+reading_whole limits old new script taken later session empty done fed = reading_on limits old new [] [] script script taken taken later (reading_begins limits old [] taken session) refl empty done fed
+
+-- it is answered, or the beginning of its answers is written
+pub record HasAnswered (P : List ℕ → List ℕ → Type 0) (script taken_before taken : List ℕ) : Type 0 where
+  pub output : List ℕ
+  pub wrote : taken ≡ taken_before ++ output
+  pub answers : P script output
+
+pub answered : (P : List ℕ → List ℕ → Type 0) (script taken_before taken : List ℕ) → HasRun P [] script taken_before taken → HasAnswered P script taken_before taken
+answered P script taken_before taken run = record { output = run.output; wrote = run.wrote; answers = subst (λ input. P input run.output) (sym run.read) run.answers }

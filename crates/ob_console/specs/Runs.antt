@@ -109,3 +109,10 @@ IsEnded (Ok unit) limits input output = AnswersAll limits input output
 IsEnded (Err Read) limits input output = AnswersLines limits input output
 IsEnded (Err Write) limits input output = AnswersPart limits input output
 IsEnded (Err Memory) limits input output = (input ≡ []) × (output ≡ [])
+
+-- the same of a script that is in memory as a whole, so that no read can fail
+abbrev pub IsWholeEnded : Result (Unit {0}) RunFault → Limits → List ℕ → List ℕ → Type 0
+IsWholeEnded (Ok unit) limits input output = AnswersAll limits input output
+IsWholeEnded (Err Read) limits input output = ⊥
+IsWholeEnded (Err Write) limits input output = AnswersPart limits input output
+IsWholeEnded (Err Memory) limits input output = output ≡ []

@@ -1,7 +1,7 @@
 //! The console: reads a script, makes the calls of its lines, pins what they ask for, and prints the answers.
 //!
 //! [`run`] has a manager of its own and one reader of the manager's pins. It works over any [`Source`] and [`Sink`], whose
-//! bytes its contract names; [`Wired`] makes a reader or a writer of std one. [`read_options`] reads the program's command
+//! bytes its contract names, and [`run_whole`] over a script in memory; [`Wired`] makes a reader or a writer of std one. [`read_options`] reads the program's command
 //! line.
 //!
 //! ```text
@@ -20,4 +20,4 @@ mod script;
 
 pub use ob_output::{Account, Sink, Source, Trouble, Wired};
 pub use options::{Options, OptionsFault, read_options};
-pub use script::{CALLS_MOST, RunFault, run, run_bounded};
+pub use script::{CALLS_MOST, RunFault, run, run_bounded, run_whole};

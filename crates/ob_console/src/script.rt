@@ -2,7 +2,7 @@ ghost use Rattle.std.specs.Prelude.{◌≡◌, ◌+◌, ◌<◌, ◌≤◌, ◌+
 ghost use Rattle.ob_store.specs.declared.limits.Limits.{Limits};
 ghost use Rattle.ob_store.specs.State.{shape_of};
 ghost use Rattle.ob_console.specs.Sessions.{Session};
-ghost use Rattle.ob_console.specs.Runs.{IsEnded, IsOpening};
+ghost use Rattle.ob_console.specs.Runs.{IsEnded, IsOpening, IsWholeEnded};
 
 use crate::console::Console;
 use ob_manager::{Limits, Manager};
@@ -75,6 +75,49 @@ pub fn run_bounded<R: Source, W: Sink>(
         return Err(RunFault::Memory);
     };
     answer_all(&mut console, &mut block, reads, reader, writer)
+}
+
+/// Runs a script that is in memory as a whole, as [`run`] does: answers each line, and writes the answers. It reads nothing, so
+/// it never ends with [`RunFault::Read`].
+pub fn run_whole<W: Sink>(
+    alloc: Global,
+    limits: Limits,
+    script: &[u8],
+    writer: &mut W,
+) -> Result<(), RunFault>
+    ensures answers { (output : List ℕ) × (W.taken writer.new ≡ W.taken writer.old ++ output) × IsWholeEnded result limits script.now output }
+    ensures memory { IsErrOf result RunFault.Memory → W.calls writer.new ≡ W.calls writer.old }
+{
+    let Ok((pins, opening)) = Pins::new(alloc, limits.shape()) else {
+        return Err(RunFault::Memory);
+    };
+    let Some(mut console) = opened(alloc, limits, &pins, opening, CALLS_MOST) else {
+        return Err(RunFault::Memory);
+    };
+    answer_whole(&mut console, script, writer)
+}
+
+/// Answers a script as one block, from a console of which no line has come.
+fn answer_whole<W: Sink>(
+    console: &mut Console<'_>,
+    script: &[u8],
+    writer: &mut W,
+) -> Result<(), RunFault>
+    requires lines { console.old.lines ≡ 0 }
+    requires pending { console.old.pending.bytes ≡ [] }
+    ensures answers { (limits : Limits) → Session limits [] [] console.old →
+        (output : List ℕ) × (W.taken writer.new ≡ W.taken writer.old ++ output) × IsWholeEnded result limits script.now output }
+    ensures memory { IsErrOf result RunFault.Memory → ⊥ }
+{
+    let _length = script.len();
+    match console.take(writer, script) {
+        Ok(()) => {}
+        Err(_) => return Err(RunFault::Write),
+    }
+    match console.finish(writer) {
+        Ok(()) => Ok(()),
+        Err(_) => Err(RunFault::Write),
+    }
 }
 
 /// A console of which no line has come, over a manager with no process and a reader that holds nothing; none where memory is

@@ -14,12 +14,14 @@
 mod account;
 mod answer;
 mod block;
+mod collected;
 mod device;
 mod output;
 mod wired;
 
 pub use account::Account;
 pub use answer::Answer;
+pub use collected::Collected;
 pub use device::{Sink, Source, Trouble};
 pub use output::{NotWritten, Output};
 pub use wired::Wired;
