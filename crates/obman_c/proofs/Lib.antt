@@ -1,0 +1,5 @@
+pub mod Walks
+pub mod Told
+pub mod Opened
+pub mod Pinned
+pub mod Scripted

@@ -1,0 +1,11 @@
+pub mod Owning
+pub mod Lending
+pub mod Telling
+pub mod Opening
+pub mod Asking
+pub mod Waiting
+pub mod Finding
+pub mod Pinning
+pub mod Reaping
+pub mod Listing
+pub mod Scripts

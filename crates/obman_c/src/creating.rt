@@ -1,0 +1,183 @@
+//! Objects, new or by their names.
+ghost use Rattle.std.specs.Prelude.{◌≡◌};
+ghost use Rattle.ob_manager.specs.Makings.{making_of};
+ghost use Rattle.ob_manager.specs.declared.call.Call.TheVariants as Call;
+ghost use Rattle.obman_c.specs.Asking.{asked_for, mask_of, rights_in};
+ghost use Rattle.obman_c.specs.Telling.{TellsAs, opening_in};
+
+use crate::owner::Owner;
+use crate::values::{Opening, tell_opening};
+use ob_manager::Make;
+use ob_rights::{Kind, Rights};
+
+/// What a create asks for (`om_making`), beside the name's bytes and the object's own state. All zeros ask for no name, no
+/// inheritance and all rights.
+#[repr(C)]
+#[derive(Clone, Copy)]
+pub struct Asking {
+    /// The rights that the handle is to have, where `has_access` says so; else all rights of the kind.
+    pub access: u32,
+    /// The rights that opens of a new object may get, where `has_grant` says so; else all rights of the kind (*profile*).
+    pub grant: u32,
+    /// Whether the bytes that come with it are a name. An empty name is one too, and is refused.
+    pub named: bool,
+    /// Whether the handle has the flag INHERIT.
+    pub inherit: bool,
+    /// Whether `access` counts.
+    pub has_access: bool,
+    /// Whether `grant` counts.
+    pub has_grant: bool,
+}
+
+/// What the manager is asked for.
+fn make_of<'a>(asking: &Asking, name: &'a [u8]) -> Make<'a>
+    ensures { making_of result ≡ asked_for asking.now name.now }
+{
+    Make {
+        name: if asking.named { Some(name) } else { None },
+        inherit: asking.inherit,
+        access: rights_in(asking.has_access, asking.access),
+        grant: rights_in(asking.has_grant, asking.grant),
+    }
+}
+
+/// A mask, where there is one.
+fn rights_in(is_there: bool, mask: u32) -> Option<Rights>
+    ensures { result ≡ rights_in is_there mask }
+{
+    if is_there { Some(Rights(mask)) } else { None }
+}
+
+/// [`Manager::create_event`](ob_manager::Manager::create_event): 0, 183, 87, 170, 206, 3, 6, 5, 1450 or 8.
+#[tactic(auto, using(crate::proofs::Told::tells_as))]
+#[unsafe(no_mangle)]
+pub extern "C" fn om_create_event(
+    owner: &mut Owner,
+    thread: u32,
+    asking: &Asking,
+    name: &[u8],
+    manual: bool,
+    set: bool,
+    opening: &mut Opening,
+) -> u32
+    ensures { TellsAs opening_in owner.old.value.manager (Call.MakeEvent thread (asked_for asking.now name.now) manual set) result owner.new.value.manager opening.old opening.new }
+{
+    let make = make_of(asking, name);
+    tell_opening(
+        owner
+            .lend()
+            .manager
+            .create_event(thread, &make, manual, set),
+        opening,
+    )
+}
+
+/// [`Manager::create_mutex`](ob_manager::Manager::create_mutex): 0, 183, 87, 170, 206, 3, 6, 5, 1450 or 8.
+#[tactic(auto, using(crate::proofs::Told::tells_as))]
+#[unsafe(no_mangle)]
+pub extern "C" fn om_create_mutex(
+    owner: &mut Owner,
+    thread: u32,
+    asking: &Asking,
+    name: &[u8],
+    owned: bool,
+    opening: &mut Opening,
+) -> u32
+    ensures { TellsAs opening_in owner.old.value.manager (Call.MakeMutex thread (asked_for asking.now name.now) owned) result owner.new.value.manager opening.old opening.new }
+{
+    let make = make_of(asking, name);
+    tell_opening(
+        owner.lend().manager.create_mutex(thread, &make, owned),
+        opening,
+    )
+}
+
+/// [`Manager::create_semaphore`](ob_manager::Manager::create_semaphore): 0, 183, 87, 170, 206, 3, 6, 5, 1450 or 8.
+#[tactic(auto, using(crate::proofs::Told::tells_as))]
+#[unsafe(no_mangle)]
+pub extern "C" fn om_create_semaphore(
+    owner: &mut Owner,
+    thread: u32,
+    asking: &Asking,
+    name: &[u8],
+    initial: i32,
+    max: i32,
+    opening: &mut Opening,
+) -> u32
+    ensures { TellsAs opening_in owner.old.value.manager (Call.MakeSemaphore thread (asked_for asking.now name.now) initial max) result owner.new.value.manager opening.old opening.new }
+{
+    let make = make_of(asking, name);
+    tell_opening(
+        owner
+            .lend()
+            .manager
+            .create_semaphore(thread, &make, initial, max),
+        opening,
+    )
+}
+
+/// [`Manager::open_named`](ob_manager::Manager::open_named) of an event: 0, 87, 170, 206, 3, 2, 6, 5, 1450 or 8.
+#[tactic(auto, using(crate::proofs::Told::tells_as))]
+#[unsafe(no_mangle)]
+pub extern "C" fn om_open_event(
+    owner: &mut Owner,
+    thread: u32,
+    access: u32,
+    inherit: bool,
+    name: &[u8],
+    opening: &mut Opening,
+) -> u32
+    ensures { TellsAs opening_in owner.old.value.manager (Call.OpenNamed thread Kind.Event (mask_of access) inherit name.now) result owner.new.value.manager opening.old opening.new }
+{
+    tell_opening(
+        owner
+            .lend()
+            .manager
+            .open_named(thread, Kind::Event, Rights(access), inherit, name),
+        opening,
+    )
+}
+
+/// [`Manager::open_named`](ob_manager::Manager::open_named) of a mutex: 0, 87, 170, 206, 3, 2, 6, 5, 1450 or 8.
+#[tactic(auto, using(crate::proofs::Told::tells_as))]
+#[unsafe(no_mangle)]
+pub extern "C" fn om_open_mutex(
+    owner: &mut Owner,
+    thread: u32,
+    access: u32,
+    inherit: bool,
+    name: &[u8],
+    opening: &mut Opening,
+) -> u32
+    ensures { TellsAs opening_in owner.old.value.manager (Call.OpenNamed thread Kind.Mutex (mask_of access) inherit name.now) result owner.new.value.manager opening.old opening.new }
+{
+    tell_opening(
+        owner
+            .lend()
+            .manager
+            .open_named(thread, Kind::Mutex, Rights(access), inherit, name),
+        opening,
+    )
+}
+
+/// [`Manager::open_named`](ob_manager::Manager::open_named) of a semaphore: 0, 87, 170, 206, 3, 2, 6, 5, 1450 or 8.
+#[tactic(auto, using(crate::proofs::Told::tells_as))]
+#[unsafe(no_mangle)]
+pub extern "C" fn om_open_semaphore(
+    owner: &mut Owner,
+    thread: u32,
+    access: u32,
+    inherit: bool,
+    name: &[u8],
+    opening: &mut Opening,
+) -> u32
+    ensures { TellsAs opening_in owner.old.value.manager (Call.OpenNamed thread Kind.Semaphore (mask_of access) inherit name.now) result owner.new.value.manager opening.old opening.new }
+{
+    tell_opening(
+        owner
+            .lend()
+            .manager
+            .open_named(thread, Kind::Semaphore, Rights(access), inherit, name),
+        opening,
+    )
+}

@@ -1,0 +1,112 @@
+//! Handles.
+ghost use Rattle.std.specs.Prelude.{◌≡◌};
+ghost use Rattle.ob_manager.specs.Handles.{resolve};
+ghost use Rattle.ob_manager.specs.declared.call.Call.TheVariants as Call;
+ghost use Rattle.obman_c.specs.Asking.{mask_of, process_at};
+ghost use Rattle.obman_c.specs.Finding.{Finds};
+ghost use Rattle.obman_c.specs.Telling.{Tells, TellsAs, flags_in, opening_in};
+
+use crate::owner::Owner;
+use crate::status::{SUCCESS, told};
+use crate::values::{Object, Opening, object_of, tell_flags, tell_opening};
+use ob_rights::{Rights, code_of};
+
+/// [`Manager::duplicate`](ob_manager::Manager::duplicate), where the target 0 is none: 0, 87, 170, 6, 5, 1450 or 8.
+#[tactic(auto, using(crate::proofs::Told::tells_as))]
+#[unsafe(no_mangle)]
+pub extern "C" fn om_duplicate(
+    owner: &mut Owner,
+    thread: u32,
+    source: u32,
+    handle: u32,
+    target: u32,
+    access: u32,
+    inherit: bool,
+    options: u32,
+    opening: &mut Opening,
+) -> u32
+    ensures { TellsAs opening_in owner.old.value.manager (Call.Duplicate thread source handle (process_at target) (mask_of access) inherit options) result owner.new.value.manager opening.old opening.new }
+{
+    let target = process_at(target);
+    let reply = owner.lend().manager.duplicate(
+        thread,
+        source,
+        handle,
+        target,
+        Rights(access),
+        inherit,
+        options,
+    );
+    tell_opening(reply, opening)
+}
+
+/// A process by its number, and none by 0.
+fn process_at(number: u32) -> Option<u32>
+    ensures { result ≡ process_at number }
+{
+    if number == 0 { None } else { Some(number) }
+}
+
+/// [`Manager::close`](ob_manager::Manager::close): 0, 87, 170 or 6.
+#[tactic(auto, using(crate::proofs::Told::tells))]
+#[unsafe(no_mangle)]
+pub extern "C" fn om_close(owner: &mut Owner, thread: u32, handle: u32) -> u32
+    ensures { Tells owner.old.value.manager (Call.CloseHandle thread handle) result owner.new.value.manager }
+{
+    told(owner.lend().manager.close(thread, handle))
+}
+
+/// [`Manager::handle_flags`](ob_manager::Manager::handle_flags): 0, 87, 170 or 6.
+#[tactic(auto, using(crate::proofs::Told::tells_as))]
+#[unsafe(no_mangle)]
+pub extern "C" fn om_handle_flags(
+    owner: &mut Owner,
+    thread: u32,
+    handle: u32,
+    flags: &mut u32,
+) -> u32
+    ensures step { TellsAs flags_in owner.old.value.manager (Call.GetFlags thread handle) result owner.new.value.manager flags.old flags.new }
+    ensures same { owner.new.value ≡ owner.old.value }
+{
+    tell_flags(owner.lend().manager.handle_flags(thread, handle), flags)
+}
+
+/// [`Manager::set_handle_flags`](ob_manager::Manager::set_handle_flags): 0, 87, 170 or 6.
+#[tactic(auto, using(crate::proofs::Told::tells))]
+#[unsafe(no_mangle)]
+pub extern "C" fn om_set_handle_flags(
+    owner: &mut Owner,
+    thread: u32,
+    handle: u32,
+    mask: u32,
+    flags: u32,
+) -> u32
+    ensures { Tells owner.old.value.manager (Call.SetFlags thread handle mask flags) result owner.new.value.manager }
+{
+    told(
+        owner
+            .lend()
+            .manager
+            .set_handle_flags(thread, handle, mask, flags),
+    )
+}
+
+/// [`Manager::resolve`](ob_manager::Manager::resolve): 0, 87 or 6.
+#[unsafe(no_mangle)]
+pub extern "C" fn om_resolve(
+    owner: &mut Owner,
+    process: u32,
+    handle: u32,
+    object: &mut Object,
+) -> u32
+    ensures finds { Finds (resolve owner.old.value.manager.state process handle) result object.old object.new }
+    ensures same { owner.new.value ≡ owner.old.value }
+{
+    match owner.lend().manager.resolve(process, handle) {
+        Ok(id) => {
+            *object = object_of(id);
+            SUCCESS
+        }
+        Err(fault) => code_of(fault),
+    }
+}

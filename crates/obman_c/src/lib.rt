@@ -1,0 +1,31 @@
+//! The object manager as a C library: a static library whose functions a C program calls, as `include/obman.h` at the top of the
+//! repository declares them.
+//!
+//! C holds a pointer that tells it nothing. To a contract it is an [`Owner`](owner::Owner) with the manager's state as its value,
+//! so each function's contract is that of the manager's call: the same step from the state before to the state after, and the
+//! same answer, told by a number (0, or a Win32 error code) and by what is written where C asks for it.
+//!
+//! ```text
+//! om_manager m;
+//! om_limits limits = OM_LIMITS_DEFAULT;
+//! om_new(&limits, &m);                     // 0
+//! om_spawn(&m, 1, &member);                // 0, process 1 with thread 1
+//! om_free(m);
+//! ```
+#![tactic(auto)]
+
+mod creating;
+mod handles;
+mod held;
+mod limits;
+mod opening;
+mod owner;
+mod pinning;
+mod processes;
+mod reading;
+mod reaping;
+mod script;
+mod signaling;
+mod status;
+mod values;
+mod waiting;

@@ -1,0 +1,51 @@
+//! A manager's beginning and its end.
+ghost use Rattle.std.specs.Prelude.{◌≡◌, [], IfErr, IfOk, replicate};
+ghost use Rattle.pin_core.specs.Worlds.{opening_slot};
+ghost use Rattle.pin_words.specs.Keepers.{locked};
+ghost use Rattle.ob_store.specs.State.{shape_of};
+ghost use Rattle.obman_c.specs.Opening.{Opens, new_manager};
+
+use crate::held::Held;
+use crate::limits::{Bounds, limits_of};
+use crate::owner::{Owner, Place};
+use crate::status::SUCCESS;
+use ob_manager::{Limits, Manager};
+use ob_rights::{Fault, code_of};
+use pin_words::LockedPins;
+use std::alloc::Global;
+
+/// A new manager, at a place of C's: 0, 87 where a limit is out of its range, or 8. What stood at the place isn't read.
+#[tactic(auto, using(crate::proofs::Opened::out_of_range, crate::proofs::Opened::no_memory))]
+#[unsafe(no_mangle)]
+pub extern "C" fn om_new(alloc: Global, bounds: &Bounds, place: &mut Place) -> u32
+    ensures { Opens bounds.now result place.old.value place.new.value }
+{
+    let Ok(limits) = limits_of(bounds) else {
+        return code_of(Fault::Parameter);
+    };
+    match held(alloc, limits) {
+        Ok(held) => {
+            *place = Place::of(held);
+            SUCCESS
+        }
+        Err(fault) => code_of(fault),
+    }
+}
+
+/// The end of a manager: its memory is given back, and C may use what it passed no more.
+#[unsafe(no_mangle)]
+pub extern "C" fn om_free(owner: Owner) {
+    drop(owner.into_box());
+}
+
+/// A new manager in a box of its own.
+fn held(alloc: Global, limits: Limits) -> Result<Box<Held>, Fault>
+    ensures new { IfOk result (λ held. held.value ≡ record { manager = new_manager limits }) }
+    ensures memory { IfErr result (λ fault. fault ≡ Fault.Memory) }
+{
+    let keeper = LockedPins::new(alloc, limits.shape())?;
+    match Manager::new(alloc, limits, keeper) {
+        Ok(manager) => Ok(Box::new(alloc, Held { manager })?),
+        Err(_) => Err(Fault::Memory),
+    }
+}

@@ -1,0 +1,87 @@
+//! What C holds: a pointer to a manager on the heap, which is hidden behind a pointer to bytes, since C may be passed no type
+//! that leads to memory of Rust's. In proofs each has the manager as its value.
+ghost use Rattle.std.specs.Prelude.{◌≡◌, Option, Some};
+ghost use Rattle.std.specs.Borrow.{sem};
+ghost use Rattle.obman_c.specs.declared.held.Held.{Held};
+ghost use Rattle.obman_c.specs.Owning.{held_coded, owner_owns, place_coded, place_owns};
+
+mod parts;
+
+use crate::held::Held;
+use parts::Parts;
+use std::alloc::Global;
+use std::marker::Model;
+
+/// A manager that C owns (`om_manager`).
+#[repr(C)]
+#[derive(Drop)]
+pub struct Owner {
+    at: *mut u8,
+    alloc: Global,
+    pub ghost value: { Held } by { held_coded },
+}
+
+impl Model for Owner {
+    ghost also_owns = { λ owner. owner_owns owner.alloc owner.at owner.value };
+}
+
+/// Where C wants a manager to be: the same bytes, which own a manager once it is there, and what C had there before is nobody's.
+#[repr(C)]
+#[derive(Drop)]
+pub struct Place {
+    at: *mut u8,
+    alloc: Global,
+    pub ghost value: { Option Held } by { place_coded },
+}
+
+impl Model for Place {
+    ghost also_owns = { λ place. place_owns place.alloc place.at place.value };
+}
+
+impl Owner {
+    ghost use Rattle.obman_c.specs.Lending.{LendsHeld};
+
+    /// The manager, lent.
+    pub fn lend(&mut self) -> &mut Held
+        ensures* writes_back { sem 𝓛 (LendsHeld self.entry result) }
+        ensures value { result.now ≡ self.old.value }
+    {
+        unsafe { &mut *(self.at as *mut Held) }
+    }
+
+    /// The manager in its box.
+    pub fn into_box(self) -> Box<Held>
+        ensures { result.value ≡ self.value }
+    {
+        self.into_parts().into_box()
+    }
+
+    fn into_parts(self) -> Parts<Held, Global>
+        ensures { result.value ≡ self.value }
+    {
+        let Owner { at, alloc } = self;
+        Parts {
+            at: at as *mut Held,
+            alloc,
+        }
+    }
+}
+
+impl Place {
+    /// A place with the manager of a box.
+    pub fn of(held: Box<Held>) -> Place
+        ensures { result.value ≡ Some held.value }
+    {
+        Place::of_parts(Parts::of(held))
+    }
+
+    fn of_parts(parts: Parts<Held, Global>) -> Place
+        ensures { result.value ≡ Some parts.value }
+    {
+        let Parts { at, alloc } = parts;
+        Place {
+            at: at as *mut u8,
+            alloc,
+        }
+    }
+}

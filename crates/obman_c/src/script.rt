@@ -1,0 +1,45 @@
+//! A batch of calls, as the program reads and prints them.
+ghost use Rattle.std.specs.Prelude.{◌≡◌};
+ghost use Rattle.obman_c.specs.Scripts.{Answers, HandsOver};
+
+use crate::limits::{Bounds, limits_of};
+use crate::status::{SUCCESS, TOO_SMALL};
+use ob_console::run_whole;
+use ob_output::Collected;
+use ob_rights::{Fault, code_of};
+use std::alloc::Global;
+
+/// Answers a script over a new manager, as the program does without lanes, at the front of `answers`: 0, 87 where a limit is out
+/// of its range, 8, or 122 where the answers don't fit. `length` says how long they are, with 0 and with 122.
+#[tactic(auto, using(crate::proofs::Scripted::outside, crate::proofs::Scripted::lacks))]
+#[unsafe(no_mangle)]
+pub extern "C" fn om_script(
+    alloc: Global,
+    bounds: &Bounds,
+    script: &[u8],
+    answers: &mut [u8],
+    length: &mut usize,
+) -> u32
+    ensures { Answers bounds.now script.now result answers.old answers.new length.old length.new }
+{
+    let Ok(limits) = limits_of(bounds) else {
+        return code_of(Fault::Parameter);
+    };
+    let mut sink = Collected::new(alloc);
+    match run_whole(alloc, limits, script, &mut sink) {
+        Ok(()) => hand_over(sink.as_slice(), answers, length),
+        Err(_) => code_of(Fault::Memory),
+    }
+}
+
+/// Puts bytes at the front of others, where they fit, and says how many they are.
+fn hand_over(bytes: &[u8], room: &mut [u8], length: &mut usize) -> u32
+    ensures { HandsOver bytes.now result room.old room.new length.new }
+{
+    *length = bytes.len();
+    if bytes.len() > room.len() {
+        return TOO_SMALL;
+    }
+    room[..bytes.len()].copy_from_slice(bytes);
+    SUCCESS
+}

@@ -1,0 +1,31 @@
+//! The number that C is told of a reply.
+ghost use Rattle.std.specs.Prelude.{◌≡◌};
+ghost use Rattle.obman_c.specs.Telling.{status_of};
+
+use ob_manager::Reply;
+use ob_rights::code_of;
+
+/// The call was answered.
+pub(crate) const SUCCESS: u32 = 0;
+
+/// `ERROR_INSUFFICIENT_BUFFER`.
+pub(crate) const TOO_SMALL: u32 = 122;
+
+/// `ERROR_NO_MORE_ITEMS`.
+pub(crate) const NO_MORE: u32 = 259;
+
+/// 0, or a Win32 error code ([System Error Codes]): `ERROR_ALREADY_EXISTS` (183) where a name was there and its object was
+/// opened, `ERROR_IO_PENDING` (997) for a wait that is pending, and for a refusal its own.
+///
+/// [System Error Codes]: https://learn.microsoft.com/windows/win32/debug/system-error-codes
+#[inline(always)]
+pub(crate) fn told(reply: Reply) -> u32
+    ensures { result ≡ status_of reply }
+{
+    match reply {
+        Reply::Refused(fault) => code_of(fault),
+        Reply::Exists { .. } => 183,
+        Reply::Pending { .. } => 997,
+        _ => SUCCESS,
+    }
+}

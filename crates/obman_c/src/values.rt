@@ -1,0 +1,205 @@
+//! What C is told of a reply beside its number.
+ghost use Rattle.std.specs.Prelude.{◌≡◌};
+ghost use Rattle.obman_c.specs.Telling.{answer_in, count_in, flags_in, member_in, object_of, opening_in, outcome_of, pins_of, reaping_in, references_in, status_of, thread_in};
+
+use crate::status::told;
+use ob_manager::Reply;
+use pin_core::Id;
+use pin_words::Reclaim;
+
+/// An object (`om_object`).
+#[repr(C)]
+#[derive(Clone, Copy)]
+pub struct Object {
+    /// Its slot.
+    pub slot: u32,
+    /// Its generation.
+    pub generation: u32,
+}
+
+/// A process and a thread of it (`om_member`).
+#[repr(C)]
+#[derive(Clone, Copy)]
+pub struct Member {
+    /// The process.
+    pub process: u32,
+    /// The thread.
+    pub thread: u32,
+}
+
+/// A handle, and the object that it names (`om_opening`).
+#[repr(C)]
+#[derive(Clone, Copy)]
+pub struct Opening {
+    /// The handle.
+    pub handle: u32,
+    /// The object.
+    pub object: Object,
+}
+
+/// What became of a slot that was to be taken back (`om_reaping`).
+#[repr(C)]
+#[derive(Clone, Copy)]
+pub struct Reaping {
+    /// The object that was in it.
+    pub object: Object,
+    /// 0 where the slot is free, 1 where it is given up for good, 2 where somebody pins it.
+    pub outcome: u32,
+    /// How many pins it has, where somebody pins it, else 0.
+    pub pins: u32,
+}
+
+/// What refers to an object (`om_references`).
+#[repr(C)]
+#[derive(Clone, Copy)]
+pub struct References {
+    /// Places of pending waits.
+    pub waits: u64,
+    /// Handles.
+    pub handles: u32,
+    /// 1 where there is neither, else 0.
+    pub hold: u32,
+}
+
+/// The object of an Id.
+pub(crate) fn object_of(id: Id) -> Object
+    ensures { result ≡ object_of id }
+{
+    Object {
+        slot: id.slot,
+        generation: id.generation,
+    }
+}
+
+/// Tells of a new process.
+pub(crate) fn tell_member(reply: Reply, out: &mut Member) -> u32
+    ensures told { result ≡ status_of reply }
+    ensures value { out.new ≡ member_in reply out.old }
+{
+    if let Reply::Spawned { process, thread } = reply {
+        *out = Member { process, thread };
+    }
+    told(reply)
+}
+
+/// Tells of a new thread.
+pub(crate) fn tell_thread(reply: Reply, out: &mut u32) -> u32
+    ensures told { result ≡ status_of reply }
+    ensures value { out.new ≡ thread_in reply out.old }
+{
+    if let Reply::Started { thread } = reply {
+        *out = thread;
+    }
+    told(reply)
+}
+
+/// Tells of a new handle.
+pub(crate) fn tell_opening(reply: Reply, out: &mut Opening) -> u32
+    ensures told { result ≡ status_of reply }
+    ensures value { out.new ≡ opening_in reply out.old }
+{
+    match reply {
+        Reply::Made { handle, id }
+        | Reply::Exists { handle, id }
+        | Reply::Opened { handle, id }
+        | Reply::Duplicated { handle, id } => {
+            *out = Opening {
+                handle,
+                object: object_of(id),
+            };
+        }
+        _ => {}
+    }
+    told(reply)
+}
+
+/// Tells of a handle's flags.
+pub(crate) fn tell_flags(reply: Reply, out: &mut u32) -> u32
+    ensures told { result ≡ status_of reply }
+    ensures value { out.new ≡ flags_in reply out.old }
+{
+    if let Reply::Flags { bits } = reply {
+        *out = bits;
+    }
+    told(reply)
+}
+
+/// Tells of a semaphore's count.
+pub(crate) fn tell_count(reply: Reply, out: &mut u32) -> u32
+    ensures told { result ≡ status_of reply }
+    ensures value { out.new ≡ count_in reply out.old }
+{
+    if let Reply::Previous { count } = reply {
+        *out = count;
+    }
+    told(reply)
+}
+
+/// Tells of a wait.
+pub(crate) fn tell_answer(reply: Reply, out: &mut u32) -> u32
+    ensures told { result ≡ status_of reply }
+    ensures value { out.new ≡ answer_in reply out.old }
+{
+    match reply {
+        Reply::Code { code } => *out = code,
+        Reply::Pending { wait } => *out = wait,
+        _ => {}
+    }
+    told(reply)
+}
+
+/// Tells of a slot.
+pub(crate) fn tell_reaping(reply: Reply, out: &mut Reaping) -> u32
+    ensures told { result ≡ status_of reply }
+    ensures value { out.new ≡ reaping_in reply out.old }
+{
+    if let Reply::Reaped { id, outcome } = reply {
+        *out = Reaping {
+            object: object_of(id),
+            outcome: number_of(outcome),
+            pins: pins_of(outcome),
+        };
+    }
+    told(reply)
+}
+
+/// Tells what refers to an object.
+pub(crate) fn tell_references(reply: Reply, out: &mut References) -> u32
+    ensures told { result ≡ status_of reply }
+    ensures value { out.new ≡ references_in reply out.old }
+{
+    if let Reply::CountsAre {
+        handles,
+        waits,
+        hold,
+    } = reply
+    {
+        *out = References {
+            waits,
+            handles,
+            hold,
+        };
+    }
+    told(reply)
+}
+
+/// The number of what became of a slot.
+fn number_of(outcome: Reclaim) -> u32
+    ensures { result ≡ outcome_of outcome }
+{
+    match outcome {
+        Reclaim::Freed => 0,
+        Reclaim::Retired => 1,
+        Reclaim::Held { .. } => 2,
+    }
+}
+
+/// How many pins hold a slot.
+fn pins_of(outcome: Reclaim) -> u32
+    ensures { result ≡ pins_of outcome }
+{
+    match outcome {
+        Reclaim::Held { pins } => pins,
+        _ => 0,
+    }
+}

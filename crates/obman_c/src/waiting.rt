@@ -1,0 +1,85 @@
+//! Waits.
+ghost use Rattle.std.specs.Prelude.{◌≡◌, None, slice_index_or};
+ghost use Rattle.ob_waits.specs.Waits as waits;
+ghost use Rattle.ob_manager.specs.declared.call.Call.TheVariants as Call;
+ghost use Rattle.obman_c.specs.Telling.{Tells, TellsAs, answer_in};
+ghost use Rattle.obman_c.specs.Waiting.{Waits, mode_of, timeout_of};
+
+use crate::owner::Owner;
+use crate::status::told;
+use crate::values::tell_answer;
+use ob_manager::{Mode, Timeout};
+use ob_rights::{Fault, code_of};
+
+/// For any or for all.
+fn mode_of(all: bool) -> Mode
+    ensures { result ≡ mode_of all }
+{
+    if all { Mode::All } else { Mode::Any }
+}
+
+/// How long a wait lasts: 0 or `INFINITE` milliseconds.
+fn timeout_of(milliseconds: u32) -> Option<Timeout>
+    ensures { result ≡ timeout_of milliseconds }
+{
+    if milliseconds == 0 {
+        Some(Timeout::Zero)
+    } else if milliseconds == u32::MAX {
+        Some(Timeout::Infinite)
+    } else {
+        None
+    }
+}
+
+/// [`Manager::wait`](ob_manager::Manager::wait), for 0 or `INFINITE` milliseconds; another time is refused with 87. 0 with the
+/// wait's code, 997 with its number, or 87, 170, 6, 5, 1450 or 8.
+#[tactic(auto, using(crate::proofs::Told::tells_as))]
+#[unsafe(no_mangle)]
+pub extern "C" fn om_wait(
+    owner: &mut Owner,
+    thread: u32,
+    all: bool,
+    milliseconds: u32,
+    handles: &[u32],
+    answer: &mut u32,
+) -> u32
+    ensures { Waits (timeout_of milliseconds) thread (mode_of all) handles.now owner.old.value.manager result owner.new.value.manager answer.old answer.new }
+{
+    match timeout_of(milliseconds) {
+        Some(timeout) => tell_answer(
+            owner
+                .lend()
+                .manager
+                .wait(thread, mode_of(all), timeout, handles),
+            answer,
+        ),
+        None => code_of(Fault::Parameter),
+    }
+}
+
+/// [`Manager::wait_result`](ob_manager::Manager::wait_result): 0 with the wait's code, 997 with its number, or 87.
+#[tactic(auto, using(crate::proofs::Told::tells_as))]
+#[unsafe(no_mangle)]
+pub extern "C" fn om_wait_result(owner: &mut Owner, wait: u32, answer: &mut u32) -> u32
+    ensures { TellsAs answer_in owner.old.value.manager (Call.WaitResult wait) result owner.new.value.manager answer.old answer.new }
+{
+    tell_answer(owner.lend().manager.wait_result(wait), answer)
+}
+
+/// [`Manager::expire`](ob_manager::Manager::expire): 0 or 87.
+#[tactic(auto, using(crate::proofs::Told::tells))]
+#[unsafe(no_mangle)]
+pub extern "C" fn om_expire(owner: &mut Owner, wait: u32) -> u32
+    ensures { Tells owner.old.value.manager (Call.Expire wait) result owner.new.value.manager }
+{
+    told(owner.lend().manager.expire(wait))
+}
+
+/// [`Manager::is_pending`](ob_manager::Manager::is_pending).
+#[unsafe(no_mangle)]
+pub extern "C" fn om_is_pending(owner: &mut Owner, wait: u32) -> bool
+    ensures pending { result ≡ waits.is_pending (slice_index_or owner.old.value.manager.state.waits wait None) }
+    ensures same { owner.new.value ≡ owner.old.value }
+{
+    owner.lend().manager.is_pending(wait)
+}
