@@ -1,0 +1,369 @@
+/* The object layer of the NT kernel as Win32 programs see it, without a kernel: processes, threads, handles, events, mutexes,
+ * semaphores, names and waits, for programs that run others: emulators, sandboxes, compatibility layers.
+ *
+ * A manager does nothing by itself. Whoever runs the guests tells it what they do, and is told what comes of it: it has no thread,
+ * takes no lock, reads no clock, and never waits. A call in which a guest's thread would wait answers OM_ERROR_IO_PENDING at once,
+ * with the wait's number; om_wait_result says later how it ended.
+ *
+ * Rules of use
+ *
+ * - One call at a time. Calls for one manager come from any thread, but one after another: keep a lock of your own around them.
+ *   Different managers have nothing in common.
+ * - om_new makes a manager and om_free ends it. In between an om_manager may be copied and moved: each copy is the same manager.
+ *   A manager that was freed, or that no om_new made, is as a pointer that was freed: passing it is undefined.
+ * - No pointer is null, not even for a name or a list of length 0 ("" will do). What a call writes to doesn't overlap with
+ *   anything else that it is given. Nothing that is passed is kept: it is yours again once the call has returned.
+ * - Each call but om_free and the questions at the end answers with 0 (OM_SUCCESS) or the number that the Win32 function leaves
+ *   for GetLastError. What it writes is written with 0, and else only where its text says so. A refused call changes nothing, but
+ *   that om_duplicate may close its source.
+ * - Where a call takes memory and there is none it answers OM_ERROR_NOT_ENOUGH_MEMORY, has changed nothing, and may be made
+ *   again. A call whose text doesn't name this number takes no memory.
+ * - Memory comes from malloc, realloc and free. Call nothing here from a signal handler, nor after fork in a child of a process
+ *   with several threads.
+ *
+ * Handles are 4, 8, 12 and so on; their two lowest bits are ignored. Processes, threads and waits have numbers from 1. A name may
+ * begin with Global\ or Local\ and has at most 260 bytes; it need not end in a zero byte.
+ *
+ * Where it is said why a call is refused, the reasons stand in the order in which they are tested. In every call that a guest's
+ * thread makes (its second parameter is `thread`; the end of a thread is nobody's call) these come first:
+ * OM_ERROR_INVALID_PARAMETER where no such thread lives, and OM_ERROR_BUSY where it waits, or its wait's answer wasn't taken yet.
+ */
+#ifndef OBMAN_H
+#define OBMAN_H
+
+#include <stdbool.h>
+#include <stddef.h>
+#include <stdint.h>
+
+#ifdef __cplusplus
+extern "C" {
+#endif
+
+/* What a call answers: the numbers of the Win32 system error codes. */
+#define OM_SUCCESS 0u
+#define OM_ERROR_FILE_NOT_FOUND 2u
+#define OM_ERROR_PATH_NOT_FOUND 3u
+#define OM_ERROR_ACCESS_DENIED 5u
+#define OM_ERROR_INVALID_HANDLE 6u
+#define OM_ERROR_NOT_ENOUGH_MEMORY 8u
+#define OM_ERROR_INVALID_PARAMETER 87u
+#define OM_ERROR_INSUFFICIENT_BUFFER 122u
+#define OM_ERROR_BUSY 170u
+#define OM_ERROR_ALREADY_EXISTS 183u
+#define OM_ERROR_FILENAME_EXCED_RANGE 206u
+#define OM_ERROR_NO_MORE_ITEMS 259u
+#define OM_ERROR_NOT_OWNER 288u
+#define OM_ERROR_TOO_MANY_POSTS 298u
+#define OM_ERROR_IO_PENDING 997u
+#define OM_ERROR_NOT_FOUND 1168u
+#define OM_ERROR_NO_SYSTEM_RESOURCES 1450u
+#define OM_ERROR_NOT_ENOUGH_QUOTA 1816u
+
+/* Access rights. Each kind of object has the standard rights and SYNCHRONIZE; events and semaphores have MODIFY_STATE too. */
+#define OM_MODIFY_STATE 0x00000002u
+#define OM_DELETE 0x00010000u
+#define OM_READ_CONTROL 0x00020000u
+#define OM_WRITE_DAC 0x00040000u
+#define OM_WRITE_OWNER 0x00080000u
+#define OM_SYNCHRONIZE 0x00100000u
+#define OM_EVENT_ALL_ACCESS 0x001F0003u
+#define OM_SEMAPHORE_ALL_ACCESS 0x001F0003u
+#define OM_MUTEX_ALL_ACCESS 0x001F0001u
+
+/* Handle flags, and options of om_duplicate. */
+#define OM_HANDLE_FLAG_INHERIT 1u
+#define OM_HANDLE_FLAG_PROTECT_FROM_CLOSE 2u
+#define OM_DUPLICATE_CLOSE_SOURCE 1u
+#define OM_DUPLICATE_SAME_ACCESS 2u
+
+/* How long a wait lasts, and how it ended. */
+#define OM_INFINITE 0xFFFFFFFFu
+#define OM_MAXIMUM_WAIT_OBJECTS 64u
+#define OM_WAIT_OBJECT_0 0u
+#define OM_WAIT_ABANDONED_0 128u
+#define OM_WAIT_TIMEOUT 258u
+
+/* Kinds of objects, and what became of a slot. */
+#define OM_EVENT 0u
+#define OM_MUTEX 1u
+#define OM_SEMAPHORE 2u
+#define OM_FREED 0u
+#define OM_RETIRED 1u
+#define OM_HELD 2u
+
+/* The most bytes of a name without its prefix. */
+#define OM_NAME_MOST 260u
+
+/* Limits that serve most guests: om_limits limits = OM_LIMITS_DEFAULT; */
+#define OM_LIMITS_DEFAULT {64u, 64u, 256u, 1024u, 1000000u, 1073741823u, 4294967295u, 2147483647u}
+
+/* A manager: a pointer that is its own business. */
+typedef struct om_manager {
+    void *at;
+} om_manager;
+
+/* How much a manager may hold. */
+typedef struct om_limits {
+    uint32_t slots;         /* objects at a time: 1 to 65,536 */
+    uint32_t processes;     /* process numbers ever given: 1 to 65,536 */
+    uint32_t threads;       /* thread numbers ever given: 1 to 65,536 */
+    uint32_t handles;       /* handles of one process at a time: 1 to 16,384 */
+    uint32_t waits;         /* numbers of pending waits ever given: 1 to 4,294,967,295 */
+    uint32_t max_pins;      /* pins of one slot: 1 to 1,073,741,823 */
+    uint32_t max_gen;       /* the last generation of a slot: 1 to 4,294,967,295 */
+    uint32_t max_recursion; /* how often a thread may own a mutex: 1 to 2,147,483,647 */
+} om_limits;
+
+/* A process and a thread of it. */
+typedef struct om_member {
+    uint32_t process;
+    uint32_t thread;
+} om_member;
+
+/* An object for its whole life: its slot, from 0, and the slot's generation, from 1. No two objects have both the same. */
+typedef struct om_object {
+    uint32_t slot;
+    uint32_t generation;
+} om_object;
+
+/* A handle and the object that it names. */
+typedef struct om_opening {
+    uint32_t handle;
+    om_object object;
+} om_opening;
+
+/* What a create asks for. All zeros ask for no name, a handle that isn't inherited, and all rights. */
+typedef struct om_making {
+    uint32_t access;  /* the rights of the handle, with has_access */
+    uint32_t grant;   /* the rights that opens of a new object may get, with has_grant */
+    bool named;       /* the bytes that come with it are a name; without it they count for nothing */
+    bool inherit;     /* children inherit the handle */
+    bool has_access;  /* else the handle has all rights of the kind */
+    bool has_grant;   /* else opens may get all rights of the kind */
+} om_making;
+
+/* What an object was created as. */
+typedef struct om_description {
+    uint32_t kind;    /* OM_EVENT, OM_MUTEX or OM_SEMAPHORE */
+    uint32_t max;     /* of a semaphore; else 0 */
+    uint32_t grant;   /* the rights that opens may get */
+    bool manual;      /* an event that is reset by hand */
+} om_description;
+
+/* What became of a slot. */
+typedef struct om_reaping {
+    om_object object;  /* what was in it */
+    uint32_t outcome;  /* OM_FREED, OM_RETIRED or OM_HELD */
+    uint32_t pins;     /* how many pins hold it; else 0 */
+} om_reaping;
+
+/* What refers to an object. */
+typedef struct om_references {
+    uint64_t waits;    /* places of pending waits */
+    uint32_t handles;
+    uint32_t hold;     /* 1 where there is neither, else 0 */
+} om_references;
+
+/* A row of the directory of names. */
+typedef struct om_row {
+    om_object object;
+    uint32_t session;  /* whose namespace the name is in; 0 for the global one */
+    uint32_t length;   /* how many bytes the name has without its prefix */
+} om_row;
+
+/* ---- A manager ---- */
+
+/* Makes a manager with no process, and writes it to *m, whatever stood there.
+ * OM_ERROR_INVALID_PARAMETER for a limit out of its range; OM_ERROR_NOT_ENOUGH_MEMORY. */
+uint32_t om_new(const om_limits *limits, om_manager *m);
+
+/* Ends a manager and gives its memory back. */
+void om_free(om_manager m);
+
+/* ---- Processes and threads ---- */
+
+/* A guest's process begins in a session, with its first thread (CreateProcess, by nobody's process).
+ * OM_ERROR_NO_SYSTEM_RESOURCES where each process number or each thread number was given; OM_ERROR_NOT_ENOUGH_MEMORY. */
+uint32_t om_spawn(om_manager *m, uint32_t session, om_member *member);
+
+/* A thread begins a process of its own process's session (CreateProcess). With `inherit` the new process has each inheritable
+ * handle of the thread's process, at the same value and with the same rights and flags (bInheritHandles).
+ * OM_ERROR_NO_SYSTEM_RESOURCES where each process number or each thread number was given; OM_ERROR_NOT_ENOUGH_MEMORY. */
+uint32_t om_child(om_manager *m, uint32_t thread, bool inherit, om_member *member);
+
+/* A thread begins in a process (CreateThread).
+ * OM_ERROR_INVALID_PARAMETER where no such process lives; OM_ERROR_NO_SYSTEM_RESOURCES where each thread number was given;
+ * OM_ERROR_NOT_ENOUGH_MEMORY. */
+uint32_t om_thread(om_manager *m, uint32_t process, uint32_t *thread);
+
+/* A thread ends, whether it waits or not (ExitThread, TerminateThread): its wait is dropped, its mutexes are abandoned, and with
+ * its last thread a process ends.
+ * OM_ERROR_INVALID_PARAMETER where no such thread lives. */
+uint32_t om_end_thread(om_manager *m, uint32_t thread);
+
+/* A process ends (ExitProcess, TerminateProcess): its threads end, then its handles are closed, protected ones too.
+ * OM_ERROR_INVALID_PARAMETER where no such process lives. */
+uint32_t om_exit(om_manager *m, uint32_t process);
+
+/* ---- Objects ---- */
+
+/* A new event and a handle to it (CreateEvent, CreateEventEx). `manual`: it stays set until it is reset. `set`: it begins so.
+ * Where an event has the name already the handle is to that one, and the answer is OM_ERROR_ALREADY_EXISTS.
+ * OM_ERROR_INVALID_PARAMETER for a grant with a right that events haven't; for the name OM_ERROR_FILENAME_EXCED_RANGE,
+ * OM_ERROR_INVALID_PARAMETER or OM_ERROR_PATH_NOT_FOUND; OM_ERROR_INVALID_HANDLE where an object of another kind has it;
+ * OM_ERROR_ACCESS_DENIED for rights that events haven't, or that the object's grant doesn't allow; OM_ERROR_NO_SYSTEM_RESOURCES
+ * where the process has each handle or each slot has an object; OM_ERROR_NOT_ENOUGH_MEMORY. */
+uint32_t om_create_event(om_manager *m, uint32_t thread, const om_making *making, const char *name, size_t length, bool manual,
+                         bool set, om_opening *opening);
+
+/* A new mutex and a handle to it, as om_create_event makes an event (CreateMutex, CreateMutexEx). `owned`: the thread owns a new
+ * one once. */
+uint32_t om_create_mutex(om_manager *m, uint32_t thread, const om_making *making, const char *name, size_t length, bool owned,
+                         om_opening *opening);
+
+/* A new semaphore and a handle to it, as om_create_event makes an event (CreateSemaphore, CreateSemaphoreEx).
+ * OM_ERROR_INVALID_PARAMETER too for a maximum of 0 or less, and for a count below 0 or above the maximum. */
+uint32_t om_create_semaphore(om_manager *m, uint32_t thread, const om_making *making, const char *name, size_t length,
+                             int32_t initial, int32_t max, om_opening *opening);
+
+/* A handle to the event of a name (OpenEvent).
+ * For the name OM_ERROR_FILENAME_EXCED_RANGE, OM_ERROR_INVALID_PARAMETER or OM_ERROR_PATH_NOT_FOUND; OM_ERROR_FILE_NOT_FOUND
+ * where no object has it; OM_ERROR_INVALID_HANDLE where an object of another kind has it; OM_ERROR_ACCESS_DENIED for no rights,
+ * and for one that the object's grant hasn't; OM_ERROR_NO_SYSTEM_RESOURCES where the process has each handle;
+ * OM_ERROR_NOT_ENOUGH_MEMORY. */
+uint32_t om_open_event(om_manager *m, uint32_t thread, uint32_t access, bool inherit, const char *name, size_t length,
+                       om_opening *opening);
+
+/* The same of a mutex (OpenMutex). */
+uint32_t om_open_mutex(om_manager *m, uint32_t thread, uint32_t access, bool inherit, const char *name, size_t length,
+                       om_opening *opening);
+
+/* The same of a semaphore (OpenSemaphore). */
+uint32_t om_open_semaphore(om_manager *m, uint32_t thread, uint32_t access, bool inherit, const char *name, size_t length,
+                           om_opening *opening);
+
+/* ---- Handles ---- */
+
+/* A handle of the process `target` to what a handle of the process `source` names (DuplicateHandle). With the option
+ * OM_DUPLICATE_SAME_ACCESS it has the source's rights, and `access` counts for nothing. With OM_DUPLICATE_CLOSE_SOURCE the
+ * source is closed once it was found, whatever the answer is but OM_ERROR_NOT_ENOUGH_MEMORY, unless it is protected. With the
+ * target 0 there is no new handle, nothing is written, and the source alone is closed.
+ * OM_ERROR_INVALID_PARAMETER where the source process isn't live, for another option, and for no target without
+ * OM_DUPLICATE_CLOSE_SOURCE; OM_ERROR_INVALID_HANDLE where there is no such handle, and without a target for a protected one;
+ * OM_ERROR_INVALID_PARAMETER where the target isn't live; OM_ERROR_ACCESS_DENIED for a right that neither the source has nor the
+ * object's grant; OM_ERROR_NO_SYSTEM_RESOURCES where the target has each handle; OM_ERROR_NOT_ENOUGH_MEMORY, with a target. */
+uint32_t om_duplicate(om_manager *m, uint32_t thread, uint32_t source, uint32_t handle, uint32_t target, uint32_t access,
+                      bool inherit, uint32_t options, om_opening *opening);
+
+/* Closes a handle of the thread's process (CloseHandle). With its last handle an object's name is free again; with its last
+ * reference the object ends.
+ * OM_ERROR_INVALID_HANDLE where there is no such handle, and for a protected one. */
+uint32_t om_close(om_manager *m, uint32_t thread, uint32_t handle);
+
+/* A handle's flags (GetHandleInformation).
+ * OM_ERROR_INVALID_HANDLE where there is no such handle. */
+uint32_t om_handle_flags(om_manager *m, uint32_t thread, uint32_t handle, uint32_t *flags);
+
+/* The flags in the mask become what they are in `flags` (SetHandleInformation).
+ * OM_ERROR_INVALID_PARAMETER for a mask with another bit; OM_ERROR_INVALID_HANDLE where there is no such handle. */
+uint32_t om_set_handle_flags(om_manager *m, uint32_t thread, uint32_t handle, uint32_t mask, uint32_t flags);
+
+/* What a handle of a process names. No guest asks it: it is for whoever runs them.
+ * OM_ERROR_INVALID_PARAMETER where no such process lives; OM_ERROR_INVALID_HANDLE where there is no such handle. */
+uint32_t om_resolve(om_manager *m, uint32_t process, uint32_t handle, om_object *object);
+
+/* ---- Events, semaphores and mutexes ---- */
+
+/* Sets an event, and lets who waits for it go on (SetEvent).
+ * OM_ERROR_INVALID_HANDLE where there is no such handle or it is no event's; OM_ERROR_ACCESS_DENIED without OM_MODIFY_STATE. */
+uint32_t om_set_event(om_manager *m, uint32_t thread, uint32_t handle);
+
+/* Resets an event (ResetEvent). It is refused as om_set_event is. */
+uint32_t om_reset_event(om_manager *m, uint32_t thread, uint32_t handle);
+
+/* Raises a semaphore's count, and says what it was (ReleaseSemaphore).
+ * OM_ERROR_INVALID_PARAMETER for a count of 0 or less; OM_ERROR_INVALID_HANDLE where there is no such handle or it is no
+ * semaphore's; OM_ERROR_ACCESS_DENIED without OM_MODIFY_STATE; OM_ERROR_TOO_MANY_POSTS where the maximum would be passed. */
+uint32_t om_release_semaphore(om_manager *m, uint32_t thread, uint32_t handle, int32_t count, uint32_t *previous);
+
+/* Releases a mutex once (ReleaseMutex).
+ * OM_ERROR_INVALID_HANDLE where there is no such handle or it is no mutex's; OM_ERROR_NOT_OWNER where the thread doesn't own
+ * it. */
+uint32_t om_release_mutex(om_manager *m, uint32_t thread, uint32_t handle);
+
+/* ---- Waits ---- */
+
+/* A thread waits for any or all of 1 to 64 objects (WaitForSingleObject, WaitForMultipleObjects), for 0 or OM_INFINITE
+ * milliseconds. Where the wait is satisfied at once, the thread has what satisfies it, the answer is 0, and *answer is the wait's
+ * code: for any, OM_WAIT_OBJECT_0 and the index of the object, or OM_WAIT_ABANDONED_0 and it where that is an abandoned mutex; for
+ * all, OM_WAIT_OBJECT_0, or OM_WAIT_ABANDONED_0 where one is an abandoned mutex. Else, for 0 milliseconds, the answer is 0 and
+ * *answer OM_WAIT_TIMEOUT; and for OM_INFINITE the answer is OM_ERROR_IO_PENDING and *answer the wait's number. A pending wait
+ * keeps its objects; until om_wait_result takes its answer its thread makes no other call.
+ * OM_ERROR_INVALID_PARAMETER for another number of milliseconds (before anything else), for no handle, more than 64, or one that
+ * stands twice; OM_ERROR_INVALID_HANDLE where there is no such handle; OM_ERROR_ACCESS_DENIED without OM_SYNCHRONIZE;
+ * OM_ERROR_INVALID_PARAMETER where a wait for all is for one object twice; OM_ERROR_NO_SYSTEM_RESOURCES for a mutex that the
+ * thread owns as often as it may, and where the wait would be pending and each wait number was given;
+ * OM_ERROR_NOT_ENOUGH_MEMORY where it would be pending. */
+uint32_t om_wait(om_manager *m, uint32_t thread, bool all, uint32_t milliseconds, const uint32_t *handles, size_t count,
+                 uint32_t *answer);
+
+/* Takes a wait's answer: 0 with its code, and the wait is over; or OM_ERROR_IO_PENDING with its number.
+ * OM_ERROR_INVALID_PARAMETER where there is no such wait. */
+uint32_t om_wait_result(om_manager *m, uint32_t wait, uint32_t *answer);
+
+/* A pending wait's time is up: its answer is OM_WAIT_TIMEOUT.
+ * OM_ERROR_INVALID_PARAMETER where no such wait is pending. */
+uint32_t om_expire(om_manager *m, uint32_t wait);
+
+/* ---- For whoever runs the guests ---- */
+
+/* Pins an object's slot once more: while it is pinned, its slot isn't given to another object. A manager has 16 pins at a time,
+ * each to be let go by om_unpin.
+ * OM_ERROR_INVALID_PARAMETER where there is no such slot; OM_ERROR_NOT_ENOUGH_QUOTA where 16 pins are held; OM_ERROR_NOT_FOUND
+ * where the slot had no such object yet; OM_ERROR_INVALID_HANDLE where the object ended; OM_ERROR_NO_SYSTEM_RESOURCES where the
+ * slot has all its pins. */
+uint32_t om_pin(om_manager *m, uint32_t slot, uint32_t generation);
+
+/* Lets one pin of an object go.
+ * OM_ERROR_INVALID_HANDLE where none is held. */
+uint32_t om_unpin(om_manager *m, uint32_t slot, uint32_t generation);
+
+/* What an object was created as, until its slot is taken back.
+ * OM_ERROR_INVALID_HANDLE where there is no such object. */
+uint32_t om_card(om_manager *m, uint32_t slot, uint32_t generation, om_description *description);
+
+/* What refers to an object.
+ * OM_ERROR_INVALID_PARAMETER where there is no such slot; OM_ERROR_INVALID_HANDLE where it has no such object. */
+uint32_t om_counts(om_manager *m, uint32_t slot, uint32_t generation, om_references *references);
+
+/* Takes the slot of an object that nothing refers to back, for objects to come, unless somebody pins it.
+ * OM_ERROR_INVALID_PARAMETER where there is no such slot; OM_ERROR_INVALID_HANDLE where it has no such object. */
+uint32_t om_reap(om_manager *m, uint32_t slot, om_reaping *reaping);
+
+/* A row of the directory, which has the names in the order in which their objects were made. The name is written without its
+ * prefix and with no zero byte behind it; `capacity` bytes stand at `name`, and OM_NAME_MOST are always enough.
+ * OM_ERROR_NO_MORE_ITEMS behind the last row; OM_ERROR_INSUFFICIENT_BUFFER where the name doesn't fit, and the row is written. */
+uint32_t om_directory_at(om_manager *m, size_t at, char *name, size_t capacity, om_row *row);
+
+/* Answers a whole script over a manager of its own, as the program obman does: script and answers are as its format has them.
+ * `capacity` bytes stand at `answers`; *written says how many the answers have.
+ * OM_ERROR_INVALID_PARAMETER for a limit out of its range; OM_ERROR_NOT_ENOUGH_MEMORY; OM_ERROR_INSUFFICIENT_BUFFER where the
+ * answers don't fit: then *written says how many bytes they need, and nothing else is written. */
+uint32_t om_script(const om_limits *limits, const char *script, size_t length, char *answers, size_t capacity, size_t *written);
+
+/* ---- Questions that have always an answer ---- */
+
+/* Whether a wait is pending. */
+bool om_is_pending(om_manager *m, uint32_t wait);
+
+/* Whether a pin of an object is held. */
+bool om_holds(om_manager *m, uint32_t slot, uint32_t generation);
+
+/* How many names objects have. */
+size_t om_directory_len(om_manager *m);
+
+#ifdef __cplusplus
+}
+#endif
+
+#endif
