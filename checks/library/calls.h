@@ -1,0 +1,29 @@
+/* Random calls through the header, each written as the line of a script that asks for it, with the answer that the program is to
+ * print for it. */
+#ifndef CALLS_H
+#define CALLS_H
+
+#include <obman.h>
+#include <stdio.h>
+
+typedef struct calls {
+    om_manager m;
+    uint64_t seed;
+    uint32_t processes, threads, waits; /* numbers given so far */
+    uint32_t slots;
+    FILE *script, *answers;
+} calls;
+
+/* A number below `most`. */
+uint32_t below(calls *c, uint32_t most);
+
+/* Limits that a seed picks: the defaults, or small ones that are soon reached. */
+om_limits limits_of(calls *c);
+
+/* Makes one call. */
+void call(calls *c);
+
+/* Ends the program where something can't be. */
+void must(bool holds, const char *what);
+
+#endif
