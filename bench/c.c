@@ -1,0 +1,176 @@
+/* The rounds of crates/bench_calls that make, close, reap, set, wait for, count, resolve and duplicate events, through the header.
+ * Prints a line `CASE, EVENTS: ROUNDS in NANOSECONDS` for each case, as that program and bench/calls.rs do with `measure`. */
+#include <obman.h>
+#include <stdio.h>
+#include <stdlib.h>
+#include <string.h>
+#include <time.h>
+
+/* How many objects a process makes before the next one does. */
+#define HANDLES 15000u
+/* Prime to each number of events, so that a walk by it comes to each of them. */
+#define STRIDE 7919u
+/* How many events come and go in a batch, how many batches there are, and how many rounds of the other cases. */
+#define BATCH 256u
+#define BATCHES 1000u
+#define ROUNDS 1000000u
+#define NAME_LENGTH 16
+
+typedef struct event {
+    uint32_t process, thread, handle;
+    om_object object;
+    char name[NAME_LENGTH];
+} event;
+
+typedef struct scene {
+    om_manager m;
+    event *events;
+    uint32_t count;
+} scene;
+
+static uint64_t now(void) {
+    struct timespec t;
+    clock_gettime(CLOCK_MONOTONIC, &t);
+    return (uint64_t)t.tv_sec * 1000000000u + (uint64_t)t.tv_nsec;
+}
+
+static void must(uint32_t status, uint32_t due) {
+    if (status != due) {
+        fprintf(stderr, "c: %u in place of %u\n", (unsigned)status, (unsigned)due);
+        exit(1);
+    }
+}
+
+static void text(char *name, uint32_t number) {
+    char digits[11];
+    snprintf(digits, sizeof digits, "%010u", (unsigned)number);
+    memcpy(name, "event-", 6);
+    memcpy(name + 6, digits, 10);
+}
+
+static om_opening made(scene *s, uint32_t thread, const char *name) {
+    om_making making = {0, 0, false, false, false, false};
+    om_opening opening;
+    making.named = name != NULL;
+    must(om_create_event(&s->m, thread, &making, name == NULL ? "" : name, name == NULL ? 0 : NAME_LENGTH, false, false, &opening), OM_SUCCESS);
+    return opening;
+}
+
+static scene new_scene(uint32_t count) {
+    om_limits limits = {65536, 65536, 65536, 16384, 4294967295u, 1073741823, 4294967295u, 1};
+    om_member member = {0, 0};
+    scene s = {{NULL}, malloc(count * sizeof(event)), count};
+    must(s.events != NULL, true);
+    must(om_new(&limits, &s.m), OM_SUCCESS);
+    for (uint32_t i = 0; i < count; i++) {
+        event *e = &s.events[i];
+        if (i % HANDLES == 0) {
+            must(om_spawn(&s.m, 1, &member), OM_SUCCESS);
+        }
+        text(e->name, i);
+        om_opening o = made(&s, member.thread, e->name);
+        e->process = member.process;
+        e->thread = member.thread;
+        e->handle = o.handle;
+        e->object = o.object;
+    }
+    return s;
+}
+
+static void report(const char *what, scene *s, uint32_t rounds, uint64_t taken) {
+    printf("%s, %u: %u in %llu\n", what, (unsigned)s->count, (unsigned)rounds, (unsigned long long)taken);
+}
+
+static void come_and_go(scene *s, const char *making, const char *reaping, bool is_named) {
+    static char names[BATCH][NAME_LENGTH];
+    static uint32_t slots[BATCH];
+    uint32_t thread = s->events[s->count - 1].thread;
+    uint64_t making_takes = 0, reaping_takes = 0;
+    for (uint32_t i = 0; i < BATCH; i++) {
+        text(names[i], s->count + i);
+    }
+    for (uint32_t batch = 0; batch < BATCHES; batch++) {
+        uint64_t started = now();
+        for (uint32_t i = 0; i < BATCH; i++) {
+            om_opening o = made(s, thread, is_named ? names[i] : NULL);
+            must(om_close(&s->m, thread, o.handle), OM_SUCCESS);
+            slots[i] = o.object.slot;
+        }
+        making_takes += now() - started;
+        started = now();
+        for (uint32_t i = 0; i < BATCH; i++) {
+            om_reaping r;
+            must(om_reap(&s->m, slots[i], &r), OM_SUCCESS);
+        }
+        reaping_takes += now() - started;
+    }
+    report(making, s, BATCHES * BATCH, making_takes);
+    report(reaping, s, BATCHES * BATCH, reaping_takes);
+}
+
+static void open_and_close(scene *s, event *e) {
+    om_opening o;
+    must(om_open_event(&s->m, e->thread, OM_MODIFY_STATE, false, e->name, NAME_LENGTH, &o), OM_SUCCESS);
+    must(om_close(&s->m, e->thread, o.handle), OM_SUCCESS);
+}
+
+static void set_and_reset(scene *s, event *e) {
+    must(om_set_event(&s->m, e->thread, e->handle), OM_SUCCESS);
+    must(om_reset_event(&s->m, e->thread, e->handle), OM_SUCCESS);
+}
+
+static void counts(scene *s, event *e) {
+    om_references r;
+    must(om_counts(&s->m, e->object.slot, e->object.generation, &r), OM_SUCCESS);
+    must(r.handles, 1);
+}
+
+static void resolve(scene *s, event *e) {
+    om_object o;
+    must(om_resolve(&s->m, e->process, e->handle, &o), OM_SUCCESS);
+    must(o.slot, e->object.slot);
+}
+
+static void duplicate_and_close(scene *s, event *e) {
+    om_opening o;
+    must(om_duplicate(&s->m, e->thread, e->process, e->handle, e->process, 0, false, OM_DUPLICATE_SAME_ACCESS, &o), OM_SUCCESS);
+    must(om_close(&s->m, e->thread, o.handle), OM_SUCCESS);
+}
+
+static void set_and_wait(scene *s, event *e) {
+    uint32_t code;
+    must(om_set_event(&s->m, e->thread, e->handle), OM_SUCCESS);
+    must(om_wait(&s->m, e->thread, false, 0, &e->handle, 1, &code), OM_SUCCESS);
+    must(code, OM_WAIT_OBJECT_0);
+}
+
+static inline __attribute__((always_inline)) void measure(scene *s, const char *what, void (*round)(scene *, event *)) {
+    uint32_t step = STRIDE % s->count, at = 0;
+    uint64_t started = now();
+    for (uint32_t i = 0; i < ROUNDS; i++) {
+        round(s, &s->events[at]);
+        at += step;
+        if (at >= s->count) {
+            at -= s->count;
+        }
+    }
+    report(what, s, ROUNDS, now() - started);
+}
+
+int main(void) {
+    static const uint32_t each[] = {16, 1000, 60000};
+    for (int i = 0; i < 3; i++) {
+        scene s = new_scene(each[i]);
+        come_and_go(&s, "create and close, unnamed", "reap, unnamed", false);
+        come_and_go(&s, "create and close, named", "reap, named", true);
+        measure(&s, "open and close", open_and_close);
+        measure(&s, "set and reset", set_and_reset);
+        measure(&s, "counts", counts);
+        measure(&s, "resolve", resolve);
+        measure(&s, "duplicate and close", duplicate_and_close);
+        measure(&s, "set and wait", set_and_wait);
+        om_free(s.m);
+        free(s.events);
+    }
+    return 0;
+}
