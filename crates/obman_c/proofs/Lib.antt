@@ -1,4 +1,5 @@
 pub mod Walks
+pub mod Sending
 pub mod Told
 pub mod Opened
 pub mod Pinned

@@ -38,6 +38,9 @@ impl Model for Place {
     ghost also_owns = { λ place. place_owns place.alloc place.at place.value };
 }
 
+// C may pass a manager from thread to thread, as long as one call at a time has it.
+unsafe impl Send for Owner {}
+
 impl Owner {
     ghost use Rattle.obman_c.specs.Lending.{LendsHeld};
 
