@@ -5,6 +5,7 @@ mod filling;
 mod flags;
 mod pinning;
 mod playing;
+mod refusing;
 mod waiting;
 
 use call_tables::Ask::{

@@ -1,4 +1,4 @@
-ghost use Rattle.std.specs.Prelude.{◌≡◌, ◌+◌, ◌<◌, ◌≤◌, All, IfOk, IfSome, length, vec_len};
+ghost use Rattle.std.specs.Prelude.{◌≡◌, ◌+◌, ◌<◌, ◌≤◌, All, IfOk, IfSome, length, vec_capacity, vec_len};
 ghost use Rattle.ob_store.specs.State.{shape_of};
 ghost use Rattle.ob_shared.specs.Members.{IsNew};
 
@@ -124,12 +124,24 @@ pub fn drive_all<'a, 's, R: Threads + Wait + Sync>(
     Ok(())
 }
 
-/// The lanes of members.
-pub fn lanes_of(alloc: Global, members: Vec<Member<'_>>) -> Result<Vec<Lane>, AllocError> {
+/// No lanes, with room for so many.
+pub fn room_for(alloc: Global, count: usize) -> Result<Vec<Lane>, AllocError>
+    ensures none { IfOk result (λ lanes. vec_len lanes ≡ 0) }
+    ensures room { IfOk result (λ lanes. count ≤ vec_capacity lanes) }
+{
     let mut lanes = Vec::new(alloc);
+    lanes.reserve(count)?;
+    Ok(lanes)
+}
+
+/// The lanes of members, where there is room for them.
+pub fn lanes_of(members: Vec<Member<'_>>, mut lanes: Vec<Lane>) -> Vec<Lane>
+    requires none { vec_len lanes ≡ 0 }
+    requires room { vec_len members ≤ vec_capacity lanes }
+{
     for member in members {
         let Member { lane, .. } = member;
-        lanes.push(lane)?;
+        lanes.push_reserved(lane);
     }
-    Ok(lanes)
+    lanes
 }

@@ -1,7 +1,7 @@
 ghost use Rattle.std.specs.Prelude.{◌≡◌, ◌+◌, ◌<◌, ◌≤◌, ◌⊎◌, IfOk, IsErrOf, OnOk, length, vec_len};
 
 use crate::fault::LanesFault;
-use crate::members::{drive_all, lanes_of, members_of, started};
+use crate::members::{drive_all, lanes_of, members_of, room_for, started};
 use crate::printing::print_members;
 use crate::reading::{BLOCK, CALLS_MOST, Reading};
 use crate::scripts::Script;
@@ -49,7 +49,8 @@ pub fn run_lanes<R: Threads + Wait + Sync, I: Source, O: Sink>(
     )
 }
 
-/// Makes the calls of scripts, of which the first is the prologue's, prints the answers, and closes the lanes.
+/// Makes the calls of scripts, of which the first is the prologue's, prints the answers, and closes the lanes. Want of memory is
+/// answered before anything is written.
 fn run_scripts<R: Threads + Wait + Sync, O: Sink>(
     rt: &R,
     alloc: Global,
@@ -60,6 +61,7 @@ fn run_scripts<R: Threads + Wait + Sync, O: Sink>(
 ) -> Result<(), LanesFault>
     requires some { 2 ≤ vec_len scripts }
     requires few { vec_len scripts ≤ 65 }
+    ensures memory { IsErrOf result LanesFault.Memory → O.calls writer.new ≡ O.calls writer.old }
     ensures read { IsErrOf result LanesFault.Read → ⊥ }
     ensures write { IsErrOf result LanesFault.Write → (O.faults writer.old < O.faults writer.new) ⊎ (output.new.writes_left ≡ 0) }
     ensures calls { O.calls writer.new + output.new.writes_left ≡ O.calls writer.old + output.old.writes_left }
@@ -76,7 +78,8 @@ fn run_scripts<R: Threads + Wait + Sync, O: Sink>(
     }
 }
 
-/// Makes the calls of scripts over a manager behind its lock, by a member for each, and prints the answers. Their lanes.
+/// Makes the calls of scripts over a manager behind its lock, by a member for each, and prints the answers. Their lanes, for which
+/// there is room before the first call is made.
 fn answer_scripts<'a, R: Threads + Wait + Sync, O: Sink>(
     rt: &R,
     alloc: Global,
@@ -90,15 +93,17 @@ fn answer_scripts<'a, R: Threads + Wait + Sync, O: Sink>(
     requires readers { vec_len readers ≡ vec_len scripts }
     requires some { 2 ≤ vec_len scripts }
     requires few { vec_len scripts ≤ 65 }
+    ensures memory { IsErrOf result LanesFault.Memory → O.calls writer.new ≡ O.calls writer.old }
     ensures read { IsErrOf result LanesFault.Read → ⊥ }
     ensures write { IsErrOf result LanesFault.Write → (O.faults writer.old < O.faults writer.new) ⊎ (output.new.writes_left ≡ 0) }
     ensures calls { O.calls writer.new + output.new.writes_left ≡ O.calls writer.old + output.old.writes_left }
     ensures faults { O.faults writer.old ≤ O.faults writer.new }
 {
     let mut members = members_of(alloc, shared, readers, scripts)?;
+    let lanes = room_for(alloc, members.len())?;
     drive_all(rt, shared, members.as_mut_slice())?;
     print_members(output, writer, members.as_slice())?;
-    Ok(lanes_of(alloc, members)?)
+    Ok(lanes_of(members, lanes))
 }
 
 /// Closes the lanes, and prints how many calls were made.
@@ -108,6 +113,7 @@ fn close<O: Sink>(
     output: &mut Output,
     writer: &mut O,
 ) -> Result<(), LanesFault>
+    ensures memory { IsErrOf result LanesFault.Memory → ⊥ }
     ensures read { IsErrOf result LanesFault.Read → ⊥ }
     ensures write { IsErrOf result LanesFault.Write → (O.faults writer.old < O.faults writer.new) ⊎ (output.new.writes_left ≡ 0) }
     ensures calls { O.calls writer.new + output.new.writes_left ≡ O.calls writer.old + output.old.writes_left }

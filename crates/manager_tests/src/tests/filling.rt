@@ -1,11 +1,10 @@
 //! Limits at their ends: what is made until there is no more.
 use super::FIRST;
 use super::pinning::{Move, plays_moves};
-use super::playing::asked;
 use call_tables::Ask::{
     Child, CloseHandle, Counts, Duplicate, MakeEvent, Reap, Spawn, StartThread,
 };
-use call_tables::PLAIN;
+use call_tables::{PLAIN, asked};
 use ob_manager::Reply::{Closed, Made, Reaped, Refused, Spawned};
 use ob_manager::{Call, Limits, Making, Manager, Reply};
 use ob_rights::{Fault, Rights};
@@ -113,8 +112,8 @@ fn is_renewed<K: PinKeeper>(manager: &mut Manager<K>, id: Id, outcome: Reclaim) 
         handle: 4,
     };
     asked(manager, &event(1), true) == Reply::Made { handle: 4, id }
-        && manager.apply(&close) == Reply::Closed
-        && manager.apply(&Call::Reap { slot: id.slot }) == Reply::Reaped { id, outcome }
+        && asked(manager, &close, false) == Reply::Closed
+        && asked(manager, &Call::Reap { slot: id.slot }, false) == Reply::Reaped { id, outcome }
 }
 
 fn are_renewed<K: PinKeeper>(manager: &mut Manager<K>, slot: u32, last: u32) -> bool {

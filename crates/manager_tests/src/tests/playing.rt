@@ -3,27 +3,14 @@ ghost use Rattle.std.specs.Prelude.{◌≡◌};
 ghost use Rattle.ob_store.specs.State.{shape_of};
 
 use super::pinning::{Move, plays_moves};
-use call_tables::{Ask, Line, Step, manager_over, pins_for, started};
+use call_tables::{Ask, Line, Step, asked, manager_over, pins_for, started};
 use ob_body::Body;
-use ob_manager::{Call, Limits, Manager, Reply};
+use ob_manager::{Limits, Manager, Reply};
 use ob_rights::{Fault, Kind, Rights};
 use pin_core::Id;
 use pin_words::{Opening, PinKeeper, Pins};
 use std::alloc::Global;
 use std::process::Abort;
-
-/// The reply to a call. One that may take memory is made again where that was wanting: it changed nothing.
-pub(super) fn asked<K: PinKeeper>(
-    manager: &mut Manager<K>,
-    call: &Call,
-    takes_memory: bool,
-) -> Reply {
-    let reply = manager.apply(call);
-    if takes_memory && reply == Reply::Refused(Fault::Memory) {
-        return manager.apply(call);
-    }
-    reply
-}
 
 /// Makes the calls of a table, one after another. Each reply is the one that is due.
 pub(super) fn answers<K: PinKeeper>(

@@ -1,5 +1,10 @@
-use super::{Play, gives, is_listed, made, make_event, object, over_shared, spawn, spawned};
-use ob_manager::{Call, HandleList, Mode, Reply, Timeout};
+use super::FIRST;
+use super::opening::{Scene, over_shared};
+use super::playing::{answers, asked, is_last, two_lanes};
+use call_tables::Ask::{MakeEvent, SetEvent, Spawn, StartThread, WaitFor};
+use call_tables::{Line, PLAIN};
+use ob_manager::Reply::{Made, Pending, Spawned, Started};
+use ob_manager::{Call, Limits, Mode, Reply, Timeout};
 use ob_rights::Fault;
 use ob_shared::{Lane, Shared};
 use std::alloc::Global;
@@ -8,66 +13,74 @@ use std::sync::Wait;
 use std::test::Fail;
 use std::thread::{Threads, join};
 
-fn set_event() -> Call {
-    Call::SetEvent {
+#[rattlefmt::skip]
+const BEFORE: &[Line<'static>] = &[
+    (Spawn { session: 1 }, Spawned { process: 1, thread: 1 }),
+    (StartThread { process: 1 }, Started { thread: 2 }),
+    (MakeEvent { thread: 1, make: PLAIN, manual: false, set: false }, Made { handle: 4, id: FIRST }),
+];
+
+#[rattlefmt::skip]
+const WAITS: &[Line<'static>] = &[
+    (WaitFor { thread: 2, mode: Mode::Any, timeout: Timeout::Infinite, handles: &[4] }, Pending { wait: 1 }),
+];
+
+/// Sets the event.
+fn sets<R: Wait>(
+    rt: &R,
+    alloc: Global,
+    shared: &Shared<'_>,
+    lane: &mut Lane,
+) -> Result<Reply, Fault> {
+    let set = SetEvent {
         thread: 1,
         handle: 4,
-    }
+    };
+    asked(rt, alloc, shared, lane, set)
 }
 
-/// Sets the event, and asks again where memory was wanting: somebody waits for it.
-fn sets<R: Wait>(rt: &R, shared: &Shared<'_>, lane: &mut Lane) -> Reply {
-    let reply = shared.call(rt, lane, set_event());
-    if reply != Reply::Refused(Fault::Memory) {
-        return reply;
+/// Waits for the wait, again where memory was wanting.
+fn blocks<R: Wait>(rt: &R, shared: &Shared<'_>, lane: &mut Lane) -> Reply {
+    let reply = shared.block(rt, lane, 1);
+    if reply == Reply::Refused(Fault::Memory) {
+        return shared.block(rt, lane, 1);
     }
-    shared.call(rt, lane, set_event())
+    reply
 }
 
 /// A wait that another thread answers.
+fn meets<R: Abort + Wait + Threads + Sync>(
+    rt: &R,
+    alloc: Global,
+    shared: &Shared<'_>,
+    waiter: &mut Lane,
+    setter: &mut Lane,
+) -> Result<(), Fault> {
+    answers(rt, alloc, shared, setter, BEFORE)?;
+    answers(rt, alloc, shared, waiter, WAITS)?;
+    let (answer, done) = join(
+        rt,
+        || blocks(rt, shared, waiter),
+        || sets(rt, alloc, shared, setter),
+    );
+    assert!(rt; done == Ok(Reply::Done) && answer == Reply::Code { code: 0 });
+    assert!(rt; is_last(waiter, &Call::WaitResult { wait: 1 }, answer));
+    Ok(())
+}
+
 pub(super) fn plays_a_block<R: Abort + Wait + Threads + Sync>(
     rt: &R,
     alloc: Global,
     shared: &mut Shared<'_>,
-) -> Result<(), Fail> {
+) -> Result<Vec<Lane>, Fault> {
     let mut waiter = shared.lane()?;
     let mut setter = shared.lane()?;
-    let shared = &*shared;
-    let started = Call::StartThread { process: 1 };
-    let wait = Call::WaitFor {
-        thread: 2,
-        mode: Mode::Any,
-        timeout: Timeout::Infinite,
-        handles: HandleList::new(alloc, &[4])?,
-    };
-    gives(rt, shared.call(rt, &mut setter, spawn()), spawned());
-    gives(
-        rt,
-        shared.call(rt, &mut setter, started),
-        Reply::Started { thread: 2 },
-    );
-    gives(
-        rt,
-        shared.call(rt, &mut setter, make_event()),
-        made(4, object(0, 1)),
-    );
-    gives(
-        rt,
-        shared.call(rt, &mut waiter, wait),
-        Reply::Pending { wait: 1 },
-    );
-    let (answer, done) = join(
-        rt,
-        || shared.block(rt, &mut waiter, 1),
-        || sets(rt, shared, &mut setter),
-    );
-    gives(rt, done, Reply::Done);
-    gives(rt, answer, Reply::Code { code: 0 });
-    assert!(rt; is_listed(&waiter, 1, &Call::WaitResult { wait: 1 }, answer));
-    Ok(())
+    meets(rt, alloc, shared, &mut waiter, &mut setter)?;
+    two_lanes(alloc, waiter, setter)
 }
 
 #[test]
 fn a_block_ends_when_another_thread_sets_the_event(rt: HostRuntime) -> Result<(), Fail> {
-    over_shared(&rt, rt.alloc(), Play::Block)
+    over_shared(&rt, rt.alloc(), Limits::default(), 1, Scene::Block)?;
+    Ok(())
 }

@@ -1,8 +1,15 @@
+//! Lanes that are handed in, and why they may be refused.
 ghost use Rattle.std.specs.Prelude.{◌≡◌};
 ghost use Rattle.ob_store.specs.State.{shape_of};
 
-use super::{gives, made, make_event, object, spawn, spawned};
-use ob_manager::{Call, Limits, Manager, Reply};
+use super::FIRST;
+use super::lanes::THREE_CALLS;
+use super::opening::{Scene, over_shared, shared_with};
+use super::playing::{answers, plays_by_turns};
+use call_tables::Ask::Counts;
+use call_tables::{Line, pins_for};
+use ob_manager::Limits;
+use ob_manager::Reply::CountsAre;
 use ob_rights::Fault;
 use ob_shared::{CloseCause, Lane, Shared};
 use pin_words::{Opening, Pins};
@@ -10,10 +17,11 @@ use std::alloc::Global;
 use std::process::Abort;
 use std::sync::Wait;
 use std::test::Fail;
+use std::thread::Threads;
 
 /// Which lanes are handed in.
 #[derive(Clone, Copy)]
-enum Case {
+pub(super) enum Case {
     Whole,
     Twice,
     Alone,
@@ -22,12 +30,16 @@ enum Case {
     AnotherLane,
 }
 
-/// Closes, and is answered so. A refusal hands all lanes back.
-pub(super) fn ends(rt: &impl Abort, shared: Shared<'_>, lanes: Vec<Lane>, due: Option<CloseCause>) {
-    let handed = lanes.len();
-    match shared.close(lanes) {
-        Ok(closed) => assert!(rt; due.is_none() && closed.journal.len() >= 3),
-        Err(refused) => { assert!(rt; due == Some(refused.cause) && refused.lanes.len() == handed) }
+impl Case {
+    /// Why they are refused, if they are.
+    pub(super) fn cause(self) -> Option<CloseCause> {
+        match self {
+            Case::Whole => None,
+            Case::Twice => Some(CloseCause::LaneTwice),
+            Case::Alone | Case::CallOfStranger => Some(CloseCause::LaneMissing),
+            Case::Stranger => Some(CloseCause::LaneStranger),
+            Case::AnotherLane => Some(CloseCause::LanesDiffer { lane: 1, place: 0 }),
+        }
     }
 }
 
@@ -39,123 +51,103 @@ fn lane_of(shared: &mut Shared<'_>, number: u32) -> Result<Lane, Fault> {
     shared.lane()
 }
 
-/// Two lanes that made three calls.
-fn two_lanes<R: Abort + Wait>(
-    rt: &R,
-    alloc: Global,
-    shared: &mut Shared<'_>,
-) -> Result<Vec<Lane>, Fail> {
-    let mut first = shared.lane()?;
-    let mut second = shared.lane()?;
-    let id = object(0, 1);
-    gives(rt, shared.call(rt, &mut first, spawn()), spawned());
-    gives(rt, shared.call(rt, &mut second, make_event()), made(4, id));
-    let set = Call::SetEvent {
-        thread: 1,
-        handle: 4,
-    };
-    gives(rt, shared.call(rt, &mut first, set), Reply::Done);
-    let mut lanes = Vec::new(alloc);
-    lanes.push(first)?;
-    lanes.push(second)?;
-    Ok(lanes)
-}
-
-/// A stranger makes a call.
-fn call_of_stranger<R: Abort + Wait>(
-    rt: &R,
-    shared: &Shared<'_>,
-    other: &mut Shared<'_>,
-) -> Result<(), Fail> {
-    let mut stranger = lane_of(other, 2)?;
-    let counts = Call::Counts { id: object(0, 1) };
-    let due = Reply::CountsAre {
-        handles: 1,
-        waits: 0,
-        hold: 0,
-    };
-    gives(rt, shared.call(rt, &mut stranger, counts), due);
-    Ok(())
-}
-
-/// The lanes of a case.
-fn lanes_for<R: Abort + Wait>(
-    rt: &R,
-    alloc: Global,
-    case: Case,
-    shared: &mut Shared<'_>,
-    other: &mut Shared<'_>,
-) -> Result<Vec<Lane>, Fail> {
-    let mut lanes = two_lanes(rt, alloc, shared)?;
-    match case {
-        Case::Whole => {}
-        Case::Twice => lanes.push(lane_of(other, 1)?)?,
-        Case::Alone => drop(lanes.pop()),
-        Case::Stranger => lanes.push(lane_of(other, 2)?)?,
-        Case::CallOfStranger => call_of_stranger(rt, shared, other)?,
-        Case::AnotherLane => {
-            drop(lanes.pop());
-            lanes.push(lane_of(other, 1)?)?;
-        }
-    }
-    Ok(lanes)
-}
-
-fn started<'a>(
+fn lane_over(
     alloc: Global,
     limits: Limits,
+    pins: &Pins,
     opening: Opening,
-    pins: &'a Pins,
-) -> Result<Shared<'a>, Fault>
+    number: u32,
+) -> Result<Lane, Fault>
     requires opens { opening ≡ pins.now }
     requires shape { pins.now.shape ≡ shape_of limits }
 {
-    let Ok((keeper, _)) = opening.start(pins) else {
-        return Err(Fault::Memory);
-    };
-    match Manager::new(alloc, limits, keeper) {
-        Ok(manager) => Ok(Shared::new(alloc, manager)),
-        Err(_) => Err(Fault::Memory),
-    }
+    let (mut shared, _readers) = shared_with(alloc, limits, opening, pins, 1)?;
+    lane_of(&mut shared, number)
 }
 
-fn closes<R: Abort + Wait>(
+/// The lane of a number, of another manager behind its lock.
+fn lane_of_another(alloc: Global, number: u32) -> Result<Lane, Fault> {
+    let limits = Limits::default();
+    let (pins, opening) = pins_for(alloc, limits)?;
+    lane_over(alloc, limits, &pins, opening, number)
+}
+
+const COUNTED: &[Line<'static>] = &[(
+    Counts { id: FIRST },
+    CountsAre {
+        handles: 1,
+        waits: 0,
+        hold: 0,
+    },
+)];
+
+/// The lanes are changed as a case says.
+fn change<R: Abort + Wait>(
+    rt: &R,
+    alloc: Global,
+    shared: &Shared<'_>,
+    lanes: &mut Vec<Lane>,
+    case: Case,
+) -> Result<(), Fault> {
+    match case {
+        Case::Whole => {}
+        Case::Twice => lanes.push(lane_of_another(alloc, 1)?)?,
+        Case::Alone => drop(lanes.pop()),
+        Case::Stranger => lanes.push(lane_of_another(alloc, 2)?)?,
+        Case::CallOfStranger => {
+            let mut stranger = lane_of_another(alloc, 2)?;
+            answers(rt, alloc, shared, &mut stranger, COUNTED)?;
+        }
+        Case::AnotherLane => {
+            drop(lanes.pop());
+            lanes.push(lane_of_another(alloc, 1)?)?;
+        }
+    }
+    Ok(())
+}
+
+/// Two lanes that made three calls, changed as a case says.
+pub(super) fn plays_a_case<R: Abort + Wait>(
+    rt: &R,
+    alloc: Global,
+    shared: &mut Shared<'_>,
+    case: Case,
+) -> Result<Vec<Lane>, Fault> {
+    let mut lanes = plays_by_turns(rt, alloc, shared, THREE_CALLS)?;
+    change(rt, alloc, shared, &mut lanes, case)?;
+    Ok(lanes)
+}
+
+fn over_case<R: Abort + Wait + Threads + Sync>(
     rt: &R,
     alloc: Global,
     case: Case,
-    due: Option<CloseCause>,
-) -> Result<(), Fail> {
-    let limits = Limits::default();
-    let (pins, opening) = Pins::new(alloc, limits.shape())?;
-    let (other_pins, other_opening) = Pins::new(alloc, limits.shape())?;
-    let mut shared = started(alloc, limits, opening, &pins)?;
-    let mut other = started(alloc, limits, other_opening, &other_pins)?;
-    let lanes = lanes_for(rt, alloc, case, &mut shared, &mut other)?;
-    ends(rt, shared, lanes, due);
-    Ok(())
+) -> Result<(), Fault> {
+    over_shared(rt, alloc, Limits::default(), 1, Scene::Closes(case))
 }
 
 #[test]
 fn it_closes_with_its_lanes(rt: HostRuntime) -> Result<(), Fail> {
-    closes(&rt, rt.alloc(), Case::Whole, None)
+    over_case(&rt, rt.alloc(), Case::Whole)?;
+    Ok(())
 }
 
 #[test]
 fn a_lane_twice_is_refused(rt: HostRuntime) -> Result<(), Fail> {
-    closes(&rt, rt.alloc(), Case::Twice, Some(CloseCause::LaneTwice))
+    over_case(&rt, rt.alloc(), Case::Twice)?;
+    Ok(())
 }
 
 #[test]
 fn a_lane_that_is_missing_is_refused(rt: HostRuntime) -> Result<(), Fail> {
-    let missing = Some(CloseCause::LaneMissing);
-    closes(&rt, rt.alloc(), Case::Alone, missing)?;
-    closes(&rt, rt.alloc(), Case::CallOfStranger, missing)
+    over_case(&rt, rt.alloc(), Case::Alone)?;
+    over_case(&rt, rt.alloc(), Case::CallOfStranger)?;
+    Ok(())
 }
 
 #[test]
 fn a_lane_of_another_is_refused(rt: HostRuntime) -> Result<(), Fail> {
-    let stranger = Some(CloseCause::LaneStranger);
-    let differ = Some(CloseCause::LanesDiffer { lane: 1, place: 0 });
-    closes(&rt, rt.alloc(), Case::Stranger, stranger)?;
-    closes(&rt, rt.alloc(), Case::AnotherLane, differ)
+    over_case(&rt, rt.alloc(), Case::Stranger)?;
+    over_case(&rt, rt.alloc(), Case::AnotherLane)?;
+    Ok(())
 }

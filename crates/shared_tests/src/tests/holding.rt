@@ -1,26 +1,36 @@
+//! Readers that hold an object.
 ghost use Rattle.std.specs.Prelude.{◌≡◌, Some};
+ghost use Rattle.ob_store.specs.State.{shape_of};
 
-use super::{Play, gives, made, make_event, object, over_shared, reaped, spawn, spawned};
-use ob_manager::{Call, Card, Limits, Manager, Reply};
+use super::opening::{Scene, over_shared};
+use super::playing::{answers, one_lane};
+use super::{FIRST, SECOND};
+use call_tables::Ask::{CloseHandle, MakeEvent, Reap, Spawn};
+use call_tables::{Line, PLAIN, asked, manager_over, pins_for, started};
+use ob_manager::Reply::{Closed, Made, Reaped, Refused, Spawned};
+use ob_manager::{Card, Limits, Manager};
 use ob_rights::{Fault, Kind, Rights};
-use ob_shared::Shared;
+use ob_shared::{Lane, Shared};
 use pin_core::{Descr, Id};
-use pin_words::{Keeper, Pins, Reader, Reclaim};
+use pin_words::{Keeper, Opening, Pins, Reader, Reclaim};
+use std::alloc::Global;
 use std::process::Abort;
 use std::sync::Wait;
 use std::test::Fail;
 
-/// The card of an event that is reset by itself, which any open may get.
-fn card_of_event(id: Id) -> Card {
-    Card {
-        id,
-        descr: Descr {
-            kind: Kind::Event,
-            manual: false,
-            max: 0,
-        },
-        grant: Rights(0x001F_0003),
-    }
+/// What is done with a manager behind its lock, and with a reader.
+#[derive(Clone, Copy)]
+pub(super) enum Move<'a> {
+    /// Calls, one after another.
+    Calls(&'a [Line<'a>]),
+    /// The reader pins an object.
+    Pins(Id),
+    /// The reader is shown what an object was created as, if it holds it.
+    Shows(Id, Option<Card>),
+    /// The reader lets a copy of an Id go, where there is one: whether there was.
+    Unpins(Id, bool),
+    /// The reader is dropped.
+    Drops,
 }
 
 fn inspected<R: Wait>(rt: &R, shared: &Shared<'_>, reader: &Reader<'_>, id: Id) -> Option<Card> {
@@ -30,7 +40,7 @@ fn inspected<R: Wait>(rt: &R, shared: &Shared<'_>, reader: &Reader<'_>, id: Id) 
     shared.inspect(rt, reader, id)
 }
 
-pub(super) fn release(reader: &mut Reader<'_>, id: Id) -> bool {
+fn unpins(reader: &mut Reader<'_>, id: Id) -> bool {
     if !reader.holds(id) {
         return false;
     }
@@ -38,82 +48,202 @@ pub(super) fn release(reader: &mut Reader<'_>, id: Id) -> bool {
     true
 }
 
-/// An object that a reader holds has its card after its last handle is closed, and isn't taken back.
-pub(super) fn plays_a_held_object<R: Abort + Wait>(
+/// What a reader does. Whether it went as is due.
+fn reads<R: Wait>(rt: &R, shared: &Shared<'_>, reader: &mut Reader<'_>, step: &Move<'_>) -> bool {
+    match *step {
+        Move::Pins(id) => reader.pin(rt, id).is_ok(),
+        Move::Shows(id, due) => inspected(rt, shared, reader, id) == due,
+        Move::Unpins(id, due) => unpins(reader, id) == due,
+        Move::Calls(_) | Move::Drops => true,
+    }
+}
+
+/// The last reader does something. Whether it went as is due.
+fn last_reads<R: Wait>(
     rt: &R,
-    shared: &mut Shared<'_>,
-    reader: &mut Reader<'_>,
-) -> Result<(), Fail> {
-    let mut lane = shared.lane()?;
-    let id = object(0, 1);
-    let close = Call::CloseHandle {
-        thread: 1,
-        handle: 4,
-    };
-    let held = reaped(id, Reclaim::Held { pins: 1 });
-    gives(rt, shared.call(rt, &mut lane, spawn()), spawned());
-    gives(rt, shared.call(rt, &mut lane, make_event()), made(4, id));
-    assert!(rt; reader.pin(rt, id).is_ok());
-    gives(rt, shared.call(rt, &mut lane, close), Reply::Closed);
-    assert!(rt; inspected(rt, shared, reader, id) == Some(card_of_event(id)));
-    gives(rt, shared.call(rt, &mut lane, Call::Reap { slot: 0 }), held);
-    assert!(rt; release(reader, id));
-    gives(
-        rt,
-        shared.call(rt, &mut lane, Call::Reap { slot: 0 }),
-        reaped(id, Reclaim::Freed),
-    );
+    shared: &Shared<'_>,
+    readers: &mut Vec<Reader<'_>>,
+    step: &Move<'_>,
+) -> bool {
+    match readers.last_mut() {
+        Some(reader) => reads(rt, shared, reader, step),
+        None => false,
+    }
+}
+
+fn makes<R: Abort + Wait>(
+    rt: &R,
+    alloc: Global,
+    shared: &Shared<'_>,
+    lane: &mut Lane,
+    readers: &mut Vec<Reader<'_>>,
+    step: &Move<'_>,
+) -> Result<(), Fault> {
+    match *step {
+        Move::Calls(table) => answers(rt, alloc, shared, lane, table)?,
+        Move::Drops => drop(readers.pop()),
+        _ => assert!(rt; last_reads(rt, shared, readers, step)),
+    }
     Ok(())
 }
 
-#[test]
-fn a_held_object_has_its_card(rt: HostRuntime) -> Result<(), Fail> {
-    over_shared(&rt, rt.alloc(), Play::HeldObject)
-}
-
-/// A call of a manager that nobody shares.
-#[tactic(auto, using(crate::proofs::Tables::step_table))]
-fn asked<'a>(manager: &mut Manager<Keeper<'a>>, call: &Call) -> Reply
-    ensures { manager.new.keeper.table ≡ manager.old.keeper.table }
-{
-    manager.apply(call)
-}
-
-/// The same without a lock.
-fn plays_a_held_object_alone<'a, R: Abort + Wait>(
+/// Makes all moves, one after another, with the last reader.
+pub(super) fn plays_moves<R: Abort + Wait>(
     rt: &R,
-    manager: &mut Manager<Keeper<'a>>,
-    reader: &mut Reader<'a>,
-)
-    requires { manager.old.keeper.table ≡ Some reader.old.table }
-{
-    let id = object(0, 1);
-    let close = Call::CloseHandle {
+    alloc: Global,
+    shared: &mut Shared<'_>,
+    readers: &mut Vec<Reader<'_>>,
+    moves: &[Move<'_>],
+) -> Result<Vec<Lane>, Fault> {
+    let mut lane = shared.lane()?;
+    for step in moves {
+        makes(rt, alloc, shared, &mut lane, readers, step)?;
+    }
+    one_lane(alloc, lane)
+}
+
+/// An event that is reset by itself, which any open may get.
+const CARD: Card = Card {
+    id: FIRST,
+    descr: Descr {
+        kind: Kind::Event,
+        manual: false,
+        max: 0,
+    },
+    grant: Rights(0x001F_0003),
+};
+
+#[rattlefmt::skip]
+const MADE: &[Line<'static>] = &[
+    (Spawn { session: 1 }, Spawned { process: 1, thread: 1 }),
+    (MakeEvent { thread: 1, make: PLAIN, manual: false, set: false }, Made { handle: 4, id: FIRST }),
+];
+
+const CLOSED: &[Line<'static>] = &[(
+    CloseHandle {
         thread: 1,
         handle: 4,
-    };
-    let reap = Call::Reap { slot: 0 };
-    gives(rt, asked(manager, &spawn()), spawned());
-    gives(rt, asked(manager, &make_event()), made(4, id));
-    assert!(rt; reader.pin(rt, id).is_ok());
-    gives(rt, asked(manager, &close), Reply::Closed);
-    assert!(rt; reader.holds(id) && manager.inspect(reader, id) == card_of_event(id));
-    let held = reaped(id, Reclaim::Held { pins: 1 });
-    gives(rt, asked(manager, &reap), held);
-    assert!(rt; release(reader, id));
-    gives(rt, asked(manager, &reap), reaped(id, Reclaim::Freed));
+    },
+    Closed,
+)];
+
+const IS_HELD: &[Line<'static>] = &[(
+    Reap { slot: 0 },
+    Reaped {
+        id: FIRST,
+        outcome: Reclaim::Held { pins: 1 },
+    },
+)];
+
+const IS_FREED: &[Line<'static>] = &[(
+    Reap { slot: 0 },
+    Reaped {
+        id: FIRST,
+        outcome: Reclaim::Freed,
+    },
+)];
+
+/// An object that a reader holds has its card after its last handle is closed, and isn't taken back.
+const HELD: &[Move<'static>] = &[
+    Move::Calls(MADE),
+    Move::Shows(FIRST, None),
+    Move::Pins(FIRST),
+    Move::Calls(CLOSED),
+    Move::Shows(FIRST, Some(CARD)),
+    Move::Calls(IS_HELD),
+    Move::Unpins(FIRST, true),
+    Move::Unpins(FIRST, false),
+    Move::Calls(IS_FREED),
+];
+
+#[test]
+fn a_held_object_has_its_card(rt: HostRuntime) -> Result<(), Fail> {
+    let limits = Limits::default();
+    over_shared(&rt, rt.alloc(), limits, 1, Scene::Holds(HELD))?;
+    Ok(())
+}
+
+/// A reader that goes while it holds leaves its slot out of use, and all else goes on.
+#[rattlefmt::skip]
+const DROPPED: &[Move<'static>] = &[
+    Move::Calls(MADE),
+    Move::Pins(FIRST),
+    Move::Drops,
+    Move::Calls(CLOSED),
+    Move::Calls(IS_HELD),
+    Move::Calls(&[
+        (MakeEvent { thread: 1, make: PLAIN, manual: false, set: false }, Made { handle: 4, id: SECOND }),
+        (MakeEvent { thread: 1, make: PLAIN, manual: false, set: false }, Refused(Fault::Limit)),
+    ]),
+    Move::Calls(IS_HELD),
+    Move::Calls(&[
+        (CloseHandle { thread: 1, handle: 4 }, Closed),
+        (Reap { slot: 1 }, Reaped { id: SECOND, outcome: Reclaim::Freed }),
+        (MakeEvent { thread: 1, make: PLAIN, manual: false, set: false }, Made { handle: 4, id: Id { slot: 1, generation: 2 } }),
+    ]),
+    Move::Calls(IS_HELD),
+];
+
+#[test]
+fn a_dropped_reader_leaves_its_slot_out_of_use(rt: HostRuntime) -> Result<(), Fail> {
+    let limits = Limits::checked(2, 4, 4, 8, 4, 4, 8, 4)?;
+    over_shared(&rt, rt.alloc(), limits, 1, Scene::Holds(DROPPED))?;
+    Ok(())
+}
+
+/// Makes the calls of a table without a lock.
+fn answers_alone<'a>(
+    rt: &impl Abort,
+    alloc: Global,
+    manager: &mut Manager<Keeper<'a>>,
+    table: &[Line<'_>],
+) -> Result<(), Fault>
+    ensures { manager.new.keeper.table ≡ manager.old.keeper.table }
+{
+    for (ask, due) in table {
+        let call = ask.to_call(alloc)?;
+        assert_eq!(rt; asked(manager, &call, ask.takes_memory(*due)), *due);
+    }
+    Ok(())
+}
+
+/// A held object without a lock.
+fn holds_alone<'a, R: Abort + Wait>(
+    rt: &R,
+    alloc: Global,
+    manager: &mut Manager<Keeper<'a>>,
+    reader: &mut Reader<'a>,
+) -> Result<(), Fault>
+    requires { manager.old.keeper.table ≡ Some reader.old.table }
+{
+    answers_alone(rt, alloc, manager, MADE)?;
+    assert!(rt; reader.pin(rt, FIRST).is_ok());
+    answers_alone(rt, alloc, manager, CLOSED)?;
+    assert!(rt; reader.holds(FIRST) && manager.inspect(reader, FIRST) == CARD);
+    answers_alone(rt, alloc, manager, IS_HELD)?;
+    assert!(rt; unpins(reader, FIRST));
+    answers_alone(rt, alloc, manager, IS_FREED)
+}
+
+fn plays_alone<R: Abort + Wait>(
+    rt: &R,
+    alloc: Global,
+    limits: Limits,
+    pins: &Pins,
+    opening: Opening,
+) -> Result<(), Fault>
+    requires opens { opening ≡ pins.now }
+    requires shape { pins.now.shape ≡ shape_of limits }
+{
+    let (keeper, mut reader) = started(opening, pins)?;
+    let mut manager = manager_over(alloc, limits, keeper)?;
+    holds_alone(rt, alloc, &mut manager, &mut reader)
 }
 
 #[test]
 fn a_manager_inspects_a_held_object(rt: HostRuntime) -> Result<(), Fail> {
     let limits = Limits::default();
-    let (pins, opening) = Pins::new(rt.alloc(), limits.shape())?;
-    let Ok((keeper, mut reader)) = opening.start(&pins) else {
-        return Err(Fail::from(Fault::Memory));
-    };
-    let Ok(mut manager) = Manager::new(rt.alloc(), limits, keeper) else {
-        return Err(Fail::from(Fault::Memory));
-    };
-    plays_a_held_object_alone(&rt, &mut manager, &mut reader);
+    let (pins, opening) = pins_for(rt.alloc(), limits)?;
+    plays_alone(&rt, rt.alloc(), limits, &pins, opening)?;
     Ok(())
 }

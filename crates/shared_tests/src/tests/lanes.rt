@@ -1,41 +1,31 @@
-use super::{Play, gives, is_listed, made, make_event, object, over_shared, spawn, spawned};
-use ob_manager::{Call, Reply};
+use super::FIRST;
+use super::opening::{Scene, over_shared};
+use call_tables::Ask::{Counts, MakeEvent, Spawn};
+use call_tables::{PLAIN, Step};
+use ob_manager::Limits;
+use ob_manager::Reply::{CountsAre, Made, Spawned};
 use ob_rights::Fault;
-use ob_shared::Shared;
+use ob_shared::{Lane, Shared};
+use std::alloc::Global;
 use std::process::Abort;
-use std::sync::Wait;
 use std::test::Fail;
 
 /// How many lanes there may be.
 const LANES: u32 = 65_536;
 
-/// Each lane lists its own calls, in their order.
-pub(super) fn plays_two_lanes<R: Abort + Wait>(
-    rt: &R,
-    shared: &mut Shared<'_>,
-) -> Result<(), Fail> {
-    let mut first = shared.lane()?;
-    let mut second = shared.lane()?;
-    let id = object(0, 1);
-    let counts = Reply::CountsAre {
-        handles: 1,
-        waits: 0,
-        hold: 0,
-    };
-    gives(rt, shared.call(rt, &mut first, spawn()), spawned());
-    gives(rt, shared.call(rt, &mut second, make_event()), made(4, id));
-    gives(rt, shared.call(rt, &mut first, Call::Counts { id }), counts);
-    assert!(rt; first.number() == 0 && second.number() == 1);
-    assert!(rt; first.receipts().len() == 2 && second.receipts().len() == 1);
-    assert!(rt; is_listed(&first, 0, &spawn(), spawned()));
-    assert!(rt; is_listed(&second, 0, &make_event(), made(4, id)));
-    assert!(rt; is_listed(&first, 1, &Call::Counts { id }, counts));
-    Ok(())
-}
+/// Calls of lane 0, lane 1 and lane 0 again.
+#[rattlefmt::skip]
+pub(super) const THREE_CALLS: &[Step<'static>] = &[Step::Calls(&[
+    (Spawn { session: 1 }, Spawned { process: 1, thread: 1 }),
+    (MakeEvent { thread: 1, make: PLAIN, manual: false, set: false }, Made { handle: 4, id: FIRST }),
+    (Counts { id: FIRST }, CountsAre { handles: 1, waits: 0, hold: 0 }),
+])];
 
 #[test]
 fn each_lane_lists_its_calls(rt: HostRuntime) -> Result<(), Fail> {
-    over_shared(&rt, rt.alloc(), Play::TwoLanes)
+    let limits = Limits::default();
+    over_shared(&rt, rt.alloc(), limits, 1, Scene::ByTurns(THREE_CALLS))?;
+    Ok(())
 }
 
 /// Whether so many lanes are given, by rising number.
@@ -49,14 +39,20 @@ fn gives_lanes(shared: &mut Shared<'_>, number: u32) -> bool {
     true
 }
 
-pub(super) fn plays_many_lanes(rt: &impl Abort, shared: &mut Shared<'_>) -> Result<(), Fail> {
+/// All lanes are given. None is handed in.
+pub(super) fn plays_many_lanes(
+    rt: &impl Abort,
+    alloc: Global,
+    shared: &mut Shared<'_>,
+) -> Vec<Lane> {
     assert!(rt; gives_lanes(shared, LANES));
     assert!(rt; matches!(shared.lane(), Err(Fault::Limit)));
     assert!(rt; matches!(shared.lane(), Err(Fault::Limit)));
-    Ok(())
+    Vec::new(alloc)
 }
 
 #[test]
 fn no_more_than_65536_lanes_are_given(rt: HostRuntime) -> Result<(), Fail> {
-    over_shared(&rt, rt.alloc(), Play::ManyLanes)
+    over_shared(&rt, rt.alloc(), Limits::default(), 1, Scene::ManyLanes)?;
+    Ok(())
 }

@@ -1,56 +1,19 @@
+//! Members that are driven, and what they show.
 ghost use Rattle.std.specs.Prelude.{◌≡◌, All, IsTrue};
-ghost use Rattle.pin_words.specs.Keepers.{state_of};
-ghost use Rattle.ob_store.specs.State.{shape_of};
 ghost use Rattle.ob_shared.specs.Members.{IsNew};
 
+use super::playing::{answers, room_for};
+use super::turns::Turns;
 use super::{crowd, turns, wanting};
-use ob_manager::{Limits, Manager};
+use call_tables::{Ask, Line};
 use ob_rights::Fault;
-use ob_shared::{Act, Closed, Lane, Member, Shared};
-use pin_words::{Keeper, Opening, Pins, Reader};
+use ob_shared::{Act, Gate, Lane, Member, OpenGate, Shared, drive};
+use pin_core::Id;
+use pin_words::Reader;
 use std::alloc::{AllocError, Global};
-
-/// So many readers, of which the first is given.
-fn readers_of<'a>(
-    alloc: Global,
-    keeper: &mut Keeper<'a>,
-    first: Reader<'a>,
-    count: usize,
-) -> Result<Vec<Reader<'a>>, AllocError>
-    ensures slots { keeper.new.view.slots ≡ keeper.old.view.slots }
-    ensures published { keeper.new.view.published ≡ keeper.old.view.published }
-    ensures shape { keeper.new.view.shape ≡ keeper.old.view.shape }
-{
-    let mut readers = Vec::new(alloc);
-    readers.push(first)?;
-    for _ in 1..count {
-        readers.push(keeper.reader())?;
-    }
-    Ok(readers)
-}
-
-/// A manager behind its lock, and so many readers.
-pub(super) fn started_with<'a>(
-    alloc: Global,
-    limits: Limits,
-    opening: Opening,
-    pins: &'a Pins,
-    count: usize,
-) -> Result<(Shared<'a>, Vec<Reader<'a>>), Fault>
-    requires opens { opening ≡ pins.now }
-    requires shape { pins.now.shape ≡ shape_of limits }
-{
-    let Ok((mut keeper, first)) = opening.start(pins) else {
-        return Err(Fault::Memory);
-    };
-    let Ok(readers) = readers_of(alloc, &mut keeper, first, count) else {
-        return Err(Fault::Memory);
-    };
-    match Manager::new(alloc, limits, keeper) {
-        Ok(manager) => Ok((Shared::new(alloc, manager), readers)),
-        Err(_) => Err(Fault::Memory),
-    }
-}
+use std::process::Abort;
+use std::sync::Wait;
+use std::thread::Threads;
 
 /// What members are to do.
 #[derive(Clone, Copy)]
@@ -60,12 +23,57 @@ pub(super) enum Script {
     Waits,
 }
 
-fn script_of(alloc: Global, script: Script, number: u32) -> Result<Vec<Act>, AllocError> {
-    match script {
-        Script::InTurn => turns::script_of(alloc, number),
-        Script::Crowd => crowd::script_of(alloc, number),
-        Script::Waits => wanting::script_of(alloc, number),
+/// An act, with the name or the handles of its call borrowed.
+#[derive(Clone, Copy)]
+pub(super) enum Deed<'a> {
+    Ask(Ask<'a>),
+    Pin(Id),
+    Unpin(Id),
+    ShowCard(Id),
+    Block,
+}
+
+impl Deed<'_> {
+    /// The act, with a name or handles of its own.
+    fn to_act(self, alloc: Global) -> Result<Act, AllocError> {
+        match self {
+            Deed::Ask(ask) => Ok(Act::Ask(ask.to_call(alloc)?)),
+            Deed::Pin(id) => Ok(Act::Pin(id)),
+            Deed::Unpin(id) => Ok(Act::Unpin(id)),
+            Deed::ShowCard(id) => Ok(Act::ShowCard(id)),
+            Deed::Block => Ok(Act::Block),
+        }
     }
+}
+
+/// How many acts a member has.
+fn acts_of(script: Script) -> usize {
+    match script {
+        Script::InTurn => 1,
+        Script::Crowd => crowd::ACTS,
+        Script::Waits => wanting::ACTS,
+    }
+}
+
+/// The act of the member of a lane, at a place of its script.
+fn act_at(script: Script, number: u32, place: usize) -> Deed<'static> {
+    match script {
+        Script::InTurn => turns::deed(number),
+        Script::Crowd => crowd::deed(number, place),
+        Script::Waits => wanting::DEED,
+    }
+}
+
+fn script_of(alloc: Global, script: Script, number: u32) -> Result<Vec<Act>, AllocError> {
+    let many = acts_of(script);
+    let mut acts = Vec::new(alloc);
+    if acts.reserve(many).is_err() {
+        acts.reserve(many)?;
+    }
+    for place in 0..many {
+        acts.push(act_at(script, number, place).to_act(alloc)?)?;
+    }
+    Ok(acts)
 }
 
 /// A member of the next lane.
@@ -76,9 +84,7 @@ fn member<'a>(
     script: Script,
 ) -> Result<Member<'a>, Fault> {
     let lane = shared.lane()?;
-    let Ok(script) = script_of(alloc, script, lane.number()) else {
-        return Err(Fault::Memory);
-    };
+    let script = script_of(alloc, script, lane.number())?;
     Ok(Member {
         lane,
         reader,
@@ -88,33 +94,97 @@ fn member<'a>(
 }
 
 /// A member for each reader.
-pub(super) fn members_of<'a>(
+fn members_of<'a>(
     alloc: Global,
     shared: &mut Shared<'_>,
-    readers: Vec<Reader<'a>>,
+    readers: &mut Vec<Reader<'a>>,
     script: Script,
 ) -> Result<Vec<Member<'a>>, Fault> {
     let mut members = Vec::new(alloc);
-    for reader in readers {
-        members.push(member(alloc, shared, reader, script)?)?;
+    if members.reserve(readers.len()).is_err() {
+        members.reserve(readers.len())?;
+    }
+    for _ in 0..readers.len() {
+        if let Some(reader) = readers.pop() {
+            members.push(member(alloc, shared, reader, script)?)?;
+        }
     }
     Ok(members)
 }
 
 /// Whether no member has seen anything.
-pub(super) fn all_new<'a>(members: &[Member<'a>]) -> bool
+fn all_new<'a>(members: &[Member<'a>]) -> bool
     ensures { IsTrue result → All IsNew members.now }
 {
     members.iter().all(|member| member.seen.is_empty())
 }
 
+/// Whether nothing was done in a member, which has so many acts.
+fn is_untouched(member: &Member<'_>, acts: usize) -> bool {
+    member.seen.is_empty()
+        && member.script.len() == acts
+        && member.lane.receipts().is_empty()
+        && member.reader.held().is_empty()
+}
+
+fn tries<R: Abort + Wait + Threads + Sync, G: Gate + Sync>(
+    rt: &R,
+    shared: &Shared<'_>,
+    gate: &G,
+    members: &mut [Member<'_>],
+) -> bool {
+    assert!(rt; all_new(members) && members.len() <= 64);
+    drive(rt, shared, gate, members).is_ok()
+}
+
+/// Drives, and where memory is wanting drives again what is untouched.
+fn drives<R: Abort + Wait + Threads + Sync, G: Gate + Sync>(
+    rt: &R,
+    shared: &Shared<'_>,
+    gate: &G,
+    members: &mut [Member<'_>],
+    acts: usize,
+) {
+    if !tries(rt, shared, gate, members) {
+        assert!(rt; members.iter().all(|member| is_untouched(member, acts)));
+        assert!(rt; tries(rt, shared, gate, members));
+    }
+    assert!(rt; members.iter().all(|member| member.seen.len() == acts));
+}
+
+/// Drives past a script's gate. The members have seen what they should.
+fn drives_all<R: Abort + Wait + Threads + Sync>(
+    rt: &R,
+    shared: &Shared<'_>,
+    members: &mut [Member<'_>],
+    script: Script,
+) {
+    let acts = acts_of(script);
+    match script {
+        Script::InTurn => drives(rt, shared, &Turns::new(), members, acts),
+        _ => drives(rt, shared, &OpenGate, members, acts),
+    }
+    assert!(rt;
+        match script {
+            Script::InTurn => turns::are_done(members),
+            Script::Crowd => members.iter().all(|member| crowd::is_done(member)),
+            Script::Waits => true,
+        }
+    );
+}
+
+/// The calls of a script's first lane.
+fn before(script: Script) -> &'static [Line<'static>] {
+    match script {
+        Script::InTurn => turns::BEFORE,
+        Script::Crowd => &[],
+        Script::Waits => wanting::BEFORE,
+    }
+}
+
 /// The lanes of all members, and one more.
-pub(super) fn lanes_of(
-    alloc: Global,
-    first: Lane,
-    members: Vec<Member<'_>>,
-) -> Result<Vec<Lane>, Fault> {
-    let mut lanes = Vec::new(alloc);
+fn lanes_of(alloc: Global, first: Lane, members: Vec<Member<'_>>) -> Result<Vec<Lane>, Fault> {
+    let mut lanes = room_for(alloc, 65)?;
     lanes.push(first)?;
     for member in members {
         let Member { lane, .. } = member;
@@ -123,7 +193,20 @@ pub(super) fn lanes_of(
     Ok(lanes)
 }
 
-/// What is left of a manager behind its lock, once it is closed.
-pub(super) fn closed(shared: Shared<'_>, lanes: Vec<Lane>) -> Option<Closed<'_>> {
-    shared.close(lanes).ok()
+/// Lane 0 and the members do all they do. Their lanes.
+pub(super) fn plays_members<R: Abort + Wait + Threads + Sync>(
+    rt: &R,
+    alloc: Global,
+    shared: &mut Shared<'_>,
+    readers: &mut Vec<Reader<'_>>,
+    script: Script,
+) -> Result<Vec<Lane>, Fault> {
+    let mut first = shared.lane()?;
+    answers(rt, alloc, shared, &mut first, before(script))?;
+    if let Script::Crowd = script {
+        crowd::begins(rt, alloc, shared, &mut first)?;
+    }
+    let mut members = members_of(alloc, shared, readers, script)?;
+    drives_all(rt, shared, members.as_mut_slice(), script);
+    lanes_of(alloc, first, members)
 }

@@ -1,14 +1,23 @@
-use super::closing::ends;
-use super::{gives, made, object, plain, reaped, spawn, spawned};
-use ob_manager::{Call, Limits, Manager, Reply};
+//! Four readers beside who makes and closes.
+use super::opening::{Scene, over_shared};
+use super::playing::{answers_one, asked, one_lane};
+use call_tables::Ask::{CloseHandle, MakeSemaphore, Reap, Spawn};
+use call_tables::{Ask, PLAIN};
+use ob_manager::Reply::{Closed, Made, Reaped, Spawned};
+use ob_manager::{Limits, Reply};
 use ob_rights::{Fault, Kind};
 use ob_shared::{Lane, Shared};
 use pin_core::{Descr, Id};
-use pin_words::{PinFault, Pins, Reader, Reclaim};
+use pin_words::{PinFault, Reader, Reclaim};
+use std::alloc::Global;
 use std::process::Abort;
 use std::sync::Wait;
 use std::test::Fail;
+use std::thread;
 use std::thread::{Threads, join};
+
+/// How many readers there are.
+const READERS: usize = 4;
 
 /// How often each reader tries to pin.
 const TRIES: u32 = 100_000;
@@ -19,6 +28,11 @@ const ROUNDS: u32 = 10_000;
 /// How many slots are given again and again.
 const SLOTS: u32 = 4;
 
+/// The object of a slot, by its generation.
+fn object(slot: u32, generation: u32) -> Id {
+    Id { slot, generation }
+}
+
 /// What the object of an Id is made as: each two have another maximum.
 fn descr_of(id: Id) -> Descr {
     Descr {
@@ -28,10 +42,10 @@ fn descr_of(id: Id) -> Descr {
     }
 }
 
-fn call_to_make(id: Id) -> Call {
-    Call::MakeSemaphore {
+fn call_to_make(id: Id) -> Ask<'static> {
+    MakeSemaphore {
         thread: 1,
-        make: plain(),
+        make: PLAIN,
         initial: 0,
         max: i32::try_from(descr_of(id).max).unwrap_or(1),
     }
@@ -49,157 +63,163 @@ fn pins_another<R: Wait>(rt: &R, reader: &mut Reader<'_>, id: Id) -> Result<bool
     Ok(descr != descr_of(id))
 }
 
-/// What a reader has seen.
-#[derive(Clone, Copy)]
-struct Seen {
-    pins: u32,
-    wrong: u32,
-}
-
-/// Tries to pin the slots in turn, each at the generation after the last that was stale.
-fn reads<R: Wait>(rt: &R, reader: &mut Reader<'_>, tries: u32) -> Seen {
-    let mut seen = Seen { pins: 0, wrong: 0 };
+/// Tries to pin the slots in turn, each at the generation after the last that was stale. Whether something was pinned, and
+/// nothing seen but what was made.
+fn reads<R: Wait>(rt: &R, reader: &mut Reader<'_>) -> bool {
+    let mut pins = 0u32;
     let mut generations = [1u32; 4];
-    for place in 0..tries {
+    for place in 0..TRIES {
         let slot = place % SLOTS;
         let generation = generations[slot as usize];
         match pins_another(rt, reader, object(slot, generation)) {
-            Ok(is_another) => {
-                seen.pins = seen.pins.saturating_add(1);
-                if is_another {
-                    seen.wrong = seen.wrong.saturating_add(1);
-                }
-            }
+            Ok(false) => pins = pins.saturating_add(1),
             Err(PinFault::Stale) => generations[slot as usize] = generation.saturating_add(1),
             Err(PinFault::Unborn) => {}
-            Err(_) => seen.wrong = seen.wrong.saturating_add(1),
+            _ => return false,
         }
     }
-    seen
+    pins > 0
 }
 
-/// Closes the object of a slot, takes the slot back as soon as nobody holds it, and makes the next one there.
-fn renews<R: Abort + Wait>(rt: &R, shared: &Shared<'_>, lane: &mut Lane, id: Id) {
-    let handle = handle_of(id.slot);
-    let close = Call::CloseHandle { thread: 1, handle };
-    gives(rt, shared.call(rt, lane, close), Reply::Closed);
+/// Takes a slot back as soon as nobody holds it.
+fn reaps<R: Abort + Wait>(
+    rt: &R,
+    alloc: Global,
+    shared: &Shared<'_>,
+    lane: &mut Lane,
+    id: Id,
+) -> Result<(), Fault> {
     for _ in rt.forever() {
-        match shared.call(rt, lane, Call::Reap { slot: id.slot }) {
+        let reply = asked(rt, alloc, shared, lane, Reap { slot: id.slot })?;
+        if !matches!(
+            reply,
             Reply::Reaped {
                 outcome: Reclaim::Held { .. },
                 ..
-            } => {}
-            reply => {
-                gives(rt, reply, reaped(id, Reclaim::Freed));
-                break;
             }
+        ) {
+            assert!(rt;
+                reply
+                    == Reaped {
+                        id,
+                        outcome: Reclaim::Freed
+                    }
+            );
+            return Ok(());
         }
     }
+    Ok(())
+}
+
+/// Closes the object of a slot, and makes the next one there as soon as nobody holds it.
+fn renews<R: Abort + Wait>(
+    rt: &R,
+    alloc: Global,
+    shared: &Shared<'_>,
+    lane: &mut Lane,
+    id: Id,
+) -> Result<(), Fault> {
+    let handle = handle_of(id.slot);
     let next = object(id.slot, id.generation.saturating_add(1));
-    gives(
+    answers_one(
         rt,
-        shared.call(rt, lane, call_to_make(next)),
-        made(handle, next),
-    );
+        alloc,
+        shared,
+        lane,
+        (CloseHandle { thread: 1, handle }, Closed),
+    )?;
+    reaps(rt, alloc, shared, lane, id)?;
+    answers_one(
+        rt,
+        alloc,
+        shared,
+        lane,
+        (call_to_make(next), Made { handle, id: next }),
+    )
 }
 
 /// The first object of each slot.
-fn makes_all<R: Abort + Wait>(rt: &R, shared: &Shared<'_>, lane: &mut Lane) {
-    gives(rt, shared.call(rt, lane, spawn()), spawned());
-    for slot in 0..SLOTS {
-        let id = object(slot, 1);
-        gives(
-            rt,
-            shared.call(rt, lane, call_to_make(id)),
-            made(handle_of(slot), id),
-        );
-    }
-}
-
-fn renews_all<R: Abort + Wait>(rt: &R, shared: &Shared<'_>, lane: &mut Lane, rounds: u32) {
-    for round in 0..rounds {
-        renews(rt, shared, lane, object(round % SLOTS, round / SLOTS + 1));
-    }
-}
-
-fn is_right(seen: Seen) -> bool {
-    seen.pins > 0 && seen.wrong == 0
-}
-
-/// Two readers, each on a thread. Whether both see what was made.
-fn two_read<R: Wait + Threads + Sync>(
+fn makes_all<R: Abort + Wait>(
     rt: &R,
-    first: &mut Reader<'_>,
-    second: &mut Reader<'_>,
-) -> bool {
-    let (one, other) = join(rt, || reads(rt, first, TRIES), || reads(rt, second, TRIES));
-    is_right(one) && is_right(other)
-}
-
-/// Four readers.
-fn four_read<R: Wait + Threads + Sync>(
-    rt: &R,
-    first: &mut Reader<'_>,
-    second: &mut Reader<'_>,
-    third: &mut Reader<'_>,
-    fourth: &mut Reader<'_>,
-) -> bool {
-    let (some, others) = join(
-        rt,
-        || two_read(rt, first, second),
-        || two_read(rt, third, fourth),
-    );
-    some && others
-}
-
-/// Four readers and who makes and closes, each on a thread.
-fn races<R: Abort + Wait + Threads + Sync>(
-    rt: &R,
+    alloc: Global,
     shared: &Shared<'_>,
     lane: &mut Lane,
-    first: &mut Reader<'_>,
-    second: &mut Reader<'_>,
-    third: &mut Reader<'_>,
-    fourth: &mut Reader<'_>,
-) -> bool {
-    // Before the readers begin, so that each has something to pin.
-    makes_all(rt, shared, lane);
-    let (are_right, ()) = join(
+) -> Result<(), Fault> {
+    let spawned = Spawned {
+        process: 1,
+        thread: 1,
+    };
+    answers_one(rt, alloc, shared, lane, (Spawn { session: 1 }, spawned))?;
+    for slot in 0..SLOTS {
+        let id = object(slot, 1);
+        let handle = handle_of(slot);
+        answers_one(
+            rt,
+            alloc,
+            shared,
+            lane,
+            (call_to_make(id), Made { handle, id }),
+        )?;
+    }
+    Ok(())
+}
+
+fn renews_all<R: Abort + Wait>(
+    rt: &R,
+    alloc: Global,
+    shared: &Shared<'_>,
+    lane: &mut Lane,
+) -> Result<(), Fault> {
+    for round in 0..ROUNDS {
+        let id = object(round % SLOTS, round / SLOTS + 1);
+        renews(rt, alloc, shared, lane, id)?;
+    }
+    Ok(())
+}
+
+/// Each reader on a thread of its own. Each sees what was made.
+fn all_read<R: Abort + Wait + Threads + Sync>(rt: &R, readers: &mut [Reader<'_>]) {
+    thread::for_each_mut(
         rt,
-        || four_read(rt, first, second, third, fourth),
-        || renews_all(rt, shared, lane, ROUNDS),
+        readers,
+        READERS,
+        &|_, reader| { assert!(rt; reads(rt, reader)) },
     );
-    are_right
+}
+
+/// The readers and who makes and closes, each on a thread.
+fn races<R: Abort + Wait + Threads + Sync>(
+    rt: &R,
+    alloc: Global,
+    shared: &Shared<'_>,
+    lane: &mut Lane,
+    readers: &mut [Reader<'_>],
+) -> Result<(), Fault> {
+    // Before the readers begin, so that each has something to pin.
+    makes_all(rt, alloc, shared, lane)?;
+    let ((), is_done) = join(
+        rt,
+        || all_read(rt, readers),
+        || renews_all(rt, alloc, shared, lane),
+    );
+    is_done
+}
+
+pub(super) fn plays_a_race<R: Abort + Wait + Threads + Sync>(
+    rt: &R,
+    alloc: Global,
+    shared: &mut Shared<'_>,
+    readers: &mut Vec<Reader<'_>>,
+) -> Result<Vec<Lane>, Fault> {
+    let mut lane = shared.lane()?;
+    assert!(rt; readers.len() == READERS);
+    races(rt, alloc, shared, &mut lane, readers.as_mut_slice())?;
+    one_lane(alloc, lane)
 }
 
 #[test]
 fn readers_see_what_was_made(rt: HostRuntime) -> Result<(), Fail> {
     let limits = Limits::checked(SLOTS, 1, 1, SLOTS, 1, 100, 4_294_967_295, 1)?;
-    let (pins, opening) = Pins::new(rt.alloc(), limits.shape())?;
-    let Ok((mut keeper, mut first)) = opening.start(&pins) else {
-        return Err(Fail::from(Fault::Memory));
-    };
-    let mut second = keeper.reader();
-    let mut third = keeper.reader();
-    let mut fourth = keeper.reader();
-    let Ok(manager) = Manager::new(rt.alloc(), limits, keeper) else {
-        return Err(Fail::from(Fault::Memory));
-    };
-    let mut shared = Shared::new(rt.alloc(), manager);
-    let mut lane = shared.lane()?;
-    assert!(rt;
-        races(
-            &rt,
-            &shared,
-            &mut lane,
-            &mut first,
-            &mut second,
-            &mut third,
-            &mut fourth
-        )
-    );
-    let mut lanes = Vec::new(rt.alloc());
-    lanes.push(lane)?;
-    ends(&rt, shared, lanes, None);
+    over_shared(&rt, rt.alloc(), limits, READERS, Scene::Race)?;
     Ok(())
 }

@@ -1,24 +1,32 @@
-use super::members::{Script, all_new, closed, lanes_of, members_of, started_with};
-use super::{gives, made, make_event, object, spawn, spawned};
-use ob_manager::{Call, Limits, Reply};
-use ob_rights::Fault;
-use ob_shared::{Act, Entry, Gate, Lane, Member, Pass, Seen, Shared, drive};
-use pin_words::{Pins, Reader};
-use std::alloc::{AllocError, Global};
-use std::process::Abort;
+use super::members::{Deed, Script};
+use super::opening::{Scene, over_shared};
+use super::{FIRST, SECOND};
+use call_tables::Ask::{MakeEvent, SetEvent, Spawn, StartThread};
+use call_tables::{Line, PLAIN};
+use ob_manager::Reply::{Made, Spawned, Started};
+use ob_manager::{Limits, Reply};
+use ob_shared::{Entry, Gate, Member, Pass, Seen};
 use std::sync::Wait;
 use std::sync::atomic::{AtomicBool, Ordering};
 use std::test::Fail;
-use std::thread::Threads;
 
 /// How often a member looks whether it may go on, before it stops.
 const TURNS: u32 = 1_000_000_000;
 
 /// Lane 2 begins once lane 1 has asked to, and lane 1 once lane 2 was answered.
 #[derive(Drop)]
-struct Turns {
+pub(super) struct Turns {
     has_asked: AtomicBool,
     was_answered: AtomicBool,
+}
+
+impl Turns {
+    pub(super) fn new() -> Turns {
+        Turns {
+            has_asked: AtomicBool::new(false),
+            was_answered: AtomicBool::new(false),
+        }
+    }
 }
 
 fn comes(flag: &AtomicBool) -> Pass {
@@ -46,29 +54,29 @@ impl Gate for Turns {
     }
 }
 
-/// Lane 2 sets the event, and lane 1 makes another one.
-pub(super) fn script_of(alloc: Global, number: u32) -> Result<Vec<Act>, AllocError> {
-    let set = Call::SetEvent {
-        thread: 2,
-        handle: 4,
-    };
-    let call = if number == 2 { set } else { make_event() };
-    let mut script = Vec::new(alloc);
-    script.push(Act::Ask(call))?;
-    Ok(script)
-}
-
 /// A process with two threads, and an event.
-fn begins<R: Abort + Wait>(rt: &R, shared: &Shared<'_>, lane: &mut Lane) {
-    let thread = Call::StartThread { process: 1 };
-    let started = Reply::Started { thread: 2 };
-    gives(rt, shared.call(rt, lane, spawn()), spawned());
-    gives(rt, shared.call(rt, lane, thread), started);
-    gives(
-        rt,
-        shared.call(rt, lane, make_event()),
-        made(4, object(0, 1)),
-    );
+#[rattlefmt::skip]
+pub(super) const BEFORE: &[Line<'static>] = &[
+    (Spawn { session: 1 }, Spawned { process: 1, thread: 1 }),
+    (StartThread { process: 1 }, Started { thread: 2 }),
+    (MakeEvent { thread: 1, make: PLAIN, manual: false, set: false }, Made { handle: 4, id: FIRST }),
+];
+
+const MAKES: Deed<'static> = Deed::Ask(MakeEvent {
+    thread: 1,
+    make: PLAIN,
+    manual: false,
+    set: false,
+});
+
+const SETS: Deed<'static> = Deed::Ask(SetEvent {
+    thread: 2,
+    handle: 4,
+});
+
+/// Lane 2 sets the event, and lane 1 makes another one.
+pub(super) fn deed(number: u32) -> Deed<'static> {
+    if number == 2 { SETS } else { MAKES }
 }
 
 /// Whether a member's only act was answered so.
@@ -79,49 +87,23 @@ fn has_seen(members: &[Member<'_>], place: usize, reply: Reply) -> bool {
     }
 }
 
-fn drives<R: Abort + Wait + Threads + Sync>(
-    rt: &R,
-    shared: &Shared<'_>,
-    members: &mut [Member<'_>],
-) {
-    let gate = Turns {
-        has_asked: AtomicBool::new(false),
-        was_answered: AtomicBool::new(false),
+/// Whether both members were answered as is due.
+pub(super) fn are_done(members: &[Member<'_>]) -> bool {
+    let made = Reply::Made {
+        handle: 8,
+        id: SECOND,
     };
-    assert!(rt; all_new(members) && members.len() <= 64);
-    assert!(rt; drive(rt, shared, &gate, members).is_ok());
-    assert!(rt; has_seen(members, 0, made(8, object(1, 1))));
-    assert!(rt; has_seen(members, 1, Reply::Done));
+    has_seen(members, 0, made) && has_seen(members, 1, Reply::Done)
 }
 
 /// Whether the journal has five entries, the one of lane 2 before the one of lane 1.
-fn is_in_turn(journal: &[Entry]) -> bool {
+pub(super) fn is_in_turn(journal: &[Entry]) -> bool {
     journal.len() == 5 && journal[3].lane == 2 && journal[4].lane == 1
-}
-
-/// Lane 0 and the members do all they do. Their lanes.
-fn takes_turns<R: Abort + Wait + Threads + Sync>(
-    rt: &R,
-    alloc: Global,
-    shared: &mut Shared<'_>,
-    readers: Vec<Reader<'_>>,
-) -> Result<Vec<Lane>, Fault> {
-    let mut first = shared.lane()?;
-    begins(rt, shared, &mut first);
-    let mut members = members_of(alloc, shared, readers, Script::InTurn)?;
-    drives(rt, shared, members.as_mut_slice());
-    lanes_of(alloc, first, members)
 }
 
 #[test]
 fn members_pass_a_gate_in_turn(rt: HostRuntime) -> Result<(), Fail> {
-    let limits = Limits::default();
-    let (pins, opening) = Pins::new(rt.alloc(), limits.shape())?;
-    let (mut shared, readers) = started_with(rt.alloc(), limits, opening, &pins, 2)?;
-    let lanes = takes_turns(&rt, rt.alloc(), &mut shared, readers)?;
-    let Some(closed) = closed(shared, lanes) else {
-        panic!(rt; "it isn't closed")
-    };
-    assert!(rt; is_in_turn(closed.journal.as_slice()));
+    let scene = Scene::Members(Script::InTurn);
+    over_shared(&rt, rt.alloc(), Limits::default(), 2, scene)?;
     Ok(())
 }

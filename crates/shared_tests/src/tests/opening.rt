@@ -1,0 +1,182 @@
+//! What owns a manager behind its lock, its readers and its lanes: all else is lent them.
+ghost use Rattle.std.specs.Prelude.{◌≡◌};
+ghost use Rattle.ob_store.specs.State.{shape_of};
+
+use super::closing::{Case, plays_a_case};
+use super::crowd::agrees_with_a_fresh_one;
+use super::holding::{Move, plays_moves};
+use super::members::{Script, plays_members};
+use super::turns::is_in_turn;
+use super::{blocking, lanes, playing, racing};
+use call_tables::{Step, manager_over, pins_for, started};
+use ob_manager::{Limits, Manager};
+use ob_rights::Fault;
+use ob_shared::{CloseCause, Closed, Entry, Lane, Shared};
+use pin_words::{Keeper, Opening, Pins, Reader};
+use std::alloc::Global;
+use std::process::Abort;
+use std::sync::Wait;
+use std::thread::Threads;
+
+/// What is played over a manager behind its lock, which is closed afterwards.
+#[derive(Clone, Copy)]
+pub(super) enum Scene<'a> {
+    /// Steps of tables, in two lanes by turns.
+    ByTurns(&'a [Step<'a>]),
+    /// As many lanes as there may be.
+    ManyLanes,
+    /// What a lane and a reader do.
+    Holds(&'a [Move<'a>]),
+    /// A wait that another thread answers.
+    Block,
+    /// Four readers beside who makes and closes.
+    Race,
+    /// Lanes that may not be the ones that were given.
+    Closes(Case),
+    /// Members, and one lane more.
+    Members(Script),
+}
+
+impl Scene<'_> {
+    /// Why the manager isn't closed afterwards, if it isn't.
+    fn cause(&self) -> Option<CloseCause> {
+        match *self {
+            Scene::Closes(case) => case.cause(),
+            Scene::ManyLanes => Some(CloseCause::LaneMissing),
+            _ => None,
+        }
+    }
+}
+
+/// So many readers of a keeper's pins, of which the first is given.
+fn readers_of<'a>(
+    alloc: Global,
+    keeper: &mut Keeper<'a>,
+    first: Reader<'a>,
+    count: usize,
+) -> Result<Vec<Reader<'a>>, Fault>
+    ensures slots { keeper.new.view.slots ≡ keeper.old.view.slots }
+    ensures published { keeper.new.view.published ≡ keeper.old.view.published }
+    ensures shape { keeper.new.view.shape ≡ keeper.old.view.shape }
+{
+    let mut readers = Vec::new(alloc);
+    if readers.reserve(count).is_err() {
+        readers.reserve(count)?;
+    }
+    readers.push(first)?;
+    for _ in 1..count {
+        readers.push(keeper.reader())?;
+    }
+    Ok(readers)
+}
+
+/// A manager behind its lock, and so many readers.
+pub(super) fn shared_with<'a>(
+    alloc: Global,
+    limits: Limits,
+    opening: Opening,
+    pins: &'a Pins,
+    count: usize,
+) -> Result<(Shared<'a>, Vec<Reader<'a>>), Fault>
+    requires opens { opening ≡ pins.now }
+    requires shape { pins.now.shape ≡ shape_of limits }
+{
+    let (mut keeper, first) = started(opening, pins)?;
+    let readers = readers_of(alloc, &mut keeper, first, count)?;
+    let manager = manager_over(alloc, limits, keeper)?;
+    Ok((Shared::new(alloc, manager), readers))
+}
+
+/// Plays a scene. The lanes that are handed in at its end.
+fn plays<R: Abort + Wait + Threads + Sync>(
+    rt: &R,
+    alloc: Global,
+    shared: &mut Shared<'_>,
+    readers: &mut Vec<Reader<'_>>,
+    scene: Scene<'_>,
+) -> Result<Vec<Lane>, Fault> {
+    match scene {
+        Scene::ByTurns(steps) => playing::plays_by_turns(rt, alloc, shared, steps),
+        Scene::ManyLanes => Ok(lanes::plays_many_lanes(rt, alloc, shared)),
+        Scene::Holds(moves) => plays_moves(rt, alloc, shared, readers, moves),
+        Scene::Block => blocking::plays_a_block(rt, alloc, shared),
+        Scene::Race => racing::plays_a_race(rt, alloc, shared, readers),
+        Scene::Closes(case) => plays_a_case(rt, alloc, shared, case),
+        Scene::Members(script) => plays_members(rt, alloc, shared, readers, script),
+    }
+}
+
+/// Closes, and is answered as is due. A refusal hands all lanes back.
+fn closes(
+    rt: &impl Abort,
+    alloc: Global,
+    limits: Limits,
+    shared: Shared<'_>,
+    lanes: Vec<Lane>,
+    scene: Scene<'_>,
+) -> Result<(), Fault> {
+    let handed = lanes.len();
+    let due = scene.cause();
+    match shared.close(lanes) {
+        Ok(closed) => {
+            assert!(rt; due.is_none());
+            let Closed {
+                mut manager,
+                journal,
+            } = closed;
+            shows(rt, alloc, limits, &mut manager, journal.as_slice(), scene)
+        }
+        Err(refused) => {
+            assert!(rt; due == Some(refused.cause) && refused.lanes.len() == handed);
+            Ok(())
+        }
+    }
+}
+
+/// What a journal shows.
+fn shows(
+    rt: &impl Abort,
+    alloc: Global,
+    limits: Limits,
+    manager: &mut Manager<Keeper<'_>>,
+    journal: &[Entry],
+    scene: Scene<'_>,
+) -> Result<(), Fault> {
+    match scene {
+        Scene::Members(Script::InTurn) => assert!(rt; is_in_turn(journal)),
+        Scene::Members(Script::Crowd) => {
+            agrees_with_a_fresh_one(rt, alloc, limits, manager, journal)?;
+        }
+        _ => assert!(rt; journal.len() >= 3),
+    }
+    Ok(())
+}
+
+fn over_pins<R: Abort + Wait + Threads + Sync>(
+    rt: &R,
+    alloc: Global,
+    limits: Limits,
+    opening: Opening,
+    pins: &Pins,
+    count: usize,
+    scene: Scene<'_>,
+) -> Result<(), Fault>
+    requires opens { opening ≡ pins.now }
+    requires shape { pins.now.shape ≡ shape_of limits }
+{
+    let (mut shared, mut readers) = shared_with(alloc, limits, opening, pins, count)?;
+    let lanes = plays(rt, alloc, &mut shared, &mut readers, scene)?;
+    closes(rt, alloc, limits, shared, lanes, scene)
+}
+
+/// Plays a scene over a new manager behind its lock, with so many readers, and closes it.
+pub(super) fn over_shared<R: Abort + Wait + Threads + Sync>(
+    rt: &R,
+    alloc: Global,
+    limits: Limits,
+    count: usize,
+    scene: Scene<'_>,
+) -> Result<(), Fault> {
+    let (pins, opening) = pins_for(alloc, limits)?;
+    over_pins(rt, alloc, limits, opening, &pins, count, scene)
+}

@@ -1,0 +1,205 @@
+//! Tables of calls, played in the lanes of a manager behind its lock.
+use super::opening::{Scene, over_shared};
+use call_tables::{
+    Ask, GRANTS_ACROSS_PROCESSES, INHERITANCE, KEPT_BY_A_WAIT, Line, NAMED_EVENT_WAITS,
+    RIGHTS_OF_DUPLICATES, Step, WAIT_FOR_ALL,
+};
+use ob_manager::{Call, Limits, Reply};
+use ob_rights::Fault;
+use ob_shared::{Lane, Shared};
+use std::alloc::Global;
+use std::process::Abort;
+use std::sync::Wait;
+use std::test::Fail;
+use std::thread::Threads;
+
+/// The reply to a call of a lane. It is made again where memory was wanting: nothing was changed then, but the lane may list that
+/// the manager refused it.
+pub(super) fn asked<R: Wait>(
+    rt: &R,
+    alloc: Global,
+    shared: &Shared<'_>,
+    lane: &mut Lane,
+    ask: Ask<'_>,
+) -> Result<Reply, Fault> {
+    let reply = shared.call(rt, lane, ask.to_call(alloc)?);
+    if reply != Reply::Refused(Fault::Memory) {
+        return Ok(reply);
+    }
+    Ok(shared.call(rt, lane, ask.to_call(alloc)?))
+}
+
+/// Whether the call with this reply is the last one that is listed in a lane.
+pub(super) fn is_last(lane: &Lane, call: &Call, reply: Reply) -> bool {
+    match lane.receipts().last() {
+        Some(receipt) => {
+            let entry = receipt.entry();
+            entry.lane == lane.number() && entry.call.is_same(call) && entry.reply == reply
+        }
+        None => false,
+    }
+}
+
+/// Makes a call in a lane. Whether its reply is the one that is due, and the lane lists it.
+fn is_answered<R: Wait>(
+    rt: &R,
+    alloc: Global,
+    shared: &Shared<'_>,
+    lane: &mut Lane,
+    line: Line<'_>,
+) -> Result<bool, Fault> {
+    let (ask, due) = line;
+    let listed = lane.receipts().len();
+    let reply = asked(rt, alloc, shared, lane, ask)?;
+    let call = ask.to_call(alloc)?;
+    Ok(reply == due && lane.receipts().len() > listed && is_last(lane, &call, reply))
+}
+
+/// Makes a call in a lane.
+pub(super) fn answers_one<R: Abort + Wait>(
+    rt: &R,
+    alloc: Global,
+    shared: &Shared<'_>,
+    lane: &mut Lane,
+    line: Line<'_>,
+) -> Result<(), Fault> {
+    assert!(rt; is_answered(rt, alloc, shared, lane, line)?);
+    Ok(())
+}
+
+/// Makes the calls of a table, one after another, in a lane.
+pub(super) fn answers<R: Abort + Wait>(
+    rt: &R,
+    alloc: Global,
+    shared: &Shared<'_>,
+    lane: &mut Lane,
+    table: &[Line<'_>],
+) -> Result<(), Fault> {
+    for (place, line) in table.iter().enumerate() {
+        assert!(rt;
+            is_answered(rt, alloc, shared, lane, *line)?,
+            "at place {place} of the table"
+        );
+    }
+    Ok(())
+}
+
+/// The same, each call in the other lane.
+fn answers_by_turns<R: Abort + Wait>(
+    rt: &R,
+    alloc: Global,
+    shared: &Shared<'_>,
+    first: &mut Lane,
+    second: &mut Lane,
+    table: &[Line<'_>],
+) -> Result<(), Fault> {
+    for (place, line) in table.iter().enumerate() {
+        let is_good = if place % 2 == 0 {
+            is_answered(rt, alloc, shared, first, *line)?
+        } else {
+            is_answered(rt, alloc, shared, second, *line)?
+        };
+        assert!(rt; is_good, "at place {place} of the table");
+    }
+    Ok(())
+}
+
+/// Takes the steps that are calls.
+fn plays_steps<R: Abort + Wait>(
+    rt: &R,
+    alloc: Global,
+    shared: &Shared<'_>,
+    first: &mut Lane,
+    second: &mut Lane,
+    steps: &[Step<'_>],
+) -> Result<(), Fault> {
+    for step in steps {
+        if let Step::Calls(table) = *step {
+            answers_by_turns(rt, alloc, shared, first, second, table)?;
+        }
+    }
+    Ok(())
+}
+
+/// Room for so many lanes, as they are handed in.
+pub(super) fn room_for(alloc: Global, count: usize) -> Result<Vec<Lane>, Fault> {
+    let mut lanes = Vec::new(alloc);
+    if lanes.reserve(count).is_err() {
+        lanes.reserve(count)?;
+    }
+    Ok(lanes)
+}
+
+/// A lane as it is handed in.
+pub(super) fn one_lane(alloc: Global, lane: Lane) -> Result<Vec<Lane>, Fault> {
+    let mut lanes = room_for(alloc, 1)?;
+    lanes.push(lane)?;
+    Ok(lanes)
+}
+
+/// The same of two.
+pub(super) fn two_lanes(alloc: Global, first: Lane, second: Lane) -> Result<Vec<Lane>, Fault> {
+    let mut lanes = room_for(alloc, 2)?;
+    lanes.push(first)?;
+    lanes.push(second)?;
+    Ok(lanes)
+}
+
+/// Plays steps in two new lanes by turns.
+pub(super) fn plays_by_turns<R: Abort + Wait>(
+    rt: &R,
+    alloc: Global,
+    shared: &mut Shared<'_>,
+    steps: &[Step<'_>],
+) -> Result<Vec<Lane>, Fault> {
+    let mut first = shared.lane()?;
+    let mut second = shared.lane()?;
+    assert!(rt; first.number() == 0 && second.number() == 1);
+    plays_steps(rt, alloc, shared, &mut first, &mut second, steps)?;
+    two_lanes(alloc, first, second)
+}
+
+/// Plays a table over a new manager, in two lanes by turns.
+fn over_lanes<R: Abort + Wait + Threads + Sync>(
+    rt: &R,
+    alloc: Global,
+    steps: &[Step<'_>],
+) -> Result<(), Fault> {
+    over_shared(rt, alloc, Limits::default(), 1, Scene::ByTurns(steps))
+}
+
+#[test]
+fn named_event_waits_in_two_lanes(rt: HostRuntime) -> Result<(), Fail> {
+    over_lanes(&rt, rt.alloc(), &[Step::Calls(NAMED_EVENT_WAITS)])?;
+    Ok(())
+}
+
+#[test]
+fn rights_of_duplicates_in_two_lanes(rt: HostRuntime) -> Result<(), Fail> {
+    over_lanes(&rt, rt.alloc(), &[Step::Calls(RIGHTS_OF_DUPLICATES)])?;
+    Ok(())
+}
+
+#[test]
+fn inheritance_in_two_lanes(rt: HostRuntime) -> Result<(), Fail> {
+    over_lanes(&rt, rt.alloc(), &[Step::Calls(INHERITANCE)])?;
+    Ok(())
+}
+
+#[test]
+fn a_wait_keeps_its_object_in_two_lanes(rt: HostRuntime) -> Result<(), Fail> {
+    over_lanes(&rt, rt.alloc(), KEPT_BY_A_WAIT)?;
+    Ok(())
+}
+
+#[test]
+fn a_wait_for_all_in_two_lanes(rt: HostRuntime) -> Result<(), Fail> {
+    over_lanes(&rt, rt.alloc(), &[Step::Calls(WAIT_FOR_ALL)])?;
+    Ok(())
+}
+
+#[test]
+fn grants_across_processes_in_two_lanes(rt: HostRuntime) -> Result<(), Fail> {
+    over_lanes(&rt, rt.alloc(), &[Step::Calls(GRANTS_ACROSS_PROCESSES)])?;
+    Ok(())
+}
