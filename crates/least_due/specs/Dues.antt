@@ -1,0 +1,16 @@
+-- Due moments by place, and the least of them. A place past the end has none.
+use Rattle.std.specs.Prelude.{◌≡◌, ℕ, ◌≤◌, List, Option, Some, None, IfSome, slice_index_or}
+
+-- the moment at a place, or none
+abbrev pub due_at : List (Option ℕ) → ℕ → Option ℕ
+due_at dues place = slice_index_or dues place None
+
+-- there is a moment, and it is not after another
+abbrev pub NotAfter : Option ℕ → ℕ → Type 0
+NotAfter None moment = ⊥
+NotAfter (Some least) moment = least ≤ moment
+
+-- a moment that stands at some place and is after none; or none, where no place has one
+pub record IsLeast (dues : List (Option ℕ)) (least : Option ℕ) : Type 0 where
+  pub stands : IfSome least (λ moment. (place : ℕ) × (due_at dues place ≡ Some moment))
+  pub first : (place moment : ℕ) → due_at dues place ≡ Some moment → NotAfter least moment

@@ -1,0 +1,203 @@
+//! Due moments by place, and the least of them.
+//!
+//! Each place of a list has a moment at which something is due there, or none. The least moment is read in constant
+//! time, and a moment is written in a time that grows with the logarithm of the list's length. Only a new place takes
+//! memory.
+//!
+//! ```text
+//! let mut dues = Dues::new(alloc);
+//! dues.push()?;                 // place 0
+//! dues.push()?;                 // place 1
+//! dues.set(1, Some(50));
+//! dues.least();                 // Some(50)
+//! dues.least_place();           // Some(1)
+//! ```
+#![tactic(auto)]
+
+ghost use Rattle.std.specs.Prelude.{◌≡◌, ◌<◌, ◌≤◌, length, List, [], ◌∷◌, ◌++◌, None, is_some, replicate, slice_set, IfOk, IfSome, IfNone, IsSome, OnOk, OnErr};
+ghost use Rattle.least_due.specs.Dues.{due_at, IsLeast};
+
+mod best;
+
+use best::{cover, moment_at, place_of_least, raise};
+use std::alloc::{AllocError, Global};
+use std::marker::Model;
+
+/// The greatest length of a list.
+pub const PLACES_MAX: usize = 4_294_967_296;
+
+/// Due moments by place: from the outside the list that has for each place its moment or none.
+// The places are a tree too, in which places 2 * n + 1 and 2 * n + 2 stand below place n. For each the least moment at
+// or below it is kept. A new place is a leaf, so the tree grows as the list does.
+#[derive(Drop)]
+pub struct Dues {
+    dues: Vec<Option<u64>>,
+    best: Vec<Option<u64>>,
+}
+
+impl Model for Dues {
+    ghost use Rattle.std.specs.Prelude.{List, Option, ℕ};
+    ghost use Rattle.least_due.specs.Best.{IsWhole};
+
+    ghost Value = { List (Option ℕ) };
+
+    ghost view = { λ s. s.dues.items };
+
+    ghost invariant = { λ s. IsWhole s.dues.items s.best.items };
+}
+
+impl Dues {
+    /// A list with no place.
+    pub fn new(alloc: Global) -> Dues
+        ensures { result ≡ [] }
+    {
+        Dues {
+            dues: Vec::new(alloc),
+            best: Vec::new(alloc),
+        }
+    }
+
+    /// A list of so many places, of which none has a moment. Setting their moments takes no memory.
+    pub fn with_places(alloc: Global, n: usize) -> Result<Dues, AllocError>
+        requires { n ≤ PLACES_MAX }
+        ensures { IfOk result (λ dues. dues ≡ replicate n None) }
+    {
+        Ok(Dues {
+            dues: vec![in alloc; None; n]?,
+            best: vec![in alloc; None; n]?,
+        })
+    }
+
+    /// How many places there are.
+    pub fn len(&self) -> usize
+        ensures { result ≡ length self.now }
+    {
+        self.dues.len()
+    }
+
+    /// The moment at a place, or none past the end.
+    pub fn get(&self, place: usize) -> Option<u64>
+        ensures { result ≡ due_at self.now place }
+    {
+        moment_at(&self.dues, place)
+    }
+
+    /// The least moment, or none where no place has one.
+    #[inline]
+    pub fn least(&self) -> Option<u64>
+        ensures { IsLeast self.now result }
+    {
+        moment_at(&self.best, 0)
+    }
+
+    /// A place whose moment is the least, or none where no place has one.
+    pub fn least_place(&self) -> Option<usize>
+        ensures place { IfSome result (λ place. place < length self.now) }
+        ensures some { IfSome result (λ place. IsSome (due_at self.now place)) }
+        ensures least { IfSome result (λ place. IsLeast self.now (due_at self.now place)) }
+        ensures none { IfNone result (IsLeast self.now None) }
+    {
+        match moment_at(&self.best, 0) {
+            Some(_) => Some(place_of_least(&self.dues, &self.best)),
+            None => None,
+        }
+    }
+
+    /// Writes the moment at a place, or takes it away.
+    pub fn set(&mut self, place: usize, due: Option<u64>)
+        requires { place < length self.old }
+        ensures { self.new ≡ slice_set self.old place due }
+    {
+        self.dues[place] = due;
+        raise(&self.dues, &mut self.best, place);
+    }
+
+    /// Adds a place that has no moment. This is the one call that takes memory, and a list that lacks it stays as it
+    /// was.
+    pub fn push(&mut self) -> Result<(), AllocError>
+        requires { length self.old < PLACES_MAX }
+        ensures ok { OnOk result (self.new ≡ self.old ++ None ∷ []) }
+        ensures err { OnErr result (self.new ≡ self.old) }
+    {
+        cover(&self.dues, &mut self.best)?;
+        self.dues.push(None)?;
+        Ok(())
+    }
+}
+
+#[cfg(test)]
+mod tests {
+    use super::*;
+    use std::process::Abort;
+    use std::test::Fail;
+
+    /// Adds a place. Where memory fails nothing has changed, and the call is made again.
+    fn pushed(dues: &mut Dues) -> Result<(), AllocError>
+        requires { length dues.old < PLACES_MAX }
+        ensures { OnOk result (dues.new ≡ dues.old ++ None ∷ []) }
+    {
+        if dues.push().is_err() {
+            dues.push()?;
+        }
+        Ok(())
+    }
+
+    #[test]
+    fn the_least_is_found_whatever_order_it_came_in(rt: HostRuntime) -> Result<(), Fail> {
+        let mut dues = Dues::new(rt.alloc());
+        assert_eq!(rt; dues.least(), None);
+        assert_eq!(rt; dues.least_place(), None);
+        pushed(&mut dues)?;
+        pushed(&mut dues)?;
+        pushed(&mut dues)?;
+        pushed(&mut dues)?;
+        assert_eq!(rt; dues.least(), None);
+        dues.set(3, Some(50));
+        dues.set(1, Some(60));
+        assert_eq!(rt; dues.least(), Some(50));
+        assert_eq!(rt; dues.least_place(), Some(3));
+        dues.set(2, Some(0));
+        assert_eq!(rt; dues.least_place(), Some(2));
+        dues.set(2, None);
+        dues.set(3, Some(u64::MAX));
+        assert_eq!(rt; dues.least(), Some(60));
+        assert_eq!(rt; dues.least_place(), Some(1));
+        dues.set(1, None);
+        assert_eq!(rt; dues.least(), Some(u64::MAX));
+        assert_eq!(rt; dues.get(3), Some(u64::MAX));
+        assert_eq!(rt; dues.get(4), None);
+        dues.set(3, None);
+        assert_eq!(rt; dues.least(), None);
+        Ok(())
+    }
+
+    #[test]
+    fn all_come_due_in_order(rt: HostRuntime) -> Result<(), Fail> {
+        come_due(&rt, rt.alloc(), 5_000)
+    }
+
+    /// Gives each place a moment of its own, and takes them away from the least on.
+    fn come_due(rt: &impl Abort, alloc: Global, most: usize) -> Result<(), Fail>
+        requires { most ≤ 5000 }
+    {
+        let mut dues = Dues::new(alloc);
+        for place in 0..most {
+            pushed(&mut dues)?;
+            dues.set(place, Some((place as u64 * 7919 + 13) % 5003));
+        }
+        let mut last = 0;
+        for _ in 0..most {
+            let Some(place) = dues.least_place() else {
+                return Ok(());
+            };
+            let Some(due) = dues.get(place) else {
+                return Ok(());
+            };
+            assert!(rt; last <= due);
+            last = due;
+            dues.set(place, None);
+        }
+        assert_eq!(rt; dues.least(), None);
+        Ok(())
+    }
+}
