@@ -2,9 +2,9 @@
 use Rattle.std.proofs.Common.{◌≡◌, ℕ, ◌≤◌, Option, Some, None, refl, arith, Bool, true, false, ◌&&◌}
 use Rattle.std.proofs.lemmas.Bool.Decides.{nat_tests}
 use Rattle.ob_body.specs.declared.body.Body.{Body}
-use Rattle.ob_body.specs.declared.body.Body.TheVariants.{Event, Mutex, Semaphore}
+use Rattle.ob_body.specs.declared.body.Body.TheVariants.{Event, Mutex, Semaphore, Timer}
 use Rattle.ob_body.specs.Mutex as mutex
-use Rattle.ob_body.specs.Body.{is_signaled, has_room, after_acquire, after_set, after_reset, after_post, after_unlock, after_abandon, after_clear_owner}
+use Rattle.ob_body.specs.Body.{is_signaled, has_room, after_acquire, after_set, after_reset, after_post, after_unlock, after_abandon, after_clear_owner, after_arm, after_disarm, after_fire}
 
 -- what is signaled after a thread took the body was signaled before, for any thread
 pub signaled_before : (u t : ℕ) (b : Body) → is_signaled t (after_acquire u b) ≡ true → is_signaled t b ≡ true
@@ -19,6 +19,11 @@ signaled_before u t (Mutex m) h = by m.owner m.recursion m.abandoned h
     by None recursion abandoned h = refl
     by (Some owner) recursion abandoned h = grind (arith, nat_tests)
 signaled_before u t (Semaphore s) h = grind (arith, nat_tests)
+signaled_before u t (Timer m) h = by m.signaled m.manual h
+  where
+    by : (set manual : Bool) → set && manual ≡ true → set ≡ true
+    by true manual h = refl
+    by false manual h = h
 
 -- taking by a thread leaves the room of every other
 pub room_after_acquire : (limit u t : ℕ) (b : Body) → (t ≡ u → ⊥) → has_room limit t b ≡ true → has_room limit t (after_acquire u b) ≡ true
@@ -29,22 +34,26 @@ room_after_acquire limit u t (Mutex m) other h = by m.owner m.recursion m.abando
     by None recursion abandoned h = grind (arith, nat_tests)
     by (Some owner) recursion abandoned h = grind (arith, nat_tests)
 room_after_acquire limit u t (Semaphore s) other h = refl
+room_after_acquire limit u t (Timer m) other h = refl
 
 -- every other change of a body leaves the room of all threads
 pub room_after_set : (limit t : ℕ) (b : Body) → has_room limit t b ≡ true → has_room limit t (after_set b) ≡ true
 room_after_set limit t (Event e) h = h
 room_after_set limit t (Mutex m) h = h
 room_after_set limit t (Semaphore s) h = h
+room_after_set limit t (Timer m) h = h
 
 pub room_after_reset : (limit t : ℕ) (b : Body) → has_room limit t b ≡ true → has_room limit t (after_reset b) ≡ true
 room_after_reset limit t (Event e) h = h
 room_after_reset limit t (Mutex m) h = h
 room_after_reset limit t (Semaphore s) h = h
+room_after_reset limit t (Timer m) h = h
 
 pub room_after_post : (limit t count : ℕ) (b : Body) → has_room limit t b ≡ true → has_room limit t (after_post count b) ≡ true
 room_after_post limit t count (Event e) h = h
 room_after_post limit t count (Mutex m) h = h
 room_after_post limit t count (Semaphore s) h = h
+room_after_post limit t count (Timer m) h = h
 
 pub room_after_unlock : (limit u t : ℕ) (b : Body) → has_room limit t b ≡ true → has_room limit t (after_unlock u b) ≡ true
 room_after_unlock limit u t (Event e) h = h
@@ -54,6 +63,7 @@ room_after_unlock limit u t (Mutex m) h = by m.owner m.recursion m.abandoned h
     by None recursion abandoned h = refl
     by (Some owner) recursion abandoned h = grind (arith, nat_tests)
 room_after_unlock limit u t (Semaphore s) h = h
+room_after_unlock limit u t (Timer m) h = h
 
 pub room_after_abandon : (limit u t : ℕ) (b : Body) → has_room limit t b ≡ true → has_room limit t (after_abandon u b) ≡ true
 room_after_abandon limit u t (Event e) h = h
@@ -63,11 +73,13 @@ room_after_abandon limit u t (Mutex m) h = by m.owner m.recursion m.abandoned h
     by None recursion abandoned h = refl
     by (Some owner) recursion abandoned h = grind (arith, nat_tests)
 room_after_abandon limit u t (Semaphore s) h = h
+room_after_abandon limit u t (Timer m) h = h
 
 pub room_after_clear_owner : (limit t : ℕ) (b : Body) → has_room limit t b ≡ true → has_room limit t (after_clear_owner b) ≡ true
 room_after_clear_owner limit t (Event e) h = h
 room_after_clear_owner limit t (Mutex m) h = refl
 room_after_clear_owner limit t (Semaphore s) h = h
+room_after_clear_owner limit t (Timer m) h = h
 
 -- room below a limit is room below a greater one
 pub room_at_more : (limit more t : ℕ) (b : Body) → limit ≤ more → has_room limit t b ≡ true → has_room more t b ≡ true
@@ -78,3 +90,23 @@ room_at_more limit more t (Mutex m) le h = by m.owner m.recursion h
     by None recursion h = refl
     by (Some owner) recursion h = grind (arith, nat_tests)
 room_at_more limit more t (Semaphore s) le h = h
+room_at_more limit more t (Timer m) le h = h
+
+-- time leaves the room of all threads
+pub room_after_arm : (limit t due now : ℕ) (b : Body) → has_room limit t b ≡ true → has_room limit t (after_arm due now b) ≡ true
+room_after_arm limit t due now (Event e) h = h
+room_after_arm limit t due now (Mutex m) h = h
+room_after_arm limit t due now (Semaphore s) h = h
+room_after_arm limit t due now (Timer m) h = refl
+
+pub room_after_disarm : (limit t : ℕ) (b : Body) → has_room limit t b ≡ true → has_room limit t (after_disarm b) ≡ true
+room_after_disarm limit t (Event e) h = h
+room_after_disarm limit t (Mutex m) h = h
+room_after_disarm limit t (Semaphore s) h = h
+room_after_disarm limit t (Timer m) h = refl
+
+pub room_after_fire : (limit t now : ℕ) (b : Body) → has_room limit t b ≡ true → has_room limit t (after_fire now b) ≡ true
+room_after_fire limit t now (Event e) h = h
+room_after_fire limit t now (Mutex m) h = h
+room_after_fire limit t now (Semaphore s) h = h
+room_after_fire limit t now (Timer m) h = refl

@@ -3,4 +3,5 @@ pub mod MutexState
 pub mod Mutex
 pub mod SemaphoreState
 pub mod Semaphore
+pub mod Timer
 pub mod Body

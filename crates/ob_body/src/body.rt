@@ -1,10 +1,11 @@
-ghost use Rattle.std.specs.Prelude.{◌≡◌, ◌<◌, ◌≤◌, true, false, IsSome};
+ghost use Rattle.std.specs.Prelude.{◌≡◌, ◌<◌, ◌≤◌, true, false, None, IsSome};
 ghost use Rattle.ob_body.specs.Body as spec;
 ghost use Rattle.ob_body.specs.Mutex as mutex;
 
 use crate::event::Event;
 use crate::mutex::{Mutex, RECURSION_MAX};
 use crate::semaphore::{COUNT_MAX, Semaphore};
+use crate::timer::Timer;
 use ob_rights::{Fault, Kind};
 
 /// What an object is now. Threads are numbered from 1.
@@ -16,6 +17,8 @@ pub enum Body {
     Mutex(Mutex),
     /// A count up to a maximum.
     Semaphore(Semaphore),
+    /// Signaled from a due moment on.
+    Timer(Timer),
 }
 
 impl Body {
@@ -49,6 +52,19 @@ impl Body {
         Body::Semaphore(Semaphore::new(initial, max))
     }
 
+    /// A timer that isn't signaled and isn't set, reset by setting it alone or by waits too ([CreateWaitableTimer]).
+    ///
+    /// [CreateWaitableTimer]: https://learn.microsoft.com/windows/win32/api/synchapi/nf-synchapi-createwaitabletimerw
+    pub fn new_timer(manual: bool) -> Body
+        ensures { result ≡ Body.Timer (record { manual = manual; signaled = false; due = None }) }
+    {
+        Body::Timer(Timer {
+            manual,
+            signaled: false,
+            due: None,
+        })
+    }
+
     /// The object's kind.
     pub fn kind(&self) -> Kind
         ensures { result ≡ spec.kind_of self.now }
@@ -57,11 +73,12 @@ impl Body {
             Body::Event(_) => Kind::Event,
             Body::Mutex(_) => Kind::Mutex,
             Body::Semaphore(_) => Kind::Semaphore,
+            Body::Timer(_) => Kind::Timer,
         }
     }
 
     /// Whether a wait of this thread is satisfied by it ([Wait Functions]): an event that is set, a
-    /// semaphore with a count above 0, a mutex that nobody or this thread owns.
+    /// semaphore with a count above 0, a mutex that nobody or this thread owns, a timer that is signaled.
     ///
     /// [Wait Functions]: https://learn.microsoft.com/windows/win32/sync/wait-functions
     pub fn signaled_for(&self, thread: u32) -> bool
@@ -71,6 +88,7 @@ impl Body {
             Body::Event(event) => event.set,
             Body::Mutex(mutex) => mutex.signaled_for(thread),
             Body::Semaphore(semaphore) => semaphore.is_signaled(),
+            Body::Timer(timer) => timer.signaled,
         }
     }
 
@@ -81,13 +99,13 @@ impl Body {
     {
         match self {
             Body::Mutex(mutex) => mutex.has_room(thread, max_recursion),
-            Body::Event(_) | Body::Semaphore(_) => true,
+            Body::Event(_) | Body::Semaphore(_) | Body::Timer(_) => true,
         }
     }
 
     /// What a satisfied wait of this thread does, and whether it was an abandoned mutex: an event that
-    /// isn't reset by hand is reset, a semaphore's count falls by 1, and the thread owns a mutex once
-    /// more, which is no longer abandoned.
+    /// isn't reset by hand and a synchronization timer are reset, a semaphore's count falls by 1, and the
+    /// thread owns a mutex once more, which is no longer abandoned.
     pub fn acquire(&mut self, thread: u32) -> bool
         requires signaled { spec.is_signaled thread self.old ≡ true }
         requires room { spec.has_room RECURSION_MAX thread self.old ≡ true }
@@ -102,6 +120,10 @@ impl Body {
             Body::Mutex(mutex) => mutex.acquire(thread),
             Body::Semaphore(semaphore) => {
                 semaphore.acquire();
+                false
+            }
+            Body::Timer(timer) => {
+                timer.acquire();
                 false
             }
         }
@@ -179,6 +201,56 @@ impl Body {
         }
     }
 
+    /// Sets a timer to a moment, in units of 100 ns: it is nonsignaled until then, and signaled at once where the moment
+    /// isn't after `now` ([SetWaitableTimer]).
+    ///
+    /// [SetWaitableTimer]: https://learn.microsoft.com/windows/win32/api/synchapi/nf-synchapi-setwaitabletimer
+    pub fn arm(&mut self, due: u64, now: u64)
+        requires timer { spec.kind_of self.old ≡ Kind.Timer }
+        ensures { self.new ≡ spec.after_arm due now self.old }
+    {
+        match self {
+            Body::Timer(timer) => timer.arm(due, now),
+            _ => unreachable!(),
+        }
+    }
+
+    /// Takes a timer's due moment away; it stays as signaled as it is ([CancelWaitableTimer]).
+    ///
+    /// [CancelWaitableTimer]: https://learn.microsoft.com/windows/win32/api/synchapi/nf-synchapi-cancelwaitabletimer
+    pub fn disarm(&mut self)
+        requires timer { spec.kind_of self.old ≡ Kind.Timer }
+        ensures { self.new ≡ spec.after_disarm self.old }
+    {
+        match self {
+            Body::Timer(timer) => timer.disarm(),
+            _ => unreachable!(),
+        }
+    }
+
+    /// Signals a timer that is due at `now` or before, which is then set no longer ([Waitable Timer Objects]).
+    ///
+    /// [Waitable Timer Objects]: https://learn.microsoft.com/windows/win32/sync/waitable-timer-objects
+    pub fn fire(&mut self, now: u64)
+        requires timer { spec.kind_of self.old ≡ Kind.Timer }
+        ensures { self.new ≡ spec.after_fire now self.old }
+    {
+        match self {
+            Body::Timer(timer) => timer.fire(now),
+            _ => unreachable!(),
+        }
+    }
+
+    /// The moment at which it becomes signaled, if it is a timer that is set, in units of 100 ns.
+    pub fn due(&self) -> Option<u64>
+        ensures { result ≡ spec.due_of self.now }
+    {
+        match self {
+            Body::Timer(timer) => timer.due,
+            Body::Event(_) | Body::Mutex(_) | Body::Semaphore(_) => None,
+        }
+    }
+
     /// The thread that owns it, if it is a mutex that has an owner. While a thread owns a mutex, it isn't abandoned.
     pub fn owner(&self) -> Option<u32>
         ensures owner { result ≡ spec.owner_of self.now }
@@ -186,7 +258,7 @@ impl Body {
     {
         match self {
             Body::Mutex(mutex) => mutex.owner(),
-            Body::Event(_) | Body::Semaphore(_) => None,
+            Body::Event(_) | Body::Semaphore(_) | Body::Timer(_) => None,
         }
     }
 

@@ -1,4 +1,4 @@
-//! What an event, a mutex and a semaphore are to a thread that waits: when a body is signaled, and what a wait takes.
+//! What an event, a mutex, a semaphore and a timer are to a thread that waits: when a body is signaled, and what a wait takes.
 //!
 //! A [`Body`] is the part of an object that calls change. Each kind stands in a module of its own, and
 //! [`Body`] is no more than the choice among them. No call takes memory.
@@ -10,8 +10,10 @@ mod mutex;
 mod semaphore;
 #[cfg(test)]
 mod tests;
+mod timer;
 
 pub use body::Body;
 pub use event::Event;
 pub use mutex::{Mutex, RECURSION_MAX};
 pub use semaphore::{COUNT_MAX, Semaphore};
+pub use timer::Timer;

@@ -67,3 +67,41 @@ fn a_semaphore_stays_within_its_maximum(rt: HostRuntime) {
         Err(Fault::Posts)
     );
 }
+
+#[test]
+fn a_timer_is_signaled_from_its_due_moment_on(rt: HostRuntime) {
+    let mut timer = Body::new_timer(false);
+    assert_eq!(rt; timer.kind(), Kind::Timer);
+    assert!(rt; !timer.signaled_for(1));
+    timer.arm(50, 0);
+    assert_eq!(rt; timer.due(), Some(50));
+    timer.fire(49);
+    assert!(rt; !timer.signaled_for(1));
+    timer.fire(50);
+    assert!(rt; timer.signaled_for(1) && timer.signaled_for(2));
+    assert_eq!(rt; timer.due(), None);
+    assert!(rt; !timer.acquire(1));
+    assert!(rt;
+        !timer.signaled_for(1),
+        "the wait that it satisfies resets it"
+    );
+}
+
+#[test]
+fn a_timer_that_is_reset_by_hand_stays_signaled_until_it_is_set(rt: HostRuntime) {
+    let mut timer = Body::new_timer(true);
+    timer.arm(50, 50);
+    assert!(rt;
+        timer.signaled_for(1),
+        "a moment that isn't after now signals it at once"
+    );
+    assert_eq!(rt; timer.due(), None);
+    assert!(rt; !timer.acquire(1));
+    timer.disarm();
+    assert!(rt; timer.signaled_for(1));
+    timer.arm(51, 50);
+    assert!(rt; !timer.signaled_for(1));
+    timer.disarm();
+    timer.fire(51);
+    assert!(rt; !timer.signaled_for(1), "it was cancelled");
+}

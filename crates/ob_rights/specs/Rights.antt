@@ -2,7 +2,7 @@
 use Rattle.std.specs.Prelude.{ℕ, Bool, ◌==◌, bit_and, IsBitSet}
 use Rattle.ob_rights.specs.declared.kind.Kind.{Kind}
 use Rattle.ob_rights.specs.declared.rights.Rights.{Rights}
-use Rattle.ob_rights.specs.declared.kind.Kind.TheVariants.{Event, Mutex, Semaphore}
+use Rattle.ob_rights.specs.declared.kind.Kind.TheVariants.{Event, Mutex, Semaphore, Timer}
 
 -- each bit of the one mask is a bit of the other
 abbrev pub IsWithin : ℕ → ℕ → Type 0
@@ -17,3 +17,4 @@ abbrev pub all_access : Kind → Rights
 all_access Event = record { 0 = 0x1F0003 }
 all_access Mutex = record { 0 = 0x1F0001 }
 all_access Semaphore = record { 0 = 0x1F0003 }
+all_access Timer = record { 0 = 0x1F0003 }

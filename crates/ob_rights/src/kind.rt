@@ -9,4 +9,6 @@ pub enum Kind {
     Mutex,
     /// A count from 0 to a maximum.
     Semaphore,
+    /// Signaled from a due moment on; reset when it is set again, or by the wait that it satisfies.
+    Timer,
 }

@@ -15,7 +15,8 @@ pub struct Rights(pub u32);
 
 bitflag_items! {
     impl Rights: u32 {
-        /// `EVENT_MODIFY_STATE` and `SEMAPHORE_MODIFY_STATE`: set and reset an event, release a semaphore.
+        /// `EVENT_MODIFY_STATE`, `SEMAPHORE_MODIFY_STATE` and `TIMER_MODIFY_STATE`: set and reset an event, release a
+        /// semaphore, set and cancel a timer.
         const MODIFY_STATE = 0x0002;
         /// `DELETE`.
         const DELETE = 0x0001_0000;
@@ -27,7 +28,7 @@ bitflag_items! {
         const WRITE_OWNER = 0x0008_0000;
         /// `SYNCHRONIZE`: wait for the object.
         const SYNCHRONIZE = 0x0010_0000;
-        /// `EVENT_ALL_ACCESS` and `SEMAPHORE_ALL_ACCESS`.
+        /// `EVENT_ALL_ACCESS`, `SEMAPHORE_ALL_ACCESS` and `TIMER_ALL_ACCESS`.
         const EVENT_ALL_ACCESS = 0x001F_0003;
         /// `MUTEX_ALL_ACCESS`, in which bit 0 is `MUTEX_MODIFY_STATE`, reserved.
         const MUTEX_ALL_ACCESS = 0x001F_0001;
@@ -69,7 +70,7 @@ pub fn all_access(kind: Kind) -> Rights
     ensures { result ≡ all_access kind }
 {
     match kind {
-        Kind::Event | Kind::Semaphore => Rights::EVENT_ALL_ACCESS,
+        Kind::Event | Kind::Semaphore | Kind::Timer => Rights::EVENT_ALL_ACCESS,
         Kind::Mutex => Rights::MUTEX_ALL_ACCESS,
     }
 }

@@ -1,26 +1,28 @@
 -- A slot's descriptor word: the kind in bits 0 and 1, the flag of manual reset in bit 2, the maximum in bits 3 to 33.
 use Rattle.std.specs.Prelude.{ℕ, ◌+◌, ◌*◌, ◌/◌, ◌%◌, ◌==◌, ◌≤◌, ◌&&◌, nat_lt, not, Bool, true, false, if◌then◌else◌, Option, Some, None, IsTrue}
 use Rattle.ob_rights.specs.declared.kind.Kind.{Kind}
-use Rattle.ob_rights.specs.declared.kind.Kind.TheVariants.{Event, Mutex, Semaphore}
+use Rattle.ob_rights.specs.declared.kind.Kind.TheVariants.{Event, Mutex, Semaphore, Timer}
 use Rattle.pin_core.specs.declared.descr.Descr.{Descr}
 
 abbrev pub kind_code : Kind → ℕ
 kind_code Event = 0
 kind_code Mutex = 1
 kind_code Semaphore = 2
+kind_code Timer = 3
 
 abbrev pub kind_of : ℕ → Option Kind
-kind_of n = if n == 0 then Some Event else (if n == 1 then Some Mutex else (if n == 2 then Some Semaphore else None))
+kind_of n = if n == 0 then Some Event else (if n == 1 then Some Mutex else (if n == 2 then Some Semaphore else (if n == 3 then Some Timer else None)))
 
 abbrev pub flag : Bool → ℕ
 flag true = 4
 flag false = 0
 
--- the flag is an event's, and a maximum other than 0 a semaphore's, which has one
+-- the flag is an event's or a timer's, and a maximum other than 0 a semaphore's, which has one
 abbrev pub fits : Kind → Bool → ℕ → Bool
 fits Event manual m = m == 0
 fits Mutex manual m = not manual && (m == 0)
 fits Semaphore manual m = not manual && nat_lt 0 m
+fits Timer manual m = m == 0
 
 -- a descriptor that a word can have
 abbrev pub IsGiven : Descr → Type 0

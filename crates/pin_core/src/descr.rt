@@ -5,13 +5,13 @@ use ob_rights::Kind;
 
 /// What an object was made as. It never changes, so it can be read under a pin, without a lock.
 ///
-/// In 64 bits: the kind in bits 0 and 1 (event 0, mutex 1, semaphore 2), the flag of manual reset in bit 2,
+/// In 64 bits: the kind in bits 0 and 1 (event 0, mutex 1, semaphore 2, timer 3), the flag of manual reset in bit 2,
 /// the maximum in bits 3 to 33, and 0 elsewhere.
 #[derive(Clone, Copy, Debug, PartialEq, Eq)]
 pub struct Descr {
     /// The kind of the object.
     pub kind: Kind,
-    /// Whether it is an event that is reset by hand.
+    /// Whether it is an event that is reset by hand, or a timer that only setting it resets.
     pub manual: bool,
     /// The maximum of a semaphore, from 1 to 2,147,483,647; else 0.
     pub max: u32,
@@ -27,6 +27,7 @@ fn code_of_kind(kind: Kind) -> u64
         Kind::Event => 0,
         Kind::Mutex => 1,
         Kind::Semaphore => 2,
+        Kind::Timer => 3,
     }
 }
 
@@ -37,6 +38,7 @@ fn kind_of_code(code: u64) -> Option<Kind>
         0 => Some(Kind::Event),
         1 => Some(Kind::Mutex),
         2 => Some(Kind::Semaphore),
+        3 => Some(Kind::Timer),
         _ => None,
     }
 }
@@ -45,14 +47,14 @@ fn is_fitting(kind: Kind, manual: bool, max: u64) -> bool
     ensures { result ≡ fits kind manual max }
 {
     match kind {
-        Kind::Event => max == 0,
+        Kind::Event | Kind::Timer => max == 0,
         Kind::Mutex => !manual && max == 0,
         Kind::Semaphore => !manual && 0 < max,
     }
 }
 
 impl Descr {
-    /// Whether [`decode`](Descr::decode) can give it: the flag on an event only, and a maximum from 1 to
+    /// Whether [`decode`](Descr::decode) can give it: the flag on an event or a timer only, and a maximum from 1 to
     /// 2,147,483,647 on a semaphore only.
     pub fn is_given(self) -> bool
         ensures { IsTrue result ↔ IsGiven self }
@@ -69,8 +71,8 @@ impl Descr {
         code_of_kind(self.kind) + flag + 8 * u64::from(self.max)
     }
 
-    /// The descriptor of 64 bits. `None` for the kind 3, the flag on a mutex or a semaphore, a maximum other
-    /// than 0 on an event or a mutex, a semaphore with the maximum 0, and any of bits 34 to 63.
+    /// The descriptor of 64 bits. `None` for the flag on a mutex or a semaphore, a maximum other than 0 on an
+    /// event, a mutex or a timer, a semaphore with the maximum 0, and any of bits 34 to 63.
     pub fn decode(word: u64) -> Option<Descr>
         ensures { result ≡ decoded word }
     {
