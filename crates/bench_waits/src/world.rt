@@ -77,7 +77,7 @@ impl World {
         if let Some(code) = try_now(&mut self.slots, thread, mode, ids) {
             return Ok(Some(code));
         }
-        self.waits.add(thread, mode, ids)?;
+        self.waits.add(thread, mode, ids, None)?;
         Ok(None)
     }
 

@@ -43,9 +43,9 @@ module _ (ws : List (Option Wait)) (w : Wait) where
   ]
 
 -- The theorem: a wait of a thread that had none, for which the roster has a place, is tracked.
-pub tracked_added : (limit : ℕ) (ws : List (Option Wait)) (r r' : Roster) (n t : ℕ) (mode : Mode) (ids : List Id) → length ws ≡ n → 0 < n → n ≤ limit → IsWaitable mode ids → number_of t ws ≡ None →
-    IsTracked limit ws r → IsRight ws r' → HasPlace r' t ids n → IsTracked limit (ws ++ Some (new_wait t mode ids) ∷ []) (with_number r' t n)
-tracked_added limit ws r r' n t mode ids len some below waitable alone k right place = record {
+pub tracked_added : (limit : ℕ) (ws : List (Option Wait)) (r r' : Roster) (n t : ℕ) (mode : Mode) (ids : List Id) (d : Option ℕ) → length ws ≡ n → 0 < n → n ≤ limit → IsWaitable mode ids → number_of t ws ≡ None →
+    IsTracked limit ws r → IsRight ws r' → HasPlace r' t ids n → IsTracked limit (ws ++ Some (new_wait t mode ids d) ∷ []) (with_number r' t n)
+tracked_added limit ws r r' n t mode ids d len some below waitable alone k right place = record {
   limit_fits = k.limit_fits;
   few = omega (arith, length_push ws (Some w));
   zero_has_none = get_or_append_left ws (Some w ∷ []) None 0 (omega arith) ∙ k.zero_has_none;
@@ -65,7 +65,7 @@ tracked_added limit ws r r' n t mode ids len some below waitable alone k right p
 }
   where
     w : Wait
-    w = new_wait t mode ids
+    w = new_wait t mode ids d
 
     ours : (m u : ℕ) → thread_of (get_or (ws ++ Some w ∷ []) m None) ≡ Some u → (thread_of (get_or ws m None) ≡ Some u × (m < length ws)) ⊎ ((m ≡ length ws) × (u ≡ t))
     ours m u = by_number ws w (λ i x. thread_of x ≡ Some u → (thread_of (get_or ws i None) ≡ Some u × (i < length ws)) ⊎ ((i ≡ length ws) × (u ≡ t))) (λ i lt g. inl (g, lt)) (λ g. inr (refl, (let e : Some t ≡ Some u = g in cc))) (λ i past g. absurd (cc)) m

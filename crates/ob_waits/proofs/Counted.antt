@@ -32,11 +32,11 @@ module _ (f : Option Wait → ℕ) (none : f None ≡ 0) where
   ]
 
 -- a wait becomes pending
-pub slot_added : (k : ℕ) (ws : List (Option Wait)) (t : ℕ) (mode : Mode) (ids : List Id) → slot_blocks k (ws ++ Some (new_wait t mode ids) ∷ []) ≡ slot_blocks k ws + slot_places k ids
-slot_added k ws t mode ids = sum_added (λ w. slot_places k (ids_of w)) refl ws (Some (new_wait t mode ids))
+pub slot_added : (k : ℕ) (ws : List (Option Wait)) (t : ℕ) (mode : Mode) (ids : List Id) (d : Option ℕ) → slot_blocks k (ws ++ Some (new_wait t mode ids d) ∷ []) ≡ slot_blocks k ws + slot_places k ids
+slot_added k ws t mode ids d = sum_added (λ w. slot_places k (ids_of w)) refl ws (Some (new_wait t mode ids d))
 
-pub blocks_added : (id : Id) (ws : List (Option Wait)) (t : ℕ) (mode : Mode) (ids : List Id) → blocks_among id (ws ++ Some (new_wait t mode ids) ∷ []) ≡ blocks_among id ws + count_by (same_id id) ids
-blocks_added id ws t mode ids = sum_added (blocks_in id) refl ws (Some (new_wait t mode ids))
+pub blocks_added : (id : Id) (ws : List (Option Wait)) (t : ℕ) (mode : Mode) (ids : List Id) (d : Option ℕ) → blocks_among id (ws ++ Some (new_wait t mode ids d) ∷ []) ≡ blocks_among id ws + count_by (same_id id) ids
+blocks_added id ws t mode ids d = sum_added (blocks_in id) refl ws (Some (new_wait t mode ids d))
 
 -- a wait is answered without taking anything
 no_ids : (w : Option Wait) (code : ℕ) → ids_of (answered w code) ≡ []

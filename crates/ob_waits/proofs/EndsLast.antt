@@ -25,14 +25,14 @@ use Rattle.ob_waits.proofs.Counted.{named_counts}
 use Rattle.ob_waits.proofs.Ends.{body_left}
 
 -- slot by slot
-ended_none : (handles blocks : ℕ) → slot_ended handles blocks None ≡ None
+pub ended_none : (handles blocks : ℕ) → slot_ended handles blocks None ≡ None
 ended_none handles blocks = by (eqb (handles + blocks) 0)
   where
     by : (b : Bool) → ◌≡◌ {A = Option Body} (cond b None None) None
     by true = refl
     by false = refl
 
-ended_at : (objects : Objects) (k : ℕ) → get_or (ended objects).bodies k None ≡ body_ended objects k
+pub ended_at : (objects : Objects) (k : ℕ) → get_or (ended objects).bodies k None ≡ body_ended objects k
 ended_at objects k = elim (cases_lt k (length objects.bodies)) [
   | inl lt ↦ get_or-map-range_with_len (body_ended objects) 0 (length objects.bodies) k k None lt (omega arith)
   | inr past ↦ get_or_past (ended objects).bodies k None (omega (arith, past, length-map-range_with_len (body_ended objects) 0 (length objects.bodies)))
@@ -42,7 +42,7 @@ ended_at objects k = elim (cases_lt k (length objects.bodies)) [
 pub is_ended : (objects : Objects) (bodies : List (Option Body)) → length bodies ≡ length objects.bodies → ((k : ℕ) → get_or bodies k None ≡ body_ended objects k) → bodies ≡ (ended objects).bodies
 is_ended objects bodies len each = ext_get_or None bodies (ended objects).bodies (len ∙ sym (length-map-range_with_len (body_ended objects) 0 (length objects.bodies))) (λ k lt. each k ∙ sym (ended_at objects k))
 
-length-ended : (objects : Objects) → length (ended objects).bodies ≡ length objects.bodies
+pub length-ended : (objects : Objects) → length (ended objects).bodies ≡ length objects.bodies
 length-ended objects = length-map-range_with_len (body_ended objects) 0 (length objects.bodies)
 
 -- where each slot has a body exactly where something refers to it, nothing is left to end

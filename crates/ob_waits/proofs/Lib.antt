@@ -19,3 +19,5 @@ pub mod Counted
 pub mod Staying
 pub mod MergeLaws
 pub mod SettleLaws
+pub mod DeadlineLaws
+pub mod LapseLaws

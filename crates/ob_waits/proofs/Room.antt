@@ -17,9 +17,9 @@ use Rattle.ob_waits.proofs.Counted.{unnamed_ids}
 use Rattle.ob_waits.proofs.AddedLaws.{by_number}
 
 -- one more wait, of a thread for which there is room
-pub room_added : (limit : ℕ) (bodies : List (Option Body)) (ws : List (Option Wait)) (t : ℕ) (mode : Mode) (ids : List Id) → HasRoom limit t bodies ids → WaitsHaveRoom limit bodies ws →
-    WaitsHaveRoom limit bodies (ws ++ Some (new_wait t mode ids) ∷ [])
-room_added limit bodies ws t mode ids room r = record { each = by_number ws (new_wait t mode ids) (λ n x. WaitHasRoom limit bodies x) (λ n lt. r.each n) room (λ n past. tt) }
+pub room_added : (limit : ℕ) (bodies : List (Option Body)) (ws : List (Option Wait)) (t : ℕ) (mode : Mode) (ids : List Id) (d : Option ℕ) → HasRoom limit t bodies ids → WaitsHaveRoom limit bodies ws →
+    WaitsHaveRoom limit bodies (ws ++ Some (new_wait t mode ids d) ∷ [])
+room_added limit bodies ws t mode ids d room r = record { each = by_number ws (new_wait t mode ids d) (λ n x. WaitHasRoom limit bodies x) (λ n lt. r.each n) room (λ n past. tt) }
 
 -- one wait replaced by one that has room, as by none or by an answered one
 pub room_replaced : (limit : ℕ) (bodies : List (Option Body)) (ws : List (Option Wait)) (n : ℕ) (x : Option Wait) → WaitHasRoom limit bodies x → WaitsHaveRoom limit bodies ws → WaitsHaveRoom limit bodies (set ws n x)

@@ -14,9 +14,9 @@ use Rattle.ob_waits.proofs.Counted.{named_counts}
 use Rattle.ob_waits.proofs.AddedLaws.{by_number}
 
 -- a wait that isn't ready comes
-pub settled_added : (bodies : List (Option Body)) (ws : List (Option Wait)) (t : ℕ) (mode : Mode) (ids : List Id) → list_ready mode t bodies ids ≡ false → IsSettled bodies ws →
-    IsSettled bodies (ws ++ Some (new_wait t mode ids) ∷ [])
-settled_added bodies ws t mode ids unready s = record { each = by_number ws (new_wait t mode ids) (λ n x. is_ready bodies x ≡ false) (λ n lt. s.each n) unready (λ n past. refl) }
+pub settled_added : (bodies : List (Option Body)) (ws : List (Option Wait)) (t : ℕ) (mode : Mode) (ids : List Id) (d : Option ℕ) → list_ready mode t bodies ids ≡ false → IsSettled bodies ws →
+    IsSettled bodies (ws ++ Some (new_wait t mode ids d) ∷ [])
+settled_added bodies ws t mode ids d unready s = record { each = by_number ws (new_wait t mode ids d) (λ n x. is_ready bodies x ≡ false) (λ n lt. s.each n) unready (λ n past. refl) }
 
 -- nothing becomes signaled
 pub settled_less : (bodies after : List (Option Body)) (ws : List (Option Wait)) → IsLess bodies after → IsSettled bodies ws → IsSettled after ws

@@ -5,7 +5,7 @@ use Rattle.std.proofs.lemmas.List.{length-set, get_or_past, get_or-set_same, get
 use Rattle.std.proofs.lemmas.Bool.{cases_eq, cases_lt}
 use Rattle.pin_core.specs.declared.id.Id.{Id}
 use Rattle.ob_body.specs.declared.body.Body.{Body}
-use Rattle.ob_body.specs.declared.body.Body.TheVariants.{Event, Mutex, Semaphore}
+use Rattle.ob_body.specs.declared.body.Body.TheVariants.{Event, Mutex, Semaphore, Timer}
 use Rattle.ob_body.specs.Mutex as mutex
 use Rattle.ob_waits.specs.declared.wait.Mode.{Mode}
 use Rattle.ob_waits.specs.declared.wait.Mode.TheVariants.{Any, All}
@@ -47,11 +47,13 @@ form_taken u None = refl
 form_taken u (Some (Event e)) = refl
 form_taken u (Some (Mutex m)) = refl
 form_taken u (Some (Semaphore s)) = refl
+form_taken u (Some (Timer t)) = refl
 
 owner_taken : (u t : ℕ) (b : Option Body) → slot_owner (slot_acquired u b) ≡ Some t → (slot_owner b ≡ Some t) ⊎ (u ≡ t)
 owner_taken u t None h = absurd (cc)
 owner_taken u t (Some (Event e)) h = absurd (cc)
 owner_taken u t (Some (Semaphore s)) h = absurd (cc)
+owner_taken u t (Some (Timer m)) h = absurd (cc)
 owner_taken u t (Some (Mutex m)) h = by m.owner m.recursion m.abandoned h
   where
     by : (owner : Option ℕ) (recursion : ℕ) (abandoned : Bool) → (mutex.after_acquire u (record { owner = owner; recursion = recursion; abandoned = abandoned })).owner ≡ Some t → (owner ≡ Some t) ⊎ (u ≡ t)

@@ -1,27 +1,39 @@
--- What of a body no wait changes, and who owns it.
-use Rattle.std.specs.Prelude.{◌≡◌, ℕ, Bool, false, List, Option, Some, None, slice_index_or}
+-- What of a body no wait changes, when it is due, and who owns it.
+use Rattle.std.specs.Prelude.{◌≡◌, ◌<◌, ℕ, Bool, false, List, Option, Some, None, slice_index_or}
 use Rattle.ob_rights.specs.declared.kind.Kind.{Kind}
 use Rattle.ob_rights.specs.declared.kind.Kind.TheVariants as kind
 use Rattle.ob_body.specs.declared.body.Body.{Body}
-use Rattle.ob_body.specs.declared.body.Body.TheVariants.{Event, Mutex, Semaphore}
-use Rattle.ob_body.specs.Body.{owner_of}
+use Rattle.ob_body.specs.declared.body.Body.TheVariants.{Event, Mutex, Semaphore, Timer}
+use Rattle.ob_body.specs.Body.{due_of, owner_of}
 use Rattle.ob_waits.specs.declared.wait.Wait.{Wait}
 use Rattle.ob_waits.specs.Rules.{thread_of}
 
--- its kind, whether an event is reset by hand, and the maximum of a semaphore
+-- its kind, whether an event or a timer is reset by hand, the maximum of a semaphore, and the moment at which a timer is due
 pub record Form : Type 0 where
   pub kind : Kind
   pub manual : Bool
   pub maximum : ℕ
+  pub due : Option ℕ
 
 abbrev pub form_of : Body → Form
-form_of (Event e) = record { kind = kind.Event; manual = e.manual; maximum = 0 }
-form_of (Mutex m) = record { kind = kind.Mutex; manual = false; maximum = 0 }
-form_of (Semaphore s) = record { kind = kind.Semaphore; manual = false; maximum = s.maximum }
+form_of (Event e) = record { kind = kind.Event; manual = e.manual; maximum = 0; due = None }
+form_of (Mutex m) = record { kind = kind.Mutex; manual = false; maximum = 0; due = None }
+form_of (Semaphore s) = record { kind = kind.Semaphore; manual = false; maximum = s.maximum; due = None }
+form_of (Timer t) = record { kind = kind.Timer; manual = t.manual; maximum = 0; due = t.due }
 
 abbrev pub slot_form : Option Body → Option Form
 slot_form None = None
 slot_form (Some b) = Some (form_of b)
+
+-- the moment at which a timer is due
+abbrev pub slot_due : Option Body → Option ℕ
+slot_due None = None
+slot_due (Some b) = due_of b
+
+-- a moment, if there is one, is after another
+abbrev pub IsAfter : ℕ → Option ℕ → Type 0
+IsAfter clock None = Unit {0}
+IsAfter clock (Some due) = clock < due
 
 -- the thread that owns a mutex
 abbrev pub slot_owner : Option Body → Option ℕ

@@ -170,22 +170,23 @@ numbered_ids waits (Some number) = ids_of (slice_index_or waits number None)
 abbrev pub thread_ids : ℕ → List (Option Wait) → List Id
 thread_ids thread waits = numbered_ids waits (number_of thread waits)
 
--- the waits by their numbers, from 0, which is never given; and how many numbers may be given
+-- the waits by their numbers, from 0, which is never given; how many numbers may be given; and the moment that it is
 pub record WaitList : Type 0 where
   pub limit : ℕ
   pub waits : List (Option Wait)
+  pub clock : ℕ
 
 -- whether all numbers are given
 abbrev pub is_full : WaitList → Bool
 is_full list = nat_lt list.limit (length list.waits)
 
 -- a wait that becomes pending
-abbrev pub new_wait : ℕ → Mode → List Id → Wait
-new_wait thread mode ids = record { thread = thread; state = Pending mode ids }
+abbrev pub new_wait : ℕ → Mode → List Id → Option ℕ → Wait
+new_wait thread mode ids deadline = record { thread = thread; deadline = deadline; state = Pending mode ids }
 
 -- the waits with one more, which has the next number
-abbrev pub with_wait : WaitList → ℕ → Mode → List Id → WaitList
-with_wait list thread mode ids = record list { waits = list.waits ++ Some (new_wait thread mode ids) ∷ [] }
+abbrev pub with_wait : WaitList → ℕ → Mode → List Id → Option ℕ → WaitList
+with_wait list thread mode ids deadline = record list { waits = list.waits ++ Some (new_wait thread mode ids deadline) ∷ [] }
 
 -- the wait of a number, answered
 abbrev pub answered : Option Wait → ℕ → Option Wait

@@ -13,3 +13,6 @@ pub const WAIT_ABANDONED_0: u32 = 128;
 ///
 /// [Wait Functions]: https://learn.microsoft.com/windows/win32/sync/wait-functions
 pub const WAIT_TIMEOUT: u32 = 258;
+
+/// The greatest moment that it can be, in units of 100 ns: that of a LARGE_INTEGER.
+pub const LAST_MOMENT: u64 = 9_223_372_036_854_775_807;

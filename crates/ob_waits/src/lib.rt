@@ -8,6 +8,7 @@
 mod blocks;
 mod bodies;
 mod codes;
+mod deadlines;
 mod held;
 mod ids;
 mod index;
@@ -15,6 +16,7 @@ mod law;
 mod live;
 mod merge;
 mod numbers;
+mod overdue;
 mod pass;
 mod places;
 mod roster;
@@ -24,7 +26,7 @@ mod wait;
 mod waits;
 
 pub use bodies::Bodies;
-pub use codes::{MAXIMUM_WAIT_OBJECTS, WAIT_ABANDONED_0, WAIT_TIMEOUT};
+pub use codes::{LAST_MOMENT, MAXIMUM_WAIT_OBJECTS, WAIT_ABANDONED_0, WAIT_TIMEOUT};
 pub use law::{law_of_ends, law_of_settling};
 pub use pass::leave_all;
 pub use take::try_now;

@@ -1,5 +1,6 @@
 ghost use Rattle.std.specs.Prelude.{◌≡◌, ◌+◌, ◌<◌, ◌≤◌, true, Some, None, [], ◌∷◌, ◌++◌, length, slice_index_or, slice_set, OnOk, OnErr};
 ghost use Rattle.std.specs.Option.{option_copied};
+ghost use Rattle.ob_waits.specs.Deadlines.{is_overdue};
 ghost use Rattle.ob_waits.specs.Waits.{answered, is_pending};
 
 use crate::held::Held;
@@ -70,6 +71,19 @@ impl Live {
             Some(wait) => match &wait.state {
                 State::Pending(_, _) => true,
                 State::Answered(_) => false,
+            },
+            None => false,
+        }
+    }
+
+    /// Whether the wait of a number is pending, and its time is up at a moment.
+    pub(crate) fn is_overdue(&self, number: u32, now: u64) -> bool
+        ensures { result ≡ is_overdue now (slice_index_or self.now number None) }
+    {
+        match self.get(number) {
+            Some(wait) => match (&wait.state, wait.deadline) {
+                (State::Pending(_, _), Some(deadline)) => deadline <= now,
+                _ => false,
             },
             None => false,
         }

@@ -35,6 +35,8 @@ pub enum State {
 pub struct Wait {
     /// The thread that waits.
     pub thread: u32,
+    /// The moment at which its time is up, in units of 100 ns: none where it waits for good.
+    pub deadline: Option<u64>,
     /// Where it stands.
     pub state: State,
 }

@@ -1,13 +1,17 @@
-ghost use Rattle.std.specs.Prelude.{[], ◌∷◌, ◌≡◌, false, Err, ◌≢◌, ◌+◌, ◌<◌, ◌≤◌, ◌↔◌, ℕ, true, None, Some, length, slice_index_or, OnOk, OnErr, IfOk, IfErr, IfSome, IsSome};
+ghost use Rattle.std.specs.Prelude.{[], ◌∷◌, ◌≡◌, false, Err, IfNone, ◌≢◌, ◌+◌, ◌<◌, ◌≤◌, ◌↔◌, ℕ, true, None, Some, length, slice_index_or, OnOk, OnErr, IfOk, IfErr, IfSome, IsSome};
 ghost use Rattle.std.specs.Option.{option_map};
 ghost use Rattle.ob_waits.specs.Waits.{settled, passed, blocks_among, number_of, with_wait, with_answer, without_wait, without_thread, is_pending, code_at, state_at, ids_of, is_full};
+ghost use Rattle.ob_waits.specs.Deadlines.{AreAhead, is_overdue};
+ghost use Rattle.ob_waits.specs.Form.{IsAfter};
 ghost use Rattle.ob_waits.specs.Rules.{IsKept, IsWaitable, WaitsHaveRoom, IsSettled, IsReadyAt, IsReadyAtOne};
 
 use crate::blocks::blocks_of;
 use crate::bodies::Bodies;
-use crate::codes::WAIT_TIMEOUT;
+use crate::codes::{LAST_MOMENT, WAIT_TIMEOUT};
+use crate::deadlines::Deadlines;
 use crate::ids::Ids;
 use crate::live::Live;
+use crate::overdue::next_overdue;
 use crate::pass::{pass, pass_each};
 use crate::roster::Roster;
 use crate::wait::{Mode, State, Wait, WaitState};
@@ -36,33 +40,48 @@ use std::marker::Model;
 #[derive(Drop)]
 pub struct Waits {
     limit: u32,
+    clock: u64,
     alloc: Global,
     live: Live,
     roster: Roster,
+    deadlines: Deadlines,
 }
 
 impl Model for Waits {
     ghost use Rattle.ob_waits.specs.Waits.{WaitList};
+    ghost use Rattle.ob_waits.specs.Deadlines.{AreTimely};
     ghost use Rattle.ob_waits.specs.Roster.{IsTracked};
 
     ghost Value = { WaitList };
 
-    ghost view = { λ w. record { limit = w.limit; waits = w.live } };
+    ghost view = { λ w. record { limit = w.limit; waits = w.live; clock = w.clock } };
 
-    ghost invariant = { λ w. IsTracked w.limit w.live w.roster };
+    ghost invariant = { λ w. IsTracked w.limit w.live w.roster × AreTimely w.clock w.live w.deadlines };
 }
 
 impl Waits {
     /// No waits yet; at most `waits` numbers may be given. Takes no memory.
     pub fn new(alloc: Global, waits: u32) -> Waits
-        ensures { result ≡ record { limit = waits; waits = None ∷ [] } }
+        ensures { result ≡ record { limit = waits; waits = None ∷ []; clock = 0 } }
     {
         Waits {
             limit: waits,
+            clock: 0,
             alloc,
             live: Live::new(alloc),
             roster: Roster::new(alloc),
+            deadlines: Deadlines::new(alloc),
         }
+    }
+
+    /// The moment that it is, in units of 100 ns.
+    pub fn clock(&self) -> u64
+        ensures moment { result ≡ self.now.clock }
+        ensures last { result ≤ LAST_MOMENT }
+        // Whatever the waits are: each deadline of one that is pending is after now.
+        ensures ahead { AreAhead self.now.clock self.now.waits }
+    {
+        self.clock
     }
 
     /// The number of the thread's wait, pending or answered.
@@ -100,34 +119,51 @@ impl Waits {
         }
     }
 
-    fn admit(&mut self, thread: u32, mode: Mode, ids: &[Id]) -> Result<u32, AllocError>
+    fn admit(
+        &mut self,
+        thread: u32,
+        mode: Mode,
+        ids: &[Id],
+        deadline: Option<u64>,
+    ) -> Result<u32, AllocError>
+        requires ahead { IsAfter self.old.clock deadline }
         requires waitable { IsWaitable mode ids.now }
         requires alone { number_of thread self.old.waits ≡ None }
         requires below_limit { is_full self.old ≡ false }
         ensures number { IfOk result (λ number. number ≡ length self.old.waits) }
-        ensures added { OnOk result (self.new ≡ with_wait self.old thread mode ids.now) }
+        ensures added { OnOk result (self.new ≡ with_wait self.old thread mode ids.now deadline) }
         ensures err { OnErr result (self.new ≡ self.old) }
     {
         let number = self.live.given() + 1;
         let list = Ids::new(self.alloc, ids)?;
         self.roster.make_room(&self.live, thread, ids, number)?;
+        self.deadlines.make_room(thread)?;
         self.live.push(Wait {
             thread,
+            deadline,
             state: State::Pending(mode, list),
         })?;
         self.roster.set_number(thread, number);
+        self.deadlines.set(thread, deadline);
         Ok(number)
     }
 
-    /// Gives the next number to a pending wait of a thread for 1 to 64 objects.
+    /// Gives the next number to a pending wait of a thread for 1 to 64 objects, until a moment or for good.
     ///
     /// [`Fault::Limit`] (1450) exactly where all numbers are given, and else [`Fault::Memory`] (8) where
     /// memory runs out; then nothing changes.
-    pub fn add(&mut self, thread: u32, mode: Mode, ids: &[Id]) -> Result<u32, Fault>
+    pub fn add(
+        &mut self,
+        thread: u32,
+        mode: Mode,
+        ids: &[Id],
+        deadline: Option<u64>,
+    ) -> Result<u32, Fault>
+        requires ahead { IsAfter self.old.clock deadline }
         requires waitable { IsWaitable mode ids.now }
         requires alone { number_of thread self.old.waits ≡ None }
         ensures number { IfOk result (λ number. number ≡ length self.old.waits) }
-        ensures added { OnOk result (self.new ≡ with_wait self.old thread mode ids.now) }
+        ensures added { OnOk result (self.new ≡ with_wait self.old thread mode ids.now deadline) }
         ensures err { OnErr result (self.new ≡ self.old) }
         ensures full { (result ≡ Err Fault.Limit) ↔ (is_full self.old ≡ true) }
         ensures memory { IfErr result (λ fault. is_full self.old ≡ false → fault ≡ Fault.Memory) }
@@ -138,7 +174,7 @@ impl Waits {
         if self.live.given() >= self.limit {
             return Err(Fault::Limit);
         }
-        match self.admit(thread, mode, ids) {
+        match self.admit(thread, mode, ids, deadline) {
             Ok(number) => Ok(number),
             Err(_) => Err(Fault::Memory),
         }
@@ -151,6 +187,7 @@ impl Waits {
         requires { WaitsHaveRoom RECURSION_MAX (B.objects bodies.old).bodies self.old.waits }
         ensures value { record { objects = B.objects bodies.new; waits = self.new.waits } ≡ settled (record { objects = B.objects bodies.old; waits = self.old.waits }) }
         ensures limit { self.new.limit ≡ self.old.limit }
+        ensures clock { self.new.clock ≡ self.old.clock }
         ensures rest { B.rest bodies.new ≡ B.rest bodies.old }
         // Nothing is left to settle, and no pending wait lost its room, below any limit.
         ensures settled { IsSettled (B.objects bodies.new).bodies self.new.waits }
@@ -168,6 +205,7 @@ impl Waits {
         requires ready { IsReadyAt id.slot (B.objects bodies.old).bodies self.old.waits }
         ensures value { record { objects = B.objects bodies.new; waits = self.new.waits } ≡ settled (record { objects = B.objects bodies.old; waits = self.old.waits }) }
         ensures limit { self.new.limit ≡ self.old.limit }
+        ensures clock { self.new.clock ≡ self.old.clock }
         ensures rest { B.rest bodies.new ≡ B.rest bodies.old }
         ensures settled { IsSettled (B.objects bodies.new).bodies self.new.waits }
         ensures room { (limit : ℕ) → WaitsHaveRoom limit (B.objects bodies.old).bodies self.old.waits → WaitsHaveRoom limit (B.objects bodies.new).bodies self.new.waits }
@@ -188,6 +226,7 @@ impl Waits {
         requires ready { IsReadyAtOne ids.now (B.objects bodies.old).bodies self.old.waits }
         ensures value { record { objects = B.objects bodies.new; waits = self.new.waits } ≡ settled (record { objects = B.objects bodies.old; waits = self.old.waits }) }
         ensures limit { self.new.limit ≡ self.old.limit }
+        ensures clock { self.new.clock ≡ self.old.clock }
         ensures rest { B.rest bodies.new ≡ B.rest bodies.old }
         ensures settled { IsSettled (B.objects bodies.new).bodies self.new.waits }
         ensures room { (limit : ℕ) → WaitsHaveRoom limit (B.objects bodies.old).bodies self.old.waits → WaitsHaveRoom limit (B.objects bodies.new).bodies self.new.waits }
@@ -212,6 +251,26 @@ impl Waits {
         self.live.answer(wait, WAIT_TIMEOUT);
     }
 
+    /// A pending wait whose deadline isn't after a moment. Where there is none, and none was answered before its time, that is
+    /// known at once.
+    pub fn overdue(&mut self, now: u64) -> Option<u32>
+        ensures some { IfSome result (λ wait. is_overdue now (slice_index_or self.old.waits wait None) ≡ true) }
+        ensures none { IfNone result ((n : ℕ) → is_overdue now (slice_index_or self.old.waits n None) ≡ false) }
+        ensures same { self.new ≡ self.old }
+    {
+        next_overdue(&self.live, &self.roster, &mut self.deadlines, now)
+    }
+
+    /// It is a moment, at which no pending wait's time is up.
+    pub fn pass_to(&mut self, now: u64)
+        requires later { self.old.clock ≤ now }
+        requires last { now ≤ LAST_MOMENT }
+        requires none { (n : ℕ) → is_overdue now (slice_index_or self.old.waits n None) ≡ false }
+        ensures { self.new ≡ record self.old { clock = now } }
+    {
+        self.clock = now;
+    }
+
     /// Takes the wait of a thread away, pending or answered, if it has one. The caller tells the blocks of a
     /// pending one as for [`expire`](Waits::expire).
     pub fn drop_thread(&mut self, thread: u32)
@@ -234,6 +293,7 @@ impl Waits {
         let Some(
             Wait {
                 thread,
+                deadline: _,
                 state: State::Answered(code),
             },
         ) = self.live.remove(wait)

@@ -1,0 +1,179 @@
+-- Deadlines go on being ahead and listed while waits come, are answered and go, and the code finds those that are over.
+use Rattle.std.proofs.Common.{◌≡◌, ◌⊎◌, ℕ, zero, suc, ◌++◌, ◌∷◌, [], ◌<◌, ◌≤◌, List, length, Option, Some, None, refl, ap, ◌∙◌, sym, subst, arith, get_or, set, Bool, true, false, cond, inl, inr}
+use Rattle.std.specs.Prelude.{count_by}
+use Rattle.std.proofs.lemmas.List.{length-set, get_or_past, get_or-set_same, get_or-set_other}
+use Rattle.std.proofs.lemmas.List.Sums.{sum_by-set}
+use Rattle.std.proofs.lemmas.Bool.{cases_eq, cases_lt}
+use Rattle.std.proofs.lemmas.Bool.Decides.{nat_tests}
+use Rattle.least_due.specs.Dues.{IsLeast, NotAfter}
+use Rattle.ob_body.specs.Timer.{is_due}
+use Rattle.pin_core.specs.declared.id.Id.{Id}
+use Rattle.ob_waits.specs.declared.wait.Mode.{Mode}
+use Rattle.ob_waits.specs.declared.wait.Wait.{Wait}
+use Rattle.ob_waits.specs.declared.wait.State.{State}
+use Rattle.ob_waits.specs.declared.wait.State.TheVariants.{Pending, Answered}
+use Rattle.ob_waits.specs.Deadlines.{AreListed, AreTimely, deadline_of, is_overdue, state_deadline}
+use Rattle.ob_waits.specs.Form.{IsAfter}
+use Rattle.ob_waits.specs.Objects.{Objects}
+use Rattle.ob_waits.specs.Roster.{AreThreads}
+use Rattle.ob_waits.specs.Rules.{thread_of}
+use Rattle.ob_waits.specs.Waits.{Scene, is_pending, new_wait, number_of, settled}
+use Rattle.ob_waits.proofs.AddedLaws.{by_number}
+use Rattle.ob_waits.proofs.Keeping.{Fade}
+use Rattle.ob_waits.proofs.Staying.{settled_stays}
+use Rattle.ob_waits.proofs.TrackedLaws.{no_number}
+
+-- a wait is what it was, or has no deadline any more
+abbrev Follows : Option Wait → Option Wait → Type 0
+Follows old new = (new ≡ old) ⊎ (deadline_of new ≡ None)
+
+pub timely_by : (clock : ℕ) (ws ws' : List (Option Wait)) (dues : List (Option ℕ)) → ((n : ℕ) → Follows (get_or ws n None) (get_or ws' n None)) → AreTimely clock ws dues → AreTimely clock ws' dues
+timely_by clock ws ws' dues follows timely = record {
+  moment = timely.moment;
+  ahead = record {
+    each = λ n. elim (follows n) [
+      | inl same ↦ subst (λ (w : Option Wait). IsAfter clock (deadline_of w)) (sym same) (timely.ahead.each n)
+      | inr none ↦ subst (IsAfter clock) (sym none) tt
+    ];
+  };
+  listed = record {
+    each = λ n t d own due. elim (follows n) [
+      | inl same ↦ timely.listed.each n t d (sym (ap thread_of same) ∙ own) (sym (ap deadline_of same) ∙ due)
+      | inr none ↦ absurd (cc (none, due))
+    ];
+  };
+}
+
+unpending : (w : Option Wait) → is_pending w ≡ false → deadline_of w ≡ None
+unpending None h = refl
+unpending (Some w) h = by w.state h
+  where
+    by : (s : State) → is_pending (Some (record w { state = s })) ≡ false → state_deadline w.deadline s ≡ None
+    by (Pending mode ids) h = absurd (cc)
+    by (Answered code) h = refl
+
+-- some waits were answered
+pub timely_faded : (clock : ℕ) (ws ws' : List (Option Wait)) (dues : List (Option ℕ)) → Fade ws ws' → AreTimely clock ws dues → AreTimely clock ws' dues
+timely_faded clock ws ws' dues fade timely = timely_by clock ws ws' dues (λ n. by n (is_pending (get_or ws' n None)) refl) timely
+  where
+    by : (n : ℕ) (b : Bool) → is_pending (get_or ws' n None) ≡ b → Follows (get_or ws n None) (get_or ws' n None)
+    by n true is = inl ((fade.each n).stays is)
+    by n false is = inr (unpending (get_or ws' n None) is)
+
+pub timely_settled : (clock : ℕ) (before after : Objects) (ws ws' : List (Option Wait)) (dues : List (Option ℕ)) → ◌≡◌ {A = Scene} (record { objects = after; waits = ws' }) (settled (record { objects = before; waits = ws }))
+    → AreTimely clock ws dues → AreTimely clock ws' dues
+timely_settled clock before after ws ws' dues value timely =
+    timely_faded clock ws ws' dues (subst (Fade ws) (sym (ap (λ (s : Scene). s.waits) value)) (settled_stays (record { objects = before; waits = ws })).fade) timely
+
+-- one went
+pub timely_removed : (clock : ℕ) (ws : List (Option Wait)) (n : ℕ) (dues : List (Option ℕ)) → AreTimely clock ws dues → AreTimely clock (set ws n None) dues
+timely_removed clock ws n dues timely = timely_by clock ws (set ws n None) dues (λ m. by m) timely
+  where
+    by : (m : ℕ) → Follows (get_or ws m None) (get_or (set ws n None) m None)
+    by m = elim (cases_eq m n) [
+      | inl same ↦ elim (cases_lt n (length ws)) [
+        | inl lt ↦ inr (ap deadline_of (ap (λ i. get_or (set ws n None) i None) same ∙ get_or-set_same ws n None None lt))
+        | inr past ↦ inr (ap deadline_of (get_or_past (set ws n None) m None (omega (arith, length-set {A = Option Wait} ws n None, same, past))))
+      ]
+      | inr other ↦ inl (get_or-set_other ws n m None None other)
+    ]
+
+-- no waits
+pub timely_none : AreTimely 0 (None ∷ []) []
+timely_none = record {
+  moment = omega arith;
+  ahead = record { each = λ n. subst (λ (w : Option Wait). IsAfter 0 (deadline_of w)) (sym (none n)) tt };
+  listed = record { each = λ n t d own due. absurd (let e = ap thread_of (none n) in cc (e, own)) };
+}
+  where
+    none : (n : ℕ) → get_or {A = Option Wait} (None ∷ []) n None ≡ None
+    none n = elim n as (λ n. get_or {A = Option Wait} (None ∷ []) n None ≡ None) [ zero ↦ refl | suc n ↦ refl ]
+
+-- a wait comes, of a thread that had none
+module _ (clock : ℕ) (ws : List (Option Wait)) (t : ℕ) (mode : Mode) (ids : List Id) (d : Option ℕ) (dues room : List (Option ℕ))
+    (alone : number_of t ws ≡ None)
+    (ahead : IsAfter clock d)
+    (place : t < length room)
+    (same : (u : ℕ) → get_or room u None ≡ get_or dues u None)
+    (timely : AreTimely clock ws dues) where
+  w : Wait
+  w = new_wait t mode ids d
+
+  pub timely_added : AreTimely clock (ws ++ Some (new_wait t mode ids d) ∷ []) (set room t d)
+  timely_added = record {
+    moment = timely.moment;
+    ahead = record { each = λ n. by_number ws (new_wait t mode ids d) (λ n x. IsAfter clock (deadline_of x)) (λ n lt. timely.ahead.each n) ahead (λ n past. tt) n };
+    listed = record {
+      each = λ n u e own due. by_number ws (new_wait t mode ids d) (λ n x. thread_of x ≡ Some u → deadline_of x ≡ Some e → get_or (set room t d) u None ≡ Some e)
+          (λ n lt own due. old n u e own due)
+          (λ own due. let same_thread : t ≡ u = cc in ap (λ v. get_or (set room t d) v None) (sym same_thread) ∙ get_or-set_same room t d None place ∙ due)
+          (λ n past own due. absurd (cc)) n own due;
+    };
+  }
+    where
+      old : (n u e : ℕ) → thread_of (get_or ws n None) ≡ Some u → deadline_of (get_or ws n None) ≡ Some e → get_or (set room t d) u None ≡ Some e
+      old n u e own due = elim (cases_eq u t) [
+        | inl ours ↦ absurd (no_number t ws n alone (own ∙ ap Some ours))
+        | inr other ↦ get_or-set_other room t u d None other ∙ same u ∙ timely.listed.each n u e own due
+      ]
+
+-- the clock goes on, where no wait's time is up
+undue_after : (now : ℕ) (d : Option ℕ) → is_due now d ≡ false → IsAfter now d
+undue_after now None h = tt
+undue_after now (Some due) h = grind (arith, nat_tests, h)
+
+pub timely_passed : (clock now : ℕ) (ws : List (Option Wait)) (dues : List (Option ℕ)) → now ≤ 9223372036854775807 → ((n : ℕ) → is_overdue now (get_or ws n None) ≡ false) → AreTimely clock ws dues → AreTimely now ws dues
+timely_passed clock now ws dues last none timely = record { moment = last; ahead = record { each = λ n. undue_after now (deadline_of (get_or ws n None)) (none n) }; listed = timely.listed }
+
+-- a deadline that is listed, but not of a pending wait, is dropped
+pub listed_cleared : (now : ℕ) (ws : List (Option Wait)) (threads : List ℕ) (dues : List (Option ℕ)) (t : ℕ) → AreThreads ws threads → is_due now (get_or dues t None) ≡ true → is_overdue now (get_or ws (get_or threads t 0) None) ≡ false
+    → AreListed ws dues → AreListed ws (set dues t None)
+listed_cleared now ws threads dues t right due idle listed = record {
+  each = λ n u d own is. elim (cases_eq u t) [
+    | inl same ↦ absurd (let number : get_or threads t 0 ≡ n = right.all n t (own ∙ ap Some same) in
+        let stands : get_or dues t None ≡ Some d = ap (λ v. get_or dues v None) (sym same) ∙ listed.each n u d own is in
+        let yes : is_due now (Some d) ≡ true = ap (is_due now) (sym stands) ∙ due in
+        let no : is_due now (Some d) ≡ false = ap (is_due now) (sym is) ∙ ap (λ i. is_overdue now (get_or ws i None)) (sym number) ∙ idle in
+        cc (yes, no))
+    | inr other ↦ get_or-set_other dues t u None None other ∙ listed.each n u d own is
+  ];
+}
+
+-- with each that is dropped one fewer is due
+pub fewer_listed : (now : ℕ) (dues : List (Option ℕ)) (t : ℕ) → is_due now (get_or dues t None) ≡ true → count_by (is_due now) (set dues t None) < count_by (is_due now) dues
+fewer_listed now dues t due =
+    let f : Option ℕ → ℕ = λ x. cond (is_due now x) 1 0 in
+    let a = sum_by-set f dues t None None within in
+    let one : f (get_or dues t None) ≡ 1 = ap {B = ℕ} (λ b. cond b 1 0) due in
+    omega (arith, a, one)
+  where
+    within : t < length dues
+    within = elim (cases_lt t (length dues)) [
+      | inl lt ↦ lt
+      | inr past ↦ absurd (let none = ap (is_due now) (get_or_past dues t None past) in cc (none, due))
+    ]
+
+-- where none that is listed is due, no wait is overdue
+pub none_overdue : (now : ℕ) (ws : List (Option Wait)) (dues : List (Option ℕ)) → ((t : ℕ) → is_due now (get_or dues t None) ≡ false) → AreListed ws dues → (n : ℕ) → is_overdue now (get_or ws n None) ≡ false
+none_overdue now ws dues none listed n = by (get_or ws n None) refl
+  where
+    by : (w : Option Wait) → get_or ws n None ≡ w → is_overdue now w ≡ false
+    by None at = refl
+    by (Some w) at = due (deadline_of (Some w)) refl
+      where
+        due : (d : Option ℕ) → deadline_of (Some w) ≡ d → is_due now d ≡ false
+        due None is = refl
+        due (Some d) is = ap (is_due now) (sym (listed.each n w.thread d (ap thread_of at) (ap deadline_of at ∙ is))) ∙ none w.thread
+
+-- the least that is listed
+undue : (now : ℕ) (least x : Option ℕ) → is_due now least ≡ false → ((moment : ℕ) → x ≡ Some moment → NotAfter least moment) → is_due now x ≡ false
+undue now least None none first = refl
+undue now None (Some moment) none first = absurd (first moment refl)
+undue now (Some least) (Some moment) none first = let before : least ≤ moment = first moment refl in grind (arith, nat_tests, none, before)
+
+pub none_due : (now : ℕ) (dues : List (Option ℕ)) (least : Option ℕ) → IsLeast dues least → is_due now least ≡ false → (k : ℕ) → is_due now (get_or dues k None) ≡ false
+none_due now dues least is none k = undue now least (get_or dues k None) none (λ moment at. is.first k moment at)
+
+pub due_too : (now due : ℕ) (dues : List (Option ℕ)) (x : Option ℕ) → IsLeast dues (Some due) → due ≤ now → IsLeast dues x → is_due now x ≡ true
+due_too now due dues None is soon other = absurd (other.first is.stands.0 due is.stands.1)
+due_too now due dues (Some moment) is soon other = let before : moment ≤ due = other.first is.stands.0 due is.stands.1 in grind (arith, nat_tests, before, soon)

@@ -1,0 +1,30 @@
+ghost use Rattle.std.specs.Prelude.{◌≡◌, ℕ, IfNone, IfSome, None, false, true, slice_index_or};
+ghost use Rattle.ob_waits.specs.Deadlines.{AreListed, is_overdue};
+ghost use Rattle.ob_waits.specs.Roster.{AreThreads};
+
+use crate::deadlines::Deadlines;
+use crate::live::Live;
+use crate::roster::Roster;
+
+/// A pending wait whose deadline isn't after a moment. The deadlines of waits that were answered before are dropped on the way.
+pub(crate) fn next_overdue(
+    live: &Live,
+    roster: &Roster,
+    deadlines: &mut Deadlines,
+    now: u64,
+) -> Option<u32>
+    requires threads { AreThreads live.now roster.now.threads }
+    requires listed { AreListed live.now deadlines.old }
+    ensures listed { AreListed live.now deadlines.new }
+    ensures some { IfSome result (λ wait. is_overdue now (slice_index_or live.now wait None) ≡ true) }
+    ensures none { IfNone result ((n : ℕ) → is_overdue now (slice_index_or live.now n None) ≡ false) }
+{
+    while let Some(thread) = deadlines.next(now) {
+        let number = roster.number_of(thread);
+        if live.is_overdue(number, now) {
+            return Some(number);
+        }
+        deadlines.clear(thread);
+    }
+    None
+}
