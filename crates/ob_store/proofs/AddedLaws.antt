@@ -74,6 +74,7 @@ added_state limits l ts o ws p slot rights flags head body =
       retired = o.retired;
       births = o.births + 1;
       waits = ws.waits;
+      clock = ws.clock;
     }
 
 module _ (limits : Limits) (l : LivesState) (ts : HandleTables) (o : ObjectsState) (ws : WaitList) (rows : Rows) (kept : IsKept limits l ts o ws rows) (tied : IsTied o)
@@ -113,7 +114,7 @@ module _ (limits : Limits) (l : LivesState) (ts : HandleTables) (o : ObjectsStat
         lives_kept = lives_same limits l (length ts.tables) (length tables_after.tables) (length-set ts.tables p _) kept.lives_kept;
         counted = counted_after;
         named = named_added o.objects ts.tables ws.waits kept.named p entry (object_in o slot head) table refl none within;
-        formed = formed_added o.seen.bodies slot body o.objects (object_in o slot head) within bodied formed kept.formed;
+        formed = formed_added o.seen.bodies slot body ws.clock o.objects (object_in o slot head) within bodied formed kept.formed;
         of_live = of_live_added o.seen.bodies slot body l.threads ws.waits owned kept.of_live;
         quiet = quiet_added o.seen.bodies slot body limits.max_recursion ws.waits unnamed kept.quiet;
         listing = listing;

@@ -2,6 +2,7 @@
 use Rattle.std.proofs.Common.{◌+◌, length, refl, ◌∙◌, subst, ltb}
 use Rattle.ob_name.specs.Listing.{Rows, AreDistinct}
 use Rattle.ob_tables.specs.Tables.{HandleTables}
+use Rattle.ob_waits.specs.Deadlines.{AreAhead}
 use Rattle.ob_waits.specs.Rules as rules
 use Rattle.ob_waits.specs.Waits.{WaitList}
 use Rattle.ob_store.specs.declared.limits.Limits.{Limits}
@@ -15,8 +16,8 @@ use Rattle.ob_store.proofs.CountedLaws.{handles_at, blocks_at}
 use Rattle.ob_store.proofs.NamedLaws.{there_within, handles_are, blocks_are}
 use Rattle.ob_store.proofs.KeptLaws.{settled_kept}
 
-pub consistent : (limits : Limits) (l : LivesState) (ts : HandleTables) (o : ObjectsState) (ws : WaitList) (rows : Rows) → IsKept limits l ts o ws rows → IsTied o → rules.IsKept ws.waits → IsConsistent (whole_of limits l ts o ws)
-consistent limits l ts o ws rows kept tied waits = record {
+pub consistent : (limits : Limits) (l : LivesState) (ts : HandleTables) (o : ObjectsState) (ws : WaitList) (rows : Rows) → IsKept limits l ts o ws rows → IsTied o → rules.IsKept ws.waits → AreAhead ws.clock ws.waits → IsConsistent (whole_of limits l ts o ws)
+consistent limits l ts o ws rows kept tied waits ahead = record {
   lives = kept.lives_kept;
   slots = tied.agreed.each;
   shape = kept.limited.shape_is;
@@ -33,6 +34,7 @@ consistent limits l ts o ws rows kept tied waits = record {
   distinct = subst AreDistinct kept.listing.same kept.listing.distinct;
   waits = waits;
   of_live = kept.of_live;
+  ahead = ahead;
   quiet = kept.quiet;
   still = settled_kept limits l ts o ws rows kept tied;
 }

@@ -7,7 +7,7 @@ use Rattle.std.proofs.lemmas.Bool.Decides.{nat_tests}
 use Rattle.pin_core.specs.declared.id.Id.{Id}
 use Rattle.pin_words.specs.Keepers.{KeeperState}
 use Rattle.ob_body.specs.declared.body.Body.{Body}
-use Rattle.ob_body.specs.declared.body.Body.TheVariants.{Event, Mutex, Semaphore}
+use Rattle.ob_body.specs.declared.body.Body.TheVariants.{Event, Mutex, Semaphore, Timer}
 use Rattle.ob_body.specs.Mutex as mutex
 use Rattle.ob_body.specs.Mutex.{is_owner}
 use Rattle.ob_body.specs.Body.{owner_of, after_abandon}
@@ -85,6 +85,7 @@ abandon_form : (t : ℕ) (b : Body) → form_of (after_abandon t b) ≡ form_of 
 abandon_form t (Event e) = refl
 abandon_form t (Mutex m) = refl
 abandon_form t (Semaphore s) = refl
+abandon_form t (Timer m) = refl
 
 form_left_by : (t : ℕ) (x : Option Body) → slot_form (slot_left_by t x) ≡ slot_form x
 form_left_by t None = refl
@@ -111,6 +112,7 @@ body_owner : (u t : ℕ) (b : Body) → owner_of (after_abandon u b) ≡ Some t 
 body_owner u t (Event e) h = absurd (cc)
 body_owner u t (Mutex m) h = mutex_owner u t m.owner m.recursion m.abandoned h
 body_owner u t (Semaphore s) h = absurd (cc)
+body_owner u t (Timer m) h = absurd (cc)
 
 owner_left_by : (u t : ℕ) (x : Option Body) → slot_owner (slot_left_by u x) ≡ Some t → (slot_owner x ≡ Some t) × (t ≢ u)
 owner_left_by u t None h = absurd (cc)
@@ -243,7 +245,7 @@ module _ (first : KeeperState) (limits : Limits) (l : LivesState) (ts : HandleTa
     };
     counted = subst (λ (xs : List (Option Object)). IsCounted q.seen (length xs) ts.tables dropped) (sym objects_same) counted_after;
     named = subst (λ (xs : List (Option Object)). IsNamed xs ts.tables dropped) (sym objects_same) named_after;
-    formed = subst (λ (xs : List (Option Object)). AreFormed xs q.seen.bodies) (sym objects_same) (formed_by o.objects o.seen.bodies q.seen.bodies form_at way.sound.formed);
+    formed = subst (λ (xs : List (Option Object)). AreFormed ws.clock xs q.seen.bodies) (sym objects_same) (formed_by ws.clock o.objects o.seen.bodies q.seen.bodies form_at way.sound.formed);
     of_live = of_live_after;
     room = room_after;
     listing = subst (λ (z : List (Option Object) × ℕ). IsListing rows ts.tables z.0 z.1) (λ i. (sym objects_same i, sym births_same i)) way.sound.listing;
@@ -265,6 +267,7 @@ module _ (first : KeeperState) (limits : Limits) (l : LivesState) (ts : HandleTa
           retired = (rests i).rest.retired;
           births = births_same i;
           waits = dropped;
+          clock = ws.clock;
         })
         ∙ ap (λ (x : State). record x { threads = set x.threads t None; bodies = q.seen.bodies; waits = map (unless_of t) x.waits }) way.rest;
     bodies = subst (λ (x : List (Option Body)). AreLeft (map (slot_left_by t) s.bodies) x) (sym bodies_are) (left_mapped t s.bodies p.seen.bodies (left_more s.bodies o.seen.bodies p.seen.bodies way.bodies fewer));
@@ -287,6 +290,7 @@ module _ (first : KeeperState) (limits : Limits) (l : LivesState) (ts : HandleTa
     (way : IsUnderWay first limits l ts o ws rows s)
     (value : ◌≡◌ {A = Scene} (record { objects = q.seen; waits = ws'.waits }) (waits.settled (record { objects = o.seen; waits = ws.waits })))
     (limit : ws'.limit ≡ ws.limit)
+    (clock : ws'.clock ≡ ws.clock)
     (rest : kept_rest q ≡ kept_rest o)
     (quiet : IsQuiet limits.max_recursion q.seen.bodies ws'.waits) where
   settled_objects : q.objects ≡ o.objects
@@ -309,7 +313,7 @@ module _ (first : KeeperState) (limits : Limits) (l : LivesState) (ts : HandleTa
     lives_kept = way.sound.lives_kept;
     counted = subst (λ (xs : List (Option Object)). IsCounted q.seen (length xs) ts.tables ws'.waits) (sym settled_objects) (counted_settled o.seen (length o.objects) ts.tables ws.waits way.sound.counted o.seen.bodies q.seen ws'.waits value);
     named = subst (λ (xs : List (Option Object)). IsNamed xs ts.tables ws'.waits) (sym settled_objects) (named_settled o.objects ts.tables ws.waits way.sound.named scene ws'.waits refl (ap (λ (x : Scene). x.waits) value));
-    formed = subst (λ (xs : List (Option Object)). AreFormed xs q.seen.bodies) (sym settled_objects) (formed_settled scene q.seen ws'.waits value o.objects way.sound.formed);
+    formed = subst (λ (z : List (Option Object) × ℕ). AreFormed z.1 z.0 q.seen.bodies) (λ i. (sym settled_objects i, sym clock i)) (formed_settled scene q.seen ws'.waits value ws.clock o.objects way.sound.formed);
     of_live = of_live_settled scene q.seen ws'.waits value l.threads way.sound.of_live;
     quiet = quiet;
     listing = subst (λ (z : List (Option Object) × ℕ). IsListing rows ts.tables z.0 z.1) (λ i. (sym settled_objects i, sym (ap (λ (r : KeptRest). r.births) rest) i)) way.sound.listing;
@@ -342,6 +346,7 @@ module _ (first : KeeperState) (limits : Limits) (l : LivesState) (ts : HandleTa
         retired = (rest i).rest.retired;
         births = (rest i).births;
         waits = (value i).waits;
+        clock = clock i;
       })
       ∙ ap (λ (x : State). with_scene x (waits.settled (record { objects = o.seen; waits = x.waits }))) way.rest
       ∙ ap (λ (x : Objects). with_scene s (waits.settled (record { objects = x; waits = s.waits }))) (sym ends_are)
@@ -383,6 +388,7 @@ module _ (first : KeeperState) (limits : Limits) (l : LivesState) (ts : HandleTa
           retired = o.retired;
           births = o.births;
           waits = ws.waits;
+          clock = ws.clock;
         })
         ∙ ap (λ (x : State). record x { tables = without_entry_of ts.tables p value; bodies = q.seen.bodies }) way.rest;
     bodies = left_more s.bodies o.seen.bodies q.seen.bodies way.bodies (left_removed limits l ts o ws rows p value e way.sound way.tied found);

@@ -33,7 +33,7 @@ pub enough_settled : (bodies : List (Option Body)) (ws : List (Option Wait)) →
 enough_settled bodies ws settled = record { each = λ whole. record { each = λ n ready. absurd (let none = settled.each n in cc (none, ready)) } }
 
 -- bodies that went signal nothing
-less_gone : (bodies after : List (Option Body)) → AreLeft bodies after → IsLess bodies after
+pub less_gone : (bodies after : List (Option Body)) → AreLeft bodies after → IsLess bodies after
 less_gone bodies after left = record {
   each = λ t id h. elim (left.each id.slot) [
     | inl same ↦ sym (ap (slot_signaled t) same) ∙ h

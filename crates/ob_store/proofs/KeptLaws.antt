@@ -189,7 +189,7 @@ module _ (limits : Limits) (l : LivesState) (ts : HandleTables) (o p q : Objects
     (kept : IsKept limits l ts o ws rows)
     (tied : IsTied o)
     (there : get_or o.seen.bodies id.slot None ≡ Some old)
-    (yields : Yields old new)
+    (yields : Yields ws.clock old new)
     (put : p.seen ≡ record o.seen { bodies = set o.seen.bodies id.slot (Some new) })
     (put_rest : kept_rest p ≡ kept_rest o) where
   abbrev first : Scene
@@ -200,13 +200,14 @@ module _ (limits : Limits) (l : LivesState) (ts : HandleTables) (o p q : Objects
   ready = subst (λ (x : Objects). IsReadyAt id.slot x.bodies ws.waits) (sym put) (ready_at_change o.seen.bodies ws.waits id.slot (Some new) kept.quiet.settled)
 
   pub room : WaitsHaveRoom limits.max_recursion p.seen.bodies ws.waits
-  room = subst (λ (x : Objects). WaitsHaveRoom limits.max_recursion x.bodies ws.waits) (sym put) (room_put o.seen.bodies id.slot old new there yields limits.max_recursion ws.waits kept.quiet.room)
+  room = subst (λ (x : Objects). WaitsHaveRoom limits.max_recursion x.bodies ws.waits) (sym put) (room_put o.seen.bodies id.slot old new ws.clock there yields limits.max_recursion ws.waits kept.quiet.room)
 
   bodied : HasBodies first.objects
   bodied = ends_taken o.seen (set o.seen.bodies id.slot (Some new)) (same_set o.seen.bodies id.slot (Some new) (sym (ap is_some there))) tied.bodied
 
   module _ (value : ◌≡◌ {A = Scene} (record { objects = q.seen; waits = ws'.waits }) (waits.settled (record { objects = p.seen; waits = ws.waits })))
       (limit : ws'.limit ≡ ws.limit)
+      (clock : ws'.clock ≡ ws.clock)
       (rest : kept_rest q ≡ kept_rest p)
       (quiet : IsQuiet limits.max_recursion q.seen.bodies ws'.waits) where
     is : ◌≡◌ {A = Scene} (record { objects = q.seen; waits = ws'.waits }) (waits.settled first)
@@ -229,8 +230,8 @@ module _ (limits : Limits) (l : LivesState) (ts : HandleTables) (o p q : Objects
       lives_kept = kept.lives_kept;
       counted = subst (λ (xs : List (Option Object)). IsCountedBy q.seen xs) (sym objects_same) (counted_settled o.seen (length o.objects) ts.tables ws.waits kept.counted (set o.seen.bodies id.slot (Some new)) q.seen ws'.waits is);
       named = subst (λ (xs : List (Option Object)). IsNamed xs ts.tables ws'.waits) (sym objects_same) (named_settled o.objects ts.tables ws.waits kept.named first ws'.waits refl (ap (λ (s : Scene). s.waits) is));
-      formed = subst (λ (xs : List (Option Object)). AreFormed xs q.seen.bodies) (sym objects_same) (formed_settled first q.seen ws'.waits is o.objects (formed_put o.seen.bodies id.slot old new there yields o.objects kept.formed));
-      of_live = of_live_settled first q.seen ws'.waits is l.threads (of_live_put o.seen.bodies id.slot old new there yields l.threads ws.waits kept.of_live);
+      formed = subst (λ (z : List (Option Object) × ℕ). AreFormed z.1 z.0 q.seen.bodies) (λ i. (sym objects_same i, sym clock i)) (formed_settled first q.seen ws'.waits is ws.clock o.objects (formed_put o.seen.bodies id.slot old new ws.clock there yields o.objects kept.formed));
+      of_live = of_live_settled first q.seen ws'.waits is l.threads (of_live_put o.seen.bodies id.slot old new ws.clock there yields l.threads ws.waits kept.of_live);
       quiet = quiet;
       listing = subst (λ (z : List (Option Object) × ℕ). IsListing rows ts.tables z.0 z.1) (λ i. (sym objects_same i, sym births_same i)) kept.listing;
     }
@@ -258,6 +259,7 @@ module _ (limits : Limits) (l : LivesState) (ts : HandleTables) (o p q : Objects
           retired = (rests i).rest.retired;
           births = (rests i).births;
           waits = (scene i).waits;
+          clock = clock i;
         })
         ∙ sym (settled_waits s kept.named (subst HasBodies objects bodied))
 
@@ -265,7 +267,7 @@ module _ (limits : Limits) (l : LivesState) (ts : HandleTables) (o p q : Objects
   pub quiet_less : ((t : ℕ) → is_signaled t new ≡ true → is_signaled t old ≡ true) → IsQuiet limits.max_recursion p.seen.bodies ws.waits
   quiet_less less = record {
     room = room;
-    settled = subst (λ (x : Objects). IsSettled x.bodies ws.waits) (sym put) (settled_less o.seen.bodies (set o.seen.bodies id.slot (Some new)) ws.waits (less_put o.seen.bodies id.slot old new there yields less) kept.quiet.settled);
+    settled = subst (λ (x : Objects). IsSettled x.bodies ws.waits) (sym put) (settled_less o.seen.bodies (set o.seen.bodies id.slot (Some new)) ws.waits (less_put o.seen.bodies id.slot old new ws.clock there yields less) kept.quiet.settled);
   }
 
   -- no pending wait is for it: so nothing settles

@@ -122,7 +122,7 @@ module _ (limits : Limits) (l : LivesState) (ts : HandleTables) (o : ObjectsStat
     lives_kept = lives_same limits l (length ts.tables) (length (without_entry_of ts.tables p value)) (length-set ts.tables p _) sound.lives_kept;
     counted = counted_removed o.seen (length o.objects) ts.tables ws.waits sound.counted (without_handle_of o e.id.slot).seen.bodies p value e found;
     named = named_after;
-    formed = formed_gone (is_last_handle (places_in o) e.id.slot) o.seen.bodies e.id.slot o.objects sound.formed;
+    formed = formed_gone (is_last_handle (places_in o) e.id.slot) o.seen.bodies e.id.slot ws.clock o.objects sound.formed;
     of_live = of_live_gone (is_last_handle (places_in o) e.id.slot) o.seen.bodies e.id.slot l.threads ws.waits sound.of_live;
     room = room_changed limits.max_recursion o.seen.bodies (without_handle_of o e.id.slot).seen.bodies ws.waits
         (λ t k h. (room_if limits.max_recursion (suc t) (is_last_handle (places_in o) e.id.slot) o.seen.bodies e.id.slot).room t (λ q. omega (arith, q)) k h) sound.room;

@@ -15,6 +15,7 @@ pub mod ListingLaws
 pub mod SettledLaws
 pub mod KeptLaws
 pub mod OwnerLaws
+pub mod TimerLaws
 pub mod MemberLaws
 pub mod LeavingLaws
 pub mod RemovedLaws
@@ -22,6 +23,7 @@ pub mod EmptiedLaws
 pub mod EndingLaws
 pub mod PassedLaws
 pub mod EnoughLaws
+pub mod TickLaws
 pub mod Yielding
 pub mod OpeningLaws
 pub mod PlacedLaws
@@ -29,6 +31,7 @@ pub mod AddedLaws
 pub mod ReclaimedLaws
 pub mod CameLaws
 pub mod WaitedLaws
+pub mod LapseLaws
 pub mod ChildLaws
 pub mod ConsistentLaws
 pub mod StoredLaws

@@ -1,17 +1,22 @@
 -- The state before any call is kept.
-use Rattle.std.proofs.Common.{◌≡◌, ℕ, zero, suc, List, [], ◌∷◌, Option, None, refl, ap, ◌∙◌, sym, subst, arith, get_or, map, inl, inr}
-use Rattle.std.specs.Prelude.{replicate}
+use Rattle.std.proofs.Common.{◌≡◌, ℕ, zero, suc, ◌≤◌, length, false, Some, List, [], ◌∷◌, Option, None, refl, ap, ◌∙◌, sym, subst, arith, get_or, map, inl, inr}
+use Rattle.std.specs.Prelude.{replicate, sum_by}
 use Rattle.std.proofs.lemmas.List.{length-replicate, get_or_past, get_or-replicate}
+use Rattle.std.proofs.lemmas.List.Sums.{sum_by-cons}
 use Rattle.std.proofs.lemmas.Bool.{cases_lt}
-use Rattle.pin_core.specs.Worlds.{opening_slot}
+use Rattle.pin_core.specs.declared.id.Id.{Id}
+use Rattle.pin_core.specs.declared.descr.Descr.{Descr}
+use Rattle.pin_core.specs.declared.world.Slot.{Slot}
+use Rattle.pin_core.specs.Worlds.{opening_slot, slot_of}
 use Rattle.pin_words.specs.Keepers.{KeeperState, IsFresh}
 use Rattle.ob_body.specs.declared.body.Body.{Body}
 use Rattle.ob_tables.specs.Tables.{HandleTables}
 use Rattle.ob_waits.specs.declared.wait.Wait.{Wait}
-use Rattle.ob_waits.specs.Form.{slot_owner}
+use Rattle.ob_waits.specs.Form.{IsAfter, slot_due, slot_owner}
 use Rattle.ob_waits.specs.Rules.{WaitHasRoom, thread_of}
 use Rattle.ob_waits.specs.Waits.{WaitList, is_ready}
 use Rattle.ob_store.specs.declared.limits.Limits.{Limits}
+use Rattle.ob_store.specs.Agreement.{IsTied, Listed, made_in}
 use Rattle.ob_store.specs.Lives.{no_lives}
 use Rattle.ob_store.specs.Objects.{Object, ObjectsState, with_keeper, vacant_places}
 use Rattle.ob_store.specs.State.{Whole, state_of, opening, shape_of, generation_of}
@@ -39,7 +44,7 @@ abbrev pub no_tables : Limits → HandleTables
 no_tables limits = record { process_limit = limits.processes; handle_limit = limits.handles; tables = [] ∷ [] }
 
 abbrev pub no_waits : Limits → WaitList
-no_waits limits = record { limit = limits.waits; waits = None ∷ [] }
+no_waits limits = record { limit = limits.waits; waits = None ∷ []; clock = 0 }
 
 module _ (limits : Limits) (keeper : KeeperState) (fresh : IsFresh keeper (shape_of limits)) where
   abbrev pub no_objects : ObjectsState
@@ -56,7 +61,10 @@ module _ (limits : Limits) (keeper : KeeperState) (fresh : IsFresh keeper (shape
     };
     counted = subst (λ (n : ℕ). IsCounted no_objects.seen n ([] ∷ []) (None ∷ [])) (sym (length-replicate {A = Option Object} limits.slots None)) (counted_opening limits.slots);
     named = named_opening no_objects.objects;
-    formed = record { each = λ k o b there is. absurd (let none = none_at Object limits.slots k in cc (none, there)) };
+    formed = record {
+      each = λ k o b there is. absurd (let none = none_at Object limits.slots k in cc (none, there));
+      later = λ k. subst (λ (x : Option Body). IsAfter 0 (slot_due x)) (sym (none_at Body limits.slots k)) tt;
+    };
     of_live = record {
       owners = λ k t h. absurd (let none = ap slot_owner (none_at Body limits.slots k) in cc (none, h));
       waiters = λ n t h. absurd (let none = ap thread_of (one_none Wait n) in cc (none, h));
@@ -73,3 +81,51 @@ module _ (limits : Limits) (keeper : KeeperState) (fresh : IsFresh keeper (shape
   opening_is =
       let ages : map generation_of keeper.slots ≡ replicate limits.slots 1 = ap (map generation_of) fresh.slots_are ∙ map_replicate generation_of limits.slots opening_slot in
       λ i. record { state = record (opening limits) { generations = ages i }; keeper = keeper }
+
+-- objects that no slot has yet, and their keeper
+slot_opening : (slots : List Slot) (n k : ℕ) → slots ≡ replicate n opening_slot → slot_of slots k ≡ opening_slot
+slot_opening slots n k are = ap (λ (xs : List Slot). slot_of xs k) are ∙ elim (cases_lt k n) [
+  | inl lt ↦ get_or-replicate n k opening_slot opening_slot lt
+  | inr le ↦ get_or_past (replicate n opening_slot) k opening_slot (omega (arith, length-replicate n opening_slot, le))
+]
+
+false_at : (n k : ℕ) → get_or (replicate n false) k false ≡ false
+false_at n k = elim (cases_lt k n) [
+  | inl lt ↦ get_or-replicate n k false false lt
+  | inr le ↦ get_or_past (replicate n false) k false (omega (arith, length-replicate n false, le))
+]
+
+zero_at : (n k : ℕ) → get_or {A = ℕ} (replicate n 0) k 0 ≡ 0
+zero_at n k = elim (cases_lt k n) [
+  | inl lt ↦ get_or-replicate {A = ℕ} n k 0 0 lt
+  | inr le ↦ get_or_past (replicate {A = ℕ} n 0) k 0 (omega (arith, length-replicate {A = ℕ} n 0, le))
+]
+
+none_made : (n : ℕ) → sum_by made_in (replicate n opening_slot) ≡ 0
+none_made zero = refl
+none_made (suc n) = omega (arith, sum_by-cons made_in opening_slot (replicate n opening_slot), none_made n)
+
+pub tied_opening : (n : ℕ) (k : KeeperState) → IsFresh k k.shape → n ≡ k.shape.slots → n ≤ 65536 → 1 ≤ k.shape.max_gen → k.shape.max_gen ≤ 4294967295 → IsTied (with_keeper (vacant_places n) 0 k)
+tied_opening n k fresh same few first last = record {
+  agreed = record {
+    few = omega (arith, same, few);
+    wide = ap length fresh.slots_are ∙ length-replicate k.shape.slots opening_slot;
+    long = length-replicate {A = Option Object} n None ∙ same;
+    bodied = length-replicate {A = Option Body} n None ∙ same;
+    marked = length-replicate n false ∙ same;
+    each = λ j lt. rw (none_at Object n j, none_at Body n j, false_at n j, slot_opening k.slots k.shape.slots j fresh.slots_are) (refl, refl);
+  };
+  listed = record { each = λ j. rw (none_at Object n j) (unlisted k.published) };
+  bodied = record { each = λ j. rw (none_at Body n j, zero_at n j) refl };
+  born = record {
+    below = λ j o is. absurd (let none = none_at Object n j in cc (none, is));
+    apart = λ i j o p is at e. absurd (let none = none_at Object n i in cc (none, is));
+  };
+  aged = λ j lt. rw (slot_opening k.slots k.shape.slots j fresh.slots_are) (omega arith, first);
+  last = last;
+  made = sym (ap (sum_by made_in) fresh.slots_are ∙ none_made k.shape.slots);
+}
+  where
+    unlisted : (p : Option (List (Id × Descr))) → Listed p None
+    unlisted None = tt
+    unlisted (Some ps) = tt

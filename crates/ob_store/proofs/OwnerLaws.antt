@@ -7,7 +7,7 @@ use Rattle.std.proofs.Math.Seq.{map-set_same}
 use Rattle.std.proofs.lemmas.Bool.{cases_eq, cases_lt}
 use Rattle.std.proofs.lemmas.Bool.Decides.{nat_tests}
 use Rattle.ob_body.specs.declared.body.Body.{Body}
-use Rattle.ob_body.specs.declared.body.Body.TheVariants.{Event, Mutex, Semaphore}
+use Rattle.ob_body.specs.declared.body.Body.TheVariants.{Event, Mutex, Semaphore, Timer}
 use Rattle.ob_body.specs.Mutex.{after_abandon, free_mutex, is_owner}
 use Rattle.ob_arena.specs.Slots.{Slots, is_vacant_at}
 use Rattle.ob_arena.proofs.SlotLemmas.{vacant_empty, vacant_within}
@@ -160,12 +160,14 @@ left_by_other t None h = refl
 left_by_other t (Some (Event e)) h = refl
 left_by_other t (Some (Mutex m)) h = ap (λ b. Some (Mutex (cond b (record { owner = None; recursion = 0; abandoned = true }) m))) h
 left_by_other t (Some (Semaphore s)) h = refl
+left_by_other t (Some (Timer m)) h = refl
 
 -- what a thread left it doesn't own, so it leaves it again as it is
 left_twice : (t : ℕ) (x : Option Body) → slot_left_by t (slot_left_by t x) ≡ slot_left_by t x
 left_twice t None = refl
 left_twice t (Some (Event e)) = refl
 left_twice t (Some (Semaphore s)) = refl
+left_twice t (Some (Timer m)) = refl
 left_twice t (Some (Mutex m)) = ap (λ z. Some (Mutex z)) (by (is_owner t m.owner) refl)
   where
     by : (b : Bool) → is_owner t m.owner ≡ b → after_abandon t (cond b (free_mutex true) m) ≡ cond b (free_mutex true) m

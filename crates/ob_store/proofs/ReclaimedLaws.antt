@@ -48,8 +48,8 @@ some_set xs k j o h = elim (cases_eq j k) [
     gone_at (x ∷ xs) k = elim k as (λ k. get_or (set (x ∷ xs) k None) k None ≡ None) [ zero ↦ refl | suc k ↦ gone_at xs k ]
 
 -- fewer objects have bodies of their forms
-formed_fewer : (objects : List (Option Object)) (bodies : List (Option Body)) (k : ℕ) → AreFormed objects bodies → AreFormed (set objects k None) bodies
-formed_fewer objects bodies k f = record { each = λ j o b there is. f.each j o b (some_set objects k j o there) is }
+formed_fewer : (clock : ℕ) (objects : List (Option Object)) (bodies : List (Option Body)) (k : ℕ) → AreFormed clock objects bodies → AreFormed clock (set objects k None) bodies
+formed_fewer clock objects bodies k f = record { each = λ j o b there is. f.each j o b (some_set objects k j o there) is; later = f.later }
 
 module _ (limits : Limits) (l : LivesState) (ts : HandleTables) (o : ObjectsState) (ws : WaitList) (rows : Rows) (kept : IsKept limits l ts o ws rows) (tied : IsTied o)
     (k : ℕ) (there : is_some (get_or o.objects k None) ≡ true) (ended : get_or o.seen.bodies k None ≡ None) where
@@ -89,7 +89,7 @@ module _ (limits : Limits) (l : LivesState) (ts : HandleTables) (o : ObjectsStat
       counted = subst (λ (n : ℕ). IsCounted left.seen n ts.tables ws.waits) (sym (length-set o.objects k None))
           (counted_left o.seen (length o.objects) ts.tables ws.waits kept.counted (set o.seen.bodies k None) k no_references.0 no_references.1);
       named = subst (λ (i : ℕ). IsNamed (set o.objects i None) ts.tables ws.waits) own (named_left o.objects ts.tables ws.waits object.id is_there no_handles no_blocks kept.named);
-      formed = formed_fewer o.objects (set o.seen.bodies k None) k (formed_gone true o.seen.bodies k o.objects kept.formed);
+      formed = formed_fewer ws.clock o.objects (set o.seen.bodies k None) k (formed_gone true o.seen.bodies k ws.clock o.objects kept.formed);
       of_live = of_live_gone true o.seen.bodies k l.threads ws.waits kept.of_live;
       quiet = quiet_gone true o.seen.bodies k limits.max_recursion ws.waits kept.quiet;
       listing = listing_left rows ts.tables o.objects o.births kept.listing k object at no_handles;

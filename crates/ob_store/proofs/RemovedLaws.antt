@@ -97,5 +97,6 @@ module _ (limits : Limits) (l : LivesState) (ts : HandleTables) (o : ObjectsStat
         retired = o.retired;
         births = o.births;
         waits = ws.waits;
+        clock = ws.clock;
       })
       ∙ sym (settled_ends s q.seen (leaving.named_after limits l ts o ws rows p value e sound tied found) ends quiet.settled)

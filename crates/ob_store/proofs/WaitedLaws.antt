@@ -58,10 +58,10 @@ set_waiters threads ws n x own live m t h = elim (cases_eq m n) [
 ]
 
 -- a new wait, of a live thread
-of_live_waiting : (threads : List (Option ℕ)) (bodies : List (Option Body)) (ws : List (Option Wait)) (t : ℕ) (mode : Mode) (ids : List Id) → IsLive threads t → AreOfLive threads bodies ws → AreOfLive threads bodies (ws ++ Some (new_wait t mode ids) ∷ [])
-of_live_waiting threads bodies ws t mode ids live l = record {
+of_live_waiting : (threads : List (Option ℕ)) (bodies : List (Option Body)) (ws : List (Option Wait)) (t : ℕ) (mode : Mode) (ids : List Id) (d : Option ℕ) → IsLive threads t → AreOfLive threads bodies ws → AreOfLive threads bodies (ws ++ Some (new_wait t mode ids d) ∷ [])
+of_live_waiting threads bodies ws t mode ids d live l = record {
   owners = l.owners;
-  waiters = λ n u h. by_number ws (new_wait t mode ids) (λ n x. thread_of x ≡ Some u → IsLive threads u) (λ n lt. l.waiters n u) (λ same. let e : t ≡ u = cc in subst (λ v. IsLive threads v) e live) (λ n past none. absurd (cc)) n h;
+  waiters = λ n u h. by_number ws (new_wait t mode ids d) (λ n x. thread_of x ≡ Some u → IsLive threads u) (λ n lt. l.waiters n u) (λ same. let e : t ≡ u = cc in subst (λ v. IsLive threads v) e live) (λ n past none. absurd (cc)) n h;
 }
 
 has_new : (ws : List (Option Wait)) (w : Wait) → HasWait w.thread (ws ++ Some w ∷ [])
@@ -74,17 +74,17 @@ has_new ws w = (length ws, by ws)
 -- a live thread takes at once what it waits for
 of_live_taken : (threads : List (Option ℕ)) (bodies : List (Option Body)) (ws : List (Option Wait)) (t : ℕ) (mode : Mode) (ids : List Id) → IsLive threads t → AreOfLive threads bodies ws → AreOfLive threads (bodies_after mode t bodies ids) ws
 of_live_taken threads bodies ws t mode ids live l =
-    let more = ws ++ Some (new_wait t mode ids) ∷ [] in
-    let waiting = of_live_waiting threads bodies ws t mode ids live l in
+    let more = ws ++ Some (new_wait t mode ids None) ∷ [] in
+    let waiting = of_live_waiting threads bodies ws t mode ids None live l in
     record {
-      owners = λ k u h. elim ((taken more t (has_new ws (new_wait t mode ids)) mode ids bodies k).owner u h) [ inl old ↦ l.owners k u old | inr waits ↦ waiting.waiters waits.0 u waits.1 ];
+      owners = λ k u h. elim ((taken more t (has_new ws (new_wait t mode ids None)) mode ids bodies k).owner u h) [ inl old ↦ l.owners k u old | inr waits ↦ waiting.waiters waits.0 u waits.1 ];
       waiters = l.waiters;
     }
 
-formed_taken : (objects : List (Option Object)) (bodies : List (Option Body)) (t : ℕ) (mode : Mode) (ids : List Id) → AreFormed objects bodies → AreFormed objects (bodies_after mode t bodies ids)
-formed_taken objects bodies t mode ids f =
-    let w = new_wait t mode ids in
-    formed_by objects bodies (bodies_after mode t bodies ids) (λ k h. (taken (Some w ∷ []) t (has_new [] w) mode ids bodies k).form h) f
+formed_taken : (clock : ℕ) (objects : List (Option Object)) (bodies : List (Option Body)) (t : ℕ) (mode : Mode) (ids : List Id) → AreFormed clock objects bodies → AreFormed clock objects (bodies_after mode t bodies ids)
+formed_taken clock objects bodies t mode ids f =
+    let w = new_wait t mode ids None in
+    formed_by clock objects bodies (bodies_after mode t bodies ids) (λ k h. (taken (Some w ∷ []) t (has_new [] w) mode ids bodies k).form h) f
 
 -- where blocks left, a body is there as it was, or gone
 left_at : (ids : List Id) (objects : Objects) (k : ℕ) → (get_or (without_blocks objects ids).bodies k None ≡ get_or objects.bodies k None) ⊎ (get_or (without_blocks objects ids).bodies k None ≡ None)
@@ -102,7 +102,7 @@ module _ (limits : Limits) (l : LivesState) (ts : HandleTables) (o q : ObjectsSt
   same_births : q.births ≡ o.births
   same_births = ap (λ (r : KeptRest). r.births) rest
 
-  pub kept_waited : ws'.limit ≡ ws.limit → IsCounted q.seen (length o.objects) ts.tables ws'.waits → IsNamed o.objects ts.tables ws'.waits → AreFormed o.objects q.seen.bodies → AreOfLive l.threads q.seen.bodies ws'.waits
+  pub kept_waited : ws'.limit ≡ ws.limit → IsCounted q.seen (length o.objects) ts.tables ws'.waits → IsNamed o.objects ts.tables ws'.waits → AreFormed ws'.clock o.objects q.seen.bodies → AreOfLive l.threads q.seen.bodies ws'.waits
       → IsQuiet limits.max_recursion q.seen.bodies ws'.waits → IsKept limits l ts q ws' rows
   kept_waited limit counted named formed of_live quiet = record {
     limited = record {
@@ -114,7 +114,7 @@ module _ (limits : Limits) (l : LivesState) (ts : HandleTables) (o q : ObjectsSt
     lives_kept = kept.lives_kept;
     counted = subst (λ (xs : List (Option Object)). IsCountedBy xs) (sym same_objects) counted;
     named = subst (λ (xs : List (Option Object)). IsNamed xs ts.tables ws'.waits) (sym same_objects) named;
-    formed = subst (λ (xs : List (Option Object)). AreFormed xs q.seen.bodies) (sym same_objects) formed;
+    formed = subst (λ (xs : List (Option Object)). AreFormed ws'.clock xs q.seen.bodies) (sym same_objects) formed;
     of_live = of_live;
     quiet = quiet;
     listing = subst (λ (z : List (Option Object) × ℕ). IsListing rows ts.tables z.0 z.1) (λ i. (sym same_objects i, sym same_births i)) kept.listing;
@@ -123,7 +123,7 @@ module _ (limits : Limits) (l : LivesState) (ts : HandleTables) (o q : ObjectsSt
       IsCountedBy : List (Option Object) → Type 0
       IsCountedBy xs = IsCounted q.seen (length xs) ts.tables ws'.waits
 
-  pub waited_state : (bodies : List (Option Body)) → q.seen.bodies ≡ bodies → state_of limits l ts q ws' ≡ record (state_of limits l ts o ws) { bodies = bodies; waits = ws'.waits }
+  pub waited_state : (bodies : List (Option Body)) → q.seen.bodies ≡ bodies → state_of limits l ts q ws' ≡ record (state_of limits l ts o ws) { bodies = bodies; waits = ws'.waits; clock = ws'.clock }
   waited_state bodies is =
       let generations = same_generations q.keeper o.keeper (ap (λ (r : KeptRest). r.keeper) rest) in
       λ i. record {
@@ -137,6 +137,7 @@ module _ (limits : Limits) (l : LivesState) (ts : HandleTables) (o q : ObjectsSt
         retired = (rest i).rest.retired;
         births = same_births i;
         waits = ws'.waits;
+        clock = ws'.clock;
       }
 
 -- a thread took at once what it waits for
@@ -156,7 +157,7 @@ module _ (limits : Limits) (l : LivesState) (ts : HandleTables) (o q : ObjectsSt
   kept_taken = kept_waited limits l ts o q ws ws rows kept rest refl
       (subst (λ (x : Objects). IsCounted x (length o.objects) ts.tables ws.waits) (sym seen) (record { handles = kept.counted.handles; blocks = kept.counted.blocks }))
       kept.named
-      (subst (λ (bs : List (Option Body)). AreFormed o.objects bs) (sym bodies_are) (formed_taken o.objects o.seen.bodies t mode ids kept.formed))
+      (subst (λ (bs : List (Option Body)). AreFormed ws.clock o.objects bs) (sym bodies_are) (formed_taken ws.clock o.objects o.seen.bodies t mode ids kept.formed))
       (subst (λ (bs : List (Option Body)). AreOfLive l.threads bs ws.waits) (sym bodies_are) (of_live_taken l.threads o.seen.bodies ws.waits t mode ids live kept.of_live))
       (subst (λ (bs : List (Option Body)). IsQuiet limits.max_recursion bs ws.waits) (sym bodies_are)
       (record { room = room_now limits.max_recursion mode t o.seen.bodies ids ws.waits alone kept.quiet.room; settled = settled_now mode t o.seen.bodies ids ws.waits kept.quiet.settled }))
@@ -192,7 +193,7 @@ among P (x ∷ ids) each id h = by (same_id id x) refl (among P ids (λ i lt. ea
     by false is rest = let zero_one : cond (same_id id x) 1 0 ≡ 0 = ap {B = ℕ} (λ b. cond b 1 0) is in rest (omega (arith, sum_by-cons (λ y. cond (same_id id y) 1 0) x ids, zero_one, h))
 
 -- a wait that isn't satisfied now became pending
-module _ (limits : Limits) (l : LivesState) (ts : HandleTables) (o : ObjectsState) (ws : WaitList) (rows : Rows) (t : ℕ) (mode : Mode) (ids : List Id)
+module _ (limits : Limits) (l : LivesState) (ts : HandleTables) (o : ObjectsState) (ws : WaitList) (rows : Rows) (t : ℕ) (mode : Mode) (ids : List Id) (d : Option ℕ)
     (kept : IsKept limits l ts o ws rows)
     (room : HasRoom limits.max_recursion t o.seen.bodies ids)
     (live : IsLive l.threads t)
@@ -210,7 +211,7 @@ module _ (limits : Limits) (l : LivesState) (ts : HandleTables) (o : ObjectsStat
       omega (arith, few, most, all)
 
   abbrev more : WaitList
-  more = waits.with_wait ws t mode ids
+  more = waits.with_wait ws t mode ids d
 
   came : with_blocks_of o ids ≡ record o { seen = record o.seen { blocks = (with_blocks_of o ids).seen.blocks } }
   came = came_stays ids o
@@ -223,7 +224,7 @@ module _ (limits : Limits) (l : LivesState) (ts : HandleTables) (o : ObjectsStat
         let at = blocks_at o.seen (length o.objects) ts.tables ws.waits kept.counted k lt in
         let long = blocks_long o.seen (length o.objects) ts.tables ws.waits kept.counted in
         let x = came_counts ids o k (omega (arith, long, lt)) in
-        let y = slot_added k ws.waits t mode ids in
+        let y = slot_added k ws.waits t mode ids d in
         omega (arith, at, x, y));
   }
 
@@ -232,19 +233,19 @@ module _ (limits : Limits) (l : LivesState) (ts : HandleTables) (o : ObjectsStat
     entries = kept.named.entries;
     blocks = λ id h. elim (cases_lt 0 (count_by (same_id id) ids)) [
       | inl some ↦ kept.named.entries id (among (λ (x : Id). 0 < handles_among x ts.tables) ids there id some)
-      | inr none ↦ (let x = blocks_added id ws.waits t mode ids in kept.named.blocks id (omega (arith, x, h, none)))
+      | inr none ↦ (let x = blocks_added id ws.waits t mode ids d in kept.named.blocks id (omega (arith, x, h, none)))
     ];
   }
 
   pub kept_waiting : IsKept limits l ts (with_blocks_of o ids) more rows
   kept_waiting = subst (λ (z : ObjectsState). IsKept limits l ts z more rows) (sym came)
       (kept_waited limits l ts o (record o { seen = record o.seen { blocks = (with_blocks_of o ids).seen.blocks } }) ws more rows kept refl refl counted_after named_after kept.formed
-      (of_live_waiting l.threads o.seen.bodies ws.waits t mode ids live kept.of_live)
-      (record { room = room_added limits.max_recursion o.seen.bodies ws.waits t mode ids room kept.quiet.room; settled = settled_added o.seen.bodies ws.waits t mode ids unready kept.quiet.settled }))
+      (of_live_waiting l.threads o.seen.bodies ws.waits t mode ids d live kept.of_live)
+      (record { room = room_added limits.max_recursion o.seen.bodies ws.waits t mode ids d room kept.quiet.room; settled = settled_added o.seen.bodies ws.waits t mode ids d unready kept.quiet.settled }))
 
-  pub whole_waiting : IsTied (with_blocks_of o ids) → whole_of limits l ts (with_blocks_of o ids) more ≡ record (whole_of limits l ts o ws) { state = settled (with_wait (state_of limits l ts o ws) t mode ids) }
+  pub whole_waiting : IsTied (with_blocks_of o ids) → whole_of limits l ts (with_blocks_of o ids) more ≡ record (whole_of limits l ts o ws) { state = settled (with_wait (state_of limits l ts o ws) t mode ids d) }
   whole_waiting tied =
-      let same : state_of limits l ts (with_blocks_of o ids) more ≡ with_wait (state_of limits l ts o ws) t mode ids = ap (λ (z : ObjectsState). state_of limits l ts z more) came in
+      let same : state_of limits l ts (with_blocks_of o ids) more ≡ with_wait (state_of limits l ts o ws) t mode ids d = ap (λ (z : ObjectsState). state_of limits l ts z more) came in
       let is = sym (settled_kept limits l ts (with_blocks_of o ids) more rows kept_waiting tied) ∙ ap settled same in
       λ i. record { state = is i; keeper = (came i).keeper }
 
@@ -277,8 +278,8 @@ module _ (limits : Limits) (l : LivesState) (ts : HandleTables) (o q : ObjectsSt
   named_left : IsNamed o.objects ts.tables fewer.waits
   named_left = named_fewer o.objects ts.tables ts.tables ws.waits fewer.waits (λ id. omega arith) (λ id. let x = blocks_answered id ws.waits n code in omega (arith, x)) kept.named
 
-  formed_left : AreFormed o.objects q.seen.bodies
-  formed_left = formed_by o.objects o.seen.bodies q.seen.bodies (λ k h. elim (bodies_at k) [ inl same ↦ ap slot_form same | inr none ↦ absurd (let e = ap is_some none in cc (e, h)) ]) kept.formed
+  formed_left : AreFormed ws.clock o.objects q.seen.bodies
+  formed_left = formed_by ws.clock o.objects o.seen.bodies q.seen.bodies (λ k h. elim (bodies_at k) [ inl same ↦ ap slot_form same | inr none ↦ absurd (let e = ap is_some none in cc (e, h)) ]) kept.formed
 
   answered_thread : (w : Option Wait) (u : ℕ) → thread_of (answered w code) ≡ Some u → thread_of w ≡ Some u
   answered_thread None u h = h

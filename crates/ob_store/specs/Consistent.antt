@@ -3,6 +3,7 @@ use Rattle.std.specs.Prelude.{◌≡◌, ℕ, ◌+◌, ◌<◌, nat_lt, false, N
 use Rattle.pin_core.specs.declared.id.Id.{Id}
 use Rattle.pin_core.specs.Worlds.{slot_of}
 use Rattle.ob_name.specs.Listing.{AreDistinct}
+use Rattle.ob_waits.specs.Deadlines.{AreAhead}
 use Rattle.ob_waits.specs.Rules.{IsKept}
 use Rattle.ob_store.specs.Agreement.{Agrees, AreBorn, IsListed}
 use Rattle.ob_store.specs.State.{Whole, generation_of, handles_of, blocks_of, settled, shape_of}
@@ -25,13 +26,15 @@ pub record IsConsistent (w : Whole) : Type 0 where
   pub named : IsNamed w.state.objects w.state.tables w.state.waits
   -- an object has a body exactly where an entry or a pending wait refers to it
   pub ended : (id : Id) → IsThere w.state.objects id → is_some (slice_index_or w.state.bodies id.slot None) ≡ nat_lt 0 (handles_of w.state id + blocks_of w.state id)
-  -- and the body is what the object's descriptor says
-  pub formed : AreFormed w.state.objects w.state.bodies
+  -- and the body is what the object's descriptor says; a timer's due moment is after now
+  pub formed : AreFormed w.state.clock w.state.objects w.state.bodies
   -- no name stands twice in the directory
   pub distinct : AreDistinct (directory_of w.state)
   -- each wait is one that may be waited for, a thread has one, and it is live; so is the owner of a mutex
   pub waits : IsKept w.state.waits
   pub of_live : AreOfLive w.state.threads w.state.bodies w.state.waits
+  -- each deadline of a pending wait is after now
+  pub ahead : AreAhead w.state.clock w.state.waits
   -- no pending wait is ready, and none is for a mutex that its thread owns as often as the limit lets
   pub quiet : IsQuiet w.state.limits.max_recursion w.state.bodies w.state.waits
   -- nothing is left to settle

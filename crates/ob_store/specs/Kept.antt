@@ -5,14 +5,14 @@ use Rattle.pin_core.specs.declared.id.Id.{Id}
 use Rattle.pin_core.specs.declared.descr.Descr.{Descr}
 use Rattle.pin_core.specs.declared.shape.Shape.{Shape}
 use Rattle.ob_body.specs.declared.body.Body.{Body}
-use Rattle.ob_body.specs.Body.{owner_of, has_room}
+use Rattle.ob_body.specs.Body.{due_of, owner_of, has_room}
 use Rattle.ob_name.specs.Listing.{Rows, AreDistinct}
 use Rattle.ob_tables.specs.declared.entry.Entry.{Entry}
 use Rattle.ob_tables.specs.Counts.{handles_among, slot_handles}
 use Rattle.ob_tables.specs.Tables.{HandleTables}
 use Rattle.ob_waits.specs.declared.wait.Wait.{Wait}
 use Rattle.ob_waits.specs.Objects.{Objects}
-use Rattle.ob_waits.specs.Form.{Form, form_of, slot_owner}
+use Rattle.ob_waits.specs.Form.{Form, IsAfter, form_of, slot_due, slot_owner}
 use Rattle.ob_waits.specs.Rules.{IsSettled, WaitsHaveRoom, thread_of}
 use Rattle.ob_waits.specs.Waits.{WaitList, blocks_among, slot_blocks}
 use Rattle.ob_store.specs.declared.limits.Limits.{Limits}
@@ -58,17 +58,24 @@ pub record IsNamed (objects : List (Option Object)) (tables : List (List (Option
   pub entries : (id : Id) → 0 < handles_among id tables → IsThere objects id
   pub blocks : (id : Id) → 0 < blocks_among id waits → IsThere objects id
 
--- what a descriptor says of a body
+-- what a descriptor says of a new body
 abbrev pub form_in : Descr → Form
-form_in d = record { kind = d.kind; manual = d.manual; maximum = d.max }
+form_in d = record { kind = d.kind; manual = d.manual; maximum = d.max; due = None }
 
--- each body is what its object's descriptor says
-pub record AreFormed (objects : List (Option Object)) (bodies : List (Option Body)) : Type 0 where
-  pub each : (k : ℕ) (o : Object) (b : Body) → slice_index_or objects k None ≡ Some o → slice_index_or bodies k None ≡ Some b → form_of b ≡ form_in o.descr
+-- a form without its due moment
+abbrev pub unset : Form → Form
+unset f = record f { due = None }
 
--- a change of a body that takes nothing for a thread: its form stays, no thread comes to own it, and none loses room
-pub record Yields (old new : Body) : Type 0 where
-  pub form : form_of new ≡ form_of old
+-- each body is what its object's descriptor says, and no timer is due yet
+pub record AreFormed (clock : ℕ) (objects : List (Option Object)) (bodies : List (Option Body)) : Type 0 where
+  pub each : (k : ℕ) (o : Object) (b : Body) → slice_index_or objects k None ≡ Some o → slice_index_or bodies k None ≡ Some b → unset (form_of b) ≡ form_in o.descr
+  pub later : (k : ℕ) → IsAfter clock (slot_due (slice_index_or bodies k None))
+
+-- a change of a body that takes nothing for a thread: its form stays, but for a due moment that is still to come, no thread comes
+-- to own it, and none loses room
+pub record Yields (clock : ℕ) (old new : Body) : Type 0 where
+  pub form : unset (form_of new) ≡ unset (form_of old)
+  pub due : IsAfter clock (due_of old) → IsAfter clock (due_of new)
   pub owner : (t : ℕ) → owner_of new ≡ Some t → owner_of old ≡ Some t
   pub room : (limit t : ℕ) → has_room limit t old ≡ true → has_room limit t new ≡ true
 
@@ -93,7 +100,7 @@ pub record IsKept (limits : Limits) (lives : LivesState) (tables : HandleTables)
   pub lives_kept : LivesKept limits lives (length tables.tables)
   pub counted : IsCounted o.seen (length o.objects) tables.tables waits.waits
   pub named : IsNamed o.objects tables.tables waits.waits
-  pub formed : AreFormed o.objects o.seen.bodies
+  pub formed : AreFormed waits.clock o.objects o.seen.bodies
   pub of_live : AreOfLive lives.threads o.seen.bodies waits.waits
   pub quiet : IsQuiet limits.max_recursion o.seen.bodies waits.waits
   pub listing : IsListing rows tables.tables o.objects o.births

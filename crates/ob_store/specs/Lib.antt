@@ -9,7 +9,9 @@ pub mod Kept
 pub mod Moves
 pub mod Waiting
 pub mod Ends
+pub mod Ticks
 pub mod Owners
+pub mod Timers
 pub mod UnderWay
 pub mod Meetings
 pub mod Abandoned

@@ -34,6 +34,7 @@ pub record State : Type 0 where
   pub retired : List Bool  -- by slot, whether it is never given again
   pub births : ℕ  -- how many objects were made
   pub waits : List (Option Wait)
+  pub clock : ℕ  -- the moment that it is, in units of 100 ns
 
 -- the state, and what the keeper of the slots says
 pub record Whole : Type 0 where
@@ -158,6 +159,7 @@ opening limits = record {
   retired = replicate limits.slots false;
   births = 0;
   waits = None ∷ [];
+  clock = 0;
 }
 
 -- what the parts of a store say
@@ -176,6 +178,7 @@ state_of limits lives tables objects waits = record {
   retired = objects.retired;
   births = objects.births;
   waits = waits.waits;
+  clock = waits.clock;
 }
 
 abbrev pub whole_of : Limits → LivesState → HandleTables → ObjectsState → WaitList → Whole

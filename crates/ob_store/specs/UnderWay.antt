@@ -21,7 +21,7 @@ pub record IsSound (limits : Limits) (lives : LivesState) (tables : HandleTables
   pub lives_kept : LivesKept limits lives (length tables.tables)
   pub counted : IsCounted o.seen (length o.objects) tables.tables waits.waits
   pub named : IsNamed o.objects tables.tables waits.waits
-  pub formed : AreFormed o.objects o.seen.bodies
+  pub formed : AreFormed waits.clock o.objects o.seen.bodies
   pub of_live : AreOfLive lives.threads o.seen.bodies waits.waits
   pub room : WaitsHaveRoom limits.max_recursion o.seen.bodies waits.waits
   pub listing : IsListing rows tables.tables o.objects o.births

@@ -1,5 +1,5 @@
 -- What calls on waits make of the state.
-use Rattle.std.specs.Prelude.{ℕ, nat_lt, Bool, List, [], ◌∷◌, ◌++◌, Some, None, length, slice_index_or, slice_set}
+use Rattle.std.specs.Prelude.{ℕ, nat_lt, Bool, List, [], ◌∷◌, ◌++◌, Option, Some, None, length, slice_index_or, slice_set}
 use Rattle.pin_core.specs.declared.id.Id.{Id}
 use Rattle.ob_waits.specs.declared.wait.Mode.{Mode}
 use Rattle.ob_waits.specs.Waits.{answered, bodies_after, new_wait}
@@ -9,9 +9,9 @@ use Rattle.ob_store.specs.State.{State}
 abbrev pub with_taken : State → ℕ → Mode → List Id → State
 with_taken s thread mode ids = record s { bodies = bodies_after mode thread s.bodies ids }
 
--- or its wait becomes pending, with the next number
-abbrev pub with_wait : State → ℕ → Mode → List Id → State
-with_wait s thread mode ids = record s { waits = s.waits ++ Some (new_wait thread mode ids) ∷ [] }
+-- or its wait becomes pending, with the next number, until a moment or for good
+abbrev pub with_wait : State → ℕ → Mode → List Id → Option ℕ → State
+with_wait s thread mode ids deadline = record s { waits = s.waits ++ Some (new_wait thread mode ids deadline) ∷ [] }
 
 -- whether all wait numbers are given
 abbrev pub are_waits_given : State → Bool

@@ -268,11 +268,16 @@ fn leave_process<K: PinKeeper>(
 
 /// The waits settle: where all slots of abandoned mutexes are noted by the waits for these alone, and where there are none not at
 /// all.
-fn settle<K: PinKeeper>(objects: &mut Objects<K>, waits: &mut Waits, abandoned: &Abandoned)
+pub(crate) fn settle<K: PinKeeper>(
+    objects: &mut Objects<K>,
+    waits: &mut Waits,
+    abandoned: &Abandoned,
+)
     requires room { WaitsHaveRoom RECURSION_MAX objects.old.seen.bodies waits.old.waits }
     requires enough { IsEnough abandoned.now objects.old.seen.bodies waits.old.waits }
     ensures value { record { objects = objects.new.seen; waits = waits.new.waits } ≡ waits_settled (record { objects = objects.old.seen; waits = waits.old.waits }) }
     ensures limit { waits.new.limit ≡ waits.old.limit }
+    ensures clock { waits.new.clock ≡ waits.old.clock }
     ensures rest { kept_rest objects.new ≡ kept_rest objects.old }
     ensures settled { IsSettled objects.new.seen.bodies waits.new.waits }
     ensures room { (limit : ℕ) → WaitsHaveRoom limit objects.old.seen.bodies waits.old.waits → WaitsHaveRoom limit objects.new.seen.bodies waits.new.waits }

@@ -37,10 +37,13 @@ mod seats;
 mod signaling;
 mod store;
 mod stored;
+mod ticking;
+mod timers;
 mod waiting;
 
 pub use creation::Creation;
 pub use limits::Limits;
+pub use ob_waits::LAST_MOMENT;
 pub use objects::Objects;
 pub use seat::Seat;
 pub use store::Store;

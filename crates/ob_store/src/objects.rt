@@ -1,4 +1,4 @@
-ghost use Rattle.std.specs.Prelude.{◌≡◌, ℕ, ◌+◌, ◌<◌, ◌≤◌, false, true, IfOk, IfErr, IfSome, IsSome, IsTrue, None, Some, length, map, slice_index_or, slice_set};
+ghost use Rattle.std.specs.Prelude.{◌≡◌, ℕ, ◌+◌, ◌<◌, ◌≤◌, false, true, IfNone, IfOk, IfErr, IfSome, IsSome, IsTrue, None, Some, length, map, slice_index_or, slice_set};
 ghost use Rattle.std.specs.Option.{option_map};
 ghost use Rattle.pin_words.specs.Keepers.{IsFresh};
 ghost use Rattle.pin_words.specs.Views.{id_of};
@@ -10,13 +10,14 @@ ghost use Rattle.ob_waits.specs.Waits.{nowhere};
 ghost use Rattle.ob_store.specs.Objects.{kept_rest, object_of, places_in, with_keeper, vacant_places, vacancy, with_object, with_handle_of, with_handle_at, with_handles_of, without_handle_of, with_block_of, with_blocks_of};
 ghost use Rattle.ob_store.specs.Agreement.{IsTied, Reclaimed};
 ghost use Rattle.ob_store.specs.Ends.{slot_left_by};
+ghost use Rattle.ob_store.specs.Ticks.{slot_fired, slot_is_due};
 
 use crate::seat::Seat;
 use crate::seats::Seats;
 use ob_arena::SLOTS_MAX;
 use ob_body::Body;
 use ob_name::Name;
-use ob_rights::Rights;
+use ob_rights::{Kind, Rights};
 use ob_tables::Entry;
 use ob_waits::Bodies;
 use pin_core::{Descr, Id};
@@ -267,6 +268,34 @@ impl<K: PinKeeper> Objects<K> {
     {
         self.abandon_listed(thread);
         self.abandon_all(thread);
+    }
+
+    /// A slot whose timer is due. Where none is, that is known at once.
+    pub(crate) fn next_due(&self, now: u64) -> Option<u32>
+        ensures some { IfSome result (λ slot. slot_is_due now (slice_index_or self.now.seen.bodies slot None) ≡ true) }
+        ensures none { IfNone result ((k : ℕ) → slot_is_due now (slice_index_or self.now.seen.bodies k None) ≡ false) }
+    {
+        self.seats.next_due(now)
+    }
+
+    /// The timer in a slot fires, if it is due.
+    #[tactic(auto, using(crate::proofs::TickLaws::fired_another))]
+    pub(crate) fn fire_at(&mut self, slot: u32, now: u64)
+        ensures seen { self.new.seen ≡ record self.old.seen { bodies = slice_set self.old.seen.bodies slot (slot_fired now (slice_index_or self.old.seen.bodies slot None)) } }
+        ensures rest { kept_rest self.new ≡ kept_rest self.old }
+    {
+        let id = Id {
+            slot,
+            generation: 0,
+        };
+        let Some(mut body) = self.body(id) else {
+            return;
+        };
+        if body.kind() != Kind::Timer {
+            return;
+        }
+        body.fire(now);
+        self.put(id, body);
     }
 
     /// Takes the slot of an ended object back, unless somebody holds it: the object leaves it, and where it was at its last

@@ -1,5 +1,5 @@
 ghost use Rattle.std.specs.Prelude.{◌≡◌, ◌<◌, ◌+◌, ◌-◌, ◌==◌, true, None, Some, if◌then◌else◌};
-ghost use Rattle.ob_waits.specs.Form.{slot_owner};
+ghost use Rattle.ob_waits.specs.Form.{slot_due, slot_owner};
 ghost use Rattle.ob_waits.specs.Objects.{slot_abandoned, slot_acquired, slot_room, slot_signaled};
 ghost use Rattle.ob_store.specs.Objects.{seat_handle_left, seat_block_left};
 
@@ -38,6 +38,13 @@ pub(crate) struct Acquired {
     pub(crate) after: Option<u32>,
 }
 
+/// What an object was: which thread owned the mutex, and when the timer was due.
+#[derive(Clone, Copy)]
+pub(crate) struct Was {
+    pub(crate) owner: Option<u32>,
+    pub(crate) due: Option<u64>,
+}
+
 impl Seat {
     /// A new object with one handle.
     pub(crate) fn new(
@@ -62,12 +69,24 @@ impl Seat {
         }
     }
 
-    /// It gets a body. The body that it had.
-    pub(crate) fn put(&mut self, body: Body) -> Option<Body>
+    /// It gets a body. What it was before.
+    pub(crate) fn put(&mut self, body: Body) -> Was
         ensures value { self.new ≡ record self.old { body = Some body } }
-        ensures before { result ≡ self.old.body }
+        ensures owner { result.owner ≡ slot_owner self.old.body }
+        ensures due { result.due ≡ slot_due self.old.body }
     {
-        self.body.replace(body)
+        let was = match &self.body {
+            Some(body) => Was {
+                owner: body.owner(),
+                due: body.due(),
+            },
+            None => Was {
+                owner: None,
+                due: None,
+            },
+        };
+        self.body = Some(body);
+        was
     }
 
     /// A thread acquires it, which is signaled for the thread.

@@ -1,14 +1,16 @@
-ghost use Rattle.std.specs.Prelude.{◌≡◌, ◌<◌, ◌≤◌, ◌&&◌, ℕ, false, true, IfOk, IfSome, IsSome, IsTrue, None, Some, is_some, length, slice_index_or};
+ghost use Rattle.std.specs.Prelude.{◌≡◌, ◌<◌, ◌≤◌, ◌&&◌, ℕ, false, true, IfNone, IfOk, IfSome, IsSome, IsTrue, None, Some, is_some, length, slice_index_or};
 ghost use Rattle.std.specs.Option.{option_map};
 ghost use Rattle.ob_body.specs.Mutex.{is_owner};
-ghost use Rattle.ob_waits.specs.Form.{slot_owner};
+ghost use Rattle.ob_waits.specs.Form.{slot_due, slot_owner};
 ghost use Rattle.ob_arena.specs.Slots.{is_vacant_at, least_vacant};
 ghost use Rattle.ob_waits.specs.Objects.{body_of, slot_room, with_body, without_block};
 ghost use Rattle.ob_waits.specs.Waits.{is_abandoned, is_signaled, with_acquired};
+ghost use Rattle.ob_store.specs.Ticks.{slot_is_due};
 ghost use Rattle.ob_store.specs.Objects.{object_of, rest_of, vacant_places, vacancy, with_seat, with_handle, without_handle, is_last_handle, with_block, is_last_block, without_seat, with_retired};
 
 use crate::owners::Owners;
 use crate::seat::Seat;
+use crate::timers::Timers;
 use ob_arena::{Arena, SLOTS_MAX};
 use ob_body::{Body, RECURSION_MAX};
 use ob_name::Name;
@@ -22,6 +24,7 @@ use std::marker::Model;
 pub(crate) struct Seats {
     arena: Arena<Seat>,
     owners: Owners,
+    timers: Timers,
 }
 
 impl Model for Seats {
@@ -31,10 +34,10 @@ impl Model for Seats {
 
     ghost view = { λ s. places_of s.arena };
 
-    ghost use Rattle.ob_store.specs.Owners.{IsOwned};
+    ghost use Rattle.ob_store.specs.Timers.{AreNoted};
 
-    // Hidden from the value: how many mutexes each thread owns.
-    ghost invariant = { λ s. IsOwned s.arena.bodies s.owners };
+    // Hidden from the value: how many mutexes each thread owns, and when the timer in each slot is due.
+    ghost invariant = { λ s. AreNoted s.arena.bodies s.owners s.timers };
 }
 
 /// The thread that owns the mutex that a body is.
@@ -43,6 +46,16 @@ fn owner_of(body: Option<Body>) -> Option<u32>
 {
     match body {
         Some(body) => body.owner(),
+        None => None,
+    }
+}
+
+/// The moment at which the timer that a body is is due.
+fn due_of(body: Option<Body>) -> Option<u64>
+    ensures { result ≡ slot_due body }
+{
+    match body {
+        Some(body) => body.due(),
         None => None,
     }
 }
@@ -56,6 +69,7 @@ impl Seats {
         Ok(Seats {
             arena: Arena::new(alloc, slots)?,
             owners: Owners::new(alloc, slots, threads)?,
+            timers: Timers::new(alloc, slots)?,
         })
     }
 
@@ -74,6 +88,14 @@ impl Seats {
     /// A slot where a mutex of the thread may be, or a number past all slots.
     pub(crate) fn hint(&self, thread: u32) -> u32 {
         self.owners.first(thread)
+    }
+
+    /// A slot whose timer is due. Where none is, that is known at once.
+    pub(crate) fn next_due(&self, now: u64) -> Option<u32>
+        ensures some { IfSome result (λ slot. slot_is_due now (slice_index_or self.now.seen.bodies slot None) ≡ true) }
+        ensures none { IfNone result ((k : ℕ) → slot_is_due now (slice_index_or self.now.seen.bodies k None) ≡ false) }
+    {
+        self.timers.next_due(now)
     }
 
     /// How many slots there are.
@@ -130,6 +152,7 @@ impl Seats {
         self.arena
             .put(id.slot, Seat::new(id, birth, descr, grant, name, body));
         self.owners.came(id.slot, body.owner());
+        self.timers.moved(id.slot, None, body.due());
     }
 
     /// One handle more.
@@ -150,6 +173,7 @@ impl Seats {
     {
         let gone = self.arena.get_mut(slot).handle_left();
         self.owners.left(slot, owner_of(gone));
+        self.timers.left(slot, due_of(gone));
         gone.is_some()
     }
 
@@ -197,8 +221,11 @@ impl Seats {
         ensures objects { self.new.seen ≡ with_body self.old.seen id body }
         ensures rest { rest_of self.new ≡ rest_of self.old }
     {
-        let before = self.arena.get_mut(id.slot).put(body);
-        self.owners.moved(id.slot, owner_of(before), body.owner());
+        let owner = body.owner();
+        let due = body.due();
+        let was = self.arena.get_mut(id.slot).put(body);
+        self.owners.moved(id.slot, was.owner, owner);
+        self.timers.moved(id.slot, was.due, due);
     }
 
     /// A thread acquires an object that is signaled for it; whether that was an abandoned mutex.
@@ -226,6 +253,7 @@ impl Seats {
         }
         let gone = self.arena.get_mut(id.slot).block_left();
         self.owners.left(id.slot, owner_of(gone));
+        self.timers.left(id.slot, due_of(gone));
         gone.is_some()
     }
 }

@@ -1,6 +1,6 @@
-ghost use Rattle.std.specs.Prelude.{◌≡◌, None, Some, OnErr, OnOk, slice_index_or};
+ghost use Rattle.std.specs.Prelude.{◌≡◌, ℕ, true, None, Some, OnErr, OnOk, slice_index_or};
 ghost use Rattle.ob_body.specs.Body as spec;
-ghost use Rattle.ob_rights.specs.declared.kind.Kind.TheVariants.{Event, Mutex, Semaphore};
+ghost use Rattle.ob_rights.specs.declared.kind.Kind.TheVariants.{Event, Mutex, Semaphore, Timer};
 ghost use Rattle.ob_store.specs.State.{settled, with_body};
 ghost use Rattle.ob_store.specs.Kept.{Yields};
 ghost use Rattle.ob_store.specs.Moves.{OnlyCloses};
@@ -17,7 +17,7 @@ impl<K: PinKeeper> Store<K> {
     #[inline(always)]
     pub(crate) fn put(&mut self, id: Id, old: Body, new: Body)
         requires there { slice_index_or self.old.state.bodies id.slot None ≡ Some old }
-        requires yields { Yields old new }
+        requires yields { Yields self.old.state.clock old new }
         ensures state { self.new.state ≡ settled (with_body self.old.state id new) }
         ensures keeper { OnlyCloses self.old.keeper self.new.keeper }
     {
@@ -46,8 +46,24 @@ impl<K: PinKeeper> Store<K> {
         self.put(id, event, after);
     }
 
+    /// An object has another body, by which nothing is signaled that wasn't: so nothing settles.
+    #[inline(always)]
+    fn put_less(&mut self, id: Id, old: Body, new: Body)
+        requires there { slice_index_or self.old.state.bodies id.slot None ≡ Some old }
+        requires yields { Yields self.old.state.clock old new }
+        requires less { (t : ℕ) → spec.is_signaled t new ≡ true → spec.is_signaled t old ≡ true }
+        ensures state { self.new.state ≡ settled (with_body self.old.state id new) }
+        ensures keeper { OnlyCloses self.old.keeper self.new.keeper }
+    {
+        // What it says is wanted here, before and after.
+        self.objects.kept();
+        self.objects.put(id, new);
+        self.objects.kept();
+    }
+
     /// Resets an event: nothing is signaled by it, so nothing settles.
     #[inline(always)]
+    #[tactic(auto, using(crate::proofs::Yielding::reset_less, crate::proofs::Yielding::reset_yields))]
     pub fn reset(&mut self, id: Id, event: Body)
         requires there { slice_index_or self.old.state.bodies id.slot None ≡ Some event }
         requires event { spec.kind_of event ≡ Event }
@@ -56,10 +72,7 @@ impl<K: PinKeeper> Store<K> {
     {
         let mut after = event;
         after.reset();
-        // What it says is wanted here, before and after.
-        self.objects.kept();
-        self.objects.put(id, after);
-        self.objects.kept();
+        self.put_less(id, event, after);
     }
 
     /// Raises a semaphore's count, and answers the count before.
@@ -96,5 +109,32 @@ impl<K: PinKeeper> Store<K> {
         after.unlock(thread)?;
         self.put(id, mutex, after);
         Ok(())
+    }
+
+    /// Sets a timer to a moment, in units of 100 ns. One that isn't after now signals it at once, and the waits for it settle;
+    /// else it is nonsignaled until then, and nothing settles.
+    #[tactic(auto, using(crate::proofs::Yielding::arm_yields))]
+    pub fn arm(&mut self, id: Id, timer: Body, due: u64)
+        requires there { slice_index_or self.old.state.bodies id.slot None ≡ Some timer }
+        requires timer { spec.kind_of timer ≡ Timer }
+        ensures state { self.new.state ≡ settled (with_body self.old.state id (spec.after_arm due self.old.state.clock timer)) }
+        ensures keeper { OnlyCloses self.old.keeper self.new.keeper }
+    {
+        let mut after = timer;
+        after.arm(due, self.now());
+        self.put(id, timer, after);
+    }
+
+    /// Takes a timer's due moment away: nothing is signaled by that, so nothing settles.
+    #[tactic(auto, using(crate::proofs::Yielding::disarm_less, crate::proofs::Yielding::disarm_yields))]
+    pub fn disarm(&mut self, id: Id, timer: Body)
+        requires there { slice_index_or self.old.state.bodies id.slot None ≡ Some timer }
+        requires timer { spec.kind_of timer ≡ Timer }
+        ensures state { self.new.state ≡ settled (with_body self.old.state id (spec.after_disarm timer)) }
+        ensures keeper { OnlyCloses self.old.keeper self.new.keeper }
+    {
+        let mut after = timer;
+        after.disarm();
+        self.put_less(id, timer, after);
     }
 }

@@ -1,4 +1,4 @@
-ghost use Rattle.std.specs.Prelude.{◌≡◌, ◌<◌, true, IfOk, IfErr, IfSome, IsSome, OnSome, None, Some, length, is_some, slice_get, slice_index_or};
+ghost use Rattle.std.specs.Prelude.{◌≡◌, ◌<◌, ◌≤◌, true, IfOk, IfErr, IfSome, IsSome, OnSome, None, Some, length, is_some, slice_get, slice_index_or};
 ghost use Rattle.std.specs.Option.{option_map};
 ghost use Rattle.pin_words.specs.Keepers.{IsFresh};
 ghost use Rattle.ob_arena.specs.Slots.{is_vacant_at, least_vacant};
@@ -20,7 +20,7 @@ use crate::seat::Seat;
 use ob_body::Body;
 use ob_name::{Directory, NameRef, Rows};
 use ob_tables::{Entry, Tables};
-use ob_waits::{Bodies, Waits};
+use ob_waits::{Bodies, LAST_MOMENT, Waits};
 use pin_core::Id;
 use pin_words::PinKeeper;
 use std::alloc::Global;
@@ -89,7 +89,15 @@ impl<K: PinKeeper> Store<K> {
         ensures { IsConsistent self.now }
     {
         self.objects.kept();
-        let _ = self.waits.wait_of(0);
+        let _ = (self.waits.wait_of(0), self.waits.clock());
+    }
+
+    /// The moment that it is, in units of 100 ns, from 0.
+    pub fn now(&self) -> u64
+        ensures moment { result ≡ self.now.state.clock }
+        ensures last { result ≤ LAST_MOMENT }
+    {
+        self.waits.clock()
     }
 
     /// What it may hold at most.

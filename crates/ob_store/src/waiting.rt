@@ -1,6 +1,7 @@
 ghost use Rattle.std.specs.Prelude.{ℕ, ◌≡◌, ◌<◌, ◌↔◌, true, false, Err, IfErr, IfOk, IsSome, None, OnErr, OnOk, Some, length, slice_index_or};
 ghost use Rattle.std.specs.Option.{IfNone, OnSome};
 ghost use Rattle.ob_rights.specs.declared.fault.Fault.TheVariants.{Limit, Memory};
+ghost use Rattle.ob_waits.specs.Form.{IsAfter};
 ghost use Rattle.ob_waits.specs.Rules.{HasRoom, IsWaitable};
 ghost use Rattle.ob_waits.specs.Waits.{code_at, code_now, is_pending, list_ready, nowhere, number_of, state_at};
 ghost use Rattle.ob_store.specs.State.{handles_of, settled};
@@ -40,10 +41,17 @@ impl<K: PinKeeper> Store<K> {
         code
     }
 
-    /// The wait of a thread that isn't satisfied now becomes pending; its number. It counts among what refers to its objects.
+    /// The wait of a thread that isn't satisfied now becomes pending, until a moment after now or for good; its number. It counts among what refers to its objects.
     ///
     /// Refused with 1450 where each wait number was given, and else with 8 for want of memory.
-    pub fn add_wait(&mut self, thread: u32, mode: Mode, ids: &[Id]) -> Result<u32, Fault>
+    pub fn add_wait(
+        &mut self,
+        thread: u32,
+        mode: Mode,
+        ids: &[Id],
+        deadline: Option<u64>,
+    ) -> Result<u32, Fault>
+        requires ahead { IsAfter self.old.state.clock deadline }
         requires waitable { IsWaitable mode ids.now }
         requires room { HasRoom self.old.state.limits.max_recursion thread self.old.state.bodies ids.now }
         requires alone { number_of thread self.old.state.waits ≡ None }
@@ -51,14 +59,14 @@ impl<K: PinKeeper> Store<K> {
         requires unready { list_ready mode thread self.old.state.bodies ids.now ≡ false }
         requires there { (i : ℕ) → i < length ids.now → 0 < handles_of self.old.state (slice_index_or ids.now i nowhere) }
         ensures number { IfOk result (λ number. number ≡ length self.old.state.waits) }
-        ensures ok { OnOk result (self.new ≡ record self.old { state = settled (with_wait self.old.state thread mode ids.now) }) }
+        ensures ok { OnOk result (self.new ≡ record self.old { state = settled (with_wait self.old.state thread mode ids.now deadline) }) }
         ensures limit { (result ≡ Err Limit) ↔ (are_waits_given self.old.state ≡ true) }
         ensures memory { IfErr result (λ fault. are_waits_given self.old.state ≡ false → fault ≡ Memory) }
         ensures err { OnErr result (self.new ≡ self.old) }
     {
         // What it says is wanted here, before and after.
         self.objects.kept();
-        match self.waits.add(thread, mode, ids) {
+        match self.waits.add(thread, mode, ids, deadline) {
             Ok(number) => {
                 self.objects.blocks_came(ids);
                 self.objects.kept();

@@ -1,10 +1,11 @@
 use Rattle.std.proofs.Common.{◌∙◌, ap, set, Some}
-use Rattle.ob_waits.specs.Objects.{slot_abandoned, slot_acquired, slot_room, slot_signaled}
 use Rattle.ob_waits.specs.Waits.{with_acquired}
 use Rattle.ob_store.specs.declared.seat.Seat.{Seat}
 use Rattle.ob_store.specs.Objects.{Places, rest_of, seat_object, seen_in}
-use Rattle.ob_store.proofs.SeatLaws.{body_here, rest_same, seen_acquired}
+use Rattle.ob_store.proofs.SeatLaws.{rest_same, seen_acquired}
 use Rattle.ob_store.proofs.OwnerLaws.{owned_few, owned_set}
+use Rattle.ob_waits.specs.Form.{slot_due}
+use Rattle.ob_store.proofs.TimerLaws.{due_taken, timed_stays}
 use Rattle.ob_store.proofs.seats.Seats.acquire.Goals as goal
 
 pub returns-clause-objects : goal.returns-clause-objects
@@ -20,8 +21,11 @@ returns-clause-rest c =
     ∙ ap rest_of c.self.view_is
 
 pub moved-requires : goal.moved-requires
-moved-requires c = owned_few c.self.inside.arena.bodies c.self.inside.owners c.self.invariant
+moved-requires c = owned_few c.self.inside.arena.bodies c.self.inside.owners c.self.invariant.owned
 
 pub invariant_of-self : goal.invariant_of-self
-invariant_of-self c = rw c.moved.ensures (owned_set c.self.inside.arena.bodies c.self.inside.owners c.args.id.slot c.get_mut.result.now c.acquire-acquired.new.self c.acquire-acquired.result.before c.acquire-acquired.result.after c.self.invariant
-    c.get_mut.ensures.value c.acquire-acquired.ensures.before c.acquire-acquired.ensures.after)
+invariant_of-self c = record {
+  owned = rw c.moved.ensures (owned_set c.self.inside.arena.bodies c.self.inside.owners c.args.id.slot c.get_mut.result.now c.acquire-acquired.new.self c.acquire-acquired.result.before c.acquire-acquired.result.after c.self.invariant.owned
+      c.get_mut.ensures.value c.acquire-acquired.ensures.before c.acquire-acquired.ensures.after);
+  timed = timed_stays c.self.inside.arena.bodies c.self.inside.timers c.args.id.slot c.get_mut.result.now c.acquire-acquired.new.self c.self.invariant.timed c.get_mut.ensures.value (ap (λ (x : Seat). slot_due x.body) c.acquire-acquired.ensures.value ∙ due_taken c.args.thread c.get_mut.result.now.body);
+}

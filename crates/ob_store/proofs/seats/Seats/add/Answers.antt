@@ -5,6 +5,8 @@ use Rattle.ob_store.specs.Objects.{Object, Places, places_of, seat_handles, vaca
 use Rattle.ob_store.proofs.SeatLaws.{places_added, added_handle}
 use Rattle.ob_store.specs.Owners.{IsOwned, seat_owner}
 use Rattle.ob_store.proofs.OwnerLaws.{moved_owned, owned_few, vacant_seat}
+use Rattle.ob_store.specs.Timers.{seat_due}
+use Rattle.ob_store.proofs.TimerLaws.{timed_set, timed_vacant, timed_within}
 use Rattle.ob_store.proofs.seats.Seats.add.Goals as goal
 
 pub returns-clause-value : goal.returns-clause-value
@@ -24,7 +26,7 @@ returns-clause-handle c =
     ∙ added_handle c.self.inside.arena c.args.id.slot seat refl (subst (λ (p : Places). is_vacant_at (vacancy p) c.args.id.slot ≡ true) (sym c.self.view_is) c.requires)
 
 pub came-requires : goal.came-requires
-came-requires c = owned_few c.self.inside.arena.bodies c.self.inside.owners c.self.invariant
+came-requires c = owned_few c.self.inside.arena.bodies c.self.inside.owners c.self.invariant.owned
 
 pub invariant_of-self : goal.invariant_of-self
 invariant_of-self c =
@@ -32,5 +34,18 @@ invariant_of-self c =
     let arena : c.put.new.self ≡ record c.self.inside.arena { bodies = set c.self.inside.arena.bodies c.args.id.slot (Some seat) } =
     c.put.ensures ∙ ap (λ (x : Seat). record c.self.inside.arena { bodies = set c.self.inside.arena.bodies c.args.id.slot (Some x) }) c.new.ensures in
     let vacant = vacant_seat c.self.inside.arena c.args.id.slot (subst (λ (p : Places). is_vacant_at (vacancy p) c.args.id.slot ≡ true) (sym c.self.view_is) c.requires) in
-    subst (λ (s : Slots Seat). IsOwned s.bodies c.came.new.self) (sym arena) (rw c.came.ensures (moved_owned c.self.inside.arena.bodies c.self.inside.owners c.args.id.slot (Some seat) None c.owner.result c.self.invariant
-    vacant.0 (ap seat_owner (sym vacant.1)) c.owner.ensures.owner))
+    record {
+      owned = subst (λ (s : Slots Seat). IsOwned s.bodies c.came.new.self) (sym arena) (rw c.came.ensures (moved_owned c.self.inside.arena.bodies c.self.inside.owners c.args.id.slot (Some seat) None c.owner.result c.self.invariant.owned
+          vacant.0 (ap seat_owner (sym vacant.1)) c.owner.ensures.owner));
+      timed = subst (λ (s : Slots Seat). c.moved.new.self ≡ map seat_due s.bodies) (sym arena) (rw c.moved.ensures (timed_set c.self.inside.arena.bodies c.self.inside.timers c.args.id.slot (Some seat) c.due.result c.self.invariant.timed c.due.ensures));
+    }
+
+pub moved-requires-clause-there : goal.moved-requires-clause-there
+moved-requires-clause-there c =
+    let vacant = vacant_seat c.self.inside.arena c.args.id.slot (subst (λ (p : Places). is_vacant_at (vacancy p) c.args.id.slot ≡ true) (sym c.self.view_is) c.requires) in
+    timed_within c.self.inside.arena.bodies c.self.inside.timers c.args.id.slot c.self.invariant.timed vacant.0
+
+pub moved-requires-clause-was : goal.moved-requires-clause-was
+moved-requires-clause-was c =
+    let vacant = vacant_seat c.self.inside.arena c.args.id.slot (subst (λ (p : Places). is_vacant_at (vacancy p) c.args.id.slot ≡ true) (sym c.self.view_is) c.requires) in
+    timed_vacant c.self.inside.arena.bodies c.self.inside.timers c.args.id.slot c.self.invariant.timed vacant.1

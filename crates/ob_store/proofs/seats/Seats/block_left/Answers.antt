@@ -4,6 +4,7 @@ use Rattle.ob_store.specs.declared.seat.Seat.{Seat}
 use Rattle.ob_store.specs.Objects.{Places, rest_of, seen_in, seat_object}
 use Rattle.ob_store.proofs.SeatLaws.{seen_block_left, seen_absent, rest_same, none_of}
 use Rattle.ob_store.proofs.OwnerLaws.{owned_left_at}
+use Rattle.ob_store.proofs.TimerLaws.{timed_left_at}
 use Rattle.ob_store.proofs.seats.Seats.block_left.Goals as goal
 
 pub returns-clause-objects : goal.returns-clause-objects
@@ -24,5 +25,9 @@ returns-then-not-is_occupied-clause-objects c =
     ∙ ap (λ (p : Places). without_block p.seen c.args.id) c.self.view_is
 
 pub invariant_of-self : goal.invariant_of-self
-invariant_of-self c = rw c.left.ensures (rw c.owner_of.ensures (owned_left_at c.self.inside.arena.bodies c.self.inside.owners c.args.id.slot c.get_mut.result.now c.block_left-gone.new.self _ c.block_left-gone.result c.self.invariant
-    c.get_mut.ensures.value c.block_left-gone.ensures.gone (ap (λ (x : Seat). x.body) c.block_left-gone.ensures.value)))
+invariant_of-self c = record {
+  owned = rw c.left.ensures (rw c.owner_of.ensures (owned_left_at c.self.inside.arena.bodies c.self.inside.owners c.args.id.slot c.get_mut.result.now c.block_left-gone.new.self _ c.block_left-gone.result c.self.invariant.owned
+      c.get_mut.ensures.value c.block_left-gone.ensures.gone (ap (λ (x : Seat). x.body) c.block_left-gone.ensures.value)));
+  timed = rw c.left-2.ensures (rw c.due_of.ensures (timed_left_at c.self.inside.arena.bodies c.self.inside.timers c.args.id.slot c.get_mut.result.now c.block_left-gone.new.self _ c.block_left-gone.result c.self.invariant.timed
+      c.get_mut.ensures.value c.block_left-gone.ensures.gone (ap (λ (x : Seat). x.body) c.block_left-gone.ensures.value)));
+}

@@ -3,6 +3,7 @@ use Rattle.ob_store.specs.declared.seat.Seat.{Seat}
 use Rattle.ob_store.specs.Objects.{Places, places_of, without_handle}
 use Rattle.ob_store.proofs.SeatLaws.{places_handle_left}
 use Rattle.ob_store.proofs.OwnerLaws.{owned_left_at}
+use Rattle.ob_store.proofs.TimerLaws.{timed_left_at}
 use Rattle.ob_store.proofs.seats.Seats.handle_left.Goals as goal
 
 pub returns-clause-value : goal.returns-clause-value
@@ -11,5 +12,9 @@ returns-clause-value c =
     ∙ places_handle_left c.self.inside.arena.bodies c.args.slot c.get_mut.result.now c.get_mut.ensures.value c.self.inside.arena.retired ∙ ap (λ (p : Places). without_handle p c.args.slot) c.self.view_is
 
 pub invariant_of-self : goal.invariant_of-self
-invariant_of-self c = rw c.left.ensures (rw c.owner_of.ensures (owned_left_at c.self.inside.arena.bodies c.self.inside.owners c.args.slot c.get_mut.result.now c.handle_left-gone.new.self _ c.handle_left-gone.result c.self.invariant
-    c.get_mut.ensures.value c.handle_left-gone.ensures.gone (ap (λ (x : Seat). x.body) c.handle_left-gone.ensures.value)))
+invariant_of-self c = record {
+  owned = rw c.left.ensures (rw c.owner_of.ensures (owned_left_at c.self.inside.arena.bodies c.self.inside.owners c.args.slot c.get_mut.result.now c.handle_left-gone.new.self _ c.handle_left-gone.result c.self.invariant.owned
+      c.get_mut.ensures.value c.handle_left-gone.ensures.gone (ap (λ (x : Seat). x.body) c.handle_left-gone.ensures.value)));
+  timed = rw c.left-2.ensures (rw c.due_of.ensures (timed_left_at c.self.inside.arena.bodies c.self.inside.timers c.args.slot c.get_mut.result.now c.handle_left-gone.new.self _ c.handle_left-gone.result c.self.invariant.timed
+      c.get_mut.ensures.value c.handle_left-gone.ensures.gone (ap (λ (x : Seat). x.body) c.handle_left-gone.ensures.value)));
+}

@@ -1,14 +1,19 @@
-use Rattle.std.proofs.Common.{◌∙◌, ap, sym, subst}
+use Rattle.std.proofs.Common.{◌≡◌, ◌∙◌, ap, sym, subst, map}
 use Rattle.ob_store.specs.Objects.{places_of}
 use Rattle.ob_store.proofs.SeatLaws.{places_vacant}
 use Rattle.ob_arena.specs.Slots.{Slots}
 use Rattle.ob_store.specs.declared.seat.Seat.{Seat}
 use Rattle.ob_store.specs.Owners.{IsOwned}
 use Rattle.ob_store.proofs.OwnerLaws.{owned_none}
+use Rattle.ob_store.specs.Timers.{seat_due}
+use Rattle.ob_store.proofs.TimerLaws.{timed_none}
 use Rattle.ob_store.proofs.seats.Seats.new.Goals as goal
 
 pub returns : goal.returns
 returns c = ap places_of c.in_ok-new.ensures ∙ places_vacant c.args.slots
 
 pub invariant_of-result : goal.invariant_of-result
-invariant_of-result c = subst (λ (s : Slots Seat). IsOwned s.bodies c.in_ok-new-2.field-0) (sym c.in_ok-new.ensures) (rw c.in_ok-new-2.ensures (owned_none c.args.slots c.args.threads c.requires))
+invariant_of-result c = record {
+  owned = subst (λ (s : Slots Seat). IsOwned s.bodies c.in_ok-new-2.field-0) (sym c.in_ok-new.ensures) (rw c.in_ok-new-2.ensures (owned_none c.args.slots c.args.threads c.requires));
+  timed = subst (λ (s : Slots Seat). c.in_ok-new-3.field-0 ≡ map seat_due s.bodies) (sym c.in_ok-new.ensures) (c.in_ok-new-3.ensures ∙ timed_none c.args.slots);
+}

@@ -1,4 +1,4 @@
-use Rattle.std.proofs.Common.{◌≡◌, ◌∙◌, ap, sym, subst, get_or, None}
+use Rattle.std.proofs.Common.{◌≡◌, ◌∙◌, ap, sym, subst, get_or, map, None}
 use Rattle.ob_store.specs.Objects.{Places, places_of, without_seat}
 use Rattle.ob_store.proofs.SeatLaws.{places_removed}
 use Rattle.std.specs.Prelude.{IsSome}
@@ -6,6 +6,8 @@ use Rattle.ob_arena.specs.Slots.{Slots}
 use Rattle.ob_store.specs.declared.seat.Seat.{Seat}
 use Rattle.ob_store.specs.Owners.{IsOwned}
 use Rattle.ob_store.proofs.OwnerLaws.{object_within, owned_removed}
+use Rattle.ob_store.specs.Timers.{seat_due}
+use Rattle.ob_store.proofs.TimerLaws.{timed_removed}
 use Rattle.ob_store.proofs.seats.Seats.remove.Goals as goal
 
 pub returns-clause-value : goal.returns-clause-value
@@ -15,5 +17,8 @@ pub invariant_of-self : goal.invariant_of-self
 invariant_of-self c =
     let there = subst (λ (p : Places). IsSome (get_or p.objects c.args.slot None)) (sym c.self.view_is) c.requires.there in
     let ended = subst (λ (p : Places). get_or p.seen.bodies c.args.slot None ≡ None) (sym c.self.view_is) c.requires.ended in
-    subst (λ (s : Slots Seat). IsOwned s.bodies c.self.inside.owners) (sym c.take.ensures.after)
-    (owned_removed c.self.inside.arena.bodies c.self.inside.owners c.args.slot c.self.invariant ended (object_within c.self.inside.arena c.args.slot there))
+    record {
+      owned = subst (λ (s : Slots Seat). IsOwned s.bodies c.self.inside.owners) (sym c.take.ensures.after)
+          (owned_removed c.self.inside.arena.bodies c.self.inside.owners c.args.slot c.self.invariant.owned ended (object_within c.self.inside.arena c.args.slot there));
+      timed = subst (λ (s : Slots Seat). c.self.inside.timers ≡ map seat_due s.bodies) (sym c.take.ensures.after) (timed_removed c.self.inside.arena.bodies c.self.inside.timers c.args.slot c.self.invariant.timed ended);
+    }

@@ -38,7 +38,7 @@ invariant_of-self g c =
     let before = state_of s.limits s.lives s.tables s.objects s.waits in
     let begins = way_begins s.limits s.lives s.tables s.objects s.waits s.names.rows c.self.invariant c.kept.ensures in
     let way = c.leave_process.ensures.way s.objects.keeper (thread_ended before c.args.thread) (c.end_one.ensures.way s.objects.keeper before begins) in
-    way_kept s.objects.keeper s.limits c.leave_process.new.lives c.leave_process.new.tables c.leave_process.new.objects c.settle.new.objects c.end_one.new.waits c.settle.new.waits c.leave_process.new.names.rows (unless_threads (thread_ended before c.args.thread) c.args.process) way c.settle.ensures.value c.settle.ensures.limit c.settle.ensures.rest (record { room = c.settle.ensures.room s.limits.max_recursion way.sound.room; settled = c.settle.ensures.settled })
+    way_kept s.objects.keeper s.limits c.leave_process.new.lives c.leave_process.new.tables c.leave_process.new.objects c.settle.new.objects c.end_one.new.waits c.settle.new.waits c.leave_process.new.names.rows (unless_threads (thread_ended before c.args.thread) c.args.process) way c.settle.ensures.value c.settle.ensures.limit c.settle.ensures.clock c.settle.ensures.rest (record { room = c.settle.ensures.room s.limits.max_recursion way.sound.room; settled = c.settle.ensures.settled })
 
 pub returns-clause-state : goal.returns-clause-state
 returns-clause-state g c =
@@ -46,7 +46,7 @@ returns-clause-state g c =
     let before = state_of s.limits s.lives s.tables s.objects s.waits in
     let begins = way_begins s.limits s.lives s.tables s.objects s.waits s.names.rows c.self.invariant c.kept.ensures in
     let way = c.leave_process.ensures.way s.objects.keeper (thread_ended before c.args.thread) (c.end_one.ensures.way s.objects.keeper before begins) in
-    way_state s.objects.keeper s.limits c.leave_process.new.lives c.leave_process.new.tables c.leave_process.new.objects c.settle.new.objects c.end_one.new.waits c.settle.new.waits c.leave_process.new.names.rows (unless_threads (thread_ended before c.args.thread) c.args.process) way c.settle.ensures.value c.settle.ensures.limit c.settle.ensures.rest (record { room = c.settle.ensures.room s.limits.max_recursion way.sound.room; settled = c.settle.ensures.settled })
+    way_state s.objects.keeper s.limits c.leave_process.new.lives c.leave_process.new.tables c.leave_process.new.objects c.settle.new.objects c.end_one.new.waits c.settle.new.waits c.leave_process.new.names.rows (unless_threads (thread_ended before c.args.thread) c.args.process) way c.settle.ensures.value c.settle.ensures.limit c.settle.ensures.clock c.settle.ensures.rest (record { room = c.settle.ensures.room s.limits.max_recursion way.sound.room; settled = c.settle.ensures.settled })
     ∙ ap (λ (w : Whole). settled (left w.state c.args.process c.args.thread)) c.self.view_is
 
 pub returns-clause-keeper : goal.returns-clause-keeper
@@ -55,7 +55,7 @@ returns-clause-keeper g c =
     let before = state_of s.limits s.lives s.tables s.objects s.waits in
     let begins = way_begins s.limits s.lives s.tables s.objects s.waits s.names.rows c.self.invariant c.kept.ensures in
     let way = c.leave_process.ensures.way s.objects.keeper (thread_ended before c.args.thread) (c.end_one.ensures.way s.objects.keeper before begins) in
-    way_keeper s.objects.keeper s.limits c.leave_process.new.lives c.leave_process.new.tables c.leave_process.new.objects c.settle.new.objects c.end_one.new.waits c.settle.new.waits c.leave_process.new.names.rows (unless_threads (thread_ended before c.args.thread) c.args.process) way c.settle.ensures.value c.settle.ensures.limit c.settle.ensures.rest (record { room = c.settle.ensures.room s.limits.max_recursion way.sound.room; settled = c.settle.ensures.settled })
+    way_keeper s.objects.keeper s.limits c.leave_process.new.lives c.leave_process.new.tables c.leave_process.new.objects c.settle.new.objects c.end_one.new.waits c.settle.new.waits c.leave_process.new.names.rows (unless_threads (thread_ended before c.args.thread) c.args.process) way c.settle.ensures.value c.settle.ensures.limit c.settle.ensures.clock c.settle.ensures.rest (record { room = c.settle.ensures.room s.limits.max_recursion way.sound.room; settled = c.settle.ensures.settled })
     ∙ ap (λ (w : Whole). opened w.keeper) c.self.view_is
 
 pub settle-requires-clause-enough : goal.settle-requires-clause-enough

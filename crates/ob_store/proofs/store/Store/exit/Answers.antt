@@ -30,7 +30,7 @@ invariant_of-self g c =
     let before = state_of s.limits s.lives s.tables s.objects s.waits in
     let begins = way_begins s.limits s.lives s.tables s.objects s.waits s.names.rows c.self.invariant c.kept.ensures in
     let way = c.end_process.ensures.way s.objects.keeper (threads_ended before c.args.process (length s.lives.threads)) (c.end_all.ensures.way s.objects.keeper before begins) in
-    way_kept s.objects.keeper s.limits c.end_process.new.lives c.end_process.new.tables c.end_process.new.objects c.settle.new.objects c.end_all.new.waits c.settle.new.waits c.end_process.new.names.rows (process_ended (threads_ended before c.args.process (length s.lives.threads)) c.args.process) way c.settle.ensures.value c.settle.ensures.limit c.settle.ensures.rest (record { room = c.settle.ensures.room s.limits.max_recursion way.sound.room; settled = c.settle.ensures.settled })
+    way_kept s.objects.keeper s.limits c.end_process.new.lives c.end_process.new.tables c.end_process.new.objects c.settle.new.objects c.end_all.new.waits c.settle.new.waits c.end_process.new.names.rows (process_ended (threads_ended before c.args.process (length s.lives.threads)) c.args.process) way c.settle.ensures.value c.settle.ensures.limit c.settle.ensures.clock c.settle.ensures.rest (record { room = c.settle.ensures.room s.limits.max_recursion way.sound.room; settled = c.settle.ensures.settled })
 
 pub returns-clause-state : goal.returns-clause-state
 returns-clause-state g c =
@@ -38,7 +38,7 @@ returns-clause-state g c =
     let before = state_of s.limits s.lives s.tables s.objects s.waits in
     let begins = way_begins s.limits s.lives s.tables s.objects s.waits s.names.rows c.self.invariant c.kept.ensures in
     let way = c.end_process.ensures.way s.objects.keeper (threads_ended before c.args.process (length s.lives.threads)) (c.end_all.ensures.way s.objects.keeper before begins) in
-    way_state s.objects.keeper s.limits c.end_process.new.lives c.end_process.new.tables c.end_process.new.objects c.settle.new.objects c.end_all.new.waits c.settle.new.waits c.end_process.new.names.rows (process_ended (threads_ended before c.args.process (length s.lives.threads)) c.args.process) way c.settle.ensures.value c.settle.ensures.limit c.settle.ensures.rest (record { room = c.settle.ensures.room s.limits.max_recursion way.sound.room; settled = c.settle.ensures.settled })
+    way_state s.objects.keeper s.limits c.end_process.new.lives c.end_process.new.tables c.end_process.new.objects c.settle.new.objects c.end_all.new.waits c.settle.new.waits c.end_process.new.names.rows (process_ended (threads_ended before c.args.process (length s.lives.threads)) c.args.process) way c.settle.ensures.value c.settle.ensures.limit c.settle.ensures.clock c.settle.ensures.rest (record { room = c.settle.ensures.room s.limits.max_recursion way.sound.room; settled = c.settle.ensures.settled })
     ∙ ap (λ (w : Whole). settled (exited w.state c.args.process)) c.self.view_is
 
 pub returns-clause-keeper : goal.returns-clause-keeper
@@ -47,7 +47,7 @@ returns-clause-keeper g c =
     let before = state_of s.limits s.lives s.tables s.objects s.waits in
     let begins = way_begins s.limits s.lives s.tables s.objects s.waits s.names.rows c.self.invariant c.kept.ensures in
     let way = c.end_process.ensures.way s.objects.keeper (threads_ended before c.args.process (length s.lives.threads)) (c.end_all.ensures.way s.objects.keeper before begins) in
-    way_keeper s.objects.keeper s.limits c.end_process.new.lives c.end_process.new.tables c.end_process.new.objects c.settle.new.objects c.end_all.new.waits c.settle.new.waits c.end_process.new.names.rows (process_ended (threads_ended before c.args.process (length s.lives.threads)) c.args.process) way c.settle.ensures.value c.settle.ensures.limit c.settle.ensures.rest (record { room = c.settle.ensures.room s.limits.max_recursion way.sound.room; settled = c.settle.ensures.settled })
+    way_keeper s.objects.keeper s.limits c.end_process.new.lives c.end_process.new.tables c.end_process.new.objects c.settle.new.objects c.end_all.new.waits c.settle.new.waits c.end_process.new.names.rows (process_ended (threads_ended before c.args.process (length s.lives.threads)) c.args.process) way c.settle.ensures.value c.settle.ensures.limit c.settle.ensures.clock c.settle.ensures.rest (record { room = c.settle.ensures.room s.limits.max_recursion way.sound.room; settled = c.settle.ensures.settled })
     ∙ ap (λ (w : Whole). opened w.keeper) c.self.view_is
 
 pub settle-requires-clause-enough : goal.settle-requires-clause-enough

@@ -1,0 +1,19 @@
+-- When the timer in each slot is due, and what is kept beside the objects.
+use Rattle.std.specs.Prelude.{◌≡◌, ℕ, List, Option, Some, None, map, slice_set}
+use Rattle.ob_waits.specs.Form.{slot_due}
+use Rattle.ob_store.specs.declared.seat.Seat.{Seat}
+use Rattle.ob_store.specs.Objects.{seat_body}
+use Rattle.ob_store.specs.Owners.{IsOwned}
+
+abbrev pub seat_due : Option Seat → Option ℕ
+seat_due x = slot_due (seat_body x)
+
+-- a body that was due then went
+abbrev pub due_left : List (Option ℕ) → ℕ → Option ℕ → List (Option ℕ)
+due_left dues slot None = dues
+due_left dues slot (Some due) = slice_set dues slot None
+
+-- the mutexes of each thread are counted, and each slot's due moment is known
+pub record AreNoted (seats : List (Option Seat)) (counts : List ℕ) (dues : List (Option ℕ)) : Type 0 where
+  pub owned : IsOwned seats counts
+  pub timed : dues ≡ map seat_due seats

@@ -1,0 +1,96 @@
+ghost use Rattle.std.specs.Prelude.{◌≡◌, ◌≤◌, ℕ, IfNone, IfSome, List, None, Option, false, map, slice_index_or, true};
+ghost use Rattle.ob_waits.specs.declared.wait.Wait.{Wait};
+ghost use Rattle.ob_waits.specs.Deadlines.{is_overdue};
+ghost use Rattle.ob_store.specs.Abandoned.{IsEnough};
+ghost use Rattle.ob_store.specs.Moves.{OnlyCloses};
+ghost use Rattle.ob_store.specs.Objects.{kept_rest};
+ghost use Rattle.ob_store.specs.State.{settled};
+ghost use Rattle.ob_store.specs.Ticks.{lapsed, slot_fired, slot_is_due, ticked};
+
+use crate::abandoned::Abandoned;
+use crate::ending::settle;
+use crate::objects::Objects;
+use crate::store::Store;
+use ob_waits::LAST_MOMENT;
+use pin_core::Id;
+use pin_words::PinKeeper;
+
+/// The timers that are due fire, and their slots are noted. It looks at these alone.
+fn fire_all<K: PinKeeper>(objects: &mut Objects<K>, signaled: &mut Abandoned, now: u64)
+    ensures seen { objects.new.seen ≡ record objects.old.seen { bodies = map (slot_fired now) objects.old.seen.bodies } }
+    ensures rest { kept_rest objects.new ≡ kept_rest objects.old }
+    ensures enough { (waits : List (Option Wait)) → IsEnough signaled.old objects.old.seen.bodies waits → IsEnough signaled.new objects.new.seen.bodies waits }
+    ensures undue { (k : ℕ) → slot_is_due now (slice_index_or objects.new.seen.bodies k None) ≡ false }
+{
+    while let Some(slot) = objects.next_due(now) {
+        signaled.add(Id {
+            slot,
+            generation: 0,
+        });
+        objects.fire_at(slot, now);
+    }
+}
+
+impl<K: PinKeeper> Store<K> {
+    /// The timers that are due fire, and the waits settle.
+    fn fire(&mut self, now: u64)
+        ensures state { self.new.state ≡ settled (record self.old.state { bodies = map (slot_fired now) self.old.state.bodies }) }
+        ensures keeper { OnlyCloses self.old.keeper self.new.keeper }
+        ensures undue { (k : ℕ) → slot_is_due now (slice_index_or self.new.state.bodies k None) ≡ false }
+    {
+        self.abandoned.clear();
+        fire_all(&mut self.objects, &mut self.abandoned, now);
+        // What it says is wanted here.
+        self.objects.kept();
+        settle(&mut self.objects, &mut self.waits, &self.abandoned);
+    }
+
+    /// A pending wait whose deadline isn't after a moment.
+    fn overdue(&mut self, now: u64) -> Option<u32>
+        ensures some { IfSome result (λ wait. is_overdue now (slice_index_or self.old.state.waits wait None) ≡ true) }
+        ensures none { IfNone result ((n : ℕ) → is_overdue now (slice_index_or self.old.state.waits n None) ≡ false) }
+        ensures same { self.new ≡ self.old }
+    {
+        self.waits.overdue(now)
+    }
+
+    /// It is a moment, at which nothing is due and no pending wait's time is up.
+    fn pass_to(&mut self, now: u64)
+        requires later { self.old.state.clock ≤ now }
+        requires last { now ≤ LAST_MOMENT }
+        requires undue { (k : ℕ) → slot_is_due now (slice_index_or self.old.state.bodies k None) ≡ false }
+        requires none { (n : ℕ) → is_overdue now (slice_index_or self.old.state.waits n None) ≡ false }
+        ensures { self.new ≡ record self.old { state = record self.old.state { clock = now } } }
+    {
+        self.waits.pass_to(now);
+    }
+
+    /// Each pending wait whose deadline isn't after a moment, at which nothing is due, is answered with 258, `WAIT_TIMEOUT`.
+    fn lapse(&mut self, now: u64)
+        requires later { self.old.state.clock ≤ now }
+        requires last { now ≤ LAST_MOMENT }
+        requires undue { (k : ℕ) → slot_is_due now (slice_index_or self.old.state.bodies k None) ≡ false }
+        ensures state { self.new.state ≡ settled (lapsed now self.old.state) }
+        ensures keeper { OnlyCloses self.old.keeper self.new.keeper }
+    {
+        // What it says is wanted here, each time.
+        self.kept();
+        while let Some(wait) = self.overdue(now) {
+            self.expire(wait);
+            self.kept();
+        }
+        self.pass_to(now);
+    }
+
+    /// It is a moment now: what is due fires, the waits settle, and then each wait whose time is up is answered. Where nothing is
+    /// due and no time is up, it looks at no timer and no wait; else it costs by what is, and a logarithm.
+    pub fn tick(&mut self, now: u64)
+        requires later { self.old.state.clock ≤ now }
+        requires last { now ≤ LAST_MOMENT }
+        ensures state { self.new.state ≡ ticked now self.old.state }
+        ensures keeper { OnlyCloses self.old.keeper self.new.keeper }
+    {
+        self.fire(now);
+        self.lapse(now);
+    }
+}

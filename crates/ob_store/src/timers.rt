@@ -1,0 +1,71 @@
+ghost use Rattle.std.specs.Prelude.{◌≡◌, ◌<◌, ◌≤◌, ℕ, IfNone, IfOk, IfSome, None, false, true, length, replicate, slice_index_or, slice_set};
+ghost use Rattle.ob_body.specs.Timer.{is_due};
+ghost use Rattle.ob_store.specs.Timers.{due_left};
+
+use least_due::Dues;
+use std::alloc::{AllocError, Global};
+use std::marker::Model;
+
+/// When the timer in each slot is due.
+#[derive(Drop)]
+pub(crate) struct Timers {
+    dues: Dues,
+}
+
+impl Model for Timers {
+    ghost use Rattle.std.specs.Prelude.{◌≤◌, List, Option, ℕ, length};
+
+    ghost Value = { List (Option ℕ) };
+
+    ghost view = { λ t. t.dues };
+
+    ghost invariant = { λ t. length t.dues ≤ 65536 };
+}
+
+impl Timers {
+    /// No timer is set.
+    pub(crate) fn new(alloc: Global, slots: u32) -> Result<Timers, AllocError>
+        requires { slots ≤ 65536 }
+        ensures { IfOk result (λ timers. timers ≡ replicate slots None) }
+    {
+        Ok(Timers {
+            dues: Dues::with_places(alloc, slots as usize)?,
+        })
+    }
+
+    /// A slot whose timer is due. Where none is, that is known at once.
+    pub(crate) fn next_due(&self, now: u64) -> Option<u32>
+        ensures some { IfSome result (λ slot. is_due now (slice_index_or self.now slot None) ≡ true) }
+        ensures none { IfNone result ((k : ℕ) → is_due now (slice_index_or self.now k None) ≡ false) }
+    {
+        let due = self.dues.least()?;
+        if due > now {
+            return None;
+        }
+        let slot = self.dues.least_place()?;
+        Some(slot as u32)
+    }
+
+    /// The timer of a slot was due at one moment, and is at another. Most objects never are.
+    #[inline]
+    pub(crate) fn moved(&mut self, slot: u32, before: Option<u64>, after: Option<u64>)
+        requires there { slot < length self.old }
+        requires was { slice_index_or self.old slot None ≡ before }
+        ensures { self.new ≡ slice_set self.old slot after }
+    {
+        if before != after {
+            self.dues.set(slot as usize, after);
+        }
+    }
+
+    /// The body of a slot went, whose timer was due at a moment, if it was one that was set.
+    #[inline]
+    pub(crate) fn left(&mut self, slot: u32, due: Option<u64>)
+        requires { slot < length self.old }
+        ensures { self.new ≡ due_left self.old slot due }
+    {
+        if due.is_some() {
+            self.dues.set(slot as usize, None);
+        }
+    }
+}
