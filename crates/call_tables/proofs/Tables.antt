@@ -8,7 +8,7 @@ use Rattle.ob_store.specs.State.{State, Whole}
 use Rattle.ob_store.specs.Moves.{OnlyCloses}
 use Rattle.ob_manager.specs.declared.call.Call.{Call}
 use Rattle.ob_manager.specs.declared.reply.Reply.{Reply}
-use Rattle.ob_manager.specs.declared.reply.Reply.TheVariants.{Spawned, Started, Made, Exists, Opened, Duplicated, Closed, Done, Flags, Previous, Code, Pending, Expired, Ended, Exited, Reaped, CountsAre, Refused}
+use Rattle.ob_manager.specs.declared.reply.Reply.TheVariants.{Spawned, Started, Made, Exists, Opened, Duplicated, Closed, Done, Flags, Previous, Code, Pending, Expired, Ticked, Ended, Exited, Reaped, CountsAre, Refused}
 use Rattle.ob_manager.specs.Steps.{Step, does, closes, lacks, Keeps, Publishes}
 
 same_table : (k l : KeeperState) → l ≡ k → l.table ≡ k.table
@@ -43,6 +43,7 @@ keeps_table Done s k l h = closes_table k l h
 keeps_table (Previous count) s k l h = closes_table k l h
 keeps_table (Code code) s k l h = closes_table k l h
 keeps_table (Expired number) s k l h = closes_table k l h
+keeps_table (Ticked now) s k l h = closes_table k l h
 keeps_table (Ended thread) s k l h = closes_table k l h
 keeps_table (Exited process) s k l h = closes_table k l h
 

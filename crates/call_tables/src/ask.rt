@@ -69,6 +69,15 @@ pub enum Ask<'a> {
         /// The greatest count.
         max: i32,
     },
+    /// `Call::MakeTimer`.
+    MakeTimer {
+        /// The calling thread.
+        thread: u32,
+        /// What it asks for.
+        make: Make<'a>,
+        /// Whether only setting it resets it.
+        manual: bool,
+    },
     /// `Call::OpenNamed`.
     OpenNamed {
         /// The calling thread.
@@ -154,6 +163,27 @@ pub enum Ask<'a> {
         /// The handle.
         handle: u32,
     },
+    /// `Call::SetTimer`.
+    SetTimer {
+        /// The calling thread.
+        thread: u32,
+        /// The handle.
+        handle: u32,
+        /// When it is due.
+        due: i64,
+    },
+    /// `Call::CancelTimer`.
+    CancelTimer {
+        /// The calling thread.
+        thread: u32,
+        /// The handle.
+        handle: u32,
+    },
+    /// `Call::Tick`.
+    Tick {
+        /// The moment that it is.
+        now: u64,
+    },
     /// `Call::WaitFor`.
     WaitFor {
         /// The calling thread.
@@ -223,6 +253,7 @@ impl Ask<'_> {
             | Ask::MakeEvent { .. }
             | Ask::MakeMutex { .. }
             | Ask::MakeSemaphore { .. }
+            | Ask::MakeTimer { .. }
             | Ask::OpenNamed { .. } => true,
             Ask::Duplicate { target, .. } => target.is_some(),
             Ask::WaitFor { .. } => matches!(reply, Reply::Pending { .. }),
@@ -288,6 +319,18 @@ impl Ask<'_> {
                     max,
                 })
             }
+            Ask::MakeTimer {
+                thread,
+                make,
+                manual,
+            } => {
+                let make = making(alloc, make)?;
+                Ok(Call::MakeTimer {
+                    thread,
+                    make,
+                    manual,
+                })
+            }
             Ask::OpenNamed {
                 thread,
                 kind,
@@ -348,6 +391,17 @@ impl Ask<'_> {
                 count,
             }),
             Ask::ReleaseMutex { thread, handle } => Ok(Call::ReleaseMutex { thread, handle }),
+            Ask::SetTimer {
+                thread,
+                handle,
+                due,
+            } => Ok(Call::SetTimer {
+                thread,
+                handle,
+                due,
+            }),
+            Ask::CancelTimer { thread, handle } => Ok(Call::CancelTimer { thread, handle }),
+            Ask::Tick { now } => Ok(Call::Tick { now }),
             Ask::WaitFor {
                 thread,
                 mode,

@@ -6,6 +6,8 @@ mod flags;
 mod pinning;
 mod playing;
 mod refusing;
+mod schedules;
+mod timing;
 mod waiting;
 
 use call_tables::Ask::{

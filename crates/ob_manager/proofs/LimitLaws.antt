@@ -24,14 +24,14 @@ use Rattle.ob_manager.specs.declared.call.Call.TheVariants as calls
 use Rattle.ob_manager.specs.declared.making.Making.{Making}
 use Rattle.ob_manager.specs.declared.creating.New.{New}
 use Rattle.ob_manager.specs.declared.reply.Reply.{Reply}
+use Rattle.ob_manager.specs.declared.reply.Reply.TheVariants as reply
 use Rattle.ob_manager.specs.declared.waiting.Timeout.{Timeout}
-use Rattle.ob_manager.specs.declared.waiting.Timeout.TheVariants.{Zero, Infinite}
 use Rattle.ob_manager.specs.Outcomes.{Outcome, ◌>>=◌, or_refuse, refuse_if}
 use Rattle.ob_manager.specs.Checks.{caller, found}
-use Rattle.ob_manager.specs.Creating.{create, created, named_object, new_event, new_handle, new_mutex, new_object, new_semaphore}
+use Rattle.ob_manager.specs.Creating.{create, created, named_object, new_event, new_handle, new_mutex, new_object, new_semaphore, new_timer}
 use Rattle.ob_manager.specs.Copying.{copied_to, is_stuck, is_wrong, leaves, with_source, without_source}
 use Rattle.ob_manager.specs.Reaping.{reap}
-use Rattle.ob_manager.specs.Waiting.{satisfied, shown, unsatisfied, wait_on}
+use Rattle.ob_manager.specs.Waiting.{deadline_in, is_zero, pending, satisfied, shown, unsatisfied, wait_on}
 use Rattle.ob_manager.specs.Steps.{Step, does, closes, lacks, final, outcome_of}
 
 -- whether what a part of a call comes to has these limits
@@ -89,8 +89,14 @@ create_keeps : (s : State) (t : ℕ) (m : Making) (what : Result New Fault) → 
 create_keeps s t m what = search (then_keeps, created_keeps)
 
 unsatisfied_keeps : (s : State) (t : ℕ) (mode : Mode) (timeout : Timeout) (ids : List Id) → Keeps s.limits (unsatisfied s t mode timeout ids)
-unsatisfied_keeps s t mode Zero ids = refl
-unsatisfied_keeps s t mode Infinite ids = search (then_keeps)
+unsatisfied_keeps s t mode timeout ids = by (is_zero timeout)
+  where
+    becomes : Keeps s.limits (pending s t mode (deadline_in s.clock timeout) ids)
+    becomes = search (then_keeps)
+
+    by : (c : Bool) → Keeps s.limits (cond c (Ok (record { reply = reply.Code 258; state = s })) (pending s t mode (deadline_in s.clock timeout) ids))
+    by true = refl
+    by false = becomes
 
 wait_keeps : (s : State) (t : ℕ) (mode : Mode) (timeout : Timeout) (ids : List Id) → Keeps s.limits (wait_on s t mode timeout ids)
 wait_keeps s t mode timeout ids = search (then_keeps, either_keeps)
@@ -129,6 +135,7 @@ outcome_keeps s (calls.StartThread process) reply = search (then_keeps)
 outcome_keeps s (calls.MakeEvent t m manual set) reply = create_keeps s t m (Ok (new_event manual set))
 outcome_keeps s (calls.MakeMutex t m owned) reply = create_keeps s t m (Ok (new_mutex t owned))
 outcome_keeps s (calls.MakeSemaphore t m initial max) reply = create_keeps s t m (new_semaphore initial max)
+outcome_keeps s (calls.MakeTimer t m manual) reply = create_keeps s t m (Ok (new_timer manual))
 outcome_keeps s (calls.OpenNamed t k mask inherit text) reply = search (then_keeps, state_then, handle_keeps)
 outcome_keeps s (calls.Duplicate t source h target mask inherit options) reply =
     then_keeps s.limits (caller s t) _ (λ p. then_keeps s.limits (or_refuse (get_or s.processes source None) fault.Parameter) _ (λ session. then_keeps s.limits (refuse_if (is_wrong options target) fault.Parameter) _ (λ tested.
@@ -140,6 +147,9 @@ outcome_keeps s (calls.SetEvent t h) reply = search (then_keeps)
 outcome_keeps s (calls.ResetEvent t h) reply = search (then_keeps)
 outcome_keeps s (calls.ReleaseSemaphore t h count) reply = search (then_keeps) depth 8
 outcome_keeps s (calls.ReleaseMutex t h) reply = search (then_keeps)
+outcome_keeps s (calls.SetTimer t h due) reply = search (then_keeps)
+outcome_keeps s (calls.CancelTimer t h) reply = search (then_keeps)
+outcome_keeps s (calls.Tick now) reply = search (then_keeps)
 outcome_keeps s (calls.WaitFor t mode timeout handles) reply = search (then_keeps, wait_keeps)
 outcome_keeps s (calls.WaitResult n) reply = search (then_keeps, shown_limits)
 outcome_keeps s (calls.Expire n) reply = search (then_keeps)

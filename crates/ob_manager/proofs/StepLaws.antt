@@ -10,7 +10,7 @@ use Rattle.ob_rights.specs.declared.rights.Rights.{Rights}
 use Rattle.ob_rights.specs.Rights.{within}
 use Rattle.ob_tables.specs.declared.entry.Entry.{Entry}
 use Rattle.ob_body.specs.declared.body.Body.{Body}
-use Rattle.ob_body.specs.declared.body.Body.TheVariants.{Event, Mutex, Semaphore}
+use Rattle.ob_body.specs.declared.body.Body.TheVariants.{Event, Mutex, Semaphore, Timer}
 use Rattle.ob_body.specs.Body.{kind_of, post_answer, unlock_answer}
 use Rattle.ob_body.specs.Mutex as mutex
 use Rattle.ob_body.specs.Semaphore as semaphore
@@ -25,14 +25,14 @@ use Rattle.ob_manager.specs.declared.call.Call.TheVariants as calls
 use Rattle.ob_manager.specs.declared.making.Making.{Making}
 use Rattle.ob_manager.specs.declared.creating.New.{New}
 use Rattle.ob_manager.specs.declared.reply.Reply.{Reply}
+use Rattle.ob_manager.specs.declared.reply.Reply.TheVariants as reply
 use Rattle.ob_manager.specs.Outcomes.{Outcome, ◌>>=◌, or_refuse, refuse_if}
 use Rattle.ob_manager.specs.Checks.{caller, found, if_kind, same_kind}
-use Rattle.ob_manager.specs.Creating.{create, created, name_in, named_object, new_event, new_handle, new_mutex, new_object, new_semaphore, own_name, room_for, semaphore_of}
+use Rattle.ob_manager.specs.Creating.{create, created, name_in, named_object, new_event, new_handle, new_mutex, new_object, new_semaphore, new_timer, own_name, room_for, semaphore_of}
 use Rattle.ob_manager.specs.Copying.{admitted, asked_rights, copied_to, copy_rights, is_stuck, is_wrong, keeps_rights, leaves, with_source, without_source}
 use Rattle.ob_manager.specs.Reaping.{if_ended}
-use Rattle.ob_manager.specs.Waiting.{all_found, objects_of, satisfied, shown, unsatisfied, wait_on}
+use Rattle.ob_manager.specs.Waiting.{all_found, deadline_in, is_zero, objects_of, pending, satisfied, shown, unsatisfied, wait_on}
 use Rattle.ob_manager.specs.declared.waiting.Timeout.{Timeout}
-use Rattle.ob_manager.specs.declared.waiting.Timeout.TheVariants.{Zero, Infinite}
 use Rattle.ob_waits.specs.declared.wait.Mode.{Mode}
 use Rattle.ob_waits.specs.declared.wait.WaitState.{WaitState}
 use Rattle.ob_waits.specs.declared.wait.WaitState.TheVariants.{Pending, Answered}
@@ -80,6 +80,7 @@ kind_wants k (Some b) = by (same_kind (kind_of b) k)
 post_wants : (n : ℕ) (b : Body) → wants (post_answer n b) ≡ false
 post_wants n (Event e) = refl
 post_wants n (Mutex m) = refl
+post_wants n (Timer t) = refl
 post_wants n (Semaphore s) = by (semaphore.is_past n s)
   where
     by : (c : Bool) → wants (cond c (Err fault.Posts) (Ok s.count)) ≡ false
@@ -89,6 +90,7 @@ post_wants n (Semaphore s) = by (semaphore.is_past n s)
 unlock_wants : (t : ℕ) (b : Body) → wants (unlock_answer t b) ≡ false
 unlock_wants t (Event e) = refl
 unlock_wants t (Semaphore s) = refl
+unlock_wants t (Timer m) = refl
 unlock_wants t (Mutex m) = by (mutex.is_owner t m.owner)
   where
     by : (c : Bool) → wants {A = Unit {0}} (cond c (Ok (tt {0})) (Err fault.NotOwner)) ≡ false
@@ -161,8 +163,14 @@ objects_wants : (s : State) (p : ℕ) (handles : List ℕ) → wants (objects_of
 objects_wants s p handles = search (then_wants, all_wants, refuse_wants)
 
 unsatisfied_answers : (s : State) (t : ℕ) (mode : Mode) (timeout : Timeout) (ids : List Id) → answers (unsatisfied s t mode timeout ids) ≡ false
-unsatisfied_answers s t mode Zero ids = refl
-unsatisfied_answers s t mode Infinite ids = search (andThen, refuse_wants)
+unsatisfied_answers s t mode timeout ids = by (is_zero timeout)
+  where
+    becomes : answers (pending s t mode (deadline_in s.clock timeout) ids) ≡ false
+    becomes = search (andThen, refuse_wants)
+
+    by : (c : Bool) → answers (cond c (Ok (record { reply = reply.Code 258; state = s })) (pending s t mode (deadline_in s.clock timeout) ids)) ≡ false
+    by true = refl
+    by false = becomes
 
 wait_answers : (s : State) (t : ℕ) (mode : Mode) (timeout : Timeout) (ids : List Id) → answers (wait_on s t mode timeout ids) ≡ false
 wait_answers s t mode timeout ids = search (andThen, refuse_wants, ready_answers)
@@ -210,6 +218,7 @@ outcome_answers s (calls.StartThread process) reply = search (andThen, or_wants,
 outcome_answers s (calls.MakeEvent t m manual set) reply = create_answers s t m (Ok (new_event manual set)) refl
 outcome_answers s (calls.MakeMutex t m owned) reply = create_answers s t m (Ok (new_mutex t owned)) refl
 outcome_answers s (calls.MakeSemaphore t m initial max) reply = create_answers s t m (new_semaphore initial max) (semaphore_wants initial max)
+outcome_answers s (calls.MakeTimer t m manual) reply = create_answers s t m (Ok (new_timer manual)) refl
 outcome_answers s (calls.OpenNamed t k mask inherit text) reply = search (andThen, caller_wants, name_wants, or_wants, handle_wants)
 outcome_answers s (calls.Duplicate t source h target mask inherit options) reply =
     andThen (caller s t) _ (caller_wants s t) (λ p. andThen (or_refuse (get_or s.processes source None) fault.Parameter) _ (or_wants _ fault.Parameter refl) (λ session.
@@ -222,6 +231,9 @@ outcome_answers s (calls.SetEvent t h) reply = search (andThen, caller_wants, fo
 outcome_answers s (calls.ResetEvent t h) reply = search (andThen, caller_wants, found_wants, kind_wants, refuse_wants)
 outcome_answers s (calls.ReleaseSemaphore t h count) reply = search (andThen, caller_wants, or_wants, found_wants, kind_wants, refuse_wants, post_wants) depth 8
 outcome_answers s (calls.ReleaseMutex t h) reply = search (andThen, caller_wants, found_wants, kind_wants, unlock_wants)
+outcome_answers s (calls.SetTimer t h due) reply = search (andThen, caller_wants, found_wants, kind_wants, refuse_wants)
+outcome_answers s (calls.CancelTimer t h) reply = search (andThen, caller_wants, found_wants, kind_wants, refuse_wants)
+outcome_answers s (calls.Tick now) reply = search (andThen, refuse_wants)
 outcome_answers s (calls.WaitFor t mode timeout handles) reply = search (andThen, caller_wants, refuse_wants, objects_wants, wait_answers)
 outcome_answers s (calls.WaitResult n) reply = search (andThen, or_wants, shown_answers)
 outcome_answers s (calls.Expire n) reply = search (andThen, refuse_wants)

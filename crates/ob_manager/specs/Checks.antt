@@ -4,7 +4,7 @@ use Rattle.pin_core.specs.declared.id.Id.{Id}
 use Rattle.ob_rights.specs.declared.fault.Fault.{Fault}
 use Rattle.ob_rights.specs.declared.fault.Fault.TheVariants as fault
 use Rattle.ob_rights.specs.declared.kind.Kind.{Kind}
-use Rattle.ob_rights.specs.declared.kind.Kind.TheVariants.{Event, Mutex, Semaphore}
+use Rattle.ob_rights.specs.declared.kind.Kind.TheVariants.{Event, Mutex, Semaphore, Timer}
 use Rattle.ob_rights.specs.declared.rights.Rights.{Rights}
 use Rattle.ob_rights.specs.Rights.{within}
 use Rattle.ob_body.specs.declared.body.Body.{Body}
@@ -36,12 +36,19 @@ abbrev pub same_kind : Kind → Kind → Bool
 same_kind Event Event = true
 same_kind Event Mutex = false
 same_kind Event Semaphore = false
+same_kind Event Timer = false
 same_kind Mutex Event = false
 same_kind Mutex Mutex = true
 same_kind Mutex Semaphore = false
+same_kind Mutex Timer = false
 same_kind Semaphore Event = false
 same_kind Semaphore Mutex = false
 same_kind Semaphore Semaphore = true
+same_kind Semaphore Timer = false
+same_kind Timer Event = false
+same_kind Timer Mutex = false
+same_kind Timer Semaphore = false
+same_kind Timer Timer = true
 
 -- the body of an object of a kind, else 6
 abbrev pub if_kind : Kind → Option Body → Result Body Fault

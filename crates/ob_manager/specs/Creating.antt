@@ -109,6 +109,9 @@ mutex_descr = record { kind = kind.Mutex; manual = false; max = 0 }
 abbrev pub semaphore_descr : ℕ → Descr
 semaphore_descr max = record { kind = kind.Semaphore; manual = false; max = max }
 
+abbrev pub timer_descr : Bool → Descr
+timer_descr manual = record { kind = kind.Timer; manual = manual; max = 0 }
+
 abbrev pub new_event : Bool → Bool → New
 new_event manual set = record { descr = event_descr manual; body = body.Event (record { manual = manual; set = set }) }
 
@@ -128,6 +131,10 @@ new_semaphore initial max = do
   most ← or_refuse (positive max) fault.Parameter
   semaphore_of count most
 
+-- a timer that isn't signaled and isn't set
+abbrev pub new_timer : Bool → New
+new_timer manual = record { descr = timer_descr manual; body = body.Timer (record { manual = manual; signaled = false; due = None }) }
+
 abbrev pub create_event : State → ℕ → Making → Bool → Bool → Result Outcome Fault
 create_event s thread making manual set = create s thread making (Ok (new_event manual set))
 
@@ -136,6 +143,9 @@ create_mutex s thread making owned = create s thread making (Ok (new_mutex threa
 
 abbrev pub create_semaphore : State → ℕ → Making → ℤ → ℤ → Result Outcome Fault
 create_semaphore s thread making initial max = create s thread making (new_semaphore initial max)
+
+abbrev pub create_timer : State → ℕ → Making → Bool → Result Outcome Fault
+create_timer s thread making manual = create s thread making (Ok (new_timer manual))
 
 -- 2 for a name that no object has, whatever the rights are
 abbrev pub open_named : State → ℕ → Kind → Rights → Bool → List ℕ → Result Outcome Fault

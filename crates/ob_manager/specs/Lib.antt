@@ -6,6 +6,7 @@ pub mod Creating
 pub mod Handles
 pub mod Copying
 pub mod Signaling
+pub mod Timing
 pub mod Counting
 pub mod Ending
 pub mod Reaping

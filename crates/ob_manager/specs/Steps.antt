@@ -6,7 +6,7 @@ use Rattle.pin_words.specs.declared.pin_keeper.Reclaim.TheVariants as reclaim
 use Rattle.ob_rights.specs.declared.fault.Fault.{Fault}
 use Rattle.ob_rights.specs.declared.fault.Fault.TheVariants as fault
 use Rattle.ob_manager.specs.declared.reply.Reply.{Reply}
-use Rattle.ob_manager.specs.declared.reply.Reply.TheVariants.{Spawned, Started, Made, Exists, Opened, Duplicated, Closed, Done, Flags, Previous, Code, Pending, Expired, Ended, Exited, Reaped, CountsAre, Refused}
+use Rattle.ob_manager.specs.declared.reply.Reply.TheVariants.{Spawned, Started, Made, Exists, Opened, Duplicated, Closed, Done, Flags, Previous, Code, Pending, Expired, Ticked, Ended, Exited, Reaped, CountsAre, Refused}
 use Rattle.ob_manager.specs.declared.call.Call.{Call}
 use Rattle.ob_manager.specs.declared.call.Call.TheVariants as calls
 use Rattle.ob_store.specs.Objects.{Object}
@@ -14,10 +14,11 @@ use Rattle.ob_store.specs.State.{State, Whole}
 use Rattle.ob_store.specs.Moves.{OnlyCloses}
 use Rattle.ob_manager.specs.Outcomes.{Outcome, Refuses}
 use Rattle.ob_manager.specs.Processes.{spawn, child, thread}
-use Rattle.ob_manager.specs.Creating.{create_event, create_mutex, create_semaphore, open_named}
+use Rattle.ob_manager.specs.Creating.{create_event, create_mutex, create_semaphore, create_timer, open_named}
 use Rattle.ob_manager.specs.Handles.{close, handle_flags, set_handle_flags}
 use Rattle.ob_manager.specs.Copying.{duplicate, is_copy}
 use Rattle.ob_manager.specs.Signaling.{set_event, reset_event, release_semaphore, release_mutex}
+use Rattle.ob_manager.specs.Timing.{set_timer, cancel_timer, tick}
 use Rattle.ob_manager.specs.Counting.{counts}
 use Rattle.ob_manager.specs.Ending.{end_thread, exit}
 use Rattle.ob_manager.specs.Reaping.{reap}
@@ -36,6 +37,7 @@ outcome_of s (calls.StartThread process) reply = thread s process
 outcome_of s (calls.MakeEvent thread making manual set) reply = create_event s thread making manual set
 outcome_of s (calls.MakeMutex thread making owned) reply = create_mutex s thread making owned
 outcome_of s (calls.MakeSemaphore thread making initial max) reply = create_semaphore s thread making initial max
+outcome_of s (calls.MakeTimer thread making manual) reply = create_timer s thread making manual
 outcome_of s (calls.OpenNamed thread kind mask inherit text) reply = open_named s thread kind mask inherit text
 outcome_of s (calls.Duplicate thread source handle target mask inherit options) reply = duplicate s thread source handle target mask inherit options
 outcome_of s (calls.CloseHandle thread handle) reply = close s thread handle
@@ -45,6 +47,9 @@ outcome_of s (calls.SetEvent thread handle) reply = set_event s thread handle
 outcome_of s (calls.ResetEvent thread handle) reply = reset_event s thread handle
 outcome_of s (calls.ReleaseSemaphore thread handle count) reply = release_semaphore s thread handle count
 outcome_of s (calls.ReleaseMutex thread handle) reply = release_mutex s thread handle
+outcome_of s (calls.SetTimer thread handle due) reply = set_timer s thread handle due
+outcome_of s (calls.CancelTimer thread handle) reply = cancel_timer s thread handle
+outcome_of s (calls.Tick now) reply = tick s now
 outcome_of s (calls.WaitFor thread mode timeout handles) reply = wait s thread mode timeout handles
 outcome_of s (calls.WaitResult number) reply = wait_result s number
 outcome_of s (calls.Expire number) reply = expire s number
@@ -61,6 +66,7 @@ takes_memory s (calls.StartThread process) = true
 takes_memory s (calls.MakeEvent thread making manual set) = true
 takes_memory s (calls.MakeMutex thread making owned) = true
 takes_memory s (calls.MakeSemaphore thread making initial max) = true
+takes_memory s (calls.MakeTimer thread making manual) = true
 takes_memory s (calls.OpenNamed thread kind mask inherit text) = true
 takes_memory s (calls.Duplicate thread source handle target mask inherit options) = is_copy (duplicate s thread source handle target mask inherit options)
 takes_memory s (calls.CloseHandle thread handle) = false
@@ -70,6 +76,9 @@ takes_memory s (calls.SetEvent thread handle) = false
 takes_memory s (calls.ResetEvent thread handle) = false
 takes_memory s (calls.ReleaseSemaphore thread handle count) = false
 takes_memory s (calls.ReleaseMutex thread handle) = false
+takes_memory s (calls.SetTimer thread handle due) = false
+takes_memory s (calls.CancelTimer thread handle) = false
+takes_memory s (calls.Tick now) = false
 takes_memory s (calls.WaitFor thread mode timeout handles) = becomes_pending (wait s thread mode timeout handles)
 takes_memory s (calls.WaitResult number) = false
 takes_memory s (calls.Expire number) = false
@@ -106,6 +115,7 @@ Keeps Done s k k' = OnlyCloses k k'
 Keeps (Previous count) s k k' = OnlyCloses k k'
 Keeps (Code code) s k k' = OnlyCloses k k'
 Keeps (Expired number) s k k' = OnlyCloses k k'
+Keeps (Ticked now) s k k' = OnlyCloses k k'
 Keeps (Ended thread) s k k' = OnlyCloses k k'
 Keeps (Exited process) s k k' = OnlyCloses k k'
 

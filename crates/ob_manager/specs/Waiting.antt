@@ -1,5 +1,5 @@
 -- Waiting for objects, and what becomes of waits.
-use Rattle.std.specs.Prelude.{ℕ, ◌/◌, ◌==◌, ◌||◌, nat_lt, Bool, true, false, not, List, [], ◌∷◌, length, map, None, Result, Ok, Err, if◌then◌else◌, slice_index_or}
+use Rattle.std.specs.Prelude.{ℕ, ◌+◌, ◌*◌, ◌/◌, ◌==◌, ◌||◌, nat_lt, Bool, true, false, not, List, [], ◌∷◌, length, map, Option, Some, None, Result, Ok, Err, if◌then◌else◌, slice_index_or}
 use Rattle.std.specs.List.{list_any, list_all}
 use Rattle.arrayvec.specs.ArrayVec.{ArrayVec}
 use Rattle.pin_core.specs.Holds.{same_id}
@@ -17,7 +17,7 @@ use Rattle.ob_waits.specs.Waits.{code_of, is_pending, list_ready, state_at}
 use Rattle.ob_manager.specs.declared.reply.Reply.{Reply}
 use Rattle.ob_manager.specs.declared.reply.Reply.TheVariants as reply
 use Rattle.ob_manager.specs.declared.waiting.Timeout.{Timeout}
-use Rattle.ob_manager.specs.declared.waiting.Timeout.TheVariants.{Zero, Infinite}
+use Rattle.ob_manager.specs.declared.waiting.Timeout.TheVariants.{Zero, Infinite, Millis}
 use Rattle.ob_store.specs.State.{State, settled}
 use Rattle.ob_store.specs.Waiting.{are_waits_given, with_answer, with_taken, with_wait, without_wait}
 use Rattle.ob_manager.specs.Outcomes.{Outcome, ◌>>=◌, or_refuse, refuse_if}
@@ -75,12 +75,28 @@ is_for_one_twice All ids = has_twice same_id ids
 abbrev pub have_room : State → ℕ → List Id → Bool
 have_room s thread ids = list_all (λ (id : Id). slot_room s.limits.max_recursion thread (slice_index_or s.bodies id.slot None)) ids
 
--- what a wait comes to that isn't satisfied now: 1450 where it would become pending and each wait number was given
-abbrev pub unsatisfied : State → ℕ → Mode → Timeout → List Id → Result Outcome Fault
-unsatisfied s thread mode Zero ids = Ok (record { reply = reply.Code 258; state = s })
-unsatisfied s thread mode Infinite ids = do
+-- whether a wait never becomes pending
+abbrev pub is_zero : Timeout → Bool
+is_zero Zero = true
+is_zero Infinite = false
+is_zero (Millis n) = n == 0
+
+-- the deadline of a wait that becomes pending: 4,294,967,295 milliseconds are none
+abbrev pub deadline_in : ℕ → Timeout → Option ℕ
+deadline_in now Zero = None
+deadline_in now Infinite = None
+deadline_in now (Millis n) = if nat_lt n 4294967295 then Some (now + 10000 * n) else None
+
+-- 1450 where a wait would become pending and each wait number was given
+abbrev pub pending : State → ℕ → Mode → Option ℕ → List Id → Result Outcome Fault
+pending s thread mode deadline ids = do
   _ ← refuse_if (are_waits_given s) fault.Limit
-  Ok (record { reply = reply.Pending (length s.waits); state = settled (with_wait s thread mode ids) })
+  Ok (record { reply = reply.Pending (length s.waits); state = settled (with_wait s thread mode ids deadline) })
+
+-- what a wait comes to that isn't satisfied now
+abbrev pub unsatisfied : State → ℕ → Mode → Timeout → List Id → Result Outcome Fault
+unsatisfied s thread mode timeout ids =
+    if is_zero timeout then Ok (record { reply = reply.Code 258; state = s }) else pending s thread mode (deadline_in s.clock timeout) ids
 
 abbrev pub satisfied : State → ℕ → Mode → List Id → Result Outcome Fault
 satisfied s thread mode ids = Ok (record { reply = reply.Code (code_of mode thread s.bodies ids); state = settled (with_taken s thread mode ids) })

@@ -58,6 +58,15 @@ pub enum Call {
         /// The greatest count.
         max: i32,
     },
+    /// `Manager::create_timer`.
+    MakeTimer {
+        /// The calling thread.
+        thread: u32,
+        /// What it asks for.
+        make: Making,
+        /// Whether only setting it resets it.
+        manual: bool,
+    },
     /// `Manager::open_named`.
     OpenNamed {
         /// The calling thread.
@@ -142,6 +151,27 @@ pub enum Call {
         thread: u32,
         /// The handle.
         handle: u32,
+    },
+    /// `Manager::set_timer`.
+    SetTimer {
+        /// The calling thread.
+        thread: u32,
+        /// The handle.
+        handle: u32,
+        /// When it is due, in units of 100 ns: a moment, or below 0 so many units from now.
+        due: i64,
+    },
+    /// `Manager::cancel_timer`.
+    CancelTimer {
+        /// The calling thread.
+        thread: u32,
+        /// The handle.
+        handle: u32,
+    },
+    /// `Manager::tick`.
+    Tick {
+        /// The moment that it is, in units of 100 ns.
+        now: u64,
     },
     /// `Manager::wait`.
     WaitFor {
@@ -229,6 +259,15 @@ impl Call {
                 initial: *initial,
                 max: *max,
             }),
+            Call::MakeTimer {
+                thread,
+                make,
+                manual,
+            } => Ok(Call::MakeTimer {
+                thread: *thread,
+                make: make.copy(alloc)?,
+                manual: *manual,
+            }),
             Call::OpenNamed {
                 thread,
                 kind,
@@ -299,6 +338,20 @@ impl Call {
                 thread: *thread,
                 handle: *handle,
             }),
+            Call::SetTimer {
+                thread,
+                handle,
+                due,
+            } => Ok(Call::SetTimer {
+                thread: *thread,
+                handle: *handle,
+                due: *due,
+            }),
+            Call::CancelTimer { thread, handle } => Ok(Call::CancelTimer {
+                thread: *thread,
+                handle: *handle,
+            }),
+            Call::Tick { now } => Ok(Call::Tick { now: *now }),
             Call::WaitFor {
                 thread,
                 mode,
@@ -389,6 +442,18 @@ impl Call {
                 && make.is_same(other_make)
                 && *initial == *other_initial
                 && *max == *other_max,
+            (
+                Call::MakeTimer {
+                    thread,
+                    make,
+                    manual,
+                },
+                Call::MakeTimer {
+                    thread: other_thread,
+                    make: other_make,
+                    manual: other_manual,
+                },
+            ) => *thread == *other_thread && make.is_same(other_make) && *manual == *other_manual,
             (
                 Call::OpenNamed {
                     thread,
@@ -499,6 +564,26 @@ impl Call {
                     handle: other_handle,
                 },
             ) => *thread == *other_thread && *handle == *other_handle,
+            (
+                Call::SetTimer {
+                    thread,
+                    handle,
+                    due,
+                },
+                Call::SetTimer {
+                    thread: other_thread,
+                    handle: other_handle,
+                    due: other_due,
+                },
+            ) => *thread == *other_thread && *handle == *other_handle && *due == *other_due,
+            (
+                Call::CancelTimer { thread, handle },
+                Call::CancelTimer {
+                    thread: other_thread,
+                    handle: other_handle,
+                },
+            ) => *thread == *other_thread && *handle == *other_handle,
+            (Call::Tick { now }, Call::Tick { now: other_now }) => *now == *other_now,
             (
                 Call::WaitFor {
                     thread,

@@ -41,7 +41,8 @@ pub fn same_kind(a: Kind, b: Kind) -> bool
     match (a, b) {
         (Kind::Event, Kind::Event)
         | (Kind::Mutex, Kind::Mutex)
-        | (Kind::Semaphore, Kind::Semaphore) => true,
+        | (Kind::Semaphore, Kind::Semaphore)
+        | (Kind::Timer, Kind::Timer) => true,
         _ => false,
     }
 }

@@ -9,7 +9,7 @@ ghost use Rattle.ob_arena.specs.Slots.{is_vacant_at};
 ghost use Rattle.ob_store.specs.State.{handles_of, is_full, vacancy};
 ghost use Rattle.ob_store.specs.Kept.{IsLive, form_in};
 ghost use Rattle.ob_manager.specs.Makings.{making_of};
-ghost use Rattle.ob_manager.specs.Creating.{create, create_event, create_mutex, create_semaphore, created, flags_of, name_in, new_event, new_handle, new_mutex, new_object, new_semaphore, next_handle, open_named, or_all, room_for};
+ghost use Rattle.ob_manager.specs.Creating.{create, create_event, create_mutex, create_semaphore, create_timer, created, flags_of, name_in, new_event, new_handle, new_mutex, new_object, new_semaphore, new_timer, next_handle, open_named, or_all, room_for};
 ghost use Rattle.ob_manager.specs.Outcomes.{Refuses};
 ghost use Rattle.ob_manager.specs.Steps.{GivesOrLacks};
 
@@ -103,6 +103,20 @@ fn new_semaphore(initial: i32, max: i32) -> Result<New, Fault>
         },
         body: Body::new_semaphore(count, most),
     })
+}
+
+/// A new timer.
+fn new_timer(manual: bool) -> New
+    ensures { result ≡ new_timer manual }
+{
+    New {
+        descr: Descr {
+            kind: Kind::Timer,
+            manual,
+            max: 0,
+        },
+        body: Body::new_timer(manual),
+    }
 }
 
 /// What a name that a caller gives stands for in its session.
@@ -329,6 +343,18 @@ pub fn create_semaphore<K: PinKeeper>(
     ensures { GivesOrLacks result store.old store.new (create_semaphore store.old.state thread (making_of make.now) initial max) }
 {
     create(store, thread, make, new_semaphore(initial, max))
+}
+
+/// A new timer, or a handle to the timer that has the name already.
+pub fn create_timer<K: PinKeeper>(
+    store: &mut Store<K>,
+    thread: u32,
+    make: &Make<'_>,
+    manual: bool,
+) -> Result<Reply, Fault>
+    ensures { GivesOrLacks result store.old store.new (create_timer store.old.state thread (making_of make.now) manual) }
+{
+    create(store, thread, make, Ok(new_timer(manual)))
 }
 
 /// A handle to the object of a name.

@@ -29,6 +29,7 @@ mod processes;
 mod reaping;
 mod reply;
 mod signaling;
+mod timing;
 mod waiting;
 
 pub use call::Call;

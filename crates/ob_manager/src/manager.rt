@@ -20,7 +20,8 @@ use crate::making::{Make, Making};
 use crate::reply::Reply;
 use crate::waiting::Timeout;
 use crate::{
-    children, copying, counting, creating, ending, handles, processes, reaping, signaling, waiting,
+    children, copying, counting, creating, ending, handles, processes, reaping, signaling, timing,
+    waiting,
 };
 use ob_name::{NameRef, Rows};
 use ob_rights::{Fault, Kind, Rights};
@@ -170,6 +171,17 @@ impl<K: PinKeeper> Manager<K> {
         reply_of(creating::create_semaphore(&mut self.store, thread, make, initial, max))
     }
 
+    /// A new timer, which isn't signaled and isn't set, as [`create_event`](Manager::create_event) makes an event
+    /// ([CreateWaitableTimer]). Once it is signaled, one that is `manual` stays so until it is set again, and another until it
+    /// satisfies a wait. It is refused in the same way.
+    ///
+    /// [CreateWaitableTimer]: https://learn.microsoft.com/windows/win32/api/synchapi/nf-synchapi-createwaitabletimerw
+    pub fn create_timer(&mut self, thread: u32, make: &Make<'_>, manual: bool) -> Reply
+        ensures { Step self.old (Call.MakeTimer thread (making_of make.now) manual) result self.new }
+    {
+        reply_of(creating::create_timer(&mut self.store, thread, make, manual))
+    }
+
     /// A handle to the object of a name: `Opened` ([OpenEvent]).
     ///
     /// Refused with 87 where the thread isn't live, 170 where it waits; for the name with 206, 87 or 3; 2 where no object has
@@ -312,9 +324,44 @@ impl<K: PinKeeper> Manager<K> {
         reply_of(signaling::release_mutex(&mut self.store, thread, handle))
     }
 
+    /// Sets a timer: `Done` ([SetWaitableTimer]). `due` is a moment in units of 100 ns, or below 0 so many units from now. The
+    /// timer is nonsignaled until then; where the moment isn't after now it is signaled at once, and what waits for it may be
+    /// satisfied.
+    ///
+    /// Refused with 87 where the thread isn't live, 170 where it waits, 6 where there is no such handle or it is no timer's, 5
+    /// without the right MODIFY_STATE.
+    ///
+    /// [SetWaitableTimer]: https://learn.microsoft.com/windows/win32/api/synchapi/nf-synchapi-setwaitabletimer
+    pub fn set_timer(&mut self, thread: u32, handle: u32, due: i64) -> Reply
+        ensures { Step self.old (Call.SetTimer thread handle due) result self.new }
+    {
+        reply_of(timing::set_timer(&mut self.store, thread, handle, due))
+    }
+
+    /// Takes a timer's due moment away; it stays as signaled as it is: `Done` ([CancelWaitableTimer]). It is refused as
+    /// [`set_timer`](Manager::set_timer) is.
+    ///
+    /// [CancelWaitableTimer]: https://learn.microsoft.com/windows/win32/api/synchapi/nf-synchapi-cancelwaitabletimer
+    pub fn cancel_timer(&mut self, thread: u32, handle: u32) -> Reply
+        ensures { Step self.old (Call.CancelTimer thread handle) result self.new }
+    {
+        reply_of(timing::cancel_timer(&mut self.store, thread, handle))
+    }
+
+    /// It is the moment `now`, in units of 100 ns from 0: `Ticked` (*profile*). Each timer that is due becomes signaled, then
+    /// what waits may be satisfied, and then each pending wait whose deadline isn't after `now` is answered with 258. So a signal
+    /// goes before a deadline of the same tick. Where nothing is due it looks at no timer and no wait.
+    ///
+    /// Refused with 87 where `now` is before the moment that it is, or above 9,223,372,036,854,775,807.
+    pub fn tick(&mut self, now: u64) -> Reply
+        ensures { Step self.old (Call.Tick now) result self.new }
+    {
+        reply_of(timing::tick(&mut self.store, now))
+    }
+
     /// Waits for any or all of 1 to 64 objects ([WaitForMultipleObjects]): `Code` where the wait is satisfied at once, and then
-    /// the thread has what satisfies it; else `Code` with 258 for [`Timeout::Zero`], and for [`Timeout::Infinite`] `Pending`
-    /// with the next wait number. A pending wait keeps its objects, and its thread makes no other call until
+    /// the thread has what satisfies it; else `Code` with 258 for [`Timeout::Zero`], and otherwise `Pending` with the next wait
+    /// number, until its time is up. A pending wait keeps its objects, and its thread makes no other call until
     /// [`wait_result`](Manager::wait_result) took the answer (*profile*).
     ///
     /// Refused with 87 where the thread isn't live, 170 where it waits, 87 for no handle, more than 64, or one that stands twice,
@@ -462,6 +509,11 @@ impl<K: PinKeeper> Manager<K> {
                 initial,
                 max,
             } => self.create_semaphore(*thread, &borrowed(make), *initial, *max),
+            Call::MakeTimer {
+                thread,
+                make,
+                manual,
+            } => self.create_timer(*thread, &borrowed(make), *manual),
             Call::OpenNamed {
                 thread,
                 kind,
@@ -496,6 +548,13 @@ impl<K: PinKeeper> Manager<K> {
                 count,
             } => self.release_semaphore(*thread, *handle, *count),
             Call::ReleaseMutex { thread, handle } => self.release_mutex(*thread, *handle),
+            Call::SetTimer {
+                thread,
+                handle,
+                due,
+            } => self.set_timer(*thread, *handle, *due),
+            Call::CancelTimer { thread, handle } => self.cancel_timer(*thread, *handle),
+            Call::Tick { now } => self.tick(*now),
             Call::WaitFor {
                 thread,
                 mode,
@@ -543,6 +602,7 @@ pub(crate) fn reply_of(answer: Result<Reply, Fault>) -> Reply
         Ok(Reply::Code { code }) => Reply::Code { code },
         Ok(Reply::Pending { wait }) => Reply::Pending { wait },
         Ok(Reply::Expired { wait }) => Reply::Expired { wait },
+        Ok(Reply::Ticked { now }) => Reply::Ticked { now },
         Ok(Reply::Ended { thread }) => Reply::Ended { thread },
         Ok(Reply::Exited { process }) => Reply::Exited { process },
         Ok(reply) => reply,

@@ -47,7 +47,7 @@ pub enum Reply {
     },
     /// The handle was closed.
     Closed,
-    /// An event was set or reset, a mutex released, or the flags of a handle were set.
+    /// An event was set or reset, a mutex released, a timer set or cancelled, or the flags of a handle were set.
     Done,
     /// The flags of a handle.
     Flags {
@@ -76,6 +76,11 @@ pub enum Reply {
     Expired {
         /// Its number.
         wait: u32,
+    },
+    /// It is another moment now.
+    Ticked {
+        /// Which, in units of 100 ns.
+        now: u64,
     },
     /// A thread has ended.
     Ended {

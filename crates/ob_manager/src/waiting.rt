@@ -3,7 +3,7 @@ ghost use Rattle.std.specs.List.{list_any};
 ghost use Rattle.ob_waits.specs.Waits as waits;
 ghost use Rattle.ob_waits.specs.Waits.{nowhere, number_of};
 ghost use Rattle.ob_store.specs.State.{handles_of};
-ghost use Rattle.ob_manager.specs.Waiting.{becomes_pending, collected, expire, has_twice, have_room, is_for_one_twice, is_misshapen, lacks_synchronize, objects_of, same_handle, wait, wait_on, wait_result};
+ghost use Rattle.ob_manager.specs.Waiting.{becomes_pending, collected, deadline_in, expire, has_twice, have_room, is_for_one_twice, is_misshapen, is_zero, lacks_synchronize, objects_of, same_handle, wait, wait_on, wait_result};
 ghost use Rattle.ob_manager.specs.Checks.{caller};
 ghost use Rattle.ob_manager.specs.Steps.{Gives, GivesOrLacks};
 ghost use Rattle.pin_core.specs.Holds.{same_id};
@@ -13,7 +13,7 @@ use crate::checks::{caller, found};
 use crate::reply::Reply;
 use arrayvec::ArrayVec;
 use ob_rights::{Fault, Rights, within};
-use ob_store::Store;
+use ob_store::{LAST_MOMENT, Store};
 use ob_tables::Entry;
 use ob_waits::{MAXIMUM_WAIT_OBJECTS, Mode, WAIT_TIMEOUT, WaitState};
 use pin_core::{Id, same_id};
@@ -28,6 +28,8 @@ pub enum Timeout {
     Zero,
     /// Until the wait is satisfied: `INFINITE`.
     Infinite,
+    /// For so many milliseconds, of 10,000 units of time each: 0 is not at all, 4,294,967,295 until the wait is satisfied.
+    Millis(u32),
 }
 
 /// Handles that somebody waits for. A contract sees them as the list that they are.
@@ -209,6 +211,28 @@ fn have_room<K: PinKeeper>(store: &Store<K>, thread: u32, ids: &[Id]) -> bool
     true
 }
 
+/// Whether a wait never becomes pending.
+fn is_zero(timeout: Timeout) -> bool
+    ensures { result ≡ is_zero timeout }
+{
+    match timeout {
+        Timeout::Zero => true,
+        Timeout::Infinite => false,
+        Timeout::Millis(millis) => millis == 0,
+    }
+}
+
+/// The deadline of a wait that becomes pending now.
+fn deadline_in(now: u64, timeout: Timeout) -> Option<u64>
+    requires { now ≤ LAST_MOMENT }
+    ensures { result ≡ deadline_in now timeout }
+{
+    match timeout {
+        Timeout::Millis(millis) if millis < u32::MAX => Some(now + 10_000 * u64::from(millis)),
+        _ => None,
+    }
+}
+
 /// A wait for objects.
 #[inline(always)]
 fn wait_on<K: PinKeeper>(
@@ -237,13 +261,12 @@ fn wait_on<K: PinKeeper>(
     if let Some(code) = store.take_now(thread, mode, ids) {
         return Ok(Reply::Code { code });
     }
-    match timeout {
-        Timeout::Zero => Ok(Reply::Code { code: WAIT_TIMEOUT }),
-        Timeout::Infinite => {
-            let wait = store.add_wait(thread, mode, ids)?;
-            Ok(Reply::Pending { wait })
-        }
+    if is_zero(timeout) {
+        return Ok(Reply::Code { code: WAIT_TIMEOUT });
     }
+    let deadline = deadline_in(store.now(), timeout);
+    let wait = store.add_wait(thread, mode, ids, deadline)?;
+    Ok(Reply::Pending { wait })
 }
 
 /// A thread waits for the object of one handle. It makes no list.

@@ -17,7 +17,7 @@ use Rattle.ob_store.specs.Objects.{Object}
 use Rattle.ob_store.specs.State.{State, Whole, settled}
 use Rattle.ob_manager.specs.declared.call.Call.TheVariants as calls
 use Rattle.ob_manager.specs.declared.reply.Reply.{Reply}
-use Rattle.ob_manager.specs.declared.reply.Reply.TheVariants.{Spawned, Started, Made, Exists, Opened, Duplicated, Closed, Done, Flags, Previous, Code, Pending, Expired, Ended, Exited, Reaped, CountsAre, Refused}
+use Rattle.ob_manager.specs.declared.reply.Reply.TheVariants.{Spawned, Started, Made, Exists, Opened, Duplicated, Closed, Done, Flags, Previous, Code, Pending, Expired, Ticked, Ended, Exited, Reaped, CountsAre, Refused}
 use Rattle.ob_manager.specs.Outcomes.{Outcome, ◌>>=◌}
 use Rattle.ob_manager.specs.Reaping.{IfReaped, if_ended}
 use Rattle.ob_manager.specs.Steps.{Step, does, closes, lacks, final}
@@ -90,6 +90,7 @@ spares w v r r' id (Previous count) step consistent inside held met = tt
 spares w v r r' id (Code code) step consistent inside held met = tt
 spares w v r r' id (Pending number) step consistent inside held met = tt
 spares w v r r' id (Expired number) step consistent inside held met = tt
+spares w v r r' id (Ticked now) step consistent inside held met = tt
 spares w v r r' id (Ended thread) step consistent inside held met = tt
 spares w v r r' id (Exited process) step consistent inside held met = tt
 spares w v r r' id (CountsAre handles waits hold) step consistent inside held met = tt
@@ -116,6 +117,7 @@ spares_none held slot (Previous count) none = tt
 spares_none held slot (Code code) none = tt
 spares_none held slot (Pending number) none = tt
 spares_none held slot (Expired number) none = tt
+spares_none held slot (Ticked now) none = tt
 spares_none held slot (Ended thread) none = tt
 spares_none held slot (Exited process) none = tt
 spares_none held slot (CountsAre handles waits hold) none = tt

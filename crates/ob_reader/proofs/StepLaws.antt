@@ -10,7 +10,7 @@ use Rattle.ob_store.specs.Objects.{Object}
 use Rattle.ob_store.specs.State.{State, Whole}
 use Rattle.ob_manager.specs.declared.call.Call.{Call}
 use Rattle.ob_manager.specs.declared.reply.Reply.{Reply}
-use Rattle.ob_manager.specs.declared.reply.Reply.TheVariants.{Spawned, Started, Made, Exists, Opened, Duplicated, Closed, Done, Flags, Previous, Code, Pending, Expired, Ended, Exited, Reaped, CountsAre, Refused}
+use Rattle.ob_manager.specs.declared.reply.Reply.TheVariants.{Spawned, Started, Made, Exists, Opened, Duplicated, Closed, Done, Flags, Previous, Code, Pending, Expired, Ticked, Ended, Exited, Reaped, CountsAre, Refused}
 use Rattle.ob_manager.specs.Steps.{Step, does, closes, lacks, Keeps, Publishes}
 
 -- which table the keeper has, and its shape
@@ -42,6 +42,7 @@ kept_home (Flags bits) s k k' keeps = ap home keeps
 kept_home (Code code) s k k' keeps = ap home keeps
 kept_home (Pending number) s k k' keeps = ap home keeps
 kept_home (Expired number) s k k' keeps = ap home keeps
+kept_home (Ticked now) s k k' keeps = ap home keeps
 kept_home (Ended thread) s k k' keeps = ap home keeps
 kept_home (Exited process) s k k' keeps = ap home keeps
 kept_home (CountsAre handles waits hold) s k k' keeps = ap home keeps

@@ -78,8 +78,8 @@ impl<'a> Shared<'a> {
         Ok(lane)
     }
 
-    /// Makes a call, enters it in the journal, and lists it in its lane. Where memory is wanting the answer is 8, and nothing
-    /// is changed, entered or listed.
+    /// Makes a call, enters it in the journal, and lists it in its lane. Where memory is wanting before the manager is asked the
+    /// answer is 8, and nothing is changed, entered or listed; an 8 of the manager's own is entered and listed as each refusal.
     #[tactic(auto, using(crate::proofs::LaneLists::are_of_more))]
     pub fn call<R: Wait>(&self, rt: &R, lane: &mut Lane, call: Call) -> Reply
         ensures listed { Lists lane.old call result lane.new }

@@ -111,6 +111,8 @@ fn descriptors_have_their_bits(rt: HostRuntime) -> Result<(), Fail> {
         (Kind::Event, false, 0, 0x0000000000000000),
         (Kind::Mutex, false, 0, 0x0000000000000001),
         (Kind::Event, true, 0, 0x0000000000000004),
+        (Kind::Timer, false, 0, 0x0000000000000003),
+        (Kind::Timer, true, 0, 0x0000000000000007),
         (Kind::Semaphore, false, 5, 0x000000000000002a),
         (Kind::Semaphore, false, 2147483647, 0x00000003fffffffa),
     ];
@@ -120,7 +122,8 @@ fn descriptors_have_their_bits(rt: HostRuntime) -> Result<(), Fail> {
         assert!(rt; descr.is_given() && descr.encode() == bits);
     }
     let other = [
-        0x0000000000000003,
+        0x000000000000000b,
+        0x000000000000000f,
         0x0000000000000005,
         0x000000000000002e,
         0x0000000000000008,

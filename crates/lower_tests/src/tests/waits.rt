@@ -14,10 +14,10 @@ use std::test::Fail;
 
 /// Bodies in four slots.
 #[derive(Drop)]
-struct Slots {
-    bodies: Vec<Option<Body>>,
-    handles: Vec<u32>,
-    blocks: Vec<u32>,
+pub(crate) struct Slots {
+    pub(crate) bodies: Vec<Option<Body>>,
+    pub(crate) handles: Vec<u32>,
+    pub(crate) blocks: Vec<u32>,
 }
 
 impl Model for Slots {
@@ -100,7 +100,7 @@ impl Model for World {
     ghost invariant = { λ w. WaitsHaveRoom 2147483647 w.slots.bodies w.waits.waits × IsSettled w.slots.bodies w.waits.waits };
 }
 
-fn id(slot: u32) -> Id
+pub(crate) fn id(slot: u32) -> Id
     ensures { result ≡ record { slot = slot; generation = 1 } }
 {
     Id {
@@ -151,7 +151,7 @@ impl World {
         if let Some(code) = try_now(&mut self.slots, thread, mode, ids) {
             return Ok(Some(code));
         }
-        self.waits.add(thread, mode, ids)?;
+        self.waits.add(thread, mode, ids, None)?;
         Ok(None)
     }
 
@@ -517,12 +517,12 @@ fn the_last_block_ends_the_body(rt: HostRuntime) -> Result<(), Fail> {
 #[test]
 fn a_refused_add_changes_nothing(rt: HostRuntime) {
     let mut waits = Waits::new(rt.alloc(), 3);
-    let first = waits.add(5, Mode::Any, &[id(3), id(70)]);
+    let first = waits.add(5, Mode::Any, &[id(3), id(70)], None);
     if first.is_err() {
         assert_eq!(rt; first, Err(Fault::Memory));
         assert_eq!(rt; waits.wait_of(5), None);
         assert_eq!(rt; waits.blocks_of(id(3)), 0);
-        assert_eq!(rt; waits.add(5, Mode::Any, &[id(3), id(70)]), Ok(1));
+        assert_eq!(rt; waits.add(5, Mode::Any, &[id(3), id(70)], None), Ok(1));
     }
     assert_eq!(rt; waits.wait_of(5), Some(1));
     assert_eq!(rt; waits.blocks_of(id(3)), 1);
@@ -533,12 +533,12 @@ fn a_refused_add_changes_nothing(rt: HostRuntime) {
 fn added(rt: &impl Abort, waits: &mut Waits, thread: u32) {
     assert_eq!(rt; waits.wait_of(thread), None);
     let blocks = waits.blocks_of(id(3));
-    let added = waits.add(thread, Mode::Any, &[id(3)]);
+    let added = waits.add(thread, Mode::Any, &[id(3)], None);
     if added.is_err() {
         assert_eq!(rt; added, Err(Fault::Memory));
         assert_eq!(rt; waits.wait_of(thread), None);
         assert_eq!(rt; waits.blocks_of(id(3)), blocks);
-        assert_eq!(rt; waits.add(thread, Mode::Any, &[id(3)]), Ok(thread));
+        assert_eq!(rt; waits.add(thread, Mode::Any, &[id(3)], None), Ok(thread));
     }
 }
 

@@ -1,12 +1,13 @@
 //! Want of memory leaves nothing behind, and the same call then succeeds: of each call that takes memory.
 use super::{FIRST, NAMED_A, NAMED_E, NAMED_S, SECOND, THIRD};
 use call_tables::Ask::{
-    Child, Counts, Duplicate, Expire, MakeEvent, MakeMutex, MakeSemaphore, OpenNamed, SetEvent,
-    Spawn, StartThread, WaitFor, WaitResult,
+    Child, Counts, Duplicate, Expire, MakeEvent, MakeMutex, MakeSemaphore, MakeTimer, OpenNamed,
+    SetEvent, SetTimer, Spawn, StartThread, Tick, WaitFor, WaitResult,
 };
 use call_tables::{Line, PLAIN, asked, locked_manager};
 use ob_manager::Reply::{
     Code, CountsAre, Done, Duplicated, Exists, Expired, Made, Opened, Pending, Spawned, Started,
+    Ticked,
 };
 use ob_manager::{Limits, Make, Manager, Mode, Reply, Timeout};
 use ob_rights::{Fault, Kind, Rights};
@@ -135,7 +136,7 @@ const INHERITED_M: Make<'static> = Make {
     grant: None,
 };
 
-/// The fourth object, and the fifth.
+/// The fourth object, the fifth, and the sixth.
 const FOURTH: Id = Id {
     slot: 3,
     generation: 1,
@@ -143,6 +144,11 @@ const FOURTH: Id = Id {
 
 const FIFTH: Id = Id {
     slot: 4,
+    generation: 1,
+};
+
+const SIXTH: Id = Id {
+    slot: 5,
     generation: 1,
 };
 
@@ -168,6 +174,14 @@ const EACH: &[Line<'static>] = &[
     (WaitResult { wait: 1 }, Code { code: 1 }),
     (Expire { wait: 2 }, Expired { wait: 2 }),
     (WaitResult { wait: 2 }, Code { code: 258 }),
+    (MakeTimer { thread: 1, make: PLAIN, manual: false }, Made { handle: 28, id: SIXTH }),
+    (SetTimer { thread: 1, handle: 28, due: 5 }, Done),
+    (WaitFor { thread: 2, mode: Mode::Any, timeout: Timeout::Millis(1), handles: &[28] }, Pending { wait: 3 }),
+    (Tick { now: 5 }, Ticked { now: 5 }),
+    (WaitResult { wait: 3 }, Code { code: 0 }),
+    (WaitFor { thread: 2, mode: Mode::Any, timeout: Timeout::Millis(1), handles: &[28] }, Pending { wait: 4 }),
+    (Tick { now: 10_005 }, Ticked { now: 10_005 }),
+    (WaitResult { wait: 4 }, Code { code: 258 }),
 ];
 
 /// Plays beside a second manager.

@@ -1,4 +1,4 @@
-use Rattle.std.proofs.Common.{rules, subst, sym, ◌∙◌}
+use Rattle.std.proofs.Common.{rules, None, subst, sym, ◌∙◌}
 use Rattle.ob_waits.specs.Objects.{Objects}
 use Rattle.ob_waits.specs.Rules.{HasRoom, WaitsHaveRoom, IsSettled}
 use Rattle.ob_waits.specs.Waits.{WaitList}
@@ -29,4 +29,4 @@ invariant_of-self-2 g c =
     let same = c.try_now.ensures.objects ∙ same_now c.args.mode t objects ids unready in
     subst (λ (o : Objects). WaitsHaveRoom 2147483647 o.bodies c.add.new.self.waits × IsSettled o.bodies c.add.new.self.waits) (sym same)
     (subst (λ (l : WaitList). WaitsHaveRoom 2147483647 objects.bodies l.waits × IsSettled objects.bodies l.waits) (sym c.in_ok-add.ensures.added)
-    (room_added 2147483647 objects.bodies ws t c.args.mode ids room c.self.invariant.0, settled_added objects.bodies ws t c.args.mode ids unready c.self.invariant.1))
+    (room_added 2147483647 objects.bodies ws t c.args.mode ids None room c.self.invariant.0, settled_added objects.bodies ws t c.args.mode ids None unready c.self.invariant.1))

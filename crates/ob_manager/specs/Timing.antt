@@ -1,0 +1,39 @@
+-- Timers, and time, which passes only by ticks. A moment counts units of 100 ns.
+use Rattle.std.specs.Prelude.{ℕ, suc, ◌+◌, ◌||◌, nat_lt, Result, Ok, ℤ, pos, negsuc}
+use Rattle.ob_rights.specs.declared.fault.Fault.{Fault}
+use Rattle.ob_rights.specs.declared.fault.Fault.TheVariants as fault
+use Rattle.ob_rights.specs.declared.kind.Kind.TheVariants as kind
+use Rattle.ob_body.specs.Body.{after_arm, after_disarm}
+use Rattle.ob_manager.specs.declared.reply.Reply.TheVariants.{Done, Ticked}
+use Rattle.ob_store.specs.State.{State, settled, with_body}
+use Rattle.ob_store.specs.Ticks.{last_moment, ticked}
+use Rattle.ob_manager.specs.Outcomes.{Outcome, ◌>>=◌, refuse_if}
+use Rattle.ob_manager.specs.Checks.{caller, found, body_of, granted}
+use Rattle.ob_manager.specs.Signaling.{modify_state}
+
+-- the moment that a caller means: below 0 so many units after now
+abbrev pub moment_of : ℕ → ℤ → ℕ
+moment_of now (pos n) = n
+moment_of now (negsuc n) = now + suc n
+
+abbrev pub set_timer : State → ℕ → ℕ → ℤ → Result Outcome Fault
+set_timer s thread handle due = do
+  process ← caller s thread
+  entry ← found s process handle
+  timer ← body_of s entry.id kind.Timer
+  _ ← granted modify_state entry
+  Ok (record { reply = Done; state = settled (with_body s entry.id (after_arm (moment_of s.clock due) s.clock timer)) })
+
+abbrev pub cancel_timer : State → ℕ → ℕ → Result Outcome Fault
+cancel_timer s thread handle = do
+  process ← caller s thread
+  entry ← found s process handle
+  timer ← body_of s entry.id kind.Timer
+  _ ← granted modify_state entry
+  Ok (record { reply = Done; state = settled (with_body s entry.id (after_disarm timer)) })
+
+-- time doesn't go back, and not past the last moment
+abbrev pub tick : State → ℕ → Result Outcome Fault
+tick s now = do
+  _ ← refuse_if (nat_lt now s.clock || nat_lt last_moment now) fault.Parameter
+  Ok (record { reply = Ticked now; state = ticked now s })

@@ -1,0 +1,65 @@
+ghost use Rattle.std.specs.Prelude.{◌≡◌, ◌≤◌};
+ghost use Rattle.ob_manager.specs.Steps.{Gives};
+ghost use Rattle.ob_manager.specs.Timing.{cancel_timer, moment_of, set_timer, tick};
+
+use crate::checks::{body_of, caller, found, granted};
+use crate::reply::Reply;
+use ob_rights::{Fault, Kind, Rights};
+use ob_store::{LAST_MOMENT, Store};
+use pin_words::PinKeeper;
+
+/// The moment that a caller means: below 0 so many units after now.
+fn moment_of(now: u64, due: i64) -> u64
+    requires { now ≤ LAST_MOMENT }
+    ensures { result ≡ moment_of now due }
+{
+    if due < 0 {
+        return now + due.unsigned_abs();
+    }
+    due.cast_unsigned()
+}
+
+/// Sets a timer.
+pub fn set_timer<K: PinKeeper>(
+    store: &mut Store<K>,
+    thread: u32,
+    handle: u32,
+    due: i64,
+) -> Result<Reply, Fault>
+    ensures { Gives result store.old store.new (set_timer store.old.state thread handle due) }
+{
+    let process = caller(store, thread)?;
+    let entry = found(store, process, handle)?;
+    let timer = body_of(store, entry.id, Kind::Timer)?;
+    granted(Rights::MODIFY_STATE, entry)?;
+    let moment = moment_of(store.now(), due);
+    store.arm(entry.id, timer, moment);
+    Ok(Reply::Done)
+}
+
+/// Cancels a timer.
+pub fn cancel_timer<K: PinKeeper>(
+    store: &mut Store<K>,
+    thread: u32,
+    handle: u32,
+) -> Result<Reply, Fault>
+    ensures { Gives result store.old store.new (cancel_timer store.old.state thread handle) }
+{
+    let process = caller(store, thread)?;
+    let entry = found(store, process, handle)?;
+    let timer = body_of(store, entry.id, Kind::Timer)?;
+    granted(Rights::MODIFY_STATE, entry)?;
+    store.disarm(entry.id, timer);
+    Ok(Reply::Done)
+}
+
+/// It is another moment now.
+pub fn tick<K: PinKeeper>(store: &mut Store<K>, now: u64) -> Result<Reply, Fault>
+    ensures { Gives result store.old store.new (tick store.old.state now) }
+{
+    if now < store.now() || now > LAST_MOMENT {
+        return Err(Fault::Parameter);
+    }
+    store.tick(now);
+    Ok(Reply::Ticked { now })
+}
