@@ -1,6 +1,6 @@
 -- Every call may be answered, in any state whose slots may be pinned at all, and whatever a reader holds.
 use Rattle.std.proofs.Common.{◌≡◌, ℕ, ◌<◌, List, Bool, true, false, cond, not, Option, Some, None, Result, Ok, Err, inl, refl, ap, arith}
-use Rattle.std.specs.Prelude.{is_ok, nat_le, nat_lt, slice_index_or}
+use Rattle.std.specs.Prelude.{◌||◌, is_ok, nat_le, nat_lt, slice_index_or}
 use Rattle.pin_core.specs.declared.id.Id.{Id}
 use Rattle.pin_words.specs.declared.pin_keeper.Reclaim.{Reclaim}
 use Rattle.pin_words.specs.declared.pin_keeper.Reclaim.TheVariants as reclaim
@@ -18,22 +18,23 @@ use Rattle.ob_waits.specs.declared.wait.Mode.{Mode}
 use Rattle.ob_waits.specs.declared.wait.WaitState.{WaitState}
 use Rattle.ob_waits.specs.declared.wait.WaitState.TheVariants as stands
 use Rattle.ob_waits.specs.Waits.{is_pending, list_ready, state_at}
+use Rattle.ob_store.specs.Ticks.{last_moment}
 use Rattle.ob_store.specs.Waiting.{are_waits_given}
 use Rattle.ob_manager.specs.declared.waiting.Timeout.{Timeout}
-use Rattle.ob_manager.specs.declared.waiting.Timeout.TheVariants.{Zero, Infinite}
 use Rattle.ob_manager.specs.declared.call.Call.{Call}
 use Rattle.ob_manager.specs.declared.call.Call.TheVariants as calls
 use Rattle.ob_manager.specs.declared.reply.Reply.{Reply}
-use Rattle.ob_manager.specs.declared.reply.Reply.TheVariants.{Duplicated, Reaped, Refused}
+use Rattle.ob_manager.specs.declared.reply.Reply.TheVariants.{Code, Duplicated, Reaped, Refused}
 use Rattle.ob_manager.specs.Outcomes.{Outcome, ◌>>=◌, or_refuse, refuse_if}
 use Rattle.ob_manager.specs.Checks.{caller, found, body_of, granted, positive}
 use Rattle.ob_manager.specs.Creating.{entry_of, next_handle}
 use Rattle.ob_manager.specs.Handles.{close, handle_flags, set_handle_flags}
 use Rattle.ob_manager.specs.Copying.{admitted, copied_to, duplicate, is_stuck, is_wrong, leaves, with_source, without_source}
 use Rattle.ob_manager.specs.Waiting as waiting
-use Rattle.ob_manager.specs.Waiting.{have_room, is_for_one_twice, is_misshapen, objects_of, satisfied, shown, unsatisfied, wait, wait_on, wait_result}
+use Rattle.ob_manager.specs.Waiting.{deadline_in, have_room, is_for_one_twice, is_misshapen, is_zero, objects_of, pending, satisfied, shown, unsatisfied, wait, wait_on, wait_result}
 use Rattle.ob_manager.specs.Ending.{end_thread, exit}
 use Rattle.ob_manager.specs.Signaling.{modify_state, set_event, reset_event, release_semaphore, release_mutex}
+use Rattle.ob_manager.specs.Timing.{set_timer, cancel_timer, tick}
 use Rattle.ob_manager.specs.Counting.{counts, object_of}
 use Rattle.ob_manager.specs.Reaping.{if_ended, reap}
 use Rattle.ob_manager.specs.Steps.{Step, does, lacks, outcome_of, takes_memory, final, Keeps}
@@ -85,8 +86,11 @@ held_back w slot (Ok unit) (Ok id) pins is = record {
 
 -- a wait, satisfied or not
 unsatisfied_rests : (s : State) (thread : ℕ) (mode : Mode) (timeout : Timeout) (ids : List Id) (k : KeeperState) → Rests (unsatisfied s thread mode timeout ids) k
-unsatisfied_rests s thread mode Zero ids k = refl
-unsatisfied_rests s thread mode Infinite ids k = rests_behind k (refuse_if (are_waits_given s) fault.Limit) _ (λ given. refl)
+unsatisfied_rests s thread mode timeout ids k = by (is_zero timeout)
+  where
+    by : (zero : Bool) → Rests (cond zero (Ok (record { reply = Code 258; state = s })) (pending s thread mode (deadline_in s.clock timeout) ids)) k
+    by true = refl
+    by false = rests_behind k (refuse_if (are_waits_given s) fault.Limit) _ (λ given. refl)
 
 wait_rests : (s : State) (thread : ℕ) (mode : Mode) (timeout : Timeout) (ids : List Id) (k : KeeperState) → Rests (wait_on s thread mode timeout ids) k
 wait_rests s thread mode timeout ids k =
@@ -124,6 +128,7 @@ can_answer w (calls.StartThread process) pins = refused w (calls.StartThread pro
 can_answer w (calls.MakeEvent thread make manual set) pins = refused w (calls.MakeEvent thread make manual set) _ (λ held reply. tt) refl (λ reply. refl)
 can_answer w (calls.MakeMutex thread make owned) pins = refused w (calls.MakeMutex thread make owned) _ (λ held reply. tt) refl (λ reply. refl)
 can_answer w (calls.MakeSemaphore thread make initial max) pins = refused w (calls.MakeSemaphore thread make initial max) _ (λ held reply. tt) refl (λ reply. refl)
+can_answer w (calls.MakeTimer thread make manual) pins = refused w (calls.MakeTimer thread make manual) _ (λ held reply. tt) refl (λ reply. refl)
 can_answer w (calls.OpenNamed thread kind mask inherit text) pins = refused w (calls.OpenNamed thread kind mask inherit text) _ (λ held reply. tt) refl (λ reply. refl)
 can_answer w (calls.Duplicate thread source handle target mask inherit options) pins =
     answered w (calls.Duplicate thread source handle target mask inherit options) (duplicate w.state thread source handle target mask inherit options) (λ held reply. tt) (λ reply. refl)
@@ -148,6 +153,14 @@ can_answer w (calls.ReleaseSemaphore thread handle count) pins = answered w (cal
 can_answer w (calls.ReleaseMutex thread handle) pins = answered w (calls.ReleaseMutex thread handle) (release_mutex w.state thread handle) (λ held reply. tt) (λ reply. refl)
     (rests_behind w.keeper (caller w.state thread) _ (λ process. rests_behind w.keeper (found w.state process handle) _ (λ entry.
     rests_behind w.keeper (body_of w.state entry.id kind.Mutex) _ (λ mutex. rests_behind w.keeper (unlock_answer thread mutex) _ (λ released. refl)))))
+can_answer w (calls.SetTimer thread handle due) pins = answered w (calls.SetTimer thread handle due) (set_timer w.state thread handle due) (λ held reply. tt) (λ reply. refl)
+    (rests_behind w.keeper (caller w.state thread) _ (λ process. rests_behind w.keeper (found w.state process handle) _ (λ entry.
+    rests_behind w.keeper (body_of w.state entry.id kind.Timer) _ (λ timer. rests_behind w.keeper (granted modify_state entry) _ (λ granted. refl)))))
+can_answer w (calls.CancelTimer thread handle) pins = answered w (calls.CancelTimer thread handle) (cancel_timer w.state thread handle) (λ held reply. tt) (λ reply. refl)
+    (rests_behind w.keeper (caller w.state thread) _ (λ process. rests_behind w.keeper (found w.state process handle) _ (λ entry.
+    rests_behind w.keeper (body_of w.state entry.id kind.Timer) _ (λ timer. rests_behind w.keeper (granted modify_state entry) _ (λ granted. refl)))))
+can_answer w (calls.Tick now) pins = answered w (calls.Tick now) (tick w.state now) (λ held reply. tt) (λ reply. refl)
+    (rests_behind w.keeper (refuse_if (nat_lt now w.state.clock || nat_lt last_moment now) fault.Parameter) _ (λ right. refl))
 can_answer w (calls.WaitFor thread mode timeout handles) pins = answered w (calls.WaitFor thread mode timeout handles) (wait w.state thread mode timeout handles) (λ held reply. tt) (λ reply. refl)
     (rests_behind w.keeper (caller w.state thread) _ (λ process. rests_behind w.keeper (refuse_if (is_misshapen handles) fault.Parameter) _ (λ shaped.
     rests_behind w.keeper (objects_of w.state process handles) _ (λ ids. wait_rests w.state thread mode timeout ids w.keeper))))

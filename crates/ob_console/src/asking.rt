@@ -44,6 +44,11 @@ pub fn reply_to<'a>(
             initial,
             max,
         } => manager.create_semaphore(thread, &make, initial, max),
+        Ask::MakeTimer {
+            thread,
+            make,
+            manual,
+        } => manager.create_timer(thread, &make, manual),
         Ask::OpenNamed {
             thread,
             kind,
@@ -76,6 +81,13 @@ pub fn reply_to<'a>(
             count,
         } => manager.release_semaphore(thread, handle, count),
         Ask::ReleaseMutex { thread, handle } => manager.release_mutex(thread, handle),
+        Ask::SetTimer {
+            thread,
+            handle,
+            due,
+        } => manager.set_timer(thread, handle, due),
+        Ask::CancelTimer { thread, handle } => manager.cancel_timer(thread, handle),
+        Ask::Tick { now } => manager.tick(now),
         Ask::WaitFor {
             thread,
             mode,

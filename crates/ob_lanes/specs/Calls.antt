@@ -1,6 +1,5 @@
 -- The call that a line asks for, as a member makes it.
 use Rattle.std.specs.Prelude.{take}
-use Rattle.pin_core.specs.declared.id.Id.{Id}
 use Rattle.ob_manager.specs.declared.call.Call.{Call}
 use Rattle.ob_manager.specs.declared.call.Call.TheVariants.{WaitFor}
 use Rattle.ob_script.specs.Acts.{call_in}

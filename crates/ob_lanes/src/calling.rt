@@ -64,6 +64,15 @@ fn call_of(alloc: Global, ask: Ask<'_>) -> Result<Call, AllocError>
             initial,
             max,
         }),
+        Ask::MakeTimer {
+            thread,
+            make,
+            manual,
+        } => Ok(Call::MakeTimer {
+            thread,
+            make: making_of(alloc, make)?,
+            manual,
+        }),
         Ask::OpenNamed {
             thread,
             kind,
@@ -119,6 +128,17 @@ fn call_of(alloc: Global, ask: Ask<'_>) -> Result<Call, AllocError>
             count,
         }),
         Ask::ReleaseMutex { thread, handle } => Ok(Call::ReleaseMutex { thread, handle }),
+        Ask::SetTimer {
+            thread,
+            handle,
+            due,
+        } => Ok(Call::SetTimer {
+            thread,
+            handle,
+            due,
+        }),
+        Ask::CancelTimer { thread, handle } => Ok(Call::CancelTimer { thread, handle }),
+        Ask::Tick { now } => Ok(Call::Tick { now }),
         Ask::WaitFor {
             thread,
             mode,

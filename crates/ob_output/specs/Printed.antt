@@ -10,13 +10,13 @@ use Rattle.pin_words.specs.declared.pin_keeper.Reclaim.{Reclaim}
 use Rattle.pin_words.specs.declared.pin_keeper.Reclaim.TheVariants.{Freed, Retired, Held}
 use Rattle.ob_rights.specs.Fault.{code_of}
 use Rattle.ob_rights.specs.declared.kind.Kind.{Kind}
-use Rattle.ob_rights.specs.declared.kind.Kind.TheVariants.{Event, Mutex, Semaphore}
+use Rattle.ob_rights.specs.declared.kind.Kind.TheVariants.{Event, Mutex, Semaphore, Timer}
 use Rattle.ob_name.specs.Names.{Namespace, ObjectName, Global, Session}
 use Rattle.ob_name.specs.Listing.{Rows}
 use Rattle.ob_name.specs.Refs.{row_at}
 use Rattle.ob_manager.specs.declared.card.Card.{Card}
 use Rattle.ob_manager.specs.declared.reply.Reply.{Reply}
-use Rattle.ob_manager.specs.declared.reply.Reply.TheVariants.{Spawned, Started, Made, Exists, Opened, Duplicated, Closed, Done, Flags, Previous, Code, Pending, Expired, Ended, Exited, Reaped, CountsAre, Refused}
+use Rattle.ob_manager.specs.declared.reply.Reply.TheVariants.{Spawned, Started, Made, Exists, Opened, Duplicated, Closed, Done, Flags, Previous, Code, Pending, Expired, Ticked, Ended, Exited, Reaped, CountsAre, Refused}
 use Rattle.ob_output.specs.declared.answer.Answer.{Answer}
 use Rattle.ob_output.specs.declared.answer.Answer.TheVariants.{Replied, BadLine, NameCount, Named, Pinned, Unpinned, Shown, NoWait, Lane, Journaled}
 
@@ -51,6 +51,7 @@ printed_reply (Previous count) = codes "previous " ++ decimal count
 printed_reply (Code code) = codes "code " ++ decimal code
 printed_reply (Pending number) = codes "pending w" ++ decimal number
 printed_reply (Expired number) = codes "expired w" ++ decimal number
+printed_reply (Ticked now) = codes "now " ++ decimal now
 printed_reply (Ended thread) = codes "ended t" ++ decimal thread
 printed_reply (Exited process) = codes "exited p" ++ decimal process
 printed_reply (Reaped id outcome) = printed_id id ++ printed_reclaim outcome
@@ -79,15 +80,20 @@ printed_names rows = printed_count (length rows) ++ flat_map printed_row rows
 abbrev pub bad_line : ℕ → List ℕ
 bad_line number = codes "bad line " ++ decimal number ++ line_end
 
--- what an object is: how an event is reset, and a semaphore's maximum
+-- what an object is: how an event or a timer is reset, and a semaphore's maximum
 abbrev pub printed_reset : Bool → List ℕ
 printed_reset true = codes "event manual"
 printed_reset false = codes "event auto"
+
+abbrev pub printed_timer : Bool → List ℕ
+printed_timer true = codes "timer manual"
+printed_timer false = codes "timer auto"
 
 abbrev pub printed_kind : Kind → Bool → ℕ → List ℕ
 printed_kind Event manual max = printed_reset manual
 printed_kind Mutex manual max = codes "mutex"
 printed_kind Semaphore manual max = codes "semaphore " ++ decimal max
+printed_kind Timer manual max = printed_timer manual
 
 abbrev pub printed_descr : Descr → List ℕ
 printed_descr descr = printed_kind descr.kind descr.manual descr.max

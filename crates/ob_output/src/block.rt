@@ -143,6 +143,10 @@ impl Block {
                 self.text(b"expired w");
                 self.number(u64::from(wait));
             }
+            Reply::Ticked { now } => {
+                self.text(b"now ");
+                self.number(now);
+            }
             Reply::Ended { thread } => {
                 self.text(b"ended t");
                 self.number(u64::from(thread));
@@ -329,6 +333,8 @@ impl Block {
                 self.text(b"semaphore ");
                 self.number(u64::from(descr.max));
             }
+            Kind::Timer if descr.manual => self.text(b"timer manual"),
+            Kind::Timer => self.text(b"timer auto"),
         }
     }
 

@@ -8,7 +8,7 @@ use Rattle.ob_manager.specs.Makings.{making_of}
 use Rattle.ob_script.specs.declared.act.Act.{Act as Read}
 use Rattle.ob_script.specs.declared.act.Act.TheVariants as code
 use Rattle.ob_script.specs.declared.act.Ask.{Ask}
-use Rattle.ob_script.specs.declared.act.Ask.TheVariants.{Spawn, Child, StartThread, MakeEvent, MakeMutex, MakeSemaphore, OpenNamed, Duplicate, CloseHandle, GetFlags, SetFlags, SetEvent, ResetEvent, ReleaseSemaphore, ReleaseMutex, WaitFor, WaitResult, Expire, EndThread, Exit, Reap, Counts}
+use Rattle.ob_script.specs.declared.act.Ask.TheVariants.{Spawn, Child, StartThread, MakeEvent, MakeMutex, MakeSemaphore, MakeTimer, OpenNamed, Duplicate, CloseHandle, GetFlags, SetFlags, SetEvent, ResetEvent, ReleaseSemaphore, ReleaseMutex, SetTimer, CancelTimer, Tick, WaitFor, WaitResult, Expire, EndThread, Exit, Reap, Counts}
 
 pub data Act : Type 0 where
   Nothing : Act  -- an empty line or a comment, for which nothing is printed
@@ -27,6 +27,7 @@ call_in (StartThread process) = call.StartThread process
 call_in (MakeEvent thread make manual set) = call.MakeEvent thread (making_of make) manual set
 call_in (MakeMutex thread make owned) = call.MakeMutex thread (making_of make) owned
 call_in (MakeSemaphore thread make initial max) = call.MakeSemaphore thread (making_of make) initial max
+call_in (MakeTimer thread make manual) = call.MakeTimer thread (making_of make) manual
 call_in (OpenNamed thread kind mask inherit text) = call.OpenNamed thread kind mask inherit text.now
 call_in (Duplicate thread source handle target mask inherit options) = call.Duplicate thread source handle target mask inherit options
 call_in (CloseHandle thread handle) = call.CloseHandle thread handle
@@ -36,6 +37,9 @@ call_in (SetEvent thread handle) = call.SetEvent thread handle
 call_in (ResetEvent thread handle) = call.ResetEvent thread handle
 call_in (ReleaseSemaphore thread handle count) = call.ReleaseSemaphore thread handle count
 call_in (ReleaseMutex thread handle) = call.ReleaseMutex thread handle
+call_in (SetTimer thread handle due) = call.SetTimer thread handle due
+call_in (CancelTimer thread handle) = call.CancelTimer thread handle
+call_in (Tick now) = call.Tick now
 call_in (WaitFor thread mode timeout rest) = call.WaitFor thread mode timeout (handles_in (words_left rest))
 call_in (WaitResult number) = call.WaitResult number
 call_in (Expire number) = call.Expire number

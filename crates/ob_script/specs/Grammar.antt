@@ -6,12 +6,12 @@ use Rattle.ob_rights.specs.declared.rights.Rights.{Rights}
 use Rattle.ob_waits.specs.declared.wait.Mode.{Mode}
 use Rattle.ob_waits.specs.declared.wait.Mode.TheVariants.{Any, All}
 use Rattle.ob_manager.specs.declared.waiting.Timeout.{Timeout}
-use Rattle.ob_manager.specs.declared.waiting.Timeout.TheVariants.{Zero, Infinite}
+use Rattle.ob_manager.specs.declared.waiting.Timeout.TheVariants.{Infinite, Millis}
 use Rattle.ob_manager.specs.declared.making.Making.{Making}
 use Rattle.ob_manager.specs.declared.call.Call.{Call}
-use Rattle.ob_manager.specs.declared.call.Call.TheVariants.{Spawn, Child, StartThread, MakeEvent, MakeMutex, MakeSemaphore, OpenNamed, Duplicate, CloseHandle, GetFlags, SetFlags, SetEvent, ResetEvent, ReleaseSemaphore, ReleaseMutex, WaitFor, WaitResult, Expire, EndThread, Exit, Reap, Counts}
+use Rattle.ob_manager.specs.declared.call.Call.TheVariants.{Spawn, Child, StartThread, MakeEvent, MakeMutex, MakeSemaphore, MakeTimer, OpenNamed, Duplicate, CloseHandle, GetFlags, SetFlags, SetEvent, ResetEvent, ReleaseSemaphore, ReleaseMutex, SetTimer, CancelTimer, Tick, WaitFor, WaitResult, Expire, EndThread, Exit, Reap, Counts}
 use Rattle.ob_script.specs.Acts.{Act, Nothing, Bad, ListNames, Asks, Pin, Unpin, ShowCard}
-use Rattle.ob_script.specs.Words.{words_of, joined, begins_with, behind, number_of, signed_of, mask_of, kind_of, labelled, id_of, either_of, are_handles, handles_in, ◌>>=◌}
+use Rattle.ob_script.specs.Words.{words_of, joined, begins_with, behind, number_of, signed_of, moment_of, due_of, mask_of, kind_of, labelled, id_of, either_of, are_handles, handles_in, ◌>>=◌}
 
 -- `[KEYWORD M]`: the mask, where there is one, and the words behind it
 abbrev pub some_mask : List (List ℕ) → Option (Option Rights × List (List ℕ))
@@ -106,7 +106,17 @@ semaphore_of (thread ∷ initial ∷ max ∷ words) = do
   make ← make_of words
   Some (MakeSemaphore thread make initial max)
 
--- `open T event|mutex|semaphore M [inherit] name TEXT`
+-- `timer T auto|manual [inherit] [access M] [grant M] [name TEXT]`
+abbrev pub timer_of : List (List ℕ) → Option Call
+timer_of [] = None
+timer_of (thread ∷ []) = None
+timer_of (thread ∷ reset ∷ words) = do
+  thread ← labelled 116 thread
+  manual ← either_of (codes "auto") (codes "manual") reset
+  make ← make_of words
+  Some (MakeTimer thread make manual)
+
+-- `open T event|mutex|semaphore|timer M [inherit] name TEXT`
 abbrev pub open_of : List (List ℕ) → Option Call
 open_of [] = None
 open_of (thread ∷ []) = None
@@ -128,7 +138,7 @@ handle_of (thread ∷ handle ∷ []) = do
   Some (thread, handle)
 handle_of (thread ∷ handle ∷ more ∷ words) = None
 
--- `close T H`, `flags T H`, `set T H`, `reset T H`, `unlock T H`
+-- `close T H`, `flags T H`, `set T H`, `reset T H`, `unlock T H`, `cancel T H`
 abbrev pub close_of : List (List ℕ) → Option Call
 close_of words = do
   named ← handle_of words
@@ -153,6 +163,11 @@ abbrev pub unlock_of : List (List ℕ) → Option Call
 unlock_of words = do
   named ← handle_of words
   Some (ReleaseMutex named.0 named.1)
+
+abbrev pub cancel_of : List (List ℕ) → Option Call
+cancel_of words = do
+  named ← handle_of words
+  Some (CancelTimer named.0 named.1)
 
 -- `setflags T H N N`: the mask and the flags
 abbrev pub setflags_of : List (List ℕ) → Option Call
@@ -179,6 +194,26 @@ release_of (thread ∷ handle ∷ count ∷ []) = do
   count ← signed_of count
   Some (ReleaseSemaphore thread handle count)
 release_of (thread ∷ handle ∷ count ∷ more ∷ words) = None
+
+-- `settimer T H D`
+abbrev pub settimer_of : List (List ℕ) → Option Call
+settimer_of [] = None
+settimer_of (thread ∷ []) = None
+settimer_of (thread ∷ handle ∷ []) = None
+settimer_of (thread ∷ handle ∷ due ∷ []) = do
+  thread ← labelled 116 thread
+  handle ← labelled 104 handle
+  due ← due_of due
+  Some (SetTimer thread handle due)
+settimer_of (thread ∷ handle ∷ due ∷ more ∷ words) = None
+
+-- `tick V`
+abbrev pub tick_of : List (List ℕ) → Option Call
+tick_of [] = None
+tick_of (moment ∷ []) = do
+  now ← moment_of moment
+  Some (Tick now)
+tick_of (moment ∷ more ∷ words) = None
 
 -- `reap K`
 abbrev pub reap_of : List (List ℕ) → Option Call
@@ -234,11 +269,13 @@ dup_of (thread ∷ source ∷ handle ∷ target ∷ access ∷ words) = do
 abbrev pub mode_of : List ℕ → Option Mode
 mode_of word = if bytes_eq word (codes "any") then Some Any else (if bytes_eq word (codes "all") then Some All else None)
 
--- `0` or `inf`
+-- `inf`, or milliseconds
 abbrev pub timeout_of : List ℕ → Option Timeout
-timeout_of word = if bytes_eq word (codes "0") then Some Zero else (if bytes_eq word (codes "inf") then Some Infinite else None)
+timeout_of word = if bytes_eq word (codes "inf") then Some Infinite else (do
+  millis ← number_of word
+  Some (Millis millis))
 
--- `wait T any|all 0|inf`, and then handles
+-- `wait T any|all N|inf`, and then handles
 abbrev pub wait_of : List (List ℕ) → Option Call
 wait_of [] = None
 wait_of (thread ∷ []) = None
@@ -307,7 +344,11 @@ call_of (verb ∷ words) =
     else (if bytes_eq verb (codes "exit") then exit_of words
     else (if bytes_eq verb (codes "flags") then flags_of words
     else (if bytes_eq verb (codes "setflags") then setflags_of words
-    else None)))))))))))))))))))))
+    else (if bytes_eq verb (codes "timer") then timer_of words
+    else (if bytes_eq verb (codes "settimer") then settimer_of words
+    else (if bytes_eq verb (codes "cancel") then cancel_of words
+    else (if bytes_eq verb (codes "tick") then tick_of words
+    else None)))))))))))))))))))))))))
 
 -- `VERB S`: the object
 abbrev pub object_of : List (List ℕ) → Option Id

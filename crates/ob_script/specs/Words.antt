@@ -7,7 +7,7 @@ use Rattle.std.specs.Str.{bytes_eq}
 use Rattle.memchr.specs.Find.{is_byte}
 use Rattle.pin_core.specs.declared.id.Id.{Id}
 use Rattle.ob_rights.specs.declared.kind.Kind.{Kind}
-use Rattle.ob_rights.specs.declared.kind.Kind.TheVariants.{Event, Mutex, Semaphore}
+use Rattle.ob_rights.specs.declared.kind.Kind.TheVariants.{Event, Mutex, Semaphore, Timer}
 use Rattle.ob_rights.specs.declared.rights.Rights.{Rights}
 
 -- words are parted by single spaces
@@ -69,7 +69,8 @@ kind_of word =
     if bytes_eq word (codes "event") then Some Event
     else (if bytes_eq word (codes "mutex") then Some Mutex
     else (if bytes_eq word (codes "semaphore") then Some Semaphore
-    else None))
+    else (if bytes_eq word (codes "timer") then Some Timer
+    else None)))
 
 -- a number that isn't above the greatest of 32 bits with a sign, and the negative of one that isn't below the least
 abbrev pub unless_great : ℕ → Option ℤ
@@ -82,6 +83,29 @@ negated n = if nat_le n 2147483648 then Some (neg_ℤ (pos n)) else None
 abbrev pub signed_of : List ℕ → Option ℤ
 signed_of [] = None
 signed_of (first ∷ rest) = if first == 45 then number_of rest >>= negated else number_of (first ∷ rest) >>= unless_great
+
+-- a number of 1 to 19 decimal digits, leading zeros allowed
+abbrev pub long_of : List ℕ → Option ℕ
+long_of word = if nat_le 1 (length word) && nat_le (length word) 19 && list_all is_ascii_digit word then Some (value_of word) else None
+
+-- the same that isn't above the greatest of 64 bits with a sign, and the negative of one that isn't below the least
+abbrev pub unless_late : ℕ → Option ℕ
+unless_late n = if nat_le n 9223372036854775807 then Some n else None
+
+abbrev pub at_moment : ℕ → Option ℤ
+at_moment n = if nat_le n 9223372036854775807 then Some (pos n) else None
+
+abbrev pub from_now : ℕ → Option ℤ
+from_now n = if nat_le n 9223372036854775808 then Some (neg_ℤ (pos n)) else None
+
+-- a moment: 1 to 19 digits, at most 9,223,372,036,854,775,807
+abbrev pub moment_of : List ℕ → Option ℕ
+moment_of word = long_of word >>= unless_late
+
+-- when a timer is due: 1 to 19 digits, behind a minus for so many units from now, from -9,223,372,036,854,775,808 on
+abbrev pub due_of : List ℕ → Option ℤ
+due_of [] = None
+due_of (first ∷ rest) = if first == 45 then long_of rest >>= from_now else long_of (first ∷ rest) >>= at_moment
 
 -- the number that hexadecimal digits write behind those of another
 abbrev pub hex_after : ℕ → List ℕ → ℕ

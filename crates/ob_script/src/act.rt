@@ -72,7 +72,16 @@ pub enum Ask<'a> {
         /// The greatest count.
         max: i32,
     },
-    /// `open T event|mutex|semaphore M [inherit] name TEXT`.
+    /// `timer T auto|manual ..`.
+    MakeTimer {
+        /// The calling thread.
+        thread: u32,
+        /// What it asks for.
+        make: Make<'a>,
+        /// Whether only setting it resets it.
+        manual: bool,
+    },
+    /// `open T event|mutex|semaphore|timer M [inherit] name TEXT`.
     OpenNamed {
         /// The calling thread.
         thread: u32,
@@ -157,7 +166,28 @@ pub enum Ask<'a> {
         /// The handle.
         handle: u32,
     },
-    /// `wait T any|all 0|inf H ..`.
+    /// `settimer T H D`.
+    SetTimer {
+        /// The calling thread.
+        thread: u32,
+        /// The handle.
+        handle: u32,
+        /// When it is due.
+        due: i64,
+    },
+    /// `cancel T H`.
+    CancelTimer {
+        /// The calling thread.
+        thread: u32,
+        /// The handle.
+        handle: u32,
+    },
+    /// `tick V`.
+    Tick {
+        /// The moment that it is.
+        now: u64,
+    },
+    /// `wait T any|all N|inf H ..`.
     WaitFor {
         /// The calling thread.
         thread: u32,

@@ -2,11 +2,11 @@ ghost use Rattle.std.specs.Prelude.{◌≡◌, ◌≤◌, IfSome};
 ghost use Rattle.std.specs.Option.{option_map};
 ghost use Rattle.ob_script.specs.Words.{are_handles, words_of};
 ghost use Rattle.ob_script.specs.Acts.{act_in, call_in};
-ghost use Rattle.ob_script.specs.Grammar.{access_of, act_of, call_of, card_of, child_of, close_of, closing_of, count_of, dup_of, endthread_of, event_of, exit_of, expire_of, flags_of, handle_of, mode_of, mutex_of, object_of, open_of, pin_of, reading_of, reap_of, release_of, reset_of, result_of, semaphore_of, set_of, setflags_of, spawn_of, target_of, text_of, thread_of, timeout_of, unlock_of, unpin_of, wait_of};
+ghost use Rattle.ob_script.specs.Grammar.{access_of, act_of, call_of, cancel_of, card_of, child_of, close_of, closing_of, count_of, dup_of, endthread_of, event_of, exit_of, expire_of, flags_of, handle_of, mode_of, mutex_of, object_of, open_of, pin_of, reading_of, reap_of, release_of, reset_of, result_of, semaphore_of, set_of, setflags_of, settimer_of, spawn_of, target_of, text_of, thread_of, tick_of, timeout_of, timer_of, unlock_of, unpin_of, wait_of};
 
 use crate::act::{Act, Ask};
 use crate::naming::{make_of, name_of};
-use crate::numbers::{either_of, id_of, labelled, number_of, signed_of};
+use crate::numbers::{due_of, either_of, id_of, labelled, moment_of, number_of, signed_of};
 use crate::rights::{kind_of, mask_of};
 use crate::words::{Words, is};
 use ob_manager::{Mode, Timeout};
@@ -119,6 +119,18 @@ fn call_of(mut words: Words<'_>) -> Option<Ask<'_>>
     if is(verb, b"setflags") {
         return setflags_of(words);
     }
+    if is(verb, b"timer") {
+        return timer_of(words);
+    }
+    if is(verb, b"settimer") {
+        return settimer_of(words);
+    }
+    if is(verb, b"cancel") {
+        return cancel_of(words);
+    }
+    if is(verb, b"tick") {
+        return tick_of(words);
+    }
     None
 }
 
@@ -199,6 +211,21 @@ fn semaphore_of(mut words: Words<'_>) -> Option<Ask<'_>>
         make,
         initial,
         max,
+    })
+}
+
+fn timer_of(mut words: Words<'_>) -> Option<Ask<'_>>
+    ensures { option_map call_in result ≡ timer_of words.entry }
+{
+    let thread = words.next()?;
+    let reset = words.next()?;
+    let thread = labelled(b't', thread)?;
+    let manual = either_of(b"auto", b"manual", reset)?;
+    let make = make_of(words)?;
+    Some(Ask::MakeTimer {
+        thread,
+        make,
+        manual,
     })
 }
 
@@ -353,6 +380,39 @@ fn unlock_of(words: Words<'_>) -> Option<Ask<'_>>
     Some(Ask::ReleaseMutex { thread, handle })
 }
 
+fn cancel_of(words: Words<'_>) -> Option<Ask<'_>>
+    ensures { option_map call_in result ≡ cancel_of words.entry }
+{
+    let (thread, handle) = handle_of(words)?;
+    Some(Ask::CancelTimer { thread, handle })
+}
+
+fn settimer_of(mut words: Words<'_>) -> Option<Ask<'_>>
+    ensures { option_map call_in result ≡ settimer_of words.entry }
+{
+    let thread = words.next()?;
+    let handle = words.next()?;
+    let due = words.next()?;
+    words.end()?;
+    let thread = labelled(b't', thread)?;
+    let handle = labelled(b'h', handle)?;
+    let due = due_of(due)?;
+    Some(Ask::SetTimer {
+        thread,
+        handle,
+        due,
+    })
+}
+
+fn tick_of(mut words: Words<'_>) -> Option<Ask<'_>>
+    ensures { option_map call_in result ≡ tick_of words.entry }
+{
+    let moment = words.next()?;
+    words.end()?;
+    let now = moment_of(moment)?;
+    Some(Ask::Tick { now })
+}
+
 fn release_of(mut words: Words<'_>) -> Option<Ask<'_>>
     ensures { option_map call_in result ≡ release_of words.entry }
 {
@@ -406,13 +466,11 @@ fn mode_of(word: &[u8]) -> Option<Mode>
 fn timeout_of(word: &[u8]) -> Option<Timeout>
     ensures { result ≡ timeout_of word.now }
 {
-    if is(word, b"0") {
-        Some(Timeout::Zero)
-    } else if is(word, b"inf") {
-        Some(Timeout::Infinite)
-    } else {
-        None
+    if is(word, b"inf") {
+        return Some(Timeout::Infinite);
     }
+    let millis = number_of(word)?;
+    Some(Timeout::Millis(millis))
 }
 
 /// Whether each word is a handle.

@@ -1,5 +1,5 @@
 ghost use Rattle.std.specs.Prelude.{◌≡◌, codes};
-ghost use Rattle.ob_script.specs.Words.{number_of, negated, signed_of, unless_great, labelled, id_of, either_of};
+ghost use Rattle.ob_script.specs.Words.{at_moment, due_of, from_now, long_of, moment_of, number_of, negated, signed_of, unless_great, labelled, id_of, either_of};
 
 use crate::words::{cut, is};
 use pin_core::Id;
@@ -51,6 +51,67 @@ fn unless_great(number: u32) -> Option<i32>
         return None;
     }
     Some(number as i32)
+}
+
+/// A number of 1 to 19 decimal digits, leading zeros allowed.
+#[tactic(auto, using(crate::proofs::Digits::one_more_digit))]
+fn long_of(word: &[u8]) -> Option<u64>
+    ensures { result ≡ long_of word.now }
+{
+    if word.is_empty() || word.len() > 19 {
+        return None;
+    }
+    let mut value: u64 = 0;
+    for byte in word {
+        if !byte.is_ascii_digit() {
+            return None;
+        }
+        value = value * 10 + u64::from(*byte - b'0');
+    }
+    Some(value)
+}
+
+/// A moment: 1 to 19 digits, at most 9,223,372,036,854,775,807.
+pub fn moment_of(word: &[u8]) -> Option<u64>
+    ensures { result ≡ moment_of word.now }
+{
+    let moment = long_of(word)?;
+    if moment > 9_223_372_036_854_775_807 {
+        return None;
+    }
+    Some(moment)
+}
+
+/// When a timer is due: a moment, or behind a minus so many units from now, from -9,223,372,036,854,775,808 to
+/// 9,223,372,036,854,775,807.
+pub fn due_of(word: &[u8]) -> Option<i64>
+    ensures { result ≡ due_of word.now }
+{
+    match word {
+        [b'-', digits @ ..] => from_now(long_of(digits)?),
+        _ => at_moment(long_of(word)?),
+    }
+}
+
+fn from_now(units: u64) -> Option<i64>
+    ensures { result ≡ from_now units }
+{
+    if units > 9_223_372_036_854_775_808 {
+        return None;
+    }
+    if units == 9_223_372_036_854_775_808 {
+        return Some(i64::MIN);
+    }
+    Some(-(units as i64))
+}
+
+fn at_moment(moment: u64) -> Option<i64>
+    ensures { result ≡ at_moment moment }
+{
+    if moment > 9_223_372_036_854_775_807 {
+        return None;
+    }
+    Some(moment as i64)
 }
 
 /// A number behind a letter.

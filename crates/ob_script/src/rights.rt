@@ -15,6 +15,8 @@ pub fn kind_of(word: &[u8]) -> Option<Kind>
         Some(Kind::Mutex)
     } else if is(word, b"semaphore") {
         Some(Kind::Semaphore)
+    } else if is(word, b"timer") {
+        Some(Kind::Timer)
     } else {
         None
     }
