@@ -1,5 +1,5 @@
 /* The object layer of the NT kernel as Win32 programs see it, without a kernel: processes, threads, handles, events, mutexes,
- * semaphores, names and waits, for programs that run others: emulators, sandboxes, compatibility layers.
+ * semaphores, timers, names and waits, for programs that run others: emulators, sandboxes, compatibility layers.
  *
  * A manager does nothing by itself. Whoever runs the guests tells it what they do, and is told what comes of it: it has no thread,
  * takes no lock, reads no clock, and never waits. A call in which a guest's thread would wait answers OM_ERROR_IO_PENDING at once,
@@ -59,7 +59,7 @@ extern "C" {
 #define OM_ERROR_NO_SYSTEM_RESOURCES 1450u
 #define OM_ERROR_NOT_ENOUGH_QUOTA 1816u
 
-/* Access rights. Each kind of object has the standard rights and SYNCHRONIZE; events and semaphores have MODIFY_STATE too. */
+/* Access rights. Each kind of object has the standard rights and SYNCHRONIZE; events, semaphores and timers have MODIFY_STATE too. */
 #define OM_MODIFY_STATE 0x00000002u
 #define OM_DELETE 0x00010000u
 #define OM_READ_CONTROL 0x00020000u
@@ -69,6 +69,7 @@ extern "C" {
 #define OM_EVENT_ALL_ACCESS 0x001F0003u
 #define OM_SEMAPHORE_ALL_ACCESS 0x001F0003u
 #define OM_MUTEX_ALL_ACCESS 0x001F0001u
+#define OM_TIMER_ALL_ACCESS 0x001F0003u
 
 /* Handle flags, and options of om_duplicate. */
 #define OM_HANDLE_FLAG_INHERIT 1u
@@ -87,6 +88,7 @@ extern "C" {
 #define OM_EVENT 0u
 #define OM_MUTEX 1u
 #define OM_SEMAPHORE 2u
+#define OM_TIMER 3u
 #define OM_FREED 0u
 #define OM_RETIRED 1u
 #define OM_HELD 2u
@@ -144,10 +146,10 @@ typedef struct om_making {
 
 /* What an object was created as. */
 typedef struct om_description {
-    uint32_t kind;    /* OM_EVENT, OM_MUTEX or OM_SEMAPHORE */
+    uint32_t kind;    /* OM_EVENT, OM_MUTEX, OM_SEMAPHORE or OM_TIMER */
     uint32_t max;     /* of a semaphore; else 0 */
     uint32_t grant;   /* the rights that opens may get */
-    bool manual;      /* an event that is reset by hand */
+    bool manual;      /* an event that is reset by hand, or a timer that stays signaled */
 } om_description;
 
 /* What became of a slot. */
@@ -226,6 +228,11 @@ uint32_t om_create_mutex(om_manager *m, uint32_t thread, const om_making *making
 uint32_t om_create_semaphore(om_manager *m, uint32_t thread, const om_making *making, const char *name, size_t length,
                              int32_t initial, int32_t max, om_opening *opening);
 
+/* A new timer and a handle to it, as om_create_event makes an event (CreateWaitableTimer, CreateWaitableTimerEx). It isn't
+ * signaled and isn't set. Once signaled, one that is `manual` stays so until it is set again, another until it satisfies a wait. */
+uint32_t om_create_timer(om_manager *m, uint32_t thread, const om_making *making, const char *name, size_t length, bool manual,
+                         om_opening *opening);
+
 /* A handle to the event of a name (OpenEvent).
  * For the name OM_ERROR_FILENAME_EXCED_RANGE, OM_ERROR_INVALID_PARAMETER or OM_ERROR_PATH_NOT_FOUND; OM_ERROR_FILE_NOT_FOUND
  * where no object has it; OM_ERROR_INVALID_HANDLE where an object of another kind has it; OM_ERROR_ACCESS_DENIED for no rights,
@@ -241,6 +248,10 @@ uint32_t om_open_mutex(om_manager *m, uint32_t thread, uint32_t access, bool inh
 /* The same of a semaphore (OpenSemaphore). */
 uint32_t om_open_semaphore(om_manager *m, uint32_t thread, uint32_t access, bool inherit, const char *name, size_t length,
                            om_opening *opening);
+
+/* The same of a timer (OpenWaitableTimer). */
+uint32_t om_open_timer(om_manager *m, uint32_t thread, uint32_t access, bool inherit, const char *name, size_t length,
+                       om_opening *opening);
 
 /* ---- Handles ---- */
 
@@ -291,19 +302,34 @@ uint32_t om_release_semaphore(om_manager *m, uint32_t thread, uint32_t handle, i
  * it. */
 uint32_t om_release_mutex(om_manager *m, uint32_t thread, uint32_t handle);
 
+/* ---- Timers, and the time ---- */
+
+/* Sets a timer (SetWaitableTimer). `due` is a moment in units of 100 ns, or below 0 so many units from now. The timer isn't
+ * signaled until then; where the moment isn't after now it is at once, and lets who waits for it go on.
+ * OM_ERROR_INVALID_HANDLE where there is no such handle or it is no timer's; OM_ERROR_ACCESS_DENIED without OM_MODIFY_STATE. */
+uint32_t om_set_timer(om_manager *m, uint32_t thread, uint32_t handle, int64_t due);
+
+/* Takes a timer's moment away; it stays as signaled as it is (CancelWaitableTimer). It is refused as om_set_timer is. */
+uint32_t om_cancel_timer(om_manager *m, uint32_t thread, uint32_t handle);
+
+/* It is this moment now, in units of 100 ns; a new manager's is 0. Each timer that is due is signaled and lets who waits for it go
+ * on, and then each pending wait whose time is up is answered with OM_WAIT_TIMEOUT.
+ * OM_ERROR_INVALID_PARAMETER for a moment before that of the last tick, or above 9,223,372,036,854,775,807. */
+uint32_t om_tick(om_manager *m, uint64_t now);
+
 /* ---- Waits ---- */
 
-/* A thread waits for any or all of 1 to 64 objects (WaitForSingleObject, WaitForMultipleObjects), for 0 or OM_INFINITE
- * milliseconds. Where the wait is satisfied at once, the thread has what satisfies it, the answer is 0, and *answer is the wait's
- * code: for any, OM_WAIT_OBJECT_0 and the index of the object, or OM_WAIT_ABANDONED_0 and it where that is an abandoned mutex; for
- * all, OM_WAIT_OBJECT_0, or OM_WAIT_ABANDONED_0 where one is an abandoned mutex. Else, for 0 milliseconds, the answer is 0 and
- * *answer OM_WAIT_TIMEOUT; and for OM_INFINITE the answer is OM_ERROR_IO_PENDING and *answer the wait's number. A pending wait
- * keeps its objects; until om_wait_result takes its answer its thread makes no other call.
- * OM_ERROR_INVALID_PARAMETER for another number of milliseconds (before anything else), for no handle, more than 64, or one that
- * stands twice; OM_ERROR_INVALID_HANDLE where there is no such handle; OM_ERROR_ACCESS_DENIED without OM_SYNCHRONIZE;
- * OM_ERROR_INVALID_PARAMETER where a wait for all is for one object twice; OM_ERROR_NO_SYSTEM_RESOURCES for a mutex that the
- * thread owns as often as it may, and where the wait would be pending and each wait number was given;
- * OM_ERROR_NOT_ENOUGH_MEMORY where it would be pending. */
+/* A thread waits for any or all of 1 to 64 objects (WaitForSingleObject, WaitForMultipleObjects), for so many milliseconds. Where
+ * the wait is satisfied at once, the thread has what satisfies it, the answer is 0, and *answer is the wait's code: for any,
+ * OM_WAIT_OBJECT_0 and the index of the object, or OM_WAIT_ABANDONED_0 and it where that is an abandoned mutex; for all,
+ * OM_WAIT_OBJECT_0, or OM_WAIT_ABANDONED_0 where one is an abandoned mutex. Else, for 0 milliseconds, the answer is 0 and *answer
+ * OM_WAIT_TIMEOUT; and for others the answer is OM_ERROR_IO_PENDING and *answer the wait's number: it lasts until a tick to the
+ * moment so many milliseconds (of 10,000 units each) from now, and for OM_INFINITE until it is satisfied. A pending wait keeps its
+ * objects; until om_wait_result takes its answer its thread makes no other call.
+ * OM_ERROR_INVALID_PARAMETER for no handle, more than 64, or one that stands twice; OM_ERROR_INVALID_HANDLE where there is no such
+ * handle; OM_ERROR_ACCESS_DENIED without OM_SYNCHRONIZE; OM_ERROR_INVALID_PARAMETER where a wait for all is for one object twice;
+ * OM_ERROR_NO_SYSTEM_RESOURCES for a mutex that the thread owns as often as it may, and where the wait would be pending and each
+ * wait number was given; OM_ERROR_NOT_ENOUGH_MEMORY where it would be pending. */
 uint32_t om_wait(om_manager *m, uint32_t thread, bool all, uint32_t milliseconds, const uint32_t *handles, size_t count,
                  uint32_t *answer);
 

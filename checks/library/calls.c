@@ -191,17 +191,28 @@ static void make_semaphore(calls *c) {
     opened(c, om_create_semaphore(&c->m, thread, &asked, text, strlen(text), initial, max, &opening), opening, "new");
 }
 
+static void make_timer(calls *c) {
+    uint32_t thread = thread_number(c);
+    bool manual = once_in(c, 2);
+    om_opening opening = nothing_opened();
+    const char *text;
+    fprintf(c->script, "timer t%u %s", thread, manual ? "manual" : "auto");
+    om_making asked = making(c, &text);
+    opened(c, om_create_timer(&c->m, thread, &asked, text, strlen(text), manual, &opening), opening, "new");
+}
+
 static void open_object(calls *c) {
-    uint32_t thread = thread_number(c), access = mask(c), kind = below(c, 3);
+    uint32_t thread = thread_number(c), access = mask(c), kind = below(c, 4);
     bool inherit = once_in(c, 2);
     const char *text = name(c);
     size_t length = strlen(text);
     om_opening o = nothing_opened();
-    static const char *const kinds[] = {"event", "mutex", "semaphore"};
+    static const char *const kinds[] = {"event", "mutex", "semaphore", "timer"};
     fprintf(c->script, "open t%u %s 0x%x%s name %s\n", thread, kinds[kind], access, inherit ? " inherit" : "", text);
     uint32_t status = kind == 0   ? om_open_event(&c->m, thread, access, inherit, text, length, &o)
                       : kind == 1 ? om_open_mutex(&c->m, thread, access, inherit, text, length, &o)
-                                  : om_open_semaphore(&c->m, thread, access, inherit, text, length, &o);
+                      : kind == 2 ? om_open_semaphore(&c->m, thread, access, inherit, text, length, &o)
+                                  : om_open_timer(&c->m, thread, access, inherit, text, length, &o);
     opened(c, status, o, "opened");
 }
 
@@ -280,6 +291,32 @@ static void unlock(calls *c) {
     answer_if(c, om_release_mutex(&c->m, thread, handle), "done");
 }
 
+static void set_timer(calls *c) {
+    uint32_t thread = thread_number(c), handle = handle_number(c);
+    int64_t due = once_in(c, 2) ? -(int64_t)below(c, 60000) : (int64_t)c->now + (int64_t)below(c, 60000) - 20000;
+    if (once_in(c, 30)) {
+        due = once_in(c, 2) ? INT64_MIN : INT64_MAX;
+    }
+    fprintf(c->script, "settimer t%u h%u %lld\n", thread, handle, (long long)due);
+    answer_if(c, om_set_timer(&c->m, thread, handle, due), "done");
+}
+
+static void cancel_timer(calls *c) {
+    uint32_t thread = thread_number(c), handle = handle_number(c);
+    fprintf(c->script, "cancel t%u h%u\n", thread, handle);
+    answer_if(c, om_cancel_timer(&c->m, thread, handle), "done");
+}
+
+static void tick(calls *c) {
+    uint64_t now = once_in(c, 12) ? below(c, 1000) : c->now + below(c, 30000);
+    fprintf(c->script, "tick %llu\n", (unsigned long long)now);
+    if (is_answered(c, om_tick(&c->m, now))) {
+        must(now >= c->now, "time goes back");
+        c->now = now;
+        fprintf(c->answers, "now %llu\n", (unsigned long long)now);
+    }
+}
+
 static void waited(calls *c, uint32_t status, uint32_t code) {
     if (status == OM_ERROR_IO_PENDING) {
         fprintf(c->answers, "pending w%u\n", code);
@@ -293,14 +330,20 @@ static void waited(calls *c, uint32_t status, uint32_t code) {
 static void wait_for(calls *c) {
     uint32_t thread = thread_number(c), handles[66], code = UNTOUCHED;
     uint32_t count = once_in(c, 60) ? below(c, 67) : 1 + below(c, 3);
-    bool all = once_in(c, 2), endless = once_in(c, 3);
-    fprintf(c->script, "wait t%u %s %s", thread, all ? "all" : "any", endless ? "inf" : "0");
+    bool all = once_in(c, 2), endless = once_in(c, 5);
+    uint32_t milliseconds = endless ? OM_INFINITE : once_in(c, 3) ? 1 + below(c, 6) : 0;
+    fprintf(c->script, "wait t%u %s ", thread, all ? "all" : "any");
+    if (endless) {
+        fputs("inf", c->script);
+    } else {
+        fprintf(c->script, "%u", milliseconds);
+    }
     for (uint32_t i = 0; i < count; i++) {
         handles[i] = count > 3 ? 4 * (i + 1) : handle_number(c);
         fprintf(c->script, " h%u", handles[i]);
     }
     fputc('\n', c->script);
-    uint32_t status = om_wait(&c->m, thread, all, endless ? OM_INFINITE : 0, handles, count, &code);
+    uint32_t status = om_wait(&c->m, thread, all, milliseconds, handles, count, &code);
     waited(c, status, code);
     if (status == OM_ERROR_IO_PENDING) {
         must(code == c->waits + 1, "a wait has another number");
@@ -402,8 +445,9 @@ static void directory(calls *c) {
 }
 
 static void description(calls *c, om_description d) {
-    static const char *const kinds[] = {"event auto", "mutex", "semaphore"};
-    fputs(d.kind == OM_EVENT && d.manual ? "event manual" : kinds[d.kind], c->answers);
+    static const char *const kinds[] = {"event auto", "mutex", "semaphore", "timer auto"};
+    static const char *const by_hand[] = {"event manual", "", "", "timer manual"};
+    fputs(d.manual ? by_hand[d.kind] : kinds[d.kind], c->answers);
     if (d.kind == OM_SEMAPHORE) {
         fprintf(c->answers, " %u", d.max);
     }
@@ -459,10 +503,10 @@ static void card(calls *c) {
 
 void call(calls *c) {
     static void (*const each[])(calls *) = {
-        make_event, make_event, make_event, make_mutex, make_mutex, make_semaphore, make_semaphore, open_object, open_object,
+        make_event, make_event, make_event, make_mutex, make_mutex, make_semaphore, make_semaphore, make_timer, make_timer, open_object, open_object,
         duplicate, duplicate, close_handle, close_handle, close_handle, flags, set_flags, set_event, set_event, set_event, reset_event,
         release, release, unlock, unlock, wait_for, wait_for, wait_for, wait_for, result, result, result, expire, count, reap, reap,
-        directory, pin, unpin, card,
+        directory, pin, unpin, card, set_timer, set_timer, set_timer, cancel_timer, tick, tick, tick,
     };
     if (c->processes == 0 || once_in(c, 500)) {
         spawn(c);

@@ -11,6 +11,7 @@ typedef struct calls {
     uint64_t seed;
     uint32_t processes, threads, waits; /* numbers given so far */
     uint32_t slots;
+    uint64_t now; /* the moment of the last tick */
     FILE *script, *answers;
 } calls;
 

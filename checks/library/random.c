@@ -5,7 +5,7 @@
 #include <stdlib.h>
 
 int main(int count, char **words) {
-    calls c = {{NULL}, 0, 0, 0, 0, 0, NULL, NULL};
+    calls c = {{NULL}, 0, 0, 0, 0, 0, 0, NULL, NULL};
     must(count == 5, "COUNT SEED SCRIPT ANSWERS");
     long calls_due = atol(words[1]);
     c.seed = 0x9E3779B97F4A7C15ULL * (uint64_t)(1 + atol(words[2]));

@@ -57,16 +57,18 @@ AGAIN(om_thread, (om_manager *m, uint32_t p, uint32_t *o), (m, p, o), o, sizeof 
 AGAIN(om_create_event, (om_manager *m, uint32_t t, const om_making *k, const char *n, size_t l, bool a, bool b, om_opening *o), (m, t, k, n, l, a, b, o), o, sizeof *o)
 AGAIN(om_create_mutex, (om_manager *m, uint32_t t, const om_making *k, const char *n, size_t l, bool a, om_opening *o), (m, t, k, n, l, a, o), o, sizeof *o)
 AGAIN(om_create_semaphore, (om_manager *m, uint32_t t, const om_making *k, const char *n, size_t l, int32_t a, int32_t b, om_opening *o), (m, t, k, n, l, a, b, o), o, sizeof *o)
+AGAIN(om_create_timer, (om_manager *m, uint32_t t, const om_making *k, const char *n, size_t l, bool a, om_opening *o), (m, t, k, n, l, a, o), o, sizeof *o)
 AGAIN(om_open_event, (om_manager *m, uint32_t t, uint32_t a, bool i, const char *n, size_t l, om_opening *o), (m, t, a, i, n, l, o), o, sizeof *o)
 AGAIN(om_open_mutex, (om_manager *m, uint32_t t, uint32_t a, bool i, const char *n, size_t l, om_opening *o), (m, t, a, i, n, l, o), o, sizeof *o)
 AGAIN(om_open_semaphore, (om_manager *m, uint32_t t, uint32_t a, bool i, const char *n, size_t l, om_opening *o), (m, t, a, i, n, l, o), o, sizeof *o)
+AGAIN(om_open_timer, (om_manager *m, uint32_t t, uint32_t a, bool i, const char *n, size_t l, om_opening *o), (m, t, a, i, n, l, o), o, sizeof *o)
 AGAIN(om_duplicate, (om_manager *m, uint32_t t, uint32_t s, uint32_t h, uint32_t p, uint32_t a, bool i, uint32_t f, om_opening *o), (m, t, s, h, p, a, i, f, o), o, sizeof *o)
 AGAIN(om_wait, (om_manager *m, uint32_t t, bool a, uint32_t d, const uint32_t *h, size_t n, uint32_t *o), (m, t, a, d, h, n, o), o, sizeof *o)
 AGAIN(om_script, (const om_limits *l, const char *s, size_t n, char *a, size_t c, size_t *o), (l, s, n, a, c, o), o, sizeof *o)
 
 /* One run: the lines of the script, and behind them the answers. The caller frees them. */
 static char *run(long count, uint64_t seed, size_t *length, size_t *answers_length) {
-    calls c = {{NULL}, seed, 0, 0, 0, 0, tmpfile(), tmpfile()};
+    calls c = {{NULL}, seed, 0, 0, 0, 0, 0, tmpfile(), tmpfile()};
     char *both;
     must(c.script != NULL && c.answers != NULL, "a file can't be written");
     om_limits limits = limits_of(&c);

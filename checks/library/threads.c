@@ -23,7 +23,7 @@ static void *calls_of_a_thread(void *shared) {
 }
 
 int main(int count, char **words) {
-    calls c = {{NULL}, 0, 0, 0, 0, 0, NULL, NULL};
+    calls c = {{NULL}, 0, 0, 0, 0, 0, 0, NULL, NULL};
     pthread_t threads[4];
     must(count == 5, "COUNT SEED SCRIPT ANSWERS");
     calls_left = atol(words[1]);

@@ -3,7 +3,7 @@ use Rattle.std.specs.Prelude.{◌≡◌, ℕ, Option, Some, None, Result, Ok, Er
 use Rattle.ob_rights.specs.Fault.{code_of}
 use Rattle.ob_rights.specs.declared.fault.Fault.{Fault}
 use Rattle.ob_rights.specs.declared.kind.Kind.{Kind}
-use Rattle.ob_rights.specs.declared.kind.Kind.TheVariants.{Event, Mutex, Semaphore}
+use Rattle.ob_rights.specs.declared.kind.Kind.TheVariants.{Event, Mutex, Semaphore, Timer}
 use Rattle.pin_core.specs.declared.id.Id.{Id}
 use Rattle.ob_manager.specs.declared.card.Card.{Card}
 use Rattle.obman_c.specs.declared.values.Object.{Object}
@@ -20,6 +20,7 @@ abbrev pub kind_number : Kind → ℕ
 kind_number Event = 0
 kind_number Mutex = 1
 kind_number Semaphore = 2
+kind_number Timer = 3
 
 -- what an object was created as
 abbrev pub description_of : Card → Description

@@ -7,7 +7,7 @@ use Rattle.pin_words.specs.declared.pin_keeper.Reclaim.TheVariants.{Freed, Retir
 use Rattle.ob_store.specs.State.{Whole}
 use Rattle.ob_manager.specs.declared.call.Call.{Call}
 use Rattle.ob_manager.specs.declared.reply.Reply.{Reply}
-use Rattle.ob_manager.specs.declared.reply.Reply.TheVariants.{Spawned, Started, Made, Exists, Opened, Duplicated, Closed, Done, Flags, Previous, Code, Pending, Expired, Ended, Exited, Reaped, CountsAre, Refused}
+use Rattle.ob_manager.specs.declared.reply.Reply.TheVariants.{Spawned, Started, Made, Exists, Opened, Duplicated, Closed, Done, Flags, Previous, Code, Pending, Expired, Ended, Exited, Reaped, CountsAre, Ticked, Refused}
 use Rattle.ob_manager.specs.Steps.{Step}
 use Rattle.obman_c.specs.declared.values.Member.{Member}
 use Rattle.obman_c.specs.declared.values.Object.{Object}
@@ -35,6 +35,7 @@ status_of (Ended thread) = 0
 status_of (Exited process) = 0
 status_of (Reaped id outcome) = 0
 status_of (CountsAre handles waits hold) = 0
+status_of (Ticked now) = 0
 
 -- From a state a call gives some reply and goes on as the manager does, and this number is told of the reply.
 pub record Tells (old : Whole) (call : Call) (status : ℕ) (new : Whole) : Type 0 where

@@ -116,6 +116,26 @@ pub extern "C" fn om_create_semaphore(
     )
 }
 
+/// [`Manager::create_timer`](ob_manager::Manager::create_timer): 0, 183, 87, 170, 206, 3, 6, 5, 1450 or 8.
+#[tactic(auto, using(crate::proofs::Told::tells_as))]
+#[unsafe(no_mangle)]
+pub extern "C" fn om_create_timer(
+    owner: &mut Owner,
+    thread: u32,
+    asking: &Asking,
+    name: &[u8],
+    manual: bool,
+    opening: &mut Opening,
+) -> u32
+    ensures { TellsAs opening_in owner.old.value.manager (Call.MakeTimer thread (asked_for asking.now name.now) manual) result owner.new.value.manager opening.old opening.new }
+{
+    let make = make_of(asking, name);
+    tell_opening(
+        owner.lend().manager.create_timer(thread, &make, manual),
+        opening,
+    )
+}
+
 /// [`Manager::open_named`](ob_manager::Manager::open_named) of an event: 0, 87, 170, 206, 3, 2, 6, 5, 1450 or 8.
 #[tactic(auto, using(crate::proofs::Told::tells_as))]
 #[unsafe(no_mangle)]
@@ -178,6 +198,28 @@ pub extern "C" fn om_open_semaphore(
             .lend()
             .manager
             .open_named(thread, Kind::Semaphore, Rights(access), inherit, name),
+        opening,
+    )
+}
+
+/// [`Manager::open_named`](ob_manager::Manager::open_named) of a timer: 0, 87, 170, 206, 3, 2, 6, 5, 1450 or 8.
+#[tactic(auto, using(crate::proofs::Told::tells_as))]
+#[unsafe(no_mangle)]
+pub extern "C" fn om_open_timer(
+    owner: &mut Owner,
+    thread: u32,
+    access: u32,
+    inherit: bool,
+    name: &[u8],
+    opening: &mut Opening,
+) -> u32
+    ensures { TellsAs opening_in owner.old.value.manager (Call.OpenNamed thread Kind.Timer (mask_of access) inherit name.now) result owner.new.value.manager opening.old opening.new }
+{
+    tell_opening(
+        owner
+            .lend()
+            .manager
+            .open_named(thread, Kind::Timer, Rights(access), inherit, name),
         opening,
     )
 }

@@ -27,5 +27,6 @@ mod reaping;
 mod script;
 mod signaling;
 mod status;
+mod timing;
 mod values;
 mod waiting;

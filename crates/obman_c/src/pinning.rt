@@ -17,13 +17,13 @@ use pin_words::PinFault;
 #[repr(C)]
 #[derive(Clone, Copy)]
 pub struct Description {
-    /// Its kind: an event 0, a mutex 1, a semaphore 2.
+    /// Its kind: an event 0, a mutex 1, a semaphore 2, a timer 3.
     pub kind: u32,
     /// The maximum of a semaphore; else 0.
     pub max: u32,
     /// The rights that opens may get.
     pub grant: u32,
-    /// Whether it is an event that is reset by hand.
+    /// Whether it is an event that is reset by hand, or a timer that stays signaled until it is set again.
     pub manual: bool,
 }
 
@@ -92,6 +92,7 @@ fn number_of_kind(kind: Kind) -> u32
         Kind::Event => 0,
         Kind::Mutex => 1,
         Kind::Semaphore => 2,
+        Kind::Timer => 3,
     }
 }
 

@@ -3,13 +3,13 @@ ghost use Rattle.std.specs.Prelude.{◌≡◌, None, slice_index_or};
 ghost use Rattle.ob_waits.specs.Waits as waits;
 ghost use Rattle.ob_manager.specs.declared.call.Call.TheVariants as Call;
 ghost use Rattle.obman_c.specs.Telling.{Tells, TellsAs, answer_in};
-ghost use Rattle.obman_c.specs.Waiting.{Waits, mode_of, timeout_of};
+ghost use Rattle.ob_manager.specs.declared.waiting.Timeout.TheVariants as Timeout;
+ghost use Rattle.obman_c.specs.Waiting.{mode_of};
 
 use crate::owner::Owner;
 use crate::status::told;
 use crate::values::tell_answer;
 use ob_manager::{Mode, Timeout};
-use ob_rights::{Fault, code_of};
 
 /// For any or for all.
 fn mode_of(all: bool) -> Mode
@@ -18,21 +18,8 @@ fn mode_of(all: bool) -> Mode
     if all { Mode::All } else { Mode::Any }
 }
 
-/// How long a wait lasts: 0 or `INFINITE` milliseconds.
-fn timeout_of(milliseconds: u32) -> Option<Timeout>
-    ensures { result ≡ timeout_of milliseconds }
-{
-    if milliseconds == 0 {
-        Some(Timeout::Zero)
-    } else if milliseconds == u32::MAX {
-        Some(Timeout::Infinite)
-    } else {
-        None
-    }
-}
-
-/// [`Manager::wait`](ob_manager::Manager::wait), for 0 or `INFINITE` milliseconds; another time is refused with 87. 0 with the
-/// wait's code, 997 with its number, or 87, 170, 6, 5, 1450 or 8.
+/// [`Manager::wait`](ob_manager::Manager::wait), for so many milliseconds. 0 with the wait's code, 997 with its number, or 87, 170,
+/// 6, 5, 1450 or 8.
 #[tactic(auto, using(crate::proofs::Told::tells_as))]
 #[unsafe(no_mangle)]
 pub extern "C" fn om_wait(
@@ -43,18 +30,12 @@ pub extern "C" fn om_wait(
     handles: &[u32],
     answer: &mut u32,
 ) -> u32
-    ensures { Waits (timeout_of milliseconds) thread (mode_of all) handles.now owner.old.value.manager result owner.new.value.manager answer.old answer.new }
+    ensures { TellsAs answer_in owner.old.value.manager (Call.WaitFor thread (mode_of all) (Timeout.Millis milliseconds) handles.now) result owner.new.value.manager answer.old answer.new }
 {
-    match timeout_of(milliseconds) {
-        Some(timeout) => tell_answer(
-            owner
-                .lend()
-                .manager
-                .wait(thread, mode_of(all), timeout, handles),
-            answer,
-        ),
-        None => code_of(Fault::Parameter),
-    }
+    tell_answer(
+        owner.lend().manager.wait(thread, mode_of(all), Timeout::Millis(milliseconds), handles),
+        answer,
+    )
 }
 
 /// [`Manager::wait_result`](ob_manager::Manager::wait_result): 0 with the wait's code, 997 with its number, or 87.

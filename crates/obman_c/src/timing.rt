@@ -1,0 +1,33 @@
+//! Timers, and the time.
+ghost use Rattle.ob_manager.specs.declared.call.Call.TheVariants as Call;
+ghost use Rattle.obman_c.specs.Telling.{Tells};
+
+use crate::owner::Owner;
+use crate::status::told;
+
+/// [`Manager::set_timer`](ob_manager::Manager::set_timer): 0, 87, 170, 6 or 5.
+#[tactic(auto, using(crate::proofs::Told::tells))]
+#[unsafe(no_mangle)]
+pub extern "C" fn om_set_timer(owner: &mut Owner, thread: u32, handle: u32, due: i64) -> u32
+    ensures { Tells owner.old.value.manager (Call.SetTimer thread handle due) result owner.new.value.manager }
+{
+    told(owner.lend().manager.set_timer(thread, handle, due))
+}
+
+/// [`Manager::cancel_timer`](ob_manager::Manager::cancel_timer): 0, 87, 170, 6 or 5.
+#[tactic(auto, using(crate::proofs::Told::tells))]
+#[unsafe(no_mangle)]
+pub extern "C" fn om_cancel_timer(owner: &mut Owner, thread: u32, handle: u32) -> u32
+    ensures { Tells owner.old.value.manager (Call.CancelTimer thread handle) result owner.new.value.manager }
+{
+    told(owner.lend().manager.cancel_timer(thread, handle))
+}
+
+/// [`Manager::tick`](ob_manager::Manager::tick): 0 or 87.
+#[tactic(auto, using(crate::proofs::Told::tells))]
+#[unsafe(no_mangle)]
+pub extern "C" fn om_tick(owner: &mut Owner, now: u64) -> u32
+    ensures { Tells owner.old.value.manager (Call.Tick now) result owner.new.value.manager }
+{
+    told(owner.lend().manager.tick(now))
+}
