@@ -522,3 +522,22 @@ void call(calls *c) {
         each[below(c, sizeof each / sizeof *each)](c);
     }
 }
+
+calls begun(int count, char **words) {
+    calls c = {{NULL}, 0, 0, 0, 0, 0, 0, NULL, NULL};
+    must(count == 5, "COUNT SEED SCRIPT ANSWERS");
+    c.seed = 0x9E3779B97F4A7C15ULL * (uint64_t)(1 + atol(words[2]));
+    c.script = fopen(words[3], "wb");
+    c.answers = fopen(words[4], "wb");
+    must(c.script != NULL && c.answers != NULL, "a file can't be written");
+    om_limits limits = limits_of(&c);
+    printf("--slots=%u --processes=%u --threads=%u --handles=%u --waits=%u --max-pins=%u --max-gen=%u --max-recursion=%u\n", limits.slots,
+           limits.processes, limits.threads, limits.handles, limits.waits, limits.max_pins, limits.max_gen, limits.max_recursion);
+    must(om_new(&limits, &c.m) == OM_SUCCESS, "no manager");
+    return c;
+}
+
+void finish(calls *c) {
+    om_free(c->m);
+    must(fclose(c->script) == 0 && fclose(c->answers) == 0, "a file wasn't written");
+}

@@ -21,6 +21,13 @@ uint32_t below(calls *c, uint32_t most);
 /* Limits that a seed picks: the defaults, or small ones that are soon reached. */
 om_limits limits_of(calls *c);
 
+/* A new manager for random calls by the words of a command line, COUNT SEED SCRIPT ANSWERS. Its limits are printed as options of
+ * the program. */
+calls begun(int count, char **words);
+
+/* Ends the manager, and writes the files to their ends. */
+void finish(calls *c);
+
 /* Makes one call. */
 void call(calls *c);
 

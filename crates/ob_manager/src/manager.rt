@@ -350,7 +350,8 @@ impl<K: PinKeeper> Manager<K> {
 
     /// It is the moment `now`, in units of 100 ns from 0: `Ticked` (*profile*). Each timer that is due becomes signaled, then
     /// what waits may be satisfied, and then each pending wait whose deadline isn't after `now` is answered with 258. So a signal
-    /// goes before a deadline of the same tick. Where nothing is due it looks at no timer and no wait.
+    /// goes before a deadline of the same tick. Where nothing is due and no deadline is over it looks at no timer and no wait; the
+    /// deadline of a wait that was answered before it came is dropped once it is over.
     ///
     /// Refused with 87 where `now` is before the moment that it is, or above 9,223,372,036,854,775,807.
     pub fn tick(&mut self, now: u64) -> Reply

@@ -83,7 +83,8 @@ impl<K: PinKeeper> Store<K> {
     }
 
     /// It is a moment now: what is due fires, the waits settle, and then each wait whose time is up is answered. Where nothing is
-    /// due and no time is up, it looks at no timer and no wait; else it costs by what is, and a logarithm.
+    /// due and no time is up, it looks at no timer and no wait that is pending; else it costs by what is, and a logarithm. The
+    /// deadline of a wait that was answered before it came is dropped by the first tick behind it, once.
     pub fn tick(&mut self, now: u64)
         requires later { self.old.state.clock ≤ now }
         requires last { now ≤ LAST_MOMENT }
