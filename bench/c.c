@@ -1,4 +1,5 @@
 /* The rounds of crates/bench_calls that make, close, reap, set, wait for, count, resolve and duplicate events, through the header.
+ * Then the rounds of time, which these don't have, among as many timers that are set for later and waits with a deadline.
  * Prints a line `CASE, EVENTS: ROUNDS in NANOSECONDS` for each case, as that program and bench/calls.rs do with `measure`. */
 #include <obman.h>
 #include <stdio.h>
@@ -15,6 +16,9 @@
 #define BATCHES 1000u
 #define ROUNDS 1000000u
 #define NAME_LENGTH 16
+/* The most timers that are set, and as many waits have a deadline, while time passes. */
+#define TIMERS 10000u
+#define MOMENTS 100000u
 
 typedef struct event {
     uint32_t process, thread, handle;
@@ -157,6 +161,80 @@ static inline __attribute__((always_inline)) void measure(scene *s, const char *
     report(what, s, ROUNDS, now() - started);
 }
 
+/* A process of as many threads and timers, the timers set for later and each thread but the first waiting for an event. */
+typedef struct clockwork {
+    om_manager m;
+    uint64_t moment;
+    uint32_t count, thread, event, timers[TIMERS];
+} clockwork;
+
+static void wait_long(clockwork *c, uint32_t thread) {
+    uint32_t number;
+    must(om_wait(&c->m, thread, false, 4294967294u, &c->event, 1, &number), OM_ERROR_IO_PENDING);
+}
+
+static clockwork *new_clock(uint32_t count) {
+    om_limits limits = {65536, 65536, 65536, 16384, 4294967295u, 1073741823, 4294967295u, 1};
+    om_making making = {0, 0, false, false, false, false};
+    om_member member;
+    om_opening o;
+    clockwork *c = malloc(sizeof *c);
+    must(c != NULL, true);
+    c->moment = 0;
+    c->count = count;
+    must(om_new(&limits, &c->m), OM_SUCCESS);
+    must(om_spawn(&c->m, 1, &member), OM_SUCCESS);
+    c->thread = member.thread;
+    must(om_create_event(&c->m, c->thread, &making, "", 0, true, false, &o), OM_SUCCESS);
+    c->event = o.handle;
+    for (uint32_t i = 0; i < count; i++) {
+        uint32_t waiter;
+        must(om_thread(&c->m, member.process, &waiter), OM_SUCCESS);
+        wait_long(c, waiter);
+        must(om_create_timer(&c->m, c->thread, &making, "", 0, true, &o), OM_SUCCESS);
+        c->timers[i] = o.handle;
+        must(om_set_timer(&c->m, c->thread, o.handle, (INT64_C(1) << 60) + i * STRIDE % count), OM_SUCCESS);
+    }
+    return c;
+}
+
+static void tick(clockwork *c, uint32_t i) {
+    (void)i;
+    c->moment++;
+    must(om_tick(&c->m, c->moment), OM_SUCCESS);
+}
+
+/* A timer is set for the next moment, which comes, and then for later. */
+static void fire(clockwork *c, uint32_t i) {
+    uint32_t timer = c->timers[i * STRIDE % c->count];
+    must(om_set_timer(&c->m, c->thread, timer, -1), OM_SUCCESS);
+    tick(c, i);
+    must(om_set_timer(&c->m, c->thread, timer, INT64_C(1) << 60), OM_SUCCESS);
+}
+
+static void arm(clockwork *c, uint32_t i) {
+    must(om_set_timer(&c->m, c->thread, c->timers[i * STRIDE % c->count], (INT64_C(1) << 60) + i % 1000), OM_SUCCESS);
+}
+
+/* A thread waits for a millisecond, and time goes on past it. */
+static void lapse(clockwork *c, uint32_t i) {
+    uint32_t number, code;
+    (void)i;
+    must(om_wait(&c->m, c->thread, false, 1, &c->event, 1, &number), OM_ERROR_IO_PENDING);
+    c->moment += 10000;
+    must(om_tick(&c->m, c->moment), OM_SUCCESS);
+    must(om_wait_result(&c->m, number, &code), OM_SUCCESS);
+    must(code, OM_WAIT_TIMEOUT);
+}
+
+static void pass(clockwork *c, const char *what, void (*round)(clockwork *, uint32_t)) {
+    uint64_t started = now();
+    for (uint32_t i = 0; i < MOMENTS; i++) {
+        round(c, i);
+    }
+    printf("%s, %u: %u in %llu\n", what, (unsigned)c->count, MOMENTS, (unsigned long long)(now() - started));
+}
+
 int main(void) {
     static const uint32_t each[] = {16, 1000, 60000};
     for (int i = 0; i < 3; i++) {
@@ -171,6 +249,16 @@ int main(void) {
         measure(&s, "set and wait", set_and_wait);
         om_free(s.m);
         free(s.events);
+    }
+    static const uint32_t timers[] = {16, 1000, TIMERS};
+    for (int i = 0; i < 3; i++) {
+        clockwork *c = new_clock(timers[i]);
+        pass(c, "tick, nothing due", tick);
+        pass(c, "set a timer", arm);
+        pass(c, "set, tick that fires it, set", fire);
+        pass(c, "wait, tick that is past it", lapse);
+        om_free(c->m);
+        free(c);
     }
     return 0;
 }

@@ -1,11 +1,13 @@
 #!/usr/bin/env python3
-"""Two guest processes and a named event, through the shared library: OBMAN=build/libobman.so examples/python/guests.py"""
+"""Two guest processes, a named event and a timer, through the shared library: OBMAN=build/libobman.so examples/python/guests.py"""
 
 import ctypes
 import os
-from ctypes import POINTER, byref, c_bool, c_char_p, c_size_t, c_uint32, c_void_p
+from ctypes import POINTER, byref, c_bool, c_char_p, c_int64, c_size_t, c_uint32, c_uint64, c_void_p
 
 SUCCESS, IO_PENDING, ALREADY_EXISTS = 0, 997, 183
+TIMEOUT = 258
+MILLISECOND = 10_000  # in the manager's units of time, 100 ns
 INFINITE = 0xFFFFFFFF
 
 
@@ -45,6 +47,9 @@ def library(path):
         "om_wait": [at, c_uint32, c_bool, c_uint32, POINTER(c_uint32), c_size_t, POINTER(c_uint32)],
         "om_set_event": [at, c_uint32, c_uint32],
         "om_wait_result": [at, c_uint32, POINTER(c_uint32)],
+        "om_create_timer": [at, c_uint32, POINTER(Making), c_char_p, c_size_t, c_bool, POINTER(Opening)],
+        "om_set_timer": [at, c_uint32, c_uint32, c_int64],
+        "om_tick": [at, c_uint64],
     }
     for name, parameters in types.items():
         function = getattr(om, name)
@@ -74,6 +79,17 @@ def main():
     wait = number.value
     see("SetEvent by the other", om.om_set_event(m, second.thread, other.handle), SUCCESS)
     see("the wait's answer", om.om_wait_result(m, wait, byref(number)), SUCCESS)
+    see("its code", number.value, 0)
+    see("CreateWaitableTimer", om.om_create_timer(m, first.thread, Making(), b"", 0, False, one), SUCCESS)
+    see("SetWaitableTimer in 5 ms", om.om_set_timer(m, first.thread, one.handle, -5 * MILLISECOND), SUCCESS)
+    handles = (c_uint32 * 1)(one.handle)
+    see("a wait of 3 ms", om.om_wait(m, first.thread, False, 3, handles, 1, byref(number)), IO_PENDING)
+    wait = number.value
+    see("4 ms later", om.om_tick(m, 4 * MILLISECOND), SUCCESS)
+    see("the wait's answer", om.om_wait_result(m, wait, byref(number)), SUCCESS)
+    see("its code", number.value, TIMEOUT)
+    see("5 ms later", om.om_tick(m, 5 * MILLISECOND), SUCCESS)
+    see("a wait of 0 ms", om.om_wait(m, first.thread, False, 0, handles, 1, byref(number)), SUCCESS)
     see("its code", number.value, 0)
     om.om_free(m)
 

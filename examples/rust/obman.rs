@@ -54,6 +54,18 @@ mod c {
             owned: bool,
             opening: *mut Opening,
         ) -> u32;
+        pub fn om_create_timer(
+            m: *mut Manager,
+            thread: u32,
+            making: *const Making,
+            name: *const u8,
+            length: usize,
+            manual: bool,
+            opening: *mut Opening,
+        ) -> u32;
+        pub fn om_set_timer(m: *mut Manager, thread: u32, handle: u32, due: i64) -> u32;
+        pub fn om_cancel_timer(m: *mut Manager, thread: u32, handle: u32) -> u32;
+        pub fn om_tick(m: *mut Manager, now: u64) -> u32;
         pub fn om_close(m: *mut Manager, thread: u32, handle: u32) -> u32;
         pub fn om_set_event(m: *mut Manager, thread: u32, handle: u32) -> u32;
         pub fn om_release_mutex(m: *mut Manager, thread: u32, handle: u32) -> u32;
@@ -86,7 +98,9 @@ impl std::error::Error for Error {}
 
 const ALREADY_EXISTS: u32 = 183;
 const IO_PENDING: u32 = 997;
-const INFINITE: u32 = u32::MAX;
+
+/// The milliseconds of a wait without end.
+pub const INFINITE: u32 = u32::MAX;
 
 /// How much a manager may hold.
 #[repr(C)]
@@ -259,6 +273,35 @@ impl Manager {
         created(status, opening)
     }
 
+    pub fn create_timer(
+        &mut self,
+        thread: u32,
+        name: Option<&[u8]>,
+        inherit: bool,
+        manual: bool,
+    ) -> Result<Created, Error> {
+        let (making, name) = making(name, inherit);
+        let mut opening = Opening::default();
+        let status = unsafe {
+            c::om_create_timer(&mut self.m, thread, &making, name.as_ptr(), name.len(), manual, &mut opening)
+        };
+        created(status, opening)
+    }
+
+    /// Sets a timer for a moment in units of 100 ns, or below 0 for so many units from now.
+    pub fn set_timer(&mut self, thread: u32, handle: u32, due: i64) -> Result<(), Error> {
+        done(unsafe { c::om_set_timer(&mut self.m, thread, handle, due) })
+    }
+
+    pub fn cancel_timer(&mut self, thread: u32, handle: u32) -> Result<(), Error> {
+        done(unsafe { c::om_cancel_timer(&mut self.m, thread, handle) })
+    }
+
+    /// It is this moment now, in units of 100 ns.
+    pub fn tick(&mut self, now: u64) -> Result<(), Error> {
+        done(unsafe { c::om_tick(&mut self.m, now) })
+    }
+
     pub fn close(&mut self, thread: u32, handle: u32) -> Result<(), Error> {
         done(unsafe { c::om_close(&mut self.m, thread, handle) })
     }
@@ -277,10 +320,9 @@ impl Manager {
         Ok(object)
     }
 
-    /// Waits for any of the objects, or for all; without end, or not at all.
-    pub fn wait(&mut self, thread: u32, all: bool, endless: bool, handles: &[u32]) -> Result<Waited, Error> {
+    /// Waits for any of the objects, or for all: not at all, for some milliseconds of the manager's time, or without end.
+    pub fn wait(&mut self, thread: u32, all: bool, milliseconds: u32, handles: &[u32]) -> Result<Waited, Error> {
         let mut answer = 0;
-        let milliseconds = if endless { INFINITE } else { 0 };
         let status = unsafe {
             c::om_wait(&mut self.m, thread, all, milliseconds, handles.as_ptr(), handles.len(), &mut answer)
         };
@@ -303,7 +345,7 @@ impl Manager {
 
 #[cfg(test)]
 mod tests {
-    use super::{Created, Error, Limits, Manager, Waited};
+    use super::{Created, Error, Limits, Manager, Waited, INFINITE};
     use std::sync::{Arc, Mutex};
 
     fn opening(created: Created) -> super::Opening {
@@ -319,7 +361,7 @@ mod tests {
         let event = opening(m.create_event(parent.thread, Some(b"ready"), true, false, false)?);
         let child = m.child(parent.thread, true)?;
         assert_eq!(m.resolve(child.process, event.handle)?, event.object);
-        let Waited::Pending(wait) = m.wait(parent.thread, false, true, &[event.handle])? else {
+        let Waited::Pending(wait) = m.wait(parent.thread, false, INFINITE, &[event.handle])? else {
             panic!("the event isn't set");
         };
         assert_eq!(m.close(parent.thread, event.handle), Err(Error(170)));
@@ -339,8 +381,33 @@ mod tests {
         assert_eq!(again.object, mutex.object);
         assert_eq!(m.release_mutex(second.thread, again.handle), Err(Error(288)));
         m.exit(first.process)?;
-        assert_eq!(m.wait(second.thread, false, false, &[again.handle])?, Waited::Over(128));
+        assert_eq!(m.wait(second.thread, false, 0, &[again.handle])?, Waited::Over(128));
         m.release_mutex(second.thread, again.handle)
+    }
+
+    #[test]
+    fn a_timer_fires_and_a_wait_runs_out_of_time() -> Result<(), Error> {
+        let mut m = Manager::new(&Limits::default())?;
+        let (first, second) = (m.spawn(1)?, m.spawn(1)?);
+        let timer = opening(m.create_timer(first.thread, Some(b"t"), false, true)?);
+        let again = opening(m.create_timer(second.thread, Some(b"t"), false, true)?);
+        let over = opening(m.create_event(second.thread, None, false, true, false)?);
+        m.set_timer(first.thread, timer.handle, -10_000)?;
+        let Waited::Pending(fired) = m.wait(first.thread, false, INFINITE, &[timer.handle])? else {
+            panic!("the timer isn't due");
+        };
+        let Waited::Pending(late) = m.wait(second.thread, false, 2, &[over.handle])? else {
+            panic!("the event isn't set");
+        };
+        m.tick(10_000)?;
+        assert_eq!(m.wait_result(fired)?, Waited::Over(0));
+        assert_eq!(m.wait_result(late)?, Waited::Pending(late));
+        m.tick(20_000)?;
+        assert_eq!(m.wait_result(late)?, Waited::Over(258));
+        m.cancel_timer(second.thread, again.handle)?;
+        assert_eq!(m.wait(second.thread, false, 0, &[again.handle])?, Waited::Over(0));
+        assert_eq!(m.tick(19_999), Err(Error(87)));
+        Ok(())
     }
 
     #[test]
@@ -359,7 +426,7 @@ mod tests {
                     let member = m.lock().unwrap().spawn(1)?;
                     for _ in 0..1_000 {
                         let event = opening(m.lock().unwrap().create_event(member.thread, None, false, true, true)?);
-                        let waited = m.lock().unwrap().wait(member.thread, false, false, &[event.handle])?;
+                        let waited = m.lock().unwrap().wait(member.thread, false, 0, &[event.handle])?;
                         assert_eq!(waited, Waited::Over(0));
                         m.lock().unwrap().close(member.thread, event.handle)?;
                         let reaped = m.lock().unwrap().reap(event.object.slot)?;
