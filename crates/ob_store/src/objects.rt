@@ -120,7 +120,7 @@ impl<K: PinKeeper> Objects<K> {
     }
 
     /// A new object in a vacant slot, with one handle; its Id. Its number is how many objects were made before it.
-    #[inline]
+    #[inline(always)]
     pub fn add(
         &mut self,
         slot: u32,
@@ -177,6 +177,7 @@ impl<K: PinKeeper> Objects<K> {
     }
 
     /// One handle fewer. The object ends where that was the last reference to it.
+    #[inline]
     pub fn handle_left(&mut self, slot: u32)
         requires some { 0 < slice_index_or self.old.seen.handles slot 0 }
         ensures { self.new ≡ without_handle_of self.old slot }

@@ -47,6 +47,7 @@ pub(crate) struct Was {
 
 impl Seat {
     /// A new object with one handle.
+    #[inline(always)]
     pub(crate) fn new(
         id: Id,
         birth: u64,
@@ -70,6 +71,7 @@ impl Seat {
     }
 
     /// It gets a body. What it was before.
+    #[inline(always)]
     pub(crate) fn put(&mut self, body: Body) -> Was
         ensures value { self.new ≡ record self.old { body = Some body } }
         ensures owner { result.owner ≡ slot_owner self.old.body }
@@ -111,6 +113,7 @@ impl Seat {
     }
 
     /// One handle fewer: the body goes with the last reference. The body that went.
+    #[inline]
     pub(crate) fn handle_left(&mut self) -> Option<Body>
         requires { 0 < self.old.handles }
         ensures value { self.new ≡ seat_handle_left self.old }
@@ -130,6 +133,7 @@ impl Seat {
     }
 
     // The body goes where nothing refers to the object.
+    #[inline]
     fn end_if_free(&mut self) -> Option<Body>
         ensures value { self.new ≡ record self.old { body = if self.old.handles + self.old.blocks == 0 then None else self.old.body } }
         ensures gone { result ≡ if self.old.handles + self.old.blocks == 0 then self.old.body else None }

@@ -135,7 +135,7 @@ impl Seats {
     }
 
     /// Puts an object with one handle into the vacant slot of its Id.
-    #[inline]
+    #[inline(always)]
     pub(crate) fn add(
         &mut self,
         id: Id,
@@ -165,6 +165,7 @@ impl Seats {
     }
 
     /// One handle fewer; whether the object ended.
+    #[inline]
     pub(crate) fn handle_left(&mut self, slot: u32) -> bool
         requires there { IsSome (slice_index_or self.old.objects slot None) }
         requires some { 0 < slice_index_or self.old.seen.handles slot 0 }

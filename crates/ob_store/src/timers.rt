@@ -47,7 +47,7 @@ impl Timers {
     }
 
     /// The timer of a slot was due at one moment, and is at another. Most objects never are.
-    #[inline]
+    #[inline(always)]
     pub(crate) fn moved(&mut self, slot: u32, before: Option<u64>, after: Option<u64>)
         requires there { slot < length self.old }
         requires was { slice_index_or self.old slot None ≡ before }
