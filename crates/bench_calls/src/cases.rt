@@ -16,8 +16,8 @@ pub(crate) struct Home {
 
 /// What is done in a round in a manager of its own.
 pub(crate) trait Case {
-    /// The manager, beside so many objects, handles or waits.
-    fn home(alloc: Global, count: u32) -> Result<Home, Fault>;
+    /// Makes what a round needs, beside so many objects, handles or waits.
+    fn fill(home: &mut Home, alloc: Global, count: u32) -> Result<(), Fault>;
 
     /// A number of the answers, which depends on what was done.
     fn round(home: &mut Home) -> Result<u32, Fault>;
@@ -33,7 +33,7 @@ pub(crate) fn rounds_at<C: Case>(home: &mut Home, rounds: u32) -> Result<u64, Fa
 }
 
 /// A process without handles.
-fn empty_home(alloc: Global) -> Result<Home, Fault> {
+pub(crate) fn empty_home(alloc: Global) -> Result<Home, Fault> {
     let mut manager = locked(alloc)?;
     let (process, thread) = spawned(manager.spawn(1))?;
     Ok(Home {
@@ -67,10 +67,8 @@ fn add_events(home: &mut Home, count: u32, are_set: bool) -> Result<(), Fault> {
 pub(crate) struct WaitForAny;
 
 impl Case for WaitForAny {
-    fn home(alloc: Global, count: u32) -> Result<Home, Fault> {
-        let mut home = empty_home(alloc)?;
-        add_events(&mut home, count, false)?;
-        Ok(home)
+    fn fill(home: &mut Home, _: Global, count: u32) -> Result<(), Fault> {
+        add_events(home, count, false)
     }
 
     fn round(home: &mut Home) -> Result<u32, Fault> {
@@ -82,10 +80,8 @@ impl Case for WaitForAny {
 pub(crate) struct WaitForAll;
 
 impl Case for WaitForAll {
-    fn home(alloc: Global, count: u32) -> Result<Home, Fault> {
-        let mut home = empty_home(alloc)?;
-        add_events(&mut home, count, true)?;
-        Ok(home)
+    fn fill(home: &mut Home, _: Global, count: u32) -> Result<(), Fault> {
+        add_events(home, count, true)
     }
 
     fn round(home: &mut Home) -> Result<u32, Fault> {
@@ -106,10 +102,8 @@ fn wait_at_once(home: &mut Home, mode: Mode) -> Result<u32, Fault> {
 pub(crate) struct WaitAndSet;
 
 impl Case for WaitAndSet {
-    fn home(alloc: Global, count: u32) -> Result<Home, Fault> {
-        let mut home = empty_home(alloc)?;
-        add_waits(&mut home, count)?;
-        Ok(home)
+    fn fill(home: &mut Home, _: Global, count: u32) -> Result<(), Fault> {
+        add_waits(home, count)
     }
 
     fn round(home: &mut Home) -> Result<u32, Fault> {
@@ -158,10 +152,8 @@ fn set_last(home: &mut Home) -> Result<(), Fault> {
 pub(crate) struct ChildAndExit;
 
 impl Case for ChildAndExit {
-    fn home(alloc: Global, count: u32) -> Result<Home, Fault> {
-        let mut home = empty_home(alloc)?;
-        add_inheritable(&mut home, count)?;
-        Ok(home)
+    fn fill(home: &mut Home, _: Global, count: u32) -> Result<(), Fault> {
+        add_inheritable(home, count)
     }
 
     fn round(home: &mut Home) -> Result<u32, Fault> {
@@ -185,8 +177,8 @@ fn add_inheritable(home: &mut Home, count: u32) -> Result<(), Fault> {
 pub(crate) struct ThreadAndEnd;
 
 impl Case for ThreadAndEnd {
-    fn home(alloc: Global, count: u32) -> Result<Home, Fault> {
-        home_among(alloc, count)
+    fn fill(home: &mut Home, alloc: Global, count: u32) -> Result<(), Fault> {
+        add_named(home, alloc, count)
     }
 
     fn round(home: &mut Home) -> Result<u32, Fault> {
@@ -199,8 +191,8 @@ impl Case for ThreadAndEnd {
 pub(crate) struct OwnerAndEnd;
 
 impl Case for OwnerAndEnd {
-    fn home(alloc: Global, count: u32) -> Result<Home, Fault> {
-        home_among(alloc, count)
+    fn fill(home: &mut Home, alloc: Global, count: u32) -> Result<(), Fault> {
+        add_named(home, alloc, count)
     }
 
     fn round(home: &mut Home) -> Result<u32, Fault> {
@@ -215,13 +207,7 @@ impl Case for OwnerAndEnd {
 }
 
 /// Named events, and a mutex that is made last, by the process that made the last of them.
-fn home_among(alloc: Global, count: u32) -> Result<Home, Fault> {
-    let mut home = empty_home(alloc)?;
-    add_named(alloc, &mut home, count)?;
-    Ok(home)
-}
-
-fn add_named(alloc: Global, home: &mut Home, count: u32) -> Result<(), Fault> {
+fn add_named(home: &mut Home, alloc: Global, count: u32) -> Result<(), Fault> {
     let events = live_events(alloc, &mut home.manager, count)?;
     if let Some(event) = events.last() {
         home.process = event.process;

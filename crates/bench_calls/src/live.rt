@@ -64,9 +64,14 @@ pub(crate) fn inheritable() -> Make<'static> {
     }
 }
 
-/// A manager with as many slots, processes and threads as there can be.
+/// As many slots, processes and threads as there can be.
+fn limits() -> Result<Limits, Fault> {
+    Limits::checked(65_536, 65_536, 65_536, 16_384, u32::MAX, 16, u32::MAX, 1)
+}
+
+/// A manager with these limits.
 pub(crate) fn locked(alloc: Global) -> Result<Locked, Fault> {
-    let limits = Limits::checked(65_536, 65_536, 65_536, 16_384, u32::MAX, 16, u32::MAX, 1)?;
+    let limits = limits()?;
     let keeper = LockedPins::new(alloc, limits.shape())?;
     match Manager::new(alloc, limits, keeper) {
         Ok(manager) => Ok(manager),

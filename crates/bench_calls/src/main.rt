@@ -15,7 +15,7 @@ mod rounds;
 
 use cases::{
     Case, ChildAndExit, Home, OwnerAndEnd, ThreadAndEnd, WaitAndSet, WaitForAll, WaitForAny,
-    rounds_at,
+    empty_home, rounds_at,
 };
 use live::{Live, Locked, Text, live_events, locked, texts};
 use rounds::{
@@ -63,14 +63,19 @@ struct Scene {
     texts: Vec<Text>,
 }
 
-fn prepared(alloc: Global, count: u32) -> Option<Scene> {
-    let mut manager = locked(alloc).ok()?;
-    let events = live_events(alloc, &mut manager, count).ok()?;
+fn empty_scene(alloc: Global) -> Option<Scene> {
+    let manager = locked(alloc).ok()?;
     Some(Scene {
         manager,
-        events,
-        texts: texts(alloc, count, BATCH).ok()?,
+        events: Vec::new(alloc),
+        texts: Vec::new(alloc),
     })
+}
+
+fn fill(scene: &mut Scene, alloc: Global, count: u32) -> Option<()> {
+    scene.events = live_events(alloc, &mut scene.manager, count).ok()?;
+    scene.texts = texts(alloc, count, BATCH).ok()?;
+    Some(())
 }
 
 fn report(
@@ -168,11 +173,18 @@ fn come_and_go(
 }
 
 fn run(rt: &(impl Print + Clock), alloc: Global, plan: Plan, count: u32) -> Option<()> {
-    let mut scene = prepared(alloc, count)?;
-    run_in(rt, alloc, plan, &mut scene)
+    let mut scene = empty_scene(alloc)?;
+    run_in(rt, alloc, plan, &mut scene, count)
 }
 
-fn run_in(rt: &(impl Print + Clock), alloc: Global, plan: Plan, scene: &mut Scene) -> Option<()> {
+fn run_in(
+    rt: &(impl Print + Clock),
+    alloc: Global,
+    plan: Plan,
+    scene: &mut Scene,
+    count: u32,
+) -> Option<()> {
+    fill(scene, alloc, count)?;
     come_and_go(
         rt,
         alloc,
@@ -206,7 +218,14 @@ struct Spent {
     sum: u64,
 }
 
-fn timed<C: Case>(rt: &impl Clock, home: &mut Home, rounds: u32) -> Option<Spent> {
+fn timed<C: Case>(
+    rt: &impl Clock,
+    alloc: Global,
+    home: &mut Home,
+    count: u32,
+    rounds: u32,
+) -> Option<Spent> {
+    C::fill(home, alloc, count).ok()?;
     let started = Instant::now(rt).ok()?;
     let sum = rounds_at::<C>(home, rounds).ok()?;
     let nanos = started.elapsed(rt).ok()?.as_nanos();
@@ -214,8 +233,8 @@ fn timed<C: Case>(rt: &impl Clock, home: &mut Home, rounds: u32) -> Option<Spent
 }
 
 fn timed_anew<C: Case>(rt: &impl Clock, alloc: Global, count: u32, rounds: u32) -> Option<Spent> {
-    let mut home = C::home(alloc, count).ok()?;
-    timed::<C>(rt, &mut home, rounds)
+    let mut home = empty_home(alloc).ok()?;
+    timed::<C>(rt, alloc, &mut home, count, rounds)
 }
 
 /// So many rounds in each of so many managers.
