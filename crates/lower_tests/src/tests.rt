@@ -2,4 +2,5 @@ mod names;
 mod pins;
 mod schedules;
 mod store;
+mod tables;
 mod waits;

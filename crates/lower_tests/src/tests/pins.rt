@@ -15,9 +15,31 @@ const SEMAPHORE: Descr = Descr {
     max: 5,
 };
 
-fn id(slot: u32, generation: u32) -> Id {
-    Id { slot, generation }
-}
+const FIRST: Id = Id {
+    slot: 0,
+    generation: 1,
+};
+
+const SECOND: Id = Id {
+    slot: 0,
+    generation: 2,
+};
+
+const THIRD: Id = Id {
+    slot: 0,
+    generation: 3,
+};
+
+/// The first object of the next slot, where there is one.
+const BESIDE: Id = Id {
+    slot: 1,
+    generation: 1,
+};
+
+const LAST: Id = Id {
+    slot: 3,
+    generation: 1,
+};
 
 trait Counted: PinKeeper {
     fn count(&self) -> u32
@@ -153,26 +175,26 @@ fn a_pinned_slot_is_kept(rt: HostRuntime) -> Result<(), Fail> {
     assert!(rt; is_fresh(&keeper, shape));
     let mut b = keeper.reader();
     assert!(rt; publish(&mut keeper, 0));
-    assert!(rt; a.try_pin(id(0, 1)).is_ok() && b.try_pin(id(0, 1)).is_ok());
-    assert!(rt; a.try_pin(id(0, 1)) == Err(PinFault::PinsFull));
-    assert!(rt; descr(&mut a, id(0, 1)) == Some(SEMAPHORE) && a.held() == &[id(0, 1)][..]);
+    assert!(rt; a.try_pin(FIRST).is_ok() && b.try_pin(FIRST).is_ok());
+    assert!(rt; a.try_pin(FIRST) == Err(PinFault::PinsFull));
+    assert!(rt; descr(&mut a, FIRST) == Some(SEMAPHORE) && a.held() == &[FIRST][..]);
     assert!(rt; close(&mut keeper, 0));
-    assert!(rt; b.try_pin(id(0, 1)) == Err(PinFault::Stale));
+    assert!(rt; b.try_pin(FIRST) == Err(PinFault::Stale));
     assert!(rt; reclaim(&mut keeper, 0) == Some(Reclaim::Held { pins: 2 }));
-    assert!(rt; release(&mut a, id(0, 1)));
+    assert!(rt; release(&mut a, FIRST));
     assert!(rt; reclaim(&mut keeper, 0) == Some(Reclaim::Held { pins: 1 }));
-    assert!(rt; release(&mut b, id(0, 1)) && !b.holds(id(0, 1)));
+    assert!(rt; release(&mut b, FIRST) && !b.holds(FIRST));
     assert!(rt; reclaim(&mut keeper, 0) == Some(Reclaim::Freed) && is_at(&keeper, 0, 2));
-    assert!(rt; a.try_pin(id(0, 1)) == Err(PinFault::Stale));
-    assert!(rt; a.try_pin(id(0, 2)) == Err(PinFault::Unborn));
+    assert!(rt; a.try_pin(FIRST) == Err(PinFault::Stale));
+    assert!(rt; a.try_pin(SECOND) == Err(PinFault::Unborn));
     assert!(rt; publish(&mut keeper, 0));
-    assert!(rt; a.try_pin(id(0, 2)).is_ok());
-    assert!(rt; a.try_pin(id(1, 1)) == Err(PinFault::NoSuchSlot));
-    assert!(rt; release(&mut a, id(0, 2)));
+    assert!(rt; a.try_pin(SECOND).is_ok());
+    assert!(rt; a.try_pin(BESIDE) == Err(PinFault::NoSuchSlot));
+    assert!(rt; release(&mut a, SECOND));
     assert!(rt; close(&mut keeper, 0));
     assert!(rt; reclaim(&mut keeper, 0) == Some(Reclaim::Retired) && is_at(&keeper, 0, 2));
-    assert!(rt; a.try_pin(id(0, 2)) == Err(PinFault::Stale));
-    assert!(rt; a.try_pin(id(0, 3)) == Err(PinFault::Stale));
+    assert!(rt; a.try_pin(SECOND) == Err(PinFault::Stale));
+    assert!(rt; a.try_pin(THIRD) == Err(PinFault::Stale));
     Ok(())
 }
 
@@ -185,17 +207,17 @@ fn pins_under_a_lock_are_kept(rt: HostRuntime) -> Result<(), Fail> {
         panic!(rt; "no memory")
     };
     assert!(rt; is_fresh(&pins, shape));
-    assert!(rt; pins.try_pin(id(0, 1)) == Err(PinFault::Unborn));
+    assert!(rt; pins.try_pin(FIRST) == Err(PinFault::Unborn));
     assert!(rt; publish(&mut pins, 0));
-    assert!(rt; pins.try_pin(id(0, 1)).is_ok() && pins.try_pin(id(0, 1)).is_ok());
-    assert!(rt; pins.try_pin(id(0, 1)) == Err(PinFault::PinsFull));
-    assert!(rt; pins.try_pin(id(1, 1)) == Err(PinFault::NoSuchSlot));
-    assert!(rt; locked_descr(&pins, id(0, 1)) == Some(SEMAPHORE));
+    assert!(rt; pins.try_pin(FIRST).is_ok() && pins.try_pin(FIRST).is_ok());
+    assert!(rt; pins.try_pin(FIRST) == Err(PinFault::PinsFull));
+    assert!(rt; pins.try_pin(BESIDE) == Err(PinFault::NoSuchSlot));
+    assert!(rt; locked_descr(&pins, FIRST) == Some(SEMAPHORE));
     assert!(rt; close(&mut pins, 0));
-    assert!(rt; pins.try_pin(id(0, 1)) == Err(PinFault::Stale));
+    assert!(rt; pins.try_pin(FIRST) == Err(PinFault::Stale));
     assert!(rt; reclaim(&mut pins, 0) == Some(Reclaim::Held { pins: 2 }));
-    assert!(rt; unlock(&mut pins, id(0, 1)) && unlock(&mut pins, id(0, 1)));
-    assert!(rt; !unlock(&mut pins, id(0, 1)));
+    assert!(rt; unlock(&mut pins, FIRST) && unlock(&mut pins, FIRST));
+    assert!(rt; !unlock(&mut pins, FIRST));
     assert!(rt; reclaim(&mut pins, 0) == Some(Reclaim::Freed) && is_at(&pins, 0, 2));
     assert!(rt; publish(&mut pins, 0) && close(&mut pins, 0));
     assert!(rt; reclaim(&mut pins, 0) == Some(Reclaim::Retired) && is_at(&pins, 0, 2));
@@ -215,10 +237,10 @@ fn a_reader_holds_16_copies(rt: HostRuntime) -> Result<(), Fail> {
     };
     assert!(rt; publish(&mut keeper, 0));
     for _ in 0..16 {
-        assert!(rt; reader.try_pin(id(0, 1)).is_ok());
+        assert!(rt; reader.try_pin(FIRST).is_ok());
     }
-    assert!(rt; reader.try_pin(id(0, 1)) == Err(PinFault::HeldFull));
-    assert!(rt; reader.try_pin(id(1, 1)) == Err(PinFault::NoSuchSlot));
+    assert!(rt; reader.try_pin(FIRST) == Err(PinFault::HeldFull));
+    assert!(rt; reader.try_pin(BESIDE) == Err(PinFault::NoSuchSlot));
     Ok(())
 }
 
@@ -237,8 +259,8 @@ fn two_threads_pin_and_release(rt: HostRuntime) -> Result<(), Fail> {
     assert!(rt; publish(&mut keeper, 1));
     let (x, y) = join(
         &rt,
-        || spin(&rt, &mut a, id(1, 1)),
-        || spin(&rt, &mut b, id(1, 1)),
+        || spin(&rt, &mut a, BESIDE),
+        || spin(&rt, &mut b, BESIDE),
     );
     assert!(rt; x == 0 && y == 0);
     let locked = Mutex::new(keeper);
@@ -281,9 +303,9 @@ fn want_of_memory_gives_back_what_was_given(rt: HostRuntime) -> Result<(), Fail>
     if keeper.slots() == 4 {
         keeper.meet(&mut reader, 3);
     }
-    assert!(rt; !meet(&mut keeper, &mut reader, id(3, 1)));
-    assert!(rt; publish(&mut keeper, 3) && reader.try_pin(id(3, 1)).is_ok());
-    assert!(rt; meet(&mut keeper, &mut reader, id(3, 1)));
+    assert!(rt; !meet(&mut keeper, &mut reader, LAST));
+    assert!(rt; publish(&mut keeper, 3) && reader.try_pin(LAST).is_ok());
+    assert!(rt; meet(&mut keeper, &mut reader, LAST));
     let locked = match LockedPins::new(rt.alloc(), shape) {
         Ok(locked) => Ok(locked),
         Err(_) => LockedPins::new(rt.alloc(), shape),

@@ -6,6 +6,7 @@ use ob_store::Objects;
 use ob_waits::Bodies;
 use pin_core::{Descr, Id, Shape};
 use pin_words::{LockedPins, PinKeeper, Pins, Reclaim};
+use std::alloc::Global;
 use std::process::Abort;
 use std::test::Fail;
 
@@ -111,117 +112,6 @@ fn reclaimed<K: PinKeeper>(objects: &mut Objects<K>, slot: u32) -> Option<Reclai
     Some(objects.reclaim(slot))
 }
 
-/// One slot with two generations: it is given twice, and then never again.
-fn plays_two_generations<K: PinKeeper>(rt: &impl Abort, objects: &mut Objects<K>) {
-    assert!(rt;
-        made(objects, EVENT)
-            == Some(Id {
-                slot: 0,
-                generation: 1
-            })
-    );
-    assert!(rt; birth_of(objects, 0) == Some(0));
-    assert!(rt; made(objects, EVENT).is_none());
-    assert!(rt; reclaimed(objects, 0).is_none());
-    assert!(rt; has_lost_a_handle(objects, 0));
-    assert!(rt; made(objects, EVENT).is_none());
-    assert!(rt; reclaimed(objects, 0) == Some(Reclaim::Freed));
-    assert!(rt; reclaimed(objects, 0).is_none());
-    assert!(rt;
-        made(objects, MUTEX)
-            == Some(Id {
-                slot: 0,
-                generation: 2
-            })
-    );
-    assert!(rt; birth_of(objects, 0) == Some(1));
-    assert!(rt; has_lost_a_handle(objects, 0));
-    assert!(rt; reclaimed(objects, 0) == Some(Reclaim::Retired));
-    assert!(rt; reclaimed(objects, 0).is_none());
-    assert!(rt; made(objects, EVENT).is_none());
-}
-
-#[test]
-fn a_slot_is_given_again_and_then_retired(rt: HostRuntime) -> Result<(), Fail> {
-    let Some(shape) = Shape::checked(1, 4, 2) else {
-        return Err(Fail::from(Fault::Parameter));
-    };
-    let keeper = LockedPins::new(rt.alloc(), shape)?;
-    let Ok(mut objects) = Objects::new(rt.alloc(), 1, 4, keeper) else {
-        return Err(Fail::from(Fault::Memory));
-    };
-    plays_two_generations(&rt, &mut objects);
-    let (pins, opening) = Pins::new(rt.alloc(), shape)?;
-    let Ok((keeper, reader)) = opening.start(&pins) else {
-        return Err(Fail::from(Fault::Memory));
-    };
-    let Ok(mut objects) = Objects::new(rt.alloc(), 1, 4, keeper) else {
-        return Err(Fail::from(Fault::Memory));
-    };
-    plays_two_generations(&rt, &mut objects);
-    reader.finish();
-    Ok(())
-}
-
-#[test]
-fn an_object_stays_until_its_last_reference_leaves(rt: HostRuntime) -> Result<(), Fail> {
-    let Some(shape) = Shape::checked(1, 4, 2) else {
-        return Err(Fail::from(Fault::Parameter));
-    };
-    let keeper = LockedPins::new(rt.alloc(), shape)?;
-    let Ok(mut objects) = Objects::new(rt.alloc(), 1, 4, keeper) else {
-        return Err(Fail::from(Fault::Memory));
-    };
-    let Some(id) = made(&mut objects, EVENT) else {
-        return Err(Fail::from(Fault::Parameter));
-    };
-    assert!(rt; has_gained_a_block(&mut objects, 0));
-    assert!(rt; has_gained_a_handle(&mut objects, 0));
-    assert!(rt; has_lost_a_handle(&mut objects, 0));
-    assert!(rt; has_lost_a_handle(&mut objects, 0));
-    assert!(rt; !has_lost_a_handle(&mut objects, 0));
-    assert!(rt; reclaimed(&mut objects, 0).is_none());
-    objects.block_left(id);
-    assert!(rt; !has_gained_a_handle(&mut objects, 0));
-    assert!(rt; reclaimed(&mut objects, 0) == Some(Reclaim::Freed));
-    Ok(())
-}
-
-#[test]
-fn each_place_of_a_list_is_a_block(rt: HostRuntime) -> Result<(), Fail> {
-    let Some(shape) = Shape::checked(1, 4, 2) else {
-        return Err(Fail::from(Fault::Parameter));
-    };
-    let keeper = LockedPins::new(rt.alloc(), shape)?;
-    let Ok(mut objects) = Objects::new(rt.alloc(), 1, 4, keeper) else {
-        return Err(Fail::from(Fault::Memory));
-    };
-    assert!(rt; blocks_of_two_places(&mut objects) == Some(2));
-    Ok(())
-}
-
-#[test]
-fn a_pinned_slot_is_held(rt: HostRuntime) -> Result<(), Fail> {
-    let Some(shape) = Shape::checked(1, 4, 2) else {
-        return Err(Fail::from(Fault::Parameter));
-    };
-    let keeper = LockedPins::new(rt.alloc(), shape)?;
-    let Ok(mut objects) = Objects::new(rt.alloc(), 1, 4, keeper) else {
-        return Err(Fail::from(Fault::Memory));
-    };
-    let Some(id) = made(&mut objects, EVENT) else {
-        return Err(Fail::from(Fault::Parameter));
-    };
-    assert!(rt; objects.try_pin(id).is_ok());
-    assert!(rt; has_lost_a_handle(&mut objects, 0));
-    assert!(rt; objects.try_pin(id).is_err());
-    assert!(rt; reclaimed(&mut objects, 0) == Some(Reclaim::Held { pins: 1 }));
-    assert!(rt; has_let_go(&mut objects, id));
-    assert!(rt; !has_let_go(&mut objects, id));
-    assert!(rt; reclaimed(&mut objects, 0) == Some(Reclaim::Freed));
-    Ok(())
-}
-
 /// The Id of a slot's first object.
 fn first_of(slot: u32) -> Id {
     Id {
@@ -257,49 +147,214 @@ fn has_released<K: PinKeeper>(objects: &mut Objects<K>, thread: u32, slot: u32) 
     true
 }
 
-/// Mutexes in seven slots: thread 1 owns those of 0 to 4, the last of them twice, and thread 2 that of 5.
-fn takes_six<K: PinKeeper>(rt: &impl Abort, objects: &mut Objects<K>) {
-    for _ in 0..7 {
-        assert!(rt; made(objects, MUTEX).is_some());
-    }
-    for slot in 0..5 {
-        assert!(rt; has_taken(objects, 1, slot));
-    }
-    assert!(rt; has_taken(objects, 1, 4));
-    assert!(rt; has_taken(objects, 2, 5));
-    assert!(rt; !has_taken(objects, 2, 4));
+/// What is done with objects, and what is answered; or what is seen then.
+#[derive(Clone, Copy)]
+enum Act {
+    /// A new event or mutex, with one handle.
+    Make(Descr, Option<Id>),
+    /// The number of the object in a slot.
+    Birth(u32, Option<u64>),
+    /// A handle of the object in a slot leaves, where it has one.
+    HandleLeft(u32, bool),
+    HandleCame(u32, bool),
+    BlockCame(u32, bool),
+    BlockLeft(Id),
+    /// A thread takes the mutex of a slot, where it can.
+    Take(u32, u32, bool),
+    /// A thread releases the mutex of a slot, where it owns it.
+    Release(u32, u32, bool),
+    /// The mutexes that are listed for a thread are abandoned.
+    Abandon(u32),
+    OwnsNone(u32, bool),
+    /// The slot of an ended object is taken back.
+    Reclaim(u32, Option<Reclaim>),
 }
 
-/// Thread 1 loses a mutex from the middle of its list, then its neighbour, then the first, and takes another. Thread 2 loses
-/// its last.
-fn loses_some<K: PinKeeper>(rt: &impl Abort, objects: &mut Objects<K>) {
-    assert!(rt; has_released(objects, 1, 2));
-    assert!(rt; has_lost_a_handle(objects, 1));
-    assert!(rt; has_released(objects, 1, 4));
-    assert!(rt; has_released(objects, 1, 4));
-    assert!(rt; !has_released(objects, 1, 4));
-    assert!(rt; has_taken(objects, 1, 6));
-    assert!(rt; has_taken(objects, 2, 2));
-    assert!(rt; has_released(objects, 2, 5));
+fn play_one<K: PinKeeper>(rt: &impl Abort, objects: &mut Objects<K>, act: Act) {
+    match act {
+        Act::Make(descr, id) => assert!(rt; made(objects, descr) == id),
+        Act::Birth(slot, birth) => assert!(rt; birth_of(objects, slot) == birth),
+        Act::HandleLeft(slot, left) => assert!(rt; has_lost_a_handle(objects, slot) == left),
+        Act::HandleCame(slot, came) => assert!(rt; has_gained_a_handle(objects, slot) == came),
+        Act::BlockCame(slot, came) => assert!(rt; has_gained_a_block(objects, slot) == came),
+        Act::BlockLeft(id) => objects.block_left(id),
+        Act::Take(thread, slot, taken) => {
+            assert!(rt; has_taken(objects, thread, slot) == taken);
+        }
+        Act::Release(thread, slot, released) => {
+            assert!(rt; has_released(objects, thread, slot) == released);
+        }
+        Act::Abandon(thread) => objects.abandon_listed(thread),
+        Act::OwnsNone(thread, none) => assert!(rt; objects.owns_none(thread) == none),
+        Act::Reclaim(slot, outcome) => assert!(rt; reclaimed(objects, slot) == outcome),
+    }
+}
+
+fn play<K: PinKeeper>(rt: &impl Abort, objects: &mut Objects<K>, acts: &[Act]) {
+    for each in acts {
+        play_one(rt, objects, *each);
+    }
+}
+
+/// An object that is pinned when its last handle leaves.
+fn plays_pinned(rt: &impl Abort, objects: &mut Objects<LockedPins>) {
+    let id = first_of(0);
+    play_one(rt, objects, Act::Make(EVENT, Some(id)));
+    assert!(rt; objects.try_pin(id).is_ok());
+    play_one(rt, objects, Act::HandleLeft(0, true));
+    assert!(rt; objects.try_pin(id).is_err());
+    play_one(
+        rt,
+        objects,
+        Act::Reclaim(0, Some(Reclaim::Held { pins: 1 })),
+    );
+    assert!(rt; has_let_go(objects, id));
+    assert!(rt; !has_let_go(objects, id));
+    play_one(rt, objects, Act::Reclaim(0, Some(Reclaim::Freed)));
+}
+
+/// What is done with new objects.
+#[derive(Clone, Copy)]
+enum Scene<'a> {
+    Acts(&'a [Act]),
+    Pinned,
+    TwoPlaces,
+}
+
+/// Plays a scene over objects in so many slots of two generations, whose keeper stands behind a lock.
+fn over_locked(rt: &impl Abort, alloc: Global, slots: u32, scene: Scene<'_>) -> Result<(), Fail> {
+    let Some(shape) = Shape::checked(slots, 4, 2) else {
+        return Err(Fail::from(Fault::Parameter));
+    };
+    let keeper = LockedPins::new(alloc, shape)?;
+    let Ok(mut objects) = Objects::new(alloc, slots, 4, keeper) else {
+        return Err(Fail::from(Fault::Memory));
+    };
+    match scene {
+        Scene::Acts(acts) => play(rt, &mut objects, acts),
+        Scene::Pinned => plays_pinned(rt, &mut objects),
+        Scene::TwoPlaces => assert!(rt; blocks_of_two_places(&mut objects) == Some(2)),
+    }
+    Ok(())
+}
+
+/// The same over one slot, whose keeper has readers.
+fn over_words(rt: &impl Abort, alloc: Global, acts: &[Act]) -> Result<(), Fail> {
+    let Some(shape) = Shape::checked(1, 4, 2) else {
+        return Err(Fail::from(Fault::Parameter));
+    };
+    let (pins, opening) = Pins::new(alloc, shape)?;
+    let Ok((keeper, reader)) = opening.start(&pins) else {
+        return Err(Fail::from(Fault::Memory));
+    };
+    let Ok(mut objects) = Objects::new(alloc, 1, 4, keeper) else {
+        return Err(Fail::from(Fault::Memory));
+    };
+    play(rt, &mut objects, acts);
+    reader.finish();
+    Ok(())
+}
+
+const FIRST: Id = Id {
+    slot: 0,
+    generation: 1,
+};
+
+const SECOND: Id = Id {
+    slot: 0,
+    generation: 2,
+};
+
+/// One slot with two generations: it is given twice, and then never again.
+const TWO_GENERATIONS: &[Act] = &[
+    Act::Make(EVENT, Some(FIRST)),
+    Act::Birth(0, Some(0)),
+    Act::Make(EVENT, None),
+    Act::Reclaim(0, None),
+    Act::HandleLeft(0, true),
+    Act::Make(EVENT, None),
+    Act::Reclaim(0, Some(Reclaim::Freed)),
+    Act::Reclaim(0, None),
+    Act::Make(MUTEX, Some(SECOND)),
+    Act::Birth(0, Some(1)),
+    Act::HandleLeft(0, true),
+    Act::Reclaim(0, Some(Reclaim::Retired)),
+    Act::Reclaim(0, None),
+    Act::Make(EVENT, None),
+];
+
+#[test]
+fn a_slot_is_given_again_and_then_retired(rt: HostRuntime) -> Result<(), Fail> {
+    over_locked(&rt, rt.alloc(), 1, Scene::Acts(TWO_GENERATIONS))?;
+    over_words(&rt, rt.alloc(), TWO_GENERATIONS)
+}
+
+const KEPT_BY_A_BLOCK: &[Act] = &[
+    Act::Make(EVENT, Some(FIRST)),
+    Act::BlockCame(0, true),
+    Act::HandleCame(0, true),
+    Act::HandleLeft(0, true),
+    Act::HandleLeft(0, true),
+    Act::HandleLeft(0, false),
+    Act::Reclaim(0, None),
+    Act::BlockLeft(FIRST),
+    Act::HandleCame(0, false),
+    Act::Reclaim(0, Some(Reclaim::Freed)),
+];
+
+#[test]
+fn an_object_stays_until_its_last_reference_leaves(rt: HostRuntime) -> Result<(), Fail> {
+    over_locked(&rt, rt.alloc(), 1, Scene::Acts(KEPT_BY_A_BLOCK))
 }
 
 #[test]
+fn each_place_of_a_list_is_a_block(rt: HostRuntime) -> Result<(), Fail> {
+    over_locked(&rt, rt.alloc(), 1, Scene::TwoPlaces)
+}
+
+#[test]
+fn a_pinned_slot_is_held(rt: HostRuntime) -> Result<(), Fail> {
+    over_locked(&rt, rt.alloc(), 1, Scene::Pinned)
+}
+
+/// Mutexes in seven slots.
+/// Thread 1 takes those of 0 to 4, the last of them twice, and thread 2 that of 5. Then thread 1 loses one from the middle of its
+/// list, its neighbour and the first, and takes another; thread 2 loses its last.
+#[rattlefmt::skip]
+const TAKEN_AND_LOST: &[Act] = &[
+    Act::Make(MUTEX, Some(FIRST)),
+    Act::Make(MUTEX, Some(Id { slot: 1, generation: 1 })),
+    Act::Make(MUTEX, Some(Id { slot: 2, generation: 1 })),
+    Act::Make(MUTEX, Some(Id { slot: 3, generation: 1 })),
+    Act::Make(MUTEX, Some(Id { slot: 4, generation: 1 })),
+    Act::Make(MUTEX, Some(Id { slot: 5, generation: 1 })),
+    Act::Make(MUTEX, Some(Id { slot: 6, generation: 1 })),
+    Act::Take(1, 0, true),
+    Act::Take(1, 1, true),
+    Act::Take(1, 2, true),
+    Act::Take(1, 3, true),
+    Act::Take(1, 4, true),
+    Act::Take(1, 4, true),
+    Act::Take(2, 5, true),
+    Act::Take(2, 4, false),
+    Act::Release(1, 2, true),
+    Act::HandleLeft(1, true),
+    Act::Release(1, 4, true),
+    Act::Release(1, 4, true),
+    Act::Release(1, 4, false),
+    Act::Take(1, 6, true),
+    Act::Take(2, 2, true),
+    Act::Release(2, 5, true),
+    Act::OwnsNone(1, false),
+    Act::Abandon(1),
+    Act::OwnsNone(1, true),
+    Act::OwnsNone(2, false),
+    Act::Take(2, 3, true),
+    Act::Abandon(2),
+    Act::OwnsNone(2, true),
+];
+
+#[test]
 fn a_list_has_all_that_a_thread_owns(rt: HostRuntime) -> Result<(), Fail> {
-    let Some(shape) = Shape::checked(7, 4, 2) else {
-        return Err(Fail::from(Fault::Parameter));
-    };
-    let keeper = LockedPins::new(rt.alloc(), shape)?;
-    let Ok(mut objects) = Objects::new(rt.alloc(), 7, 4, keeper) else {
-        return Err(Fail::from(Fault::Memory));
-    };
-    takes_six(&rt, &mut objects);
-    loses_some(&rt, &mut objects);
-    assert!(rt; !objects.owns_none(1));
-    objects.abandon_listed(1);
-    assert!(rt; objects.owns_none(1));
-    assert!(rt; !objects.owns_none(2));
-    assert!(rt; has_taken(&mut objects, 2, 3));
-    objects.abandon_listed(2);
-    assert!(rt; objects.owns_none(2));
-    Ok(())
+    over_locked(&rt, rt.alloc(), 7, Scene::Acts(TAKEN_AND_LOST))
 }

@@ -67,20 +67,85 @@ impl Bodies for Slots {
     }
 }
 
-/// How many wait numbers there are, and what each slot counts at first.
+/// What stands in a slot at first.
+#[derive(Clone, Copy)]
+enum Place {
+    Nothing,
+    /// An event that is reset by itself, set or not.
+    Event(bool),
+    /// A semaphore of five at most, with nothing to take.
+    Semaphore,
+    /// A mutex that a thread owns.
+    Owned(u32),
+}
+
+fn body_at(place: Place) -> Option<Body> {
+    match place {
+        Place::Nothing => None,
+        Place::Event(set) => Some(Body::new_event(false, set)),
+        Place::Semaphore => Some(Body::new_semaphore(0, 5)),
+        Place::Owned(thread) => Some(Body::new_mutex(Some(thread))),
+    }
+}
+
+fn bodies_at(alloc: Global, places: &[Place]) -> Result<Vec<Option<Body>>, AllocError> {
+    let mut bodies = Vec::new(alloc);
+    for place in places {
+        bodies.push(body_at(*place))?;
+    }
+    Ok(bodies)
+}
+
+/// What stands in four slots at first, what each of them counts, and how many wait numbers there are.
 #[derive(Clone, Copy)]
 struct Opening {
+    places: [Place; 4],
     limit: u32,
     handles: u32,
     blocks: u32,
 }
 
-/// Three wait numbers, and objects that last.
-const THREE: Opening = Opening {
+/// Three wait numbers, and one event that lasts.
+const ONE_EVENT: Opening = Opening {
+    places: [
+        Place::Event(false),
+        Place::Nothing,
+        Place::Nothing,
+        Place::Nothing,
+    ],
     limit: 3,
     handles: 1,
     blocks: 7,
 };
+
+const A: Id = Id {
+    slot: 0,
+    generation: 1,
+};
+
+const B: Id = Id {
+    slot: 1,
+    generation: 1,
+};
+
+const D: Id = Id {
+    slot: 3,
+    generation: 1,
+};
+
+/// In a slot that lies far behind.
+const FAR: Id = Id {
+    slot: 70,
+    generation: 1,
+};
+
+/// An object that was in the first slot later.
+const LATER: Id = Id {
+    slot: 0,
+    generation: 2,
+};
+
+const PENDING: Option<WaitState> = Some(WaitState::Pending);
 
 /// Slots and waits with nothing left to settle.
 #[derive(Drop)]
@@ -100,15 +165,6 @@ impl Model for World {
     ghost invariant = { λ w. WaitsHaveRoom 2147483647 w.slots.bodies w.waits.waits × IsSettled w.slots.bodies w.waits.waits };
 }
 
-pub(crate) fn id(slot: u32) -> Id
-    ensures { result ≡ record { slot = slot; generation = 1 } }
-{
-    Id {
-        slot,
-        generation: 1,
-    }
-}
-
 fn have_room(slots: &Slots, thread: u32, ids: &[Id]) -> bool
     ensures { IsTrue result → HasRoom RECURSION_MAX thread slots.now.bodies ids.now }
 {
@@ -123,10 +179,10 @@ fn have_room(slots: &Slots, thread: u32, ids: &[Id]) -> bool
 }
 
 impl World {
-    fn new(alloc: Global, opening: Opening, bodies: &[Option<Body>]) -> Result<World, AllocError> {
+    fn new(alloc: Global, opening: &Opening) -> Result<World, AllocError> {
         Ok(World {
             slots: Slots {
-                bodies: Vec::from_slice(alloc, bodies)?,
+                bodies: bodies_at(alloc, &opening.places)?,
                 handles: vec![in alloc; opening.handles; 4]?,
                 blocks: vec![in alloc; opening.blocks; 4]?,
             },
@@ -359,16 +415,10 @@ impl World {
     }
 }
 
-/// Plays acts over four bodies, settling by all waits and then, from the start again, by those of the object.
-fn play(
-    rt: &impl Abort,
-    alloc: Global,
-    opening: Opening,
-    bodies: &[Option<Body>],
-    acts: &[Act<'_>],
-) -> Result<(), Fail> {
+/// Plays acts over four slots, settling by all waits and then, from the start again, by those of the object.
+fn play(rt: &impl Abort, alloc: Global, opening: &Opening, acts: &[Act<'_>]) -> Result<(), Fail> {
     for plain in [true, false] {
-        let mut world = World::new(alloc, opening, bodies)?;
+        let mut world = World::new(alloc, opening)?;
         for act in acts {
             world.act(rt, *act, plain)?;
         }
@@ -376,169 +426,203 @@ fn play(
     Ok(())
 }
 
+const THREE_WAITERS: &[Act<'static>] = &[
+    Act::Any(1, &[A], None),
+    Act::Any(2, &[A], None),
+    Act::Any(3, &[A], None),
+    Act::Blocks(A, 3),
+    Act::Set(A),
+    Act::Stands(1, Some(WaitState::Answered(0))),
+    Act::Stands(2, PENDING),
+    Act::Set(A),
+    Act::Stands(2, Some(WaitState::Answered(0))),
+    Act::Stands(3, PENDING),
+    Act::Blocks(A, 1),
+    Act::Slot(0, 5, true),
+    Act::Full(4, A),
+];
+
 #[test]
 fn an_auto_reset_event_satisfies_one_waiter_after_another(rt: HostRuntime) -> Result<(), Fail> {
-    let bodies = [Some(Body::new_event(false, false)), None, None, None];
-    let acts = [
-        Act::Any(1, &[id(0)], None),
-        Act::Any(2, &[id(0)], None),
-        Act::Any(3, &[id(0)], None),
-        Act::Blocks(id(0), 3),
-        Act::Set(id(0)),
-        Act::Stands(1, Some(WaitState::Answered(0))),
-        Act::Stands(2, Some(WaitState::Pending)),
-        Act::Set(id(0)),
-        Act::Stands(2, Some(WaitState::Answered(0))),
-        Act::Stands(3, Some(WaitState::Pending)),
-        Act::Blocks(id(0), 1),
-        Act::Slot(0, 5, true),
-        Act::Full(4, id(0)),
-    ];
-    play(&rt, rt.alloc(), THREE, &bodies, &acts)
+    play(&rt, rt.alloc(), &ONE_EVENT, THREE_WAITERS)
 }
+
+const ONE_SEMAPHORE: Opening = Opening {
+    places: [
+        Place::Nothing,
+        Place::Semaphore,
+        Place::Nothing,
+        Place::Nothing,
+    ],
+    limit: 3,
+    handles: 1,
+    blocks: 7,
+};
+
+const TWO_OF_THREE: &[Act<'static>] = &[
+    Act::Any(9, &[B], None),
+    Act::Any(7, &[B], None),
+    Act::Any(8, &[B], None),
+    Act::Post(B, 2),
+    Act::Stands(9, Some(WaitState::Answered(0))),
+    Act::Stands(7, Some(WaitState::Answered(0))),
+    Act::Stands(8, PENDING),
+];
 
 #[test]
 fn a_semaphore_satisfies_as_many_as_it_counts(rt: HostRuntime) -> Result<(), Fail> {
-    let bodies = [None, Some(Body::new_semaphore(0, 5)), None, None];
-    let acts = [
-        Act::Any(9, &[id(1)], None),
-        Act::Any(7, &[id(1)], None),
-        Act::Any(8, &[id(1)], None),
-        Act::Post(id(1), 2),
-        Act::Stands(9, Some(WaitState::Answered(0))),
-        Act::Stands(7, Some(WaitState::Answered(0))),
-        Act::Stands(8, Some(WaitState::Pending)),
-    ];
-    play(&rt, rt.alloc(), THREE, &bodies, &acts)
+    play(&rt, rt.alloc(), &ONE_SEMAPHORE, TWO_OF_THREE)
 }
+
+/// A mutex that thread 5 owns, and an event that is set.
+const OWNED_AND_SET: Opening = Opening {
+    places: [
+        Place::Owned(5),
+        Place::Event(true),
+        Place::Nothing,
+        Place::Nothing,
+    ],
+    limit: 3,
+    handles: 1,
+    blocks: 7,
+};
+
+const ALL_OR_NOTHING: &[Act<'static>] = &[
+    Act::Both(1, B, A, None),
+    Act::Any(2, &[A, B], Some(1)),
+    Act::Abandon(A, 5),
+    Act::Stands(1, PENDING),
+    Act::Set(B),
+    Act::Stands(1, Some(WaitState::Answered(128))),
+    Act::Any(2, &[B, A], None),
+    Act::Abandon(A, 1),
+    Act::Stands(2, Some(WaitState::Answered(129))),
+    Act::Any(3, &[A], None),
+    Act::Number(3, Some(3)),
+    Act::Blocks(A, 1),
+];
 
 #[test]
 fn a_wait_for_all_takes_nothing_until_all_are_signaled(rt: HostRuntime) -> Result<(), Fail> {
-    let mutex = Some(Body::new_mutex(Some(5)));
-    let event = Some(Body::new_event(false, true));
-    let acts = [
-        Act::Both(1, id(1), id(0), None),
-        Act::Any(2, &[id(0), id(1)], Some(1)),
-        Act::Abandon(id(0), 5),
-        Act::Stands(1, Some(WaitState::Pending)),
-        Act::Set(id(1)),
-        Act::Stands(1, Some(WaitState::Answered(128))),
-        Act::Any(2, &[id(1), id(0)], None),
-        Act::Abandon(id(0), 1),
-        Act::Stands(2, Some(WaitState::Answered(129))),
-        Act::Any(3, &[id(0)], None),
-        Act::Number(3, Some(3)),
-        Act::Blocks(id(0), 1),
-    ];
-    play(&rt, rt.alloc(), THREE, &[mutex, event, None, None], &acts)
+    play(&rt, rt.alloc(), &OWNED_AND_SET, ALL_OR_NOTHING)
 }
+
+const ENDS_OF_WAITS: &[Act<'static>] = &[
+    Act::Any(1, &[A, A], None),
+    Act::Any(2, &[A], None),
+    Act::Blocks(A, 3),
+    Act::Expire(1),
+    Act::Blocks(A, 1),
+    Act::Result(1, WAIT_TIMEOUT),
+    Act::Number(1, None),
+    Act::Blocks(LATER, 0),
+    Act::End(2),
+    Act::End(2),
+    Act::Stands(2, None),
+    Act::Blocks(A, 0),
+    Act::Any(1, &[A], None),
+    Act::Number(1, Some(3)),
+    Act::Set(A),
+    Act::Result(1, 0),
+];
 
 #[test]
 fn a_wait_ends_by_its_time_its_thread_or_its_answer(rt: HostRuntime) -> Result<(), Fail> {
-    let bodies = [Some(Body::new_event(false, false)), None, None, None];
-    let other = Id {
-        slot: 0,
-        generation: 2,
-    };
-    let acts = [
-        Act::Any(1, &[id(0), id(0)], None),
-        Act::Any(2, &[id(0)], None),
-        Act::Blocks(id(0), 3),
-        Act::Expire(1),
-        Act::Blocks(id(0), 1),
-        Act::Result(1, WAIT_TIMEOUT),
-        Act::Number(1, None),
-        Act::Blocks(other, 0),
-        Act::End(2),
-        Act::End(2),
-        Act::Stands(2, None),
-        Act::Blocks(id(0), 0),
-        Act::Any(1, &[id(0)], None),
-        Act::Number(1, Some(3)),
-        Act::Set(id(0)),
-        Act::Result(1, 0),
-    ];
-    play(&rt, rt.alloc(), THREE, &bodies, &acts)
+    play(&rt, rt.alloc(), &ONE_EVENT, ENDS_OF_WAITS)
 }
+
+const THREE_EVENTS: Opening = Opening {
+    places: [
+        Place::Event(false),
+        Place::Event(false),
+        Place::Nothing,
+        Place::Event(false),
+    ],
+    limit: 20,
+    handles: 1,
+    blocks: 7,
+};
+
+/// By the first event alone the wait for both would come first, before an older one for the second event.
+const BOTH_AT_ONCE: &[Act<'static>] = &[
+    Act::Any(1, &[B], None),
+    Act::Both(2, A, B, None),
+    Act::Any(3, &[D], None),
+    Act::Any(4, &[D], None),
+    Act::Any(5, &[D], None),
+    Act::Any(6, &[D], None),
+    Act::Any(7, &[D], None),
+    Act::SetBoth(A, B),
+    Act::Stands(1, Some(WaitState::Answered(0))),
+    Act::Stands(2, PENDING),
+    Act::Set(B),
+    Act::Stands(2, Some(WaitState::Answered(0))),
+    Act::SetBoth(B, D),
+    Act::Stands(3, Some(WaitState::Answered(0))),
+    Act::Stands(4, PENDING),
+    Act::Result(2, 0),
+    Act::Any(2, &[B], Some(0)),
+];
 
 #[test]
 fn two_objects_signaled_at_once_serve_waits_by_number(rt: HostRuntime) -> Result<(), Fail> {
-    let bodies = [
-        Some(Body::new_event(false, false)),
-        Some(Body::new_event(false, false)),
-        None,
-        Some(Body::new_event(false, false)),
-    ];
-    let opening = Opening { limit: 20, ..THREE };
-    // By the first event alone the wait for both would come first, before an older one for the second event.
-    let acts = [
-        Act::Any(1, &[id(1)], None),
-        Act::Both(2, id(0), id(1), None),
-        Act::Any(3, &[id(3)], None),
-        Act::Any(4, &[id(3)], None),
-        Act::Any(5, &[id(3)], None),
-        Act::Any(6, &[id(3)], None),
-        Act::Any(7, &[id(3)], None),
-        Act::SetBoth(id(0), id(1)),
-        Act::Stands(1, Some(WaitState::Answered(0))),
-        Act::Stands(2, Some(WaitState::Pending)),
-        Act::Set(id(1)),
-        Act::Stands(2, Some(WaitState::Answered(0))),
-        Act::SetBoth(id(1), id(3)),
-        Act::Stands(3, Some(WaitState::Answered(0))),
-        Act::Stands(4, Some(WaitState::Pending)),
-        Act::Result(2, 0),
-        Act::Any(2, &[id(1)], Some(0)),
-    ];
-    play(&rt, rt.alloc(), opening, &bodies, &acts)
+    play(&rt, rt.alloc(), &THREE_EVENTS, BOTH_AT_ONCE)
 }
+
+/// An event that has no handle, and two blocks.
+const KEPT_BY_BLOCKS: Opening = Opening {
+    places: [
+        Place::Event(false),
+        Place::Nothing,
+        Place::Nothing,
+        Place::Nothing,
+    ],
+    limit: 3,
+    handles: 0,
+    blocks: 2,
+};
+
+const LAST_BLOCK: &[Act<'static>] = &[
+    Act::Any(1, &[A], None),
+    Act::Any(2, &[A], None),
+    Act::Set(A),
+    Act::Stands(1, Some(WaitState::Answered(0))),
+    Act::Slot(0, 1, true),
+    Act::Set(A),
+    Act::Stands(2, Some(WaitState::Answered(0))),
+    Act::Slot(0, 0, false),
+];
 
 #[test]
 fn the_last_block_ends_the_body(rt: HostRuntime) -> Result<(), Fail> {
-    let bodies = [Some(Body::new_event(false, false)), None, None, None];
-    let opening = Opening {
-        handles: 0,
-        blocks: 2,
-        ..THREE
-    };
-    let acts = [
-        Act::Any(1, &[id(0)], None),
-        Act::Any(2, &[id(0)], None),
-        Act::Set(id(0)),
-        Act::Stands(1, Some(WaitState::Answered(0))),
-        Act::Slot(0, 1, true),
-        Act::Set(id(0)),
-        Act::Stands(2, Some(WaitState::Answered(0))),
-        Act::Slot(0, 0, false),
-    ];
-    play(&rt, rt.alloc(), opening, &bodies, &acts)
+    play(&rt, rt.alloc(), &KEPT_BY_BLOCKS, LAST_BLOCK)
 }
 
 #[test]
 fn a_refused_add_changes_nothing(rt: HostRuntime) {
     let mut waits = Waits::new(rt.alloc(), 3);
-    let first = waits.add(5, Mode::Any, &[id(3), id(70)], None);
+    let first = waits.add(5, Mode::Any, &[D, FAR], None);
     if first.is_err() {
         assert_eq!(rt; first, Err(Fault::Memory));
         assert_eq!(rt; waits.wait_of(5), None);
-        assert_eq!(rt; waits.blocks_of(id(3)), 0);
-        assert_eq!(rt; waits.add(5, Mode::Any, &[id(3), id(70)], None), Ok(1));
+        assert_eq!(rt; waits.blocks_of(D), 0);
+        assert_eq!(rt; waits.add(5, Mode::Any, &[D, FAR], None), Ok(1));
     }
     assert_eq!(rt; waits.wait_of(5), Some(1));
-    assert_eq!(rt; waits.blocks_of(id(3)), 1);
-    assert_eq!(rt; waits.blocks_of(id(70)), 1);
+    assert_eq!(rt; waits.blocks_of(D), 1);
+    assert_eq!(rt; waits.blocks_of(FAR), 1);
 }
 
 /// Adds the wait of a thread that has none. Where memory fails nothing has changed, and the call is made again.
 fn added(rt: &impl Abort, waits: &mut Waits, thread: u32) {
     assert_eq!(rt; waits.wait_of(thread), None);
-    let blocks = waits.blocks_of(id(3));
-    let added = waits.add(thread, Mode::Any, &[id(3)], None);
+    let blocks = waits.blocks_of(D);
+    let added = waits.add(thread, Mode::Any, &[D], None);
     if added.is_err() {
         assert_eq!(rt; added, Err(Fault::Memory));
         assert_eq!(rt; waits.wait_of(thread), None);
-        assert_eq!(rt; waits.blocks_of(id(3)), blocks);
-        assert_eq!(rt; waits.add(thread, Mode::Any, &[id(3)], None), Ok(thread));
+        assert_eq!(rt; waits.blocks_of(D), blocks);
+        assert_eq!(rt; waits.add(thread, Mode::Any, &[D], None), Ok(thread));
     }
 }
 
@@ -548,7 +632,7 @@ fn waits_that_last_are_found_behind_newer_ones(rt: HostRuntime) {
     for thread in 1..131 {
         added(&rt, &mut waits, thread);
     }
-    assert_eq!(rt; waits.blocks_of(id(3)), 130);
+    assert_eq!(rt; waits.blocks_of(D), 130);
     for thread in 1..131 {
         assert_eq!(rt; waits.wait_of(thread), Some(thread));
         let found = waits.look(thread);
