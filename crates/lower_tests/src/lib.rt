@@ -1,5 +1,5 @@
-//! Tests of the crates below the manager as a crate above uses them: names, schedules of pins, the running words, handle tables,
-//! waits and the store. They stand in a crate of their own, so that what they test is proved once.
+//! Tests of the crates below the manager as a crate above uses them: names, schedules of pins, the running words, waits and the
+//! store. They stand in a crate of their own, so that what they test is proved once.
 #![tactic(auto)]
 
 #[cfg(test)]

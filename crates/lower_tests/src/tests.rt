@@ -2,5 +2,4 @@ mod names;
 mod pins;
 mod schedules;
 mod store;
-mod tables;
 mod waits;

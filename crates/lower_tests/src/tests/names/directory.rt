@@ -1,9 +1,8 @@
-ghost use Rattle.std.specs.Prelude.{◌≤◌};
+ghost use Rattle.std.specs.Prelude.{◌≤◌, length};
 
-use ob_name::{Directory, NAME_MOST, Name, NameRef, Space};
+use ob_name::{Directory, Name, NameRef, Space};
 use ob_rights::Fault;
 use pin_core::Id;
-use std::alloc::Global;
 use std::process::Abort;
 use std::test::Fail;
 
@@ -14,22 +13,18 @@ fn id(slot: u32) -> Id {
     }
 }
 
-/// The name of a session, of which 0 has that of all sessions.
-fn name_in(session: u32, base: &[u8]) -> Option<NameRef<'_>> {
-    if base.len() > NAME_MOST {
-        return None;
-    }
-    Some(NameRef {
-        space: Space::of_session(session),
+fn local(base: &[u8]) -> NameRef<'_>
+    requires { length base.now ≤ 260 }
+{
+    NameRef {
+        space: Space::of_session(1),
         base,
-    })
+    }
 }
 
-fn is_row(directory: &Directory, at: usize, session: u32, base: &[u8], slot: u32) -> bool {
+fn is_row(directory: &Directory, at: usize, space: Space, base: &[u8], slot: u32) -> bool {
     match directory.row(at) {
-        Some((name, found)) => {
-            name.space == Space::of_session(session) && name.base == base && found == id(slot)
-        }
+        Some((name, found)) => name.space == space && name.base == base && found == id(slot),
         None => false,
     }
 }
@@ -57,143 +52,71 @@ fn entered(
     Ok(())
 }
 
-/// What is done with the names of sessions, or seen then.
-#[derive(Clone, Copy)]
-enum Act<'a> {
-    /// A name that isn't there is entered for a slot.
-    Enter(u32, &'a [u8], u32),
-    /// A name is removed, and was that of a slot.
-    Remove(u32, &'a [u8], Option<u32>),
-    /// Which name is at a place, and for which slot.
-    Row(usize, u32, &'a [u8], u32),
-    NoRow(usize),
-    Len(usize),
-}
-
-fn enter(
-    rt: &impl Abort,
-    directory: &mut Directory,
-    session: u32,
-    base: &[u8],
-    slot: u32,
-) -> Result<(), Fail> {
-    let Some(name) = name_in(session, base) else {
-        panic!(rt; "a long name")
-    };
-    entered(rt, directory, &name, slot)
-}
-
-fn removed(directory: &mut Directory, session: u32, base: &[u8]) -> Option<u32> {
-    let name = name_in(session, base)?;
-    let id = directory.remove(&name)?;
-    Some(id.slot)
-}
-
-fn play_one(rt: &impl Abort, directory: &mut Directory, act: Act<'_>) -> Result<(), Fail> {
-    match act {
-        Act::Enter(session, base, slot) => enter(rt, directory, session, base, slot)?,
-        Act::Remove(session, base, slot) => {
-            assert!(rt; removed(directory, session, base) == slot);
-        }
-        Act::Row(at, session, base, slot) => {
-            assert!(rt; is_row(directory, at, session, base, slot));
-        }
-        Act::NoRow(at) => assert!(rt; directory.row(at).is_none()),
-        Act::Len(len) => assert!(rt; directory.len() == len),
-    }
-    Ok(())
-}
-
-fn play(rt: &impl Abort, directory: &mut Directory, acts: &[Act<'_>]) -> Result<(), Fail> {
-    for act in acts {
-        play_one(rt, directory, *act)?;
-    }
-    Ok(())
-}
-
-const ORDER: &[Act<'static>] = &[
-    Act::Enter(1, b"B", 4),
-    Act::Enter(1, b"A", 3),
-    Act::Enter(0, b"A", 7),
-    Act::Enter(1, b"AA", 1),
-    Act::Remove(1, b"C", None),
-    Act::Remove(1, b"A", Some(3)),
-    Act::Remove(1, b"A", None),
-    Act::Len(3),
-    Act::Row(0, 1, b"B", 4),
-    Act::Row(1, 0, b"A", 7),
-    Act::Row(2, 1, b"AA", 1),
-    Act::NoRow(3),
-];
-
 #[test]
 fn names_stand_in_the_order_of_entry(rt: HostRuntime) -> Result<(), Fail> {
-    play(&rt, &mut Directory::new(rt.alloc()), ORDER)
+    let mut directory = Directory::new(rt.alloc());
+    let everywhere = NameRef {
+        space: Space::Global,
+        base: b"A",
+    };
+    entered(&rt, &mut directory, &local(b"B"), 4)?;
+    entered(&rt, &mut directory, &local(b"A"), 3)?;
+    entered(&rt, &mut directory, &everywhere, 7)?;
+    entered(&rt, &mut directory, &local(b"AA"), 1)?;
+    assert_eq!(rt; directory.remove(&local(b"C")), None);
+    assert_eq!(rt; directory.remove(&local(b"A")), Some(id(3)));
+    assert_eq!(rt; directory.remove(&local(b"A")), None);
+    assert_eq!(rt; directory.len(), 3);
+    assert!(rt; is_row(&directory, 0, Space::of_session(1), b"B", 4));
+    assert!(rt; is_row(&directory, 1, Space::Global, b"A", 7));
+    assert!(rt; is_row(&directory, 2, Space::of_session(1), b"AA", 1));
+    assert!(rt; directory.row(3).is_none());
+    Ok(())
 }
-
-const SESSIONS: &[Act<'static>] = &[
-    Act::Enter(1, b"A", 0),
-    Act::Enter(256, b"A", 1),
-    Act::Enter(65536, b"A", 2),
-    Act::Enter(4294967295, b"A", 3),
-    Act::Row(1, 256, b"A", 1),
-    Act::Row(3, 4294967295, b"A", 3),
-];
 
 #[test]
 fn sessions_have_names_of_their_own(rt: HostRuntime) -> Result<(), Fail> {
-    play(&rt, &mut Directory::new(rt.alloc()), SESSIONS)
-}
-
-/// A name that its owner keeps.
-fn kept(alloc: Global, base: &[u8]) -> Option<Name> {
-    let name = name_in(1, base)?;
-    match Name::new(alloc, &name) {
-        Ok(kept) => Some(kept),
-        Err(_) => Name::new(alloc, &name).ok(),
+    let mut directory = Directory::new(rt.alloc());
+    for (slot, session) in [1, 256, 65536, 4294967295].into_iter().enumerate() {
+        let name = NameRef {
+            space: Space::of_session(session),
+            base: b"A",
+        };
+        entered(&rt, &mut directory, &name, slot as u32)?;
     }
-}
-
-fn take_kept(rt: &impl Abort, directory: &mut Directory, kept: &Name) {
-    assert!(rt; directory.len() == 1 && directory.rows().count() == 1);
-    assert_eq!(rt; directory.remove(&kept.borrowed()), Some(id(3)));
-    assert!(rt; directory.len() == 0 && directory.rows().count() == 0);
-}
-
-fn keep_and_take(rt: &impl Abort, alloc: Global, directory: &mut Directory) -> Result<(), Fail> {
-    enter(rt, directory, 1, b"A", 3)?;
-    let Some(kept) = kept(alloc, b"A") else {
-        return Err(Fail::from(Fault::Memory));
-    };
-    take_kept(rt, directory, &kept);
+    assert!(rt; is_row(&directory, 1, Space::of_session(256), b"A", 1));
+    assert!(rt; is_row(&directory, 3, Space::of_session(4294967295), b"A", 3));
     Ok(())
 }
 
 #[test]
 fn a_name_that_is_kept_is_taken_out(rt: HostRuntime) -> Result<(), Fail> {
-    keep_and_take(&rt, rt.alloc(), &mut Directory::new(rt.alloc()))
-}
-
-fn longest_come(rt: &impl Abort, directory: &mut Directory) -> Result<(), Fail> {
-    let longest = [b'A'; 260];
-    enter(rt, directory, 1, &longest, 0)?;
-    enter(rt, directory, 1, &longest[1..], 1)?;
-    assert!(rt; is_row(directory, 0, 1, &longest, 0));
+    let mut directory = Directory::new(rt.alloc());
+    entered(&rt, &mut directory, &local(b"A"), 3)?;
+    let kept = match Name::new(rt.alloc(), &local(b"A")) {
+        Ok(kept) => kept,
+        Err(_) => Name::new(rt.alloc(), &local(b"A"))?,
+    };
+    assert_eq!(rt; directory.rows().count(), 1);
+    assert_eq!(rt; directory.remove(&kept.borrowed()), Some(id(3)));
+    assert_eq!(rt; directory.rows().count(), 0);
     Ok(())
 }
 
 #[test]
 fn the_longest_name(rt: HostRuntime) -> Result<(), Fail> {
-    longest_come(&rt, &mut Directory::new(rt.alloc()))
-}
-
-fn digit(number: u32) -> u8 {
-    b'0' + (number % 10) as u8
+    let mut directory = Directory::new(rt.alloc());
+    let longest = [b'A'; 260];
+    entered(&rt, &mut directory, &local(&longest), 0)?;
+    entered(&rt, &mut directory, &local(&longest[1..]), 1)?;
+    assert!(rt; is_row(&directory, 0, Space::of_session(1), &longest, 0));
+    Ok(())
 }
 
 /// The last three digits of a number.
 fn digits(number: u32) -> [u8; 3] {
-    [digit(number / 100), digit(number / 10), digit(number)]
+    let digit = |power: u32| b'0' + (number / power % 10) as u8;
+    [digit(100), digit(10), digit(1)]
 }
 
 #[test]
@@ -205,29 +128,30 @@ fn come_and_go(rt: &impl Abort, directory: &mut Directory, most: u32) -> Result<
     requires { most ≤ 1000 }
 {
     for n in 0..most {
-        enter(rt, directory, 1, &digits(n), n)?;
+        entered(rt, directory, &local(&digits(n)), n)?;
     }
     assert_eq!(rt; directory.len(), most as usize);
     for n in 0..most / 2 {
         let gone = 2 * n;
-        assert!(rt; removed(directory, 1, &digits(gone)) == Some(gone));
+        assert_eq!(rt; directory.remove(&local(&digits(gone))), Some(id(gone)));
     }
     for n in 0..most / 2 {
         let stays = 2 * n + 1;
-        assert!(rt; is_row(directory, n as usize, 1, &digits(stays), stays));
-        assert!(rt; !is_found(directory, 1, &digits(2 * n)));
+        assert!(rt;
+            is_row(
+                directory,
+                n as usize,
+                Space::of_session(1),
+                &digits(stays),
+                stays
+            )
+        );
+        assert_eq!(rt; directory.find(&local(&digits(2 * n))), None);
     }
     for n in (0..most / 2).rev() {
         let gone = 2 * n + 1;
-        assert!(rt; removed(directory, 1, &digits(gone)) == Some(gone));
+        assert_eq!(rt; directory.remove(&local(&digits(gone))), Some(id(gone)));
         assert_eq!(rt; directory.len(), n as usize);
     }
     Ok(())
-}
-
-fn is_found(directory: &Directory, session: u32, base: &[u8]) -> bool {
-    match name_in(session, base) {
-        Some(name) => directory.find(&name).is_some(),
-        None => false,
-    }
 }
