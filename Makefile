@@ -11,7 +11,7 @@ RUSTC ?= rustc
 PYTHON ?= python3
 
 KIT = $(dir $(shell rt doc))
-PROVED = crates/obman_c/out/libobman_c.a
+PROVED = crates/obman_c/out/libobman_c.a crates/obman_c_script/out/libobman_c_script.a
 SOURCES = $(shell find crates.txt crates/*/src crates/*/specs crates/*/proofs -type f)
 VERSION = 1
 
@@ -20,14 +20,14 @@ VERSION = 1
 all: build/libobman.a build/libobman.so build/obman.pc
 
 $(PROVED): $(SOURCES)
-	cd crates/obman_c && rt lib >&2
+	cd $(dir $(@D)) && rt lib >&2
 	touch $@
 
 # The proved code, with the kit's calls of malloc, realloc and free.
 build/libobman.a: $(PROVED)
 	rm -rf build/objects $@
 	mkdir -p build/objects
-	cd build/objects && ar x ../../$(PROVED) && ar x $(KIT)c/liblibc_c.a
+	cd build/objects && for archive in $(abspath $(PROVED)) $(KIT)c/liblibc_c.a; do ar x $$archive || exit 1; done
 	ar rcs $@ build/objects/*.o
 
 build/libobman.so: build/libobman.a

@@ -3,4 +3,3 @@ pub mod Sending
 pub mod Told
 pub mod Opened
 pub mod Pinned
-pub mod Scripted

@@ -8,4 +8,3 @@ pub mod Finding
 pub mod Pinning
 pub mod Reaping
 pub mod Listing
-pub mod Scripts

@@ -7,9 +7,10 @@ ghost use Rattle.obman_c.specs.Finding.{Finds};
 ghost use Rattle.obman_c.specs.Telling.{Tells, TellsAs, flags_in, opening_in};
 
 use crate::owner::Owner;
-use crate::status::{SUCCESS, told};
+use crate::status::told;
 use crate::values::{Object, Opening, object_of, tell_flags, tell_opening};
 use ob_rights::{Rights, code_of};
+use obman_c_base::SUCCESS;
 
 /// [`Manager::duplicate`](ob_manager::Manager::duplicate), where the target 0 is none: 0, 87, 170, 6, 5, 1450 or 8.
 #[tactic(auto, using(crate::proofs::Told::tells_as))]

@@ -17,14 +17,12 @@
 mod creating;
 mod handles;
 mod held;
-mod limits;
 mod opening;
 mod owner;
 mod pinning;
 mod processes;
 mod reading;
 mod reaping;
-mod script;
 mod signaling;
 mod status;
 mod timing;

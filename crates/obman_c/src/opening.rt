@@ -6,11 +6,10 @@ ghost use Rattle.ob_store.specs.State.{shape_of};
 ghost use Rattle.obman_c.specs.Opening.{Opens, new_manager};
 
 use crate::held::Held;
-use crate::limits::{Bounds, limits_of};
 use crate::owner::{Owner, Place};
-use crate::status::SUCCESS;
 use ob_manager::{Limits, Manager};
 use ob_rights::{Fault, code_of};
+use obman_c_base::{Bounds, SUCCESS, limits_of};
 use pin_words::LockedPins;
 use std::alloc::Global;
 

@@ -7,9 +7,9 @@ ghost use Rattle.obman_c.specs.Finding.{Describes, description_of, kind_number};
 ghost use Rattle.obman_c.specs.Pinning.{PinsTold, UnpinsTold, id_at, pin_status};
 
 use crate::owner::Owner;
-use crate::status::SUCCESS;
 use ob_manager::Card;
 use ob_rights::{Fault, Kind, code_of};
+use obman_c_base::SUCCESS;
 use pin_core::Id;
 use pin_words::PinFault;
 

@@ -4,12 +4,7 @@ ghost use Rattle.obman_c.specs.Telling.{status_of};
 
 use ob_manager::Reply;
 use ob_rights::code_of;
-
-/// The call was answered.
-pub(crate) const SUCCESS: u32 = 0;
-
-/// `ERROR_INSUFFICIENT_BUFFER`.
-pub(crate) const TOO_SMALL: u32 = 122;
+use obman_c_base::SUCCESS;
 
 /// `ERROR_NO_MORE_ITEMS`.
 pub(crate) const NO_MORE: u32 = 259;

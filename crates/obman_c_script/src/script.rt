@@ -1,12 +1,11 @@
 //! A batch of calls, as the program reads and prints them.
 ghost use Rattle.std.specs.Prelude.{◌≡◌};
-ghost use Rattle.obman_c.specs.Scripts.{Answers, HandsOver};
+ghost use Rattle.obman_c_script.specs.Scripts.{Answers, HandsOver};
 
-use crate::limits::{Bounds, limits_of};
-use crate::status::{SUCCESS, TOO_SMALL};
 use ob_console::run_whole;
 use ob_output::Collected;
 use ob_rights::{Fault, code_of};
+use obman_c_base::{Bounds, SUCCESS, TOO_SMALL, limits_of};
 use std::alloc::Global;
 
 /// Answers a script over a new manager, as the program does without lanes, at the front of `answers`: 0, 87 where a limit is out

@@ -1,6 +1,6 @@
 //! The limits of a manager, as C gives them.
-ghost use Rattle.std.specs.Prelude.{◌≡◌, IfErr, IfOk};
-ghost use Rattle.obman_c.specs.Opening.{AreAllowed, AreAs};
+ghost use Rattle.std.specs.Prelude.{IfErr, IfOk};
+ghost use Rattle.obman_c_base.specs.Allowed.{AreAllowed, AreAs};
 
 use ob_manager::Limits;
 use ob_rights::Fault;
@@ -28,7 +28,7 @@ pub struct Bounds {
 }
 
 /// The same as limits of a manager; [`Fault::Parameter`] where one is out of its range.
-pub(crate) fn limits_of(bounds: &Bounds) -> Result<Limits, Fault>
+pub fn limits_of(bounds: &Bounds) -> Result<Limits, Fault>
     ensures same { IfOk result (λ limits. AreAs bounds.now limits) }
     ensures allowed { IfOk result (λ limits. AreAllowed bounds.now) }
     ensures refused { IfErr result (λ fault. AreAllowed bounds.now → ⊥) }

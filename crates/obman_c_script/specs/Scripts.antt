@@ -2,8 +2,8 @@
 use Rattle.std.specs.Prelude.{◌≡◌, ◌<◌, ◌≤◌, ℕ, List, ◌++◌, ◌⊎◌, drop, length}
 use Rattle.ob_store.specs.declared.limits.Limits.{Limits}
 use Rattle.ob_console.specs.Runs.{AnswersAll}
-use Rattle.obman_c.specs.declared.limits.Bounds.{Bounds}
-use Rattle.obman_c.specs.Opening.{AreAllowed, AreAs}
+use Rattle.obman_c_base.specs.declared.limits.Bounds.{Bounds}
+use Rattle.obman_c_base.specs.Allowed.{AreAllowed, AreAs}
 
 -- the bytes stand at the front and 0 is told; or they don't fit, and 122 is told
 abbrev pub HandsOver : List ℕ → ℕ → List ℕ → List ℕ → ℕ → Type 0
