@@ -163,8 +163,7 @@ impl Table {
         ensures { IfOk result (λ child. child ≡ inherited places.now) }
     {
         let len = inherited_len(places);
-        let mut copies = Vec::from_elem(alloc, None, len)?;
-        copies.copy_from_slice(&places[..len]);
+        let mut copies = Vec::from_slice(alloc, &places[..len])?;
         let mut free = LeastFree::with_taken(alloc, len)?;
         for i in 0..len {
             inherit_at(&mut copies, &mut free, i);
