@@ -117,7 +117,7 @@ pub(crate) fn children(tables: &mut Tables, parent: u32, rounds: u32) -> Result<
         if let Some(entry) = tables.look(child, 8) {
             sum = sum.wrapping_add(entry.id.slot as u64);
         }
-        tables.clear(child);
+        drop(tables.take_entries(child));
     }
     Ok(sum)
 }

@@ -1,9 +1,9 @@
 -- What holds between the changes of a call that makes several: all that is kept, but for waits that are ready.
-use Rattle.std.specs.Prelude.{◌≡◌, ◌⊎◌, ℕ, List, Option, None, length, slice_index_or}
+use Rattle.std.specs.Prelude.{◌≡◌, ◌⊎◌, ℕ, zero, suc, List, [], ◌∷◌, Option, None, length, slice_index_or, slice_set}
 use Rattle.ob_body.specs.declared.body.Body.{Body}
 use Rattle.ob_name.specs.Listing.{Rows}
 use Rattle.ob_tables.specs.declared.entry.Entry.{Entry}
-use Rattle.ob_tables.specs.Tables.{HandleTables, table_of, without_entries}
+use Rattle.ob_tables.specs.Tables.{HandleTables}
 use Rattle.ob_waits.specs.Rules.{WaitsHaveRoom}
 use Rattle.ob_waits.specs.Waits.{WaitList}
 use Rattle.pin_words.specs.Keepers.{KeeperState}
@@ -39,10 +39,12 @@ pub record IsUnderWay (first : KeeperState) (limits : Limits) (lives : LivesStat
   pub bodies : AreLeft s.bodies o.seen.bodies
   pub keeper : OnlyCloses first o.keeper
 
--- a table whose entry at a place left, if there was one; the other tables stay
-pub record IsEmptied (process place : ℕ) (tables after : List (List (Option Entry))) : Type 0 where
-  pub long : length after ≡ length tables
-  pub rest : without_entries after process ≡ without_entries tables process
-  pub places : length (table_of after process) ≡ length (table_of tables process)
-  pub gone : slice_index_or (table_of after process) place None ≡ None
-  pub stays : (k : ℕ) → slice_index_or (table_of tables process) k None ≡ None → slice_index_or (table_of after process) k None ≡ None
+-- the places of a table whose first n entries have left
+abbrev pub without_first : ℕ → List (Option Entry) → List (Option Entry)
+without_first zero places = places
+without_first (suc n) [] = []
+without_first (suc n) (place ∷ places) = None ∷ without_first n places
+
+-- the tables with these places for a process, whose first n entries have left
+abbrev pub with_left : HandleTables → ℕ → List (Option Entry) → ℕ → HandleTables
+with_left tables process places n = record tables { tables = slice_set tables.tables process (without_first n places) }

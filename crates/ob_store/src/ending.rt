@@ -1,7 +1,5 @@
-ghost use Rattle.std.specs.Prelude.{◌≡◌, ◌<◌, ℕ, List, Option, IsSome, None, Some, if◌then◌else◌, length, map, slice_index_or, slice_set};
+ghost use Rattle.std.specs.Prelude.{◌≡◌, ◌+◌, ◌<◌, ℕ, List, Option, IsSome, None, Some, if◌then◌else◌, length, map, slice_index_or, slice_set};
 ghost use Rattle.pin_words.specs.Keepers.{KeeperState};
-ghost use Rattle.ob_tables.specs.Tables.{table_of, without_entries};
-ghost use Rattle.ob_tables.specs.Table.{value_of};
 ghost use Rattle.ob_waits.specs.Objects.{without_blocks};
 ghost use Rattle.ob_waits.specs.Rules.{IsKept as AreWaits, IsSettled, WaitsHaveRoom};
 ghost use Rattle.ob_waits.specs.declared.wait.Wait.{Wait};
@@ -14,7 +12,7 @@ ghost use Rattle.ob_store.specs.Lives.{is_of};
 ghost use Rattle.ob_store.specs.Moves.{OnlyCloses};
 ghost use Rattle.ob_store.specs.Objects.{kept_rest};
 ghost use Rattle.ob_store.specs.State.{State, settled};
-ghost use Rattle.ob_store.specs.UnderWay.{IsEmptied, IsSound, IsUnderWay};
+ghost use Rattle.ob_store.specs.UnderWay.{IsSound, IsUnderWay, with_left};
 
 use crate::abandoned::Abandoned;
 use crate::entries::leave_directory;
@@ -24,7 +22,7 @@ use crate::objects::Objects;
 use crate::store::Store;
 use ob_body::RECURSION_MAX;
 use ob_name::Directory;
-use ob_tables::Tables;
+use ob_tables::{Entry, Tables};
 use ob_waits::{Bodies, Waits, leave_all};
 use pin_core::Id;
 use pin_words::PinKeeper;
@@ -174,55 +172,53 @@ fn end_all<K: PinKeeper>(
     }
 }
 
-/// The entry of a place leaves, if there is one.
-fn remove_at<K: PinKeeper>(
+/// The entry of a place leaves, if there is one. Those of the places before it have left.
+fn leave_at<K: PinKeeper>(
     limits: Limits,
     lives: &Lives,
-    tables: &mut Tables,
+    tables: &Tables,
     objects: &mut Objects<K>,
     waits: &Waits,
     names: &mut Directory,
     process: u32,
-    place: u32,
+    places: &[Option<Entry>],
+    place: usize,
 )
-    requires sound { IsSound limits lives.now tables.old objects.old waits.now names.old.rows }
-    requires few { place < 16384 }
-    ensures way { (first : KeeperState) (s : State) → IsUnderWay first limits lives.now tables.old objects.old waits.now names.old.rows s → IsUnderWay first limits lives.now tables.new objects.new waits.now names.new.rows (record s { tables = tables.new.tables }) }
-    ensures sound { IsSound limits lives.now tables.new objects.new waits.now names.new.rows }
-    ensures left { IsEmptied process place tables.old.tables tables.new.tables }
+    requires sound { IsSound limits lives.now (with_left tables.now process places.now place) objects.old waits.now names.old.rows }
+    requires table { process < length tables.now.tables }
+    requires within { place < length places.now }
+    ensures way { (first : KeeperState) (s : State) → IsUnderWay first limits lives.now (with_left tables.now process places.now place) objects.old waits.now names.old.rows s → IsUnderWay first limits lives.now (with_left tables.now process places.now (place + 1)) objects.new waits.now names.new.rows (record s { tables = (with_left tables.now process places.now (place + 1)).tables }) }
+    ensures sound { IsSound limits lives.now (with_left tables.now process places.now (place + 1)) objects.new waits.now names.new.rows }
 {
     // What it says is wanted here, before and after.
     objects.kept();
-    let value = 4 * (place + 1);
-    let Some(entry) = tables.look(process, value) else {
+    let Some(entry) = places[place] else {
         return;
     };
-    let _ = tables.remove(process, value);
     objects.handle_left(entry.id.slot);
     objects.kept();
     leave_directory(names, objects.look(entry.id.slot));
 }
 
-/// The entries of a process leave, by rising value.
-fn remove_all<K: PinKeeper>(
+/// The entries that were taken out of the table of a process leave, by rising value.
+fn leave_entries<K: PinKeeper>(
     limits: Limits,
     lives: &Lives,
-    tables: &mut Tables,
+    tables: &Tables,
     objects: &mut Objects<K>,
     waits: &Waits,
     names: &mut Directory,
     process: u32,
+    places: &[Option<Entry>],
 )
-    requires sound { IsSound limits lives.now tables.old objects.old waits.now names.old.rows }
-    requires table { process < length tables.old.tables }
-    ensures way { (first : KeeperState) (s : State) → IsUnderWay first limits lives.now tables.old objects.old waits.now names.old.rows s → IsUnderWay first limits lives.now tables.new objects.new waits.now names.new.rows (record s { tables = tables.new.tables }) }
-    ensures rest { without_entries tables.new.tables process ≡ without_entries tables.old.tables process }
-    ensures long { length tables.new.tables ≡ length tables.old.tables }
-    ensures gone { (k : ℕ) → slice_index_or (table_of tables.new.tables process) k None ≡ None }
+    requires sound { IsSound limits lives.now (with_left tables.now process places.now 0) objects.old waits.now names.old.rows }
+    requires table { process < length tables.now.tables }
+    ensures way { (first : KeeperState) (s : State) → IsUnderWay first limits lives.now (with_left tables.now process places.now 0) objects.old waits.now names.old.rows s → IsUnderWay first limits lives.now (with_left tables.now process places.now (length places.now)) objects.new waits.now names.new.rows (record s { tables = (with_left tables.now process places.now (length places.now)).tables }) }
 {
-    let places = tables.entries(process).len() as u32;
-    for place in 0..places {
-        remove_at(limits, lives, tables, objects, waits, names, process, place);
+    for place in 0..places.len() {
+        leave_at(
+            limits, lives, tables, objects, waits, names, process, places, place,
+        );
     }
 }
 
@@ -241,8 +237,17 @@ fn end_process<K: PinKeeper>(
     requires alone { (t : ℕ) → slice_index_or lives.old.threads t None ≡ Some process → ⊥ }
     ensures way { (first : KeeperState) (s : State) → IsUnderWay first limits lives.old tables.old objects.old waits.now names.old.rows s → IsUnderWay first limits lives.new tables.new objects.new waits.now names.new.rows (process_ended s process) }
 {
-    remove_all(limits, lives, tables, objects, waits, names, process);
-    tables.clear(process);
+    let places = tables.take_entries(process);
+    leave_entries(
+        limits,
+        lives,
+        tables,
+        objects,
+        waits,
+        names,
+        process,
+        places.as_slice(),
+    );
     lives.end_process(process);
 }
 

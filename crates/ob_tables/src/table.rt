@@ -71,6 +71,13 @@ impl Table {
         self.places.as_slice()
     }
 
+    /// The places of a table that goes.
+    pub(crate) fn into_places(self) -> Vec<Option<Entry>>
+        ensures { result.items ≡ self }
+    {
+        self.places
+    }
+
     /// The entry of a handle value, whose two lowest bits are ignored.
     #[inline]
     pub(crate) fn entry(&self, value: u32) -> Option<Entry>

@@ -9,6 +9,7 @@ use crate::table::{HANDLES_MAX, Table};
 use ob_rights::{Fault, HandleFlags};
 use std::alloc::Global;
 use std::marker::Model;
+use std::mem;
 
 /// The greatest process number (*profile*).
 pub const PROCESSES_MAX: u32 = 65_536;
@@ -185,11 +186,13 @@ impl Tables {
         self.tables[process as usize].places()
     }
 
-    /// Removes all entries of a process that ends, and gives their memory back.
-    pub fn clear(&mut self, process: u32)
+    /// Removes all entries of a process that ends. Its places as they were, each with its entry or with none.
+    pub fn take_entries(&mut self, process: u32) -> Vec<Option<Entry>>
         requires { process < length self.old.tables }
-        ensures { self.new ≡ record self.old { tables = without_entries self.old.tables process } }
+        ensures places { result.items ≡ table_of self.old.tables process }
+        ensures after { self.new ≡ record self.old { tables = without_entries self.old.tables process } }
     {
-        self.tables[process as usize] = Table::new(self.alloc);
+        let table = mem::replace(&mut self.tables[process as usize], Table::new(self.alloc));
+        table.into_places()
     }
 }

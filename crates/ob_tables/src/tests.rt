@@ -63,7 +63,10 @@ fn each_call_and_each_refusal(rt: HostRuntime) -> Result<(), Fail> {
     assert!(rt; tables.remove(parent, 4).is_none());
     assert_eq!(rt; tables.place(parent, entry(9, PLAIN)), Ok(4));
     assert_eq!(rt; tables.entries(parent).len(), 2);
-    tables.clear(parent);
+    let taken = tables.take_entries(parent);
+    assert_eq!(rt; taken.len(), 2);
+    assert_eq!(rt; taken[0], Some(entry(9, PLAIN)));
+    assert_eq!(rt; taken[1], Some(inherited));
     assert!(rt; tables.entries(parent).is_empty());
     assert!(rt; tables.look(2, 8).is_some());
     Ok(())
