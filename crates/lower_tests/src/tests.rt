@@ -1,4 +1,5 @@
 mod names;
+mod numbers;
 mod pins;
 mod schedules;
 mod store;

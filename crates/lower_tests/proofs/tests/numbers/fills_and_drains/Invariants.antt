@@ -1,6 +1,6 @@
 use Rattle.std.proofs.Common.{◌≡◌, length}
 use Rattle.least_free.proofs.TakenLemmas.{AreTaken}
-use Rattle.least_free.proofs.tests.fills_and_drains.Given as goal
+use Rattle.lower_tests.proofs.tests.numbers.fills_and_drains.Given as goal
 
 abbrev pub invariant-loop-n : goal.invariant-loop-n
 invariant-loop-n g l = record {
