@@ -1,3 +1,4 @@
+mod dues;
 mod names;
 mod numbers;
 mod pins;
