@@ -11,8 +11,6 @@ mod fault;
 mod handle_flags;
 mod kind;
 mod rights;
-#[cfg(test)]
-mod tests;
 
 pub use fault::{Fault, code_of};
 pub use handle_flags::HandleFlags;

@@ -1,4 +1,4 @@
-use super::*;
+use ob_rights::{Fault, Kind, Rights, all_access, code_of, within};
 use std::test::Fail;
 
 #[test]
