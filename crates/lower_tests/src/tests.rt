@@ -1,3 +1,4 @@
+mod bodies;
 mod dues;
 mod names;
 mod numbers;

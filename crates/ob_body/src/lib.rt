@@ -8,8 +8,6 @@ mod body;
 mod event;
 mod mutex;
 mod semaphore;
-#[cfg(test)]
-mod tests;
 mod timer;
 
 pub use body::Body;

@@ -1,4 +1,4 @@
-use crate::{Body, COUNT_MAX, RECURSION_MAX};
+use ob_body::{Body, COUNT_MAX, RECURSION_MAX};
 use ob_rights::{Fault, Kind};
 
 #[test]
