@@ -5,5 +5,6 @@ mod numbers;
 mod pins;
 mod rights;
 mod schedules;
+mod slots;
 mod store;
 mod waits;

@@ -15,7 +15,5 @@
 mod arena;
 mod phase;
 mod storage;
-#[cfg(test)]
-mod tests;
 
 pub use arena::{Arena, SLOTS_MAX};

@@ -1,7 +1,7 @@
 ghost use Rattle.std.specs.Prelude.{◌≡◌, ℕ, ◌<◌, ◌≤◌, length, IsSome};
 ghost use Rattle.ob_arena.specs.Slots.{body_at};
 
-use super::*;
+use ob_arena::Arena;
 use std::alloc::Global;
 use std::process::Abort;
 use std::rc::Rc;
@@ -44,7 +44,7 @@ fn a_drop_drops_each_body_once(rt: HostRuntime) -> Result<(), Fail> {
 }
 
 /// Fills the slots of an arena whose slots are all vacant.
-#[tactic(auto, using(crate::proofs::SlotLemmas::vacant_least))]
+#[tactic(auto, using(ob_arena::proofs::SlotLemmas::vacant_least))]
 fn fill(rt: &impl Abort, arena: &mut Arena<u32>, slots: u32)
     requires { length arena.old.bodies ≡ slots }
     ensures len { length arena.new.bodies ≡ slots }
