@@ -1,5 +1,6 @@
 mod bodies;
 mod dues;
+mod handles;
 mod names;
 mod numbers;
 mod pins;

@@ -17,8 +17,6 @@
 mod entry;
 mod table;
 mod tables;
-#[cfg(test)]
-mod tests;
 
 pub use entry::Entry;
 pub use table::HANDLES_MAX;

@@ -1,7 +1,7 @@
 ghost use Rattle.std.specs.Prelude.{◌≡◌, ◌+◌, ◌<◌, ◌≤◌, OnOk, length};
 
-use super::*;
 use ob_rights::{Fault, HandleFlags, Rights};
+use ob_tables::{Entry, HANDLES_MAX, Tables};
 use pin_core::Id;
 use std::process::Abort;
 use std::test::Fail;
