@@ -5,6 +5,7 @@ ghost use Rattle.ob_manager.specs.Steps.{Gives, reclaim_in, reply_of};
 use crate::reply::Reply;
 use ob_rights::Fault;
 use ob_store::Store;
+use pin_core::Id;
 use pin_words::PinKeeper;
 
 /// Takes the slot of an ended object back, unless somebody holds it.
@@ -21,7 +22,11 @@ pub fn reap<K: PinKeeper>(store: &mut Store<K>, slot: u32) -> Result<Reply, Faul
     if seat.body.is_some() {
         return Err(Fault::Handle);
     }
-    let id = seat.id;
+    // (by its parts, so that a caller doesn't read as a whole what was just written in parts)
+    let id = Id {
+        slot: seat.id.slot,
+        generation: seat.id.generation,
+    };
     let outcome = store.reclaim(slot);
     Ok(Reply::Reaped { id, outcome })
 }
