@@ -15,11 +15,19 @@ use std::sync::{Condvar, Mutex, Wait};
 /// How many lanes there may be.
 const LANES_MOST: u32 = 65536;
 
+/// What lies under the lock.
+#[derive(Drop)]
+struct Held<'a> {
+    book: Book<Keeper<'a>>,
+    /// How many callers wait for the book to change, so that a call tells nobody where nobody waits.
+    waiting: u32,
+}
+
 /// A manager behind a lock, with its journal. Whoever gets the lock finds a [`Book`]: the manager is kept, and the journal
 /// replays to its state. Calls are made in lanes. A contract sees how many lanes there are.
 #[derive(Drop)]
 pub struct Shared<'a> {
-    book: Mutex<Book<Keeper<'a>>>,
+    held: Mutex<Held<'a>>,
     changed: Condvar,
     alloc: Global,
     lanes: u32,
@@ -53,8 +61,9 @@ impl<'a> Shared<'a> {
         requires { manager.state ≡ opening manager.state.limits }
         ensures { result ≡ 0 }
     {
+        let book = Book::new(alloc, manager);
         Shared {
-            book: Mutex::new(Book::new(alloc, manager)),
+            held: Mutex::new(Held { book, waiting: 0 }),
             changed: Condvar::new(),
             alloc,
             lanes: 0,
@@ -88,8 +97,11 @@ impl<'a> Shared<'a> {
         if lane.list.reserve(1).is_err() {
             return Reply::Refused(Fault::Memory);
         }
-        let answer = self.book.lock(rt).enact(lane.number, call);
-        self.changed.notify_all();
+        let mut held = self.held.lock(rt);
+        let answer = held.book.enact(lane.number, call);
+        let waiting = held.waiting;
+        drop(held);
+        self.tell(waiting);
         list(&mut lane.list, answer)
     }
 
@@ -103,17 +115,28 @@ impl<'a> Shared<'a> {
         if lane.list.reserve(1).is_err() {
             return Reply::Refused(Fault::Memory);
         }
-        let mut book = self.changed.wait_while(
+        let mut held = self.held.lock(rt);
+        held.waiting = held.waiting.saturating_add(1);
+        let mut held = self.changed.wait_while(
             rt,
-            self.book.lock(rt),
-            |book| -> bool
-                ensures { (result ≡ is_pending (slice_index_or book.entry.now.manager.state.waits wait None)) × (book.exit.now ≡ book.entry.now) }
-            { book.is_pending(wait) },
+            held,
+            |held| -> bool
+                ensures { (result ≡ is_pending (slice_index_or held.entry.now.book.manager.state.waits wait None)) × (held.exit.now ≡ held.entry.now) }
+            { held.book.is_pending(wait) },
         );
-        let answer = book.enact(lane.number, Call::WaitResult { wait });
-        drop(book);
-        self.changed.notify_all();
+        held.waiting = held.waiting.saturating_sub(1);
+        let answer = held.book.enact(lane.number, Call::WaitResult { wait });
+        let waiting = held.waiting;
+        drop(held);
+        self.tell(waiting);
         list(&mut lane.list, answer)
+    }
+
+    /// Tells those who wait that the book has changed.
+    fn tell(&self, waiting: u32) {
+        if waiting > 0 {
+            self.changed.notify_all();
+        }
     }
 
     /// What the object of an Id was created as, which the reader holds: as [`Manager::card`] answers it under the lock.
@@ -122,7 +145,7 @@ impl<'a> Shared<'a> {
         ensures { IfSome result (λ card. card.id ≡ id) }
     {
         let _ = reader.slot_of_held(id);
-        self.book.lock(rt).card(id)
+        self.held.lock(rt).book.card(id)
     }
 
     /// The manager and its journal, where the lanes that are handed in are whole: they have the numbers that were given, each
@@ -137,12 +160,12 @@ impl<'a> Shared<'a> {
         ensures back { IfErr result (λ refused. (refused.shared ≡ self.entry) × (refused.lanes ≡ lanes)) }
     {
         let Shared {
-            book,
+            held,
             changed,
             alloc,
             lanes: given,
         } = self;
-        let book = book.into_inner();
+        let book = held.into_inner().book;
         // What it says is wanted here.
         book.replays();
         match cause_of(given, lanes.as_slice(), book.journal()) {
@@ -152,7 +175,7 @@ impl<'a> Shared<'a> {
             }
             Some(cause) => Err(NotClosed {
                 shared: Shared {
-                    book: Mutex::new(book),
+                    held: Mutex::new(Held { book, waiting: 0 }),
                     changed,
                     alloc,
                     lanes: given,

@@ -6,10 +6,10 @@ use Rattle.ob_shared.proofs.shared.Shared.close.Goals as goal
 
 pub returns-clause-cause : goal.returns-clause-cause
 returns-clause-cause c = (
-  c.into_inner-book.result.journal,
-  c.into_inner-book.result.manager,
+  c.into_inner.result.book.journal,
+  c.into_inner.result.book.manager,
   c.replays.ensures.history,
-  subst (λ (given : ℕ). IsCause given c.args.lanes.items c.into_inner-book.result.journal c.in-Some.cause) c.self.view_is
-      (subst (λ (lanes : List LaneState). IsCause c.self.inside.lanes lanes c.into_inner-book.result.journal c.in-Some.cause) c.as_slice.ensures.value
+  subst (λ (given : ℕ). IsCause given c.args.lanes.items c.into_inner.result.book.journal c.in-Some.cause) c.self.view_is
+      (subst (λ (lanes : List LaneState). IsCause c.self.inside.lanes lanes c.into_inner.result.book.journal c.in-Some.cause) c.as_slice.ensures.value
       (subst (λ (journal : List Entry). IsCause c.self.inside.lanes c.as_slice.result.now journal c.in-Some.cause) c.journal.ensures c.in-Some.ensures.cause)),
 )
