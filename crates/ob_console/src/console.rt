@@ -1,4 +1,4 @@
-ghost use Rattle.std.specs.Prelude.{◌≡◌, ◌+◌, ◌<◌, ◌≤◌, ◌^◌, ◌++◌, ◌⊎◌, ◌≢◌, All, [], None, Some, List, ℕ, IfErr, IfOk, OnOk, OnErr, length};
+ghost use Rattle.std.specs.Prelude.{◌≡◌, ◌+◌, ◌<◌, ◌≤◌, ◌^◌, ◌++◌, ◌⊎◌, ◌≢◌, All, [], None, Some, List, ℕ, OnOk, OnErr, length};
 ghost use Rattle.ob_console.specs.Runs.{IsWithin, AnswersAll, point};
 ghost use Rattle.ob_output.specs.Pending.{IsWritten};
 ghost use Rattle.ob_output.specs.Printed.{line_end};
@@ -6,11 +6,9 @@ ghost use Rattle.ob_console.specs.Sessions.{Advances, Session, Finishes, IsFed, 
 
 use crate::evaluator::Evaluator;
 use ob_manager::Manager;
-use ob_output::{NotWritten, Sink};
-use ob_rights::Fault;
+use ob_output::{NotWritten, Output, Sink};
 use ob_script::{HeldLine, act_of, cut_far};
 use pin_words::{Keeper, Reader};
-use std::alloc::Global;
 use std::marker::Model;
 
 /// A manager and a reader of the same pins, and what a script has of them so far.
@@ -29,22 +27,15 @@ impl<'a> Model for Console<'a> {
 }
 
 impl<'a> Console<'a> {
-    /// No line has come. Takes all the memory that it will need, other than that of the manager's calls.
-    pub fn new(
-        alloc: Global,
-        manager: Manager<Keeper<'a>>,
-        reader: Reader<'a>,
-        writes: u64,
-    ) -> Result<Console<'a>, Fault>
+    /// No line has come.
+    pub fn new(manager: Manager<Keeper<'a>>, reader: Reader<'a>, output: Output) -> Console<'a>
         requires { manager.keeper.table ≡ Some reader.table }
-        ensures opening { IfOk result (λ console. console ≡ record { point = point manager.entry reader.entry.view.held; pending = record { bytes = []; writes_left = writes }; held = Some []; lines = 0 }) }
-        ensures memory { IfErr result (λ fault. fault ≡ Fault.Memory) }
+        ensures { result ≡ record { point = point manager.entry reader.entry.view.held; pending = output; held = Some []; lines = 0 } }
     {
-        let evaluator = Evaluator::new(alloc, manager, reader, writes)?;
-        Ok(Console {
-            evaluator,
+        Console {
+            evaluator: Evaluator::new(manager, reader, output),
             held: HeldLine::new(),
-        })
+        }
     }
 
     /// A line ends with these bytes, which come before its line feed.

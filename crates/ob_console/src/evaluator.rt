@@ -1,4 +1,4 @@
-ghost use Rattle.std.specs.Prelude.{◌≡◌, ◌+◌, ◌<◌, ◌≤◌, ◌^◌, ◌++◌, ◌⊎◌, List, ℕ, IfErr, IfOk, OnErr, OnOk, Some, []};
+ghost use Rattle.std.specs.Prelude.{◌≡◌, ◌+◌, ◌<◌, ◌≤◌, ◌^◌, ◌++◌, ◌⊎◌, List, ℕ, OnErr, OnOk, Some, []};
 ghost use Rattle.ob_store.specs.Directory.{directory_of};
 ghost use Rattle.ob_script.specs.Acts.{act_in};
 ghost use Rattle.ob_output.specs.Printed.{printed_names};
@@ -10,10 +10,8 @@ use crate::asking::reply_to;
 use ob_manager::Manager;
 use ob_output::{Answer, NotWritten, Output, Sink};
 use ob_reader::{card, pin, unpin};
-use ob_rights::Fault;
 use ob_script::Act;
 use pin_words::{Keeper, Reader};
-use std::alloc::Global;
 use std::marker::Model;
 
 /// A manager and a reader of the same pins, and the answers that they gave.
@@ -38,24 +36,17 @@ impl<'a> Model for Evaluator<'a> {
 }
 
 impl<'a> Evaluator<'a> {
-    /// No line has come. Takes all the memory that it will need, other than that of the manager's calls.
-    pub fn new(
-        alloc: Global,
-        manager: Manager<Keeper<'a>>,
-        reader: Reader<'a>,
-        writes: u64,
-    ) -> Result<Evaluator<'a>, Fault>
+    /// No line has come.
+    pub fn new(manager: Manager<Keeper<'a>>, reader: Reader<'a>, output: Output) -> Evaluator<'a>
         requires { manager.keeper.table ≡ Some reader.table }
-        ensures opening { IfOk result (λ evaluator. evaluator ≡ record { point = point manager.entry reader.entry.view.held; pending = record { bytes = []; writes_left = writes }; lines = 0 }) }
-        ensures memory { IfErr result (λ fault. fault ≡ Fault.Memory) }
+        ensures { result ≡ record { point = point manager.entry reader.entry.view.held; pending = output; lines = 0 } }
     {
-        let output = Output::new(alloc, writes)?;
-        Ok(Evaluator {
+        Evaluator {
             manager,
             reader,
             output,
             lines: 0,
-        })
+        }
     }
 
     /// Does what a line asks, and prints its answer.

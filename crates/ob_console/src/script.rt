@@ -6,7 +6,7 @@ ghost use Rattle.ob_console.specs.Runs.{IsEnded, IsOpening, IsWholeEnded};
 
 use crate::console::Console;
 use ob_manager::{Limits, Manager};
-use ob_output::{Sink, Source, Trouble};
+use ob_output::{Output, Sink, Source, Trouble};
 use pin_words::{Opening, Pins};
 use std::alloc::{AllocError, Global};
 
@@ -65,13 +65,14 @@ pub fn run_bounded<R: Source, W: Sink>(
     ensures reads { R.calls reader.new ≤ R.calls reader.old + reads }
     ensures writes { W.calls writer.new ≤ W.calls writer.old + writes }
 {
+    // What owns little comes first, so that no more than one path lets the console go.
+    let Ok(mut block) = zeros(alloc, BLOCK) else {
+        return Err(RunFault::Memory);
+    };
     let Ok((pins, opening)) = Pins::new(alloc, limits.shape()) else {
         return Err(RunFault::Memory);
     };
     let Some(mut console) = opened(alloc, limits, &pins, opening, writes) else {
-        return Err(RunFault::Memory);
-    };
-    let Ok(mut block) = zeros(alloc, BLOCK) else {
         return Err(RunFault::Memory);
     };
     answer_all(&mut console, &mut block, reads, reader, writer)
@@ -136,14 +137,14 @@ fn opened<'a>(
     ensures held { IfSome result (λ console. console.held ≡ Some []) }
     ensures pending { IfSome result (λ console. console.pending ≡ record { bytes = []; writes_left = writes }) }
 {
+    let Ok(output) = Output::new(alloc, writes) else {
+        return None;
+    };
     let Ok((keeper, reader)) = opening.start(pins) else {
         return None;
     };
-    let Ok(manager) = Manager::new(alloc, limits, keeper) else {
-        return None;
-    };
-    match Console::new(alloc, manager, reader, writes) {
-        Ok(console) => Some(console),
+    match Manager::new(alloc, limits, keeper) {
+        Ok(manager) => Some(Console::new(manager, reader, output)),
         Err(_) => None,
     }
 }

@@ -218,6 +218,7 @@ pub enum Call {
 
 impl Call {
     /// An equal one: its name or its handles are copied. The refusal is want of memory.
+    #[inline(always)]
     pub fn copy(&self, alloc: Global) -> Result<Call, AllocError>
         ensures { IfOk result (λ copy. copy ≡ self.now) }
     {

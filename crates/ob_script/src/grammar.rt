@@ -49,6 +49,9 @@ pub fn text_of(line: &[u8]) -> &[u8]
     }
 }
 
+// What a line of each verb is stands in one function when it runs: a function of its own would have a copy of the words
+// that are left, and each of these would be cleared for every line.
+#[inline(always)]
 fn call_of(mut words: Words<'_>) -> Option<Ask<'_>>
     ensures { option_map call_in result ≡ call_of words.entry }
 {
@@ -134,6 +137,7 @@ fn call_of(mut words: Words<'_>) -> Option<Ask<'_>>
     None
 }
 
+#[inline(always)]
 fn spawn_of(mut words: Words<'_>) -> Option<Ask<'_>>
     ensures { option_map call_in result ≡ spawn_of words.entry }
 {
@@ -143,6 +147,7 @@ fn spawn_of(mut words: Words<'_>) -> Option<Ask<'_>>
     Some(Ask::Spawn { session })
 }
 
+#[inline(always)]
 fn child_of(mut words: Words<'_>) -> Option<Ask<'_>>
     ensures { option_map call_in result ≡ child_of words.entry }
 {
@@ -154,6 +159,7 @@ fn child_of(mut words: Words<'_>) -> Option<Ask<'_>>
     Some(Ask::Child { thread, inherit })
 }
 
+#[inline(always)]
 fn thread_of(mut words: Words<'_>) -> Option<Ask<'_>>
     ensures { option_map call_in result ≡ thread_of words.entry }
 {
@@ -163,6 +169,7 @@ fn thread_of(mut words: Words<'_>) -> Option<Ask<'_>>
     Some(Ask::StartThread { process })
 }
 
+#[inline(always)]
 fn event_of(mut words: Words<'_>) -> Option<Ask<'_>>
     ensures { option_map call_in result ≡ event_of words.entry }
 {
@@ -181,6 +188,7 @@ fn event_of(mut words: Words<'_>) -> Option<Ask<'_>>
     })
 }
 
+#[inline(always)]
 fn mutex_of(mut words: Words<'_>) -> Option<Ask<'_>>
     ensures { option_map call_in result ≡ mutex_of words.entry }
 {
@@ -196,6 +204,7 @@ fn mutex_of(mut words: Words<'_>) -> Option<Ask<'_>>
     })
 }
 
+#[inline(always)]
 fn semaphore_of(mut words: Words<'_>) -> Option<Ask<'_>>
     ensures { option_map call_in result ≡ semaphore_of words.entry }
 {
@@ -214,6 +223,7 @@ fn semaphore_of(mut words: Words<'_>) -> Option<Ask<'_>>
     })
 }
 
+#[inline(always)]
 fn timer_of(mut words: Words<'_>) -> Option<Ask<'_>>
     ensures { option_map call_in result ≡ timer_of words.entry }
 {
@@ -229,6 +239,7 @@ fn timer_of(mut words: Words<'_>) -> Option<Ask<'_>>
     })
 }
 
+#[inline(always)]
 fn open_of(mut words: Words<'_>) -> Option<Ask<'_>>
     ensures { option_map call_in result ≡ open_of words.entry }
 {
@@ -249,6 +260,7 @@ fn open_of(mut words: Words<'_>) -> Option<Ask<'_>>
     })
 }
 
+#[inline(always)]
 fn dup_of(mut words: Words<'_>) -> Option<Ask<'_>>
     ensures { option_map call_in result ≡ dup_of words.entry }
 {
@@ -314,6 +326,7 @@ fn closing_of(mut words: Words<'_>) -> Option<u32>
 }
 
 /// A thread and a handle.
+#[inline(always)]
 fn handle_of(mut words: Words<'_>) -> Option<(u32, u32)>
     ensures { result ≡ handle_of words.entry }
 {
@@ -325,6 +338,7 @@ fn handle_of(mut words: Words<'_>) -> Option<(u32, u32)>
     Some((thread, handle))
 }
 
+#[inline(always)]
 fn close_of(words: Words<'_>) -> Option<Ask<'_>>
     ensures { option_map call_in result ≡ close_of words.entry }
 {
@@ -332,6 +346,7 @@ fn close_of(words: Words<'_>) -> Option<Ask<'_>>
     Some(Ask::CloseHandle { thread, handle })
 }
 
+#[inline(always)]
 fn flags_of(words: Words<'_>) -> Option<Ask<'_>>
     ensures { option_map call_in result ≡ flags_of words.entry }
 {
@@ -339,6 +354,7 @@ fn flags_of(words: Words<'_>) -> Option<Ask<'_>>
     Some(Ask::GetFlags { thread, handle })
 }
 
+#[inline(always)]
 fn setflags_of(mut words: Words<'_>) -> Option<Ask<'_>>
     ensures { option_map call_in result ≡ setflags_of words.entry }
 {
@@ -359,6 +375,7 @@ fn setflags_of(mut words: Words<'_>) -> Option<Ask<'_>>
     })
 }
 
+#[inline(always)]
 fn set_of(words: Words<'_>) -> Option<Ask<'_>>
     ensures { option_map call_in result ≡ set_of words.entry }
 {
@@ -366,6 +383,7 @@ fn set_of(words: Words<'_>) -> Option<Ask<'_>>
     Some(Ask::SetEvent { thread, handle })
 }
 
+#[inline(always)]
 fn reset_of(words: Words<'_>) -> Option<Ask<'_>>
     ensures { option_map call_in result ≡ reset_of words.entry }
 {
@@ -373,6 +391,7 @@ fn reset_of(words: Words<'_>) -> Option<Ask<'_>>
     Some(Ask::ResetEvent { thread, handle })
 }
 
+#[inline(always)]
 fn unlock_of(words: Words<'_>) -> Option<Ask<'_>>
     ensures { option_map call_in result ≡ unlock_of words.entry }
 {
@@ -380,6 +399,7 @@ fn unlock_of(words: Words<'_>) -> Option<Ask<'_>>
     Some(Ask::ReleaseMutex { thread, handle })
 }
 
+#[inline(always)]
 fn cancel_of(words: Words<'_>) -> Option<Ask<'_>>
     ensures { option_map call_in result ≡ cancel_of words.entry }
 {
@@ -387,6 +407,7 @@ fn cancel_of(words: Words<'_>) -> Option<Ask<'_>>
     Some(Ask::CancelTimer { thread, handle })
 }
 
+#[inline(always)]
 fn settimer_of(mut words: Words<'_>) -> Option<Ask<'_>>
     ensures { option_map call_in result ≡ settimer_of words.entry }
 {
@@ -404,6 +425,7 @@ fn settimer_of(mut words: Words<'_>) -> Option<Ask<'_>>
     })
 }
 
+#[inline(always)]
 fn tick_of(mut words: Words<'_>) -> Option<Ask<'_>>
     ensures { option_map call_in result ≡ tick_of words.entry }
 {
@@ -413,6 +435,7 @@ fn tick_of(mut words: Words<'_>) -> Option<Ask<'_>>
     Some(Ask::Tick { now })
 }
 
+#[inline(always)]
 fn release_of(mut words: Words<'_>) -> Option<Ask<'_>>
     ensures { option_map call_in result ≡ release_of words.entry }
 {
@@ -430,6 +453,7 @@ fn release_of(mut words: Words<'_>) -> Option<Ask<'_>>
     })
 }
 
+#[inline(always)]
 fn wait_of(mut words: Words<'_>) -> Option<Ask<'_>>
     ensures { option_map call_in result ≡ wait_of words.entry }
 {
@@ -485,6 +509,7 @@ fn are_handles(mut words: Words<'_>) -> bool
     true
 }
 
+#[inline(always)]
 fn result_of(mut words: Words<'_>) -> Option<Ask<'_>>
     ensures { option_map call_in result ≡ result_of words.entry }
 {
@@ -494,6 +519,7 @@ fn result_of(mut words: Words<'_>) -> Option<Ask<'_>>
     Some(Ask::WaitResult { wait })
 }
 
+#[inline(always)]
 fn expire_of(mut words: Words<'_>) -> Option<Ask<'_>>
     ensures { option_map call_in result ≡ expire_of words.entry }
 {
@@ -503,6 +529,7 @@ fn expire_of(mut words: Words<'_>) -> Option<Ask<'_>>
     Some(Ask::Expire { wait })
 }
 
+#[inline(always)]
 fn endthread_of(mut words: Words<'_>) -> Option<Ask<'_>>
     ensures { option_map call_in result ≡ endthread_of words.entry }
 {
@@ -512,6 +539,7 @@ fn endthread_of(mut words: Words<'_>) -> Option<Ask<'_>>
     Some(Ask::EndThread { thread })
 }
 
+#[inline(always)]
 fn exit_of(mut words: Words<'_>) -> Option<Ask<'_>>
     ensures { option_map call_in result ≡ exit_of words.entry }
 {
@@ -521,6 +549,7 @@ fn exit_of(mut words: Words<'_>) -> Option<Ask<'_>>
     Some(Ask::Exit { process })
 }
 
+#[inline(always)]
 fn reap_of(mut words: Words<'_>) -> Option<Ask<'_>>
     ensures { option_map call_in result ≡ reap_of words.entry }
 {
@@ -530,6 +559,7 @@ fn reap_of(mut words: Words<'_>) -> Option<Ask<'_>>
     Some(Ask::Reap { slot })
 }
 
+#[inline(always)]
 fn count_of(mut words: Words<'_>) -> Option<Ask<'_>>
     ensures { option_map call_in result ≡ count_of words.entry }
 {

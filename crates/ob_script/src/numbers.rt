@@ -5,22 +5,15 @@ use crate::words::{cut, is};
 use pin_core::Id;
 
 /// A number: 1 to 10 decimal digits, leading zeros allowed, at most 4,294,967,295.
-#[tactic(auto, using(crate::proofs::Digits::too_great))]
 pub fn number_of(word: &[u8]) -> Option<u32>
     ensures { result ≡ number_of word.now }
 {
-    if word.is_empty() || word.len() > 10 {
+    if word.len() > 10 {
         return None;
     }
-    let mut value: u64 = 0;
-    for byte in word {
-        if !byte.is_ascii_digit() {
-            return None;
-        }
-        value = value * 10 + u64::from(*byte - b'0');
-        if value > 4_294_967_295 {
-            return None;
-        }
+    let value = long_of(word)?;
+    if value > 4_294_967_295 {
+        return None;
     }
     Some(value as u32)
 }

@@ -90,6 +90,7 @@ impl<K: PinKeeper> Book<K> {
     }
 
     /// Makes a call of a lane, and enters it. The refusal is want of memory (8), and has changed nothing.
+    #[inline(always)]
     #[tactic(auto, using(crate::proofs::Journals::history_next))]
     pub fn enact(&mut self, lane: u32, call: Call) -> Result<Receipt, Fault>
         ensures entered { IfOk result (λ receipt. self.new.journal ≡ self.old.journal ++ receipt ∷ []) }
