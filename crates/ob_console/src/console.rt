@@ -50,10 +50,10 @@ impl<'a> Console<'a> {
         ensures cause { OnErr result ((W.faults sink.old < W.faults sink.new) ⊎ (self.new.pending.writes_left ≡ 0)) }
     {
         if self.held.is_empty() {
-            return self.evaluator.answer(sink, act_of(end));
+            return self.evaluator.answer(sink, &act_of(end));
         }
         self.held.extend(end);
-        let answered = self.evaluator.answer(sink, self.held.act());
+        let answered = self.evaluator.answer(sink, &self.held.act());
         self.held.clear();
         answered
     }
@@ -109,7 +109,7 @@ impl<'a> Console<'a> {
         if self.held.is_empty() {
             return Ok(());
         }
-        self.evaluator.answer(sink, self.held.act())
+        self.evaluator.answer(sink, &self.held.act())
     }
 
     /// The input ends: answers a last line without a line feed, and writes what is printed.

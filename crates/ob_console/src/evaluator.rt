@@ -50,9 +50,9 @@ impl<'a> Evaluator<'a> {
     }
 
     /// Does what a line asks, and prints its answer.
-    pub fn answer<W: Sink>(&mut self, sink: &mut W, act: Act<'_>) -> Result<(), NotWritten>
+    pub fn answer<W: Sink>(&mut self, sink: &mut W, act: &Act<'_>) -> Result<(), NotWritten>
         requires { self.old.lines < 2 ^ 127 }
-        ensures prints { (printed : List ℕ) × Prints self.old.point (self.old.lines + 1) (act_in act.entry) printed self.new.point
+        ensures prints { (printed : List ℕ) × Prints self.old.point (self.old.lines + 1) (act_in act.now) printed self.new.point
             × IsWritten result (W.taken sink.old) (W.taken sink.new) (self.old.pending.bytes ++ printed) self.new.pending.bytes }
         ensures lines { self.new.lines ≡ self.old.lines + 1 }
         ensures calls { W.calls sink.new + self.new.pending.writes_left ≡ W.calls sink.old + self.old.pending.writes_left }
@@ -65,9 +65,9 @@ impl<'a> Evaluator<'a> {
             Act::ListNames => return list(&self.manager, &mut self.output, sink),
             Act::Bad => Answer::BadLine(self.lines),
             Act::Ask(ask) => { Answer::Replied(reply_to(&mut self.manager, &mut self.reader, ask)) }
-            Act::Pin(id) => Answer::Pinned(id, pin(&mut self.manager, &mut self.reader, id)),
-            Act::Unpin(id) => Answer::Unpinned(id, unpin(&mut self.reader, id)),
-            Act::ShowCard(id) => { Answer::Shown(card(&mut self.manager, &mut self.reader, id)) }
+            Act::Pin(id) => Answer::Pinned(*id, pin(&mut self.manager, &mut self.reader, *id)),
+            Act::Unpin(id) => Answer::Unpinned(*id, unpin(&mut self.reader, *id)),
+            Act::ShowCard(id) => { Answer::Shown(card(&mut self.manager, &mut self.reader, *id)) }
         };
         self.output.put(sink, answer)
     }

@@ -34,7 +34,7 @@ impl Entry {
     }
 }
 
-/// That a call was entered in a journal. Only [`Book::enact`] makes one, and it can't be copied.
+/// That a call was entered in a journal. Only a [`Book`] that enters a call makes one, and it can't be copied.
 #[derive(Drop)]
 pub struct Receipt {
     entry: Entry,
@@ -91,7 +91,6 @@ impl<K: PinKeeper> Book<K> {
 
     /// Makes a call of a lane, and enters it. The refusal is want of memory (8), and has changed nothing.
     #[inline(always)]
-    #[tactic(auto, using(crate::proofs::Journals::history_next))]
     pub fn enact(&mut self, lane: u32, call: Call) -> Result<Receipt, Fault>
         ensures entered { IfOk result (λ receipt. self.new.journal ≡ self.old.journal ++ receipt ∷ []) }
         ensures entry { IfOk result (λ receipt. (receipt.lane ≡ lane) × (receipt.call ≡ call)) }
@@ -99,6 +98,19 @@ impl<K: PinKeeper> Book<K> {
         ensures memory { IfErr result (λ fault. (fault ≡ Memory) × (self.new ≡ self.old)) }
     {
         let copy = call.copy(self.alloc)?;
+        self.enter(lane, call, copy)
+    }
+
+    /// The same with a copy for the journal that was made before.
+    #[inline(always)]
+    #[tactic(auto, using(crate::proofs::Journals::history_next))]
+    pub(crate) fn enter(&mut self, lane: u32, call: Call, copy: Call) -> Result<Receipt, Fault>
+        requires { copy ≡ call }
+        ensures entered { IfOk result (λ receipt. self.new.journal ≡ self.old.journal ++ receipt ∷ []) }
+        ensures entry { IfOk result (λ receipt. (receipt.lane ≡ lane) × (receipt.call ≡ call)) }
+        ensures step { IfOk result (λ receipt. Step self.old.manager call receipt.reply self.new.manager) }
+        ensures memory { IfErr result (λ fault. (fault ≡ Memory) × (self.new ≡ self.old)) }
+    {
         self.journal.reserve(1)?;
         let reply = self.manager.apply(&call);
         self.journal.push_reserved(Entry {

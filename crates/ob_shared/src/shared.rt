@@ -97,8 +97,12 @@ impl<'a> Shared<'a> {
         if lane.list.reserve(1).is_err() {
             return Reply::Refused(Fault::Memory);
         }
+        // (made before the lock is taken, so that others wait less)
+        let Ok(copy) = call.copy(self.alloc) else {
+            return Reply::Refused(Fault::Memory);
+        };
         let mut held = self.held.lock(rt);
-        let answer = held.book.enact(lane.number, call);
+        let answer = held.book.enter(lane.number, call, copy);
         let waiting = held.waiting;
         drop(held);
         self.tell(waiting);

@@ -33,17 +33,16 @@ fn placed(rt: &impl Abort, tables: &mut Tables, process: u32, new: Entry) -> Res
     Ok(value)
 }
 
-#[test]
-fn each_call_and_each_refusal(rt: HostRuntime) -> Result<(), Fail> {
-    let mut tables = Tables::new(rt.alloc(), 2, 2)?;
+/// Of two processes with at most two handles each.
+fn calls_and_refusals(rt: &impl Abort, tables: &mut Tables) -> Result<(), Fail> {
     let parent = tables.add_process()?;
     assert_eq!(rt; parent, 1);
     assert!(rt; tables.is_given(1));
     assert!(rt; !tables.is_given(2));
-    assert_eq!(rt; placed(&rt, &mut tables, parent, entry(7, PLAIN))?, 4);
+    assert_eq!(rt; placed(rt, tables, parent, entry(7, PLAIN))?, 4);
     assert!(rt; !tables.is_full(parent));
     let inherited = entry(8, HandleFlags::INHERIT);
-    assert_eq!(rt; placed(&rt, &mut tables, parent, inherited)?, 8);
+    assert_eq!(rt; placed(rt, tables, parent, inherited)?, 8);
     assert!(rt; tables.is_full(parent));
     assert_eq!(rt; tables.place(parent, entry(9, PLAIN)), Err(Fault::Limit));
     assert_eq!(rt; tables.look(parent, 4), Some(entry(7, PLAIN)));
@@ -70,6 +69,11 @@ fn each_call_and_each_refusal(rt: HostRuntime) -> Result<(), Fail> {
     assert!(rt; tables.entries(parent).is_empty());
     assert!(rt; tables.look(2, 8).is_some());
     Ok(())
+}
+
+#[test]
+fn each_call_and_each_refusal(rt: HostRuntime) -> Result<(), Fail> {
+    calls_and_refusals(&rt, &mut Tables::new(rt.alloc(), 2, 2)?)
 }
 
 /// Fills a table to its limit of `most` entries, of which each third is plain.

@@ -16,7 +16,7 @@ pub returns-in-ListNames-clause-prints : goal.returns-in-ListNames-clause-prints
 returns-in-ListNames-clause-prints g c =
     let p : Point = point c.self.inside.manager c.self.inside.reader.view.held in
     let names : List ℕ = printed_names (directory_of c.self.inside.manager.state) in
-    subst (λ (old : Evaluation). (printed : List ℕ) × Prints old.point (old.lines + 1) (act_in c.args.act) printed p
+    subst (λ (old : Evaluation). (printed : List ℕ) × Prints old.point (old.lines + 1) (act_in c.args.act.now) printed p
     × IsWritten c.list.result (g.W.Sink.taken c.args.sink.now) (g.W.Sink.taken c.list.new.sink) (old.pending.bytes ++ printed) c.list.new.output.bytes)
     c.self.view_is (
       names,
@@ -29,7 +29,7 @@ returns-clause-prints g c =
     let p : Point = point c.self.inside.manager c.self.inside.reader.view.held in
     let number : ℕ = c.self.inside.lines + 1 in
     let printed : List ℕ = printed_answer c.match-act.answer in
-    subst (λ (old : Evaluation). (printed : List ℕ) × Prints old.point (old.lines + 1) (act_in c.args.act) printed (point c.match-act.self-inside.manager c.match-act.self-inside.reader.view.held)
+    subst (λ (old : Evaluation). (printed : List ℕ) × Prints old.point (old.lines + 1) (act_in c.args.act.now) printed (point c.match-act.self-inside.manager c.match-act.self-inside.reader.view.held)
     × IsWritten c.put.result (g.W.Sink.taken c.args.sink.now) (g.W.Sink.taken c.put.new.sink) (old.pending.bytes ++ printed) c.put.new.self.bytes)
     c.self.view_is (
       printed,
