@@ -64,7 +64,9 @@ pub fn reply_to<'a>(
             mask,
             inherit,
             options,
-        } => manager.duplicate(*thread, *source, *handle, *target, *mask, *inherit, *options),
+        } => manager.duplicate(
+            *thread, *source, *handle, *target, *mask, *inherit, *options,
+        ),
         Ask::CloseHandle { thread, handle } => manager.close(*thread, *handle),
         Ask::GetFlags { thread, handle } => manager.handle_flags(*thread, *handle),
         Ask::SetFlags {

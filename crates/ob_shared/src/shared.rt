@@ -101,12 +101,29 @@ impl<'a> Shared<'a> {
         let Ok(copy) = call.copy(self.alloc) else {
             return Reply::Refused(Fault::Memory);
         };
+        self.enter(rt, lane.number, &mut lane.list, call, copy)
+    }
+
+    /// Enters a call in the journal, and lists it where there is room for one.
+    #[inline(always)]
+    fn enter<R: Wait>(
+        &self,
+        rt: &R,
+        number: u32,
+        receipts: &mut Vec<Receipt>,
+        call: Call,
+        copy: Call,
+    ) -> Reply
+        requires room { vec_len receipts.old < vec_capacity receipts.old }
+        requires same { copy ≡ call }
+        ensures { Lists (record { number = number; list = receipts.old.items }) call result (record { number = number; list = receipts.new.items }) }
+    {
         let mut held = self.held.lock(rt);
-        let answer = held.book.enter(lane.number, call, copy);
+        let answer = held.book.enter(number, call, copy);
         let waiting = held.waiting;
         drop(held);
         self.tell(waiting);
-        list(&mut lane.list, answer)
+        list(receipts, answer)
     }
 
     /// Waits until a wait is no longer pending, and then asks for its result, under the same lock. It may wait forever.
