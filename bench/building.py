@@ -1,5 +1,6 @@
 """What a benchmark builds: the proved program, unless `./check` or an earlier run left one that is newer than every source."""
 
+import argparse
 import pathlib
 import subprocess
 import sys
@@ -31,3 +32,17 @@ def peer(name):
     made = OUT / name
     subprocess.run(["rustc", "--edition", "2021", "-O", "-C", "target-cpu=x86-64-v2", "-o", made, BENCH / f"{name}.rs"], check=True)
     return made
+
+
+def turns(text):
+    """How many turns are asked for: one or more."""
+    if not text.isdigit() or int(text) == 0:
+        raise argparse.ArgumentTypeError("a number of turns from 1 on is wanted")
+    return int(text)
+
+
+def options(usage):
+    """What reads the words of a benchmark that runs by turns."""
+    parser = argparse.ArgumentParser(usage=usage)
+    parser.add_argument("--turns", type=turns, default=6)
+    return parser
