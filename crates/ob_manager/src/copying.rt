@@ -69,10 +69,10 @@ fn copy_rights<K: PinKeeper>(
     if keeps_rights(options) {
         return Ok(entry.rights);
     }
-    let Some(seat) = store.object(entry.id.slot) else {
+    let Some(found) = store.object(entry.id.slot) else {
         return Err(Fault::Handle);
     };
-    if within(mask, Rights(entry.rights.0 | seat.grant.0)) {
+    if within(mask, Rights(entry.rights.0 | found.seat.grant.0)) {
         return Ok(mask);
     }
     Err(Fault::Access)

@@ -16,9 +16,10 @@ pub fn counts<K: PinKeeper>(store: &Store<K>, id: Id) -> Result<Reply, Fault>
     if store.limits().slots <= id.slot {
         return Err(Fault::Parameter);
     }
-    let Some(seat) = store.object(id.slot) else {
+    let Some(found) = store.object(id.slot) else {
         return Err(Fault::Handle);
     };
+    let seat = found.seat;
     if seat.id != id {
         return Err(Fault::Handle);
     }
@@ -44,11 +45,11 @@ pub fn card<K: PinKeeper>(store: &Store<K>, id: Id) -> Option<Card>
     ensures { result ≡ card store.now.state id }
 {
     match store.object(id.slot) {
-        Some(seat) if seat.id == id => {
+        Some(found) if found.seat.id == id => {
             return Some(Card {
                 id,
-                descr: seat.descr,
-                grant: seat.grant,
+                descr: found.label.descr,
+                grant: found.seat.grant,
             });
         }
         _ => return None,

@@ -235,13 +235,13 @@ fn new_handle<K: PinKeeper>(
     ensures err { IfErr result (λ fault. Refuses fault (new_handle store.old.state process id kind rights inherit)) }
     ensures same { OnErr result (store.new ≡ store.old) }
 {
-    let Some(seat) = store.object(id.slot) else {
+    let Some(found) = store.object(id.slot) else {
         return Err(Fault::Handle);
     };
-    if !same_kind(seat.descr.kind, kind) {
+    if !same_kind(found.label.descr.kind, kind) {
         return Err(Fault::Handle);
     }
-    if !is_allowed(rights, seat.grant) {
+    if !is_allowed(rights, found.seat.grant) {
         return Err(Fault::Access);
     }
     if store.is_full(process) {

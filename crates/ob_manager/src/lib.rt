@@ -37,7 +37,7 @@ pub use card::Card;
 pub use law::law_of_steps;
 pub use making::{Make, Making, Text};
 pub use manager::Manager;
-pub use ob_store::{Limits, Seat, Stored};
+pub use ob_store::{Found, Label, Limits, Seat, Stored};
 pub use ob_waits::Mode;
 pub use reply::Reply;
 pub use waiting::{HandleList, Timeout};

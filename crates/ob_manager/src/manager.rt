@@ -25,7 +25,7 @@ use crate::{
 };
 use ob_name::{NameRef, Rows};
 use ob_rights::{Fault, Kind, Rights};
-use ob_store::{Limits, Seat, Store, Stored};
+use ob_store::{Found, Limits, Store, Stored};
 use ob_waits::Mode;
 use pin_core::Id;
 use pin_words::PinKeeper;
@@ -84,12 +84,12 @@ impl<K: PinKeeper> Manager<K> {
 
     /// What a slot holds, as it is stored: its handles are the entries that name the object, its blocks the places of pending
     /// waits that do, and it has a hold once there is neither.
-    pub fn slot(&self, slot: u32) -> Option<&Seat>
-        ensures object { slice_index_or self.now.state.objects slot None ≡ option_map (λ seat. object_of seat.now) result }
-        ensures place { IfSome result (λ seat. seat.now.id.slot ≡ slot) }
-        ensures handles { IfSome result (λ seat. seat.now.handles ≡ handles_of self.now.state seat.now.id) }
-        ensures blocks { IfSome result (λ seat. seat.now.blocks ≡ blocks_of self.now.state seat.now.id) }
-        ensures hold { IfSome result (λ seat. hold_in seat.now.body ≡ hold_of self.now.state seat.now.id) }
+    pub fn slot(&self, slot: u32) -> Option<Found<'_>>
+        ensures object { slice_index_or self.now.state.objects slot None ≡ option_map (λ found. object_of found.seat.now found.label.now) result }
+        ensures place { IfSome result (λ found. found.seat.now.id.slot ≡ slot) }
+        ensures handles { IfSome result (λ found. found.seat.now.handles ≡ handles_of self.now.state found.seat.now.id) }
+        ensures blocks { IfSome result (λ found. found.seat.now.blocks ≡ blocks_of self.now.state found.seat.now.id) }
+        ensures hold { IfSome result (λ found. hold_in found.seat.now.body ≡ hold_of self.now.state found.seat.now.id) }
     {
         // What it says is wanted here.
         self.store.kept();

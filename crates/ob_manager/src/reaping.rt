@@ -16,9 +16,10 @@ pub fn reap<K: PinKeeper>(store: &mut Store<K>, slot: u32) -> Result<Reply, Faul
     if store.limits().slots <= slot {
         return Err(Fault::Parameter);
     }
-    let Some(seat) = store.object(slot) else {
+    let Some(found) = store.object(slot) else {
         return Err(Fault::Handle);
     };
+    let seat = found.seat;
     if seat.body.is_some() {
         return Err(Fault::Handle);
     }

@@ -1,3 +1,4 @@
+pub mod LabelLaws
 pub mod SeatLaws
 pub mod EndLaws
 pub mod BirthLaws

@@ -13,6 +13,8 @@ use Rattle.ob_body.specs.declared.body.Body.{Body}
 use Rattle.ob_arena.specs.Slots.{Slots}
 use Rattle.ob_tables.specs.declared.entry.Entry.{Entry}
 use Rattle.ob_waits.specs.Objects as waits
+use Rattle.ob_rights.specs.declared.kind.Kind.TheVariants.{Event}
+use Rattle.ob_store.specs.declared.label.Label.{Label}
 use Rattle.ob_store.specs.declared.seat.Seat.{Seat}
 
 -- what of an object never changes; its body stands apart
@@ -43,12 +45,22 @@ with_keeper p births keeper = record { objects = p.objects; seen = p.seen; retir
 abbrev pub places_in : ObjectsState → Places
 places_in s = record { objects = s.objects; seen = s.seen; retired = s.retired }
 
-abbrev pub object_of : Seat → Object
-object_of seat = record { id = seat.id; birth = seat.birth; descr = seat.descr; grant = seat.grant; name = seat.name }
+-- an object is its seat and its label
+abbrev pub object_of : Seat → Label → Object
+object_of seat label = record { id = seat.id; birth = label.birth; descr = label.descr; grant = seat.grant; name = label.name }
 
-abbrev pub seat_object : Option Seat → Option Object
-seat_object None = None
-seat_object (Some seat) = Some (object_of seat)
+-- the label where no object is
+abbrev pub no_label : Label
+no_label = record { birth = 0; descr = record { kind = Event; manual = false; max = 0 }; name = None }
+
+abbrev pub object_at : Option Seat → Label → Option Object
+object_at None label = None
+object_at (Some seat) label = Some (object_of seat label)
+
+abbrev pub objects_in : List (Option Seat) → List Label → List (Option Object)
+objects_in [] labels = []
+objects_in (seat ∷ seats) [] = object_at seat no_label ∷ objects_in seats []
+objects_in (seat ∷ seats) (label ∷ labels) = object_at seat label ∷ objects_in seats labels
 
 abbrev pub seat_body : Option Seat → Option Body
 seat_body None = None
@@ -72,8 +84,8 @@ seat_block_left seat = record seat { blocks = seat.blocks - 1; body = if seat.ha
 abbrev pub seen_in : List (Option Seat) → waits.Objects
 seen_in seats = record { bodies = map seat_body seats; handles = map seat_handles seats; blocks = map seat_blocks seats }
 
-abbrev pub places_of : Slots Seat → Places
-places_of s = record { objects = map seat_object s.bodies; seen = seen_in s.bodies; retired = s.retired }
+abbrev pub places_of : Slots Seat → List Label → Places
+places_of s labels = record { objects = objects_in s.bodies labels; seen = seen_in s.bodies; retired = s.retired }
 
 -- the slots with their objects, as an arena has them
 abbrev pub vacancy : Places → Slots Object

@@ -8,7 +8,7 @@ ghost use Rattle.std.specs.Option.{option_map};
 ghost use Rattle.ob_store.specs.Objects.{object_of};
 ghost use Rattle.ob_store.specs.Moves.{OnlyCloses, rows_left};
 
-use crate::seat::Seat;
+use crate::found::Found;
 use crate::store::Store;
 use ob_name::Directory;
 use ob_rights::{Fault, HandleFlags};
@@ -69,16 +69,16 @@ impl<K: PinKeeper> Store<K> {
 
 /// The name of an object leaves the directory where the object has no handle left.
 #[inline(always)]
-pub(crate) fn leave_directory(names: &mut Directory, seat: Option<&Seat>)
-    ensures { names.new.rows ≡ rows_left names.old.rows (option_map (λ s. s.now.handles) seat.entry) (option_map (λ s. object_of s.now) seat.entry) }
+pub(crate) fn leave_directory(names: &mut Directory, found: Option<Found<'_>>)
+    ensures { names.new.rows ≡ rows_left names.old.rows (option_map (λ f. f.seat.now.handles) found.entry) (option_map (λ f. object_of f.seat.now f.label.now) found.entry) }
 {
-    let Some(seat) = seat else {
+    let Some(found) = found else {
         return;
     };
-    if seat.handles > 0 {
+    if found.seat.handles > 0 {
         return;
     }
-    let Some(name) = &seat.name else {
+    let Some(name) = &found.label.name else {
         return;
     };
     let _ = names.remove(&name.borrowed());

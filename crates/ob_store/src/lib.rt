@@ -20,6 +20,8 @@ mod children;
 mod creation;
 mod ending;
 mod entries;
+mod found;
+mod label;
 mod limits;
 mod links;
 mod lives;
@@ -42,6 +44,8 @@ mod timers;
 mod waiting;
 
 pub use creation::Creation;
+pub use found::Found;
+pub use label::Label;
 pub use limits::Limits;
 pub use ob_waits::LAST_MOMENT;
 pub use objects::Objects;

@@ -12,7 +12,7 @@ ghost use Rattle.ob_store.specs.Agreement.{IsTied, Reclaimed};
 ghost use Rattle.ob_store.specs.Ends.{slot_left_by};
 ghost use Rattle.ob_store.specs.Ticks.{slot_fired, slot_is_due};
 
-use crate::seat::Seat;
+use crate::found::Found;
 use crate::seats::Seats;
 use ob_arena::SLOTS_MAX;
 use ob_body::Body;
@@ -92,12 +92,12 @@ impl<K: PinKeeper> Objects<K> {
     }
 
     /// The object in a slot.
-    pub fn look(&self, slot: u32) -> Option<&Seat>
-        ensures object { slice_index_or self.now.objects slot None ≡ option_map (λ seat. object_of seat.now) result }
-        ensures body { IfSome result (λ seat. slice_index_or self.now.seen.bodies slot None ≡ seat.now.body) }
-        ensures handles { IfSome result (λ seat. slice_index_or self.now.seen.handles slot 0 ≡ seat.now.handles) }
-        ensures blocks { IfSome result (λ seat. slice_index_or self.now.seen.blocks slot 0 ≡ seat.now.blocks) }
-        ensures id { IfSome result (λ seat. seat.now.id.slot ≡ slot) }
+    pub fn look(&self, slot: u32) -> Option<Found<'_>>
+        ensures object { slice_index_or self.now.objects slot None ≡ option_map (λ found. object_of found.seat.now found.label.now) result }
+        ensures body { IfSome result (λ found. slice_index_or self.now.seen.bodies slot None ≡ found.seat.now.body) }
+        ensures handles { IfSome result (λ found. slice_index_or self.now.seen.handles slot 0 ≡ found.seat.now.handles) }
+        ensures blocks { IfSome result (λ found. slice_index_or self.now.seen.blocks slot 0 ≡ found.seat.now.blocks) }
+        ensures id { IfSome result (λ found. found.seat.now.id.slot ≡ slot) }
     {
         self.seats.look(slot)
     }

@@ -4,14 +4,13 @@ ghost use Rattle.ob_waits.specs.Objects.{slot_abandoned, slot_acquired, slot_roo
 ghost use Rattle.ob_store.specs.Objects.{seat_handle_left, seat_block_left};
 
 use ob_body::{Body, RECURSION_MAX};
-use ob_name::Name;
 use ob_rights::Rights;
-use pin_core::{Descr, Id};
+use pin_core::Id;
 
-/// An object in its slot, and how much refers to it.
+/// An object in its slot, but for its label, and how much refers to it.
 #[derive(Drop)]
 pub struct Seat {
-    // What calls read most stands first, on one cache line.
+    // One cache line, whatever an object was created with: its name and what else few calls read stands in its label.
     /// Its Id, whose slot this is.
     pub id: Id,
     /// How many handles name it.
@@ -22,12 +21,6 @@ pub struct Seat {
     pub blocks: u64,
     /// Its body: none once nothing refers to it.
     pub body: Option<Body>,
-    /// Its number, in the order of births, from 0.
-    pub birth: u64,
-    /// What it is, for its whole life.
-    pub descr: Descr,
-    /// Its name, if it was created with one.
-    pub name: Option<Name>,
 }
 
 /// What a thread acquired: whether it was an abandoned mutex, and which thread owned it before and owns it after.
@@ -48,15 +41,8 @@ pub(crate) struct Was {
 impl Seat {
     /// A new object with one handle.
     #[inline(always)]
-    pub(crate) fn new(
-        id: Id,
-        birth: u64,
-        descr: Descr,
-        grant: Rights,
-        name: Option<Name>,
-        body: Body,
-    ) -> Seat
-        ensures { result ≡ record { id = id; birth = birth; descr = descr; grant = grant; handles = 1; blocks = 0; body = Some body; name = name } }
+    pub(crate) fn new(id: Id, grant: Rights, body: Body) -> Seat
+        ensures { result ≡ record { id = id; grant = grant; handles = 1; blocks = 0; body = Some body } }
     {
         Seat {
             id,
@@ -64,9 +50,6 @@ impl Seat {
             grant,
             blocks: 0,
             body: Some(body),
-            birth,
-            descr,
-            name,
         }
     }
 

@@ -1,4 +1,4 @@
-ghost use Rattle.std.specs.Prelude.{◌≡◌, ◌<◌, ◌≤◌, ◌&&◌, ℕ, false, true, IfNone, IfOk, IfSome, IsSome, IsTrue, None, Some, is_some, length, slice_index_or};
+ghost use Rattle.std.specs.Prelude.{◌≡◌, ◌<◌, ◌≤◌, ◌&&◌, ℕ, false, true, IfNone, IfOk, IfSome, IsSome, IsTrue, None, Some, is_some, length, slice_index_or, slice_set};
 ghost use Rattle.std.specs.Option.{option_map};
 ghost use Rattle.ob_body.specs.Mutex.{is_owner};
 ghost use Rattle.ob_waits.specs.Form.{slot_due, slot_owner};
@@ -8,6 +8,8 @@ ghost use Rattle.ob_waits.specs.Waits.{is_abandoned, is_signaled, with_acquired}
 ghost use Rattle.ob_store.specs.Ticks.{slot_is_due};
 ghost use Rattle.ob_store.specs.Objects.{object_of, rest_of, vacant_places, vacancy, with_seat, with_handle, without_handle, is_last_handle, with_block, is_last_block, without_seat, with_retired};
 
+use crate::found::Found;
+use crate::label::Label;
 use crate::owners::Owners;
 use crate::seat::Seat;
 use crate::timers::Timers;
@@ -23,6 +25,8 @@ use std::marker::Model;
 #[derive(Drop)]
 pub(crate) struct Seats {
     arena: Arena<Seat>,
+    // By slot, beside the seats.
+    labels: Vec<Label>,
     owners: Owners,
     timers: Timers,
 }
@@ -32,12 +36,12 @@ impl Model for Seats {
 
     ghost Value = { Places };
 
-    ghost view = { λ s. places_of s.arena };
+    ghost view = { λ s. places_of s.arena s.labels.items };
 
     ghost use Rattle.ob_store.specs.Timers.{AreNoted};
 
     // Hidden from the value: how many mutexes each thread owns, and when the timer in each slot is due.
-    ghost invariant = { λ s. AreNoted s.arena.bodies s.owners s.timers };
+    ghost invariant = { λ s. AreNoted s.arena.bodies s.owners s.timers s.labels.items };
 }
 
 /// The thread that owns the mutex that a body is.
@@ -60,14 +64,26 @@ fn due_of(body: Option<Body>) -> Option<u64>
     }
 }
 
+/// A slot gets a label, and the one before is let go.
+#[inline(always)]
+fn relabel(labels: &mut Vec<Label>, slot: u32, label: Label)
+    requires { slot < length labels.old.items }
+    ensures { labels.new.items ≡ slice_set labels.old.items slot label }
+{
+    labels[slot as usize] = label;
+}
+
 impl Seats {
     /// Slots without an object. The mutexes of threads below `threads` are counted and listed.
     pub(crate) fn new(alloc: Global, slots: u32, threads: u32) -> Result<Seats, AllocError>
         requires { slots ≤ SLOTS_MAX }
         ensures { IfOk result (λ seats. seats ≡ vacant_places slots) }
     {
+        let mut labels = Vec::new(alloc);
+        labels.resize_with(slots as usize, Label::none)?;
         Ok(Seats {
             arena: Arena::new(alloc, slots)?,
+            labels,
             owners: Owners::new(alloc, slots, threads)?,
             timers: Timers::new(alloc, slots)?,
         })
@@ -114,16 +130,19 @@ impl Seats {
     }
 
     /// The object in a slot.
-    pub(crate) fn look(&self, slot: u32) -> Option<&Seat>
-        ensures object { slice_index_or self.now.objects slot None ≡ option_map (λ seat. object_of seat.now) result }
-        ensures body { IfSome result (λ seat. slice_index_or self.now.seen.bodies slot None ≡ seat.now.body) }
-        ensures handles { IfSome result (λ seat. slice_index_or self.now.seen.handles slot 0 ≡ seat.now.handles) }
-        ensures blocks { IfSome result (λ seat. slice_index_or self.now.seen.blocks slot 0 ≡ seat.now.blocks) }
+    pub(crate) fn look(&self, slot: u32) -> Option<Found<'_>>
+        ensures object { slice_index_or self.now.objects slot None ≡ option_map (λ found. object_of found.seat.now found.label.now) result }
+        ensures body { IfSome result (λ found. slice_index_or self.now.seen.bodies slot None ≡ found.seat.now.body) }
+        ensures handles { IfSome result (λ found. slice_index_or self.now.seen.handles slot 0 ≡ found.seat.now.handles) }
+        ensures blocks { IfSome result (λ found. slice_index_or self.now.seen.blocks slot 0 ≡ found.seat.now.blocks) }
     {
         if !self.arena.is_occupied(slot) {
             return None;
         }
-        Some(self.arena.get(slot))
+        Some(Found {
+            seat: self.arena.get(slot),
+            label: &self.labels[slot as usize],
+        })
     }
 
     /// How many places of pending waits name the object in a slot.
@@ -149,8 +168,8 @@ impl Seats {
         ensures value { self.new ≡ with_seat self.old id.slot (record { id = id; birth = birth; descr = descr; grant = grant; name = name }) body }
         ensures handle { slice_index_or self.new.seen.handles id.slot 0 ≡ 1 }
     {
-        self.arena
-            .put(id.slot, Seat::new(id, birth, descr, grant, name, body));
+        self.arena.put(id.slot, Seat::new(id, grant, body));
+        relabel(&mut self.labels, id.slot, Label { birth, descr, name });
         self.owners.came(id.slot, body.owner());
         self.timers.moved(id.slot, None, body.due());
     }
@@ -194,7 +213,8 @@ impl Seats {
         ensures value { self.new ≡ without_seat self.old slot }
         ensures vacant { is_vacant_at (vacancy self.new) slot ≡ true }
     {
-        drop(self.arena.take(slot));
+        let _ = self.arena.take(slot);
+        relabel(&mut self.labels, slot, Label::none());
     }
 
     /// A vacant slot is never given again.

@@ -13,10 +13,10 @@ ghost use Rattle.ob_store.specs.Consistent.{IsConsistent};
 ghost use Rattle.ob_store.specs.Directory.{directory_of};
 
 use crate::abandoned::Abandoned;
+use crate::found::Found;
 use crate::limits::Limits;
 use crate::lives::Lives;
 use crate::objects::Objects;
-use crate::seat::Seat;
 use ob_body::Body;
 use ob_name::{Directory, NameRef, Rows};
 use ob_tables::{Entry, Tables};
@@ -179,12 +179,12 @@ impl<K: PinKeeper> Store<K> {
     }
 
     /// The object in a slot, with all that refers to it counted.
-    pub fn object(&self, slot: u32) -> Option<&Seat>
-        ensures object { slice_index_or self.now.state.objects slot None ≡ option_map (λ seat. object_of seat.now) result }
-        ensures body { IfSome result (λ seat. slice_index_or self.now.state.bodies slot None ≡ seat.now.body) }
-        ensures handles { IfSome result (λ seat. seat.now.handles ≡ handles_of self.now.state seat.now.id) }
-        ensures blocks { IfSome result (λ seat. seat.now.blocks ≡ blocks_of self.now.state seat.now.id) }
-        ensures id { IfSome result (λ seat. seat.now.id.slot ≡ slot) }
+    pub fn object(&self, slot: u32) -> Option<Found<'_>>
+        ensures object { slice_index_or self.now.state.objects slot None ≡ option_map (λ found. object_of found.seat.now found.label.now) result }
+        ensures body { IfSome result (λ found. slice_index_or self.now.state.bodies slot None ≡ found.seat.now.body) }
+        ensures handles { IfSome result (λ found. found.seat.now.handles ≡ handles_of self.now.state found.seat.now.id) }
+        ensures blocks { IfSome result (λ found. found.seat.now.blocks ≡ blocks_of self.now.state found.seat.now.id) }
+        ensures id { IfSome result (λ found. found.seat.now.id.slot ≡ slot) }
     {
         // What it says is wanted here: that the object has the Id of its slot.
         self.objects.kept();

@@ -3,8 +3,8 @@ ghost use Rattle.std.specs.Option.{option_map};
 ghost use Rattle.ob_store.specs.Objects.{object_of};
 ghost use Rattle.ob_store.specs.Stored.{Stands};
 
+use crate::found::Found;
 use crate::objects::Objects;
-use crate::seat::Seat;
 use crate::store::Store;
 use ob_name::{Directory, Rows};
 use pin_words::PinKeeper;
@@ -27,11 +27,11 @@ impl<'a, K: PinKeeper> Model for Stored<'a, K> {
 
 impl<'a, K: PinKeeper> Stored<'a, K> {
     /// The object in a slot, with its body and its counters.
-    pub fn slot(&self, slot: u32) -> Option<&'a Seat>
-        ensures object { slice_index_or self.now.objects slot None ≡ option_map (λ seat. object_of seat.now) result }
-        ensures body { IfSome result (λ seat. slice_index_or self.now.seen.bodies slot None ≡ seat.now.body) }
-        ensures handles { IfSome result (λ seat. slice_index_or self.now.seen.handles slot 0 ≡ seat.now.handles) }
-        ensures blocks { IfSome result (λ seat. slice_index_or self.now.seen.blocks slot 0 ≡ seat.now.blocks) }
+    pub fn slot(&self, slot: u32) -> Option<Found<'a>>
+        ensures object { slice_index_or self.now.objects slot None ≡ option_map (λ found. object_of found.seat.now found.label.now) result }
+        ensures body { IfSome result (λ found. slice_index_or self.now.seen.bodies slot None ≡ found.seat.now.body) }
+        ensures handles { IfSome result (λ found. slice_index_or self.now.seen.handles slot 0 ≡ found.seat.now.handles) }
+        ensures blocks { IfSome result (λ found. slice_index_or self.now.seen.blocks slot 0 ≡ found.seat.now.blocks) }
     {
         self.objects.look(slot)
     }

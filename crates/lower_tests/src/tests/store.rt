@@ -37,10 +37,10 @@ fn made<K: PinKeeper>(objects: &mut Objects<K>, descr: Descr) -> Option<Id> {
 
 /// Whether the object of the slot had a handle, which has left.
 fn has_lost_a_handle<K: PinKeeper>(objects: &mut Objects<K>, slot: u32) -> bool {
-    let Some(seat) = objects.look(slot) else {
+    let Some(found) = objects.look(slot) else {
         return false;
     };
-    if seat.handles == 0 {
+    if found.seat.handles == 0 {
         return false;
     }
     objects.handle_left(slot);
@@ -49,10 +49,10 @@ fn has_lost_a_handle<K: PinKeeper>(objects: &mut Objects<K>, slot: u32) -> bool 
 
 /// Whether the object of the slot has a body, and one handle more.
 fn has_gained_a_handle<K: PinKeeper>(objects: &mut Objects<K>, slot: u32) -> bool {
-    let Some(seat) = objects.look(slot) else {
+    let Some(found) = objects.look(slot) else {
         return false;
     };
-    if seat.handles >= u32::MAX || seat.body.is_none() {
+    if found.seat.handles >= u32::MAX || found.seat.body.is_none() {
         return false;
     }
     objects.handle_came(slot);
@@ -61,10 +61,10 @@ fn has_gained_a_handle<K: PinKeeper>(objects: &mut Objects<K>, slot: u32) -> boo
 
 /// Whether the object of the slot has a body, and one block more.
 fn has_gained_a_block<K: PinKeeper>(objects: &mut Objects<K>, slot: u32) -> bool {
-    let Some(seat) = objects.look(slot) else {
+    let Some(found) = objects.look(slot) else {
         return false;
     };
-    if seat.blocks >= u64::MAX || seat.body.is_none() {
+    if found.seat.blocks >= u64::MAX || found.seat.body.is_none() {
         return false;
     }
     objects.block_came(slot);
@@ -84,8 +84,8 @@ fn blocks_of_two_places<K: PinKeeper>(objects: &mut Objects<K>) -> Option<u64>
     }
     let id = objects.add(slot, EVENT, grant, None, body);
     objects.blocks_came(&[id, id]);
-    let seat = objects.look(slot)?;
-    Some(seat.blocks)
+    let found = objects.look(slot)?;
+    Some(found.seat.blocks)
 }
 
 /// Whether the holder had a copy of the Id, and let it go.
@@ -99,14 +99,14 @@ fn has_let_go(objects: &mut Objects<LockedPins>, id: Id) -> bool {
 
 /// The number of the object in a slot.
 fn birth_of<K: PinKeeper>(objects: &Objects<K>, slot: u32) -> Option<u64> {
-    let seat = objects.look(slot)?;
-    Some(seat.birth)
+    let found = objects.look(slot)?;
+    Some(found.label.birth)
 }
 
 /// The outcome for the slot of an ended object.
 fn reclaimed<K: PinKeeper>(objects: &mut Objects<K>, slot: u32) -> Option<Reclaim> {
-    let seat = objects.look(slot)?;
-    if seat.body.is_some() {
+    let found = objects.look(slot)?;
+    if found.seat.body.is_some() {
         return None;
     }
     Some(objects.reclaim(slot))

@@ -29,12 +29,12 @@ pub(super) fn answers<K: PinKeeper>(
 
 /// What is in a slot, if there is something.
 fn body_in<K: PinKeeper>(manager: &Manager<K>, slot: u32) -> Option<Body> {
-    manager.slot(slot)?.body
+    manager.slot(slot)?.seat.body
 }
 
 /// How many handles the object in a slot has, where it has a body.
 fn handles_in<K: PinKeeper>(manager: &Manager<K>, slot: u32) -> Option<u32> {
-    let seat = manager.slot(slot)?;
+    let seat = manager.slot(slot)?.seat;
     seat.body?;
     Some(seat.handles)
 }

@@ -11,7 +11,7 @@ use ob_manager::Reply::{
 };
 use ob_manager::{Limits, Make, Manager, Mode, Reply, Timeout};
 use ob_rights::{Fault, Kind, Rights};
-use ob_store::Seat;
+use ob_store::Found;
 use pin_core::Id;
 use pin_words::LockedPins;
 use std::alloc::Global;
@@ -29,21 +29,23 @@ const HANDLES: u32 = 8;
 const WAITS: u32 = 4;
 
 /// Whether two objects are the same, by as many handles and blocks.
-fn is_same(seat: &Seat, other: &Seat) -> bool {
-    seat.id == other.id
-        && seat.handles == other.handles
-        && seat.blocks == other.blocks
-        && seat.birth == other.birth
-        && seat.body == other.body
-        && seat.descr == other.descr
-        && seat.grant == other.grant
-        && seat.name.is_some() == other.name.is_some()
+fn is_same(found: Found<'_>, other: Found<'_>) -> bool {
+    let (seat, same) = (found.seat, other.seat);
+    let (label, alike) = (found.label, other.label);
+    seat.id == same.id
+        && seat.handles == same.handles
+        && seat.blocks == same.blocks
+        && seat.body == same.body
+        && seat.grant == same.grant
+        && label.birth == alike.birth
+        && label.descr == alike.descr
+        && label.name.is_some() == alike.name.is_some()
 }
 
 fn are_slots_same(manager: &Manager<LockedPins>, twin: &Manager<LockedPins>) -> bool {
     for slot in 0..SLOTS {
         let is_good = match (manager.slot(slot), twin.slot(slot)) {
-            (Some(seat), Some(other)) => is_same(seat, other),
+            (Some(found), Some(other)) => is_same(found, other),
             (None, None) => true,
             _ => false,
         };

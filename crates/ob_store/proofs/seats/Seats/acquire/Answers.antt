@@ -1,7 +1,8 @@
-use Rattle.std.proofs.Common.{◌∙◌, ap, set, Some}
+use Rattle.std.proofs.lemmas.List.{length-set}
+use Rattle.std.proofs.Common.{◌∙◌, ap, set, Some, sym}
 use Rattle.ob_waits.specs.Waits.{with_acquired}
 use Rattle.ob_store.specs.declared.seat.Seat.{Seat}
-use Rattle.ob_store.specs.Objects.{Places, rest_of, seat_object, seen_in}
+use Rattle.ob_store.specs.Objects.{Places, rest_of, object_of, seen_in}
 use Rattle.ob_store.proofs.SeatLaws.{rest_same, seen_acquired}
 use Rattle.ob_store.proofs.OwnerLaws.{owned_few, owned_set}
 use Rattle.ob_waits.specs.Form.{slot_due}
@@ -16,8 +17,8 @@ returns-clause-objects c =
 
 pub returns-clause-rest : goal.returns-clause-rest
 returns-clause-rest c =
-    rest_same c.self.inside.arena.bodies c.args.id.slot c.get_mut.result.now c.get_mut.ensures.value c.self.inside.arena.retired c.acquire-acquired.new.self
-    (ap (λ (x : Seat). seat_object (Some x)) c.acquire-acquired.ensures.value) (ap (λ (x : Seat). x.handles) c.acquire-acquired.ensures.value)
+    rest_same c.self.inside.arena.bodies c.args.id.slot c.get_mut.result.now c.get_mut.ensures.value c.self.inside.arena.retired c.self.inside.labels.items c.acquire-acquired.new.self
+    (λ l. ap (λ (x : Seat). object_of x l) c.acquire-acquired.ensures.value) (ap (λ (x : Seat). x.handles) c.acquire-acquired.ensures.value)
     ∙ ap rest_of c.self.view_is
 
 pub moved-requires : goal.moved-requires
@@ -28,4 +29,5 @@ invariant_of-self c = record {
   owned = rw c.moved.ensures (owned_set c.self.inside.arena.bodies c.self.inside.owners c.args.id.slot c.get_mut.result.now c.acquire-acquired.new.self c.acquire-acquired.result.before c.acquire-acquired.result.after c.self.invariant.owned
       c.get_mut.ensures.value c.acquire-acquired.ensures.before c.acquire-acquired.ensures.after);
   timed = timed_stays c.self.inside.arena.bodies c.self.inside.timers c.args.id.slot c.get_mut.result.now c.acquire-acquired.new.self c.self.invariant.timed c.get_mut.ensures.value (ap (λ (x : Seat). slot_due x.body) c.acquire-acquired.ensures.value ∙ due_taken c.args.thread c.get_mut.result.now.body);
+  labelled = c.self.invariant.labelled ∙ sym (length-set c.self.inside.arena.bodies c.args.id.slot (Some c.acquire-acquired.new.self));
 }

@@ -1,8 +1,11 @@
-use Rattle.std.proofs.Common.{◌≡◌, ◌∙◌, ap, sym, subst, get_or, map, None}
+use Rattle.std.proofs.Common.{List, arith, ◌≡◌, ◌∙◌, ap, sym, subst, get_or, length, map, set, None}
+use Rattle.std.proofs.lemmas.List.{length-set}
 use Rattle.ob_store.specs.Objects.{Places, places_of, without_seat}
-use Rattle.ob_store.proofs.SeatLaws.{places_removed}
+use Rattle.ob_store.proofs.LabelLaws.{seat_there}
+use Rattle.ob_store.proofs.SeatLaws.{places_removed, vacant_same}
 use Rattle.std.specs.Prelude.{IsSome}
 use Rattle.ob_arena.specs.Slots.{Slots}
+use Rattle.ob_store.specs.declared.label.Label.{Label}
 use Rattle.ob_store.specs.declared.seat.Seat.{Seat}
 use Rattle.ob_store.specs.Owners.{IsOwned}
 use Rattle.ob_store.proofs.OwnerLaws.{object_within, owned_removed}
@@ -10,15 +13,27 @@ use Rattle.ob_store.specs.Timers.{seat_due}
 use Rattle.ob_store.proofs.TimerLaws.{timed_removed}
 use Rattle.ob_store.proofs.seats.Seats.remove.Goals as goal
 
+pub take-requires : goal.take-requires
+take-requires c = seat_there c.self.inside.arena.bodies c.self.inside.labels.items c.args.slot (subst (λ (p : Places). IsSome (get_or p.objects c.args.slot None)) (sym c.self.view_is) c.requires.there)
+
+pub relabel-requires : goal.relabel-requires
+relabel-requires c =
+    let there = subst (λ (p : Places). IsSome (get_or p.objects c.args.slot None)) (sym c.self.view_is) c.requires.there in
+    omega (arith, object_within c.self.inside.arena c.self.inside.labels.items c.args.slot there, c.self.invariant.labelled)
+
+pub returns-clause-vacant : goal.returns-clause-vacant
+returns-clause-vacant c = vacant_same c.take.new.self c.relabel.new.labels.items c.args.slot ∙ c.take.ensures.vacant
+
 pub returns-clause-value : goal.returns-clause-value
-returns-clause-value c = ap places_of c.take.ensures.after ∙ places_removed c.self.inside.arena c.args.slot ∙ ap (λ (p : Places). without_seat p c.args.slot) c.self.view_is
+returns-clause-value c = (λ i. places_of (c.take.ensures.after i) (c.relabel.ensures i)) ∙ places_removed c.self.inside.arena c.self.inside.labels.items c.args.slot c.none.result ∙ ap (λ (p : Places). without_seat p c.args.slot) c.self.view_is
 
 pub invariant_of-self : goal.invariant_of-self
 invariant_of-self c =
     let there = subst (λ (p : Places). IsSome (get_or p.objects c.args.slot None)) (sym c.self.view_is) c.requires.there in
     let ended = subst (λ (p : Places). get_or p.seen.bodies c.args.slot None ≡ None) (sym c.self.view_is) c.requires.ended in
     record {
+      labelled = ap (λ (ls : List Label). length ls) c.relabel.ensures ∙ length-set c.self.inside.labels.items c.args.slot c.none.result ∙ c.self.invariant.labelled ∙ sym (ap (λ (s : Slots Seat). length s.bodies) c.take.ensures.after ∙ length-set c.self.inside.arena.bodies c.args.slot None);
       owned = subst (λ (s : Slots Seat). IsOwned s.bodies c.self.inside.owners) (sym c.take.ensures.after)
-          (owned_removed c.self.inside.arena.bodies c.self.inside.owners c.args.slot c.self.invariant.owned ended (object_within c.self.inside.arena c.args.slot there));
+          (owned_removed c.self.inside.arena.bodies c.self.inside.owners c.args.slot c.self.invariant.owned ended (object_within c.self.inside.arena c.self.inside.labels.items c.args.slot there));
       timed = subst (λ (s : Slots Seat). c.self.inside.timers ≡ map seat_due s.bodies) (sym c.take.ensures.after) (timed_removed c.self.inside.arena.bodies c.self.inside.timers c.args.slot c.self.invariant.timed ended);
     }

@@ -1,16 +1,16 @@
-use Rattle.std.proofs.Common.{◌≡◌, Bor, subst}
+use Rattle.std.proofs.Common.{◌≡◌, subst}
 use Rattle.std.specs.Prelude.{IfSome}
 use Rattle.ob_store.specs.State.{Whole, handles_of, blocks_of}
-use Rattle.ob_store.specs.declared.seat.Seat.{Seat}
+use Rattle.ob_store.specs.declared.found.Found.{Found}
 use Rattle.ob_store.proofs.PlacedLaws.{seen_handles, seen_blocks}
 use Rattle.ob_store.proofs.store.Store.object.Goals as goal
 
 pub returns-clause-handles : goal.returns-clause-handles
-returns-clause-handles g c = subst (λ (w : Whole). IfSome c.look.result (λ (seat : Bor Seat). seat.now.handles ≡ handles_of w.state seat.now.id)) c.self.view_is
+returns-clause-handles g c = subst (λ (w : Whole). IfSome c.look.result (λ (found : Found). found.seat.now.handles ≡ handles_of w.state found.seat.now.id)) c.self.view_is
     (seen_handles c.self.inside.limits c.self.inside.lives c.self.inside.tables c.self.inside.objects c.self.inside.waits c.self.inside.names.rows c.self.invariant c.kept.ensures c.args.slot
     c.look.result c.look.ensures.object c.look.ensures.handles)
 
 pub returns-clause-blocks : goal.returns-clause-blocks
-returns-clause-blocks g c = subst (λ (w : Whole). IfSome c.look.result (λ (seat : Bor Seat). seat.now.blocks ≡ blocks_of w.state seat.now.id)) c.self.view_is
+returns-clause-blocks g c = subst (λ (w : Whole). IfSome c.look.result (λ (found : Found). found.seat.now.blocks ≡ blocks_of w.state found.seat.now.id)) c.self.view_is
     (seen_blocks c.self.inside.limits c.self.inside.lives c.self.inside.tables c.self.inside.objects c.self.inside.waits c.self.inside.names.rows c.self.invariant c.kept.ensures c.args.slot
     c.look.result c.look.ensures.object c.look.ensures.blocks)
