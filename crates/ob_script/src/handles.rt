@@ -7,7 +7,6 @@ use crate::words::Words;
 use arrayvec::ArrayVec;
 
 /// The handles of a wait, or the first 65: a wait for more than 64 is refused, whichever they are.
-#[inline(always)]
 pub fn handles_of(rest: Option<&[u8]>) -> ArrayVec<u32, 65>
     ensures { result.items ≡ take 65 (handles_in (words_left rest.entry)) }
 {
@@ -15,7 +14,6 @@ pub fn handles_of(rest: Option<&[u8]>) -> ArrayVec<u32, 65>
 }
 
 /// The handles that words are, or the first 65.
-#[inline(always)]
 fn first_handles(mut words: Words<'_>) -> ArrayVec<u32, 65>
     ensures { result.items ≡ take 65 (handles_in words.entry) }
 {

@@ -106,12 +106,20 @@ impl<'a> Words<'a> {
     }
 }
 
-/// Whether a word is this keyword. Most words that are not differ in their length or their first byte.
+/// Whether a word is this keyword. Where that is known, each of its bytes is tested in place: `==` would be a call.
 #[inline(always)]
 pub fn is(word: &[u8], keyword: &[u8]) -> bool
     ensures { result ≡ bytes_eq word.now keyword.now }
 {
-    word.len() == keyword.len() && word.first() == keyword.first() && word == keyword
+    if word.len() != keyword.len() {
+        return false;
+    }
+    for (i, byte) in keyword.iter().enumerate() {
+        if word[i] != *byte {
+            return false;
+        }
+    }
+    true
 }
 
 /// Where such a byte is first, found by a look at one byte after another: words are short.
