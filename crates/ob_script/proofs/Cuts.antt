@@ -1,5 +1,5 @@
 -- Where a byte is first found, in the words of lists.
-use Rattle.std.proofs.Common.{◌≡◌, ◌≢◌, Option, ℕ, ◌+◌, ◌-◌, ◌<◌, List, [], ◌∷◌, length, take, drop, Some, None, Bool, true, false, arith, refl, ap, sym, ◌∙◌}
+use Rattle.std.proofs.Common.{◌≡◌, ◌≢◌, Option, ℕ, ◌+◌, ◌-◌, ◌<◌, List, [], ◌∷◌, length, take, drop, Some, None, Bool, true, false, arith, refl, ap, sym, subst, ◌∙◌}
 use Rattle.std.specs.Prelude.{MatchOption}
 use Rattle.std.specs.Borrow.{Bor}
 use Rattle.std.specs.List.{position_or_len, before_first, after_first}
@@ -36,6 +36,15 @@ words_first text within = slice_split_first (is_byte 32) text 0 within
 
 pub words_last : (text : List ℕ) → position_or_len (is_byte 32) text ≡ length text → words_of text ≡ text ∷ []
 words_last text none = slice_split_none (is_byte 32) text (All-from_get_or (λ byte. is_byte 32 byte ≡ false) text 0 (λ k within. fails_before_first (is_byte 32) text k 0 (omega arith)))
+
+-- the same by the place that was found
+pub first_word : (text : List ℕ) (at : ℕ) → IsFirstByte (is_byte 32) text (Some at) → words_of text ≡ take at text ∷ words_of (take (length text - (at + 1)) (drop (at + 1) text))
+first_word text at found =
+    let first : position_or_len (is_byte 32) text ≡ at = (first_place 32 text at found).0 in
+    rw (take_rest text (at + 1)) (subst (λ n. words_of text ≡ take n text ∷ words_of (drop (n + 1) text)) first (words_first text (omega (arith, first, (first_place 32 text at found).1))))
+
+pub last_word : (text : List ℕ) → IsFirstByte (is_byte 32) text None → words_of text ≡ text ∷ []
+last_word text none = words_last text (no_place 32 text none)
 
 -- a text has a word
 pub words_some : (text : List ℕ) → words_of text ≡ [] → ⊥

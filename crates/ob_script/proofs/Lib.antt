@@ -1,5 +1,6 @@
 pub mod Cuts
 pub mod Digits
+pub mod Leading
 pub mod Hex
 pub mod Beginnings
 pub mod Texts

@@ -151,10 +151,10 @@ fn spawn_of(mut words: Words<'_>) -> Option<Ask<'_>>
 fn child_of(mut words: Words<'_>) -> Option<Ask<'_>>
     ensures { option_map call_in result ≡ child_of words.entry }
 {
-    let thread = words.next()?;
+    let thread = words.labelled(b't')?;
     let inherit = words.next()?;
     words.end()?;
-    let thread = labelled(b't', thread)?;
+    let thread = thread?;
     let inherit = either_of(b"plain", b"inherit", inherit)?;
     Some(Ask::Child { thread, inherit })
 }
@@ -163,9 +163,9 @@ fn child_of(mut words: Words<'_>) -> Option<Ask<'_>>
 fn thread_of(mut words: Words<'_>) -> Option<Ask<'_>>
     ensures { option_map call_in result ≡ thread_of words.entry }
 {
-    let process = words.next()?;
+    let process = words.labelled(b'p')?;
     words.end()?;
-    let process = labelled(b'p', process)?;
+    let process = process?;
     Some(Ask::StartThread { process })
 }
 
@@ -173,10 +173,10 @@ fn thread_of(mut words: Words<'_>) -> Option<Ask<'_>>
 fn event_of(mut words: Words<'_>) -> Option<Ask<'_>>
     ensures { option_map call_in result ≡ event_of words.entry }
 {
-    let thread = words.next()?;
+    let thread = words.labelled(b't')?;
     let reset = words.next()?;
     let state = words.next()?;
-    let thread = labelled(b't', thread)?;
+    let thread = thread?;
     let manual = either_of(b"auto", b"manual", reset)?;
     let set = either_of(b"clear", b"set", state)?;
     let make = make_of(words)?;
@@ -192,9 +192,9 @@ fn event_of(mut words: Words<'_>) -> Option<Ask<'_>>
 fn mutex_of(mut words: Words<'_>) -> Option<Ask<'_>>
     ensures { option_map call_in result ≡ mutex_of words.entry }
 {
-    let thread = words.next()?;
+    let thread = words.labelled(b't')?;
     let state = words.next()?;
-    let thread = labelled(b't', thread)?;
+    let thread = thread?;
     let owned = either_of(b"free", b"owned", state)?;
     let make = make_of(words)?;
     Some(Ask::MakeMutex {
@@ -208,10 +208,10 @@ fn mutex_of(mut words: Words<'_>) -> Option<Ask<'_>>
 fn semaphore_of(mut words: Words<'_>) -> Option<Ask<'_>>
     ensures { option_map call_in result ≡ semaphore_of words.entry }
 {
-    let thread = words.next()?;
+    let thread = words.labelled(b't')?;
     let initial = words.next()?;
     let max = words.next()?;
-    let thread = labelled(b't', thread)?;
+    let thread = thread?;
     let initial = signed_of(initial)?;
     let max = signed_of(max)?;
     let make = make_of(words)?;
@@ -227,9 +227,9 @@ fn semaphore_of(mut words: Words<'_>) -> Option<Ask<'_>>
 fn timer_of(mut words: Words<'_>) -> Option<Ask<'_>>
     ensures { option_map call_in result ≡ timer_of words.entry }
 {
-    let thread = words.next()?;
+    let thread = words.labelled(b't')?;
     let reset = words.next()?;
-    let thread = labelled(b't', thread)?;
+    let thread = thread?;
     let manual = either_of(b"auto", b"manual", reset)?;
     let make = make_of(words)?;
     Some(Ask::MakeTimer {
@@ -243,10 +243,10 @@ fn timer_of(mut words: Words<'_>) -> Option<Ask<'_>>
 fn open_of(mut words: Words<'_>) -> Option<Ask<'_>>
     ensures { option_map call_in result ≡ open_of words.entry }
 {
-    let thread = words.next()?;
+    let thread = words.labelled(b't')?;
     let kind = words.next()?;
     let mask = words.next()?;
-    let thread = labelled(b't', thread)?;
+    let thread = thread?;
     let kind = kind_of(kind)?;
     let mask = mask_of(mask)?;
     let inherit = words.skip(b"inherit");
@@ -264,14 +264,14 @@ fn open_of(mut words: Words<'_>) -> Option<Ask<'_>>
 fn dup_of(mut words: Words<'_>) -> Option<Ask<'_>>
     ensures { option_map call_in result ≡ dup_of words.entry }
 {
-    let thread = words.next()?;
-    let source = words.next()?;
-    let handle = words.next()?;
+    let thread = words.labelled(b't')?;
+    let source = words.labelled(b'p')?;
+    let handle = words.labelled(b'h')?;
     let target = words.next()?;
     let access = words.next()?;
-    let thread = labelled(b't', thread)?;
-    let source = labelled(b'p', source)?;
-    let handle = labelled(b'h', handle)?;
+    let thread = thread?;
+    let source = source?;
+    let handle = handle?;
     let target = target_of(target)?;
     let (mask, sameness) = access_of(access)?;
     let inherit = words.skip(b"inherit");
@@ -330,11 +330,11 @@ fn closing_of(mut words: Words<'_>) -> Option<u32>
 fn handle_of(mut words: Words<'_>) -> Option<(u32, u32)>
     ensures { result ≡ handle_of words.entry }
 {
-    let thread = words.next()?;
-    let handle = words.next()?;
+    let thread = words.labelled(b't')?;
+    let handle = words.labelled(b'h')?;
     words.end()?;
-    let thread = labelled(b't', thread)?;
-    let handle = labelled(b'h', handle)?;
+    let thread = thread?;
+    let handle = handle?;
     Some((thread, handle))
 }
 
@@ -358,13 +358,13 @@ fn flags_of(words: Words<'_>) -> Option<Ask<'_>>
 fn setflags_of(mut words: Words<'_>) -> Option<Ask<'_>>
     ensures { option_map call_in result ≡ setflags_of words.entry }
 {
-    let thread = words.next()?;
-    let handle = words.next()?;
+    let thread = words.labelled(b't')?;
+    let handle = words.labelled(b'h')?;
     let mask = words.next()?;
     let flags = words.next()?;
     words.end()?;
-    let thread = labelled(b't', thread)?;
-    let handle = labelled(b'h', handle)?;
+    let thread = thread?;
+    let handle = handle?;
     let mask = number_of(mask)?;
     let flags = number_of(flags)?;
     Some(Ask::SetFlags {
@@ -411,12 +411,12 @@ fn cancel_of(words: Words<'_>) -> Option<Ask<'_>>
 fn settimer_of(mut words: Words<'_>) -> Option<Ask<'_>>
     ensures { option_map call_in result ≡ settimer_of words.entry }
 {
-    let thread = words.next()?;
-    let handle = words.next()?;
+    let thread = words.labelled(b't')?;
+    let handle = words.labelled(b'h')?;
     let due = words.next()?;
     words.end()?;
-    let thread = labelled(b't', thread)?;
-    let handle = labelled(b'h', handle)?;
+    let thread = thread?;
+    let handle = handle?;
     let due = due_of(due)?;
     Some(Ask::SetTimer {
         thread,
@@ -439,12 +439,12 @@ fn tick_of(mut words: Words<'_>) -> Option<Ask<'_>>
 fn release_of(mut words: Words<'_>) -> Option<Ask<'_>>
     ensures { option_map call_in result ≡ release_of words.entry }
 {
-    let thread = words.next()?;
-    let handle = words.next()?;
+    let thread = words.labelled(b't')?;
+    let handle = words.labelled(b'h')?;
     let count = words.next()?;
     words.end()?;
-    let thread = labelled(b't', thread)?;
-    let handle = labelled(b'h', handle)?;
+    let thread = thread?;
+    let handle = handle?;
     let count = signed_of(count)?;
     Some(Ask::ReleaseSemaphore {
         thread,
@@ -457,10 +457,10 @@ fn release_of(mut words: Words<'_>) -> Option<Ask<'_>>
 fn wait_of(mut words: Words<'_>) -> Option<Ask<'_>>
     ensures { option_map call_in result ≡ wait_of words.entry }
 {
-    let thread = words.next()?;
+    let thread = words.labelled(b't')?;
     let mode = words.next()?;
     let timeout = words.next()?;
-    let thread = labelled(b't', thread)?;
+    let thread = thread?;
     let mode = mode_of(mode)?;
     let timeout = timeout_of(timeout)?;
     let rest = words.rest();
@@ -501,8 +501,8 @@ fn timeout_of(word: &[u8]) -> Option<Timeout>
 fn are_handles(mut words: Words<'_>) -> bool
     ensures { result ≡ are_handles words.entry }
 {
-    while let Some(word) = words.next() {
-        if labelled(b'h', word).is_none() {
+    while let Some(handle) = words.labelled(b'h') {
+        if handle.is_none() {
             return false;
         }
     }
@@ -513,9 +513,9 @@ fn are_handles(mut words: Words<'_>) -> bool
 fn result_of(mut words: Words<'_>) -> Option<Ask<'_>>
     ensures { option_map call_in result ≡ result_of words.entry }
 {
-    let wait = words.next()?;
+    let wait = words.labelled(b'w')?;
     words.end()?;
-    let wait = labelled(b'w', wait)?;
+    let wait = wait?;
     Some(Ask::WaitResult { wait })
 }
 
@@ -523,9 +523,9 @@ fn result_of(mut words: Words<'_>) -> Option<Ask<'_>>
 fn expire_of(mut words: Words<'_>) -> Option<Ask<'_>>
     ensures { option_map call_in result ≡ expire_of words.entry }
 {
-    let wait = words.next()?;
+    let wait = words.labelled(b'w')?;
     words.end()?;
-    let wait = labelled(b'w', wait)?;
+    let wait = wait?;
     Some(Ask::Expire { wait })
 }
 
@@ -533,9 +533,9 @@ fn expire_of(mut words: Words<'_>) -> Option<Ask<'_>>
 fn endthread_of(mut words: Words<'_>) -> Option<Ask<'_>>
     ensures { option_map call_in result ≡ endthread_of words.entry }
 {
-    let thread = words.next()?;
+    let thread = words.labelled(b't')?;
     words.end()?;
-    let thread = labelled(b't', thread)?;
+    let thread = thread?;
     Some(Ask::EndThread { thread })
 }
 
@@ -543,9 +543,9 @@ fn endthread_of(mut words: Words<'_>) -> Option<Ask<'_>>
 fn exit_of(mut words: Words<'_>) -> Option<Ask<'_>>
     ensures { option_map call_in result ≡ exit_of words.entry }
 {
-    let process = words.next()?;
+    let process = words.labelled(b'p')?;
     words.end()?;
-    let process = labelled(b'p', process)?;
+    let process = process?;
     Some(Ask::Exit { process })
 }
 
@@ -553,9 +553,9 @@ fn exit_of(mut words: Words<'_>) -> Option<Ask<'_>>
 fn reap_of(mut words: Words<'_>) -> Option<Ask<'_>>
     ensures { option_map call_in result ≡ reap_of words.entry }
 {
-    let slot = words.next()?;
+    let slot = words.labelled(b's')?;
     words.end()?;
-    let slot = labelled(b's', slot)?;
+    let slot = slot?;
     Some(Ask::Reap { slot })
 }
 

@@ -2,7 +2,6 @@ ghost use Rattle.std.specs.Prelude.{◌≡◌, take};
 ghost use Rattle.ob_script.specs.Words.{handles_in};
 ghost use Rattle.ob_script.specs.WordsLeft.{words_left};
 
-use crate::numbers::labelled;
 use crate::words::Words;
 use arrayvec::ArrayVec;
 
@@ -18,9 +17,8 @@ fn first_handles(mut words: Words<'_>) -> ArrayVec<u32, 65>
     ensures { result.items ≡ take 65 (handles_in words.entry) }
 {
     let mut handles = ArrayVec::new();
-    while let Some(word) = words.next() {
-        let handle = labelled(b'h', word).unwrap_or(0);
-        match handles.try_push(handle) {
+    while let Some(handle) = words.labelled(b'h') {
+        match handles.try_push(handle.unwrap_or(0)) {
             Ok(()) => {}
             Err(_) => return handles,
         }

@@ -1,5 +1,8 @@
-ghost use Rattle.std.specs.Prelude.{◌≡◌, codes};
-ghost use Rattle.ob_script.specs.Words.{at_moment, due_of, from_now, long_of, moment_of, number_of, negated, signed_of, unless_great, labelled, id_of, either_of};
+ghost use Rattle.std.specs.Prelude.{◌≡◌, ◌≢◌, ◌≤◌, ◌∷◌, ℕ, List, IfSome, Some, codes, length, take, true};
+ghost use Rattle.std.specs.List.{list_all};
+ghost use Rattle.std.specs.Char.{is_ascii_digit};
+ghost use Rattle.ob_script.specs.Words.{at_moment, due_of, from_now, long_of, moment_of, number_of, negated, signed_of, unless_great, labelled, id_of, either_of, value_of, words_of};
+ghost use Rattle.ob_script.specs.WordsLeft.{words_left};
 
 use crate::words::{cut, is};
 use pin_core::Id;
@@ -44,6 +47,55 @@ fn unless_great(number: u32) -> Option<i32>
         return None;
     }
     Some(number as i32)
+}
+
+/// The value of the digits with which a text begins, and how many they are. No more than eleven are read.
+#[inline(never)]
+fn leading_digits(text: &[u8]) -> (u64, usize)
+    ensures within { result.1 ≤ length text.now }
+    ensures digits { list_all is_ascii_digit (take result.1 text.now) ≡ true }
+    ensures value { value_of (take result.1 text.now) ≡ result.0 }
+{
+    let mut value: u64 = 0;
+    for (count, byte) in text.iter().enumerate() {
+        if !byte.is_ascii_digit() || count > 10 {
+            return (value, count);
+        }
+        value = value * 10 + u64::from(*byte - b'0');
+    }
+    (value, text.len())
+}
+
+/// The number that the first word of a text is, and what stands behind that word. A word for which there is
+/// nothing has to be read in another way.
+#[inline(always)]
+#[tactic(auto, using(crate::proofs::Leading::number_last, crate::proofs::Leading::number_first))]
+fn leading_number(text: &[u8]) -> Option<(u32, Option<&[u8]>)>
+    ensures { IfSome result (λ found. (word : List ℕ) × (number_of word ≡ Some found.0) × (words_of text.now ≡ word ∷ words_left found.1)) }
+{
+    let (value, count) = leading_digits(text);
+    if count == 0 || count > 10 || value > 4_294_967_295 {
+        return None;
+    }
+    if count == text.len() {
+        return Some((value as u32, None));
+    }
+    if text[count] != b' ' {
+        return None;
+    }
+    Some((value as u32, Some(&text[count + 1..])))
+}
+
+/// The same of a number behind a letter.
+#[inline(always)]
+pub fn leading_labelled(letter: u8, text: &[u8]) -> Option<(u32, Option<&[u8]>)>
+    requires { letter ≢ 32 }
+    ensures { IfSome result (λ found. (word : List ℕ) × (labelled letter word ≡ Some found.0) × (words_of text.now ≡ word ∷ words_left found.1)) }
+{
+    match text {
+        [first, digits @ ..] if *first == letter => leading_number(digits),
+        _ => None,
+    }
 }
 
 /// A number of 1 to 19 decimal digits, leading zeros allowed.

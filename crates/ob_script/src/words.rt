@@ -1,10 +1,11 @@
-ghost use Rattle.std.specs.Prelude.{◌≡◌, ◌≢◌, ◌<◌, [], ◌∷◌, length, IfSome, IfNone, IsSome, IsTrue, ◌↔◌, MatchOption};
+ghost use Rattle.std.specs.Prelude.{◌≡◌, ◌≢◌, ◌<◌, ℕ, List, [], ◌∷◌, length, IfSome, IfNone, IsSome, IsTrue, ◌↔◌, MatchOption};
 ghost use Rattle.std.specs.Str.{bytes_eq};
 ghost use Rattle.std.specs.List.{after_first, before_first, position_or_len};
 ghost use Rattle.memchr.specs.Find.{IsFirstByte, is_byte};
-ghost use Rattle.ob_script.specs.Words.{begins_with, behind, joined, words_of};
+ghost use Rattle.ob_script.specs.Words.{begins_with, behind, joined, labelled, words_of};
 ghost use Rattle.ob_script.specs.WordsLeft.{words_left};
 
+use crate::numbers::{labelled, leading_labelled};
 use memchr::memchr;
 use std::marker::Model;
 
@@ -50,14 +51,44 @@ impl<'a> Words<'a> {
         ensures { MatchOption result (self.old ≡ []) (λ word. self.old ≡ word.now ∷ self.new) }
     {
         let rest = self.rest?;
-        match cut(b' ', rest) {
-            Some((word, tail)) => {
-                self.rest = Some(tail);
-                Some(word)
+        Some(self.take(rest, place_of(b' ', rest)))
+    }
+
+    /// The word that ends where the first blank of what is left is.
+    #[inline(always)]
+    #[tactic(auto, using(crate::proofs::Cuts::first_word, crate::proofs::Cuts::last_word))]
+    fn take(&mut self, rest: &'a [u8], blank: Option<usize>) -> &'a [u8]
+        requires { IsFirstByte (is_byte 32) rest.now blank }
+        ensures { words_of rest.now ≡ result.now ∷ self.new }
+    {
+        match blank {
+            Some(at) => {
+                self.rest = Some(&rest[at + 1..]);
+                &rest[..at]
             }
             None => {
                 self.rest = None;
-                Some(rest)
+                rest
+            }
+        }
+    }
+
+    /// The next word, as a number behind a letter; there is none inside where it isn't one. Its digits are read while its end
+    /// is looked for.
+    #[inline(always)]
+    pub fn labelled(&mut self, letter: u8) -> Option<Option<u32>>
+        requires { letter ≢ 32 }
+        ensures { MatchOption result (self.old ≡ []) (λ number. (word : List ℕ) × (self.old ≡ word ∷ self.new) × (number ≡ labelled letter word)) }
+    {
+        let rest = self.rest?;
+        match leading_labelled(letter, rest) {
+            Some((number, behind)) => {
+                self.rest = behind;
+                Some(Some(number))
+            }
+            None => {
+                let word = self.take(rest, seldom_place_of(b' ', rest));
+                Some(labelled(letter, word))
             }
         }
     }
@@ -127,6 +158,15 @@ fn place_of(byte: u8, text: &[u8]) -> Option<usize>
     ensures { IsFirstByte (is_byte byte) text.now result }
 {
     text.iter().position(|b| *b == byte)
+}
+
+/// The same where it is seldom asked, so that the loop isn't copied to each place that asks.
+#[cold]
+#[inline(never)]
+fn seldom_place_of(byte: u8, text: &[u8]) -> Option<usize>
+    ensures { IsFirstByte (is_byte byte) text.now result }
+{
+    place_of(byte, text)
 }
 
 /// What stands before and behind the first such byte, which is near.
