@@ -6,7 +6,8 @@ mod names;
 mod random;
 
 use anyhow::Result;
-use names::{find, names, replace, texts};
+use names::{Text, find, names, replace, texts};
+use ob_name::Directory;
 use std::alloc::Global;
 use std::env;
 use std::rt::Clock;
@@ -18,11 +19,25 @@ const FINDS: u32 = 10_000_000;
 
 const REPLACEMENTS: u32 = 1_000_000;
 
-fn measure_find(rt: &(impl Print + Clock), alloc: Global, count: u32) -> Result<()> {
-    let texts = texts(alloc, count)?;
-    let directory = names(alloc, &texts)?;
+/// What is done with a directory of names.
+#[derive(Clone, Copy)]
+enum Case {
+    /// Names are found at random, and the time is printed.
+    Find,
+    /// Names are removed at random and entered again, and the time is printed.
+    Replace,
+    /// Both, and their sums are printed.
+    Shown,
+}
+
+fn measure_find(
+    rt: &(impl Print + Clock),
+    directory: &Directory,
+    texts: &Vec<Text>,
+    count: u32,
+) -> Result<()> {
     let start = Instant::now(rt)?;
-    let sum = find(&directory, &texts, FINDS);
+    let sum = find(directory, texts, FINDS);
     let nanos = start.elapsed(rt)?.as_nanos();
     rt.print(format_args!("find among {count}: {FINDS} in {nanos}\n"))?;
     if sum == 0 {
@@ -31,11 +46,14 @@ fn measure_find(rt: &(impl Print + Clock), alloc: Global, count: u32) -> Result<
     Ok(())
 }
 
-fn measure_replace(rt: &(impl Print + Clock), alloc: Global, count: u32) -> Result<()> {
-    let texts = texts(alloc, count)?;
-    let mut directory = names(alloc, &texts)?;
+fn measure_replace(
+    rt: &(impl Print + Clock),
+    directory: &mut Directory,
+    texts: &Vec<Text>,
+    count: u32,
+) -> Result<()> {
     let start = Instant::now(rt)?;
-    let sum = replace(&mut directory, &texts, REPLACEMENTS)?;
+    let sum = replace(directory, texts, REPLACEMENTS)?;
     let nanos = start.elapsed(rt)?.as_nanos();
     rt.print(format_args!("remove and enter again among {count}: {REPLACEMENTS} in {nanos}\n"))?;
     if sum == 0 {
@@ -44,21 +62,42 @@ fn measure_replace(rt: &(impl Print + Clock), alloc: Global, count: u32) -> Resu
     Ok(())
 }
 
+fn show(rt: &impl Print, directory: &mut Directory, texts: &Vec<Text>) -> Result<()> {
+    let found = find(directory, texts, 10);
+    let removed = replace(directory, texts, 10)?;
+    rt.print(format_args!("slots of 10 rounds each: found {found}, removed {removed}\n"))?;
+    Ok(())
+}
+
+fn run_over(
+    rt: &(impl Print + Clock),
+    directory: &mut Directory,
+    texts: &Vec<Text>,
+    count: u32,
+    case: Case,
+) -> Result<()> {
+    match case {
+        Case::Find => measure_find(rt, directory, texts, count),
+        Case::Replace => measure_replace(rt, directory, texts, count),
+        Case::Shown => show(rt, directory, texts),
+    }
+}
+
+/// Runs a case over a directory of so many names.
+fn run(rt: &(impl Print + Clock), alloc: Global, count: u32, case: Case) -> Result<()> {
+    let texts = texts(alloc, count)?;
+    run_over(rt, &mut names(alloc, &texts)?, &texts, count, case)
+}
+
 fn main(rt: HostRuntime) -> Result<()> {
     let alloc = rt.alloc();
-    if env::args(&rt)?.count() > 1 {
-        for count in COUNTS {
-            measure_find(&rt, alloc, count)?;
-        }
-        for count in COUNTS {
-            measure_replace(&rt, alloc, count)?;
-        }
-        return Ok(());
+    if env::args(&rt)?.count() == 1 {
+        return run(&rt, alloc, 10, Case::Shown);
     }
-    let texts = texts(alloc, 10)?;
-    let mut directory = names(alloc, &texts)?;
-    let found = find(&directory, &texts, 10);
-    let removed = replace(&mut directory, &texts, 10)?;
-    println!(rt; "slots of 10 rounds each: found {found}, removed {removed}")?;
+    for case in [Case::Find, Case::Replace] {
+        for count in COUNTS {
+            run(&rt, alloc, count, case)?;
+        }
+    }
     Ok(())
 }
