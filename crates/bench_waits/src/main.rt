@@ -8,7 +8,7 @@ use anyhow::Result;
 use ob_rights::Fault;
 use std::alloc::Global;
 use std::env;
-use std::time::Instant;
+use std::time::{Clock, Instant};
 use world::World;
 
 const THREAD: u32 = 1;
@@ -18,7 +18,7 @@ const ELSEWHERE: [u32; 3] = [1, 100, 10_000];
 const ROUNDS: u32 = 1_000_000;
 
 /// What ends the wait of a round.
-#[derive(Clone, Copy, Debug, PartialEq, Eq)]
+#[derive(Clone, Copy)]
 enum End {
     Set,
     Expire,
@@ -52,24 +52,17 @@ fn rounds(world: &mut World, end: End, count: u32) -> Result<u64, Fault> {
     Ok(codes)
 }
 
-/// Events, and for each but the first a thread that waits for it.
-fn prepared(alloc: Global, elsewhere: u32) -> Result<World> {
-    let mut world = World::new(alloc, elsewhere as usize + 1)?;
+/// For each event but the first a thread waits for it.
+fn fill(world: &mut World, elsewhere: u32) -> Result<(), Fault> {
     for slot in 1..=elsewhere {
         world.wait_for(THREAD.saturating_add(slot), slot)?;
     }
-    Ok(world)
+    Ok(())
 }
 
-fn measure(
-    rt: &(impl Print + std::rt::Clock),
-    alloc: Global,
-    end: End,
-    elsewhere: u32,
-) -> Result<()> {
-    let mut world = prepared(alloc, elsewhere)?;
+fn measure(rt: &(impl Print + Clock), world: &mut World, end: End, elsewhere: u32) -> Result<()> {
     let start = Instant::now(rt)?;
-    let codes = rounds(&mut world, end, ROUNDS)?;
+    let codes = rounds(world, end, ROUNDS)?;
     let taken = start.elapsed(rt)?;
     let nanos = taken.as_nanos();
     let name = end.name();
@@ -80,19 +73,45 @@ fn measure(
     Ok(())
 }
 
+fn show(rt: &impl Print, world: &mut World) -> Result<()> {
+    let set = rounds(world, End::Set, 10)?;
+    let expired = rounds(world, End::Expire, 10)?;
+    rt.print(format_args!("codes of 10 rounds each: set {set}, expired {expired}\n"))?;
+    Ok(())
+}
+
+/// Measures rounds with an end beside so many waits elsewhere, or shows what some of each end add up to.
+fn run_over(
+    rt: &(impl Print + Clock),
+    world: &mut World,
+    elsewhere: u32,
+    end: Option<End>,
+) -> Result<()> {
+    fill(world, elsewhere)?;
+    match end {
+        Some(end) => measure(rt, world, end, elsewhere),
+        None => show(rt, world),
+    }
+}
+
+fn run(rt: &(impl Print + Clock), alloc: Global, elsewhere: u32, end: Option<End>) -> Result<()> {
+    run_over(
+        rt,
+        &mut World::new(alloc, elsewhere as usize + 1)?,
+        elsewhere,
+        end,
+    )
+}
+
 fn main(rt: HostRuntime) -> Result<()> {
     let alloc = rt.alloc();
-    if env::args(&rt)?.count() > 1 {
-        for end in [End::Set, End::Expire] {
-            for elsewhere in ELSEWHERE {
-                measure(&rt, alloc, end, elsewhere)?;
-            }
-        }
-        return Ok(());
+    if env::args(&rt)?.count() == 1 {
+        return run(&rt, alloc, 3, None);
     }
-    let mut world = prepared(alloc, 3)?;
-    let set = rounds(&mut world, End::Set, 10)?;
-    let expired = rounds(&mut world, End::Expire, 10)?;
-    println!(rt; "codes of 10 rounds each: set {set}, expired {expired}")?;
+    for end in [End::Set, End::Expire] {
+        for elsewhere in ELSEWHERE {
+            run(&rt, alloc, elsewhere, Some(end))?;
+        }
+    }
     Ok(())
 }
