@@ -2,6 +2,8 @@
 //! each case, and without it what some rounds of each case add up to.
 #![tactic(auto)]
 
+ghost use Rattle.std.specs.Prelude.{◌<◌, length};
+
 mod handles;
 mod random;
 mod slots;
@@ -35,15 +37,58 @@ const SHOWN: Plan = Plan {
     is_timed: false,
 };
 
+#[derive(Clone, Copy)]
+enum Case {
+    /// Handles are removed and placed again, with no free place among them.
+    InUse,
+    /// The same with every other place free.
+    EveryOtherFree,
+    /// A process inherits handles and ends.
+    Child,
+    /// Bodies are taken and put again, in as many slots as there are bodies.
+    FullArena,
+    /// The same in 65536 slots.
+    Arena,
+}
+
+impl Case {
+    fn name(self) -> &'static str {
+        match self {
+            Case::InUse => "remove and place, all in use",
+            Case::EveryOtherFree => "remove and place, every other free",
+            Case::Child => "child and its end",
+            Case::FullArena => "take and put, full arena",
+            Case::Arena => "take and put, 65536 slots",
+        }
+    }
+}
+
+/// Each case with the counts of handles or bodies.
+const CASES: &[(Case, &[u32])] = &[
+    (Case::InUse, &[16, 1000, 16000]),
+    (Case::EveryOtherFree, &[16, 1000, 16000]),
+    (Case::FullArena, &[16, 1000, 60000]),
+    (Case::Arena, &[16, 1000, 60000]),
+    (Case::Child, &[16, 1000]),
+];
+
+/// A case with one count.
+#[derive(Clone, Copy)]
+struct Row {
+    case: Case,
+    count: u32,
+}
+
 fn report(
     rt: &(impl Print + Clock),
     plan: Plan,
-    case: &str,
-    count: u32,
+    row: Row,
     rounds: u32,
     started: Instant,
     sum: u64,
 ) -> Result<()> {
+    let case = row.case.name();
+    let count = row.count;
     if plan.is_timed && sum > 0 {
         let nanos = started.elapsed(rt)?.as_nanos();
         rt.print(format_args!("{case}, {count}: {rounds} in {nanos}\n"))?;
@@ -53,107 +98,109 @@ fn report(
     Ok(())
 }
 
-fn all_in_use(rt: &(impl Print + Clock), alloc: Global, plan: Plan, count: u32) -> Result<()> {
-    let mut tables = Tables::new(alloc, 65536, 16384)?;
-    let process = tables.add_process()?;
-    let mut values = placed(alloc, &mut tables, process, count)?;
+fn measure_replace(
+    rt: &(impl Print + Clock),
+    tables: &mut Tables,
+    process: u32,
+    values: &mut [u32],
+    plan: Plan,
+    row: Row,
+) -> Result<()>
+    requires { process < length tables.old.tables }
+{
     let started = Instant::now(rt)?;
-    let sum = replace(&mut tables, process, &mut values, plan.rounds)?;
-    report(
-        rt,
-        plan,
-        "remove and place, all in use",
-        count,
-        plan.rounds,
-        started,
-        sum,
-    )
+    let sum = replace(tables, process, values, plan.rounds)?;
+    report(rt, plan, row, plan.rounds, started, sum)
 }
 
-fn every_other_free(
+fn measure_children(
+    rt: &(impl Print + Clock),
+    tables: &mut Tables,
+    parent: u32,
+    plan: Plan,
+    row: Row,
+) -> Result<()>
+    requires { parent < length tables.old.tables }
+{
+    let started = Instant::now(rt)?;
+    let sum = children(tables, parent, plan.children)?;
+    report(rt, plan, row, plan.children, started, sum)
+}
+
+fn over_tables(
     rt: &(impl Print + Clock),
     alloc: Global,
+    tables: &mut Tables,
     plan: Plan,
-    count: u32,
+    row: Row,
 ) -> Result<()> {
-    let mut tables = Tables::new(alloc, 65536, 16384)?;
     let process = tables.add_process()?;
-    let all = placed(alloc, &mut tables, process, count)?;
-    let mut values = thinned(alloc, &mut tables, process, &all)?;
-    let started = Instant::now(rt)?;
-    let sum = replace(&mut tables, process, &mut values, plan.rounds)?;
-    report(
-        rt,
-        plan,
-        "remove and place, every other free",
-        count,
-        plan.rounds,
-        started,
-        sum,
-    )
-}
-
-fn child(rt: &(impl Print + Clock), alloc: Global, plan: Plan, count: u32) -> Result<()> {
-    let mut tables = Tables::new(alloc, 65536, 16384)?;
-    let parent = tables.add_process()?;
-    let _values = placed(alloc, &mut tables, parent, count)?;
-    let started = Instant::now(rt)?;
-    let sum = children(&mut tables, parent, plan.children)?;
-    report(
-        rt,
-        plan,
-        "child and its end",
-        count,
-        plan.children,
-        started,
-        sum,
-    )
-}
-
-fn slots_of(
-    rt: &(impl Print + Clock),
-    alloc: Global,
-    plan: Plan,
-    case: &str,
-    count: u32,
-    slots: u32,
-) -> Result<()> {
-    if slots > 65536 {
-        return Ok(());
+    let mut values = placed(alloc, tables, process, row.count)?;
+    match row.case {
+        Case::Child => measure_children(rt, tables, process, plan, row),
+        Case::EveryOtherFree => {
+            let mut kept = thinned(alloc, tables, process, &values)?;
+            measure_replace(rt, tables, process, &mut kept, plan, row)
+        }
+        _ => measure_replace(rt, tables, process, &mut values, plan, row),
     }
-    let mut arena = Arena::new(alloc, slots)?;
-    if !fill(&mut arena, count) {
+}
+
+fn measure_slots(
+    rt: &(impl Print + Clock),
+    arena: &mut Arena<u64>,
+    plan: Plan,
+    row: Row,
+) -> Result<()> {
+    if !fill(arena, row.count) {
         return Ok(());
     }
     let started = Instant::now(rt)?;
-    if let Some(sum) = renew(&mut arena, count, plan.rounds) {
-        return report(rt, plan, case, count, plan.rounds, started, sum);
+    if let Some(sum) = renew(arena, row.count, plan.rounds) {
+        return report(rt, plan, row, plan.rounds, started, sum);
     }
     Ok(())
 }
 
+fn over_slots(
+    rt: &(impl Print + Clock),
+    alloc: Global,
+    slots: u32,
+    plan: Plan,
+    row: Row,
+) -> Result<()> {
+    if slots > 65536 {
+        return Ok(());
+    }
+    measure_slots(rt, &mut Arena::new(alloc, slots)?, plan, row)
+}
+
+fn run_row(rt: &(impl Print + Clock), alloc: Global, plan: Plan, row: Row) -> Result<()> {
+    match row.case {
+        Case::FullArena => over_slots(rt, alloc, row.count, plan, row),
+        Case::Arena => over_slots(rt, alloc, 65536, plan, row),
+        _ => over_tables(rt, alloc, &mut Tables::new(alloc, 65536, 16384)?, plan, row),
+    }
+}
+
 fn run(rt: &(impl Print + Clock), alloc: Global, plan: Plan) -> Result<()> {
-    for count in [16, 1000, 16000] {
-        all_in_use(rt, alloc, plan, count)?;
-    }
-    for count in [16, 1000, 16000] {
-        every_other_free(rt, alloc, plan, count)?;
-    }
-    for count in [16, 1000, 60000] {
-        slots_of(rt, alloc, plan, "take and put, full arena", count, count)?;
-    }
-    for count in [16, 1000, 60000] {
-        slots_of(rt, alloc, plan, "take and put, 65536 slots", count, 65536)?;
-    }
-    for count in [16, 1000] {
-        child(rt, alloc, plan, count)?;
+    for (case, counts) in CASES {
+        for count in *counts {
+            let row = Row {
+                case: *case,
+                count: *count,
+            };
+            run_row(rt, alloc, plan, row)?;
+        }
     }
     Ok(())
 }
 
 fn main(rt: HostRuntime) -> Result<()> {
-    if env::args(&rt)?.count() > 1 {
-        return run(&rt, rt.alloc(), MEASURED);
-    }
-    run(&rt, rt.alloc(), SHOWN)
+    let plan = if env::args(&rt)?.count() > 1 {
+        MEASURED
+    } else {
+        SHOWN
+    };
+    run(&rt, rt.alloc(), plan)
 }
