@@ -73,6 +73,15 @@ fn relabel(labels: &mut Vec<Label>, slot: u32, label: Label)
     labels[slot as usize] = label;
 }
 
+/// The name in a label is let go.
+#[inline(always)]
+fn unname(labels: &mut Vec<Label>, slot: u32)
+    requires { slot < length labels.old.items }
+    ensures { (label : Label) × (labels.new.items ≡ slice_set labels.old.items slot label) }
+{
+    labels[slot as usize].name = None;
+}
+
 impl Seats {
     /// Slots without an object. The mutexes of threads below `threads` are counted and listed.
     pub(crate) fn new(alloc: Global, slots: u32, threads: u32) -> Result<Seats, AllocError>
@@ -214,7 +223,7 @@ impl Seats {
         ensures vacant { is_vacant_at (vacancy self.new) slot ≡ true }
     {
         let _ = self.arena.take(slot);
-        relabel(&mut self.labels, slot, Label::none());
+        unname(&mut self.labels, slot);
     }
 
     /// A vacant slot is never given again.

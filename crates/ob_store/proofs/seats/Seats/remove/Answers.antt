@@ -16,23 +16,23 @@ use Rattle.ob_store.proofs.seats.Seats.remove.Goals as goal
 pub take-requires : goal.take-requires
 take-requires c = seat_there c.self.inside.arena.bodies c.self.inside.labels.items c.args.slot (subst (λ (p : Places). IsSome (get_or p.objects c.args.slot None)) (sym c.self.view_is) c.requires.there)
 
-pub relabel-requires : goal.relabel-requires
-relabel-requires c =
+pub unname-requires : goal.unname-requires
+unname-requires c =
     let there = subst (λ (p : Places). IsSome (get_or p.objects c.args.slot None)) (sym c.self.view_is) c.requires.there in
     omega (arith, object_within c.self.inside.arena c.self.inside.labels.items c.args.slot there, c.self.invariant.labelled)
 
 pub returns-clause-vacant : goal.returns-clause-vacant
-returns-clause-vacant c = vacant_same c.take.new.self c.relabel.new.labels.items c.args.slot ∙ c.take.ensures.vacant
+returns-clause-vacant c = vacant_same c.take.new.self c.unname.new.labels.items c.args.slot ∙ c.take.ensures.vacant
 
 pub returns-clause-value : goal.returns-clause-value
-returns-clause-value c = (λ i. places_of (c.take.ensures.after i) (c.relabel.ensures i)) ∙ places_removed c.self.inside.arena c.self.inside.labels.items c.args.slot c.none.result ∙ ap (λ (p : Places). without_seat p c.args.slot) c.self.view_is
+returns-clause-value c = (λ i. places_of (c.take.ensures.after i) (c.unname.ensures.1 i)) ∙ places_removed c.self.inside.arena c.self.inside.labels.items c.args.slot c.unname.ensures.0 ∙ ap (λ (p : Places). without_seat p c.args.slot) c.self.view_is
 
 pub invariant_of-self : goal.invariant_of-self
 invariant_of-self c =
     let there = subst (λ (p : Places). IsSome (get_or p.objects c.args.slot None)) (sym c.self.view_is) c.requires.there in
     let ended = subst (λ (p : Places). get_or p.seen.bodies c.args.slot None ≡ None) (sym c.self.view_is) c.requires.ended in
     record {
-      labelled = ap (λ (ls : List Label). length ls) c.relabel.ensures ∙ length-set c.self.inside.labels.items c.args.slot c.none.result ∙ c.self.invariant.labelled ∙ sym (ap (λ (s : Slots Seat). length s.bodies) c.take.ensures.after ∙ length-set c.self.inside.arena.bodies c.args.slot None);
+      labelled = ap (λ (ls : List Label). length ls) c.unname.ensures.1 ∙ length-set c.self.inside.labels.items c.args.slot c.unname.ensures.0 ∙ c.self.invariant.labelled ∙ sym (ap (λ (s : Slots Seat). length s.bodies) c.take.ensures.after ∙ length-set c.self.inside.arena.bodies c.args.slot None);
       owned = subst (λ (s : Slots Seat). IsOwned s.bodies c.self.inside.owners) (sym c.take.ensures.after)
           (owned_removed c.self.inside.arena.bodies c.self.inside.owners c.args.slot c.self.invariant.owned ended (object_within c.self.inside.arena c.self.inside.labels.items c.args.slot there));
       timed = subst (λ (s : Slots Seat). c.self.inside.timers ≡ map seat_due s.bodies) (sym c.take.ensures.after) (timed_removed c.self.inside.arena.bodies c.self.inside.timers c.args.slot c.self.invariant.timed ended);
