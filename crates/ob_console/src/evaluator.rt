@@ -69,7 +69,7 @@ impl<'a> Evaluator<'a> {
             Act::Unpin(id) => Answer::Unpinned(*id, unpin(&mut self.reader, *id)),
             Act::ShowCard(id) => { Answer::Shown(card(&mut self.manager, &mut self.reader, *id)) }
         };
-        self.output.put(sink, answer)
+        self.output.put(sink, &answer)
     }
 
     /// Writes all that is printed.
@@ -98,12 +98,12 @@ fn list<'a, W: Sink>(
     ensures faults { W.faults sink.old ≤ W.faults sink.new }
     ensures cause { OnErr result ((W.faults sink.old < W.faults sink.new) ⊎ (output.new.writes_left ≡ 0)) }
 {
-    match output.put(sink, Answer::NameCount(manager.directory_len())) {
+    match output.put(sink, &Answer::NameCount(manager.directory_len())) {
         Ok(()) => {}
         Err(fault) => return Err(fault),
     }
     for (name, id) in manager.directory() {
-        match output.put(sink, Answer::Named(name, id)) {
+        match output.put(sink, &Answer::Named(name, id)) {
             Ok(()) => {}
             Err(fault) => return Err(fault),
         }

@@ -34,7 +34,7 @@ fn print_answer<W: Sink>(
         return Ok(());
     };
     match answer_of(act, seen) {
-        Some(answer) => output.put(sink, answer),
+        Some(answer) => output.put(sink, &answer),
         None => Ok(()),
     }
 }
@@ -67,7 +67,7 @@ pub fn print_members<W: Sink>(
     ensures cause { OnErr result ((W.faults sink.old < W.faults sink.new) ⊎ (output.new.writes_left ≡ 0)) }
 {
     for member in members {
-        output.put(sink, Answer::Lane(member.lane.number()))?;
+        output.put(sink, &Answer::Lane(member.lane.number()))?;
         print_answers(
             output,
             sink,

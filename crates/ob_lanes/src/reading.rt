@@ -90,7 +90,7 @@ impl Intake {
         ensures read { IsErrOf result LanesFault.Read → ⊥ }
         ensures write { IsErrOf result LanesFault.Write → (W.faults sink.old < W.faults sink.new) ⊎ (self.new.output.writes_left ≡ 0) }
     {
-        self.output.put(sink, Answer::BadLine(self.lines))?;
+        self.output.put(sink, &Answer::BadLine(self.lines))?;
         Ok(())
     }
 }

@@ -123,7 +123,7 @@ fn close<O: Sink>(
         output.flush(writer)?;
         return Err(LanesFault::Differ);
     };
-    output.put(writer, Answer::Journaled(count))?;
+    output.put(writer, &Answer::Journaled(count))?;
     output.flush(writer)?;
     Ok(())
 }

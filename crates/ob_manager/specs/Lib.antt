@@ -1,3 +1,4 @@
+pub mod Plain
 pub mod Makings
 pub mod Outcomes
 pub mod Checks

@@ -1,4 +1,5 @@
-ghost use Rattle.std.specs.Prelude.{◌≡◌, ◌↔◌, IfOk, IsTrue};
+ghost use Rattle.std.specs.Prelude.{◌≡◌, ◌↔◌, IfOk, IfSome, IsTrue, false, is_some};
+ghost use Rattle.ob_manager.specs.Plain.{is_plain};
 
 use crate::making::{Making, Text};
 use crate::waiting::{HandleList, Timeout};
@@ -222,13 +223,113 @@ impl Call {
     pub fn copy(&self, alloc: Global) -> Result<Call, AllocError>
         ensures { IfOk result (λ copy. copy ≡ self.now) }
     {
+        match self.plain_copy() {
+            Some(copy) => Ok(copy),
+            None => self.deep_copy(alloc),
+        }
+    }
+
+    /// An equal one, which takes no memory, of a call that has neither a name nor handles to copy.
+    #[inline(always)]
+    pub fn plain_copy(&self) -> Option<Call>
+        ensures some { IfSome result (λ copy. copy ≡ self.now) }
+        ensures plain { is_some result ≡ is_plain self.now }
+    {
         match self {
-            Call::Spawn { session } => Ok(Call::Spawn { session: *session }),
-            Call::Child { thread, inherit } => Ok(Call::Child {
+            Call::Spawn { session } => Some(Call::Spawn { session: *session }),
+            Call::Child { thread, inherit } => Some(Call::Child {
                 thread: *thread,
                 inherit: *inherit,
             }),
-            Call::StartThread { process } => Ok(Call::StartThread { process: *process }),
+            Call::StartThread { process } => Some(Call::StartThread { process: *process }),
+            Call::Duplicate {
+                thread,
+                source,
+                handle,
+                target,
+                mask,
+                inherit,
+                options,
+            } => Some(Call::Duplicate {
+                thread: *thread,
+                source: *source,
+                handle: *handle,
+                target: *target,
+                mask: *mask,
+                inherit: *inherit,
+                options: *options,
+            }),
+            Call::CloseHandle { thread, handle } => Some(Call::CloseHandle {
+                thread: *thread,
+                handle: *handle,
+            }),
+            Call::GetFlags { thread, handle } => Some(Call::GetFlags {
+                thread: *thread,
+                handle: *handle,
+            }),
+            Call::SetFlags {
+                thread,
+                handle,
+                mask,
+                flags,
+            } => Some(Call::SetFlags {
+                thread: *thread,
+                handle: *handle,
+                mask: *mask,
+                flags: *flags,
+            }),
+            Call::SetEvent { thread, handle } => Some(Call::SetEvent {
+                thread: *thread,
+                handle: *handle,
+            }),
+            Call::ResetEvent { thread, handle } => Some(Call::ResetEvent {
+                thread: *thread,
+                handle: *handle,
+            }),
+            Call::ReleaseSemaphore {
+                thread,
+                handle,
+                count,
+            } => Some(Call::ReleaseSemaphore {
+                thread: *thread,
+                handle: *handle,
+                count: *count,
+            }),
+            Call::ReleaseMutex { thread, handle } => Some(Call::ReleaseMutex {
+                thread: *thread,
+                handle: *handle,
+            }),
+            Call::SetTimer {
+                thread,
+                handle,
+                due,
+            } => Some(Call::SetTimer {
+                thread: *thread,
+                handle: *handle,
+                due: *due,
+            }),
+            Call::CancelTimer { thread, handle } => Some(Call::CancelTimer {
+                thread: *thread,
+                handle: *handle,
+            }),
+            Call::Tick { now } => Some(Call::Tick { now: *now }),
+            Call::WaitResult { wait } => Some(Call::WaitResult { wait: *wait }),
+            Call::Expire { wait } => Some(Call::Expire { wait: *wait }),
+            Call::EndThread { thread } => Some(Call::EndThread { thread: *thread }),
+            Call::Exit { process } => Some(Call::Exit { process: *process }),
+            Call::Reap { slot } => Some(Call::Reap { slot: *slot }),
+            Call::Counts { id } => Some(Call::Counts { id: *id }),
+            _ => None,
+        }
+    }
+
+    /// An equal one of a call that has a name or handles.
+    #[inline(never)]
+    fn deep_copy(&self, alloc: Global) -> Result<Call, AllocError>
+        requires { is_plain self.now ≡ false }
+        ensures { IfOk result (λ copy. copy ≡ self.now) }
+    {
+        match self {
             Call::MakeEvent {
                 thread,
                 make,
@@ -282,77 +383,6 @@ impl Call {
                 inherit: *inherit,
                 text: Text::new(alloc, text.as_slice())?,
             }),
-            Call::Duplicate {
-                thread,
-                source,
-                handle,
-                target,
-                mask,
-                inherit,
-                options,
-            } => Ok(Call::Duplicate {
-                thread: *thread,
-                source: *source,
-                handle: *handle,
-                target: *target,
-                mask: *mask,
-                inherit: *inherit,
-                options: *options,
-            }),
-            Call::CloseHandle { thread, handle } => Ok(Call::CloseHandle {
-                thread: *thread,
-                handle: *handle,
-            }),
-            Call::GetFlags { thread, handle } => Ok(Call::GetFlags {
-                thread: *thread,
-                handle: *handle,
-            }),
-            Call::SetFlags {
-                thread,
-                handle,
-                mask,
-                flags,
-            } => Ok(Call::SetFlags {
-                thread: *thread,
-                handle: *handle,
-                mask: *mask,
-                flags: *flags,
-            }),
-            Call::SetEvent { thread, handle } => Ok(Call::SetEvent {
-                thread: *thread,
-                handle: *handle,
-            }),
-            Call::ResetEvent { thread, handle } => Ok(Call::ResetEvent {
-                thread: *thread,
-                handle: *handle,
-            }),
-            Call::ReleaseSemaphore {
-                thread,
-                handle,
-                count,
-            } => Ok(Call::ReleaseSemaphore {
-                thread: *thread,
-                handle: *handle,
-                count: *count,
-            }),
-            Call::ReleaseMutex { thread, handle } => Ok(Call::ReleaseMutex {
-                thread: *thread,
-                handle: *handle,
-            }),
-            Call::SetTimer {
-                thread,
-                handle,
-                due,
-            } => Ok(Call::SetTimer {
-                thread: *thread,
-                handle: *handle,
-                due: *due,
-            }),
-            Call::CancelTimer { thread, handle } => Ok(Call::CancelTimer {
-                thread: *thread,
-                handle: *handle,
-            }),
-            Call::Tick { now } => Ok(Call::Tick { now: *now }),
             Call::WaitFor {
                 thread,
                 mode,
@@ -364,12 +394,7 @@ impl Call {
                 timeout: *timeout,
                 handles: HandleList::new(alloc, handles.as_slice())?,
             }),
-            Call::WaitResult { wait } => Ok(Call::WaitResult { wait: *wait }),
-            Call::Expire { wait } => Ok(Call::Expire { wait: *wait }),
-            Call::EndThread { thread } => Ok(Call::EndThread { thread: *thread }),
-            Call::Exit { process } => Ok(Call::Exit { process: *process }),
-            Call::Reap { slot } => Ok(Call::Reap { slot: *slot }),
-            Call::Counts { id } => Ok(Call::Counts { id: *id }),
+            _ => unreachable!(),
         }
     }
 

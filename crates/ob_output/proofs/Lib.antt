@@ -1,4 +1,3 @@
-pub mod Fieldless
 pub mod Hexadecimal
 pub mod Printing
 pub mod Written

@@ -65,37 +65,37 @@ impl Block {
     }
 
     /// Prints an answer, as one line.
-    pub fn add(&mut self, answer: Answer<'_>)
+    pub fn add(&mut self, answer: &Answer<'_>)
         requires { length self.old + ANSWER_MOST ≤ BLOCK }
-        ensures { self.new ≡ self.old ++ printed_answer answer.entry }
+        ensures { self.new ≡ self.old ++ printed_answer answer.now }
     {
         match answer {
-            Answer::Replied(reply) => self.reply(reply),
+            Answer::Replied(reply) => self.reply(*reply),
             Answer::BadLine(number) => {
                 self.text(b"bad line ");
-                self.wide(number);
+                self.wide(*number);
             }
             Answer::NameCount(count) => {
                 self.text(b"dir ");
-                self.wide(count as u128);
+                self.wide(*count as u128);
             }
             Answer::Named(name, id) => {
                 self.space(name.space);
-                self.id(id);
+                self.id(*id);
                 self.text(b" ");
                 self.text(name.base);
             }
-            Answer::Pinned(id, answer) => self.pin(id, answer),
-            Answer::Unpinned(id, done) => self.unpin(id, done),
-            Answer::Shown(card) => self.card(card),
+            Answer::Pinned(id, answer) => self.pin(*id, *answer),
+            Answer::Unpinned(id, done) => self.unpin(*id, *done),
+            Answer::Shown(card) => self.card(*card),
             Answer::NoWait => self.text(b"none"),
             Answer::Lane(number) => {
                 self.text(b"lane ");
-                self.number(u64::from(number));
+                self.number(u64::from(*number));
             }
             Answer::Journaled(count) => {
                 self.text(b"closed ");
-                self.wide(count as u128);
+                self.wide(*count as u128);
             }
         }
         self.text(b"\n");

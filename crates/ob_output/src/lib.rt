@@ -6,7 +6,7 @@
 //! ```text
 //! let mut sink = Wired::new(rt.stdout());
 //! let mut output = Output::new(rt.alloc(), 1000)?;      // at most so many writes
-//! output.put(&mut sink, Answer::Replied(reply))?;
+//! output.put(&mut sink, &Answer::Replied(reply))?;
 //! output.flush(&mut sink)?;
 //! ```
 #![tactic(auto)]

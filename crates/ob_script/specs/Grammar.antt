@@ -318,38 +318,6 @@ expire_of (number ∷ []) = do
   Some (Expire number)
 expire_of (number ∷ more ∷ words) = None
 
--- the call that the words of a line ask for
-abbrev pub call_of : List (List ℕ) → Option Call
-call_of [] = None
-call_of (verb ∷ words) =
-    if bytes_eq verb (codes "close") then close_of words
-    else (if bytes_eq verb (codes "set") then set_of words
-    else (if bytes_eq verb (codes "wait") then wait_of words
-    else (if bytes_eq verb (codes "count") then count_of words
-    else (if bytes_eq verb (codes "event") then event_of words
-    else (if bytes_eq verb (codes "reset") then reset_of words
-    else (if bytes_eq verb (codes "release") then release_of words
-    else (if bytes_eq verb (codes "unlock") then unlock_of words
-    else (if bytes_eq verb (codes "open") then open_of words
-    else (if bytes_eq verb (codes "dup") then dup_of words
-    else (if bytes_eq verb (codes "result") then result_of words
-    else (if bytes_eq verb (codes "mutex") then mutex_of words
-    else (if bytes_eq verb (codes "semaphore") then semaphore_of words
-    else (if bytes_eq verb (codes "reap") then reap_of words
-    else (if bytes_eq verb (codes "thread") then thread_of words
-    else (if bytes_eq verb (codes "spawn") then spawn_of words
-    else (if bytes_eq verb (codes "child") then child_of words
-    else (if bytes_eq verb (codes "expire") then expire_of words
-    else (if bytes_eq verb (codes "endthread") then endthread_of words
-    else (if bytes_eq verb (codes "exit") then exit_of words
-    else (if bytes_eq verb (codes "flags") then flags_of words
-    else (if bytes_eq verb (codes "setflags") then setflags_of words
-    else (if bytes_eq verb (codes "timer") then timer_of words
-    else (if bytes_eq verb (codes "settimer") then settimer_of words
-    else (if bytes_eq verb (codes "cancel") then cancel_of words
-    else (if bytes_eq verb (codes "tick") then tick_of words
-    else None)))))))))))))))))))))))))
-
 -- `VERB S`: the object
 abbrev pub object_of : List (List ℕ) → Option Id
 object_of [] = None
@@ -374,23 +342,49 @@ card_of words = do
   id ← object_of words
   Some (ShowCard id)
 
--- what the words of a line ask of the reader
-abbrev pub reading_of : List (List ℕ) → Option Act
-reading_of [] = None
-reading_of (verb ∷ words) =
-    if bytes_eq verb (codes "pin") then pin_of words
-    else (if bytes_eq verb (codes "unpin") then unpin_of words
-    else (if bytes_eq verb (codes "card") then card_of words
-    else None))
-
 abbrev pub or_bad : Option Act → Act
 or_bad None = Bad
 or_bad (Some act) = act
 
--- what is no call may be asked of the reader
-abbrev pub asked : Option Call → List (List ℕ) → Act
-asked (Some call) words = Asks call
-asked None words = or_bad (reading_of words)
+-- a call is asked for, if the words behind its verb are its own
+abbrev pub asked : Option Call → Act
+asked None = Bad
+asked (Some call) = Asks call
+
+-- what the words of a line are
+abbrev pub act_of_words : List (List ℕ) → Act
+act_of_words [] = Bad
+act_of_words (verb ∷ words) =
+    if bytes_eq verb (codes "close") then asked (close_of words)
+    else (if bytes_eq verb (codes "set") then asked (set_of words)
+    else (if bytes_eq verb (codes "wait") then asked (wait_of words)
+    else (if bytes_eq verb (codes "count") then asked (count_of words)
+    else (if bytes_eq verb (codes "event") then asked (event_of words)
+    else (if bytes_eq verb (codes "reset") then asked (reset_of words)
+    else (if bytes_eq verb (codes "release") then asked (release_of words)
+    else (if bytes_eq verb (codes "unlock") then asked (unlock_of words)
+    else (if bytes_eq verb (codes "open") then asked (open_of words)
+    else (if bytes_eq verb (codes "dup") then asked (dup_of words)
+    else (if bytes_eq verb (codes "result") then asked (result_of words)
+    else (if bytes_eq verb (codes "mutex") then asked (mutex_of words)
+    else (if bytes_eq verb (codes "semaphore") then asked (semaphore_of words)
+    else (if bytes_eq verb (codes "reap") then asked (reap_of words)
+    else (if bytes_eq verb (codes "thread") then asked (thread_of words)
+    else (if bytes_eq verb (codes "spawn") then asked (spawn_of words)
+    else (if bytes_eq verb (codes "child") then asked (child_of words)
+    else (if bytes_eq verb (codes "expire") then asked (expire_of words)
+    else (if bytes_eq verb (codes "endthread") then asked (endthread_of words)
+    else (if bytes_eq verb (codes "exit") then asked (exit_of words)
+    else (if bytes_eq verb (codes "flags") then asked (flags_of words)
+    else (if bytes_eq verb (codes "setflags") then asked (setflags_of words)
+    else (if bytes_eq verb (codes "timer") then asked (timer_of words)
+    else (if bytes_eq verb (codes "settimer") then asked (settimer_of words)
+    else (if bytes_eq verb (codes "cancel") then asked (cancel_of words)
+    else (if bytes_eq verb (codes "tick") then asked (tick_of words)
+    else (if bytes_eq verb (codes "pin") then or_bad (pin_of words)
+    else (if bytes_eq verb (codes "unpin") then or_bad (unpin_of words)
+    else (if bytes_eq verb (codes "card") then or_bad (card_of words)
+    else Bad))))))))))))))))))))))))))))
 
 -- the text of a line: one carriage return at its end is dropped
 abbrev pub text_of : List ℕ → List ℕ
@@ -402,7 +396,7 @@ act_of_text text =
     if nat_lt 4096 (length text) then Bad
     else (if (length text == 0) || (slice_index text 0 == 35) then Nothing
     else (if bytes_eq text (codes "dir") then ListNames
-    else asked (call_of (words_of text)) (words_of text)))
+    else act_of_words (words_of text)))
 
 abbrev pub act_of : List ℕ → Act
 act_of line = act_of_text (text_of line)

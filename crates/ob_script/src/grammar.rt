@@ -1,8 +1,7 @@
 ghost use Rattle.std.specs.Prelude.{◌≡◌, ◌≤◌, IfSome};
-ghost use Rattle.std.specs.Option.{option_map};
 ghost use Rattle.ob_script.specs.Words.{are_handles, words_of};
-ghost use Rattle.ob_script.specs.Acts.{act_in, call_in};
-ghost use Rattle.ob_script.specs.Grammar.{access_of, act_of, call_of, cancel_of, card_of, child_of, close_of, closing_of, count_of, dup_of, endthread_of, event_of, exit_of, expire_of, flags_of, handle_of, mode_of, mutex_of, object_of, open_of, pin_of, reading_of, reap_of, release_of, reset_of, result_of, semaphore_of, set_of, setflags_of, settimer_of, spawn_of, target_of, text_of, thread_of, tick_of, timeout_of, timer_of, unlock_of, unpin_of, wait_of};
+ghost use Rattle.ob_script.specs.Acts.{act_in};
+ghost use Rattle.ob_script.specs.Grammar.{access_of, act_of, act_of_words, asked, cancel_of, card_of, child_of, close_of, closing_of, count_of, dup_of, endthread_of, event_of, exit_of, expire_of, flags_of, handle_of, mode_of, mutex_of, object_of, open_of, or_bad, pin_of, reap_of, release_of, reset_of, result_of, semaphore_of, set_of, setflags_of, settimer_of, spawn_of, target_of, text_of, thread_of, tick_of, timeout_of, timer_of, unlock_of, unpin_of, wait_of};
 
 use crate::act::{Act, Ask};
 use crate::naming::{make_of, name_of};
@@ -12,6 +11,16 @@ use crate::words::{Words, is};
 use ob_manager::{Mode, Timeout};
 use ob_rights::Rights;
 use pin_core::Id;
+
+/// What is there; without it the line is bad.
+macro_rules! wanted {
+    ($value:expr) => {
+        match $value {
+            Some(value) => value,
+            None => return Act::Bad,
+        }
+    };
+}
 
 /// The longest text of a line, in bytes.
 pub const TEXT_MOST: usize = 4096;
@@ -30,13 +39,7 @@ pub fn act_of(line: &[u8]) -> Act<'_>
     if is(text, b"dir") {
         return Act::ListNames;
     }
-    if let Some(ask) = call_of(Words::of(text)) {
-        return Act::Ask(ask);
-    }
-    match reading_of(Words::of(text)) {
-        Some(act) => act,
-        None => Act::Bad,
-    }
+    act_of_words(Words::of(text))
 }
 
 /// The text of a line: one carriage return at its end is dropped.
@@ -50,12 +53,13 @@ pub fn text_of(line: &[u8]) -> &[u8]
 }
 
 // What a line of each verb is stands in one function when it runs: a function of its own would have a copy of the words
-// that are left, and each of these would be cleared for every line.
+// that are left, and each of these would be cleared for every line. Each makes its act in one step, with no option between:
+// that would be taken apart and put together for every line.
 #[inline(always)]
-fn call_of(mut words: Words<'_>) -> Option<Ask<'_>>
-    ensures { option_map call_in result ≡ call_of words.entry }
+fn act_of_words(mut words: Words<'_>) -> Act<'_>
+    ensures { act_in result ≡ act_of_words words.entry }
 {
-    let verb = words.next()?;
+    let verb = wanted!(words.next());
     if is(verb, b"close") {
         return close_of(words);
     }
@@ -134,53 +138,62 @@ fn call_of(mut words: Words<'_>) -> Option<Ask<'_>>
     if is(verb, b"tick") {
         return tick_of(words);
     }
-    None
+    if is(verb, b"pin") {
+        return pin_of(words);
+    }
+    if is(verb, b"unpin") {
+        return unpin_of(words);
+    }
+    if is(verb, b"card") {
+        return card_of(words);
+    }
+    Act::Bad
 }
 
 #[inline(always)]
-fn spawn_of(mut words: Words<'_>) -> Option<Ask<'_>>
-    ensures { option_map call_in result ≡ spawn_of words.entry }
+fn spawn_of(mut words: Words<'_>) -> Act<'_>
+    ensures { act_in result ≡ asked (spawn_of words.entry) }
 {
-    let session = words.next()?;
-    words.end()?;
-    let session = number_of(session)?;
-    Some(Ask::Spawn { session })
+    let session = wanted!(words.next());
+    wanted!(words.end());
+    let session = wanted!(number_of(session));
+    Act::Ask(Ask::Spawn { session })
 }
 
 #[inline(always)]
-fn child_of(mut words: Words<'_>) -> Option<Ask<'_>>
-    ensures { option_map call_in result ≡ child_of words.entry }
+fn child_of(mut words: Words<'_>) -> Act<'_>
+    ensures { act_in result ≡ asked (child_of words.entry) }
 {
-    let thread = words.labelled(b't')?;
-    let inherit = words.next()?;
-    words.end()?;
-    let thread = thread?;
-    let inherit = either_of(b"plain", b"inherit", inherit)?;
-    Some(Ask::Child { thread, inherit })
+    let thread = wanted!(words.labelled(b't'));
+    let inherit = wanted!(words.next());
+    wanted!(words.end());
+    let thread = wanted!(thread);
+    let inherit = wanted!(either_of(b"plain", b"inherit", inherit));
+    Act::Ask(Ask::Child { thread, inherit })
 }
 
 #[inline(always)]
-fn thread_of(mut words: Words<'_>) -> Option<Ask<'_>>
-    ensures { option_map call_in result ≡ thread_of words.entry }
+fn thread_of(mut words: Words<'_>) -> Act<'_>
+    ensures { act_in result ≡ asked (thread_of words.entry) }
 {
-    let process = words.labelled(b'p')?;
-    words.end()?;
-    let process = process?;
-    Some(Ask::StartThread { process })
+    let process = wanted!(words.labelled(b'p'));
+    wanted!(words.end());
+    let process = wanted!(process);
+    Act::Ask(Ask::StartThread { process })
 }
 
 #[inline(always)]
-fn event_of(mut words: Words<'_>) -> Option<Ask<'_>>
-    ensures { option_map call_in result ≡ event_of words.entry }
+fn event_of(mut words: Words<'_>) -> Act<'_>
+    ensures { act_in result ≡ asked (event_of words.entry) }
 {
-    let thread = words.labelled(b't')?;
-    let reset = words.next()?;
-    let state = words.next()?;
-    let thread = thread?;
-    let manual = either_of(b"auto", b"manual", reset)?;
-    let set = either_of(b"clear", b"set", state)?;
-    let make = make_of(words)?;
-    Some(Ask::MakeEvent {
+    let thread = wanted!(words.labelled(b't'));
+    let reset = wanted!(words.next());
+    let state = wanted!(words.next());
+    let thread = wanted!(thread);
+    let manual = wanted!(either_of(b"auto", b"manual", reset));
+    let set = wanted!(either_of(b"clear", b"set", state));
+    let make = wanted!(make_of(words));
+    Act::Ask(Ask::MakeEvent {
         thread,
         make,
         manual,
@@ -189,15 +202,15 @@ fn event_of(mut words: Words<'_>) -> Option<Ask<'_>>
 }
 
 #[inline(always)]
-fn mutex_of(mut words: Words<'_>) -> Option<Ask<'_>>
-    ensures { option_map call_in result ≡ mutex_of words.entry }
+fn mutex_of(mut words: Words<'_>) -> Act<'_>
+    ensures { act_in result ≡ asked (mutex_of words.entry) }
 {
-    let thread = words.labelled(b't')?;
-    let state = words.next()?;
-    let thread = thread?;
-    let owned = either_of(b"free", b"owned", state)?;
-    let make = make_of(words)?;
-    Some(Ask::MakeMutex {
+    let thread = wanted!(words.labelled(b't'));
+    let state = wanted!(words.next());
+    let thread = wanted!(thread);
+    let owned = wanted!(either_of(b"free", b"owned", state));
+    let make = wanted!(make_of(words));
+    Act::Ask(Ask::MakeMutex {
         thread,
         make,
         owned,
@@ -205,17 +218,17 @@ fn mutex_of(mut words: Words<'_>) -> Option<Ask<'_>>
 }
 
 #[inline(always)]
-fn semaphore_of(mut words: Words<'_>) -> Option<Ask<'_>>
-    ensures { option_map call_in result ≡ semaphore_of words.entry }
+fn semaphore_of(mut words: Words<'_>) -> Act<'_>
+    ensures { act_in result ≡ asked (semaphore_of words.entry) }
 {
-    let thread = words.labelled(b't')?;
-    let initial = words.next()?;
-    let max = words.next()?;
-    let thread = thread?;
-    let initial = signed_of(initial)?;
-    let max = signed_of(max)?;
-    let make = make_of(words)?;
-    Some(Ask::MakeSemaphore {
+    let thread = wanted!(words.labelled(b't'));
+    let initial = wanted!(words.next());
+    let max = wanted!(words.next());
+    let thread = wanted!(thread);
+    let initial = wanted!(signed_of(initial));
+    let max = wanted!(signed_of(max));
+    let make = wanted!(make_of(words));
+    Act::Ask(Ask::MakeSemaphore {
         thread,
         make,
         initial,
@@ -224,15 +237,15 @@ fn semaphore_of(mut words: Words<'_>) -> Option<Ask<'_>>
 }
 
 #[inline(always)]
-fn timer_of(mut words: Words<'_>) -> Option<Ask<'_>>
-    ensures { option_map call_in result ≡ timer_of words.entry }
+fn timer_of(mut words: Words<'_>) -> Act<'_>
+    ensures { act_in result ≡ asked (timer_of words.entry) }
 {
-    let thread = words.labelled(b't')?;
-    let reset = words.next()?;
-    let thread = thread?;
-    let manual = either_of(b"auto", b"manual", reset)?;
-    let make = make_of(words)?;
-    Some(Ask::MakeTimer {
+    let thread = wanted!(words.labelled(b't'));
+    let reset = wanted!(words.next());
+    let thread = wanted!(thread);
+    let manual = wanted!(either_of(b"auto", b"manual", reset));
+    let make = wanted!(make_of(words));
+    Act::Ask(Ask::MakeTimer {
         thread,
         make,
         manual,
@@ -240,18 +253,18 @@ fn timer_of(mut words: Words<'_>) -> Option<Ask<'_>>
 }
 
 #[inline(always)]
-fn open_of(mut words: Words<'_>) -> Option<Ask<'_>>
-    ensures { option_map call_in result ≡ open_of words.entry }
+fn open_of(mut words: Words<'_>) -> Act<'_>
+    ensures { act_in result ≡ asked (open_of words.entry) }
 {
-    let thread = words.labelled(b't')?;
-    let kind = words.next()?;
-    let mask = words.next()?;
-    let thread = thread?;
-    let kind = kind_of(kind)?;
-    let mask = mask_of(mask)?;
+    let thread = wanted!(words.labelled(b't'));
+    let kind = wanted!(words.next());
+    let mask = wanted!(words.next());
+    let thread = wanted!(thread);
+    let kind = wanted!(kind_of(kind));
+    let mask = wanted!(mask_of(mask));
     let inherit = words.skip(b"inherit");
-    let text = name_of(words)?;
-    Some(Ask::OpenNamed {
+    let text = wanted!(name_of(words));
+    Act::Ask(Ask::OpenNamed {
         thread,
         kind,
         mask,
@@ -261,22 +274,22 @@ fn open_of(mut words: Words<'_>) -> Option<Ask<'_>>
 }
 
 #[inline(always)]
-fn dup_of(mut words: Words<'_>) -> Option<Ask<'_>>
-    ensures { option_map call_in result ≡ dup_of words.entry }
+fn dup_of(mut words: Words<'_>) -> Act<'_>
+    ensures { act_in result ≡ asked (dup_of words.entry) }
 {
-    let thread = words.labelled(b't')?;
-    let source = words.labelled(b'p')?;
-    let handle = words.labelled(b'h')?;
-    let target = words.next()?;
-    let access = words.next()?;
-    let thread = thread?;
-    let source = source?;
-    let handle = handle?;
-    let target = target_of(target)?;
-    let (mask, sameness) = access_of(access)?;
+    let thread = wanted!(words.labelled(b't'));
+    let source = wanted!(words.labelled(b'p'));
+    let handle = wanted!(words.labelled(b'h'));
+    let target = wanted!(words.next());
+    let access = wanted!(words.next());
+    let thread = wanted!(thread);
+    let source = wanted!(source);
+    let handle = wanted!(handle);
+    let target = wanted!(target_of(target));
+    let (mask, sameness) = wanted!(access_of(access));
     let inherit = words.skip(b"inherit");
-    let closing = closing_of(words)?;
-    Some(Ask::Duplicate {
+    let closing = wanted!(closing_of(words));
+    Act::Ask(Ask::Duplicate {
         thread,
         source,
         handle,
@@ -339,35 +352,35 @@ fn handle_of(mut words: Words<'_>) -> Option<(u32, u32)>
 }
 
 #[inline(always)]
-fn close_of(words: Words<'_>) -> Option<Ask<'_>>
-    ensures { option_map call_in result ≡ close_of words.entry }
+fn close_of(words: Words<'_>) -> Act<'_>
+    ensures { act_in result ≡ asked (close_of words.entry) }
 {
-    let (thread, handle) = handle_of(words)?;
-    Some(Ask::CloseHandle { thread, handle })
+    let (thread, handle) = wanted!(handle_of(words));
+    Act::Ask(Ask::CloseHandle { thread, handle })
 }
 
 #[inline(always)]
-fn flags_of(words: Words<'_>) -> Option<Ask<'_>>
-    ensures { option_map call_in result ≡ flags_of words.entry }
+fn flags_of(words: Words<'_>) -> Act<'_>
+    ensures { act_in result ≡ asked (flags_of words.entry) }
 {
-    let (thread, handle) = handle_of(words)?;
-    Some(Ask::GetFlags { thread, handle })
+    let (thread, handle) = wanted!(handle_of(words));
+    Act::Ask(Ask::GetFlags { thread, handle })
 }
 
 #[inline(always)]
-fn setflags_of(mut words: Words<'_>) -> Option<Ask<'_>>
-    ensures { option_map call_in result ≡ setflags_of words.entry }
+fn setflags_of(mut words: Words<'_>) -> Act<'_>
+    ensures { act_in result ≡ asked (setflags_of words.entry) }
 {
-    let thread = words.labelled(b't')?;
-    let handle = words.labelled(b'h')?;
-    let mask = words.next()?;
-    let flags = words.next()?;
-    words.end()?;
-    let thread = thread?;
-    let handle = handle?;
-    let mask = number_of(mask)?;
-    let flags = number_of(flags)?;
-    Some(Ask::SetFlags {
+    let thread = wanted!(words.labelled(b't'));
+    let handle = wanted!(words.labelled(b'h'));
+    let mask = wanted!(words.next());
+    let flags = wanted!(words.next());
+    wanted!(words.end());
+    let thread = wanted!(thread);
+    let handle = wanted!(handle);
+    let mask = wanted!(number_of(mask));
+    let flags = wanted!(number_of(flags));
+    Act::Ask(Ask::SetFlags {
         thread,
         handle,
         mask,
@@ -376,49 +389,49 @@ fn setflags_of(mut words: Words<'_>) -> Option<Ask<'_>>
 }
 
 #[inline(always)]
-fn set_of(words: Words<'_>) -> Option<Ask<'_>>
-    ensures { option_map call_in result ≡ set_of words.entry }
+fn set_of(words: Words<'_>) -> Act<'_>
+    ensures { act_in result ≡ asked (set_of words.entry) }
 {
-    let (thread, handle) = handle_of(words)?;
-    Some(Ask::SetEvent { thread, handle })
+    let (thread, handle) = wanted!(handle_of(words));
+    Act::Ask(Ask::SetEvent { thread, handle })
 }
 
 #[inline(always)]
-fn reset_of(words: Words<'_>) -> Option<Ask<'_>>
-    ensures { option_map call_in result ≡ reset_of words.entry }
+fn reset_of(words: Words<'_>) -> Act<'_>
+    ensures { act_in result ≡ asked (reset_of words.entry) }
 {
-    let (thread, handle) = handle_of(words)?;
-    Some(Ask::ResetEvent { thread, handle })
+    let (thread, handle) = wanted!(handle_of(words));
+    Act::Ask(Ask::ResetEvent { thread, handle })
 }
 
 #[inline(always)]
-fn unlock_of(words: Words<'_>) -> Option<Ask<'_>>
-    ensures { option_map call_in result ≡ unlock_of words.entry }
+fn unlock_of(words: Words<'_>) -> Act<'_>
+    ensures { act_in result ≡ asked (unlock_of words.entry) }
 {
-    let (thread, handle) = handle_of(words)?;
-    Some(Ask::ReleaseMutex { thread, handle })
+    let (thread, handle) = wanted!(handle_of(words));
+    Act::Ask(Ask::ReleaseMutex { thread, handle })
 }
 
 #[inline(always)]
-fn cancel_of(words: Words<'_>) -> Option<Ask<'_>>
-    ensures { option_map call_in result ≡ cancel_of words.entry }
+fn cancel_of(words: Words<'_>) -> Act<'_>
+    ensures { act_in result ≡ asked (cancel_of words.entry) }
 {
-    let (thread, handle) = handle_of(words)?;
-    Some(Ask::CancelTimer { thread, handle })
+    let (thread, handle) = wanted!(handle_of(words));
+    Act::Ask(Ask::CancelTimer { thread, handle })
 }
 
 #[inline(always)]
-fn settimer_of(mut words: Words<'_>) -> Option<Ask<'_>>
-    ensures { option_map call_in result ≡ settimer_of words.entry }
+fn settimer_of(mut words: Words<'_>) -> Act<'_>
+    ensures { act_in result ≡ asked (settimer_of words.entry) }
 {
-    let thread = words.labelled(b't')?;
-    let handle = words.labelled(b'h')?;
-    let due = words.next()?;
-    words.end()?;
-    let thread = thread?;
-    let handle = handle?;
-    let due = due_of(due)?;
-    Some(Ask::SetTimer {
+    let thread = wanted!(words.labelled(b't'));
+    let handle = wanted!(words.labelled(b'h'));
+    let due = wanted!(words.next());
+    wanted!(words.end());
+    let thread = wanted!(thread);
+    let handle = wanted!(handle);
+    let due = wanted!(due_of(due));
+    Act::Ask(Ask::SetTimer {
         thread,
         handle,
         due,
@@ -426,27 +439,27 @@ fn settimer_of(mut words: Words<'_>) -> Option<Ask<'_>>
 }
 
 #[inline(always)]
-fn tick_of(mut words: Words<'_>) -> Option<Ask<'_>>
-    ensures { option_map call_in result ≡ tick_of words.entry }
+fn tick_of(mut words: Words<'_>) -> Act<'_>
+    ensures { act_in result ≡ asked (tick_of words.entry) }
 {
-    let moment = words.next()?;
-    words.end()?;
-    let now = moment_of(moment)?;
-    Some(Ask::Tick { now })
+    let moment = wanted!(words.next());
+    wanted!(words.end());
+    let now = wanted!(moment_of(moment));
+    Act::Ask(Ask::Tick { now })
 }
 
 #[inline(always)]
-fn release_of(mut words: Words<'_>) -> Option<Ask<'_>>
-    ensures { option_map call_in result ≡ release_of words.entry }
+fn release_of(mut words: Words<'_>) -> Act<'_>
+    ensures { act_in result ≡ asked (release_of words.entry) }
 {
-    let thread = words.labelled(b't')?;
-    let handle = words.labelled(b'h')?;
-    let count = words.next()?;
-    words.end()?;
-    let thread = thread?;
-    let handle = handle?;
-    let count = signed_of(count)?;
-    Some(Ask::ReleaseSemaphore {
+    let thread = wanted!(words.labelled(b't'));
+    let handle = wanted!(words.labelled(b'h'));
+    let count = wanted!(words.next());
+    wanted!(words.end());
+    let thread = wanted!(thread);
+    let handle = wanted!(handle);
+    let count = wanted!(signed_of(count));
+    Act::Ask(Ask::ReleaseSemaphore {
         thread,
         handle,
         count,
@@ -454,20 +467,20 @@ fn release_of(mut words: Words<'_>) -> Option<Ask<'_>>
 }
 
 #[inline(always)]
-fn wait_of(mut words: Words<'_>) -> Option<Ask<'_>>
-    ensures { option_map call_in result ≡ wait_of words.entry }
+fn wait_of(mut words: Words<'_>) -> Act<'_>
+    ensures { act_in result ≡ asked (wait_of words.entry) }
 {
-    let thread = words.labelled(b't')?;
-    let mode = words.next()?;
-    let timeout = words.next()?;
-    let thread = thread?;
-    let mode = mode_of(mode)?;
-    let timeout = timeout_of(timeout)?;
+    let thread = wanted!(words.labelled(b't'));
+    let mode = wanted!(words.next());
+    let timeout = wanted!(words.next());
+    let thread = wanted!(thread);
+    let mode = wanted!(mode_of(mode));
+    let timeout = wanted!(timeout_of(timeout));
     let rest = words.rest();
     if !are_handles(words) {
-        return None;
+        return Act::Bad;
     }
-    Some(Ask::WaitFor {
+    Act::Ask(Ask::WaitFor {
         thread,
         mode,
         timeout,
@@ -510,101 +523,87 @@ fn are_handles(mut words: Words<'_>) -> bool
 }
 
 #[inline(always)]
-fn result_of(mut words: Words<'_>) -> Option<Ask<'_>>
-    ensures { option_map call_in result ≡ result_of words.entry }
+fn result_of(mut words: Words<'_>) -> Act<'_>
+    ensures { act_in result ≡ asked (result_of words.entry) }
 {
-    let wait = words.labelled(b'w')?;
-    words.end()?;
-    let wait = wait?;
-    Some(Ask::WaitResult { wait })
+    let wait = wanted!(words.labelled(b'w'));
+    wanted!(words.end());
+    let wait = wanted!(wait);
+    Act::Ask(Ask::WaitResult { wait })
 }
 
 #[inline(always)]
-fn expire_of(mut words: Words<'_>) -> Option<Ask<'_>>
-    ensures { option_map call_in result ≡ expire_of words.entry }
+fn expire_of(mut words: Words<'_>) -> Act<'_>
+    ensures { act_in result ≡ asked (expire_of words.entry) }
 {
-    let wait = words.labelled(b'w')?;
-    words.end()?;
-    let wait = wait?;
-    Some(Ask::Expire { wait })
+    let wait = wanted!(words.labelled(b'w'));
+    wanted!(words.end());
+    let wait = wanted!(wait);
+    Act::Ask(Ask::Expire { wait })
 }
 
 #[inline(always)]
-fn endthread_of(mut words: Words<'_>) -> Option<Ask<'_>>
-    ensures { option_map call_in result ≡ endthread_of words.entry }
+fn endthread_of(mut words: Words<'_>) -> Act<'_>
+    ensures { act_in result ≡ asked (endthread_of words.entry) }
 {
-    let thread = words.labelled(b't')?;
-    words.end()?;
-    let thread = thread?;
-    Some(Ask::EndThread { thread })
+    let thread = wanted!(words.labelled(b't'));
+    wanted!(words.end());
+    let thread = wanted!(thread);
+    Act::Ask(Ask::EndThread { thread })
 }
 
 #[inline(always)]
-fn exit_of(mut words: Words<'_>) -> Option<Ask<'_>>
-    ensures { option_map call_in result ≡ exit_of words.entry }
+fn exit_of(mut words: Words<'_>) -> Act<'_>
+    ensures { act_in result ≡ asked (exit_of words.entry) }
 {
-    let process = words.labelled(b'p')?;
-    words.end()?;
-    let process = process?;
-    Some(Ask::Exit { process })
+    let process = wanted!(words.labelled(b'p'));
+    wanted!(words.end());
+    let process = wanted!(process);
+    Act::Ask(Ask::Exit { process })
 }
 
 #[inline(always)]
-fn reap_of(mut words: Words<'_>) -> Option<Ask<'_>>
-    ensures { option_map call_in result ≡ reap_of words.entry }
+fn reap_of(mut words: Words<'_>) -> Act<'_>
+    ensures { act_in result ≡ asked (reap_of words.entry) }
 {
-    let slot = words.labelled(b's')?;
-    words.end()?;
-    let slot = slot?;
-    Some(Ask::Reap { slot })
+    let slot = wanted!(words.labelled(b's'));
+    wanted!(words.end());
+    let slot = wanted!(slot);
+    Act::Ask(Ask::Reap { slot })
 }
 
 #[inline(always)]
-fn count_of(mut words: Words<'_>) -> Option<Ask<'_>>
-    ensures { option_map call_in result ≡ count_of words.entry }
+fn count_of(mut words: Words<'_>) -> Act<'_>
+    ensures { act_in result ≡ asked (count_of words.entry) }
 {
-    let object = words.next()?;
-    words.end()?;
-    let id = id_of(object)?;
-    Some(Ask::Counts { id })
+    let object = wanted!(words.next());
+    wanted!(words.end());
+    let id = wanted!(id_of(object));
+    Act::Ask(Ask::Counts { id })
 }
 
-/// What is asked of the reader.
-fn reading_of(mut words: Words<'_>) -> Option<Act<'_>>
-    ensures { option_map act_in result ≡ reading_of words.entry }
+#[inline(always)]
+fn pin_of(words: Words<'_>) -> Act<'_>
+    ensures { act_in result ≡ or_bad (pin_of words.entry) }
 {
-    let verb = words.next()?;
-    if is(verb, b"pin") {
-        return pin_of(words);
-    }
-    if is(verb, b"unpin") {
-        return unpin_of(words);
-    }
-    if is(verb, b"card") {
-        return card_of(words);
-    }
-    None
+    let id = wanted!(object_of(words));
+    Act::Pin(id)
 }
 
-fn pin_of(words: Words<'_>) -> Option<Act<'_>>
-    ensures { option_map act_in result ≡ pin_of words.entry }
+#[inline(always)]
+fn unpin_of(words: Words<'_>) -> Act<'_>
+    ensures { act_in result ≡ or_bad (unpin_of words.entry) }
 {
-    let id = object_of(words)?;
-    Some(Act::Pin(id))
+    let id = wanted!(object_of(words));
+    Act::Unpin(id)
 }
 
-fn unpin_of(words: Words<'_>) -> Option<Act<'_>>
-    ensures { option_map act_in result ≡ unpin_of words.entry }
+#[inline(always)]
+fn card_of(words: Words<'_>) -> Act<'_>
+    ensures { act_in result ≡ or_bad (card_of words.entry) }
 {
-    let id = object_of(words)?;
-    Some(Act::Unpin(id))
-}
-
-fn card_of(words: Words<'_>) -> Option<Act<'_>>
-    ensures { option_map act_in result ≡ card_of words.entry }
-{
-    let id = object_of(words)?;
-    Some(Act::ShowCard(id))
+    let id = wanted!(object_of(words));
+    Act::ShowCard(id)
 }
 
 /// An object, behind which nothing stands.

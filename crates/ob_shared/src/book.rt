@@ -7,6 +7,7 @@ ghost use Rattle.ob_manager.specs.Counting.{card};
 ghost use Rattle.ob_manager.specs.Steps.{Step};
 ghost use Rattle.ob_shared.specs.Journal.{IsHistory, replay};
 
+use crate::asked::Asked;
 use ob_manager::{Call, Card, Manager, Reply};
 use ob_rights::Fault;
 use pin_core::Id;
@@ -34,7 +35,8 @@ impl Entry {
     }
 }
 
-/// That a call was entered in a journal. Only a [`Book`] that enters a call makes one, and it can't be copied.
+/// That a call was entered in a journal, with the call. Only what a [`Book`] says of a call that it entered makes one, and it
+/// can't be copied.
 #[derive(Drop)]
 pub struct Receipt {
     entry: Entry,
@@ -54,6 +56,40 @@ impl Receipt {
         ensures { result.now ≡ self.now }
     {
         &self.entry
+    }
+}
+
+/// That a call was entered in a journal, without the call, which its caller still has. Only a [`Book`] that enters a call
+/// makes one, and it can't be copied.
+#[derive(Drop)]
+pub(crate) struct Entered {
+    lane: u32,
+    asked: Asked,
+    reply: Reply,
+}
+
+impl Model for Entered {
+    ghost use Rattle.ob_shared.specs.declared.book.Entry.{Entry};
+
+    ghost Value = { Entry };
+
+    ghost view = { λ entered. record { lane = entered.lane; call = entered.asked.call; reply = entered.reply } };
+}
+
+impl Entered {
+    /// The receipt, with the call that was entered.
+    #[inline(always)]
+    pub(crate) fn receipt(self, call: Call) -> Receipt
+        requires { call ≡ self.call }
+        ensures { result ≡ self }
+    {
+        Receipt {
+            entry: Entry {
+                lane: self.lane,
+                call,
+                reply: self.reply,
+            },
+        }
     }
 }
 
@@ -98,28 +134,31 @@ impl<K: PinKeeper> Book<K> {
         ensures memory { IfErr result (λ fault. (fault ≡ Memory) × (self.new ≡ self.old)) }
     {
         let copy = call.copy(self.alloc)?;
-        self.enter(lane, call, copy)
+        let entered = self.enter(lane, &call, copy)?;
+        Ok(entered.receipt(call))
     }
 
-    /// The same with a copy for the journal that was made before.
+    /// The same with a copy for the journal that was made before. The receipt can be made later.
     #[inline(always)]
     #[tactic(auto, using(crate::proofs::Journals::history_next))]
-    pub(crate) fn enter(&mut self, lane: u32, call: Call, copy: Call) -> Result<Receipt, Fault>
-        requires { copy ≡ call }
-        ensures entered { IfOk result (λ receipt. self.new.journal ≡ self.old.journal ++ receipt ∷ []) }
-        ensures entry { IfOk result (λ receipt. (receipt.lane ≡ lane) × (receipt.call ≡ call)) }
-        ensures step { IfOk result (λ receipt. Step self.old.manager call receipt.reply self.new.manager) }
+    pub(crate) fn enter(&mut self, lane: u32, call: &Call, copy: Call) -> Result<Entered, Fault>
+        requires { copy ≡ call.now }
+        ensures entered { IfOk result (λ entered. self.new.journal ≡ self.old.journal ++ entered ∷ []) }
+        ensures entry { IfOk result (λ entered. (entered.lane ≡ lane) × (entered.call ≡ call.now)) }
+        ensures step { IfOk result (λ entered. Step self.old.manager call.now entered.reply self.new.manager) }
         ensures memory { IfErr result (λ fault. (fault ≡ Memory) × (self.new ≡ self.old)) }
     {
         self.journal.reserve(1)?;
-        let reply = self.manager.apply(&call);
+        let reply = self.manager.apply(call);
         self.journal.push_reserved(Entry {
             lane,
             call: copy,
             reply,
         });
-        Ok(Receipt {
-            entry: Entry { lane, call, reply },
+        Ok(Entered {
+            lane,
+            asked: Asked::of(call),
+            reply,
         })
     }
 

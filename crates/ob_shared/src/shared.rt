@@ -1,5 +1,4 @@
-ghost use Rattle.std.specs.Prelude.{◌≡◌, ◌<◌, [], ◌∷◌, ◌++◌, IfOk, IfErr, vec_len, vec_capacity};
-ghost use Rattle.ob_manager.specs.declared.reply.Reply.TheVariants.{Refused};
+ghost use Rattle.std.specs.Prelude.{◌≡◌, ◌<◌, [], ◌∷◌, ◌++◌, vec_len, vec_capacity};
 
 use crate::book::{Book, Entry, Receipt};
 use crate::closing::{CloseCause, cause_of};
@@ -97,11 +96,29 @@ impl<'a> Shared<'a> {
         if lane.list.reserve(1).is_err() {
             return Reply::Refused(Fault::Memory);
         }
-        // (made before the lock is taken, so that others wait less)
+        // (copied before the lock is taken, so that others wait less)
+        match call.plain_copy() {
+            Some(copy) => self.enter(rt, lane.number, &mut lane.list, call, copy),
+            None => self.copy_and_enter(rt, lane.number, &mut lane.list, call),
+        }
+    }
+
+    /// The same for a call that has a name or handles, which are copied first.
+    #[inline(never)]
+    fn copy_and_enter<R: Wait>(
+        &self,
+        rt: &R,
+        number: u32,
+        receipts: &mut Vec<Receipt>,
+        call: Call,
+    ) -> Reply
+        requires { vec_len receipts.old < vec_capacity receipts.old }
+        ensures { Lists (record { number = number; list = receipts.old.items }) call result (record { number = number; list = receipts.new.items }) }
+    {
         let Ok(copy) = call.copy(self.alloc) else {
             return Reply::Refused(Fault::Memory);
         };
-        self.enter(rt, lane.number, &mut lane.list, call, copy)
+        self.enter(rt, number, receipts, call, copy)
     }
 
     /// Enters a call in the journal, and lists it where there is room for one.
@@ -119,11 +136,14 @@ impl<'a> Shared<'a> {
         ensures { Lists (record { number = number; list = receipts.old.items }) call result (record { number = number; list = receipts.new.items }) }
     {
         let mut held = self.held.lock(rt);
-        let answer = held.book.enter(number, call, copy);
+        let answer = held.book.enter(number, &call, copy);
         let waiting = held.waiting;
         drop(held);
         self.tell(waiting);
-        list(receipts, answer)
+        match answer {
+            Ok(entered) => list(receipts, entered.receipt(call)),
+            Err(fault) => Reply::Refused(fault),
+        }
     }
 
     /// Waits until a wait is no longer pending, and then asks for its result, under the same lock. It may wait forever.
@@ -150,7 +170,10 @@ impl<'a> Shared<'a> {
         let waiting = held.waiting;
         drop(held);
         self.tell(waiting);
-        list(&mut lane.list, answer)
+        match answer {
+            Ok(receipt) => list(&mut lane.list, receipt),
+            Err(fault) => Reply::Refused(fault),
+        }
     }
 
     /// Tells those who wait that the book has changed.
@@ -209,19 +232,14 @@ impl<'a> Shared<'a> {
 }
 
 /// Lists a call that was entered, where there is room for one, and gives its reply.
-fn list(receipts: &mut Vec<Receipt>, answer: Result<Receipt, Fault>) -> Reply
+fn list(receipts: &mut Vec<Receipt>, receipt: Receipt) -> Reply
     requires { vec_len receipts.old < vec_capacity receipts.old }
-    ensures ok { IfOk answer (λ receipt. (receipts.new.items ≡ receipts.old.items ++ receipt ∷ []) × (result ≡ receipt.reply)) }
-    ensures err { IfErr answer (λ fault. (receipts.new.items ≡ receipts.old.items) × (result ≡ Refused fault)) }
+    ensures listed { receipts.new.items ≡ receipts.old.items ++ receipt ∷ [] }
+    ensures reply { result ≡ receipt.reply }
 {
-    match answer {
-        Ok(receipt) => {
-            let reply = receipt.entry().reply;
-            receipts.push_reserved(receipt);
-            reply
-        }
-        Err(fault) => Reply::Refused(fault),
-    }
+    let reply = receipt.entry().reply;
+    receipts.push_reserved(receipt);
+    reply
 }
 
 /// What a [`Shared`] was, once its lanes are whole.
