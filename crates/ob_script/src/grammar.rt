@@ -1,7 +1,7 @@
 ghost use Rattle.std.specs.Prelude.{◌≡◌, ◌≤◌, IfSome};
 ghost use Rattle.ob_script.specs.Words.{are_handles, words_of};
 ghost use Rattle.ob_script.specs.Acts.{act_in};
-ghost use Rattle.ob_script.specs.Grammar.{access_of, act_of, act_of_words, asked, cancel_of, card_of, child_of, close_of, closing_of, count_of, dup_of, endthread_of, event_of, exit_of, expire_of, flags_of, handle_of, mode_of, mutex_of, object_of, open_of, or_bad, pin_of, reap_of, release_of, reset_of, result_of, semaphore_of, set_of, setflags_of, settimer_of, spawn_of, target_of, text_of, thread_of, tick_of, timeout_of, timer_of, unlock_of, unpin_of, wait_of};
+ghost use Rattle.ob_script.specs.Grammar.{access_of, act_of, asked, cancel_of, card_of, child_of, close_of, closing_of, count_of, dup_of, endthread_of, event_of, exit_of, expire_of, flags_of, handle_of, mode_of, mutex_of, object_of, open_of, or_bad, pin_of, reap_of, release_of, reset_of, result_of, semaphore_of, set_of, setflags_of, settimer_of, spawn_of, target_of, text_of, thread_of, tick_of, timeout_of, timer_of, unlock_of, unpin_of, wait_of};
 
 use crate::act::{Act, Ask};
 use crate::naming::{make_of, name_of};
@@ -26,6 +26,10 @@ macro_rules! wanted {
 pub const TEXT_MOST: usize = 4096;
 
 /// What a line is, without its line feed.
+//
+// What a line of each verb is stands in this one function when it runs: a function of its own would have a copy of the words
+// that are left, and each of these would be cleared for every line. Each verb makes its act in one step, with no option
+// between: that would be taken apart and put together for every line.
 pub fn act_of(line: &[u8]) -> Act<'_>
     ensures { act_in result ≡ act_of line.now }
 {
@@ -39,26 +43,7 @@ pub fn act_of(line: &[u8]) -> Act<'_>
     if is(text, b"dir") {
         return Act::ListNames;
     }
-    act_of_words(Words::of(text))
-}
-
-/// The text of a line: one carriage return at its end is dropped.
-pub fn text_of(line: &[u8]) -> &[u8]
-    ensures { result.now ≡ text_of line.now }
-{
-    match line {
-        [text @ .., b'\r'] => text,
-        _ => line,
-    }
-}
-
-// What a line of each verb is stands in one function when it runs: a function of its own would have a copy of the words
-// that are left, and each of these would be cleared for every line. Each makes its act in one step, with no option between:
-// that would be taken apart and put together for every line.
-#[inline(always)]
-fn act_of_words(mut words: Words<'_>) -> Act<'_>
-    ensures { act_in result ≡ act_of_words words.entry }
-{
+    let mut words = Words::of(text);
     let verb = wanted!(words.next());
     if is(verb, b"close") {
         return close_of(words);
@@ -148,6 +133,16 @@ fn act_of_words(mut words: Words<'_>) -> Act<'_>
         return card_of(words);
     }
     Act::Bad
+}
+
+/// The text of a line: one carriage return at its end is dropped.
+pub fn text_of(line: &[u8]) -> &[u8]
+    ensures { result.now ≡ text_of line.now }
+{
+    match line {
+        [text @ .., b'\r'] => text,
+        _ => line,
+    }
 }
 
 #[inline(always)]
