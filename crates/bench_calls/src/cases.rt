@@ -32,17 +32,23 @@ pub(crate) fn rounds_at<C: Case>(home: &mut Home, rounds: u32) -> Result<u64, Fa
     Ok(sum)
 }
 
-/// A process without handles.
+/// A manager without processes.
 pub(crate) fn empty_home(alloc: Global) -> Result<Home, Fault> {
-    let mut manager = locked(alloc)?;
-    let (process, thread) = spawned(manager.spawn(1))?;
     Ok(Home {
-        manager,
-        process,
-        thread,
+        manager: locked(alloc)?,
+        process: 0,
+        thread: 0,
         other: 0,
         handles: Vec::new(alloc),
     })
+}
+
+/// Makes a process without handles.
+pub(crate) fn add_process(home: &mut Home) -> Result<(), Fault> {
+    let (process, thread) = spawned(home.manager.spawn(1))?;
+    home.process = process;
+    home.thread = thread;
+    Ok(())
 }
 
 /// One more event of the process, which is reset by hand or by itself.

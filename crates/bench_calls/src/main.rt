@@ -15,7 +15,7 @@ mod rounds;
 
 use cases::{
     Case, ChildAndExit, Home, OwnerAndEnd, ThreadAndEnd, WaitAndSet, WaitForAll, WaitForAny,
-    empty_home, rounds_at,
+    add_process, empty_home, rounds_at,
 };
 use live::{Live, Locked, Text, live_events, locked, texts};
 use rounds::{
@@ -78,6 +78,15 @@ fn fill(scene: &mut Scene, alloc: Global, count: u32) -> Option<()> {
     Some(())
 }
 
+fn print_time(rt: &impl Print, case: &str, count: usize, rounds: u32, nanos: u128) -> Option<()> {
+    rt.print(format_args!("{case}, {count}: {rounds} in {nanos}\n"))
+        .ok()
+}
+
+fn print_sum(rt: &impl Print, case: &str, count: usize, sum: u64) -> Option<()> {
+    rt.print(format_args!("{case}, {count}: sum {sum}\n")).ok()
+}
+
 fn report(
     rt: &impl Print,
     plan: Plan,
@@ -88,12 +97,9 @@ fn report(
     sum: u64,
 ) -> Option<()> {
     if plan.is_timed && sum > 0 {
-        rt.print(format_args!("{case}, {count}: {rounds} in {nanos}\n"))
-            .ok()?;
-        return Some(());
+        return print_time(rt, case, count, rounds, nanos);
     }
-    rt.print(format_args!("{case}, {count}: sum {sum}\n")).ok()?;
-    Some(())
+    print_sum(rt, case, count, sum)
 }
 
 fn measure<R: Round>(
@@ -174,7 +180,9 @@ fn come_and_go(
 
 fn run(rt: &(impl Print + Clock), alloc: Global, plan: Plan, count: u32) -> Option<()> {
     let mut scene = empty_scene(alloc)?;
-    run_in(rt, alloc, plan, &mut scene, count)
+    let done = run_in(rt, alloc, plan, &mut scene, count);
+    drop(scene);
+    done
 }
 
 fn run_in(
@@ -225,6 +233,7 @@ fn timed<C: Case>(
     count: u32,
     rounds: u32,
 ) -> Option<Spent> {
+    add_process(home).ok()?;
     C::fill(home, alloc, count).ok()?;
     let started = Instant::now(rt).ok()?;
     let sum = rounds_at::<C>(home, rounds).ok()?;
@@ -233,8 +242,12 @@ fn timed<C: Case>(
 }
 
 fn timed_anew<C: Case>(rt: &impl Clock, alloc: Global, count: u32, rounds: u32) -> Option<Spent> {
-    let mut home = empty_home(alloc).ok()?;
-    timed::<C>(rt, alloc, &mut home, count, rounds)
+    let Ok(mut home) = empty_home(alloc) else {
+        return None;
+    };
+    let spent = timed::<C>(rt, alloc, &mut home, count, rounds);
+    drop(home);
+    spent
 }
 
 /// So many rounds in each of so many managers.
