@@ -1,5 +1,6 @@
 ghost use Rattle.std.specs.Prelude.{◌≡◌, ◌<◌, ◌≤◌, length, [], ◌∷◌, ◌++◌, None, OnOk};
 
+use crate::tests::{holds, same};
 use least_due::{Dues, PLACES_MAX};
 use std::alloc::{AllocError, Global};
 use std::process::Abort;
@@ -18,45 +19,56 @@ fn pushed(dues: &mut Dues) -> Result<(), AllocError>
 
 #[test]
 fn the_least_is_found_whatever_order_it_came_in(rt: HostRuntime) -> Result<(), Fail> {
-    let mut dues = Dues::new(rt.alloc());
-    assert_eq!(rt; dues.least(), None);
-    assert_eq!(rt; dues.least_place(), None);
-    pushed(&mut dues)?;
-    pushed(&mut dues)?;
-    pushed(&mut dues)?;
-    pushed(&mut dues)?;
-    assert_eq!(rt; dues.least(), None);
+    set_in_any_order(&rt, &mut Dues::new(rt.alloc()))
+}
+
+fn set_in_any_order(rt: &impl Abort, dues: &mut Dues) -> Result<(), Fail>
+    requires { dues.old ≡ [] }
+{
+    same(rt, dues.least(), None);
+    same(rt, dues.least_place(), None);
+    pushed(dues)?;
+    pushed(dues)?;
+    pushed(dues)?;
+    pushed(dues)?;
+    set_four(rt, dues);
+    Ok(())
+}
+
+fn set_four(rt: &impl Abort, dues: &mut Dues)
+    requires { length dues.old ≡ 4 }
+{
+    same(rt, dues.least(), None);
     dues.set(3, Some(50));
     dues.set(1, Some(60));
-    assert_eq!(rt; dues.least(), Some(50));
-    assert_eq!(rt; dues.least_place(), Some(3));
+    same(rt, dues.least(), Some(50));
+    same(rt, dues.least_place(), Some(3));
     dues.set(2, Some(0));
-    assert_eq!(rt; dues.least_place(), Some(2));
+    same(rt, dues.least_place(), Some(2));
     dues.set(2, None);
     dues.set(3, Some(u64::MAX));
-    assert_eq!(rt; dues.least(), Some(60));
-    assert_eq!(rt; dues.least_place(), Some(1));
+    same(rt, dues.least(), Some(60));
+    same(rt, dues.least_place(), Some(1));
     dues.set(1, None);
-    assert_eq!(rt; dues.least(), Some(u64::MAX));
-    assert_eq!(rt; dues.get(3), Some(u64::MAX));
-    assert_eq!(rt; dues.get(4), None);
+    same(rt, dues.least(), Some(u64::MAX));
+    same(rt, dues.get(3), Some(u64::MAX));
+    same(rt, dues.get(4), None);
     dues.set(3, None);
-    assert_eq!(rt; dues.least(), None);
-    Ok(())
+    same(rt, dues.least(), None);
 }
 
 #[test]
 fn all_come_due_in_order(rt: HostRuntime) -> Result<(), Fail> {
-    come_due(&rt, rt.alloc(), 5_000)
+    come_due(&rt, &mut Dues::new(rt.alloc()), 5_000)
 }
 
 /// Gives each place a moment of its own, and takes them away from the least on.
-fn come_due(rt: &impl Abort, alloc: Global, most: usize) -> Result<(), Fail>
-    requires { most ≤ 5000 }
+fn come_due(rt: &impl Abort, dues: &mut Dues, most: usize) -> Result<(), Fail>
+    requires small { most ≤ 5000 }
+    requires none { dues.old ≡ [] }
 {
-    let mut dues = Dues::new(alloc);
     for place in 0..most {
-        pushed(&mut dues)?;
+        pushed(dues)?;
         dues.set(place, Some((place as u64 * 7919 + 13) % 5003));
     }
     let mut last = 0;
@@ -67,10 +79,10 @@ fn come_due(rt: &impl Abort, alloc: Global, most: usize) -> Result<(), Fail>
         let Some(due) = dues.get(place) else {
             return Ok(());
         };
-        assert!(rt; last <= due);
+        holds(rt, last <= due);
         last = due;
         dues.set(place, None);
     }
-    assert_eq!(rt; dues.least(), None);
+    same(rt, dues.least(), None);
     Ok(())
 }

@@ -1,5 +1,6 @@
 ghost use Rattle.std.specs.Prelude.{◌≡◌, ◌+◌, ◌<◌, ◌≤◌, OnOk, length};
 
+use crate::tests::{holds, same};
 use ob_rights::{Fault, HandleFlags, Rights};
 use ob_tables::{Entry, HANDLES_MAX, Tables};
 use pin_core::Id;
@@ -28,47 +29,81 @@ fn placed(rt: &impl Abort, tables: &mut Tables, process: u32, new: Entry) -> Res
     if let Ok(value) = tables.place(process, new) {
         return Ok(value);
     }
-    assert!(rt; tables.entries(process).len() == before);
+    same(rt, tables.entries(process).len(), before);
     let value = tables.place(process, new)?;
     Ok(value)
+}
+
+/// Places an entry, and is answered so.
+fn place_gives(
+    rt: &impl Abort,
+    tables: &mut Tables,
+    process: u32,
+    new: Entry,
+    due: Result<u32, Fault>,
+)
+    requires { process < length tables.old.tables }
+    ensures { length tables.new.tables ≡ length tables.old.tables }
+{
+    same(rt, tables.place(process, new), due);
+}
+
+/// Makes process 2, which inherits. Where memory fails there is none, and the call is made again.
+fn inherited_by_2(rt: &impl Abort, tables: &mut Tables, parent: u32)
+    requires { parent < length tables.old.tables }
+    ensures made { 2 < length tables.new.tables }
+    ensures kept { length tables.old.tables ≤ length tables.new.tables }
+{
+    if tables.copy_inheritable(parent) != Ok(2) {
+        holds(rt, !tables.is_given(2));
+        holds(rt, tables.look(2, 4).is_none());
+        holds(rt, tables.copy_inheritable(parent) == Ok(2));
+    }
+}
+
+fn are_two(rt: &impl Abort, taken: &[Option<Entry>]) {
+    holds(rt, taken.len() == 2);
+    same(rt, taken[0], Some(entry(9, PLAIN)));
+    same(rt, taken[1], Some(entry(8, HandleFlags::INHERIT)));
 }
 
 /// Of two processes with at most two handles each.
 fn calls_and_refusals(rt: &impl Abort, tables: &mut Tables) -> Result<(), Fail> {
     let parent = tables.add_process()?;
-    assert_eq!(rt; parent, 1);
-    assert!(rt; tables.is_given(1));
-    assert!(rt; !tables.is_given(2));
-    assert_eq!(rt; placed(rt, tables, parent, entry(7, PLAIN))?, 4);
-    assert!(rt; !tables.is_full(parent));
+    same(rt, parent, 1);
+    holds(rt, tables.is_given(1));
+    holds(rt, !tables.is_given(2));
+    same(rt, placed(rt, tables, parent, entry(7, PLAIN))?, 4);
+    holds(rt, !tables.is_full(parent));
     let inherited = entry(8, HandleFlags::INHERIT);
-    assert_eq!(rt; placed(rt, tables, parent, inherited)?, 8);
-    assert!(rt; tables.is_full(parent));
-    assert_eq!(rt; tables.place(parent, entry(9, PLAIN)), Err(Fault::Limit));
-    assert_eq!(rt; tables.look(parent, 4), Some(entry(7, PLAIN)));
-    assert_eq!(rt; tables.look(parent, 11), Some(inherited));
-    assert!(rt; tables.look(parent, 3).is_none());
-    assert!(rt; tables.look(parent, 12).is_none());
-    assert!(rt; tables.look(2, 4).is_none());
-    if tables.copy_inheritable(parent) != Ok(2) {
-        assert!(rt; !tables.is_given(2));
-        assert_eq!(rt; tables.copy_inheritable(parent), Ok(2));
-    }
-    assert!(rt; tables.look(2, 4).is_none());
-    assert_eq!(rt; tables.look(2, 8), Some(inherited));
-    assert_eq!(rt; tables.copy_inheritable(parent), Err(Fault::Limit));
-    assert_eq!(rt; tables.add_process(), Err(Fault::Limit));
-    assert_eq!(rt; tables.remove(parent, 6), Some(entry(7, PLAIN)));
-    assert!(rt; tables.remove(parent, 4).is_none());
-    assert_eq!(rt; tables.place(parent, entry(9, PLAIN)), Ok(4));
-    assert_eq!(rt; tables.entries(parent).len(), 2);
-    let taken = tables.take_entries(parent);
-    assert_eq!(rt; taken.len(), 2);
-    assert_eq!(rt; taken[0], Some(entry(9, PLAIN)));
-    assert_eq!(rt; taken[1], Some(inherited));
-    assert!(rt; tables.entries(parent).is_empty());
-    assert!(rt; tables.look(2, 8).is_some());
+    same(rt, placed(rt, tables, parent, inherited)?, 8);
+    holds(rt, tables.is_full(parent));
+    place_gives(rt, tables, parent, entry(9, PLAIN), Err(Fault::Limit));
+    same(rt, tables.look(parent, 4), Some(entry(7, PLAIN)));
+    same(rt, tables.look(parent, 11), Some(inherited));
+    holds(rt, tables.look(parent, 3).is_none());
+    holds(rt, tables.look(parent, 12).is_none());
+    holds(rt, tables.look(2, 4).is_none());
+    a_child_and_no_more(rt, tables, parent);
     Ok(())
+}
+
+/// Of a parent with all handles that it may have, of which the second is inheritable.
+fn a_child_and_no_more(rt: &impl Abort, tables: &mut Tables, parent: u32)
+    requires { parent < length tables.old.tables }
+{
+    inherited_by_2(rt, tables, parent);
+    holds(rt, tables.look(2, 4).is_none());
+    same(rt, tables.look(2, 8), Some(entry(8, HandleFlags::INHERIT)));
+    holds(rt, tables.copy_inheritable(parent) == Err(Fault::Limit));
+    holds(rt, tables.add_process() == Err(Fault::Limit));
+    same(rt, tables.remove(parent, 6), Some(entry(7, PLAIN)));
+    holds(rt, tables.remove(parent, 4).is_none());
+    place_gives(rt, tables, parent, entry(9, PLAIN), Ok(4));
+    same(rt, tables.entries(parent).len(), 2);
+    are_two(rt, &tables.take_entries(parent));
+    holds(rt, tables.entries(parent).is_empty());
+    holds(rt, tables.look(2, 8).is_some());
 }
 
 #[test]
@@ -88,24 +123,31 @@ fn filled(rt: &impl Abort, tables: &mut Tables, process: u32, most: u32) -> Resu
         } else {
             HandleFlags::INHERIT
         };
-        assert!(rt; placed(rt, tables, process, entry(n, flags))? == 4 * (n + 1));
+        same(
+            rt,
+            placed(rt, tables, process, entry(n, flags))?,
+            4 * (n + 1),
+        );
     }
-    assert!(rt; tables.place(process, entry(0, PLAIN)) == Err(Fault::Limit));
+    place_gives(rt, tables, process, entry(0, PLAIN), Err(Fault::Limit));
     Ok(())
 }
 
 #[test]
 fn values_given_back_are_given_again(rt: HostRuntime) -> Result<(), Fail> {
-    let mut tables = Tables::new(rt.alloc(), 1, HANDLES_MAX)?;
+    give_back(&rt, &mut Tables::new(rt.alloc(), 1, HANDLES_MAX)?)
+}
+
+fn give_back(rt: &impl Abort, tables: &mut Tables) -> Result<(), Fail> {
     let process = tables.add_process()?;
-    filled(&rt, &mut tables, process, HANDLES_MAX)?;
-    assert!(rt; tables.remove(process, 40000).is_some());
-    assert!(rt; tables.remove(process, 65536).is_some());
-    assert!(rt; tables.remove(process, 8).is_some());
-    assert_eq!(rt; tables.place(process, entry(1, PLAIN)), Ok(8));
-    assert_eq!(rt; tables.place(process, entry(2, PLAIN)), Ok(40000));
-    assert_eq!(rt; tables.place(process, entry(3, PLAIN)), Ok(65536));
-    assert_eq!(rt; tables.place(process, entry(4, PLAIN)), Err(Fault::Limit));
+    filled(rt, tables, process, HANDLES_MAX)?;
+    holds(rt, tables.remove(process, 40000).is_some());
+    holds(rt, tables.remove(process, 65536).is_some());
+    holds(rt, tables.remove(process, 8).is_some());
+    place_gives(rt, tables, process, entry(1, PLAIN), Ok(8));
+    place_gives(rt, tables, process, entry(2, PLAIN), Ok(40000));
+    place_gives(rt, tables, process, entry(3, PLAIN), Ok(65536));
+    place_gives(rt, tables, process, entry(4, PLAIN), Err(Fault::Limit));
     Ok(())
 }
 
@@ -128,19 +170,19 @@ fn has_inherited(tables: &Tables, child: u32, most: u32) -> bool
 
 #[test]
 fn a_child_inherits_a_thousand_handles(rt: HostRuntime) -> Result<(), Fail> {
-    let mut tables = Tables::new(rt.alloc(), 3, 1500)?;
+    inherit(&rt, &mut Tables::new(rt.alloc(), 3, 1500)?)
+}
+
+fn inherit(rt: &impl Abort, tables: &mut Tables) -> Result<(), Fail> {
     let parent = tables.add_process()?;
-    filled(&rt, &mut tables, parent, 1500)?;
-    if tables.copy_inheritable(parent) != Ok(2) {
-        assert!(rt; tables.look(2, 4).is_none());
-        assert_eq!(rt; tables.copy_inheritable(parent), Ok(2));
-    }
-    assert!(rt; has_inherited(&tables, 2, 1500));
-    assert_eq!(rt; tables.entries(2).len(), 1499);
-    assert_eq!(rt; tables.place(2, entry(9, PLAIN)), Ok(12));
+    filled(rt, tables, parent, 1500)?;
+    inherited_by_2(rt, tables, parent);
+    holds(rt, has_inherited(tables, 2, 1500));
+    same(rt, tables.entries(2).len(), 1499);
+    place_gives(rt, tables, 2, entry(9, PLAIN), Ok(12));
     if tables.add_process() != Ok(3) {
-        assert_eq!(rt; tables.add_process(), Ok(3));
+        holds(rt, tables.add_process() == Ok(3));
     }
-    assert!(rt; tables.entries(3).is_empty());
+    holds(rt, tables.entries(3).is_empty());
     Ok(())
 }

@@ -1,10 +1,14 @@
-ghost use Rattle.std.specs.Prelude.{◌≡◌, ◌<◌, true, IsTrue, IfSome};
+ghost use Rattle.std.specs.Prelude.{◌≡◌, ◌<◌, true, IsTrue, IfOk, IfSome};
+ghost use Rattle.pin_core.specs.Shapes.{IsWithinLimits};
 ghost use Rattle.pin_core.specs.Worlds.{slot_of};
 ghost use Rattle.pin_words.specs.Keepers.{IsFresh};
 
-use ob_rights::Kind;
+use crate::tests::{holds, same};
+use ob_rights::{Fault, Kind};
 use pin_core::{Descr, Id, Phase, Shape};
 use pin_words::{Keeper, LockedPins, Opening, PinFault, PinKeeper, Pins, Reader, Reclaim};
+use std::alloc::Global;
+use std::process::Abort;
 use std::sync::{Mutex, Wait};
 use std::test::Fail;
 use std::thread::join;
@@ -161,87 +165,131 @@ fn spin<R: Wait>(rt: &R, reader: &mut Reader<'_>, id: Id) -> u32 {
     losses
 }
 
-#[test]
-fn a_pinned_slot_is_kept(rt: HostRuntime) -> Result<(), Fail> {
-    let Some(shape) = Shape::checked(1, 2, 2) else {
-        panic!(rt; "no shape")
-    };
-    let Ok((pins, opening)) = Pins::new(rt.alloc(), shape) else {
+/// What is done with the first slot by its keeper and two readers.
+#[derive(Clone, Copy)]
+enum Scene {
+    /// It is pinned by both, closed and reclaimed, twice.
+    Kept,
+    /// One reader pins it as often as it can.
+    Sixteen,
+}
+
+/// Plays a scene over so many slots, pins and generations.
+fn play(rt: &impl Abort, alloc: Global, shape: Shape, scene: Scene)
+    requires { IsWithinLimits shape }
+{
+    let Ok((pins, opening)) = Pins::new(alloc, shape) else {
         panic!(rt; "no memory")
     };
     let Ok((mut keeper, mut a)) = opening.start(&pins) else {
         panic!(rt; "no memory")
     };
-    assert!(rt; is_fresh(&keeper, shape));
+    holds(rt, is_fresh(&keeper, shape));
     let mut b = keeper.reader();
-    assert!(rt; publish(&mut keeper, 0));
-    assert!(rt; a.try_pin(FIRST).is_ok() && b.try_pin(FIRST).is_ok());
-    assert!(rt; a.try_pin(FIRST) == Err(PinFault::PinsFull));
-    assert!(rt; descr(&mut a, FIRST) == Some(SEMAPHORE) && a.held() == &[FIRST][..]);
-    assert!(rt; close(&mut keeper, 0));
-    assert!(rt; b.try_pin(FIRST) == Err(PinFault::Stale));
-    assert!(rt; reclaim(&mut keeper, 0) == Some(Reclaim::Held { pins: 2 }));
-    assert!(rt; release(&mut a, FIRST));
-    assert!(rt; reclaim(&mut keeper, 0) == Some(Reclaim::Held { pins: 1 }));
-    assert!(rt; release(&mut b, FIRST) && !b.holds(FIRST));
-    assert!(rt; reclaim(&mut keeper, 0) == Some(Reclaim::Freed) && is_at(&keeper, 0, 2));
-    assert!(rt; a.try_pin(FIRST) == Err(PinFault::Stale));
-    assert!(rt; a.try_pin(SECOND) == Err(PinFault::Unborn));
-    assert!(rt; publish(&mut keeper, 0));
-    assert!(rt; a.try_pin(SECOND).is_ok());
-    assert!(rt; a.try_pin(BESIDE) == Err(PinFault::NoSuchSlot));
-    assert!(rt; release(&mut a, SECOND));
-    assert!(rt; close(&mut keeper, 0));
-    assert!(rt; reclaim(&mut keeper, 0) == Some(Reclaim::Retired) && is_at(&keeper, 0, 2));
-    assert!(rt; a.try_pin(SECOND) == Err(PinFault::Stale));
-    assert!(rt; a.try_pin(THIRD) == Err(PinFault::Stale));
-    Ok(())
+    match scene {
+        Scene::Kept => pin_and_close(rt, &mut keeper, &mut a, &mut b),
+        Scene::Sixteen => pin_as_often(rt, &mut keeper, &mut a),
+    }
+    drop(b);
+    drop(a);
+    drop(keeper);
+}
+
+fn pin_and_close<'a>(
+    rt: &impl Abort,
+    keeper: &mut Keeper<'a>,
+    a: &mut Reader<'a>,
+    b: &mut Reader<'a>,
+) {
+    holds(rt, publish(keeper, 0));
+    holds(rt, a.try_pin(FIRST).is_ok());
+    holds(rt, b.try_pin(FIRST).is_ok());
+    same(rt, a.try_pin(FIRST), Err(PinFault::PinsFull));
+    same(rt, descr(a, FIRST), Some(SEMAPHORE));
+    holds(rt, a.held() == &[FIRST][..]);
+    holds(rt, close(keeper, 0));
+    same(rt, b.try_pin(FIRST), Err(PinFault::Stale));
+    same(rt, reclaim(keeper, 0), Some(Reclaim::Held { pins: 2 }));
+    holds(rt, release(a, FIRST));
+    same(rt, reclaim(keeper, 0), Some(Reclaim::Held { pins: 1 }));
+    holds(rt, release(b, FIRST));
+    holds(rt, !b.holds(FIRST));
+    same(rt, reclaim(keeper, 0), Some(Reclaim::Freed));
+    holds(rt, is_at(keeper, 0, 2));
+    same(rt, a.try_pin(FIRST), Err(PinFault::Stale));
+    same(rt, a.try_pin(SECOND), Err(PinFault::Unborn));
+    pin_the_second(rt, keeper, a);
+}
+
+fn pin_the_second<'a>(rt: &impl Abort, keeper: &mut Keeper<'a>, a: &mut Reader<'a>) {
+    holds(rt, publish(keeper, 0));
+    holds(rt, a.try_pin(SECOND).is_ok());
+    same(rt, a.try_pin(BESIDE), Err(PinFault::NoSuchSlot));
+    holds(rt, release(a, SECOND));
+    holds(rt, close(keeper, 0));
+    same(rt, reclaim(keeper, 0), Some(Reclaim::Retired));
+    holds(rt, is_at(keeper, 0, 2));
+    same(rt, a.try_pin(SECOND), Err(PinFault::Stale));
+    same(rt, a.try_pin(THIRD), Err(PinFault::Stale));
+}
+
+fn pin_as_often<'a>(rt: &impl Abort, keeper: &mut Keeper<'a>, reader: &mut Reader<'a>) {
+    holds(rt, publish(keeper, 0));
+    for _ in 0..16 {
+        holds(rt, reader.try_pin(FIRST).is_ok());
+    }
+    same(rt, reader.try_pin(FIRST), Err(PinFault::HeldFull));
+    same(rt, reader.try_pin(BESIDE), Err(PinFault::NoSuchSlot));
 }
 
 #[test]
-fn pins_under_a_lock_are_kept(rt: HostRuntime) -> Result<(), Fail> {
+fn a_pinned_slot_is_kept(rt: HostRuntime) {
+    let Some(shape) = Shape::checked(1, 2, 2) else {
+        panic!(rt; "no shape")
+    };
+    play(&rt, rt.alloc(), shape, Scene::Kept);
+}
+
+#[test]
+fn a_reader_holds_16_copies(rt: HostRuntime) {
+    let Some(shape) = Shape::checked(1, 1073741823, 9) else {
+        panic!(rt; "no shape")
+    };
+    play(&rt, rt.alloc(), shape, Scene::Sixteen);
+}
+
+#[test]
+fn pins_under_a_lock_are_kept(rt: HostRuntime) {
     let Some(shape) = Shape::checked(1, 2, 2) else {
         panic!(rt; "no shape")
     };
     let Ok(mut pins) = LockedPins::new(rt.alloc(), shape) else {
         panic!(rt; "no memory")
     };
-    assert!(rt; is_fresh(&pins, shape));
-    assert!(rt; pins.try_pin(FIRST) == Err(PinFault::Unborn));
-    assert!(rt; publish(&mut pins, 0));
-    assert!(rt; pins.try_pin(FIRST).is_ok() && pins.try_pin(FIRST).is_ok());
-    assert!(rt; pins.try_pin(FIRST) == Err(PinFault::PinsFull));
-    assert!(rt; pins.try_pin(BESIDE) == Err(PinFault::NoSuchSlot));
-    assert!(rt; locked_descr(&pins, FIRST) == Some(SEMAPHORE));
-    assert!(rt; close(&mut pins, 0));
-    assert!(rt; pins.try_pin(FIRST) == Err(PinFault::Stale));
-    assert!(rt; reclaim(&mut pins, 0) == Some(Reclaim::Held { pins: 2 }));
-    assert!(rt; unlock(&mut pins, FIRST) && unlock(&mut pins, FIRST));
-    assert!(rt; !unlock(&mut pins, FIRST));
-    assert!(rt; reclaim(&mut pins, 0) == Some(Reclaim::Freed) && is_at(&pins, 0, 2));
-    assert!(rt; publish(&mut pins, 0) && close(&mut pins, 0));
-    assert!(rt; reclaim(&mut pins, 0) == Some(Reclaim::Retired) && is_at(&pins, 0, 2));
-    Ok(())
+    holds(&rt, is_fresh(&pins, shape));
+    pin_and_unlock(&rt, &mut pins);
 }
 
-#[test]
-fn a_reader_holds_16_copies(rt: HostRuntime) -> Result<(), Fail> {
-    let Some(shape) = Shape::checked(1, 1073741823, 9) else {
-        panic!(rt; "no shape")
-    };
-    let Ok((pins, opening)) = Pins::new(rt.alloc(), shape) else {
-        panic!(rt; "no memory")
-    };
-    let Ok((mut keeper, mut reader)) = opening.start(&pins) else {
-        panic!(rt; "no memory")
-    };
-    assert!(rt; publish(&mut keeper, 0));
-    for _ in 0..16 {
-        assert!(rt; reader.try_pin(FIRST).is_ok());
-    }
-    assert!(rt; reader.try_pin(FIRST) == Err(PinFault::HeldFull));
-    assert!(rt; reader.try_pin(BESIDE) == Err(PinFault::NoSuchSlot));
-    Ok(())
+fn pin_and_unlock(rt: &impl Abort, pins: &mut LockedPins) {
+    same(rt, pins.try_pin(FIRST), Err(PinFault::Unborn));
+    holds(rt, publish(pins, 0));
+    holds(rt, pins.try_pin(FIRST).is_ok());
+    holds(rt, pins.try_pin(FIRST).is_ok());
+    same(rt, pins.try_pin(FIRST), Err(PinFault::PinsFull));
+    same(rt, pins.try_pin(BESIDE), Err(PinFault::NoSuchSlot));
+    same(rt, locked_descr(pins, FIRST), Some(SEMAPHORE));
+    holds(rt, close(pins, 0));
+    same(rt, pins.try_pin(FIRST), Err(PinFault::Stale));
+    same(rt, reclaim(pins, 0), Some(Reclaim::Held { pins: 2 }));
+    holds(rt, unlock(pins, FIRST));
+    holds(rt, unlock(pins, FIRST));
+    holds(rt, !unlock(pins, FIRST));
+    same(rt, reclaim(pins, 0), Some(Reclaim::Freed));
+    holds(rt, is_at(pins, 0, 2));
+    holds(rt, publish(pins, 0));
+    holds(rt, close(pins, 0));
+    same(rt, reclaim(pins, 0), Some(Reclaim::Retired));
+    holds(rt, is_at(pins, 0, 2));
 }
 
 #[test]
@@ -256,17 +304,18 @@ fn two_threads_pin_and_release(rt: HostRuntime) -> Result<(), Fail> {
         panic!(rt; "no memory")
     };
     let mut b = keeper.reader();
-    assert!(rt; publish(&mut keeper, 1));
+    holds(&rt, publish(&mut keeper, 1));
     let (x, y) = join(
         &rt,
         || spin(&rt, &mut a, BESIDE),
         || spin(&rt, &mut b, BESIDE),
     );
-    assert!(rt; x == 0 && y == 0);
+    same(&rt, x, 0);
+    same(&rt, y, 0);
     let locked = Mutex::new(keeper);
     let mut guard = locked.lock(&rt);
-    assert!(rt; close(&mut *guard, 1));
-    assert!(rt; reclaim(&mut *guard, 1) == Some(Reclaim::Freed));
+    holds(&rt, close(&mut *guard, 1));
+    same(&rt, reclaim(&mut *guard, 1), Some(Reclaim::Freed));
     drop(guard);
     if a.held().is_empty() {
         a.finish();
@@ -285,31 +334,51 @@ fn start<'a>(opening: Opening, pins: &'a Pins) -> Option<(Keeper<'a>, Reader<'a>
     }
 }
 
+/// Words and the right to their keeper. What was given serves a second try.
+fn pins_of(alloc: Global, shape: Shape) -> Result<(Pins, Opening), Fault>
+    requires { IsWithinLimits shape }
+    ensures { IfOk result (λ r. r.1 ≡ r.0) }
+{
+    match Pins::new(alloc, shape) {
+        Ok(made) => Ok(made),
+        Err(_) => Pins::new(alloc, shape),
+    }
+}
+
+/// The same of pins under a lock.
+fn locked(alloc: Global, shape: Shape) -> Result<LockedPins, Fault>
+    requires { IsWithinLimits shape }
+{
+    match LockedPins::new(alloc, shape) {
+        Ok(locked) => Ok(locked),
+        Err(_) => LockedPins::new(alloc, shape),
+    }
+}
+
+fn meet_twice<'a>(rt: &impl Abort, keeper: &mut Keeper<'a>, reader: &mut Reader<'a>)
+    requires { reader.old.table ≡ keeper.old.table }
+{
+    if keeper.slots() == 4 {
+        keeper.meet(reader, 3);
+    }
+    holds(rt, !meet(keeper, reader, LAST));
+    holds(rt, publish(keeper, 3));
+    holds(rt, reader.try_pin(LAST).is_ok());
+    holds(rt, meet(keeper, reader, LAST));
+}
+
 #[test]
 fn want_of_memory_gives_back_what_was_given(rt: HostRuntime) -> Result<(), Fail> {
     let Some(shape) = Shape::checked(4, 2, 2) else {
         panic!(rt; "no shape")
     };
-    let made = match Pins::new(rt.alloc(), shape) {
-        Ok(made) => Ok(made),
-        Err(_) => Pins::new(rt.alloc(), shape),
-    };
-    let Ok((pins, opening)) = made else {
+    let Ok((pins, opening)) = pins_of(rt.alloc(), shape) else {
         panic!(rt; "no memory")
     };
     let Some((mut keeper, mut reader)) = start(opening, &pins) else {
         panic!(rt; "no memory")
     };
-    if keeper.slots() == 4 {
-        keeper.meet(&mut reader, 3);
-    }
-    assert!(rt; !meet(&mut keeper, &mut reader, LAST));
-    assert!(rt; publish(&mut keeper, 3) && reader.try_pin(LAST).is_ok());
-    assert!(rt; meet(&mut keeper, &mut reader, LAST));
-    let locked = match LockedPins::new(rt.alloc(), shape) {
-        Ok(locked) => Ok(locked),
-        Err(_) => LockedPins::new(rt.alloc(), shape),
-    };
-    assert!(rt; locked.is_ok());
+    meet_twice(&rt, &mut keeper, &mut reader);
+    holds(&rt, locked(rt.alloc(), shape).is_ok());
     Ok(())
 }

@@ -1,6 +1,8 @@
+use crate::tests::{holds, same};
 use ob_rights::Kind;
 use pin_core::{Descr, Event, Id, Phase, Reason, ReplayFault, Shape, Word, World, replay, step};
 use std::alloc::Global;
+use std::process::Abort;
 use std::test::Fail;
 
 const AUTO_EVENT: Descr = Descr {
@@ -81,6 +83,10 @@ fn is_at(world: &World, generation: u32, phase: Phase, pins: usize) -> bool {
         && world.copies(1, FIRST) == pins
 }
 
+fn has_published_one(world: &World) -> bool {
+    world.published() == &[(FIRST, AUTO_EVENT)][..]
+}
+
 #[test]
 fn words_have_their_bits(rt: HostRuntime) -> Result<(), Fail> {
     let rows = [
@@ -99,8 +105,9 @@ fn words_have_their_bits(rt: HostRuntime) -> Result<(), Fail> {
             phase,
             pins,
         };
-        assert!(rt; Word::decode(bits) == word);
-        assert!(rt; pins < 1073741824 && word.encode() == bits);
+        same(&rt, Word::decode(bits), word);
+        holds(&rt, pins < 1073741824);
+        same(&rt, word.encode(), bits);
     }
     Ok(())
 }
@@ -118,8 +125,9 @@ fn descriptors_have_their_bits(rt: HostRuntime) -> Result<(), Fail> {
     ];
     for (kind, manual, max, bits) in rows {
         let descr = Descr { kind, manual, max };
-        assert!(rt; Descr::decode(bits) == Some(descr));
-        assert!(rt; descr.is_given() && descr.encode() == bits);
+        same(&rt, Descr::decode(bits), Some(descr));
+        holds(&rt, descr.is_given());
+        same(&rt, descr.encode(), bits);
     }
     let other = [
         0x000000000000000b,
@@ -133,7 +141,7 @@ fn descriptors_have_their_bits(rt: HostRuntime) -> Result<(), Fail> {
         0x8000000000000000,
     ];
     for bits in other {
-        assert!(rt; Descr::decode(bits).is_none());
+        holds(&rt, Descr::decode(bits).is_none());
     }
     Ok(())
 }
@@ -145,10 +153,17 @@ fn shapes_are_within_limits(rt: HostRuntime) -> Result<(), Fail> {
         max_pins: 1073741823,
         max_gen: 4294967295,
     };
-    assert!(rt; Shape::checked(65536, 1073741823, 4294967295) == Some(most));
-    assert!(rt; Shape::checked(1, 1, 1).is_some() && Shape::checked(0, 1, 1).is_none());
-    assert!(rt; Shape::checked(65537, 1, 1).is_none() && Shape::checked(1, 0, 1).is_none());
-    assert!(rt; Shape::checked(1, 1073741824, 1).is_none() && Shape::checked(1, 1, 0).is_none());
+    same(
+        &rt,
+        Shape::checked(65536, 1073741823, 4294967295),
+        Some(most),
+    );
+    holds(&rt, Shape::checked(1, 1, 1).is_some());
+    holds(&rt, Shape::checked(0, 1, 1).is_none());
+    holds(&rt, Shape::checked(65537, 1, 1).is_none());
+    holds(&rt, Shape::checked(1, 0, 1).is_none());
+    holds(&rt, Shape::checked(1, 1073741824, 1).is_none());
+    holds(&rt, Shape::checked(1, 1, 0).is_none());
     Ok(())
 }
 
@@ -163,11 +178,15 @@ fn a_pin_of_an_old_word_is_refused(rt: HostRuntime) -> Result<(), Fail> {
         PUBLISH,
         pin(0x0000000140000000),
     ];
-    assert!(rt; fault(rt.alloc(), shape(4, 5), &events) == refused(7, Reason::WordDiffers));
+    same(
+        &rt,
+        fault(rt.alloc(), shape(4, 5), &events),
+        refused(7, Reason::WordDiffers),
+    );
     let Ok(world) = replay(rt.alloc(), shape(4, 5), &events[..6]) else {
         panic!(rt; "refused")
     };
-    assert!(rt; is_at(&world, 2, Phase::Live, 0));
+    holds(&rt, is_at(&world, 2, Phase::Live, 0));
     Ok(())
 }
 
@@ -181,17 +200,26 @@ fn a_pinned_slot_is_not_reclaimed(rt: HostRuntime) -> Result<(), Fail> {
         CLOSE,
         RECLAIM,
     ];
-    assert!(rt; fault(rt.alloc(), shape(4, 5), &events) == refused(6, Reason::Pinned));
+    same(
+        &rt,
+        fault(rt.alloc(), shape(4, 5), &events),
+        refused(6, Reason::Pinned),
+    );
     let Ok(mut world) = replay(rt.alloc(), shape(4, 5), &events[..5]) else {
         panic!(rt; "refused")
     };
-    assert!(rt; is_at(&world, 1, Phase::Closing, 1));
-    assert!(rt; step(&mut world, &RECLAIM).err() == refused(1, Reason::Pinned));
-    assert!(rt; is_at(&world, 1, Phase::Closing, 1));
-    assert!(rt; step(&mut world, &RELEASE).is_ok() && step(&mut world, &RECLAIM).is_ok());
-    assert!(rt; is_at(&world, 2, Phase::Free, 0));
-    assert!(rt; world.published() == &[(FIRST, AUTO_EVENT)][..]);
+    reclaim_pinned(&rt, &mut world);
     Ok(())
+}
+
+fn reclaim_pinned(rt: &impl Abort, world: &mut World) {
+    holds(rt, is_at(world, 1, Phase::Closing, 1));
+    same(rt, step(world, &RECLAIM).err(), refused(1, Reason::Pinned));
+    holds(rt, is_at(world, 1, Phase::Closing, 1));
+    holds(rt, step(world, &RELEASE).is_ok());
+    holds(rt, step(world, &RECLAIM).is_ok());
+    holds(rt, is_at(world, 2, Phase::Free, 0));
+    holds(rt, has_published_one(world));
 }
 
 #[test]
@@ -208,8 +236,8 @@ fn a_released_slot_is_reclaimed(rt: HostRuntime) -> Result<(), Fail> {
     let Ok(world) = replay(rt.alloc(), shape(4, 5), &events) else {
         panic!(rt; "refused")
     };
-    assert!(rt; is_at(&world, 2, Phase::Free, 0));
-    assert!(rt; world.published() == &[(FIRST, AUTO_EVENT)][..]);
+    holds(&rt, is_at(&world, 2, Phase::Free, 0));
+    holds(&rt, has_published_one(&world));
     Ok(())
 }
 
@@ -217,20 +245,45 @@ fn a_released_slot_is_reclaimed(rt: HostRuntime) -> Result<(), Fail> {
 fn the_first_impossible_event_is_named(rt: HostRuntime) -> Result<(), Fail> {
     let live = pin(0x0000000140000000);
     let closing = [PUBLISH, CLOSE, pin(0x00000001c0000000)];
-    assert!(rt; fault(rt.alloc(), shape(4, 5), &closing) == refused(3, Reason::WrongPhase));
+    same(
+        &rt,
+        fault(rt.alloc(), shape(4, 5), &closing),
+        refused(3, Reason::WrongPhase),
+    );
     let full = [PUBLISH, live, pin(0x0000000140000001)];
-    assert!(rt; fault(rt.alloc(), shape(1, 5), &full) == refused(3, Reason::PinsFull));
+    same(
+        &rt,
+        fault(rt.alloc(), shape(1, 5), &full),
+        refused(3, Reason::PinsFull),
+    );
     let retired = [PUBLISH, CLOSE, RECLAIM, PUBLISH];
-    assert!(rt; fault(rt.alloc(), shape(4, 1), &retired) == refused(4, Reason::WrongPhase));
+    same(
+        &rt,
+        fault(rt.alloc(), shape(4, 1), &retired),
+        refused(4, Reason::WrongPhase),
+    );
     let unheld = [PUBLISH, read(AUTO_EVENT)];
-    assert!(rt; fault(rt.alloc(), shape(4, 5), &unheld) == refused(2, Reason::NotHeld));
+    same(
+        &rt,
+        fault(rt.alloc(), shape(4, 5), &unheld),
+        refused(2, Reason::NotHeld),
+    );
     let other = [PUBLISH, live, read(MUTEX)];
-    assert!(rt; fault(rt.alloc(), shape(4, 5), &other) == refused(3, Reason::DescrDiffers));
+    same(
+        &rt,
+        fault(rt.alloc(), shape(4, 5), &other),
+        refused(3, Reason::DescrDiffers),
+    );
     let outside = [Event::Publish { slot: 1 }];
-    assert!(rt; fault(rt.alloc(), shape(4, 5), &outside) == refused(1, Reason::NoSlot));
+    same(
+        &rt,
+        fault(rt.alloc(), shape(4, 5), &outside),
+        refused(1, Reason::NoSlot),
+    );
     let shown = [PUBLISH, live, read(AUTO_EVENT)];
-    assert!(rt; fault(rt.alloc(), shape(4, 5), &shown).is_none());
-    assert!(rt; Reason::NoSlot.number() == 1 && Reason::DescrDiffers.number() == 7);
+    holds(&rt, fault(rt.alloc(), shape(4, 5), &shown).is_none());
+    same(&rt, Reason::NoSlot.number(), 1);
+    same(&rt, Reason::DescrDiffers.number(), 7);
     Ok(())
 }
 
@@ -239,8 +292,10 @@ fn no_events_leave_the_opening_world(rt: HostRuntime) -> Result<(), Fail> {
     let Ok(world) = replay(rt.alloc(), shape(4, 5), &[]) else {
         panic!(rt; "refused")
     };
-    assert!(rt; is_at(&world, 1, Phase::Free, 0) && world.published().is_empty());
-    assert!(rt; world.exists(0) && world.slot(0).descr == AUTO_EVENT);
+    holds(&rt, is_at(&world, 1, Phase::Free, 0));
+    holds(&rt, world.published().is_empty());
+    holds(&rt, world.exists(0));
+    same(&rt, world.slot(0).descr, AUTO_EVENT);
     Ok(())
 }
 
@@ -252,18 +307,22 @@ fn retried(alloc: Global, events: &[Event]) -> Option<World> {
     }
 }
 
+fn step_twice(rt: &impl Abort, world: &mut World, events: &[Event]) {
+    for event in events {
+        if step(world, event).is_err() {
+            holds(rt, step(world, event).is_ok());
+        }
+    }
+}
+
 #[test]
 fn want_of_memory_changes_nothing(rt: HostRuntime) -> Result<(), Fail> {
     let events = [STORE, PUBLISH, LOAD, pin(0x0000000140000000), CLOSE];
     let Some(mut world) = retried(rt.alloc(), &events[..2]) else {
         panic!(rt; "no memory")
     };
-    for event in &events[2..] {
-        if step(&mut world, event).is_err() {
-            assert!(rt; step(&mut world, event).is_ok());
-        }
-    }
-    assert!(rt; is_at(&world, 1, Phase::Closing, 1));
-    assert!(rt; world.published() == &[(FIRST, AUTO_EVENT)][..]);
+    step_twice(&rt, &mut world, &events[2..]);
+    holds(&rt, is_at(&world, 1, Phase::Closing, 1));
+    holds(&rt, has_published_one(&world));
     Ok(())
 }

@@ -1,45 +1,71 @@
-ghost use Rattle.std.specs.Prelude.{◌≡◌, ℕ, ◌<◌, ◌≤◌, length, IsSome};
-ghost use Rattle.ob_arena.specs.Slots.{body_at};
+ghost use Rattle.std.specs.Prelude.{◌≡◌, ℕ, ◌<◌, ◌≤◌, length, IfOk, IsSome};
+ghost use Rattle.ob_arena.specs.Slots.{body_at, vacant_slots};
 
+use crate::tests::{holds, same};
 use ob_arena::Arena;
-use std::alloc::Global;
+use std::alloc::{AllocError, Global};
 use std::process::Abort;
 use std::rc::Rc;
 use std::test::Fail;
 
+/// An arena of vacant slots. What was given serves a second try.
+fn vacant<B: Drop>(alloc: Global, slots: u32) -> Result<Arena<B>, AllocError>
+    requires { slots ≤ 65536 }
+    ensures { IfOk result (λ arena. arena ≡ vacant_slots slots) }
+{
+    match Arena::new(alloc, slots) {
+        Ok(arena) => Ok(arena),
+        Err(_) => Arena::new(alloc, slots),
+    }
+}
+
 #[test]
 fn slots_are_given_taken_and_retired(rt: HostRuntime) -> Result<(), Fail> {
-    let mut arena: Arena<u32> = match Arena::new(rt.alloc(), 3) {
-        Ok(arena) => arena,
-        Err(_) => Arena::new(rt.alloc(), 3)?,
-    };
-    assert_eq!(rt; arena.least_vacant(), Some(0));
-    assert!(rt; arena.is_vacant(0) && arena.is_vacant(2) && !arena.is_vacant(3));
+    give_take_and_retire(&rt, &mut vacant(rt.alloc(), 3)?);
+    Ok(())
+}
+
+fn give_take_and_retire(rt: &impl Abort, arena: &mut Arena<u32>)
+    requires { arena.old ≡ vacant_slots 3 }
+{
+    same(rt, arena.least_vacant(), Some(0));
+    holds(rt, arena.is_vacant(0));
+    holds(rt, arena.is_vacant(2));
+    holds(rt, !arena.is_vacant(3));
     arena.put(0, 70);
     arena.put(2, 72);
-    assert_eq!(rt; arena.least_vacant(), Some(1));
-    assert!(rt; arena.is_vacant(1));
+    same(rt, arena.least_vacant(), Some(1));
+    holds(rt, arena.is_vacant(1));
     arena.retire(1);
-    assert!(rt; arena.least_vacant().is_none());
-    assert!(rt; !arena.is_vacant(1));
-    assert_eq!(rt; *arena.get(2), 72);
+    holds(rt, arena.least_vacant().is_none());
+    holds(rt, !arena.is_vacant(1));
+    same(rt, *arena.get(2), 72);
     *arena.get_mut(0) += 1;
-    assert_eq!(rt; arena.take(0), 71);
-    assert_eq!(rt; arena.least_vacant(), Some(0));
-    Ok(())
+    same(rt, arena.take(0), 71);
+    same(rt, arena.least_vacant(), Some(0));
 }
 
 #[test]
 fn a_drop_drops_each_body_once(rt: HostRuntime) -> Result<(), Fail> {
     let body = Rc::new(rt.alloc(), 7u32)?;
-    let mut arena: Arena<Rc<u32>> = Arena::new(rt.alloc(), 4)?;
-    assert!(rt; arena.is_vacant(1));
-    arena.put(1, body.clone()?);
-    assert!(rt; arena.is_vacant(3));
-    arena.put(3, body.clone()?);
-    assert_eq!(rt; Rc::strong_count(&body), 3);
+    put_and_drop(&rt, rt.alloc(), &body)?;
+    same(&rt, Rc::strong_count(&body), 1);
+    Ok(())
+}
+
+fn put_and_drop(rt: &impl Abort, alloc: Global, body: &Rc<u32>) -> Result<(), Fail> {
+    let mut arena: Arena<Rc<u32>> = Arena::new(alloc, 4)?;
+    put_two(rt, body, &mut arena)?;
+    same(rt, Rc::strong_count(body), 3);
     drop(arena);
-    assert_eq!(rt; Rc::strong_count(&body), 1);
+    Ok(())
+}
+
+fn put_two(rt: &impl Abort, body: &Rc<u32>, arena: &mut Arena<Rc<u32>>) -> Result<(), Fail> {
+    holds(rt, arena.is_vacant(1));
+    arena.put(1, body.clone()?);
+    holds(rt, arena.is_vacant(3));
+    arena.put(3, body.clone()?);
     Ok(())
 }
 
@@ -51,10 +77,10 @@ fn fill(rt: &impl Abort, arena: &mut Arena<u32>, slots: u32)
     ensures filled { (slot : ℕ) → slot < slots → IsSome (body_at arena.new slot) }
 {
     for slot in 0..slots {
-        assert!(rt; arena.least_vacant() == Some(slot));
+        holds(rt, arena.least_vacant() == Some(slot));
         arena.put(slot, slot);
     }
-    assert!(rt; arena.least_vacant().is_none());
+    holds(rt, arena.least_vacant().is_none());
 }
 
 /// Empties an arena whose slots all have bodies, from the last slot on.
@@ -64,35 +90,28 @@ fn empty(rt: &impl Abort, arena: &mut Arena<u32>, slots: u32)
     ensures { length arena.new.bodies ≡ slots }
 {
     for slot in (0..slots).rev() {
-        assert!(rt; arena.take(slot) == slot);
-        assert!(rt; arena.least_vacant() == Some(slot));
+        same(rt, arena.take(slot), slot);
+        same(rt, arena.least_vacant(), Some(slot));
     }
 }
 
 #[test]
 fn all_slots_are_filled_emptied_and_filled_again(rt: HostRuntime) -> Result<(), Fail> {
-    fill_twice(&rt, rt.alloc(), 65536)
+    fill_twice(&rt, &mut vacant(rt.alloc(), 65536)?, 65536);
+    Ok(())
 }
 
-fn fill_twice(rt: &impl Abort, alloc: Global, slots: u32) -> Result<(), Fail>
-    requires { slots ≤ 65536 }
+fn fill_twice(rt: &impl Abort, arena: &mut Arena<u32>, slots: u32)
+    requires { length arena.old.bodies ≡ slots }
 {
-    let mut arena = match Arena::new(alloc, slots) {
-        Ok(arena) => arena,
-        Err(_) => Arena::new(alloc, slots)?,
-    };
-    fill(rt, &mut arena, slots);
-    empty(rt, &mut arena, slots);
-    fill(rt, &mut arena, slots);
-    Ok(())
+    fill(rt, arena, slots);
+    empty(rt, arena, slots);
+    fill(rt, arena, slots);
 }
 
 #[test]
 fn an_arena_is_made_after_want_of_memory(rt: HostRuntime) -> Result<(), Fail> {
-    let arena: Arena<u64> = match Arena::new(rt.alloc(), 65536) {
-        Ok(arena) => arena,
-        Err(_) => Arena::new(rt.alloc(), 65536)?,
-    };
-    assert_eq!(rt; arena.least_vacant(), Some(0));
+    let arena: Arena<u64> = vacant(rt.alloc(), 65536)?;
+    same(&rt, arena.least_vacant(), Some(0));
     Ok(())
 }

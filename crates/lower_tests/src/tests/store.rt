@@ -1,5 +1,6 @@
 ghost use Rattle.std.specs.Prelude.{◌≡◌, ℕ, slice_index_or};
 
+use crate::tests::{holds, same};
 use ob_body::{Body, RECURSION_MAX};
 use ob_rights::{Fault, Kind, all_access};
 use ob_store::Objects;
@@ -172,21 +173,21 @@ enum Act {
 
 fn play_one<K: PinKeeper>(rt: &impl Abort, objects: &mut Objects<K>, act: Act) {
     match act {
-        Act::Make(descr, id) => assert!(rt; made(objects, descr) == id),
-        Act::Birth(slot, birth) => assert!(rt; birth_of(objects, slot) == birth),
-        Act::HandleLeft(slot, left) => assert!(rt; has_lost_a_handle(objects, slot) == left),
-        Act::HandleCame(slot, came) => assert!(rt; has_gained_a_handle(objects, slot) == came),
-        Act::BlockCame(slot, came) => assert!(rt; has_gained_a_block(objects, slot) == came),
+        Act::Make(descr, id) => same(rt, made(objects, descr), id),
+        Act::Birth(slot, birth) => same(rt, birth_of(objects, slot), birth),
+        Act::HandleLeft(slot, left) => same(rt, has_lost_a_handle(objects, slot), left),
+        Act::HandleCame(slot, came) => same(rt, has_gained_a_handle(objects, slot), came),
+        Act::BlockCame(slot, came) => same(rt, has_gained_a_block(objects, slot), came),
         Act::BlockLeft(id) => objects.block_left(id),
         Act::Take(thread, slot, taken) => {
-            assert!(rt; has_taken(objects, thread, slot) == taken);
+            same(rt, has_taken(objects, thread, slot), taken);
         }
         Act::Release(thread, slot, released) => {
-            assert!(rt; has_released(objects, thread, slot) == released);
+            same(rt, has_released(objects, thread, slot), released);
         }
         Act::Abandon(thread) => objects.abandon_listed(thread),
-        Act::OwnsNone(thread, none) => assert!(rt; objects.owns_none(thread) == none),
-        Act::Reclaim(slot, outcome) => assert!(rt; reclaimed(objects, slot) == outcome),
+        Act::OwnsNone(thread, none) => same(rt, objects.owns_none(thread), none),
+        Act::Reclaim(slot, outcome) => same(rt, reclaimed(objects, slot), outcome),
     }
 }
 
@@ -200,16 +201,16 @@ fn play<K: PinKeeper>(rt: &impl Abort, objects: &mut Objects<K>, acts: &[Act]) {
 fn plays_pinned(rt: &impl Abort, objects: &mut Objects<LockedPins>) {
     let id = first_of(0);
     play_one(rt, objects, Act::Make(EVENT, Some(id)));
-    assert!(rt; objects.try_pin(id).is_ok());
+    holds(rt, objects.try_pin(id).is_ok());
     play_one(rt, objects, Act::HandleLeft(0, true));
-    assert!(rt; objects.try_pin(id).is_err());
+    holds(rt, objects.try_pin(id).is_err());
     play_one(
         rt,
         objects,
         Act::Reclaim(0, Some(Reclaim::Held { pins: 1 })),
     );
-    assert!(rt; has_let_go(objects, id));
-    assert!(rt; !has_let_go(objects, id));
+    holds(rt, has_let_go(objects, id));
+    holds(rt, !has_let_go(objects, id));
     play_one(rt, objects, Act::Reclaim(0, Some(Reclaim::Freed)));
 }
 
@@ -233,8 +234,9 @@ fn over_locked(rt: &impl Abort, alloc: Global, slots: u32, scene: Scene<'_>) -> 
     match scene {
         Scene::Acts(acts) => play(rt, &mut objects, acts),
         Scene::Pinned => plays_pinned(rt, &mut objects),
-        Scene::TwoPlaces => assert!(rt; blocks_of_two_places(&mut objects) == Some(2)),
+        Scene::TwoPlaces => same(rt, blocks_of_two_places(&mut objects), Some(2)),
     }
+    drop(objects);
     Ok(())
 }
 
@@ -252,6 +254,7 @@ fn over_words(rt: &impl Abort, alloc: Global, acts: &[Act]) -> Result<(), Fail> 
     };
     play(rt, &mut objects, acts);
     reader.finish();
+    drop(objects);
     Ok(())
 }
 

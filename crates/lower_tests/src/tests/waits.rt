@@ -3,6 +3,7 @@ ghost use Rattle.ob_waits.specs.Objects.{body_of, slot_room};
 ghost use Rattle.ob_waits.specs.Rules.{HasRoom, IsWaitable};
 ghost use Rattle.ob_waits.specs.Waits.{state_at};
 
+use crate::tests::{holds, same};
 use ob_body::{Body, RECURSION_MAX};
 use ob_rights::{Fault, Kind};
 use ob_waits::{Bodies, MAXIMUM_WAIT_OBJECTS, Mode, WAIT_TIMEOUT, WaitState, Waits, try_now};
@@ -200,7 +201,7 @@ impl World {
         requires { IsWaitable mode ids.now }
     {
         let room = have_room(&self.slots, thread, ids);
-        assert!(rt; room);
+        holds(rt, room);
         let None = self.waits.wait_of(thread) else {
             panic!(rt; "the thread waits")
         };
@@ -213,8 +214,8 @@ impl World {
 
     /// A wait for any of some objects: its code, or none where it is pending.
     fn wait_any(&mut self, rt: &impl Abort, thread: u32, ids: &[Id]) -> Result<Option<u32>, Fault> {
-        assert!(rt; ids.len() > 0);
-        assert!(rt; ids.len() <= MAXIMUM_WAIT_OBJECTS);
+        holds(rt, ids.len() > 0);
+        holds(rt, ids.len() <= MAXIMUM_WAIT_OBJECTS);
         self.wait(rt, thread, Mode::Any, ids)
     }
 
@@ -226,7 +227,7 @@ impl World {
         first: Id,
         second: Id,
     ) -> Result<Option<u32>, Fault> {
-        assert!(rt; first.slot != second.slot);
+        holds(rt, first.slot != second.slot);
         self.wait(rt, thread, Mode::All, &[first, second])
     }
 
@@ -271,7 +272,7 @@ impl World {
         let Kind::Event = other.kind() else {
             panic!(rt; "no event")
         };
-        assert!(rt; first.slot != second.slot);
+        holds(rt, first.slot != second.slot);
         body.set();
         other.set();
         self.change_both(first, body, second, other);
@@ -296,7 +297,7 @@ impl World {
             panic!(rt; "no semaphore")
         };
         let posted = body.post(count).is_ok();
-        assert!(rt; posted);
+        holds(rt, posted);
         self.change(id, body, plain);
     }
 
@@ -388,12 +389,12 @@ enum Act<'a> {
 impl World {
     fn act(&mut self, rt: &impl Abort, act: Act<'_>, plain: bool) -> Result<(), Fail> {
         match act {
-            Act::Any(thread, ids, code) => assert_eq!(rt; self.wait_any(rt, thread, ids)?, code),
+            Act::Any(thread, ids, code) => same(rt, self.wait_any(rt, thread, ids)?, code),
             Act::Both(thread, first, second, code) => {
-                assert_eq!(rt; self.wait_both(rt, thread, first, second)?, code);
+                same(rt, self.wait_both(rt, thread, first, second)?, code);
             }
             Act::Full(thread, id) => {
-                assert_eq!(rt; self.wait_any(rt, thread, &[id]), Err(Fault::Limit));
+                same(rt, self.wait_any(rt, thread, &[id]), Err(Fault::Limit));
             }
             Act::Set(id) => self.set(rt, id, plain),
             Act::SetBoth(first, second) => self.set_both(rt, first, second),
@@ -401,27 +402,39 @@ impl World {
             Act::Abandon(id, thread) => self.abandon(rt, id, thread, plain),
             Act::Expire(thread) => self.expire(rt, thread),
             Act::End(thread) => self.drop_thread(thread),
-            Act::Result(thread, code) => assert_eq!(rt; self.take_result(rt, thread), code),
-            Act::Stands(thread, state) => assert_eq!(rt; self.state_of(thread), state),
-            Act::Number(thread, number) => assert_eq!(rt; self.waits.wait_of(thread), number),
-            Act::Blocks(id, blocks) => assert_eq!(rt; self.waits.blocks_of(id), blocks),
+            Act::Result(thread, code) => same(rt, self.take_result(rt, thread), code),
+            Act::Stands(thread, state) => same(rt, self.state_of(thread), state),
+            Act::Number(thread, number) => same(rt, self.waits.wait_of(thread), number),
+            Act::Blocks(id, blocks) => same(rt, self.waits.blocks_of(id), blocks),
             Act::Slot(slot, blocks, has_body) => {
-                assert_eq!(rt; self.slots.blocks.get(slot).copied(), Some(blocks));
+                same(rt, self.slots.blocks.get(slot).copied(), Some(blocks));
                 let body = self.slots.bodies.get(slot).copied().flatten();
-                assert_eq!(rt; body.is_some(), has_body);
+                same(rt, body.is_some(), has_body);
             }
         }
         Ok(())
     }
 }
 
+fn play_over(
+    rt: &impl Abort,
+    world: &mut World,
+    acts: &[Act<'_>],
+    plain: bool,
+) -> Result<(), Fail> {
+    for act in acts {
+        world.act(rt, *act, plain)?;
+    }
+    Ok(())
+}
+
 /// Plays acts over four slots, settling by all waits and then, from the start again, by those of the object.
 fn play(rt: &impl Abort, alloc: Global, opening: &Opening, acts: &[Act<'_>]) -> Result<(), Fail> {
     for plain in [true, false] {
         let mut world = World::new(alloc, opening)?;
-        for act in acts {
-            world.act(rt, *act, plain)?;
-        }
+        let played = play_over(rt, &mut world, acts, plain);
+        drop(world);
+        played?;
     }
     Ok(())
 }
@@ -600,42 +613,50 @@ fn the_last_block_ends_the_body(rt: HostRuntime) -> Result<(), Fail> {
 
 #[test]
 fn a_refused_add_changes_nothing(rt: HostRuntime) {
-    let mut waits = Waits::new(rt.alloc(), 3);
+    add_one(&rt, &mut Waits::new(rt.alloc(), 3));
+}
+
+fn add_one(rt: &impl Abort, waits: &mut Waits)
+    requires { waits.old.waits ≡ None ∷ [] }
+{
     let first = waits.add(5, Mode::Any, &[D, FAR], None);
     if first.is_err() {
-        assert_eq!(rt; first, Err(Fault::Memory));
-        assert_eq!(rt; waits.wait_of(5), None);
-        assert_eq!(rt; waits.blocks_of(D), 0);
-        assert_eq!(rt; waits.add(5, Mode::Any, &[D, FAR], None), Ok(1));
+        same(rt, first, Err(Fault::Memory));
+        same(rt, waits.wait_of(5), None);
+        same(rt, waits.blocks_of(D), 0);
+        same(rt, waits.add(5, Mode::Any, &[D, FAR], None), Ok(1));
     }
-    assert_eq!(rt; waits.wait_of(5), Some(1));
-    assert_eq!(rt; waits.blocks_of(D), 1);
-    assert_eq!(rt; waits.blocks_of(FAR), 1);
+    same(rt, waits.wait_of(5), Some(1));
+    same(rt, waits.blocks_of(D), 1);
+    same(rt, waits.blocks_of(FAR), 1);
 }
 
 /// Adds the wait of a thread that has none. Where memory fails nothing has changed, and the call is made again.
 fn added(rt: &impl Abort, waits: &mut Waits, thread: u32) {
-    assert_eq!(rt; waits.wait_of(thread), None);
+    holds(rt, waits.wait_of(thread).is_none());
     let blocks = waits.blocks_of(D);
     let added = waits.add(thread, Mode::Any, &[D], None);
     if added.is_err() {
-        assert_eq!(rt; added, Err(Fault::Memory));
-        assert_eq!(rt; waits.wait_of(thread), None);
-        assert_eq!(rt; waits.blocks_of(D), blocks);
-        assert_eq!(rt; waits.add(thread, Mode::Any, &[D], None), Ok(thread));
+        same(rt, added, Err(Fault::Memory));
+        same(rt, waits.wait_of(thread), None);
+        same(rt, waits.blocks_of(D), blocks);
+        same(rt, waits.add(thread, Mode::Any, &[D], None), Ok(thread));
     }
 }
 
 #[test]
 fn waits_that_last_are_found_behind_newer_ones(rt: HostRuntime) {
-    let mut waits = Waits::new(rt.alloc(), 200);
+    add_and_find(&rt, &mut Waits::new(rt.alloc(), 200));
+}
+
+fn add_and_find(rt: &impl Abort, waits: &mut Waits) {
     for thread in 1..131 {
-        added(&rt, &mut waits, thread);
+        added(rt, waits, thread);
     }
-    assert_eq!(rt; waits.blocks_of(D), 130);
+    same(rt, waits.blocks_of(D), 130);
     for thread in 1..131 {
-        assert_eq!(rt; waits.wait_of(thread), Some(thread));
+        same(rt, waits.wait_of(thread), Some(thread));
         let found = waits.look(thread);
-        assert!(rt; matches!(found, Some((WaitState::Pending, _))));
+        holds(rt, matches!(found, Some((WaitState::Pending, _))));
     }
 }

@@ -1,8 +1,10 @@
 ghost use Rattle.std.specs.Prelude.{◌≤◌, length};
 
+use crate::tests::{holds, same};
 use ob_name::{Directory, Name, NameRef, Space};
 use ob_rights::Fault;
 use pin_core::Id;
+use std::alloc::{AllocError, Global};
 use std::process::Abort;
 use std::test::Fail;
 
@@ -37,79 +39,104 @@ fn entered(
     slot: u32,
 ) -> Result<(), Fail> {
     let len = directory.len();
-    assert_eq!(rt; directory.find(name), None);
+    holds(rt, directory.find(name).is_none());
     let copy = match directory.reserve(name) {
         Ok(copy) => copy,
         Err(fault) => {
-            assert_eq!(rt; fault, Fault::Memory);
-            assert_eq!(rt; directory.len(), len);
-            assert_eq!(rt; directory.find(name), None);
+            same(rt, fault, Fault::Memory);
+            same(rt, directory.len(), len);
+            holds(rt, directory.find(name).is_none());
             directory.reserve(name)?
         }
     };
     directory.enter(copy, id(slot));
-    assert_eq!(rt; directory.find(name), Some(id(slot)));
+    same(rt, directory.find(name), Some(id(slot)));
     Ok(())
 }
 
 #[test]
 fn names_stand_in_the_order_of_entry(rt: HostRuntime) -> Result<(), Fail> {
-    let mut directory = Directory::new(rt.alloc());
+    enter_and_remove(&rt, &mut Directory::new(rt.alloc()))
+}
+
+fn enter_and_remove(rt: &impl Abort, directory: &mut Directory) -> Result<(), Fail> {
     let everywhere = NameRef {
         space: Space::Global,
         base: b"A",
     };
-    entered(&rt, &mut directory, &local(b"B"), 4)?;
-    entered(&rt, &mut directory, &local(b"A"), 3)?;
-    entered(&rt, &mut directory, &everywhere, 7)?;
-    entered(&rt, &mut directory, &local(b"AA"), 1)?;
-    assert_eq!(rt; directory.remove(&local(b"C")), None);
-    assert_eq!(rt; directory.remove(&local(b"A")), Some(id(3)));
-    assert_eq!(rt; directory.remove(&local(b"A")), None);
-    assert_eq!(rt; directory.len(), 3);
-    assert!(rt; is_row(&directory, 0, Space::of_session(1), b"B", 4));
-    assert!(rt; is_row(&directory, 1, Space::Global, b"A", 7));
-    assert!(rt; is_row(&directory, 2, Space::of_session(1), b"AA", 1));
-    assert!(rt; directory.row(3).is_none());
+    entered(rt, directory, &local(b"B"), 4)?;
+    entered(rt, directory, &local(b"A"), 3)?;
+    entered(rt, directory, &everywhere, 7)?;
+    entered(rt, directory, &local(b"AA"), 1)?;
+    same(rt, directory.remove(&local(b"C")), None);
+    same(rt, directory.remove(&local(b"A")), Some(id(3)));
+    same(rt, directory.remove(&local(b"A")), None);
+    same(rt, directory.len(), 3);
+    holds(rt, is_row(directory, 0, Space::of_session(1), b"B", 4));
+    holds(rt, is_row(directory, 1, Space::Global, b"A", 7));
+    holds(rt, is_row(directory, 2, Space::of_session(1), b"AA", 1));
+    holds(rt, directory.row(3).is_none());
     Ok(())
 }
 
 #[test]
 fn sessions_have_names_of_their_own(rt: HostRuntime) -> Result<(), Fail> {
-    let mut directory = Directory::new(rt.alloc());
+    enter_for_sessions(&rt, &mut Directory::new(rt.alloc()))
+}
+
+fn enter_for_sessions(rt: &impl Abort, directory: &mut Directory) -> Result<(), Fail> {
     for (slot, session) in [1, 256, 65536, 4294967295].into_iter().enumerate() {
         let name = NameRef {
             space: Space::of_session(session),
             base: b"A",
         };
-        entered(&rt, &mut directory, &name, slot as u32)?;
+        entered(rt, directory, &name, slot as u32)?;
     }
-    assert!(rt; is_row(&directory, 1, Space::of_session(256), b"A", 1));
-    assert!(rt; is_row(&directory, 3, Space::of_session(4294967295), b"A", 3));
+    holds(rt, is_row(directory, 1, Space::of_session(256), b"A", 1));
+    holds(
+        rt,
+        is_row(directory, 3, Space::of_session(4294967295), b"A", 3),
+    );
     Ok(())
+}
+
+/// A name of its own. What was given serves a second try.
+fn kept(alloc: Global, name: &NameRef<'_>) -> Result<Name, AllocError> {
+    match Name::new(alloc, name) {
+        Ok(kept) => Ok(kept),
+        Err(_) => Name::new(alloc, name),
+    }
 }
 
 #[test]
 fn a_name_that_is_kept_is_taken_out(rt: HostRuntime) -> Result<(), Fail> {
-    let mut directory = Directory::new(rt.alloc());
-    entered(&rt, &mut directory, &local(b"A"), 3)?;
-    let kept = match Name::new(rt.alloc(), &local(b"A")) {
-        Ok(kept) => kept,
-        Err(_) => Name::new(rt.alloc(), &local(b"A"))?,
-    };
-    assert_eq!(rt; directory.rows().count(), 1);
-    assert_eq!(rt; directory.remove(&kept.borrowed()), Some(id(3)));
-    assert_eq!(rt; directory.rows().count(), 0);
+    take_out(&rt, rt.alloc(), &mut Directory::new(rt.alloc()))
+}
+
+fn take_out(rt: &impl Abort, alloc: Global, directory: &mut Directory) -> Result<(), Fail> {
+    entered(rt, directory, &local(b"A"), 3)?;
+    take_out_by(rt, directory, &kept(alloc, &local(b"A"))?);
     Ok(())
+}
+
+fn take_out_by(rt: &impl Abort, directory: &mut Directory, kept: &Name) {
+    same(rt, directory.len(), 1);
+    same(rt, directory.rows().count(), 1);
+    same(rt, directory.remove(&kept.borrowed()), Some(id(3)));
+    same(rt, directory.len(), 0);
+    same(rt, directory.rows().count(), 0);
 }
 
 #[test]
 fn the_longest_name(rt: HostRuntime) -> Result<(), Fail> {
-    let mut directory = Directory::new(rt.alloc());
+    enter_the_longest(&rt, &mut Directory::new(rt.alloc()))
+}
+
+fn enter_the_longest(rt: &impl Abort, directory: &mut Directory) -> Result<(), Fail> {
     let longest = [b'A'; 260];
-    entered(&rt, &mut directory, &local(&longest), 0)?;
-    entered(&rt, &mut directory, &local(&longest[1..]), 1)?;
-    assert!(rt; is_row(&directory, 0, Space::of_session(1), &longest, 0));
+    entered(rt, directory, &local(&longest), 0)?;
+    entered(rt, directory, &local(&longest[1..]), 1)?;
+    holds(rt, is_row(directory, 0, Space::of_session(1), &longest, 0));
     Ok(())
 }
 
@@ -130,28 +157,29 @@ fn come_and_go(rt: &impl Abort, directory: &mut Directory, most: u32) -> Result<
     for n in 0..most {
         entered(rt, directory, &local(&digits(n)), n)?;
     }
-    assert_eq!(rt; directory.len(), most as usize);
+    same(rt, directory.len(), most as usize);
     for n in 0..most / 2 {
         let gone = 2 * n;
-        assert_eq!(rt; directory.remove(&local(&digits(gone))), Some(id(gone)));
+        same(rt, directory.remove(&local(&digits(gone))), Some(id(gone)));
     }
     for n in 0..most / 2 {
         let stays = 2 * n + 1;
-        assert!(rt;
+        holds(
+            rt,
             is_row(
                 directory,
                 n as usize,
                 Space::of_session(1),
                 &digits(stays),
-                stays
-            )
+                stays,
+            ),
         );
-        assert_eq!(rt; directory.find(&local(&digits(2 * n))), None);
+        same(rt, directory.find(&local(&digits(2 * n))), None);
     }
     for n in (0..most / 2).rev() {
         let gone = 2 * n + 1;
-        assert_eq!(rt; directory.remove(&local(&digits(gone))), Some(id(gone)));
-        assert_eq!(rt; directory.len(), n as usize);
+        same(rt, directory.remove(&local(&digits(gone))), Some(id(gone)));
+        same(rt, directory.len(), n as usize);
     }
     Ok(())
 }

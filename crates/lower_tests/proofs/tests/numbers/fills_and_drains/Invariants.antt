@@ -5,11 +5,11 @@ use Rattle.lower_tests.proofs.tests.numbers.fills_and_drains.Given as goal
 abbrev pub invariant-loop-n : goal.invariant-loop-n
 invariant-loop-n g l = record {
   len : length l.free ≡ l.fn.most;
-  all : AreTaken l.free l.n-counter;
+  all : AreTaken l.free l.n;
 }
 
 abbrev pub invariant-loop-n-2 : goal.invariant-loop-n-2
 invariant-loop-n-2 g l = record {
   len : length l.free ≡ l.fn.most;
-  all : AreTaken l.free l.n-counter;
+  all : AreTaken l.free l.n;
 }
