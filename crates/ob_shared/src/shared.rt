@@ -136,7 +136,7 @@ impl<'a> Shared<'a> {
         ensures { Lists (record { number = number; list = receipts.old.items }) call result (record { number = number; list = receipts.new.items }) }
     {
         let mut held = self.held.lock(rt);
-        let answer = held.book.enter(0, &call, copy);
+        let answer = held.book.enter(number, &call, copy);
         let waiting = held.waiting;
         drop(held);
         self.tell(waiting);
