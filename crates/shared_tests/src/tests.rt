@@ -1,3 +1,5 @@
+ghost use Rattle.std.specs.Prelude.{◌≡◌, true};
+
 mod blocking;
 mod closing;
 mod crowd;
@@ -11,6 +13,8 @@ mod turns;
 mod wanting;
 
 use pin_core::Id;
+use std::fmt::Debug;
+use std::process::Abort;
 
 /// The first object of the first slot, and of the second.
 const FIRST: Id = Id {
@@ -22,3 +26,16 @@ const SECOND: Id = Id {
     slot: 1,
     generation: 1,
 };
+
+/// Asserts that what is found is what is due.
+// In place of `assert_eq!`, which each function that has it pays for in its proof.
+fn same<T: Copy + PartialEq + Debug>(rt: &impl Abort, found: T, due: T) {
+    assert_eq!(rt; found, due);
+}
+
+/// Asserts a condition, which is known from there on.
+fn holds(rt: &impl Abort, condition: bool)
+    ensures { condition ≡ true }
+{
+    assert!(rt; condition);
+}

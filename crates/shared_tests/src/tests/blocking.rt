@@ -1,6 +1,6 @@
-use super::FIRST;
 use super::opening::{Scene, over_shared};
 use super::playing::{answers, asked, is_last, two_lanes};
+use super::{FIRST, holds, same};
 use call_tables::Ask::{MakeEvent, SetEvent, Spawn, StartThread, WaitFor};
 use call_tables::{Line, PLAIN};
 use ob_manager::Reply::{Made, Pending, Spawned, Started};
@@ -63,8 +63,9 @@ fn meets<R: Abort + Wait + Threads + Sync>(
         || blocks(rt, shared, waiter),
         || sets(rt, alloc, shared, setter),
     );
-    assert!(rt; done == Ok(Reply::Done) && answer == Reply::Code { code: 0 });
-    assert!(rt; is_last(waiter, &Call::WaitResult { wait: 1 }, answer));
+    same(rt, done, Ok(Reply::Done));
+    same(rt, answer, Reply::Code { code: 0 });
+    holds(rt, is_last(waiter, &Call::WaitResult { wait: 1 }, answer));
     Ok(())
 }
 
@@ -75,8 +76,14 @@ pub(super) fn plays_a_block<R: Abort + Wait + Threads + Sync>(
 ) -> Result<Vec<Lane>, Fault> {
     let mut waiter = shared.lane()?;
     let mut setter = shared.lane()?;
-    meets(rt, alloc, shared, &mut waiter, &mut setter)?;
-    two_lanes(alloc, waiter, setter)
+    match meets(rt, alloc, shared, &mut waiter, &mut setter) {
+        Ok(()) => two_lanes(alloc, waiter, setter),
+        Err(fault) => {
+            drop(waiter);
+            drop(setter);
+            Err(fault)
+        }
+    }
 }
 
 #[test]

@@ -61,8 +61,11 @@ fn lane_over(
     requires opens { opening ≡ pins.now }
     requires shape { pins.now.shape ≡ shape_of limits }
 {
-    let (mut shared, _readers) = shared_with(alloc, limits, opening, pins, 1)?;
-    lane_of(&mut shared, number)
+    let (mut shared, readers) = shared_with(alloc, limits, opening, pins, 1)?;
+    let lane = lane_of(&mut shared, number);
+    drop(shared);
+    drop(readers);
+    lane
 }
 
 /// The lane of a number, of another manager behind its lock.
@@ -96,7 +99,9 @@ fn change<R: Abort + Wait>(
         Case::Stranger => lanes.push(lane_of_another(alloc, 2)?)?,
         Case::CallOfStranger => {
             let mut stranger = lane_of_another(alloc, 2)?;
-            answers(rt, alloc, shared, &mut stranger, COUNTED)?;
+            let answered = answers(rt, alloc, shared, &mut stranger, COUNTED);
+            drop(stranger);
+            answered?;
         }
         Case::AnotherLane => {
             drop(lanes.pop());
@@ -114,8 +119,13 @@ pub(super) fn plays_a_case<R: Abort + Wait>(
     case: Case,
 ) -> Result<Vec<Lane>, Fault> {
     let mut lanes = plays_by_turns(rt, alloc, shared, THREE_CALLS)?;
-    change(rt, alloc, shared, &mut lanes, case)?;
-    Ok(lanes)
+    match change(rt, alloc, shared, &mut lanes, case) {
+        Ok(()) => Ok(lanes),
+        Err(fault) => {
+            drop(lanes);
+            Err(fault)
+        }
+    }
 }
 
 fn over_case<R: Abort + Wait + Threads + Sync>(

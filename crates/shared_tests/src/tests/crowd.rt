@@ -2,6 +2,7 @@
 use super::members::{Deed, Script};
 use super::opening::{Scene, over_shared};
 use super::playing::answers_one;
+use super::{holds, same};
 use call_tables::Ask::{
     CloseHandle, Counts, Duplicate, MakeEvent, MakeMutex, MakeSemaphore, Reap, ReleaseMutex,
     ReleaseSemaphore, ResetEvent, SetEvent, Spawn, StartThread, WaitFor,
@@ -210,6 +211,19 @@ fn names_are(first: &Manager<Keeper<'_>>, second: &Manager<LockedPins>) -> bool 
     first.directory_len() == second.directory_len()
 }
 
+/// Another manager, which was made a moment ago, gives the same replies, and ends with the same counts and names.
+fn agrees(
+    rt: &impl Abort,
+    closed: &mut Manager<Keeper<'_>>,
+    fresh: &mut Manager<LockedPins>,
+    journal: &[Entry],
+) {
+    holds(rt, replays(fresh, journal));
+    holds(rt, counts_are(closed, fresh, journal));
+    same(rt, closed.directory_len(), 3);
+    holds(rt, names_are(closed, fresh));
+}
+
 /// Another manager gives the same replies, and ends with the same counts and names.
 pub(super) fn agrees_with_a_fresh_one(
     rt: &impl Abort,
@@ -219,9 +233,8 @@ pub(super) fn agrees_with_a_fresh_one(
     journal: &[Entry],
 ) -> Result<(), Fault> {
     let mut fresh = locked_manager(alloc, limits)?;
-    assert!(rt; replays(&mut fresh, journal));
-    assert!(rt; counts_are(closed, &mut fresh, journal));
-    assert!(rt; closed.directory_len() == 3 && names_are(closed, &fresh));
+    agrees(rt, closed, &mut fresh, journal);
+    drop(fresh);
     Ok(())
 }
 

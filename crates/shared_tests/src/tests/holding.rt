@@ -4,7 +4,7 @@ ghost use Rattle.ob_store.specs.State.{shape_of};
 
 use super::opening::{Scene, over_shared};
 use super::playing::{answers, one_lane};
-use super::{FIRST, SECOND};
+use super::{FIRST, SECOND, holds, same};
 use call_tables::Ask::{CloseHandle, MakeEvent, Reap, Spawn};
 use call_tables::{Line, PLAIN, asked, manager_over, pins_for, started};
 use ob_manager::Reply::{Closed, Made, Reaped, Refused, Spawned};
@@ -82,7 +82,21 @@ fn makes<R: Abort + Wait>(
     match *step {
         Move::Calls(table) => answers(rt, alloc, shared, lane, table)?,
         Move::Drops => drop(readers.pop()),
-        _ => assert!(rt; last_reads(rt, shared, readers, step)),
+        _ => holds(rt, last_reads(rt, shared, readers, step)),
+    }
+    Ok(())
+}
+
+fn makes_all<R: Abort + Wait>(
+    rt: &R,
+    alloc: Global,
+    shared: &Shared<'_>,
+    lane: &mut Lane,
+    readers: &mut Vec<Reader<'_>>,
+    moves: &[Move<'_>],
+) -> Result<(), Fault> {
+    for step in moves {
+        makes(rt, alloc, shared, lane, readers, step)?;
     }
     Ok(())
 }
@@ -96,10 +110,13 @@ pub(super) fn plays_moves<R: Abort + Wait>(
     moves: &[Move<'_>],
 ) -> Result<Vec<Lane>, Fault> {
     let mut lane = shared.lane()?;
-    for step in moves {
-        makes(rt, alloc, shared, &mut lane, readers, step)?;
+    match makes_all(rt, alloc, shared, &mut lane, readers, moves) {
+        Ok(()) => one_lane(alloc, lane),
+        Err(fault) => {
+            drop(lane);
+            Err(fault)
+        }
     }
-    one_lane(alloc, lane)
 }
 
 /// An event that is reset by itself, which any open may get.
@@ -202,7 +219,9 @@ fn answers_alone<'a>(
 {
     for (ask, due) in table {
         let call = ask.to_call(alloc)?;
-        assert_eq!(rt; asked(manager, &call, ask.takes_memory(*due)), *due);
+        let reply = asked(manager, &call, ask.takes_memory(*due));
+        drop(call);
+        same(rt, reply, *due);
     }
     Ok(())
 }
@@ -217,11 +236,12 @@ fn holds_alone<'a, R: Abort + Wait>(
     requires { manager.old.keeper.table ≡ Some reader.old.table }
 {
     answers_alone(rt, alloc, manager, MADE)?;
-    assert!(rt; reader.pin(rt, FIRST).is_ok());
+    holds(rt, reader.pin(rt, FIRST).is_ok());
     answers_alone(rt, alloc, manager, CLOSED)?;
-    assert!(rt; reader.holds(FIRST) && manager.inspect(reader, FIRST) == CARD);
+    holds(rt, reader.holds(FIRST));
+    same(rt, manager.inspect(reader, FIRST), CARD);
     answers_alone(rt, alloc, manager, IS_HELD)?;
-    assert!(rt; unpins(reader, FIRST));
+    holds(rt, unpins(reader, FIRST));
     answers_alone(rt, alloc, manager, IS_FREED)
 }
 
@@ -236,8 +256,18 @@ fn plays_alone<R: Abort + Wait>(
     requires shape { pins.now.shape ≡ shape_of limits }
 {
     let (keeper, mut reader) = started(opening, pins)?;
-    let mut manager = manager_over(alloc, limits, keeper)?;
-    holds_alone(rt, alloc, &mut manager, &mut reader)
+    match manager_over(alloc, limits, keeper) {
+        Ok(mut manager) => {
+            let done = holds_alone(rt, alloc, &mut manager, &mut reader);
+            drop(manager);
+            drop(reader);
+            done
+        }
+        Err(fault) => {
+            drop(reader);
+            Err(fault)
+        }
+    }
 }
 
 #[test]

@@ -1,5 +1,5 @@
-use super::FIRST;
 use super::opening::{Scene, over_shared};
+use super::{FIRST, holds};
 use call_tables::Ask::{Counts, MakeEvent, Spawn};
 use call_tables::{PLAIN, Step};
 use ob_manager::Limits;
@@ -39,15 +39,20 @@ fn gives_lanes(shared: &mut Shared<'_>, number: u32) -> bool {
     true
 }
 
+/// Whether no lane is left.
+fn has_no_lane(shared: &mut Shared<'_>) -> bool {
+    matches!(shared.lane(), Err(Fault::Limit))
+}
+
 /// All lanes are given. None is handed in.
 pub(super) fn plays_many_lanes(
     rt: &impl Abort,
     alloc: Global,
     shared: &mut Shared<'_>,
 ) -> Vec<Lane> {
-    assert!(rt; gives_lanes(shared, LANES));
-    assert!(rt; matches!(shared.lane(), Err(Fault::Limit)));
-    assert!(rt; matches!(shared.lane(), Err(Fault::Limit)));
+    holds(rt, gives_lanes(shared, LANES));
+    holds(rt, has_no_lane(shared));
+    holds(rt, has_no_lane(shared));
     Vec::new(alloc)
 }
 

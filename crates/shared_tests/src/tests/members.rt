@@ -4,7 +4,7 @@ ghost use Rattle.ob_shared.specs.Members.{IsNew};
 
 use super::playing::{answers, room_for};
 use super::turns::Turns;
-use super::{crowd, turns, wanting};
+use super::{crowd, holds, turns, wanting};
 use call_tables::{Ask, Line};
 use ob_rights::Fault;
 use ob_shared::{Act, Gate, Lane, Member, OpenGate, Shared, drive};
@@ -133,7 +133,8 @@ fn tries<R: Abort + Wait + Threads + Sync, G: Gate + Sync>(
     gate: &G,
     members: &mut [Member<'_>],
 ) -> bool {
-    assert!(rt; all_new(members) && members.len() <= 64);
+    holds(rt, all_new(members));
+    holds(rt, members.len() <= 64);
     drive(rt, shared, gate, members).is_ok()
 }
 
@@ -146,10 +147,19 @@ fn drives<R: Abort + Wait + Threads + Sync, G: Gate + Sync>(
     acts: usize,
 ) {
     if !tries(rt, shared, gate, members) {
-        assert!(rt; members.iter().all(|member| is_untouched(member, acts)));
-        assert!(rt; tries(rt, shared, gate, members));
+        holds(rt, members.iter().all(|member| is_untouched(member, acts)));
+        holds(rt, tries(rt, shared, gate, members));
     }
-    assert!(rt; members.iter().all(|member| member.seen.len() == acts));
+    holds(rt, members.iter().all(|member| member.seen.len() == acts));
+}
+
+/// Whether the members have seen what they should.
+fn are_done(members: &[Member<'_>], script: Script) -> bool {
+    match script {
+        Script::InTurn => turns::are_done(members),
+        Script::Crowd => members.iter().all(|member| crowd::is_done(member)),
+        Script::Waits => true,
+    }
 }
 
 /// Drives past a script's gate. The members have seen what they should.
@@ -164,13 +174,7 @@ fn drives_all<R: Abort + Wait + Threads + Sync>(
         Script::InTurn => drives(rt, shared, &Turns::new(), members, acts),
         _ => drives(rt, shared, &OpenGate, members, acts),
     }
-    assert!(rt;
-        match script {
-            Script::InTurn => turns::are_done(members),
-            Script::Crowd => members.iter().all(|member| crowd::is_done(member)),
-            Script::Waits => true,
-        }
-    );
+    holds(rt, are_done(members, script));
 }
 
 /// The calls of a script's first lane.

@@ -7,7 +7,7 @@ use super::crowd::agrees_with_a_fresh_one;
 use super::holding::{Move, plays_moves};
 use super::members::{Script, plays_members};
 use super::turns::is_in_turn;
-use super::{blocking, lanes, playing, racing};
+use super::{blocking, holds, lanes, playing, racing, same};
 use call_tables::{Step, manager_over, pins_for, started};
 use ob_manager::{Limits, Manager};
 use ob_rights::Fault;
@@ -82,9 +82,19 @@ pub(super) fn shared_with<'a>(
     requires shape { pins.now.shape ≡ shape_of limits }
 {
     let (mut keeper, first) = started(opening, pins)?;
-    let readers = readers_of(alloc, &mut keeper, first, count)?;
-    let manager = manager_over(alloc, limits, keeper)?;
-    Ok((Shared::new(alloc, manager), readers))
+    match readers_of(alloc, &mut keeper, first, count) {
+        Ok(readers) => match manager_over(alloc, limits, keeper) {
+            Ok(manager) => Ok((Shared::new(alloc, manager), readers)),
+            Err(fault) => {
+                drop(readers);
+                Err(fault)
+            }
+        },
+        Err(fault) => {
+            drop(keeper);
+            Err(fault)
+        }
+    }
 }
 
 /// Plays a scene. The lanes that are handed in at its end.
@@ -119,15 +129,20 @@ fn closes(
     let due = scene.cause();
     match shared.close(lanes) {
         Ok(closed) => {
-            assert!(rt; due.is_none());
+            holds(rt, due.is_none());
             let Closed {
                 mut manager,
                 journal,
             } = closed;
-            shows(rt, alloc, limits, &mut manager, journal.as_slice(), scene)
+            let shown = shows(rt, alloc, limits, &mut manager, journal.as_slice(), scene);
+            drop(manager);
+            drop(journal);
+            shown
         }
         Err(refused) => {
-            assert!(rt; due == Some(refused.cause) && refused.lanes.len() == handed);
+            same(rt, due, Some(refused.cause));
+            same(rt, refused.lanes.len(), handed);
+            drop(refused);
             Ok(())
         }
     }
@@ -143,11 +158,11 @@ fn shows(
     scene: Scene<'_>,
 ) -> Result<(), Fault> {
     match scene {
-        Scene::Members(Script::InTurn) => assert!(rt; is_in_turn(journal)),
+        Scene::Members(Script::InTurn) => holds(rt, is_in_turn(journal)),
         Scene::Members(Script::Crowd) => {
             agrees_with_a_fresh_one(rt, alloc, limits, manager, journal)?;
         }
-        _ => assert!(rt; journal.len() >= 3),
+        _ => holds(rt, journal.len() >= 3),
     }
     Ok(())
 }
@@ -165,8 +180,18 @@ fn over_pins<R: Abort + Wait + Threads + Sync>(
     requires shape { pins.now.shape ≡ shape_of limits }
 {
     let (mut shared, mut readers) = shared_with(alloc, limits, opening, pins, count)?;
-    let lanes = plays(rt, alloc, &mut shared, &mut readers, scene)?;
-    closes(rt, alloc, limits, shared, lanes, scene)
+    match plays(rt, alloc, &mut shared, &mut readers, scene) {
+        Ok(lanes) => {
+            let closed = closes(rt, alloc, limits, shared, lanes, scene);
+            drop(readers);
+            closed
+        }
+        Err(fault) => {
+            drop(shared);
+            drop(readers);
+            Err(fault)
+        }
+    }
 }
 
 /// Plays a scene over a new manager behind its lock, with so many readers, and closes it.

@@ -1,5 +1,6 @@
 //! Tables of calls, played in the lanes of a manager behind its lock.
 use super::opening::{Scene, over_shared};
+use super::{holds, same};
 use call_tables::{
     Ask, GRANTS_ACROSS_PROCESSES, INHERITANCE, KEPT_BY_A_WAIT, Line, NAMED_EVENT_WAITS,
     RIGHTS_OF_DUPLICATES, Step, WAIT_FOR_ALL,
@@ -13,6 +14,17 @@ use std::sync::Wait;
 use std::test::Fail;
 use std::thread::Threads;
 
+/// The reply to a call of a lane.
+fn asked_once<R: Wait>(
+    rt: &R,
+    alloc: Global,
+    shared: &Shared<'_>,
+    lane: &mut Lane,
+    ask: Ask<'_>,
+) -> Result<Reply, Fault> {
+    Ok(shared.call(rt, lane, ask.to_call(alloc)?))
+}
+
 /// The reply to a call of a lane. It is made again where memory was wanting: nothing was changed then, but the lane may list that
 /// the manager refused it.
 pub(super) fn asked<R: Wait>(
@@ -22,11 +34,11 @@ pub(super) fn asked<R: Wait>(
     lane: &mut Lane,
     ask: Ask<'_>,
 ) -> Result<Reply, Fault> {
-    let reply = shared.call(rt, lane, ask.to_call(alloc)?);
+    let reply = asked_once(rt, alloc, shared, lane, ask)?;
     if reply != Reply::Refused(Fault::Memory) {
         return Ok(reply);
     }
-    Ok(shared.call(rt, lane, ask.to_call(alloc)?))
+    asked_once(rt, alloc, shared, lane, ask)
 }
 
 /// Whether the call with this reply is the last one that is listed in a lane.
@@ -52,7 +64,9 @@ fn is_answered<R: Wait>(
     let listed = lane.receipts().len();
     let reply = asked(rt, alloc, shared, lane, ask)?;
     let call = ask.to_call(alloc)?;
-    Ok(reply == due && lane.receipts().len() > listed && is_last(lane, &call, reply))
+    let is_listed = is_last(lane, &call, reply);
+    drop(call);
+    Ok(is_listed && reply == due && lane.receipts().len() > listed)
 }
 
 /// Makes a call in a lane.
@@ -63,8 +77,13 @@ pub(super) fn answers_one<R: Abort + Wait>(
     lane: &mut Lane,
     line: Line<'_>,
 ) -> Result<(), Fault> {
-    assert!(rt; is_answered(rt, alloc, shared, lane, line)?);
+    holds(rt, is_answered(rt, alloc, shared, lane, line)?);
     Ok(())
+}
+
+/// Asserts that the line at a place of a table is answered as is due.
+fn holds_at(rt: &impl Abort, is_good: bool, place: usize) {
+    assert!(rt; is_good, "at place {place} of the table");
 }
 
 /// Makes the calls of a table, one after another, in a lane.
@@ -76,10 +95,7 @@ pub(super) fn answers<R: Abort + Wait>(
     table: &[Line<'_>],
 ) -> Result<(), Fault> {
     for (place, line) in table.iter().enumerate() {
-        assert!(rt;
-            is_answered(rt, alloc, shared, lane, *line)?,
-            "at place {place} of the table"
-        );
+        holds_at(rt, is_answered(rt, alloc, shared, lane, *line)?, place);
     }
     Ok(())
 }
@@ -99,7 +115,7 @@ fn answers_by_turns<R: Abort + Wait>(
         } else {
             is_answered(rt, alloc, shared, second, *line)?
         };
-        assert!(rt; is_good, "at place {place} of the table");
+        holds_at(rt, is_good, place);
     }
     Ok(())
 }
@@ -154,9 +170,16 @@ pub(super) fn plays_by_turns<R: Abort + Wait>(
 ) -> Result<Vec<Lane>, Fault> {
     let mut first = shared.lane()?;
     let mut second = shared.lane()?;
-    assert!(rt; first.number() == 0 && second.number() == 1);
-    plays_steps(rt, alloc, shared, &mut first, &mut second, steps)?;
-    two_lanes(alloc, first, second)
+    same(rt, first.number(), 0);
+    same(rt, second.number(), 1);
+    match plays_steps(rt, alloc, shared, &mut first, &mut second, steps) {
+        Ok(()) => two_lanes(alloc, first, second),
+        Err(fault) => {
+            drop(first);
+            drop(second);
+            Err(fault)
+        }
+    }
 }
 
 /// Plays a table over a new manager, in two lanes by turns.

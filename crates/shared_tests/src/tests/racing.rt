@@ -1,6 +1,7 @@
 //! Four readers beside who makes and closes.
 use super::opening::{Scene, over_shared};
 use super::playing::{answers_one, asked, one_lane};
+use super::{holds, same};
 use call_tables::Ask::{CloseHandle, MakeSemaphore, Reap, Spawn};
 use call_tables::{Ask, PLAIN};
 use ob_manager::Reply::{Closed, Made, Reaped, Spawned};
@@ -98,13 +99,8 @@ fn reaps<R: Abort + Wait>(
                 ..
             }
         ) {
-            assert!(rt;
-                reply
-                    == Reaped {
-                        id,
-                        outcome: Reclaim::Freed
-                    }
-            );
+            let outcome = Reclaim::Freed;
+            same(rt, reply, Reaped { id, outcome });
             return Ok(());
         }
     }
@@ -183,7 +179,7 @@ fn all_read<R: Abort + Wait + Threads + Sync>(rt: &R, readers: &mut [Reader<'_>]
         rt,
         readers,
         READERS,
-        &|_, reader| { assert!(rt; reads(rt, reader)) },
+        &|_, reader| { holds(rt, reads(rt, reader)) },
     );
 }
 
@@ -212,9 +208,14 @@ pub(super) fn plays_a_race<R: Abort + Wait + Threads + Sync>(
     readers: &mut Vec<Reader<'_>>,
 ) -> Result<Vec<Lane>, Fault> {
     let mut lane = shared.lane()?;
-    assert!(rt; readers.len() == READERS);
-    races(rt, alloc, shared, &mut lane, readers.as_mut_slice())?;
-    one_lane(alloc, lane)
+    same(rt, readers.len(), READERS);
+    match races(rt, alloc, shared, &mut lane, readers.as_mut_slice()) {
+        Ok(()) => one_lane(alloc, lane),
+        Err(fault) => {
+            drop(lane);
+            Err(fault)
+        }
+    }
 }
 
 #[test]
