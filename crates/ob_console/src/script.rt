@@ -75,7 +75,9 @@ pub fn run_bounded<R: Source, W: Sink>(
     let Some(mut console) = opened(alloc, limits, &pins, opening, writes) else {
         return Err(RunFault::Memory);
     };
-    answer_all(&mut console, &mut block, reads, reader, writer)
+    let answered = answer_all(&mut console, &mut block, reads, reader, writer);
+    drop(console);
+    answered
 }
 
 /// Runs a script that is in memory as a whole, as [`run`] does: answers each line, and writes the answers. It reads nothing, so
@@ -95,7 +97,9 @@ pub fn run_whole<W: Sink>(
     let Some(mut console) = opened(alloc, limits, &pins, opening, CALLS_MOST) else {
         return Err(RunFault::Memory);
     };
-    answer_whole(&mut console, script, writer)
+    let answered = answer_whole(&mut console, script, writer);
+    drop(console);
+    answered
 }
 
 /// Answers a script as one block, from a console of which no line has come.

@@ -74,7 +74,10 @@ fn run_scripts<R: Threads + Wait + Sync, O: Sink>(
     };
     match answer_scripts(rt, alloc, &mut shared, readers, scripts, output, writer) {
         Ok(lanes) => close(shared, lanes, output, writer),
-        Err(fault) => Err(fault),
+        Err(fault) => {
+            drop(shared);
+            Err(fault)
+        }
     }
 }
 
@@ -128,11 +131,18 @@ fn close<O: Sink>(
     Ok(())
 }
 
-/// How many calls were made, where the lanes are whole. What is closed goes here, on two paths and not on each that prints.
+/// How many calls were made, where the lanes are whole. What is closed goes here, and not on each path that prints.
 fn calls_of(shared: Shared<'_>, lanes: Vec<Lane>) -> Option<usize> {
     match shared.close(lanes) {
-        Ok(closed) => Some(closed.journal.len()),
-        Err(_) => None,
+        Ok(closed) => {
+            let count = closed.journal.len();
+            drop(closed);
+            Some(count)
+        }
+        Err(refused) => {
+            drop(refused);
+            None
+        }
     }
 }
 

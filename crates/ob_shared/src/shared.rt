@@ -94,6 +94,7 @@ impl<'a> Shared<'a> {
         ensures number { lane.new.number ≡ lane.old.number }
     {
         if lane.list.reserve(1).is_err() {
+            drop(call);
             return Reply::Refused(Fault::Memory);
         }
         // (copied before the lock is taken, so that others wait less)
@@ -116,6 +117,7 @@ impl<'a> Shared<'a> {
         ensures { Lists (record { number = number; list = receipts.old.items }) call result (record { number = number; list = receipts.new.items }) }
     {
         let Ok(copy) = call.copy(self.alloc) else {
+            drop(call);
             return Reply::Refused(Fault::Memory);
         };
         self.enter(rt, number, receipts, call, copy)
@@ -142,7 +144,10 @@ impl<'a> Shared<'a> {
         self.tell(waiting);
         match answer {
             Ok(entered) => list(receipts, entered.receipt(call)),
-            Err(fault) => Reply::Refused(fault),
+            Err(fault) => {
+                drop(call);
+                Reply::Refused(fault)
+            }
         }
     }
 
