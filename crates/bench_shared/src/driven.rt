@@ -11,28 +11,36 @@ use std::time::{Clock, Instant};
 
 /// A member of the next lane, which sets its event again and again.
 fn member<'a>(alloc: Global, shared: &mut Shared<'_>, reader: Reader<'a>) -> Option<Member<'a>> {
-    let lane = shared.lane().ok()?;
-    let mut script = Vec::new(alloc);
-    for _ in 0..CALLS {
-        script.push(Act::Ask(set(lane.number()))).ok()?;
-    }
-    Some(Member {
-        lane,
+    let mut member = Member {
+        lane: shared.lane().ok()?,
         reader,
-        script,
+        script: Vec::new(alloc),
         seen: Vec::new(alloc),
-    })
+    };
+    fill(&mut member)?;
+    Some(member)
+}
+
+/// Fills a member's script.
+fn fill(member: &mut Member<'_>) -> Option<()> {
+    let number = member.lane.number();
+    for _ in 0..CALLS {
+        member.script.push(Act::Ask(set(number))).ok()?;
+    }
+    Some(())
 }
 
 /// A member for each reader.
 pub fn members_of<'a>(
     alloc: Global,
     shared: &mut Shared<'_>,
-    readers: Vec<Reader<'a>>,
+    readers: &mut Vec<Reader<'a>>,
 ) -> Option<Vec<Member<'a>>> {
     let mut members = Vec::new(alloc);
-    for reader in readers {
-        members.push(member(alloc, shared, reader)?).ok()?;
+    for _ in 0..readers.len() {
+        if let Some(reader) = readers.pop() {
+            members.push(member(alloc, shared, reader)?).ok()?;
+        }
     }
     Some(members)
 }

@@ -6,6 +6,7 @@
 #![tactic(auto)]
 
 ghost use Rattle.std.specs.Prelude.{◌≡◌};
+ghost use Rattle.ob_store.specs.State.{shape_of};
 
 mod calling;
 mod driven;
@@ -15,8 +16,8 @@ use bench_threads::{RUNS, Start, report, time_of};
 use calling::{CALLS, callers_of, lanes_call, prepares};
 use driven::{driven, members_of};
 use ob_manager::{Limits, Manager};
-use ob_shared::Shared;
-use pin_words::{Keeper, Pins, Reader};
+use ob_shared::{Lane, Shared};
+use pin_words::{Keeper, Opening, Pins, Reader};
 use pinning::{PAIRS, pinners_of, readers_pin};
 use std::alloc::{AllocError, Global};
 use std::sync::Wait;
@@ -33,16 +34,41 @@ enum Case {
     Members(u64),
 }
 
-/// The time of a run over a new manager.
-fn over_shared<'a, R: Threads + Wait + Clock + Sync>(
+fn time_lanes<R: Threads + Wait + Clock + Sync>(
+    rt: &R,
+    alloc: Global,
+    start: Start<'_>,
+    shared: &mut Shared<'_>,
+    count: u64,
+) -> Option<u128> {
+    let mut callers = callers_of(alloc, shared, count)?;
+    let span = lanes_call(rt, start, shared, &mut callers);
+    drop(callers);
+    Some(time_of(span))
+}
+
+fn time_members<R: Threads + Wait + Clock + Sync>(
+    rt: &R,
+    alloc: Global,
+    shared: &mut Shared<'_>,
+    readers: &mut Vec<Reader<'_>>,
+) -> Option<u128> {
+    let mut members = members_of(alloc, shared, readers)?;
+    let time = driven(rt, shared, &mut members);
+    drop(members);
+    time
+}
+
+/// The time of a run, with a lane for the calls before it.
+fn over_lane<R: Threads + Wait + Clock + Sync>(
     rt: &R,
     alloc: Global,
     case: Case,
     shared: &mut Shared<'_>,
-    readers: Vec<Reader<'a>>,
+    lane: &mut Lane,
+    readers: &mut Vec<Reader<'_>>,
 ) -> Option<u128> {
-    let mut lane = shared.lane().ok()?;
-    prepares(rt, shared, &mut lane);
+    prepares(rt, shared, lane);
     let ready = AtomicU64::new(0);
     let threads = match case {
         Case::Lanes(count) | Case::Members(count) => count,
@@ -54,19 +80,29 @@ fn over_shared<'a, R: Threads + Wait + Clock + Sync>(
         origin: Instant::now(rt).ok()?,
     };
     match case {
-        Case::Lanes(count) => {
-            let mut callers = callers_of(alloc, shared, count)?;
-            Some(time_of(lanes_call(rt, start, shared, &mut callers)))
-        }
+        Case::Lanes(count) => time_lanes(rt, alloc, start, shared, count),
         Case::Readers(_) => {
             let mut pinners = pinners_of(alloc, readers)?;
-            Some(time_of(readers_pin(rt, start, shared, &mut lane, &mut pinners)))
+            let span = readers_pin(rt, start, shared, lane, &mut pinners);
+            drop(pinners);
+            Some(time_of(span))
         }
-        Case::Members(_) => {
-            let mut members = members_of(alloc, shared, readers)?;
-            driven(rt, shared, &mut members)
-        }
+        Case::Members(_) => time_members(rt, alloc, shared, readers),
     }
+}
+
+/// The time of a run over a new manager.
+fn over_shared<R: Threads + Wait + Clock + Sync>(
+    rt: &R,
+    alloc: Global,
+    case: Case,
+    shared: &mut Shared<'_>,
+    readers: &mut Vec<Reader<'_>>,
+) -> Option<u128> {
+    let mut lane = shared.lane().ok()?;
+    let time = over_lane(rt, alloc, case, shared, &mut lane, readers);
+    drop(lane);
+    time
 }
 
 /// So many readers, of which the first is given.
@@ -88,24 +124,64 @@ fn readers_of<'a>(
     Ok(readers)
 }
 
+/// A manager behind its lock, and so many readers.
+fn shared_with<'a>(
+    alloc: Global,
+    limits: Limits,
+    opening: Opening,
+    pins: &'a Pins,
+    count: u64,
+) -> Option<(Shared<'a>, Vec<Reader<'a>>)>
+    requires opens { opening ≡ pins.now }
+    requires shape { pins.now.shape ≡ shape_of limits }
+{
+    let Ok((mut keeper, first)) = opening.start(pins) else {
+        return None;
+    };
+    match readers_of(alloc, &mut keeper, first, count) {
+        Ok(readers) => match Manager::new(alloc, limits, keeper) {
+            Ok(manager) => Some((Shared::new(alloc, manager), readers)),
+            Err(refused) => {
+                drop(refused);
+                drop(readers);
+                None
+            }
+        },
+        Err(_) => {
+            drop(keeper);
+            None
+        }
+    }
+}
+
+fn over_pins<R: Threads + Wait + Clock + Sync>(
+    rt: &R,
+    alloc: Global,
+    case: Case,
+    limits: Limits,
+    opening: Opening,
+    pins: &Pins,
+) -> Option<u128>
+    requires opens { opening ≡ pins.now }
+    requires shape { pins.now.shape ≡ shape_of limits }
+{
+    let count = match case {
+        Case::Lanes(_) => 1,
+        Case::Readers(count) | Case::Members(count) => count,
+    };
+    let (mut shared, mut readers) = shared_with(alloc, limits, opening, pins, count)?;
+    let time = over_shared(rt, alloc, case, &mut shared, &mut readers);
+    drop(shared);
+    drop(readers);
+    time
+}
+
 fn run<R: Threads + Wait + Clock + Sync>(rt: &R, alloc: Global, case: Case) -> Option<u128> {
     let limits = Limits::default();
     let Ok((pins, opening)) = Pins::new(alloc, limits.shape()) else {
         return None;
     };
-    let Ok((mut keeper, first)) = opening.start(&pins) else {
-        return None;
-    };
-    let count = match case {
-        Case::Lanes(_) => 1,
-        Case::Readers(count) | Case::Members(count) => count,
-    };
-    let readers = readers_of(alloc, &mut keeper, first, count).ok()?;
-    let Ok(manager) = Manager::new(alloc, limits, keeper) else {
-        return None;
-    };
-    let mut shared = Shared::new(alloc, manager);
-    over_shared(rt, alloc, case, &mut shared, readers)
+    over_pins(rt, alloc, case, limits, opening, &pins)
 }
 
 fn measure<R: Threads + Wait + Clock + Print + Sync>(

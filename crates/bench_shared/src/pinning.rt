@@ -25,20 +25,22 @@ pub struct Pinner<'a> {
 }
 
 /// A pinner for each reader.
-pub fn pinners_of(alloc: Global, readers: Vec<Reader<'_>>) -> Option<Vec<Pinner<'_>>> {
+pub fn pinners_of<'a>(alloc: Global, readers: &mut Vec<Reader<'a>>) -> Option<Vec<Pinner<'a>>> {
     let mut pinners = Vec::new(alloc);
-    let mut slot = 0;
-    for reader in readers {
-        pinners
-            .push(Pinner {
-                reader,
-                slot,
-                span: None,
-            })
-            .ok()?;
-        slot = slot.wrapping_add(APART) % 64;
-    }
+    fill(&mut pinners, readers)?;
     Some(pinners)
+}
+
+fn fill<'a>(pinners: &mut Vec<Pinner<'a>>, readers: &mut Vec<Reader<'a>>) -> Option<()> {
+    let mut slot = 0;
+    for _ in 0..readers.len() {
+        if let Some(reader) = readers.pop() {
+            let span = None;
+            pinners.push(Pinner { reader, slot, span }).ok()?;
+            slot = slot.wrapping_add(APART) % 64;
+        }
+    }
+    Some(())
 }
 
 fn pins<R: Wait + Clock>(

@@ -23,7 +23,25 @@ use ob_rights::{Fault, Kind, Rights};
 use pin_core::{Descr, Id};
 use pin_words::Reclaim;
 use playing::{over_both, over_locked};
+use std::fmt::Debug;
+use std::process::Abort;
 use std::test::Fail;
+
+/// Asserts that what is found is what is due.
+// In place of `assert_eq!`, which each function that has it pays for in its proof.
+fn same<T: Copy + PartialEq + Debug>(rt: &impl Abort, found: T, due: T) {
+    assert_eq!(rt; found, due);
+}
+
+/// The same at a place of a table.
+fn same_at<T: Copy + PartialEq + Debug>(rt: &impl Abort, found: T, due: T, place: usize) {
+    assert_eq!(rt; found, due, "at place {place} of the table");
+}
+
+/// Asserts a condition.
+fn holds(rt: &impl Abort, condition: bool) {
+    assert!(rt; condition);
+}
 
 /// The first object of the first slot, and of the second and the third.
 const FIRST: Id = Id {
@@ -265,8 +283,8 @@ const ORDER: &[Line<'static>] = &[
 fn refusals_come_in_their_order(rt: HostRuntime) -> Result<(), Fail> {
     let limits = Limits::checked(2, 1, 2, 2, 1, 1, 1, 1)?;
     over_locked(&rt, rt.alloc(), limits, &[Step::Calls(ORDER)])?;
-    assert!(&rt; Limits::checked(0, 1, 1, 1, 1, 1, 1, 1).is_err());
-    assert!(&rt; Limits::checked(1, 1, 1, 16_385, 1, 1, 1, 1).is_err());
+    holds(&rt, Limits::checked(0, 1, 1, 1, 1, 1, 1, 1).is_err());
+    holds(&rt, Limits::checked(1, 1, 1, 16_385, 1, 1, 1, 1).is_err());
     Ok(())
 }
 

@@ -1,7 +1,7 @@
 //! Pins of the one holder under the lock.
 use super::filling::{Fill, fills};
 use super::playing::{answers, plays};
-use super::{AGAIN, FIRST, SECOND};
+use super::{AGAIN, FIRST, SECOND, holds, same};
 use call_tables::Ask::{CloseHandle, MakeEvent, Reap, Spawn};
 use call_tables::{Line, PLAIN, Step, locked_manager};
 use ob_manager::Reply::{Closed, Made, Reaped, Spawned};
@@ -60,11 +60,11 @@ fn makes(
     match *step {
         Move::Steps(steps) => plays(rt, alloc, manager, steps)?,
         Move::Calls(table) => answers(rt, alloc, manager, table)?,
-        Move::Pins(id, due) => assert_eq!(rt; manager.pin_locked(id), due),
-        Move::PinsOften(many, id) => assert!(rt; pins_often(manager, many, id)),
-        Move::Unpins(id, due) => assert_eq!(rt; unpins(manager, id), due),
-        Move::IsCard(id, due) => assert!(rt; manager.card(id) == due),
-        Move::Fills(fill) => assert!(rt; fills(manager, fill)),
+        Move::Pins(id, due) => same(rt, manager.pin_locked(id), due),
+        Move::PinsOften(many, id) => holds(rt, pins_often(manager, many, id)),
+        Move::Unpins(id, due) => same(rt, unpins(manager, id), due),
+        Move::IsCard(id, due) => same(rt, manager.card(id), due),
+        Move::Fills(fill) => holds(rt, fills(manager, fill)),
     }
     Ok(())
 }
@@ -90,7 +90,9 @@ pub(super) fn plays_moves(
     moves: &[Move<'_>],
 ) -> Result<(), Fault> {
     let mut manager = locked_manager(alloc, limits)?;
-    makes_all(rt, alloc, &mut manager, moves)
+    let made = makes_all(rt, alloc, &mut manager, moves);
+    drop(manager);
+    made
 }
 
 /// An event that is reset by itself.

@@ -3,6 +3,7 @@ ghost use Rattle.std.specs.Prelude.{◌≡◌};
 ghost use Rattle.ob_store.specs.State.{shape_of};
 
 use super::pinning::{Move, plays_moves};
+use super::same_at;
 use call_tables::{Ask, Line, Step, asked, manager_over, pins_for, started};
 use ob_body::Body;
 use ob_manager::{Limits, Manager, Reply};
@@ -22,7 +23,8 @@ pub(super) fn answers<K: PinKeeper>(
     for (place, (ask, due)) in table.iter().enumerate() {
         let call = ask.to_call(alloc)?;
         let reply = asked(manager, &call, ask.takes_memory(*due));
-        assert_eq!(rt; reply, *due, "at place {place} of the table");
+        drop(call);
+        same_at(rt, reply, *due, place);
     }
     Ok(())
 }
@@ -70,6 +72,11 @@ fn shows<K: PinKeeper>(manager: &Manager<K>, step: &Step<'_>) -> bool {
     }
 }
 
+/// Asserts that a manager shows what is due at a step.
+fn shows_at(rt: &impl Abort, is_shown: bool, place: usize) {
+    assert!(rt; is_shown, "at step {place}");
+}
+
 /// Opens an event by its name once for each handle that is due.
 fn opens<K: PinKeeper>(
     rt: &impl Abort,
@@ -110,7 +117,7 @@ pub(super) fn plays<K: PinKeeper>(
             Step::Opens(text, handles, id) => opens(rt, alloc, manager, text, handles, id)?,
             _ => {}
         }
-        assert!(rt; shows(manager, step), "at step {place}");
+        shows_at(rt, shows(manager, step), place);
     }
     Ok(())
 }
@@ -140,7 +147,9 @@ fn over_keeper(
     let (keeper, reader) = started(opening, pins)?;
     reader.finish();
     let mut manager = manager_over(alloc, limits, keeper)?;
-    plays(rt, alloc, &mut manager, steps)
+    let played = plays(rt, alloc, &mut manager, steps);
+    drop(manager);
+    played
 }
 
 /// Plays over pins in words.

@@ -1,5 +1,5 @@
 //! Want of memory leaves nothing behind, and the same call then succeeds: of each call that takes memory.
-use super::{FIRST, NAMED_A, NAMED_E, NAMED_S, SECOND, THIRD};
+use super::{FIRST, NAMED_A, NAMED_E, NAMED_S, SECOND, THIRD, same_at};
 use call_tables::Ask::{
     Child, Counts, Duplicate, Expire, MakeEvent, MakeMutex, MakeSemaphore, MakeTimer, OpenNamed,
     SetEvent, SetTimer, Spawn, StartThread, Tick, WaitFor, WaitResult,
@@ -9,7 +9,7 @@ use ob_manager::Reply::{
     Code, CountsAre, Done, Duplicated, Exists, Expired, Made, Opened, Pending, Spawned, Started,
     Ticked,
 };
-use ob_manager::{Limits, Make, Manager, Mode, Reply, Timeout};
+use ob_manager::{Call, Limits, Make, Manager, Mode, Reply, Timeout};
 use ob_rights::{Fault, Kind, Rights};
 use ob_store::Found;
 use pin_core::Id;
@@ -100,6 +100,46 @@ fn are_same(manager: &Manager<LockedPins>, twin: &Manager<LockedPins>) -> bool {
         && are_waits_same(manager, twin)
 }
 
+/// Asserts what is said of a place of a table.
+fn holds_at(rt: &impl Abort, condition: bool, otherwise: &str, place: usize) {
+    assert!(rt; condition, "{otherwise} at place {place}");
+}
+
+/// The reply to a call of a manager. Where memory was wanting, the manager shows what its twin does, to which the call was not
+/// made; it is made again.
+fn asked_beside(
+    rt: &impl Abort,
+    manager: &mut Manager<LockedPins>,
+    twin: &Manager<LockedPins>,
+    call: &Call,
+    takes_memory: bool,
+    place: usize,
+) -> Reply {
+    let reply = asked(manager, call, false);
+    if reply != Reply::Refused(Fault::Memory) {
+        return reply;
+    }
+    holds_at(rt, takes_memory, "it takes none", place);
+    holds_at(rt, are_same(manager, twin), "something is left", place);
+    asked(manager, call, false)
+}
+
+/// Makes a call of a manager and then of its twin.
+fn answers_both(
+    rt: &impl Abort,
+    manager: &mut Manager<LockedPins>,
+    twin: &mut Manager<LockedPins>,
+    call: &Call,
+    takes_memory: bool,
+    due: Reply,
+    place: usize,
+) {
+    let reply = asked_beside(rt, manager, twin, call, takes_memory, place);
+    same_at(rt, reply, due, place);
+    same_at(rt, asked(twin, call, true), due, place);
+    holds_at(rt, are_same(manager, twin), "they differ", place);
+}
+
 /// Makes the calls of a table, and each of them of a second manager behind the first. Where memory was wanting, the first shows
 /// what the second does, to which the call was not made; made again, it is answered as is due.
 fn answers_twice(
@@ -110,23 +150,10 @@ fn answers_twice(
     table: &[Line<'_>],
 ) -> Result<(), Fault> {
     for (place, (ask, due)) in table.iter().enumerate() {
+        let takes_memory = ask.takes_memory(*due);
         let call = ask.to_call(alloc)?;
-        let mut reply = asked(manager, &call, false);
-        if reply == Reply::Refused(Fault::Memory) {
-            assert!(rt; ask.takes_memory(*due), "it takes none at place {place}");
-            assert!(rt;
-                are_same(manager, twin),
-                "something is left at place {place}"
-            );
-            reply = asked(manager, &call, false);
-        }
-        assert_eq!(rt; reply, *due, "at place {place} of the table");
-        assert_eq!(rt;
-            asked(twin, &call, true),
-            *due,
-            "at place {place} of the table"
-        );
-        assert!(rt; are_same(manager, twin), "they differ at place {place}");
+        answers_both(rt, manager, twin, &call, takes_memory, *due, place);
+        drop(call);
     }
     Ok(())
 }
@@ -194,13 +221,17 @@ fn beside_twin(
     manager: &mut Manager<LockedPins>,
 ) -> Result<(), Fault> {
     let mut twin = locked_manager(alloc, limits)?;
-    answers_twice(rt, alloc, manager, &mut twin, EACH)
+    let answered = answers_twice(rt, alloc, manager, &mut twin, EACH);
+    drop(twin);
+    answered
 }
 
 /// Plays over one, and another beside it.
 fn over_two(rt: &impl Abort, alloc: Global, limits: Limits) -> Result<(), Fault> {
     let mut manager = locked_manager(alloc, limits)?;
-    beside_twin(rt, alloc, limits, &mut manager)
+    let answered = beside_twin(rt, alloc, limits, &mut manager);
+    drop(manager);
+    answered
 }
 
 #[test]

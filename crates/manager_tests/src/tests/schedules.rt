@@ -1,4 +1,5 @@
 //! Random calls of time, against a plain model that searches lists.
+use super::same;
 use call_tables::{asked, locked_manager};
 use ob_manager::Reply::{Code, Done, Made, Pending, Refused, Spawned, Started, Ticked};
 use ob_manager::{Call, HandleList, Limits, Make, Manager, Mode, Reply, Timeout};
@@ -263,9 +264,9 @@ fn waits(
         Mode::All
     };
     let timeout = timeout_of(random);
-    let handles = HandleList::new(alloc, &[handle_of(first), handle_of(second)])?;
     let thread = waiter.saturating_add(2);
     let due = world.wait(waiter, mode, first, second, timeout)?;
+    let handles = HandleList::new(alloc, &[handle_of(first), handle_of(second)])?;
     let call = Call::WaitFor {
         thread,
         mode,
@@ -338,22 +339,13 @@ fn opens<K: PinKeeper>(
     manager: &mut Manager<K>,
     world: &mut World,
 ) -> Result<(), AllocError> {
+    let (process, thread) = (1, 1);
     let spawned = asked(manager, &Call::Spawn { session: 1 }, true);
-    assert_eq!(rt;
-        spawned,
-        Spawned {
-            process: 1,
-            thread: 1
-        }
-    );
+    same(rt, spawned, Spawned { process, thread });
     for waiter in 0..WAITERS {
-        let started = asked(manager, &Call::StartThread { process: 1 }, true);
-        assert_eq!(rt;
-            started,
-            Started {
-                thread: waiter.saturating_add(2)
-            }
-        );
+        let thread = waiter.saturating_add(2);
+        let started = asked(manager, &Call::StartThread { process }, true);
+        same(rt, started, Started { thread });
     }
     for timer in 0..TIMERS {
         let manual = timer % 2 == 1;
@@ -371,18 +363,36 @@ fn opens<K: PinKeeper>(
         if made == Refused(Fault::Memory) {
             made = manager.create_timer(1, &make, manual);
         }
-        assert_eq!(rt;
-            made,
-            Made {
-                handle: handle_of(timer),
-                id
-            }
-        );
+        let handle = handle_of(timer);
+        same(rt, made, Made { handle, id });
         world.timers.push(Plain {
             manual,
             signaled: false,
             due: None,
         })?;
+    }
+    Ok(())
+}
+
+/// Asserts that a call is answered as is due in a round.
+fn same_in(rt: &impl Abort, reply: Reply, due: Reply, round: u32) {
+    assert_eq!(rt; reply, due, "in round {round}");
+}
+
+fn drives_beside<K: PinKeeper>(
+    rt: &impl Abort,
+    alloc: Global,
+    manager: &mut Manager<K>,
+    world: &mut World,
+    rounds: u32,
+) -> Result<(), AllocError> {
+    opens(rt, manager, world)?;
+    let mut random = Random { word: 2463534242 };
+    for round in 0..rounds {
+        let (call, due) = next(alloc, world, &mut random)?;
+        let reply = asked(manager, &call, true);
+        drop(call);
+        same_in(rt, reply, due, round);
     }
     Ok(())
 }
@@ -394,25 +404,22 @@ fn drives<K: PinKeeper>(
     manager: &mut Manager<K>,
     rounds: u32,
 ) -> Result<(), AllocError> {
-    let mut random = Random { word: 2463534242 };
     let mut world = World {
         timers: Vec::new(alloc),
         waits: Vec::new(alloc),
         given: 0,
         clock: 0,
     };
-    opens(rt, manager, &mut world)?;
-    for round in 0..rounds {
-        let (call, due) = next(alloc, &mut world, &mut random)?;
-        let reply = asked(manager, &call, true);
-        assert_eq!(rt; reply, due, "in round {round}");
-    }
-    Ok(())
+    let driven = drives_beside(rt, alloc, manager, &mut world, rounds);
+    drop(world);
+    driven
 }
 
 #[test]
 fn random_calls_of_time_are_answered_as_lists_say(rt: HostRuntime) -> Result<(), Fail> {
     let mut manager = locked_manager(rt.alloc(), Limits::default())?;
-    drives(&rt, rt.alloc(), &mut manager, 10_000)?;
+    let driven = drives(&rt, rt.alloc(), &mut manager, 10_000);
+    drop(manager);
+    driven?;
     Ok(())
 }
