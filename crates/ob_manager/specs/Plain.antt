@@ -1,9 +1,9 @@
--- Which calls have no parts of their own in memory.
+-- Which calls have no parts that lie apart in memory.
 use Rattle.std.specs.Prelude.{Bool, false, true}
 use Rattle.ob_manager.specs.declared.call.Call.{Call}
 use Rattle.ob_manager.specs.declared.call.Call.TheVariants as calls
 
--- a call has neither a name nor handles that lie apart
+-- each call but a create, an open and a wait, which may have a name or handles that lie apart
 abbrev pub is_plain : Call → Bool
 is_plain (calls.MakeEvent thread making manual set) = false
 is_plain (calls.MakeMutex thread making owned) = false

@@ -229,7 +229,7 @@ impl Call {
         }
     }
 
-    /// An equal one, which takes no memory, of a call that has neither a name nor handles to copy.
+    /// An equal one, which takes no memory: of each call but a create, an open and a wait, which may have a name or handles.
     #[inline(always)]
     pub fn plain_copy(&self) -> Option<Call>
         ensures some { IfSome result (λ copy. copy ≡ self.now) }
@@ -323,7 +323,7 @@ impl Call {
         }
     }
 
-    /// An equal one of a call that has a name or handles.
+    /// An equal one of a create, an open or a wait.
     #[inline(never)]
     fn deep_copy(&self, alloc: Global) -> Result<Call, AllocError>
         requires { is_plain self.now ≡ false }

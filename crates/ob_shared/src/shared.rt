@@ -104,7 +104,7 @@ impl<'a> Shared<'a> {
         }
     }
 
-    /// The same for a call that has a name or handles, which are copied first.
+    /// The same for a create, an open or a wait, whose name or handles are copied first.
     #[inline(never)]
     fn copy_and_enter<R: Wait>(
         &self,
