@@ -2,7 +2,7 @@ ghost use Rattle.std.specs.Prelude.{◌≡◌, ◌≤◌, IfSome};
 ghost use Rattle.ob_lanes.specs.Lines.{IsOfLane, behind_prefix, in_lane, in_prefixed, is_marked, lane_of, line_in, line_of, with_prefix, without_prefix};
 ghost use Rattle.ob_script.specs.Acts.{act_in};
 
-use ob_script::{Act, Ask, TEXT_MOST, act_of, cut_far, labelled, text_of};
+use ob_script::{Act, Ask, act_of, cut_far, is_too_long, labelled, text_of};
 use pin_core::Id;
 
 /// What a line asks of the member of a lane, with names and handles as they stand in the line.
@@ -37,7 +37,7 @@ pub fn line_of(lanes: u32, is_prologue: bool, line: &[u8]) -> Line<'_>
     ensures value { line_in result ≡ line_of lanes is_prologue line.now }
     ensures lane { IsOfLane lanes result }
 {
-    if text_of(line).len() > TEXT_MOST {
+    if is_too_long(text_of(line)) {
         return Line::Bad;
     }
     if is_marked(line) {

@@ -1,4 +1,4 @@
-ghost use Rattle.std.specs.Prelude.{◌≡◌, ◌≤◌, IfSome};
+ghost use Rattle.std.specs.Prelude.{◌≡◌, ◌≤◌, IfSome, length, nat_lt};
 ghost use Rattle.ob_script.specs.Words.{are_handles, words_of};
 ghost use Rattle.ob_script.specs.Acts.{act_in};
 ghost use Rattle.ob_script.specs.Grammar.{access_of, act_of, asked, cancel_of, card_of, child_of, close_of, closing_of, count_of, dup_of, endthread_of, event_of, exit_of, expire_of, flags_of, handle_of, mode_of, mutex_of, object_of, open_of, or_bad, pin_of, reap_of, release_of, reset_of, result_of, semaphore_of, set_of, setflags_of, settimer_of, spawn_of, target_of, text_of, thread_of, tick_of, timeout_of, timer_of, unlock_of, unpin_of, wait_of};
@@ -23,7 +23,14 @@ macro_rules! wanted {
 }
 
 /// The longest text of a line, in bytes.
-pub const TEXT_MOST: usize = 4096;
+const TEXT_MOST: usize = 4096;
+
+/// Whether a text is longer than that of a line may be.
+pub fn is_too_long(text: &[u8]) -> bool
+    ensures { result ≡ nat_lt 4096 (length text.now) }
+{
+    text.len() > TEXT_MOST
+}
 
 /// What a line is, without its line feed.
 //
@@ -34,7 +41,7 @@ pub fn act_of(line: &[u8]) -> Act<'_>
     ensures { act_in result ≡ act_of line.now }
 {
     let text = text_of(line);
-    if text.len() > TEXT_MOST {
+    if is_too_long(text) {
         return Act::Bad;
     }
     if text.is_empty() || text[0] == b'#' {

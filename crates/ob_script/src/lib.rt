@@ -20,7 +20,7 @@ mod rights;
 mod words;
 
 pub use act::{Act, Ask};
-pub use grammar::{TEXT_MOST, act_of, text_of};
+pub use grammar::{act_of, is_too_long, text_of};
 pub use handles::handles_of;
 pub use held::HeldLine;
 pub use numbers::labelled;
