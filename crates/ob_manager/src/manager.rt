@@ -4,7 +4,7 @@ ghost use Rattle.ob_name.specs.Refs.{row_at};
 ghost use Rattle.pin_words.specs.Keepers.{IsFresh};
 ghost use Rattle.ob_store.specs.Directory.{directory_of};
 ghost use Rattle.ob_store.specs.Consistent.{IsConsistent};
-ghost use Rattle.ob_store.specs.Objects.{object_of};
+ghost use Rattle.ob_store.specs.Objects.{object_of, tag_of};
 ghost use Rattle.ob_store.specs.State.{blocks_of, handles_of, hold_of, opening, shape_of};
 ghost use Rattle.ob_store.specs.Stored.{Stands, hold_in};
 ghost use Rattle.ob_manager.specs.Makings.{making_of};
@@ -85,7 +85,7 @@ impl<K: PinKeeper> Manager<K> {
     /// What a slot holds, as it is stored: its handles are the entries that name the object, its blocks the places of pending
     /// waits that do, and it has a hold once there is neither.
     pub fn slot(&self, slot: u32) -> Option<Found<'_>>
-        ensures object { slice_index_or self.now.state.objects slot None ≡ option_map (λ found. object_of found.seat.now found.label.now) result }
+        ensures object { slice_index_or self.now.state.objects slot None ≡ option_map (λ found. object_of found.seat.now (tag_of found.label.now found.name.now)) result }
         ensures place { IfSome result (λ found. found.seat.now.id.slot ≡ slot) }
         ensures handles { IfSome result (λ found. found.seat.now.handles ≡ handles_of self.now.state found.seat.now.id) }
         ensures blocks { IfSome result (λ found. found.seat.now.blocks ≡ blocks_of self.now.state found.seat.now.id) }

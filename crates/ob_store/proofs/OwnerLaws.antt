@@ -13,10 +13,9 @@ use Rattle.ob_arena.specs.Slots.{Slots, is_vacant_at}
 use Rattle.ob_arena.proofs.SlotLemmas.{vacant_empty, vacant_within}
 use Rattle.ob_waits.specs.Form.{slot_owner}
 use Rattle.ob_waits.specs.Objects.{Objects}
-use Rattle.ob_store.specs.declared.label.Label.{Label}
 use Rattle.ob_store.specs.declared.seat.Seat.{Seat}
 use Rattle.ob_store.specs.Ends.{slot_left_by}
-use Rattle.ob_store.specs.Objects.{object_at, objects_in, no_label, places_of, seat_body, vacancy}
+use Rattle.ob_store.specs.Objects.{Tag, object_at, objects_in, no_tag, places_of, seat_body, vacancy}
 use Rattle.ob_store.specs.State.{by_slot}
 use Rattle.ob_store.specs.Owners.{seat_owner, is_seat_of, owned_left, owned_came, owned_moved, IsOwned}
 use Rattle.ob_store.proofs.LabelLaws.{object_read, objects_length}
@@ -184,18 +183,18 @@ left_before t k o p is =
     ap (λ (z : Objects). record z { bodies = map f z.bodies }) is ∙ (λ i. record o { bodies = bodies i })
 
 -- a vacant slot has no seat
-pub vacant_seat : (s : Slots Seat) (labels : List Label) (k : ℕ) → is_vacant_at (vacancy (places_of s labels)) k ≡ true → (k < length s.bodies) × (get_or s.bodies k None ≡ None)
-vacant_seat s labels k vacant = (within, by (get_or s.bodies k None) (get_or labels k no_label) (sym (object_read s.bodies labels k) ∙ vacant_empty (vacancy (places_of s labels)) k vacant))
+pub vacant_seat : (s : Slots Seat) (labels : List Tag) (k : ℕ) → is_vacant_at (vacancy (places_of s labels)) k ≡ true → (k < length s.bodies) × (get_or s.bodies k None ≡ None)
+vacant_seat s labels k vacant = (within, by (get_or s.bodies k None) (get_or labels k no_tag) (sym (object_read s.bodies labels k) ∙ vacant_empty (vacancy (places_of s labels)) k vacant))
   where
     within : k < length s.bodies
     within = omega (arith, vacant_within (vacancy (places_of s labels)) k vacant, objects_length s.bodies labels)
 
-    by : (x : Option Seat) (label : Label) → object_at x label ≡ None → x ≡ None
+    by : (x : Option Seat) (label : Tag) → object_at x label ≡ None → x ≡ None
     by None label none = refl
     by (Some x) label none = absurd (cc)
 
 -- a slot with an object is there
-pub object_within : (s : Slots Seat) (labels : List Label) (k : ℕ) → IsSome (get_or (objects_in s.bodies labels) k None) → k < length s.bodies
+pub object_within : (s : Slots Seat) (labels : List Tag) (k : ℕ) → IsSome (get_or (objects_in s.bodies labels) k None) → k < length s.bodies
 object_within s labels k there = elim (cases_lt k (length s.bodies)) [
   | inl lt ↦ lt
   | inr le ↦ absurd (let past = get_or_past (objects_in s.bodies labels) k None (omega (arith, objects_length s.bodies labels, le)) in let e = ap is_some past in cc (e, there))

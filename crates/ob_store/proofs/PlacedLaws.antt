@@ -12,7 +12,7 @@ use Rattle.ob_waits.specs.Waits.{WaitList, blocks_among}
 use Rattle.ob_store.specs.declared.limits.Limits.{Limits}
 use Rattle.ob_store.specs.declared.found.Found.{Found}
 use Rattle.ob_store.specs.Lives.{LivesState}
-use Rattle.ob_store.specs.Objects.{Object, ObjectsState, object_of}
+use Rattle.ob_store.specs.Objects.{Object, ObjectsState, object_of, tag_of}
 use Rattle.ob_store.specs.Agreement.{IsTied}
 use Rattle.ob_store.specs.Kept.{IsKept, IsLive, IsThere, LivesKept, id_in}
 use Rattle.ob_store.proofs.AgreeLaws.{body_at}
@@ -46,13 +46,13 @@ module _ (limits : Limits) (l : LivesState) (ts : HandleTables) (s : ObjectsStat
     own_blocks = ap (λ i. get_or s.seen.blocks i 0) (sym own) ∙ blocks_at s.seen (length s.objects) ts.tables ws.waits kept.counted o.id.slot (there_within s.objects o.id there) ∙ blocks_are s.objects ts.tables ws.waits kept.named o.id there
 
   -- and so does what is seen there
-  pub seen_handles : (x : Option Found) → get_or s.objects k None ≡ option_map (λ (found : Found). object_of found.seat.now found.label.now) x → IfSome x (λ (found : Found). get_or s.seen.handles k 0 ≡ found.seat.now.handles) → IfSome x (λ (found : Found). found.seat.now.handles ≡ handles_among found.seat.now.id ts.tables)
+  pub seen_handles : (x : Option Found) → get_or s.objects k None ≡ option_map (λ (found : Found). object_of found.seat.now (tag_of found.label.now found.name.now)) x → IfSome x (λ (found : Found). get_or s.seen.handles k 0 ≡ found.seat.now.handles) → IfSome x (λ (found : Found). found.seat.now.handles ≡ handles_among found.seat.now.id ts.tables)
   seen_handles None at is = tt
-  seen_handles (Some found) at is = sym is ∙ own_handles (object_of found.seat.now found.label.now) at
+  seen_handles (Some found) at is = sym is ∙ own_handles (object_of found.seat.now (tag_of found.label.now found.name.now)) at
 
-  pub seen_blocks : (x : Option Found) → get_or s.objects k None ≡ option_map (λ (found : Found). object_of found.seat.now found.label.now) x → IfSome x (λ (found : Found). get_or s.seen.blocks k 0 ≡ found.seat.now.blocks) → IfSome x (λ (found : Found). found.seat.now.blocks ≡ blocks_among found.seat.now.id ws.waits)
+  pub seen_blocks : (x : Option Found) → get_or s.objects k None ≡ option_map (λ (found : Found). object_of found.seat.now (tag_of found.label.now found.name.now)) x → IfSome x (λ (found : Found). get_or s.seen.blocks k 0 ≡ found.seat.now.blocks) → IfSome x (λ (found : Found). found.seat.now.blocks ≡ blocks_among found.seat.now.id ws.waits)
   seen_blocks None at is = tt
-  seen_blocks (Some found) at is = sym is ∙ own_blocks (object_of found.seat.now found.label.now) at
+  seen_blocks (Some found) at is = sym is ∙ own_blocks (object_of found.seat.now (tag_of found.label.now found.name.now)) at
 
 -- a live number is one of those given
 live_within : (numbers : List (Option ℕ)) (n : ℕ) → IsLive numbers n → n < length numbers

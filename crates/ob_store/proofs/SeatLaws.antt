@@ -10,9 +10,8 @@ use Rattle.ob_body.specs.declared.body.Body.{Body}
 use Rattle.ob_arena.specs.Slots.{Slots, is_vacant_at, least_vacant}
 use Rattle.ob_arena.proofs.SlotLemmas.{vacant_least, vacant_within}
 use Rattle.ob_waits.specs.Objects.{slot_acquired, without_block}
-use Rattle.ob_store.specs.declared.label.Label.{Label}
 use Rattle.ob_store.specs.declared.seat.Seat.{Seat}
-use Rattle.ob_store.specs.Objects.{Object, Places, places_of, rest_of, seen_in, object_at, object_of, objects_in, no_label, seat_body, seat_handles, seat_blocks, seat_handle_left, seat_block_left, vacancy, vacant_places, with_seat, with_handle, without_handle, with_block, without_seat, is_last_handle}
+use Rattle.ob_store.specs.Objects.{Object, Places, places_of, rest_of, seen_in, Tag, object_at, object_of, objects_in, no_tag, seat_body, seat_handles, seat_blocks, seat_handle_left, seat_block_left, vacancy, vacant_places, with_seat, with_handle, without_handle, with_block, without_seat, is_last_handle}
 use Rattle.ob_store.proofs.LabelLaws.{none_object, object_read, objects_kept, objects_length, objects_none, objects_out, objects_put}
 
 -- what a list that is read off another has at a place
@@ -31,7 +30,7 @@ module _ (xs : List (Option Seat)) (k : ℕ) (x : Seat) (is : get_or xs k None �
   blocks_at = read seat_blocks xs k ∙ ap seat_blocks is
 
   -- where the object stays
-  pub objects_same : (ls : List Label) (y : Seat) → ((l : Label) → object_of y l ≡ object_of x l) → objects_in (set xs k (Some y)) ls ≡ objects_in xs ls
+  pub objects_same : (ls : List Tag) (y : Seat) → ((l : Tag) → object_of y l ≡ object_of x l) → objects_in (set xs k (Some y)) ls ≡ objects_in xs ls
   objects_same ls y same = objects_kept xs ls k (Some y) (λ l. ap Some (same l) ∙ ap (λ z. object_at z l) (sym is))
 
   pub handles_same : (y : Seat) → y.handles ≡ x.handles → map seat_handles (set xs k (Some y)) ≡ map seat_handles xs
@@ -71,7 +70,7 @@ module _ (xs : List (Option Seat)) (k : ℕ) (x : Seat) (is : get_or xs k None �
       }
 
   -- all that is read off the seats
-  module _ (retired : List Bool) (ls : List Label) where
+  module _ (retired : List Bool) (ls : List Tag) where
     abbrev before : Places
     before = places_of (record { bodies = xs; retired = retired }) ls
 
@@ -107,16 +106,16 @@ module _ (xs : List (Option Seat)) (k : ℕ) (x : Seat) (is : get_or xs k None �
     }
 
     -- what waits leave as it is
-    pub rest_same : (y : Seat) → ((l : Label) → object_of y l ≡ object_of x l) → y.handles ≡ x.handles → rest_of (after y) ≡ rest_of before
+    pub rest_same : (y : Seat) → ((l : Tag) → object_of y l ≡ object_of x l) → y.handles ≡ x.handles → rest_of (after y) ≡ rest_of before
     rest_same y object handles = λ i. record { objects = objects_same ls y object i; handles = handles_same y handles i; retired = retired }
 
 -- vacancy is that of the arena
-pub vacant_same : (s : Slots Seat) (ls : List Label) (k : ℕ) → is_vacant_at (vacancy (places_of s ls)) k ≡ is_vacant_at s k
+pub vacant_same : (s : Slots Seat) (ls : List Tag) (k : ℕ) → is_vacant_at (vacancy (places_of s ls)) k ≡ is_vacant_at s k
 vacant_same s ls k =
     ap (λ n. ltb k n && (is_none (get_or (objects_in s.bodies ls) k None) && not (get_or s.retired k false))) (objects_length s.bodies ls)
-    ∙ ap (λ b. ltb k (length s.bodies) && (b && not (get_or s.retired k false))) (ap is_none (object_read s.bodies ls k) ∙ none_object (get_or s.bodies k None) (get_or ls k no_label))
+    ∙ ap (λ b. ltb k (length s.bodies) && (b && not (get_or s.retired k false))) (ap is_none (object_read s.bodies ls k) ∙ none_object (get_or s.bodies k None) (get_or ls k no_tag))
 
-pub least_same : (s : Slots Seat) (ls : List Label) → least_vacant s ≡ least_vacant (vacancy (places_of s ls))
+pub least_same : (s : Slots Seat) (ls : List Tag) → least_vacant s ≡ least_vacant (vacancy (places_of s ls))
 least_same s ls =
     ap {A = ℕ → Bool} (λ p. find p (range_with_len 0 (length s.bodies))) (λ i k. sym (vacant_same s ls k) i)
     ∙ ap (λ n. find (is_vacant_at (vacancy (places_of s ls))) (range_with_len 0 n)) (sym (objects_length s.bodies ls))
@@ -126,7 +125,7 @@ least_is s None is = tt
 least_is s (Some slot) is = vacant_least s slot (sym is)
 
 -- a new object in a vacant slot
-pub places_added : (s : Slots Seat) (ls : List Label) (k : ℕ) (y : Seat) (m : Label) (body : Body) → k < length ls → y.body ≡ Some body → y.handles ≡ 1 → y.blocks ≡ 0
+pub places_added : (s : Slots Seat) (ls : List Tag) (k : ℕ) (y : Seat) (m : Tag) (body : Body) → k < length ls → y.body ≡ Some body → y.handles ≡ 1 → y.blocks ≡ 0
     → places_of (record s { bodies = set s.bodies k (Some y) }) (set ls k m) ≡ with_seat (places_of s ls) k (object_of y m) body
 places_added s ls k y m body within has one none = λ i. record {
   objects = objects_put s.bodies ls k y m within i;
@@ -139,15 +138,15 @@ places_added s ls k y m body within has one none = λ i. record {
 }
 
 -- it has one handle
-pub added_handle : (s : Slots Seat) (ls : List Label) (k : ℕ) (y : Seat) → y.handles ≡ 1 → is_vacant_at (vacancy (places_of s ls)) k ≡ true → get_or (map seat_handles (set s.bodies k (Some y))) k 0 ≡ 1
+pub added_handle : (s : Slots Seat) (ls : List Tag) (k : ℕ) (y : Seat) → y.handles ≡ 1 → is_vacant_at (vacancy (places_of s ls)) k ≡ true → get_or (map seat_handles (set s.bodies k (Some y))) k 0 ≡ 1
 added_handle s ls k y one vacant =
     let within : k < length s.bodies = omega (arith, vacant_within (vacancy (places_of s ls)) k vacant, objects_length s.bodies ls) in
     read seat_handles (set s.bodies k (Some y)) k ∙ ap seat_handles (get_or-set_same s.bodies k (Some y) None within) ∙ one
 
 -- an object that leaves
-pub places_removed : (s : Slots Seat) (ls : List Label) (k : ℕ) (m : Label) → places_of (record s { bodies = set s.bodies k None }) (set ls k m) ≡ without_seat (places_of s ls) k
-places_removed s ls k m = λ i. record {
-  objects = objects_out s.bodies ls k m i;
+pub places_removed : (s : Slots Seat) (ls : List Tag) (k : ℕ) → places_of (record s { bodies = set s.bodies k None }) ls ≡ without_seat (places_of s ls) k
+places_removed s ls k = λ i. record {
+  objects = objects_out s.bodies ls k i;
   seen = record { bodies = map-set seat_body s.bodies k None i; handles = map-set seat_handles s.bodies k None i; blocks = map-set seat_blocks s.bodies k None i };
   retired = s.retired;
 }
@@ -173,7 +172,7 @@ map-replicate : {A B : Type 0} (f : A → B) (x : A) (n : ℕ) → map f (replic
 map-replicate f x zero = refl
 map-replicate f x (suc n) = ap (λ t. f x ∷ t) (map-replicate f x n)
 
-pub places_vacant : (n : ℕ) (ls : List Label) → places_of (record { bodies = replicate n None; retired = replicate n false }) ls ≡ vacant_places n
+pub places_vacant : (n : ℕ) (ls : List Tag) → places_of (record { bodies = replicate n None; retired = replicate n false }) ls ≡ vacant_places n
 places_vacant n ls = λ i. record {
   objects = objects_none n ls i;
   seen = record { bodies = map-replicate seat_body None n i; handles = map-replicate seat_handles None n i; blocks = map-replicate seat_blocks None n i };

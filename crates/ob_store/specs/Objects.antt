@@ -45,22 +45,40 @@ with_keeper p births keeper = record { objects = p.objects; seen = p.seen; retir
 abbrev pub places_in : ObjectsState → Places
 places_in s = record { objects = s.objects; seen = s.seen; retired = s.retired }
 
--- an object is its seat and its label
-abbrev pub object_of : Seat → Label → Object
-object_of seat label = record { id = seat.id; birth = label.birth; descr = label.descr; grant = seat.grant; name = label.name }
+-- what of an object stands beside its seat: its label, and its name where the label says that it has one
+pub record Tag : Type 0 where
+  pub birth : ℕ
+  pub descr : Descr
+  pub name : Option ObjectName
 
--- the label where no object is
+abbrev pub tag_of : Label → Option ObjectName → Tag
+tag_of label name = record { birth = label.birth; descr = label.descr; name = if label.is_named then name else None }
+
+-- by slot
+abbrev pub tags_in : List Label → List (Option ObjectName) → List Tag
+tags_in [] names = []
+tags_in (label ∷ labels) [] = tag_of label None ∷ tags_in labels []
+tags_in (label ∷ labels) (name ∷ names) = tag_of label name ∷ tags_in labels names
+
+-- where no object is
 abbrev pub no_label : Label
-no_label = record { birth = 0; descr = record { kind = Event; manual = false; max = 0 }; name = None }
+no_label = record { birth = 0; descr = record { kind = Event; manual = false; max = 0 }; is_named = false }
 
-abbrev pub object_at : Option Seat → Label → Option Object
-object_at None label = None
-object_at (Some seat) label = Some (object_of seat label)
+abbrev pub no_tag : Tag
+no_tag = tag_of no_label None
 
-abbrev pub objects_in : List (Option Seat) → List Label → List (Option Object)
-objects_in [] labels = []
-objects_in (seat ∷ seats) [] = object_at seat no_label ∷ objects_in seats []
-objects_in (seat ∷ seats) (label ∷ labels) = object_at seat label ∷ objects_in seats labels
+-- an object is its seat and its tag
+abbrev pub object_of : Seat → Tag → Object
+object_of seat tag = record { id = seat.id; birth = tag.birth; descr = tag.descr; grant = seat.grant; name = tag.name }
+
+abbrev pub object_at : Option Seat → Tag → Option Object
+object_at None tag = None
+object_at (Some seat) tag = Some (object_of seat tag)
+
+abbrev pub objects_in : List (Option Seat) → List Tag → List (Option Object)
+objects_in [] tags = []
+objects_in (seat ∷ seats) [] = object_at seat no_tag ∷ objects_in seats []
+objects_in (seat ∷ seats) (tag ∷ tags) = object_at seat tag ∷ objects_in seats tags
 
 abbrev pub seat_body : Option Seat → Option Body
 seat_body None = None
@@ -84,8 +102,8 @@ seat_block_left seat = record seat { blocks = seat.blocks - 1; body = if seat.ha
 abbrev pub seen_in : List (Option Seat) → waits.Objects
 seen_in seats = record { bodies = map seat_body seats; handles = map seat_handles seats; blocks = map seat_blocks seats }
 
-abbrev pub places_of : Slots Seat → List Label → Places
-places_of s labels = record { objects = objects_in s.bodies labels; seen = seen_in s.bodies; retired = s.retired }
+abbrev pub places_of : Slots Seat → List Tag → Places
+places_of s tags = record { objects = objects_in s.bodies tags; seen = seen_in s.bodies; retired = s.retired }
 
 -- the slots with their objects, as an arena has them
 abbrev pub vacancy : Places → Slots Object

@@ -5,7 +5,7 @@ ghost use Rattle.ob_tables.specs.Table.{entry_at, free_place, value_of};
 ghost use Rattle.ob_tables.specs.Tables.{table_of};
 ghost use Rattle.ob_store.specs.State.{settled, with_entry, with_flags, without_entry};
 ghost use Rattle.std.specs.Option.{option_map};
-ghost use Rattle.ob_store.specs.Objects.{object_of};
+ghost use Rattle.ob_store.specs.Objects.{object_of, tag_of};
 ghost use Rattle.ob_store.specs.Moves.{OnlyCloses, rows_left};
 
 use crate::found::Found;
@@ -70,7 +70,7 @@ impl<K: PinKeeper> Store<K> {
 /// The name of an object leaves the directory where the object has no handle left.
 #[inline(always)]
 pub(crate) fn leave_directory(names: &mut Directory, found: Option<Found<'_>>)
-    ensures { names.new.rows ≡ rows_left names.old.rows (option_map (λ f. f.seat.now.handles) found.entry) (option_map (λ f. object_of f.seat.now f.label.now) found.entry) }
+    ensures { names.new.rows ≡ rows_left names.old.rows (option_map (λ f. f.seat.now.handles) found.entry) (option_map (λ f. object_of f.seat.now (tag_of f.label.now f.name.now)) found.entry) }
 {
     let Some(found) = found else {
         return;
@@ -78,7 +78,10 @@ pub(crate) fn leave_directory(names: &mut Directory, found: Option<Found<'_>>)
     if found.seat.handles > 0 {
         return;
     }
-    let Some(name) = &found.label.name else {
+    if !found.label.is_named {
+        return;
+    }
+    let Some(name) = found.name else {
         return;
     };
     let _ = names.remove(&name.borrowed());

@@ -1,19 +1,18 @@
 ghost use Rattle.std.specs.Prelude.{◌≡◌};
 ghost use Rattle.ob_store.specs.Objects.{no_label};
 
-use ob_name::Name;
 use ob_rights::Kind;
 use pin_core::Descr;
 
 /// What of an object few calls read; none of it changes.
-#[derive(Drop)]
+#[derive(Clone, Copy)]
 pub struct Label {
     /// Its number, in the order of births, from 0.
     pub birth: u64,
     /// What it is, for its whole life.
     pub descr: Descr,
-    /// Its name, if it was created with one.
-    pub name: Option<Name>,
+    /// Whether it was created with a name. The name stands beside the label.
+    pub is_named: bool,
 }
 
 impl Label {
@@ -28,7 +27,7 @@ impl Label {
                 manual: false,
                 max: 0,
             },
-            name: None,
+            is_named: false,
         }
     }
 }

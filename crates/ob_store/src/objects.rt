@@ -7,7 +7,7 @@ ghost use Rattle.ob_arena.specs.Slots.{is_vacant_at, least_vacant};
 ghost use Rattle.ob_body.specs.Mutex.{is_owner};
 ghost use Rattle.ob_waits.specs.Form.{slot_owner};
 ghost use Rattle.ob_waits.specs.Waits.{nowhere};
-ghost use Rattle.ob_store.specs.Objects.{kept_rest, object_of, places_in, with_keeper, vacant_places, vacancy, with_object, with_handle_of, with_handle_at, with_handles_of, without_handle_of, with_block_of, with_blocks_of};
+ghost use Rattle.ob_store.specs.Objects.{kept_rest, object_of, tag_of, places_in, with_keeper, vacant_places, vacancy, with_object, with_handle_of, with_handle_at, with_handles_of, without_handle_of, with_block_of, with_blocks_of};
 ghost use Rattle.ob_store.specs.Agreement.{IsTied, Reclaimed};
 ghost use Rattle.ob_store.specs.Ends.{slot_left_by};
 ghost use Rattle.ob_store.specs.Ticks.{slot_fired, slot_is_due};
@@ -93,7 +93,7 @@ impl<K: PinKeeper> Objects<K> {
 
     /// The object in a slot.
     pub fn look(&self, slot: u32) -> Option<Found<'_>>
-        ensures object { slice_index_or self.now.objects slot None ≡ option_map (λ found. object_of found.seat.now found.label.now) result }
+        ensures object { slice_index_or self.now.objects slot None ≡ option_map (λ found. object_of found.seat.now (tag_of found.label.now found.name.now)) result }
         ensures body { IfSome result (λ found. slice_index_or self.now.seen.bodies slot None ≡ found.seat.now.body) }
         ensures handles { IfSome result (λ found. slice_index_or self.now.seen.handles slot 0 ≡ found.seat.now.handles) }
         ensures blocks { IfSome result (λ found. slice_index_or self.now.seen.blocks slot 0 ≡ found.seat.now.blocks) }

@@ -10,7 +10,7 @@ use pin_core::Id;
 /// An object in its slot, but for its label, and how much refers to it.
 #[derive(Drop)]
 pub struct Seat {
-    // One cache line, whatever an object was created with: its name and what else few calls read stands in its label.
+    // One cache line, whatever an object was created with: what few calls read stands in its label, and its name beside that.
     /// Its Id, whose slot this is.
     pub id: Id,
     /// How many handles name it.

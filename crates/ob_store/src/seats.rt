@@ -6,7 +6,7 @@ ghost use Rattle.ob_arena.specs.Slots.{is_vacant_at, least_vacant};
 ghost use Rattle.ob_waits.specs.Objects.{body_of, slot_room, with_body, without_block};
 ghost use Rattle.ob_waits.specs.Waits.{is_abandoned, is_signaled, with_acquired};
 ghost use Rattle.ob_store.specs.Ticks.{slot_is_due};
-ghost use Rattle.ob_store.specs.Objects.{object_of, rest_of, vacant_places, vacancy, with_seat, with_handle, without_handle, is_last_handle, with_block, is_last_block, without_seat, with_retired};
+ghost use Rattle.ob_store.specs.Objects.{object_of, tag_of, tags_in, rest_of, vacant_places, vacancy, with_seat, with_handle, without_handle, is_last_handle, with_block, is_last_block, without_seat, with_retired};
 
 use crate::found::Found;
 use crate::label::Label;
@@ -27,21 +27,23 @@ pub(crate) struct Seats {
     arena: Arena<Seat>,
     // By slot, beside the seats.
     labels: Vec<Label>,
+    // By slot, where the label says that there is a name. What an object had stays until a name comes to its slot.
+    names: Vec<Option<Name>>,
     owners: Owners,
     timers: Timers,
 }
 
 impl Model for Seats {
-    ghost use Rattle.ob_store.specs.Objects.{Places, places_of};
+    ghost use Rattle.ob_store.specs.Objects.{Places, places_of, tags_in};
 
     ghost Value = { Places };
 
-    ghost view = { λ s. places_of s.arena s.labels.items };
+    ghost view = { λ s. places_of s.arena (tags_in s.labels.items s.names.items) };
 
     ghost use Rattle.ob_store.specs.Timers.{AreNoted};
 
     // Hidden from the value: how many mutexes each thread owns, and when the timer in each slot is due.
-    ghost invariant = { λ s. AreNoted s.arena.bodies s.owners s.timers s.labels.items };
+    ghost invariant = { λ s. AreNoted s.arena.bodies s.owners s.timers s.labels.items s.names.items };
 }
 
 /// The thread that owns the mutex that a body is.
@@ -64,22 +66,41 @@ fn due_of(body: Option<Body>) -> Option<u64>
     }
 }
 
-/// A slot gets a label, and the one before is let go.
-#[inline(always)]
-fn relabel(labels: &mut Vec<Label>, slot: u32, label: Label)
-    requires { slot < length labels.old.items }
-    ensures { labels.new.items ≡ slice_set labels.old.items slot label }
-{
-    labels[slot as usize] = label;
+/// No name.
+fn no_name() -> Option<Name> {
+    None
 }
 
-/// The name in a label is let go.
+/// A slot gets a label and, if there is one, a name. The name that stood there is let go then.
 #[inline(always)]
-fn unname(labels: &mut Vec<Label>, slot: u32)
-    requires { slot < length labels.old.items }
-    ensures { (label : Label) × (labels.new.items ≡ slice_set labels.old.items slot label) }
+fn relabel(
+    labels: &mut Vec<Label>,
+    names: &mut Vec<Option<Name>>,
+    slot: u32,
+    birth: u64,
+    descr: Descr,
+    name: Option<Name>,
+)
+    requires labelled { slot < length labels.old.items }
+    requires named { slot < length names.old.items }
+    ensures value { tags_in labels.new.items names.new.items ≡ slice_set (tags_in labels.old.items names.old.items) slot (record { birth = birth; descr = descr; name = name }) }
+    ensures labels { length labels.new.items ≡ length labels.old.items }
+    ensures names { length names.new.items ≡ length names.old.items }
 {
-    labels[slot as usize].name = None;
+    let Some(name) = name else {
+        labels[slot as usize] = Label {
+            birth,
+            descr,
+            is_named: false,
+        };
+        return;
+    };
+    labels[slot as usize] = Label {
+        birth,
+        descr,
+        is_named: true,
+    };
+    names[slot as usize] = Some(name);
 }
 
 impl Seats {
@@ -90,9 +111,12 @@ impl Seats {
     {
         let mut labels = Vec::new(alloc);
         labels.resize_with(slots as usize, Label::none)?;
+        let mut names = Vec::new(alloc);
+        names.resize_with(slots as usize, no_name)?;
         Ok(Seats {
             arena: Arena::new(alloc, slots)?,
             labels,
+            names,
             owners: Owners::new(alloc, slots, threads)?,
             timers: Timers::new(alloc, slots)?,
         })
@@ -140,7 +164,7 @@ impl Seats {
 
     /// The object in a slot.
     pub(crate) fn look(&self, slot: u32) -> Option<Found<'_>>
-        ensures object { slice_index_or self.now.objects slot None ≡ option_map (λ found. object_of found.seat.now found.label.now) result }
+        ensures object { slice_index_or self.now.objects slot None ≡ option_map (λ found. object_of found.seat.now (tag_of found.label.now found.name.now)) result }
         ensures body { IfSome result (λ found. slice_index_or self.now.seen.bodies slot None ≡ found.seat.now.body) }
         ensures handles { IfSome result (λ found. slice_index_or self.now.seen.handles slot 0 ≡ found.seat.now.handles) }
         ensures blocks { IfSome result (λ found. slice_index_or self.now.seen.blocks slot 0 ≡ found.seat.now.blocks) }
@@ -151,6 +175,7 @@ impl Seats {
         Some(Found {
             seat: self.arena.get(slot),
             label: &self.labels[slot as usize],
+            name: &self.names[slot as usize],
         })
     }
 
@@ -178,7 +203,14 @@ impl Seats {
         ensures handle { slice_index_or self.new.seen.handles id.slot 0 ≡ 1 }
     {
         self.arena.put(id.slot, Seat::new(id, grant, body));
-        relabel(&mut self.labels, id.slot, Label { birth, descr, name });
+        relabel(
+            &mut self.labels,
+            &mut self.names,
+            id.slot,
+            birth,
+            descr,
+            name,
+        );
         self.owners.came(id.slot, body.owner());
         self.timers.moved(id.slot, None, body.due());
     }
@@ -223,7 +255,6 @@ impl Seats {
         ensures vacant { is_vacant_at (vacancy self.new) slot ≡ true }
     {
         let _ = self.arena.take(slot);
-        unname(&mut self.labels, slot);
     }
 
     /// A vacant slot is never given again.

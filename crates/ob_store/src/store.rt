@@ -7,7 +7,7 @@ ghost use Rattle.ob_name.specs.Refs.{name_at, row_at};
 ghost use Rattle.ob_tables.specs.Table.{entry_at};
 ghost use Rattle.ob_tables.specs.Tables.{table_of};
 ghost use Rattle.ob_waits.specs.Waits.{number_of};
-ghost use Rattle.ob_store.specs.Objects.{object_of};
+ghost use Rattle.ob_store.specs.Objects.{object_of, tag_of};
 ghost use Rattle.ob_store.specs.State.{handles_of, blocks_of, id_at, is_full, opening, shape_of, vacancy};
 ghost use Rattle.ob_store.specs.Consistent.{IsConsistent};
 ghost use Rattle.ob_store.specs.Directory.{directory_of};
@@ -180,7 +180,7 @@ impl<K: PinKeeper> Store<K> {
 
     /// The object in a slot, with all that refers to it counted.
     pub fn object(&self, slot: u32) -> Option<Found<'_>>
-        ensures object { slice_index_or self.now.state.objects slot None ≡ option_map (λ found. object_of found.seat.now found.label.now) result }
+        ensures object { slice_index_or self.now.state.objects slot None ≡ option_map (λ found. object_of found.seat.now (tag_of found.label.now found.name.now)) result }
         ensures body { IfSome result (λ found. slice_index_or self.now.state.bodies slot None ≡ found.seat.now.body) }
         ensures handles { IfSome result (λ found. found.seat.now.handles ≡ handles_of self.now.state found.seat.now.id) }
         ensures blocks { IfSome result (λ found. found.seat.now.blocks ≡ blocks_of self.now.state found.seat.now.id) }

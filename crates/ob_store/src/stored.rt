@@ -1,6 +1,6 @@
 ghost use Rattle.std.specs.Prelude.{◌≡◌, IfSome, None, slice_index_or};
 ghost use Rattle.std.specs.Option.{option_map};
-ghost use Rattle.ob_store.specs.Objects.{object_of};
+ghost use Rattle.ob_store.specs.Objects.{object_of, tag_of};
 ghost use Rattle.ob_store.specs.Stored.{Stands};
 
 use crate::found::Found;
@@ -28,7 +28,7 @@ impl<'a, K: PinKeeper> Model for Stored<'a, K> {
 impl<'a, K: PinKeeper> Stored<'a, K> {
     /// The object in a slot, with its body and its counters.
     pub fn slot(&self, slot: u32) -> Option<Found<'a>>
-        ensures object { slice_index_or self.now.objects slot None ≡ option_map (λ found. object_of found.seat.now found.label.now) result }
+        ensures object { slice_index_or self.now.objects slot None ≡ option_map (λ found. object_of found.seat.now (tag_of found.label.now found.name.now)) result }
         ensures body { IfSome result (λ found. slice_index_or self.now.seen.bodies slot None ≡ found.seat.now.body) }
         ensures handles { IfSome result (λ found. slice_index_or self.now.seen.handles slot 0 ≡ found.seat.now.handles) }
         ensures blocks { IfSome result (λ found. slice_index_or self.now.seen.blocks slot 0 ≡ found.seat.now.blocks) }

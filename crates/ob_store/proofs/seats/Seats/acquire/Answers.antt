@@ -2,7 +2,7 @@ use Rattle.std.proofs.lemmas.List.{length-set}
 use Rattle.std.proofs.Common.{◌∙◌, ap, set, Some, sym}
 use Rattle.ob_waits.specs.Waits.{with_acquired}
 use Rattle.ob_store.specs.declared.seat.Seat.{Seat}
-use Rattle.ob_store.specs.Objects.{Places, rest_of, object_of, seen_in}
+use Rattle.ob_store.specs.Objects.{tags_in, Places, rest_of, object_of, seen_in}
 use Rattle.ob_store.proofs.SeatLaws.{rest_same, seen_acquired}
 use Rattle.ob_store.proofs.OwnerLaws.{owned_few, owned_set}
 use Rattle.ob_waits.specs.Form.{slot_due}
@@ -17,7 +17,7 @@ returns-clause-objects c =
 
 pub returns-clause-rest : goal.returns-clause-rest
 returns-clause-rest c =
-    rest_same c.self.inside.arena.bodies c.args.id.slot c.get_mut.result.now c.get_mut.ensures.value c.self.inside.arena.retired c.self.inside.labels.items c.acquire-acquired.new.self
+    rest_same c.self.inside.arena.bodies c.args.id.slot c.get_mut.result.now c.get_mut.ensures.value c.self.inside.arena.retired (tags_in c.self.inside.labels.items c.self.inside.names.items) c.acquire-acquired.new.self
     (λ l. ap (λ (x : Seat). object_of x l) c.acquire-acquired.ensures.value) (ap (λ (x : Seat). x.handles) c.acquire-acquired.ensures.value)
     ∙ ap rest_of c.self.view_is
 
@@ -30,4 +30,5 @@ invariant_of-self c = record {
       c.get_mut.ensures.value c.acquire-acquired.ensures.before c.acquire-acquired.ensures.after);
   timed = timed_stays c.self.inside.arena.bodies c.self.inside.timers c.args.id.slot c.get_mut.result.now c.acquire-acquired.new.self c.self.invariant.timed c.get_mut.ensures.value (ap (λ (x : Seat). slot_due x.body) c.acquire-acquired.ensures.value ∙ due_taken c.args.thread c.get_mut.result.now.body);
   labelled = c.self.invariant.labelled ∙ sym (length-set c.self.inside.arena.bodies c.args.id.slot (Some c.acquire-acquired.new.self));
+  named = c.self.invariant.named ∙ sym (length-set c.self.inside.arena.bodies c.args.id.slot (Some c.acquire-acquired.new.self));
 }

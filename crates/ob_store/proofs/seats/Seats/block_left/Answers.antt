@@ -2,7 +2,7 @@ use Rattle.std.proofs.lemmas.List.{length-set}
 use Rattle.std.proofs.Common.{◌∙◌, ap, sym, set, get_or, Some, None}
 use Rattle.ob_waits.specs.Objects.{without_block}
 use Rattle.ob_store.specs.declared.seat.Seat.{Seat}
-use Rattle.ob_store.specs.Objects.{Places, rest_of, seen_in, object_of}
+use Rattle.ob_store.specs.Objects.{tags_in, Places, rest_of, seen_in, object_of}
 use Rattle.ob_store.proofs.SeatLaws.{seen_block_left, seen_absent, rest_same, none_of}
 use Rattle.ob_store.proofs.OwnerLaws.{owned_left_at}
 use Rattle.ob_store.proofs.TimerLaws.{timed_left_at}
@@ -15,7 +15,7 @@ returns-clause-objects c =
 
 pub returns-clause-rest : goal.returns-clause-rest
 returns-clause-rest c =
-    rest_same c.self.inside.arena.bodies c.args.id.slot c.get_mut.result.now c.get_mut.ensures.value c.self.inside.arena.retired c.self.inside.labels.items c.block_left-gone.new.self
+    rest_same c.self.inside.arena.bodies c.args.id.slot c.get_mut.result.now c.get_mut.ensures.value c.self.inside.arena.retired (tags_in c.self.inside.labels.items c.self.inside.names.items) c.block_left-gone.new.self
     (λ l. ap (λ (x : Seat). object_of x l) c.block_left-gone.ensures.value) (ap (λ (x : Seat). x.handles) c.block_left-gone.ensures.value)
     ∙ ap rest_of c.self.view_is
 
@@ -32,4 +32,5 @@ invariant_of-self c = record {
   timed = rw c.left-2.ensures (rw c.due_of.ensures (timed_left_at c.self.inside.arena.bodies c.self.inside.timers c.args.id.slot c.get_mut.result.now c.block_left-gone.new.self _ c.block_left-gone.result c.self.invariant.timed
       c.get_mut.ensures.value c.block_left-gone.ensures.gone (ap (λ (x : Seat). x.body) c.block_left-gone.ensures.value)));
   labelled = c.self.invariant.labelled ∙ sym (length-set c.self.inside.arena.bodies c.args.id.slot (Some c.block_left-gone.new.self));
+  named = c.self.invariant.named ∙ sym (length-set c.self.inside.arena.bodies c.args.id.slot (Some c.block_left-gone.new.self));
 }

@@ -1,7 +1,7 @@
 use Rattle.std.proofs.lemmas.List.{length-set}
 use Rattle.std.proofs.Common.{◌∙◌, ap, set, Some, sym}
 use Rattle.ob_store.specs.declared.seat.Seat.{Seat}
-use Rattle.ob_store.specs.Objects.{Places, places_of, without_handle}
+use Rattle.ob_store.specs.Objects.{tags_in, Places, places_of, without_handle}
 use Rattle.ob_store.proofs.SeatLaws.{places_handle_left}
 use Rattle.ob_store.proofs.OwnerLaws.{owned_left_at}
 use Rattle.ob_store.proofs.TimerLaws.{timed_left_at}
@@ -9,8 +9,8 @@ use Rattle.ob_store.proofs.seats.Seats.handle_left.Goals as goal
 
 pub returns-clause-value : goal.returns-clause-value
 returns-clause-value c =
-    ap (λ (x : Seat). places_of (record { bodies = set c.self.inside.arena.bodies c.args.slot (Some x); retired = c.self.inside.arena.retired }) c.self.inside.labels.items) c.handle_left-gone.ensures.value
-    ∙ places_handle_left c.self.inside.arena.bodies c.args.slot c.get_mut.result.now c.get_mut.ensures.value c.self.inside.arena.retired c.self.inside.labels.items ∙ ap (λ (p : Places). without_handle p c.args.slot) c.self.view_is
+    ap (λ (x : Seat). places_of (record { bodies = set c.self.inside.arena.bodies c.args.slot (Some x); retired = c.self.inside.arena.retired }) (tags_in c.self.inside.labels.items c.self.inside.names.items)) c.handle_left-gone.ensures.value
+    ∙ places_handle_left c.self.inside.arena.bodies c.args.slot c.get_mut.result.now c.get_mut.ensures.value c.self.inside.arena.retired (tags_in c.self.inside.labels.items c.self.inside.names.items) ∙ ap (λ (p : Places). without_handle p c.args.slot) c.self.view_is
 
 pub invariant_of-self : goal.invariant_of-self
 invariant_of-self c = record {
@@ -19,4 +19,5 @@ invariant_of-self c = record {
   timed = rw c.left-2.ensures (rw c.due_of.ensures (timed_left_at c.self.inside.arena.bodies c.self.inside.timers c.args.slot c.get_mut.result.now c.handle_left-gone.new.self _ c.handle_left-gone.result c.self.invariant.timed
       c.get_mut.ensures.value c.handle_left-gone.ensures.gone (ap (λ (x : Seat). x.body) c.handle_left-gone.ensures.value)));
   labelled = c.self.invariant.labelled ∙ sym (length-set c.self.inside.arena.bodies c.args.slot (Some c.handle_left-gone.new.self));
+  named = c.self.invariant.named ∙ sym (length-set c.self.inside.arena.bodies c.args.slot (Some c.handle_left-gone.new.self));
 }

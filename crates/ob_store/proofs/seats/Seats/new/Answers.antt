@@ -1,6 +1,6 @@
 use Rattle.std.proofs.Common.{rules, ◌≡◌, ◌∙◌, ap, sym, subst, map, length, None}
 use Rattle.std.proofs.lemmas.List.{length-replicate}
-use Rattle.ob_store.specs.Objects.{places_of}
+use Rattle.ob_store.specs.Objects.{places_of, tags_in}
 use Rattle.ob_store.proofs.SeatLaws.{places_vacant}
 use Rattle.ob_arena.specs.Slots.{Slots}
 use Rattle.ob_store.specs.declared.seat.Seat.{Seat}
@@ -11,11 +11,14 @@ use Rattle.ob_store.proofs.TimerLaws.{timed_none}
 use Rattle.ob_store.proofs.seats.Seats.new.Goals as goal
 
 pub returns : goal.returns
-returns c = ap (λ (s : Slots Seat). places_of s c.resize_with.new.self.items) c.in_ok-new.ensures ∙ places_vacant c.args.slots c.resize_with.new.self.items
+returns c =
+    let tags = tags_in c.resize_with.new.self.items c.resize_with-2.new.self.items in
+    ap (λ (s : Slots Seat). places_of s tags) c.in_ok-new.ensures ∙ places_vacant c.args.slots tags
 
 pub invariant_of-result : goal.invariant_of-result
 invariant_of-result c = record {
   owned = subst (λ (s : Slots Seat). IsOwned s.bodies c.in_ok-new-2.field-0) (sym c.in_ok-new.ensures) (rw c.in_ok-new-2.ensures (owned_none c.args.slots c.args.threads c.requires));
+  named = search rules ∙ sym (ap (λ (s : Slots Seat). length s.bodies) c.in_ok-new.ensures ∙ length-replicate c.args.slots None);
   labelled = search rules ∙ sym (ap (λ (s : Slots Seat). length s.bodies) c.in_ok-new.ensures ∙ length-replicate c.args.slots None);
   timed = subst (λ (s : Slots Seat). c.in_ok-new-3.field-0 ≡ map seat_due s.bodies) (sym c.in_ok-new.ensures) (c.in_ok-new-3.ensures ∙ timed_none c.args.slots);
 }

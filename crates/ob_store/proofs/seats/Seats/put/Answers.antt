@@ -3,7 +3,7 @@ use Rattle.std.proofs.Common.{◌∙◌, ap, sym, set, Some}
 use Rattle.ob_waits.specs.Form.{slot_due, slot_owner}
 use Rattle.ob_waits.specs.Objects.{with_body}
 use Rattle.ob_store.specs.declared.seat.Seat.{Seat}
-use Rattle.ob_store.specs.Objects.{Places, rest_of, object_of, seen_in}
+use Rattle.ob_store.specs.Objects.{tags_in, Places, rest_of, object_of, seen_in}
 use Rattle.ob_store.proofs.SeatLaws.{seen_put, rest_same}
 use Rattle.ob_store.proofs.OwnerLaws.{owned_few, owned_set}
 use Rattle.ob_store.proofs.TimerLaws.{timed_set}
@@ -16,7 +16,7 @@ returns-clause-objects c =
 
 pub returns-clause-rest : goal.returns-clause-rest
 returns-clause-rest c =
-    rest_same c.self.inside.arena.bodies c.args.id.slot c.get_mut.result.now c.get_mut.ensures.value c.self.inside.arena.retired c.self.inside.labels.items c.put-was.new.self
+    rest_same c.self.inside.arena.bodies c.args.id.slot c.get_mut.result.now c.get_mut.ensures.value c.self.inside.arena.retired (tags_in c.self.inside.labels.items c.self.inside.names.items) c.put-was.new.self
     (λ l. ap (λ (x : Seat). object_of x l) c.put-was.ensures.value) (ap (λ (x : Seat). x.handles) c.put-was.ensures.value)
     ∙ ap rest_of c.self.view_is
 
@@ -29,4 +29,5 @@ invariant_of-self c = record {
       c.get_mut.ensures.value c.put-was.ensures.owner (c.owner-owner.ensures.owner ∙ ap (λ (x : Seat). slot_owner x.body) (sym c.put-was.ensures.value)));
   timed = rw c.moved-2.ensures (timed_set c.self.inside.arena.bodies c.self.inside.timers c.args.id.slot (Some c.put-was.new.self) c.due-due.result c.self.invariant.timed (c.due-due.ensures ∙ ap (λ (x : Seat). slot_due x.body) (sym c.put-was.ensures.value)));
   labelled = c.self.invariant.labelled ∙ sym (length-set c.self.inside.arena.bodies c.args.id.slot (Some c.put-was.new.self));
+  named = c.self.invariant.named ∙ sym (length-set c.self.inside.arena.bodies c.args.id.slot (Some c.put-was.new.self));
 }

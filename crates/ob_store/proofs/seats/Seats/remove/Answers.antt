@@ -1,11 +1,10 @@
-use Rattle.std.proofs.Common.{List, arith, ◌≡◌, ◌∙◌, ap, sym, subst, get_or, length, map, set, None}
+use Rattle.std.proofs.Common.{◌≡◌, ◌∙◌, ap, sym, subst, get_or, length, map, None}
 use Rattle.std.proofs.lemmas.List.{length-set}
-use Rattle.ob_store.specs.Objects.{Places, places_of, without_seat}
+use Rattle.ob_store.specs.Objects.{tags_in, Places, places_of, without_seat}
 use Rattle.ob_store.proofs.LabelLaws.{seat_there}
 use Rattle.ob_store.proofs.SeatLaws.{places_removed, vacant_same}
 use Rattle.std.specs.Prelude.{IsSome}
 use Rattle.ob_arena.specs.Slots.{Slots}
-use Rattle.ob_store.specs.declared.label.Label.{Label}
 use Rattle.ob_store.specs.declared.seat.Seat.{Seat}
 use Rattle.ob_store.specs.Owners.{IsOwned}
 use Rattle.ob_store.proofs.OwnerLaws.{object_within, owned_removed}
@@ -14,26 +13,22 @@ use Rattle.ob_store.proofs.TimerLaws.{timed_removed}
 use Rattle.ob_store.proofs.seats.Seats.remove.Goals as goal
 
 pub take-requires : goal.take-requires
-take-requires c = seat_there c.self.inside.arena.bodies c.self.inside.labels.items c.args.slot (subst (λ (p : Places). IsSome (get_or p.objects c.args.slot None)) (sym c.self.view_is) c.requires.there)
-
-pub unname-requires : goal.unname-requires
-unname-requires c =
-    let there = subst (λ (p : Places). IsSome (get_or p.objects c.args.slot None)) (sym c.self.view_is) c.requires.there in
-    omega (arith, object_within c.self.inside.arena c.self.inside.labels.items c.args.slot there, c.self.invariant.labelled)
+take-requires c = seat_there c.self.inside.arena.bodies (tags_in c.self.inside.labels.items c.self.inside.names.items) c.args.slot (subst (λ (p : Places). IsSome (get_or p.objects c.args.slot None)) (sym c.self.view_is) c.requires.there)
 
 pub returns-clause-vacant : goal.returns-clause-vacant
-returns-clause-vacant c = vacant_same c.take.new.self c.unname.new.labels.items c.args.slot ∙ c.take.ensures.vacant
+returns-clause-vacant c = vacant_same c.take.new.self (tags_in c.self.inside.labels.items c.self.inside.names.items) c.args.slot ∙ c.take.ensures.vacant
 
 pub returns-clause-value : goal.returns-clause-value
-returns-clause-value c = (λ i. places_of (c.take.ensures.after i) (c.unname.ensures.1 i)) ∙ places_removed c.self.inside.arena c.self.inside.labels.items c.args.slot c.unname.ensures.0 ∙ ap (λ (p : Places). without_seat p c.args.slot) c.self.view_is
+returns-clause-value c = ap (λ (s : Slots Seat). places_of s (tags_in c.self.inside.labels.items c.self.inside.names.items)) c.take.ensures.after ∙ places_removed c.self.inside.arena (tags_in c.self.inside.labels.items c.self.inside.names.items) c.args.slot ∙ ap (λ (p : Places). without_seat p c.args.slot) c.self.view_is
 
 pub invariant_of-self : goal.invariant_of-self
 invariant_of-self c =
     let there = subst (λ (p : Places). IsSome (get_or p.objects c.args.slot None)) (sym c.self.view_is) c.requires.there in
     let ended = subst (λ (p : Places). get_or p.seen.bodies c.args.slot None ≡ None) (sym c.self.view_is) c.requires.ended in
     record {
-      labelled = ap (λ (ls : List Label). length ls) c.unname.ensures.1 ∙ length-set c.self.inside.labels.items c.args.slot c.unname.ensures.0 ∙ c.self.invariant.labelled ∙ sym (ap (λ (s : Slots Seat). length s.bodies) c.take.ensures.after ∙ length-set c.self.inside.arena.bodies c.args.slot None);
+      labelled = c.self.invariant.labelled ∙ sym (ap (λ (s : Slots Seat). length s.bodies) c.take.ensures.after ∙ length-set c.self.inside.arena.bodies c.args.slot None);
+      named = c.self.invariant.named ∙ sym (ap (λ (s : Slots Seat). length s.bodies) c.take.ensures.after ∙ length-set c.self.inside.arena.bodies c.args.slot None);
       owned = subst (λ (s : Slots Seat). IsOwned s.bodies c.self.inside.owners) (sym c.take.ensures.after)
-          (owned_removed c.self.inside.arena.bodies c.self.inside.owners c.args.slot c.self.invariant.owned ended (object_within c.self.inside.arena c.self.inside.labels.items c.args.slot there));
+          (owned_removed c.self.inside.arena.bodies c.self.inside.owners c.args.slot c.self.invariant.owned ended (object_within c.self.inside.arena (tags_in c.self.inside.labels.items c.self.inside.names.items) c.args.slot there));
       timed = subst (λ (s : Slots Seat). c.self.inside.timers ≡ map seat_due s.bodies) (sym c.take.ensures.after) (timed_removed c.self.inside.arena.bodies c.self.inside.timers c.args.slot c.self.invariant.timed ended);
     }

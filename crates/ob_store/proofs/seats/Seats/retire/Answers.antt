@@ -1,8 +1,8 @@
 use Rattle.std.proofs.Common.{◌∙◌, ap, sym}
 use Rattle.ob_arena.specs.Slots.{is_vacant_at}
-use Rattle.ob_store.specs.Objects.{Places, vacancy}
+use Rattle.ob_store.specs.Objects.{tags_in, Places, vacancy}
 use Rattle.ob_store.proofs.SeatLaws.{vacant_same}
 use Rattle.ob_store.proofs.seats.Seats.retire.Goals as goal
 
 pub retire-requires : goal.retire-requires
-retire-requires c = sym (vacant_same c.self.inside.arena c.self.inside.labels.items c.args.slot) ∙ ap (λ (p : Places). is_vacant_at (vacancy p) c.args.slot) c.self.view_is ∙ c.requires
+retire-requires c = sym (vacant_same c.self.inside.arena (tags_in c.self.inside.labels.items c.self.inside.names.items) c.args.slot) ∙ ap (λ (p : Places). is_vacant_at (vacancy p) c.args.slot) c.self.view_is ∙ c.requires
