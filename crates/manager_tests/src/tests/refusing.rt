@@ -39,7 +39,7 @@ fn is_same(found: Found<'_>, other: Found<'_>) -> bool {
         && seat.grant == same.grant
         && label.birth == alike.birth
         && label.descr == alike.descr
-        && label.name.is_some() == alike.name.is_some()
+        && label.is_named == alike.is_named
 }
 
 fn are_slots_same(manager: &Manager<LockedPins>, twin: &Manager<LockedPins>) -> bool {
