@@ -1,230 +1,32 @@
-//! Measures calls behind the lock, pins beside them, and members that are driven: with the argument `measure` it prints a line
-//! `CASE: ROUNDS in NANOSECONDS` for each case, and without it only says so.
-//!
-//! Each lane sets an event of its own, in a thread of its own, and each run has a manager and a journal of its own, which are
-//! made and dropped outside of what is timed.
+//! Measures threads that are at work at once: with the arguments `measure NAME` it prints a line `CASE: ROUNDS in NANOSECONDS` for
+//! each case of a manager behind its lock (`shared`) or of pins with their releases (`pins`), and without them only says so.
 #![tactic(auto)]
 
-ghost use Rattle.std.specs.Prelude.{◌≡◌};
-ghost use Rattle.ob_store.specs.State.{shape_of};
+mod pins;
+mod shared;
+mod spans;
 
-mod calling;
-mod driven;
-mod pinning;
-
-use bench_threads::{RUNS, Start, report, time_of};
-use calling::{CALLS, callers_of, lanes_call, prepares};
-use driven::{driven, members_of};
-use ob_manager::{Limits, Manager};
-use ob_shared::{Lane, Shared};
-use pin_words::{Keeper, Opening, Pins, Reader};
-use pinning::{PAIRS, pinners_of, readers_pin};
-use std::alloc::{AllocError, Global};
+use std::alloc::Global;
 use std::sync::Wait;
-use std::sync::atomic::AtomicU64;
 use std::thread::Threads;
-use std::time::{Clock, Instant};
+use std::time::Clock;
 use std::{env, io};
-
-/// How many lanes make calls at once, how many readers pin beside one lane, or how many members are driven.
-#[derive(Clone, Copy)]
-enum Case {
-    Lanes(u64),
-    Readers(u64),
-    Members(u64),
-}
-
-fn time_lanes<R: Threads + Wait + Clock + Sync>(
-    rt: &R,
-    alloc: Global,
-    start: Start<'_>,
-    shared: &mut Shared<'_>,
-    count: u64,
-) -> Option<u128> {
-    let mut callers = callers_of(alloc, shared, count)?;
-    let span = lanes_call(rt, start, shared, &mut callers);
-    drop(callers);
-    Some(time_of(span))
-}
-
-fn time_members<R: Threads + Wait + Clock + Sync>(
-    rt: &R,
-    alloc: Global,
-    shared: &mut Shared<'_>,
-    readers: &mut Vec<Reader<'_>>,
-) -> Option<u128> {
-    let mut members = members_of(alloc, shared, readers)?;
-    let time = driven(rt, shared, &mut members);
-    drop(members);
-    time
-}
-
-/// The time of a run, with a lane for the calls before it.
-fn over_lane<R: Threads + Wait + Clock + Sync>(
-    rt: &R,
-    alloc: Global,
-    case: Case,
-    shared: &mut Shared<'_>,
-    lane: &mut Lane,
-    readers: &mut Vec<Reader<'_>>,
-) -> Option<u128> {
-    prepares(rt, shared, lane);
-    let ready = AtomicU64::new(0);
-    let threads = match case {
-        Case::Lanes(count) | Case::Members(count) => count,
-        Case::Readers(count) => count % 64 + 1,
-    };
-    let start = Start {
-        ready: &ready,
-        threads,
-        origin: Instant::now(rt).ok()?,
-    };
-    match case {
-        Case::Lanes(count) => time_lanes(rt, alloc, start, shared, count),
-        Case::Readers(_) => {
-            let mut pinners = pinners_of(alloc, readers)?;
-            let span = readers_pin(rt, start, shared, lane, &mut pinners);
-            drop(pinners);
-            Some(time_of(span))
-        }
-        Case::Members(_) => time_members(rt, alloc, shared, readers),
-    }
-}
-
-/// The time of a run over a new manager.
-fn over_shared<R: Threads + Wait + Clock + Sync>(
-    rt: &R,
-    alloc: Global,
-    case: Case,
-    shared: &mut Shared<'_>,
-    readers: &mut Vec<Reader<'_>>,
-) -> Option<u128> {
-    let mut lane = shared.lane().ok()?;
-    let time = over_lane(rt, alloc, case, shared, &mut lane, readers);
-    drop(lane);
-    time
-}
-
-/// So many readers, of which the first is given.
-fn readers_of<'a>(
-    alloc: Global,
-    keeper: &mut Keeper<'a>,
-    first: Reader<'a>,
-    count: u64,
-) -> Result<Vec<Reader<'a>>, AllocError>
-    ensures slots { keeper.new.view.slots ≡ keeper.old.view.slots }
-    ensures published { keeper.new.view.published ≡ keeper.old.view.published }
-    ensures shape { keeper.new.view.shape ≡ keeper.old.view.shape }
-{
-    let mut readers = Vec::new(alloc);
-    readers.push(first)?;
-    for _ in 1..count {
-        readers.push(keeper.reader())?;
-    }
-    Ok(readers)
-}
-
-/// A manager behind its lock, and so many readers.
-fn shared_with<'a>(
-    alloc: Global,
-    limits: Limits,
-    opening: Opening,
-    pins: &'a Pins,
-    count: u64,
-) -> Option<(Shared<'a>, Vec<Reader<'a>>)>
-    requires opens { opening ≡ pins.now }
-    requires shape { pins.now.shape ≡ shape_of limits }
-{
-    let Ok((mut keeper, first)) = opening.start(pins) else {
-        return None;
-    };
-    match readers_of(alloc, &mut keeper, first, count) {
-        Ok(readers) => match Manager::new(alloc, limits, keeper) {
-            Ok(manager) => Some((Shared::new(alloc, manager), readers)),
-            Err(refused) => {
-                drop(refused);
-                drop(readers);
-                None
-            }
-        },
-        Err(_) => {
-            drop(keeper);
-            None
-        }
-    }
-}
-
-fn over_pins<R: Threads + Wait + Clock + Sync>(
-    rt: &R,
-    alloc: Global,
-    case: Case,
-    limits: Limits,
-    opening: Opening,
-    pins: &Pins,
-) -> Option<u128>
-    requires opens { opening ≡ pins.now }
-    requires shape { pins.now.shape ≡ shape_of limits }
-{
-    let count = match case {
-        Case::Lanes(_) => 1,
-        Case::Readers(count) | Case::Members(count) => count,
-    };
-    let (mut shared, mut readers) = shared_with(alloc, limits, opening, pins, count)?;
-    let time = over_shared(rt, alloc, case, &mut shared, &mut readers);
-    drop(shared);
-    drop(readers);
-    time
-}
-
-fn run<R: Threads + Wait + Clock + Sync>(rt: &R, alloc: Global, case: Case) -> Option<u128> {
-    let limits = Limits::default();
-    let Ok((pins, opening)) = Pins::new(alloc, limits.shape()) else {
-        return None;
-    };
-    over_pins(rt, alloc, case, limits, opening, &pins)
-}
 
 fn measure<R: Threads + Wait + Clock + Print + Sync>(
     rt: &R,
     alloc: Global,
     name: &str,
-    case: Case,
-    rounds: u64,
 ) -> io::Result<()> {
-    let mut times = [u128::MAX; RUNS];
-    for i in 0..RUNS {
-        times[i] = run(rt, alloc, case).unwrap_or(u128::MAX);
+    match name {
+        "shared" => shared::measure_all(rt, alloc),
+        "pins" => pins::measure_all(rt, alloc),
+        _ => Err(io::Error::from(io::ErrorKind::InvalidInput)),
     }
-    report(rt, name, rounds, times)
-}
-
-/// A name, what is done, and how many rounds it is.
-const CASES: [(&str, Case, u64); 10] = [
-    ("set, one lane", Case::Lanes(1), CALLS),
-    ("set, two lanes", Case::Lanes(2), 2 * CALLS),
-    ("set, four lanes", Case::Lanes(4), 4 * CALLS),
-    ("pins of one beside calls", Case::Readers(1), PAIRS),
-    ("pins of two beside calls", Case::Readers(2), 2 * PAIRS),
-    ("pins of four beside calls", Case::Readers(4), 4 * PAIRS),
-    ("set, one member", Case::Members(1), CALLS),
-    ("set, two members", Case::Members(2), 2 * CALLS),
-    ("set, four members", Case::Members(4), 4 * CALLS),
-    ("set, eight members", Case::Members(8), 8 * CALLS),
-];
-
-fn measure_all<R: Threads + Wait + Clock + Print + Sync>(rt: &R, alloc: Global) -> io::Result<()> {
-    for i in 0..10 {
-        let (name, case, rounds) = CASES[i];
-        measure(rt, alloc, name, case, rounds)?;
-    }
-    Ok(())
 }
 
 fn main(rt: HostRuntime) -> io::Result<()> {
-    let mut args = env::args(&rt)?;
-    let _program = args.next();
-    if args.next().is_none() {
-        return println!(rt; "bench_shared measure: calls behind the lock, and pins beside them");
+    match env::args(&rt)?.nth(2) {
+        Some(name) => measure(&rt, rt.alloc(), &name),
+        None => println!(rt; "bench_shared measure shared|pins: the lock, or pins and releases"),
     }
-    measure_all(&rt, rt.alloc())
 }
