@@ -1,9 +1,8 @@
-mod options;
-
-use ob_console::{RunFault, Source, Wired, run, run_bounded};
+use crate::tests::{Failing, Pieces, add, repeated, same};
+use ob_console::{RunFault, run, run_bounded};
 use ob_manager::Limits;
+use ob_output::{Source, Wired};
 use std::alloc::{AllocError, Global};
-use std::io::{self, Error, ErrorKind, Read};
 use std::process::Abort;
 use std::test::Fail;
 
@@ -11,63 +10,37 @@ const SCRIPT: &[u8] = b"spawn 1\nevent t1 auto clear\ncount s0.1\n";
 
 const ANSWERS: &[u8] = b"p1 t1\nh4 new s0.1\nhandles 1 waits 0 hold 0\n";
 
-/// A text in pieces of at most so many bytes, with an interruption before each.
-#[derive(Drop)]
-struct Pieces<'a> {
-    text: &'a [u8],
-    piece: usize,
-    is_interrupted: bool,
-}
-
-impl Read for Pieces<'_> {
-    fn read(&mut self, buf: &mut [u8]) -> io::Result<usize> {
-        self.is_interrupted = !self.is_interrupted;
-        if self.is_interrupted {
-            return Err(Error::from(ErrorKind::Interrupted));
-        }
-        let most = self.piece.min(buf.len());
-        self.text.read(&mut buf[..most])
-    }
-}
-
-/// A text, and then a failure in place of its end.
-#[derive(Drop)]
-struct Failing<'a> {
-    text: &'a [u8],
-}
-
-impl Read for Failing<'_> {
-    fn read(&mut self, buf: &mut [u8]) -> io::Result<usize> {
-        if self.text.is_empty() {
-            return Err(Error::from(ErrorKind::Other));
-        }
-        self.text.read(buf)
-    }
-}
-
-/// How a run ended, and what it wrote.
-#[derive(Drop)]
-struct Outcome {
+/// Runs what a source gives: the run ends so, and writes this.
+fn ends<R: Abort, I: Source>(
+    rt: &R,
+    alloc: Global,
+    source: &mut I,
     ended: Result<(), RunFault>,
-    written: Vec<u8>,
-}
-
-/// Runs what a source gives.
-fn outcome_of<I: Source>(alloc: Global, source: &mut I) -> Outcome {
+    due: &[u8],
+) {
     let mut written = Vec::new(alloc);
-    let ended = run(
+    let found = run(
         alloc,
         Limits::default(),
         source,
         &mut Wired::new(&mut written),
     );
-    Outcome { ended, written }
+    same(rt, found, ended);
+    same(rt, written.as_slice(), due);
+    drop(written);
 }
 
-/// Runs the script, with so many reads and writes at most.
-fn bounded(alloc: Global, reads: u64, writes: u64) -> Outcome {
+/// Runs the script, with so many reads and writes at most: the run ends so, and writes this.
+fn ends_within<R: Abort>(
+    rt: &R,
+    alloc: Global,
+    reads: u64,
+    writes: u64,
+    ended: Result<(), RunFault>,
+    due: &[u8],
+) {
     let mut written = Vec::new(alloc);
-    let ended = run_bounded(
+    let found = run_bounded(
         alloc,
         Limits::default(),
         reads,
@@ -75,40 +48,31 @@ fn bounded(alloc: Global, reads: u64, writes: u64) -> Outcome {
         &mut Wired::new(SCRIPT),
         &mut Wired::new(&mut written),
     );
-    Outcome { ended, written }
-}
-
-/// A run ended so, and wrote this.
-fn is_so<R: Abort>(rt: &R, outcome: Outcome, ended: Result<(), RunFault>, due: &[u8]) {
-    assert_eq!(rt; outcome.ended, ended);
-    assert_eq!(rt; outcome.written.as_slice(), due);
-    drop(outcome);
+    same(rt, found, ended);
+    same(rt, written.as_slice(), due);
+    drop(written);
 }
 
 /// A script is answered to its end with this.
 fn gives<R: Abort>(rt: &R, alloc: Global, script: &[u8], due: &[u8]) {
-    is_so(rt, outcome_of(alloc, &mut Wired::new(script)), Ok(()), due);
+    ends(rt, alloc, &mut Wired::new(script), Ok(()), due);
 }
 
 #[test]
 fn pieces_and_interruptions_change_no_answer(rt: HostRuntime) {
     for piece in 1..9 {
-        let mut source = Wired::new(Pieces {
-            text: SCRIPT,
-            piece,
-            is_interrupted: false,
-        });
-        is_so(&rt, outcome_of(rt.alloc(), &mut source), Ok(()), ANSWERS);
+        let mut source = Wired::new(Pieces::new(SCRIPT, piece));
+        ends(&rt, rt.alloc(), &mut source, Ok(()), ANSWERS);
     }
 }
 
 #[test]
 fn a_read_fault_leaves_the_complete_lines_answered(rt: HostRuntime) {
     let mut source = Wired::new(Failing {
-        text: &b"spawn 1\nspawn 1"[..],
+        text: b"spawn 1\nspawn 1",
     });
-    let outcome = outcome_of(rt.alloc(), &mut source);
-    is_so(&rt, outcome, Err(RunFault::Read), b"p1 t1\n");
+    let fault = Err(RunFault::Read);
+    ends(&rt, rt.alloc(), &mut source, fault, b"p1 t1\n");
 }
 
 #[test]
@@ -120,37 +84,33 @@ fn a_full_sink_is_a_write_fault(rt: HostRuntime) {
         &mut Wired::new(SCRIPT),
         &mut Wired::new(&mut page[..]),
     );
-    assert_eq!(rt; ended, Err(RunFault::Write));
-    assert_eq!(rt; page.as_slice(), b"p1 t1\nh4 new s0.1\nha".as_slice());
+    same(&rt, ended, Err(RunFault::Write));
+    same(&rt, page.as_slice(), b"p1 t1\nh4 new s0.1\nha");
 }
 
 #[test]
 fn one_call_more_than_the_bound_is_a_fault(rt: HostRuntime) {
-    let few_reads = bounded(rt.alloc(), 1, 1);
-    is_so(&rt, few_reads, Err(RunFault::Read), ANSWERS);
-    let no_write = bounded(rt.alloc(), 2, 0);
-    is_so(&rt, no_write, Err(RunFault::Write), b"");
+    ends_within(&rt, rt.alloc(), 1, 1, Err(RunFault::Read), ANSWERS);
+    ends_within(&rt, rt.alloc(), 2, 0, Err(RunFault::Write), b"");
 }
 
 /// Lines that are bad or nothing, behind a comment of 4,096 bytes with a carriage return behind it, and one of 4,097.
-fn lines_of_many_lengths(alloc: Global) -> Result<Vec<u8>, AllocError> {
-    let mut text = Vec::new(alloc);
+fn add_lines_of_many_lengths(text: &mut Vec<u8>) -> Result<(), AllocError> {
     for length in [4096, 4097] {
         text.push(b'#')?;
-        for _ in 1..length {
-            text.push(b'x')?;
-        }
+        add(text, b"x", length - 1)?;
         text.extend_from_slice(b"\r\n")?;
     }
     text.extend_from_slice(
         b"\n#\n \nspawn 1 \nspawn 4294967296\nspawn 00000000001\nspawn 0000000001\nevent t1 auto  clear\ncount s0.1.1\nclose t1 h\nspawn 1\xff\nclose t1 h4\r",
     )?;
-    Ok(text)
+    Ok(())
 }
 
 #[test]
 fn lines_are_bad_or_nothing_by_their_length(rt: HostRuntime) -> Result<(), Fail> {
-    let text = lines_of_many_lengths(rt.alloc())?;
+    let mut text = Vec::new(rt.alloc());
+    add_lines_of_many_lengths(&mut text)?;
     gives(
         &rt,
         rt.alloc(),
@@ -158,16 +118,6 @@ fn lines_are_bad_or_nothing_by_their_length(rt: HostRuntime) -> Result<(), Fail>
         b"bad line 2\nbad line 5\nbad line 6\nbad line 7\nbad line 8\np1 t1\nbad line 10\nbad line 11\nbad line 12\nbad line 13\nerror 6\n",
     );
     Ok(())
-}
-
-/// A text, and behind it another so many times.
-fn repeated(alloc: Global, first: &[u8], again: &[u8], times: u32) -> Result<Vec<u8>, AllocError> {
-    let mut text = Vec::new(alloc);
-    text.extend_from_slice(first)?;
-    for _ in 0..times {
-        text.extend_from_slice(again)?;
-    }
-    Ok(text)
 }
 
 #[test]
