@@ -1,4 +1,7 @@
-ghost use Rattle.std.specs.Prelude.{◌≡◌, ◌<◌, ◌≤◌, length, [], ◌∷◌, ◌++◌, true, false, replicate, slice_set, Some, slice_get, IfOk, OnOk, OnErr};
+ghost use Rattle.std.specs.Prelude.{◌≡◌, ◌≢◌, ℕ, ◌/◌, ◌<◌, ◌≤◌, length, [], ◌∷◌, ◌++◌, true, false, replicate, slice_set, Some, slice_get, IfOk, OnOk, OnErr};
+ghost use Rattle.std.specs.Int.{bit_at};
+ghost use Rattle.least_free.specs.Bits.{bit};
+ghost use Rattle.least_free.specs.Levels.{SumsUp};
 ghost use Rattle.least_free.specs.Taken.{least_free};
 
 use crate::NUMBERS_MAX;
@@ -15,6 +18,22 @@ pub(crate) struct Levels {
     middle: Vec<u64>,
     leaves: Vec<u64>,
     len: usize,
+}
+
+/// Sets bit `n` of the middle level, and gives the top word for it. Words that had no bit are rare, so it stays apart.
+#[inline(never)]
+fn raised(top: u64, middle: &mut Vec<u64>, n: usize) -> u64
+    requires within { n / 64 < length middle.old.items }
+    requires few { length middle.old.items ≤ 16 }
+    ensures here { bit middle.new.items n ≡ 1 }
+    ensures others { (k : ℕ) → k ≢ n → bit middle.new.items k ≡ bit middle.old.items k }
+    ensures len { length middle.new.items ≡ length middle.old.items }
+    ensures above { SumsUp (bit_at top) middle.old.items → SumsUp (bit_at result) middle.new.items }
+{
+    if !set(middle, n) {
+        return top;
+    }
+    with_bit(top, n / 64)
 }
 
 impl Model for Levels {
@@ -92,7 +111,7 @@ impl Levels {
         self.top = without_bit(self.top, n / 64 / 64);
     }
 
-    #[inline(never)]
+    #[inline]
     pub(crate) fn give_back(&mut self, n: usize)
         requires { n < length self.old }
         ensures { self.new ≡ slice_set self.old n false }
@@ -100,10 +119,7 @@ impl Levels {
         if !set(&mut self.leaves, n) {
             return;
         }
-        if !set(&mut self.middle, n / 64) {
-            return;
-        }
-        self.top = with_bit(self.top, n / 64 / 64);
+        self.top = raised(self.top, &mut self.middle, n / 64);
     }
 
     /// Takes the number at the length. A set that lacks memory for it stays as it was.

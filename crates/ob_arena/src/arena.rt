@@ -107,6 +107,7 @@ impl<B> Arena<B> {
     }
 
     /// Takes the body out of a slot that has one. The slot is vacant then.
+    #[inline(always)]
     pub fn take(&mut self, slot: u32) -> B
         requires { IsSome (body_at self.old slot) }
         ensures body { body_at self.old slot ≡ Some result }

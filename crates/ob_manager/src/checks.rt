@@ -26,8 +26,9 @@ pub fn caller<K: PinKeeper>(store: &Store<K>, thread: u32) -> Result<u32, Fault>
     Ok(process)
 }
 
-/// The entry of a handle, or 6.
+/// The entry of a handle of a process that has a table, or 6.
 pub fn found<K: PinKeeper>(store: &Store<K>, process: u32, handle: u32) -> Result<Entry, Fault>
+    requires { process < length store.now.state.tables }
     ensures value { result ≡ found store.now.state process handle }
     ensures there { IfOk result (λ entry. entry_at (table_of store.now.state.tables process) handle ≡ Some entry) }
 {

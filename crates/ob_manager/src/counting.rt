@@ -13,10 +13,11 @@ use pin_words::PinKeeper;
 pub fn counts<K: PinKeeper>(store: &Store<K>, id: Id) -> Result<Reply, Fault>
     ensures { Gives result store.now store.now (counts store.now.state id) }
 {
-    if store.limits().slots <= id.slot {
-        return Err(Fault::Parameter);
-    }
+    // (the slot of an object is one of those that there are, so the limit is asked where none is found)
     let Some(found) = store.object(id.slot) else {
+        if store.limits().slots <= id.slot {
+            return Err(Fault::Parameter);
+        }
         return Err(Fault::Handle);
     };
     let seat = found.seat;

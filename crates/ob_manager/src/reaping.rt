@@ -13,10 +13,11 @@ pub fn reap<K: PinKeeper>(store: &mut Store<K>, slot: u32) -> Result<Reply, Faul
     ensures gives { Gives result store.old store.new (reap store.old.state slot (reclaim_in (reply_of result))) }
     ensures exact { IfReaped (reply_of result) (λ outcome. K.reclaims store.old.keeper slot outcome store.new.keeper) }
 {
-    if store.limits().slots <= slot {
-        return Err(Fault::Parameter);
-    }
+    // (the slot of an object is one of those that there are, so the limit is asked where none is found)
     let Some(found) = store.object(slot) else {
+        if store.limits().slots <= slot {
+            return Err(Fault::Parameter);
+        }
         return Err(Fault::Handle);
     };
     let seat = found.seat;

@@ -130,6 +130,7 @@ fn objects_of<K: PinKeeper>(
     handles: &[u32],
     ids: &mut ArrayVec<Id, 64>,
 ) -> Result<(), Fault>
+    requires table { process < length store.now.state.tables }
     requires few { length handles.now ≤ 64 }
     requires empty { ids.old.items ≡ [] }
     ensures value { collected result ids.new ≡ objects_of store.now.state process handles.now }
@@ -280,6 +281,7 @@ fn wait_for_one<K: PinKeeper>(
     handle: u32,
 ) -> Result<Reply, Fault>
     requires caller { caller store.old.state thread ≡ Ok process }
+    requires table { process < length store.old.state.tables }
     requires live { IsSome (slice_index_or store.old.state.threads thread None) }
     requires alone { number_of thread store.old.state.waits ≡ None }
     ensures gives { GivesOrLacks result store.old store.new (wait store.old.state thread mode timeout (handle ∷ [])) }
@@ -303,6 +305,7 @@ fn wait_for_some<K: PinKeeper>(
     handles: &[u32],
 ) -> Result<Reply, Fault>
     requires caller { caller store.old.state thread ≡ Ok process }
+    requires table { process < length store.old.state.tables }
     requires live { IsSome (slice_index_or store.old.state.threads thread None) }
     requires alone { number_of thread store.old.state.waits ≡ None }
     ensures gives { GivesOrLacks result store.old store.new (wait store.old.state thread mode timeout handles.now) }

@@ -22,6 +22,18 @@ struct Held<'a> {
     waiting: u32,
 }
 
+impl Held<'_> {
+    ghost use Rattle.std.specs.Prelude.{None, slice_index_or};
+    ghost use Rattle.ob_waits.specs.Waits.{is_pending};
+
+    /// Whether the manager says that a wait is pending.
+    fn is_pending(&self, wait: u32) -> bool
+        ensures { result ≡ is_pending (slice_index_or self.now.book.manager.state.waits wait None) }
+    {
+        self.book.is_pending(wait)
+    }
+}
+
 /// A manager behind a lock, with its journal. Whoever gets the lock finds a [`Book`]: the manager is kept, and the journal
 /// replays to its state. Calls are made in lanes. A contract sees how many lanes there are.
 #[derive(Drop)]
@@ -168,7 +180,7 @@ impl<'a> Shared<'a> {
             held,
             |held| -> bool
                 ensures { (result ≡ is_pending (slice_index_or held.entry.now.book.manager.state.waits wait None)) × (held.exit.now ≡ held.entry.now) }
-            { held.book.is_pending(wait) },
+            { held.is_pending(wait) },
         );
         held.waiting = held.waiting.saturating_sub(1);
         let answer = held.book.enact(lane.number, Call::WaitResult { wait });

@@ -1,10 +1,11 @@
 -- What a slot counts refers to its object; and a thread's process has its table.
-use Rattle.std.proofs.Common.{◌≡◌, ℕ, ◌+◌, ◌<◌, List, length, Option, Some, None, ap, ◌∙◌, sym, arith, get_or, false, ltb, inl, inr}
+use Rattle.std.proofs.Common.{◌≡◌, ℕ, ◌+◌, ◌<◌, List, length, Option, Some, None, ap, ◌∙◌, sym, subst, arith, get_or, false, ltb, inl, inr}
 use Rattle.std.specs.Prelude.{is_some, IfSome, OnSome}
 use Rattle.std.specs.Option.{option_map}
 use Rattle.std.proofs.lemmas.List.{get_or_past}
 use Rattle.std.proofs.lemmas.Bool.{cases_lt}
 use Rattle.std.proofs.lemmas.Bool.Decides.{nat_tests}
+use Rattle.pin_core.specs.declared.shape.Shape.{Shape}
 use Rattle.ob_name.specs.Listing.{Rows}
 use Rattle.ob_tables.specs.Counts.{handles_among}
 use Rattle.ob_tables.specs.Tables.{HandleTables}
@@ -15,7 +16,7 @@ use Rattle.ob_store.specs.Lives.{LivesState}
 use Rattle.ob_store.specs.Objects.{Object, ObjectsState, object_of, tag_of}
 use Rattle.ob_store.specs.Agreement.{IsTied}
 use Rattle.ob_store.specs.Kept.{IsKept, IsLive, IsThere, LivesKept, id_in}
-use Rattle.ob_store.proofs.AgreeLaws.{body_at}
+use Rattle.ob_store.proofs.AgreeLaws.{body_at, object_within}
 use Rattle.ob_store.proofs.CountedLaws.{handles_at, blocks_at}
 use Rattle.ob_store.proofs.NamedLaws.{there_within, handles_are, blocks_are}
 use Rattle.ob_store.proofs.ListingLaws.{placed_agreed}
@@ -53,6 +54,11 @@ module _ (limits : Limits) (l : LivesState) (ts : HandleTables) (s : ObjectsStat
   pub seen_blocks : (x : Option Found) → get_or s.objects k None ≡ option_map (λ (found : Found). object_of found.seat.now (tag_of found.label.now found.name.now)) x → IfSome x (λ (found : Found). get_or s.seen.blocks k 0 ≡ found.seat.now.blocks) → IfSome x (λ (found : Found). found.seat.now.blocks ≡ blocks_among found.seat.now.id ws.waits)
   seen_blocks None at is = tt
   seen_blocks (Some found) at is = sym is ∙ own_blocks (object_of found.seat.now (tag_of found.label.now found.name.now)) at
+
+  -- a slot in which something is seen is within the limit
+  pub seen_within : (x : Option Found) → get_or s.objects k None ≡ option_map (λ (found : Found). object_of found.seat.now (tag_of found.label.now found.name.now)) x → IfSome x (λ (found : Found). k < limits.slots)
+  seen_within None at = tt
+  seen_within (Some found) at = subst (λ (shape : Shape). k < shape.slots) kept.limited.shape_is (object_within s k (ap is_some at) tied.agreed)
 
 -- a live number is one of those given
 live_within : (numbers : List (Option ℕ)) (n : ℕ) → IsLive numbers n → n < length numbers

@@ -145,11 +145,12 @@ impl<K: PinKeeper> Store<K> {
         self.waits.wait_of(thread).is_some()
     }
 
-    /// The entry of a handle.
+    /// The entry of a handle, in the table of a process.
     pub fn look(&self, process: u32, handle: u32) -> Option<Entry>
+        requires { process < length self.now.state.tables }
         ensures { result ≡ entry_at (table_of self.now.state.tables process) handle }
     {
-        self.tables.look(process, handle)
+        self.tables.entry(process, handle)
     }
 
     /// Whether a process has as many handles as it may.
@@ -185,6 +186,7 @@ impl<K: PinKeeper> Store<K> {
         ensures handles { IfSome result (λ found. found.seat.now.handles ≡ handles_of self.now.state found.seat.now.id) }
         ensures blocks { IfSome result (λ found. found.seat.now.blocks ≡ blocks_of self.now.state found.seat.now.id) }
         ensures id { IfSome result (λ found. found.seat.now.id.slot ≡ slot) }
+        ensures within { IfSome result (λ found. slot < self.now.state.limits.slots) }
     {
         // What it says is wanted here: that the object has the Id of its slot.
         self.objects.kept();

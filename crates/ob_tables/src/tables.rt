@@ -147,12 +147,20 @@ impl Tables {
     pub fn look(&self, process: u32, value: u32) -> Option<Entry>
         ensures { result ≡ entry_at (table_of self.now.tables process) value }
     {
-        let at = process as usize;
-        if at < self.tables.len() {
-            self.tables[at].entry(value)
+        if self.is_given(process) {
+            self.entry(process, value)
         } else {
             None
         }
+    }
+
+    /// The entry of a handle, in the table of a process number that was given.
+    #[inline]
+    pub fn entry(&self, process: u32, value: u32) -> Option<Entry>
+        requires { process < length self.now.tables }
+        ensures { result ≡ entry_at (table_of self.now.tables process) value }
+    {
+        self.tables[process as usize].entry(value)
     }
 
     /// Removes the entry of a handle, and gives it. Where there is none nothing changes.

@@ -1,5 +1,4 @@
 use Rattle.std.proofs.Common.{rules, arith, ◌<◌, ◌∙◌, refl, ap, ◌/◌, length, List, Bool, false, set}
-use Rattle.std.specs.Int.{bit_at}
 use Rattle.least_free.specs.Bits.{bit}
 use Rattle.least_free.proofs.LevelLemmas.{sums_changed, taken_freed, length-taken_in}
 use Rattle.least_free.proofs.levels.Levels.give_back.Goals as goal
@@ -30,30 +29,6 @@ returns-then-not-set c =
     let lt : c.args.n < i.len = omega (arith, ap length c.self.view_is, length-taken_in i.leaves.items i.len) in
     taken_freed _ _ i.len c.args.n lt c.set.ensures.here c.set.ensures.others ∙ ap (λ (s : List Bool). set s c.args.n false) c.self.view_is
 
-pub invariant_of-self-then-not-set-2 : goal.invariant_of-self-then-not-set-2
-invariant_of-self-then-not-set-2 c =
-    let i = c.self.inside in
-    let n = c.args.n in
-    let lt : n < i.len = omega (arith, ap length c.self.view_is, length-taken_in i.leaves.items i.len) in
-    record {
-      few = search rules;
-      few_leaves = search rules;
-      few_middle = search rules;
-      room = search rules;
-      room_above = search rules;
-      none_past = λ k past. c.set.ensures.others k (omega arith) ∙ c.self.invariant.none_past k past;
-      leaves_summed = sums_changed (bit i.middle.items) (bit c.set-2.new.words.items) _ _ (n / 64) c.self.invariant.leaves_summed c.set.ensures.words c.set-2.ensures.others
-          (let some = c.set.ensures.some in omega arith);
-      middle_summed = sums_changed (bit_at i.top) (bit_at i.top) _ _ (n / 64 / 64) c.self.invariant.middle_summed c.set-2.ensures.words (λ _ _. refl)
-          (let had = c.set-2.ensures.had c.if-not-set-2.true in let some = c.set-2.ensures.some in let was = c.self.invariant.middle_summed (n / 64 / 64) in omega arith);
-    }
-
-pub returns-then-not-set-2 : goal.returns-then-not-set-2
-returns-then-not-set-2 c =
-    let i = c.self.inside in
-    let lt : c.args.n < i.len = omega (arith, ap length c.self.view_is, length-taken_in i.leaves.items i.len) in
-    taken_freed _ _ i.len c.args.n lt c.set.ensures.here c.set.ensures.others ∙ ap (λ (s : List Bool). set s c.args.n false) c.self.view_is
-
 pub invariant_of-self-2 : goal.invariant_of-self-2
 invariant_of-self-2 c =
     let i = c.self.inside in
@@ -66,10 +41,9 @@ invariant_of-self-2 c =
       room = search rules;
       room_above = search rules;
       none_past = λ k past. c.set.ensures.others k (omega arith) ∙ c.self.invariant.none_past k past;
-      leaves_summed = sums_changed (bit i.middle.items) (bit c.set-2.new.words.items) _ _ (n / 64) c.self.invariant.leaves_summed c.set.ensures.words c.set-2.ensures.others
-          (let some = c.set.ensures.some in omega arith);
-      middle_summed = sums_changed (bit_at i.top) (bit_at c.with_bit-self-inside.result) _ _ (n / 64 / 64) c.self.invariant.middle_summed c.set-2.ensures.words c.with_bit-self-inside.ensures.others
-          (let some = c.set-2.ensures.some in omega arith);
+      leaves_summed = sums_changed (bit i.middle.items) (bit c.raised-self-inside.new.middle.items) _ _ (n / 64) c.self.invariant.leaves_summed c.set.ensures.words c.raised-self-inside.ensures.others
+          (let some = c.set.ensures.some in let here = c.raised-self-inside.ensures.here in omega arith);
+      middle_summed = c.raised-self-inside.ensures.above c.self.invariant.middle_summed;
     }
 
 pub returns : goal.returns
