@@ -112,48 +112,56 @@ static void come_and_go(scene *s, const char *making, const char *reaping, bool 
     report(reaping, s, BATCHES * BATCH, reaping_takes);
 }
 
-static void open_and_close(scene *s, event *e) {
+/* A round gives a number of its answer. */
+static uint32_t open_and_close(scene *s, event *e) {
     om_opening o;
     must(om_open_event(&s->m, e->thread, OM_MODIFY_STATE, false, e->name, NAME_LENGTH, &o), OM_SUCCESS);
     must(om_close(&s->m, e->thread, o.handle), OM_SUCCESS);
+    return o.handle;
 }
 
-static void set_and_reset(scene *s, event *e) {
+static uint32_t set_and_reset(scene *s, event *e) {
     must(om_set_event(&s->m, e->thread, e->handle), OM_SUCCESS);
     must(om_reset_event(&s->m, e->thread, e->handle), OM_SUCCESS);
+    return 1;
 }
 
-static void counts(scene *s, event *e) {
+static uint32_t counts(scene *s, event *e) {
     om_references r;
     must(om_counts(&s->m, e->object.slot, e->object.generation, &r), OM_SUCCESS);
     must(r.handles, 1);
+    return r.handles;
 }
 
-static void resolve(scene *s, event *e) {
+static uint32_t resolve(scene *s, event *e) {
     om_object o;
     must(om_resolve(&s->m, e->process, e->handle, &o), OM_SUCCESS);
     must(o.slot, e->object.slot);
+    return o.slot;
 }
 
-static void duplicate_and_close(scene *s, event *e) {
+static uint32_t duplicate_and_close(scene *s, event *e) {
     om_opening o;
     must(om_duplicate(&s->m, e->thread, e->process, e->handle, e->process, 0, false, OM_DUPLICATE_SAME_ACCESS, &o), OM_SUCCESS);
     must(om_close(&s->m, e->thread, o.handle), OM_SUCCESS);
+    return o.handle;
 }
 
-static void set_and_wait(scene *s, event *e) {
+static uint32_t set_and_wait(scene *s, event *e) {
     uint32_t code;
     must(om_set_event(&s->m, e->thread, e->handle), OM_SUCCESS);
     must(om_wait(&s->m, e->thread, false, 0, &e->handle, 1, &code), OM_SUCCESS);
     must(code, OM_WAIT_OBJECT_0);
+    return code + 1;
 }
 
-static inline __attribute__((always_inline)) void measure(scene *s, const char *what, void (*round)(scene *, event *)) {
+/* The walk goes on behind the answer of the round before, as a caller's calls do: the top bit of the sum stays 0. */
+static inline __attribute__((always_inline)) void measure(scene *s, const char *what, uint32_t (*round)(scene *, event *)) {
     uint32_t step = STRIDE % s->count, at = 0;
-    uint64_t started = now();
+    uint64_t sum = 0, started = now();
     for (uint32_t i = 0; i < ROUNDS; i++) {
-        round(s, &s->events[at]);
-        at += step;
+        sum += round(s, &s->events[at]);
+        at += step + (uint32_t)(sum >> 63);
         if (at >= s->count) {
             at -= s->count;
         }

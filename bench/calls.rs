@@ -156,7 +156,7 @@ fn rounds(
     let mut sum = 0;
     for _ in 0..rounds {
         sum += u64::from(round(manager, &events[at])?);
-        at += step;
+        at += step + (sum >> 63) as usize;
         if at >= events.len() {
             at -= events.len();
         }

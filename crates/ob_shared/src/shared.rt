@@ -8,11 +8,15 @@ use ob_rights::Fault;
 use pin_core::Id;
 use pin_words::{Keeper, Reader};
 use std::alloc::Global;
+use std::hint::spin_loop;
 use std::marker::Model;
-use std::sync::{Condvar, Mutex, Wait};
+use std::sync::{Condvar, Mutex, MutexGuard, Wait};
 
 /// How many lanes there may be.
 const LANES_MOST: u32 = 65536;
+
+/// How often the lock is asked for before a caller waits for it: the pauses between are 127 in all.
+const LOOKS: u32 = 7;
 
 /// What lies under the lock.
 #[derive(Drop)]
@@ -98,6 +102,23 @@ impl<'a> Shared<'a> {
         Ok(lane)
     }
 
+    /// Takes the lock. A call holds it for less time than a caller takes to fall asleep and wake, so it is asked for some times,
+    /// with a longer pause behind each, before the caller waits for it.
+    #[inline(never)]
+    fn lock<R: Wait>(&self, rt: &R) -> MutexGuard<'_, Held<'a>> {
+        let mut pauses = 1u32;
+        for _ in 0..LOOKS {
+            if let Some(held) = self.held.try_lock() {
+                return held;
+            }
+            for _ in 0..pauses {
+                spin_loop();
+            }
+            pauses = pauses.saturating_mul(2);
+        }
+        self.held.lock(rt)
+    }
+
     /// Makes a call, enters it in the journal, and lists it in its lane. Where memory is wanting before the manager is asked the
     /// answer is 8, and nothing is changed, entered or listed; an 8 of the manager's own is entered and listed as each refusal.
     #[tactic(auto, using(crate::proofs::LaneLists::are_of_more))]
@@ -149,7 +170,7 @@ impl<'a> Shared<'a> {
         requires same { copy ≡ call }
         ensures { Lists (record { number = number; list = receipts.old.items }) call result (record { number = number; list = receipts.new.items }) }
     {
-        let mut held = self.held.lock(rt);
+        let mut held = self.lock(rt);
         let answer = held.book.enter(number, &call, copy);
         let waiting = held.waiting;
         drop(held);
@@ -173,7 +194,7 @@ impl<'a> Shared<'a> {
         if lane.list.reserve(1).is_err() {
             return Reply::Refused(Fault::Memory);
         }
-        let mut held = self.held.lock(rt);
+        let mut held = self.lock(rt);
         held.waiting = held.waiting.saturating_add(1);
         let mut held = self.changed.wait_while(
             rt,
@@ -206,7 +227,7 @@ impl<'a> Shared<'a> {
         ensures { IfSome result (λ card. card.id ≡ id) }
     {
         let _ = reader.slot_of_held(id);
-        self.held.lock(rt).book.card(id)
+        self.lock(rt).book.card(id)
     }
 
     /// The manager and its journal, where the lanes that are handed in are whole: they have the numbers that were given, each
