@@ -112,7 +112,7 @@ static void come_and_go(scene *s, const char *making, const char *reaping, bool 
     report(reaping, s, BATCHES * BATCH, reaping_takes);
 }
 
-/* A round gives a number of its answer. */
+/* A round gives a number of its answer, which isn't compared here: the compiler would go on with what it is compared with. */
 static uint32_t open_and_close(scene *s, event *e) {
     om_opening o;
     must(om_open_event(&s->m, e->thread, OM_MODIFY_STATE, false, e->name, NAME_LENGTH, &o), OM_SUCCESS);
@@ -129,14 +129,12 @@ static uint32_t set_and_reset(scene *s, event *e) {
 static uint32_t counts(scene *s, event *e) {
     om_references r;
     must(om_counts(&s->m, e->object.slot, e->object.generation, &r), OM_SUCCESS);
-    must(r.handles, 1);
     return r.handles;
 }
 
 static uint32_t resolve(scene *s, event *e) {
     om_object o;
     must(om_resolve(&s->m, e->process, e->handle, &o), OM_SUCCESS);
-    must(o.slot, e->object.slot);
     return o.slot;
 }
 
@@ -151,7 +149,6 @@ static uint32_t set_and_wait(scene *s, event *e) {
     uint32_t code;
     must(om_set_event(&s->m, e->thread, e->handle), OM_SUCCESS);
     must(om_wait(&s->m, e->thread, false, 0, &e->handle, 1, &code), OM_SUCCESS);
-    must(code, OM_WAIT_OBJECT_0);
     return code + 1;
 }
 
