@@ -1,4 +1,4 @@
-//! The rounds of crates/bench_calls/src/names.rt, in plain Rust. As in a library of its own, the calls are not inlined, and the
+//! The rounds of crates/bench_lower/src/names.rt, in plain Rust. As in a library of its own, the calls are not inlined, and the
 //! session is not known to the compiler.
 
 #[path = "parts/directory.rs"]

@@ -1,4 +1,4 @@
-//! The rounds of crates/bench_calls/src/slots.rt, in plain Rust: handle tables and an arena as lists of places that are filled or
+//! The rounds of crates/bench_lower/src/slots.rt, in plain Rust: handle tables and an arena as lists of places that are filled or
 //! not, with the places that aren't in a list that is kept sorted.
 
 #[path = "parts/id.rs"]

@@ -1,4 +1,4 @@
-//! The rounds of crates/bench_calls/src/waits.rt, in plain Rust: the same answers, by a list of waiting places for each object
+//! The rounds of crates/bench_lower/src/waits.rt, in plain Rust: the same answers, by a list of waiting places for each object
 //! and the waits by number in a hash map.
 
 #[path = "parts/body.rs"]

@@ -1,44 +1,16 @@
-//! Measures calls of the manager over pins under a lock, and crates below it: with the arguments `measure NAME` it prints a line
-//! `CASE: ROUNDS in NANOSECONDS` for each case of those calls (`calls`), of the directory of names (`names`), of handle tables and
-//! the arena (`slots`) or of waits (`waits`), and without them what some rounds of each case add up to.
+//! Measures calls of the manager over pins under a lock: with arguments it prints a line `CASE: ROUNDS in NANOSECONDS` for each
+//! case, and without them what some rounds of each case add up to.
 #![tactic(auto)]
 
 mod calls;
-mod names;
-mod random;
-mod slots;
-mod waits;
 
-use anyhow::Result;
-use std::alloc::Global;
-use std::time::Clock;
 use std::{env, io};
 
-fn whole(done: Option<()>) -> Result<()> {
-    Ok(done.ok_or(io::Error::from(io::ErrorKind::Other))?)
-}
-
-fn show(rt: &(impl Print + Clock), alloc: Global) -> Result<()> {
-    whole(calls::show_all(rt, alloc))?;
-    names::show_all(rt, alloc)?;
-    slots::show_all(rt, alloc)?;
-    waits::show_all(rt, alloc)
-}
-
-fn measure(rt: &(impl Print + Clock), alloc: Global, name: &str) -> Result<()> {
-    match name {
-        "calls" => whole(calls::measure_all(rt, alloc)),
-        "names" => names::measure_all(rt, alloc),
-        "slots" => slots::measure_all(rt, alloc),
-        "waits" => waits::measure_all(rt, alloc),
-        _ => Err(io::Error::from(io::ErrorKind::InvalidInput).into()),
-    }
-}
-
-fn main(rt: HostRuntime) -> Result<()> {
-    let alloc = rt.alloc();
-    match env::args(&rt)?.nth(2) {
-        Some(name) => measure(&rt, alloc, &name),
-        None => show(&rt, alloc),
-    }
+fn main(rt: HostRuntime) -> io::Result<()> {
+    let done = if env::args(&rt)?.count() > 1 {
+        calls::measure_all(&rt, rt.alloc())
+    } else {
+        calls::show_all(&rt, rt.alloc())
+    };
+    done.ok_or(io::Error::from(io::ErrorKind::Other))
 }

@@ -65,7 +65,7 @@ fn over_lane<R: Threads + Wait + Clock + Sync>(
     lane: &mut Lane,
     readers: &mut Vec<Reader<'_>>,
 ) -> Option<u128> {
-    prepares(rt, shared, lane);
+    prepares(rt, alloc, shared, lane);
     let ready = AtomicU64::new(0);
     let threads = match case {
         Case::Lanes(count) | Case::Members(count) => count,

@@ -1,8 +1,7 @@
 ghost use Rattle.std.specs.Prelude.{◌≡◌, IfOk};
-ghost use Rattle.ob_manager.specs.Makings.{making_of};
 ghost use Rattle.call_tables.specs.Asks.{call_in};
 
-use ob_manager::{Call, HandleList, Make, Making, Mode, Reply, Text, Timeout};
+use ob_manager::{Call, HandleList, Make, Mode, Reply, Text, Timeout};
 use ob_rights::{Kind, Rights};
 use pin_core::Id;
 use std::alloc::{AllocError, Global};
@@ -227,22 +226,6 @@ pub enum Ask<'a> {
     },
 }
 
-/// The same with a name of its own.
-fn making(alloc: Global, make: Make<'_>) -> Result<Making, AllocError>
-    ensures { IfOk result (λ making. making ≡ making_of make.entry) }
-{
-    let name = match make.name {
-        Some(text) => Some(Text::new(alloc, text)?),
-        None => None,
-    };
-    Ok(Making {
-        name,
-        inherit: make.inherit,
-        access: make.access,
-        grant: make.grant,
-    })
-}
-
 impl Ask<'_> {
     /// Whether the call may take memory where it is answered so.
     pub fn takes_memory(&self, reply: Reply) -> bool {
@@ -285,7 +268,7 @@ impl Ask<'_> {
                 manual,
                 set,
             } => {
-                let make = making(alloc, make)?;
+                let make = make.owned(alloc)?;
                 Ok(Call::MakeEvent {
                     thread,
                     make,
@@ -298,7 +281,7 @@ impl Ask<'_> {
                 make,
                 owned,
             } => {
-                let make = making(alloc, make)?;
+                let make = make.owned(alloc)?;
                 Ok(Call::MakeMutex {
                     thread,
                     make,
@@ -311,7 +294,7 @@ impl Ask<'_> {
                 initial,
                 max,
             } => {
-                let make = making(alloc, make)?;
+                let make = make.owned(alloc)?;
                 Ok(Call::MakeSemaphore {
                     thread,
                     make,
@@ -324,7 +307,7 @@ impl Ask<'_> {
                 make,
                 manual,
             } => {
-                let make = making(alloc, make)?;
+                let make = make.owned(alloc)?;
                 Ok(Call::MakeTimer {
                     thread,
                     make,

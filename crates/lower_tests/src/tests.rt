@@ -9,7 +9,6 @@ mod pins;
 mod rights;
 mod schedules;
 mod slots;
-mod store;
 mod waits;
 
 use std::fmt::Debug;

@@ -1,3 +1,5 @@
+ghost use Rattle.std.specs.Prelude.{◌≡◌, true};
+
 mod applying;
 mod copies;
 mod ends;
@@ -7,6 +9,7 @@ mod pinning;
 mod playing;
 mod refusing;
 mod schedules;
+mod store;
 mod timing;
 mod waiting;
 
@@ -38,8 +41,10 @@ fn same_at<T: Copy + PartialEq + Debug>(rt: &impl Abort, found: T, due: T, place
     assert_eq!(rt; found, due, "at place {place} of the table");
 }
 
-/// Asserts a condition.
-fn holds(rt: &impl Abort, condition: bool) {
+/// Asserts a condition, which is known from there on.
+fn holds(rt: &impl Abort, condition: bool)
+    ensures { condition ≡ true }
+{
     assert!(rt; condition);
 }
 

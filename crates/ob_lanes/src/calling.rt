@@ -1,12 +1,11 @@
 ghost use Rattle.std.specs.Prelude.{◌≡◌, IfOk, take};
-ghost use Rattle.ob_manager.specs.Makings.{making_of};
 ghost use Rattle.ob_script.specs.Acts.{call_in};
 ghost use Rattle.ob_script.specs.Words.{handles_in};
 ghost use Rattle.ob_script.specs.WordsLeft.{words_left};
 ghost use Rattle.ob_lanes.specs.Calls.{request_in, shortened, shortened_act};
 
 use crate::line::Request;
-use ob_manager::{Call, HandleList, Make, Making, Text};
+use ob_manager::{Call, HandleList, Text};
 use ob_script::{Ask, handles_of};
 use ob_shared::Act;
 use std::alloc::{AllocError, Global};
@@ -40,7 +39,7 @@ fn call_of(alloc: Global, ask: Ask<'_>) -> Result<Call, AllocError>
             set,
         } => Ok(Call::MakeEvent {
             thread,
-            make: making_of(alloc, make)?,
+            make: make.owned(alloc)?,
             manual,
             set,
         }),
@@ -50,7 +49,7 @@ fn call_of(alloc: Global, ask: Ask<'_>) -> Result<Call, AllocError>
             owned,
         } => Ok(Call::MakeMutex {
             thread,
-            make: making_of(alloc, make)?,
+            make: make.owned(alloc)?,
             owned,
         }),
         Ask::MakeSemaphore {
@@ -60,7 +59,7 @@ fn call_of(alloc: Global, ask: Ask<'_>) -> Result<Call, AllocError>
             max,
         } => Ok(Call::MakeSemaphore {
             thread,
-            make: making_of(alloc, make)?,
+            make: make.owned(alloc)?,
             initial,
             max,
         }),
@@ -70,7 +69,7 @@ fn call_of(alloc: Global, ask: Ask<'_>) -> Result<Call, AllocError>
             manual,
         } => Ok(Call::MakeTimer {
             thread,
-            make: making_of(alloc, make)?,
+            make: make.owned(alloc)?,
             manual,
         }),
         Ask::OpenNamed {
@@ -157,22 +156,6 @@ fn call_of(alloc: Global, ask: Ask<'_>) -> Result<Call, AllocError>
         Ask::Reap { slot } => Ok(Call::Reap { slot }),
         Ask::Counts { id } => Ok(Call::Counts { id }),
     }
-}
-
-/// What a create asks for, with a name of its own.
-fn making_of(alloc: Global, make: Make<'_>) -> Result<Making, AllocError>
-    ensures { IfOk result (λ making. making ≡ making_of make.entry) }
-{
-    let name = match make.name {
-        Some(text) => Some(Text::new(alloc, text)?),
-        None => None,
-    };
-    Ok(Making {
-        name,
-        inherit: make.inherit,
-        access: make.access,
-        grant: make.grant,
-    })
 }
 
 /// The first 65 handles of a wait.

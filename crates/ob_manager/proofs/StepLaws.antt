@@ -22,7 +22,7 @@ use Rattle.ob_store.specs.State.{State, Whole}
 use Rattle.ob_store.specs.Directory.{directory_of}
 use Rattle.ob_manager.specs.declared.call.Call.{Call}
 use Rattle.ob_manager.specs.declared.call.Call.TheVariants as calls
-use Rattle.ob_manager.specs.declared.making.Making.{Making}
+use Rattle.ob_manager.specs.Makings.{Making}
 use Rattle.ob_manager.specs.declared.creating.New.{New}
 use Rattle.ob_manager.specs.declared.reply.Reply.{Reply}
 use Rattle.ob_manager.specs.declared.reply.Reply.TheVariants as reply

@@ -18,7 +18,7 @@ use Rattle.ob_name.specs.Listing.{find_name}
 use Rattle.ob_tables.specs.declared.entry.Entry.{Entry}
 use Rattle.ob_tables.specs.Table.{free_place, value_of}
 use Rattle.ob_tables.specs.Tables.{table_of}
-use Rattle.ob_manager.specs.declared.making.Making.{Making}
+use Rattle.ob_manager.specs.Makings.{Making}
 use Rattle.ob_manager.specs.declared.creating.New.{New}
 use Rattle.ob_manager.specs.declared.reply.Reply.TheVariants.{Made, Exists, Opened}
 use Rattle.ob_store.specs.Objects.{Head}

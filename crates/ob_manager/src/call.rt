@@ -1,4 +1,4 @@
-ghost use Rattle.std.specs.Prelude.{◌≡◌, ◌↔◌, IfOk, IfSome, IsTrue, false, is_some};
+ghost use Rattle.std.specs.Prelude.{◌≡◌, ◌↔◌, IfOk, IsTrue, false, true};
 ghost use Rattle.ob_manager.specs.Plain.{is_plain};
 
 use crate::making::{Making, Text};
@@ -218,30 +218,46 @@ pub enum Call {
 }
 
 impl Call {
+    /// Whether nothing of it lies apart in memory: it is no create, no open and no wait, which may have a name or handles.
+    #[inline(always)]
+    pub fn is_plain(&self) -> bool
+        ensures { result ≡ is_plain self.now }
+    {
+        !matches!(
+            self,
+            Call::MakeEvent { .. }
+                | Call::MakeMutex { .. }
+                | Call::MakeSemaphore { .. }
+                | Call::MakeTimer { .. }
+                | Call::OpenNamed { .. }
+                | Call::WaitFor { .. }
+        )
+    }
+
     /// An equal one: its name or its handles are copied. The refusal is want of memory.
     #[inline(always)]
     pub fn copy(&self, alloc: Global) -> Result<Call, AllocError>
         ensures { IfOk result (λ copy. copy ≡ self.now) }
     {
-        match self.plain_copy() {
-            Some(copy) => Ok(copy),
-            None => self.deep_copy(alloc),
+        if self.is_plain() {
+            return Ok(self.plain_copy());
         }
+        self.deep_copy(alloc)
     }
 
-    /// An equal one, which takes no memory: of each call but a create, an open and a wait, which may have a name or handles.
-    #[inline(always)]
-    pub fn plain_copy(&self) -> Option<Call>
-        ensures some { IfSome result (λ copy. copy ≡ self.now) }
-        ensures plain { is_some result ≡ is_plain self.now }
+    /// An equal one, which takes no memory: nothing of the call may lie apart ([`Call::is_plain`]).
+    #[inline(never)]
+    pub fn plain_copy(&self) -> Call
+        requires { is_plain self.now ≡ true }
+        ensures { result ≡ self.now }
     {
         match self {
-            Call::Spawn { session } => Some(Call::Spawn { session: *session }),
-            Call::Child { thread, inherit } => Some(Call::Child {
+            Call::Spawn { session } => Call::Spawn { session: *session },
+            Call::Child { thread, inherit } => Call::Child {
                 thread: *thread,
                 inherit: *inherit,
-            }),
-            Call::StartThread { process } => Some(Call::StartThread { process: *process }),
+            },
+            Call::StartThread { process } => Call::StartThread { process: *process },
             Call::Duplicate {
                 thread,
                 source,
@@ -250,7 +266,7 @@ impl Call {
                 mask,
                 inherit,
                 options,
-            } => Some(Call::Duplicate {
+            } => Call::Duplicate {
                 thread: *thread,
                 source: *source,
                 handle: *handle,
@@ -258,68 +274,68 @@ impl Call {
                 mask: *mask,
                 inherit: *inherit,
                 options: *options,
-            }),
-            Call::CloseHandle { thread, handle } => Some(Call::CloseHandle {
+            },
+            Call::CloseHandle { thread, handle } => Call::CloseHandle {
                 thread: *thread,
                 handle: *handle,
-            }),
-            Call::GetFlags { thread, handle } => Some(Call::GetFlags {
+            },
+            Call::GetFlags { thread, handle } => Call::GetFlags {
                 thread: *thread,
                 handle: *handle,
-            }),
+            },
             Call::SetFlags {
                 thread,
                 handle,
                 mask,
                 flags,
-            } => Some(Call::SetFlags {
+            } => Call::SetFlags {
                 thread: *thread,
                 handle: *handle,
                 mask: *mask,
                 flags: *flags,
-            }),
-            Call::SetEvent { thread, handle } => Some(Call::SetEvent {
+            },
+            Call::SetEvent { thread, handle } => Call::SetEvent {
                 thread: *thread,
                 handle: *handle,
-            }),
-            Call::ResetEvent { thread, handle } => Some(Call::ResetEvent {
+            },
+            Call::ResetEvent { thread, handle } => Call::ResetEvent {
                 thread: *thread,
                 handle: *handle,
-            }),
+            },
             Call::ReleaseSemaphore {
                 thread,
                 handle,
                 count,
-            } => Some(Call::ReleaseSemaphore {
+            } => Call::ReleaseSemaphore {
                 thread: *thread,
                 handle: *handle,
                 count: *count,
-            }),
-            Call::ReleaseMutex { thread, handle } => Some(Call::ReleaseMutex {
+            },
+            Call::ReleaseMutex { thread, handle } => Call::ReleaseMutex {
                 thread: *thread,
                 handle: *handle,
-            }),
+            },
             Call::SetTimer {
                 thread,
                 handle,
                 due,
-            } => Some(Call::SetTimer {
+            } => Call::SetTimer {
                 thread: *thread,
                 handle: *handle,
                 due: *due,
-            }),
-            Call::CancelTimer { thread, handle } => Some(Call::CancelTimer {
+            },
+            Call::CancelTimer { thread, handle } => Call::CancelTimer {
                 thread: *thread,
                 handle: *handle,
-            }),
-            Call::Tick { now } => Some(Call::Tick { now: *now }),
-            Call::WaitResult { wait } => Some(Call::WaitResult { wait: *wait }),
-            Call::Expire { wait } => Some(Call::Expire { wait: *wait }),
-            Call::EndThread { thread } => Some(Call::EndThread { thread: *thread }),
-            Call::Exit { process } => Some(Call::Exit { process: *process }),
-            Call::Reap { slot } => Some(Call::Reap { slot: *slot }),
-            Call::Counts { id } => Some(Call::Counts { id: *id }),
-            _ => None,
+            },
+            Call::Tick { now } => Call::Tick { now: *now },
+            Call::WaitResult { wait } => Call::WaitResult { wait: *wait },
+            Call::Expire { wait } => Call::Expire { wait: *wait },
+            Call::EndThread { thread } => Call::EndThread { thread: *thread },
+            Call::Exit { process } => Call::Exit { process: *process },
+            Call::Reap { slot } => Call::Reap { slot: *slot },
+            Call::Counts { id } => Call::Counts { id: *id },
+            _ => unreachable!(),
         }
     }
 

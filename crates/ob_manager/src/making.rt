@@ -1,4 +1,6 @@
-ghost use Rattle.std.specs.Prelude.{◌≡◌, ◌↔◌, IfOk, IsTrue};
+ghost use Rattle.std.specs.Prelude.{◌≡◌, ◌↔◌, [], IfOk, IsTrue, None};
+ghost use Rattle.std.specs.Option.{option_map};
+ghost use Rattle.ob_manager.specs.Makings.{making_of};
 
 use ob_rights::Rights;
 use std::alloc::{AllocError, Global};
@@ -19,6 +21,15 @@ impl Model for Text {
 }
 
 impl Text {
+    /// No bytes, which takes no memory.
+    fn empty(alloc: Global) -> Text
+        ensures { result ≡ [] }
+    {
+        Text {
+            bytes: Vec::new(alloc),
+        }
+    }
+
     /// A copy of some bytes. The refusal is want of memory.
     pub fn new(alloc: Global, bytes: &[u8]) -> Result<Text, AllocError>
         ensures { IfOk result (λ text. text ≡ bytes.now) }
@@ -58,42 +69,100 @@ pub struct Make<'a> {
     pub grant: Option<Rights>,
 }
 
-/// The same with a name of its own.
+impl Make<'_> {
+    /// The same with a name of its own. The refusal is want of memory, of which a create without a name takes none.
+    pub fn owned(self, alloc: Global) -> Result<Making, AllocError>
+        ensures { IfOk result (λ making. making ≡ making_of self.entry) }
+    {
+        match self.name {
+            Some(name) => Ok(Making {
+                text: Text::new(alloc, name)?,
+                is_named: true,
+                inherit: self.inherit,
+                access: self.access,
+                grant: self.grant,
+            }),
+            None => Ok(Making::unnamed(alloc, self.inherit, self.access, self.grant)),
+        }
+    }
+}
+
+/// What a create asks for, with a name of its own. A contract sees its name or none, and what else it asks for.
+// A text and a flag are 8 bytes less than a text that may be missing, and an entry of a journal with them.
 #[derive(Drop)]
 pub struct Making {
-    /// The name, as the caller gives it.
-    pub name: Option<Text>,
-    /// Whether the handle has the flag INHERIT.
-    pub inherit: bool,
-    /// The rights that the handle is to have.
-    pub access: Option<Rights>,
-    /// The rights that opens of a new object may get.
-    pub grant: Option<Rights>,
+    /// The name, where `is_named` says that it has one.
+    text: Text,
+    is_named: bool,
+    inherit: bool,
+    access: Option<Rights>,
+    grant: Option<Rights>,
+}
+
+impl Model for Making {
+    ghost use Rattle.ob_manager.specs.Makings as spec;
+
+    ghost Value = { spec.Making };
+
+    ghost view = { λ m. record { name = spec.name_in m.is_named m.text; inherit = m.inherit; access = m.access; grant = m.grant } };
 }
 
 impl Making {
+    /// What asks for no name, with the flag INHERIT or without, for rights of the handle and rights that opens of the new object
+    /// may get, as [`Make`] has them.
+    pub fn unnamed(
+        alloc: Global,
+        inherit: bool,
+        access: Option<Rights>,
+        grant: Option<Rights>,
+    ) -> Making
+        ensures { result ≡ record { name = None; inherit = inherit; access = access; grant = grant } }
+    {
+        Making {
+            text: Text::empty(alloc),
+            is_named: false,
+            inherit,
+            access,
+            grant,
+        }
+    }
+
+    /// The name, as the caller gives it.
+    fn name(&self) -> Option<&[u8]>
+        ensures { option_map (λ text. text.now) result ≡ self.now.name }
+    {
+        if self.is_named {
+            Some(self.text.as_slice())
+        } else {
+            None
+        }
+    }
+
+    /// The same with the name borrowed.
+    pub fn borrowed(&self) -> Make<'_>
+        ensures { making_of result ≡ self.now }
+    {
+        Make {
+            name: self.name(),
+            inherit: self.inherit,
+            access: self.access,
+            grant: self.grant,
+        }
+    }
+
     /// An equal one. The refusal is want of memory.
     pub fn copy(&self, alloc: Global) -> Result<Making, AllocError>
         ensures { IfOk result (λ copy. copy ≡ self.now) }
     {
-        let name = match &self.name {
-            Some(text) => Some(Text::new(alloc, text.as_slice())?),
-            None => None,
-        };
-        Ok(Making {
-            name,
-            inherit: self.inherit,
-            access: self.access,
-            grant: self.grant,
-        })
+        self.borrowed().owned(alloc)
     }
 
     /// Whether the same is asked for.
     pub fn is_same(&self, other: &Making) -> bool
         ensures { IsTrue result ↔ (self.now ≡ other.now) }
     {
-        let names_are = match (&self.name, &other.name) {
-            (Some(name), Some(text)) => name.is_same(text),
+        let names_are = match (self.name(), other.name()) {
+            (Some(name), Some(text)) => name == text,
             (None, None) => true,
             _ => false,
         };

@@ -16,7 +16,7 @@ ghost use Rattle.ob_manager.specs.Steps.{Step, reply_of};
 
 use crate::call::Call;
 use crate::card::Card;
-use crate::making::{Make, Making};
+use crate::making::Make;
 use crate::reply::Reply;
 use crate::waiting::Timeout;
 use crate::{
@@ -498,23 +498,23 @@ impl<K: PinKeeper> Manager<K> {
                 make,
                 manual,
                 set,
-            } => self.create_event(*thread, &borrowed(make), *manual, *set),
+            } => self.create_event(*thread, &make.borrowed(), *manual, *set),
             Call::MakeMutex {
                 thread,
                 make,
                 owned,
-            } => self.create_mutex(*thread, &borrowed(make), *owned),
+            } => self.create_mutex(*thread, &make.borrowed(), *owned),
             Call::MakeSemaphore {
                 thread,
                 make,
                 initial,
                 max,
-            } => self.create_semaphore(*thread, &borrowed(make), *initial, *max),
+            } => self.create_semaphore(*thread, &make.borrowed(), *initial, *max),
             Call::MakeTimer {
                 thread,
                 make,
                 manual,
-            } => self.create_timer(*thread, &borrowed(make), *manual),
+            } => self.create_timer(*thread, &make.borrowed(), *manual),
             Call::OpenNamed {
                 thread,
                 kind,
@@ -569,18 +569,6 @@ impl<K: PinKeeper> Manager<K> {
             Call::Reap { slot } => self.reap(*slot),
             Call::Counts { id } => self.counts(*id),
         }
-    }
-}
-
-/// The same with the name borrowed.
-fn borrowed(make: &Making) -> Make<'_>
-    ensures { making_of result ≡ make.now }
-{
-    Make {
-        name: make.name.as_ref().map(|text| text.as_slice()),
-        inherit: make.inherit,
-        access: make.access,
-        grant: make.grant,
     }
 }
 

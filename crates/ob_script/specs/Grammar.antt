@@ -7,7 +7,7 @@ use Rattle.ob_waits.specs.declared.wait.Mode.{Mode}
 use Rattle.ob_waits.specs.declared.wait.Mode.TheVariants.{Any, All}
 use Rattle.ob_manager.specs.declared.waiting.Timeout.{Timeout}
 use Rattle.ob_manager.specs.declared.waiting.Timeout.TheVariants.{Infinite, Millis}
-use Rattle.ob_manager.specs.declared.making.Making.{Making}
+use Rattle.ob_manager.specs.Makings.{Making}
 use Rattle.ob_manager.specs.declared.call.Call.{Call}
 use Rattle.ob_manager.specs.declared.call.Call.TheVariants.{Spawn, Child, StartThread, MakeEvent, MakeMutex, MakeSemaphore, MakeTimer, OpenNamed, Duplicate, CloseHandle, GetFlags, SetFlags, SetEvent, ResetEvent, ReleaseSemaphore, ReleaseMutex, SetTimer, CancelTimer, Tick, WaitFor, WaitResult, Expire, EndThread, Exit, Reap, Counts}
 use Rattle.ob_script.specs.Acts.{Act, Nothing, Bad, ListNames, Asks, Pin, Unpin, ShowCard}

@@ -1,6 +1,6 @@
 ghost use Rattle.std.specs.Prelude.{◌≡◌, ◌<◌, [], ◌∷◌, ◌++◌, vec_len, vec_capacity};
 
-use crate::book::{Book, Entry, Receipt};
+use crate::book::{Book, Entered, Entry, Receipt};
 use crate::closing::{CloseCause, cause_of};
 use crate::lane::Lane;
 use ob_manager::{Call, Card, Manager, Reply};
@@ -58,7 +58,7 @@ impl<'a> Model for Shared<'a> {
 
 impl<'a> Shared<'a> {
     ghost use Rattle.std.specs.Prelude.{ℕ, List, ◌≡◌, ◌≢◌, ◌+◌, ◌<◌, ◌≤◌, [], None, IfOk, IfErr, IfSome, slice_index_or};
-    ghost use Rattle.ob_rights.specs.declared.fault.Fault.TheVariants.{Limit};
+    ghost use Rattle.ob_rights.specs.declared.fault.Fault.TheVariants.{Limit, Memory};
     ghost use Rattle.pin_core.specs.Holds.{tally, same_id};
     ghost use Rattle.ob_waits.specs.Waits.{is_pending};
     ghost use Rattle.ob_store.specs.State.{Whole, opening};
@@ -121,6 +121,7 @@ impl<'a> Shared<'a> {
 
     /// Makes a call, enters it in the journal, and lists it in its lane. Where memory is wanting before the manager is asked the
     /// answer is 8, and nothing is changed, entered or listed; an 8 of the manager's own is entered and listed as each refusal.
+    #[inline(always)]
     #[tactic(auto, using(crate::proofs::LaneLists::are_of_more))]
     pub fn call<R: Wait>(&self, rt: &R, lane: &mut Lane, call: Call) -> Reply
         ensures listed { Lists lane.old call result lane.new }
@@ -130,58 +131,57 @@ impl<'a> Shared<'a> {
             drop(call);
             return Reply::Refused(Fault::Memory);
         }
-        // (copied before the lock is taken, so that others wait less)
-        match call.plain_copy() {
-            Some(copy) => self.enter(rt, lane.number, &mut lane.list, call, copy),
-            None => self.copy_and_enter(rt, lane.number, &mut lane.list, call),
-        }
-    }
-
-    /// The same for a create, an open or a wait, whose name or handles are copied first.
-    #[inline(never)]
-    fn copy_and_enter<R: Wait>(
-        &self,
-        rt: &R,
-        number: u32,
-        receipts: &mut Vec<Receipt>,
-        call: Call,
-    ) -> Reply
-        requires { vec_len receipts.old < vec_capacity receipts.old }
-        ensures { Lists (record { number = number; list = receipts.old.items }) call result (record { number = number; list = receipts.new.items }) }
-    {
-        let Ok(copy) = call.copy(self.alloc) else {
-            drop(call);
-            return Reply::Refused(Fault::Memory);
-        };
-        self.enter(rt, number, receipts, call, copy)
-    }
-
-    /// Enters a call in the journal, and lists it where there is room for one.
-    #[inline(always)]
-    fn enter<R: Wait>(
-        &self,
-        rt: &R,
-        number: u32,
-        receipts: &mut Vec<Receipt>,
-        call: Call,
-        copy: Call,
-    ) -> Reply
-        requires room { vec_len receipts.old < vec_capacity receipts.old }
-        requires same { copy ≡ call }
-        ensures { Lists (record { number = number; list = receipts.old.items }) call result (record { number = number; list = receipts.new.items }) }
-    {
-        let mut held = self.lock(rt);
-        let answer = held.book.enter(number, &call, copy);
-        let waiting = held.waiting;
-        drop(held);
-        self.tell(waiting);
-        match answer {
-            Ok(entered) => list(receipts, entered.receipt(call)),
+        match self.enter(rt, lane.number, &call) {
+            Ok(entered) => list(&mut lane.list, entered.receipt(call)),
             Err(fault) => {
                 drop(call);
                 Reply::Refused(fault)
             }
         }
+    }
+
+    /// Makes a call of a lane, and enters it in the journal. The refusal is want of memory (8), and nothing is entered.
+    #[inline(never)]
+    fn enter<R: Wait>(&self, rt: &R, lane: u32, call: &Call) -> Result<Entered, Fault>
+        ensures entry { IfOk result (λ entered. (entered.lane ≡ lane) × (entered.call ≡ call.now)) }
+        ensures memory { IfErr result (λ fault. fault ≡ Memory) }
+    {
+        // (copied before the lock is taken, so that others wait less)
+        if call.is_plain() {
+            return self.enter_with(rt, lane, call, call.plain_copy());
+        }
+        self.copy_and_enter(rt, lane, call)
+    }
+
+    /// The same of a create, an open or a wait, whose name or handles are copied first.
+    #[inline(never)]
+    fn copy_and_enter<R: Wait>(&self, rt: &R, lane: u32, call: &Call) -> Result<Entered, Fault>
+        ensures entry { IfOk result (λ entered. (entered.lane ≡ lane) × (entered.call ≡ call.now)) }
+        ensures memory { IfErr result (λ fault. fault ≡ Memory) }
+    {
+        let copy = call.copy(self.alloc)?;
+        self.enter_with(rt, lane, call, copy)
+    }
+
+    /// The same with the copy for the journal.
+    #[inline(always)]
+    fn enter_with<R: Wait>(
+        &self,
+        rt: &R,
+        lane: u32,
+        call: &Call,
+        copy: Call,
+    ) -> Result<Entered, Fault>
+        requires { copy ≡ call.now }
+        ensures entry { IfOk result (λ entered. (entered.lane ≡ lane) × (entered.call ≡ call.now)) }
+        ensures memory { IfErr result (λ fault. fault ≡ Memory) }
+    {
+        let mut held = self.lock(rt);
+        let answer = held.book.enter(lane, call, copy);
+        let waiting = held.waiting;
+        drop(held);
+        self.tell(waiting);
+        answer
     }
 
     /// Waits until a wait is no longer pending, and then asks for its result, under the same lock. It may wait forever.

@@ -1,7 +1,7 @@
 -- What C asks for.
 use Rattle.std.specs.Prelude.{ℕ, zero, suc, Bool, true, false, List, Option, Some, None}
 use Rattle.ob_rights.specs.declared.rights.Rights.{Rights}
-use Rattle.ob_manager.specs.declared.making.Making.{Making}
+use Rattle.ob_manager.specs.Makings.{Making}
 use Rattle.obman_c.specs.declared.creating.Asking.{Asking}
 
 abbrev pub mask_of : ℕ → Rights

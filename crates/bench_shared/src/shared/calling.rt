@@ -14,25 +14,20 @@ pub const CALLS: u64 = 20_000;
 const EVENTS: u32 = 64;
 
 /// Threads 1 to 8 of one process, and the events, with one handle for each.
-pub fn prepares<R: Wait>(rt: &R, shared: &Shared<'_>, lane: &mut Lane) {
+pub fn prepares<R: Wait>(rt: &R, alloc: Global, shared: &Shared<'_>, lane: &mut Lane) {
     shared.call(rt, lane, Call::Spawn { session: 1 });
     for _ in 0..7 {
         shared.call(rt, lane, Call::StartThread { process: 1 });
     }
     for _ in 0..EVENTS {
-        shared.call(rt, lane, event());
+        shared.call(rt, lane, event(alloc));
     }
 }
 
-fn event() -> Call {
+fn event(alloc: Global) -> Call {
     Call::MakeEvent {
         thread: 1,
-        make: Making {
-            name: None,
-            inherit: false,
-            access: None,
-            grant: None,
-        },
+        make: Making::unnamed(alloc, false, None, None),
         manual: true,
         set: false,
     }

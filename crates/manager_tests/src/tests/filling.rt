@@ -10,6 +10,7 @@ use ob_manager::{Call, Limits, Making, Manager, Reply};
 use ob_rights::{Fault, Rights};
 use pin_core::Id;
 use pin_words::{PinKeeper, Reclaim};
+use std::alloc::Global;
 use std::test::Fail;
 
 /// The last slot's first object, and its second.
@@ -49,16 +50,10 @@ pub(super) enum Fill {
 }
 
 /// An event without a name.
-fn event(thread: u32) -> Call {
-    let make = Making {
-        name: None,
-        inherit: false,
-        access: None,
-        grant: None,
-    };
+fn event(alloc: Global, thread: u32) -> Call {
     Call::MakeEvent {
         thread,
-        make,
+        make: Making::unnamed(alloc, false, None, None),
         manual: false,
         set: false,
     }
@@ -89,7 +84,13 @@ fn are_started<K: PinKeeper>(manager: &mut Manager<K>, last: u32, most: u32) -> 
     true
 }
 
-fn are_made<K: PinKeeper>(manager: &mut Manager<K>, thread: u32, slot: u32, many: u32) -> bool {
+fn are_made<K: PinKeeper>(
+    alloc: Global,
+    manager: &mut Manager<K>,
+    thread: u32,
+    slot: u32,
+    many: u32,
+) -> bool {
     for place in 0..many {
         let due = Reply::Made {
             handle: place.saturating_mul(4).saturating_add(4),
@@ -98,7 +99,7 @@ fn are_made<K: PinKeeper>(manager: &mut Manager<K>, thread: u32, slot: u32, many
                 generation: 1,
             },
         };
-        if asked(manager, &event(thread), true) != due {
+        if asked(manager, &event(alloc, thread), true) != due {
             return false;
         }
     }
@@ -106,19 +107,34 @@ fn are_made<K: PinKeeper>(manager: &mut Manager<K>, thread: u32, slot: u32, many
 }
 
 /// An object is made, loses its handle and is taken back.
-fn is_renewed<K: PinKeeper>(manager: &mut Manager<K>, id: Id, outcome: Reclaim) -> bool {
+fn is_renewed<K: PinKeeper>(
+    alloc: Global,
+    manager: &mut Manager<K>,
+    id: Id,
+    outcome: Reclaim,
+) -> bool {
     let close = Call::CloseHandle {
         thread: 1,
         handle: 4,
     };
-    asked(manager, &event(1), true) == Reply::Made { handle: 4, id }
+    asked(manager, &event(alloc, 1), true) == Reply::Made { handle: 4, id }
         && asked(manager, &close, false) == Reply::Closed
         && asked(manager, &Call::Reap { slot: id.slot }, false) == Reply::Reaped { id, outcome }
 }
 
-fn are_renewed<K: PinKeeper>(manager: &mut Manager<K>, slot: u32, last: u32) -> bool {
+fn are_renewed<K: PinKeeper>(
+    alloc: Global,
+    manager: &mut Manager<K>,
+    slot: u32,
+    last: u32,
+) -> bool {
     for generation in 1..last {
-        if !is_renewed(manager, Id { slot, generation }, Reclaim::Freed) {
+        if !is_renewed(
+            alloc,
+            manager,
+            Id { slot, generation },
+            Reclaim::Freed,
+        ) {
             return false;
         }
     }
@@ -126,16 +142,16 @@ fn are_renewed<K: PinKeeper>(manager: &mut Manager<K>, slot: u32, last: u32) -> 
         slot,
         generation: last,
     };
-    is_renewed(manager, id, Reclaim::Retired)
+    is_renewed(alloc, manager, id, Reclaim::Retired)
 }
 
 /// Whether all is made, each as it is due.
-pub(super) fn fills<K: PinKeeper>(manager: &mut Manager<K>, fill: Fill) -> bool {
+pub(super) fn fills<K: PinKeeper>(alloc: Global, manager: &mut Manager<K>, fill: Fill) -> bool {
     match fill {
         Fill::Processes(many) => are_spawned(manager, many),
         Fill::Threads(last, most) => are_started(manager, last, most),
-        Fill::Events { thread, slot, many } => are_made(manager, thread, slot, many),
-        Fill::Generations { slot, last } => are_renewed(manager, slot, last),
+        Fill::Events { thread, slot, many } => are_made(alloc, manager, thread, slot, many),
+        Fill::Generations { slot, last } => are_renewed(alloc, manager, slot, last),
     }
 }
 

@@ -64,7 +64,7 @@ fn makes(
         Move::PinsOften(many, id) => holds(rt, pins_often(manager, many, id)),
         Move::Unpins(id, due) => same(rt, unpins(manager, id), due),
         Move::IsCard(id, due) => same(rt, manager.card(id), due),
-        Move::Fills(fill) => holds(rt, fills(manager, fill)),
+        Move::Fills(fill) => holds(rt, fills(alloc, manager, fill)),
     }
     Ok(())
 }
