@@ -15,8 +15,11 @@ use std::sync::{Condvar, Mutex, MutexGuard, Wait};
 /// How many lanes there may be.
 const LANES_MOST: u32 = 65536;
 
-/// How often the lock is asked for before a caller waits for it: the pauses between are 127 in all.
-const LOOKS: u32 = 7;
+/// How often the lock is asked for before a caller waits for it, with a pause behind each.
+const LOOKS: u32 = 3;
+
+/// How long the first pause is, in the processor's steps of waiting, and how many times as long as the one before each other is.
+const PAUSES: u32 = 8;
 
 /// What lies under the lock.
 #[derive(Drop)]
@@ -103,10 +106,11 @@ impl<'a> Shared<'a> {
     }
 
     /// Takes the lock. A call holds it for less time than a caller takes to fall asleep and wake, so it is asked for some times,
-    /// with a longer pause behind each, before the caller waits for it.
+    /// with a longer pause behind each, before the caller waits for it. Whoever asks takes the lock's word out of the cache of the
+    /// one that holds it, so the pauses soon are longer than many calls.
     #[inline(never)]
     fn lock<R: Wait>(&self, rt: &R) -> MutexGuard<'_, Held<'a>> {
-        let mut pauses = 1u32;
+        let mut pauses = PAUSES;
         for _ in 0..LOOKS {
             if let Some(held) = self.held.try_lock() {
                 return held;
@@ -114,7 +118,7 @@ impl<'a> Shared<'a> {
             for _ in 0..pauses {
                 spin_loop();
             }
-            pauses = pauses.saturating_mul(2);
+            pauses = pauses.saturating_mul(PAUSES);
         }
         self.held.lock(rt)
     }
