@@ -129,12 +129,7 @@ fn are_renewed<K: PinKeeper>(
     last: u32,
 ) -> bool {
     for generation in 1..last {
-        if !is_renewed(
-            alloc,
-            manager,
-            Id { slot, generation },
-            Reclaim::Freed,
-        ) {
+        if !is_renewed(alloc, manager, Id { slot, generation }, Reclaim::Freed) {
             return false;
         }
     }
