@@ -117,7 +117,7 @@ static uint32_t open_and_close(scene *s, event *e) {
     om_opening o;
     must(om_open_event(&s->m, e->thread, OM_MODIFY_STATE, false, e->name, NAME_LENGTH, &o), OM_SUCCESS);
     must(om_close(&s->m, e->thread, o.handle), OM_SUCCESS);
-    return o.handle + o.object.slot;
+    return o.handle;
 }
 
 static uint32_t set_and_reset(scene *s, event *e) {
@@ -142,7 +142,7 @@ static uint32_t duplicate_and_close(scene *s, event *e) {
     om_opening o;
     must(om_duplicate(&s->m, e->thread, e->process, e->handle, e->process, 0, false, OM_DUPLICATE_SAME_ACCESS, &o), OM_SUCCESS);
     must(om_close(&s->m, e->thread, o.handle), OM_SUCCESS);
-    return o.handle + o.object.slot;
+    return o.handle;
 }
 
 static uint32_t set_and_wait(scene *s, event *e) {
@@ -152,21 +152,18 @@ static uint32_t set_and_wait(scene *s, event *e) {
     return code + 1;
 }
 
-/* A caller has other things to do between its calls, so no round begins before all that the one before reads and writes has come:
- * they are counted by an atomic number, which no later load passes. */
+/* The walk goes on behind the answer of the round before, as a caller's calls do: the top bit of the sum stays 0. */
 static inline __attribute__((always_inline)) void measure(scene *s, const char *what, uint32_t (*round)(scene *, event *)) {
     uint32_t step = STRIDE % s->count, at = 0;
-    uint64_t sum = 0, ended = 0, started = now();
+    uint64_t sum = 0, started = now();
     for (uint32_t i = 0; i < ROUNDS; i++) {
         sum += round(s, &s->events[at]);
-        __atomic_fetch_add(&ended, 1, __ATOMIC_SEQ_CST);
-        at += step;
+        at += step + (uint32_t)(sum >> 63);
         if (at >= s->count) {
             at -= s->count;
         }
     }
     report(what, s, ROUNDS, now() - started);
-    must(sum == 0, false);
 }
 
 /* A process of as many threads and timers, the timers set for later and each thread but the first waiting for an event. */

@@ -39,7 +39,6 @@ use directory::text;
 use given::{done, given, plain, refusal};
 use id::Id;
 use manager::Manager;
-use std::sync::atomic::{AtomicU64, Ordering::SeqCst};
 use std::time::{Duration, Instant};
 
 /// How many objects a process makes before the next one does.
@@ -108,9 +107,9 @@ fn live_events(manager: &mut Manager, count: u32) -> Result<Vec<Live>, Fault> {
 }
 
 fn open_and_close(manager: &mut Manager, event: &Live) -> Result<u32, Fault> {
-    let (handle, id) = given(manager.open_named(event.thread, Kind::Event, MODIFY_STATE, false, &event.text))?;
+    let (handle, _) = given(manager.open_named(event.thread, Kind::Event, MODIFY_STATE, false, &event.text))?;
     done(manager.close(event.thread, handle))?;
-    Ok(handle.wrapping_add(id.slot))
+    Ok(handle)
 }
 
 fn set_and_reset(manager: &mut Manager, event: &Live) -> Result<u32, Fault> {
@@ -122,9 +121,9 @@ fn set_and_reset(manager: &mut Manager, event: &Live) -> Result<u32, Fault> {
 fn duplicate_and_close(manager: &mut Manager, event: &Live) -> Result<u32, Fault> {
     let (thread, process) = (event.thread, event.process);
     let reply = manager.duplicate(thread, process, event.handle, Some(process), 0, false, SAME_ACCESS);
-    let (handle, id) = given(reply)?;
+    let (handle, _) = given(reply)?;
     done(manager.close(thread, handle))?;
-    Ok(handle.wrapping_add(id.slot))
+    Ok(handle)
 }
 
 fn set_and_wait(manager: &mut Manager, event: &Live) -> Result<u32, Fault> {
@@ -144,7 +143,7 @@ fn resolve(manager: &mut Manager, event: &Live) -> Result<u32, Fault> {
     Ok(manager.resolve(event.process, event.handle)?.slot)
 }
 
-/// The sum of some rounds, from event to event, none of which begins before all that the one before reads and writes has come.
+/// The sum of some rounds, from event to event.
 #[inline(always)]
 fn rounds(
     manager: &mut Manager,
@@ -153,13 +152,11 @@ fn rounds(
     round: impl Fn(&mut Manager, &Live) -> Result<u32, Fault>,
 ) -> Result<u64, Fault> {
     let step = STRIDE % events.len();
-    let ended = AtomicU64::new(0);
     let mut at = 0;
     let mut sum = 0;
     for _ in 0..rounds {
         sum += u64::from(round(manager, &events[at])?);
-        ended.fetch_add(1, SeqCst);
-        at += step;
+        at += step + (sum >> 63) as usize;
         if at >= events.len() {
             at -= events.len();
         }

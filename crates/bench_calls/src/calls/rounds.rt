@@ -2,7 +2,6 @@ use crate::calls::answers::{code_of, counted, done, given, reaped};
 use crate::calls::live::{Live, Locked, Text, plain};
 use ob_manager::{Mode, Timeout};
 use ob_rights::{Fault, Kind, Rights};
-use std::sync::atomic::{AtomicU64, Ordering};
 
 /// Prime to each number of events, so that a walk by it comes to each of them.
 const STRIDE: usize = 7919;
@@ -28,9 +27,9 @@ impl Round for OpenAndClose {
             false,
             &event.text,
         );
-        let (handle, id) = given(opened)?;
+        let (handle, _) = given(opened)?;
         done(manager.close(event.thread, handle))?;
-        Ok(handle.wrapping_add(id.slot))
+        Ok(handle)
     }
 }
 
@@ -59,9 +58,9 @@ impl Round for DuplicateAndClose {
             false,
             SAME_ACCESS,
         );
-        let (handle, id) = given(duplicated)?;
+        let (handle, _) = given(duplicated)?;
         done(manager.close(event.thread, handle))?;
-        Ok(handle.wrapping_add(id.slot))
+        Ok(handle)
     }
 }
 
@@ -95,8 +94,8 @@ impl Round for Resolve {
     }
 }
 
-/// The sum of some rounds, from event to event. A caller has other things to do between its calls, so no round begins before
-/// all that the one before reads and writes has come: they are counted by an atomic number, which no later load passes.
+/// The sum of some rounds, from event to event. As a caller does that waits for an answer before it calls again, the walk goes on
+/// behind the answer: which event is next is known by the sum, whose top bit stays 0.
 pub(crate) fn rounds<R: Round>(
     manager: &mut Locked,
     events: &[Live],
@@ -105,7 +104,6 @@ pub(crate) fn rounds<R: Round>(
     let Some(step) = STRIDE.checked_rem(events.len()) else {
         return Ok(0);
     };
-    let ended = AtomicU64::new(0);
     let mut at = 0usize;
     let mut sum = 0u64;
     for _ in 0..rounds {
@@ -113,8 +111,7 @@ pub(crate) fn rounds<R: Round>(
             return Ok(sum);
         };
         sum = sum.wrapping_add(R::round(manager, event)? as u64);
-        ended.fetch_add(1, Ordering::SeqCst);
-        at = at.wrapping_add(step);
+        at = at.wrapping_add(step).wrapping_add((sum >> 63) as usize);
         if at >= events.len() {
             at = at.wrapping_sub(events.len());
         }
