@@ -152,12 +152,18 @@ static uint32_t set_and_wait(scene *s, event *e) {
     return code + 1;
 }
 
+/* Whether rounds are apart: the clock is read between them, which waits for all that was begun. */
+static bool are_apart;
+
 /* The walk goes on behind the answer of the round before, as a caller's calls do: the top bit of the sum stays 0. */
 static inline __attribute__((always_inline)) void measure(scene *s, const char *what, uint32_t (*round)(scene *, event *)) {
     uint32_t step = STRIDE % s->count, at = 0;
     uint64_t sum = 0, started = now();
     for (uint32_t i = 0; i < ROUNDS; i++) {
         sum += round(s, &s->events[at]);
+        if (are_apart) {
+            (void)now();
+        }
         at += step + (uint32_t)(sum >> 63);
         if (at >= s->count) {
             at -= s->count;
@@ -240,8 +246,9 @@ static void pass(clockwork *c, const char *what, void (*round)(clockwork *, uint
     printf("%s, %u: %u in %llu\n", what, (unsigned)c->count, MOMENTS, (unsigned long long)(now() - started));
 }
 
-int main(void) {
+int main(int argc, char **argv) {
     static const uint32_t each[] = {16, 1000, 60000};
+    are_apart = argc > 2 && strcmp(argv[2], "apart") == 0;
     for (int i = 0; i < 3; i++) {
         scene s = new_scene(each[i]);
         come_and_go(&s, "create and close, unnamed", "reap, unnamed", false);

@@ -25,7 +25,7 @@ use std::time::{Clock, Instant};
 /// How many events come and go in a batch.
 const BATCH: u32 = 256;
 
-/// How many rounds each case has, and whether they are timed.
+/// How many rounds each case has, whether they are timed, and whether those with events that stay are apart.
 #[derive(Clone, Copy)]
 struct Plan {
     batches: u32,
@@ -33,6 +33,7 @@ struct Plan {
     managers: u32,
     lives: u32,
     is_timed: bool,
+    are_apart: bool,
 }
 
 const MEASURED: Plan = Plan {
@@ -41,6 +42,16 @@ const MEASURED: Plan = Plan {
     managers: 20,
     lives: 1000,
     is_timed: true,
+    are_apart: false,
+};
+
+const APART: Plan = Plan {
+    batches: 1000,
+    rounds: 1_000_000,
+    managers: 20,
+    lives: 1000,
+    is_timed: true,
+    are_apart: true,
 };
 
 const SHOWN: Plan = Plan {
@@ -49,6 +60,7 @@ const SHOWN: Plan = Plan {
     managers: 2,
     lives: 10,
     is_timed: false,
+    are_apart: false,
 };
 
 /// A manager and its events, and the names that come and go.
@@ -105,7 +117,14 @@ fn measure<R: Round>(
     scene: &mut Scene,
 ) -> Option<()> {
     let started = Instant::now(rt).ok()?;
-    let sum = rounds::<R>(&mut scene.manager, &scene.events, plan.rounds).ok()?;
+    let sum = rounds::<R>(
+        rt,
+        &mut scene.manager,
+        &scene.events,
+        plan.rounds,
+        plan.are_apart,
+    )
+    .ok()?;
     let nanos = started.elapsed(rt).ok()?.as_nanos();
     report(rt, plan, case, scene.events.len(), plan.rounds, nanos, sum)
 }
@@ -335,6 +354,14 @@ pub fn measure_all(rt: &(impl Print + Clock), alloc: Global) -> Option<()> {
     }
     for count in [16, 60000] {
         run_threads(rt, alloc, MEASURED, count)?;
+    }
+    Some(())
+}
+
+/// Prints what each case with events that stay, or come and go, takes where its rounds are apart.
+pub fn measure_apart(rt: &(impl Print + Clock), alloc: Global) -> Option<()> {
+    for count in [16, 1000, 60000] {
+        run(rt, alloc, APART, count)?;
     }
     Some(())
 }

@@ -2,6 +2,7 @@ use crate::calls::answers::{code_of, counted, done, given, reaped};
 use crate::calls::live::{Live, Locked, Text, plain};
 use ob_manager::{Mode, Timeout};
 use ob_rights::{Fault, Kind, Rights};
+use std::time::{Clock, Instant};
 
 /// Prime to each number of events, so that a walk by it comes to each of them.
 const STRIDE: usize = 7919;
@@ -95,11 +96,14 @@ impl Round for Resolve {
 }
 
 /// The sum of some rounds, from event to event. As a caller does that waits for an answer before it calls again, the walk goes on
-/// behind the answer: which event is next is known by the sum, whose top bit stays 0.
+/// behind the answer: which event is next is known by the sum, whose top bit stays 0. Where they are to be apart the clock is read
+/// between them, which waits for all that was begun, so that no round begins while another waits for memory.
 pub(crate) fn rounds<R: Round>(
+    rt: &impl Clock,
     manager: &mut Locked,
     events: &[Live],
     rounds: u32,
+    are_apart: bool,
 ) -> Result<u64, Fault> {
     let Some(step) = STRIDE.checked_rem(events.len()) else {
         return Ok(0);
@@ -111,6 +115,9 @@ pub(crate) fn rounds<R: Round>(
             return Ok(sum);
         };
         sum = sum.wrapping_add(R::round(manager, event)? as u64);
+        if are_apart {
+            let _ = Instant::now(rt);
+        }
         at = at.wrapping_add(step).wrapping_add((sum >> 63) as usize);
         if at >= events.len() {
             at = at.wrapping_sub(events.len());
