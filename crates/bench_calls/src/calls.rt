@@ -46,12 +46,8 @@ const MEASURED: Plan = Plan {
 };
 
 const APART: Plan = Plan {
-    batches: 1000,
-    rounds: 1_000_000,
-    managers: 20,
-    lives: 1000,
-    is_timed: true,
     are_apart: true,
+    ..MEASURED
 };
 
 const SHOWN: Plan = Plan {

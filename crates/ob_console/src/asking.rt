@@ -1,4 +1,5 @@
 ghost use Rattle.std.specs.Prelude.{◌≡◌, Some};
+ghost use Rattle.ob_manager.specs.Makings.{making_of};
 ghost use Rattle.ob_manager.specs.Steps.{Step};
 ghost use Rattle.ob_manager.specs.declared.call.Call.TheVariants as Call;
 ghost use Rattle.ob_script.specs.Words.{handles_in};
@@ -6,15 +7,18 @@ ghost use Rattle.ob_script.specs.WordsLeft.{words_left};
 ghost use Rattle.ob_script.specs.Acts.{call_in};
 ghost use Rattle.ob_console.specs.Runs.{Spares};
 
-use ob_manager::{Manager, Mode, Reply, Timeout};
+use arrayvec::ArrayVec;
+use ob_manager::{Make, Manager, Mode, Reply, Timeout};
 use ob_reader::reap;
-use ob_script::{Ask, handles_of};
+use ob_script::{Ask, read_handles};
 use pin_words::{Keeper, Reader};
 
-/// Makes a call. The reader meets the manager where a slot is reaped of which it holds something.
+/// Makes a call. The reader meets the manager where a slot is reaped of which it holds something; the handles of a wait are
+/// read to where those of the last stood.
 pub fn reply_to<'a>(
     manager: &mut Manager<Keeper<'a>>,
     reader: &mut Reader<'a>,
+    handles: &mut ArrayVec<u32, 65>,
     ask: &Ask<'_>,
 ) -> Reply
     requires { manager.old.keeper.table ≡ Some reader.old.table }
@@ -32,23 +36,23 @@ pub fn reply_to<'a>(
             make,
             manual,
             set,
-        } => manager.create_event(*thread, make, *manual, *set),
+        } => create_event(manager, *thread, make, *manual, *set),
         Ask::MakeMutex {
             thread,
             make,
             owned,
-        } => manager.create_mutex(*thread, make, *owned),
+        } => create_mutex(manager, *thread, make, *owned),
         Ask::MakeSemaphore {
             thread,
             make,
             initial,
             max,
-        } => manager.create_semaphore(*thread, make, *initial, *max),
+        } => create_semaphore(manager, *thread, make, *initial, *max),
         Ask::MakeTimer {
             thread,
             make,
             manual,
-        } => manager.create_timer(*thread, make, *manual),
+        } => create_timer(manager, *thread, make, *manual),
         Ask::OpenNamed {
             thread,
             kind,
@@ -95,7 +99,7 @@ pub fn reply_to<'a>(
             mode,
             timeout,
             rest,
-        } => wait_for(manager, *thread, *mode, *timeout, *rest),
+        } => wait_for(manager, handles, *thread, *mode, *timeout, *rest),
         Ask::WaitResult { wait } => manager.wait_result(*wait),
         Ask::Expire { wait } => manager.expire(*wait),
         Ask::EndThread { thread } => manager.end_thread(*thread),
@@ -106,8 +110,10 @@ pub fn reply_to<'a>(
 }
 
 /// Waits for objects. Of a list that is too long no more than its beginning is asked for: the answer is the same.
+#[inline(always)]
 fn wait_for<'a>(
     manager: &mut Manager<Keeper<'a>>,
+    handles: &mut ArrayVec<u32, 65>,
     thread: u32,
     mode: Mode,
     timeout: Timeout,
@@ -115,6 +121,62 @@ fn wait_for<'a>(
 ) -> Reply
     ensures { Step manager.old (Call.WaitFor thread mode timeout (handles_in (words_left rest.entry))) result manager.new }
 {
-    let handles = handles_of(rest);
+    read_handles(rest, handles);
     manager.wait(thread, mode, timeout, handles.as_slice())
+}
+
+// What a create asks for is copied where it is lent on: the act that it is a part of can then stay in registers.
+
+#[inline(always)]
+fn create_event<'a>(
+    manager: &mut Manager<Keeper<'a>>,
+    thread: u32,
+    make: &Make<'_>,
+    manual: bool,
+    set: bool,
+) -> Reply
+    ensures { Step manager.old (Call.MakeEvent thread (making_of make.now) manual set) result manager.new }
+{
+    let make = *make;
+    manager.create_event(thread, &make, manual, set)
+}
+
+#[inline(always)]
+fn create_mutex<'a>(
+    manager: &mut Manager<Keeper<'a>>,
+    thread: u32,
+    make: &Make<'_>,
+    owned: bool,
+) -> Reply
+    ensures { Step manager.old (Call.MakeMutex thread (making_of make.now) owned) result manager.new }
+{
+    let make = *make;
+    manager.create_mutex(thread, &make, owned)
+}
+
+#[inline(always)]
+fn create_semaphore<'a>(
+    manager: &mut Manager<Keeper<'a>>,
+    thread: u32,
+    make: &Make<'_>,
+    initial: i32,
+    max: i32,
+) -> Reply
+    ensures { Step manager.old (Call.MakeSemaphore thread (making_of make.now) initial max) result manager.new }
+{
+    let make = *make;
+    manager.create_semaphore(thread, &make, initial, max)
+}
+
+#[inline(always)]
+fn create_timer<'a>(
+    manager: &mut Manager<Keeper<'a>>,
+    thread: u32,
+    make: &Make<'_>,
+    manual: bool,
+) -> Reply
+    ensures { Step manager.old (Call.MakeTimer thread (making_of make.now) manual) result manager.new }
+{
+    let make = *make;
+    manager.create_timer(thread, &make, manual)
 }

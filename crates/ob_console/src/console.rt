@@ -7,7 +7,7 @@ ghost use Rattle.ob_console.specs.Sessions.{Advances, Session, Finishes, IsFed, 
 use crate::evaluator::Evaluator;
 use ob_manager::Manager;
 use ob_output::{NotWritten, Output, Sink};
-use ob_script::{HeldLine, act_of, cut_far};
+use ob_script::{HeldLine, cut_far};
 use pin_words::{Keeper, Reader};
 use std::marker::Model;
 
@@ -50,10 +50,10 @@ impl<'a> Console<'a> {
         ensures cause { OnErr result ((W.faults sink.old < W.faults sink.new) ⊎ (self.new.pending.writes_left ≡ 0)) }
     {
         if self.held.is_empty() {
-            return self.evaluator.answer(sink, &act_of(end));
+            return self.evaluator.answer(sink, end);
         }
         self.held.extend(end);
-        let answered = self.evaluator.answer(sink, &self.held.act());
+        let answered = self.evaluator.answer_held(sink, &self.held);
         self.held.clear();
         answered
     }
@@ -109,7 +109,7 @@ impl<'a> Console<'a> {
         if self.held.is_empty() {
             return Ok(());
         }
-        self.evaluator.answer(sink, &self.held.act())
+        self.evaluator.answer_held(sink, &self.held)
     }
 
     /// The input ends: answers a last line without a line feed, and writes what is printed.

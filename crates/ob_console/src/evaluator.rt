@@ -1,16 +1,19 @@
 ghost use Rattle.std.specs.Prelude.{◌≡◌, ◌+◌, ◌<◌, ◌≤◌, ◌^◌, ◌++◌, ◌⊎◌, List, ℕ, OnErr, OnOk, Some, []};
 ghost use Rattle.ob_store.specs.Directory.{directory_of};
-ghost use Rattle.ob_script.specs.Acts.{act_in};
+ghost use Rattle.ob_script.specs.Acts.{Bad, act_in};
+ghost use Rattle.ob_script.specs.Grammar.{act_of};
+ghost use Rattle.ob_script.specs.Held.{act_of_held};
 ghost use Rattle.ob_output.specs.Printed.{printed_names};
 ghost use Rattle.ob_console.specs.Runs.{Prints, point};
 ghost use Rattle.ob_output.specs.Pending.{IsWritten};
 ghost use Rattle.ob_output.specs.Devices.{Begins};
 
 use crate::asking::reply_to;
+use arrayvec::ArrayVec;
 use ob_manager::Manager;
 use ob_output::{Answer, NotWritten, Output, Sink};
 use ob_reader::{card, pin, unpin};
-use ob_script::Act;
+use ob_script::{Act, HeldLine, act_of};
 use pin_words::{Keeper, Reader};
 use std::marker::Model;
 
@@ -20,6 +23,8 @@ pub struct Evaluator<'a> {
     manager: Manager<Keeper<'a>>,
     reader: Reader<'a>,
     output: Output,
+    /// Where the handles of a wait are read to: a list of its own would be cleared for each.
+    handles: ArrayVec<u32, 65>,
     lines: u128,
 }
 
@@ -45,12 +50,57 @@ impl<'a> Evaluator<'a> {
             manager,
             reader,
             output,
+            handles: ArrayVec::new(),
             lines: 0,
         }
     }
 
     /// Does what a line asks, and prints its answer.
-    pub fn answer<W: Sink>(&mut self, sink: &mut W, act: &Act<'_>) -> Result<(), NotWritten>
+    pub fn answer<W: Sink>(&mut self, sink: &mut W, line: &[u8]) -> Result<(), NotWritten>
+        requires { self.old.lines < 2 ^ 127 }
+        ensures prints { (printed : List ℕ) × Prints self.old.point (self.old.lines + 1) (act_of line.now) printed self.new.point
+            × IsWritten result (W.taken sink.old) (W.taken sink.new) (self.old.pending.bytes ++ printed) self.new.pending.bytes }
+        ensures lines { self.new.lines ≡ self.old.lines + 1 }
+        ensures calls { W.calls sink.new + self.new.pending.writes_left ≡ W.calls sink.old + self.old.pending.writes_left }
+        ensures faults { W.faults sink.old ≤ W.faults sink.new }
+        ensures cause { OnErr result ((W.faults sink.old < W.faults sink.new) ⊎ (self.new.pending.writes_left ≡ 0)) }
+    {
+        self.enact(sink, &act_of::<0>(line))
+    }
+
+    /// The same of a line that is held.
+    pub fn answer_held<W: Sink>(&mut self, sink: &mut W, held: &HeldLine) -> Result<(), NotWritten>
+        requires { self.old.lines < 2 ^ 127 }
+        ensures prints { (printed : List ℕ) × Prints self.old.point (self.old.lines + 1) (act_of_held held.now) printed self.new.point
+            × IsWritten result (W.taken sink.old) (W.taken sink.new) (self.old.pending.bytes ++ printed) self.new.pending.bytes }
+        ensures lines { self.new.lines ≡ self.old.lines + 1 }
+        ensures calls { W.calls sink.new + self.new.pending.writes_left ≡ W.calls sink.old + self.old.pending.writes_left }
+        ensures faults { W.faults sink.old ≤ W.faults sink.new }
+        ensures cause { OnErr result ((W.faults sink.old < W.faults sink.new) ⊎ (self.new.pending.writes_left ≡ 0)) }
+    {
+        match held.line() {
+            Some(line) => self.answer(sink, line),
+            None => self.refuse(sink),
+        }
+    }
+
+    /// Says that a line is bad.
+    fn refuse<W: Sink>(&mut self, sink: &mut W) -> Result<(), NotWritten>
+        requires { self.old.lines < 2 ^ 127 }
+        ensures prints { (printed : List ℕ) × Prints self.old.point (self.old.lines + 1) Bad printed self.new.point
+            × IsWritten result (W.taken sink.old) (W.taken sink.new) (self.old.pending.bytes ++ printed) self.new.pending.bytes }
+        ensures lines { self.new.lines ≡ self.old.lines + 1 }
+        ensures calls { W.calls sink.new + self.new.pending.writes_left ≡ W.calls sink.old + self.old.pending.writes_left }
+        ensures faults { W.faults sink.old ≤ W.faults sink.new }
+        ensures cause { OnErr result ((W.faults sink.old < W.faults sink.new) ⊎ (self.new.pending.writes_left ≡ 0)) }
+    {
+        self.lines += 1;
+        self.output.put(sink, &Answer::BadLine(self.lines))
+    }
+
+    /// Does an act, and prints its answer. It stands where the act was read, which is then nowhere else.
+    #[inline(always)]
+    fn enact<W: Sink>(&mut self, sink: &mut W, act: &Act<'_>) -> Result<(), NotWritten>
         requires { self.old.lines < 2 ^ 127 }
         ensures prints { (printed : List ℕ) × Prints self.old.point (self.old.lines + 1) (act_in act.now) printed self.new.point
             × IsWritten result (W.taken sink.old) (W.taken sink.new) (self.old.pending.bytes ++ printed) self.new.pending.bytes }
@@ -64,7 +114,12 @@ impl<'a> Evaluator<'a> {
             Act::Nothing => return Ok(()),
             Act::ListNames => return list(&self.manager, &mut self.output, sink),
             Act::Bad => Answer::BadLine(self.lines),
-            Act::Ask(ask) => { Answer::Replied(reply_to(&mut self.manager, &mut self.reader, ask)) }
+            Act::Ask(ask) => Answer::Replied(reply_to(
+                &mut self.manager,
+                &mut self.reader,
+                &mut self.handles,
+                ask,
+            )),
             Act::Pin(id) => Answer::Pinned(*id, pin(&mut self.manager, &mut self.reader, *id)),
             Act::Unpin(id) => Answer::Unpinned(*id, unpin(&mut self.reader, *id)),
             Act::ShowCard(id) => { Answer::Shown(card(&mut self.manager, &mut self.reader, *id)) }

@@ -43,7 +43,7 @@ pub fn line_of(lanes: u32, is_prologue: bool, line: &[u8]) -> Line<'_>
     if is_marked(line) {
         return with_prefix(lanes, line);
     }
-    without_prefix(is_prologue, act_of(line))
+    without_prefix(is_prologue, act_of::<1>(line))
 }
 
 /// Whether a line begins with an @.
@@ -117,7 +117,7 @@ fn behind_prefix(number: u32, line: &[u8]) -> Line<'_>
     if text_of(line) == b"block".as_slice() {
         return Line::Acts(number, Request::Block);
     }
-    match act_of(line) {
+    match act_of::<1>(line) {
         Act::Nothing => Line::Bad,
         act => in_lane(number, act),
     }

@@ -12,9 +12,10 @@ pub record Making : Type 0 where
   pub access : Option Rights
   pub grant : Option Rights
 
-abbrev pub name_in : Bool → List ℕ → Option (List ℕ)
-name_in true text = Some text
-name_in false text = None
+-- a name, where one is given
+abbrev pub given_name : Bool → List ℕ → Option (List ℕ)
+given_name true text = Some text
+given_name false text = None
 
 abbrev pub making_of : Make → Making
 making_of make = record { name = option_map (λ text. text.now) make.name; inherit = make.inherit; access = make.access; grant = make.grant }

@@ -1,4 +1,4 @@
-ghost use Rattle.std.specs.Prelude.{◌≡◌, ◌↔◌, IfOk, IsTrue, false, true};
+ghost use Rattle.std.specs.Prelude.{◌≡◌, ◌↔◌, IfErr, IfOk, IsTrue, false, true};
 ghost use Rattle.ob_manager.specs.Plain.{is_plain};
 
 use crate::making::{Making, Text};
@@ -234,10 +234,11 @@ impl Call {
         )
     }
 
-    /// An equal one: its name or its handles are copied. The refusal is want of memory.
+    /// An equal one: its name or its handles are copied. The refusal is want of memory, of which a plain call takes none.
     #[inline(always)]
     pub fn copy(&self, alloc: Global) -> Result<Call, AllocError>
-        ensures { IfOk result (λ copy. copy ≡ self.now) }
+        ensures copy { IfOk result (λ copy. copy ≡ self.now) }
+        ensures refusal { IfErr result (λ _. is_plain self.now ≡ false) }
     {
         if self.is_plain() {
             return Ok(self.plain_copy());

@@ -1,4 +1,4 @@
-ghost use Rattle.std.specs.Prelude.{◌≡◌, ◌↔◌, [], IfOk, IsTrue, None};
+ghost use Rattle.std.specs.Prelude.{◌≡◌, ◌↔◌, [], IfErr, IfOk, IsSome, IsTrue, None};
 ghost use Rattle.std.specs.Option.{option_map};
 ghost use Rattle.ob_manager.specs.Makings.{making_of};
 
@@ -72,7 +72,8 @@ pub struct Make<'a> {
 impl Make<'_> {
     /// The same with a name of its own. The refusal is want of memory, of which a create without a name takes none.
     pub fn owned(self, alloc: Global) -> Result<Making, AllocError>
-        ensures { IfOk result (λ making. making ≡ making_of self.entry) }
+        ensures making { IfOk result (λ making. making ≡ making_of self.entry) }
+        ensures refusal { IfErr result (λ _. IsSome self.entry.name) }
     {
         match self.name {
             Some(name) => Ok(Making {
@@ -104,7 +105,7 @@ impl Model for Making {
 
     ghost Value = { spec.Making };
 
-    ghost view = { λ m. record { name = spec.name_in m.is_named m.text; inherit = m.inherit; access = m.access; grant = m.grant } };
+    ghost view = { λ m. record { name = spec.given_name m.is_named m.text; inherit = m.inherit; access = m.access; grant = m.grant } };
 }
 
 impl Making {
@@ -150,9 +151,10 @@ impl Making {
         }
     }
 
-    /// An equal one. The refusal is want of memory.
+    /// An equal one. The refusal is want of memory, of which one without a name takes none.
     pub fn copy(&self, alloc: Global) -> Result<Making, AllocError>
-        ensures { IfOk result (λ copy. copy ≡ self.now) }
+        ensures copy { IfOk result (λ copy. copy ≡ self.now) }
+        ensures refusal { IfErr result (λ _. IsSome self.now.name) }
     {
         self.borrowed().owned(alloc)
     }

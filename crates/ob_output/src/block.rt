@@ -191,8 +191,8 @@ impl Block {
         ensures value { self.new ≡ self.old ++ decimal number }
         ensures len { length self.new ≤ length self.old + 40 }
     {
-        if number < 10 {
-            self.digit(number as u8);
+        if number < 1000 {
+            self.short(number as u32);
         } else {
             let mut digits = Buffer::new();
             self.text(digits.format(number).as_bytes());
@@ -200,6 +200,34 @@ impl Block {
     }
 
     // Most numbers of a script are this short.
+    #[tactic(auto, using(crate::proofs::Printing::one_more_digit))]
+    fn short(&mut self, number: u32)
+        requires short { number < 1000 }
+        requires room { length self.old + 3 ≤ BLOCK }
+        ensures value { self.new ≡ self.old ++ decimal number }
+        ensures len { length self.new ≤ length self.old + 3 }
+    {
+        if number < 100 {
+            return self.pair(number);
+        }
+        self.pair(number / 10);
+        self.digit((number % 10) as u8);
+    }
+
+    #[tactic(auto, using(crate::proofs::Printing::one_more_digit))]
+    fn pair(&mut self, number: u32)
+        requires short { number < 100 }
+        requires room { length self.old + 2 ≤ BLOCK }
+        ensures value { self.new ≡ self.old ++ decimal number }
+        ensures len { length self.new ≤ length self.old + 2 }
+    {
+        if number < 10 {
+            return self.digit(number as u8);
+        }
+        self.digit((number / 10) as u8);
+        self.digit((number % 10) as u8);
+    }
+
     #[tactic(auto, using(crate::proofs::Printing::one_digit))]
     fn digit(&mut self, digit: u8)
         requires digit { digit < 10 }

@@ -4,3 +4,5 @@ pub mod Leading
 pub mod Hex
 pub mod Beginnings
 pub mod Texts
+pub mod Verbs
+pub mod Places

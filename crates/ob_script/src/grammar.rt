@@ -36,8 +36,10 @@ pub fn is_too_long(text: &[u8]) -> bool
 //
 // What a line of each verb is stands in this one function when it runs: a function of its own would have a copy of the words
 // that are left, and each of these would be cleared for every line. Each verb makes its act in one step, with no option
-// between: that would be taken apart and put together for every line.
-pub fn act_of(line: &[u8]) -> Act<'_>
+// between: that would be taken apart and put together for every line. Each reader of lines has a copy of its own: where it is
+// called in one place alone, it stands there, and no act is made where its parts are enough.
+#[tactic(auto, using(crate::proofs::Verbs::lone_is_bad))]
+pub fn act_of<const READER: u8>(line: &[u8]) -> Act<'_>
     ensures { act_in result ≡ act_of line.now }
 {
     let text = text_of(line);
@@ -50,8 +52,7 @@ pub fn act_of(line: &[u8]) -> Act<'_>
     if is(text, b"dir") {
         return Act::ListNames;
     }
-    let mut words = Words::of(text);
-    let verb = wanted!(words.next());
+    let (verb, words) = wanted!(Words::parted(text));
     if is(verb, b"close") {
         return close_of(words);
     }
@@ -580,7 +581,9 @@ fn count_of(mut words: Words<'_>) -> Act<'_>
 {
     let object = wanted!(words.next());
     wanted!(words.end());
-    let id = wanted!(id_of(object));
+    // (by its parts: eight bytes at once would wait for both that were written)
+    let Id { slot, generation } = wanted!(id_of(object));
+    let id = Id { slot, generation };
     Act::Ask(Ask::Counts { id })
 }
 

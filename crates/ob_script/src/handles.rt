@@ -1,4 +1,4 @@
-ghost use Rattle.std.specs.Prelude.{◌≡◌, take};
+ghost use Rattle.std.specs.Prelude.{◌≡◌, [], take};
 ghost use Rattle.ob_script.specs.Words.{handles_in};
 ghost use Rattle.ob_script.specs.WordsLeft.{words_left};
 
@@ -9,19 +9,29 @@ use arrayvec::ArrayVec;
 pub fn handles_of(rest: Option<&[u8]>) -> ArrayVec<u32, 65>
     ensures { result.items ≡ take 65 (handles_in (words_left rest.entry)) }
 {
-    first_handles(Words::of_rest(rest))
+    let mut handles = ArrayVec::new();
+    read_handles(rest, &mut handles);
+    handles
+}
+
+/// The same, in place of those that were there.
+#[inline(always)]
+pub fn read_handles(rest: Option<&[u8]>, handles: &mut ArrayVec<u32, 65>)
+    ensures { handles.new.items ≡ take 65 (handles_in (words_left rest.entry)) }
+{
+    handles.clear();
+    add_handles(Words::of_rest(rest), handles);
 }
 
 /// The handles that words are, or the first 65.
-fn first_handles(mut words: Words<'_>) -> ArrayVec<u32, 65>
-    ensures { result.items ≡ take 65 (handles_in words.entry) }
+fn add_handles(mut words: Words<'_>, handles: &mut ArrayVec<u32, 65>)
+    requires { handles.old.items ≡ [] }
+    ensures { handles.new.items ≡ take 65 (handles_in words.entry) }
 {
-    let mut handles = ArrayVec::new();
     while let Some(handle) = words.labelled(b'h') {
         match handles.try_push(handle.unwrap_or(0)) {
             Ok(()) => {}
-            Err(_) => return handles,
+            Err(_) => return,
         }
     }
-    handles
 }

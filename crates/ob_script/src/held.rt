@@ -1,9 +1,6 @@
 ghost use Rattle.std.specs.Prelude.{◌≡◌, ◌↔◌, [], None, Some, IsTrue, MatchOption};
-ghost use Rattle.ob_script.specs.Acts.{act_in};
-ghost use Rattle.ob_script.specs.Held.{act_of_held, more_held};
+ghost use Rattle.ob_script.specs.Held.{more_held};
 
-use crate::act::Act;
-use crate::grammar::act_of;
 use arrayvec::ArrayVec;
 use std::marker::Model;
 
@@ -61,16 +58,6 @@ impl HeldLine {
             return None;
         }
         Some(self.bytes.as_slice())
-    }
-
-    /// What the line is, if it ends here.
-    pub fn act(&self) -> Act<'_>
-        ensures { act_in result ≡ act_of_held self.now }
-    {
-        match self.line() {
-            Some(line) => act_of(line),
-            None => Act::Bad,
-        }
     }
 
     /// The next line.

@@ -3,10 +3,10 @@
 //! A line takes no memory: names stay as they stand in it, and so do the handles of a wait, until they are asked for.
 //!
 //! ```text
-//! act_of(b"close t1 h4");                            // Act::Ask(Ask::CloseHandle { thread: 1, handle: 4 })
-//! act_of(b"pin s0.1");                               // Act::Pin(Id { slot: 0, generation: 1 })
-//! act_of(b"# a comment");                            // Act::Nothing
-//! act_of(b"close t1");                               // Act::Bad
+//! act_of::<0>(b"close t1 h4");                            // Act::Ask(Ask::CloseHandle { thread: 1, handle: 4 })
+//! act_of::<0>(b"pin s0.1");                               // Act::Pin(Id { slot: 0, generation: 1 })
+//! act_of::<0>(b"# a comment");                            // Act::Nothing
+//! act_of::<0>(b"close t1");                               // Act::Bad
 //! ```
 #![tactic(auto)]
 
@@ -21,7 +21,7 @@ mod words;
 
 pub use act::{Act, Ask};
 pub use grammar::{act_of, is_too_long, text_of};
-pub use handles::handles_of;
+pub use handles::{handles_of, read_handles};
 pub use held::HeldLine;
 pub use numbers::labelled;
 pub use words::cut_far;

@@ -1,7 +1,7 @@
 -- What C asks for.
 use Rattle.std.specs.Prelude.{ℕ, zero, suc, Bool, true, false, List, Option, Some, None}
 use Rattle.ob_rights.specs.declared.rights.Rights.{Rights}
-use Rattle.ob_manager.specs.Makings.{Making}
+use Rattle.ob_manager.specs.Makings.{Making, given_name}
 use Rattle.obman_c.specs.declared.creating.Asking.{Asking}
 
 abbrev pub mask_of : ℕ → Rights
@@ -12,12 +12,8 @@ abbrev pub rights_in : Bool → ℕ → Option Rights
 rights_in true mask = Some (mask_of mask)
 rights_in false mask = None
 
-abbrev pub named : Bool → List ℕ → Option (List ℕ)
-named true name = Some name
-named false name = None
-
 abbrev pub asked_for : Asking → List ℕ → Making
-asked_for asking name = record { name = named asking.named name; inherit = asking.inherit; access = rights_in asking.has_access asking.access; grant = rights_in asking.has_grant asking.grant }
+asked_for asking name = record { name = given_name asking.named name; inherit = asking.inherit; access = rights_in asking.has_access asking.access; grant = rights_in asking.has_grant asking.grant }
 
 -- a process that is named by its number, from 1; 0 for none
 abbrev pub process_at : ℕ → Option ℕ

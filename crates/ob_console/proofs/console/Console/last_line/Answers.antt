@@ -1,7 +1,5 @@
-use Rattle.std.proofs.Common.{List, ℕ, [], ◌+◌, ◌++◌, sym, subst, ◌∙◌, ap}
+use Rattle.std.proofs.Common.{List, ℕ, [], ◌++◌, sym, subst, ◌∙◌, ap}
 use Rattle.std.proofs.lemmas.List.{append-nil}
-use Rattle.ob_script.specs.Acts.{Act}
-use Rattle.ob_console.specs.Runs.{Prints}
 use Rattle.ob_console.specs.Sessions.{ConsoleState, Finishes}
 use Rattle.ob_output.specs.Pending.{IsWritten}
 use Rattle.ob_console.proofs.Advancing.{finishes_empty, finishes_line}
@@ -14,14 +12,14 @@ returns-then-is_empty-clause-finishes g c =
 pub returns-clause-finishes : goal.returns-clause-finishes
 returns-clause-finishes g c =
     let old : ConsoleState = record { point = c.self.inside.evaluator.point; pending = c.self.inside.evaluator.pending; held = c.self.inside.held; lines = c.self.inside.evaluator.lines } in
-    let new : ConsoleState = record { point = c.answer.new.self.point; pending = c.answer.new.self.pending; held = c.self.inside.held; lines = c.answer.new.self.lines } in
-    let prints = c.answer.ensures.prints in
+    let new : ConsoleState = record { point = c.answer_held.new.self.point; pending = c.answer_held.new.self.pending; held = c.self.inside.held; lines = c.answer_held.new.self.lines } in
+    let prints = c.answer_held.ensures.prints in
     subst (λ (old : ConsoleState). (printed : List ℕ) × Finishes old printed
-    × IsWritten c.answer.result (g.W.Sink.taken c.args.sink.now) (g.W.Sink.taken c.answer.new.sink) (old.pending.bytes ++ printed) c.answer.new.self.pending.bytes)
+    × IsWritten c.answer_held.result (g.W.Sink.taken c.args.sink.now) (g.W.Sink.taken c.answer_held.new.sink) (old.pending.bytes ++ printed) c.answer_held.new.self.pending.bytes)
     c.self.view_is (
       prints.0,
       finishes_line old new prints.0
           (λ empty. let passes = c.is_empty.ensures.1 empty in let fails = c.if-is_empty.false in cc)
-          (subst (λ (act : Act). Prints old.point (old.lines + 1) act prints.0 new.point) c.act.ensures prints.1),
+          prints.1,
       prints.2,
     )

@@ -1,5 +1,5 @@
 use Rattle.std.proofs.Common.{ℕ, List, Option, ◌++◌, subst, sym, ap, ◌∙◌}
-use Rattle.ob_script.specs.Acts.{act_in}
+use Rattle.ob_script.specs.Grammar.{act_of}
 use Rattle.ob_script.specs.Held.{act_of_held, more_held}
 use Rattle.ob_output.specs.Printed.{line_end}
 use Rattle.ob_console.specs.Sessions.{ConsoleState, Advances}
@@ -18,8 +18,8 @@ returns-then-is_empty-clause-advances g c =
     × IsWritten c.answer.result (g.W.Sink.taken c.args.sink.now) (g.W.Sink.taken c.answer.new.sink) (old.pending.bytes ++ printed) c.answer.new.self.pending.bytes)
     c.self.view_is (
       prints.0,
-      line_advances old new (act_in c.act_of.result) c.args.end.now prints.0 c.requires.within
-          (c.act_of.ensures ∙ sym (act_of_capped c.args.end.now) ∙ ap (λ (held : Option (List ℕ)). act_of_held (more_held held c.args.end.now)) (sym empty))
+      line_advances old new (act_of c.args.end.now) c.args.end.now prints.0 c.requires.within
+          (sym (act_of_capped c.args.end.now) ∙ ap (λ (held : Option (List ℕ)). act_of_held (more_held held c.args.end.now)) (sym empty))
           prints.1 c.answer.ensures.lines empty,
       prints.2,
     )
@@ -27,14 +27,14 @@ returns-then-is_empty-clause-advances g c =
 pub returns-clause-advances : goal.returns-clause-advances
 returns-clause-advances g c =
     let old : ConsoleState = record { point = c.self.inside.evaluator.point; pending = c.self.inside.evaluator.pending; held = c.self.inside.held; lines = c.self.inside.evaluator.lines } in
-    let new : ConsoleState = record { point = c.answer-answered.new.self.point; pending = c.answer-answered.new.self.pending; held = c.clear.new.self; lines = c.answer-answered.new.self.lines } in
-    let prints = c.answer-answered.ensures.prints in
+    let new : ConsoleState = record { point = c.answer_held-answered.new.self.point; pending = c.answer_held-answered.new.self.pending; held = c.clear.new.self; lines = c.answer_held-answered.new.self.lines } in
+    let prints = c.answer_held-answered.ensures.prints in
     subst (λ (old : ConsoleState). (printed : List ℕ) × Advances old (c.args.end.now ++ line_end) printed new
-    × IsWritten c.answer-answered.result (g.W.Sink.taken c.args.sink.now) (g.W.Sink.taken c.answer-answered.new.sink) (old.pending.bytes ++ printed) c.answer-answered.new.self.pending.bytes)
+    × IsWritten c.answer_held-answered.result (g.W.Sink.taken c.args.sink.now) (g.W.Sink.taken c.answer_held-answered.new.sink) (old.pending.bytes ++ printed) c.answer_held-answered.new.self.pending.bytes)
     c.self.view_is (
       prints.0,
-      line_advances old new (act_in c.act.result) c.args.end.now prints.0 c.requires.within
-          (c.act.ensures ∙ ap act_of_held c.extend.ensures)
-          prints.1 c.answer-answered.ensures.lines c.clear.ensures,
+      line_advances old new (act_of_held c.extend.new.self) c.args.end.now prints.0 c.requires.within
+          (ap act_of_held c.extend.ensures)
+          prints.1 c.answer_held-answered.ensures.lines c.clear.ensures,
       prints.2,
     )

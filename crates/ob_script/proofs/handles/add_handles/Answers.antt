@@ -2,7 +2,7 @@ use Rattle.std.proofs.Common.{◌≡◌, ◌++◌, ◌∙◌, ap, subst, List, �
 use Rattle.arrayvec.specs.ArrayVec.{ArrayVec}
 use Rattle.ob_script.specs.Words.{handles_in}
 use Rattle.ob_script.proofs.Beginnings.{first_part, all_parts}
-use Rattle.ob_script.proofs.handles.first_handles.Goals as goal
+use Rattle.ob_script.proofs.handles.add_handles.Goals as goal
 
 pub returns-in-Err : goal.returns-in-Err
 returns-in-Err c = ap (λ (handles : ArrayVec ℕ). handles.items) c.in-Err.ensures.err

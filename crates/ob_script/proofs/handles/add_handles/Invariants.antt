@@ -1,6 +1,6 @@
 use Rattle.std.proofs.Common.{◌≡◌, ◌++◌, ◌≤◌, length}
 use Rattle.ob_script.specs.Words.{handles_in}
-use Rattle.ob_script.proofs.handles.first_handles.Given as goal
+use Rattle.ob_script.proofs.handles.add_handles.Given as goal
 
 abbrev pub invariant-loop-handle : goal.invariant-loop-handle
 invariant-loop-handle l = record {

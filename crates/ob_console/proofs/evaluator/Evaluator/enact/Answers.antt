@@ -9,8 +9,8 @@ use Rattle.ob_console.specs.Runs.{Point, Prints, point}
 use Rattle.ob_output.specs.Pending.{IsWritten}
 use Rattle.ob_console.specs.Sessions.{Evaluation}
 use Rattle.ob_output.proofs.Written.{put_written}
-use Rattle.ob_console.proofs.evaluator.Evaluator.answer.Goals as goal
-use Rattle.ob_console.proofs.evaluator.Evaluator.answer.Goals.{in-Bad, in-Ask, in-Pin, in-Unpin, in-ShowCard}
+use Rattle.ob_console.proofs.evaluator.Evaluator.enact.Goals as goal
+use Rattle.ob_console.proofs.evaluator.Evaluator.enact.Goals.{in-Bad, in-Ask, in-Pin, in-Unpin, in-ShowCard}
 
 pub returns-in-ListNames-clause-prints : goal.returns-in-ListNames-clause-prints
 returns-in-ListNames-clause-prints g c =
