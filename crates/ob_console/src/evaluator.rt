@@ -114,12 +114,10 @@ impl<'a> Evaluator<'a> {
             Act::Nothing => return Ok(()),
             Act::ListNames => return list(&self.manager, &mut self.output, sink),
             Act::Bad => Answer::BadLine(self.lines),
-            Act::Ask(ask) => Answer::Replied(reply_to(
-                &mut self.manager,
-                &mut self.reader,
-                &mut self.handles,
-                ask,
-            )),
+            Act::Ask(ask) => {
+                let reply = reply_to(&mut self.manager, &mut self.reader, &mut self.handles, ask);
+                return self.output.put_reply(sink, &reply);
+            }
             Act::Pin(id) => Answer::Pinned(*id, pin(&mut self.manager, &mut self.reader, *id)),
             Act::Unpin(id) => Answer::Unpinned(*id, unpin(&mut self.reader, *id)),
             Act::ShowCard(id) => { Answer::Shown(card(&mut self.manager, &mut self.reader, *id)) }

@@ -1,7 +1,7 @@
 ghost use Rattle.std.specs.Prelude.{[], ◌∷◌, ◌++◌, ◌≡◌, ◌+◌, ◌^◌, ◌<◌, ◌≤◌, IsTrue, codes, decimal, false, length};
 ghost use Rattle.std.specs.Fmt.{digit_glyph, digits};
 ghost use Rattle.ob_name.specs.Refs.{namespace_of};
-ghost use Rattle.ob_output.specs.Printed.{printed_answer, printed_card, printed_descr, printed_fault, printed_id, printed_pin, printed_reclaim, printed_reply, printed_space, printed_unpin};
+ghost use Rattle.ob_output.specs.Printed.{printed, printed_answer, printed_card, printed_descr, printed_fault, printed_id, printed_pin, printed_reclaim, printed_reply, printed_space, printed_unpin};
 
 use crate::answer::Answer;
 use arrayvec::ArrayVec;
@@ -64,13 +64,22 @@ impl Block {
         self.bytes.remaining_capacity() >= ANSWER_MOST
     }
 
+    /// Prints the reply to a call, as one line.
+    pub fn add_reply(&mut self, reply: &Reply)
+        requires { length self.old + ANSWER_MOST ≤ BLOCK }
+        ensures { self.new ≡ self.old ++ printed reply.now }
+    {
+        self.reply(reply);
+        self.text(b"\n");
+    }
+
     /// Prints an answer, as one line.
     pub fn add(&mut self, answer: &Answer<'_>)
         requires { length self.old + ANSWER_MOST ≤ BLOCK }
         ensures { self.new ≡ self.old ++ printed_answer answer.now }
     {
         match answer {
-            Answer::Replied(reply) => self.reply(*reply),
+            Answer::Replied(reply) => return self.add_reply(reply),
             Answer::BadLine(number) => {
                 self.text(b"bad line ");
                 self.wide(*number);
@@ -101,63 +110,63 @@ impl Block {
         self.text(b"\n");
     }
 
-    fn reply(&mut self, reply: Reply)
+    fn reply(&mut self, reply: &Reply)
         requires { length self.old + ANSWER_MOST ≤ BLOCK }
-        ensures value { self.new ≡ self.old ++ printed_reply reply }
+        ensures value { self.new ≡ self.old ++ printed_reply reply.now }
         ensures len { length self.new ≤ length self.old + 200 }
     {
         match reply {
             Reply::Spawned { process, thread } => {
                 self.text(b"p");
-                self.number(u64::from(process));
+                self.number(u64::from(*process));
                 self.text(b" t");
-                self.number(u64::from(thread));
+                self.number(u64::from(*thread));
             }
             Reply::Started { thread } => {
                 self.text(b"t");
-                self.number(u64::from(thread));
+                self.number(u64::from(*thread));
             }
-            Reply::Made { handle, id } => self.handle(handle, b" new ", id),
-            Reply::Exists { handle, id } => self.handle(handle, b" exists ", id),
-            Reply::Opened { handle, id } => self.handle(handle, b" opened ", id),
-            Reply::Duplicated { handle, id } => self.handle(handle, b" dup ", id),
+            Reply::Made { handle, id } => self.handle(*handle, b" new ", *id),
+            Reply::Exists { handle, id } => self.handle(*handle, b" exists ", *id),
+            Reply::Opened { handle, id } => self.handle(*handle, b" opened ", *id),
+            Reply::Duplicated { handle, id } => self.handle(*handle, b" dup ", *id),
             Reply::Closed => self.text(b"closed"),
             Reply::Done => self.text(b"done"),
             Reply::Flags { bits } => {
                 self.text(b"flags ");
-                self.number(u64::from(bits));
+                self.number(u64::from(*bits));
             }
             Reply::Previous { count } => {
                 self.text(b"previous ");
-                self.number(u64::from(count));
+                self.number(u64::from(*count));
             }
             Reply::Code { code } => {
                 self.text(b"code ");
-                self.number(u64::from(code));
+                self.number(u64::from(*code));
             }
             Reply::Pending { wait } => {
                 self.text(b"pending w");
-                self.number(u64::from(wait));
+                self.number(u64::from(*wait));
             }
             Reply::Expired { wait } => {
                 self.text(b"expired w");
-                self.number(u64::from(wait));
+                self.number(u64::from(*wait));
             }
             Reply::Ticked { now } => {
                 self.text(b"now ");
-                self.number(now);
+                self.number(*now);
             }
             Reply::Ended { thread } => {
                 self.text(b"ended t");
-                self.number(u64::from(thread));
+                self.number(u64::from(*thread));
             }
             Reply::Exited { process } => {
                 self.text(b"exited p");
-                self.number(u64::from(process));
+                self.number(u64::from(*process));
             }
             Reply::Reaped { id, outcome } => {
-                self.id(id);
-                self.reclaim(outcome);
+                self.id(*id);
+                self.reclaim(*outcome);
             }
             Reply::CountsAre {
                 handles,
@@ -165,15 +174,15 @@ impl Block {
                 hold,
             } => {
                 self.text(b"handles ");
-                self.number(u64::from(handles));
+                self.number(u64::from(*handles));
                 self.text(b" waits ");
-                self.number(u64::from(waits));
+                self.number(u64::from(*waits));
                 self.text(b" hold ");
-                self.number(u64::from(hold));
+                self.number(u64::from(*hold));
             }
             Reply::Refused(fault) => {
                 self.text(b"error ");
-                self.number(u64::from(code_of(fault)));
+                self.number(u64::from(code_of(*fault)));
             }
         }
     }

@@ -1,10 +1,11 @@
 ghost use Rattle.std.specs.Prelude.{◌≡◌, ◌+◌, ◌<◌, ◌≤◌, ◌++◌, ◌⊎◌, [], IfOk, OnOk, OnErr};
 ghost use Rattle.ob_output.specs.Devices.{Begins, Writes};
-ghost use Rattle.ob_output.specs.Printed.{printed_answer};
+ghost use Rattle.ob_output.specs.Printed.{printed, printed_answer};
 
 use crate::answer::Answer;
 use crate::block::Block;
 use crate::device::{Sink, Trouble};
+use ob_manager::Reply;
 use std::alloc::{AllocError, Global};
 use std::marker::Model;
 
@@ -52,6 +53,22 @@ impl Output {
             self.flush(sink)?;
         }
         self.block.add(answer);
+        Ok(())
+    }
+
+    /// Adds the reply to a call, as [`Output::put`] does an answer.
+    #[tactic(auto, using(crate::proofs::Written::begins_more, crate::proofs::Written::writes_pending, crate::proofs::Written::writes_flushed))]
+    pub fn put_reply<W: Sink>(&mut self, sink: &mut W, reply: &Reply) -> Result<(), NotWritten>
+        ensures ok { OnOk result (Writes (W.taken sink.old) (W.taken sink.new) (self.old.bytes ++ printed reply.now) self.new.bytes) }
+        ensures err { OnErr result (Begins (W.taken sink.old) (W.taken sink.new) (self.old.bytes ++ printed reply.now)) }
+        ensures calls { W.calls sink.new + self.new.writes_left ≡ W.calls sink.old + self.old.writes_left }
+        ensures faults { W.faults sink.old ≤ W.faults sink.new }
+        ensures cause { OnErr result ((W.faults sink.old < W.faults sink.new) ⊎ (self.new.writes_left ≡ 0)) }
+    {
+        if !self.block.has_room() {
+            self.flush(sink)?;
+        }
+        self.block.add_reply(reply);
         Ok(())
     }
 

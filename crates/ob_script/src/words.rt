@@ -193,6 +193,7 @@ pub fn cut(byte: u8, text: &[u8]) -> Option<(&[u8], &[u8])>
 }
 
 /// What stands before and behind the first such byte, which may be far.
+#[inline(always)]
 #[tactic(auto, using(crate::proofs::Cuts::first_place, crate::proofs::Cuts::no_place))]
 pub fn cut_far(byte: u8, text: &[u8]) -> Option<(&[u8], &[u8])>
     ensures within { IfSome result (λ _. position_or_len (is_byte byte) text.now < length text.now) }
@@ -207,7 +208,7 @@ pub fn cut_far(byte: u8, text: &[u8]) -> Option<(&[u8], &[u8])>
 
 /// Where such a byte is first, which may be far, but mostly is some twenty bytes away: for that the iterator over all places is
 /// quicker than a search for one.
-#[inline(always)]
+#[inline(never)]
 fn line_place_of(byte: u8, text: &[u8]) -> Option<usize>
     ensures { IsFirstByte (is_byte byte) text.now result }
 {

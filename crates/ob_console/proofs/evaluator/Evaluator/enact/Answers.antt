@@ -10,7 +10,7 @@ use Rattle.ob_output.specs.Pending.{IsWritten}
 use Rattle.ob_console.specs.Sessions.{Evaluation}
 use Rattle.ob_output.proofs.Written.{put_written}
 use Rattle.ob_console.proofs.evaluator.Evaluator.enact.Goals as goal
-use Rattle.ob_console.proofs.evaluator.Evaluator.enact.Goals.{in-Bad, in-Ask, in-Pin, in-Unpin, in-ShowCard}
+use Rattle.ob_console.proofs.evaluator.Evaluator.enact.Goals.{in-Bad, in-Pin, in-Unpin, in-ShowCard}
 
 pub returns-in-ListNames-clause-prints : goal.returns-in-ListNames-clause-prints
 returns-in-ListNames-clause-prints g c =
@@ -24,6 +24,20 @@ returns-in-ListNames-clause-prints g c =
       c.list.ensures.written,
     )
 
+pub returns-in-Ask-clause-prints : goal.returns-in-Ask-clause-prints
+returns-in-Ask-clause-prints g c =
+    let p : Point = point c.self.inside.manager c.self.inside.reader.view.held in
+    let q : Point = point c.reply_to-reply.new.manager c.reply_to-reply.new.reader.view.held in
+    let printed : List ℕ = answered c.reply_to-reply.result in
+    subst (λ (old : Evaluation). (printed : List ℕ) × Prints old.point (old.lines + 1) (act_in c.args.act.now) printed q
+    × IsWritten c.put_reply.result (g.W.Sink.taken c.args.sink.now) (g.W.Sink.taken c.put_reply.new.sink) (old.pending.bytes ++ printed) c.put_reply.new.self.bytes)
+    c.self.view_is (
+      printed,
+      subst (λ (act : Act). Prints p (c.self.inside.lines + 1) (act_in act) printed q) (sym c.in-Ask.is)
+          (c.reply_to-reply.result, c.reply_to-reply.ensures.step, c.reply_to-reply.ensures.spares, c.reply_to-reply.ensures.held, refl),
+      put_written c.put_reply.result (g.W.Sink.taken c.args.sink.now) (g.W.Sink.taken c.put_reply.new.sink) (c.self.inside.output.bytes ++ printed) c.put_reply.new.self.bytes c.put_reply.ensures.ok c.put_reply.ensures.err,
+    )
+
 pub returns-clause-prints : goal.returns-clause-prints
 returns-clause-prints g c =
     let p : Point = point c.self.inside.manager c.self.inside.reader.view.held in
@@ -35,8 +49,6 @@ returns-clause-prints g c =
       printed,
       elim c.match-act.branch [
         | in-Bad w ↦ rw (w.answer-is, w.self-inside-is) (subst (λ (act : Act). Prints p number (act_in act) (bad_line number) p) (sym w.in-Bad.is) (refl, refl))
-        | in-Ask w ↦ rw (w.answer-is, w.self-inside-is) (subst (λ (act : Act). Prints p number (act_in act) (answered w.reply_to.result) (point w.reply_to.new.manager w.reply_to.new.reader.view.held)) (sym w.in-Ask.is)
-            (w.reply_to.result, w.reply_to.ensures.step, w.reply_to.ensures.spares, w.reply_to.ensures.held, refl))
         | in-Pin w ↦ rw (w.answer-is, w.self-inside-is) (subst (λ (act : Act). Prints p number (act_in act) (printed_pin w.in-Pin.id w.pin.result ++ line_end) (point w.pin.new.manager w.pin.new.reader.view.held)) (sym w.in-Pin.is)
             (w.pin.result, w.pin.ensures.pins, w.pin.ensures.same, refl))
         | in-Unpin w ↦ rw (w.answer-is, w.self-inside-is) (subst (λ (act : Act). Prints p number (act_in act) (printed_unpin w.in-Unpin.id w.unpin.result ++ line_end) (point c.self.inside.manager w.unpin.new.reader.view.held)) (sym w.in-Unpin.is)
@@ -47,7 +59,6 @@ returns-clause-prints g c =
       subst (λ (bytes : List ℕ). IsWritten c.put.result (g.W.Sink.taken c.args.sink.now) (g.W.Sink.taken c.put.new.sink) (bytes ++ printed) c.put.new.self.bytes)
           (elim c.match-act.branch [
             | in-Bad w ↦ ap (λ (inside : Inside). inside.output.bytes) w.self-inside-is
-            | in-Ask w ↦ ap (λ (inside : Inside). inside.output.bytes) w.self-inside-is
             | in-Pin w ↦ ap (λ (inside : Inside). inside.output.bytes) w.self-inside-is
             | in-Unpin w ↦ ap (λ (inside : Inside). inside.output.bytes) w.self-inside-is
             | in-ShowCard w ↦ ap (λ (inside : Inside). inside.output.bytes) w.self-inside-is
