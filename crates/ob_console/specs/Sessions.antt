@@ -1,9 +1,11 @@
 -- A console between two blocks of its input.
-use Rattle.std.specs.Prelude.{◌≡◌, ℕ, List, ◌++◌, Option, length}
+use Rattle.std.specs.Prelude.{◌≡◌, ℕ, List, ◌++◌, Option, Result, length}
 use Rattle.std.specs.List.{concat}
 use Rattle.ob_store.specs.declared.limits.Limits.{Limits}
-use Rattle.ob_output.specs.Pending.{Pending}
-use Rattle.ob_console.specs.Runs.{Point, Run, Splits, AnswersAll, IsOpening}
+use Rattle.ob_output.specs.declared.output.NotWritten.{NotWritten}
+use Rattle.ob_output.specs.Pending.{Pending, IsWritten}
+use Rattle.ob_console.specs.Runs.{Point, Prints, Run, Splits, AnswersAll, IsOpening}
+use Rattle.ob_script.specs.Acts.{Act}
 use Rattle.ob_script.specs.Held.{capped}
 use Rattle.ob_output.specs.Devices.{Writes, Begins}
 
@@ -12,6 +14,11 @@ pub record Evaluation : Type 0 where
   pub point : Point  -- the manager's state, and what the reader holds
   pub pending : Pending  -- answers that are not yet written
   pub lines : ℕ  -- how many lines have ended
+
+-- what the line of this number is was done, and what that prints is written or pending, or its beginning is written where the sink failed
+abbrev pub Enacts : Evaluation → ℕ → Act → Result (Unit {0}) NotWritten → List ℕ → List ℕ → Evaluation → Type 0
+Enacts old number act result taken_before taken new =
+    (printed : List ℕ) × Prints old.point number act printed new.point × IsWritten result taken_before taken (old.pending.bytes ++ printed) new.pending.bytes
 
 pub record ConsoleState : Type 0 where
   pub point : Point  -- the manager's state, and what the reader holds

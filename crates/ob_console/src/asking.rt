@@ -110,7 +110,6 @@ pub fn reply_to<'a>(
 }
 
 /// Waits for objects. Of a list that is too long no more than its beginning is asked for: the answer is the same.
-#[inline(always)]
 fn wait_for<'a>(
     manager: &mut Manager<Keeper<'a>>,
     handles: &mut ArrayVec<u32, 65>,
@@ -127,7 +126,6 @@ fn wait_for<'a>(
 
 // What a create asks for is copied where it is lent on: the act that it is a part of can then stay in registers.
 
-#[inline(always)]
 fn create_event<'a>(
     manager: &mut Manager<Keeper<'a>>,
     thread: u32,
@@ -141,7 +139,6 @@ fn create_event<'a>(
     manager.create_event(thread, &make, manual, set)
 }
 
-#[inline(always)]
 fn create_mutex<'a>(
     manager: &mut Manager<Keeper<'a>>,
     thread: u32,
@@ -154,7 +151,6 @@ fn create_mutex<'a>(
     manager.create_mutex(thread, &make, owned)
 }
 
-#[inline(always)]
 fn create_semaphore<'a>(
     manager: &mut Manager<Keeper<'a>>,
     thread: u32,
@@ -168,7 +164,6 @@ fn create_semaphore<'a>(
     manager.create_semaphore(thread, &make, initial, max)
 }
 
-#[inline(always)]
 fn create_timer<'a>(
     manager: &mut Manager<Keeper<'a>>,
     thread: u32,

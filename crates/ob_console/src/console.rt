@@ -7,7 +7,7 @@ ghost use Rattle.ob_console.specs.Sessions.{Advances, Session, Finishes, IsFed, 
 use crate::evaluator::Evaluator;
 use ob_manager::Manager;
 use ob_output::{NotWritten, Output, Sink};
-use ob_script::{HeldLine, cut_far};
+use ob_script::{HeldLine, ScriptLine};
 use pin_words::{Keeper, Reader};
 use std::marker::Model;
 
@@ -39,7 +39,7 @@ impl<'a> Console<'a> {
     }
 
     /// A line ends with these bytes, which come before its line feed.
-    fn line<W: Sink>(&mut self, sink: &mut W, end: &[u8]) -> Result<(), NotWritten>
+    fn line<W: Sink>(&mut self, sink: &mut W, end: &ScriptLine<'_>) -> Result<(), NotWritten>
         requires few { self.old.lines < 2 ^ 127 }
         requires within { IsWithin end.now }
         ensures advances { (printed : List ℕ) × Advances self.old (end.now ++ line_end) printed self.new
@@ -52,7 +52,7 @@ impl<'a> Console<'a> {
         if self.held.is_empty() {
             return self.evaluator.answer(sink, end);
         }
-        self.held.extend(end);
+        self.held.extend(end.bytes());
         let answered = self.evaluator.answer_held(sink, &self.held);
         self.held.clear();
         answered
@@ -70,8 +70,8 @@ impl<'a> Console<'a> {
         ensures cause { OnErr result ((W.faults sink.old < W.faults sink.new) ⊎ (self.new.pending.writes_left ≡ 0)) }
     {
         let mut rest = block;
-        while let Some((end, behind)) = cut_far(b'\n', rest) {
-            match self.line(sink, end) {
+        while let Some((end, behind)) = ScriptLine::first_of(rest) {
+            match self.line(sink, &end) {
                 Ok(()) => rest = behind,
                 Err(fault) => return Err(fault),
             }

@@ -1,10 +1,11 @@
 ghost use Rattle.std.specs.Prelude.{◌≡◌, ◌+◌, ◌<◌, ◌≤◌, ◌^◌, ◌++◌, ◌⊎◌, List, ℕ, OnErr, OnOk, Some, []};
 ghost use Rattle.ob_store.specs.Directory.{directory_of};
-ghost use Rattle.ob_script.specs.Acts.{Bad, act_in};
+ghost use Rattle.ob_script.specs.Acts.{Bad, Pin, Unpin, ShowCard, act_in};
 ghost use Rattle.ob_script.specs.Grammar.{act_of};
 ghost use Rattle.ob_script.specs.Held.{act_of_held};
 ghost use Rattle.ob_output.specs.Printed.{printed_names};
-ghost use Rattle.ob_console.specs.Runs.{Prints, point};
+ghost use Rattle.ob_console.specs.Runs.{point};
+ghost use Rattle.ob_console.specs.Sessions.{Enacts};
 ghost use Rattle.ob_output.specs.Pending.{IsWritten};
 ghost use Rattle.ob_output.specs.Devices.{Begins};
 
@@ -13,7 +14,8 @@ use arrayvec::ArrayVec;
 use ob_manager::Manager;
 use ob_output::{Answer, NotWritten, Output, Sink};
 use ob_reader::{card, pin, unpin};
-use ob_script::{Act, HeldLine, act_of};
+use ob_script::{Act, HeldLine, ScriptLine, act_of};
+use pin_core::Id;
 use pin_words::{Keeper, Reader};
 use std::marker::Model;
 
@@ -56,73 +58,114 @@ impl<'a> Evaluator<'a> {
     }
 
     /// Does what a line asks, and prints its answer.
-    pub fn answer<W: Sink>(&mut self, sink: &mut W, line: &[u8]) -> Result<(), NotWritten>
+    pub fn answer<W: Sink>(&mut self, sink: &mut W, line: &ScriptLine<'_>) -> Result<(), NotWritten>
         requires { self.old.lines < 2 ^ 127 }
-        ensures prints { (printed : List ℕ) × Prints self.old.point (self.old.lines + 1) (act_of line.now) printed self.new.point
-            × IsWritten result (W.taken sink.old) (W.taken sink.new) (self.old.pending.bytes ++ printed) self.new.pending.bytes }
+        ensures prints { Enacts self.old (self.old.lines + 1) (act_of line.now) result (W.taken sink.old) (W.taken sink.new) self.new }
         ensures lines { self.new.lines ≡ self.old.lines + 1 }
         ensures calls { W.calls sink.new + self.new.pending.writes_left ≡ W.calls sink.old + self.old.pending.writes_left }
         ensures faults { W.faults sink.old ≤ W.faults sink.new }
         ensures cause { OnErr result ((W.faults sink.old < W.faults sink.new) ⊎ (self.new.pending.writes_left ≡ 0)) }
     {
+        self.lines += 1;
         self.enact(sink, &act_of::<0>(line))
     }
 
     /// The same of a line that is held.
     pub fn answer_held<W: Sink>(&mut self, sink: &mut W, held: &HeldLine) -> Result<(), NotWritten>
         requires { self.old.lines < 2 ^ 127 }
-        ensures prints { (printed : List ℕ) × Prints self.old.point (self.old.lines + 1) (act_of_held held.now) printed self.new.point
-            × IsWritten result (W.taken sink.old) (W.taken sink.new) (self.old.pending.bytes ++ printed) self.new.pending.bytes }
+        ensures prints { Enacts self.old (self.old.lines + 1) (act_of_held held.now) result (W.taken sink.old) (W.taken sink.new) self.new }
         ensures lines { self.new.lines ≡ self.old.lines + 1 }
         ensures calls { W.calls sink.new + self.new.pending.writes_left ≡ W.calls sink.old + self.old.pending.writes_left }
         ensures faults { W.faults sink.old ≤ W.faults sink.new }
         ensures cause { OnErr result ((W.faults sink.old < W.faults sink.new) ⊎ (self.new.pending.writes_left ≡ 0)) }
     {
         match held.line() {
-            Some(line) => self.answer(sink, line),
-            None => self.refuse(sink),
+            Some(line) => self.answer(sink, &ScriptLine::of(line)),
+            None => {
+                self.lines += 1;
+                self.refuse(sink)
+            }
         }
     }
 
-    /// Says that a line is bad.
-    fn refuse<W: Sink>(&mut self, sink: &mut W) -> Result<(), NotWritten>
-        requires { self.old.lines < 2 ^ 127 }
-        ensures prints { (printed : List ℕ) × Prints self.old.point (self.old.lines + 1) Bad printed self.new.point
-            × IsWritten result (W.taken sink.old) (W.taken sink.new) (self.old.pending.bytes ++ printed) self.new.pending.bytes }
-        ensures lines { self.new.lines ≡ self.old.lines + 1 }
+    /// Does the act of the last line, and prints its answer.
+    //
+    // It is called in one place, so it stands there when it runs, and the act is nowhere else. What seldom comes has functions of
+    // its own that don't: room for what they print would be made on each line.
+    fn enact<W: Sink>(&mut self, sink: &mut W, act: &Act<'_>) -> Result<(), NotWritten>
+        ensures prints { Enacts self.old self.old.lines (act_in act.now) result (W.taken sink.old) (W.taken sink.new) self.new }
+        ensures lines { self.new.lines ≡ self.old.lines }
         ensures calls { W.calls sink.new + self.new.pending.writes_left ≡ W.calls sink.old + self.old.pending.writes_left }
         ensures faults { W.faults sink.old ≤ W.faults sink.new }
         ensures cause { OnErr result ((W.faults sink.old < W.faults sink.new) ⊎ (self.new.pending.writes_left ≡ 0)) }
     {
-        self.lines += 1;
+        match act {
+            Act::Nothing => Ok(()),
+            Act::Ask(ask) => self.output.put_reply(
+                sink,
+                &reply_to(&mut self.manager, &mut self.reader, &mut self.handles, ask),
+            ),
+            Act::Bad => self.refuse(sink),
+            Act::ListNames => list(&self.manager, &mut self.output, sink),
+            Act::Pin(id) => self.pin(sink, *id),
+            Act::Unpin(id) => self.unpin(sink, *id),
+            Act::ShowCard(id) => self.show_card(sink, *id),
+        }
+    }
+
+    /// Says that the last line is bad.
+    #[inline(never)]
+    #[tactic(auto, using(ob_output::proofs::Written::put_written))]
+    fn refuse<W: Sink>(&mut self, sink: &mut W) -> Result<(), NotWritten>
+        ensures prints { Enacts self.old self.old.lines Bad result (W.taken sink.old) (W.taken sink.new) self.new }
+        ensures lines { self.new.lines ≡ self.old.lines }
+        ensures calls { W.calls sink.new + self.new.pending.writes_left ≡ W.calls sink.old + self.old.pending.writes_left }
+        ensures faults { W.faults sink.old ≤ W.faults sink.new }
+        ensures cause { OnErr result ((W.faults sink.old < W.faults sink.new) ⊎ (self.new.pending.writes_left ≡ 0)) }
+    {
         self.output.put(sink, &Answer::BadLine(self.lines))
     }
 
-    /// Does an act, and prints its answer. It stands where the act was read, which is then nowhere else.
-    #[inline(always)]
-    fn enact<W: Sink>(&mut self, sink: &mut W, act: &Act<'_>) -> Result<(), NotWritten>
-        requires { self.old.lines < 2 ^ 127 }
-        ensures prints { (printed : List ℕ) × Prints self.old.point (self.old.lines + 1) (act_in act.now) printed self.new.point
-            × IsWritten result (W.taken sink.old) (W.taken sink.new) (self.old.pending.bytes ++ printed) self.new.pending.bytes }
-        ensures lines { self.new.lines ≡ self.old.lines + 1 }
+    /// Has the reader hold one copy more, and prints whether it does.
+    #[inline(never)]
+    #[tactic(auto, using(ob_output::proofs::Written::put_written))]
+    fn pin<W: Sink>(&mut self, sink: &mut W, id: Id) -> Result<(), NotWritten>
+        ensures prints { Enacts self.old self.old.lines (Pin id) result (W.taken sink.old) (W.taken sink.new) self.new }
+        ensures lines { self.new.lines ≡ self.old.lines }
         ensures calls { W.calls sink.new + self.new.pending.writes_left ≡ W.calls sink.old + self.old.pending.writes_left }
         ensures faults { W.faults sink.old ≤ W.faults sink.new }
         ensures cause { OnErr result ((W.faults sink.old < W.faults sink.new) ⊎ (self.new.pending.writes_left ≡ 0)) }
     {
-        self.lines += 1;
-        let answer = match act {
-            Act::Nothing => return Ok(()),
-            Act::ListNames => return list(&self.manager, &mut self.output, sink),
-            Act::Bad => Answer::BadLine(self.lines),
-            Act::Ask(ask) => {
-                let reply = reply_to(&mut self.manager, &mut self.reader, &mut self.handles, ask);
-                return self.output.put_reply(sink, &reply);
-            }
-            Act::Pin(id) => Answer::Pinned(*id, pin(&mut self.manager, &mut self.reader, *id)),
-            Act::Unpin(id) => Answer::Unpinned(*id, unpin(&mut self.reader, *id)),
-            Act::ShowCard(id) => { Answer::Shown(card(&mut self.manager, &mut self.reader, *id)) }
-        };
-        self.output.put(sink, &answer)
+        let answer = pin(&mut self.manager, &mut self.reader, id);
+        self.output.put(sink, &Answer::Pinned(id, answer))
+    }
+
+    /// Lets one copy that the reader holds go, and prints whether there was one.
+    #[inline(never)]
+    #[tactic(auto, using(ob_output::proofs::Written::put_written))]
+    fn unpin<W: Sink>(&mut self, sink: &mut W, id: Id) -> Result<(), NotWritten>
+        ensures prints { Enacts self.old self.old.lines (Unpin id) result (W.taken sink.old) (W.taken sink.new) self.new }
+        ensures lines { self.new.lines ≡ self.old.lines }
+        ensures calls { W.calls sink.new + self.new.pending.writes_left ≡ W.calls sink.old + self.old.pending.writes_left }
+        ensures faults { W.faults sink.old ≤ W.faults sink.new }
+        ensures cause { OnErr result ((W.faults sink.old < W.faults sink.new) ⊎ (self.new.pending.writes_left ≡ 0)) }
+    {
+        let done = unpin(&mut self.reader, id);
+        self.output.put(sink, &Answer::Unpinned(id, done))
+    }
+
+    /// Prints what the object of an Id that the reader holds was created as.
+    #[inline(never)]
+    #[tactic(auto, using(ob_output::proofs::Written::put_written))]
+    fn show_card<W: Sink>(&mut self, sink: &mut W, id: Id) -> Result<(), NotWritten>
+        ensures prints { Enacts self.old self.old.lines (ShowCard id) result (W.taken sink.old) (W.taken sink.new) self.new }
+        ensures lines { self.new.lines ≡ self.old.lines }
+        ensures calls { W.calls sink.new + self.new.pending.writes_left ≡ W.calls sink.old + self.old.pending.writes_left }
+        ensures faults { W.faults sink.old ≤ W.faults sink.new }
+        ensures cause { OnErr result ((W.faults sink.old < W.faults sink.new) ⊎ (self.new.pending.writes_left ≡ 0)) }
+    {
+        let shown = card(&mut self.manager, &mut self.reader, id);
+        self.output.put(sink, &Answer::Shown(shown))
     }
 
     /// Writes all that is printed.

@@ -2,7 +2,7 @@ ghost use Rattle.std.specs.Prelude.{◌≡◌, ◌≤◌, IfSome};
 ghost use Rattle.ob_lanes.specs.Lines.{IsOfLane, behind_prefix, in_lane, in_prefixed, is_marked, lane_of, line_in, line_of, with_prefix, without_prefix};
 ghost use Rattle.ob_script.specs.Acts.{act_in};
 
-use ob_script::{Act, Ask, act_of, cut_far, is_too_long, labelled, text_of};
+use ob_script::{Act, Ask, ScriptLine, act_of, cut_far, is_too_long, labelled, text_of};
 use pin_core::Id;
 
 /// What a line asks of the member of a lane, with names and handles as they stand in the line.
@@ -43,7 +43,7 @@ pub fn line_of(lanes: u32, is_prologue: bool, line: &[u8]) -> Line<'_>
     if is_marked(line) {
         return with_prefix(lanes, line);
     }
-    without_prefix(is_prologue, act_of::<1>(line))
+    without_prefix(is_prologue, act_of::<1>(&ScriptLine::of(line)))
 }
 
 /// Whether a line begins with an @.
@@ -117,7 +117,7 @@ fn behind_prefix(number: u32, line: &[u8]) -> Line<'_>
     if text_of(line) == b"block".as_slice() {
         return Line::Acts(number, Request::Block);
     }
-    match act_of::<1>(line) {
+    match act_of::<1>(&ScriptLine::of(line)) {
         Act::Nothing => Line::Bad,
         act => in_lane(number, act),
     }

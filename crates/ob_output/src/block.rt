@@ -65,6 +65,7 @@ impl Block {
     }
 
     /// Prints the reply to a call, as one line.
+    #[inline(always)]
     pub fn add_reply(&mut self, reply: &Reply)
         requires { length self.old + ANSWER_MOST ≤ BLOCK }
         ensures { self.new ≡ self.old ++ printed reply.now }
@@ -110,6 +111,7 @@ impl Block {
         self.text(b"\n");
     }
 
+    #[inline(always)]
     fn reply(&mut self, reply: &Reply)
         requires { length self.old + ANSWER_MOST ≤ BLOCK }
         ensures value { self.new ≡ self.old ++ printed_reply reply.now }

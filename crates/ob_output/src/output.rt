@@ -57,6 +57,7 @@ impl Output {
     }
 
     /// Adds the reply to a call, as [`Output::put`] does an answer.
+    #[inline(always)]
     #[tactic(auto, using(crate::proofs::Written::begins_more, crate::proofs::Written::writes_pending, crate::proofs::Written::writes_flushed))]
     pub fn put_reply<W: Sink>(&mut self, sink: &mut W, reply: &Reply) -> Result<(), NotWritten>
         ensures ok { OnOk result (Writes (W.taken sink.old) (W.taken sink.new) (self.old.bytes ++ printed reply.now) self.new.bytes) }

@@ -5,4 +5,5 @@ pub mod Hex
 pub mod Beginnings
 pub mod Texts
 pub mod Verbs
-pub mod Places
+pub mod FirstWords
+pub mod Marked

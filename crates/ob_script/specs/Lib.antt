@@ -3,3 +3,4 @@ pub mod Words
 pub mod WordsLeft
 pub mod Grammar
 pub mod Held
+pub mod Marks

@@ -3,17 +3,20 @@
 //! A line takes no memory: names stay as they stand in it, and so do the handles of a wait, until they are asked for.
 //!
 //! ```text
-//! act_of::<0>(b"close t1 h4");                            // Act::Ask(Ask::CloseHandle { thread: 1, handle: 4 })
-//! act_of::<0>(b"pin s0.1");                               // Act::Pin(Id { slot: 0, generation: 1 })
-//! act_of::<0>(b"# a comment");                            // Act::Nothing
-//! act_of::<0>(b"close t1");                               // Act::Bad
+//! let (line, rest) = ScriptLine::first_of(b"close t1 h4\npin s0.1\n")?;
+//! act_of::<0>(&line);                                     // Act::Ask(Ask::CloseHandle { thread: 1, handle: 4 })
+//! act_of::<0>(&ScriptLine::of(b"pin s0.1"));              // Act::Pin(Id { slot: 0, generation: 1 })
+//! act_of::<0>(&ScriptLine::of(b"# a comment"));           // Act::Nothing
+//! act_of::<0>(&ScriptLine::of(b"close t1"));              // Act::Bad
 //! ```
 #![tactic(auto)]
 
 mod act;
+mod ends;
 mod grammar;
 mod handles;
 mod held;
+mod line;
 mod naming;
 mod numbers;
 mod rights;
@@ -23,5 +26,6 @@ pub use act::{Act, Ask};
 pub use grammar::{act_of, is_too_long, text_of};
 pub use handles::{handles_of, read_handles};
 pub use held::HeldLine;
+pub use line::ScriptLine;
 pub use numbers::labelled;
 pub use words::cut_far;

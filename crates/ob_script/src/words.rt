@@ -6,7 +6,7 @@ ghost use Rattle.ob_script.specs.Words.{begins_with, behind, joined, labelled, w
 ghost use Rattle.ob_script.specs.WordsLeft.{words_left};
 
 use crate::numbers::{labelled, leading_labelled};
-use memchr::memchr_iter;
+use memchr::memchr;
 use std::marker::Model;
 
 /// The words of a text that are left: what stands between single spaces. A clause sees them as a list.
@@ -30,16 +30,6 @@ impl<'a> Words<'a> {
         ensures { result ≡ words_of text.now }
     {
         Words { rest: Some(text) }
-    }
-
-    /// The first word of a text, and the words behind it; none where it is the only one.
-    #[inline(always)]
-    #[tactic(auto, using(crate::proofs::Cuts::first_word, crate::proofs::Cuts::last_word))]
-    pub fn parted(text: &'a [u8]) -> Option<(&'a [u8], Words<'a>)>
-        ensures { MatchOption result (words_of text.now ≡ text.now ∷ []) (λ parts. words_of text.now ≡ parts.0.now ∷ parts.1) }
-    {
-        let at = place_of(b' ', text)?;
-        Some((&text[..at], Words::of(&text[at + 1..])))
     }
 
     /// The words of what another has left.
@@ -164,7 +154,7 @@ pub fn is(word: &[u8], keyword: &[u8]) -> bool
 }
 
 /// Where such a byte is first, found by a look at one byte after another: words are short.
-fn place_of(byte: u8, text: &[u8]) -> Option<usize>
+pub fn place_of(byte: u8, text: &[u8]) -> Option<usize>
     ensures { IsFirstByte (is_byte byte) text.now result }
 {
     text.iter().position(|b| *b == byte)
@@ -201,16 +191,7 @@ pub fn cut_far(byte: u8, text: &[u8]) -> Option<(&[u8], &[u8])>
     ensures behind { IfSome result (λ parts. parts.1.now ≡ after_first (is_byte byte) text.now) }
     ensures none { IfNone result (position_or_len (is_byte byte) text.now ≡ length text.now) }
 {
-    let at = line_place_of(byte, text)?;
+    let at = memchr(byte, text)?;
     let (before, rest) = text.split_at(at);
     Some((before, &rest[1..]))
-}
-
-/// Where such a byte is first, which may be far, but mostly is some twenty bytes away: for that the iterator over all places is
-/// quicker than a search for one.
-#[inline(never)]
-fn line_place_of(byte: u8, text: &[u8]) -> Option<usize>
-    ensures { IsFirstByte (is_byte byte) text.now result }
-{
-    memchr_iter(byte, text).next()
 }

@@ -34,7 +34,7 @@ returns-clause-advances g c =
     c.self.view_is (
       prints.0,
       line_advances old new (act_of_held c.extend.new.self) c.args.end.now prints.0 c.requires.within
-          (ap act_of_held c.extend.ensures)
+          (ap act_of_held (c.extend.ensures ∙ ap (more_held c.self.inside.held) c.bytes.ensures))
           prints.1 c.answer_held-answered.ensures.lines c.clear.ensures,
       prints.2,
     )
