@@ -1,6 +1,7 @@
 -- What the calls of readers and of the keeper answer.
 use Rattle.std.specs.Prelude.{◌≡◌, ◌≢◌, ◌⊎◌, ℕ, ◌<◌, ◌≤◌, nat_lt, if◌then◌else◌, List, [], ◌∷◌, ◌++◌, length, Result, Ok, Err}
 use Rattle.pin_core.specs.declared.id.Id.{Id}
+use Rattle.pin_core.specs.declared.word.Word.{Word}
 use Rattle.pin_core.specs.Words.{decoded}
 use Rattle.pin_core.specs.Worlds.{slot_of}
 use Rattle.pin_words.specs.declared.fault.Verdict.{Verdict}
@@ -30,6 +31,19 @@ pub record Tries (r : ReaderView) (id : Id) (res : Result (Unit {0}) PinFault) (
   pub no_slot : r.shape.slots ≤ id.slot → (res ≡ Err fault.NoSuchSlot) × (r' ≡ r)
   pub full : id.slot < r.shape.slots → 16 ≤ length r.held → (res ≡ Err fault.HeldFull) × (r' ≡ r)
   pub tried : id.slot < r.shape.slots → length r.held < 16 → (n : ℕ) × Tells r id.slot n × Answers (verdict_of r.shape.max_pins id (decoded n)) r id n res r'
+
+-- a chain of tries from r on that each were answered busy, with the view before each of them, the last one first
+abbrev pub AreBusy : List ReaderView → ReaderView → Id → ReaderView → Type 0
+AreBusy [] r id r' = r' ≡ r
+AreBusy (s ∷ ss) r id r' = AreBusy ss r id s × (seen : Word) × Tries s id (Err (fault.Busy seen)) r'
+
+-- tries that were answered busy, and then one that wasn't, whose answer it is
+pub record TriesUntilSettled (r : ReaderView) (id : Id) (res : Result (Unit {0}) PinFault) (r' : ReaderView) : Type 0 where
+  pub busy : List ReaderView
+  pub last : ReaderView
+  pub are_busy : AreBusy busy r id last
+  pub tries : Tries last id res r'
+  pub settled : (seen : Word) → res ≢ Err (fault.Busy seen)
 
 -- nothing changed but that the reader looked
 abbrev pub HasOnlyLooked : ReaderView → ReaderView → Type 0

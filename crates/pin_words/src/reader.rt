@@ -84,7 +84,7 @@ impl<'a> Reader<'a> {
     ghost use Rattle.pin_words.specs.Verdicts.{verdict_of};
     ghost use Rattle.pin_words.specs.Views.{M, view, reader_looked, reader_got, reader_released, reader_noted};
     ghost use Rattle.pin_words.specs.Plays.{Tells};
-    ghost use Rattle.pin_words.specs.Tries.{Tries, HasOnlyLooked};
+    ghost use Rattle.pin_words.specs.Tries.{Tries, TriesUntilSettled, HasOnlyLooked};
 
     pub(crate) fn of_parts(
         shared: &'a Shared<(), View, Shape, PinRule>,
@@ -177,6 +177,7 @@ impl<'a> Reader<'a> {
     /// Pins as [`try_pin`](Reader::try_pin) does, again and again while it answers [`PinFault::Busy`]. Its answer
     /// is that of its last try, before which nothing changed but that it looked.
     pub fn pin<R: Wait>(&mut self, rt: &R, id: Id) -> Result<(), PinFault>
+        ensures tries { TriesUntilSettled self.old.view id result self.new.view }
         ensures last { (r : ReaderView) × HasOnlyLooked self.old.view r
             × Tries r id result self.new.view }
         ensures held { OnOk result (0 < tally (same_id id) self.new.view.held) }
