@@ -30,7 +30,7 @@ use Rattle.pin_words.specs.declared.view.ReaderView.{ReaderView}
 use Rattle.pin_words.specs.declared.view.View.{View}
 use Rattle.pin_words.specs.Views.{M, Of, on, view, keeper_looked, keeper_stored, keeper_published, keeper_closed, keeper_reclaimed, unwrap}
 use Rattle.pin_words.specs.Shown.{Table, NotAhead, OfKeeper, OfReader, IsShown, Shown}
-use Rattle.pin_words.specs.Plays.{stored, published, closed, reclaiming}
+use Rattle.pin_words.specs.Plays.{TellsSlot, stored, published, closed, reclaiming}
 use Rattle.pin_words.proofs.Bits.{publish-or, close-or}
 use Rattle.pin_words.proofs.Steps.{of-map, of-here, of-on, some-same, step-shown, still-shown, few-pins, found-is, past-here, in-shape, turn-keeper, turn-keeper-to, looks-stay, notes-stay}
 use Rattle.pin_words.proofs.Bits.{descr-decoded}
@@ -214,9 +214,13 @@ word_closing y = encoded record { generation = y.generation; phase = Closing; pi
 abbrev pub word_reclaimed : ℕ → Slot → ℕ
 word_reclaimed m y = encoded record { generation = (reclaimed m y).generation; phase = (reclaimed m y).phase; pins = 0 }
 
-keeper-room : (k : Shape) (s : Table) (W : WorldState) (sh : IsShown k s W) (id i : ℕ) (v : View) → get_elem? s.views id ≡ some v → i < k.slots → Of v.keeper (λ z. (decoded (get_or s.words i 0)).pins ≤ z.shape.max_pins)
-keeper-room k s W sh id i v seated inside = of-map (OfKeeper W sh.keeper sh.next id) (λ z. (decoded (get_or s.words i 0)).pins ≤ z.shape.max_pins) v.keeper
-    (λ z a. let le = sh.safe.room i in let count : (decoded (get_or s.words i 0)).pins ≡ pins W i = ap (λ (x : Word). x.pins) (found-is k s W sh i inside) in let max : z.shape.max_pins ≡ W.shape.max_pins = ap (λ (x : Shape). x.max_pins) a.shape in omega arith)
+keeper-told : (k : Shape) (s : Table) (W : WorldState) (sh : IsShown k s W) (id i : ℕ) (v : View) → get_elem? s.views id ≡ some v → i < k.slots → Of v.keeper (λ z. TellsSlot z.shape z.slots i (get_or s.words i 0))
+keeper-told k s W sh id i v seated inside = of-map (OfKeeper W sh.keeper sh.next id) (λ z. TellsSlot z.shape z.slots i (get_or s.words i 0)) v.keeper
+    (λ z a. let is = found-is k s W sh i inside in let here : at W i ≡ slot_of z.slots i = ap (λ (x : List Slot). slot_of x i) (sym a.slots) in record {
+      generation = ap (λ (x : Word). x.generation) is ∙ ap (λ (x : Slot). x.generation) here;
+      phase = ap (λ (x : Word). x.phase) is ∙ ap (λ (x : Slot). x.phase) here;
+      room = let le = sh.safe.room i in let count : (decoded (get_or s.words i 0)).pins ≡ pins W i = ap (λ (x : Word). x.pins) is in let max : z.shape.max_pins ≡ W.shape.max_pins = ap (λ (x : Shape). x.max_pins) a.shape in omega arith;
+    })
     (sh.each id v seated).0
 
 closing-word : (k : Shape) (s : Table) (W : WorldState) (sh : IsShown k s W) (id i : ℕ) (v : View) (kv : KeeperView) → get_elem? s.views id ≡ some v → v.keeper ≡ Some kv → i < k.slots → (slot_of kv.slots i).phase ≡ Closing
@@ -282,14 +286,14 @@ reclaims-step k slots id i old new me v is inside closing old-is new-is s (W, sh
         subst (λ (z : Option KeeperView × ℕ). IsShown k record { words = set s.words i z.1; homes = s.homes; views = set s.views id (view (on (λ z. keeper_reclaimed z i n) z.0) me.0.reader) } (after W (Reclaim i))) (λ j. (sym is j, sym new-is j))
             (keeper-reclaims k s W sh id i me.0 v seated is inside closing (hit ∙ old-is)),
       ),
-      ((λ _. refl), (λ miss. absurd (miss hit)), keeper-room k s W sh id i me.0 seated inside),
+      ((λ _. refl), (λ miss. absurd (miss hit)), keeper-told k s W sh id i me.0 seated inside),
     ))
     (λ miss. (
       view (on (λ z. keeper_looked z i n) me.0.keeper) me.0.reader,
       keeps,
       tt,
       (W, keeper-looks k s W sh id i me.0 seated inside),
-      ((λ e. absurd (miss e)), (λ _. (refl, pinned-still k s W sh id i me.0 v seated is inside closing (λ e. miss (e ∙ sym old-is)))), keeper-room k s W sh id i me.0 seated inside),
+      ((λ e. absurd (miss e)), (λ _. (refl, pinned-still k s W sh id i me.0 v seated is inside closing (λ e. miss (e ∙ sym old-is)))), keeper-told k s W sh id i me.0 seated inside),
     ))
   where
     n : ℕ

@@ -19,6 +19,7 @@ use Rattle.pin_words.specs.declared.pin_keeper.Reclaim.TheVariants.{Freed, Retir
 use Rattle.pin_words.specs.declared.view.Look.{Look}
 use Rattle.pin_words.specs.Verdicts.{verdict_of}
 use Rattle.pin_words.specs.Seats.{TableState, KeeperSeat}
+use Rattle.pin_words.specs.Plays.{TellsSlot}
 use Rattle.pin_words.specs.Views.{Of, on, look, sits, id_of}
 
 -- `table` is which words it keeps, where it has some; `published` is there where the keeper keeps the list; `next` is
@@ -80,9 +81,9 @@ Reclaims k s Freed k' = (k' ≡ with_looks (opened_again k s) k'.looks) × ((slo
 Reclaims k s Retired k' = (k' ≡ with_looks (opened_again k s) k'.looks) × (k.shape.max_gen ≤ (slot_of k.slots s).generation) × (tally (sits s) k.held ≡ 0) × HasLooked s k.looks k'.looks
 Reclaims k s (Held n) k' = (k' ≡ with_looks k k'.looks) × (0 < n) × (n ≤ k.shape.max_pins) × HasLooked s k.looks k'.looks
 
--- what a reclaim over the words answers: it found the word n, and is held exactly by the pins that are in it
+-- what a reclaim over the words answers: it found the word n of the slot, and is held exactly by the pins that are in it
 abbrev pub ReclaimsFound : KeeperState → ℕ → Reclaim → KeeperState → Type 0
-ReclaimsFound k s res k' = (n : ℕ) × ((decoded n).pins ≤ k.shape.max_pins)
+ReclaimsFound k s res k' = (n : ℕ) × TellsSlot k.shape k.slots s n
     × ((decoded n).pins ≡ 0 → (k' ≡ with_looks (opened_again k s) (look s n ∷ k.looks)) × (res ≡ (if nat_lt (slot_of k.slots s).generation k.shape.max_gen then Freed else Retired)))
     × (0 < (decoded n).pins → (k' ≡ with_looks k (look s n ∷ k.looks)) × (res ≡ Held (decoded n).pins))
 

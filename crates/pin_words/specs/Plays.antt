@@ -4,6 +4,8 @@ use Rattle.atomic_table.specs.Table.{Step}
 use Rattle.pin_core.specs.declared.id.Id.{Id}
 use Rattle.pin_core.specs.declared.descr.Descr.{Descr}
 use Rattle.pin_core.specs.declared.word.Phase.TheVariants.{Retired}
+use Rattle.pin_core.specs.declared.shape.Shape.{Shape}
+use Rattle.pin_core.specs.declared.world.Slot.{Slot}
 use Rattle.pin_core.specs.Words.{decoded}
 use Rattle.pin_core.specs.Descrs as descr_code
 use Rattle.pin_core.specs.Holds.{tally, same_id}
@@ -33,6 +35,12 @@ pub record Tells (r : ReaderView) (s n : ℕ) : Type 0 where
   pub room : (decoded n).pins ≤ r.shape.max_pins
   pub held : (id : Id) → 0 < tally (same_id id) r.held → id.slot ≡ s → ((decoded n).generation ≡ id.generation) × (may_be_held (decoded n).phase ≡ true)
   pub looks : Behind r.looks s n
+
+-- what the word n of the slot s tells the keeper: it is the word of that slot, with no more pins than there may be
+pub record TellsSlot (shape : Shape) (slots : List Slot) (s n : ℕ) : Type 0 where
+  pub generation : (decoded n).generation ≡ (slot_of slots s).generation
+  pub phase : (decoded n).phase ≡ (slot_of slots s).phase
+  pub room : (decoded n).pins ≤ shape.max_pins
 
 -- each note is in the list of what was published
 abbrev pub AreListed : List (Id × Descr) → List Note → Type 0
@@ -105,7 +113,7 @@ stored st m n m' = (k : KeeperView) (s : ℕ) (d : Descr) → m.0.keeper ≡ Som
 -- an exchange of the word of a closing slot without pins for the next
 abbrev pub reclaiming : St → M → ℕ → M → Type 0
 reclaiming st m n m' = (n ≡ st.first → m' ≡ (view (on (λ k. keeper_reclaimed k st.word n) m.0.keeper) m.0.reader, m.1))
-    × (n ≢ st.first → (m' ≡ (view (on (λ k. keeper_looked k st.word n) m.0.keeper) m.0.reader, m.1)) × (0 < (decoded n).pins)) × Of m.0.keeper (λ k. (decoded n).pins ≤ k.shape.max_pins)
+    × (n ≢ st.first → (m' ≡ (view (on (λ k. keeper_looked k st.word n) m.0.keeper) m.0.reader, m.1)) × (0 < (decoded n).pins)) × Of m.0.keeper (λ k. TellsSlot k.shape k.slots st.word n)
 
 -- the keeper's seat gives a reader of the next number
 abbrev pub gave : View → View

@@ -15,7 +15,7 @@ use Rattle.pin_words.specs.declared.view.KeeperView.{KeeperView}
 use Rattle.pin_words.specs.declared.view.ReaderView.{ReaderView}
 use Rattle.pin_words.specs.Verdicts.{verdict_of}
 use Rattle.pin_words.specs.Views.{reader_with, reader_looked, reader_got, keeper_looked, keeper_reclaimed}
-use Rattle.pin_words.specs.Plays.{Tells, Meets}
+use Rattle.pin_words.specs.Plays.{Tells, TellsSlot, Meets}
 
 -- what follows a first look that found the word n: at Go one exchange, which finds the word m. That one tells as a
 -- look does, so it is no earlier than n
@@ -54,9 +54,9 @@ abbrev pub WasStale : ℕ → Id → List Look → Type 0
 WasStale max_pins id [] = ⊥
 WasStale max_pins id (l ∷ ls) = ((l.slot ≡ id.slot) × (verdict_of max_pins id (decoded l.word) ≡ Stale)) ⊎ WasStale max_pins id ls
 
--- the answer of one reclaim, which found the word n
+-- the answer of one reclaim, which found the word n of the slot
 abbrev pub Reclaims : KeeperView → ℕ → Reclaim → KeeperView → Type 0
-Reclaims k s res k' = (n : ℕ) × ((decoded n).pins ≤ k.shape.max_pins)
+Reclaims k s res k' = (n : ℕ) × TellsSlot k.shape k.slots s n
     × ((decoded n).pins ≡ 0 → (k' ≡ keeper_reclaimed k s n) × (res ≡ (if nat_lt (slot_of k.slots s).generation k.shape.max_gen then Freed else Retired)))
     × (0 < (decoded n).pins → (k' ≡ keeper_looked k s n) × (res ≡ Held (decoded n).pins))
 
