@@ -63,7 +63,7 @@ reached-safe k es h = all_kept (opening_of k) es (opening-safe k h.0) h.1
 pub reclaim_needs : (w : WorldState) (s : ℕ) → refusal w (Reclaim s) ≡ None → (s < w.shape.slots) × ((at w s).phase ≡ Closing) × (pins w s ≡ 0)
 reclaim_needs w s can = let a = passed _ _ _ can in let b = passed _ _ _ a.1 in let c = passed _ _ _ b.1 in (below_of s w.shape.slots a.0, phase_of_test (at w s).phase Closing b.0, zero_of (pins w s) c.0)
 
-times-le-copies : (w : WorldState) (t : Hold) → times w t ≤ copies w t.reader t.id
+pub times-le-copies : (w : WorldState) (t : Hold) → times w t ≤ copies w t.reader t.id
 times-le-copies w t = count-le (is_hold t) (is_copy t.reader t.id) w.holders (λ h e. grind (arith, common_steps))
 
 pub kept_while_held : (w : WorldState) → IsSafe w → (t : Hold) → 0 < times w t → StaysGiven w t.id.slot

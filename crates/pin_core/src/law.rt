@@ -1,7 +1,7 @@
 ghost use Rattle.std.specs.Prelude.{◌≡◌, ℕ, ◌<◌, ◌≤◌, ◌^◌, List, None, Some};
 ghost use Rattle.pin_core.specs.Words as words;
 ghost use Rattle.pin_core.specs.Descrs as descrs;
-ghost use Rattle.pin_core.specs.Worlds.{at, pins, times, given_as};
+ghost use Rattle.pin_core.specs.Worlds.{WorldState, opening_of, at, pins, times, given_as};
 ghost use Rattle.pin_core.specs.Events.{refusal, after};
 ghost use Rattle.pin_core.specs.Safety.{IsSafe, AreEvents, StaysGiven, reached, age};
 ghost use Rattle.pin_core.specs.declared.word.Word.{Word};
@@ -21,6 +21,23 @@ pub fn law_of_codes()
         → (descrs.encoded d ≡ n) × descrs.IsGiven d }
     ensures decoded_descrs { (d : Descr) → descrs.IsGiven d
         → descrs.decoded (descrs.encoded d) ≡ Some d }
+{}
+
+/// What holds of each safe world and of each event that is possible there, whatever led to that world. So it holds of
+/// the world that a running table shows, of whose events no list is kept.
+///
+/// The opening world is safe, and each possible event keeps a world safe. While a hold stays in the set, its slot is
+/// neither stored to, nor published, nor reclaimed. A slot's generation and phase never go back. A slot is published
+/// only where nobody holds it. A descriptor that is read under a pin is the one that was published with the Id.
+pub fn law_of_worlds()
+    ensures opening { (k : Shape) → 1 ≤ k.max_gen → IsSafe (opening_of k) }
+    ensures safe { (w : WorldState) (e : Event) → IsSafe w → refusal w e ≡ None → IsSafe (after w e) }
+    ensures kept { (w : WorldState) → IsSafe w → (h : Hold) → 0 < times w h → StaysGiven w h.id.slot }
+    ensures onward { (w : WorldState) (e : Event) → IsSafe w → refusal w e ≡ None
+        → (s : ℕ) → age (at w s) ≤ age (at (after w e) s) }
+    ensures alone { (w : WorldState) → IsSafe w → (s : ℕ) → refusal w (Publish s) ≡ None → pins w s ≡ 0 }
+    ensures shown { (w : WorldState) → IsSafe w → (r : ℕ) (id : Id) (d : Descr)
+        → refusal w (ReadDescr r id d) ≡ None → given_as w id d ≡ 1 }
 {}
 
 /// What holds in each world that possible events lead to from the opening one, whoever made them and however

@@ -20,7 +20,7 @@ pub use descr::Descr;
 pub use event::{Event, Reason, ReplayFault};
 pub use holders::Hold;
 pub use id::{Id, same_id};
-pub use law::{law_of_codes, law_of_schedules};
+pub use law::{law_of_codes, law_of_schedules, law_of_worlds};
 pub use schedule::{replay, step};
 pub use shape::Shape;
 pub use word::{CLOSING_BIT, LIVE_BIT, Phase, Word};

@@ -1,5 +1,5 @@
 -- The law of the steps.
-use Rattle.std.proofs.Common.{nat_le, ◌≡◌, ◌≢◌, ⊎_elim, ℕ, ◌+◌, ◌-◌, ◌<◌, ◌≤◌, ◌&&◌, nat_lt, List, [], ◌∷◌, ◌++◌, get_or, set, Option, Some, None, sym, refl, ap, ◌∙◌, subst, arith}
+use Rattle.std.proofs.Common.{nat_le, ◌≡◌, ◌≢◌, ⊎_elim, ℕ, ◌+◌, ◌-◌, ◌<◌, ◌≤◌, ◌&&◌, nat_lt, List, [], ◌∷◌, ◌++◌, get_or, set, replicate, false, Option, Some, None, sym, refl, ap, ◌∙◌, subst, arith}
 use Rattle.std.proofs.lemmas.Grind.{common_steps}
 use Rattle.std.specs.Prelude.{bit_or}
 use Rattle.pin_core.specs.declared.word.Word.{Word}
@@ -14,21 +14,21 @@ use Rattle.pin_core.specs.declared.event.Event.TheVariants.{Load, Pin, Release, 
 use Rattle.pin_core.specs.Words.{decoded}
 use Rattle.pin_core.specs.Descrs as descr_code
 use Rattle.pin_core.specs.Holds.{tally, weight, hold_of, same_id}
-use Rattle.pin_core.specs.Worlds.{WorldState, slot_of, at, copies, times}
+use Rattle.pin_core.specs.Worlds.{WorldState, opening_slot, slot_of, at, copies, times}
 use Rattle.pin_core.specs.Events.{refusal, Can, after}
-use Rattle.pin_core.specs.Safety.{IsSafe, StaysGiven}
-use Rattle.pin_core.proofs.Schedules.{kept_while_held, may_load, may_read, may_release, may_publish, may_store, may_close}
+use Rattle.pin_core.specs.Safety.{may_be_held, IsSafe, StaysGiven}
+use Rattle.pin_core.proofs.Schedules.{opening_at, times-le-copies, kept_while_held, may_load, may_read, may_release, may_publish, may_store, may_close}
 use Rattle.pin_core.proofs.Moves.{given_as-le}
 use Rattle.pin_words.specs.declared.view.Note.{Note}
 use Rattle.pin_words.specs.declared.view.KeeperView.{KeeperView}
 use Rattle.pin_words.specs.declared.view.ReaderView.{ReaderView}
 use Rattle.pin_words.specs.declared.view.View.{View}
-use Rattle.pin_words.specs.Views.{on, view, id_in, reader_looked, reader_got, reader_released, reader_noted, keeper_looked, keeper_stored, keeper_published, keeper_closed, keeper_reclaimed}
+use Rattle.pin_words.specs.Views.{on, view, id_in, reader_looked, reader_got, reader_released, reader_noted, keeper_looked, keeper_stored, keeper_published, keeper_closed, keeper_reclaimed, keeper_gave, opening_keeper}
 use Rattle.pin_words.specs.Shown.{Table, AreNoted, HoldsJust, OfKeeper, OfReader, HasReader, IsShown}
 use Rattle.pin_words.specs.Plays.{Behind, Tells, AreListed, Show, Meets, MeetsBoth, looked_view, got_view, released_view, looked, pinned, released, noted, stored, published, closed, reclaiming, gave, reader_from, spent, or_else, joined, keeper_part, reader_part}
 use Rattle.pin_words.specs.Plays as play
 use Rattle.pin_words.proofs.Holdings.{has-copies}
-use Rattle.pin_words.specs.Laws.{ReaderAt, KeeperAt, StepsBy, stepped, with_views, closing_word, next_word, ArePublished}
+use Rattle.pin_words.specs.Laws.{ReaderAt, KeeperAt, StepsBy, stepped, with_views, closing_word, next_word, ArePublished, ShowsOpening}
 use Rattle.pin_words.proofs.Steps.{of-here, some-same, found-is, in-shape}
 use Rattle.pin_words.proofs.ReaderSteps.{looks-shown, may_pin_found, reader-pins, reader-releases, reader-notes, descr_found}
 use Rattle.pin_words.proofs.KeeperSteps.{keeper-at, keeper-publishes, keeper-closes, keeper-reclaims, keeper-looks, keeper-stores, pinned-still, none-pinned}
@@ -167,3 +167,20 @@ one-world k s a b p q =
         (q.owned r))
         (λ (g : HasReader s.views (p.owner r) r). with-seat r (p.owner r) g id)
         (p.owned r)
+
+-- where each slot is an opening one, nothing is held
+opening-free : (w : WorldState) (n : ℕ) → IsSafe w → w.slots ≡ replicate n opening_slot → (t : Hold) → times w t ≡ 0
+opening-free w n safe is t =
+    let le = times-le-copies w t in
+    let nobody : ¬ (0 < copies w t.reader t.id) = λ some.
+    let h = safe.held t.reader t.id some in
+    let free : may_be_held (at w t.id.slot).phase ≡ false = ap (λ (xs : List Slot). may_be_held (slot_of xs t.id.slot).phase) is ∙ ap (λ (x : Slot). may_be_held x.phase) (opening_at n t.id.slot) in
+    let on = h.2 in cc in
+    omega arith
+
+-- a keeper that knows each slot as an opening one, and published nothing, is that of the opening world
+pub shows_opening : (q : KeeperView) (k : Shape) → q ≡ keeper_gave (opening_keeper k) → ShowsOpening q
+shows_opening q k is s w j v sh here =
+    let mine : OfKeeper w sh.keeper sh.next j q = keeper-at q.shape s w sh j v q here.seated here.part in
+    let slots : w.slots ≡ replicate q.shape.slots opening_slot = sym mine.slots ∙ (ap (λ (z : KeeperView). z.slots) is ∙ ap (λ (z : KeeperView). replicate z.shape.slots opening_slot) (sym is)) in
+    (sh.shape, slots, sym mine.published ∙ ap (λ (z : KeeperView). z.published) is, opening-free w q.shape.slots sh.safe slots)

@@ -14,7 +14,7 @@ use Rattle.pin_core.specs.declared.event.Event.TheVariants as event
 use Rattle.pin_core.specs.Words.{encoded, decoded}
 use Rattle.pin_core.specs.Descrs as descr_code
 use Rattle.pin_core.specs.Holds.{tally, hold_of, same_id}
-use Rattle.pin_core.specs.Worlds.{WorldState, slot_of, times, given_as}
+use Rattle.pin_core.specs.Worlds.{WorldState, opening_of, slot_of, times, given_as}
 use Rattle.pin_core.specs.Events.{Can, after, reclaimed}
 use Rattle.pin_core.specs.Safety.{IsSafe, StaysGiven}
 use Rattle.pin_words.specs.declared.fault.PinFault.{PinFault}
@@ -73,10 +73,17 @@ abbrev pub ArePublished : WorldState → List Note → Type 0
 ArePublished w [] = Unit {0}
 ArePublished w (x ∷ xs) = (given_as w x.id x.descr ≡ 1) × ArePublished w xs
 
--- a table shows one world: the same slots, the same published list, the same set of holds
+-- the same slots, the same published list, the same set of holds
+abbrev pub AreAlike : WorldState → WorldState → Type 0
+AreAlike a b = (a.shape ≡ b.shape) × (a.slots ≡ b.slots) × (a.published ≡ b.published) × ((t : Hold) → times a t ≡ times b t)
+
+-- a table shows one world
 abbrev pub ShowsOneWorld : Type 0
-ShowsOneWorld = (k : Shape) (s : Table) (a b : WorldState) → IsShown k s a → IsShown k s b
-    → (a.shape ≡ b.shape) × (a.slots ≡ b.slots) × (a.published ≡ b.published) × ((t : Hold) → times a t ≡ times b t)
+ShowsOneWorld = (k : Shape) (s : Table) (a b : WorldState) → IsShown k s a → IsShown k s b → AreAlike a b
+
+-- whatever the table is: as long as the keeper's seat knows this, it shows the opening world
+abbrev pub ShowsOpening : KeeperView → Type 0
+ShowsOpening q = (s : Table) (w : WorldState) (j : ℕ) (v : View) → IsShown q.shape s w → KeeperAt s j v q → AreAlike w (opening_of q.shape)
 
 abbrev pub ShowsSafeWorld : Type 0
 ShowsSafeWorld = (k : Shape) (s : Table) (w : WorldState) → IsShown k s w → IsSafe w

@@ -81,14 +81,17 @@ impl Pins {
 impl Opening {
     ghost use Rattle.std.specs.Prelude.{◌≡◌, IfOk, IfErr};
     ghost use Rattle.pin_words.specs.Views.{opening_keeper, keeper_gave, reader_given};
+    ghost use Rattle.pin_words.specs.Laws.{ShowsOpening};
 
-    /// The keeper, and reader 1. Where memory ran out the right to start comes back.
+    /// The keeper, and reader 1, and until one of them makes a step the table shows the opening world. Where memory ran
+    /// out the right to start comes back.
     pub fn start<'a>(self, pins: &'a Pins) -> Result<(Keeper<'a>, Reader<'a>), Opening>
         requires { self ≡ pins.now }
         ensures keeper { IfOk result (λ r. (r.0.table ≡ self)
             × (r.0.view ≡ keeper_gave (opening_keeper self.shape))) }
         ensures reader { IfOk result (λ r. (r.1.table ≡ self)
             × (r.1.view ≡ reader_given (opening_keeper self.shape))) }
+        ensures opens { IfOk result (λ r. ShowsOpening r.0.view) }
         ensures err { IfErr result (λ o. o ≡ self) }
     {
         let Ok(slots) = vec![in self.alloc; Slot::opening(); self.shape.slots as usize] else {
