@@ -5,4 +5,3 @@ pub mod StepLaws
 pub mod LimitLaws
 pub mod Waited
 pub mod Rising
-pub mod Fieldless

@@ -10,40 +10,34 @@ use Rattle.pin_core.specs.Worlds.{slot_of, is_with, opening_slot}
 use Rattle.pin_core.specs.Events.{with_descr}
 use Rattle.pin_core.proofs.Counts.{count-snoc}
 use Rattle.pin_words.specs.Keepers.{stored, published}
-use Rattle.pin_words.specs.Views.{id_of, on}
+use Rattle.pin_words.specs.Views.{id_of}
 use Rattle.ob_store.specs.Objects.{Object, ObjectsState, Head, object_in}
 use Rattle.ob_store.specs.Agreement.{Listed, IsListed}
 
-listed_none : (ps : Option (List (Id × Descr))) → Listed ps None
-listed_none None = tt
-listed_none (Some ps) = tt
-
 -- an object set at a slot, or one that leaves
-pub listed_set : (ps : Option (List (Id × Descr))) (objects : List (Option Object)) (s : ℕ) (x : Option Object) → Listed ps x → IsListed ps objects → IsListed ps (set objects s x)
+pub listed_set : (ps : List (Id × Descr)) (objects : List (Option Object)) (s : ℕ) (x : Option Object) → Listed ps x → IsListed ps objects → IsListed ps (set objects s x)
 listed_set ps objects s x new old = record {
   each = λ j. elim (cases_eq j s) [
     | inl same ↦ subst (λ (k : ℕ). Listed ps (get_or (set objects s x) k None)) (sym same) (elim (cases_lt s (length objects)) [
       | inl lt ↦ subst (Listed ps) (sym (get_or-set_same objects s x None lt)) new
-      | inr le ↦ subst (Listed ps) (sym (get_or_past (set objects s x) s None (omega (arith, length-set objects s x)))) (listed_none ps)
+      | inr le ↦ subst (Listed ps) (sym (get_or_past (set objects s x) s None (omega (arith, length-set objects s x)))) tt
     ])
     | inr other ↦ subst (Listed ps) (sym (get_or-set_other objects s j x None other)) (old.each j)
   ];
 }
 
-pub listed_gone : (ps : Option (List (Id × Descr))) (objects : List (Option Object)) (s : ℕ) → IsListed ps objects → IsListed ps (set objects s None)
-listed_gone ps objects s old = listed_set ps objects s None (listed_none ps) old
+pub listed_gone : (ps : List (Id × Descr)) (objects : List (Option Object)) (s : ℕ) → IsListed ps objects → IsListed ps (set objects s None)
+listed_gone ps objects s old = listed_set ps objects s None tt old
 
-more : (ps : Option (List (Id × Descr))) (p : Id × Descr) (x : Option Object) → Listed ps x → Listed (on (λ zs. zs ++ p ∷ []) ps) x
-more None p x old = tt
-more (Some ps) p None old = tt
-more (Some ps) p (Some o) old = let c = count-snoc (is_with o.id o.descr) ps p in omega arith
+more : (ps : List (Id × Descr)) (p : Id × Descr) (x : Option Object) → Listed ps x → Listed (ps ++ p ∷ []) x
+more ps p None old = tt
+more ps p (Some o) old = let c = count-snoc (is_with o.id o.descr) ps p in omega arith
 
 is_with_self : (id : Id) (d : Descr) → is_with id d (id, d) ≡ true
 is_with_self id d = grind arith
 
-new_one : (ps : Option (List (Id × Descr))) (p : Id × Descr) (o : Object) → p ≡ (o.id, o.descr) → Listed (on (λ zs. zs ++ p ∷ []) ps) (Some o)
-new_one None p o is = tt
-new_one (Some ps) p o is = let c = count-snoc (is_with o.id o.descr) ps p in let w : weight (is_with o.id o.descr p) ≡ 1 = ap (λ (z : Id × Descr). weight (is_with o.id o.descr z)) is ∙ ap weight (is_with_self o.id o.descr) in omega arith
+new_one : (ps : List (Id × Descr)) (p : Id × Descr) (o : Object) → p ≡ (o.id, o.descr) → Listed (ps ++ p ∷ []) (Some o)
+new_one ps p o is = let c = count-snoc (is_with o.id o.descr) ps p in let w : weight (is_with o.id o.descr p) ≡ 1 = ap (λ (z : Id × Descr). weight (is_with o.id o.descr z)) is ∙ ap weight (is_with_self o.id o.descr) in omega arith
 
 -- a new object is published with its descriptor
 pub listed_added : (s : ObjectsState) (k : ℕ) (head : Head) → k < length s.keeper.slots → IsListed s.keeper.published s.objects

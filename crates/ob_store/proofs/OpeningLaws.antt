@@ -16,7 +16,7 @@ use Rattle.ob_waits.specs.Form.{IsAfter, slot_due, slot_owner}
 use Rattle.ob_waits.specs.Rules.{WaitHasRoom, thread_of}
 use Rattle.ob_waits.specs.Waits.{WaitList, is_ready}
 use Rattle.ob_store.specs.declared.limits.Limits.{Limits}
-use Rattle.ob_store.specs.Agreement.{IsTied, Listed, made_in}
+use Rattle.ob_store.specs.Agreement.{IsTied, made_in}
 use Rattle.ob_store.specs.Lives.{no_lives}
 use Rattle.ob_store.specs.Objects.{Object, ObjectsState, with_keeper, vacant_places}
 use Rattle.ob_store.specs.State.{Whole, state_of, opening, shape_of, generation_of}
@@ -115,7 +115,7 @@ tied_opening n k fresh same few first last = record {
     marked = length-replicate n false ∙ same;
     each = λ j lt. rw (none_at Object n j, none_at Body n j, false_at n j, slot_opening k.slots k.shape.slots j fresh.slots_are) (refl, refl);
   };
-  listed = record { each = λ j. rw (none_at Object n j) (unlisted k.published) };
+  listed = record { each = λ j. rw (none_at Object n j) tt };
   bodied = record { each = λ j. rw (none_at Body n j, zero_at n j) refl };
   born = record {
     below = λ j o is. absurd (let none = none_at Object n j in cc (none, is));
@@ -125,7 +125,3 @@ tied_opening n k fresh same few first last = record {
   last = last;
   made = sym (ap (sum_by made_in) fresh.slots_are ∙ none_made k.shape.slots);
 }
-  where
-    unlisted : (p : Option (List (Id × Descr))) → Listed p None
-    unlisted None = tt
-    unlisted (Some ps) = tt

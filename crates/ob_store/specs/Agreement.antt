@@ -36,13 +36,12 @@ pub record IsAgreed (s : ObjectsState) : Type 0 where
   pub marked : length s.retired ≡ s.keeper.shape.slots
   pub each : (k : ℕ) → k < s.keeper.shape.slots → Agrees k (slice_index_or s.objects k None) (slice_index_or s.seen.bodies k None) (slice_index_or s.retired k false) (slot_of s.keeper.slots k)
 
--- each object's Id is published with its descriptor, where the keeper lists what it published
-abbrev pub Listed : Option (List (Id × Descr)) → Option Object → Type 0
-Listed None x = Unit {0}
-Listed (Some ps) None = Unit {0}
-Listed (Some ps) (Some o) = 0 < tally (is_with o.id o.descr) ps
+-- each object's Id is published with its descriptor
+abbrev pub Listed : List (Id × Descr) → Option Object → Type 0
+Listed ps None = Unit {0}
+Listed ps (Some o) = 0 < tally (is_with o.id o.descr) ps
 
-pub record IsListed (published : Option (List (Id × Descr))) (objects : List (Option Object)) : Type 0 where
+pub record IsListed (published : List (Id × Descr)) (objects : List (Option Object)) : Type 0 where
   pub each : (k : ℕ) → Listed published (slice_index_or objects k None)
 
 -- how many objects a slot had: one in each generation, but none yet in the present one of a free slot

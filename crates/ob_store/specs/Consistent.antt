@@ -18,7 +18,7 @@ pub record IsConsistent (w : Whole) : Type 0 where
   pub shape : w.keeper.shape ≡ shape_of w.state.limits
   -- the generations are the keeper's
   pub generations : w.state.generations ≡ map generation_of w.keeper.slots
-  -- each object's Id is published with its descriptor, where the keeper lists what it published
+  -- each object's Id is published with its descriptor
   pub published : IsListed w.keeper.published w.state.objects
   -- births are distinct, and below their count
   pub born : AreBorn w.state.objects w.state.births

@@ -12,7 +12,7 @@ use Rattle.ob_store.specs.Objects.{Object}
 pub record IsViewOf (v : KeeperView) (k : KeeperState) : Type 0 where
   pub shape : v.shape ≡ k.shape
   pub slots : v.slots ≡ k.slots
-  pub published : Some v.published ≡ k.published
+  pub published : v.published ≡ k.published
   pub next : v.next ≡ k.next
   pub looks : v.looks ≡ k.looks
 

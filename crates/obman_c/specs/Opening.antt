@@ -10,7 +10,7 @@ use Rattle.obman_c_base.specs.Allowed.{AreAllowed, AreAs}
 
 -- a manager with no process, with no object in any slot, and of which nothing is held
 abbrev pub new_manager : Limits → Whole
-new_manager limits = record { state = opening limits; keeper = locked (shape_of limits) (replicate limits.slots opening_slot) [] }
+new_manager limits = record { state = opening limits; keeper = locked (shape_of limits) (replicate limits.slots opening_slot) [] [] }
 
 -- A place gets a new manager with these limits, and 0 is told; or it stays as it is, and 87 is told where a limit is out of its
 -- range, else 8, for want of memory.

@@ -7,3 +7,4 @@ pub mod Reseated
 pub mod Calls
 pub mod Locking
 pub mod LawOfSteps
+pub mod Fieldless

@@ -1,16 +1,13 @@
 -- What the calls under a lock need.
-use Rattle.std.proofs.Common.{◌≡◌, ◌≢◌, ℕ, ◌≤◌, Bool, true, false, inl, List, [], ◌∷◌, ◌++◌, set, None, sym, refl, ap, ◌∙◌, arith}
+use Rattle.std.proofs.Common.{◌≡◌, ◌≢◌, ℕ, ◌≤◌, Bool, true, false, inl, List, [], ◌∷◌, ◌++◌, sym, refl, ap, ◌∙◌, arith}
 use Rattle.std.proofs.lemmas.Grind.{common_steps}
 use Rattle.pin_core.specs.declared.id.Id.{Id}
-use Rattle.pin_core.specs.declared.word.Phase.TheVariants.{Live}
-use Rattle.pin_core.specs.Events.{in_phase}
 use Rattle.pin_core.specs.Holds.{tally, weight, drop_first, same_id}
-use Rattle.pin_core.specs.Worlds.{slot_of}
 use Rattle.pin_core.proofs.Counts.{count-snoc, count-drop-le}
 use Rattle.pin_words.specs.declared.pin_keeper.Reclaim.{Reclaim}
 use Rattle.pin_words.specs.declared.pin_keeper.Reclaim.TheVariants.{Freed, Retired, Held}
-use Rattle.pin_words.specs.Views.{on, id_of, sits}
-use Rattle.pin_words.specs.Keepers.{KeeperState, with_looks, opened_again, with_slots, published, Reclaims, ReclaimsLocked}
+use Rattle.pin_words.specs.Views.{sits}
+use Rattle.pin_words.specs.Keepers.{KeeperState, with_looks, opened_again, Reclaims, ReclaimsLocked}
 
 sits-else : (s : ℕ) (id : Id) → sits s id ≡ true → id.slot ≡ s
 sits-else s id e = grind (arith, common_steps)
@@ -31,7 +28,3 @@ pub as-any : (k k' : KeeperState) (s : ℕ) (r : Reclaim) → ReclaimsLocked k s
 as-any k k' s Freed h = (h.0 ∙ ap (λ (z : KeeperState). with_looks (opened_again k s) z.looks) (sym h.0), h.1, h.2, inl (ap (λ (z : KeeperState). z.looks) h.0))
 as-any k k' s Retired h = (h.0 ∙ ap (λ (z : KeeperState). with_looks (opened_again k s) z.looks) (sym h.0), h.1, h.2, inl (ap (λ (z : KeeperState). z.looks) h.0))
 as-any k k' s (Held n) h = (h.0 ∙ ap (λ (z : KeeperState). with_looks k z.looks) (sym h.0), h.1, h.3, inl (ap (λ (z : KeeperState). z.looks) h.0))
-
--- a keeper under a lock keeps no list of what it published
-pub published-unlisted : (k : KeeperState) (s : ℕ) → k.published ≡ None → with_slots k (set k.slots s (in_phase (slot_of k.slots s) Live)) ≡ published k s
-published-unlisted k s e = λ i. record { table = k.table; shape = k.shape; slots = set k.slots s (in_phase (slot_of k.slots s) Live); published = (e ∙ ap (on (λ ps. ps ++ (id_of k.slots s, (slot_of k.slots s).descr) ∷ [])) (sym e)) i; next = k.next; looks = k.looks; held = k.held }

@@ -20,37 +20,40 @@ use Rattle.pin_words.specs.declared.view.Look.{Look}
 use Rattle.pin_words.specs.Verdicts.{verdict_of}
 use Rattle.pin_words.specs.Seats.{TableState, KeeperSeat}
 use Rattle.pin_words.specs.Plays.{TellsSlot}
-use Rattle.pin_words.specs.Views.{Of, on, look, sits, id_of}
+use Rattle.pin_words.specs.Views.{look, sits, id_of}
 
--- `table` is which words it keeps, where it has some; `published` is there where the keeper keeps the list; `next` is
--- the next reader's number, `looks` are the words that it found, newest first, and `held` are the copies of the one
--- holder of a keeper under a lock
+-- `table` is which words it keeps, where it has some; `published` is what it published, in order; `next` is the next
+-- reader's number, `looks` are the words that it found, newest first, and `held` are the copies of the one holder of a
+-- keeper under a lock
 pub record KeeperState : Type 0 where
   pub table : Option TableState
   pub shape : Shape
   pub slots : List Slot
-  pub published : Option (List (Id × Descr))
+  pub published : List (Id × Descr)
   pub next : ℕ
   pub looks : List Look
   pub held : List Id
 
 -- what a keeper over the words says
 abbrev pub state_of : KeeperSeat → KeeperState
-state_of k = record { table = Some k.table; shape = k.view.shape; slots = k.view.slots; published = Some k.view.published; next = k.view.next; looks = k.view.looks; held = [] }
+state_of k = record { table = Some k.table; shape = k.view.shape; slots = k.view.slots; published = k.view.published; next = k.view.next; looks = k.view.looks; held = [] }
 
 -- what a keeper under a lock says
-abbrev pub locked : Shape → List Slot → List Id → KeeperState
-locked shape slots held = record { table = None; shape = shape; slots = slots; published = None; next = 1; looks = []; held = held }
+abbrev pub locked : Shape → List Slot → List (Id × Descr) → List Id → KeeperState
+locked shape slots published held = record { table = None; shape = shape; slots = slots; published = published; next = 1; looks = []; held = held }
 
 -- a keeper of which nothing was asked yet
 pub record IsFresh (k : KeeperState) (shape : Shape) : Type 0 where
   pub shape_is : k.shape ≡ shape
   pub slots_are : k.slots ≡ replicate shape.slots opening_slot
-  pub published_is : Of k.published (λ ps. ps ≡ [])
+  pub published_is : k.published ≡ []
   pub held_is : k.held ≡ []
 
 abbrev pub with_slots : KeeperState → List Slot → KeeperState
 with_slots k slots = record { table = k.table; shape = k.shape; slots = slots; published = k.published; next = k.next; looks = k.looks; held = k.held }
+
+abbrev pub with_published : KeeperState → List (Id × Descr) → KeeperState
+with_published k ps = record { table = k.table; shape = k.shape; slots = k.slots; published = ps; next = k.next; looks = k.looks; held = k.held }
 
 abbrev pub with_looks : KeeperState → List Look → KeeperState
 with_looks k looks = record { table = k.table; shape = k.shape; slots = k.slots; published = k.published; next = k.next; looks = looks; held = k.held }
@@ -62,7 +65,7 @@ abbrev pub stored : KeeperState → ℕ → Descr → KeeperState
 stored k s d = with_slots k (slice_set k.slots s (with_descr (slot_of k.slots s) d))
 
 abbrev pub published : KeeperState → ℕ → KeeperState
-published k s = record { table = k.table; shape = k.shape; slots = slice_set k.slots s (in_phase (slot_of k.slots s) Live); published = on (λ ps. ps ++ (id_of k.slots s, (slot_of k.slots s).descr) ∷ []) k.published; next = k.next; looks = k.looks; held = k.held }
+published k s = with_published (with_slots k (slice_set k.slots s (in_phase (slot_of k.slots s) Live))) (k.published ++ (id_of k.slots s, (slot_of k.slots s).descr) ∷ [])
 
 abbrev pub closed : KeeperState → ℕ → KeeperState
 closed k s = with_slots k (slice_set k.slots s (in_phase (slot_of k.slots s) Closing))

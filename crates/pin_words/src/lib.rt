@@ -18,6 +18,7 @@ mod locked;
 mod pin_keeper;
 mod pins;
 mod plays;
+mod published;
 mod reader;
 mod view;
 

@@ -6,6 +6,7 @@ ghost use Rattle.pin_words.specs.Views.{sits};
 
 use crate::fault::{PinFault, Verdict, judge};
 use crate::pin_keeper::{PinKeeper, Reclaim};
+use crate::published::Published;
 use crate::reader::{copies_of, forget};
 use arrayvec::ArrayVec;
 use ob_rights::Fault;
@@ -18,6 +19,7 @@ use std::marker::Model;
 pub struct LockedPins {
     shape: Shape,
     slots: Vec<Slot>,
+    published: Published,
     held: ArrayVec<Id, 16>,
     ghost within: { IsWithinLimits shape },
     ghost long: { length slots.items ≡ shape.slots },
@@ -30,7 +32,7 @@ impl Model for LockedPins {
 
     ghost Value = { KeeperState };
 
-    ghost view = { λ p. locked p.shape p.slots.items p.held.items };
+    ghost view = { λ p. locked p.shape p.slots.items p.published.list p.held.items };
 }
 
 fn pins_at(held: &[Id], slot: u32) -> usize
@@ -40,7 +42,7 @@ fn pins_at(held: &[Id], slot: u32) -> usize
 }
 
 impl LockedPins {
-    ghost use Rattle.std.specs.Prelude.{◌≡◌, ◌<◌, ◌≤◌, ◌↔◌, [], ◌∷◌, ◌++◌, length, replicate, slice_set, false, None, IsTrue, OnOk, IfOk, IfErr};
+    ghost use Rattle.std.specs.Prelude.{◌≡◌, ◌<◌, ◌≤◌, ◌↔◌, [], ◌∷◌, ◌++◌, length, replicate, slice_set, false, IsTrue, OnOk, IfOk, IfErr};
     ghost use Rattle.ob_rights.specs.declared.fault.Fault.TheVariants.{Memory};
     ghost use Rattle.pin_core.specs.declared.word.Phase.TheVariants.{Free, Live, Closing};
     ghost use Rattle.pin_core.specs.Shapes.{IsWithinLimits};
@@ -48,13 +50,13 @@ impl LockedPins {
     ghost use Rattle.pin_core.specs.Holds.{tally, same_id};
     ghost use Rattle.pin_core.specs.Worlds.{opening_slot, slot_of};
     ghost use Rattle.pin_words.specs.Views.{sits};
-    ghost use Rattle.pin_words.specs.Keepers.{locked, with_slots, with_held, word_of, stored, published, closed, released, Tries, ReclaimsLocked};
+    ghost use Rattle.pin_words.specs.Keepers.{locked, with_slots, with_published, with_held, word_of, stored, published, closed, released, Tries, ReclaimsLocked};
 
     /// New pins: each slot is free at generation 1 with the descriptor of an event that is reset by itself, and
     /// nothing is held. [`Fault::Memory`] (8) where memory ran out.
     pub fn new(alloc: Global, shape: Shape) -> Result<LockedPins, Fault>
         requires { IsWithinLimits shape }
-        ensures ok { IfOk result (λ p. p ≡ locked shape (replicate shape.slots opening_slot) []) }
+        ensures ok { IfOk result (λ p. p ≡ locked shape (replicate shape.slots opening_slot) [] []) }
         ensures err { IfErr result (λ e. e ≡ Memory) }
     {
         let Ok(slots) = vec![in alloc; Slot::opening(); shape.slots as usize] else {
@@ -63,6 +65,7 @@ impl LockedPins {
         Ok(LockedPins {
             shape,
             slots,
+            published: Published::new(),
             held: ArrayVec::new(),
         })
     }
@@ -156,6 +159,11 @@ impl LockedPins {
         ensures { self.new ≡ published self.old slot }
     {
         let was = self.slot(slot);
+        let id = Id {
+            slot,
+            generation: was.generation,
+        };
+        self.list(&id, &was.descr);
         self.set_slot(
             slot,
             Slot {
@@ -209,10 +217,17 @@ impl LockedPins {
 
     fn set_slot(&mut self, slot: u32, to: Slot)
         requires { slot < self.old.shape.slots }
-        ensures set { self.new ≡ with_slots self.old (slice_set self.old.slots slot to) }
-        ensures unlisted { self.old.published ≡ None }
+        ensures { self.new ≡ with_slots self.old (slice_set self.old.slots slot to) }
     {
         self.slots[slot as usize] = to;
+    }
+
+    // What was published has one Id more, which costs nothing at run time.
+    #[inline(always)]
+    fn list(&mut self, id: &Id, descr: &Descr)
+        ensures { self.new ≡ with_published self.old (self.old.published ++ (id.now, descr.now) ∷ []) }
+    {
+        self.published = self.published.and(id, descr);
     }
 
     fn is_full(&self) -> bool

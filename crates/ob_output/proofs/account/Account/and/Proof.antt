@@ -24,7 +24,7 @@ use denote.Triple.Entry.{alive}
 use denote.Triple.Spec.{Meets, triple_of}
 use denote.Triple.Table.{entered}
 use denote.Triple.Walked.{says, Stays, stay_dropped, walk_of, ends_at, walk_Meets, Goes-dropped}
-use Rattle.ob_manager.proofs.Fieldless.{empty_value, owns_empty}
+use Rattle.pin_words.proofs.Fieldless.{empty_value, owns_empty}
 use Rattle.ob_output.specs.Accounts.{and_moved}
 use Rattle.ob_output.specs.contracts.account.Account as Account
 use Rattle.ob_output.specs.contracts.account.Moved as Moved
