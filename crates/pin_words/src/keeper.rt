@@ -194,8 +194,8 @@ impl<'a> Keeper<'a> {
     }
 
     /// One look at the slot for a reader of the same pins, whose seat is joined to the keeper's meanwhile: what
-    /// the reader holds there is the keeper's present slot, and the notes are of what was published. One load;
-    /// that seats are joined and parted costs nothing more.
+    /// the reader holds there is the keeper's present slot, and the notes are of what was published. Beside the
+    /// look there are three more loads, by which the seats are joined and parted.
     pub fn meet(&mut self, reader: &mut Reader<'a>, slot: u32)
         requires slot { slot < self.old.view.shape.slots }
         requires same { reader.old.table ≡ self.old.table }

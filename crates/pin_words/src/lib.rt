@@ -1,9 +1,10 @@
 //! The running pins: two words a slot, one keeper, and readers that pin slots without a lock.
 //!
 //! A [`Reader`] pins an Id by one look at the slot's word and one exchange, so that the object stays where it
-//! is until the reader releases it; the [`Keeper`] gives a slot up, and reclaims it once nobody holds it. Each
-//! call, or each try of [`Reader::pin`], is at most two atomic steps, and each step is one event of `pin_core`:
-//! [`law_of_steps`] ties them.
+//! is until the reader releases it; the [`Keeper`] gives a slot up, and reclaims it once nobody holds it. A try to
+//! pin is one look and at most one exchange, [`Keeper::meet`] makes four loads, of which one is a look, and each
+//! other call is at most one atomic step. A step is one event of `pin_core`, or leaves the world as it is where it
+//! only gives, joins or parts seats: [`law_of_steps`] ties them.
 //! [`LockedPins`] is the same for one holder under a lock, with plain counts, and [`PinKeeper`] what is said of
 //! both keepers.
 //!
