@@ -178,7 +178,7 @@ pub fn duplicate<K: PinKeeper>(
         store.remove_entry(source, handle, entry);
         return Ok(reply_of(answer));
     }
-    // What it says is wanted here: that nothing is left to settle.
+    // Called for its clause: that nothing is left to settle.
     store.kept();
     answer
 }

@@ -1,4 +1,4 @@
-ghost use Rattle.std.specs.Prelude.{◌≡◌, IfErr, IfOk, IfSome, None, length, slice_get, slice_index_or};
+ghost use Rattle.std.specs.Prelude.{◌≡◌, ◌<◌, IfErr, IfOk, IfSome, None, length, slice_get, slice_index_or};
 ghost use Rattle.std.specs.Option.{option_map};
 ghost use Rattle.ob_name.specs.Refs.{row_at};
 ghost use Rattle.pin_words.specs.Keepers.{IsFresh};
@@ -6,7 +6,7 @@ ghost use Rattle.ob_store.specs.Directory.{directory_of};
 ghost use Rattle.ob_store.specs.Consistent.{IsConsistent};
 ghost use Rattle.ob_store.specs.Objects.{object_of, tag_of};
 ghost use Rattle.ob_store.specs.State.{blocks_of, handles_of, hold_of, opening, shape_of};
-ghost use Rattle.ob_store.specs.Stored.{Stands, hold_in};
+ghost use Rattle.ob_store.specs.Stored.{MatchesState, hold_in};
 ghost use Rattle.ob_manager.specs.Makings.{making_of};
 ghost use Rattle.ob_manager.specs.Counting.{card};
 ghost use Rattle.ob_manager.specs.Handles.{resolve};
@@ -73,25 +73,28 @@ impl<K: PinKeeper> Manager<K> {
         self.store.kept();
     }
 
-    /// What is stored, whenever no call is under way: each slot is empty or holds one object; the object's handle count is the
-    /// number of table entries that name it, and its references are these entries, its places in pending waits, and a hold once
-    /// there is neither; and the directory lists just the named objects that have handles.
+    /// What is stored, whenever no call is under way: each slot is empty or holds one object with its body, and there are no
+    /// other slots; the object's handle count is the number of table entries that name it, and its references are these entries,
+    /// its places in pending waits, and a hold once there is neither; the directory lists just the named objects that have
+    /// handles; and each object's Id is published with its descriptor.
     pub fn stored(&self) -> Stored<'_, K>
-        ensures { Stands self.now.state result }
+        ensures { MatchesState self.now result }
     {
         self.store.stored()
     }
 
-    /// What a slot holds, as it is stored: its handles are the entries that name the object, its blocks the places of pending
-    /// waits that do, and it has a hold once there is neither.
+    /// What a slot holds, as it is stored: the object and its body; its handles are the entries that name the object, its blocks
+    /// the places of pending waits that do, and it has a hold once there is neither.
     pub fn slot(&self, slot: u32) -> Option<Found<'_>>
         ensures object { slice_index_or self.now.state.objects slot None ≡ option_map (λ found. object_of found.seat.now (tag_of found.label.now found.name.now)) result }
         ensures place { IfSome result (λ found. found.seat.now.id.slot ≡ slot) }
+        ensures body { IfSome result (λ found. slice_index_or self.now.state.bodies slot None ≡ found.seat.now.body) }
+        ensures within { IfSome result (λ found. slot < self.now.state.limits.slots) }
         ensures handles { IfSome result (λ found. found.seat.now.handles ≡ handles_of self.now.state found.seat.now.id) }
         ensures blocks { IfSome result (λ found. found.seat.now.blocks ≡ blocks_of self.now.state found.seat.now.id) }
         ensures hold { IfSome result (λ found. hold_in found.seat.now.body ≡ hold_of self.now.state found.seat.now.id) }
     {
-        // What it says is wanted here.
+        // For `hold`: that an object has a body just where something refers to it.
         self.store.kept();
         self.store.object(slot)
     }
@@ -573,7 +576,8 @@ impl<K: PinKeeper> Manager<K> {
 }
 
 /// The reply of a body's answer.
-// It names the parts of each reply, so that these are handed over one by one, and not as bytes that were just written in parts.
+// It names the parts of most replies, so that these are handed over one by one, and not as bytes that were just written in parts.
+// `Flags`, `Reaped` and `CountsAre` are handed over whole.
 #[inline(always)]
 pub(crate) fn reply_of(answer: Result<Reply, Fault>) -> Reply
     ensures { result ≡ reply_of answer }

@@ -251,7 +251,7 @@ fn wait_on<K: PinKeeper>(
     ensures gives { GivesOrLacks result store.old store.new (wait_on store.old.state thread mode timeout ids.now) }
     ensures memory { result ≡ Err Fault.Memory → becomes_pending (wait_on store.old.state thread mode timeout ids.now) ≡ true }
 {
-    // What it says is wanted here: that an object's slot has no other object.
+    // Called for its clause: that an object's slot has no other object.
     store.kept();
     if is_for_one_twice(mode, ids) {
         return Err(Fault::Parameter);

@@ -137,7 +137,7 @@ impl Directory {
         ensures len { result ≡ length self.now.rows }
         ensures distinct { AreDistinct self.now.rows }
     {
-        // What it says is wanted here: that no name stands twice.
+        // Called for its clause: that no name stands twice.
         let _ = self.ids.len();
         self.count
     }

@@ -1,5 +1,6 @@
 -- What a store keeps, told of its state.
-use Rattle.std.proofs.Common.{◌+◌, length, refl, ◌∙◌, subst, ltb}
+use Rattle.std.proofs.Common.{ap, ◌+◌, length, refl, ◌∙◌, subst, ltb}
+use Rattle.pin_core.specs.declared.shape.Shape.{Shape}
 use Rattle.ob_name.specs.Listing.{Rows, AreDistinct}
 use Rattle.ob_tables.specs.Tables.{HandleTables}
 use Rattle.ob_waits.specs.Deadlines.{AreAhead}
@@ -22,6 +23,7 @@ consistent limits l ts o ws rows kept tied waits ahead = record {
   slots = tied.agreed.each;
   shape = kept.limited.shape_is;
   generations = refl;
+  sizes = (let is = ap (λ (x : Shape). x.slots) kept.limited.shape_is in (tied.agreed.long ∙ is, tied.agreed.bodied ∙ is, tied.agreed.marked ∙ is, tied.agreed.wide ∙ is));
   published = tied.listed;
   born = tied.born;
   named = kept.named;

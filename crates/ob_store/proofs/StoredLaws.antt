@@ -1,10 +1,14 @@
 -- What a store keeps, told of what is stored.
-use Rattle.std.proofs.Common.{◌≡◌, ◌<◌, ◌+◌, ℕ, Option, Some, None, refl, ap, ◌∙◌, sym, subst, arith, get_or, true, false, cond, eqb, ltb}
+use Rattle.std.proofs.Common.{◌≡◌, ◌<◌, ◌+◌, ℕ, length, Option, Some, None, refl, ap, ◌∙◌, sym, subst, arith, get_or, true, false, cond, eqb, ltb, inl, inr}
 use Rattle.std.specs.Prelude.{◌↔◌, is_some}
 use Rattle.std.specs.List.{Contains}
+use Rattle.std.proofs.lemmas.List.{get_or_past}
 use Rattle.std.proofs.lemmas.List.Elements.{All-contains}
+use Rattle.std.proofs.lemmas.Bool.{cases_lt}
 use Rattle.std.proofs.lemmas.Bool.Decides.{nat_tests}
 use Rattle.pin_core.specs.declared.id.Id.{Id}
+use Rattle.pin_core.specs.declared.shape.Shape.{Shape}
+use Rattle.pin_core.specs.Worlds.{slot_of}
 use Rattle.ob_body.specs.declared.body.Body.{Body}
 use Rattle.ob_name.specs.Names.{ObjectName}
 use Rattle.ob_name.specs.Listing.{Rows}
@@ -14,11 +18,12 @@ use Rattle.ob_waits.specs.Waits.{WaitList}
 use Rattle.ob_store.specs.declared.limits.Limits.{Limits}
 use Rattle.ob_store.specs.Lives.{LivesState}
 use Rattle.ob_store.specs.Objects.{Object, ObjectsState}
-use Rattle.ob_store.specs.Agreement.{IsTied}
+use Rattle.ob_store.specs.Agreement.{Agrees, IsTied}
 use Rattle.ob_store.specs.Directory.{rows_of}
-use Rattle.ob_store.specs.State.{state_of, hold_of}
+use Rattle.ob_store.specs.State.{state_of, whole_of, hold_of}
 use Rattle.ob_store.specs.Kept.{IsKept}
-use Rattle.ob_store.specs.Stored.{IsOpenByName, Stands, hold_in}
+use Rattle.ob_store.specs.Stored.{IsOpenByName, MatchesState, hold_in}
+use Rattle.ob_store.proofs.CountedLaws.{handles_long, blocks_long}
 use Rattle.ob_store.proofs.DirectoryLaws.{IsRow, has_handles, rows_are, row_there}
 use Rattle.ob_store.proofs.ListingLaws.{placed_agreed}
 use Rattle.ob_store.proofs.PlacedLaws.{own_handles, own_blocks}
@@ -62,13 +67,30 @@ module _ (limits : Limits) (l : LivesState) (ts : HandleTables) (o : ObjectsStat
     open_row name id,
   )
 
-  pub stands : Stands (state_of limits l ts o ws) (record { objects = o.objects; seen = o.seen; rows = rows })
-  stands = record {
-    slots = (refl, λ k x at. placed_agreed o tied.agreed k x at);
-    counts = λ k x at. own_handles limits l ts o ws rows kept tied k x at;
-    references = λ k x at. (own_blocks limits l ts o ws rows kept tied k x at, held k x at);
-    directory = (
-      subst (λ (rs : Rows). (name : ObjectName) (id : Id) → Contains rs (name, id) ↔ IsOpenByName (state_of limits l ts o ws) name id) (sym kept.listing.same) listed,
-      kept.listing.distinct,
-    );
-  }
+  -- a slot without an object has no body
+  unbodied : (k : ℕ) → get_or o.objects k None ≡ None → get_or o.seen.bodies k None ≡ None
+  unbodied k none = elim (cases_lt k o.keeper.shape.slots) [
+    | inl lt ↦ (subst (λ (x : Option Object). Agrees k x (get_or o.seen.bodies k None) (get_or o.retired k false) (slot_of o.keeper.slots k)) none (tied.agreed.each k lt)).0
+    | inr past ↦ get_or_past o.seen.bodies k None (omega (arith, past, tied.agreed.bodied))
+  ]
+
+  pub matches_state : MatchesState (whole_of limits l ts o ws) (record { objects = o.objects; seen = o.seen; rows = rows })
+  matches_state =
+      let is = ap (λ (x : Shape). x.slots) kept.limited.shape_is in
+      let long = tied.agreed.long ∙ is in
+      record {
+        sizes = (long, tied.agreed.bodied ∙ is, handles_long o.seen (length o.objects) ts.tables ws.waits kept.counted ∙ long, blocks_long o.seen (length o.objects) ts.tables ws.waits kept.counted ∙ long);
+        slots = (refl, λ k x at. placed_agreed o tied.agreed k x at);
+        bodies = (refl, unbodied);
+        counts = λ k x at. own_handles limits l ts o ws rows kept tied k x at;
+        references = λ k x at.
+            let h = own_handles limits l ts o ws rows kept tied k x at in
+            let b = own_blocks limits l ts o ws rows kept tied k x at in
+            let e = held k x at in
+            (b, e, (λ i. h i + b i + e i));
+        directory = (
+          subst (λ (rs : Rows). (name : ObjectName) (id : Id) → Contains rs (name, id) ↔ IsOpenByName (state_of limits l ts o ws) name id) (sym kept.listing.same) listed,
+          kept.listing.distinct,
+        );
+        published = tied.listed;
+      }

@@ -1,4 +1,4 @@
--- The slots whose mutexes a call abandoned, for the settling behind it.
+-- The slots whose mutexes a call abandoned, or whose timers it fired, for the settling behind it.
 use Rattle.std.specs.Prelude.{◌≡◌, ◌<◌, ℕ, Bool, true, false, List, [], Option, None, length, slice_index_or}
 use Rattle.pin_core.specs.declared.id.Id.{Id}
 use Rattle.ob_body.specs.declared.body.Body.{Body}

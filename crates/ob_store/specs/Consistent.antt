@@ -16,6 +16,8 @@ pub record IsConsistent (w : Whole) : Type 0 where
   -- slot by slot: free, or given up, or with one object of the slot's Id and descriptor, live with a body and closing without
   pub slots : (k : ℕ) → k < w.keeper.shape.slots → Agrees k (slice_index_or w.state.objects k None) (slice_index_or w.state.bodies k None) (slice_index_or w.state.retired k false) (slot_of w.keeper.slots k)
   pub shape : w.keeper.shape ≡ shape_of w.state.limits
+  -- there are as many slots as the limits say, each with its place in each list, and no others
+  pub sizes : (length w.state.objects ≡ w.state.limits.slots) × (length w.state.bodies ≡ w.state.limits.slots) × (length w.state.retired ≡ w.state.limits.slots) × (length w.keeper.slots ≡ w.state.limits.slots)
   -- the generations are the keeper's
   pub generations : w.state.generations ≡ map generation_of w.keeper.slots
   -- each object's Id is published with its descriptor

@@ -5,7 +5,9 @@ use pin_core::Id;
 use std::alloc::{AllocError, Global};
 use std::marker::Model;
 
-/// The slots whose mutexes a call abandoned, as long as there is room for them.
+/// The slots in which a call may have made something signaled: those of the mutexes that it abandoned, or of the timers that it
+/// fired. They are listed as long as there is room; once one isn't, the list is not whole, and the waits settle by a pass over
+/// all of them.
 #[derive(Drop)]
 pub(crate) struct Abandoned {
     ids: Vec<Id>,
@@ -39,21 +41,16 @@ impl Abandoned {
         self.is_whole = true;
     }
 
-    /// One more, or without room for it not all any more.
+    /// One more, or without room for it not all any more. It takes no memory.
     pub(crate) fn add(&mut self, id: Id)
         ensures added { self.new.whole ≡ true → self.new.ids ≡ self.old.ids ++ id ∷ [] }
         ensures before { self.new.whole ≡ true → self.old.whole ≡ true }
     {
-        if self.ids.push(id).is_err() {
+        if self.ids.len() < self.ids.capacity() {
+            self.ids.push_reserved(id);
+        } else {
             self.is_whole = false;
         }
-    }
-
-    /// There are others.
-    pub(crate) fn miss(&mut self)
-        ensures { self.new ≡ record self.old { whole = false } }
-    {
-        self.is_whole = false;
     }
 
     /// Whether all are there.

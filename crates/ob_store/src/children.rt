@@ -14,7 +14,7 @@ impl<K: PinKeeper> Store<K> {
         ensures ok { OnOk result (self.new ≡ record self.old { state = settled (with_child self.old.state parent session) }) }
         ensures err { OnErr result (self.new ≡ self.old) }
     {
-        // What it says is wanted here, before and after.
+        // Called for its clause, before and after the change.
         self.objects.kept();
         self.lives.add_process(session)?;
         match self.tables.copy_inheritable(parent) {

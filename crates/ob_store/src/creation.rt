@@ -32,7 +32,7 @@ pub struct Creation {
     pub grant: Rights,
     /// The rights of the handle.
     pub rights: Rights,
-    /// What may be done with the handle.
+    /// Whether a child inherits the handle, and whether it is protected from close.
     pub flags: HandleFlags,
 }
 
@@ -53,7 +53,7 @@ impl<K: PinKeeper> Store<K> {
         ensures memory { IfErr result (λ fault. fault ≡ Memory) }
         ensures err { OnErr result (self.new ≡ self.old) }
     {
-        // What it says is wanted here, before and after: that nothing refers to a slot without a body.
+        // Called for its clause, before and after: that nothing refers to a slot without a body.
         self.objects.kept();
         let entry = Entry {
             id: self.objects.id_at(slot),

@@ -67,7 +67,7 @@ fn note_all<K: PinKeeper>(objects: &Objects<K>, abandoned: &mut Abandoned, threa
     if objects.owns_none(thread) {
         return;
     }
-    // What it says is wanted here: that there are as many bodies as slots.
+    // Called for its clause: that there are as many bodies as slots.
     objects.kept();
     for slot in 0..objects.slots() {
         note_at(objects, abandoned, thread, slot);
@@ -190,7 +190,7 @@ fn leave_at<K: PinKeeper>(
     ensures way { (first : KeeperState) (s : State) → IsUnderWay first limits lives.now (with_left tables.now process places.now place) objects.old waits.now names.old.rows s → IsUnderWay first limits lives.now (with_left tables.now process places.now (place + 1)) objects.new waits.now names.new.rows (record s { tables = (with_left tables.now process places.now (place + 1)).tables }) }
     ensures sound { IsSound limits lives.now (with_left tables.now process places.now (place + 1)) objects.new waits.now names.new.rows }
 {
-    // What it says is wanted here, before and after.
+    // Called for its clause, before and after the change.
     objects.kept();
     let Some(entry) = places[place] else {
         return;
@@ -303,7 +303,7 @@ impl<K: PinKeeper> Store<K> {
         ensures state { self.new.state ≡ settled (left self.old.state process thread) }
         ensures keeper { OnlyCloses self.old.keeper self.new.keeper }
     {
-        // What it says is wanted here.
+        // Called for its clause.
         self.objects.kept();
         self.abandoned.clear();
         end_one(
@@ -336,7 +336,7 @@ impl<K: PinKeeper> Store<K> {
         ensures state { self.new.state ≡ settled (exited self.old.state process) }
         ensures keeper { OnlyCloses self.old.keeper self.new.keeper }
     {
-        // What it says is wanted here.
+        // Called for its clause.
         self.objects.kept();
         self.abandoned.clear();
         end_all(

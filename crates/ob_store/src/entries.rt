@@ -29,7 +29,7 @@ impl<K: PinKeeper> Store<K> {
         ensures refusal { IfErr result (λ fault. (fault ≡ Limit) ⊎ (fault ≡ Memory)) }
         ensures err { OnErr result (self.new ≡ self.old) }
     {
-        // What it says is wanted here, before and after.
+        // Called for its clause, before and after the change.
         self.objects.kept();
         match self.tables.place(process, entry) {
             Ok(value) => {
@@ -48,7 +48,7 @@ impl<K: PinKeeper> Store<K> {
         ensures state { self.new.state ≡ settled (without_entry self.old.state process handle) }
         ensures keeper { OnlyCloses self.old.keeper self.new.keeper }
     {
-        // What it says is wanted here, before and after.
+        // Called for its clause, before and after the change.
         self.objects.kept();
         let _ = self.tables.remove(process, handle);
         self.objects.handle_left(entry.id.slot);
@@ -61,7 +61,7 @@ impl<K: PinKeeper> Store<K> {
         requires { IsSome (entry_at (table_of self.old.state.tables process) handle) }
         ensures { self.new ≡ record self.old { state = settled (with_flags self.old.state process handle flags) } }
     {
-        // What it says is wanted here.
+        // Called for its clause.
         self.objects.kept();
         self.tables.set_flags(process, handle, flags);
     }

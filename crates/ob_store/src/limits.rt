@@ -99,7 +99,16 @@ impl Limits {
 }
 
 impl Default for Limits {
-    fn default() -> Limits {
+    fn default() -> Limits
+        ensures slots { result.slots ≡ 64 }
+        ensures processes { result.processes ≡ 64 }
+        ensures threads { result.threads ≡ 256 }
+        ensures handles { result.handles ≡ 1024 }
+        ensures waits { result.waits ≡ 1000000 }
+        ensures max_pins { result.max_pins ≡ 1073741823 }
+        ensures max_gen { result.max_gen ≡ 4294967295 }
+        ensures max_recursion { result.max_recursion ≡ 2147483647 }
+    {
         Limits {
             slots: 64,
             processes: 64,

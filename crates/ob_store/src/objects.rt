@@ -234,24 +234,12 @@ impl<K: PinKeeper> Objects<K> {
         self.seats.owns_none(thread)
     }
 
-    /// The mutexes of a thread that are listed are abandoned: all that it owns, unless the list is wrong or the thread isn't
-    /// counted.
-    pub fn abandon_listed(&mut self, thread: u32)
-        ensures seen { record self.new.seen { bodies = map (slot_left_by thread) self.new.seen.bodies } ≡ record self.old.seen { bodies = map (slot_left_by thread) self.old.seen.bodies } }
-        ensures rest { kept_rest self.new ≡ kept_rest self.old }
-    {
-        for _ in 0..self.seats.owned(thread) {
-            let slot = self.seats.hint(thread);
-            self.abandon_at(slot, thread);
-        }
-    }
-
     /// The mutexes that a thread owns are abandoned, by a pass over the slots up to the last of them.
     fn abandon_all(&mut self, thread: u32)
         ensures seen { self.new.seen ≡ record self.old.seen { bodies = map (slot_left_by thread) self.old.seen.bodies } }
         ensures rest { kept_rest self.new ≡ kept_rest self.old }
     {
-        // What it says is wanted here: that there are as many bodies as slots.
+        // Called for its clause: that there are as many bodies as slots.
         self.kept();
         for slot in 0..self.slots() {
             if self.owns_none(thread) {
@@ -267,7 +255,10 @@ impl<K: PinKeeper> Objects<K> {
         ensures seen { self.new.seen ≡ record self.old.seen { bodies = map (slot_left_by thread) self.old.seen.bodies } }
         ensures rest { kept_rest self.new ≡ kept_rest self.old }
     {
-        self.abandon_listed(thread);
+        for _ in 0..self.seats.owned(thread) {
+            let slot = self.seats.hint(thread);
+            self.abandon_at(slot, thread);
+        }
         self.abandon_all(thread);
     }
 

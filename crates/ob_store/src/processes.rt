@@ -13,7 +13,7 @@ impl<K: PinKeeper> Store<K> {
         ensures ok { OnOk result (self.new ≡ record self.old { state = settled (with_process self.old.state session) }) }
         ensures err { OnErr result (self.new ≡ self.old) }
     {
-        // What it says is wanted here.
+        // Called for its clause.
         self.objects.kept();
         self.lives.add_process(session)?;
         match self.tables.add_process() {
@@ -32,7 +32,7 @@ impl<K: PinKeeper> Store<K> {
         ensures ok { OnOk result (self.new ≡ record self.old { state = settled (with_thread self.old.state process) }) }
         ensures err { OnErr result (self.new ≡ self.old) }
     {
-        // What it says is wanted here.
+        // Called for its clause.
         self.objects.kept();
         self.lives.add_thread(process)?;
         Ok(())

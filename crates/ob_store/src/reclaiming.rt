@@ -15,7 +15,7 @@ impl<K: PinKeeper> Store<K> {
         ensures kind { Reclaims self.old.keeper slot result self.new.keeper }
         ensures exact { K.reclaims self.old.keeper slot result self.new.keeper }
     {
-        // What it says is wanted here, before and after: that no reference is left to an ended object.
+        // Called for its clause, before and after: that no reference is left to an ended object.
         self.objects.kept();
         let answer = self.objects.reclaim(slot);
         self.objects.kept();

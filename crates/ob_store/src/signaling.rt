@@ -21,7 +21,7 @@ impl<K: PinKeeper> Store<K> {
         ensures state { self.new.state ≡ settled (with_body self.old.state id new) }
         ensures keeper { OnlyCloses self.old.keeper self.new.keeper }
     {
-        // What it says is wanted here, before and after.
+        // Called for its clause, before and after the change.
         self.objects.kept();
         let blocks = self.objects.blocks(id.slot);
         self.objects.put(id, new);
@@ -55,7 +55,7 @@ impl<K: PinKeeper> Store<K> {
         ensures state { self.new.state ≡ settled (with_body self.old.state id new) }
         ensures keeper { OnlyCloses self.old.keeper self.new.keeper }
     {
-        // What it says is wanted here, before and after.
+        // Called for its clause, before and after the change.
         self.objects.kept();
         self.objects.put(id, new);
         self.objects.kept();

@@ -174,7 +174,7 @@ impl<K: PinKeeper> Store<K> {
         requires { is_vacant_at (vacancy self.now.state) slot ≡ true }
         ensures { result ≡ id_at self.now.state slot }
     {
-        // What it says is wanted here: that the keeper has the slot.
+        // Called for its clause: that the keeper has the slot.
         self.objects.kept();
         self.objects.id_at(slot)
     }
@@ -188,7 +188,7 @@ impl<K: PinKeeper> Store<K> {
         ensures id { IfSome result (λ found. found.seat.now.id.slot ≡ slot) }
         ensures within { IfSome result (λ found. slot < self.now.state.limits.slots) }
     {
-        // What it says is wanted here: that the object has the Id of its slot.
+        // Called for its clause: that the object has the Id of its slot.
         self.objects.kept();
         self.objects.look(slot)
     }
@@ -205,7 +205,7 @@ impl<K: PinKeeper> Store<K> {
         ensures value { result ≡ find_name (name_at name.now) (directory_of self.now.state) }
         ensures handled { IfSome result (λ id. 0 < handles_of self.now.state id) }
     {
-        // What it says is wanted here.
+        // Called for its clause.
         self.objects.kept();
         self.names.find(name)
     }

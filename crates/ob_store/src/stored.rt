@@ -1,7 +1,7 @@
 ghost use Rattle.std.specs.Prelude.{◌≡◌, IfSome, None, slice_index_or};
 ghost use Rattle.std.specs.Option.{option_map};
 ghost use Rattle.ob_store.specs.Objects.{object_of, tag_of};
-ghost use Rattle.ob_store.specs.Stored.{Stands};
+ghost use Rattle.ob_store.specs.Stored.{MatchesState};
 
 use crate::found::Found;
 use crate::objects::Objects;
@@ -45,12 +45,12 @@ impl<'a, K: PinKeeper> Stored<'a, K> {
 }
 
 impl<K: PinKeeper> Store<K> {
-    /// What is stored, and what that is whenever no call is under way.
-    #[tactic(auto, using(crate::proofs::StoredLaws::stands))]
+    /// What is stored, which is what the state and the keeper say whenever no call is under way.
+    #[tactic(auto, using(crate::proofs::StoredLaws::matches_state))]
     pub fn stored(&self) -> Stored<'_, K>
-        ensures { Stands self.now.state result }
+        ensures { MatchesState self.now result }
     {
-        // What it says is wanted here.
+        // Called for its clause.
         self.objects.kept();
         Stored {
             objects: &self.objects,

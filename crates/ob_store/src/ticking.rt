@@ -40,7 +40,7 @@ impl<K: PinKeeper> Store<K> {
     {
         self.abandoned.clear();
         fire_all(&mut self.objects, &mut self.abandoned, now);
-        // What it says is wanted here.
+        // Called for its clause.
         self.objects.kept();
         settle(&mut self.objects, &mut self.waits, &self.abandoned);
     }
@@ -73,7 +73,7 @@ impl<K: PinKeeper> Store<K> {
         ensures state { self.new.state ≡ settled (lapsed now self.old.state) }
         ensures keeper { OnlyCloses self.old.keeper self.new.keeper }
     {
-        // What it says is wanted here, each time.
+        // Called for its clause, each time.
         self.kept();
         while let Some(wait) = self.overdue(now) {
             self.expire(wait);

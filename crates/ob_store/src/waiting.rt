@@ -34,7 +34,7 @@ impl<K: PinKeeper> Store<K> {
         ensures none { IfNone result (self.new ≡ self.old) }
         ensures keeper { OnlyCloses self.old.keeper self.new.keeper }
     {
-        // What it says is wanted here, before and after.
+        // Called for its clause, before and after the change.
         self.objects.kept();
         let code = try_now(&mut self.objects, thread, mode, ids);
         self.objects.kept();
@@ -64,7 +64,7 @@ impl<K: PinKeeper> Store<K> {
         ensures memory { IfErr result (λ fault. are_waits_given self.old.state ≡ false → fault ≡ Memory) }
         ensures err { OnErr result (self.new ≡ self.old) }
     {
-        // What it says is wanted here, before and after.
+        // Called for its clause, before and after the change.
         self.objects.kept();
         match self.waits.add(thread, mode, ids, deadline) {
             Ok(number) => {
@@ -82,7 +82,7 @@ impl<K: PinKeeper> Store<K> {
         ensures state { self.new.state ≡ settled (with_answer self.old.state wait WAIT_TIMEOUT) }
         ensures keeper { OnlyCloses self.old.keeper self.new.keeper }
     {
-        // What it says is wanted here, before and after.
+        // Called for its clause, before and after the change.
         self.objects.kept();
         let Some((_, ids)) = self.waits.look(wait) else {
             unreachable!()
@@ -98,7 +98,7 @@ impl<K: PinKeeper> Store<K> {
         ensures code { code_at (slice_index_or self.old.state.waits wait None) ≡ Some result }
         ensures over { self.new ≡ record self.old { state = settled (without_wait self.old.state wait) } }
     {
-        // What it says is wanted here.
+        // Called for its clause.
         self.objects.kept();
         self.waits.take_result(wait)
     }

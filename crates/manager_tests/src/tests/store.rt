@@ -164,7 +164,7 @@ enum Act {
     Take(u32, u32, bool),
     /// A thread releases the mutex of a slot, where it owns it.
     Release(u32, u32, bool),
-    /// The mutexes that are listed for a thread are abandoned.
+    /// The mutexes of a thread are abandoned.
     Abandon(u32),
     OwnsNone(u32, bool),
     /// The slot of an ended object is taken back.
@@ -185,7 +185,7 @@ fn play_one<K: PinKeeper>(rt: &impl Abort, objects: &mut Objects<K>, act: Act) {
         Act::Release(thread, slot, released) => {
             same(rt, has_released(objects, thread, slot), released);
         }
-        Act::Abandon(thread) => objects.abandon_listed(thread),
+        Act::Abandon(thread) => objects.abandon(thread),
         Act::OwnsNone(thread, none) => same(rt, objects.owns_none(thread), none),
         Act::Reclaim(slot, outcome) => same(rt, reclaimed(objects, slot), outcome),
     }

@@ -1,7 +1,7 @@
 use Rattle.std.proofs.Common.{◌≡◌, map}
 use Rattle.ob_store.specs.Ends.{slot_left_by}
 use Rattle.ob_store.specs.Objects.{kept_rest}
-use Rattle.ob_store.proofs.objects.Objects.abandon_listed.Given as goal
+use Rattle.ob_store.proofs.objects.Objects.abandon.Given as goal
 
 abbrev pub invariant-loop : goal.invariant-loop
 invariant-loop g l = record {

@@ -1,6 +1,6 @@
 use Rattle.std.proofs.Common.{◌∙◌}
 use Rattle.ob_store.proofs.OwnerLaws.{left_before}
-use Rattle.ob_store.proofs.objects.Objects.abandon_listed.Goals as goal
+use Rattle.ob_store.proofs.objects.Objects.abandon.Goals as goal
 
 pub loop-preserved : goal.loop-preserved
 loop-preserved g c = record {
