@@ -1,13 +1,13 @@
 -- A member's answers grow at their end.
-use Rattle.std.proofs.Common.{◌≡◌, ℕ, ◌+◌, ◌<◌, List, [], ◌∷◌, ◌++◌, length, take, get_or, refl, sym, subst, inl, inr, arith}
+use Rattle.std.proofs.Common.{◌≡◌, ℕ, ◌+◌, ◌<◌, List, [], ◌∷◌, ◌++◌, length, length-append, take, get_or, refl, sym, subst, inl, inr, arith, ◌∙◌}
 use Rattle.std.proofs.lemmas.Bool.{cases_lt}
-use Rattle.std.proofs.lemmas.List.{take_more}
+use Rattle.std.proofs.lemmas.List.{take_more, get_or_append_left, get_or_push}
 use Rattle.std.proofs.Math.Seq.{take-length}
 use Rattle.ob_shared.specs.declared.act.Act.{Act}
 use Rattle.ob_shared.specs.declared.act.Seen.{Seen}
 use Rattle.ob_shared.specs.declared.act.Seen.TheVariants.{Stopped}
 use Rattle.ob_shared.specs.declared.gate.Pass.TheVariants.{Go, Stop}
-use Rattle.ob_shared.specs.Members.{Answers, Between, Goes, IsRun, Passes}
+use Rattle.ob_shared.specs.Members.{Answers, AreTold, Between, Goes, IsRun, Passes, Tells}
 
 goes_more : (acts : List Act) (xs : List Seen) (a : Act) (x : Seen) (s t u : Between) → Goes acts xs s t → Answers a x t u → Goes (acts ++ a ∷ []) (xs ++ x ∷ []) s u
 goes_more [] [] a x s t u go new = (u, subst (λ (z : Between). Answers a x z u) go new, refl)
@@ -27,12 +27,32 @@ passed_more may i before now k inside = elim (cases_lt k i) [
   | inr past ↦ subst (λ (n : ℕ). may n Go) (omega (arith, inside, past)) now
 ]
 
-pub run_stopped : (may : Passes) (script : List Act) (i : ℕ) (xs : List Seen) (s t : Between) → i < length script → ((k : ℕ) → k < i → may k Go) → may i Stop → Goes (take i script) xs s t
-    → IsRun may script (xs ++ Stopped ∷ []) s t
-run_stopped may script i xs s t inside passed stopped go = inr (record { at = i; answers = xs; within = inside; passed = passed; stopped = stopped; goes = go; ends = refl })
+pub told_none : (told : Tells) → AreTold told []
+told_none told = record { at = λ place d inside. absurd (omega (arith, inside)) }
 
-pub run_whole : (may : Passes) (script : List Act) (i : ℕ) (xs : List Seen) (s t : Between) → i ≡ length script → ((k : ℕ) → k < i → may k Go) → Goes (take i script) xs s t → IsRun may script xs s t
-run_whole may script i xs s t ends passed go = inl (record {
+-- the gate was told of one answer more
+pub told_more : (told : Tells) (xs : List Seen) (x : Seen) (i : ℕ) → i ≡ length xs → AreTold told xs → told i x → AreTold told (xs ++ x ∷ [])
+told_more told xs x i ends before now = record { at = at }
+  where
+    at : (k : ℕ) (d : Seen) → k < length (xs ++ x ∷ []) → told k (get_or (xs ++ x ∷ []) k d)
+    at k d inside = elim (cases_lt k i) [
+      | inl below ↦
+          let short : k < length xs = omega (arith, below, ends) in
+          subst (λ (y : Seen). told k y) (sym (get_or_append_left xs (x ∷ []) d k short)) (before.at k d short)
+      | inr past ↦
+          let last : i ≡ k = omega (arith, past, ends, inside, length-append xs (x ∷ [])) in
+          subst (λ (y : Seen). told k y) (sym (get_or_push xs x d k (sym ends ∙ last))) (subst (λ (n : ℕ). told n x) last now)
+    ]
+
+pub run_stopped : (may : Passes) (told : Tells) (script : List Act) (i : ℕ) (xs : List Seen) (s t : Between) → i < length script → ((k : ℕ) → k < i → may k Go) → may i Stop → AreTold told xs
+    → Goes (take i script) xs s t → IsRun may told script (xs ++ Stopped ∷ []) s t
+run_stopped may told script i xs s t inside passed stopped tells go =
+    inr (record { at = i; answers = xs; within = inside; passed = passed; stopped = stopped; goes = go; tells = tells; ends = refl })
+
+pub run_whole : (may : Passes) (told : Tells) (script : List Act) (i : ℕ) (xs : List Seen) (s t : Between) → i ≡ length script → ((k : ℕ) → k < i → may k Go) → AreTold told xs
+    → Goes (take i script) xs s t → IsRun may told script xs s t
+run_whole may told script i xs s t ends passed tells go = inl (record {
   passed = λ k inside. passed k (subst (λ (n : ℕ). k < n) (sym ends) inside);
   goes = subst (λ (acts : List Act). Goes acts xs s t) (rw ends (take-length script)) go;
+  tells = tells;
 })

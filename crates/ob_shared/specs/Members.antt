@@ -1,5 +1,5 @@
 -- What a member's acts are answered with.
-use Rattle.std.specs.Prelude.{◌≡◌, ◌≢◌, ◌⊎◌, ◌<◌, ◌≤◌, ℕ, Bool, true, false, List, [], ◌∷◌, ◌++◌, Option, Some, None, Result, Ok, Err, length, take, vec_capacity}
+use Rattle.std.specs.Prelude.{◌≡◌, ◌≢◌, ◌⊎◌, ◌<◌, ◌≤◌, ℕ, Bool, true, false, List, [], ◌∷◌, ◌++◌, Option, Some, None, Result, Ok, Err, length, take, slice_index_or, vec_capacity}
 use Rattle.ob_rights.specs.declared.fault.Fault.TheVariants.{Memory}
 use Rattle.pin_core.specs.declared.descr.Descr.{Descr}
 use Rattle.pin_core.specs.declared.id.Id.{Id}
@@ -90,23 +90,37 @@ Goes (act ∷ acts) [] s t = ⊥
 abbrev pub Passes : Type 1
 Passes = ℕ → Pass → Type 0
 
--- each act was let pass, and answered
-pub record IsWhole (may : Passes) (script : List Act) (seen : List Seen) (s t : Between) : Type 0 where
+-- what the gate was told of at each place
+abbrev pub Tells : Type 1
+Tells = ℕ → Seen → Type 0
+
+-- told of the place, and not of what was seen there
+abbrev pub of_places : (ℕ → ℕ → Type 0) → ℕ → Tells
+of_places told lane place seen = told lane place
+
+-- the gate was told of each answer
+pub record AreTold (told : Tells) (seen : List Seen) : Type 0 where
+  pub at : (place : ℕ) (d : Seen) → place < length seen → told place (slice_index_or seen place d)
+
+-- each act was let pass, and answered, of which the gate was told
+pub record IsWhole (may : Passes) (told : Tells) (script : List Act) (seen : List Seen) (s t : Between) : Type 0 where
   pub passed : (place : ℕ) → place < length script → may place Go
   pub goes : Goes script seen s t
+  pub tells : AreTold told seen
 
--- each act before a place was let pass, and answered; the member was stopped there
-pub record IsStopped (may : Passes) (script : List Act) (seen : List Seen) (s t : Between) : Type 0 where
+-- so was each act before a place, and the member was stopped there
+pub record IsStopped (may : Passes) (told : Tells) (script : List Act) (seen : List Seen) (s t : Between) : Type 0 where
   pub at : ℕ
   pub answers : List Seen
   pub within : at < length script
   pub passed : (place : ℕ) → place < at → may place Go
   pub stopped : may at Stop
   pub goes : Goes (take at script) answers s t
+  pub tells : AreTold told answers
   pub ends : seen ≡ answers ++ sees.Stopped ∷ []
 
-abbrev pub IsRun : Passes → List Act → List Seen → Between → Between → Type 0
-IsRun may script seen s t = IsWhole may script seen s t ⊎ IsStopped may script seen s t
+abbrev pub IsRun : Passes → Tells → List Act → List Seen → Between → Between → Type 0
+IsRun may told script seen s t = IsWhole may told script seen s t ⊎ IsStopped may told script seen s t
 
 -- it has seen nothing
 abbrev pub IsNew : Member → Type 0
@@ -120,9 +134,9 @@ IsReady m = (m.seen.items ≡ []) × (length m.script.items ≤ vec_capacity m.s
 abbrev pub IsSame : Member → Member → Type 0
 IsSame old new = (new.lane ≡ old.lane) × (new.reader ≡ old.reader) × (new.script ≡ old.script) × (new.seen.items ≡ old.seen.items)
 
--- a member without waits was run, where the gate may answer so in each lane
-pub record IsDriven (may : ℕ → ℕ → Pass → Type 0) (old new : Member) : Type 0 where
+-- a member without waits was run, where the gate may answer so, and is told of this, in each lane
+pub record IsDriven (may : ℕ → ℕ → Pass → Type 0) (told : ℕ → Tells) (old new : Member) : Type 0 where
   pub waits : List ℕ
   pub script : new.script ≡ old.script
   pub number : new.lane.number ≡ old.lane.number
-  pub run : IsRun (may old.lane.number) old.script.items new.seen.items (between old.lane [] old.reader) (between new.lane waits new.reader)
+  pub run : IsRun (may old.lane.number) (told old.lane.number) old.script.items new.seen.items (between old.lane [] old.reader) (between new.lane waits new.reader)

@@ -1,13 +1,16 @@
-ghost use Rattle.std.specs.Prelude.{◌≡◌, ◌↔◌, [], ◌∷◌, ◌++◌, IfOk, IfErr, IsTrue, None, slice_index_or};
+ghost use Rattle.std.specs.Prelude.{◌≡◌, ◌↔◌, [], ◌∷◌, ◌++◌, IfNone, IfOk, IfErr, IfSome, IsTrue, None, slice_index_or};
 ghost use Rattle.ob_rights.specs.declared.fault.Fault.TheVariants.{Memory};
 ghost use Rattle.ob_waits.specs.Waits.{is_pending};
 ghost use Rattle.ob_store.specs.Consistent.{IsConsistent};
 ghost use Rattle.ob_store.specs.State.{opening};
 ghost use Rattle.ob_manager.specs.Counting.{card};
 ghost use Rattle.ob_manager.specs.Steps.{Step};
+ghost use Rattle.ob_shared.specs.Closing.{AreWhole, IsCause};
 ghost use Rattle.ob_shared.specs.Journal.{IsHistory, replay};
 
 use crate::asked::Asked;
+use crate::closing::{CloseCause, cause_of};
+use crate::lane::Lane;
 use ob_manager::{Call, Card, Manager, Reply};
 use ob_rights::Fault;
 use pin_core::Id;
@@ -186,6 +189,15 @@ impl<K: PinKeeper> Book<K> {
     {
         let _ = &self.journal;
         self.manager.kept();
+    }
+
+    /// Why lanes aren't whole beside the journal, where so many numbers were given: the first cause in the order of a stranger, a
+    /// number twice, a number that is missing, and a list that differs. There is none where they are whole.
+    pub fn cause(&self, given: u32, lanes: &[Lane]) -> Option<CloseCause>
+        ensures whole { IfNone result (AreWhole given lanes.now self.now.journal) }
+        ensures cause { IfSome result (λ cause. IsCause given lanes.now self.now.journal cause) }
+    {
+        cause_of(given, lanes, self.journal())
     }
 
     /// The calls, in the order in which they were made.

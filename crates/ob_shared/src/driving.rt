@@ -1,7 +1,7 @@
 ghost use Rattle.std.specs.Prelude.{◌≡◌, ◌<◌, ◌≤◌, ℕ, All, IfOk, IfErr, length, slice_index_or};
 ghost use Rattle.ob_rights.specs.declared.fault.Fault.TheVariants.{Memory};
 ghost use Rattle.ob_shared.specs.declared.member.Member.{Member};
-ghost use Rattle.ob_shared.specs.Members.{IsDriven, IsNew, IsReady, IsSame};
+ghost use Rattle.ob_shared.specs.Members.{IsDriven, IsNew, IsReady, IsSame, of_places};
 
 use crate::gate::Gate;
 use crate::member::{Member, run};
@@ -34,7 +34,7 @@ fn drive_ready<'a, 's, R: Threads + Wait + Sync, G: Gate + Sync>(
     members: &mut [Member<'a>],
 )
     requires { All IsReady members.old }
-    ensures { (i : ℕ) (d : Member) → i < length members.old → IsDriven (G.may_answer gate.now) (slice_index_or members.old i d) (slice_index_or members.new i d) }
+    ensures { (i : ℕ) (d : Member) → i < length members.old → IsDriven (G.may_answer gate.now) (of_places (G.is_told gate.now)) (slice_index_or members.old i d) (slice_index_or members.new i d) }
 {
     if members.is_empty() {
         return;
@@ -46,7 +46,7 @@ fn drive_ready<'a, 's, R: Threads + Wait + Sync, G: Gate + Sync>(
         threads,
         &|_, member|
             requires { IsReady member.now }
-            ensures { IsDriven (G.may_answer gate.entry.now) member.entry.now member.exit.now }
+            ensures { IsDriven (G.may_answer gate.entry.now) (of_places (G.is_told gate.entry.now)) member.entry.now member.exit.now }
         { run(rt, shared, gate, member) },
     );
 }
@@ -64,7 +64,7 @@ pub fn drive<'a, 's, R: Threads + Wait + Sync, G: Gate + Sync>(
 ) -> Result<(), Fault>
     requires new { All IsNew members.old }
     requires few { length members.old ≤ 64 }
-    ensures driven { IfOk result (λ _. (i : ℕ) (d : Member) → i < length members.old → IsDriven (G.may_answer gate.now) (slice_index_or members.old i d) (slice_index_or members.new i d)) }
+    ensures driven { IfOk result (λ _. (i : ℕ) (d : Member) → i < length members.old → IsDriven (G.may_answer gate.now) (of_places (G.is_told gate.now)) (slice_index_or members.old i d) (slice_index_or members.new i d)) }
     ensures memory { IfErr result (λ fault. (fault ≡ Memory) × ((i : ℕ) (d : Member) → i < length members.old → IsSame (slice_index_or members.old i d) (slice_index_or members.new i d))) }
 {
     reserve(members)?;

@@ -4,7 +4,7 @@ ghost use Rattle.ob_shared.specs.Lanes.{Lists};
 ghost use Rattle.ob_shared.specs.Members.{Answers, Blocks, IsDriven, IsReady, between, is_wait, with_wait};
 
 use crate::act::{Act, Seen};
-use crate::gate::{Gate, Pass};
+use crate::gate::{Pass, Passage};
 use crate::lane::Lane;
 use crate::reading::{pin_descr, show, unpin};
 use crate::shared::Shared;
@@ -108,7 +108,7 @@ fn answer<'a, 's, R: Wait>(
 }
 
 /// Whether the gate lets a member of the lane do its act at the place.
-fn passes<R: Wait, G: Gate>(rt: &R, gate: &G, lane: u32, place: usize) -> bool
+fn passes<R: Wait, G: Passage>(rt: &R, gate: &G, lane: u32, place: usize) -> bool
     ensures go { result ≡ true → G.may_answer gate.now lane place Go }
     ensures stop { result ≡ false → G.may_answer gate.now lane place Stop }
 {
@@ -116,15 +116,15 @@ fn passes<R: Wait, G: Gate>(rt: &R, gate: &G, lane: u32, place: usize) -> bool
 }
 
 /// Does a member's acts, as long as the gate lets it pass.
-#[tactic(auto, using(crate::proofs::Going::goes_on, crate::proofs::Going::run_stopped, crate::proofs::Going::run_whole))]
-pub(crate) fn run<'a, 's, R: Wait, G: Gate>(
+#[tactic(auto, using(crate::proofs::Going::goes_on, crate::proofs::Going::run_stopped, crate::proofs::Going::run_whole, crate::proofs::Going::told_none))]
+pub(crate) fn run<'a, 's, R: Wait, G: Passage>(
     rt: &R,
     shared: &Shared<'s>,
     gate: &G,
     member: &mut Member<'a>,
 )
     requires { IsReady member.old }
-    ensures { IsDriven (G.may_answer gate.now) member.old member.new }
+    ensures { IsDriven (G.may_answer gate.now) (G.is_told gate.now) member.old member.new }
 {
     let mut waits = Vec::new(shared.alloc());
     for place in 0..member.script.len() {
@@ -140,7 +140,7 @@ pub(crate) fn run<'a, 's, R: Wait, G: Gate>(
             &mut waits,
             &member.script[place],
         );
-        gate.leave(rt, member.lane.number(), place);
+        gate.leave(rt, member.lane.number(), place, seen);
         member.seen.push_reserved(seen);
     }
 }

@@ -1,7 +1,7 @@
 ghost use Rattle.std.specs.Prelude.{◌≡◌, ◌<◌, [], ◌∷◌, ◌++◌, vec_len, vec_capacity};
 
 use crate::book::{Book, Entered, Entry, Receipt};
-use crate::closing::{CloseCause, cause_of};
+use crate::closing::CloseCause;
 use crate::lane::Lane;
 use ob_manager::{Call, Card, Manager, Reply};
 use ob_rights::Fault;
@@ -94,7 +94,7 @@ impl<'a> Shared<'a> {
 
     /// The next lane, by rising number from 0. It is refused with 1450 after 65,536.
     pub fn lane(&mut self) -> Result<Lane, Fault>
-        ensures ok { IfOk result (λ lane. (lane ≡ record { number = self.old; list = [] }) × (self.new ≡ self.old + 1)) }
+        ensures ok { IfOk result (λ lane. (self.old < LANES_MOST) × (lane ≡ record { number = self.old; list = [] }) × (self.new ≡ self.old + 1)) }
         ensures err { IfErr result (λ fault. (fault ≡ Limit) × (LANES_MOST ≤ self.old) × (self.new ≡ self.old)) }
     {
         if self.lanes >= LANES_MOST {
@@ -236,7 +236,7 @@ impl<'a> Shared<'a> {
 
     /// The manager and its journal, where the lanes that are handed in are whole: they have the numbers that were given, each
     /// once, each entry of the journal is of one of them, and the list of each is its part of the journal. Otherwise all is
-    /// handed back, with the first cause why not.
+    /// handed back, with the first cause why not, which is what [`Book::cause`] says of the book under the lock.
     pub fn close(self, lanes: Vec<Lane>) -> Result<Closed<'a>, NotClosed<'a>>
         ensures kept { IfOk result (λ closed. IsConsistent closed.manager) }
         ensures history { IfOk result (λ closed. IsHistory closed.journal.items closed.manager) }
@@ -252,9 +252,9 @@ impl<'a> Shared<'a> {
             lanes: given,
         } = self;
         let book = held.into_inner().book;
-        // What it says is wanted here.
+        // (for its clauses: they are those of the manager and the journal that are handed out)
         book.replays();
-        match cause_of(given, lanes.as_slice(), book.journal()) {
+        match book.cause(given, lanes.as_slice()) {
             None => {
                 let (manager, journal) = book.into_parts();
                 Ok(Closed { manager, journal })

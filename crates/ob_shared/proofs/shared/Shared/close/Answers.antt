@@ -1,5 +1,4 @@
 use Rattle.std.proofs.Common.{ℕ, List, subst}
-use Rattle.ob_shared.specs.declared.book.Entry.{Entry}
 use Rattle.ob_shared.specs.Closing.{IsCause}
 use Rattle.ob_shared.specs.Lanes.{LaneState}
 use Rattle.ob_shared.proofs.shared.Shared.close.Goals as goal
@@ -11,5 +10,5 @@ returns-clause-cause c = (
   c.replays.ensures.history,
   subst (λ (given : ℕ). IsCause given c.args.lanes.items c.into_inner.result.book.journal c.in-Some.cause) c.self.view_is
       (subst (λ (lanes : List LaneState). IsCause c.self.inside.lanes lanes c.into_inner.result.book.journal c.in-Some.cause) c.as_slice.ensures.value
-      (subst (λ (journal : List Entry). IsCause c.self.inside.lanes c.as_slice.result.now journal c.in-Some.cause) c.journal.ensures c.in-Some.ensures.cause)),
+      c.in-Some.ensures.cause),
 )
