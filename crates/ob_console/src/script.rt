@@ -9,15 +9,19 @@ use ob_manager::{Limits, Manager};
 use ob_output::{Output, Sink, Source, Trouble};
 use pin_words::{Opening, Pins};
 use std::alloc::{AllocError, Global};
+use thiserror::Error;
 
 /// Why a run ended before the whole input was answered.
-#[derive(Clone, Copy, Debug, PartialEq, Eq)]
+#[derive(Clone, Copy, Debug, PartialEq, Eq, Error)]
 pub enum RunFault {
     /// Memory was wanting at the start; nothing was read or written.
+    #[error("no memory")]
     Memory,
     /// The source failed, or one read more than may be made was needed.
+    #[error("read fault")]
     Read,
     /// The sink failed, took no byte, or needed one write more than may be made.
+    #[error("write fault")]
     Write,
 }
 
