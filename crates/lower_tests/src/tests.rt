@@ -11,6 +11,7 @@ mod schedules;
 mod slots;
 mod waits;
 
+use std::alloc::{AllocError, Global};
 use std::fmt::Debug;
 use std::process::Abort;
 
@@ -25,4 +26,14 @@ fn holds(rt: &impl Abort, condition: bool)
     ensures { condition ≡ true }
 {
     assert!(rt; condition);
+}
+
+/// A list of so many bytes as no other has: while it lives no memory is asked for, which `checks/run` sees.
+fn marked(alloc: Global) -> Result<Vec<u8>, AllocError> {
+    Vec::with_capacity(alloc, 30_011)
+}
+
+/// Another number, without an order that matters.
+fn next(seed: u32) -> u32 {
+    seed.wrapping_mul(1_664_525).wrapping_add(1_013_904_223)
 }

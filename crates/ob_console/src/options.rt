@@ -4,6 +4,7 @@ use clap::error::ErrorKind;
 use clap::{Arg, ArgAction, ArgMatches, Command, Error, value_parser};
 use ob_manager::Limits;
 use std::alloc::{AllocError, Global};
+use thiserror::Error;
 
 /// What the command line decides.
 #[derive(Clone, Copy, Debug, PartialEq, Eq)]
@@ -18,13 +19,16 @@ pub struct Options {
 const LANES_MOST: u32 = 64;
 
 /// Why a command line gives no options.
-#[derive(Debug, Drop)]
+#[derive(Debug, Drop, Error)]
 pub enum OptionsFault {
     /// An argument that is no option, an option twice or without a value, or a value that is no number in its range.
+    #[error("bad command line")]
     BadLine,
     /// Memory was wanting.
+    #[error("no memory")]
     Memory,
     /// The help was asked for, which is this text.
+    #[error("{text}")]
     Help { text: String },
 }
 

@@ -9,15 +9,19 @@ use ob_manager::{Limits, Manager};
 use ob_output::{Output, Sink, Source, Trouble};
 use pin_words::{Opening, Pins};
 use std::alloc::{AllocError, Global};
+use thiserror::Error;
 
 /// Why a run ended before the whole input was answered.
-#[derive(Clone, Copy, Debug, PartialEq, Eq)]
+#[derive(Clone, Copy, Debug, PartialEq, Eq, Error)]
 pub enum RunFault {
     /// Memory was wanting at the start; nothing was read or written.
+    #[error("no memory")]
     Memory,
     /// The source failed, or one read more than may be made was needed.
+    #[error("read fault")]
     Read,
     /// The sink failed, took no byte, or needed one write more than may be made.
+    #[error("write fault")]
     Write,
 }
 
@@ -90,6 +94,8 @@ pub fn run_whole<W: Sink>(
 ) -> Result<(), RunFault>
     ensures answers { (output : List ℕ) × (W.taken writer.new ≡ W.taken writer.old ++ output) × IsWholeEnded result limits script.now output }
     ensures memory { IsErrOf result RunFault.Memory → W.calls writer.new ≡ W.calls writer.old }
+    ensures write { IsErrOf result RunFault.Write → (W.faults writer.old < W.faults writer.new) ⊎ (W.calls writer.new ≡ W.calls writer.old + CALLS_MOST) }
+    ensures writes { W.calls writer.new ≤ W.calls writer.old + CALLS_MOST }
 {
     let Ok((pins, opening)) = Pins::new(alloc, limits.shape()) else {
         return Err(RunFault::Memory);
@@ -113,6 +119,8 @@ fn answer_whole<W: Sink>(
     ensures answers { (limits : Limits) → Session limits [] [] console.old →
         (output : List ℕ) × (W.taken writer.new ≡ W.taken writer.old ++ output) × IsWholeEnded result limits script.now output }
     ensures memory { IsErrOf result RunFault.Memory → ⊥ }
+    ensures write { IsErrOf result RunFault.Write → (W.faults writer.old < W.faults writer.new) ⊎ (console.new.pending.writes_left ≡ 0) }
+    ensures writes { W.calls writer.new + console.new.pending.writes_left ≡ W.calls writer.old + console.old.pending.writes_left }
 {
     let _length = script.len();
     match console.take(writer, script) {

@@ -4,17 +4,22 @@ ghost use Rattle.ob_lanes.specs.declared.fault.LanesFault.TheVariants.{Memory, W
 use ob_output::NotWritten;
 use ob_rights::Fault;
 use std::alloc::AllocError;
+use thiserror::Error;
 
 /// Why a script with lanes wasn't answered to its end.
-#[derive(Clone, Copy, Debug, PartialEq, Eq)]
+#[derive(Clone, Copy, Debug, PartialEq, Eq, Error)]
 pub enum LanesFault {
     /// Memory was wanting.
+    #[error("no memory")]
     Memory,
     /// The source failed, or one read more than may be made was needed.
+    #[error("read fault")]
     Read,
     /// The sink failed, took no byte, or needed one write more than may be made.
+    #[error("write fault")]
     Write,
     /// The lanes and the journal don't agree.
+    #[error("lanes differ")]
     Differ,
 }
 

@@ -4,9 +4,10 @@
 ghost use Rattle.std.specs.Prelude.{◌≤◌, IfOk};
 
 use ob_console::{Options, OptionsFault, RunFault, read_options, run};
-use ob_lanes::{LanesFault, run_lanes};
+use ob_lanes::run_lanes;
 use ob_output::Wired;
 use std::env;
+use std::fmt::Display;
 use std::io::{self, ErrorKind};
 use std::process::ExitCode;
 
@@ -16,32 +17,24 @@ fn main(rt: HostRuntime) -> ExitCode {
     let options = match options_of(&rt) {
         Ok(options) => options,
         Err(OptionsFault::Help { text }) => return helped(&rt, text.as_str()),
-        Err(OptionsFault::Memory) => return ended(&rt, "no memory", 1),
-        Err(OptionsFault::BadLine) => return ended(&rt, "bad command line", 2),
+        Err(OptionsFault::BadLine) => return ended(&rt, OptionsFault::BadLine, 2),
+        Err(fault) => return ended(&rt, fault, 1),
     };
     let mut source = Wired::new(rt.stdin());
     let mut sink = Wired::new(rt.stdout());
     let (alloc, limits) = (rt.alloc(), options.limits);
     if options.lanes > 0 {
         let answered = run_lanes(&rt, alloc, limits, options.lanes, &mut source, &mut sink);
-        return ended_lanes(&rt, answered);
+        return ended_by(&rt, answered);
     }
-    match run(alloc, limits, &mut source, &mut sink) {
-        Ok(()) => ExitCode::SUCCESS,
-        Err(RunFault::Memory) => ended(&rt, "no memory", 1),
-        Err(RunFault::Read) => ended(&rt, "read fault", 1),
-        Err(RunFault::Write) => ended(&rt, "write fault", 1),
-    }
+    ended_by(&rt, run(alloc, limits, &mut source, &mut sink))
 }
 
-/// How a script with lanes ends.
-fn ended_lanes(rt: &HostRuntime, answered: Result<(), LanesFault>) -> ExitCode {
+/// Ends well, or says which fault ended the script.
+fn ended_by<E: Display + Drop>(rt: &HostRuntime, answered: Result<(), E>) -> ExitCode {
     match answered {
         Ok(()) => ExitCode::SUCCESS,
-        Err(LanesFault::Memory) => ended(rt, "no memory", 1),
-        Err(LanesFault::Read) => ended(rt, "read fault", 1),
-        Err(LanesFault::Write) => ended(rt, "write fault", 1),
-        Err(LanesFault::Differ) => ended(rt, "lanes differ", 1),
+        Err(fault) => ended(rt, fault, 1),
     }
 }
 
@@ -67,12 +60,12 @@ fn fault_of(error: &io::Error) -> OptionsFault {
 fn helped(rt: &HostRuntime, text: &str) -> ExitCode {
     match print!(rt; "{text}") {
         Ok(()) => ExitCode::SUCCESS,
-        Err(_) => ended(rt, "write fault", 1),
+        Err(_) => ended(rt, RunFault::Write, 1),
     }
 }
 
 /// Says why the program ends, on standard error.
-fn ended(rt: &HostRuntime, why: &str, status: u8) -> ExitCode {
+fn ended<E: Display + Drop>(rt: &HostRuntime, why: E, status: u8) -> ExitCode {
     let _ = eprintln!(rt; "obman: {why}");
     ExitCode::from(status)
 }

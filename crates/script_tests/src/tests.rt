@@ -4,7 +4,7 @@ mod options;
 
 use std::alloc::{AllocError, Global};
 use std::fmt::Debug;
-use std::io::{self, Error, ErrorKind, Read};
+use std::io::{self, Error, ErrorKind, Read, Write};
 use std::process::Abort;
 
 /// Asserts that what is found is what is due.
@@ -64,6 +64,49 @@ impl Read for Failing<'_> {
             return Err(Error::from(ErrorKind::Other));
         }
         self.text.read(buf)
+    }
+}
+
+/// A reader that is interrupted whenever it is asked.
+#[derive(Drop)]
+struct Interrupted;
+
+impl Read for Interrupted {
+    fn read(&mut self, _buf: &mut [u8]) -> io::Result<usize> {
+        Err(Error::from(ErrorKind::Interrupted))
+    }
+}
+
+/// A page to write on, with an interruption before each write, which fails once it is full.
+#[derive(Drop)]
+struct Page<'a> {
+    left: &'a mut [u8],
+    is_interrupted: bool,
+}
+
+impl<'a> Page<'a> {
+    fn new(page: &'a mut [u8]) -> Page<'a> {
+        Page {
+            left: page,
+            is_interrupted: false,
+        }
+    }
+}
+
+impl Write for Page<'_> {
+    fn write(&mut self, bytes: &[u8]) -> io::Result<usize> {
+        self.is_interrupted = !self.is_interrupted;
+        if self.is_interrupted {
+            return Err(Error::from(ErrorKind::Interrupted));
+        }
+        if self.left.is_empty() {
+            return Err(Error::from(ErrorKind::Other));
+        }
+        self.left.write(bytes)
+    }
+
+    fn flush(&mut self) -> io::Result<()> {
+        Ok(())
     }
 }
 

@@ -3,7 +3,7 @@ ghost use Rattle.pin_core.specs.Shapes.{IsWithinLimits};
 ghost use Rattle.pin_core.specs.Worlds.{slot_of};
 ghost use Rattle.pin_words.specs.Keepers.{IsFresh};
 
-use crate::tests::{holds, same};
+use crate::tests::{holds, marked, next, same};
 use ob_rights::{Fault, Kind};
 use pin_core::{Descr, Id, Phase, Shape};
 use pin_words::{Keeper, LockedPins, Opening, PinFault, PinKeeper, Pins, Reader, Reclaim};
@@ -380,5 +380,138 @@ fn want_of_memory_gives_back_what_was_given(rt: HostRuntime) -> Result<(), Fail>
     };
     meet_twice(&rt, &mut keeper, &mut reader);
     holds(&rt, locked(rt.alloc(), shape).is_ok());
+    Ok(())
+}
+
+/// One of the calls of a keeper and of a reader, about a slot's present Id, and whether it could be made.
+fn call_any(keeper: &mut Keeper<'_>, reader: &mut Reader<'_>, slot: u32, pick: usize) -> bool {
+    if slot >= keeper.slots() {
+        return false;
+    }
+    let id = Id {
+        slot,
+        generation: keeper.generation(slot),
+    };
+    match pick {
+        0 => publish(keeper, slot),
+        1 => close(keeper, slot),
+        2 => reclaim(keeper, slot).is_some(),
+        3 => reader.try_pin(id).is_ok(),
+        4 => release(reader, id),
+        5 => descr(reader, id).is_some(),
+        _ => drop_reader(keeper),
+    }
+}
+
+/// A reader comes and goes.
+fn drop_reader(keeper: &mut Keeper<'_>) -> bool {
+    let reader = keeper.reader();
+    let is_free = reader.held().is_empty();
+    drop(reader);
+    is_free
+}
+
+/// Calls each of them until it was made so often.
+fn call_all(keeper: &mut Keeper<'_>, reader: &mut Reader<'_>, often: u32) -> bool {
+    let mut made = [0u32; 7];
+    let mut seed = 1;
+    for _ in 0..1_000_000 {
+        seed = next(seed);
+        let pick = (seed >> 16) as usize % 7;
+        if call_any(keeper, reader, seed >> 30, pick) {
+            made[pick] = made[pick].saturating_add(1);
+        }
+        if made.iter().all(|count| *count >= often) {
+            return true;
+        }
+    }
+    false
+}
+
+/// A reader meets its keeper so often.
+fn meet_often<'a>(keeper: &mut Keeper<'a>, reader: &mut Reader<'a>, often: u32)
+    requires { reader.old.table ≡ keeper.old.table }
+{
+    for turn in 0..often {
+        let _met = meet(
+            keeper,
+            reader,
+            Id {
+                slot: turn % 4,
+                generation: 1,
+            },
+        );
+    }
+}
+
+#[test]
+fn calls_take_no_memory(rt: HostRuntime) -> Result<(), Fail> {
+    let Some(shape) = Shape::checked(4, 2, 1_000_000) else {
+        panic!(rt; "no shape")
+    };
+    let Ok((pins, opening)) = pins_of(rt.alloc(), shape) else {
+        panic!(rt; "no memory")
+    };
+    let Some((mut keeper, mut reader)) = start(opening, &pins) else {
+        panic!(rt; "no memory")
+    };
+    let mark = marked(rt.alloc())?;
+    meet_often(&mut keeper, &mut reader, 10_000);
+    let is_done = call_all(&mut keeper, &mut reader, 10_000);
+    drop(mark);
+    drop(reader);
+    drop(keeper);
+    holds(&rt, is_done);
+    Ok(())
+}
+
+/// The same of pins under a lock.
+fn lock_any(pins: &mut LockedPins, slot: u32, pick: usize) -> bool {
+    if slot >= pins.slots() {
+        return false;
+    }
+    let id = Id {
+        slot,
+        generation: pins.generation(slot),
+    };
+    match pick {
+        0 => publish(pins, slot),
+        1 => close(pins, slot),
+        2 => reclaim(pins, slot).is_some(),
+        3 => pins.try_pin(id).is_ok(),
+        4 => unlock(pins, id),
+        _ => locked_descr(pins, id).is_some(),
+    }
+}
+
+/// Calls each of them until it was made so often.
+fn lock_all(pins: &mut LockedPins, often: u32) -> bool {
+    let mut made = [0u32; 6];
+    let mut seed = 1;
+    for _ in 0..1_000_000 {
+        seed = next(seed);
+        let pick = (seed >> 16) as usize % 6;
+        if lock_any(pins, seed >> 30, pick) {
+            made[pick] = made[pick].saturating_add(1);
+        }
+        if made.iter().all(|count| *count >= often) {
+            return true;
+        }
+    }
+    false
+}
+
+#[test]
+fn calls_under_a_lock_take_no_memory(rt: HostRuntime) -> Result<(), Fail> {
+    let Some(shape) = Shape::checked(4, 2, 1_000_000) else {
+        panic!(rt; "no shape")
+    };
+    let Ok(mut pins) = locked(rt.alloc(), shape) else {
+        panic!(rt; "no memory")
+    };
+    let mark = marked(rt.alloc())?;
+    let is_done = lock_all(&mut pins, 10_000);
+    drop(mark);
+    holds(&rt, is_done);
     Ok(())
 }

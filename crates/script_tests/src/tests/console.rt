@@ -1,4 +1,4 @@
-use crate::tests::{Failing, Pieces, add, repeated, same};
+use crate::tests::{Failing, Interrupted, Page, Pieces, add, repeated, same};
 use ob_console::{RunFault, run, run_bounded};
 use ob_manager::Limits;
 use ob_output::{Source, Wired};
@@ -6,9 +6,12 @@ use std::alloc::{AllocError, Global};
 use std::process::Abort;
 use std::test::Fail;
 
-const SCRIPT: &[u8] = b"spawn 1\nevent t1 auto clear\ncount s0.1\n";
+/// An event by two handles, which is set once and waited for.
+const SCRIPT: &[u8] =
+    b"spawn 1\nevent t1 auto clear name A\nevent t1 manual set name A\nwait t1 any 0 h8\nset t1 h4\nwait t1 any 0 h8\nwait t1 any 0 h4\ncount s0.1\n";
 
-const ANSWERS: &[u8] = b"p1 t1\nh4 new s0.1\nhandles 1 waits 0 hold 0\n";
+const ANSWERS: &[u8] =
+    b"p1 t1\nh4 new s0.1\nh8 exists s0.1\ncode 258\ndone\ncode 0\ncode 258\nhandles 2 waits 0 hold 0\n";
 
 /// Runs what a source gives: the run ends so, and writes this.
 fn ends<R: Abort, I: Source>(
@@ -30,12 +33,12 @@ fn ends<R: Abort, I: Source>(
     drop(written);
 }
 
-/// Runs the script, with so many reads and writes at most: the run ends so, and writes this.
-fn ends_within<R: Abort>(
+/// Runs what a source gives, with so many reads and writes at most: the run ends so, and writes this.
+fn ends_within<R: Abort, I: Source>(
     rt: &R,
     alloc: Global,
-    reads: u64,
-    writes: u64,
+    bounds: (u64, u64),
+    source: &mut I,
     ended: Result<(), RunFault>,
     due: &[u8],
 ) {
@@ -43,9 +46,9 @@ fn ends_within<R: Abort>(
     let found = run_bounded(
         alloc,
         Limits::default(),
-        reads,
-        writes,
-        &mut Wired::new(SCRIPT),
+        bounds.0,
+        bounds.1,
+        source,
         &mut Wired::new(&mut written),
     );
     same(rt, found, ended);
@@ -69,10 +72,45 @@ fn pieces_and_interruptions_change_no_answer(rt: HostRuntime) {
 #[test]
 fn a_read_fault_leaves_the_complete_lines_answered(rt: HostRuntime) {
     let mut source = Wired::new(Failing {
-        text: b"spawn 1\nspawn 1",
+        text: &SCRIPT[..40],
     });
     let fault = Err(RunFault::Read);
-    ends(&rt, rt.alloc(), &mut source, fault, b"p1 t1\n");
+    ends(&rt, rt.alloc(), &mut source, fault, b"p1 t1\nh4 new s0.1\n");
+}
+
+/// Runs the script over a page of so many bytes, by a writer that fails then: the run ends so, and leaves this on the page.
+fn fills<R: Abort>(
+    rt: &R,
+    alloc: Global,
+    page: &mut [u8],
+    ended: Result<(), RunFault>,
+    due: &[u8],
+) {
+    let found = run(
+        alloc,
+        Limits::default(),
+        &mut Wired::new(SCRIPT),
+        &mut Wired::new(Page::new(page)),
+    );
+    same(rt, found, ended);
+    same(rt, &page[..], due);
+}
+
+#[test]
+fn a_writer_that_fails_is_a_write_fault(rt: HostRuntime) {
+    let due = b"p1 t1\nh4 new s0.1\nh8";
+    fills(
+        &rt,
+        rt.alloc(),
+        &mut [0; 20],
+        Err(RunFault::Write),
+        due.as_slice(),
+    );
+}
+
+#[test]
+fn a_writer_that_is_interrupted_is_asked_again(rt: HostRuntime) {
+    fills(&rt, rt.alloc(), &mut [0; 88], Ok(()), ANSWERS);
 }
 
 #[test]
@@ -85,13 +123,29 @@ fn a_full_sink_is_a_write_fault(rt: HostRuntime) {
         &mut Wired::new(&mut page[..]),
     );
     same(&rt, ended, Err(RunFault::Write));
-    same(&rt, page.as_slice(), b"p1 t1\nh4 new s0.1\nha");
+    same(&rt, page.as_slice(), b"p1 t1\nh4 new s0.1\nh8");
 }
 
 #[test]
 fn one_call_more_than_the_bound_is_a_fault(rt: HostRuntime) {
-    ends_within(&rt, rt.alloc(), 1, 1, Err(RunFault::Read), ANSWERS);
-    ends_within(&rt, rt.alloc(), 2, 0, Err(RunFault::Write), b"");
+    let alloc = rt.alloc();
+    let read = Err(RunFault::Read);
+    let write = Err(RunFault::Write);
+    ends_within(&rt, alloc, (1, 1), &mut Wired::new(SCRIPT), read, ANSWERS);
+    ends_within(&rt, alloc, (2, 0), &mut Wired::new(SCRIPT), write, b"");
+}
+
+#[test]
+fn as_many_calls_as_are_needed_suffice(rt: HostRuntime) {
+    let mut source = Wired::new(SCRIPT);
+    ends_within(&rt, rt.alloc(), (2, 1), &mut source, Ok(()), ANSWERS);
+}
+
+#[test]
+fn a_reader_that_is_always_interrupted_reaches_the_bound(rt: HostRuntime) {
+    let mut source = Wired::new(Interrupted);
+    let fault = Err(RunFault::Read);
+    ends_within(&rt, rt.alloc(), (10, 1), &mut source, fault, b"");
 }
 
 /// Lines that are bad or nothing, behind a comment of 4,096 bytes with a carriage return behind it, and one of 4,097.

@@ -1,6 +1,6 @@
 ghost use Rattle.std.specs.Prelude.{◌≤◌, length};
 
-use crate::tests::{holds, same};
+use crate::tests::{holds, marked, next, same};
 use ob_name::{Directory, Name, NameRef, Space};
 use ob_rights::Fault;
 use pin_core::Id;
@@ -180,6 +180,38 @@ fn come_and_go(rt: &impl Abort, directory: &mut Directory, most: u32) -> Result<
         let gone = 2 * n + 1;
         same(rt, directory.remove(&local(&digits(gone))), Some(id(gone)));
         same(rt, directory.len(), n as usize);
+    }
+    Ok(())
+}
+
+#[test]
+fn calls_but_reserve_take_no_memory(rt: HostRuntime) -> Result<(), Fail> {
+    enter_and_remove_any(rt.alloc(), &mut Directory::new(rt.alloc()), 20_000)?;
+    Ok(())
+}
+
+/// Enters names that aren't there and removes those that are, so often in all.
+fn enter_and_remove_any(
+    alloc: Global,
+    directory: &mut Directory,
+    often: u32,
+) -> Result<(), AllocError> {
+    let mut seed = 1;
+    for turn in 0..often {
+        seed = next(seed);
+        let base = digits(seed >> 26);
+        let name = local(&base);
+        let _row = directory.row((seed >> 26) as usize);
+        if directory.find(&name).is_some() {
+            let mark = marked(alloc)?;
+            let _id = directory.remove(&name);
+            drop(mark);
+        } else if let Ok(copy) = directory.reserve(&name) {
+            let mark = marked(alloc)?;
+            directory.enter(copy, id(turn));
+            let _id = directory.find(&name);
+            drop(mark);
+        }
     }
     Ok(())
 }

@@ -1,0 +1,139 @@
+/* counted SEED: makes random calls of new managers until each call that takes no memory was made 10,000 times, and answered without
+ * an error 1,000 times: none of them has asked for memory. A wait takes some where it becomes pending alone, and a duplicate where
+ * it has a target. Linked with --wrap of malloc and realloc, and of each of these calls. */
+#include "calls.h"
+
+#include <stdlib.h>
+
+enum { CALLS_DUE = 10000, ANSWERS_DUE = 1000, CALLS_OF_A_MANAGER = 2000 };
+
+void *__real_malloc(size_t size);
+void *__real_realloc(void *block, size_t size);
+
+static unsigned long requests;
+
+void *__wrap_malloc(size_t size) {
+    requests++;
+    return __real_malloc(size);
+}
+
+void *__wrap_realloc(void *block, size_t size) {
+    requests++;
+    return __real_realloc(block, size);
+}
+
+/* The calls that take no memory, with what they answer, and whether that is no error. */
+#define EACH(CALL)                                                                                                                  \
+    CALL(uint32_t, om_end_thread, (om_manager *m, uint32_t t), (m, t), status == OM_SUCCESS)                                         \
+    CALL(uint32_t, om_exit, (om_manager *m, uint32_t p), (m, p), status == OM_SUCCESS)                                               \
+    CALL(uint32_t, om_close, (om_manager *m, uint32_t t, uint32_t h), (m, t, h), status == OM_SUCCESS)                               \
+    CALL(uint32_t, om_handle_flags, (om_manager *m, uint32_t t, uint32_t h, uint32_t *f), (m, t, h, f), status == OM_SUCCESS)        \
+    CALL(uint32_t, om_set_handle_flags, (om_manager *m, uint32_t t, uint32_t h, uint32_t k, uint32_t f), (m, t, h, k, f),            \
+         status == OM_SUCCESS)                                                                                                      \
+    CALL(uint32_t, om_resolve, (om_manager *m, uint32_t p, uint32_t h, om_object *o), (m, p, h, o), status == OM_SUCCESS)            \
+    CALL(uint32_t, om_set_event, (om_manager *m, uint32_t t, uint32_t h), (m, t, h), status == OM_SUCCESS)                           \
+    CALL(uint32_t, om_reset_event, (om_manager *m, uint32_t t, uint32_t h), (m, t, h), status == OM_SUCCESS)                         \
+    CALL(uint32_t, om_release_semaphore, (om_manager *m, uint32_t t, uint32_t h, int32_t n, uint32_t *b), (m, t, h, n, b),           \
+         status == OM_SUCCESS)                                                                                                      \
+    CALL(uint32_t, om_release_mutex, (om_manager *m, uint32_t t, uint32_t h), (m, t, h), status == OM_SUCCESS)                       \
+    CALL(uint32_t, om_set_timer, (om_manager *m, uint32_t t, uint32_t h, int64_t d), (m, t, h, d), status == OM_SUCCESS)             \
+    CALL(uint32_t, om_cancel_timer, (om_manager *m, uint32_t t, uint32_t h), (m, t, h), status == OM_SUCCESS)                        \
+    CALL(uint32_t, om_tick, (om_manager *m, uint64_t n), (m, n), status == OM_SUCCESS)                                               \
+    CALL(uint32_t, om_wait_result, (om_manager *m, uint32_t w, uint32_t *a), (m, w, a), status == OM_SUCCESS)                        \
+    CALL(uint32_t, om_expire, (om_manager *m, uint32_t w), (m, w), status == OM_SUCCESS)                                             \
+    CALL(uint32_t, om_pin, (om_manager *m, uint32_t s, uint32_t g), (m, s, g), status == OM_SUCCESS)                                 \
+    CALL(uint32_t, om_unpin, (om_manager *m, uint32_t s, uint32_t g), (m, s, g), status == OM_SUCCESS)                               \
+    CALL(uint32_t, om_card, (om_manager *m, uint32_t s, uint32_t g, om_description *d), (m, s, g, d), status == OM_SUCCESS)          \
+    CALL(uint32_t, om_counts, (om_manager *m, uint32_t s, uint32_t g, om_references *r), (m, s, g, r), status == OM_SUCCESS)         \
+    CALL(uint32_t, om_reap, (om_manager *m, uint32_t s, om_reaping *r), (m, s, r), status == OM_SUCCESS)                             \
+    CALL(uint32_t, om_directory_at, (om_manager *m, size_t at, char *n, size_t c, om_row *r), (m, at, n, c, r),                      \
+         status == OM_SUCCESS)                                                                                                      \
+    CALL(bool, om_is_pending, (om_manager *m, uint32_t w), (m, w), true)                                                             \
+    CALL(bool, om_holds, (om_manager *m, uint32_t s, uint32_t g), (m, s, g), true)                                                   \
+    CALL(size_t, om_directory_len, (om_manager *m), (m), true)
+
+enum {
+#define NUMBER(type, name, parameters, arguments, ok) NUMBER_##name,
+    EACH(NUMBER) WAIT,
+    DUPLICATE,
+    CALLS
+};
+
+static unsigned long made[CALLS], answered[CALLS];
+
+static void count(int number, unsigned long before, bool is_answered, const char *name) {
+    must(requests == before, name);
+    made[number]++;
+    answered[number] += is_answered;
+}
+
+#define COUNTED(type, name, parameters, arguments, ok)      \
+    type __real_##name parameters;                          \
+    type __wrap_##name parameters {                         \
+        unsigned long before = requests;                    \
+        type status = __real_##name arguments;              \
+        count(NUMBER_##name, before, ok, #name " asked for memory"); \
+        return status;                                      \
+    }
+
+EACH(COUNTED)
+
+uint32_t __real_om_wait(om_manager *m, uint32_t t, bool a, uint32_t d, const uint32_t *h, size_t n, uint32_t *o);
+uint32_t __wrap_om_wait(om_manager *m, uint32_t t, bool a, uint32_t d, const uint32_t *h, size_t n, uint32_t *o) {
+    unsigned long before = requests;
+    uint32_t status = __real_om_wait(m, t, a, d, h, n, o);
+    if (status != OM_ERROR_IO_PENDING) {
+        count(WAIT, before, status == OM_SUCCESS, "om_wait asked for memory and isn't pending");
+    }
+    return status;
+}
+
+uint32_t __real_om_duplicate(om_manager *m, uint32_t t, uint32_t s, uint32_t h, uint32_t p, uint32_t a, bool i, uint32_t f, om_opening *o);
+uint32_t __wrap_om_duplicate(om_manager *m, uint32_t t, uint32_t s, uint32_t h, uint32_t p, uint32_t a, bool i, uint32_t f, om_opening *o) {
+    unsigned long before = requests;
+    uint32_t status = __real_om_duplicate(m, t, s, h, p, a, i, f, o);
+    if (p == 0) {
+        count(DUPLICATE, before, status == OM_SUCCESS, "om_duplicate asked for memory and has no target");
+    }
+    return status;
+}
+
+/* A new manager, and random calls of it. Threads and processes end more often than they do in other trials. */
+static void make_calls(calls *c) {
+    om_limits limits = limits_of(c);
+    c->processes = c->threads = c->waits = 0;
+    c->now = 0;
+    must(om_new(&limits, &c->m) == OM_SUCCESS, "no manager");
+    for (int i = 0; i < CALLS_OF_A_MANAGER; i++) {
+        om_member member;
+        om_object object;
+        call(c);
+        om_resolve(&c->m, c->processes, 4 * (1 + below(c, 8)), &object);
+        if (below(c, 20) == 0 && om_spawn(&c->m, 0, &member) == OM_SUCCESS) {
+            uint32_t thread;
+            om_thread(&c->m, member.process, &thread);
+            om_end_thread(&c->m, member.thread);
+            om_exit(&c->m, member.process);
+            om_end_thread(&c->m, c->threads);
+        }
+    }
+    om_free(c->m);
+}
+
+int main(int count, char **words) {
+    must(count == 2, "SEED");
+    calls c = {{NULL}, 0x9E3779B97F4A7C15ULL * (uint64_t)(1 + atol(words[1])), 0, 0, 0, 0, 0, fopen("/dev/null", "wb"), fopen("/dev/null", "wb")};
+    must(c.script != NULL && c.answers != NULL, "a file can't be written");
+    unsigned long fewest = 0, fewest_answered = 0;
+    while (fewest < CALLS_DUE || fewest_answered < ANSWERS_DUE) {
+        make_calls(&c);
+        fewest = made[0];
+        fewest_answered = answered[0];
+        for (int i = 0; i < CALLS; i++) {
+            fewest = made[i] < fewest ? made[i] : fewest;
+            fewest_answered = answered[i] < fewest_answered ? answered[i] : fewest_answered;
+        }
+    }
+    printf("%d calls, each %lu times or more, and %lu times without an error\n", CALLS, fewest, fewest_answered);
+    return 0;
+}
