@@ -7,7 +7,7 @@ use Rattle.pin_core.specs.Holds.{tally, same_id}
 use Rattle.pin_words.specs.declared.fault.PinFault.{PinFault}
 use Rattle.pin_words.specs.declared.view.ReaderView.{ReaderView}
 use Rattle.pin_words.specs.Seats.{ReaderState}
-use Rattle.pin_words.specs.Tries.{HasOnlyLooked, Tries}
+use Rattle.pin_words.specs.Tries.{TriesUntilSettled}
 use Rattle.pin_words.specs.Views.{reader_noted, reader_released}
 use Rattle.ob_manager.specs.declared.call.Call.{Call}
 use Rattle.ob_manager.specs.declared.call.Call.TheVariants.{WaitFor, WaitResult}
@@ -51,10 +51,10 @@ pub record Blocks (reply : Reply) (old : LaneState) (waits : List ℕ) (new : La
   pub taken : reply ≢ Refused Memory → left ≡ rest
   pub kept : reply ≡ Refused Memory → left ≡ waits
 
--- the last try, before which the reader only looked, and the descriptor that is noted where it pinned
+-- tries until one isn't answered busy, and the descriptor that is noted where that one pinned
 abbrev pub Pins : ReaderView → Id → Result Descr PinFault → ReaderView → Type 0
-Pins r id (Ok descr) v = (s : ReaderView) × (t : ReaderView) × HasOnlyLooked r s × Tries s id (Ok tt) t × (v ≡ reader_noted t id descr)
-Pins r id (Err fault) v = (s : ReaderView) × HasOnlyLooked r s × Tries s id (Err fault) v
+Pins r id (Ok descr) v = (t : ReaderView) × TriesUntilSettled r id (Ok tt) t × (v ≡ reader_noted t id descr)
+Pins r id (Err fault) v = TriesUntilSettled r id (Err fault) v
 
 abbrev pub Unpins : ReaderView → Id → Bool → ReaderView → Type 0
 Unpins r id true v = (0 < tally (same_id id) r.held) × (v ≡ reader_released r id)

@@ -83,6 +83,14 @@ fn is_at(world: &World, generation: u32, phase: Phase, pins: usize) -> bool {
         && world.copies(1, FIRST) == pins
 }
 
+/// Whether the events, with one generation, leave the slot retired at it.
+fn retires_after(alloc: Global, events: &[Event]) -> bool {
+    match replay(alloc, shape(4, 1), events) {
+        Ok(world) => is_at(&world, 1, Phase::Retired, 0),
+        Err(_) => false,
+    }
+}
+
 fn has_published_one(world: &World) -> bool {
     world.published() == &[(FIRST, AUTO_EVENT)][..]
 }
@@ -262,6 +270,7 @@ fn the_first_impossible_event_is_named(rt: HostRuntime) -> Result<(), Fail> {
         fault(rt.alloc(), shape(4, 1), &retired),
         refused(4, Reason::WrongPhase),
     );
+    holds(&rt, retires_after(rt.alloc(), &[PUBLISH, CLOSE, RECLAIM]));
     let unheld = [PUBLISH, read(AUTO_EVENT)];
     same(
         &rt,
