@@ -1,13 +1,15 @@
 -- A lane's list beside its part of the journal.
-use Rattle.std.proofs.Common.{◌≡◌, ◌≢◌, ◌==◌, ℕ, ◌+◌, ◌<◌, ◌≤◌, Bool, true, false, List, [], ◌∷◌, ◌++◌, Some, None, length, take, drop, get_or, refl, sym, ap, ◌∙◌, subst, arith, append-nil, inl, inr}
-use Rattle.std.proofs.lemmas.List.{take_more, drop_more, take-append-drop, length-take}
+use Rattle.std.proofs.Common.{◌≡◌, ◌≢◌, ◌==◌, ℕ, ◌+◌, ◌-◌, ◌<◌, ◌≤◌, Bool, true, false, List, [], ◌∷◌, ◌++◌, Some, None, length, length-drop, take, drop, get_or, refl, sym, ap, ◌∙◌, subst, arith, append-nil, inl, inr, All, set}
+use Rattle.std.proofs.lemmas.Bool.{cases_eq}
+use Rattle.std.proofs.lemmas.List.{take_more, drop_more, take-append-drop, length-take, get_or_default, get_or-drop, get_or-set_other, get_or-set_same, get_or-take}
 use Rattle.std.proofs.lemmas.Option.{get_or_from_slice_get, slice_get_cases, slice_get_within}
 use Rattle.std.proofs.Math.Seq.{drop-length, take-length}
-use Rattle.std.specs.List.{slice_get}
+use Rattle.std.specs.List.{slice_get, slice_range}
 use Rattle.std.specs.Prelude.{is_some}
 use Rattle.ob_shared.specs.declared.book.Entry.{Entry}
-use Rattle.ob_shared.specs.Closing.{DifferAt}
-use Rattle.ob_shared.specs.Lanes.{part}
+use Rattle.ob_shared.specs.Closing.{DifferAt, IsPart}
+use Rattle.ob_shared.specs.Comparing.{AreFrom, HaveRead}
+use Rattle.ob_shared.specs.Lanes.{LaneState, part}
 
 -- one entry before two lists that are equal
 before : (k : ℕ) (x : Entry) (es xs zs : List Entry) (b : Bool) → (x.lane == k) ≡ b → part k es ≡ part k xs ++ zs → part k (x ∷ es) ≡ part k (x ∷ xs) ++ zs
@@ -90,3 +92,33 @@ pub part_found : (k : ℕ) (js xs : List Entry) (i p : ℕ) (e : Entry) → i < 
 part_found k js xs i p e inside at is found old =
     let within : p < length xs = slice_get_within xs p e found in
     (omega (arith, within), part_more k js xs i p e inside within at (sym (get_or_from_slice_get xs p e e found)) is old)
+
+-- one entry more, which is of none of these lanes
+pub read_other : (first : ℕ) (lanes : List LaneState) (js : List Entry) (read : List ℕ) (i : ℕ) (e : Entry) → i < length js → e ≡ get_or js i e
+    → ((k : ℕ) → k < length lanes → e.lane ≢ first + k) → HaveRead first lanes (take i js) read → HaveRead first lanes (take (i + 1) js) read
+read_other first lanes js read i e inside at off old k d within = part_other (first + k) js (get_or lanes k d).list i (get_or read k 0) e inside at (off k within) (old k d within)
+
+-- one entry more, which is the next one of a lane's list
+pub read_next : (first : ℕ) (lanes : List LaneState) (js : List Entry) (read : List ℕ) (i at : ℕ) (e : Entry) (lane : LaneState) → i < length js → e ≡ get_or js i e
+    → at < length lanes → length lanes ≤ length read → e.lane ≡ first + at → lane ≡ get_or lanes at lane → slice_get lane.list (get_or read at 0) ≡ Some e
+    → HaveRead first lanes (take i js) read → HaveRead first lanes (take (i + 1) js) (set read at (get_or read at 0 + 1))
+read_next first lanes js read i at e lane inside found within room is of next old k d below = elim (cases_eq k at) [
+  | inl same ↦ rw (same, get_or-set_same read at (get_or read at 0 + 1) 0 (omega (arith, within, room)))
+      (part_found (first + at) js (get_or lanes at d).list i (get_or read at 0) e inside found is
+      (subst (λ (l : LaneState). slice_get l.list (get_or read at 0) ≡ Some e) (of ∙ get_or_default lanes at lane d within) next) (old at d within)).1
+  | inr other ↦ rw (get_or-set_other read at k (get_or read at 0 + 1) 0 other)
+      (part_other (first + k) js (get_or lanes k d).list i (get_or read k 0) e inside found (λ (q : e.lane ≡ first + k). other (omega (arith, q, is))) (old k d below))
+]
+
+-- all of a journal was gone over, and all of each list was found in it
+pub read_whole : (first : ℕ) (lanes : List LaneState) (js : List Entry) (read : List ℕ) → AreFrom first lanes → HaveRead first lanes js read
+    → ((k : ℕ) (d : LaneState) → k < length lanes → length (get_or lanes k d).list ≡ get_or read k 0) → All (IsPart js) lanes
+read_whole first lanes js read from have ends = λ k d within.
+    sym (take-length (get_or lanes k d).list) ∙ ap (λ (n : ℕ). take n (get_or lanes k d).list) (ends k d within) ∙ have k d within ∙ ap (λ (n : ℕ). part n js) (sym (from k d within))
+
+-- each of some lanes that stand together
+pub range_parts : (js : List Entry) (lanes : List LaneState) (a b : ℕ) → b ≤ length lanes → All (IsPart js) (slice_range lanes a b)
+    → (k : ℕ) (d : LaneState) → a ≤ k → k < b → IsPart js (get_or lanes k d)
+range_parts js lanes a b fits parts k d from to =
+    subst (λ (lane : LaneState). IsPart js lane) (get_or-take (b - a) (drop a lanes) (k - a) d (omega (arith, from, to)) ∙ get_or-drop a lanes (k - a) d ∙ ap (λ (n : ℕ). get_or lanes n d) (omega (arith, from)))
+    (parts (k - a) d (omega (arith, from, to, fits, length-take (b - a) (drop a lanes), length-drop a lanes)))

@@ -1,4 +1,5 @@
 pub mod Journal
 pub mod Lanes
 pub mod Closing
+pub mod Comparing
 pub mod Members

@@ -1,4 +1,4 @@
-ghost use Rattle.std.specs.Prelude.{◌≡◌, ◌↔◌, [], ◌∷◌, ◌++◌, IfNone, IfOk, IfErr, IfSome, IsTrue, None, slice_index_or};
+ghost use Rattle.std.specs.Prelude.{◌≡◌, ◌↔◌, ◌<◌, [], ◌∷◌, ◌++◌, IfNone, IfOk, IfErr, IfSome, IsTrue, None, slice_index_or, vec_len, vec_capacity};
 ghost use Rattle.ob_rights.specs.declared.fault.Fault.TheVariants.{Memory};
 ghost use Rattle.ob_waits.specs.Waits.{is_pending};
 ghost use Rattle.ob_store.specs.Consistent.{IsConsistent};
@@ -62,9 +62,8 @@ impl Receipt {
     }
 }
 
-/// That a call was entered in a journal, without the call, which its caller still has. Only a [`Book`] that enters a call
-/// makes one, and it can't be copied.
-#[derive(Drop)]
+/// That a call was entered in a journal, without the call, which its caller still has. Only a [`Book`] that enters a call makes one,
+/// and it can be neither copied nor let go (it isn't `Drop`): whatever was entered for a lane is listed in one.
 pub(crate) struct Entered {
     lane: u32,
     asked: Asked,
@@ -82,17 +81,31 @@ impl Model for Entered {
 impl Entered {
     /// The receipt, with the call that was entered.
     #[inline(always)]
-    pub(crate) fn receipt(self, call: Call) -> Receipt
+    fn receipt(self, call: Call) -> Receipt
         requires { call ≡ self.call }
         ensures { result ≡ self }
     {
+        let Entered {
+            lane,
+            asked: _,
+            reply,
+        } = self;
         Receipt {
-            entry: Entry {
-                lane: self.lane,
-                call,
-                reply: self.reply,
-            },
+            entry: Entry { lane, call, reply },
         }
+    }
+
+    /// Lists the call that was entered, where there is room for one, and gives its reply.
+    #[inline(always)]
+    pub(crate) fn list(self, receipts: &mut Vec<Receipt>, call: Call) -> Reply
+        requires call { call ≡ self.call }
+        requires room { vec_len receipts.old < vec_capacity receipts.old }
+        ensures listed { receipts.new.items ≡ receipts.old.items ++ self ∷ [] }
+        ensures reply { result ≡ self.reply }
+    {
+        let reply = self.reply;
+        receipts.push_reserved(self.receipt(call));
+        reply
     }
 }
 

@@ -1,4 +1,4 @@
-ghost use Rattle.std.specs.Prelude.{◌≡◌, ◌↔◌, [], IfNone, IfSome, IsTrue, Some};
+ghost use Rattle.std.specs.Prelude.{◌≡◌, ◌↔◌, ◌+◌, [], IfNone, IfSome, IsTrue, Some};
 ghost use Rattle.std.specs.List.{slice_get};
 ghost use Rattle.ob_shared.specs.Closing.{DifferAt, IsPart};
 ghost use Rattle.ob_shared.specs.Lanes.{part};
@@ -46,6 +46,16 @@ impl Lane {
         ensures { result.now ≡ self.now.list }
     {
         self.list.as_slice()
+    }
+
+    /// The next place, where the entry stands at a place of its list.
+    pub(crate) fn next(&self, place: usize, entry: &Entry) -> Option<usize>
+        ensures { IfSome result (λ next. (next ≡ place + 1) × (slice_get self.now.list place ≡ Some entry.now)) }
+    {
+        if has_at(self.list.as_slice(), place, entry) {
+            return Some(place + 1);
+        }
+        None
     }
 
     /// The first place where the list differs from the lane's part of a journal.

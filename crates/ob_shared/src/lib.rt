@@ -16,6 +16,7 @@ mod act;
 mod asked;
 mod book;
 mod closing;
+mod comparing;
 mod driving;
 mod gate;
 mod lane;

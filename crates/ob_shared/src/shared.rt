@@ -1,6 +1,6 @@
-ghost use Rattle.std.specs.Prelude.{◌≡◌, ◌<◌, [], ◌∷◌, ◌++◌, vec_len, vec_capacity};
+ghost use Rattle.std.specs.Prelude.{◌≡◌};
 
-use crate::book::{Book, Entered, Entry, Receipt};
+use crate::book::{Book, Entered, Entry};
 use crate::closing::CloseCause;
 use crate::lane::Lane;
 use ob_manager::{Call, Card, Manager, Reply};
@@ -136,7 +136,7 @@ impl<'a> Shared<'a> {
             return Reply::Refused(Fault::Memory);
         }
         match self.enter(rt, lane.number, &call) {
-            Ok(entered) => list(&mut lane.list, entered.receipt(call)),
+            Ok(entered) => entered.list(&mut lane.list, call),
             Err(fault) => {
                 drop(call);
                 Reply::Refused(fault)
@@ -208,13 +208,18 @@ impl<'a> Shared<'a> {
             { held.is_pending(wait) },
         );
         held.waiting = held.waiting.saturating_sub(1);
-        let answer = held.book.enact(lane.number, Call::WaitResult { wait });
+        let ask = Call::WaitResult { wait };
+        let copy = Call::WaitResult { wait };
+        let answer = held.book.enter(lane.number, &ask, copy);
         let waiting = held.waiting;
         drop(held);
         self.tell(waiting);
         match answer {
-            Ok(receipt) => list(&mut lane.list, receipt),
-            Err(fault) => Reply::Refused(fault),
+            Ok(entered) => entered.list(&mut lane.list, ask),
+            Err(fault) => {
+                drop(ask);
+                Reply::Refused(fault)
+            }
         }
     }
 
@@ -271,17 +276,6 @@ impl<'a> Shared<'a> {
             }),
         }
     }
-}
-
-/// Lists a call that was entered, where there is room for one, and gives its reply.
-fn list(receipts: &mut Vec<Receipt>, receipt: Receipt) -> Reply
-    requires { vec_len receipts.old < vec_capacity receipts.old }
-    ensures listed { receipts.new.items ≡ receipts.old.items ++ receipt ∷ [] }
-    ensures reply { result ≡ receipt.reply }
-{
-    let reply = receipt.entry().reply;
-    receipts.push_reserved(receipt);
-    reply
 }
 
 /// What a [`Shared`] was, once its lanes are whole.
