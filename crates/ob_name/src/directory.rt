@@ -1,4 +1,4 @@
-ghost use Rattle.std.specs.Prelude.{◌≡◌, ◌+◌, ◌<◌, ◌≤◌, None, [], ◌∷◌, ◌++◌, length, slice_get, IfOk, IfErr, OnOk};
+ghost use Rattle.std.specs.Prelude.{◌≡◌, ◌+◌, ◌<◌, ◌≤◌, None, [], ◌∷◌, ◌++◌, length, slice_get, IfOk, IfErr, IsOk, OnOk};
 ghost use Rattle.std.specs.Option.{option_map};
 ghost use Rattle.ob_rights.specs.declared.fault.Fault.TheVariants.{Memory};
 ghost use Rattle.ob_name.specs.Listing.{AreDistinct, find_name, without_name};
@@ -6,7 +6,7 @@ ghost use Rattle.ob_name.specs.Refs.{name_at, row_at};
 
 use crate::entered::Entered;
 use crate::name::NameRef;
-use crate::owned::Name;
+use crate::owned::{INLINE, Name};
 use crate::places::{close_up, entry_of, renumber, row_on};
 use crate::rows::Rows;
 use indexmap::IndexMap;
@@ -68,12 +68,14 @@ impl Directory {
 
     /// A copy of a name to enter, with room for one name more.
     ///
-    /// Where memory is wanting the answer is `Fault::Memory` (8). In either case the names stay.
+    /// Where memory is wanting the answer is `Fault::Memory` (8). In either case the names stay. Where there is room for one more
+    /// a name of at most 16 bytes takes none.
     pub fn reserve(&mut self, name: &NameRef<'_>) -> Result<Name, Fault>
         ensures rows { self.new.rows ≡ self.old.rows }
         ensures spare { self.old.spare ≤ self.new.spare }
         ensures copy { IfOk result (λ copy. copy ≡ name_at name.now) }
         ensures room { OnOk result (0 < self.new.spare) }
+        ensures succeeds { 0 < self.old.spare → length (name_at name.now).base ≤ INLINE → IsOk result }
         ensures refused { IfErr result (λ fault. fault ≡ Memory) }
     {
         if self.order.len() == self.order.capacity() && self.count <= self.order.len() / 2 {

@@ -1,4 +1,4 @@
-ghost use Rattle.std.specs.Prelude.{◌≡◌, IfOk};
+ghost use Rattle.std.specs.Prelude.{◌≡◌, ◌≤◌, IfOk, IsOk, length};
 ghost use Rattle.ob_name.specs.Refs.{name_at};
 
 use crate::name::NameRef;
@@ -8,7 +8,7 @@ use std::alloc::{AllocError, Global};
 use std::marker::Model;
 
 /// How many bytes a name may have that takes no memory beside itself.
-const INLINE: usize = 16;
+pub(crate) const INLINE: usize = 16;
 
 /// A name that is borrowed of nobody: one that [`Directory::reserve`] copied, to be entered, or one that an object keeps.
 ///
@@ -32,9 +32,10 @@ impl Model for Name {
 }
 
 impl Name {
-    /// A copy of a borrowed name. The refusal is want of memory.
+    /// A copy of a borrowed name. The refusal is want of memory, which a name of at most 16 bytes doesn't take.
     pub fn new(alloc: Global, name: &NameRef<'_>) -> Result<Name, AllocError>
-        ensures { IfOk result (λ copy. copy ≡ name_at name.now) }
+        ensures copy { IfOk result (λ copy. copy ≡ name_at name.now) }
+        ensures short { length (name_at name.now).base ≤ INLINE → IsOk result }
     {
         Ok(Name {
             session: name.space.session(),

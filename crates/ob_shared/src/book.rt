@@ -3,6 +3,7 @@ ghost use Rattle.ob_rights.specs.declared.fault.Fault.TheVariants.{Memory};
 ghost use Rattle.ob_waits.specs.Waits.{is_pending};
 ghost use Rattle.ob_store.specs.Consistent.{IsConsistent};
 ghost use Rattle.ob_store.specs.State.{opening};
+ghost use Rattle.ob_store.specs.Stored.{MatchesState};
 ghost use Rattle.ob_manager.specs.Counting.{card};
 ghost use Rattle.ob_manager.specs.Steps.{Step};
 ghost use Rattle.ob_shared.specs.Closing.{AreWhole, IsCause};
@@ -11,7 +12,7 @@ ghost use Rattle.ob_shared.specs.Journal.{IsHistory, replay};
 use crate::asked::Asked;
 use crate::closing::{CloseCause, cause_of};
 use crate::lane::Lane;
-use ob_manager::{Call, Card, Manager, Reply};
+use ob_manager::{Call, Card, Manager, Reply, Stored};
 use ob_rights::Fault;
 use pin_core::Id;
 use pin_words::PinKeeper;
@@ -211,6 +212,14 @@ impl<K: PinKeeper> Book<K> {
         ensures cause { IfSome result (λ cause. IsCause given lanes.now self.now.journal cause) }
     {
         cause_of(given, lanes, self.journal())
+    }
+
+    /// What the manager stores, as [`Manager::stored`] answers it: each slot with its object, the object's body and its counters,
+    /// and the directory. It matches the state that [`replays`](Book::replays) tells of.
+    pub fn stored(&self) -> Stored<'_, K>
+        ensures { MatchesState self.now.manager result }
+    {
+        self.manager.stored()
     }
 
     /// The calls, in the order in which they were made.

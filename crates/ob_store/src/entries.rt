@@ -1,7 +1,7 @@
-ghost use Rattle.std.specs.Prelude.{◌≡◌, ◌<◌, ◌↔◌, ◌⊎◌, Err, IfErr, IfOk, IsSome, OnErr, OnOk, Some, length};
+ghost use Rattle.std.specs.Prelude.{◌≡◌, ◌<◌, ◌↔◌, ◌⊎◌, Err, IfErr, IfOk, IsSome, OnErr, OnOk, Some, length, true};
 ghost use Rattle.ob_rights.specs.declared.fault.Fault.TheVariants.{Limit, Memory};
 ghost use Rattle.ob_tables.specs.Counts.{entries_in, handles_among};
-ghost use Rattle.ob_tables.specs.Table.{entry_at, free_place, value_of};
+ghost use Rattle.ob_tables.specs.Table.{entry_at, free_place, is_packed, value_of};
 ghost use Rattle.ob_tables.specs.Tables.{table_of};
 ghost use Rattle.ob_store.specs.State.{settled, with_entry, with_flags, without_entry};
 ghost use Rattle.std.specs.Option.{option_map};
@@ -27,6 +27,8 @@ impl<K: PinKeeper> Store<K> {
         ensures plain { OnOk result (self.new.state ≡ with_entry self.old.state process entry) }
         ensures limit { (result ≡ Err Limit) ↔ (entries_in (table_of self.old.state.tables process) ≡ self.old.state.limits.handles) }
         ensures refusal { IfErr result (λ fault. (fault ≡ Limit) ⊎ (fault ≡ Memory)) }
+        // A value that was given back is given again without memory.
+        ensures reuses { IfErr result (λ fault. fault ≡ Memory → is_packed (table_of self.old.state.tables process) ≡ true) }
         ensures err { OnErr result (self.new ≡ self.old) }
     {
         // Called for its clause, before and after the change.

@@ -1,5 +1,5 @@
 -- One handle table: the list of its places, each with an entry or with none. The value of place i is 4 * (i + 1).
-use Rattle.std.specs.Prelude.{◌≡◌, ℕ, suc, ◌+◌, ◌*◌, ◌-◌, ◌/◌, ◌≤◌, nat_lt, Bool, List, [], ◌∷◌, length, map, Option, Some, None, if◌then◌else◌, slice_index_or, slice_set, is_some}
+use Rattle.std.specs.Prelude.{◌≡◌, ℕ, suc, ◌+◌, ◌*◌, ◌-◌, ◌/◌, ◌≤◌, nat_le, nat_lt, Bool, List, [], ◌∷◌, length, map, Option, Some, None, if◌then◌else◌, slice_index_or, slice_set, is_some}
 use Rattle.ob_rights.specs.declared.handle_flags.HandleFlags.{HandleFlags}
 use Rattle.ob_tables.specs.declared.entry.Entry.{Entry}
 
@@ -24,6 +24,10 @@ abbrev pub free_place : {A : Type 0} → List (Option A) → ℕ
 free_place [] = 0
 free_place (None ∷ table) = 0
 free_place (Some x ∷ table) = suc (free_place table)
+
+-- each place has an entry, so that one more entry takes a new place
+abbrev pub is_packed : {A : Type 0} → List (Option A) → Bool
+is_packed table = nat_le (length table) (free_place table)
 
 -- the table with an entry at its least free place
 abbrev pub with_entry : List (Option Entry) → Entry → List (Option Entry)

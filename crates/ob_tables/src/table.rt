@@ -1,6 +1,6 @@
 ghost use Rattle.std.specs.Prelude.{[], ◌∷◌, ◌++◌, ◌≡◌, ◌⊎◌, IfErr, Some, ◌+◌, ◌<◌, ◌≤◌, IfOk, OnOk, OnErr, IsSome, length, slice_get, slice_set, true, is_some, nat_le};
 ghost use Rattle.ob_rights.specs.declared.fault.Fault.TheVariants.{Limit, Memory};
-ghost use Rattle.ob_tables.specs.Table.{at, entry_at, free_place, place_of, value_of, with_entry, without_entry, with_flags};
+ghost use Rattle.ob_tables.specs.Table.{at, entry_at, free_place, is_packed, place_of, value_of, with_entry, without_entry, with_flags};
 ghost use Rattle.ob_tables.specs.Inheritance.{inheritable, inherited};
 
 use crate::entry::{Entry, inheritable};
@@ -110,6 +110,7 @@ impl Table {
         ensures ok { OnOk result (self.new ≡ with_entry self.old entry) }
         ensures room { OnOk result (free_place self.old < limit) }
         ensures refusal { IfErr result (λ fault. ((fault ≡ Limit) × (limit ≤ free_place self.old)) ⊎ ((fault ≡ Memory) × (free_place self.old < limit))) }
+        ensures reuses { IfErr result (λ fault. fault ≡ Memory → is_packed self.old ≡ true) }
         ensures err { OnErr result (self.new ≡ self.old) }
     {
         let place = self.free.least();

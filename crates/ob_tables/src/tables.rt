@@ -1,6 +1,6 @@
-ghost use Rattle.std.specs.Prelude.{[], ◌∷◌, ◌≡◌, ◌↔◌, ◌⊎◌, ◌+◌, ◌<◌, ◌≤◌, Err, IfErr, IfOk, OnErr, OnOk, IsSome, IsTrue, length, nat_lt};
+ghost use Rattle.std.specs.Prelude.{[], ◌∷◌, ◌≡◌, ◌↔◌, ◌⊎◌, ◌+◌, ◌<◌, ◌≤◌, Err, IfErr, IfOk, OnErr, OnOk, IsSome, IsTrue, length, nat_lt, true};
 ghost use Rattle.ob_rights.specs.declared.fault.Fault.TheVariants.{Limit, Memory};
-ghost use Rattle.ob_tables.specs.Table.{entry_at, free_place, value_of};
+ghost use Rattle.ob_tables.specs.Table.{entry_at, free_place, is_packed, value_of};
 ghost use Rattle.ob_tables.specs.Counts.{entries_in};
 ghost use Rattle.ob_tables.specs.Tables.{table_of, with_child, with_entry_of, with_flags_of, with_process, without_entries, without_entry_of, IsBounded};
 
@@ -115,6 +115,8 @@ impl Tables {
         ensures room { OnOk result (entries_in (table_of self.old.tables process) < self.old.handle_limit) }
         ensures limit { (result ≡ Err Limit) ↔ (entries_in (table_of self.old.tables process) ≡ self.old.handle_limit) }
         ensures refusal { IfErr result (λ fault. (fault ≡ Limit) ⊎ (fault ≡ Memory)) }
+        // A value that was given back is given again without memory.
+        ensures reuses { IfErr result (λ fault. fault ≡ Memory → is_packed (table_of self.old.tables process) ≡ true) }
         ensures err { OnErr result (self.new ≡ self.old) }
         // Whatever the tables are: no more numbers and entries than their limits, and these in range.
         ensures bounded { IsBounded self.old.process_limit self.old.handle_limit self.old.tables }

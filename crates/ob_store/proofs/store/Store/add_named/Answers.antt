@@ -18,7 +18,7 @@ invariant_of-self-in-Ok g c =
     let name = name_at c.args.name.now in
     let head : Head = record { descr = new.descr; grant = new.grant; name = Some name } in
     let absent : find_name name s.names.rows ≡ None = ap (find_name name) c.self.invariant.listing.same ∙ ap (λ (w : Whole). find_name name (directory_of w.state)) c.self.view_is ∙ c.requires.absent in
-    rw (c.enter.ensures.rows, c.add-id.ensures.id, c.add-id.ensures.added, c.in-Ok.ensures.ok, c.id_at.ensures, c.in_ok-kept.ensures, c.in_ok-entered.ensures.copy, c.in_ok-entered.ensures.rows)
+    rw (c.enter.ensures.rows, c.add-id.ensures.id, c.add-id.ensures.added, c.in-Ok.ensures.ok, c.id_at.ensures, c.in_ok-kept.ensures.copy, c.in_ok-entered.ensures.copy, c.in_ok-entered.ensures.rows)
     (kept_name s.limits s.lives s.tables s.objects s.waits s.names.rows c.self.invariant c.kept.ensures c.args.process c.args.slot new.rights new.flags head new.body
     (subst (λ (w : Whole). c.args.process < length w.state.tables) (sym c.self.view_is) c.requires.process)
     (subst (λ (w : Whole). is_vacant_at (vacancy w.state) c.args.slot ≡ true) (sym c.self.view_is) c.requires.vacant)
@@ -33,6 +33,6 @@ returns-in-Ok-clause-state g c =
     let head : Head = record { descr = new.descr; grant = new.grant; name = Some (name_at c.args.name.now) } in
     let after : State → State = λ (z : State). with_added z c.args.process c.args.slot new.rights new.flags head new.body in
     let added : state_of s.limits s.lives c.place.new.self c.add-id.new.self s.waits ≡ after (state_of s.limits s.lives s.tables s.objects s.waits) =
-    rw (c.add-id.ensures.added, c.in-Ok.ensures.ok, c.id_at.ensures, c.in_ok-kept.ensures) (added_state s.limits s.lives s.tables s.objects s.waits c.args.process c.args.slot new.rights new.flags head new.body) in
+    rw (c.add-id.ensures.added, c.in-Ok.ensures.ok, c.id_at.ensures, c.in_ok-kept.ensures.copy) (added_state s.limits s.lives s.tables s.objects s.waits c.args.process c.args.slot new.rights new.flags head new.body) in
     sym (settled_kept s.limits s.lives c.place.new.self c.add-id.new.self s.waits c.enter.new.self.rows (invariant_of-self-in-Ok g c) c.kept-in-Ok.ensures)
     ∙ ap settled (added ∙ ap (λ (w : Whole). after w.state) c.self.view_is)

@@ -1,4 +1,5 @@
-use Rattle.std.proofs.Common.{arith, ◌≡◌, ◌∙◌, refl, sym, ap, List, [], ◌∷◌, ◌++◌, Option, Some, inl, inr}
+use Rattle.std.proofs.Common.{arith, ◌≡◌, ◌≤◌, ◌∙◌, refl, sym, ap, List, [], ◌∷◌, ◌++◌, Option, Some, length, inl, inr}
+use Rattle.std.proofs.lemmas.Bool.Decides.{nat_tests}
 use Rattle.ob_tables.specs.declared.entry.Entry.{Entry}
 use Rattle.ob_tables.specs.Table.{free_place, value_of, with_entry}
 use Rattle.ob_tables.proofs.Places.{least_place, place_is_free, placed_at, placed_last, kept_set}
@@ -34,6 +35,13 @@ pub returns-in_default-clause-refusal : goal.returns-in_default-clause-refusal
 returns-in_default-clause-refusal c =
     let at : c.least-place.result ≡ free_place c.args.self.now = c.least-place.ensures.value ∙ least_place c.self.inside.free c.self.inside.places.items c.self.invariant ∙ ap free_place c.self.view_is in
     inr (refl, omega arith)
+
+pub returns-in_default-clause-reuses : goal.returns-in_default-clause-reuses
+returns-in_default-clause-reuses c =
+    let at : c.least-place.result ≡ free_place c.args.self.now = c.least-place.ensures.value ∙ least_place c.self.inside.free c.self.inside.places.items c.self.invariant ∙ ap free_place c.self.view_is in
+    let long : length c.self.inside.places.items ≡ length c.args.self.now = ap length c.self.view_is in
+    let past : length c.args.self.now ≤ free_place c.args.self.now = omega arith in
+    λ _. grind (arith, nat_tests, past)
 
 pub returns-clause-value : goal.returns-clause-value
 returns-clause-value c =
