@@ -17,6 +17,11 @@ impl Model for Published {
     ghost also_owns = { λ _. ftrue };
 }
 
+// It owns nothing.
+unsafe impl Send for Published {}
+
+unsafe impl Sync for Published {}
+
 impl Published {
     /// Nothing was published.
     pub(crate) fn new() -> Published
