@@ -11,7 +11,7 @@ use call_tables::{Line, pins_for};
 use ob_manager::Limits;
 use ob_manager::Reply::CountsAre;
 use ob_rights::Fault;
-use ob_shared::{CloseCause, Lane, Shared};
+use ob_shared::{CloseCause, Lane, NotClosed, Shared};
 use pin_words::{Opening, Pins};
 use std::alloc::Global;
 use std::process::Abort;
@@ -23,6 +23,7 @@ use std::thread::Threads;
 #[derive(Clone, Copy)]
 pub(super) enum Case {
     Whole,
+    LeftOut,
     Twice,
     Alone,
     Stranger,
@@ -36,9 +37,38 @@ impl Case {
         match self {
             Case::Whole => None,
             Case::Twice => Some(CloseCause::LaneTwice),
-            Case::Alone | Case::CallOfStranger => Some(CloseCause::LaneMissing),
+            Case::LeftOut | Case::Alone | Case::CallOfStranger => Some(CloseCause::LaneMissing),
             Case::Stranger => Some(CloseCause::LaneStranger),
             Case::AnotherLane => Some(CloseCause::LanesDiffer { lane: 1, place: 0 }),
+        }
+    }
+
+    /// Whether what is refused is whole once the lane that was left out is there, or the last lane is gone.
+    pub(super) fn is_mended(self) -> bool {
+        matches!(self, Case::LeftOut | Case::Twice | Case::Stranger)
+    }
+}
+
+/// Closes again what was refused, with the lane that was left out, or else without the last lane. Whether it is closed.
+pub(super) fn closes_again(refused: NotClosed<'_>, left_out: Option<Lane>) -> bool {
+    let NotClosed {
+        shared,
+        mut lanes,
+        ..
+    } = refused;
+    match left_out {
+        // (there is room for it, since it was taken out of the list)
+        Some(lane) => drop(lanes.push(lane)),
+        None => drop(lanes.pop()),
+    }
+    match shared.close(lanes) {
+        Ok(closed) => {
+            drop(closed);
+            true
+        }
+        Err(refused) => {
+            drop(refused);
+            false
         }
     }
 }
@@ -93,7 +123,7 @@ fn change<R: Abort + Wait>(
     case: Case,
 ) -> Result<(), Fault> {
     match case {
-        Case::Whole => {}
+        Case::Whole | Case::LeftOut => {}
         Case::Twice => lanes.push(lane_of_another(alloc, 1)?)?,
         Case::Alone => drop(lanes.pop()),
         Case::Stranger => lanes.push(lane_of_another(alloc, 2)?)?,
@@ -139,6 +169,12 @@ fn over_case<R: Abort + Wait + Threads + Sync>(
 #[test]
 fn it_closes_with_its_lanes(rt: HostRuntime) -> Result<(), Fail> {
     over_case(&rt, rt.alloc(), Case::Whole)?;
+    Ok(())
+}
+
+#[test]
+fn what_was_refused_closes_with_the_lane_that_was_left_out(rt: HostRuntime) -> Result<(), Fail> {
+    over_case(&rt, rt.alloc(), Case::LeftOut)?;
     Ok(())
 }
 

@@ -3,7 +3,7 @@ ghost use Rattle.std.specs.Prelude.{◌≡◌, All, IsTrue};
 ghost use Rattle.ob_shared.specs.Members.{IsNew};
 
 use super::playing::{answers, room_for};
-use super::turns::Turns;
+use super::turns::{Turns, Until};
 use super::{crowd, holds, turns, wanting};
 use call_tables::{Ask, Line};
 use ob_rights::Fault;
@@ -19,6 +19,7 @@ use std::thread::Threads;
 #[derive(Clone, Copy)]
 pub(super) enum Script {
     InTurn,
+    Stops,
     Crowd,
     Waits,
 }
@@ -50,6 +51,7 @@ impl Deed<'_> {
 fn acts_of(script: Script) -> usize {
     match script {
         Script::InTurn => 1,
+        Script::Stops => turns::ACTS,
         Script::Crowd => crowd::ACTS,
         Script::Waits => wanting::ACTS,
     }
@@ -60,7 +62,7 @@ fn act_at(script: Script, number: u32, place: usize) -> Deed<'static> {
     match script {
         Script::InTurn => turns::deed(number),
         Script::Crowd => crowd::deed(number, place),
-        Script::Waits => wanting::DEED,
+        Script::Stops | Script::Waits => wanting::DEED,
     }
 }
 
@@ -150,15 +152,36 @@ fn drives<R: Abort + Wait + Threads + Sync, G: Gate + Sync>(
         holds(rt, members.iter().all(|member| is_untouched(member, acts)));
         holds(rt, tries(rt, shared, gate, members));
     }
-    holds(rt, members.iter().all(|member| member.seen.len() == acts));
+}
+
+/// Drives up to a place.
+fn drives_until<R: Abort + Wait + Threads + Sync>(
+    rt: &R,
+    shared: &Shared<'_>,
+    members: &mut [Member<'_>],
+    acts: usize,
+) {
+    let gate = Until::new(turns::PASSED);
+    drives(rt, shared, &gate, members, acts);
+    holds(rt, gate.was_told_all());
+}
+
+/// Whether the members have seen what they should, and as much.
+fn are_done(members: &[Member<'_>], script: Script) -> bool {
+    let acts = acts_of(script);
+    let is_whole = members.iter().all(|member| member.seen.len() == acts);
+    match script {
+        Script::Stops => turns::is_stopped(members),
+        _ => is_whole && have_seen(members, script),
+    }
 }
 
 /// Whether the members have seen what they should.
-fn are_done(members: &[Member<'_>], script: Script) -> bool {
+fn have_seen(members: &[Member<'_>], script: Script) -> bool {
     match script {
         Script::InTurn => turns::are_done(members),
         Script::Crowd => members.iter().all(|member| crowd::is_done(member)),
-        Script::Waits => true,
+        Script::Stops | Script::Waits => true,
     }
 }
 
@@ -172,6 +195,7 @@ fn drives_all<R: Abort + Wait + Threads + Sync>(
     let acts = acts_of(script);
     match script {
         Script::InTurn => drives(rt, shared, &Turns::new(), members, acts),
+        Script::Stops => drives_until(rt, shared, members, acts),
         _ => drives(rt, shared, &OpenGate, members, acts),
     }
     holds(rt, are_done(members, script));
@@ -182,7 +206,7 @@ fn before(script: Script) -> &'static [Line<'static>] {
     match script {
         Script::InTurn => turns::BEFORE,
         Script::Crowd => &[],
-        Script::Waits => wanting::BEFORE,
+        Script::Stops | Script::Waits => wanting::BEFORE,
     }
 }
 

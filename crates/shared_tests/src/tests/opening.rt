@@ -2,7 +2,7 @@
 ghost use Rattle.std.specs.Prelude.{◌≡◌};
 ghost use Rattle.ob_store.specs.State.{shape_of};
 
-use super::closing::{Case, plays_a_case};
+use super::closing::{Case, closes_again, plays_a_case};
 use super::crowd::agrees_with_a_fresh_one;
 use super::holding::{Move, plays_moves};
 use super::members::{Script, plays_members};
@@ -44,6 +44,19 @@ impl Scene<'_> {
             Scene::Closes(case) => case.cause(),
             Scene::ManyLanes => Some(CloseCause::LaneMissing),
             _ => None,
+        }
+    }
+
+    /// Whether the last lane is left out at first.
+    fn leaves_out(&self) -> bool {
+        matches!(*self, Scene::Closes(Case::LeftOut))
+    }
+
+    /// Whether what isn't closed is closed the second time.
+    fn is_mended(&self) -> bool {
+        match *self {
+            Scene::Closes(case) => case.is_mended(),
+            _ => false,
         }
     }
 }
@@ -116,20 +129,26 @@ fn plays<R: Abort + Wait + Threads + Sync>(
     }
 }
 
-/// Closes, and is answered as is due. A refusal hands all lanes back.
+/// Closes, and is answered as is due. A refusal hands back all lanes and what was to be closed, which can be closed again.
 fn closes(
     rt: &impl Abort,
     alloc: Global,
     limits: Limits,
     shared: Shared<'_>,
-    lanes: Vec<Lane>,
+    mut lanes: Vec<Lane>,
     scene: Scene<'_>,
 ) -> Result<(), Fault> {
+    let left_out = if scene.leaves_out() {
+        lanes.pop()
+    } else {
+        None
+    };
     let handed = lanes.len();
     let due = scene.cause();
     match shared.close(lanes) {
         Ok(closed) => {
             holds(rt, due.is_none());
+            drop(left_out);
             let Closed {
                 mut manager,
                 journal,
@@ -142,7 +161,7 @@ fn closes(
         Err(refused) => {
             same(rt, due, Some(refused.cause));
             same(rt, refused.lanes.len(), handed);
-            drop(refused);
+            same(rt, closes_again(refused, left_out), scene.is_mended());
             Ok(())
         }
     }

@@ -7,7 +7,7 @@ use ob_manager::Reply::{Made, Spawned, Started};
 use ob_manager::{Limits, Reply};
 use ob_shared::{Entry, Gate, Member, Pass, Seen};
 use std::sync::Wait;
-use std::sync::atomic::{AtomicBool, Ordering};
+use std::sync::atomic::{AtomicBool, AtomicUsize, Ordering};
 use std::test::Fail;
 
 /// How often a member looks whether it may go on, before it stops.
@@ -54,6 +54,47 @@ impl Gate for Turns {
     }
 }
 
+/// Lets acts pass up to a place, each once it was told of all before it, and of nothing else.
+#[derive(Drop)]
+pub(super) struct Until {
+    last: usize,
+    told: AtomicUsize,
+    was_told_wrong: AtomicBool,
+}
+
+impl Until {
+    pub(super) fn new(last: usize) -> Until {
+        Until {
+            last,
+            told: AtomicUsize::new(0),
+            was_told_wrong: AtomicBool::new(false),
+        }
+    }
+
+    /// Whether it was told of each place up to the last one, in their order.
+    pub(super) fn was_told_all(&self) -> bool {
+        self.told.load(Ordering::SeqCst) == self.last && !self.was_told_wrong.load(Ordering::SeqCst)
+    }
+}
+
+impl Gate for Until {
+    fn enter<R: Wait>(&self, _rt: &R, _lane: u32, place: usize) -> Pass {
+        if place < self.last && self.told.load(Ordering::SeqCst) == place {
+            Pass::Go
+        } else {
+            Pass::Stop
+        }
+    }
+
+    fn leave<R: Wait>(&self, _rt: &R, _lane: u32, place: usize) {
+        if self.told.load(Ordering::SeqCst) == place && place < self.last {
+            self.told.store(place + 1, Ordering::SeqCst);
+        } else {
+            self.was_told_wrong.store(true, Ordering::SeqCst);
+        }
+    }
+}
+
 /// A process with two threads, and an event.
 #[rattlefmt::skip]
 pub(super) const BEFORE: &[Line<'static>] = &[
@@ -96,6 +137,25 @@ pub(super) fn are_done(members: &[Member<'_>]) -> bool {
     has_seen(members, 0, made) && has_seen(members, 1, Reply::Done)
 }
 
+/// How many acts of the member that is stopped are let pass.
+pub(super) const PASSED: usize = 3;
+
+/// How many acts it has.
+pub(super) const ACTS: usize = 5;
+
+/// Whether a member saw three answers, and was stopped before the fourth act.
+pub(super) fn is_stopped(members: &[Member<'_>]) -> bool {
+    match members.get(0) {
+        Some(member) => {
+            let seen = member.seen.as_slice();
+            seen.len() == PASSED + 1
+                && seen[PASSED] == Seen::Stopped
+                && !seen[..PASSED].contains(&Seen::Stopped)
+        }
+        None => false,
+    }
+}
+
 /// Whether the journal has five entries, the one of lane 2 before the one of lane 1.
 pub(super) fn is_in_turn(journal: &[Entry]) -> bool {
     journal.len() == 5 && journal[3].lane == 2 && journal[4].lane == 1
@@ -105,5 +165,12 @@ pub(super) fn is_in_turn(journal: &[Entry]) -> bool {
 fn members_pass_a_gate_in_turn(rt: HostRuntime) -> Result<(), Fail> {
     let scene = Scene::Members(Script::InTurn);
     over_shared(&rt, rt.alloc(), Limits::default(), 2, scene)?;
+    Ok(())
+}
+
+#[test]
+fn a_gate_stops_a_member_at_a_place(rt: HostRuntime) -> Result<(), Fail> {
+    let scene = Scene::Members(Script::Stops);
+    over_shared(&rt, rt.alloc(), Limits::default(), 1, scene)?;
     Ok(())
 }
