@@ -11,6 +11,8 @@ use Rattle.ob_rights.specs.declared.kind.Kind.TheVariants as kind
 use Rattle.ob_rights.specs.Flags.{is_protected}
 use Rattle.ob_body.specs.Body.{post_answer, unlock_answer}
 use Rattle.ob_store.specs.State.{State, Whole, settled, with_entry}
+use Rattle.ob_name.specs.Listing.{find_name}
+use Rattle.ob_store.specs.Directory.{directory_of}
 use Rattle.ob_store.specs.Moves.{after_reclaim}
 use Rattle.ob_rights.specs.declared.rights.Rights.{Rights}
 use Rattle.ob_tables.specs.declared.entry.Entry.{Entry}
@@ -27,7 +29,7 @@ use Rattle.ob_manager.specs.declared.reply.Reply.{Reply}
 use Rattle.ob_manager.specs.declared.reply.Reply.TheVariants.{Code, Duplicated, Reaped, Refused}
 use Rattle.ob_manager.specs.Outcomes.{Outcome, ◌>>=◌, or_refuse, refuse_if}
 use Rattle.ob_manager.specs.Checks.{caller, found, body_of, granted, positive}
-use Rattle.ob_manager.specs.Creating.{entry_of, next_handle}
+use Rattle.ob_manager.specs.Creating.{entry_of, name_in, new_handle, next_handle, open_named}
 use Rattle.ob_manager.specs.Handles.{close, handle_flags, set_handle_flags}
 use Rattle.ob_manager.specs.Copying.{admitted, copied_to, duplicate, is_stuck, is_wrong, leaves, with_source, without_source}
 use Rattle.ob_manager.specs.Waiting as waiting
@@ -129,7 +131,9 @@ can_answer w (calls.MakeEvent thread make manual set) pins = refused w (calls.Ma
 can_answer w (calls.MakeMutex thread make owned) pins = refused w (calls.MakeMutex thread make owned) _ (λ held reply. tt) refl (λ reply. refl)
 can_answer w (calls.MakeSemaphore thread make initial max) pins = refused w (calls.MakeSemaphore thread make initial max) _ (λ held reply. tt) refl (λ reply. refl)
 can_answer w (calls.MakeTimer thread make manual) pins = refused w (calls.MakeTimer thread make manual) _ (λ held reply. tt) refl (λ reply. refl)
-can_answer w (calls.OpenNamed thread kind mask inherit text) pins = refused w (calls.OpenNamed thread kind mask inherit text) _ (λ held reply. tt) refl (λ reply. refl)
+can_answer w (calls.OpenNamed thread kind mask inherit text) pins = answered w (calls.OpenNamed thread kind mask inherit text) (open_named w.state thread kind mask inherit text) (λ held reply. tt) (λ reply. refl)
+    (rests_behind w.keeper (caller w.state thread) _ (λ process. rests_behind w.keeper (name_in w.state process text) _ (λ name. rests_behind w.keeper (or_refuse (find_name name (directory_of w.state)) fault.NotFound) _ (λ id.
+    rests_behind w.keeper (new_handle w.state process id kind mask inherit) _ (λ after. refl)))))
 can_answer w (calls.Duplicate thread source handle target mask inherit options) pins =
     answered w (calls.Duplicate thread source handle target mask inherit options) (duplicate w.state thread source handle target mask inherit options) (λ held reply. tt) (λ reply. refl)
     (rests_behind w.keeper (caller w.state thread) _ (λ process. rests_behind w.keeper (or_refuse (slice_index_or w.state.processes source None) fault.Parameter) _ (λ session.

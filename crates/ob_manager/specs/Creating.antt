@@ -16,7 +16,7 @@ use Rattle.ob_name.specs.Names.{ObjectName}
 use Rattle.ob_name.specs.Texts.{name_of}
 use Rattle.ob_name.specs.Listing.{find_name}
 use Rattle.ob_tables.specs.declared.entry.Entry.{Entry}
-use Rattle.ob_tables.specs.Table.{free_place, value_of}
+use Rattle.ob_tables.specs.Table.{free_place, is_packed, value_of}
 use Rattle.ob_tables.specs.Tables.{table_of}
 use Rattle.ob_manager.specs.Makings.{Making}
 use Rattle.ob_manager.specs.declared.creating.New.{New}
@@ -42,6 +42,11 @@ entry_of id rights inherit = record { id = id; rights = rights; flags = flags_of
 -- the value that a process's next handle has
 abbrev pub next_handle : State → ℕ → ℕ
 next_handle s process = value_of (free_place (table_of s.tables process))
+
+-- whether one more handle of a process takes a new place of its table: where a value was given back, that one is given again
+abbrev pub takes_place : State → Option ℕ → Bool
+takes_place s None = false
+takes_place s (Some process) = is_packed (table_of s.tables process)
 
 -- what a name that a caller gives stands for in its session
 abbrev pub name_in : State → ℕ → List ℕ → Result ObjectName Fault

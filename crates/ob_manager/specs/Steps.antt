@@ -1,5 +1,5 @@
 -- One step of a manager, for each call.
-use Rattle.std.specs.Prelude.{◌≡◌, ℕ, Result, Ok, Err, Bool, true, false, Option, Some, None, if◌then◌else◌, is_ok, slice_index_or}
+use Rattle.std.specs.Prelude.{◌≡◌, ℕ, Result, Ok, Err, ◌&&◌, Bool, true, false, Option, Some, None, if◌then◌else◌, is_ok, slice_index_or}
 use Rattle.pin_words.specs.Keepers.{KeeperState, stored, published, Reclaims}
 use Rattle.pin_words.specs.declared.pin_keeper.Reclaim.{Reclaim}
 use Rattle.pin_words.specs.declared.pin_keeper.Reclaim.TheVariants as reclaim
@@ -14,7 +14,7 @@ use Rattle.ob_store.specs.State.{State, Whole}
 use Rattle.ob_store.specs.Moves.{OnlyCloses}
 use Rattle.ob_manager.specs.Outcomes.{Outcome, Refuses}
 use Rattle.ob_manager.specs.Processes.{spawn, child, thread}
-use Rattle.ob_manager.specs.Creating.{create_event, create_mutex, create_semaphore, create_timer, open_named}
+use Rattle.ob_manager.specs.Creating.{create_event, create_mutex, create_semaphore, create_timer, open_named, takes_place}
 use Rattle.ob_manager.specs.Handles.{close, handle_flags, set_handle_flags}
 use Rattle.ob_manager.specs.Copying.{duplicate, is_copy}
 use Rattle.ob_manager.specs.Signaling.{set_event, reset_event, release_semaphore, release_mutex}
@@ -58,7 +58,8 @@ outcome_of s (calls.Exit process) reply = exit s process
 outcome_of s (calls.Reap slot) reply = reap s slot (reclaim_in reply)
 outcome_of s (calls.Counts id) reply = counts s id
 
--- whether a call takes memory, which may be wanting: a wait only where it becomes pending
+-- whether a call takes memory, which may be wanting: a wait only where it becomes pending, and a handle to an object that is
+-- there only where no value was given back
 abbrev pub takes_memory : State → Call → Bool
 takes_memory s (calls.Spawn session) = true
 takes_memory s (calls.Child thread inherit) = true
@@ -67,8 +68,8 @@ takes_memory s (calls.MakeEvent thread making manual set) = true
 takes_memory s (calls.MakeMutex thread making owned) = true
 takes_memory s (calls.MakeSemaphore thread making initial max) = true
 takes_memory s (calls.MakeTimer thread making manual) = true
-takes_memory s (calls.OpenNamed thread kind mask inherit text) = true
-takes_memory s (calls.Duplicate thread source handle target mask inherit options) = is_copy (duplicate s thread source handle target mask inherit options)
+takes_memory s (calls.OpenNamed thread kind mask inherit text) = takes_place s (slice_index_or s.threads thread None)
+takes_memory s (calls.Duplicate thread source handle target mask inherit options) = is_copy (duplicate s thread source handle target mask inherit options) && takes_place s target
 takes_memory s (calls.CloseHandle thread handle) = false
 takes_memory s (calls.GetFlags thread handle) = false
 takes_memory s (calls.SetFlags thread handle mask flags) = false

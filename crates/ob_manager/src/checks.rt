@@ -15,6 +15,7 @@ use pin_words::PinKeeper;
 /// it has a wait.
 pub fn caller<K: PinKeeper>(store: &Store<K>, thread: u32) -> Result<u32, Fault>
     ensures value { result ≡ caller store.now.state thread }
+    ensures process { IfOk result (λ process. slice_index_or store.now.state.threads thread None ≡ Some process) }
     ensures table { IfOk result (λ process. process < length store.now.state.tables) }
 {
     let Some(process) = store.process(thread) else {

@@ -1,9 +1,10 @@
-ghost use Rattle.std.specs.Prelude.{◌≡◌, ◌<◌, ℕ, false, true, IfErr, IfOk, OnErr, OnOk, Some, length};
+ghost use Rattle.std.specs.Prelude.{◌≡◌, ◌<◌, ◌&&◌, ℕ, false, true, IfErr, IfOk, OnErr, OnOk, Some, length};
 ghost use Rattle.ob_rights.specs.declared.fault.Fault.TheVariants.{Memory};
 ghost use Rattle.ob_tables.specs.Table.{entry_at};
 ghost use Rattle.ob_tables.specs.Tables.{table_of};
 ghost use Rattle.ob_store.specs.State.{handles_of, is_full};
 ghost use Rattle.ob_manager.specs.Copying.{admitted, closes, copied, copied_to, copy_rights, duplicate, is_copy, is_stuck, is_wrong, keeps_rights, leaves};
+ghost use Rattle.ob_manager.specs.Creating.{takes_place};
 ghost use Rattle.ob_manager.specs.Steps.{Copies, Duplicates};
 
 use crate::checks::{caller, found};
@@ -112,6 +113,7 @@ fn copied<K: PinKeeper>(
     requires { 0 < handles_of store.old.state entry.id }
     ensures ok { IfOk result (λ answer. Copies answer store.old store.new (copied store.old.state entry target mask inherit options)) }
     ensures memory { OnErr result (is_copy (copied store.old.state entry target mask inherit options) ≡ true) }
+    ensures place { OnErr result (takes_place store.old.state (Some target) ≡ true) }
     ensures err { OnErr result (store.new ≡ store.old) }
     ensures stays { (source handle : ℕ) (other : Entry) → entry_at (table_of store.old.state.tables source) handle ≡ Some other → entry_at (table_of store.new.state.tables source) handle ≡ Some other }
 {
@@ -139,6 +141,7 @@ fn copied_to<K: PinKeeper>(
     requires { 0 < handles_of store.old.state entry.id }
     ensures ok { IfOk result (λ answer. Copies answer store.old store.new (copied_to store.old.state entry target mask inherit options)) }
     ensures memory { OnErr result (is_copy (copied_to store.old.state entry target mask inherit options) ≡ true) }
+    ensures place { OnErr result (takes_place store.old.state target ≡ true) }
     ensures err { OnErr result (store.new ≡ store.old) }
     ensures stays { (source handle : ℕ) (other : Entry) → entry_at (table_of store.old.state.tables source) handle ≡ Some other → entry_at (table_of store.new.state.tables source) handle ≡ Some other }
 {
@@ -160,7 +163,7 @@ pub fn duplicate<K: PinKeeper>(
     options: u32,
 ) -> Result<Reply, Fault>
     ensures outcome { Duplicates result store.old store.new (duplicate store.old.state thread source handle target mask inherit options) }
-    ensures memory { IfErr result (λ fault. fault ≡ Memory → is_copy (duplicate store.old.state thread source handle target mask inherit options) ≡ true) }
+    ensures memory { IfErr result (λ fault. fault ≡ Memory → is_copy (duplicate store.old.state thread source handle target mask inherit options) && takes_place store.old.state target ≡ true) }
 {
     caller(store, thread)?;
     if store.session(source).is_none() {

@@ -1,15 +1,17 @@
-ghost use Rattle.std.specs.Prelude.{◌≡◌, ◌≢◌, ◌<◌, false, true, IfErr, IfOk, None, Ok, OnErr, OnOk, Some, ℕ, length};
+ghost use Rattle.std.specs.Prelude.{◌≡◌, ◌≢◌, ◌<◌, false, true, IfErr, IfOk, None, Ok, OnErr, OnOk, Some, ℕ, length, slice_index_or};
 ghost use Rattle.ob_body.specs.Body as spec;
 ghost use Rattle.ob_name.specs.Refs.{name_at, parsed_name};
 ghost use Rattle.ob_name.specs.Listing.{find_name};
 ghost use Rattle.ob_waits.specs.Form.{form_of};
+ghost use Rattle.ob_tables.specs.Table.{is_packed};
+ghost use Rattle.ob_tables.specs.Tables.{table_of};
 ghost use Rattle.pin_core.specs.Descrs.{IsGiven};
 ghost use Rattle.ob_store.specs.Directory.{directory_of};
 ghost use Rattle.ob_arena.specs.Slots.{is_vacant_at};
 ghost use Rattle.ob_store.specs.State.{handles_of, is_full, vacancy};
 ghost use Rattle.ob_store.specs.Kept.{IsLive, form_in};
 ghost use Rattle.ob_manager.specs.Makings.{making_of};
-ghost use Rattle.ob_manager.specs.Creating.{create, create_event, create_mutex, create_semaphore, create_timer, created, flags_of, name_in, new_event, new_handle, new_mutex, new_object, new_semaphore, new_timer, next_handle, open_named, or_all, room_for};
+ghost use Rattle.ob_manager.specs.Creating.{create, create_event, create_mutex, create_semaphore, create_timer, created, flags_of, name_in, new_event, new_handle, new_mutex, new_object, new_semaphore, new_timer, next_handle, open_named, or_all, room_for, takes_place};
 ghost use Rattle.ob_manager.specs.Outcomes.{Refuses};
 ghost use Rattle.ob_manager.specs.Steps.{GivesOrLacks};
 
@@ -233,6 +235,7 @@ fn new_handle<K: PinKeeper>(
     ensures ok { OnOk result (new_handle store.old.state process id kind rights inherit ≡ Ok store.new.state) }
     ensures keeper { store.new.keeper ≡ store.old.keeper }
     ensures err { IfErr result (λ fault. Refuses fault (new_handle store.old.state process id kind rights inherit)) }
+    ensures memory { IfErr result (λ fault. fault ≡ Fault.Memory → is_packed (table_of store.old.state.tables process) ≡ true) }
     ensures same { OnErr result (store.new ≡ store.old) }
 {
     let Some(found) = store.object(id.slot) else {
@@ -367,7 +370,8 @@ pub fn open_named<K: PinKeeper>(
     inherit: bool,
     text: &[u8],
 ) -> Result<Reply, Fault>
-    ensures { GivesOrLacks result store.old store.new (open_named store.old.state thread kind mask inherit text.now) }
+    ensures gives { GivesOrLacks result store.old store.new (open_named store.old.state thread kind mask inherit text.now) }
+    ensures memory { IfErr result (λ fault. fault ≡ Fault.Memory → takes_place store.old.state (slice_index_or store.old.state.threads thread None) ≡ true) }
 {
     let process = caller(store, thread)?;
     let name = name_in(store, process, text)?;

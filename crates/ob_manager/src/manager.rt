@@ -189,7 +189,7 @@ impl<K: PinKeeper> Manager<K> {
     ///
     /// Refused with 87 where the thread isn't live, 170 where it waits; for the name with 206, 87 or 3; 2 where no object has
     /// it; 6 where an object of another kind has it; 5 for no rights and for one that the object's grant doesn't have; 1450
-    /// where the process has each handle; and 8 for want of memory.
+    /// where the process has each handle; and 8 for want of memory, unless the value of a handle that was closed is free.
     ///
     /// [OpenEvent]: https://learn.microsoft.com/windows/win32/api/synchapi/nf-synchapi-openeventa
     pub fn open_named(
@@ -212,7 +212,7 @@ impl<K: PinKeeper> Manager<K> {
     /// Refused with 87 where the thread isn't live, 170 where it waits, 87 where the source process isn't live, 87 for another
     /// option, and for no target without `DUPLICATE_CLOSE_SOURCE`; 6 where there is no such handle; 87 where the target
     /// process isn't live; 5 for a right that neither the source has nor the object's grant; 1450 where the target has each
-    /// handle; and 8 for want of memory, only with a target.
+    /// handle; and 8 for want of memory, only with a target, and unless the value of a handle that was closed is free there.
     ///
     /// Once the source is found `DUPLICATE_CLOSE_SOURCE` closes it, whatever the answer is, want of memory excepted
     /// (*profile*): a refusal by the target, by a right or by the limit then leaves all but the source as it was. A source that is
