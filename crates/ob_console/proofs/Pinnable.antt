@@ -52,7 +52,7 @@ can_pin s held id = by_slot (nat_lt id.slot s.limits.slots) refl
           pins = record {
             no_slot = λ out. absurd (let c : ⊥ = omega arith in c);
             full = λ _ many. absurd (let c : ⊥ = omega arith in c);
-            tried = λ _ _. (word, record { generation = refl; phase = refl; pins = (let c : tally (sits id.slot) held ≤ tally (sits id.slot) held = omega arith in c) }, j.judged);
+            tried = λ _ _. (word, record { generation = refl; phase = refl; pins = (let c : tally (sits id.slot) held ≤ tally (sits id.slot) held = omega arith in c); room = λ few. few }, j.judged);
           };
         }
     by_room inside false e =

@@ -174,6 +174,7 @@ pins w r r1 r3 r4 id res consistent shape inside met1 attempts met2 = subst (λ 
             generation = both.0 ∙ sym (generation_is w id.slot consistent);
             phase = both.1 ∙ sym phase;
             pins = subst (λ (z : List Id). tally (sits id.slot) z ≤ (decoded n).pins) held1 tells.pins;
+            room = λ _. subst (λ (z : Shape). (decoded n).pins ≤ z.max_pins) shape1 tells.room;
           },
           subst (λ (z : Shape). Judged (verdict_of z.max_pins id (decoded n)) s r.held id res r3.held) shape1
               (subst (λ (z : List Id). Judged (verdict_of r1.shape.max_pins id (decoded n)) s z id res r3.held) held1 j),

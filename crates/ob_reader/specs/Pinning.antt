@@ -32,11 +32,13 @@ phase_in None body retired = vacant_phase retired
 abbrev pub phase_at : State → ℕ → Phase
 phase_at s slot = phase_in (slice_index_or s.objects slot None) (slice_index_or s.bodies slot None) (slice_index_or s.retired slot false)
 
--- a word that the slot may have: its generation, its phase, and among its pins the copies that the reader holds there
+-- a word that the slot may have: its generation, its phase, and among its pins the copies that the reader holds there. It
+-- has no more pins than there may be, as the reader has no more copies
 pub record IsWord (s : State) (held : List Id) (slot : ℕ) (w : Word) : Type 0 where
   pub generation : w.generation ≡ slice_index_or s.generations slot 1
   pub phase : w.phase ≡ phase_at s slot
   pub pins : tally (sits slot) held ≤ w.pins
+  pub room : tally (sits slot) held ≤ s.limits.max_pins → w.pins ≤ s.limits.max_pins
 
 -- one copy more is held, and the answer is the object's descriptor
 pub record IsPinned (s : State) (held : List Id) (id : Id) (res : Result Descr PinFault) (held' : List Id) : Type 0 where
