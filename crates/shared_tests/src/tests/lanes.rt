@@ -69,7 +69,8 @@ fn calls_last<R: Wait>(rt: &R, shared: &Shared<'_>, lanes: &mut [Lane]) {
     }
 }
 
-/// All lanes are given and handed in. Many calls were made, so that each lane beside each of them would take minutes to compare.
+/// All lanes are given and handed in. Many calls were made, so that each lane beside each of them would take minutes to
+/// compare.
 pub(super) fn plays_all_lanes<R: Wait>(
     rt: &R,
     alloc: Global,

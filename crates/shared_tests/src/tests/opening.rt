@@ -132,7 +132,8 @@ fn plays<R: Abort + Wait + Threads + Sync>(
     }
 }
 
-/// Closes, and is answered as is due. A refusal hands back all lanes and what was to be closed, which can be closed again.
+/// Closes, and is answered as is due. A refusal hands back all lanes and what was to be closed, which can be closed
+/// again.
 fn closes(
     rt: &impl Abort,
     alloc: Global,
