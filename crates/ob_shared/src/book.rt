@@ -63,8 +63,9 @@ impl Receipt {
     }
 }
 
-/// That a call was entered in a journal, without the call, which its caller still has. Only a [`Book`] that enters a call makes one,
-/// and it can be neither copied nor let go (it isn't `Drop`): whatever was entered for a lane is listed in one.
+/// That a call was entered in a journal, without the call, which its caller still has. Only a [`Book`] that enters a
+/// call makes one, and it can be neither copied nor let go (it isn't `Drop`): whatever was entered for a lane is listed
+/// in one.
 pub(crate) struct Entered {
     lane: u32,
     asked: Asked,
@@ -205,8 +206,8 @@ impl<K: PinKeeper> Book<K> {
         self.manager.kept();
     }
 
-    /// Why lanes aren't whole beside the journal, where so many numbers were given: the first cause in the order of a stranger, a
-    /// number twice, a number that is missing, and a list that differs. There is none where they are whole.
+    /// Why lanes aren't whole beside the journal, where so many numbers were given: the first cause in the order of a
+    /// stranger, a number twice, a number that is missing, and a list that differs. There is none where they are whole.
     pub fn cause(&self, given: u32, lanes: &[Lane]) -> Option<CloseCause>
         ensures whole { IfNone result (AreWhole given lanes.now self.now.journal) }
         ensures cause { IfSome result (λ cause. IsCause given lanes.now self.now.journal cause) }

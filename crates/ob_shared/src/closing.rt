@@ -95,9 +95,9 @@ fn misses(given: u32, lanes: &[Lane], journal: &[Entry]) -> bool
     misses_number(given, lanes) || misses_entry(lanes, journal)
 }
 
-/// Why lanes aren't whole beside a journal, when so many numbers are given. Where they stand by their numbers, each number in the
-/// journal is looked up at once, and the lists are compared in one pass over the journal for each 256 lanes. Where they don't, it
-/// takes a time that grows with the number of lanes times the length of the journal.
+/// Why lanes aren't whole beside a journal, when so many numbers are given. Where they stand by their numbers, each
+/// number in the journal is looked up at once, and the lists are compared in one pass over the journal for each 256
+/// lanes. Where they don't, it takes a time that grows with the number of lanes times the length of the journal.
 pub(crate) fn cause_of(given: u32, lanes: &[Lane], journal: &[Entry]) -> Option<CloseCause>
     ensures whole { IfNone result (AreWhole given lanes.now journal.now) }
     ensures cause { IfSome result (λ cause. IsCause given lanes.now journal.now cause) }

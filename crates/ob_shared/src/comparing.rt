@@ -22,8 +22,8 @@ fn are_from(first: u32, lanes: &[Lane]) -> bool
     true
 }
 
-/// Goes over a journal, and counts what was found of each lane's list. Whether each entry of one of the lanes is the next one of
-/// its list.
+/// Goes over a journal, and counts what was found of each lane's list. Whether each entry of one of the lanes is the
+/// next one of its list.
 fn read_on(first: u32, lanes: &[Lane], journal: &[Entry], read: &mut [usize]) -> bool
     requires from { AreFrom first lanes.now }
     requires room { length lanes.now ≤ length read.old }
@@ -76,8 +76,8 @@ fn are_whole(lanes: &[Lane], journal: &[Entry]) -> bool
     }
 }
 
-/// A place up to which the lanes from another place on each have their part of a journal. It is that other place where one pass
-/// didn't find it so.
+/// A place up to which the lanes from another place on each have their part of a journal. It is that other place where
+/// one pass didn't find it so.
 fn whole_to(from: usize, lanes: &[Lane], journal: &[Entry]) -> usize
     requires { from < length lanes.now }
     ensures { (k : ℕ) (d : LaneState) → from ≤ k → k < result → k < length lanes.now → IsPart journal.now (slice_index_or lanes.now k d) }

@@ -17,8 +17,8 @@ pub enum Pass {
 
 /// Who lets members pass, one act at a time. A gate may keep a member waiting.
 ///
-/// A contract knows of its answers what `may_answer` says: at the number of a lane, and the place of one of its member's acts. What
-/// it was told of is what `is_told` says, which nothing but [`Gate::leave`] gives.
+/// A contract knows of its answers what `may_answer` says: at the number of a lane, and the place of one of its
+/// member's acts. What it was told of is what `is_told` says, which nothing but [`Gate::leave`] gives.
 pub trait Gate {
     ghost may_answer: { Self → ℕ → ℕ → Pass → Type 0 } = { λ gate lane place pass. Unit {0} };
 
@@ -34,7 +34,8 @@ pub trait Gate {
         ensures { is_told self.now lane place };
 }
 
-/// A gate as the code sees it that does a member's acts: it is told of an answer with the answer, so never before there is one.
+/// A gate as the code sees it that does a member's acts: it is told of an answer with the answer, so never before there
+/// is one.
 pub(crate) trait Passage {
     ghost may_answer: { Self → ℕ → ℕ → Pass → Type 0 };
 

@@ -2,12 +2,13 @@ use super::opening::{Scene, over_shared};
 use super::{FIRST, holds};
 use call_tables::Ask::{Counts, MakeEvent, Spawn};
 use call_tables::{PLAIN, Step};
-use ob_manager::Limits;
 use ob_manager::Reply::{CountsAre, Made, Spawned};
+use ob_manager::{Call, Limits};
 use ob_rights::Fault;
 use ob_shared::{Lane, Shared};
 use std::alloc::Global;
 use std::process::Abort;
+use std::sync::Wait;
 use std::test::Fail;
 
 /// How many lanes there may be.
@@ -54,6 +55,39 @@ pub(super) fn plays_many_lanes(
     holds(rt, has_no_lane(shared));
     holds(rt, has_no_lane(shared));
     Vec::new(alloc)
+}
+
+/// How many calls are made in the last of all lanes.
+const CALLS: usize = 20_000;
+
+/// Makes calls in the last lane.
+fn calls_last<R: Wait>(rt: &R, shared: &Shared<'_>, lanes: &mut [Lane]) {
+    if let Some(lane) = lanes.last_mut() {
+        for _ in 0..CALLS {
+            let _ = shared.call(rt, lane, Call::Tick { now: 0 });
+        }
+    }
+}
+
+/// All lanes are given and handed in. Many calls were made, so that each lane beside each of them would take minutes to
+/// compare.
+pub(super) fn plays_all_lanes<R: Wait>(
+    rt: &R,
+    alloc: Global,
+    shared: &mut Shared<'_>,
+) -> Result<Vec<Lane>, Fault> {
+    let mut lanes = Vec::new(alloc);
+    for _ in 0..LANES {
+        lanes.push(shared.lane()?)?;
+    }
+    calls_last(rt, shared, &mut lanes);
+    Ok(lanes)
+}
+
+#[test]
+fn all_lanes_are_compared_with_a_long_journal(rt: HostRuntime) -> Result<(), Fail> {
+    over_shared(&rt, rt.alloc(), Limits::default(), 1, Scene::AllLanes)?;
+    Ok(())
 }
 
 #[test]

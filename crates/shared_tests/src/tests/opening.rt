@@ -23,8 +23,10 @@ use std::thread::Threads;
 pub(super) enum Scene<'a> {
     /// Steps of tables, in two lanes by turns.
     ByTurns(&'a [Step<'a>]),
-    /// As many lanes as there may be.
+    /// As many lanes as there may be, of which none is handed in.
     ManyLanes,
+    /// The same, of which all are handed in, and many calls of the last.
+    AllLanes,
     /// What a lane and a reader do.
     Holds(&'a [Move<'a>]),
     /// A wait that another thread answers.
@@ -121,6 +123,7 @@ fn plays<R: Abort + Wait + Threads + Sync>(
     match scene {
         Scene::ByTurns(steps) => playing::plays_by_turns(rt, alloc, shared, steps),
         Scene::ManyLanes => Ok(lanes::plays_many_lanes(rt, alloc, shared)),
+        Scene::AllLanes => lanes::plays_all_lanes(rt, alloc, shared),
         Scene::Holds(moves) => plays_moves(rt, alloc, shared, readers, moves),
         Scene::Block => blocking::plays_a_block(rt, alloc, shared),
         Scene::Race => racing::plays_a_race(rt, alloc, shared, readers),
@@ -129,7 +132,8 @@ fn plays<R: Abort + Wait + Threads + Sync>(
     }
 }
 
-/// Closes, and is answered as is due. A refusal hands back all lanes and what was to be closed, which can be closed again.
+/// Closes, and is answered as is due. A refusal hands back all lanes and what was to be closed, which can be closed
+/// again.
 fn closes(
     rt: &impl Abort,
     alloc: Global,
