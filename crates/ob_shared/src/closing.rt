@@ -5,11 +5,13 @@ ghost use Rattle.ob_shared.specs.Closing.{AreWhole, IsCause, has_number, has_twi
 use crate::book::Entry;
 use crate::comparing::first_difference;
 use crate::lane::Lane;
+use thiserror::Error;
 
 /// Why a [`Shared`](crate::Shared) isn't closed.
-#[derive(Clone, Copy, Debug, PartialEq, Eq)]
+#[derive(Clone, Copy, Debug, PartialEq, Eq, Error)]
 pub enum CloseCause {
     /// A lane's list differs from its part of the journal.
+    #[error("the list of lane {lane} differs from its part of the journal at place {place}")]
     LanesDiffer {
         /// The lane's number.
         lane: u32,
@@ -17,10 +19,13 @@ pub enum CloseCause {
         place: usize,
     },
     /// A number that was given, or one that the journal has, is no lane's.
+    #[error("a number that was given, or one of the journal, is no lane's")]
     LaneMissing,
     /// Two lanes have one number.
+    #[error("two lanes have one number")]
     LaneTwice,
     /// A lane has a number that wasn't given.
+    #[error("a lane has a number that wasn't given")]
     LaneStranger,
 }
 

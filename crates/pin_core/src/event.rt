@@ -4,6 +4,7 @@ ghost use Rattle.pin_core.specs.Reasons.{number_of};
 use crate::descr::Descr;
 use crate::id::Id;
 use crate::word::Word;
+use thiserror::Error;
 
 /// One atomic step, on one word of one slot.
 #[derive(Clone, Copy, Debug, PartialEq, Eq)]
@@ -69,30 +70,39 @@ pub enum Event {
 }
 
 /// Why an event isn't possible.
-#[derive(Clone, Copy, Debug, PartialEq, Eq)]
+#[derive(Clone, Copy, Debug, PartialEq, Eq, Error)]
 pub enum Reason {
     /// 1: there is no such slot.
+    #[error("there is no such slot")]
     NoSlot,
     /// 2: the slot is in another phase.
+    #[error("the slot is in another phase")]
     WrongPhase,
     /// 3: the slot has another word.
+    #[error("the slot has another word")]
     WordDiffers,
     /// 4: the slot has as many pins as it may have.
+    #[error("the slot has all its pins")]
     PinsFull,
     /// 5: the reader holds no copy.
+    #[error("the reader holds no copy")]
     NotHeld,
     /// 6: somebody holds the slot.
+    #[error("somebody holds the slot")]
     Pinned,
     /// 7: the slot has another descriptor.
+    #[error("the slot has another descriptor")]
     DescrDiffers,
 }
 
 /// Why events can't be carried out.
-#[derive(Clone, Copy, Debug, PartialEq, Eq)]
+#[derive(Clone, Copy, Debug, PartialEq, Eq, Error)]
 pub enum ReplayFault {
     /// Memory ran out.
+    #[error("memory ran out")]
     Memory,
     /// An event isn't possible where it stands.
+    #[error("event {event} isn't possible: {reason}")]
     Refused {
         /// The first such event, counted from 1.
         event: u64,

@@ -3,24 +3,31 @@ ghost use Rattle.pin_core.specs.declared.word.Phase.TheVariants.{Live};
 ghost use Rattle.pin_words.specs.Verdicts.{verdict_of};
 
 use pin_core::{Id, Phase, Word};
+use thiserror::Error;
 
 /// Why a pin is refused. No refusal changes what is held. They are tested in the order 1, 6, 2, 3, 5, 4.
-#[derive(Clone, Copy, Debug, PartialEq, Eq)]
+#[derive(Clone, Copy, Debug, PartialEq, Eq, Error)]
 pub enum PinFault {
     /// 1: there is no such slot.
+    #[error("there is no such slot")]
     NoSuchSlot,
     /// 2: the Id isn't published yet.
+    #[error("the Id isn't published yet")]
     Unborn,
     /// 3: the Id's object is given up. It stays so.
+    #[error("the Id's object is given up")]
     Stale,
     /// 4: the word changed between the look and the exchange.
+    #[error("the word changed meanwhile")]
     Busy {
         /// The word that the exchange found.
         seen: Word,
     },
     /// 5: the slot has as many pins as it may have.
+    #[error("the slot has all its pins")]
     PinsFull,
     /// 6: the reader holds 16 copies already.
+    #[error("the reader holds 16 copies")]
     HeldFull,
 }
 
