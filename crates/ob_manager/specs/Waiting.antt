@@ -101,13 +101,14 @@ unsatisfied s thread mode timeout ids =
 abbrev pub satisfied : State → ℕ → Mode → List Id → Result Outcome Fault
 satisfied s thread mode ids = Ok (record { reply = reply.Code (code_of mode thread s.bodies ids); state = settled (with_taken s thread mode ids) })
 
--- a wait for objects
+-- a wait for objects: no object twice in a wait for all, and room for each mutex; then what is ready is satisfied
 abbrev pub wait_on : State → ℕ → Mode → Timeout → List Id → Result Outcome Fault
 wait_on s thread mode timeout ids = do
   _ ← refuse_if (is_for_one_twice mode ids) fault.Parameter
   _ ← refuse_if (not (have_room s thread ids)) fault.Limit
   if list_ready mode thread s.bodies ids then satisfied s thread mode ids else unsatisfied s thread mode timeout ids
 
+-- the caller, the list, then each handle and its right
 abbrev pub wait : State → ℕ → Mode → Timeout → List ℕ → Result Outcome Fault
 wait s thread mode timeout handles = do
   process ← caller s thread

@@ -1,4 +1,4 @@
--- The ends of threads and processes.
+-- The ends of threads and processes. None of these settles: a call settles once, behind all of them.
 use Rattle.std.specs.Prelude.{ℕ, zero, suc, Option, Some, None, if◌then◌else◌, length, map, slice_index_or, slice_set}
 use Rattle.std.specs.List.{list_any}
 use Rattle.ob_body.specs.declared.body.Body.{Body}

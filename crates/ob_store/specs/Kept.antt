@@ -94,7 +94,7 @@ pub record IsListing (rows : Rows) (tables : List (List (Option Entry))) (object
   pub same : rows ≡ rows_of tables objects births
   pub distinct : AreDistinct rows
 
--- what ties the parts of a store to one another
+-- what ties the parts of a store to one another. No public clause names it; what a caller sees of it is MatchesState
 pub record IsKept (limits : Limits) (lives : LivesState) (tables : HandleTables) (o : ObjectsState) (waits : WaitList) (rows : Rows) : Type 0 where
   pub limited : AreLimited limits tables waits o.keeper.shape
   pub lives_kept : LivesKept limits lives (length tables.tables)

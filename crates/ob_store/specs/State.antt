@@ -74,7 +74,8 @@ scene_of s = record { objects = objects_of s; waits = s.waits }
 abbrev pub with_scene : State → Scene → State
 with_scene s scene = record s { bodies = scene.objects.bodies; waits = scene.waits }
 
--- as long as a pending wait is ready, the one of least number takes effect; then each object to which nothing refers ends
+-- as long as a pending wait is ready, the one of least number takes effect; then each object to which nothing refers ends. The code
+-- ends an object as soon as its last reference leaves, and settles by the waits of what changed: both come to one state (SettledLaws)
 abbrev pub settled : State → State
 settled s = with_scene s (with_ends (settled_plainly (scene_of s)))
 

@@ -1,4 +1,5 @@
--- What holds between the changes of a call that makes several: all that is kept, but for waits that are ready.
+-- What holds between the changes of a call that makes several: all that is kept, but for waits that are ready. The end of a thread
+-- or a process is many such changes, and one settling turns this into what is kept of the settled state.
 use Rattle.std.specs.Prelude.{◌≡◌, ◌⊎◌, ℕ, zero, suc, List, [], ◌∷◌, Option, None, length, slice_index_or, slice_set}
 use Rattle.ob_body.specs.declared.body.Body.{Body}
 use Rattle.ob_name.specs.Listing.{Rows}

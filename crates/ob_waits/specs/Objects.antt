@@ -37,7 +37,7 @@ abbrev pub without_blocks : Objects → List Id → Objects
 without_blocks objects [] = objects
 without_blocks objects (id ∷ ids) = without_blocks (without_block objects id) ids
 
--- what a slot's body is to a thread, if there is one
+-- what a slot's body is to a thread, if there is one: a slot without a body, as an ended object's is, is signaled for nobody
 abbrev pub slot_signaled : ℕ → Option Body → Bool
 slot_signaled thread None = false
 slot_signaled thread (Some b) = body.is_signaled thread b

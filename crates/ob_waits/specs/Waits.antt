@@ -104,7 +104,7 @@ settled_within (suc n) scene =
     let number = first_ready scene.objects.bodies scene.waits in
     if nat_lt number (length scene.waits) then settled_within n (effect scene number) else scene
 
--- as long as a wait is ready, the one of least number takes effect: no more often than there are waits
+-- as long as a wait is ready, the one of least number takes effect: no more often than there are waits, which is enough (settled_is_settled)
 abbrev pub settled : Scene → Scene
 settled scene = settled_within (length scene.waits) scene
 
@@ -170,7 +170,8 @@ numbered_ids waits (Some number) = ids_of (slice_index_or waits number None)
 abbrev pub thread_ids : ℕ → List (Option Wait) → List Id
 thread_ids thread waits = numbered_ids waits (number_of thread waits)
 
--- the waits by their numbers, from 0, which is never given; how many numbers may be given; and the moment that it is
+-- the waits by their numbers, from 0, which is never given; how many numbers may be given; and the moment that it is. A wait that is
+-- over is none, so the next number is the length of the list
 pub record WaitList : Type 0 where
   pub limit : ℕ
   pub waits : List (Option Wait)

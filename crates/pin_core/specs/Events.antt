@@ -1,4 +1,4 @@
--- Which events are possible in a world, and what each changes.
+-- Which events are possible in a world, and what each changes: the table of events in docs/BEHAVIOUR.md, a line each.
 use Rattle.std.specs.Prelude.{◌≡◌, ℕ, ◌+◌, ◌-◌, ◌≤◌, ◌==◌, ◌&&◌, nat_lt, Bool, true, false, if◌then◌else◌, List, [], ◌∷◌, ◌++◌, slice_set, slice_get, take, Option, Some, None}
 use Rattle.pin_core.specs.declared.word.Word.{Word}
 use Rattle.pin_core.specs.declared.descr.Descr.{Descr}

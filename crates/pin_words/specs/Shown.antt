@@ -72,7 +72,9 @@ abbrev pub Table : Type 0
 Table = State (Unit {0}) View
 
 -- word s tells the slot s, and word slots + s its descriptor. The world is safe, and each seat agrees with it;
--- one seat has the keeper's part, and every reader that holds something has a seat of its own
+-- one seat has the keeper's part, and every reader that holds something has a seat of its own. For whoever knows hazard pointers: the
+-- pins in a word are the number of hazard pointers to its slot, published by the very exchange that checks the generation, and this
+-- says that the number and the holders never part
 pub record IsShown (k : Shape) (s : Table) (world : WorldState) : Type 0 where
   pub fits : IsWithinLimits k
   pub shape : world.shape ≡ k
