@@ -21,6 +21,14 @@
  * - Memory comes from malloc, realloc and free. Call nothing here from a signal handler, nor after fork in a child of a process
  *   with several threads.
  *
+ * What a host does beside the calls of its guests
+ *
+ * - It takes the answer of each wait (om_wait_result): until then every call in that thread's name is refused with OM_ERROR_BUSY.
+ * - It reaps slots (om_reap): an object that no handle and no pending wait refers to keeps its slot until then, and where each slot
+ *   is taken a create is refused with OM_ERROR_NO_SYSTEM_RESOURCES.
+ * - It sets the limits to what it needs in the manager's whole life: numbers of processes, threads and waits are given once.
+ * - It tells the time (om_tick), or no timer fires and no wait with a timeout ends.
+ *
  * Handles are 4, 8, 12 and so on; their two lowest bits are ignored. Processes, threads and waits have numbers from 1. A name may
  * begin with Global\ or Local\ and has at most 260 bytes; it need not end in a zero byte.
  *
