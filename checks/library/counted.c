@@ -114,7 +114,6 @@ static void make_calls(calls *c) {
             om_thread(&c->m, member.process, &thread);
             om_end_thread(&c->m, member.thread);
             om_exit(&c->m, member.process);
-            om_end_thread(&c->m, c->threads);
         }
     }
     om_free(c->m);
