@@ -18,20 +18,21 @@ use Rattle.ob_body.specs.Body.{owner_of}
 use Rattle.ob_name.specs.Names.{ObjectName}
 use Rattle.ob_name.specs.Listing.{Rows, find_name}
 use Rattle.ob_tables.specs.declared.entry.Entry.{Entry}
-use Rattle.ob_tables.specs.Tables.{HandleTables, with_entry_of}
+use Rattle.ob_tables.specs.Tables.{with_entry_of}
 use Rattle.ob_waits.specs.Form.{form_of}
-use Rattle.ob_waits.specs.Waits.{WaitList, slot_blocks}
-use Rattle.ob_store.specs.declared.limits.Limits.{Limits}
-use Rattle.ob_store.specs.Lives.{LivesState}
+use Rattle.ob_waits.specs.Waits.{slot_blocks}
+use Rattle.ob_waits.proofs.Room.{room_unnamed}
+use Rattle.ob_waits.proofs.Settled.{settled_unnamed}
 use Rattle.ob_store.specs.Objects.{Object, ObjectsState, Head, object_in, places_in, vacancy, with_object}
 use Rattle.ob_store.specs.Agreement.{Agrees, IsAgreed, IsTied}
 use Rattle.ob_store.specs.State as state
-use Rattle.ob_store.specs.State.{State, state_of, settled, generation_of, id_at}
+use Rattle.ob_store.specs.Parts.{PartsState, state_of}
+use Rattle.ob_store.specs.State.{State, generation_of, id_at}
 use Rattle.ob_store.specs.Kept.{IsKept, IsCounted, IsListing, IsLive, form_in}
 use Rattle.ob_store.proofs.AgreeLaws.{object_at, body_at, retired_at, slot_at}
 use Rattle.ob_store.proofs.CountedLaws.{blocks_at, counted_added}
 use Rattle.ob_store.proofs.NamedLaws.{named_added}
-use Rattle.ob_store.proofs.BodyLaws.{formed_added, of_live_added, quiet_added}
+use Rattle.ob_store.proofs.BodyLaws.{formed_added, of_live_added}
 use Rattle.ob_store.proofs.ListingLaws.{listing_added, listing_name_added, placed_agreed}
 use Rattle.ob_store.proofs.PlacedLaws.{unreferenced}
 use Rattle.ob_store.proofs.KeptLaws.{lives_same}
@@ -57,73 +58,71 @@ ages_added o slot head body =
 abbrev pub with_added : State → ℕ → ℕ → Rights → HandleFlags → Head → Body → State
 with_added s p slot rights flags head body = state.with_entry (state.with_object s slot head body) p (record { id = id_at s slot; rights = rights; flags = flags })
 
-pub added_state : (limits : Limits) (l : LivesState) (ts : HandleTables) (o : ObjectsState) (ws : WaitList) (p slot : ℕ) (rights : Rights) (flags : HandleFlags) (head : Head) (body : Body)
-    → state_of limits l (record ts { tables = with_entry_of ts.tables p (record { id = id_of o.keeper.slots slot; rights = rights; flags = flags }) }) (with_object o slot head body) ws
-    ≡ with_added (state_of limits l ts o ws) p slot rights flags head body
-added_state limits l ts o ws p slot rights flags head body =
-    let own = sym (next_id o.keeper.slots slot) in
-    let ages = ages_added o slot head body in
-    λ i. record {
-      limits = limits;
-      processes = l.processes;
-      threads = l.threads;
-      tables = with_entry_of ts.tables p (record { id = own i; rights = rights; flags = flags });
-      objects = set o.objects slot (Some (record { id = own i; birth = o.births; descr = head.descr; grant = head.grant; name = head.name }));
-      bodies = set o.seen.bodies slot (Some body);
+pub added_state : (p : PartsState) (process slot : ℕ) (rights : Rights) (flags : HandleFlags) (head : Head) (body : Body) (rows : Rows)
+    → state_of (record p { tables = record p.tables { tables = with_entry_of p.tables.tables process (record { id = id_of p.objects.keeper.slots slot; rights = rights; flags = flags }) }; objects = with_object p.objects slot head body; rows = rows })
+    ≡ with_added (state_of p) process slot rights flags head body
+added_state p process slot rights flags head body rows =
+    let own = sym (next_id p.objects.keeper.slots slot) in
+    let ages = ages_added p.objects slot head body in
+    λ i. record (state_of p) {
+      tables = with_entry_of p.tables.tables process (record { id = own i; rights = rights; flags = flags });
+      objects = set p.objects.objects slot (Some (record { id = own i; birth = p.objects.births; descr = head.descr; grant = head.grant; name = head.name }));
+      bodies = set p.objects.seen.bodies slot (Some body);
       generations = ages i;
-      retired = o.retired;
-      births = o.births + 1;
-      waits = ws.waits;
-      clock = ws.clock;
+      births = p.objects.births + 1;
     }
 
-module _ (limits : Limits) (l : LivesState) (ts : HandleTables) (o : ObjectsState) (ws : WaitList) (rows : Rows) (kept : IsKept limits l ts o ws rows) (tied : IsTied o)
-    (p slot : ℕ) (rights : Rights) (flags : HandleFlags) (head : Head) (body : Body)
-    (table : p < length ts.tables)
-    (vacant : is_vacant_at (vacancy (places_in o)) slot ≡ true)
+module _ (p : PartsState) (kept : IsKept p) (tied : IsTied p.objects)
+    (process slot : ℕ) (rights : Rights) (flags : HandleFlags) (head : Head) (body : Body)
+    (table : process < length p.tables.tables)
+    (vacant : is_vacant_at (vacancy (places_in p.objects)) slot ≡ true)
     (formed : form_of body ≡ form_in head.descr)
-    (owned : (t : ℕ) → owner_of body ≡ Some t → IsLive l.threads t) where
+    (owned : (t : ℕ) → owner_of body ≡ Some t → IsLive p.lives.threads t) where
   abbrev pub entry : Entry
-  entry = record { id = id_of o.keeper.slots slot; rights = rights; flags = flags }
+  entry = record { id = id_of p.objects.keeper.slots slot; rights = rights; flags = flags }
 
-  abbrev pub tables_after : HandleTables
-  tables_after = record ts { tables = with_entry_of ts.tables p entry }
+  abbrev pub added : Rows → PartsState
+  added rows = record p { tables = record p.tables { tables = with_entry_of p.tables.tables process entry }; objects = with_object p.objects slot head body; rows = rows }
 
-  none : object_at o slot ≡ None
+  abbrev o : ObjectsState
+  o = p.objects
+
+  none : object_at p.objects slot ≡ None
   none = vacant_empty (vacancy (places_in o)) slot vacant
 
-  within : slot < length o.objects
+  within : slot < length p.objects.objects
   within = vacant_within (vacancy (places_in o)) slot vacant
 
-  no_references : (get_or o.seen.handles slot 0 ≡ 0) × (get_or o.seen.blocks slot 0 ≡ 0)
+  no_references : (get_or p.objects.seen.handles slot 0 ≡ 0) × (get_or p.objects.seen.blocks slot 0 ≡ 0)
   no_references = unreferenced o slot (bodiless o slot none within tied.agreed) tied
 
-  counted_after : IsCounted (with_object o slot head body).seen (length (with_object o slot head body).objects) tables_after.tables ws.waits
-  counted_after = subst (λ (n : ℕ). IsCounted (with_object o slot head body).seen n tables_after.tables ws.waits) (sym (length-set o.objects slot (Some (object_in o slot head))))
-      (counted_added o.seen (length o.objects) ts.tables ws.waits kept.counted (set o.seen.bodies slot (Some body)) p entry table within no_references.0 no_references.1)
-
-  unnamed : slot_blocks slot ws.waits ≡ 0
-  unnamed = sym (blocks_at o.seen (length o.objects) ts.tables ws.waits kept.counted slot within) ∙ no_references.1
+  unnamed : slot_blocks slot p.waits.waits ≡ 0
+  unnamed = sym (blocks_at o.seen (length o.objects) p.tables.tables p.waits.waits kept.sound.counted slot within) ∙ no_references.1
 
   -- what is kept, whichever names are entered
-  pub kept_added : (rows' : Rows) → IsListing rows' tables_after.tables (with_object o slot head body).objects (o.births + 1) → IsKept limits l tables_after (with_object o slot head body) ws rows'
-  kept_added rows' listing =
+  pub kept_added : (rows : Rows) → IsListing rows (with_entry_of p.tables.tables process entry) (with_object p.objects slot head body).objects (p.objects.births + 1) → IsKept (added rows)
+  kept_added rows listing =
       let bodied : slot < length o.seen.bodies = (let a = tied.agreed.long in let b = tied.agreed.bodied in omega (arith, within, a, b)) in
+      let sound = kept.sound in
       record {
-        limited = record { processes = kept.limited.processes; handles = kept.limited.handles; waits_limit = kept.limited.waits_limit; shape_is = kept.limited.shape_is };
-        lives_kept = lives_same limits l (length ts.tables) (length tables_after.tables) (length-set ts.tables p _) kept.lives_kept;
-        counted = counted_after;
-        named = named_added o.objects ts.tables ws.waits kept.named p entry (object_in o slot head) table refl none within;
-        formed = formed_added o.seen.bodies slot body ws.clock o.objects (object_in o slot head) within bodied formed kept.formed;
-        of_live = of_live_added o.seen.bodies slot body l.threads ws.waits owned kept.of_live;
-        quiet = quiet_added o.seen.bodies slot body limits.max_recursion ws.waits unnamed kept.quiet;
-        listing = listing;
+        sound = record {
+          limited = sound.limited;
+          lives_kept = lives_same p.limits p.lives (length p.tables.tables) (length (with_entry_of p.tables.tables process entry)) (length-set p.tables.tables process _) sound.lives_kept;
+          counted = subst (λ (n : ℕ). IsCounted (with_object o slot head body).seen n (with_entry_of p.tables.tables process entry) p.waits.waits) (sym (length-set o.objects slot (Some (object_in o slot head))))
+              (counted_added o.seen (length o.objects) p.tables.tables p.waits.waits sound.counted (set o.seen.bodies slot (Some body)) process entry table within no_references.0 no_references.1);
+          named = named_added o.objects p.tables.tables p.waits.waits sound.named process entry (object_in o slot head) table refl none within;
+          formed = formed_added o.seen.bodies slot body p.waits.clock o.objects (object_in o slot head) within bodied formed sound.formed;
+          of_live = of_live_added o.seen.bodies slot body p.lives.threads p.waits.waits owned sound.of_live;
+          room = room_unnamed p.limits.max_recursion o.seen.bodies p.waits.waits slot (Some body) unnamed sound.room;
+          listing = listing;
+        };
+        settled = settled_unnamed o.seen.bodies p.waits.waits slot (Some body) unnamed kept.settled;
       }
 
-  pub kept_nameless : head.name ≡ None → IsKept limits l tables_after (with_object o slot head body) ws rows
-  kept_nameless nameless = kept_added rows
-      (listing_added rows ts.tables o.objects o.births kept.listing (placed_agreed o tied.agreed) p entry (object_in o slot head) tied.born table refl refl nameless none within)
+  pub kept_nameless : head.name ≡ None → IsKept (added p.rows)
+  kept_nameless nameless = kept_added p.rows
+      (listing_added p.rows p.tables.tables o.objects o.births kept.sound.listing (placed_agreed o tied.agreed) process entry (object_in o slot head) tied.born table refl refl nameless none within)
 
-  pub kept_name : (name : ObjectName) → head.name ≡ Some name → find_name name rows ≡ None → IsKept limits l tables_after (with_object o slot head body) ws (rows ++ (name, id_of o.keeper.slots slot) ∷ [])
-  kept_name name named absent = kept_added (rows ++ (name, id_of o.keeper.slots slot) ∷ [])
-      (listing_name_added rows ts.tables o.objects o.births kept.listing (placed_agreed o tied.agreed) p entry (object_in o slot head) name tied.born table refl refl named none within absent)
+  pub kept_name : (name : ObjectName) → head.name ≡ Some name → find_name name p.rows ≡ None → IsKept (added (p.rows ++ (name, id_of p.objects.keeper.slots slot) ∷ []))
+  kept_name name named absent = kept_added (p.rows ++ (name, id_of o.keeper.slots slot) ∷ [])
+      (listing_name_added p.rows p.tables.tables o.objects o.births kept.sound.listing (placed_agreed o tied.agreed) process entry (object_in o slot head) name tied.born table refl refl named none within absent)

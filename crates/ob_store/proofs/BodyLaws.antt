@@ -1,5 +1,5 @@
 -- What holds of bodies goes on so: their forms, their owners, the room that waits have, and that none is ready.
-use Rattle.std.proofs.Common.{◌≡◌, ◌⊎◌, ℕ, suc, ◌<◌, List, length, Option, Some, None, refl, ap, ◌∙◌, sym, subst, arith, get_or, set, Bool, true, false, cond, inl, inr}
+use Rattle.std.proofs.Common.{◌≡◌, ◌⊎◌, ℕ, ◌<◌, List, length, Option, Some, None, refl, ap, ◌∙◌, sym, subst, arith, get_or, set, Bool, true, false, cond, inl, inr}
 use Rattle.std.specs.Prelude.{is_some}
 use Rattle.std.proofs.lemmas.List.{length-set, get_or_past, get_or-set_same, get_or-set_other}
 use Rattle.std.proofs.lemmas.Bool.{cases_eq, cases_lt}
@@ -10,13 +10,12 @@ use Rattle.ob_waits.specs.declared.wait.Wait.{Wait}
 use Rattle.ob_waits.specs.Objects.{Objects, slot_room, slot_signaled}
 use Rattle.ob_waits.specs.Form.{Form, IsAfter, form_of, slot_due, slot_form, slot_owner, HasWait}
 use Rattle.ob_waits.specs.Rules.{WaitsHaveRoom, thread_of}
-use Rattle.ob_waits.specs.Waits.{Scene, settled, slot_blocks}
-use Rattle.ob_waits.proofs.Settling.{IsLess, less_if, room_if}
-use Rattle.ob_waits.proofs.Settled.{settled_less, settled_unnamed}
-use Rattle.ob_waits.proofs.Room.{room_changed, room_unnamed, room_set}
+use Rattle.ob_waits.specs.Waits.{Scene, settled}
+use Rattle.ob_waits.proofs.Settling.{IsLess}
+use Rattle.ob_waits.proofs.Room.{room_set}
 use Rattle.ob_waits.proofs.Staying.{settled_form, settled_owner, settled_thread}
 use Rattle.ob_store.specs.Objects.{Object}
-use Rattle.ob_store.specs.Kept.{AreFormed, AreOfLive, IsLive, IsQuiet, Yields, form_in, unset}
+use Rattle.ob_store.specs.Kept.{AreFormed, AreOfLive, IsLive, Yields, form_in, unset}
 
 -- what stands in a list of which one place changed
 at_set : (bodies : List (Option Body)) (i k : ℕ) (x : Option Body) → (get_or (set bodies i x) k None ≡ get_or bodies k None) ⊎ ((k ≡ i) × (i < length bodies) × (get_or (set bodies i x) k None ≡ x))
@@ -96,17 +95,8 @@ module _ (c : Bool) (bodies : List (Option Body)) (i : ℕ) where
   abbrev gone : List (Option Body)
   gone = cond c (set bodies i None) bodies
 
-  pub formed_gone : (clock : ℕ) (objects : List (Option Object)) → AreFormed clock objects bodies → AreFormed clock objects (cond c (set bodies i None) bodies)
-  formed_gone clock objects f = formed_by clock objects bodies gone (λ k h. elim (at_gone c bodies i k) [ inl same ↦ ap slot_form same | inr none ↦ absurd (let e = ap is_some none in cc (e, h)) ]) f
-
   pub of_live_gone : (threads : List (Option ℕ)) (ws : List (Option Wait)) → AreOfLive threads bodies ws → AreOfLive threads (cond c (set bodies i None) bodies) ws
   of_live_gone threads ws l = of_live_by threads bodies gone ws ws (λ k t h. elim (at_gone c bodies i k) [ inl same ↦ inl (sym (ap slot_owner same) ∙ h) | inr none ↦ absurd (let e = ap slot_owner none in cc (e, h)) ]) (λ n. refl) l
-
-  pub quiet_gone : (limit : ℕ) (ws : List (Option Wait)) → IsQuiet limit bodies ws → IsQuiet limit (cond c (set bodies i None) bodies) ws
-  quiet_gone limit ws q = record {
-    room = room_changed limit bodies gone ws (λ t k h. (room_if limit (suc t) c bodies i).room t (λ e. omega (arith, e)) k h) q.room;
-    settled = settled_less bodies gone ws (less_if c bodies i) q.settled;
-  }
 
 some_same : {A : Type 0} {x y : A} → Some x ≡ Some y → x ≡ y
 some_same h = cc
@@ -133,9 +123,6 @@ module _ (bodies : List (Option Body)) (k : ℕ) (b : Body) where
     owners = λ j t h. elim (at_set bodies k j (Some b)) [ inl same ↦ l.owners j t (sym (ap slot_owner same) ∙ h) | inr new ↦ live t (sym (ap slot_owner new.2) ∙ h) ];
     waiters = l.waiters;
   }
-
-  pub quiet_added : (limit : ℕ) (ws : List (Option Wait)) → slot_blocks k ws ≡ 0 → IsQuiet limit bodies ws → IsQuiet limit (set bodies k (Some b)) ws
-  quiet_added limit ws none q = record { room = room_unnamed limit bodies ws k (Some b) none q.room; settled = settled_unnamed bodies ws k (Some b) none q.settled }
 
 -- a call's change of a body
 module _ (bodies : List (Option Body)) (k : ℕ) (old new : Body) (clock : ℕ) (there : get_or bodies k None ≡ Some old) (yields : Yields clock old new) where

@@ -5,31 +5,28 @@ use Rattle.std.proofs.lemmas.List.{length-append, length-set, length-map, get_or
 use Rattle.std.proofs.Math.Seq.{get_or-append_seam}
 use Rattle.std.proofs.lemmas.List.Sums.{sum_by-cons}
 use Rattle.std.proofs.lemmas.Bool.{cases_lt}
-use Rattle.ob_name.specs.Listing.{Rows}
 use Rattle.ob_rights.specs.Rights.{within}
 use Rattle.ob_tables.specs.declared.entry.Entry.{Entry}
 use Rattle.ob_tables.specs.Counts.{slot_handles, slot_handles_in}
 use Rattle.ob_tables.specs.Inheritance.{inheritable, inherited}
 use Rattle.ob_tables.specs.Tables as tables
-use Rattle.ob_tables.specs.Tables.{HandleTables, IsBounded, table_of}
+use Rattle.ob_tables.specs.Tables.{IsBounded, table_of}
 use Rattle.ob_tables.proofs.Counting.{handles_among-with_child, handles_in-inherited, handles_in-among}
 use Rattle.ob_tables.proofs.Inheriting.{at-trimmed}
 use Rattle.ob_tables.proofs.SlotCounts.{one_in, slot_handles-with_child, slot_handles-few}
-use Rattle.ob_waits.specs.Waits.{WaitList}
-use Rattle.ob_store.specs.declared.limits.Limits.{Limits}
 use Rattle.ob_store.specs.Lives as lives
-use Rattle.ob_store.specs.Lives.{LivesState}
 use Rattle.ob_store.specs.Objects.{ObjectsState, with_handle_at, with_handles_of}
 use Rattle.ob_store.specs.Agreement.{IsTied}
 use Rattle.ob_store.specs.State as state
-use Rattle.ob_store.specs.State.{state_of, whole_of, settled}
-use Rattle.ob_store.specs.Kept.{IsKept, IsCounted, IsNamed}
+use Rattle.ob_store.specs.State.{Whole, settled, by_slot}
+use Rattle.ob_store.specs.Parts.{PartsState, state_of, whole_of}
+use Rattle.ob_store.specs.Kept.{IsKept, IsNamed}
 use Rattle.ob_store.proofs.BySlot.{recounted, count_few}
 use Rattle.ob_store.proofs.CameLaws.{came_one}
 use Rattle.ob_store.proofs.CountedLaws.{handles_at, handles_long}
 use Rattle.ob_store.proofs.NamedLaws.{entry_counted}
 use Rattle.ob_store.proofs.ListingLaws.{listing_child}
-use Rattle.ob_store.proofs.KeptLaws.{settled_kept, handled, kept_process}
+use Rattle.ob_store.proofs.KeptLaws.{whole_kept, handled, kept_process, lives_same}
 
 -- a place of a child's table has what its parent's has there
 inherited_at : (t : List (Option Entry)) (i : ℕ) → get_or (inherited t) i None ≡ inheritable (get_or t i None)
@@ -74,78 +71,79 @@ handles_counted (Some e ∷ places) s k lt =
     let sum : slot_handles_in k (Some e ∷ places) ≡ one_in k e + slot_handles_in k places = sum_by-cons _ (Some e) places in
     omega (arith, rest, first, sum)
 
-module _ (limits : Limits) (l : LivesState) (ts : HandleTables) (o : ObjectsState) (ws : WaitList) (rows : Rows) (kept : IsKept limits l ts o ws rows) (p : ℕ) (table : p < length ts.tables) where
+module _ (p : PartsState) (kept : IsKept p) (parent : ℕ) (table : parent < length p.tables.tables) where
   abbrev pub child_table : List (Option Entry)
-  child_table = inherited (table_of ts.tables p)
+  child_table = inherited (table_of p.tables.tables parent)
+
+  abbrev ts : List (List (Option Entry))
+  ts = p.tables.tables
 
   -- what a child inherits has a body
-  pub inherited_live : IsTied o → (i : ℕ) → IfSome (get_or (inherited (table_of ts.tables p)) i None) (λ e. IsSome (get_or o.seen.bodies e.id.slot None))
+  pub inherited_live : IsTied p.objects → (i : ℕ) → IfSome (get_or (inherited (table_of p.tables.tables parent)) i None) (λ e. IsSome (get_or p.objects.seen.bodies e.id.slot None))
   inherited_live tied i = by (get_or child_table i None) refl
     where
-      by : (x : Option Entry) → get_or child_table i None ≡ x → IfSome x (λ e. IsSome (get_or o.seen.bodies e.id.slot None))
+      by : (x : Option Entry) → get_or child_table i None ≡ x → IfSome x (λ e. IsSome (get_or p.objects.seen.bodies e.id.slot None))
       by None is = tt
       by (Some e) is =
-          let own : get_or (table_of ts.tables p) i None ≡ Some e = inheritable_own (get_or (table_of ts.tables p) i None) e (sym (inherited_at (table_of ts.tables p) i) ∙ is) in
-          handled limits l ts o ws rows kept e.id tied (entry_counted o.objects ts.tables ws.waits kept.named p i e own)
+          let own : get_or (table_of ts parent) i None ≡ Some e = inheritable_own (get_or (table_of ts parent) i None) e (sym (inherited_at (table_of ts parent) i) ∙ is) in
+          handled p e.id kept.sound tied (entry_counted p.objects.objects ts p.waits.waits kept.sound.named parent i e own)
 
   -- and no slot counts too many handles for that
-  pub inherited_few : IsBounded ts.process_limit ts.handle_limit ts.tables → (k : ℕ) → get_or o.seen.handles k 0 + 16384 ≤ 4294967295
+  pub inherited_few : IsBounded p.tables.process_limit p.tables.handle_limit p.tables.tables → (k : ℕ) → get_or p.objects.seen.handles k 0 + 16384 ≤ 4294967295
   inherited_few b k =
-      let few = count_few o.seen.handles (length o.objects) (λ i. slot_handles i ts.tables) k kept.counted.handles in
-      let all = slot_handles-few k ts.process_limit ts.handle_limit ts.tables b in
+      let few = count_few p.objects.seen.handles (length p.objects.objects) (λ i. slot_handles i ts) k kept.sound.counted.handles in
+      let all = slot_handles-few k p.tables.process_limit p.tables.handle_limit ts b in
       omega (arith, few, all)
 
-  counted_child : IsCounted (with_handles_of o child_table).seen (length o.objects) (tables.with_child ts.tables p) ws.waits
-  counted_child = record {
-    handles = recounted o.seen.handles (with_handles_of o child_table).seen.handles (length o.objects) (λ k. slot_handles k ts.tables) (λ k. slot_handles k (tables.with_child ts.tables p)) kept.counted.handles
-        (handles_long_after child_table o)
-        (λ k lt.
-        let long = handles_long o.seen (length o.objects) ts.tables ws.waits kept.counted in
-        let more = handles_counted child_table o k (omega (arith, long, lt)) in
-        let at = handles_at o.seen (length o.objects) ts.tables ws.waits kept.counted k lt in
-        let sum = slot_handles-with_child k ts.tables p in
-        omega (arith, more, at, sum));
-    blocks = ap (λ (s : ObjectsState). s.seen.blocks) (handles_stay child_table o) ∙ kept.counted.blocks;
-  }
+  handles_after : (with_handles_of p.objects (inherited (table_of p.tables.tables parent))).seen.handles ≡ by_slot (length p.objects.objects) (λ k. slot_handles k (tables.with_child p.tables.tables parent))
+  handles_after = recounted p.objects.seen.handles (with_handles_of p.objects child_table).seen.handles (length p.objects.objects) (λ k. slot_handles k ts) (λ k. slot_handles k (tables.with_child ts parent)) kept.sound.counted.handles
+      (handles_long_after child_table p.objects)
+      (λ k lt.
+      let long = handles_long p.objects.seen (length p.objects.objects) ts p.waits.waits kept.sound.counted in
+      let more = handles_counted child_table p.objects k (omega (arith, long, lt)) in
+      let at = handles_at p.objects.seen (length p.objects.objects) ts p.waits.waits kept.sound.counted k lt in
+      let sum = slot_handles-with_child k ts parent in
+      omega (arith, more, at, sum))
 
-  named_child : IsNamed o.objects (tables.with_child ts.tables p) ws.waits
+  named_child : IsNamed p.objects.objects (tables.with_child p.tables.tables parent) p.waits.waits
   named_child = record {
-    entries = λ id h. kept.named.entries id
-        (let sum = handles_among-with_child id ts.tables p in
-        let fewer = handles_in-inherited id (table_of ts.tables p) in
-        let among = handles_in-among id ts.tables p table in
+    entries = λ id h. kept.sound.named.entries id
+        (let sum = handles_among-with_child id ts parent in
+        let fewer = handles_in-inherited id (table_of ts parent) in
+        let among = handles_in-among id ts parent table in
         omega (arith, sum, fewer, among, h));
-    blocks = kept.named.blocks;
+    blocks = kept.sound.named.blocks;
   }
 
-  abbrev pub tables_with : HandleTables
-  tables_with = record ts { tables = tables.with_child ts.tables p }
+  abbrev pub with_child : ℕ → ObjectsState → PartsState
+  with_child session objects = record p { lives = lives.with_process p.lives session; tables = record p.tables { tables = tables.with_child p.tables.tables parent }; objects = objects }
 
-  pub kept_child : (session : ℕ) → length l.processes ≤ limits.processes → length l.threads ≤ limits.threads → IsKept limits (lives.with_process l session) (record ts { tables = tables.with_child ts.tables p }) (with_handles_of o (inherited (table_of ts.tables p))) ws rows
+  -- all of the objects but their counts of handles stays
+  abbrev counted : ObjectsState
+  counted = record p.objects { seen = record p.objects.seen { handles = (with_handles_of p.objects child_table).seen.handles } }
+
+  pub kept_child : (session : ℕ) → length p.lives.processes ≤ p.limits.processes → length p.lives.threads ≤ p.limits.threads → IsKept (with_child session (with_handles_of p.objects (inherited (table_of p.tables.tables parent))))
   kept_child session processes threads =
-      let plain = kept_process limits l ts o ws rows kept session processes threads in
-      let long : length (tables.with_child ts.tables p) ≡ length (tables.with_process ts.tables) = length-append ts.tables (child_table ∷ []) ∙ sym (length-append ts.tables ([] ∷ [])) in
-      let stays = handles_stay child_table o in
-      let after : ObjectsState = record o { seen = record o.seen { handles = (with_handles_of o child_table).seen.handles } } in
-      let is : IsKept limits (lives.with_process l session) tables_with after ws rows = record {
-        limited = record { processes = kept.limited.processes; handles = kept.limited.handles; waits_limit = kept.limited.waits_limit; shape_is = kept.limited.shape_is };
-        lives_kept = record { few_processes = plain.lives_kept.few_processes; few_threads = plain.lives_kept.few_threads; tabled = long ∙ plain.lives_kept.tabled; live = plain.lives_kept.live };
-        counted = record { handles = counted_child.handles; blocks = kept.counted.blocks };
-        named = named_child;
-        formed = kept.formed;
-        of_live = plain.of_live;
-        quiet = kept.quiet;
-        listing = listing_child rows ts.tables o.objects o.births kept.listing p;
+      let plain = (kept_process p session kept processes threads).sound in
+      let long : length (tables.with_child ts parent) ≡ length (tables.with_process ts) = length-append ts (child_table ∷ []) ∙ sym (length-append ts ([] ∷ [])) in
+      let is : IsKept (with_child session counted) = record {
+        sound = record {
+          limited = kept.sound.limited;
+          lives_kept = lives_same p.limits (lives.with_process p.lives session) (length (tables.with_process ts)) (length (tables.with_child ts parent)) long plain.lives_kept;
+          counted = record { handles = handles_after; blocks = kept.sound.counted.blocks };
+          named = named_child;
+          formed = kept.sound.formed;
+          of_live = plain.of_live;
+          room = kept.sound.room;
+          listing = listing_child p.rows ts p.objects.objects p.objects.births kept.sound.listing parent;
+        };
+        settled = kept.settled;
       } in
-      subst (λ (s : ObjectsState). IsKept limits (lives.with_process l session) tables_with s ws rows) (sym stays) is
+      subst (λ (o : ObjectsState). IsKept (with_child session o)) (sym (handles_stay child_table p.objects)) is
 
-  pub whole_child : (session : ℕ) → length l.processes ≤ limits.processes → length l.threads ≤ limits.threads → IsTied (with_handles_of o (inherited (table_of ts.tables p)))
-      → whole_of limits (lives.with_process l session) (record ts { tables = tables.with_child ts.tables p }) (with_handles_of o (inherited (table_of ts.tables p))) ws
-      ≡ record (whole_of limits l ts o ws) { state = settled (state.with_child (state_of limits l ts o ws) p session) }
-  whole_child session processes threads tied =
-      let stays = handles_stay child_table o in
-      let after : ObjectsState = record o { seen = record o.seen { handles = (with_handles_of o child_table).seen.handles } } in
-      let k : IsKept limits (lives.with_process l session) tables_with after ws rows = subst (λ (s : ObjectsState). IsKept limits (lives.with_process l session) tables_with s ws rows) stays (kept_child session processes threads) in
-      let t : IsTied after = subst IsTied stays tied in
-      ap (λ (s : ObjectsState). whole_of limits (lives.with_process l session) tables_with s ws) stays
-      ∙ λ i. record { state = sym (settled_kept limits (lives.with_process l session) tables_with after ws rows k t) i; keeper = o.keeper }
+  pub whole_child : (session : ℕ) → IsKept (with_child session (with_handles_of p.objects (inherited (table_of p.tables.tables parent)))) → IsTied (with_handles_of p.objects (inherited (table_of p.tables.tables parent)))
+      → whole_of (with_child session (with_handles_of p.objects (inherited (table_of p.tables.tables parent)))) ≡ record (whole_of p) { state = settled (state.with_child (state_of p) parent session) }
+  whole_child session after tied =
+      let stays = handles_stay child_table p.objects in
+      whole_kept (with_child session (with_handles_of p.objects child_table)) after tied
+      ∙ ap {B = Whole} (λ (o : ObjectsState). record { state = settled (state_of (with_child session o)); keeper = o.keeper }) stays

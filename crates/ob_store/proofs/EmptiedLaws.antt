@@ -7,22 +7,21 @@ use Rattle.ob_tables.specs.declared.entry.Entry.{Entry}
 use Rattle.ob_tables.specs.Table.{entry_at, place_of, without_entry}
 use Rattle.ob_tables.specs.Tables.{HandleTables, table_of, without_entries, without_entry_of}
 use Rattle.ob_tables.proofs.Counting.{without_found}
-use Rattle.std.specs.Prelude.{IfSome, IsSome}
+use Rattle.std.specs.Prelude.{IfSome}
 use Rattle.std.specs.Option.{option_map}
 use Rattle.pin_words.specs.Keepers.{KeeperState}
 use Rattle.ob_name.specs.Listing.{Rows}
-use Rattle.ob_waits.specs.Waits.{WaitList}
-use Rattle.ob_store.specs.declared.limits.Limits.{Limits}
 use Rattle.ob_store.specs.Agreement.{IsTied}
 use Rattle.ob_store.specs.Ends.{process_ended}
-use Rattle.ob_store.specs.Kept.{IsListing}
-use Rattle.ob_store.specs.Lives.{LivesState}
+use Rattle.ob_store.specs.Kept.{IsSound}
 use Rattle.ob_store.specs.Moves.{rows_left}
 use Rattle.ob_store.specs.Objects.{Object, ObjectsState, without_handle_of}
+use Rattle.ob_store.specs.Parts.{PartsState}
 use Rattle.ob_store.specs.State.{State}
-use Rattle.ob_store.specs.UnderWay.{IsSound, IsUnderWay, with_left, without_first}
-use Rattle.ob_store.proofs.EndingLaws.{way_process, way_removed}
-use Rattle.ob_store.proofs.LeavingLaws.{held, listing_left_rows, seat_facts, seated, sound_removed}
+use Rattle.ob_store.specs.UnderWay.{AreLeft, IsEnding, IsUnderWay, tables_left, with_left, without_first}
+use Rattle.ob_store.proofs.EndingLaws.{ending_process}
+use Rattle.ob_store.proofs.EnoughLaws.{enough_left}
+use Rattle.ob_store.proofs.LeavingLaws.{bodies_left, held, sound_left, way_left}
 
 -- the value of a place
 place_is : (place : ℕ) → place_of (4 * (place + 1)) ≡ place
@@ -56,113 +55,109 @@ none_left [] k = refl
 none_left (place ∷ places) zero = refl
 none_left (place ∷ places) (suc k) = none_left places k
 
-module _ (ts : HandleTables) (p : ℕ) (places : List (Option Entry)) (n : ℕ) where
+module _ (ts : List (List (Option Entry))) (p : ℕ) (places : List (Option Entry)) (n : ℕ) where
   abbrev now : List (List (Option Entry))
-  now = (with_left ts p places n).tables
+  now = tables_left ts p places n
 
   -- the process has the places that are left
-  pub left_table : p < length ts.tables → table_of (with_left ts p places n).tables p ≡ without_first n places
-  left_table within = get_or-set_same ts.tables p (without_first n places) [] within
+  pub left_table : p < length ts → table_of (tables_left ts p places n) p ≡ without_first n places
+  left_table within = get_or-set_same ts p (without_first n places) [] within
 
   -- the entry of the next place is that of its value
-  pub left_entry : p < length ts.tables → entry_at (table_of (with_left ts p places n).tables p) (4 * (n + 1)) ≡ get_or places n None
+  pub left_entry : p < length ts → entry_at (table_of (tables_left ts p places n) p) (4 * (n + 1)) ≡ get_or places n None
   left_entry within = at_place (table_of now p) n ∙ ap (λ (t : List (Option Entry)). get_or t n None) (left_table within) ∙ left_here places n
 
   -- there is one, and it leaves
-  pub left_some : p < length ts.tables → (e : Entry) → get_or places n None ≡ Some e → without_entry_of (with_left ts p places n).tables p (4 * (n + 1)) ≡ (with_left ts p places (n + 1)).tables
+  pub left_some : p < length ts → (e : Entry) → get_or places n None ≡ Some e → without_entry_of (tables_left ts p places n) p (4 * (n + 1)) ≡ tables_left ts p places (n + 1)
   left_some within e is =
-      set-set ts.tables p (without_first n places) (without_entry (table_of now p) (4 * (n + 1)))
-      ∙ ap (λ (t : List (Option Entry)). set ts.tables p t)
+      set-set ts p (without_first n places) (without_entry (table_of now p) (4 * (n + 1)))
+      ∙ ap (λ (t : List (Option Entry)). set ts p t)
       (without_found (table_of now p) (4 * (n + 1)) e (left_entry within ∙ is)
       ∙ ap (λ k. set (table_of now p) k None) (place_is n)
       ∙ ap (λ (t : List (Option Entry)). set t n None) (left_table within)
       ∙ left_more places n)
 
   -- there is none
-  pub left_none : get_or places n None ≡ None → with_left ts p places n ≡ with_left ts p places (n + 1)
-  left_none is = ap (λ (t : List (Option Entry)). record ts { tables = set ts.tables p t })
+  pub left_none : get_or places n None ≡ None → tables_left ts p places n ≡ tables_left ts p places (n + 1)
+  left_none is = ap (λ (t : List (Option Entry)). set ts p t)
       (sym (set-get_or (without_first n places) n None) ∙ ap (set (without_first n places) n) (left_here places n ∙ is) ∙ left_more places n)
 
 -- the entry of the next place leaves
-module _ (limits : Limits) (l : LivesState) (ts : HandleTables) (o : ObjectsState) (ws : WaitList) (rows : Rows) (p : ℕ) (places : List (Option Entry)) (n : ℕ) (e : Entry)
-    (sound : IsSound limits l (with_left ts p places n) o ws rows)
-    (tied : IsTied o)
-    (within : p < length ts.tables)
+module _ (p : PartsState) (process : ℕ) (places : List (Option Entry)) (n : ℕ) (e : Entry)
+    (sound : IsSound (with_left p process places n))
+    (tied : IsTied p.objects)
+    (within : process < length p.tables.tables)
     (here : get_or places n None ≡ Some e) where
-  abbrev before : HandleTables
-  before = with_left ts p places n
+  abbrev before : PartsState
+  before = with_left p process places n
 
   abbrev value : ℕ
   value = 4 * (n + 1)
 
-  found : entry_at (table_of (with_left ts p places n).tables p) (4 * (n + 1)) ≡ Some e
-  found = left_entry ts p places n within ∙ here
+  found : entry_at (table_of (tables_left p.tables.tables process places n) process) (4 * (n + 1)) ≡ Some e
+  found = left_entry p.tables.tables process places n within ∙ here
 
-  pub left_held : 0 < get_or o.seen.handles e.id.slot 0
-  left_held = held limits l before o ws rows p value e sound tied found
+  pub left_held : 0 < get_or p.objects.seen.handles e.id.slot 0
+  left_held = held before process value e sound tied found
 
-  -- and the names, by what is looked up of its object
-  module _ {S : Type 0} (seat : Option S) (handles_of : S → ℕ) (object_of : S → Object) (q : ObjectsState) (rows' : Rows)
-      (is : q ≡ without_handle_of o e.id.slot)
+  module _ {S : Type 0} (seat : Option S) (handles_of : S → ℕ) (object_of : S → Object) (q : ObjectsState) (rows : Rows)
+      (is : q ≡ without_handle_of p.objects e.id.slot)
       (object : get_or q.objects e.id.slot None ≡ option_map object_of seat)
       (handles : IfSome seat (λ s. get_or q.seen.handles e.id.slot 0 ≡ handles_of s))
-      (names : rows' ≡ rows_left rows (option_map handles_of seat) (option_map object_of seat)) where
-    listing : IsListing rows' (without_entry_of (with_left ts p places n).tables p (4 * (n + 1))) o.objects o.births
-    listing =
-        let there : IsSome (get_or q.objects e.id.slot None) = subst (λ (x : ObjectsState). IsSome (get_or x.objects e.id.slot None)) (sym is) (seated limits l before o ws rows p value e sound tied found) in
-        let facts = seat_facts seat handles_of object_of (get_or q.seen.handles e.id.slot 0) (get_or q.objects e.id.slot None) object handles there in
-        subst (λ (r : Rows). IsListing r (without_entry_of before.tables p value) o.objects o.births) (sym names)
-        (listing_left_rows limits l before o ws rows p value e sound tied found (option_map handles_of seat) (option_map object_of seat)
-        (facts.0 ∙ ap (λ (x : ObjectsState). Some (get_or x.seen.handles e.id.slot 0)) is)
-        (facts.1 ∙ ap (λ (x : ObjectsState). get_or x.objects e.id.slot None) is))
+      (names : rows ≡ rows_left p.rows (option_map handles_of seat) (option_map object_of seat)) where
+    abbrev after : List (List (Option Entry)) → PartsState
+    after tables = record p { tables = record p.tables { tables = tables }; objects = q; rows = rows }
 
-    pub left_sound : IsSound limits l (with_left ts p places (n + 1)) q ws rows'
-    left_sound = subst (λ (z : List (List (Option Entry)) × ObjectsState). IsSound limits l (record ts { tables = z.0 }) z.1 ws rows') (λ i. (left_some ts p places n within e here i, sym is i))
-        (sound_removed limits l before o ws rows p value e sound tied found rows' listing)
+    pub next_sound : IsSound (with_left (record p { objects = q; rows = rows }) process places (n + 1))
+    next_sound = subst (λ (t : List (List (Option Entry))). IsSound (after t)) (left_some p.tables.tables process places n within e here)
+        (sound_left before process value e sound tied found seat handles_of object_of q rows is object handles names)
 
-    pub left_way : IsTied q → (first : KeeperState) (s : State) → IsUnderWay first limits l (with_left ts p places n) o ws rows s
-        → IsUnderWay first limits l (with_left ts p places (n + 1)) q ws rows' (record s { tables = (with_left ts p places (n + 1)).tables })
-    left_way after first s way = subst (λ (z : List (List (Option Entry)) × ObjectsState). IsUnderWay first limits l (record ts { tables = z.0 }) z.1 ws rows' (record s { tables = z.0 })) (λ i. (left_some ts p places n within e here i, sym is i))
-        (way_removed first limits l before o ws rows rows' s p value e way found listing (subst IsTied is after))
+    pub next_ending : IsTied q → (first : KeeperState) (s : State) → IsEnding first (with_left p process places n) s
+        → IsEnding first (with_left (record p { objects = q; rows = rows }) process places (n + 1)) (record s { tables = tables_left p.tables.tables process places (n + 1) })
+    next_ending done first s ending = record {
+      way = subst (λ (t : List (List (Option Entry))). IsUnderWay first (after t) (record s { tables = t })) (left_some p.tables.tables process places n within e here)
+          (way_left before process value e sound tied found seat handles_of object_of q rows is object handles names done first s ending.way);
+      enough = enough_left p.signaled p.objects.seen.bodies q.seen.bodies p.waits.waits (subst (λ (x : ObjectsState). AreLeft p.objects.seen.bodies x.seen.bodies) (sym is) (bodies_left before process value e sound tied found)) ending.enough;
+    }
+
+-- no entry left
+pub same_ending : (first : KeeperState) (p : PartsState) (s : State) (tables : List (List (Option Entry))) → p.tables.tables ≡ tables → IsEnding first p s → IsEnding first (record p { tables = record p.tables { tables = tables } }) (record s { tables = tables })
+same_ending first p s tables is ending = subst (λ (t : List (List (Option Entry))). IsEnding first (record p { tables = record p.tables { tables = t } }) (record s { tables = t })) is
+    (subst (λ (x : State). IsEnding first p x) (λ i. record s { tables = ap (λ (x : State). x.tables) (sym ending.way.rest) i }) ending)
 
 -- the entries of a process are taken out: before the first of them leaves the tables are what they were
-pub taken_out : (ts new : HandleTables) (p : ℕ) (places : List (Option Entry)) → new ≡ record ts { tables = without_entries ts.tables p } → places ≡ table_of ts.tables p → with_left new p places 0 ≡ ts
-taken_out ts new p places is taken =
-    (λ i. with_left (is i) p (taken i) 0)
-    ∙ ap (λ (t : List (List (Option Entry))). record ts { tables = t }) (set-set ts.tables p [] (table_of ts.tables p) ∙ set-get_or ts.tables p [])
+pub taken_out : (ts new : HandleTables) (process : ℕ) (places : List (Option Entry)) → new ≡ record ts { tables = without_entries ts.tables process } → places ≡ table_of ts.tables process → record new { tables = tables_left new.tables process places 0 } ≡ ts
+taken_out ts new process places is taken =
+    (λ i. record (is i) { tables = tables_left (is i).tables process (taken i) 0 })
+    ∙ ap (λ (t : List (List (Option Entry))). record ts { tables = t }) (set-set ts.tables process [] (table_of ts.tables process) ∙ set-get_or ts.tables process [])
 
 -- once all have left the process ends
-module _ (first : KeeperState) (limits : Limits) (l : LivesState) (ts : HandleTables) (o : ObjectsState) (ws : WaitList) (rows : Rows) (s : State) (p : ℕ) (places : List (Option Entry))
-    (same : ts.tables ≡ s.tables)
-    (within : p < length ts.tables)
-    (alone : (t : ℕ) → get_or l.threads t None ≡ Some p → ⊥) where
-  abbrev cleared : HandleTables
-  cleared = record ts { tables = without_entries ts.tables p }
+module _ (first : KeeperState) (p : PartsState) (s : State) (process : ℕ) (places : List (Option Entry))
+    (same : p.tables.tables ≡ s.tables)
+    (within : process < length p.tables.tables)
+    (alone : (t : ℕ) → get_or p.lives.threads t None ≡ Some process → ⊥) where
+  abbrev out : List (List (Option Entry))
+  out = without_entries p.tables.tables process
 
-  abbrev last : HandleTables
-  last = with_left (record ts { tables = without_entries ts.tables p }) p places (length places)
+  abbrev last : List (List (Option Entry))
+  last = tables_left (without_entries p.tables.tables process) process places (length places)
 
-  table : p < length (with_left (record ts { tables = without_entries ts.tables p }) p places (length places)).tables
-  table = omega (arith, length-set (without_entries ts.tables p) p (without_first (length places) places), length-set ts.tables p [], within)
+  table : process < length (tables_left (without_entries p.tables.tables process) process places (length places))
+  table = omega (arith, length-set (without_entries p.tables.tables process) process (without_first (length places) places), length-set p.tables.tables process [], within)
 
-  none : (k : ℕ) → get_or (table_of (with_left (record ts { tables = without_entries ts.tables p }) p places (length places)).tables p) k None ≡ None
-  none k = ap (λ (t : List (Option Entry)). get_or t k None) (left_table cleared p places (length places) (omega (arith, length-set ts.tables p [], within))) ∙ none_left places k
+  none : (k : ℕ) → get_or (table_of (tables_left (without_entries p.tables.tables process) process places (length places)) process) k None ≡ None
+  none k = ap (λ (t : List (Option Entry)). get_or t k None) (left_table out process places (length places) (omega (arith, length-set p.tables.tables process [], within))) ∙ none_left places k
 
-  gone : without_entries (with_left (record ts { tables = without_entries ts.tables p }) p places (length places)).tables p ≡ without_entries ts.tables p
-  gone = set-set (without_entries ts.tables p) p (without_first (length places) places) [] ∙ set-set ts.tables p [] []
+  gone : without_entries (tables_left (without_entries p.tables.tables process) process places (length places)) process ≡ without_entries p.tables.tables process
+  gone = set-set (without_entries p.tables.tables process) process (without_first (length places) places) [] ∙ set-set p.tables.tables process [] []
 
-  way_left : IsUnderWay first limits l (with_left (record ts { tables = without_entries ts.tables p }) p places (length places)) o ws rows (record s { tables = (with_left (record ts { tables = without_entries ts.tables p }) p places (length places)).tables })
-      → IsUnderWay first limits (record l { processes = set l.processes p None }) (record ts { tables = without_entries ts.tables p }) o ws rows (process_ended s p)
-  way_left way =
-      subst (λ (z : List (List (Option Entry)) × List (List (Option Entry))). IsUnderWay first limits (record l { processes = set l.processes p None }) (record ts { tables = z.0 }) o ws rows (record s { tables = z.1; processes = set s.processes p None }))
-      (λ i. (gone i, (gone ∙ ap (λ (t : List (List (Option Entry))). without_entries t p) same) i))
-      (way_process first limits l last o ws rows (record s { tables = last.tables }) p way table none alone)
-
-pub way_emptied : (first : KeeperState) (limits : Limits) (l : LivesState) (ts new : HandleTables) (o : ObjectsState) (ws : WaitList) (rows : Rows) (s : State) (p : ℕ) (places : List (Option Entry))
-    → new ≡ record ts { tables = without_entries ts.tables p } → ts.tables ≡ s.tables → p < length ts.tables → ((t : ℕ) → get_or l.threads t None ≡ Some p → ⊥)
-    → IsUnderWay first limits l (with_left new p places (length places)) o ws rows (record s { tables = (with_left new p places (length places)).tables })
-    → IsUnderWay first limits (record l { processes = set l.processes p None }) new o ws rows (process_ended s p)
-way_emptied first limits l ts new o ws rows s p places is same within alone way =
-    subst (λ (t : HandleTables). IsUnderWay first limits (record l { processes = set l.processes p None }) t o ws rows (process_ended s p)) (sym is)
-    (way_left first limits l ts o ws rows s p places same within alone
-    (subst (λ (t : HandleTables). IsUnderWay first limits l (with_left t p places (length places)) o ws rows (record s { tables = (with_left t p places (length places)).tables })) is way))
+  pub ending_emptied : (new : HandleTables) → new ≡ record p.tables { tables = without_entries p.tables.tables process }
+      → IsEnding first (with_left (record p { tables = new }) process places (length places)) (record s { tables = tables_left new.tables process places (length places) })
+      → IsEnding first (record p { lives = record p.lives { processes = set p.lives.processes process None }; tables = new }) (process_ended s process)
+  ending_emptied new is ending =
+      subst (λ (t : HandleTables). IsEnding first (record p { lives = record p.lives { processes = set p.lives.processes process None }; tables = t }) (process_ended s process)) (sym is)
+      (subst (λ (z : List (List (Option Entry)) × List (List (Option Entry))). IsEnding first (record p { lives = record p.lives { processes = set p.lives.processes process None }; tables = record p.tables { tables = z.0 } }) (record s { tables = z.1; processes = set s.processes process None }))
+      (λ i. (gone i, (gone ∙ ap (λ (t : List (List (Option Entry))). without_entries t process) same) i))
+      (ending_process first (record p { tables = record p.tables { tables = last } }) (record s { tables = last }) process
+      (subst (λ (t : HandleTables). IsEnding first (with_left (record p { tables = t }) process places (length places)) (record s { tables = tables_left t.tables process places (length places) })) is ending)
+      table none alone))

@@ -1,6 +1,5 @@
 -- The slots by which it is enough to settle, while bodies and waits go and mutexes are abandoned.
-use Rattle.std.proofs.Common.{◌≡◌, ℕ, zero, suc, ◌<◌, List, [], ◌∷◌, length, Option, None, refl, ap, ◌∙◌, sym, subst, arith, cond, get_or, set, map, Bool, true, false, inl, inr}
-use Rattle.std.specs.List.{list_any}
+use Rattle.std.proofs.Common.{◌≡◌, ℕ, zero, suc, ◌<◌, List, [], ◌∷◌, length, Option, None, refl, ap, ◌∙◌, sym, subst, arith, get_or, set, map, Bool, true, false, inl, inr}
 use Rattle.std.proofs.lemmas.List.{length-map, get_or-map, get_or_past, get_or-set_other, set-get_or}
 use Rattle.std.proofs.lemmas.Bool.{cases_eq, cases_lt}
 use Rattle.pin_core.specs.declared.id.Id.{Id}
@@ -8,46 +7,29 @@ use Rattle.ob_body.specs.declared.body.Body.{Body}
 use Rattle.ob_body.specs.Mutex.{is_owner}
 use Rattle.ob_waits.specs.declared.wait.Wait.{Wait}
 use Rattle.ob_waits.specs.Form.{slot_owner}
-use Rattle.ob_waits.specs.Objects.{Objects, slot_signaled, without_blocks}
+use Rattle.ob_waits.specs.Objects.{Objects, without_blocks}
 use Rattle.ob_waits.specs.Rules.{IsSettled, IsReadyAtOne}
 use Rattle.ob_waits.specs.Waits.{nowhere, is_ready, is_waits_of, names_one, unless_of}
 use Rattle.ob_waits.proofs.Apart.{ready_at_changes}
-use Rattle.ob_waits.proofs.Settling.{IsLess, ready_less}
-use Rattle.ob_name.specs.Listing.{Rows}
-use Rattle.ob_tables.specs.Tables.{HandleTables}
-use Rattle.ob_waits.specs.Waits.{WaitList}
-use Rattle.ob_store.specs.declared.limits.Limits.{Limits}
-use Rattle.ob_store.specs.Abandoned.{AbandonedState, Grows, IsEnough, IsNoted, none_abandoned}
-use Rattle.ob_store.specs.Agreement.{IsTied}
-use Rattle.ob_store.specs.Lives.{LivesState, is_of}
-use Rattle.ob_store.specs.Objects.{ObjectsState}
-use Rattle.ob_store.specs.State.{State, state_of}
-use Rattle.ob_store.specs.Ends.{process_ended, slot_left_by, unless_threads}
-use Rattle.ob_store.specs.UnderWay.{AreLeft, IsSound, IsUnderWay}
-use Rattle.ob_store.proofs.EndingLaws.{at_left_by, left_blocks}
-use Rattle.ob_store.proofs.LeavingLaws.{left_same}
+use Rattle.ob_waits.proofs.Settling.{ready_less}
+use Rattle.ob_store.specs.Signaled.{SignaledState, Grows, IsEnough, IsNoted}
+use Rattle.ob_store.specs.Ends.{slot_left_by}
+use Rattle.ob_store.specs.UnderWay.{AreLeft}
+use Rattle.ob_store.proofs.LeftLaws.{left_blocks, less_gone}
 use Rattle.ob_store.proofs.OwnerLaws.{left_by_other}
 
--- where no wait is ready none is enough
-pub enough_settled : (bodies : List (Option Body)) (ws : List (Option Wait)) → IsSettled bodies ws → IsEnough none_abandoned bodies ws
-enough_settled bodies ws settled = record { each = λ whole. record { each = λ n ready. absurd (let none = settled.each n in cc (none, ready)) } }
+-- where no wait is ready any are enough
+pub enough_settled : (a : SignaledState) (bodies : List (Option Body)) (ws : List (Option Wait)) → IsSettled bodies ws → IsEnough a bodies ws
+enough_settled a bodies ws settled = record { each = λ whole. record { each = λ n ready. absurd (let none = settled.each n in cc (none, ready)) } }
 
 -- bodies that went signal nothing
-pub less_gone : (bodies after : List (Option Body)) → AreLeft bodies after → IsLess bodies after
-less_gone bodies after left = record {
-  each = λ t id h. elim (left.each id.slot) [
-    | inl same ↦ sym (ap (slot_signaled t) same) ∙ h
-    | inr none ↦ absurd (let unsignaled = ap (slot_signaled t) none in cc (unsignaled, h))
-  ];
-}
-
-pub enough_left : (a : AbandonedState) (bodies after : List (Option Body)) (ws : List (Option Wait)) → AreLeft bodies after → IsEnough a bodies ws → IsEnough a after ws
+pub enough_left : (a : SignaledState) (bodies after : List (Option Body)) (ws : List (Option Wait)) → AreLeft bodies after → IsEnough a bodies ws → IsEnough a after ws
 enough_left a bodies after ws left enough = record {
   each = λ whole. record { each = λ n ready. (enough.each whole).each n (ready_less bodies after (less_gone bodies after left) (get_or ws n None) ready) };
 }
 
 -- a thread's wait leaves
-pub enough_dropped : (a : AbandonedState) (bodies : List (Option Body)) (ws : List (Option Wait)) (t : ℕ) → IsEnough a bodies ws → IsEnough a bodies (map (unless_of t) ws)
+pub enough_dropped : (a : SignaledState) (bodies : List (Option Body)) (ws : List (Option Wait)) (t : ℕ) → IsEnough a bodies ws → IsEnough a bodies (map (unless_of t) ws)
 enough_dropped a bodies ws t enough = record {
   each = λ whole. record {
     each = λ n ready. elim (cases_lt n (length ws)) [
@@ -75,8 +57,15 @@ ready_more bodies after ws ids more grown same at = record { each = λ n ready. 
         alone w is zero = is
         alone w is (suc n) = refl
 
+-- a thread's mutexes are abandoned
+pub at_left_by : (t : ℕ) (bodies : List (Option Body)) (k : ℕ) → get_or (map (slot_left_by t) bodies) k None ≡ slot_left_by t (get_or bodies k None)
+at_left_by t bodies k = elim (cases_lt k (length bodies)) [
+  | inl lt ↦ get_or-map (slot_left_by t) bodies k None None lt
+  | inr le ↦ get_or_past (map (slot_left_by t) bodies) k None (omega (arith, length-map bodies (slot_left_by t))) ∙ ap (slot_left_by t) (sym (get_or_past bodies k None le))
+]
+
 -- a thread's mutexes are abandoned, all of whose slots were added
-pub enough_abandoned : (a b : AbandonedState) (bodies after : List (Option Body)) (t : ℕ) → after ≡ map (slot_left_by t) bodies → (b.whole ≡ true → a.whole ≡ true) → (b.whole ≡ true → (w : Option Wait) → names_one a.ids w ≡ true → names_one b.ids w ≡ true)
+pub enough_abandoned : (a b : SignaledState) (bodies after : List (Option Body)) (t : ℕ) → after ≡ map (slot_left_by t) bodies → (b.whole ≡ true → a.whole ≡ true) → (b.whole ≡ true → (w : Option Wait) → names_one a.ids w ≡ true → names_one b.ids w ≡ true)
     → (b.whole ≡ true → (k : ℕ) → ((i : ℕ) → i < length b.ids → (get_or b.ids i nowhere).slot ≡ k → ⊥) → is_owner t (slot_owner (get_or bodies k None)) ≡ false)
     → (ws : List (Option Wait)) → IsEnough a bodies ws → IsEnough b after ws
 enough_abandoned a b bodies after t is before grown others ws enough = record {
@@ -85,26 +74,26 @@ enough_abandoned a b bodies after t is before grown others ws enough = record {
       (enough.each (before whole));
 }
 
-pub grows_same : (a : AbandonedState) → Grows a a
+pub grows_same : (a : SignaledState) → Grows a a
 grows_same a = record { whole = λ whole. whole; named = λ whole w named. named; out = λ whole k out. out }
 
-pub grows_more : (a b c : AbandonedState) → Grows a b → Grows b c → Grows a c
+pub grows_more : (a b c : SignaledState) → Grows a b → Grows b c → Grows a c
 grows_more a b c ab bc = record {
   whole = λ whole. ab.whole (bc.whole whole);
   named = λ whole w named. bc.named whole w (ab.named (bc.whole whole) w named);
   out = λ whole k out. ab.out (bc.whole whole) k (bc.out whole k out);
 }
 
-pub noted_still : (a b : AbandonedState) (bodies : List (Option Body)) (t k : ℕ) → Grows a b → IsNoted a bodies t k → IsNoted b bodies t k
+pub noted_still : (a b : SignaledState) (bodies : List (Option Body)) (t k : ℕ) → Grows a b → IsNoted a bodies t k → IsNoted b bodies t k
 noted_still a b bodies t k grown noted = λ whole out. noted (grown.whole whole) (grown.out whole k out)
 
 -- a thread's mutexes are abandoned, whose slots were all noted
-pub enough_noted : (a b : AbandonedState) (p q : Objects) (t : ℕ) → q ≡ record p { bodies = map (slot_left_by t) p.bodies } → Grows a b → ((k : ℕ) → IsNoted b p.bodies t k)
+pub enough_noted : (a b : SignaledState) (p q : Objects) (t : ℕ) → q ≡ record p { bodies = map (slot_left_by t) p.bodies } → Grows a b → ((k : ℕ) → IsNoted b p.bodies t k)
     → (ws : List (Option Wait)) → IsEnough a p.bodies ws → IsEnough b q.bodies ws
 enough_noted a b p q t seen grown noted = enough_abandoned a b p.bodies q.bodies t (ap (λ (x : Objects). x.bodies) seen) grown.whole grown.named (λ whole k. noted k whole)
 
 -- one slot was noted, and the mutex in it is abandoned
-pub enough_at : (a b : AbandonedState) (p q : Objects) (t k : ℕ) → q ≡ record p { bodies = set p.bodies k (slot_left_by t (get_or p.bodies k None)) } → Grows a b → IsNoted b p.bodies t k
+pub enough_at : (a b : SignaledState) (p q : Objects) (t k : ℕ) → q ≡ record p { bodies = set p.bodies k (slot_left_by t (get_or p.bodies k None)) } → Grows a b → IsNoted b p.bodies t k
     → (ws : List (Option Wait)) → IsEnough a p.bodies ws → IsEnough b q.bodies ws
 enough_at a b p q t k is grown noted ws enough = record {
   each = λ whole. ready_more p.bodies q.bodies ws a.ids b.ids (grown.named whole)
@@ -118,19 +107,7 @@ enough_at a b p q t k is grown noted ws enough = record {
 }
 
 -- a thread's blocks leave, and its wait
-pub enough_unwaited : (a : AbandonedState) (o p : Objects) (ws : List (Option Wait)) (t : ℕ) (ids : List Id) → p ≡ without_blocks o ids → IsEnough a o.bodies ws → IsEnough a p.bodies (map (unless_of t) ws)
+pub enough_unwaited : (a : SignaledState) (o p : Objects) (ws : List (Option Wait)) (t : ℕ) (ids : List Id) → p ≡ without_blocks o ids → IsEnough a o.bodies ws → IsEnough a p.bodies (map (unless_of t) ws)
 enough_unwaited a o p ws t ids blocks enough =
     let fewer : AreLeft o.bodies p.bodies = subst (λ (x : Objects). AreLeft o.bodies x.bodies) (sym blocks) (left_blocks ids o) in
     enough_dropped a p.bodies ws t (enough_left a o.bodies p.bodies ws fewer enough)
-
--- what is sound is under way to its own state
-pub way_self : (limits : Limits) (l : LivesState) (ts : HandleTables) (o : ObjectsState) (ws : WaitList) (rows : Rows) → IsTied o → IsSound limits l ts o ws rows → IsUnderWay o.keeper limits l ts o ws rows (state_of limits l ts o ws)
-way_self limits l ts o ws rows tied sound = record { tied = tied; sound = sound; rest = refl; bodies = left_same o.seen.bodies; keeper = refl }
-
--- a process that ends, or stays, takes no body that was there
-pub unless_bodies : (s : State) (p : ℕ) → (unless_threads s p).bodies ≡ s.bodies
-unless_bodies s p = by (list_any (is_of p) s.threads)
-  where
-    by : (b : Bool) → (cond b s (process_ended s p)).bodies ≡ s.bodies
-    by true = refl
-    by false = refl

@@ -5,8 +5,6 @@ use Rattle.std.proofs.lemmas.List.{get_or_past}
 use Rattle.std.proofs.lemmas.Bool.{cases_lt}
 use Rattle.ob_body.specs.declared.body.Body.{Body}
 use Rattle.ob_body.specs.Timer.{is_due}
-use Rattle.ob_name.specs.Listing.{Rows}
-use Rattle.ob_tables.specs.Tables.{HandleTables}
 use Rattle.ob_waits.specs.declared.wait.Wait.{Wait}
 use Rattle.ob_waits.specs.Deadlines.{is_overdue}
 use Rattle.ob_waits.specs.Deadlines as waits_time
@@ -15,23 +13,21 @@ use Rattle.ob_waits.specs.Form.{slot_form}
 use Rattle.ob_waits.specs.Objects.{Objects}
 use Rattle.ob_waits.specs.Rules.{IsSettled}
 use Rattle.ob_waits.specs.Waits as waits
-use Rattle.ob_waits.specs.Waits.{Scene, WaitList, answered, blocks_among, slot_blocks}
+use Rattle.ob_waits.specs.Waits.{Scene, answered, blocks_among, slot_blocks}
 use Rattle.ob_waits.proofs.Counted.{blocks_answered}
 use Rattle.ob_waits.proofs.EndsLast.{ended_at, length-ended}
 use Rattle.ob_waits.proofs.LapseLaws.{blocks_lapsed, ended_twice, fewer_overdue, lapsed_twice, none_lapsed, settled_lapsed, slot_lapsed}
 use Rattle.ob_waits.proofs.Settled.{settled_answered, settled_less}
 use Rattle.ob_waits.proofs.Staying.{settled_form}
-use Rattle.ob_store.specs.declared.limits.Limits.{Limits}
-use Rattle.ob_store.specs.Lives.{LivesState}
-use Rattle.ob_store.specs.Objects.{ObjectsState}
 use Rattle.ob_store.specs.Kept.{IsKept, IsNamed}
+use Rattle.ob_store.specs.Parts.{PartsState}
 use Rattle.ob_store.specs.State.{State, objects_of, settled}
 use Rattle.ob_store.specs.Ticks.{lapsed, slot_is_due}
 use Rattle.ob_store.specs.UnderWay.{AreLeft}
 use Rattle.ob_store.specs.Waiting.{with_answer}
 use Rattle.ob_store.proofs.BodyLaws.{due_same}
 use Rattle.ob_store.proofs.BySlot.{get_by_slot, length-by_slot}
-use Rattle.ob_store.proofs.EnoughLaws.{less_gone}
+use Rattle.ob_store.proofs.LeftLaws.{less_gone}
 use Rattle.ob_store.proofs.NamedLaws.{named_fewer}
 use Rattle.ob_store.proofs.SettledLaws.{settled_ends}
 use Rattle.ob_store.proofs.TickLaws.{formed_now}
@@ -131,16 +127,19 @@ lapse_last s now still none =
     ∙ ap (λ (ws : List (Option Wait)). settled (record s { clock = now; waits = ws })) (sym (none_lapsed now s.waits none))
 
 -- what is kept is kept at a later moment, before which nothing is due
-pub kept_passed : (limits : Limits) (l : LivesState) (ts : HandleTables) (o : ObjectsState) (ws : WaitList) (rows : Rows) (now : ℕ) → ((k : ℕ) → slot_is_due now (get_or o.seen.bodies k None) ≡ false) → IsKept limits l ts o ws rows → IsKept limits l ts o (record ws { clock = now }) rows
-kept_passed limits l ts o ws rows now undue kept = record {
-  limited = record { processes = kept.limited.processes; handles = kept.limited.handles; waits_limit = kept.limited.waits_limit; shape_is = kept.limited.shape_is };
-  lives_kept = kept.lives_kept;
-  counted = kept.counted;
-  named = kept.named;
-  formed = formed_now ws.clock now o.objects o.seen.bodies undue kept.formed;
-  of_live = kept.of_live;
-  quiet = kept.quiet;
-  listing = kept.listing;
+pub kept_passed : (p : PartsState) (now : ℕ) → ((k : ℕ) → slot_is_due now (get_or p.objects.seen.bodies k None) ≡ false) → IsKept p → IsKept (record p { waits = record p.waits { clock = now } })
+kept_passed p now undue kept = record {
+  sound = record {
+    limited = kept.sound.limited;
+    lives_kept = kept.sound.lives_kept;
+    counted = kept.sound.counted;
+    named = kept.sound.named;
+    formed = formed_now p.waits.clock now p.objects.objects p.objects.seen.bodies undue kept.sound.formed;
+    of_live = kept.sound.of_live;
+    room = kept.sound.room;
+    listing = kept.sound.listing;
+  };
+  settled = kept.settled;
 }
 
 -- settling makes no timer due

@@ -1,11 +1,9 @@
 -- The state before any call is kept.
-use Rattle.std.proofs.Common.{◌≡◌, ℕ, zero, suc, ◌≤◌, length, false, Some, List, [], ◌∷◌, Option, None, refl, ap, ◌∙◌, sym, subst, arith, get_or, map, inl, inr}
+use Rattle.std.proofs.Common.{◌≡◌, ℕ, zero, suc, ◌≤◌, length, false, List, [], ◌∷◌, Option, None, refl, ap, ◌∙◌, sym, subst, arith, get_or, map, inl, inr}
 use Rattle.std.specs.Prelude.{replicate, sum_by}
 use Rattle.std.proofs.lemmas.List.{length-replicate, get_or_past, get_or-replicate}
 use Rattle.std.proofs.lemmas.List.Sums.{sum_by-cons}
 use Rattle.std.proofs.lemmas.Bool.{cases_lt}
-use Rattle.pin_core.specs.declared.id.Id.{Id}
-use Rattle.pin_core.specs.declared.descr.Descr.{Descr}
 use Rattle.pin_core.specs.declared.world.Slot.{Slot}
 use Rattle.pin_core.specs.Worlds.{opening_slot, slot_of}
 use Rattle.pin_words.specs.Keepers.{KeeperState, IsFresh}
@@ -19,7 +17,9 @@ use Rattle.ob_store.specs.declared.limits.Limits.{Limits}
 use Rattle.ob_store.specs.Agreement.{IsTied, made_in}
 use Rattle.ob_store.specs.Lives.{no_lives}
 use Rattle.ob_store.specs.Objects.{Object, ObjectsState, with_keeper, vacant_places}
-use Rattle.ob_store.specs.State.{Whole, state_of, opening, shape_of, generation_of}
+use Rattle.ob_store.specs.Parts.{PartsState, whole_of}
+use Rattle.ob_store.specs.Signaled.{none_signaled}
+use Rattle.ob_store.specs.State.{Whole, opening, shape_of, generation_of}
 use Rattle.ob_store.specs.Kept.{IsKept, IsCounted}
 use Rattle.ob_store.proofs.CountedLaws.{counted_opening}
 use Rattle.ob_store.proofs.NamedLaws.{named_opening}
@@ -50,34 +50,37 @@ module _ (limits : Limits) (keeper : KeeperState) (fresh : IsFresh keeper (shape
   abbrev pub no_objects : ObjectsState
   no_objects = with_keeper (vacant_places limits.slots) 0 keeper
 
-  pub kept_opening : IsKept limits no_lives (no_tables limits) (with_keeper (vacant_places limits.slots) 0 keeper) (no_waits limits) []
+  abbrev pub no_parts : PartsState
+  no_parts = record { limits = limits; lives = no_lives; tables = no_tables limits; objects = no_objects; waits = no_waits limits; rows = []; signaled = none_signaled }
+
+  pub kept_opening : IsKept no_parts
   kept_opening = record {
-    limited = record { processes = refl; handles = refl; waits_limit = refl; shape_is = fresh.shape_is };
-    lives_kept = record {
-      few_processes = omega arith;
-      few_threads = omega arith;
-      tabled = refl;
-      live = λ t p h. absurd (let none = one_none ℕ t in cc (none, h));
-    };
-    counted = subst (λ (n : ℕ). IsCounted no_objects.seen n ([] ∷ []) (None ∷ [])) (sym (length-replicate {A = Option Object} limits.slots None)) (counted_opening limits.slots);
-    named = named_opening no_objects.objects;
-    formed = record {
-      each = λ k o b there is. absurd (let none = none_at Object limits.slots k in cc (none, there));
-      later = λ k. subst (λ (x : Option Body). IsAfter 0 (slot_due x)) (sym (none_at Body limits.slots k)) tt;
-    };
-    of_live = record {
-      owners = λ k t h. absurd (let none = ap slot_owner (none_at Body limits.slots k) in cc (none, h));
-      waiters = λ n t h. absurd (let none = ap thread_of (one_none Wait n) in cc (none, h));
-    };
-    quiet = record {
+    sound = record {
+      limited = record { processes_are = refl; handles_are = refl; waits_are = refl; shape_is = fresh.shape_is };
+      lives_kept = record {
+        few_processes = omega arith;
+        few_threads = omega arith;
+        tabled = refl;
+        live = λ t p h. absurd (let none = one_none ℕ t in cc (none, h));
+      };
+      counted = subst (λ (n : ℕ). IsCounted no_objects.seen n ([] ∷ []) (None ∷ [])) (sym (length-replicate {A = Option Object} limits.slots None)) (counted_opening limits.slots);
+      named = named_opening no_objects.objects;
+      formed = record {
+        each = λ k o b there is. absurd (let none = none_at Object limits.slots k in cc (none, there));
+        later = λ k. subst (λ (x : Option Body). IsAfter 0 (slot_due x)) (sym (none_at Body limits.slots k)) tt;
+      };
+      of_live = record {
+        owners = λ k t h. absurd (let none = ap slot_owner (none_at Body limits.slots k) in cc (none, h));
+        waiters = λ n t h. absurd (let none = ap thread_of (one_none Wait n) in cc (none, h));
+      };
       room = record { each = λ n. subst (λ (w : Option Wait). WaitHasRoom limits.max_recursion no_objects.seen.bodies w) (sym (one_none Wait n)) tt };
-      settled = record { each = λ n. ap (is_ready no_objects.seen.bodies) (one_none Wait n) };
+      listing = listing_opening limits.slots;
     };
-    listing = listing_opening limits.slots;
+    settled = record { each = λ n. ap (is_ready no_objects.seen.bodies) (one_none Wait n) };
   }
 
   -- and is the opening one
-  pub opening_is : ◌≡◌ {A = Whole} (record { state = state_of limits no_lives (no_tables limits) (with_keeper (vacant_places limits.slots) 0 keeper) (no_waits limits); keeper = keeper }) (record { state = opening limits; keeper = keeper })
+  pub opening_is : ◌≡◌ {A = Whole} (whole_of no_parts) (record { state = opening limits; keeper = keeper })
   opening_is =
       let ages : map generation_of keeper.slots ≡ replicate limits.slots 1 = ap (map generation_of) fresh.slots_are ∙ map_replicate generation_of limits.slots opening_slot in
       λ i. record { state = record (opening limits) { generations = ages i }; keeper = keeper }

@@ -3,14 +3,10 @@ use Rattle.std.proofs.Common.{◌≡◌, ℕ, zero, suc, ◌+◌, ◌-◌, ◌<�
 use Rattle.std.proofs.lemmas.List.{length-set, get_or_past}
 use Rattle.std.proofs.lemmas.Bool.Decides.{nat_tests}
 use Rattle.pin_words.specs.Keepers.{KeeperState}
-use Rattle.ob_name.specs.Listing.{Rows}
-use Rattle.ob_tables.specs.Tables.{HandleTables}
-use Rattle.ob_waits.specs.Waits.{WaitList}
-use Rattle.ob_store.specs.declared.limits.Limits.{Limits}
-use Rattle.ob_store.specs.Objects.{ObjectsState}
-use Rattle.ob_store.specs.UnderWay.{IsUnderWay}
+use Rattle.ob_store.specs.Parts.{PartsState}
+use Rattle.ob_store.specs.UnderWay.{IsEnding, IsUnderWay}
 use Rattle.ob_store.specs.Ends.{thread_ended, threads_ended}
-use Rattle.ob_store.specs.Lives.{LivesState, is_of}
+use Rattle.ob_store.specs.Lives.{is_of}
 use Rattle.ob_store.specs.State.{State}
 
 is_of_none : (p : ℕ) (x : Option ℕ) → (x ≡ Some p → ⊥) → is_of p x ≡ false
@@ -39,25 +35,21 @@ passed_to s p a b le none =
     ap (threads_ended s p) (sym is) ∙ passed s p a (b - a) (λ t above below. none t above (omega (arith, below, is)))
 
 -- what is under way says which threads are live
-pub way_threads : (first : KeeperState) (limits : Limits) (l : LivesState) (ts : HandleTables) (o : ObjectsState) (ws : WaitList) (rows : Rows) (s : State) (t p : ℕ)
-    → IsUnderWay first limits l ts o ws rows s → get_or s.threads t None ≡ Some p → get_or l.threads t None ≡ Some p
-way_threads first limits l ts o ws rows s t p way h = ap (λ (x : State). get_or x.threads t None) way.rest ∙ h
+pub way_threads : (first : KeeperState) (p : PartsState) (s : State) (t process : ℕ) → IsUnderWay first p s → get_or s.threads t None ≡ Some process → get_or p.lives.threads t None ≡ Some process
+way_threads first p s t process way h = ap (λ (x : State). get_or x.threads t None) way.rest ∙ h
 
 -- the parts are on their way as well to where no thread between has ended
-pub way_passed : (first : KeeperState) (limits : Limits) (l : LivesState) (ts : HandleTables) (o : ObjectsState) (ws : WaitList) (rows : Rows) (s : State) (p a b : ℕ)
-    → a ≤ b → ((t : ℕ) → a ≤ t → t < b → get_or l.threads t None ≡ Some p → ⊥)
-    → IsUnderWay first limits l ts o ws rows (threads_ended s p a) → IsUnderWay first limits l ts o ws rows (threads_ended s p b)
-way_passed first limits l ts o ws rows s p a b le none way =
-    subst (λ (x : State). IsUnderWay first limits l ts o ws rows x)
-    (sym (passed_to s p a b le (λ t above below h. none t above below (way_threads first limits l ts o ws rows (threads_ended s p a) t p way h)))) way
+pub ending_passed : (first : KeeperState) (p : PartsState) (s : State) (process a b : ℕ) → a ≤ b → ((t : ℕ) → a ≤ t → t < b → get_or p.lives.threads t None ≡ Some process → ⊥)
+    → IsEnding first p (threads_ended s process a) → IsEnding first p (threads_ended s process b)
+ending_passed first p s process a b le none ending =
+    subst (λ (x : State). IsEnding first p x)
+    (sym (passed_to s process a b le (λ t above below h. none t above below (way_threads first p (threads_ended s process a) t process ending.way h)))) ending
 
 -- or on their way back
-pub way_unpassed : (first : KeeperState) (limits : Limits) (l : LivesState) (ts : HandleTables) (o : ObjectsState) (ws : WaitList) (rows : Rows) (s : State) (p a b : ℕ)
-    → a ≤ b → length s.threads ≤ a
-    → IsUnderWay first limits l ts o ws rows (threads_ended s p b) → IsUnderWay first limits l ts o ws rows (threads_ended s p a)
-way_unpassed first limits l ts o ws rows s p a b le past way =
-    subst (λ (x : State). IsUnderWay first limits l ts o ws rows x)
-    (passed_to s p a b le (λ t above below h. let e = get_or_past (threads_ended s p a).threads t None (let long = threads_long s p a in omega (arith, long, above, past)) in cc (e, h))) way
+pub ending_unpassed : (first : KeeperState) (p : PartsState) (s : State) (process a b : ℕ) → a ≤ b → length s.threads ≤ a → IsEnding first p (threads_ended s process b) → IsEnding first p (threads_ended s process a)
+ending_unpassed first p s process a b le past ending =
+    subst (λ (x : State). IsEnding first p x)
+    (passed_to s process a b le (λ t above below h. let e = get_or_past (threads_ended s process a).threads t None (let long = threads_long s process a in omega (arith, long, above, past)) in cc (e, h))) ending
   where
     threads_long : (s : State) (p n : ℕ) → length (threads_ended s p n).threads ≡ length s.threads
     threads_long s p zero = refl
@@ -66,3 +58,12 @@ way_unpassed first limits l ts o ws rows s p a b le past way =
         by : (b : Bool) → length (threads_ended s p n).threads ≡ length s.threads → length (cond b (thread_ended (threads_ended s p n) n) (threads_ended s p n)).threads ≡ length s.threads
         by true long = length-set (threads_ended s p n).threads n None ∙ long
         by false long = long
+
+-- the ends of threads leave all tables
+pub threads_tables : (s : State) (p n : ℕ) → (threads_ended s p n).tables ≡ s.tables
+threads_tables s p zero = refl
+threads_tables s p (suc n) = by (is_of p (get_or (threads_ended s p n).threads n None)) (threads_tables s p n)
+  where
+    by : (b : Bool) → (threads_ended s p n).tables ≡ s.tables → (cond b (thread_ended (threads_ended s p n) n) (threads_ended s p n)).tables ≡ s.tables
+    by true same = same
+    by false same = same

@@ -6,16 +6,15 @@ use Rattle.std.proofs.lemmas.List.{get_or_past}
 use Rattle.std.proofs.lemmas.Bool.{cases_lt}
 use Rattle.std.proofs.lemmas.Bool.Decides.{nat_tests}
 use Rattle.pin_core.specs.declared.shape.Shape.{Shape}
-use Rattle.ob_name.specs.Listing.{Rows}
 use Rattle.ob_tables.specs.Counts.{handles_among}
-use Rattle.ob_tables.specs.Tables.{HandleTables}
-use Rattle.ob_waits.specs.Waits.{WaitList, blocks_among}
+use Rattle.ob_waits.specs.Waits.{blocks_among}
 use Rattle.ob_store.specs.declared.limits.Limits.{Limits}
 use Rattle.ob_store.specs.declared.found.Found.{Found}
 use Rattle.ob_store.specs.Lives.{LivesState}
 use Rattle.ob_store.specs.Objects.{Object, ObjectsState, object_of, tag_of}
 use Rattle.ob_store.specs.Agreement.{IsTied}
-use Rattle.ob_store.specs.Kept.{IsKept, IsLive, IsThere, LivesKept, id_in}
+use Rattle.ob_store.specs.Kept.{IsLive, IsSound, IsThere, LivesKept, id_in}
+use Rattle.ob_store.specs.Parts.{PartsState}
 use Rattle.ob_store.proofs.AgreeLaws.{body_at, object_within}
 use Rattle.ob_store.proofs.CountedLaws.{handles_at, blocks_at}
 use Rattle.ob_store.proofs.NamedLaws.{there_within, handles_are, blocks_are}
@@ -31,37 +30,37 @@ unreferenced s k none tied =
 pub placed_there : (s : ObjectsState) → IsTied s → (k : ℕ) (o : Object) → get_or s.objects k None ≡ Some o → IsThere s.objects o.id
 placed_there s tied k o at = ap (λ i. id_in (get_or s.objects i None)) (placed_agreed s tied.agreed k o at) ∙ ap id_in at
 
-module _ (limits : Limits) (l : LivesState) (ts : HandleTables) (s : ObjectsState) (ws : WaitList) (rows : Rows) (kept : IsKept limits l ts s ws rows) (tied : IsTied s) (k : ℕ) where
+module _ (p : PartsState) (sound : IsSound p) (tied : IsTied p.objects) (k : ℕ) where
   -- what the slot counts is what its object's Id counts
-  module _ (o : Object) (at : get_or s.objects k None ≡ Some o) where
+  module _ (o : Object) (at : get_or p.objects.objects k None ≡ Some o) where
     own : o.id.slot ≡ k
-    own = placed_agreed s tied.agreed k o at
+    own = placed_agreed p.objects tied.agreed k o at
 
-    there : IsThere s.objects o.id
-    there = placed_there s tied k o at
+    there : IsThere p.objects.objects o.id
+    there = placed_there p.objects tied k o at
 
-    pub own_handles : get_or s.seen.handles k 0 ≡ handles_among o.id ts.tables
-    own_handles = ap (λ i. get_or s.seen.handles i 0) (sym own) ∙ handles_at s.seen (length s.objects) ts.tables ws.waits kept.counted o.id.slot (there_within s.objects o.id there) ∙ handles_are s.objects ts.tables ws.waits kept.named o.id there
+    pub own_handles : get_or p.objects.seen.handles k 0 ≡ handles_among o.id p.tables.tables
+    own_handles = ap (λ i. get_or p.objects.seen.handles i 0) (sym own) ∙ handles_at p.objects.seen (length p.objects.objects) p.tables.tables p.waits.waits sound.counted o.id.slot (there_within p.objects.objects o.id there) ∙ handles_are p.objects.objects p.tables.tables p.waits.waits sound.named o.id there
 
-    pub own_blocks : get_or s.seen.blocks k 0 ≡ blocks_among o.id ws.waits
-    own_blocks = ap (λ i. get_or s.seen.blocks i 0) (sym own) ∙ blocks_at s.seen (length s.objects) ts.tables ws.waits kept.counted o.id.slot (there_within s.objects o.id there) ∙ blocks_are s.objects ts.tables ws.waits kept.named o.id there
+    pub own_blocks : get_or p.objects.seen.blocks k 0 ≡ blocks_among o.id p.waits.waits
+    own_blocks = ap (λ i. get_or p.objects.seen.blocks i 0) (sym own) ∙ blocks_at p.objects.seen (length p.objects.objects) p.tables.tables p.waits.waits sound.counted o.id.slot (there_within p.objects.objects o.id there) ∙ blocks_are p.objects.objects p.tables.tables p.waits.waits sound.named o.id there
 
   -- and so does what is seen there
-  pub seen_handles : (x : Option Found) → get_or s.objects k None ≡ option_map (λ (found : Found). object_of found.seat.now (tag_of found.label.now found.name.now)) x → IfSome x (λ (found : Found). get_or s.seen.handles k 0 ≡ found.seat.now.handles) → IfSome x (λ (found : Found). found.seat.now.handles ≡ handles_among found.seat.now.id ts.tables)
+  pub seen_handles : (x : Option Found) → get_or p.objects.objects k None ≡ option_map (λ (found : Found). object_of found.seat.now (tag_of found.label.now found.name.now)) x → IfSome x (λ (found : Found). get_or p.objects.seen.handles k 0 ≡ found.seat.now.handles) → IfSome x (λ (found : Found). found.seat.now.handles ≡ handles_among found.seat.now.id p.tables.tables)
   seen_handles None at is = tt
   seen_handles (Some found) at is = sym is ∙ own_handles (object_of found.seat.now (tag_of found.label.now found.name.now)) at
 
-  pub seen_blocks : (x : Option Found) → get_or s.objects k None ≡ option_map (λ (found : Found). object_of found.seat.now (tag_of found.label.now found.name.now)) x → IfSome x (λ (found : Found). get_or s.seen.blocks k 0 ≡ found.seat.now.blocks) → IfSome x (λ (found : Found). found.seat.now.blocks ≡ blocks_among found.seat.now.id ws.waits)
+  pub seen_blocks : (x : Option Found) → get_or p.objects.objects k None ≡ option_map (λ (found : Found). object_of found.seat.now (tag_of found.label.now found.name.now)) x → IfSome x (λ (found : Found). get_or p.objects.seen.blocks k 0 ≡ found.seat.now.blocks) → IfSome x (λ (found : Found). found.seat.now.blocks ≡ blocks_among found.seat.now.id p.waits.waits)
   seen_blocks None at is = tt
   seen_blocks (Some found) at is = sym is ∙ own_blocks (object_of found.seat.now (tag_of found.label.now found.name.now)) at
 
   -- a slot in which something is seen is within the limit
-  pub seen_within : (x : Option Found) → get_or s.objects k None ≡ option_map (λ (found : Found). object_of found.seat.now (tag_of found.label.now found.name.now)) x → IfSome x (λ (found : Found). k < limits.slots)
+  pub seen_within : (x : Option Found) → get_or p.objects.objects k None ≡ option_map (λ (found : Found). object_of found.seat.now (tag_of found.label.now found.name.now)) x → IfSome x (λ (found : Found). k < p.limits.slots)
   seen_within None at = tt
-  seen_within (Some found) at = subst (λ (shape : Shape). k < shape.slots) kept.limited.shape_is (object_within s k (ap is_some at) tied.agreed)
+  seen_within (Some found) at = subst (λ (shape : Shape). k < shape.slots) sound.limited.shape_is (object_within p.objects k (ap is_some at) tied.agreed)
 
 -- a live number is one of those given
-live_within : (numbers : List (Option ℕ)) (n : ℕ) → IsLive numbers n → n < length numbers
+pub live_within : (numbers : List (Option ℕ)) (n : ℕ) → IsLive numbers n → n < length numbers
 live_within numbers n live = elim (cases_lt n (length numbers)) [ inl lt ↦ lt | inr le ↦ absurd (let none = ap is_some (get_or_past numbers n None le) in cc (none, live)) ]
 
 -- a live process has its table

@@ -14,21 +14,18 @@ use Rattle.pin_words.specs.Keepers.{KeeperState, opened_again}
 use Rattle.pin_words.specs.declared.pin_keeper.Reclaim.{Reclaim}
 use Rattle.pin_words.specs.declared.pin_keeper.Reclaim.TheVariants.{Freed, Retired, Held}
 use Rattle.ob_body.specs.declared.body.Body.{Body}
-use Rattle.ob_name.specs.Listing.{Rows}
 use Rattle.ob_tables.specs.Counts.{handles_among}
-use Rattle.ob_tables.specs.Tables.{HandleTables}
-use Rattle.ob_waits.specs.Waits.{WaitList, blocks_among}
-use Rattle.ob_store.specs.declared.limits.Limits.{Limits}
-use Rattle.ob_store.specs.Lives.{LivesState}
+use Rattle.ob_waits.specs.Rules.{IsSettled, WaitsHaveRoom}
+use Rattle.ob_waits.specs.Waits.{blocks_among}
 use Rattle.ob_store.specs.Objects.{Object, ObjectsState, places_in, with_keeper, without_seat}
 use Rattle.ob_store.specs.Agreement.{IsTied, Reclaimed}
-use Rattle.ob_store.specs.State.{state_of, generation_of, freed, given_up}
+use Rattle.ob_store.specs.Parts.{PartsState, state_of}
+use Rattle.ob_store.specs.State.{generation_of, freed, given_up}
 use Rattle.ob_store.specs.Moves.{after_reclaim}
-use Rattle.ob_store.specs.Kept.{IsKept, IsCounted, IsNamed, AreFormed, IsThere}
+use Rattle.ob_store.specs.Kept.{IsKept, IsCounted, IsNamed, AreFormed, AreOfLive}
 use Rattle.ob_store.proofs.AgreeLaws.{slot_at}
 use Rattle.ob_store.proofs.CountedLaws.{counted_left}
 use Rattle.ob_store.proofs.NamedLaws.{named_left}
-use Rattle.ob_store.proofs.BodyLaws.{formed_gone, of_live_gone, quiet_gone}
 use Rattle.ob_store.proofs.ListingLaws.{listing_left, placed_agreed}
 use Rattle.ob_store.proofs.PlacedLaws.{placed_there, own_handles, own_blocks, unreferenced}
 
@@ -51,74 +48,76 @@ some_set xs k j o h = elim (cases_eq j k) [
 formed_fewer : (clock : ℕ) (objects : List (Option Object)) (bodies : List (Option Body)) (k : ℕ) → AreFormed clock objects bodies → AreFormed clock (set objects k None) bodies
 formed_fewer clock objects bodies k f = record { each = λ j o b there is. f.each j o b (some_set objects k j o there) is; later = f.later }
 
-module _ (limits : Limits) (l : LivesState) (ts : HandleTables) (o : ObjectsState) (ws : WaitList) (rows : Rows) (kept : IsKept limits l ts o ws rows) (tied : IsTied o)
-    (k : ℕ) (there : is_some (get_or o.objects k None) ≡ true) (ended : get_or o.seen.bodies k None ≡ None) where
-  is_object : (q : Object) × (get_or o.objects k None ≡ Some q)
+module _ (p : PartsState) (kept : IsKept p) (tied : IsTied p.objects)
+    (k : ℕ) (there : is_some (get_or p.objects.objects k None) ≡ true) (ended : get_or p.objects.seen.bodies k None ≡ None) where
+  abbrev o : ObjectsState
+  o = p.objects
+
+  is_object : (q : Object) × (get_or p.objects.objects k None ≡ Some q)
   is_object = found (get_or o.objects k None) there
 
   abbrev object : Object
   object = is_object.0
 
-  at : get_or o.objects k None ≡ Some object
-  at = is_object.1
-
   own : object.id.slot ≡ k
-  own = placed_agreed o tied.agreed k object at
+  own = placed_agreed o tied.agreed k object is_object.1
 
-  is_there : IsThere o.objects object.id
-  is_there = placed_there o tied k object at
-
-  no_references : (get_or o.seen.handles k 0 ≡ 0) × (get_or o.seen.blocks k 0 ≡ 0)
+  no_references : (get_or p.objects.seen.handles k 0 ≡ 0) × (get_or p.objects.seen.blocks k 0 ≡ 0)
   no_references = unreferenced o k ended tied
 
-  no_handles : handles_among object.id ts.tables ≡ 0
-  no_handles = sym (own_handles limits l ts o ws rows kept tied k object at) ∙ no_references.0
+  no_handles : handles_among is_object.0.id p.tables.tables ≡ 0
+  no_handles = sym (own_handles p kept.sound tied k object is_object.1) ∙ no_references.0
 
-  no_blocks : blocks_among object.id ws.waits ≡ 0
-  no_blocks = sym (own_blocks limits l ts o ws rows kept tied k object at) ∙ no_references.1
+  no_blocks : blocks_among is_object.0.id p.waits.waits ≡ 0
+  no_blocks = sym (own_blocks p kept.sound tied k object is_object.1) ∙ no_references.1
+
+  bodies_same : set p.objects.seen.bodies k None ≡ p.objects.seen.bodies
+  bodies_same = ap (set o.seen.bodies k) (sym ended) ∙ set-get_or o.seen.bodies k None
 
   -- the object leaves, whatever is said of the slot then
-  module _ (retired : List Bool) (keeper : KeeperState) (shape : keeper.shape ≡ o.keeper.shape) where
+  module _ (retired : List Bool) (keeper : KeeperState) (shape : keeper.shape ≡ p.objects.keeper.shape) where
     abbrev left : ObjectsState
-    left = with_keeper (record (without_seat (places_in o) k) { retired = retired }) o.births keeper
+    left = with_keeper (record (without_seat (places_in p.objects) k) { retired = retired }) p.objects.births keeper
 
-    kept_left : IsKept limits l ts left ws rows
+    kept_left : IsKept (record p { objects = with_keeper (record (without_seat (places_in p.objects) k) { retired = retired }) p.objects.births keeper })
     kept_left = record {
-      limited = record { processes = kept.limited.processes; handles = kept.limited.handles; waits_limit = kept.limited.waits_limit; shape_is = shape ∙ kept.limited.shape_is };
-      lives_kept = kept.lives_kept;
-      counted = subst (λ (n : ℕ). IsCounted left.seen n ts.tables ws.waits) (sym (length-set o.objects k None))
-          (counted_left o.seen (length o.objects) ts.tables ws.waits kept.counted (set o.seen.bodies k None) k no_references.0 no_references.1);
-      named = subst (λ (i : ℕ). IsNamed (set o.objects i None) ts.tables ws.waits) own (named_left o.objects ts.tables ws.waits object.id is_there no_handles no_blocks kept.named);
-      formed = formed_fewer ws.clock o.objects (set o.seen.bodies k None) k (formed_gone true o.seen.bodies k ws.clock o.objects kept.formed);
-      of_live = of_live_gone true o.seen.bodies k l.threads ws.waits kept.of_live;
-      quiet = quiet_gone true o.seen.bodies k limits.max_recursion ws.waits kept.quiet;
-      listing = listing_left rows ts.tables o.objects o.births kept.listing k object at no_handles;
+      sound = record {
+        limited = record { processes_are = kept.sound.limited.processes_are; handles_are = kept.sound.limited.handles_are; waits_are = kept.sound.limited.waits_are; shape_is = shape ∙ kept.sound.limited.shape_is };
+        lives_kept = kept.sound.lives_kept;
+        counted = subst (λ (n : ℕ). IsCounted left.seen n p.tables.tables p.waits.waits) (sym (length-set o.objects k None))
+            (counted_left o.seen (length o.objects) p.tables.tables p.waits.waits kept.sound.counted (set o.seen.bodies k None) k no_references.0 no_references.1);
+        named = subst (λ (i : ℕ). IsNamed (set o.objects i None) p.tables.tables p.waits.waits) own (named_left o.objects p.tables.tables p.waits.waits object.id (placed_there o tied k object is_object.1) no_handles no_blocks kept.sound.named);
+        formed = subst (λ (bs : List (Option Body)). AreFormed p.waits.clock (set o.objects k None) bs) (sym bodies_same) (formed_fewer p.waits.clock o.objects o.seen.bodies k kept.sound.formed);
+        of_live = subst (λ (bs : List (Option Body)). AreOfLive p.lives.threads bs p.waits.waits) (sym bodies_same) kept.sound.of_live;
+        room = subst (λ (bs : List (Option Body)). WaitsHaveRoom p.limits.max_recursion bs p.waits.waits) (sym bodies_same) kept.sound.room;
+        listing = listing_left p.rows p.tables.tables o.objects o.births kept.sound.listing k object is_object.1 no_handles;
+      };
+      settled = subst (λ (bs : List (Option Body)). IsSettled bs p.waits.waits) (sym bodies_same) kept.settled;
     }
 
   -- what is kept, whatever the answer is
-  pub kept_reclaimed : (answer : Reclaim) (t : ObjectsState) → Reclaimed o k answer t → IsKept limits l ts t ws rows
-  kept_reclaimed Freed t h = subst (λ (z : ObjectsState). IsKept limits l ts z ws rows) (sym h.0) (kept_left o.retired t.keeper (ap (λ (z : KeeperState). z.shape) h.1.0))
-  kept_reclaimed Retired t h = subst (λ (z : ObjectsState). IsKept limits l ts z ws rows) (sym h.0) (kept_left (set o.retired k true) t.keeper (ap (λ (z : KeeperState). z.shape) h.1.0))
-  kept_reclaimed (Held n) t h = subst (λ (z : ObjectsState). IsKept limits l ts z ws rows) (sym h.0) (record {
-    limited = record { processes = kept.limited.processes; handles = kept.limited.handles; waits_limit = kept.limited.waits_limit; shape_is = ap (λ (z : KeeperState). z.shape) h.1.0 ∙ kept.limited.shape_is };
-    lives_kept = kept.lives_kept;
-    counted = kept.counted;
-    named = kept.named;
-    formed = kept.formed;
-    of_live = kept.of_live;
-    quiet = kept.quiet;
-    listing = kept.listing;
+  pub kept_reclaimed : (answer : Reclaim) (q : ObjectsState) → Reclaimed p.objects k answer q → IsKept (record p { objects = q })
+  kept_reclaimed Freed q h = subst (λ (z : ObjectsState). IsKept (record p { objects = z })) (sym h.0) (kept_left o.retired q.keeper (ap (λ (z : KeeperState). z.shape) h.1.0))
+  kept_reclaimed Retired q h = subst (λ (z : ObjectsState). IsKept (record p { objects = z })) (sym h.0) (kept_left (set o.retired k true) q.keeper (ap (λ (z : KeeperState). z.shape) h.1.0))
+  kept_reclaimed (Held n) q h = subst (λ (z : ObjectsState). IsKept (record p { objects = z })) (sym h.0) (record {
+    sound = record {
+      limited = record { processes_are = kept.sound.limited.processes_are; handles_are = kept.sound.limited.handles_are; waits_are = kept.sound.limited.waits_are; shape_is = ap (λ (z : KeeperState). z.shape) h.1.0 ∙ kept.sound.limited.shape_is };
+      lives_kept = kept.sound.lives_kept;
+      counted = kept.sound.counted;
+      named = kept.sound.named;
+      formed = kept.sound.formed;
+      of_live = kept.sound.of_live;
+      room = kept.sound.room;
+      listing = kept.sound.listing;
+    };
+    settled = kept.settled;
   })
-
-module _ (limits : Limits) (l : LivesState) (ts : HandleTables) (o : ObjectsState) (ws : WaitList) (k : ℕ) (ended : get_or o.seen.bodies k None ≡ None) where
-  bodies_same : set o.seen.bodies k None ≡ o.seen.bodies
-  bodies_same = ap (set o.seen.bodies k) (sym ended) ∙ set-get_or o.seen.bodies k None
 
   abbrev max_gen : ℕ
   max_gen = o.keeper.shape.max_gen
 
   -- a slot that is freed has the next generation
-  aged : (slot_at o k).generation < max_gen → map generation_of (opened_again o.keeper k).slots ≡ set (map generation_of o.keeper.slots) k (get_or (map generation_of o.keeper.slots) k 1 + 1)
+  aged : (slot_at p.objects k).generation < max_gen → map generation_of (opened_again p.objects.keeper k).slots ≡ set (map generation_of p.objects.keeper.slots) k (get_or (map generation_of p.objects.keeper.slots) k 1 + 1)
   aged below =
       let x : Slot = slot_at o k in
       let test : ltb x.generation max_gen ≡ true = grind (arith, nat_tests, below) in
@@ -127,7 +126,7 @@ module _ (limits : Limits) (l : LivesState) (ts : HandleTables) (o : ObjectsStat
       ∙ ap (set (map generation_of o.keeper.slots) k) (next ∙ ap (λ (n : ℕ). n + 1) (sym (get_or-map generation_of o.keeper.slots k opening_slot)))
 
   -- and one that is given up keeps its own
-  unaged : max_gen ≤ (slot_at o k).generation → map generation_of (opened_again o.keeper k).slots ≡ map generation_of o.keeper.slots
+  unaged : max_gen ≤ (slot_at p.objects k).generation → map generation_of (opened_again p.objects.keeper k).slots ≡ map generation_of p.objects.keeper.slots
   unaged last =
       let x : Slot = slot_at o k in
       let test : ltb x.generation max_gen ≡ false = grind (arith, nat_tests, last) in
@@ -135,16 +134,16 @@ module _ (limits : Limits) (l : LivesState) (ts : HandleTables) (o : ObjectsStat
       map-set_same generation_of o.keeper.slots k (reclaimed max_gen x) opening_slot same
 
   -- the state, whatever the answer is
-  pub reclaimed_state : (answer : Reclaim) (t : ObjectsState) → Reclaimed o k answer t → state_of limits l ts t ws ≡ after_reclaim (state_of limits l ts o ws) k answer
+  pub reclaimed_state : (answer : Reclaim) (t : ObjectsState) → Reclaimed p.objects k answer t → state_of (record p { objects = t }) ≡ after_reclaim (state_of p) k answer
   reclaimed_state Freed t h =
       let ages : map generation_of t.keeper.slots ≡ set (map generation_of o.keeper.slots) k (get_or (map generation_of o.keeper.slots) k 1 + 1) = ap (λ (z : KeeperState). map generation_of z.slots) h.1.0 ∙ aged h.1.1 in
-      ap (λ (z : ObjectsState). state_of limits l ts z ws) h.0
-      ∙ λ i. record (freed (state_of limits l ts o ws) k) { bodies = bodies_same i; generations = ages i }
+      ap (λ (z : ObjectsState). state_of (record p { objects = z })) h.0
+      ∙ λ i. record (freed (state_of p) k) { bodies = bodies_same i; generations = ages i }
   reclaimed_state Retired t h =
       let ages : map generation_of t.keeper.slots ≡ map generation_of o.keeper.slots = ap (λ (z : KeeperState). map generation_of z.slots) h.1.0 ∙ unaged h.1.1 in
-      ap (λ (z : ObjectsState). state_of limits l ts z ws) h.0
-      ∙ λ i. record (given_up (state_of limits l ts o ws) k) { bodies = bodies_same i; generations = ages i }
+      ap (λ (z : ObjectsState). state_of (record p { objects = z })) h.0
+      ∙ λ i. record (given_up (state_of p) k) { bodies = bodies_same i; generations = ages i }
   reclaimed_state (Held n) t h =
       let ages : map generation_of t.keeper.slots ≡ map generation_of o.keeper.slots = ap (λ (z : KeeperState). map generation_of z.slots) h.1.0 in
-      ap (λ (z : ObjectsState). state_of limits l ts z ws) h.0
-      ∙ λ i. record (state_of limits l ts o ws) { generations = ages i }
+      ap (λ (z : ObjectsState). state_of (record p { objects = z })) h.0
+      ∙ λ i. record (state_of p) { generations = ages i }

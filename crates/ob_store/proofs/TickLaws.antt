@@ -15,24 +15,20 @@ use Rattle.ob_body.specs.Timer as timer
 use Rattle.ob_rights.specs.declared.kind.Kind.TheVariants as kind
 use Rattle.ob_body.specs.Body.{after_fire, due_of, kind_of}
 use Rattle.ob_body.proofs.Effects.{room_after_fire}
-use Rattle.ob_name.specs.Listing.{Rows}
-use Rattle.ob_tables.specs.Tables.{HandleTables}
 use Rattle.ob_waits.specs.declared.wait.Wait.{Wait}
 use Rattle.ob_waits.specs.Form.{IsAfter, form_of, slot_due, slot_owner}
 use Rattle.ob_waits.specs.Objects.{Objects, slot_room}
-use Rattle.ob_waits.specs.Waits.{WaitList, names_one, names_slot, nowhere}
+use Rattle.ob_waits.specs.Waits.{names_one, names_slot, nowhere}
 use Rattle.ob_waits.proofs.Room.{room_changed}
-use Rattle.ob_store.specs.declared.limits.Limits.{Limits}
-use Rattle.ob_store.specs.Abandoned.{AbandonedState, IsEnough}
+use Rattle.ob_store.specs.Signaled.{SignaledState, IsEnough}
 use Rattle.ob_store.specs.Agreement.{IsTied}
-use Rattle.ob_store.specs.Lives.{LivesState}
 use Rattle.ob_store.specs.Objects.{Object, ObjectsState, KeptRest, kept_rest}
-use Rattle.ob_store.specs.State.{state_of}
+use Rattle.ob_store.specs.Parts.{PartsState, state_of}
 use Rattle.ob_store.specs.Ticks.{slot_fired, slot_is_due}
-use Rattle.ob_store.specs.Kept.{IsKept, IsCounted, IsNamed, AreFormed, IsListing, form_in, unset}
-use Rattle.ob_store.specs.UnderWay.{AreLeft, IsSound, IsUnderWay}
-use Rattle.ob_store.proofs.KeptLaws.{same_generations, same_shape}
-use Rattle.ob_store.proofs.LeavingLaws.{left_same}
+use Rattle.ob_store.specs.Kept.{IsKept, AreFormed, form_in, unset}
+use Rattle.ob_store.specs.UnderWay.{AreLeft, IsUnderWay}
+use Rattle.ob_store.proofs.KeptLaws.{sound_rested, state_rested}
+use Rattle.ob_store.proofs.LeftLaws.{left_same}
 use Rattle.ob_store.proofs.EnoughLaws.{ready_more}
 
 -- a timer that isn't due stays
@@ -112,7 +108,7 @@ fewer_due now k o p is due =
     omega (arith, a, one, zero, same)
 
 -- to settle by the slots that fired is enough, where they are noted
-pub enough_fired : (a b : AbandonedState) (p q : Objects) (now k : ℕ) → q ≡ record p { bodies = set p.bodies k (slot_fired now (get_or p.bodies k None)) }
+pub enough_fired : (a b : SignaledState) (p q : Objects) (now k : ℕ) → q ≡ record p { bodies = set p.bodies k (slot_fired now (get_or p.bodies k None)) }
     → (b.whole ≡ true → a.whole ≡ true) → (b.whole ≡ true → (w : Option Wait) → names_one a.ids w ≡ true → names_one b.ids w ≡ true)
     → (b.whole ≡ true → ((i : ℕ) → i < length b.ids → (get_or b.ids i nowhere).slot ≡ k → ⊥) → ⊥)
     → (ws : List (Option Wait)) → IsEnough a p.bodies ws → IsEnough b q.bodies ws
@@ -182,64 +178,35 @@ undue_after now (Some due) h = grind (arith, nat_tests, h)
 pub formed_now : (clock now : ℕ) (objects : List (Option Object)) (bodies : List (Option Body)) → ((k : ℕ) → slot_is_due now (get_or bodies k None) ≡ false) → AreFormed clock objects bodies → AreFormed now objects bodies
 formed_now clock now objects bodies none f = record { each = f.each; later = λ k. undue_after now (slot_due (get_or bodies k None)) (none k) }
 
--- a tick begins: the timers that are due have fired
-module _ (limits : Limits) (l : LivesState) (ts : HandleTables) (o q : ObjectsState) (ws : WaitList) (rows : Rows) (now : ℕ)
-    (kept : IsKept limits l ts o ws rows)
+-- a tick begins: the timers that are due have fired, which q tells
+module _ (p : PartsState) (q : ObjectsState) (a : SignaledState) (now : ℕ)
+    (kept : IsKept p)
     (tied : IsTied q)
-    (seen : q.seen ≡ record o.seen { bodies = map (slot_fired now) o.seen.bodies })
-    (rest : kept_rest q ≡ kept_rest o) where
-  objects_same : q.objects ≡ o.objects
-  objects_same = ap (λ (r : KeptRest). r.rest.objects) rest
+    (seen : q.seen ≡ record p.objects.seen { bodies = map (slot_fired now) p.objects.seen.bodies })
+    (rest : kept_rest q ≡ kept_rest p.objects) where
+  abbrev limit : ℕ
+  limit = p.limits.max_recursion
 
-  births_same : q.births ≡ o.births
-  births_same = ap (λ (r : KeptRest). r.births) rest
-
-  bodies_are : q.seen.bodies ≡ map (slot_fired now) o.seen.bodies
+  bodies_are : q.seen.bodies ≡ map (slot_fired now) p.objects.seen.bodies
   bodies_are = ap (λ (x : Objects). x.bodies) seen
 
-  body_is : (k : ℕ) → get_or q.seen.bodies k None ≡ slot_fired now (get_or o.seen.bodies k None)
-  body_is k = ap (λ (x : List (Option Body)). get_or x k None) bodies_are ∙ at_fired now o.seen.bodies k
+  body_is : (k : ℕ) → get_or q.seen.bodies k None ≡ slot_fired now (get_or p.objects.seen.bodies k None)
+  body_is k = ap (λ (x : List (Option Body)). get_or x k None) bodies_are ∙ at_fired now p.objects.seen.bodies k
 
-  sound_fired : IsSound limits l ts q ws rows
-  sound_fired = record {
-    limited = record {
-      processes = kept.limited.processes;
-      handles = kept.limited.handles;
-      waits_limit = kept.limited.waits_limit;
-      shape_is = same_shape q.keeper o.keeper (ap (λ (r : KeptRest). r.keeper) rest) ∙ kept.limited.shape_is;
-    };
-    lives_kept = kept.lives_kept;
-    counted = subst (λ (xs : List (Option Object)). IsCounted q.seen (length xs) ts.tables ws.waits) (sym objects_same)
-        (record { handles = ap (λ (x : Objects). x.handles) seen ∙ kept.counted.handles; blocks = ap (λ (x : Objects). x.blocks) seen ∙ kept.counted.blocks });
-    named = subst (λ (xs : List (Option Object)). IsNamed xs ts.tables ws.waits) (sym objects_same) kept.named;
-    formed = subst (λ (xs : List (Option Object)). AreFormed ws.clock xs q.seen.bodies) (sym objects_same)
-        (subst (λ (bs : List (Option Body)). AreFormed ws.clock o.objects bs) (sym bodies_are) (formed_fired ws.clock now o.objects o.seen.bodies kept.formed));
-    of_live = record {
-      owners = λ k t h. kept.of_live.owners k t (sym (ap slot_owner (body_is k) ∙ owner_fired now (get_or o.seen.bodies k None)) ∙ h);
-      waiters = kept.of_live.waiters;
-    };
-    room = room_changed limits.max_recursion o.seen.bodies q.seen.bodies ws.waits
-        (λ t k h. subst (λ (x : Option Body). slot_room limits.max_recursion t x ≡ true) (sym (body_is k)) (room_fired limits.max_recursion t now (get_or o.seen.bodies k None) h)) kept.quiet.room;
-    listing = subst (λ (z : List (Option Object) × ℕ). IsListing rows ts.tables z.0 z.1) (λ i. (sym objects_same i, sym births_same i)) kept.listing;
-  }
-
-  pub way_fired : IsUnderWay o.keeper limits l ts q ws rows (record (state_of limits l ts o ws) { bodies = map (slot_fired now) o.seen.bodies })
+  pub way_fired : IsUnderWay p.objects.keeper (record p { objects = q; signaled = a }) (record (state_of p) { bodies = map (slot_fired now) p.objects.seen.bodies })
   way_fired = record {
     tied = tied;
-    sound = sound_fired;
-    rest = λ i. record {
-      limits = limits;
-      processes = l.processes;
-      threads = l.threads;
-      tables = ts.tables;
-      objects = objects_same i;
-      bodies = q.seen.bodies;
-      generations = same_generations q.keeper o.keeper (ap (λ (r : KeptRest). r.keeper) rest) i;
-      retired = (rest i).rest.retired;
-      births = births_same i;
-      waits = ws.waits;
-      clock = ws.clock;
-    };
+    sound = sound_rested p p.lives q p.waits a rest kept.sound refl kept.sound.lives_kept
+        (record { handles = ap (λ (x : Objects). x.handles) seen ∙ kept.sound.counted.handles; blocks = ap (λ (x : Objects). x.blocks) seen ∙ kept.sound.counted.blocks })
+        kept.sound.named
+        (subst (λ (bs : List (Option Body)). AreFormed p.waits.clock p.objects.objects bs) (sym bodies_are) (formed_fired p.waits.clock now p.objects.objects p.objects.seen.bodies kept.sound.formed))
+        (record {
+          owners = λ k t h. kept.sound.of_live.owners k t (sym (ap slot_owner (body_is k) ∙ owner_fired now (get_or p.objects.seen.bodies k None)) ∙ h);
+          waiters = kept.sound.of_live.waiters;
+        })
+        (room_changed limit p.objects.seen.bodies q.seen.bodies p.waits.waits
+        (λ t k h. subst (λ (x : Option Body). slot_room limit t x ≡ true) (sym (body_is k)) (room_fired limit t now (get_or p.objects.seen.bodies k None) h)) kept.sound.room);
+    rest = state_rested p p.lives q p.waits a rest;
     bodies = subst (λ (x : List (Option Body)). AreLeft x q.seen.bodies) bodies_are (left_same q.seen.bodies);
     keeper = ap (λ (r : KeptRest). r.keeper) rest;
   }
@@ -257,7 +224,7 @@ last_noted : (ids : List Id) (id : Id) → get_or (ids ++ id ∷ []) (length ids
 last_noted [] id = refl
 last_noted (x ∷ ids) id = last_noted ids id
 
-pub enough_signaled : (a b : AbandonedState) (p q : Objects) (now k : ℕ) (id : Id) → q ≡ record p { bodies = set p.bodies k (slot_fired now (get_or p.bodies k None)) } → id.slot ≡ k
+pub enough_signaled : (a b : SignaledState) (p q : Objects) (now k : ℕ) (id : Id) → q ≡ record p { bodies = set p.bodies k (slot_fired now (get_or p.bodies k None)) } → id.slot ≡ k
     → (b.whole ≡ true → b.ids ≡ a.ids ++ id ∷ []) → (b.whole ≡ true → a.whole ≡ true) → (ws : List (Option Wait)) → IsEnough a p.bodies ws → IsEnough b q.bodies ws
 enough_signaled a b p q now k id is own added before ws enough = enough_fired a b p q now k is before
     (λ whole w named. ap (λ (ids : List Id). names_one ids w) (added whole) ∙ names_more a.ids id w named)

@@ -9,23 +9,23 @@ use Rattle.ob_body.specs.Body.{due_of, owner_of, has_room}
 use Rattle.ob_name.specs.Listing.{Rows, AreDistinct}
 use Rattle.ob_tables.specs.declared.entry.Entry.{Entry}
 use Rattle.ob_tables.specs.Counts.{handles_among, slot_handles}
-use Rattle.ob_tables.specs.Tables.{HandleTables}
 use Rattle.ob_waits.specs.declared.wait.Wait.{Wait}
 use Rattle.ob_waits.specs.Objects.{Objects}
 use Rattle.ob_waits.specs.Form.{Form, IsAfter, form_of, slot_due, slot_owner}
 use Rattle.ob_waits.specs.Rules.{IsSettled, WaitsHaveRoom, thread_of}
-use Rattle.ob_waits.specs.Waits.{WaitList, blocks_among, slot_blocks}
+use Rattle.ob_waits.specs.Waits.{blocks_among, slot_blocks}
 use Rattle.ob_store.specs.declared.limits.Limits.{Limits}
 use Rattle.ob_store.specs.Lives.{LivesState}
-use Rattle.ob_store.specs.Objects.{Object, ObjectsState}
+use Rattle.ob_store.specs.Objects.{Object}
+use Rattle.ob_store.specs.Parts.{PartsState}
 use Rattle.ob_store.specs.State.{by_slot, shape_of}
 use Rattle.ob_store.specs.Directory.{rows_of}
 
 -- each part has the limits of the whole
-pub record AreLimited (limits : Limits) (tables : HandleTables) (waits : WaitList) (shape : Shape) : Type 0 where
-  pub processes : tables.process_limit ≡ limits.processes
-  pub handles : tables.handle_limit ≡ limits.handles
-  pub waits_limit : waits.limit ≡ limits.waits
+pub record AreLimited (limits : Limits) (processes handles waits : ℕ) (shape : Shape) : Type 0 where
+  pub processes_are : processes ≡ limits.processes
+  pub handles_are : handles ≡ limits.handles
+  pub waits_are : waits ≡ limits.waits
   pub shape_is : shape ≡ shape_of limits
 
 -- the number is live
@@ -94,13 +94,18 @@ pub record IsListing (rows : Rows) (tables : List (List (Option Entry))) (object
   pub same : rows ≡ rows_of tables objects births
   pub distinct : AreDistinct rows
 
--- what ties the parts of a store to one another. No public clause names it; what a caller sees of it is MatchesState
-pub record IsKept (limits : Limits) (lives : LivesState) (tables : HandleTables) (o : ObjectsState) (waits : WaitList) (rows : Rows) : Type 0 where
-  pub limited : AreLimited limits tables waits o.keeper.shape
-  pub lives_kept : LivesKept limits lives (length tables.tables)
-  pub counted : IsCounted o.seen (length o.objects) tables.tables waits.waits
-  pub named : IsNamed o.objects tables.tables waits.waits
-  pub formed : AreFormed waits.clock o.objects o.seen.bodies
-  pub of_live : AreOfLive lives.threads o.seen.bodies waits.waits
-  pub quiet : IsQuiet limits.max_recursion o.seen.bodies waits.waits
-  pub listing : IsListing rows tables.tables o.objects o.births
+-- what ties the parts of a store to one another while a call is under way
+pub record IsSound (p : PartsState) : Type 0 where
+  pub limited : AreLimited p.limits p.tables.process_limit p.tables.handle_limit p.waits.limit p.objects.keeper.shape
+  pub lives_kept : LivesKept p.limits p.lives (length p.tables.tables)
+  pub counted : IsCounted p.objects.seen (length p.objects.objects) p.tables.tables p.waits.waits
+  pub named : IsNamed p.objects.objects p.tables.tables p.waits.waits
+  pub formed : AreFormed p.waits.clock p.objects.objects p.objects.seen.bodies
+  pub of_live : AreOfLive p.lives.threads p.objects.seen.bodies p.waits.waits
+  pub room : WaitsHaveRoom p.limits.max_recursion p.objects.seen.bodies p.waits.waits
+  pub listing : IsListing p.rows p.tables.tables p.objects.objects p.objects.births
+
+-- and whenever none is. No public clause names it; what a caller sees of it is MatchesState
+pub record IsKept (p : PartsState) : Type 0 where
+  pub sound : IsSound p
+  pub settled : IsSettled p.objects.seen.bodies p.waits.waits

@@ -4,6 +4,7 @@ pub mod Members
 pub mod Objects
 pub mod Agreement
 pub mod State
+pub mod Parts
 pub mod Directory
 pub mod Kept
 pub mod Moves
@@ -14,6 +15,6 @@ pub mod Owners
 pub mod Timers
 pub mod UnderWay
 pub mod Meetings
-pub mod Abandoned
+pub mod Signaled
 pub mod Consistent
 pub mod Stored

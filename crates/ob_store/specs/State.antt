@@ -11,15 +11,14 @@ use Rattle.ob_arena.specs.Slots.{Slots}
 use Rattle.ob_rights.specs.declared.handle_flags.HandleFlags.{HandleFlags}
 use Rattle.ob_tables.specs.declared.entry.Entry.{Entry}
 use Rattle.ob_tables.specs.Tables as tables
-use Rattle.ob_tables.specs.Tables.{HandleTables, with_entry_of, with_flags_of, without_entry_of}
+use Rattle.ob_tables.specs.Tables.{with_entry_of, with_flags_of, without_entry_of}
 use Rattle.ob_tables.specs.Counts.{entries_in, handles_among, slot_handles}
 use Rattle.ob_waits.specs.Objects as waits
 use Rattle.ob_waits.specs.declared.wait.Wait.{Wait}
-use Rattle.ob_waits.specs.Waits.{WaitList, Scene, blocks_among, slot_blocks}
+use Rattle.ob_waits.specs.Waits.{Scene, blocks_among, slot_blocks}
 use Rattle.ob_waits.specs.Ends.{settled_plainly, with_ends}
 use Rattle.ob_store.specs.declared.limits.Limits.{Limits}
-use Rattle.ob_store.specs.Lives.{LivesState}
-use Rattle.ob_store.specs.Objects.{Object, Head, ObjectsState}
+use Rattle.ob_store.specs.Objects.{Object, Head}
 
 -- Numbers of processes, threads and waits are places of lists. Number 0 is never given, so place 0 has nothing, and the next
 -- number is the length. A number that is gone has None.
@@ -163,24 +162,5 @@ opening limits = record {
   clock = 0;
 }
 
--- what the parts of a store say
 abbrev pub generation_of : Slot → ℕ
 generation_of x = x.generation
-
-abbrev pub state_of : Limits → LivesState → HandleTables → ObjectsState → WaitList → State
-state_of limits lives tables objects waits = record {
-  limits = limits;
-  processes = lives.processes;
-  threads = lives.threads;
-  tables = tables.tables;
-  objects = objects.objects;
-  bodies = objects.seen.bodies;
-  generations = map generation_of objects.keeper.slots;
-  retired = objects.retired;
-  births = objects.births;
-  waits = waits.waits;
-  clock = waits.clock;
-}
-
-abbrev pub whole_of : Limits → LivesState → HandleTables → ObjectsState → WaitList → Whole
-whole_of limits lives tables objects waits = record { state = state_of limits lives tables objects waits; keeper = objects.keeper }

@@ -15,16 +15,18 @@ impl<K: PinKeeper> Store<K> {
         ensures err { OnErr result (self.new ≡ self.old) }
     {
         // Called for its clause, before and after the change.
-        self.objects.kept();
-        self.lives.add_process(session)?;
-        match self.tables.copy_inheritable(parent) {
+        self.parts.objects.kept();
+        self.parts.lives.add_process(session)?;
+        match self.parts.tables.copy_inheritable(parent) {
             Ok(child) => {
-                self.objects.handles_came(self.tables.entries(child));
-                self.objects.kept();
+                self.parts
+                    .objects
+                    .handles_came(self.parts.tables.entries(child));
+                self.parts.objects.kept();
                 return Ok(());
             }
             Err(_) => {
-                self.lives.take_back();
+                self.parts.lives.take_back();
                 return Err(AllocError);
             }
         }

@@ -54,16 +54,18 @@ impl<K: PinKeeper> Store<K> {
         ensures err { OnErr result (self.new ≡ self.old) }
     {
         // Called for its clause, before and after: that nothing refers to a slot without a body.
-        self.objects.kept();
+        self.parts.objects.kept();
         let entry = Entry {
-            id: self.objects.id_at(slot),
+            id: self.parts.objects.id_at(slot),
             rights: new.rights,
             flags: new.flags,
         };
-        match self.tables.place(process, entry) {
+        match self.parts.tables.place(process, entry) {
             Ok(value) => {
-                self.objects.add(slot, new.descr, new.grant, None, new.body);
-                self.objects.kept();
+                self.parts
+                    .objects
+                    .add(slot, new.descr, new.grant, None, new.body);
+                self.parts.objects.kept();
                 return Ok(value);
             }
             Err(fault) => return Err(fault),
@@ -91,22 +93,23 @@ impl<K: PinKeeper> Store<K> {
         ensures memory { IfErr result (λ fault. fault ≡ Memory) }
         ensures err { OnErr result (self.new ≡ self.old) }
     {
-        let entered = self.names.reserve(name)?;
+        let entered = self.parts.names.reserve(name)?;
         let kept = Name::new(self.alloc, name)?;
         // As in `add_nameless`.
-        self.objects.kept();
+        self.parts.objects.kept();
         let entry = Entry {
-            id: self.objects.id_at(slot),
+            id: self.parts.objects.id_at(slot),
             rights: new.rights,
             flags: new.flags,
         };
-        match self.tables.place(process, entry) {
+        match self.parts.tables.place(process, entry) {
             Ok(value) => {
                 let id = self
+                    .parts
                     .objects
                     .add(slot, new.descr, new.grant, Some(kept), new.body);
-                self.names.enter(entered, id);
-                self.objects.kept();
+                self.parts.names.enter(entered, id);
+                self.parts.objects.kept();
                 return Ok(value);
             }
             Err(fault) => return Err(fault),

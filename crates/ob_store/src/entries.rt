@@ -32,11 +32,11 @@ impl<K: PinKeeper> Store<K> {
         ensures err { OnErr result (self.new ≡ self.old) }
     {
         // Called for its clause, before and after the change.
-        self.objects.kept();
-        match self.tables.place(process, entry) {
+        self.parts.objects.kept();
+        match self.parts.tables.place(process, entry) {
             Ok(value) => {
-                self.objects.handle_came(entry.id.slot);
-                self.objects.kept();
+                self.parts.objects.handle_came(entry.id.slot);
+                self.parts.objects.kept();
                 return Ok(value);
             }
             Err(fault) => return Err(fault),
@@ -51,11 +51,14 @@ impl<K: PinKeeper> Store<K> {
         ensures keeper { OnlyCloses self.old.keeper self.new.keeper }
     {
         // Called for its clause, before and after the change.
-        self.objects.kept();
-        let _ = self.tables.remove(process, handle);
-        self.objects.handle_left(entry.id.slot);
-        self.objects.kept();
-        leave_directory(&mut self.names, self.objects.look(entry.id.slot));
+        self.parts.objects.kept();
+        let _ = self.parts.tables.remove(process, handle);
+        self.parts.objects.handle_left(entry.id.slot);
+        self.parts.objects.kept();
+        leave_directory(
+            &mut self.parts.names,
+            self.parts.objects.look(entry.id.slot),
+        );
     }
 
     /// The entry of a handle has other flags.
@@ -64,8 +67,8 @@ impl<K: PinKeeper> Store<K> {
         ensures { self.new ≡ record self.old { state = settled (with_flags self.old.state process handle flags) } }
     {
         // Called for its clause.
-        self.objects.kept();
-        self.tables.set_flags(process, handle, flags);
+        self.parts.objects.kept();
+        self.parts.tables.set_flags(process, handle, flags);
     }
 }
 

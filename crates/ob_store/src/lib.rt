@@ -15,7 +15,6 @@
 //! ```
 #![tactic(auto)]
 
-mod abandoned;
 mod children;
 mod creation;
 mod ending;
@@ -30,12 +29,15 @@ mod members;
 mod numbers;
 mod objects;
 mod owners;
+mod parts;
 mod pinning;
 mod pins;
 mod processes;
 mod reclaiming;
 mod seat;
 mod seats;
+mod settling;
+mod signaled;
 mod signaling;
 mod store;
 mod stored;

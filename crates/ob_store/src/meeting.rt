@@ -53,7 +53,7 @@ impl<'a> Store<Keeper<'a>> {
         ensures same { self.new ≡ self.old }
         ensures table { reader.new.table ≡ reader.old.table }
     {
-        self.objects.meet(reader, slot);
+        self.parts.objects.meet(reader, slot);
     }
 
     /// The keeper and a reader of the same pins have one shape.
@@ -61,7 +61,7 @@ impl<'a> Store<Keeper<'a>> {
         requires { self.now.keeper.table ≡ Some reader.now.table }
         ensures { reader.now.view.shape ≡ self.now.keeper.shape }
     {
-        self.objects.same_shape(reader);
+        self.parts.objects.same_shape(reader);
     }
 
     /// One look at the slot of an Id that the reader holds, after which the object of the Id is known to be there.
@@ -73,6 +73,6 @@ impl<'a> Store<Keeper<'a>> {
         ensures same { self.new ≡ self.old }
         ensures table { reader.new.table ≡ reader.old.table }
     {
-        self.objects.meet_held(reader, id);
+        self.parts.objects.meet_held(reader, id);
     }
 }

@@ -13,7 +13,7 @@ impl Store<LockedPins> {
         ensures rest { self.new ≡ record self.old { keeper = with_held self.old.keeper self.new.keeper.held } }
         ensures held { OnOk result (0 < tally (same_id id) self.new.keeper.held) }
     {
-        self.objects.try_pin(id)
+        self.parts.objects.try_pin(id)
     }
 
     /// Lets one copy of a held Id go.
@@ -21,13 +21,13 @@ impl Store<LockedPins> {
         requires { 0 < tally (same_id id) self.old.keeper.held }
         ensures { self.new ≡ record self.old { keeper = released self.old.keeper id } }
     {
-        self.objects.release(id);
+        self.parts.objects.release(id);
     }
 
     /// Whether the holder has a copy of the Id.
     pub fn holds(&self, id: Id) -> bool
         ensures { IsTrue result ↔ (0 < tally (same_id id) self.now.keeper.held) }
     {
-        self.objects.holds(id)
+        self.parts.objects.holds(id)
     }
 }

@@ -14,12 +14,12 @@ impl<K: PinKeeper> Store<K> {
         ensures err { OnErr result (self.new ≡ self.old) }
     {
         // Called for its clause.
-        self.objects.kept();
-        self.lives.add_process(session)?;
-        match self.tables.add_process() {
+        self.parts.objects.kept();
+        self.parts.lives.add_process(session)?;
+        match self.parts.tables.add_process() {
             Ok(_) => return Ok(()),
             Err(_) => {
-                self.lives.take_back();
+                self.parts.lives.take_back();
                 return Err(AllocError);
             }
         }
@@ -33,8 +33,8 @@ impl<K: PinKeeper> Store<K> {
         ensures err { OnErr result (self.new ≡ self.old) }
     {
         // Called for its clause.
-        self.objects.kept();
-        self.lives.add_thread(process)?;
+        self.parts.objects.kept();
+        self.parts.lives.add_thread(process)?;
         Ok(())
     }
 }

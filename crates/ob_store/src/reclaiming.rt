@@ -16,9 +16,9 @@ impl<K: PinKeeper> Store<K> {
         ensures exact { K.reclaims self.old.keeper slot result self.new.keeper }
     {
         // Called for its clause, before and after: that no reference is left to an ended object.
-        self.objects.kept();
-        let answer = self.objects.reclaim(slot);
-        self.objects.kept();
+        self.parts.objects.kept();
+        let answer = self.parts.objects.reclaim(slot);
+        self.parts.objects.kept();
         answer
     }
 }

@@ -22,14 +22,14 @@ impl<K: PinKeeper> Store<K> {
         ensures keeper { OnlyCloses self.old.keeper self.new.keeper }
     {
         // Called for its clause, before and after the change.
-        self.objects.kept();
-        let blocks = self.objects.blocks(id.slot);
-        self.objects.put(id, new);
+        self.parts.objects.kept();
+        let blocks = self.parts.objects.blocks(id.slot);
+        self.parts.objects.put(id, new);
+        self.parts.objects.kept();
         if blocks == 0 {
-            self.objects.kept();
             return;
         }
-        self.waits.settle_after(&mut self.objects, id);
+        self.parts.settle_after(id);
     }
 
     /// Sets an event.
@@ -56,9 +56,9 @@ impl<K: PinKeeper> Store<K> {
         ensures keeper { OnlyCloses self.old.keeper self.new.keeper }
     {
         // Called for its clause, before and after the change.
-        self.objects.kept();
-        self.objects.put(id, new);
-        self.objects.kept();
+        self.parts.objects.kept();
+        self.parts.objects.put(id, new);
+        self.parts.objects.kept();
     }
 
     /// Resets an event: nothing is signaled by it, so nothing settles.

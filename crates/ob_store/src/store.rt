@@ -12,11 +12,12 @@ ghost use Rattle.ob_store.specs.State.{handles_of, blocks_of, id_at, is_full, op
 ghost use Rattle.ob_store.specs.Consistent.{IsConsistent};
 ghost use Rattle.ob_store.specs.Directory.{directory_of};
 
-use crate::abandoned::Abandoned;
 use crate::found::Found;
 use crate::limits::Limits;
 use crate::lives::Lives;
 use crate::objects::Objects;
+use crate::parts::Parts;
+use crate::signaled::SignaledSlots;
 use ob_body::Body;
 use ob_name::{Directory, NameRef, Rows};
 use ob_tables::{Entry, Tables};
@@ -29,25 +30,20 @@ use std::marker::Model;
 /// The state of a manager, with all that it counts and finds by name, and the small changes of which calls are made.
 #[derive(Drop)]
 pub struct Store<K: PinKeeper> {
-    pub(crate) limits: Limits,
-    pub(crate) lives: Lives,
-    pub(crate) tables: Tables,
-    pub(crate) objects: Objects<K>,
-    pub(crate) waits: Waits,
-    pub(crate) names: Directory,
-    pub(crate) abandoned: Abandoned,
+    pub(crate) parts: Parts<K>,
     pub(crate) alloc: Global,
 }
 
 impl<K: PinKeeper> Model for Store<K> {
-    ghost use Rattle.ob_store.specs.State.{Whole, whole_of};
+    ghost use Rattle.ob_store.specs.State.{Whole};
+    ghost use Rattle.ob_store.specs.Parts.{parts_of, whole_of};
     ghost use Rattle.ob_store.specs.Kept.{IsKept};
 
     ghost Value = { Whole };
 
-    ghost view = { λ s. whole_of s.limits s.lives s.tables s.objects s.waits };
+    ghost view = { λ s. whole_of (parts_of s.parts) };
 
-    ghost invariant = { λ s. IsKept s.limits s.lives s.tables s.objects s.waits s.names.rows };
+    ghost invariant = { λ s. IsKept (parts_of s.parts) };
 }
 
 impl<K: PinKeeper> Store<K> {
@@ -63,33 +59,32 @@ impl<K: PinKeeper> Store<K> {
         let Ok(tables) = Tables::new(alloc, limits.processes, limits.handles) else {
             return Err(keeper);
         };
-        let Ok(abandoned) = Abandoned::new(alloc, limits.slots) else {
+        let Ok(signaled) = SignaledSlots::new(alloc, limits.slots) else {
             return Err(keeper);
         };
         match Objects::new(alloc, limits.slots, limits.threads + 1, keeper) {
             Ok(objects) => {
-                return Ok(Store {
+                let parts = Parts {
                     limits,
                     lives,
                     tables,
                     objects,
                     waits: Waits::new(alloc, limits.waits),
                     names: Directory::new(alloc),
-                    abandoned,
-                    alloc,
-                });
+                    signaled,
+                };
+                return Ok(Store { parts, alloc });
             }
             Err(keeper) => return Err(keeper),
         }
     }
 
     /// What holds of the state and the keeper whenever no call is under way.
-    #[tactic(auto, using(crate::proofs::ConsistentLaws::consistent))]
     pub fn kept(&self)
         ensures { IsConsistent self.now }
     {
-        self.objects.kept();
-        let _ = (self.waits.wait_of(0), self.waits.clock());
+        self.parts.objects.kept();
+        let _ = (self.parts.waits.wait_of(0), self.parts.waits.clock());
     }
 
     /// The moment that it is, in units of 100 ns, from 0.
@@ -97,28 +92,28 @@ impl<K: PinKeeper> Store<K> {
         ensures moment { result ≡ self.now.state.clock }
         ensures last { result ≤ LAST_MOMENT }
     {
-        self.waits.clock()
+        self.parts.waits.clock()
     }
 
     /// What it may hold at most.
     pub fn limits(&self) -> Limits
         ensures { result ≡ self.now.state.limits }
     {
-        self.limits
+        self.parts.limits
     }
 
     /// The next process number.
     pub fn next_process(&self) -> u32
         ensures { result ≡ length self.now.state.processes }
     {
-        self.lives.next_process()
+        self.parts.lives.next_process()
     }
 
     /// The next thread number.
     pub fn next_thread(&self) -> u32
         ensures { result ≡ length self.now.state.threads }
     {
-        self.lives.next_thread()
+        self.parts.lives.next_thread()
     }
 
     /// The session of a live process, which has a handle table.
@@ -126,7 +121,7 @@ impl<K: PinKeeper> Store<K> {
         ensures value { result ≡ slice_index_or self.now.state.processes process None }
         ensures table { OnSome result (process < length self.now.state.tables) }
     {
-        self.lives.session(process)
+        self.parts.lives.session(process)
     }
 
     /// The process of a live thread, which has a handle table.
@@ -135,14 +130,14 @@ impl<K: PinKeeper> Store<K> {
         ensures live { IfSome result (λ process. IsSome (slice_index_or self.now.state.processes process None)) }
         ensures table { IfSome result (λ process. process < length self.now.state.tables) }
     {
-        self.lives.process(thread)
+        self.parts.lives.process(thread)
     }
 
     /// Whether the thread has a wait.
     pub fn is_busy(&self, thread: u32) -> bool
         ensures { result ≡ is_some (number_of thread self.now.state.waits) }
     {
-        self.waits.wait_of(thread).is_some()
+        self.parts.waits.wait_of(thread).is_some()
     }
 
     /// The entry of a handle, in the table of a process.
@@ -150,7 +145,7 @@ impl<K: PinKeeper> Store<K> {
         requires { process < length self.now.state.tables }
         ensures { result ≡ entry_at (table_of self.now.state.tables process) handle }
     {
-        self.tables.entry(process, handle)
+        self.parts.tables.entry(process, handle)
     }
 
     /// Whether a process has as many handles as it may.
@@ -158,7 +153,7 @@ impl<K: PinKeeper> Store<K> {
         requires { process < length self.now.state.tables }
         ensures { result ≡ is_full self.now.state process }
     {
-        self.tables.is_full(process)
+        self.parts.tables.is_full(process)
     }
 
     /// The least slot that has no object and may have one.
@@ -166,7 +161,7 @@ impl<K: PinKeeper> Store<K> {
         ensures value { result ≡ least_vacant (vacancy self.now.state) }
         ensures vacant { IfSome result (λ slot. is_vacant_at (vacancy self.now.state) slot ≡ true) }
     {
-        self.objects.least_vacant()
+        self.parts.objects.least_vacant()
     }
 
     /// The Id that the next object of a slot has.
@@ -175,8 +170,8 @@ impl<K: PinKeeper> Store<K> {
         ensures { result ≡ id_at self.now.state slot }
     {
         // Called for its clause: that the keeper has the slot.
-        self.objects.kept();
-        self.objects.id_at(slot)
+        self.parts.objects.kept();
+        self.parts.objects.id_at(slot)
     }
 
     /// The object in a slot, with all that refers to it counted.
@@ -189,15 +184,15 @@ impl<K: PinKeeper> Store<K> {
         ensures within { IfSome result (λ found. slot < self.now.state.limits.slots) }
     {
         // Called for its clause: that the object has the Id of its slot.
-        self.objects.kept();
-        self.objects.look(slot)
+        self.parts.objects.kept();
+        self.parts.objects.look(slot)
     }
 
     /// The body of an object, or none where it has ended.
     pub fn body(&self, id: Id) -> Option<Body>
         ensures { result ≡ slice_index_or self.now.state.bodies id.slot None }
     {
-        self.objects.body(id)
+        self.parts.objects.body(id)
     }
 
     /// The object of a name. It has a handle.
@@ -206,28 +201,28 @@ impl<K: PinKeeper> Store<K> {
         ensures handled { IfSome result (λ id. 0 < handles_of self.now.state id) }
     {
         // Called for its clause.
-        self.objects.kept();
-        self.names.find(name)
+        self.parts.objects.kept();
+        self.parts.names.find(name)
     }
 
     /// How many names there are.
     pub fn names(&self) -> usize
         ensures { result ≡ length (directory_of self.now.state) }
     {
-        self.names.len()
+        self.parts.names.len()
     }
 
     /// The name at a place of the directory, with its Id.
     pub fn name_at(&self, at: usize) -> Option<(NameRef<'_>, Id)>
         ensures { option_map row_at result ≡ slice_get (directory_of self.now.state) at }
     {
-        self.names.row(at)
+        self.parts.names.row(at)
     }
 
     /// The names with their Ids, in the order in which the objects were made.
     pub fn rows(&self) -> Rows<'_>
         ensures { result ≡ directory_of self.now.state }
     {
-        self.names.rows()
+        self.parts.names.rows()
     }
 }

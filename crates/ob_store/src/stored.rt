@@ -46,15 +46,14 @@ impl<'a, K: PinKeeper> Stored<'a, K> {
 
 impl<K: PinKeeper> Store<K> {
     /// What is stored, which is what the state and the keeper say whenever no call is under way.
-    #[tactic(auto, using(crate::proofs::StoredLaws::matches_state))]
     pub fn stored(&self) -> Stored<'_, K>
         ensures { MatchesState self.now result }
     {
         // Called for its clause.
-        self.objects.kept();
+        self.parts.objects.kept();
         Stored {
-            objects: &self.objects,
-            names: &self.names,
+            objects: &self.parts.objects,
+            names: &self.parts.names,
         }
     }
 }

@@ -1,22 +1,21 @@
 ghost use Rattle.std.specs.Prelude.{◌≡◌, ◌≤◌, ℕ, IfNone, IfSome, List, None, Option, false, map, slice_index_or, true};
 ghost use Rattle.ob_waits.specs.declared.wait.Wait.{Wait};
 ghost use Rattle.ob_waits.specs.Deadlines.{is_overdue};
-ghost use Rattle.ob_store.specs.Abandoned.{IsEnough};
+ghost use Rattle.ob_store.specs.Signaled.{IsEnough};
 ghost use Rattle.ob_store.specs.Moves.{OnlyCloses};
 ghost use Rattle.ob_store.specs.Objects.{kept_rest};
 ghost use Rattle.ob_store.specs.State.{settled};
 ghost use Rattle.ob_store.specs.Ticks.{lapsed, slot_fired, slot_is_due, ticked};
 
-use crate::abandoned::Abandoned;
-use crate::ending::settle;
 use crate::objects::Objects;
+use crate::signaled::SignaledSlots;
 use crate::store::Store;
 use ob_waits::LAST_MOMENT;
 use pin_core::Id;
 use pin_words::PinKeeper;
 
 /// The timers that are due fire, and their slots are noted. It looks at these alone.
-fn fire_all<K: PinKeeper>(objects: &mut Objects<K>, signaled: &mut Abandoned, now: u64)
+fn fire_all<K: PinKeeper>(objects: &mut Objects<K>, signaled: &mut SignaledSlots, now: u64)
     ensures seen { objects.new.seen ≡ record objects.old.seen { bodies = map (slot_fired now) objects.old.seen.bodies } }
     ensures rest { kept_rest objects.new ≡ kept_rest objects.old }
     ensures enough { (waits : List (Option Wait)) → IsEnough signaled.old objects.old.seen.bodies waits → IsEnough signaled.new objects.new.seen.bodies waits }
@@ -38,11 +37,11 @@ impl<K: PinKeeper> Store<K> {
         ensures keeper { OnlyCloses self.old.keeper self.new.keeper }
         ensures undue { (k : ℕ) → slot_is_due now (slice_index_or self.new.state.bodies k None) ≡ false }
     {
-        self.abandoned.clear();
-        fire_all(&mut self.objects, &mut self.abandoned, now);
+        self.parts.signaled.clear();
+        fire_all(&mut self.parts.objects, &mut self.parts.signaled, now);
         // Called for its clause.
-        self.objects.kept();
-        settle(&mut self.objects, &mut self.waits, &self.abandoned);
+        self.parts.objects.kept();
+        self.parts.settle();
     }
 
     /// A pending wait whose deadline isn't after a moment.
@@ -51,7 +50,7 @@ impl<K: PinKeeper> Store<K> {
         ensures none { IfNone result ((n : ℕ) → is_overdue now (slice_index_or self.old.state.waits n None) ≡ false) }
         ensures same { self.new ≡ self.old }
     {
-        self.waits.overdue(now)
+        self.parts.waits.overdue(now)
     }
 
     /// It is a moment, at which nothing is due and no pending wait's time is up.
@@ -62,7 +61,7 @@ impl<K: PinKeeper> Store<K> {
         requires none { (n : ℕ) → is_overdue now (slice_index_or self.old.state.waits n None) ≡ false }
         ensures { self.new ≡ record self.old { state = record self.old.state { clock = now } } }
     {
-        self.waits.pass_to(now);
+        self.parts.waits.pass_to(now);
     }
 
     /// Each pending wait whose deadline isn't after a moment, at which nothing is due, is answered with 258, `WAIT_TIMEOUT`.

@@ -19,7 +19,7 @@ impl<K: PinKeeper> Store<K> {
     pub fn wait_state(&self, wait: u32) -> Option<WaitState>
         ensures { result ≡ state_at (slice_index_or self.now.state.waits wait None) }
     {
-        self.waits.look(wait).map(|(state, _)| state)
+        self.parts.waits.look(wait).map(|(state, _)| state)
     }
 
     /// A thread takes at once what its wait for these objects is satisfied by, and gives the wait's code. Where it isn't
@@ -35,9 +35,9 @@ impl<K: PinKeeper> Store<K> {
         ensures keeper { OnlyCloses self.old.keeper self.new.keeper }
     {
         // Called for its clause, before and after the change.
-        self.objects.kept();
-        let code = try_now(&mut self.objects, thread, mode, ids);
-        self.objects.kept();
+        self.parts.objects.kept();
+        let code = try_now(&mut self.parts.objects, thread, mode, ids);
+        self.parts.objects.kept();
         code
     }
 
@@ -65,11 +65,11 @@ impl<K: PinKeeper> Store<K> {
         ensures err { OnErr result (self.new ≡ self.old) }
     {
         // Called for its clause, before and after the change.
-        self.objects.kept();
-        match self.waits.add(thread, mode, ids, deadline) {
+        self.parts.objects.kept();
+        match self.parts.waits.add(thread, mode, ids, deadline) {
             Ok(number) => {
-                self.objects.blocks_came(ids);
-                self.objects.kept();
+                self.parts.objects.blocks_came(ids);
+                self.parts.objects.kept();
                 return Ok(number);
             }
             Err(fault) => return Err(fault),
@@ -83,13 +83,13 @@ impl<K: PinKeeper> Store<K> {
         ensures keeper { OnlyCloses self.old.keeper self.new.keeper }
     {
         // Called for its clause, before and after the change.
-        self.objects.kept();
-        let Some((_, ids)) = self.waits.look(wait) else {
+        self.parts.objects.kept();
+        let Some((_, ids)) = self.parts.waits.look(wait) else {
             unreachable!()
         };
-        leave_all(&mut self.objects, ids);
-        self.objects.kept();
-        self.waits.expire(wait);
+        leave_all(&mut self.parts.objects, ids);
+        self.parts.objects.kept();
+        self.parts.waits.expire(wait);
     }
 
     /// The code of a wait that is answered, which is over with it: its thread may make calls again.
@@ -99,7 +99,7 @@ impl<K: PinKeeper> Store<K> {
         ensures over { self.new ≡ record self.old { state = settled (without_wait self.old.state wait) } }
     {
         // Called for its clause.
-        self.objects.kept();
-        self.waits.take_result(wait)
+        self.parts.objects.kept();
+        self.parts.waits.take_result(wait)
     }
 }

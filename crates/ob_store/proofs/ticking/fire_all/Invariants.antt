@@ -1,7 +1,7 @@
 use Rattle.std.proofs.Common.{◌≡◌, List, Option, map}
 use Rattle.std.specs.Prelude.{count_by}
 use Rattle.ob_waits.specs.declared.wait.Wait.{Wait}
-use Rattle.ob_store.specs.Abandoned.{IsEnough}
+use Rattle.ob_store.specs.Signaled.{IsEnough}
 use Rattle.ob_store.specs.Objects.{kept_rest}
 use Rattle.ob_store.specs.Ticks.{slot_fired, slot_is_due}
 use Rattle.ob_store.proofs.ticking.fire_all.Given as goal

@@ -1,21 +1,21 @@
 use Rattle.std.proofs.Common.{◌∙◌, ap, sym, subst}
 use Rattle.std.specs.Prelude.{IsSome}
 use Rattle.ob_tables.specs.Table.{entry_at}
-use Rattle.ob_tables.specs.Tables.{HandleTables, table_of}
-use Rattle.ob_store.specs.State.{Whole, settled, whole_of, with_flags}
-use Rattle.ob_store.proofs.KeptLaws.{kept_flags, whole_flags}
+use Rattle.ob_tables.specs.Tables.{table_of}
+use Rattle.ob_store.specs.Parts.{parts_of}
+use Rattle.ob_store.specs.State.{Whole, settled, with_flags}
+use Rattle.ob_store.proofs.KeptLaws.{flagged, kept_flags, whole_kept}
 use Rattle.ob_store.proofs.store.Store.set_flags.Goals as goal
 
 pub invariant_of-self : goal.invariant_of-self
 invariant_of-self g c =
-    let s = c.self.inside in
+    let s = c.self.inside.parts in
     let some : IsSome (entry_at (table_of s.tables.tables c.args.process) c.args.handle) = subst (λ (w : Whole). IsSome (entry_at (table_of w.state.tables c.args.process) c.args.handle)) (sym c.self.view_is) c.requires in
-    rw c.set_flags.ensures (kept_flags s.limits s.lives s.tables s.objects s.waits s.names.rows c.self.invariant c.args.process c.args.handle c.args.flags some)
+    rw c.set_flags.ensures (kept_flags (parts_of s) c.args.process c.args.handle c.args.flags c.self.invariant some)
 
 pub returns : goal.returns
 returns g c =
-    let s = c.self.inside in
+    let s = c.self.inside.parts in
     let some : IsSome (entry_at (table_of s.tables.tables c.args.process) c.args.handle) = subst (λ (w : Whole). IsSome (entry_at (table_of w.state.tables c.args.process) c.args.handle)) (sym c.self.view_is) c.requires in
-    ap (λ (t : HandleTables). whole_of s.limits s.lives t s.objects s.waits) c.set_flags.ensures
-    ∙ whole_flags s.limits s.lives s.tables s.objects s.waits s.names.rows c.self.invariant c.args.process c.args.handle c.args.flags some c.kept.ensures
+    rw c.set_flags.ensures (whole_kept (flagged (parts_of s) c.args.process c.args.handle c.args.flags) (kept_flags (parts_of s) c.args.process c.args.handle c.args.flags c.self.invariant some) c.kept.ensures)
     ∙ ap (λ (w : Whole). record w { state = settled (with_flags w.state c.args.process c.args.handle c.args.flags) }) c.self.view_is

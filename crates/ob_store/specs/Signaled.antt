@@ -8,15 +8,15 @@ use Rattle.ob_waits.specs.Form.{slot_owner}
 use Rattle.ob_waits.specs.Rules.{IsReadyAtOne}
 use Rattle.ob_waits.specs.Waits.{names_one, nowhere}
 
-pub record AbandonedState : Type 0 where
+pub record SignaledState : Type 0 where
   pub ids : List Id
   pub whole : Bool  -- whether all of them are there
 
-abbrev pub none_abandoned : AbandonedState
-none_abandoned = record { ids = []; whole = true }
+abbrev pub none_signaled : SignaledState
+none_signaled = record { ids = []; whole = true }
 
 -- to settle by the waits for these slots is enough: each wait that is ready names one of them
-pub record IsEnough (a : AbandonedState) (bodies : List (Option Body)) (waits : List (Option Wait)) : Type 0 where
+pub record IsEnough (a : SignaledState) (bodies : List (Option Body)) (waits : List (Option Wait)) : Type 0 where
   pub each : a.whole ≡ true → IsReadyAtOne a.ids bodies waits
 
 -- none of the Ids is of the slot
@@ -24,11 +24,11 @@ abbrev pub IsOut : List Id → ℕ → Type 0
 IsOut ids k = (i : ℕ) → i < length ids → (slice_index_or ids i nowhere).slot ≡ k → ⊥
 
 -- more were added, or not all any more
-pub record Grows (old new : AbandonedState) : Type 0 where
+pub record Grows (old new : SignaledState) : Type 0 where
   pub whole : new.whole ≡ true → old.whole ≡ true
   pub named : new.whole ≡ true → (w : Option Wait) → names_one old.ids w ≡ true → names_one new.ids w ≡ true
   pub out : new.whole ≡ true → (k : ℕ) → IsOut new.ids k → IsOut old.ids k
 
 -- the slot was added if the thread owns the mutex in it
-abbrev pub IsNoted : AbandonedState → List (Option Body) → ℕ → ℕ → Type 0
+abbrev pub IsNoted : SignaledState → List (Option Body) → ℕ → ℕ → Type 0
 IsNoted a bodies thread k = a.whole ≡ true → IsOut a.ids k → is_owner thread (slot_owner (slice_index_or bodies k None)) ≡ false

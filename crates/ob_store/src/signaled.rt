@@ -1,5 +1,5 @@
 ghost use Rattle.std.specs.Prelude.{◌≡◌, ◌++◌, ◌∷◌, [], true, false, IfOk};
-ghost use Rattle.ob_store.specs.Abandoned.{AbandonedState, none_abandoned};
+ghost use Rattle.ob_store.specs.Signaled.{SignaledState, none_signaled};
 
 use pin_core::Id;
 use std::alloc::{AllocError, Global};
@@ -9,25 +9,25 @@ use std::marker::Model;
 /// fired. They are listed as long as there is room; once one isn't, the list is not whole, and the waits settle by a pass over
 /// all of them.
 #[derive(Drop)]
-pub(crate) struct Abandoned {
+pub(crate) struct SignaledSlots {
     ids: Vec<Id>,
     is_whole: bool,
 }
 
-impl Model for Abandoned {
-    ghost use Rattle.ob_store.specs.Abandoned.{AbandonedState};
+impl Model for SignaledSlots {
+    ghost use Rattle.ob_store.specs.Signaled.{SignaledState};
 
-    ghost Value = { AbandonedState };
+    ghost Value = { SignaledState };
 
     ghost view = { λ a. record { ids = a.ids.items; whole = a.is_whole } };
 }
 
-impl Abandoned {
+impl SignaledSlots {
     /// None, with room for as many as there are slots: 8 bytes each.
-    pub(crate) fn new(alloc: Global, slots: u32) -> Result<Abandoned, AllocError>
-        ensures { IfOk result (λ abandoned. abandoned ≡ none_abandoned) }
+    pub(crate) fn new(alloc: Global, slots: u32) -> Result<SignaledSlots, AllocError>
+        ensures { IfOk result (λ signaled. signaled ≡ none_signaled) }
     {
-        Ok(Abandoned {
+        Ok(SignaledSlots {
             ids: Vec::with_capacity(alloc, slots as usize)?,
             is_whole: true,
         })
@@ -35,7 +35,7 @@ impl Abandoned {
 
     /// None any more; the room stays.
     pub(crate) fn clear(&mut self)
-        ensures { self.new ≡ none_abandoned }
+        ensures { self.new ≡ none_signaled }
     {
         self.ids.clear();
         self.is_whole = true;

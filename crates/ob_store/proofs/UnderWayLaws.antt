@@ -1,0 +1,137 @@
+-- A call is under way from what is kept, and ends with what is kept of the settled state.
+use Rattle.std.proofs.Common.{◌≡◌, ◌<◌, ℕ, List, length, Option, Some, None, refl, ap, ◌∙◌, sym, subst, arith, get_or, set, true}
+use Rattle.std.specs.Prelude.{is_some}
+use Rattle.pin_core.specs.declared.id.Id.{Id}
+use Rattle.pin_words.specs.Keepers.{KeeperState}
+use Rattle.ob_body.specs.declared.body.Body.{Body}
+use Rattle.ob_body.specs.Body.{is_signaled}
+use Rattle.ob_waits.specs.Ends.{ended}
+use Rattle.ob_waits.specs.Objects.{Objects}
+use Rattle.ob_waits.specs.Rules.{IsReadyAt, IsSettled, WaitsHaveRoom}
+use Rattle.ob_waits.specs.Waits as waits
+use Rattle.ob_waits.specs.Waits.{Scene, WaitList, slot_blocks}
+use Rattle.ob_waits.proofs.Apart.{ready_at_change}
+use Rattle.ob_waits.proofs.Settled.{settled_less, settled_unnamed}
+use Rattle.ob_waits.proofs.Settling.{settled_same}
+use Rattle.ob_store.specs.Agreement.{IsTied}
+use Rattle.ob_store.specs.Kept.{AreFormed, AreOfLive, IsKept, IsNamed, IsSound, Yields}
+use Rattle.ob_store.specs.Objects.{ObjectsState, KeptRest, kept_rest}
+use Rattle.ob_store.specs.Parts.{PartsState, state_of}
+use Rattle.ob_store.specs.Signaled.{SignaledState}
+use Rattle.ob_store.specs.State.{State, objects_of, settled, with_body, with_scene}
+use Rattle.ob_store.specs.UnderWay.{AreLeft, IsEnding, IsUnderWay}
+use Rattle.ob_store.proofs.AgreeLaws.{body_within}
+use Rattle.ob_store.proofs.BodyLaws.{formed_put, formed_settled, less_put, of_live_put, of_live_settled, room_put}
+use Rattle.ob_store.proofs.CountedLaws.{blocks_at, counted_settled}
+use Rattle.ob_store.proofs.EnoughLaws.{enough_settled}
+use Rattle.ob_store.proofs.KeptLaws.{objects_are, sound_rested, state_rested}
+use Rattle.ob_store.proofs.LeftLaws.{ended_gone, left_same}
+use Rattle.ob_store.proofs.NamedLaws.{named_settled}
+use Rattle.ob_store.proofs.SettledLaws.{ends_before}
+
+-- a call begins
+pub way_begins : (p : PartsState) → IsSound p → IsTied p.objects → IsUnderWay p.objects.keeper p (state_of p)
+way_begins p sound tied = record { tied = tied; sound = sound; rest = refl; bodies = left_same p.objects.seen.bodies; keeper = refl }
+
+-- whichever slots are noted, since no wait is ready
+pub ending_begins : (p : PartsState) (a : SignaledState) → IsKept p → IsTied p.objects → IsEnding p.objects.keeper (record p { signaled = a }) (state_of p)
+ending_begins p a kept tied = record {
+  way = record {
+    tied = tied;
+    sound = sound_rested p p.lives p.objects p.waits a refl kept.sound refl kept.sound.lives_kept kept.sound.counted kept.sound.named kept.sound.formed kept.sound.of_live kept.sound.room;
+    rest = refl;
+    bodies = left_same p.objects.seen.bodies;
+    keeper = refl;
+  };
+  enough = enough_settled a p.objects.seen.bodies p.waits.waits kept.settled;
+}
+
+-- and its waits settle
+module _ (p : PartsState) (q : ObjectsState) (ws : WaitList)
+    (sound : IsSound p)
+    (value : ◌≡◌ {A = Scene} (record { objects = q.seen; waits = ws.waits }) (waits.settled (record { objects = p.objects.seen; waits = p.waits.waits })))
+    (limit : ws.limit ≡ p.waits.limit)
+    (clock : ws.clock ≡ p.waits.clock)
+    (rest : kept_rest q ≡ kept_rest p.objects) where
+  abbrev scene : Scene
+  scene = record { objects = p.objects.seen; waits = p.waits.waits }
+
+  pub way_kept : WaitsHaveRoom p.limits.max_recursion q.seen.bodies ws.waits → IsSettled q.seen.bodies ws.waits → IsKept (record p { objects = q; waits = ws })
+  way_kept room quiet = record {
+    sound = sound_rested p p.lives q ws p.signaled rest sound limit sound.lives_kept
+        (counted_settled p.objects.seen (length p.objects.objects) p.tables.tables p.waits.waits sound.counted p.objects.seen.bodies q.seen ws.waits value)
+        (named_settled p.objects.objects p.tables.tables p.waits.waits sound.named scene ws.waits refl (ap (λ (x : Scene). x.waits) value))
+        (subst (λ n. AreFormed n p.objects.objects q.seen.bodies) (sym clock) (formed_settled scene q.seen ws.waits value p.waits.clock p.objects.objects sound.formed))
+        (of_live_settled scene q.seen ws.waits value p.lives.threads sound.of_live)
+        room;
+    settled = quiet;
+  }
+
+  module _ (first : KeeperState) (s : State) (way : IsUnderWay first p s) where
+    -- what is to end has ended
+    ends_are : ended (objects_of s) ≡ p.objects.seen
+    ends_are =
+        let counted : p.objects.seen ≡ objects_of (record s { bodies = p.objects.seen.bodies }) = objects_are p sound ∙ ap objects_of way.rest in
+        let objects : objects_of s ≡ record p.objects.seen { bodies = s.bodies } = ap (λ (x : Objects). record x { bodies = s.bodies }) (sym counted) in
+        ap ended objects ∙ ended_gone p.objects.seen s.bodies way.tied.bodied way.bodies
+
+    named_of : IsNamed s.objects s.tables s.waits
+    named_of = subst (λ (x : State). IsNamed x.objects x.tables x.waits) way.rest sound.named
+
+    pub way_state : state_of (record p { objects = q; waits = ws }) ≡ settled s
+    way_state =
+        state_rested p p.lives q ws p.signaled rest
+        ∙ (λ i. record (state_of p) { bodies = (value i).objects.bodies; waits = (value i).waits; clock = clock i })
+        ∙ ap (λ (x : State). with_scene x (waits.settled (record { objects = p.objects.seen; waits = x.waits }))) way.rest
+        ∙ ap (λ (x : Objects). with_scene s (waits.settled (record { objects = x; waits = s.waits }))) (sym ends_are)
+        ∙ sym (ends_before s named_of)
+
+-- where no wait is ready, the state is settled as it is
+pub way_still : (first : KeeperState) (p : PartsState) (s : State) → IsUnderWay first p s → IsSettled p.objects.seen.bodies p.waits.waits → state_of p ≡ settled s
+way_still first p s way quiet = way_state p p.objects p.waits way.sound (sym (settled_same (record { objects = p.objects.seen; waits = p.waits.waits }) quiet)) refl refl refl first s way
+
+-- a call changed a body
+module _ (p : PartsState) (q : ObjectsState) (id : Id) (old new : Body)
+    (kept : IsKept p)
+    (there : get_or p.objects.seen.bodies id.slot None ≡ Some old)
+    (yields : Yields p.waits.clock old new)
+    (put : q.seen ≡ record p.objects.seen { bodies = set p.objects.seen.bodies id.slot (Some new) })
+    (rest : kept_rest q ≡ kept_rest p.objects) where
+  abbrev bodies : List (Option Body)
+  bodies = set p.objects.seen.bodies id.slot (Some new)
+
+  put_bodies : q.seen.bodies ≡ set p.objects.seen.bodies id.slot (Some new)
+  put_bodies = ap (λ (x : Objects). x.bodies) put
+
+  pub way_put : IsTied q → IsUnderWay p.objects.keeper (record p { objects = q }) (with_body (state_of p) id new)
+  way_put tied = record {
+    tied = tied;
+    sound = sound_rested p p.lives q p.waits p.signaled rest kept.sound refl kept.sound.lives_kept
+        (record { handles = ap (λ (x : Objects). x.handles) put ∙ kept.sound.counted.handles; blocks = ap (λ (x : Objects). x.blocks) put ∙ kept.sound.counted.blocks })
+        kept.sound.named
+        (subst (λ (x : List (Option Body)). AreFormed p.waits.clock p.objects.objects x) (sym put_bodies) (formed_put p.objects.seen.bodies id.slot old new p.waits.clock there yields p.objects.objects kept.sound.formed))
+        (subst (λ (x : List (Option Body)). AreOfLive p.lives.threads x p.waits.waits) (sym put_bodies) (of_live_put p.objects.seen.bodies id.slot old new p.waits.clock there yields p.lives.threads p.waits.waits kept.sound.of_live))
+        (subst (λ (x : List (Option Body)). WaitsHaveRoom p.limits.max_recursion x p.waits.waits) (sym put_bodies) (room_put p.objects.seen.bodies id.slot old new p.waits.clock there yields p.limits.max_recursion p.waits.waits kept.sound.room));
+    rest = state_rested p p.lives q p.waits p.signaled rest;
+    bodies = subst (λ (x : List (Option Body)). AreLeft x q.seen.bodies) put_bodies (left_same q.seen.bodies);
+    keeper = ap (λ (r : KeptRest). r.keeper) rest;
+  }
+
+  -- each wait that is ready then is for the object
+  pub ready : IsReadyAt id.slot q.seen.bodies p.waits.waits
+  ready = subst (λ (x : List (Option Body)). IsReadyAt id.slot x p.waits.waits) (sym put_bodies) (ready_at_change p.objects.seen.bodies p.waits.waits id.slot (Some new) kept.settled)
+
+  -- nothing is signaled by it that wasn't: so nothing settles
+  pub settled_put_less : ((t : ℕ) → is_signaled t new ≡ true → is_signaled t old ≡ true) → IsSettled q.seen.bodies p.waits.waits
+  settled_put_less less = subst (λ (x : List (Option Body)). IsSettled x p.waits.waits) (sym put_bodies)
+      (settled_less p.objects.seen.bodies bodies p.waits.waits (less_put p.objects.seen.bodies id.slot old new p.waits.clock there yields less) kept.settled)
+
+  -- no pending wait is for it: so nothing settles
+  pub settled_unblocked : IsTied p.objects → get_or p.objects.seen.blocks id.slot 0 ≡ 0 → IsSettled q.seen.bodies p.waits.waits
+  settled_unblocked tied none = subst (λ (x : List (Option Body)). IsSettled x p.waits.waits) (sym put_bodies) (settled_unnamed p.objects.seen.bodies p.waits.waits id.slot (Some new) unnamed kept.settled)
+    where
+      within : id.slot < length p.objects.objects
+      within = let lt = body_within p.objects id.slot (ap is_some there) tied.agreed in let long = tied.agreed.long in omega (arith, lt, long)
+
+      unnamed : slot_blocks id.slot p.waits.waits ≡ 0
+      unnamed = sym (blocks_at p.objects.seen (length p.objects.objects) p.tables.tables p.waits.waits kept.sound.counted id.slot within) ∙ none

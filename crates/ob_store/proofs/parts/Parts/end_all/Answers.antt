@@ -1,0 +1,40 @@
+use Rattle.std.proofs.Common.{◌≡◌, ◌∙◌, ◌≤◌, suc, None, refl, ap, sym, arith, length, get_or, inl, inr}
+use Rattle.std.proofs.lemmas.Bool.{cases_eq, cases_lt}
+use Rattle.ob_store.specs.Ends.{threads_ended}
+use Rattle.ob_store.specs.Parts.{parts_of}
+use Rattle.ob_store.specs.State.{State}
+use Rattle.ob_store.proofs.PassedLaws.{ending_passed, ending_unpassed}
+use Rattle.ob_store.proofs.parts.Parts.end_all.Goals as goal
+
+pub loop-thread-init : goal.loop-thread-init
+loop-thread-init g c = record {
+  way = λ first s ending. ending_passed first (parts_of c.args.self.now) s c.args.process 0 c.first_of-thread.result (omega arith) (λ t above below h. let a = c.first_of-thread.ensures t h in omega (arith, a, below)) ending;
+  long = refl;
+  gone = λ t below h. (let a = c.first_of-thread.ensures t h in omega (arith, a, below));
+}
+
+pub loop-thread-preserved : goal.loop-thread-preserved
+loop-thread-preserved g c =
+    let i = c.loop-thread.thread in
+    let more = c.next_of-thread.ensures.greater in
+    record {
+      way = λ first s ending.
+          ending_passed first (parts_of c.end_of.new.self) s c.args.process (suc i) c.next_of-thread.result (omega (arith, more))
+          (λ t above below h. let a = c.next_of-thread.ensures.none t h (omega (arith, above)) in omega (arith, a, below))
+          (c.end_of.ensures.way first (threads_ended s c.args.process i) (c.loop-thread.invariant.way first s ending));
+      long = c.end_of.ensures.long ∙ c.loop-thread.invariant.long;
+      gone = λ t lt is. elim (cases_eq t i) [
+        | inl same ↦ c.end_of.ensures.gone (ap (λ j. get_or c.end_of.new.self.lives.threads j None) (sym same) ∙ is)
+        | inr other ↦ elim (cases_lt t i) [
+          | inl less ↦ c.loop-thread.invariant.gone t less (c.end_of.ensures.fewer t c.args.process is)
+          | inr le ↦ (let a = c.next_of-thread.ensures.none t is (omega (arith, le, other)) in omega (arith, a, lt))
+        ]
+      ];
+    }
+
+pub returns-clause-way : goal.returns-clause-way
+returns-clause-way g c = λ first s ending.
+    let threads = c.args.self.now.lives.threads in
+    let at_end : length threads ≤ c.loop-thread.thread = (let past = c.loop-thread-test.false in let next = c.next_thread-end.ensures in omega (arith, past, next)) in
+    let same : length threads ≡ length s.threads = ap (λ (x : State). length x.threads) ending.way.rest in
+    ending_unpassed first (parts_of c.loop-thread.self) s c.args.process (length threads) c.loop-thread.thread at_end (omega (arith, same)) (c.loop-thread.invariant.way first s ending)

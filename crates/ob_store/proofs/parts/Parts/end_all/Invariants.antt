@@ -1,0 +1,17 @@
+use Rattle.std.proofs.Common.{◌≡◌, ℕ, ◌-◌, ◌<◌, Some, None, length, get_or}
+use Rattle.pin_words.specs.Keepers.{KeeperState}
+use Rattle.ob_store.specs.Ends.{threads_ended}
+use Rattle.ob_store.specs.Parts.{parts_of}
+use Rattle.ob_store.specs.State.{State}
+use Rattle.ob_store.specs.UnderWay.{IsEnding}
+use Rattle.ob_store.proofs.parts.Parts.end_all.Given as goal
+
+abbrev pub invariant-loop-thread : goal.invariant-loop-thread
+invariant-loop-thread g l = record {
+  way : (first : KeeperState) (s : State) → IsEnding first (parts_of l.fn.self) s → IsEnding first (parts_of l.self) (threads_ended s l.process l.thread);
+  long : length l.self.lives.threads ≡ length l.fn.self.lives.threads;
+  gone : (t : ℕ) → t < l.thread → get_or l.self.lives.threads t None ≡ Some l.process → ⊥;
+}
+
+abbrev pub decreases-loop-thread : goal.decreases-loop-thread
+decreases-loop-thread g l = l.end - l.thread

@@ -1,0 +1,45 @@
+ghost use Rattle.std.specs.Prelude.{◌≡◌, ℕ};
+ghost use Rattle.ob_waits.specs.Rules.{IsReadyAt};
+ghost use Rattle.ob_waits.specs.Waits.{settled as waits_settled};
+ghost use Rattle.pin_words.specs.Keepers.{KeeperState};
+ghost use Rattle.ob_store.specs.Kept.{IsKept, IsSound};
+ghost use Rattle.ob_store.specs.Moves.{OnlyCloses};
+ghost use Rattle.ob_store.specs.Parts.{parts_of, state_of};
+ghost use Rattle.ob_store.specs.Signaled.{IsEnough};
+ghost use Rattle.ob_store.specs.State.{State, settled};
+ghost use Rattle.ob_store.specs.UnderWay.{IsUnderWay};
+
+use crate::parts::Parts;
+use pin_core::Id;
+use pin_words::PinKeeper;
+
+impl<K: PinKeeper> Parts<K> {
+    /// The waits settle: where all slots that may have been signaled are noted by the waits for these alone, and where there are
+    /// none not at all.
+    pub(crate) fn settle(&mut self)
+        requires sound { IsSound (parts_of self.old) }
+        requires enough { IsEnough self.old.signaled self.old.objects.seen.bodies self.old.waits.waits }
+        ensures value { record { objects = self.new.objects.seen; waits = self.new.waits.waits } ≡ waits_settled (record { objects = self.old.objects.seen; waits = self.old.waits.waits }) }
+        ensures kept { IsKept (parts_of self.new) }
+        ensures state { (first : KeeperState) (s : State) → IsUnderWay first (parts_of self.old) s → state_of (parts_of self.new) ≡ settled s }
+        ensures keeper { OnlyCloses self.old.objects.keeper self.new.objects.keeper }
+    {
+        if self.signaled.is_whole() {
+            self.waits
+                .settle_after_each(&mut self.objects, self.signaled.ids());
+        } else {
+            self.waits.settle(&mut self.objects);
+        }
+    }
+
+    /// The waits settle, of which those for one object alone may be ready.
+    pub(crate) fn settle_after(&mut self, id: Id)
+        requires sound { IsSound (parts_of self.old) }
+        requires ready { IsReadyAt id.slot self.old.objects.seen.bodies self.old.waits.waits }
+        ensures kept { IsKept (parts_of self.new) }
+        ensures state { (first : KeeperState) (s : State) → IsUnderWay first (parts_of self.old) s → state_of (parts_of self.new) ≡ settled s }
+        ensures keeper { OnlyCloses self.old.objects.keeper self.new.objects.keeper }
+    {
+        self.waits.settle_after(&mut self.objects, id);
+    }
+}
