@@ -1,4 +1,3 @@
-pub mod Ids
 pub mod Objects
 pub mod Waits
 pub mod Rules

@@ -2,20 +2,16 @@ ghost use Rattle.std.specs.Prelude.{◌≡◌, ◌≤◌, IfOk, length};
 
 use crate::codes::MAXIMUM_WAIT_OBJECTS;
 use pin_core::Id;
+use smallvec::SmallVec;
 use std::alloc::{AllocError, Global};
 use std::marker::Model;
 
-/// A list that takes no memory of its own where it has one element, as most waits' lists do.
-#[derive(Drop)]
-enum IdList {
-    One([Id; 1]),
-    More(Vec<Id>),
-}
-
 /// The objects of one wait, at most [`MAXIMUM_WAIT_OBJECTS`], in the order in which they were listed.
+///
+/// One takes no memory of its own: most waits are for one.
 #[derive(Drop)]
 pub struct Ids {
-    list: IdList,
+    list: SmallVec<Id, 1>,
 }
 
 impl Model for Ids {
@@ -24,11 +20,9 @@ impl Model for Ids {
 
     ghost Value = { List Id };
 
-    ghost use Rattle.ob_waits.specs.Ids.{listed_ids};
+    ghost view = { λ s. s.list.items };
 
-    ghost view = { λ s. listed_ids s.list };
-
-    ghost invariant = { λ s. length (listed_ids s.list) ≤ 64 };
+    ghost invariant = { λ s. length s.list.items ≤ 64 };
 }
 
 impl Ids {
@@ -37,13 +31,8 @@ impl Ids {
         requires { length ids.now ≤ MAXIMUM_WAIT_OBJECTS }
         ensures { IfOk result (λ s. s ≡ ids.now) }
     {
-        if let [id] = ids {
-            return Ok(Ids {
-                list: IdList::One([*id]),
-            });
-        }
         Ok(Ids {
-            list: IdList::More(Vec::from_slice(alloc, ids)?),
+            list: SmallVec::from_slice(alloc, ids)?,
         })
     }
 
@@ -52,9 +41,6 @@ impl Ids {
         ensures value { result.now ≡ self.now }
         ensures few { length result.now ≤ MAXIMUM_WAIT_OBJECTS }
     {
-        match &self.list {
-            IdList::One(id) => id,
-            IdList::More(ids) => ids.as_slice(),
-        }
+        self.list.as_slice()
     }
 }
