@@ -11,9 +11,12 @@
  *   Different managers have nothing in common.
  * - om_new makes a manager and om_free ends it. In between an om_manager may be copied and moved: each copy is the same manager.
  *   A manager that was freed, or that no om_new made, is as a pointer that was freed: passing it is undefined.
+ * - A reader (om_reader_new) pins objects on any thread without that lock, beside calls for the manager and for other readers. It is
+ *   given to one call at a time, and passed from thread to thread by a lock or a join; om_inspect takes it with the manager that it
+ *   was made from. om_reader_free ends it, before the manager's end or after.
  * - No pointer is null, not even for a name or a list of length 0 ("" will do). What a call writes to doesn't overlap with
  *   anything else that it is given. Nothing that is passed is kept: it is yours again once the call has returned.
- * - Each call but om_free and the questions at the end answers with 0 (OM_SUCCESS) or the number that the Win32 function leaves
+ * - Each call but om_free, om_reader_free and the questions that have always an answer answers with 0 (OM_SUCCESS) or the number that the Win32 function leaves
  *   for GetLastError. What it writes is written with 0, and else only where its text says so. A refused call changes nothing, but
  *   that om_duplicate may close its source.
  * - Where a call takes memory and there is none it answers OM_ERROR_NOT_ENOUGH_MEMORY, has changed nothing, and may be made
@@ -112,6 +115,11 @@ typedef struct om_manager {
     void *at;
 } om_manager;
 
+/* A reader of a manager's slots: a pointer likewise. */
+typedef struct om_reader {
+    void *at;
+} om_reader;
+
 /* How much a manager may hold. */
 typedef struct om_limits {
     uint32_t slots;         /* objects at a time: 1 to 65,536 */
@@ -159,6 +167,13 @@ typedef struct om_description {
     uint32_t grant;   /* the rights that opens may get */
     bool manual;      /* an event that is reset by hand, or a timer that stays signaled */
 } om_description;
+
+/* What never changes of an object, as a reader reads it without the manager's lock. */
+typedef struct om_descriptor {
+    uint32_t kind;    /* OM_EVENT, OM_MUTEX, OM_SEMAPHORE or OM_TIMER */
+    uint32_t max;     /* of a semaphore; else 0 */
+    bool manual;      /* an event that is reset by hand, or a timer that stays signaled */
+} om_descriptor;
 
 /* What became of a slot. */
 typedef struct om_reaping {
@@ -351,17 +366,6 @@ uint32_t om_expire(om_manager *m, uint32_t wait);
 
 /* ---- For whoever runs the guests ---- */
 
-/* Pins an object's slot once more: while it is pinned, its slot isn't given to another object. A manager has 16 pins at a time,
- * each to be let go by om_unpin.
- * OM_ERROR_INVALID_PARAMETER where there is no such slot; OM_ERROR_NOT_ENOUGH_QUOTA where 16 pins are held; OM_ERROR_NOT_FOUND
- * where the slot had no such object yet; OM_ERROR_INVALID_HANDLE where the object ended; OM_ERROR_NO_SYSTEM_RESOURCES where the
- * slot has all its pins. */
-uint32_t om_pin(om_manager *m, uint32_t slot, uint32_t generation);
-
-/* Lets one pin of an object go.
- * OM_ERROR_INVALID_HANDLE where none is held. */
-uint32_t om_unpin(om_manager *m, uint32_t slot, uint32_t generation);
-
 /* What an object was created as, until its slot is taken back.
  * OM_ERROR_INVALID_HANDLE where there is no such object. */
 uint32_t om_card(om_manager *m, uint32_t slot, uint32_t generation, om_description *description);
@@ -385,13 +389,42 @@ uint32_t om_directory_at(om_manager *m, size_t at, char *name, size_t capacity, 
  * answers don't fit: then *written says how many bytes they need, and nothing else is written. */
 uint32_t om_script(const om_limits *limits, const char *script, size_t length, char *answers, size_t capacity, size_t *written);
 
+/* ---- Readers: pins without the manager's lock, on any thread ---- */
+
+/* A reader, which pins nothing yet; this is a call for the manager. What stood at `r` isn't read.
+ * OM_ERROR_NOT_ENOUGH_MEMORY. */
+uint32_t om_reader_new(om_manager *m, om_reader *r);
+
+/* Lets all go that a reader pins, and ends it. Its manager may have ended before. */
+void om_reader_free(om_reader r);
+
+/* Pins an object's slot once more: while it is pinned, its slot isn't given to another object. A reader has 16 pins at a time, each to
+ * be let go by om_reader_unpin. An object may end while it is pinned; a handle of the host's own keeps it.
+ * OM_ERROR_INVALID_PARAMETER where there is no such slot; OM_ERROR_NOT_ENOUGH_QUOTA where 16 pins are held; OM_ERROR_NOT_FOUND
+ * where the slot had no such object yet; OM_ERROR_INVALID_HANDLE where the object ended; OM_ERROR_NO_SYSTEM_RESOURCES where the
+ * slot has all its pins; and OM_ERROR_BUSY where another thread changed the slot meanwhile: then it may be tried again. */
+uint32_t om_reader_pin(om_reader *r, uint32_t slot, uint32_t generation);
+
+/* Lets one pin of an object go.
+ * OM_ERROR_INVALID_HANDLE where the reader has none. */
+uint32_t om_reader_unpin(om_reader *r, uint32_t slot, uint32_t generation);
+
+/* What never changes of an object that the reader pins.
+ * OM_ERROR_INVALID_HANDLE where it has no pin of it. */
+uint32_t om_reader_describe(om_reader *r, uint32_t slot, uint32_t generation, om_descriptor *descriptor);
+
+/* What an object that the reader pins was created as, also when it has ended; this is a call for the manager, the one that the reader
+ * was made from.
+ * OM_ERROR_INVALID_HANDLE where the reader has no pin of it. */
+uint32_t om_inspect(om_manager *m, om_reader *r, uint32_t slot, uint32_t generation, om_description *description);
+
+/* Whether a reader pins an object. */
+bool om_reader_holds(om_reader *r, uint32_t slot, uint32_t generation);
+
 /* ---- Questions that have always an answer ---- */
 
 /* Whether a wait is pending. */
 bool om_is_pending(om_manager *m, uint32_t wait);
-
-/* Whether a pin of an object is held. */
-bool om_holds(om_manager *m, uint32_t slot, uint32_t generation);
 
 /* How many names objects have. */
 size_t om_directory_len(om_manager *m);

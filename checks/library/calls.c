@@ -22,7 +22,8 @@ uint32_t below(calls *c, uint32_t most) {
 
 static bool once_in(calls *c, uint32_t turns) { return below(c, turns) == 0; }
 
-om_limits limits_of(calls *c) {
+/* Limits that a seed picks: the defaults, or small ones that are soon reached. */
+static om_limits limits_of(calls *c) {
     om_limits limits = OM_LIMITS_DEFAULT;
     limits.processes = limits.threads = 65536;
     if (once_in(c, 2)) {
@@ -35,6 +36,26 @@ om_limits limits_of(calls *c) {
     }
     c->slots = limits.slots;
     return limits;
+}
+
+om_limits make_manager(calls *c) {
+    om_limits limits = limits_of(c);
+    c->processes = c->threads = c->waits = 0;
+    c->now = 0;
+    must(om_new(&limits, &c->m) == OM_SUCCESS, "no manager");
+    must(om_reader_new(&c->m, &c->r) == OM_SUCCESS, "no reader");
+    return limits;
+}
+
+void end_manager(calls *c) {
+    bool is_reader_first = once_in(c, 2);
+    if (is_reader_first) {
+        om_reader_free(c->r);
+    }
+    om_free(c->m);
+    if (!is_reader_first) {
+        om_reader_free(c->r);
+    }
 }
 
 /* A number of 1 to `given`, mostly one of the last few, and now and then one that wasn't given. */
@@ -444,7 +465,7 @@ static void directory(calls *c) {
     must(om_directory_at(&c->m, rows, text, sizeof text, &row) == OM_ERROR_NO_MORE_ITEMS, "a row too many");
 }
 
-static void description(calls *c, om_description d) {
+static void descriptor(calls *c, om_descriptor d) {
     static const char *const kinds[] = {"event auto", "mutex", "semaphore", "timer auto"};
     static const char *const by_hand[] = {"event manual", "", "", "timer manual"};
     fputs(d.manual ? by_hand[d.kind] : kinds[d.kind], c->answers);
@@ -455,14 +476,14 @@ static void description(calls *c, om_description d) {
 
 static void pin(calls *c) {
     uint32_t s = slot(c), g = generation(c, s);
-    om_description d;
+    om_descriptor d;
     fprintf(c->script, "pin s%u.%u\n", s, g);
-    uint32_t status = om_pin(&c->m, s, g);
+    uint32_t status = om_reader_pin(&c->r, s, g);
     switch (status) {
     case OM_SUCCESS:
-        must(om_holds(&c->m, s, g) && om_card(&c->m, s, g, &d) == OM_SUCCESS, "a pin holds nothing");
+        must(om_reader_holds(&c->r, s, g) && om_reader_describe(&c->r, s, g, &d) == OM_SUCCESS, "a pin holds nothing");
         fprintf(c->answers, "pinned s%u.%u ", s, g);
-        description(c, d);
+        descriptor(c, d);
         fputc('\n', c->answers);
         break;
     case OM_ERROR_INVALID_PARAMETER: answer(c, "no slot"); break;
@@ -477,8 +498,8 @@ static void pin(calls *c) {
 static void unpin(calls *c) {
     uint32_t s = slot(c), g = generation(c, s);
     fprintf(c->script, "unpin s%u.%u\n", s, g);
-    bool is_held = om_holds(&c->m, s, g);
-    uint32_t status = om_unpin(&c->m, s, g);
+    bool is_held = om_reader_holds(&c->r, s, g);
+    uint32_t status = om_reader_unpin(&c->r, s, g);
     must(is_held == (status == OM_SUCCESS), "held and not held");
     if (is_held) {
         fprintf(c->answers, "unpinned s%u.%u\n", s, g);
@@ -489,16 +510,21 @@ static void unpin(calls *c) {
 
 static void card(calls *c) {
     uint32_t s = slot(c), g = generation(c, s);
-    om_description d;
+    om_description made = {UNTOUCHED, UNTOUCHED, UNTOUCHED, false}, same;
     fprintf(c->script, "card s%u.%u\n", s, g);
-    if (!om_holds(&c->m, s, g)) {
+    bool is_held = om_reader_holds(&c->r, s, g);
+    uint32_t status = om_inspect(&c->m, &c->r, s, g, &made);
+    must(is_held == (status == OM_SUCCESS), "inspected and not held");
+    if (!is_held) {
+        must(made.kind == UNTOUCHED, "a refusal wrote a description");
         answer(c, "not held");
         return;
     }
-    must(om_card(&c->m, s, g, &d) == OM_SUCCESS, "a held object has no card");
+    must(om_card(&c->m, s, g, &same) == OM_SUCCESS, "a held object has no card");
+    must(made.kind == same.kind && made.max == same.max && made.grant == same.grant && made.manual == same.manual, "two cards of one object");
     fprintf(c->answers, "card s%u.%u ", s, g);
-    description(c, d);
-    fprintf(c->answers, " grant 0x%x\n", d.grant);
+    descriptor(c, (om_descriptor){made.kind, made.max, made.manual});
+    fprintf(c->answers, " grant 0x%x\n", made.grant);
 }
 
 void call(calls *c) {
@@ -524,20 +550,19 @@ void call(calls *c) {
 }
 
 calls begun(int count, char **words) {
-    calls c = {{NULL}, 0, 0, 0, 0, 0, 0, NULL, NULL};
+    calls c = {{NULL}, {NULL}, 0, 0, 0, 0, 0, 0, NULL, NULL};
     must(count == 5, "COUNT SEED SCRIPT ANSWERS");
     c.seed = 0x9E3779B97F4A7C15ULL * (uint64_t)(1 + atol(words[2]));
     c.script = fopen(words[3], "wb");
     c.answers = fopen(words[4], "wb");
     must(c.script != NULL && c.answers != NULL, "a file can't be written");
-    om_limits limits = limits_of(&c);
+    om_limits limits = make_manager(&c);
     printf("--slots=%u --processes=%u --threads=%u --handles=%u --waits=%u --max-pins=%u --max-gen=%u --max-recursion=%u\n", limits.slots,
            limits.processes, limits.threads, limits.handles, limits.waits, limits.max_pins, limits.max_gen, limits.max_recursion);
-    must(om_new(&limits, &c.m) == OM_SUCCESS, "no manager");
     return c;
 }
 
 void finish(calls *c) {
-    om_free(c->m);
+    end_manager(c);
     must(fclose(c->script) == 0 && fclose(c->answers) == 0, "a file wasn't written");
 }

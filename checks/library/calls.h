@@ -8,6 +8,7 @@
 
 typedef struct calls {
     om_manager m;
+    om_reader r; /* one of its readers */
     uint64_t seed;
     uint32_t processes, threads, waits; /* numbers given so far */
     uint32_t slots;
@@ -18,8 +19,9 @@ typedef struct calls {
 /* A number below `most`. */
 uint32_t below(calls *c, uint32_t most);
 
-/* Limits that a seed picks: the defaults, or small ones that are soon reached. */
-om_limits limits_of(calls *c);
+/* A new manager with limits that the seed picks, and a reader of it; and their end. */
+om_limits make_manager(calls *c);
+void end_manager(calls *c);
 
 /* A new manager for random calls by the words of a command line, COUNT SEED SCRIPT ANSWERS. Its limits are printed as options of
  * the program. */

@@ -24,32 +24,35 @@ void *__wrap_realloc(void *block, size_t size) {
 
 /* The calls that take no memory, with what they answer, and whether that is no error. */
 #define EACH(CALL)                                                                                                                  \
-    CALL(uint32_t, om_end_thread, (om_manager *m, uint32_t t), (m, t), status == OM_SUCCESS)                                         \
-    CALL(uint32_t, om_exit, (om_manager *m, uint32_t p), (m, p), status == OM_SUCCESS)                                               \
-    CALL(uint32_t, om_close, (om_manager *m, uint32_t t, uint32_t h), (m, t, h), status == OM_SUCCESS)                               \
-    CALL(uint32_t, om_handle_flags, (om_manager *m, uint32_t t, uint32_t h, uint32_t *f), (m, t, h, f), status == OM_SUCCESS)        \
-    CALL(uint32_t, om_set_handle_flags, (om_manager *m, uint32_t t, uint32_t h, uint32_t k, uint32_t f), (m, t, h, k, f),            \
+    CALL(uint32_t, om_end_thread, (om_manager *m, uint32_t t), (m, t), status == OM_SUCCESS)                                        \
+    CALL(uint32_t, om_exit, (om_manager *m, uint32_t p), (m, p), status == OM_SUCCESS)                                              \
+    CALL(uint32_t, om_close, (om_manager *m, uint32_t t, uint32_t h), (m, t, h), status == OM_SUCCESS)                              \
+    CALL(uint32_t, om_handle_flags, (om_manager *m, uint32_t t, uint32_t h, uint32_t *f), (m, t, h, f), status == OM_SUCCESS)       \
+    CALL(uint32_t, om_set_handle_flags, (om_manager *m, uint32_t t, uint32_t h, uint32_t k, uint32_t f), (m, t, h, k, f),           \
          status == OM_SUCCESS)                                                                                                      \
-    CALL(uint32_t, om_resolve, (om_manager *m, uint32_t p, uint32_t h, om_object *o), (m, p, h, o), status == OM_SUCCESS)            \
-    CALL(uint32_t, om_set_event, (om_manager *m, uint32_t t, uint32_t h), (m, t, h), status == OM_SUCCESS)                           \
-    CALL(uint32_t, om_reset_event, (om_manager *m, uint32_t t, uint32_t h), (m, t, h), status == OM_SUCCESS)                         \
-    CALL(uint32_t, om_release_semaphore, (om_manager *m, uint32_t t, uint32_t h, int32_t n, uint32_t *b), (m, t, h, n, b),           \
+    CALL(uint32_t, om_resolve, (om_manager *m, uint32_t p, uint32_t h, om_object *o), (m, p, h, o), status == OM_SUCCESS)           \
+    CALL(uint32_t, om_set_event, (om_manager *m, uint32_t t, uint32_t h), (m, t, h), status == OM_SUCCESS)                          \
+    CALL(uint32_t, om_reset_event, (om_manager *m, uint32_t t, uint32_t h), (m, t, h), status == OM_SUCCESS)                        \
+    CALL(uint32_t, om_release_semaphore, (om_manager *m, uint32_t t, uint32_t h, int32_t n, uint32_t *b), (m, t, h, n, b),          \
          status == OM_SUCCESS)                                                                                                      \
-    CALL(uint32_t, om_release_mutex, (om_manager *m, uint32_t t, uint32_t h), (m, t, h), status == OM_SUCCESS)                       \
-    CALL(uint32_t, om_set_timer, (om_manager *m, uint32_t t, uint32_t h, int64_t d), (m, t, h, d), status == OM_SUCCESS)             \
-    CALL(uint32_t, om_cancel_timer, (om_manager *m, uint32_t t, uint32_t h), (m, t, h), status == OM_SUCCESS)                        \
-    CALL(uint32_t, om_tick, (om_manager *m, uint64_t n), (m, n), status == OM_SUCCESS)                                               \
-    CALL(uint32_t, om_wait_result, (om_manager *m, uint32_t w, uint32_t *a), (m, w, a), status == OM_SUCCESS)                        \
-    CALL(uint32_t, om_expire, (om_manager *m, uint32_t w), (m, w), status == OM_SUCCESS)                                             \
-    CALL(uint32_t, om_pin, (om_manager *m, uint32_t s, uint32_t g), (m, s, g), status == OM_SUCCESS)                                 \
-    CALL(uint32_t, om_unpin, (om_manager *m, uint32_t s, uint32_t g), (m, s, g), status == OM_SUCCESS)                               \
-    CALL(uint32_t, om_card, (om_manager *m, uint32_t s, uint32_t g, om_description *d), (m, s, g, d), status == OM_SUCCESS)          \
-    CALL(uint32_t, om_counts, (om_manager *m, uint32_t s, uint32_t g, om_references *r), (m, s, g, r), status == OM_SUCCESS)         \
-    CALL(uint32_t, om_reap, (om_manager *m, uint32_t s, om_reaping *r), (m, s, r), status == OM_SUCCESS)                             \
-    CALL(uint32_t, om_directory_at, (om_manager *m, size_t at, char *n, size_t c, om_row *r), (m, at, n, c, r),                      \
+    CALL(uint32_t, om_release_mutex, (om_manager *m, uint32_t t, uint32_t h), (m, t, h), status == OM_SUCCESS)                      \
+    CALL(uint32_t, om_set_timer, (om_manager *m, uint32_t t, uint32_t h, int64_t d), (m, t, h, d), status == OM_SUCCESS)            \
+    CALL(uint32_t, om_cancel_timer, (om_manager *m, uint32_t t, uint32_t h), (m, t, h), status == OM_SUCCESS)                       \
+    CALL(uint32_t, om_tick, (om_manager *m, uint64_t n), (m, n), status == OM_SUCCESS)                                              \
+    CALL(uint32_t, om_wait_result, (om_manager *m, uint32_t w, uint32_t *a), (m, w, a), status == OM_SUCCESS)                       \
+    CALL(uint32_t, om_expire, (om_manager *m, uint32_t w), (m, w), status == OM_SUCCESS)                                            \
+    CALL(uint32_t, om_reader_pin, (om_reader *r, uint32_t s, uint32_t g), (r, s, g), status == OM_SUCCESS)                          \
+    CALL(uint32_t, om_reader_unpin, (om_reader *r, uint32_t s, uint32_t g), (r, s, g), status == OM_SUCCESS)                        \
+    CALL(uint32_t, om_card, (om_manager *m, uint32_t s, uint32_t g, om_description *d), (m, s, g, d), status == OM_SUCCESS)         \
+    CALL(uint32_t, om_reader_describe, (om_reader *r, uint32_t s, uint32_t g, om_descriptor *d), (r, s, g, d), status == OM_SUCCESS)\
+    CALL(uint32_t, om_inspect, (om_manager *m, om_reader *r, uint32_t s, uint32_t g, om_description *d), (m, r, s, g, d),           \
          status == OM_SUCCESS)                                                                                                      \
-    CALL(bool, om_is_pending, (om_manager *m, uint32_t w), (m, w), true)                                                             \
-    CALL(bool, om_holds, (om_manager *m, uint32_t s, uint32_t g), (m, s, g), true)                                                   \
+    CALL(uint32_t, om_counts, (om_manager *m, uint32_t s, uint32_t g, om_references *r), (m, s, g, r), status == OM_SUCCESS)        \
+    CALL(uint32_t, om_reap, (om_manager *m, uint32_t s, om_reaping *r), (m, s, r), status == OM_SUCCESS)                            \
+    CALL(uint32_t, om_directory_at, (om_manager *m, size_t at, char *n, size_t c, om_row *r), (m, at, n, c, r),                     \
+         status == OM_SUCCESS)                                                                                                      \
+    CALL(bool, om_is_pending, (om_manager *m, uint32_t w), (m, w), true)                                                            \
+    CALL(bool, om_reader_holds, (om_reader *r, uint32_t s, uint32_t g), (r, s, g), true)                                            \
     CALL(size_t, om_directory_len, (om_manager *m), (m), true)
 
 enum {
@@ -100,10 +103,7 @@ uint32_t __wrap_om_duplicate(om_manager *m, uint32_t t, uint32_t s, uint32_t h, 
 
 /* A new manager, and random calls of it. Threads and processes end more often than they do in other trials. */
 static void make_calls(calls *c) {
-    om_limits limits = limits_of(c);
-    c->processes = c->threads = c->waits = 0;
-    c->now = 0;
-    must(om_new(&limits, &c->m) == OM_SUCCESS, "no manager");
+    make_manager(c);
     for (int i = 0; i < CALLS_OF_A_MANAGER; i++) {
         om_member member;
         om_object object;
@@ -116,12 +116,12 @@ static void make_calls(calls *c) {
             om_exit(&c->m, member.process);
         }
     }
-    om_free(c->m);
+    end_manager(c);
 }
 
 int main(int count, char **words) {
     must(count == 2, "SEED");
-    calls c = {{NULL}, 0x9E3779B97F4A7C15ULL * (uint64_t)(1 + atol(words[1])), 0, 0, 0, 0, 0, fopen("/dev/null", "wb"), fopen("/dev/null", "wb")};
+    calls c = {{NULL}, {NULL}, 0x9E3779B97F4A7C15ULL * (uint64_t)(1 + atol(words[1])), 0, 0, 0, 0, 0, fopen("/dev/null", "wb"), fopen("/dev/null", "wb")};
     must(c.script != NULL && c.answers != NULL, "a file can't be written");
     unsigned long fewest = 0, fewest_answered = 0;
     while (fewest < CALLS_DUE || fewest_answered < ANSWERS_DUE) {

@@ -51,6 +51,7 @@ void __wrap_free(void *block) {
     }
 
 AGAIN(om_new, (const om_limits *l, om_manager *m), (l, m), m, sizeof *m)
+AGAIN(om_reader_new, (om_manager *m, om_reader *r), (m, r), r, sizeof *r)
 AGAIN(om_spawn, (om_manager *m, uint32_t s, om_member *o), (m, s, o), o, sizeof *o)
 AGAIN(om_child, (om_manager *m, uint32_t t, bool i, om_member *o), (m, t, i, o), o, sizeof *o)
 AGAIN(om_thread, (om_manager *m, uint32_t p, uint32_t *o), (m, p, o), o, sizeof *o)
@@ -68,16 +69,15 @@ AGAIN(om_script, (const om_limits *l, const char *s, size_t n, char *a, size_t c
 
 /* One run: the lines of the script, and behind them the answers. The caller frees them. */
 static char *run(long count, uint64_t seed, size_t *length, size_t *answers_length) {
-    calls c = {{NULL}, seed, 0, 0, 0, 0, 0, tmpfile(), tmpfile()};
+    calls c = {{NULL}, {NULL}, seed, 0, 0, 0, 0, 0, tmpfile(), tmpfile()};
     char *both;
     must(c.script != NULL && c.answers != NULL, "a file can't be written");
-    om_limits limits = limits_of(&c);
     requests = blocks = 0;
-    must(om_new(&limits, &c.m) == OM_SUCCESS, "no manager");
+    make_manager(&c);
     while (count-- > 0) {
         call(&c);
     }
-    om_free(c.m);
+    end_manager(&c);
     must(blocks == 0, "memory is left");
     *length = (size_t)ftell(c.script);
     *answers_length = (size_t)ftell(c.answers);

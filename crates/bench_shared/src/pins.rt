@@ -22,7 +22,7 @@ const NEAR: [u32; 4] = [8, 9, 10, 11];
 fn spin<R: Wait + Clock>(
     rt: &R,
     start: Start<'_>,
-    mut reader: Reader<'_>,
+    mut reader: Reader,
     slot: u32,
 ) -> Option<Span> {
     let id = Id {
@@ -42,20 +42,19 @@ fn spin<R: Wait + Clock>(
 fn one<R: Wait + Clock>(
     rt: &R,
     start: Start<'_>,
-    keeper: &mut Keeper<'_>,
+    keeper: &mut Keeper,
     slots: [u32; 4],
 ) -> Option<Span> {
-    let reader = keeper.reader();
-    spin(rt, start, reader, slots[0])
+    spin(rt, start, keeper.reader()?, slots[0])
 }
 
 fn two<R: Threads + Wait + Clock + Sync>(
     rt: &R,
     start: Start<'_>,
-    keeper: &mut Keeper<'_>,
+    keeper: &mut Keeper,
     slots: [u32; 4],
 ) -> Option<Span> {
-    let (a, b) = (keeper.reader(), keeper.reader());
+    let (a, b) = (keeper.reader()?, keeper.reader()?);
     let (x, y) = join(
         rt,
         move || spin(rt, start, a, slots[0]),
@@ -67,11 +66,11 @@ fn two<R: Threads + Wait + Clock + Sync>(
 fn four<R: Threads + Wait + Clock + Sync>(
     rt: &R,
     start: Start<'_>,
-    keeper: &mut Keeper<'_>,
+    keeper: &mut Keeper,
     slots: [u32; 4],
 ) -> Option<Span> {
-    let (a, b) = (keeper.reader(), keeper.reader());
-    let (c, d) = (keeper.reader(), keeper.reader());
+    let (a, b) = (keeper.reader()?, keeper.reader()?);
+    let (c, d) = (keeper.reader()?, keeper.reader()?);
     let ((w, x), (y, z)) = join(
         rt,
         move || {
@@ -94,7 +93,7 @@ fn four<R: Threads + Wait + Clock + Sync>(
 
 fn run<R: Threads + Wait + Clock + Sync>(
     rt: &R,
-    keeper: &mut Keeper<'_>,
+    keeper: &mut Keeper,
     threads: u64,
     slots: [u32; 4],
 ) -> Option<Span> {
@@ -113,7 +112,7 @@ fn run<R: Threads + Wait + Clock + Sync>(
 
 fn measure<R: Threads + Wait + Clock + Print + Sync>(
     rt: &R,
-    keeper: &mut Keeper<'_>,
+    keeper: &mut Keeper,
     case: &str,
     threads: u64,
     slots: [u32; 4],
@@ -127,7 +126,7 @@ fn measure<R: Threads + Wait + Clock + Print + Sync>(
 
 fn measure_over<R: Threads + Wait + Clock + Print + Sync>(
     rt: &R,
-    keeper: &mut Keeper<'_>,
+    keeper: &mut Keeper,
 ) -> io::Result<()> {
     let same = [APART[0]; 4];
     measure(rt, keeper, "one thread", 1, same)?;
@@ -139,7 +138,7 @@ fn measure_over<R: Threads + Wait + Clock + Print + Sync>(
     measure(rt, keeper, "four threads, neighbouring Ids", 4, NEAR)
 }
 
-fn publish(keeper: &mut Keeper<'_>, slots: [u32; 4]) {
+fn publish(keeper: &mut Keeper, slots: [u32; 4]) {
     for slot in slots {
         if slot < keeper.slots() && keeper.phase(slot) == Phase::Free {
             keeper.publish(slot);

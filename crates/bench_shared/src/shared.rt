@@ -35,7 +35,7 @@ fn time_lanes<R: Threads + Wait + Clock + Sync>(
     rt: &R,
     alloc: Global,
     start: Start<'_>,
-    shared: &mut Shared<'_>,
+    shared: &mut Shared,
     count: u64,
 ) -> Option<u128> {
     let mut callers = callers_of(alloc, shared, count)?;
@@ -47,8 +47,8 @@ fn time_lanes<R: Threads + Wait + Clock + Sync>(
 fn time_members<R: Threads + Wait + Clock + Sync>(
     rt: &R,
     alloc: Global,
-    shared: &mut Shared<'_>,
-    readers: &mut Vec<Reader<'_>>,
+    shared: &mut Shared,
+    readers: &mut Vec<Reader>,
 ) -> Option<u128> {
     let mut members = members_of(alloc, shared, readers)?;
     let time = driven(rt, shared, &mut members);
@@ -61,9 +61,9 @@ fn over_lane<R: Threads + Wait + Clock + Sync>(
     rt: &R,
     alloc: Global,
     case: Case,
-    shared: &mut Shared<'_>,
+    shared: &mut Shared,
     lane: &mut Lane,
-    readers: &mut Vec<Reader<'_>>,
+    readers: &mut Vec<Reader>,
 ) -> Option<u128> {
     prepares(rt, alloc, shared, lane);
     let ready = AtomicU64::new(0);
@@ -93,8 +93,8 @@ fn over_shared<R: Threads + Wait + Clock + Sync>(
     rt: &R,
     alloc: Global,
     case: Case,
-    shared: &mut Shared<'_>,
-    readers: &mut Vec<Reader<'_>>,
+    shared: &mut Shared,
+    readers: &mut Vec<Reader>,
 ) -> Option<u128> {
     let mut lane = shared.lane().ok()?;
     let time = over_lane(rt, alloc, case, shared, &mut lane, readers);
@@ -103,12 +103,12 @@ fn over_shared<R: Threads + Wait + Clock + Sync>(
 }
 
 /// So many readers, of which the first is given.
-fn readers_of<'a>(
+fn readers_of(
     alloc: Global,
-    keeper: &mut Keeper<'a>,
-    first: Reader<'a>,
+    keeper: &mut Keeper,
+    first: Reader,
     count: u64,
-) -> Result<Vec<Reader<'a>>, AllocError>
+) -> Result<Vec<Reader>, AllocError>
     ensures slots { keeper.new.view.slots ≡ keeper.old.view.slots }
     ensures published { keeper.new.view.published ≡ keeper.old.view.published }
     ensures shape { keeper.new.view.shape ≡ keeper.old.view.shape }
@@ -116,19 +116,22 @@ fn readers_of<'a>(
     let mut readers = Vec::new(alloc);
     readers.push(first)?;
     for _ in 1..count {
-        readers.push(keeper.reader())?;
+        let Some(reader) = keeper.reader() else {
+            return Err(AllocError);
+        };
+        readers.push(reader)?;
     }
     Ok(readers)
 }
 
 /// A manager behind its lock, and so many readers.
-fn shared_with<'a>(
+fn shared_with(
     alloc: Global,
     limits: Limits,
     opening: Opening,
-    pins: &'a Pins,
+    pins: &Pins,
     count: u64,
-) -> Option<(Shared<'a>, Vec<Reader<'a>>)>
+) -> Option<(Shared, Vec<Reader>)>
     requires opens { opening ≡ pins.now }
     requires shape { pins.now.shape ≡ shape_of limits }
 {

@@ -15,9 +15,9 @@ use pin_words::{Keeper, Reader};
 
 /// Makes a call. The reader meets the manager where a slot is reaped of which it holds something; the handles of a wait are
 /// read to where those of the last stood.
-pub fn reply_to<'a>(
-    manager: &mut Manager<Keeper<'a>>,
-    reader: &mut Reader<'a>,
+pub fn reply_to(
+    manager: &mut Manager<Keeper>,
+    reader: &mut Reader,
     handles: &mut ArrayVec<u32, 65>,
     ask: &Ask<'_>,
 ) -> Reply
@@ -110,8 +110,8 @@ pub fn reply_to<'a>(
 }
 
 /// Waits for objects. Of a list that is too long no more than its beginning is asked for: the answer is the same.
-fn wait_for<'a>(
-    manager: &mut Manager<Keeper<'a>>,
+fn wait_for(
+    manager: &mut Manager<Keeper>,
     handles: &mut ArrayVec<u32, 65>,
     thread: u32,
     mode: Mode,
@@ -126,8 +126,8 @@ fn wait_for<'a>(
 
 // What a create asks for is copied where it is lent on: the act that it is a part of can then stay in registers.
 
-fn create_event<'a>(
-    manager: &mut Manager<Keeper<'a>>,
+fn create_event(
+    manager: &mut Manager<Keeper>,
     thread: u32,
     make: &Make<'_>,
     manual: bool,
@@ -139,8 +139,8 @@ fn create_event<'a>(
     manager.create_event(thread, &make, manual, set)
 }
 
-fn create_mutex<'a>(
-    manager: &mut Manager<Keeper<'a>>,
+fn create_mutex(
+    manager: &mut Manager<Keeper>,
     thread: u32,
     make: &Make<'_>,
     owned: bool,
@@ -151,8 +151,8 @@ fn create_mutex<'a>(
     manager.create_mutex(thread, &make, owned)
 }
 
-fn create_semaphore<'a>(
-    manager: &mut Manager<Keeper<'a>>,
+fn create_semaphore(
+    manager: &mut Manager<Keeper>,
     thread: u32,
     make: &Make<'_>,
     initial: i32,
@@ -164,8 +164,8 @@ fn create_semaphore<'a>(
     manager.create_semaphore(thread, &make, initial, max)
 }
 
-fn create_timer<'a>(
-    manager: &mut Manager<Keeper<'a>>,
+fn create_timer(
+    manager: &mut Manager<Keeper>,
     thread: u32,
     make: &Make<'_>,
     manual: bool,

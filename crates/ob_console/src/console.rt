@@ -13,12 +13,12 @@ use std::marker::Model;
 
 /// A manager and a reader of the same pins, and what a script has of them so far.
 #[derive(Drop)]
-pub struct Console<'a> {
-    evaluator: Evaluator<'a>,
+pub struct Console {
+    evaluator: Evaluator,
     held: HeldLine,
 }
 
-impl<'a> Model for Console<'a> {
+impl Model for Console {
     ghost use Rattle.ob_console.specs.Sessions.{ConsoleState};
 
     ghost Value = { ConsoleState };
@@ -26,9 +26,9 @@ impl<'a> Model for Console<'a> {
     ghost view = { λ console. record { point = console.evaluator.point; pending = console.evaluator.pending; held = console.held; lines = console.evaluator.lines } };
 }
 
-impl<'a> Console<'a> {
+impl Console {
     /// No line has come.
-    pub fn new(manager: Manager<Keeper<'a>>, reader: Reader<'a>, output: Output) -> Console<'a>
+    pub fn new(manager: Manager<Keeper>, reader: Reader, output: Output) -> Console
         requires { manager.keeper.table ≡ Some reader.table }
         ensures { result ≡ record { point = point manager.entry reader.entry.view.held; pending = output; held = Some []; lines = 0 } }
     {

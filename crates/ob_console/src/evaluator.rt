@@ -21,16 +21,16 @@ use std::marker::Model;
 
 /// A manager and a reader of the same pins, and the answers that they gave.
 #[derive(Drop)]
-pub struct Evaluator<'a> {
-    manager: Manager<Keeper<'a>>,
-    reader: Reader<'a>,
+pub struct Evaluator {
+    manager: Manager<Keeper>,
+    reader: Reader,
     output: Output,
     /// Where the handles of a wait are read to: a list of its own would be cleared for each.
     handles: ArrayVec<u32, 65>,
     lines: u128,
 }
 
-impl<'a> Model for Evaluator<'a> {
+impl Model for Evaluator {
     ghost use Rattle.std.specs.Prelude.{◌≡◌, Some};
     ghost use Rattle.ob_console.specs.Runs.{point};
     ghost use Rattle.ob_console.specs.Sessions.{Evaluation};
@@ -42,9 +42,9 @@ impl<'a> Model for Evaluator<'a> {
     ghost invariant = { λ evaluator. evaluator.manager.keeper.table ≡ Some evaluator.reader.table };
 }
 
-impl<'a> Evaluator<'a> {
+impl Evaluator {
     /// No line has come.
-    pub fn new(manager: Manager<Keeper<'a>>, reader: Reader<'a>, output: Output) -> Evaluator<'a>
+    pub fn new(manager: Manager<Keeper>, reader: Reader, output: Output) -> Evaluator
         requires { manager.keeper.table ≡ Some reader.table }
         ensures { result ≡ record { point = point manager.entry reader.entry.view.held; pending = output; lines = 0 } }
     {
@@ -184,8 +184,8 @@ impl<'a> Evaluator<'a> {
 }
 
 /// Prints the names of objects.
-fn list<'a, W: Sink>(
-    manager: &Manager<Keeper<'a>>,
+fn list<W: Sink>(
+    manager: &Manager<Keeper>,
     output: &mut Output,
     sink: &mut W,
 ) -> Result<(), NotWritten>

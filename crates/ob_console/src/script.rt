@@ -110,7 +110,7 @@ pub fn run_whole<W: Sink>(
 
 /// Answers a script as one block, from a console of which no line has come.
 fn answer_whole<W: Sink>(
-    console: &mut Console<'_>,
+    console: &mut Console,
     script: &[u8],
     writer: &mut W,
 ) -> Result<(), RunFault>
@@ -135,13 +135,13 @@ fn answer_whole<W: Sink>(
 
 /// A console of which no line has come, over a manager with no process and a reader that holds nothing; none where memory is
 /// wanting.
-fn opened<'a>(
+fn opened(
     alloc: Global,
     limits: Limits,
-    pins: &'a Pins,
+    pins: &Pins,
     opening: Opening,
     writes: u64,
-) -> Option<Console<'a>>
+) -> Option<Console>
     requires same { opening ≡ pins.now }
     requires shape { opening.shape ≡ shape_of limits }
     ensures opens { IfSome result (λ console. IsOpening limits console.point) }
@@ -163,7 +163,7 @@ fn opened<'a>(
 
 /// Answers a script block by block, from a console of which no line has come, with at most so many reads.
 fn answer_all<R: Source, W: Sink>(
-    console: &mut Console<'_>,
+    console: &mut Console,
     block: &mut [u8],
     reads: u64,
     reader: &mut R,

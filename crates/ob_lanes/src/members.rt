@@ -11,13 +11,13 @@ use std::sync::Wait;
 use std::thread::Threads;
 
 /// A manager behind its lock, of which nothing was asked, and so many readers of its pins; none where memory is wanting.
-pub fn started<'a>(
+pub fn started(
     alloc: Global,
     limits: Limits,
-    pins: &'a Pins,
+    pins: &Pins,
     opening: Opening,
     count: usize,
-) -> Option<(Shared<'a>, Vec<Reader<'a>>)>
+) -> Option<(Shared, Vec<Reader>)>
     requires opens { opening ≡ pins.now }
     requires shape { pins.now.shape ≡ shape_of limits }
     requires some { 1 ≤ count }
@@ -37,12 +37,12 @@ pub fn started<'a>(
 }
 
 /// So many readers of a keeper's pins, of which the first is given.
-fn readers_of<'a>(
+fn readers_of(
     alloc: Global,
-    keeper: &mut Keeper<'a>,
-    first: Reader<'a>,
+    keeper: &mut Keeper,
+    first: Reader,
     count: usize,
-) -> Result<Vec<Reader<'a>>, AllocError>
+) -> Result<Vec<Reader>, AllocError>
     requires { 1 ≤ count }
     ensures slots { keeper.new.view.slots ≡ keeper.old.view.slots }
     ensures published { keeper.new.view.published ≡ keeper.old.view.published }
@@ -53,18 +53,21 @@ fn readers_of<'a>(
     readers.push(first)?;
     for number in 1..count {
         let _number = number;
-        readers.push(keeper.reader())?;
+        let Some(reader) = keeper.reader() else {
+            return Err(AllocError);
+        };
+        readers.push(reader)?;
     }
     Ok(readers)
 }
 
 /// A member of the next lane, which does what the script says.
-fn member<'a>(
+fn member(
     alloc: Global,
-    shared: &mut Shared<'_>,
-    reader: Reader<'a>,
+    shared: &mut Shared,
+    reader: Reader,
     script: Script,
-) -> Member<'a>
+) -> Member
     requires { shared.old < 65536 }
     ensures new { IsNew result }
     ensures number { result.lane.number ≡ shared.old }
@@ -83,12 +86,12 @@ fn member<'a>(
 }
 
 /// A member for each script, in the lanes from the next one on. There are as many readers.
-pub fn members_of<'a>(
+pub fn members_of(
     alloc: Global,
-    shared: &mut Shared<'_>,
-    mut readers: Vec<Reader<'a>>,
+    shared: &mut Shared,
+    mut readers: Vec<Reader>,
     scripts: Vec<Script>,
-) -> Result<Vec<Member<'a>>, AllocError>
+) -> Result<Vec<Member>, AllocError>
     requires few { shared.old + vec_len scripts ≤ 65536 }
     requires readers { vec_len readers ≡ vec_len scripts }
     ensures new { IfOk result (λ members. All IsNew members.items) }
@@ -105,10 +108,10 @@ pub fn members_of<'a>(
 }
 
 /// Does the acts of the first member, and then those of the others at once.
-pub fn drive_all<'a, 's, R: Threads + Wait + Sync>(
+pub fn drive_all<R: Threads + Wait + Sync>(
     rt: &R,
-    shared: &Shared<'s>,
-    members: &mut [Member<'a>],
+    shared: &Shared,
+    members: &mut [Member],
 ) -> Result<(), AllocError>
     requires new { All IsNew members.old }
     requires some { 1 ≤ length members.old }
@@ -135,7 +138,7 @@ pub fn room_for(alloc: Global, count: usize) -> Result<Vec<Lane>, AllocError>
 }
 
 /// The lanes of members, where there is room for them.
-pub fn lanes_of(members: Vec<Member<'_>>, mut lanes: Vec<Lane>) -> Vec<Lane>
+pub fn lanes_of(members: Vec<Member>, mut lanes: Vec<Lane>) -> Vec<Lane>
     requires none { vec_len lanes ≡ 0 }
     requires room { vec_len members ≤ vec_capacity lanes }
 {

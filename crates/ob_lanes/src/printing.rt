@@ -60,7 +60,7 @@ fn print_answers<W: Sink>(
 pub fn print_members<W: Sink>(
     output: &mut Output,
     sink: &mut W,
-    members: &[Member<'_>],
+    members: &[Member],
 ) -> Result<(), NotWritten>
     ensures calls { W.calls sink.new + output.new.writes_left ≡ W.calls sink.old + output.old.writes_left }
     ensures faults { W.faults sink.old ≤ W.faults sink.new }

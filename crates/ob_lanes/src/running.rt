@@ -83,11 +83,11 @@ fn run_scripts<R: Threads + Wait + Sync, O: Sink>(
 
 /// Makes the calls of scripts over a manager behind its lock, by a member for each, and prints the answers. Their lanes, for which
 /// there is room before the first call is made.
-fn answer_scripts<'a, R: Threads + Wait + Sync, O: Sink>(
+fn answer_scripts<R: Threads + Wait + Sync, O: Sink>(
     rt: &R,
     alloc: Global,
-    shared: &mut Shared<'a>,
-    readers: Vec<Reader<'a>>,
+    shared: &mut Shared,
+    readers: Vec<Reader>,
     scripts: Vec<Script>,
     output: &mut Output,
     writer: &mut O,
@@ -111,7 +111,7 @@ fn answer_scripts<'a, R: Threads + Wait + Sync, O: Sink>(
 
 /// Closes the lanes, and prints how many calls were made.
 fn close<O: Sink>(
-    shared: Shared<'_>,
+    shared: Shared,
     lanes: Vec<Lane>,
     output: &mut Output,
     writer: &mut O,
@@ -132,7 +132,7 @@ fn close<O: Sink>(
 }
 
 /// How many calls were made, where the lanes are whole. What is closed goes here, and not on each path that prints.
-fn calls_of(shared: Shared<'_>, lanes: Vec<Lane>) -> Option<usize> {
+fn calls_of(shared: Shared, lanes: Vec<Lane>) -> Option<usize> {
     match shared.close(lanes) {
         Ok(closed) => {
             let count = closed.journal.len();

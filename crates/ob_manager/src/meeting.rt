@@ -1,6 +1,7 @@
-ghost use Rattle.std.specs.Prelude.{◌≡◌, ◌<◌, Some};
+ghost use Rattle.std.specs.Prelude.{◌≡◌, ◌<◌, IfSome, IsNone, OnSome, Some};
 ghost use Rattle.pin_core.specs.Holds.{tally, same_id};
 ghost use Rattle.pin_words.specs.Plays.{Show};
+ghost use Rattle.ob_store.specs.Giving.{given_by, with_next};
 ghost use Rattle.ob_store.specs.Meetings.{IsMet};
 ghost use Rattle.ob_store.specs.State.{shape_of};
 ghost use Rattle.ob_manager.specs.Counting.{card};
@@ -11,9 +12,9 @@ use crate::manager::Manager;
 use pin_core::Id;
 use pin_words::{Keeper, Reader};
 
-impl<'a> Manager<Keeper<'a>> {
+impl Manager<Keeper> {
     /// A reader of the same pins sees as many slots, pins and generations as the limits say.
-    pub fn same_shape(&self, reader: &Reader<'a>)
+    pub fn same_shape(&self, reader: &Reader)
         requires { self.now.keeper.table ≡ Some reader.now.table }
         ensures { reader.now.view.shape ≡ shape_of self.now.state.limits }
     {
@@ -22,7 +23,7 @@ impl<'a> Manager<Keeper<'a>> {
     }
 
     /// One look at a slot for a reader of the same pins: what the reader holds there is the keeper's present slot.
-    pub fn meet(&mut self, reader: &mut Reader<'a>, slot: u32)
+    pub fn meet(&mut self, reader: &mut Reader, slot: u32)
         requires slot { slot < self.old.state.limits.slots }
         requires same { self.old.keeper.table ≡ Some reader.old.table }
         ensures look { IsMet self.old.keeper reader.old.view slot reader.new.view }
@@ -35,7 +36,7 @@ impl<'a> Manager<Keeper<'a>> {
     /// What the object of an Id that the reader holds was created as, which is what [`card`](Manager::card) answers: an object
     /// that somebody holds is there, though it may have ended. Where the reader has read the descriptor under its pin, it is
     /// this one. One look at the slot.
-    pub fn inspect(&mut self, reader: &mut Reader<'a>, id: Id) -> Card
+    pub fn inspect(&mut self, reader: &mut Reader, id: Id) -> Card
         requires held { 0 < tally (same_id id) reader.old.view.held }
         requires same { self.old.keeper.table ≡ Some reader.old.table }
         ensures card { card self.old.state id ≡ Some result }
@@ -50,5 +51,14 @@ impl<'a> Manager<Keeper<'a>> {
             Some(card) => card,
             None => unreachable!(),
         }
+    }
+
+    /// A further reader of the same pins, which holds nothing. [`None`] where 2^63 readers are.
+    pub fn reader(&mut self) -> Option<Reader>
+        ensures reader { IfSome result (λ r. (r.view ≡ given_by self.old.keeper) × (self.old.keeper.table ≡ Some r.table)) }
+        ensures given { OnSome result (self.new ≡ record self.old { keeper = with_next self.old.keeper }) }
+        ensures none { IsNone result → self.new ≡ self.old }
+    {
+        self.store.reader()
     }
 }

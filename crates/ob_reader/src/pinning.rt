@@ -8,7 +8,7 @@ use pin_words::{Keeper, PinFault, Reader};
 
 /// Pins the slot of an Id once more, and reads its descriptor: [`Reader::try_pin`], and where that succeeds
 /// [`Reader::descr`]. At most three atomic steps.
-pub fn try_descr<'a>(reader: &mut Reader<'a>, id: Id) -> Result<Descr, PinFault>
+pub fn try_descr(reader: &mut Reader, id: Id) -> Result<Descr, PinFault>
     ensures attempts { Attempts reader.old.view id result reader.new.view }
     ensures table { reader.new.table ≡ reader.old.table }
 {
@@ -25,11 +25,7 @@ pub fn try_descr<'a>(reader: &mut Reader<'a>, id: Id) -> Result<Descr, PinFault>
 /// [`PinFault::PinsFull`] where the slot has all its pins; and [`PinFault::Busy`] where another reader changed the slot's word
 /// in between.
 #[tactic(auto, using(crate::proofs::Attempting::no_slot))]
-pub fn pin<'a>(
-    manager: &mut Manager<Keeper<'a>>,
-    reader: &mut Reader<'a>,
-    id: Id,
-) -> Result<Descr, PinFault>
+pub fn pin(manager: &mut Manager<Keeper>, reader: &mut Reader, id: Id) -> Result<Descr, PinFault>
     requires { manager.old.keeper.table ≡ Some reader.old.table }
     ensures pins { Pins manager.old.state reader.old.view.held id result reader.new.view.held }
     ensures same { manager.new ≡ manager.old }
@@ -47,7 +43,7 @@ pub fn pin<'a>(
 }
 
 /// Lets one copy of an Id go: whether there was one.
-pub fn unpin<'a>(reader: &mut Reader<'a>, id: Id) -> bool
+pub fn unpin(reader: &mut Reader, id: Id) -> bool
     ensures unpins { Unpins reader.old.view.held id result reader.new.view.held }
     ensures table { reader.new.table ≡ reader.old.table }
 {
@@ -59,7 +55,7 @@ pub fn unpin<'a>(reader: &mut Reader<'a>, id: Id) -> bool
 }
 
 /// What the object of an Id was created as, where the reader holds a copy of the Id.
-pub fn card<'a>(manager: &mut Manager<Keeper<'a>>, reader: &mut Reader<'a>, id: Id) -> Option<Card>
+pub fn card(manager: &mut Manager<Keeper>, reader: &mut Reader, id: Id) -> Option<Card>
     requires { manager.old.keeper.table ≡ Some reader.old.table }
     ensures shown { result ≡ shown_of manager.old.state reader.old.view.held id }
     ensures same { manager.new ≡ manager.old }

@@ -13,7 +13,7 @@ use pin_words::{Keeper, Reader};
 
 /// [`Manager::reap`], and a meeting where the reader holds something at the slot: that slot isn't taken back.
 #[tactic(auto, using(crate::proofs::StepLaws::step_table, crate::proofs::Sparing::spares_none))]
-pub fn reap<'a>(manager: &mut Manager<Keeper<'a>>, reader: &mut Reader<'a>, slot: u32) -> Reply
+pub fn reap(manager: &mut Manager<Keeper>, reader: &mut Reader, slot: u32) -> Reply
     requires { manager.old.keeper.table ≡ Some reader.old.table }
     ensures step { Step manager.old (Call.Reap slot) result manager.new }
     ensures spares { IfReaped result (SparesHeld reader.old.view.held slot) }

@@ -12,7 +12,7 @@ use std::thread;
 use std::thread::Threads;
 
 /// Makes room for each member's answers.
-fn reserve<'a>(members: &mut [Member<'a>]) -> Result<(), Fault>
+fn reserve(members: &mut [Member]) -> Result<(), Fault>
     requires { All IsNew members.old }
     ensures same { (i : ℕ) (d : Member) → i < length members.old → IsSame (slice_index_or members.old i d) (slice_index_or members.new i d) }
     ensures ok { IfOk result (λ _. All IsReady members.new) }
@@ -27,11 +27,11 @@ fn reserve<'a>(members: &mut [Member<'a>]) -> Result<(), Fault>
 }
 
 /// Drives members that have room for their answers.
-fn drive_ready<'a, 's, R: Threads + Wait + Sync, G: Gate + Sync>(
+fn drive_ready<R: Threads + Wait + Sync, G: Gate + Sync>(
     rt: &R,
-    shared: &Shared<'s>,
+    shared: &Shared,
     gate: &G,
-    members: &mut [Member<'a>],
+    members: &mut [Member],
 )
     requires { All IsReady members.old }
     ensures { (i : ℕ) (d : Member) → i < length members.old → IsDriven (G.may_answer gate.now) (of_places (G.is_told gate.now)) (slice_index_or members.old i d) (slice_index_or members.new i d) }
@@ -56,11 +56,11 @@ fn drive_ready<'a, 's, R: Threads + Wait + Sync, G: Gate + Sync>(
 /// said. The room for the answers is made before the first act: where memory is wanting, nothing is done (8).
 ///
 /// There are at most 64 members, and none has seen anything.
-pub fn drive<'a, 's, R: Threads + Wait + Sync, G: Gate + Sync>(
+pub fn drive<R: Threads + Wait + Sync, G: Gate + Sync>(
     rt: &R,
-    shared: &Shared<'s>,
+    shared: &Shared,
     gate: &G,
-    members: &mut [Member<'a>],
+    members: &mut [Member],
 ) -> Result<(), Fault>
     requires new { All IsNew members.old }
     requires few { length members.old ≤ 64 }

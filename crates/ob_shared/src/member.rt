@@ -15,11 +15,11 @@ use std::sync::Wait;
 
 /// Who makes calls of a [`Shared`] on a thread, by a script.
 #[derive(Drop)]
-pub struct Member<'a> {
+pub struct Member {
     /// Where its calls are listed.
     pub lane: Lane,
     /// What it pins by.
-    pub reader: Reader<'a>,
+    pub reader: Reader,
     /// What it is to do, in this order.
     pub script: Vec<Act>,
     /// What its acts were answered with, in their order.
@@ -45,9 +45,9 @@ fn keep(waits: &mut Vec<u32>, waited: bool, reply: Reply)
 }
 
 /// Makes a copy of a call. Without memory the answer is 8.
-fn ask<'s, R: Wait>(
+fn ask<R: Wait>(
     rt: &R,
-    shared: &Shared<'s>,
+    shared: &Shared,
     lane: &mut Lane,
     waits: &mut Vec<u32>,
     call: &Call,
@@ -68,12 +68,7 @@ fn ask<'s, R: Wait>(
 }
 
 /// Waits for the last wait, and takes it.
-fn block<'s, R: Wait>(
-    rt: &R,
-    shared: &Shared<'s>,
-    lane: &mut Lane,
-    waits: &mut Vec<u32>,
-) -> Option<Reply>
+fn block<R: Wait>(rt: &R, shared: &Shared, lane: &mut Lane, waits: &mut Vec<u32>) -> Option<Reply>
     ensures none { IfNone result ((waits.old.items ≡ []) × (waits.new.items ≡ []) × (lane.new ≡ lane.old)) }
     ensures some { IfSome result (λ reply. Blocks reply lane.old waits.old.items lane.new waits.new.items) }
     ensures number { lane.new.number ≡ lane.old.number }
@@ -87,11 +82,11 @@ fn block<'s, R: Wait>(
 }
 
 /// What an act is answered with.
-fn answer<'a, 's, R: Wait>(
+fn answer<R: Wait>(
     rt: &R,
-    shared: &Shared<'s>,
+    shared: &Shared,
     lane: &mut Lane,
-    reader: &mut Reader<'a>,
+    reader: &mut Reader,
     waits: &mut Vec<u32>,
     act: &Act,
 ) -> Seen
@@ -117,12 +112,7 @@ fn passes<R: Wait, G: Passage>(rt: &R, gate: &G, lane: u32, place: usize) -> boo
 
 /// Does a member's acts, as long as the gate lets it pass.
 #[tactic(auto, using(crate::proofs::Going::goes_on, crate::proofs::Going::run_stopped, crate::proofs::Going::run_whole, crate::proofs::Going::told_none))]
-pub(crate) fn run<'a, 's, R: Wait, G: Passage>(
-    rt: &R,
-    shared: &Shared<'s>,
-    gate: &G,
-    member: &mut Member<'a>,
-)
+pub(crate) fn run<R: Wait, G: Passage>(rt: &R, shared: &Shared, gate: &G, member: &mut Member)
     requires { IsReady member.old }
     ensures { IsDriven (G.may_answer gate.now) (G.is_told gate.now) member.old member.new }
 {

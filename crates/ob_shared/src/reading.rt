@@ -8,11 +8,7 @@ use pin_words::{PinFault, Reader};
 use std::sync::Wait;
 
 /// Pins an object, and reads its descriptor.
-pub(crate) fn pin_descr<'a, R: Wait>(
-    rt: &R,
-    reader: &mut Reader<'a>,
-    id: Id,
-) -> Result<Descr, PinFault>
+pub(crate) fn pin_descr<R: Wait>(rt: &R, reader: &mut Reader, id: Id) -> Result<Descr, PinFault>
     ensures pins { Pins reader.old.view id result reader.new.view }
     ensures table { reader.new.table ≡ reader.old.table }
 {
@@ -21,7 +17,7 @@ pub(crate) fn pin_descr<'a, R: Wait>(
 }
 
 /// Lets a copy of an Id go. Whether it was held.
-pub(crate) fn unpin<'a>(reader: &mut Reader<'a>, id: Id) -> bool
+pub(crate) fn unpin(reader: &mut Reader, id: Id) -> bool
     ensures unpins { Unpins reader.old.view id result reader.new.view }
     ensures table { reader.new.table ≡ reader.old.table }
 {
@@ -33,12 +29,7 @@ pub(crate) fn unpin<'a>(reader: &mut Reader<'a>, id: Id) -> bool
 }
 
 /// The card of a held object.
-pub(crate) fn show<'a, 's, R: Wait>(
-    rt: &R,
-    shared: &Shared<'s>,
-    reader: &Reader<'a>,
-    id: Id,
-) -> Option<Card>
+pub(crate) fn show<R: Wait>(rt: &R, shared: &Shared, reader: &Reader, id: Id) -> Option<Card>
     ensures { Shows reader.now.view id result }
 {
     if !reader.holds(id) {

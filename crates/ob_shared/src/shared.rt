@@ -23,13 +23,13 @@ const PAUSES: u32 = 8;
 
 /// What lies under the lock.
 #[derive(Drop)]
-struct Held<'a> {
-    book: Book<Keeper<'a>>,
+struct Held {
+    book: Book<Keeper>,
     /// How many callers wait for the book to change, so that a call tells nobody where nobody waits.
     waiting: u32,
 }
 
-impl Held<'_> {
+impl Held {
     ghost use Rattle.std.specs.Prelude.{None, slice_index_or};
     ghost use Rattle.ob_waits.specs.Waits.{is_pending};
 
@@ -44,14 +44,14 @@ impl Held<'_> {
 /// A manager behind a lock, with its journal. Whoever gets the lock finds a [`Book`]: the manager is kept, and the journal
 /// replays to its state. Calls are made in lanes. A contract sees how many lanes there are.
 #[derive(Drop)]
-pub struct Shared<'a> {
-    held: Mutex<Held<'a>>,
+pub struct Shared {
+    held: Mutex<Held>,
     changed: Condvar,
     alloc: Global,
     lanes: u32,
 }
 
-impl<'a> Model for Shared<'a> {
+impl Model for Shared {
     ghost use Rattle.std.specs.Prelude.{ℕ};
 
     ghost Value = { ℕ };
@@ -59,7 +59,7 @@ impl<'a> Model for Shared<'a> {
     ghost view = { λ shared. shared.lanes };
 }
 
-impl<'a> Shared<'a> {
+impl Shared {
     ghost use Rattle.std.specs.Prelude.{ℕ, List, ◌≡◌, ◌≢◌, ◌+◌, ◌<◌, ◌≤◌, [], None, IfOk, IfErr, IfSome, slice_index_or};
     ghost use Rattle.ob_rights.specs.declared.fault.Fault.TheVariants.{Limit, Memory};
     ghost use Rattle.pin_core.specs.Holds.{tally, same_id};
@@ -75,7 +75,7 @@ impl<'a> Shared<'a> {
     ghost use Rattle.ob_shared.specs.Lanes.{Lists};
 
     /// A manager of which no call was made, and no lane.
-    pub fn new(alloc: Global, manager: Manager<Keeper<'a>>) -> Shared<'a>
+    pub fn new(alloc: Global, manager: Manager<Keeper>) -> Shared
         requires { manager.state ≡ opening manager.state.limits }
         ensures { result ≡ 0 }
     {
@@ -109,7 +109,7 @@ impl<'a> Shared<'a> {
     /// with a longer pause behind each, before the caller waits for it. Whoever asks takes the lock's word out of the cache of the
     /// one that holds it, so the pauses soon are longer than many calls.
     #[inline(never)]
-    fn lock<R: Wait>(&self, rt: &R) -> MutexGuard<'_, Held<'a>> {
+    fn lock<R: Wait>(&self, rt: &R) -> MutexGuard<'_, Held> {
         let mut pauses = PAUSES;
         for _ in 0..LOOKS {
             if let Some(held) = self.held.try_lock() {
@@ -231,7 +231,7 @@ impl<'a> Shared<'a> {
     }
 
     /// What the object of an Id was created as, which the reader holds: as [`Manager::card`] answers it under the lock.
-    pub fn inspect<'r, R: Wait>(&self, rt: &R, reader: &Reader<'r>, id: Id) -> Option<Card>
+    pub fn inspect<R: Wait>(&self, rt: &R, reader: &Reader, id: Id) -> Option<Card>
         requires { 0 < tally (same_id id) reader.now.view.held }
         ensures { IfSome result (λ card. card.id ≡ id) }
     {
@@ -242,13 +242,13 @@ impl<'a> Shared<'a> {
     /// The manager and its journal, where the lanes that are handed in are whole: they have the numbers that were given, each
     /// once, each entry of the journal is of one of them, and the list of each is its part of the journal. Otherwise all is
     /// handed back, with the first cause why not, which is what [`Book::cause`] says of the book under the lock.
-    pub fn close(self, lanes: Vec<Lane>) -> Result<Closed<'a>, NotClosed<'a>>
+    pub fn close(self, lanes: Vec<Lane>) -> Result<Closed, NotClosed>
         ensures kept { IfOk result (λ closed. IsConsistent closed.manager) }
         ensures history { IfOk result (λ closed. IsHistory closed.journal.items closed.manager) }
         ensures state { IfOk result (λ closed. closed.manager.state ≡ replay (opening closed.manager.state.limits) closed.journal.items) }
-        ensures whole { IfOk result (λ closed. AreWhole self.entry lanes.items closed.journal.items) }
-        ensures cause { IfErr result (λ refused. (journal : List Entry) × (w : Whole) × IsHistory journal w × IsCause self.entry lanes.items journal refused.cause) }
-        ensures back { IfErr result (λ refused. (refused.shared ≡ self.entry) × (refused.lanes ≡ lanes)) }
+        ensures whole { IfOk result (λ closed. AreWhole self lanes.items closed.journal.items) }
+        ensures cause { IfErr result (λ refused. (journal : List Entry) × (w : Whole) × IsHistory journal w × IsCause self lanes.items journal refused.cause) }
+        ensures back { IfErr result (λ refused. (refused.shared ≡ self) × (refused.lanes ≡ lanes)) }
     {
         let Shared {
             held,
@@ -280,18 +280,18 @@ impl<'a> Shared<'a> {
 
 /// What a [`Shared`] was, once its lanes are whole.
 #[derive(Drop)]
-pub struct Closed<'a> {
+pub struct Closed {
     /// The manager.
-    pub manager: Manager<Keeper<'a>>,
+    pub manager: Manager<Keeper>,
     /// Its calls, in the order in which they were made.
     pub journal: Vec<Entry>,
 }
 
 /// A [`Shared`] that isn't closed, with all that was handed in.
 #[derive(Drop)]
-pub struct NotClosed<'a> {
+pub struct NotClosed {
     /// What was to be closed.
-    pub shared: Shared<'a>,
+    pub shared: Shared,
     /// The lanes that were handed in.
     pub lanes: Vec<Lane>,
     /// Why it isn't closed.

@@ -18,3 +18,4 @@ pub mod Meetings
 pub mod Signaled
 pub mod Consistent
 pub mod Stored
+pub mod Giving

@@ -1,6 +1,6 @@
 -- A reply, its step and what is told of it.
 use Rattle.std.proofs.Common.{◌≡◌, ℕ}
-use Rattle.pin_words.specs.Keepers.{ReclaimsLocked}
+use Rattle.pin_words.specs.Keepers.{ReclaimsFound}
 use Rattle.ob_store.specs.State.{Whole}
 use Rattle.ob_manager.specs.declared.call.Call.{Call}
 use Rattle.ob_manager.specs.declared.call.Call.TheVariants as calls
@@ -19,5 +19,5 @@ pub tells_as : {V : Type 0} {value_of : Reply → V → V} {old new : Whole} {ca
 tells_as {reply = reply} step told value = record { reply = reply; step = step; told = told; value = value }
 
 pub reaps : {slot : ℕ} {old new : Whole} {reply : Reply} {status : ℕ} {before after : Reaping} → Step old (calls.Reap slot) reply new
-    → IfReaped reply (λ outcome. ReclaimsLocked old.keeper slot outcome new.keeper) → status ≡ status_of reply → after ≡ reaping_in reply before → ReapsTold slot old status new before after
+    → IfReaped reply (λ outcome. ReclaimsFound old.keeper slot outcome new.keeper) → status ≡ status_of reply → after ≡ reaping_in reply before → ReapsTold slot old status new before after
 reaps {reply = reply} step exact told value = record { reply = reply; step = step; exact = exact; told = told; value = value }

@@ -38,11 +38,17 @@ pub use Rattle.std.specs.Box.Ownership.{box_owns}
 use Rattle.std.specs.contracts.alloc.Global as heap
 use Rattle.std.specs.contracts.impls.GlobalAllocator.TheImpl.{ghosts, dict}
 use Rattle.std.proofs.alloc.Global.TheLaws as heap_laws
-use Rattle.obman_c.specs.contracts.held.Held as held
-use Rattle.obman_c.proofs.held.Held.TheLaws as held_laws
+use Rattle.obman_c.specs.contracts.owned.OwnedManager as held
+use Rattle.obman_c.proofs.owned.OwnedManager.TheLaws as manager_laws
+use Rattle.obman_c.specs.contracts.owned.OwnedReader as hand
+use Rattle.obman_c.proofs.owned.OwnedReader.TheLaws as reader_laws
 pub use Rattle.std.proofs.BoxSteps.Form.{Bx, D, B, R, P, τ, box_ty, handle, word, box_typed}
 pub use Rattle.std.proofs.BoxSteps.Steps.{box_out, box_in}
 
 -- a box of a manager on C's heap
 abbrev pub of_manager : Bx
-of_manager = record { row = held.the_row; laws = held_laws.the_row_laws; al = record { row = heap.the_row; laws = heap_laws.the_row_laws; g = ghosts; d = dict; drops = impl [] tnil dnil } }
+of_manager = record { row = held.the_row; laws = manager_laws.the_row_laws; al = record { row = heap.the_row; laws = heap_laws.the_row_laws; g = ghosts; d = dict; drops = impl [] tnil dnil } }
+
+-- a box of a reader
+abbrev pub of_reader : Bx
+of_reader = record { row = hand.the_row; laws = reader_laws.the_row_laws; al = record { row = heap.the_row; laws = heap_laws.the_row_laws; g = ghosts; d = dict; drops = impl [] tnil dnil } }

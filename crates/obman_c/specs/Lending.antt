@@ -1,12 +1,12 @@
 -- What an owner ends as, once the manager that it lent is given back.
 use Rattle.std.specs.Borrow.{Fml, Lends, MutBor}
-use Rattle.obman_c.specs.declared.held.Held.{Held}
+use Rattle.obman_c.specs.declared.owned.OwnedManager.{OwnedManager}
 use Rattle.obman_c.specs.declared.owner.Owner.{Owner}
-use Rattle.obman_c.specs.contracts.held.Held as held
+use Rattle.obman_c.specs.contracts.owned.OwnedManager as held
 use Rattle.obman_c.specs.contracts.owner.Owner as owner
 
-abbrev pub with_value : Owner → Held → Owner
+abbrev pub with_value : Owner → OwnedManager → Owner
 with_value o value = record { at = o.at; alloc = o.alloc; value = value }
 
-abbrev pub LendsHeld : MutBor Owner → MutBor Held → Fml
-LendsHeld s r = Lends owner.the_row held.the_row s r (with_value s.now)
+abbrev pub LendsManager : MutBor Owner → MutBor OwnedManager → Fml
+LendsManager s r = Lends owner.the_row held.the_row s r (with_value s.now)

@@ -7,7 +7,7 @@ use Rattle.std.specs.Box.Ownership.{box_owns}
 use Rattle.std.specs.Coded.{coded_option}
 use Rattle.std.specs.declared.alloc.Global.{Global}
 use Rattle.std.specs.contracts.impls.GlobalAllocator.TheImpl.{ghosts}
-use Rattle.obman_c.specs.contracts.held.Held.{the_row}
+use Rattle.obman_c.specs.contracts.owned.OwnedManager.{the_row}
 
 abbrev pub owner_owns : Global → Ptr → the_row.Denot → Fml
 owner_owns alloc = box_owns (ghosts.dealloc_token alloc) the_row
@@ -16,8 +16,8 @@ abbrev pub place_owns : Global → Ptr → Option the_row.Denot → Fml
 place_owns alloc at None = ftrue
 place_owns alloc at (Some held) = owner_owns alloc at held
 
-abbrev pub held_coded : Coded the_row.Denot
-held_coded = the_row.coded
+abbrev pub manager_coded : Coded the_row.Denot
+manager_coded = the_row.coded
 
 abbrev pub place_coded : Coded (Option the_row.Denot)
-place_coded = coded_option held_coded
+place_coded = coded_option manager_coded

@@ -16,11 +16,14 @@
 
 mod creating;
 mod handles;
-mod held;
 mod opening;
+mod owned;
 mod owner;
+mod parts;
 mod pinning;
 mod processes;
+mod reader_owner;
+mod readers;
 mod reading;
 mod reaping;
 mod signaling;

@@ -1,16 +1,18 @@
 //! A manager's beginning and its end.
-ghost use Rattle.std.specs.Prelude.{◌≡◌, [], IfErr, IfOk, replicate};
-ghost use Rattle.pin_core.specs.Worlds.{opening_slot};
-ghost use Rattle.pin_words.specs.Keepers.{locked};
+ghost use Rattle.std.specs.Prelude.{◌≡◌, IfErr, IfOk};
+ghost use Rattle.pin_core.specs.Shapes.{IsWithinLimits};
+ghost use Rattle.pin_words.specs.Seats.{TableState};
 ghost use Rattle.ob_store.specs.State.{shape_of};
-ghost use Rattle.obman_c.specs.Opening.{Opens, new_manager};
+ghost use Rattle.obman_c.specs.declared.owned.OwnedManager.{OwnedManager};
+ghost use Rattle.obman_c.specs.Opening.{Opens, new_keeper, new_manager};
 
-use crate::held::Held;
+use crate::owned::OwnedManager;
 use crate::owner::{Owner, Place};
 use ob_manager::{Limits, Manager};
 use ob_rights::{Fault, code_of};
 use obman_c_base::{Bounds, SUCCESS, limits_of};
-use pin_words::LockedPins;
+use pin_core::Shape;
+use pin_words::{Keeper, Pins};
 use std::alloc::Global;
 
 /// A new manager, at a place of C's: 0, 87 where a limit is out of its range, or 8. What stood at the place isn't read.
@@ -38,13 +40,26 @@ pub extern "C" fn om_free(owner: Owner) {
 }
 
 /// A new manager in a box of its own.
-fn held(alloc: Global, limits: Limits) -> Result<Box<Held>, Fault>
-    ensures new { IfOk result (λ held. held.value ≡ record { manager = new_manager limits }) }
+fn held(alloc: Global, limits: Limits) -> Result<Box<OwnedManager>, Fault>
+    ensures new { IfOk result (λ held. (t : TableState) × (held.value ≡ record { manager = new_manager limits t })) }
     ensures memory { IfErr result (λ fault. fault ≡ Fault.Memory) }
 {
-    let keeper = LockedPins::new(alloc, limits.shape())?;
+    let keeper = keeper(alloc, limits.shape())?;
     match Manager::new(alloc, limits, keeper) {
-        Ok(manager) => Ok(Box::new(alloc, Held { manager })?),
+        Ok(manager) => Ok(Box::new(alloc, OwnedManager { manager })?),
+        Err(_) => Err(Fault::Memory),
+    }
+}
+
+/// A keeper over words of its own, which are given back with it and the last reader.
+fn keeper(alloc: Global, shape: Shape) -> Result<Keeper, Fault>
+    requires { IsWithinLimits shape }
+    ensures new { IfOk result (λ keeper. (t : TableState) × (keeper ≡ new_keeper shape t)) }
+    ensures memory { IfErr result (λ fault. fault ≡ Fault.Memory) }
+{
+    let (pins, opening) = Pins::new(alloc, shape)?;
+    match opening.start(&pins) {
+        Ok((keeper, _)) => Ok(keeper),
         Err(_) => Err(Fault::Memory),
     }
 }

@@ -2,13 +2,11 @@
 //! that leads to memory of Rust's. In proofs each has the manager as its value.
 ghost use Rattle.std.specs.Prelude.{◌≡◌, Option, Some};
 ghost use Rattle.std.specs.Borrow.{sem};
-ghost use Rattle.obman_c.specs.declared.held.Held.{Held};
-ghost use Rattle.obman_c.specs.Owning.{held_coded, owner_owns, place_coded, place_owns};
+ghost use Rattle.obman_c.specs.declared.owned.OwnedManager.{OwnedManager};
+ghost use Rattle.obman_c.specs.Owning.{manager_coded, owner_owns, place_coded, place_owns};
 
-mod parts;
-
-use crate::held::Held;
-use parts::Parts;
+use crate::owned::OwnedManager;
+use crate::parts::Parts;
 use std::alloc::Global;
 use std::marker::Model;
 
@@ -18,7 +16,7 @@ use std::marker::Model;
 pub struct Owner {
     at: *mut u8,
     alloc: Global,
-    pub ghost value: { Held } by { held_coded },
+    pub ghost value: { OwnedManager } by { manager_coded },
 }
 
 impl Model for Owner {
@@ -31,7 +29,7 @@ impl Model for Owner {
 pub struct Place {
     at: *mut u8,
     alloc: Global,
-    pub ghost value: { Option Held } by { place_coded },
+    pub ghost value: { Option OwnedManager } by { place_coded },
 }
 
 impl Model for Place {
@@ -42,29 +40,29 @@ impl Model for Place {
 unsafe impl Send for Owner {}
 
 impl Owner {
-    ghost use Rattle.obman_c.specs.Lending.{LendsHeld};
+    ghost use Rattle.obman_c.specs.Lending.{LendsManager};
 
     /// The manager, lent.
-    pub fn lend(&mut self) -> &mut Held
-        ensures* writes_back { sem 𝓛 (LendsHeld self.entry result) }
+    pub fn lend(&mut self) -> &mut OwnedManager
+        ensures* writes_back { sem 𝓛 (LendsManager self.entry result) }
         ensures value { result.now ≡ self.old.value }
     {
-        unsafe { &mut *(self.at as *mut Held) }
+        unsafe { &mut *(self.at as *mut OwnedManager) }
     }
 
     /// The manager in its box.
-    pub fn into_box(self) -> Box<Held>
+    pub fn into_box(self) -> Box<OwnedManager>
         ensures { result.value ≡ self.value }
     {
         self.into_parts().into_box()
     }
 
-    fn into_parts(self) -> Parts<Held, Global>
+    fn into_parts(self) -> Parts<OwnedManager, Global>
         ensures { result.value ≡ self.value }
     {
         let Owner { at, alloc } = self;
         Parts {
-            at: at as *mut Held,
+            at: at as *mut OwnedManager,
             alloc,
         }
     }
@@ -72,13 +70,13 @@ impl Owner {
 
 impl Place {
     /// A place with the manager of a box.
-    pub fn of(held: Box<Held>) -> Place
+    pub fn of(held: Box<OwnedManager>) -> Place
         ensures { result.value ≡ Some held.value }
     {
         Place::of_parts(Parts::of(held))
     }
 
-    fn of_parts(parts: Parts<Held, Global>) -> Place
+    fn of_parts(parts: Parts<OwnedManager, Global>) -> Place
         ensures { result.value ≡ Some parts.value }
     {
         let Parts { at, alloc } = parts;

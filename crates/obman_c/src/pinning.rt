@@ -1,10 +1,9 @@
-//! Pins of the one holder that a manager knows, and what objects were created as.
-ghost use Rattle.std.specs.Prelude.{◌≡◌, ◌<◌, ◌↔◌, IsTrue};
-ghost use Rattle.pin_core.specs.Holds.{same_id, tally};
+//! Ids, the numbers of refused pins, and what objects were created as.
+ghost use Rattle.std.specs.Prelude.{◌≡◌};
 ghost use Rattle.ob_rights.specs.declared.kind.Kind.TheVariants as kind;
 ghost use Rattle.ob_manager.specs.Counting.{card};
 ghost use Rattle.obman_c.specs.Finding.{Describes, description_of, kind_number};
-ghost use Rattle.obman_c.specs.Pinning.{PinsTold, UnpinsTold, id_at, pin_status};
+ghost use Rattle.obman_c.specs.Pinning.{id_at, pin_status};
 
 use crate::owner::Owner;
 use ob_manager::Card;
@@ -28,15 +27,15 @@ pub struct Description {
 }
 
 /// The Id of a slot's generation.
-fn id_at(slot: u32, generation: u32) -> Id
+pub(crate) fn id_at(slot: u32, generation: u32) -> Id
     ensures { result ≡ id_at slot generation }
 {
     Id { slot, generation }
 }
 
 /// The number of a refused pin: 87 for no such slot, 1168 where the object isn't there yet, 6 where it has ended, 1450 where the
-/// slot has all its pins, 1816 where the holder has 16 copies, and 170, which is never answered under a lock.
-fn number_of(fault: PinFault) -> u32
+/// slot has all its pins, 1816 where the reader has 16 copies, and 170 where the word changed in between.
+pub(crate) fn number_of(fault: PinFault) -> u32
     ensures { result ≡ pin_status fault }
 {
     match fault {
@@ -49,43 +48,8 @@ fn number_of(fault: PinFault) -> u32
     }
 }
 
-/// [`Manager::pin_locked`](ob_manager::Manager::pin_locked): 0, 87, 1816, 1168, 6 or 1450.
-#[tactic(auto, using(crate::proofs::Pinned::pinned, crate::proofs::Pinned::refused))]
-#[unsafe(no_mangle)]
-pub extern "C" fn om_pin(owner: &mut Owner, slot: u32, generation: u32) -> u32
-    ensures { PinsTold (id_at slot generation) owner.old.value.manager result owner.new.value.manager }
-{
-    match owner.lend().manager.pin_locked(id_at(slot, generation)) {
-        Ok(()) => SUCCESS,
-        Err(fault) => number_of(fault),
-    }
-}
-
-/// [`Manager::unpin_locked`](ob_manager::Manager::unpin_locked), where a copy of the Id is held: 0, else 6.
-#[unsafe(no_mangle)]
-pub extern "C" fn om_unpin(owner: &mut Owner, slot: u32, generation: u32) -> u32
-    ensures { UnpinsTold (id_at slot generation) owner.old.value.manager result owner.new.value.manager }
-{
-    let id = id_at(slot, generation);
-    let manager = &mut owner.lend().manager;
-    if !manager.holds_locked(id) {
-        return code_of(Fault::Handle);
-    }
-    manager.unpin_locked(id);
-    SUCCESS
-}
-
-/// [`Manager::holds_locked`](ob_manager::Manager::holds_locked).
-#[unsafe(no_mangle)]
-pub extern "C" fn om_holds(owner: &mut Owner, slot: u32, generation: u32) -> bool
-    ensures held { IsTrue result ↔ (0 < tally (same_id (id_at slot generation)) owner.old.value.manager.keeper.held) }
-    ensures same { owner.new.value ≡ owner.old.value }
-{
-    owner.lend().manager.holds_locked(id_at(slot, generation))
-}
-
 /// The number of a kind.
-fn number_of_kind(kind: Kind) -> u32
+pub(crate) fn number_of_kind(kind: Kind) -> u32
     ensures { result ≡ kind_number kind }
 {
     match kind {
@@ -97,7 +61,7 @@ fn number_of_kind(kind: Kind) -> u32
 }
 
 /// A card as C is told of it.
-fn description_of(card: Card) -> Description
+pub(crate) fn description_of(card: Card) -> Description
     ensures { result ≡ description_of card }
 {
     Description {

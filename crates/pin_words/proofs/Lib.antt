@@ -8,3 +8,4 @@ pub mod Calls
 pub mod Locking
 pub mod LawOfSteps
 pub mod Fieldless
+pub mod Owned

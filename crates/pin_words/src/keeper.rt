@@ -1,35 +1,37 @@
 ghost use Rattle.std.specs.Prelude.{◌≡◌, ◌+◌, ◌≤◌, length};
+ghost use Rattle.std.specs.Arc.{arc_value};
 ghost use Rattle.pin_words.specs.Views.{IsKeepers, keeper_of};
 
 use crate::pin_keeper::{PinKeeper, Reclaim};
-use crate::plays::{
-    Apart, Blank, Closes, Gives, Looks, PinRule, Publishing, Reclaiming, Storing, Together,
-};
+use crate::pins::Words;
+use crate::plays::{Apart, Blank, Closes, Gives, Looks, Publishing, Reclaiming, Storing, Together};
 use crate::reader::Reader;
 use crate::view::View;
-use atomic_table::{Seat, Shared};
+use atomic_table::Seat;
 use pin_core::{CLOSING_BIT, Descr, LIVE_BIT, Phase, Shape, Slot, Word};
+use std::alloc::Global;
 use std::marker::Model;
 use std::mem;
+use std::sync::Arc;
 
 /// Who publishes, closes and reclaims slots. There is one for each [`Pins`](crate::Pins).
 #[derive(Drop)]
-pub struct Keeper<'a> {
-    shared: &'a Shared<(), View, Shape, PinRule>,
+pub struct Keeper {
+    words: Arc<Words, Global>,
     shape: Shape,
     seat: Seat<(), View>,
     slots: Vec<Slot>,
-    ghost keyed: { shared.now.key ≡ shape },
-    ghost wide: { shared.now.table_id.words ≡ shape.slots + shape.slots },
+    ghost keyed: { (arc_value words).shared.key ≡ shape },
+    ghost wide: { (arc_value words).shared.table_id.words ≡ shape.slots + shape.slots },
     ghost some: { 1 ≤ shape.slots },
-    ghost seated: { seat.table_id ≡ shared.now.table_id },
+    ghost seated: { seat.table_id ≡ (arc_value words).shared.table_id },
     ghost keeps: { IsKeepers seat.me },
     ghost shaped: { (keeper_of seat.me.0).shape ≡ shape },
     ghost knows: { (keeper_of seat.me.0).slots ≡ slots.items },
     ghost long: { length slots.items ≡ shape.slots },
 }
 
-impl<'a> Model for Keeper<'a> {
+impl Model for Keeper {
     ghost use Rattle.pin_words.specs.Seats.{KeeperSeat};
     ghost use Rattle.pin_words.specs.Views.{keeper_of};
 
@@ -38,8 +40,9 @@ impl<'a> Model for Keeper<'a> {
     ghost view = { λ k. record { table = record { id = k.seat.table_id; shape = k.shape }; view = keeper_of k.seat.me.0 } };
 }
 
-impl<'a> Keeper<'a> {
-    ghost use Rattle.std.specs.Prelude.{◌≡◌, ◌+◌, ◌<◌, ◌≤◌, true, length};
+impl Keeper {
+    ghost use Rattle.std.specs.Prelude.{◌≡◌, ◌+◌, ◌<◌, ◌≤◌, true, length, IfSome, IsNone, OnSome};
+    ghost use Rattle.std.specs.Arc.{arc_value};
     ghost use Rattle.pin_core.specs.declared.id.Id.{Id};
     ghost use Rattle.pin_core.specs.declared.word.Phase.TheVariants.{Free, Live, Closing};
     ghost use Rattle.pin_core.specs.Descrs.{IsGiven};
@@ -51,15 +54,15 @@ impl<'a> Keeper<'a> {
     ghost use Rattle.pin_words.specs.Tries.{Reclaims, Met};
 
     pub(crate) fn of_parts(
-        shared: &'a Shared<(), View, Shape, PinRule>,
+        words: Arc<Words, Global>,
         shape: Shape,
         seat: Seat<(), View>,
         slots: Vec<Slot>,
-    ) -> Keeper<'a>
-        requires keyed { shared.now.key ≡ shape }
-        requires wide { shared.now.table_id.words ≡ shape.slots + shape.slots }
+    ) -> Keeper
+        requires keyed { (arc_value words).shared.key ≡ shape }
+        requires wide { (arc_value words).shared.table_id.words ≡ shape.slots + shape.slots }
         requires some { 1 ≤ shape.slots }
-        requires seated { seat.table_id ≡ shared.now.table_id }
+        requires seated { seat.table_id ≡ (arc_value words).shared.table_id }
         requires keeps { IsKeepers seat.me }
         requires shaped { (keeper_of seat.me.0).shape ≡ shape }
         requires knows { (keeper_of seat.me.0).slots ≡ slots.items }
@@ -67,7 +70,7 @@ impl<'a> Keeper<'a> {
         ensures { result ≡ record { table = record { id = seat.table_id; shape = shape }; view = keeper_of seat.me.0 } }
     {
         Keeper {
-            shared,
+            words,
             shape,
             seat,
             slots,
@@ -84,7 +87,7 @@ impl<'a> Keeper<'a> {
     }
 
     /// The readers and the keeper of one table have one shape.
-    pub fn same_shape(&self, reader: &Reader<'a>)
+    pub fn same_shape(&self, reader: &Reader)
         requires { reader.now.table ≡ self.now.table }
         ensures { reader.now.view.shape ≡ self.now.view.shape }
     {
@@ -117,7 +120,8 @@ impl<'a> Keeper<'a> {
         ensures table { self.new.table ≡ self.old.table }
     {
         let place = self.shape.slots as usize + slot as usize;
-        self.shared
+        self.words
+            .shared
             .store::<Storing>(&mut self.seat, place, descr.encode());
         let was = self.slots[slot as usize];
         self.slots[slot as usize] = Slot { descr, ..was };
@@ -130,7 +134,8 @@ impl<'a> Keeper<'a> {
         ensures view { self.new.view ≡ keeper_published self.old.view slot }
         ensures table { self.new.table ≡ self.old.table }
     {
-        self.shared
+        self.words
+            .shared
             .fetch_or::<Publishing>(&mut self.seat, slot as usize, LIVE_BIT);
         let was = self.slots[slot as usize];
         self.slots[slot as usize] = Slot {
@@ -146,7 +151,8 @@ impl<'a> Keeper<'a> {
         ensures view { self.new.view ≡ keeper_closed self.old.view slot }
         ensures table { self.new.table ≡ self.old.table }
     {
-        self.shared
+        self.words
+            .shared
             .fetch_or::<Closes>(&mut self.seat, slot as usize, CLOSING_BIT);
         let was = self.slots[slot as usize];
         self.slots[slot as usize] = Slot {
@@ -175,7 +181,7 @@ impl<'a> Keeper<'a> {
             phase: next.phase,
             pins: 0,
         };
-        let found = self.shared.compare_exchange::<Reclaiming>(
+        let found = self.words.shared.compare_exchange::<Reclaiming>(
             &mut self.seat,
             slot as usize,
             expected.encode(),
@@ -196,7 +202,7 @@ impl<'a> Keeper<'a> {
     /// One look at the slot for a reader of the same pins, whose seat is joined to the keeper's meanwhile: what
     /// the reader holds there is the keeper's present slot, and the notes are of what was published. Beside the
     /// look there are three more loads, by which the seats are joined and parted.
-    pub fn meet(&mut self, reader: &mut Reader<'a>, slot: u32)
+    pub fn meet(&mut self, reader: &mut Reader, slot: u32)
         requires slot { slot < self.old.view.shape.slots }
         requires same { reader.old.table ≡ self.old.table }
         ensures look { Met self.old.view reader.old.view slot reader.new.view }
@@ -209,25 +215,43 @@ impl<'a> Keeper<'a> {
         ensures view { self.new.view ≡ self.old.view }
         ensures table { (self.new.table ≡ self.old.table) × (reader.new.table ≡ reader.old.table) }
     {
-        let blank = self.shared.split_seat::<Blank>(&mut self.seat);
+        let blank = self.words.shared.split_seat::<Blank>(&mut self.seat);
         let seat = mem::replace(&mut reader.seat, blank);
-        self.shared.join_seat::<Together>(&mut self.seat, seat);
-        self.shared.load::<Looks>(&mut self.seat, slot as usize);
-        reader.seat = self.shared.split_seat::<Apart>(&mut self.seat);
+        self.words
+            .shared
+            .join_seat::<Together>(&mut self.seat, seat);
+        self.words
+            .shared
+            .load::<Looks>(&mut self.seat, slot as usize);
+        reader.seat = self.words.shared.split_seat::<Apart>(&mut self.seat);
     }
 
-    /// A further reader, of the next number, which holds nothing.
-    pub fn reader(&mut self) -> Reader<'a>
+    /// A further reader, of the next number, which holds nothing. [`None`] where 2^63 readers are.
+    pub fn reader(&mut self) -> Option<Reader>
+        ensures given { OnSome result (self.new.view ≡ keeper_gave self.old.view) }
+        ensures reader { IfSome result (λ r. (r.view ≡ reader_given self.old.view) × (r.table ≡ self.old.table)) }
+        ensures none { IsNone result → self.new.view ≡ self.old.view }
+        ensures table { self.new.table ≡ self.old.table }
+    {
+        let Ok(words) = Arc::try_clone(&self.words) else {
+            return None;
+        };
+        Some(self.give(words))
+    }
+
+    pub(crate) fn give(&mut self, words: Arc<Words, Global>) -> Reader
+        requires keyed { (arc_value words).shared.key ≡ self.old.table.shape }
+        requires same { (arc_value words).shared.table_id ≡ self.old.table.id }
         ensures view { self.new.view ≡ keeper_gave self.old.view }
         ensures reader { result.view ≡ reader_given self.old.view }
         ensures table { (self.new.table ≡ self.old.table) × (result.table ≡ self.old.table) }
     {
-        let seat = self.shared.split_seat::<Gives>(&mut self.seat);
-        Reader::of_parts(self.shared, self.shape, seat)
+        let seat = self.words.shared.split_seat::<Gives>(&mut self.seat);
+        Reader::of_parts(words, self.shape, seat)
     }
 }
 
-impl<'a> PinKeeper for Keeper<'a> {
+impl PinKeeper for Keeper {
     ghost use Rattle.pin_words.specs.Keepers.{state_of, ReclaimsFound};
 
     ghost kept = { state_of };

@@ -1,4 +1,5 @@
 ghost use Rattle.std.specs.Prelude.{◌≡◌, ◌≤◌, ◌+◌, []};
+ghost use Rattle.std.specs.Arc.{arc_value};
 ghost use Rattle.pin_words.specs.Views.{opening_view};
 
 use crate::keeper::Keeper;
@@ -10,23 +11,28 @@ use ob_rights::Fault;
 use pin_core::{LIVE_BIT, Shape, Slot};
 use std::alloc::Global;
 use std::marker::Model;
+use std::sync::Arc;
 
-/// The words of the slots: a pin word and a descriptor word each. They live as long as the keeper and readers.
+/// The words of the slots: a pin word and a descriptor word each.
+pub(crate) type Words = Table<(), View, Shape, PinRule, Global>;
+
+/// The words of the slots. The keeper and each reader own them too, and with the last owner they go.
 #[derive(Drop)]
 pub struct Pins {
-    table: Table<(), View, Shape, PinRule, Global>,
+    words: Arc<Words, Global>,
     shape: Shape,
-    ghost keyed: { table.shared.key ≡ shape },
-    ghost wide: { table.shared.table_id.words ≡ shape.slots + shape.slots },
+    ghost keyed: { (arc_value words).shared.key ≡ shape },
+    ghost wide: { (arc_value words).shared.table_id.words ≡ shape.slots + shape.slots },
     ghost some: { 1 ≤ shape.slots },
 }
 
 impl Model for Pins {
+    ghost use Rattle.std.specs.Arc.{arc_value};
     ghost use Rattle.pin_words.specs.Seats.{TableState};
 
     ghost Value = { TableState };
 
-    ghost view = { λ p. record { id = p.table.shared.table_id; shape = p.shape } };
+    ghost view = { λ p. record { id = (arc_value p.words).shared.table_id; shape = p.shape } };
 }
 
 /// The right to start with new pins, once.
@@ -74,7 +80,10 @@ impl Pins {
         let Ok((table, seat)) = Table::of_words(alloc, words.as_slice(), &shape) else {
             return Err(Fault::Memory);
         };
-        Ok((Pins { table, shape }, Opening { seat, shape, alloc }))
+        let Ok(words) = Arc::new(alloc, table) else {
+            return Err(Fault::Memory);
+        };
+        Ok((Pins { words, shape }, Opening { seat, shape, alloc }))
     }
 }
 
@@ -85,7 +94,7 @@ impl Opening {
 
     /// The keeper, and reader 1, and until one of them makes a step the table shows the opening world. Where memory ran
     /// out the right to start comes back.
-    pub fn start<'a>(self, pins: &'a Pins) -> Result<(Keeper<'a>, Reader<'a>), Opening>
+    pub fn start(self, pins: &Pins) -> Result<(Keeper, Reader), Opening>
         requires { self ≡ pins.now }
         ensures keeper { IfOk result (λ r. (r.0.table ≡ self)
             × (r.0.view ≡ keeper_gave (opening_keeper self.shape))) }
@@ -97,14 +106,19 @@ impl Opening {
         let Ok(slots) = vec![in self.alloc; Slot::opening(); self.shape.slots as usize] else {
             return Err(self);
         };
+        let Ok(words) = Arc::try_clone(&pins.words) else {
+            return Err(self);
+        };
+        let Ok(others) = Arc::try_clone(&pins.words) else {
+            return Err(self);
+        };
         let Opening {
             seat,
             shape,
             alloc: _,
         } = self;
-        let shared = &pins.table.shared;
-        let mut keeper = Keeper::of_parts(shared, shape, seat, slots);
-        let reader = keeper.reader();
+        let mut keeper = Keeper::of_parts(words, shape, seat, slots);
+        let reader = keeper.give(others);
         Ok((keeper, reader))
     }
 }

@@ -1,17 +1,20 @@
 ghost use Rattle.std.specs.Prelude.{◌≡◌, ◌+◌, ◌<◌, ◌≤◌, length, position, count_by};
 ghost use Rattle.std.specs.List.{remove};
+ghost use Rattle.std.specs.Arc.{arc_value};
 ghost use Rattle.pin_core.specs.declared.id.Id.{Id};
 ghost use Rattle.pin_core.specs.Holds.{tally, drop_first, same_id};
 ghost use Rattle.pin_words.specs.Views.{IsReaders, reader_of};
 
 use crate::fault::{PinFault, Verdict, judge};
-use crate::plays::{Looks, Noting, PinRule, Pinning, Releasing};
+use crate::pins::Words;
+use crate::plays::{Looks, Noting, Pinning, Releasing};
 use crate::view::View;
 use arrayvec::ArrayVec;
-use atomic_table::{Seat, Shared};
+use atomic_table::Seat;
 use pin_core::{Descr, Id, Shape, Word, same_id};
+use std::alloc::Global;
 use std::marker::Model;
-use std::sync::Wait;
+use std::sync::{Arc, Wait};
 
 fn place_of(held: &[Id], id: Id) -> Option<usize>
     ensures { result ≡ position (same_id id) held.now }
@@ -49,21 +52,21 @@ fn take_out(held: &mut ArrayVec<Id, 16>, place: usize)
 
 /// Who pins slots. It holds at most 16 copies, and its calls take no memory and no lock.
 #[derive(Drop)]
-pub struct Reader<'a> {
-    pub(crate) shared: &'a Shared<(), View, Shape, PinRule>,
+pub struct Reader {
+    words: Arc<Words, Global>,
     shape: Shape,
     pub(crate) seat: Seat<(), View>,
     held: ArrayVec<Id, 16>,
-    ghost keyed: { shared.now.key ≡ shape },
-    ghost wide: { shared.now.table_id.words ≡ shape.slots + shape.slots },
-    ghost seated: { seat.table_id ≡ shared.now.table_id },
+    ghost keyed: { (arc_value words).shared.key ≡ shape },
+    ghost wide: { (arc_value words).shared.table_id.words ≡ shape.slots + shape.slots },
+    ghost seated: { seat.table_id ≡ (arc_value words).shared.table_id },
     ghost reads: { IsReaders seat.me },
     ghost shaped: { (reader_of seat.me.0).shape ≡ shape },
     ghost holds: { (reader_of seat.me.0).held ≡ held.items },
     ghost inside: { (x : Id) → 0 < tally (same_id x) held.items → x.slot < shape.slots },
 }
 
-impl<'a> Model for Reader<'a> {
+impl Model for Reader {
     ghost use Rattle.pin_words.specs.Seats.{ReaderState};
     ghost use Rattle.pin_words.specs.Views.{reader_of};
 
@@ -72,8 +75,9 @@ impl<'a> Model for Reader<'a> {
     ghost view = { λ r. record { table = record { id = r.seat.table_id; shape = r.shape }; view = reader_of r.seat.me.0 } };
 }
 
-impl<'a> Reader<'a> {
+impl Reader {
     ghost use Rattle.std.specs.Prelude.{◌≡◌, ◌≢◌, ◌+◌, ◌<◌, ◌≤◌, ◌↔◌, [], length, IsTrue, OnOk, Err};
+    ghost use Rattle.std.specs.Arc.{arc_value};
     ghost use Rattle.pin_core.specs.declared.word.Word.{Word};
     ghost use Rattle.pin_core.specs.declared.shape.Shape.{Shape};
     ghost use Rattle.pin_core.specs.Words.{decoded};
@@ -86,21 +90,17 @@ impl<'a> Reader<'a> {
     ghost use Rattle.pin_words.specs.Plays.{Tells};
     ghost use Rattle.pin_words.specs.Tries.{Tries, TriesUntilSettled, HasOnlyLooked};
 
-    pub(crate) fn of_parts(
-        shared: &'a Shared<(), View, Shape, PinRule>,
-        shape: Shape,
-        seat: Seat<(), View>,
-    ) -> Reader<'a>
-        requires keyed { shared.now.key ≡ shape }
-        requires wide { shared.now.table_id.words ≡ shape.slots + shape.slots }
-        requires seated { seat.table_id ≡ shared.now.table_id }
+    pub(crate) fn of_parts(words: Arc<Words, Global>, shape: Shape, seat: Seat<(), View>) -> Reader
+        requires keyed { (arc_value words).shared.key ≡ shape }
+        requires wide { (arc_value words).shared.table_id.words ≡ shape.slots + shape.slots }
+        requires seated { seat.table_id ≡ (arc_value words).shared.table_id }
         requires reads { IsReaders seat.me }
         requires shaped { (reader_of seat.me.0).shape ≡ shape }
         requires empty { (reader_of seat.me.0).held ≡ [] }
         ensures { result ≡ record { table = record { id = seat.table_id; shape = shape }; view = reader_of seat.me.0 } }
     {
         Reader {
-            shared,
+            words,
             shape,
             seat,
             held: ArrayVec::new(),
@@ -114,7 +114,9 @@ impl<'a> Reader<'a> {
         ensures tells { Tells self.old.view slot result }
         ensures table { self.new.table ≡ self.old.table }
     {
-        self.shared.load::<Looks>(&mut self.seat, slot as usize)
+        self.words
+            .shared
+            .load::<Looks>(&mut self.seat, slot as usize)
     }
 
     // One more pin where the word is still `found`.
@@ -130,6 +132,7 @@ impl<'a> Reader<'a> {
         // Listed first, since what is written after the exchange delays the next atomic step.
         self.held.push(id);
         let seen = self
+            .words
             .shared
             .compare_exchange::<Pinning>(&mut self.seat, id.slot as usize, found, found + 1);
         if seen != found {
@@ -201,7 +204,8 @@ impl<'a> Reader<'a> {
         ensures view { self.new.view ≡ reader_released self.old.view id }
         ensures table { self.new.table ≡ self.old.table }
     {
-        self.shared
+        self.words
+            .shared
             .fetch_sub::<Releasing>(&mut self.seat, id.slot as usize, 1);
         forget(&mut self.held, id);
     }
@@ -213,7 +217,7 @@ impl<'a> Reader<'a> {
         ensures table { self.new.table ≡ self.old.table }
     {
         let place = self.shape.slots as usize + id.slot as usize;
-        let word = self.shared.load::<Noting>(&mut self.seat, place);
+        let word = self.words.shared.load::<Noting>(&mut self.seat, place);
         match Descr::decode(word) {
             Some(descr) => descr,
             None => unreachable!(),

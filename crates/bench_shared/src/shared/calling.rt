@@ -14,7 +14,7 @@ pub const CALLS: u64 = 20_000;
 const EVENTS: u32 = 64;
 
 /// Threads 1 to 8 of one process, and the events, with one handle for each.
-pub fn prepares<R: Wait>(rt: &R, alloc: Global, shared: &Shared<'_>, lane: &mut Lane) {
+pub fn prepares<R: Wait>(rt: &R, alloc: Global, shared: &Shared, lane: &mut Lane) {
     shared.call(rt, lane, Call::Spawn { session: 1 });
     for _ in 0..7 {
         shared.call(rt, lane, Call::StartThread { process: 1 });
@@ -49,7 +49,7 @@ pub struct Caller {
 }
 
 /// So many callers, each with a lane of its own.
-pub fn callers_of(alloc: Global, shared: &mut Shared<'_>, count: u64) -> Option<Vec<Caller>> {
+pub fn callers_of(alloc: Global, shared: &mut Shared, count: u64) -> Option<Vec<Caller>> {
     let mut callers = Vec::new(alloc);
     for _ in 0..count {
         let lane = shared.lane().ok()?;
@@ -61,7 +61,7 @@ pub fn callers_of(alloc: Global, shared: &mut Shared<'_>, count: u64) -> Option<
 fn calls<R: Wait + Clock>(
     rt: &R,
     start: Start<'_>,
-    shared: &Shared<'_>,
+    shared: &Shared,
     lane: &mut Lane,
 ) -> Option<Span> {
     let began = begin(rt, start)?;
@@ -78,7 +78,7 @@ fn calls<R: Wait + Clock>(
 pub fn lanes_call<R: Threads + Wait + Clock + Sync>(
     rt: &R,
     start: Start<'_>,
-    shared: &Shared<'_>,
+    shared: &Shared,
     callers: &mut [Caller],
 ) -> Option<Span> {
     let threads = callers.len();

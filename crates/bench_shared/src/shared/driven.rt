@@ -10,7 +10,7 @@ use std::thread::Threads;
 use std::time::{Clock, Instant};
 
 /// A member of the next lane, which sets its event again and again.
-fn member<'a>(alloc: Global, shared: &mut Shared<'_>, reader: Reader<'a>) -> Option<Member<'a>> {
+fn member(alloc: Global, shared: &mut Shared, reader: Reader) -> Option<Member> {
     let mut member = Member {
         lane: shared.lane().ok()?,
         reader,
@@ -22,7 +22,7 @@ fn member<'a>(alloc: Global, shared: &mut Shared<'_>, reader: Reader<'a>) -> Opt
 }
 
 /// Fills a member's script.
-fn fill(member: &mut Member<'_>) -> Option<()> {
+fn fill(member: &mut Member) -> Option<()> {
     let number = member.lane.number();
     for _ in 0..CALLS {
         member.script.push(Act::Ask(set(number))).ok()?;
@@ -31,11 +31,11 @@ fn fill(member: &mut Member<'_>) -> Option<()> {
 }
 
 /// A member for each reader.
-pub fn members_of<'a>(
+pub fn members_of(
     alloc: Global,
-    shared: &mut Shared<'_>,
-    readers: &mut Vec<Reader<'a>>,
-) -> Option<Vec<Member<'a>>> {
+    shared: &mut Shared,
+    readers: &mut Vec<Reader>,
+) -> Option<Vec<Member>> {
     let mut members = Vec::new(alloc);
     for _ in 0..readers.len() {
         if let Some(reader) = readers.pop() {
@@ -45,7 +45,7 @@ pub fn members_of<'a>(
     Some(members)
 }
 
-fn all_new(members: &[Member<'_>]) -> bool
+fn all_new(members: &[Member]) -> bool
     ensures { IsTrue result → All IsNew members.now }
 {
     members.iter().all(|member| member.seen.is_empty())
@@ -54,8 +54,8 @@ fn all_new(members: &[Member<'_>]) -> bool
 /// Nanoseconds until all members are driven, their threads' start and end included.
 pub fn driven<R: Threads + Wait + Clock + Sync>(
     rt: &R,
-    shared: &Shared<'_>,
-    members: &mut [Member<'_>],
+    shared: &Shared,
+    members: &mut [Member],
 ) -> Option<u128> {
     if members.len() > 64 || !all_new(members) {
         return None;

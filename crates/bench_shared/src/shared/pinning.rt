@@ -18,20 +18,20 @@ const APART: u32 = 16;
 
 /// Who pins an object of its own, and when.
 #[derive(Drop)]
-pub struct Pinner<'a> {
-    reader: Reader<'a>,
+pub struct Pinner {
+    reader: Reader,
     slot: u32,
     span: Option<Span>,
 }
 
 /// A pinner for each reader.
-pub fn pinners_of<'a>(alloc: Global, readers: &mut Vec<Reader<'a>>) -> Option<Vec<Pinner<'a>>> {
+pub fn pinners_of(alloc: Global, readers: &mut Vec<Reader>) -> Option<Vec<Pinner>> {
     let mut pinners = Vec::new(alloc);
     fill(&mut pinners, readers)?;
     Some(pinners)
 }
 
-fn fill<'a>(pinners: &mut Vec<Pinner<'a>>, readers: &mut Vec<Reader<'a>>) -> Option<()> {
+fn fill(pinners: &mut Vec<Pinner>, readers: &mut Vec<Reader>) -> Option<()> {
     let mut slot = 0;
     for _ in 0..readers.len() {
         if let Some(reader) = readers.pop() {
@@ -47,7 +47,7 @@ fn pins<R: Wait + Clock>(
     rt: &R,
     start: Start<'_>,
     ended: &AtomicU64,
-    reader: &mut Reader<'_>,
+    reader: &mut Reader,
     slot: u32,
 ) -> Option<Span> {
     let id = Id {
@@ -61,7 +61,7 @@ fn pins<R: Wait + Clock>(
     if is_pinned { span } else { None }
 }
 
-fn pins_all<R: Wait>(rt: &R, reader: &mut Reader<'_>, id: Id) -> bool {
+fn pins_all<R: Wait>(rt: &R, reader: &mut Reader, id: Id) -> bool {
     for _ in 0..PAIRS {
         if reader.pin(rt, id).is_err() {
             return false;
@@ -75,7 +75,7 @@ fn all_pin<R: Threads + Wait + Clock + Sync>(
     rt: &R,
     start: Start<'_>,
     ended: &AtomicU64,
-    pinners: &mut [Pinner<'_>],
+    pinners: &mut [Pinner],
 ) -> Option<Span> {
     let threads = pinners.len();
     if threads > 0 {
@@ -100,7 +100,7 @@ fn calls_beside<R: Wait + Clock>(
     rt: &R,
     start: Start<'_>,
     ended: &AtomicU64,
-    shared: &Shared<'_>,
+    shared: &Shared,
     lane: &mut Lane,
 ) {
     let _ = begin(rt, start);
@@ -116,9 +116,9 @@ fn calls_beside<R: Wait + Clock>(
 pub fn readers_pin<R: Threads + Wait + Clock + Sync>(
     rt: &R,
     start: Start<'_>,
-    shared: &Shared<'_>,
+    shared: &Shared,
     lane: &mut Lane,
-    pinners: &mut [Pinner<'_>],
+    pinners: &mut [Pinner],
 ) -> Option<Span> {
     let ended = AtomicU64::new(0);
     let (span, ()) = join(

@@ -50,7 +50,7 @@ trait Counted: PinKeeper {
         ensures { result ≡ (Self.kept self.now).shape.slots };
 }
 
-impl<'a> Counted for Keeper<'a> {
+impl Counted for Keeper {
     fn count(&self) -> u32 {
         self.slots()
     }
@@ -112,7 +112,7 @@ fn is_fresh<K: Counted>(keeper: &K, shape: Shape) -> bool
 }
 
 // The slot of a held Id is one of the keeper's.
-fn meet<'a>(keeper: &mut Keeper<'a>, reader: &mut Reader<'a>, id: Id) -> bool
+fn meet(keeper: &mut Keeper, reader: &mut Reader, id: Id) -> bool
     requires { reader.old.table ≡ keeper.old.table }
     ensures { (keeper.new.table ≡ keeper.old.table) × (reader.new.table ≡ reader.old.table) }
 {
@@ -125,7 +125,7 @@ fn meet<'a>(keeper: &mut Keeper<'a>, reader: &mut Reader<'a>, id: Id) -> bool
     keeper.generation(slot) == id.generation
 }
 
-fn release(reader: &mut Reader<'_>, id: Id) -> bool {
+fn release(reader: &mut Reader, id: Id) -> bool {
     if !reader.holds(id) {
         return false;
     }
@@ -133,7 +133,7 @@ fn release(reader: &mut Reader<'_>, id: Id) -> bool {
     true
 }
 
-fn descr(reader: &mut Reader<'_>, id: Id) -> Option<Descr> {
+fn descr(reader: &mut Reader, id: Id) -> Option<Descr> {
     if !reader.holds(id) {
         return None;
     }
@@ -155,7 +155,7 @@ fn locked_descr(pins: &LockedPins, id: Id) -> Option<Descr> {
     Some(pins.descr(id))
 }
 
-fn spin<R: Wait>(rt: &R, reader: &mut Reader<'_>, id: Id) -> u32 {
+fn spin<R: Wait>(rt: &R, reader: &mut Reader, id: Id) -> u32 {
     let mut losses = 0u32;
     for _ in 0..1000 {
         if reader.pin(rt, id).is_err() || !release(reader, id) {
@@ -185,7 +185,9 @@ fn play(rt: &impl Abort, alloc: Global, shape: Shape, scene: Scene)
         panic!(rt; "no memory")
     };
     holds(rt, is_fresh(&keeper, shape));
-    let mut b = keeper.reader();
+    let Some(mut b) = keeper.reader() else {
+        panic!(rt; "no reader")
+    };
     match scene {
         Scene::Kept => pin_and_close(rt, &mut keeper, &mut a, &mut b),
         Scene::Sixteen => pin_as_often(rt, &mut keeper, &mut a),
@@ -195,11 +197,11 @@ fn play(rt: &impl Abort, alloc: Global, shape: Shape, scene: Scene)
     drop(keeper);
 }
 
-fn pin_and_close<'a>(
+fn pin_and_close(
     rt: &impl Abort,
-    keeper: &mut Keeper<'a>,
-    a: &mut Reader<'a>,
-    b: &mut Reader<'a>,
+    keeper: &mut Keeper,
+    a: &mut Reader,
+    b: &mut Reader,
 ) {
     holds(rt, publish(keeper, 0));
     holds(rt, a.try_pin(FIRST).is_ok());
@@ -221,7 +223,7 @@ fn pin_and_close<'a>(
     pin_the_second(rt, keeper, a);
 }
 
-fn pin_the_second<'a>(rt: &impl Abort, keeper: &mut Keeper<'a>, a: &mut Reader<'a>) {
+fn pin_the_second(rt: &impl Abort, keeper: &mut Keeper, a: &mut Reader) {
     holds(rt, publish(keeper, 0));
     holds(rt, a.try_pin(SECOND).is_ok());
     same(rt, a.try_pin(BESIDE), Err(PinFault::NoSuchSlot));
@@ -233,7 +235,7 @@ fn pin_the_second<'a>(rt: &impl Abort, keeper: &mut Keeper<'a>, a: &mut Reader<'
     same(rt, a.try_pin(THIRD), Err(PinFault::Stale));
 }
 
-fn pin_as_often<'a>(rt: &impl Abort, keeper: &mut Keeper<'a>, reader: &mut Reader<'a>) {
+fn pin_as_often(rt: &impl Abort, keeper: &mut Keeper, reader: &mut Reader) {
     holds(rt, publish(keeper, 0));
     for _ in 0..16 {
         holds(rt, reader.try_pin(FIRST).is_ok());
@@ -303,7 +305,9 @@ fn two_threads_pin_and_release(rt: HostRuntime) -> Result<(), Fail> {
     let Ok((mut keeper, mut a)) = opening.start(&pins) else {
         panic!(rt; "no memory")
     };
-    let mut b = keeper.reader();
+    let Some(mut b) = keeper.reader() else {
+        panic!(rt; "no reader")
+    };
     holds(&rt, publish(&mut keeper, 1));
     let (x, y) = join(
         &rt,
@@ -324,7 +328,7 @@ fn two_threads_pin_and_release(rt: HostRuntime) -> Result<(), Fail> {
 }
 
 // What was given comes back, and serves a second try.
-fn start<'a>(opening: Opening, pins: &'a Pins) -> Option<(Keeper<'a>, Reader<'a>)>
+fn start(opening: Opening, pins: &Pins) -> Option<(Keeper, Reader)>
     requires { opening ≡ pins.now }
     ensures { IfSome result (λ r. (r.0.table ≡ pins.now) × (r.1.table ≡ pins.now)) }
 {
@@ -355,7 +359,7 @@ fn locked(alloc: Global, shape: Shape) -> Result<LockedPins, Fault>
     }
 }
 
-fn meet_twice<'a>(rt: &impl Abort, keeper: &mut Keeper<'a>, reader: &mut Reader<'a>)
+fn meet_twice(rt: &impl Abort, keeper: &mut Keeper, reader: &mut Reader)
     requires { reader.old.table ≡ keeper.old.table }
 {
     if keeper.slots() == 4 {
@@ -384,7 +388,7 @@ fn want_of_memory_gives_back_what_was_given(rt: HostRuntime) -> Result<(), Fail>
 }
 
 /// One of the calls of a keeper and of a reader, about a slot's present Id, and whether it could be made.
-fn call_any(keeper: &mut Keeper<'_>, reader: &mut Reader<'_>, slot: u32, pick: usize) -> bool {
+fn call_any(keeper: &mut Keeper, reader: &mut Reader, slot: u32, pick: usize) -> bool {
     if slot >= keeper.slots() {
         return false;
     }
@@ -404,15 +408,17 @@ fn call_any(keeper: &mut Keeper<'_>, reader: &mut Reader<'_>, slot: u32, pick: u
 }
 
 /// A reader comes and goes.
-fn drop_reader(keeper: &mut Keeper<'_>) -> bool {
-    let reader = keeper.reader();
+fn drop_reader(keeper: &mut Keeper) -> bool {
+    let Some(reader) = keeper.reader() else {
+        return false;
+    };
     let is_free = reader.held().is_empty();
     drop(reader);
     is_free
 }
 
 /// Calls each of them until it was made so often.
-fn call_all(keeper: &mut Keeper<'_>, reader: &mut Reader<'_>, often: u32) -> bool {
+fn call_all(keeper: &mut Keeper, reader: &mut Reader, often: u32) -> bool {
     let mut made = [0u32; 7];
     let mut seed = 1;
     for _ in 0..1_000_000 {
@@ -429,7 +435,7 @@ fn call_all(keeper: &mut Keeper<'_>, reader: &mut Reader<'_>, often: u32) -> boo
 }
 
 /// A reader meets its keeper so often.
-fn meet_often<'a>(keeper: &mut Keeper<'a>, reader: &mut Reader<'a>, often: u32)
+fn meet_often(keeper: &mut Keeper, reader: &mut Reader, often: u32)
     requires { reader.old.table ≡ keeper.old.table }
 {
     for turn in 0..often {

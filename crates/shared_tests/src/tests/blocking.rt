@@ -29,7 +29,7 @@ const WAITS: &[Line<'static>] = &[
 fn sets<R: Wait>(
     rt: &R,
     alloc: Global,
-    shared: &Shared<'_>,
+    shared: &Shared,
     lane: &mut Lane,
 ) -> Result<Reply, Fault> {
     let set = SetEvent {
@@ -40,7 +40,7 @@ fn sets<R: Wait>(
 }
 
 /// Waits for the wait, again where memory was wanting.
-fn blocks<R: Wait>(rt: &R, shared: &Shared<'_>, lane: &mut Lane) -> Reply {
+fn blocks<R: Wait>(rt: &R, shared: &Shared, lane: &mut Lane) -> Reply {
     let reply = shared.block(rt, lane, 1);
     if reply == Reply::Refused(Fault::Memory) {
         return shared.block(rt, lane, 1);
@@ -52,7 +52,7 @@ fn blocks<R: Wait>(rt: &R, shared: &Shared<'_>, lane: &mut Lane) -> Reply {
 fn meets<R: Abort + Wait + Threads + Sync>(
     rt: &R,
     alloc: Global,
-    shared: &Shared<'_>,
+    shared: &Shared,
     waiter: &mut Lane,
     setter: &mut Lane,
 ) -> Result<(), Fault> {
@@ -72,7 +72,7 @@ fn meets<R: Abort + Wait + Threads + Sync>(
 pub(super) fn plays_a_block<R: Abort + Wait + Threads + Sync>(
     rt: &R,
     alloc: Global,
-    shared: &mut Shared<'_>,
+    shared: &mut Shared,
 ) -> Result<Vec<Lane>, Fault> {
     let mut waiter = shared.lane()?;
     let mut setter = shared.lane()?;

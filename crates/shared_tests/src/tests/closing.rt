@@ -50,7 +50,7 @@ impl Case {
 }
 
 /// Closes again what was refused, with the lane that was left out, or else without the last lane. Whether it is closed.
-pub(super) fn closes_again(refused: NotClosed<'_>, left_out: Option<Lane>) -> bool {
+pub(super) fn closes_again(refused: NotClosed, left_out: Option<Lane>) -> bool {
     let NotClosed {
         shared,
         mut lanes,
@@ -74,7 +74,7 @@ pub(super) fn closes_again(refused: NotClosed<'_>, left_out: Option<Lane>) -> bo
 }
 
 /// The lane of a number, where none was given yet.
-fn lane_of(shared: &mut Shared<'_>, number: u32) -> Result<Lane, Fault> {
+fn lane_of(shared: &mut Shared, number: u32) -> Result<Lane, Fault> {
     for _ in 0..number {
         let _ = shared.lane()?;
     }
@@ -118,7 +118,7 @@ const COUNTED: &[Line<'static>] = &[(
 fn change<R: Abort + Wait>(
     rt: &R,
     alloc: Global,
-    shared: &Shared<'_>,
+    shared: &Shared,
     lanes: &mut Vec<Lane>,
     case: Case,
 ) -> Result<(), Fault> {
@@ -145,7 +145,7 @@ fn change<R: Abort + Wait>(
 pub(super) fn plays_a_case<R: Abort + Wait>(
     rt: &R,
     alloc: Global,
-    shared: &mut Shared<'_>,
+    shared: &mut Shared,
     case: Case,
 ) -> Result<Vec<Lane>, Fault> {
     let mut lanes = plays_by_turns(rt, alloc, shared, THREE_CALLS)?;

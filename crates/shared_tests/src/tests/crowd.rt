@@ -86,7 +86,7 @@ pub(super) fn deed(number: u32, place: usize) -> Deed<'static> {
 fn spawns<R: Abort + Wait>(
     rt: &R,
     alloc: Global,
-    shared: &Shared<'_>,
+    shared: &Shared,
     lane: &mut Lane,
 ) -> Result<(), Fault> {
     for number in 1..=LASTING {
@@ -106,7 +106,7 @@ fn spawns<R: Abort + Wait>(
 fn starts<R: Abort + Wait>(
     rt: &R,
     alloc: Global,
-    shared: &Shared<'_>,
+    shared: &Shared,
     lane: &mut Lane,
 ) -> Result<(), Fault> {
     for process in 1..LASTING {
@@ -122,7 +122,7 @@ fn starts<R: Abort + Wait>(
 fn makes<R: Abort + Wait>(
     rt: &R,
     alloc: Global,
-    shared: &Shared<'_>,
+    shared: &Shared,
     lane: &mut Lane,
 ) -> Result<(), Fault> {
     for slot in 0..8u32 {
@@ -148,7 +148,7 @@ fn makes<R: Abort + Wait>(
 pub(super) fn begins<R: Abort + Wait>(
     rt: &R,
     alloc: Global,
-    shared: &Shared<'_>,
+    shared: &Shared,
     lane: &mut Lane,
 ) -> Result<(), Fault> {
     spawns(rt, alloc, shared, lane)?;
@@ -157,7 +157,7 @@ pub(super) fn begins<R: Abort + Wait>(
 }
 
 /// Whether all waits of a member were answered, and it has pinned something.
-pub(super) fn is_done(member: &Member<'_>) -> bool {
+pub(super) fn is_done(member: &Member) -> bool {
     let seen = member.seen.as_slice();
     let blocked = Seen::Blocked(Some(Reply::Code { code: 0 }));
     let waits = seen.iter().filter(|answer| **answer == blocked).count();
@@ -180,7 +180,7 @@ fn replays(manager: &mut Manager<LockedPins>, journal: &[Entry]) -> bool {
 
 /// Whether two managers count the same of each object that was made.
 fn counts_are(
-    first: &mut Manager<Keeper<'_>>,
+    first: &mut Manager<Keeper>,
     second: &mut Manager<LockedPins>,
     journal: &[Entry],
 ) -> bool {
@@ -196,7 +196,7 @@ fn counts_are(
 }
 
 /// Whether two managers have the same names.
-fn names_are(first: &Manager<Keeper<'_>>, second: &Manager<LockedPins>) -> bool {
+fn names_are(first: &Manager<Keeper>, second: &Manager<LockedPins>) -> bool {
     for at in 0..first.directory_len() {
         let is_same = match (first.directory_at(at), second.directory_at(at)) {
             (Some((name, id)), Some((other, same))) => {
@@ -214,7 +214,7 @@ fn names_are(first: &Manager<Keeper<'_>>, second: &Manager<LockedPins>) -> bool 
 /// Another manager, which was made a moment ago, gives the same replies, and ends with the same counts and names.
 fn agrees(
     rt: &impl Abort,
-    closed: &mut Manager<Keeper<'_>>,
+    closed: &mut Manager<Keeper>,
     fresh: &mut Manager<LockedPins>,
     journal: &[Entry],
 ) {
@@ -229,7 +229,7 @@ pub(super) fn agrees_with_a_fresh_one(
     rt: &impl Abort,
     alloc: Global,
     limits: Limits,
-    closed: &mut Manager<Keeper<'_>>,
+    closed: &mut Manager<Keeper>,
     journal: &[Entry],
 ) -> Result<(), Fault> {
     let mut fresh = locked_manager(alloc, limits)?;

@@ -33,14 +33,14 @@ pub(super) enum Move<'a> {
     Drops,
 }
 
-fn inspected<R: Wait>(rt: &R, shared: &Shared<'_>, reader: &Reader<'_>, id: Id) -> Option<Card> {
+fn inspected<R: Wait>(rt: &R, shared: &Shared, reader: &Reader, id: Id) -> Option<Card> {
     if !reader.holds(id) {
         return None;
     }
     shared.inspect(rt, reader, id)
 }
 
-fn unpins(reader: &mut Reader<'_>, id: Id) -> bool {
+fn unpins(reader: &mut Reader, id: Id) -> bool {
     if !reader.holds(id) {
         return false;
     }
@@ -49,7 +49,7 @@ fn unpins(reader: &mut Reader<'_>, id: Id) -> bool {
 }
 
 /// What a reader does. Whether it went as is due.
-fn reads<R: Wait>(rt: &R, shared: &Shared<'_>, reader: &mut Reader<'_>, step: &Move<'_>) -> bool {
+fn reads<R: Wait>(rt: &R, shared: &Shared, reader: &mut Reader, step: &Move<'_>) -> bool {
     match *step {
         Move::Pins(id) => reader.pin(rt, id).is_ok(),
         Move::Shows(id, due) => inspected(rt, shared, reader, id) == due,
@@ -61,8 +61,8 @@ fn reads<R: Wait>(rt: &R, shared: &Shared<'_>, reader: &mut Reader<'_>, step: &M
 /// The last reader does something. Whether it went as is due.
 fn last_reads<R: Wait>(
     rt: &R,
-    shared: &Shared<'_>,
-    readers: &mut Vec<Reader<'_>>,
+    shared: &Shared,
+    readers: &mut Vec<Reader>,
     step: &Move<'_>,
 ) -> bool {
     match readers.last_mut() {
@@ -74,9 +74,9 @@ fn last_reads<R: Wait>(
 fn makes<R: Abort + Wait>(
     rt: &R,
     alloc: Global,
-    shared: &Shared<'_>,
+    shared: &Shared,
     lane: &mut Lane,
-    readers: &mut Vec<Reader<'_>>,
+    readers: &mut Vec<Reader>,
     step: &Move<'_>,
 ) -> Result<(), Fault> {
     match *step {
@@ -90,9 +90,9 @@ fn makes<R: Abort + Wait>(
 fn makes_all<R: Abort + Wait>(
     rt: &R,
     alloc: Global,
-    shared: &Shared<'_>,
+    shared: &Shared,
     lane: &mut Lane,
-    readers: &mut Vec<Reader<'_>>,
+    readers: &mut Vec<Reader>,
     moves: &[Move<'_>],
 ) -> Result<(), Fault> {
     for step in moves {
@@ -105,8 +105,8 @@ fn makes_all<R: Abort + Wait>(
 pub(super) fn plays_moves<R: Abort + Wait>(
     rt: &R,
     alloc: Global,
-    shared: &mut Shared<'_>,
-    readers: &mut Vec<Reader<'_>>,
+    shared: &mut Shared,
+    readers: &mut Vec<Reader>,
     moves: &[Move<'_>],
 ) -> Result<Vec<Lane>, Fault> {
     let mut lane = shared.lane()?;
@@ -209,10 +209,10 @@ fn a_dropped_reader_leaves_its_slot_out_of_use(rt: HostRuntime) -> Result<(), Fa
 }
 
 /// Makes the calls of a table without a lock.
-fn answers_alone<'a>(
+fn answers_alone(
     rt: &impl Abort,
     alloc: Global,
-    manager: &mut Manager<Keeper<'a>>,
+    manager: &mut Manager<Keeper>,
     table: &[Line<'_>],
 ) -> Result<(), Fault>
     ensures { manager.new.keeper.table ≡ manager.old.keeper.table }
@@ -227,11 +227,11 @@ fn answers_alone<'a>(
 }
 
 /// A held object without a lock.
-fn holds_alone<'a, R: Abort + Wait>(
+fn holds_alone<R: Abort + Wait>(
     rt: &R,
     alloc: Global,
-    manager: &mut Manager<Keeper<'a>>,
-    reader: &mut Reader<'a>,
+    manager: &mut Manager<Keeper>,
+    reader: &mut Reader,
 ) -> Result<(), Fault>
     requires { manager.old.keeper.table ≡ Some reader.old.table }
 {

@@ -30,7 +30,7 @@ fn each_lane_lists_its_calls(rt: HostRuntime) -> Result<(), Fail> {
 }
 
 /// Whether so many lanes are given, by rising number.
-fn gives_lanes(shared: &mut Shared<'_>, number: u32) -> bool {
+fn gives_lanes(shared: &mut Shared, number: u32) -> bool {
     for place in 0..number {
         match shared.lane() {
             Ok(lane) if lane.number() == place => {}
@@ -41,7 +41,7 @@ fn gives_lanes(shared: &mut Shared<'_>, number: u32) -> bool {
 }
 
 /// Whether no lane is left.
-fn has_no_lane(shared: &mut Shared<'_>) -> bool {
+fn has_no_lane(shared: &mut Shared) -> bool {
     matches!(shared.lane(), Err(Fault::Limit))
 }
 
@@ -49,7 +49,7 @@ fn has_no_lane(shared: &mut Shared<'_>) -> bool {
 pub(super) fn plays_many_lanes(
     rt: &impl Abort,
     alloc: Global,
-    shared: &mut Shared<'_>,
+    shared: &mut Shared,
 ) -> Vec<Lane> {
     holds(rt, gives_lanes(shared, LANES));
     holds(rt, has_no_lane(shared));
@@ -61,7 +61,7 @@ pub(super) fn plays_many_lanes(
 const CALLS: usize = 20_000;
 
 /// Makes calls in the last lane.
-fn calls_last<R: Wait>(rt: &R, shared: &Shared<'_>, lanes: &mut [Lane]) {
+fn calls_last<R: Wait>(rt: &R, shared: &Shared, lanes: &mut [Lane]) {
     if let Some(lane) = lanes.last_mut() {
         for _ in 0..CALLS {
             let _ = shared.call(rt, lane, Call::Tick { now: 0 });
@@ -74,7 +74,7 @@ fn calls_last<R: Wait>(rt: &R, shared: &Shared<'_>, lanes: &mut [Lane]) {
 pub(super) fn plays_all_lanes<R: Wait>(
     rt: &R,
     alloc: Global,
-    shared: &mut Shared<'_>,
+    shared: &mut Shared,
 ) -> Result<Vec<Lane>, Fault> {
     let mut lanes = Vec::new(alloc);
     for _ in 0..LANES {

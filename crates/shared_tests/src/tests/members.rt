@@ -79,12 +79,12 @@ fn script_of(alloc: Global, script: Script, number: u32) -> Result<Vec<Act>, All
 }
 
 /// A member of the next lane.
-fn member<'a>(
+fn member(
     alloc: Global,
-    shared: &mut Shared<'_>,
-    reader: Reader<'a>,
+    shared: &mut Shared,
+    reader: Reader,
     script: Script,
-) -> Result<Member<'a>, Fault> {
+) -> Result<Member, Fault> {
     let lane = shared.lane()?;
     let script = script_of(alloc, script, lane.number())?;
     Ok(Member {
@@ -96,12 +96,12 @@ fn member<'a>(
 }
 
 /// A member for each reader.
-fn members_of<'a>(
+fn members_of(
     alloc: Global,
-    shared: &mut Shared<'_>,
-    readers: &mut Vec<Reader<'a>>,
+    shared: &mut Shared,
+    readers: &mut Vec<Reader>,
     script: Script,
-) -> Result<Vec<Member<'a>>, Fault> {
+) -> Result<Vec<Member>, Fault> {
     let mut members = Vec::new(alloc);
     if members.reserve(readers.len()).is_err() {
         members.reserve(readers.len())?;
@@ -115,14 +115,14 @@ fn members_of<'a>(
 }
 
 /// Whether no member has seen anything.
-fn all_new<'a>(members: &[Member<'a>]) -> bool
+fn all_new(members: &[Member]) -> bool
     ensures { IsTrue result → All IsNew members.now }
 {
     members.iter().all(|member| member.seen.is_empty())
 }
 
 /// Whether nothing was done in a member, which has so many acts.
-fn is_untouched(member: &Member<'_>, acts: usize) -> bool {
+fn is_untouched(member: &Member, acts: usize) -> bool {
     member.seen.is_empty()
         && member.script.len() == acts
         && member.lane.receipts().is_empty()
@@ -131,9 +131,9 @@ fn is_untouched(member: &Member<'_>, acts: usize) -> bool {
 
 fn tries<R: Abort + Wait + Threads + Sync, G: Gate + Sync>(
     rt: &R,
-    shared: &Shared<'_>,
+    shared: &Shared,
     gate: &G,
-    members: &mut [Member<'_>],
+    members: &mut [Member],
 ) -> bool {
     holds(rt, all_new(members));
     holds(rt, members.len() <= 64);
@@ -143,9 +143,9 @@ fn tries<R: Abort + Wait + Threads + Sync, G: Gate + Sync>(
 /// Drives, and where memory is wanting drives again what is untouched.
 fn drives<R: Abort + Wait + Threads + Sync, G: Gate + Sync>(
     rt: &R,
-    shared: &Shared<'_>,
+    shared: &Shared,
     gate: &G,
-    members: &mut [Member<'_>],
+    members: &mut [Member],
     acts: usize,
 ) {
     if !tries(rt, shared, gate, members) {
@@ -157,8 +157,8 @@ fn drives<R: Abort + Wait + Threads + Sync, G: Gate + Sync>(
 /// Drives up to a place.
 fn drives_until<R: Abort + Wait + Threads + Sync>(
     rt: &R,
-    shared: &Shared<'_>,
-    members: &mut [Member<'_>],
+    shared: &Shared,
+    members: &mut [Member],
     acts: usize,
 ) {
     let gate = Until::new(turns::PASSED);
@@ -167,7 +167,7 @@ fn drives_until<R: Abort + Wait + Threads + Sync>(
 }
 
 /// Whether the members have seen what they should, and as much.
-fn are_done(members: &[Member<'_>], script: Script) -> bool {
+fn are_done(members: &[Member], script: Script) -> bool {
     let acts = acts_of(script);
     let is_whole = members.iter().all(|member| member.seen.len() == acts);
     match script {
@@ -177,7 +177,7 @@ fn are_done(members: &[Member<'_>], script: Script) -> bool {
 }
 
 /// Whether the members have seen what they should.
-fn have_seen(members: &[Member<'_>], script: Script) -> bool {
+fn have_seen(members: &[Member], script: Script) -> bool {
     match script {
         Script::InTurn => turns::are_done(members),
         Script::Crowd => members.iter().all(|member| crowd::is_done(member)),
@@ -188,8 +188,8 @@ fn have_seen(members: &[Member<'_>], script: Script) -> bool {
 /// Drives past a script's gate. The members have seen what they should.
 fn drives_all<R: Abort + Wait + Threads + Sync>(
     rt: &R,
-    shared: &Shared<'_>,
-    members: &mut [Member<'_>],
+    shared: &Shared,
+    members: &mut [Member],
     script: Script,
 ) {
     let acts = acts_of(script);
@@ -211,7 +211,7 @@ fn before(script: Script) -> &'static [Line<'static>] {
 }
 
 /// The lanes of all members, and one more.
-fn lanes_of(alloc: Global, first: Lane, members: Vec<Member<'_>>) -> Result<Vec<Lane>, Fault> {
+fn lanes_of(alloc: Global, first: Lane, members: Vec<Member>) -> Result<Vec<Lane>, Fault> {
     let mut lanes = room_for(alloc, 65)?;
     lanes.push(first)?;
     for member in members {
@@ -225,8 +225,8 @@ fn lanes_of(alloc: Global, first: Lane, members: Vec<Member<'_>>) -> Result<Vec<
 pub(super) fn plays_members<R: Abort + Wait + Threads + Sync>(
     rt: &R,
     alloc: Global,
-    shared: &mut Shared<'_>,
-    readers: &mut Vec<Reader<'_>>,
+    shared: &mut Shared,
+    readers: &mut Vec<Reader>,
     script: Script,
 ) -> Result<Vec<Lane>, Fault> {
     let mut first = shared.lane()?;

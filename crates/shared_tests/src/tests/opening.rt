@@ -64,12 +64,12 @@ impl Scene<'_> {
 }
 
 /// So many readers of a keeper's pins, of which the first is given.
-fn readers_of<'a>(
+fn readers_of(
     alloc: Global,
-    keeper: &mut Keeper<'a>,
-    first: Reader<'a>,
+    keeper: &mut Keeper,
+    first: Reader,
     count: usize,
-) -> Result<Vec<Reader<'a>>, Fault>
+) -> Result<Vec<Reader>, Fault>
     ensures slots { keeper.new.view.slots ≡ keeper.old.view.slots }
     ensures published { keeper.new.view.published ≡ keeper.old.view.published }
     ensures shape { keeper.new.view.shape ≡ keeper.old.view.shape }
@@ -80,19 +80,22 @@ fn readers_of<'a>(
     }
     readers.push(first)?;
     for _ in 1..count {
-        readers.push(keeper.reader())?;
+        let Some(reader) = keeper.reader() else {
+            return Err(Fault::Memory);
+        };
+        readers.push(reader)?;
     }
     Ok(readers)
 }
 
 /// A manager behind its lock, and so many readers.
-pub(super) fn shared_with<'a>(
+pub(super) fn shared_with(
     alloc: Global,
     limits: Limits,
     opening: Opening,
-    pins: &'a Pins,
+    pins: &Pins,
     count: usize,
-) -> Result<(Shared<'a>, Vec<Reader<'a>>), Fault>
+) -> Result<(Shared, Vec<Reader>), Fault>
     requires opens { opening ≡ pins.now }
     requires shape { pins.now.shape ≡ shape_of limits }
 {
@@ -116,8 +119,8 @@ pub(super) fn shared_with<'a>(
 fn plays<R: Abort + Wait + Threads + Sync>(
     rt: &R,
     alloc: Global,
-    shared: &mut Shared<'_>,
-    readers: &mut Vec<Reader<'_>>,
+    shared: &mut Shared,
+    readers: &mut Vec<Reader>,
     scene: Scene<'_>,
 ) -> Result<Vec<Lane>, Fault> {
     match scene {
@@ -138,7 +141,7 @@ fn closes(
     rt: &impl Abort,
     alloc: Global,
     limits: Limits,
-    shared: Shared<'_>,
+    shared: Shared,
     mut lanes: Vec<Lane>,
     scene: Scene<'_>,
 ) -> Result<(), Fault> {
@@ -176,7 +179,7 @@ fn shows(
     rt: &impl Abort,
     alloc: Global,
     limits: Limits,
-    manager: &mut Manager<Keeper<'_>>,
+    manager: &mut Manager<Keeper>,
     journal: &[Entry],
     scene: Scene<'_>,
 ) -> Result<(), Fault> {

@@ -18,7 +18,7 @@ use std::thread::Threads;
 fn asked_once<R: Wait>(
     rt: &R,
     alloc: Global,
-    shared: &Shared<'_>,
+    shared: &Shared,
     lane: &mut Lane,
     ask: Ask<'_>,
 ) -> Result<Reply, Fault> {
@@ -30,7 +30,7 @@ fn asked_once<R: Wait>(
 pub(super) fn asked<R: Wait>(
     rt: &R,
     alloc: Global,
-    shared: &Shared<'_>,
+    shared: &Shared,
     lane: &mut Lane,
     ask: Ask<'_>,
 ) -> Result<Reply, Fault> {
@@ -56,7 +56,7 @@ pub(super) fn is_last(lane: &Lane, call: &Call, reply: Reply) -> bool {
 fn is_answered<R: Wait>(
     rt: &R,
     alloc: Global,
-    shared: &Shared<'_>,
+    shared: &Shared,
     lane: &mut Lane,
     line: Line<'_>,
 ) -> Result<bool, Fault> {
@@ -73,7 +73,7 @@ fn is_answered<R: Wait>(
 pub(super) fn answers_one<R: Abort + Wait>(
     rt: &R,
     alloc: Global,
-    shared: &Shared<'_>,
+    shared: &Shared,
     lane: &mut Lane,
     line: Line<'_>,
 ) -> Result<(), Fault> {
@@ -90,7 +90,7 @@ fn holds_at(rt: &impl Abort, is_good: bool, place: usize) {
 pub(super) fn answers<R: Abort + Wait>(
     rt: &R,
     alloc: Global,
-    shared: &Shared<'_>,
+    shared: &Shared,
     lane: &mut Lane,
     table: &[Line<'_>],
 ) -> Result<(), Fault> {
@@ -104,7 +104,7 @@ pub(super) fn answers<R: Abort + Wait>(
 fn answers_by_turns<R: Abort + Wait>(
     rt: &R,
     alloc: Global,
-    shared: &Shared<'_>,
+    shared: &Shared,
     first: &mut Lane,
     second: &mut Lane,
     table: &[Line<'_>],
@@ -124,7 +124,7 @@ fn answers_by_turns<R: Abort + Wait>(
 fn plays_steps<R: Abort + Wait>(
     rt: &R,
     alloc: Global,
-    shared: &Shared<'_>,
+    shared: &Shared,
     first: &mut Lane,
     second: &mut Lane,
     steps: &[Step<'_>],
@@ -165,7 +165,7 @@ pub(super) fn two_lanes(alloc: Global, first: Lane, second: Lane) -> Result<Vec<
 pub(super) fn plays_by_turns<R: Abort + Wait>(
     rt: &R,
     alloc: Global,
-    shared: &mut Shared<'_>,
+    shared: &mut Shared,
     steps: &[Step<'_>],
 ) -> Result<Vec<Lane>, Fault> {
     let mut first = shared.lane()?;

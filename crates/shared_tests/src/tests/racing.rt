@@ -57,7 +57,7 @@ fn handle_of(slot: u32) -> u32 {
 }
 
 /// Pins, reads the descriptor and releases. Whether the descriptor is the one of another object.
-fn pins_another<R: Wait>(rt: &R, reader: &mut Reader<'_>, id: Id) -> Result<bool, PinFault> {
+fn pins_another<R: Wait>(rt: &R, reader: &mut Reader, id: Id) -> Result<bool, PinFault> {
     reader.pin(rt, id)?;
     let descr = reader.descr(id);
     reader.release(id);
@@ -66,7 +66,7 @@ fn pins_another<R: Wait>(rt: &R, reader: &mut Reader<'_>, id: Id) -> Result<bool
 
 /// Tries to pin the slots in turn, each at the generation after the last that was stale. Whether something was pinned, and
 /// nothing seen but what was made.
-fn reads<R: Wait>(rt: &R, reader: &mut Reader<'_>) -> bool {
+fn reads<R: Wait>(rt: &R, reader: &mut Reader) -> bool {
     let mut pins = 0u32;
     let mut generations = [1u32; 4];
     for place in 0..TRIES {
@@ -86,7 +86,7 @@ fn reads<R: Wait>(rt: &R, reader: &mut Reader<'_>) -> bool {
 fn reaps<R: Abort + Wait>(
     rt: &R,
     alloc: Global,
-    shared: &Shared<'_>,
+    shared: &Shared,
     lane: &mut Lane,
     id: Id,
 ) -> Result<(), Fault> {
@@ -111,7 +111,7 @@ fn reaps<R: Abort + Wait>(
 fn renews<R: Abort + Wait>(
     rt: &R,
     alloc: Global,
-    shared: &Shared<'_>,
+    shared: &Shared,
     lane: &mut Lane,
     id: Id,
 ) -> Result<(), Fault> {
@@ -138,7 +138,7 @@ fn renews<R: Abort + Wait>(
 fn makes_all<R: Abort + Wait>(
     rt: &R,
     alloc: Global,
-    shared: &Shared<'_>,
+    shared: &Shared,
     lane: &mut Lane,
 ) -> Result<(), Fault> {
     let spawned = Spawned {
@@ -163,7 +163,7 @@ fn makes_all<R: Abort + Wait>(
 fn renews_all<R: Abort + Wait>(
     rt: &R,
     alloc: Global,
-    shared: &Shared<'_>,
+    shared: &Shared,
     lane: &mut Lane,
 ) -> Result<(), Fault> {
     for round in 0..ROUNDS {
@@ -174,7 +174,7 @@ fn renews_all<R: Abort + Wait>(
 }
 
 /// Each reader on a thread of its own. Each sees what was made.
-fn all_read<R: Abort + Wait + Threads + Sync>(rt: &R, readers: &mut [Reader<'_>]) {
+fn all_read<R: Abort + Wait + Threads + Sync>(rt: &R, readers: &mut [Reader]) {
     thread::for_each_mut(
         rt,
         readers,
@@ -187,9 +187,9 @@ fn all_read<R: Abort + Wait + Threads + Sync>(rt: &R, readers: &mut [Reader<'_>]
 fn races<R: Abort + Wait + Threads + Sync>(
     rt: &R,
     alloc: Global,
-    shared: &Shared<'_>,
+    shared: &Shared,
     lane: &mut Lane,
-    readers: &mut [Reader<'_>],
+    readers: &mut [Reader],
 ) -> Result<(), Fault> {
     // Before the readers begin, so that each has something to pin.
     makes_all(rt, alloc, shared, lane)?;
@@ -204,8 +204,8 @@ fn races<R: Abort + Wait + Threads + Sync>(
 pub(super) fn plays_a_race<R: Abort + Wait + Threads + Sync>(
     rt: &R,
     alloc: Global,
-    shared: &mut Shared<'_>,
-    readers: &mut Vec<Reader<'_>>,
+    shared: &mut Shared,
+    readers: &mut Vec<Reader>,
 ) -> Result<Vec<Lane>, Fault> {
     let mut lane = shared.lane()?;
     same(rt, readers.len(), READERS);

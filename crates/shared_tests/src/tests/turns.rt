@@ -121,7 +121,7 @@ pub(super) fn deed(number: u32) -> Deed<'static> {
 }
 
 /// Whether a member's only act was answered so.
-fn has_seen(members: &[Member<'_>], place: usize, reply: Reply) -> bool {
+fn has_seen(members: &[Member], place: usize, reply: Reply) -> bool {
     match members.get(place) {
         Some(member) => member.seen.as_slice() == [Seen::Reply(reply)].as_slice(),
         None => false,
@@ -129,7 +129,7 @@ fn has_seen(members: &[Member<'_>], place: usize, reply: Reply) -> bool {
 }
 
 /// Whether both members were answered as is due.
-pub(super) fn are_done(members: &[Member<'_>]) -> bool {
+pub(super) fn are_done(members: &[Member]) -> bool {
     let made = Reply::Made {
         handle: 8,
         id: SECOND,
@@ -144,7 +144,7 @@ pub(super) const PASSED: usize = 3;
 pub(super) const ACTS: usize = 5;
 
 /// Whether a member saw three answers, and was stopped before the fourth act.
-pub(super) fn is_stopped(members: &[Member<'_>]) -> bool {
+pub(super) fn is_stopped(members: &[Member]) -> bool {
     match members.get(0) {
         Some(member) => {
             let seen = member.seen.as_slice();

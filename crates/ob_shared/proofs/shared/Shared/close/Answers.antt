@@ -3,8 +3,8 @@ use Rattle.ob_shared.specs.Closing.{IsCause}
 use Rattle.ob_shared.specs.Lanes.{LaneState}
 use Rattle.ob_shared.proofs.shared.Shared.close.Goals as goal
 
-pub returns-clause-cause : goal.returns-clause-cause
-returns-clause-cause c = (
+pub returns-in-Some-clause-cause : goal.returns-in-Some-clause-cause
+returns-in-Some-clause-cause c = (
   c.into_inner.result.book.journal,
   c.into_inner.result.book.manager,
   c.replays.ensures.history,

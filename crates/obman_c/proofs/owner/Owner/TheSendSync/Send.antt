@@ -6,13 +6,13 @@ use denote.Struct.Owning.{shape, fields, to}
 use denote.Struct.Struct.{exits_of}
 use Rattle.std.proofs.Crossing.{frees}
 use Rattle.std.proofs.alloc.Global.TheSendSync as heap
-use Rattle.obman_c.specs.contracts.held.Held as Held
-use Rattle.obman_c.proofs.held.Held.TheSendSync.{the_send}
+use Rattle.obman_c.specs.contracts.owned.OwnedManager as OwnedManager
+use Rattle.obman_c.proofs.owned.OwnedManager.TheSendSync.{the_send}
 use Rattle.obman_c.proofs.Sending.{leads, leaving}
 use Rattle.obman_c.specs.contracts.owner.Owner.{the_row, the_type}
 
 pub send : IsSend the_row
 send =
     let each : AllSend (fields the_type) = (search sendable, (heap.the_field_send, tt)) in
-    owning_send the_type each (λ owner. (leads Held.the_row the_send owner.at owner.value, frees.frees owner.alloc (raw (lone Held.the_row.mir)) owner.at))
+    owning_send the_type each (λ owner. (leads OwnedManager.the_row the_send owner.at owner.value, frees.frees owner.alloc (raw (lone OwnedManager.the_row.mir)) owner.at))
     (λ k. leaving (to the_type) (exits_of k (fields the_type)) ((struct_send (shape the_type) each).leaving k))

@@ -1,7 +1,7 @@
 -- The pointer and the allocator move to the parts, and what they own goes with them.
 use Rattle.obman_c.proofs.Walks.{refl, [], ◌∷◌, ◌++◌, List, Val, id⊢, yes, plain, nothing, Stays, stay_dropped, walk_of, Goes-dropped, WpFn, tables, alloc_all, pass_all, free_all, look_at, get, get_in, sets, ‵, raw, ◌⊛◌, prop, ◌$◌, ◌∵◌, !, qed, keep, drop, use1, join, split, regoal, fsplit, fjoin, whole, sub, agg, stop, fld, no_more, and_then, of_opd, returns, enter, proved_at, ends_at, says, suffices, done, ftrue, fsep, emp, D, B, word, box_typed, box_out, box_in, of_manager}
 use Rattle.obman_c.specs.contracts.owner.Owner as Owner
-use Rattle.obman_c.specs.contracts.owner.parts.Parts as Parts
+use Rattle.obman_c.specs.contracts.parts.Parts as Parts
 use Rattle.obman_c.specs.contracts.owner.Owner.into_parts as F
 use Rattle.obman_c.specs.contracts.owner.Owner.into_parts.Key.{name as #self}
 use Rattle.obman_c.proofs.owner.Owner.into_parts.Statement.{statement}

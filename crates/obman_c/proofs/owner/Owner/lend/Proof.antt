@@ -5,7 +5,7 @@ use denote.Memory.{part_at, mem, cell_at, part_of}
 use denote.Ref.{MutRef, mut_vals, mut_Tells}
 use denote.Follow.{follows, Part, lends_Part}
 use Rattle.obman_c.specs.Lending.{with_value}
-use Rattle.obman_c.specs.contracts.held.Held.{the_row as Manager}
+use Rattle.obman_c.specs.contracts.owned.OwnedManager.{the_row as Manager}
 use Rattle.obman_c.specs.contracts.owner.Owner.{the_row as Owner}
 use Rattle.obman_c.specs.contracts.owner.Owner.lend as F
 use Rattle.obman_c.specs.contracts.owner.Owner.lend.Key.{name as #self}

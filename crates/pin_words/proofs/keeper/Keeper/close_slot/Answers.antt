@@ -5,6 +5,7 @@ use Rattle.pin_words.specs.declared.view.KeeperView.{KeeperView}
 use Rattle.pin_words.specs.Views.{keeper_of}
 use Rattle.pin_core.specs.declared.word.Phase.TheVariants.{Live}
 use Rattle.pin_words.proofs.KeeperSteps.{closes-step}
+use Rattle.pin_words.proofs.Owned.{key_at, wide_at}
 use Rattle.pin_words.proofs.keeper.Keeper.close_slot.Goals as goal
 
 pub fetch_or-requires : goal.fetch_or-requires
@@ -12,7 +13,7 @@ fetch_or-requires c = let view : keeper_of c.self.inside.seat.me.0 ≡ c.args.se
     let shape : c.args.self.now.view.shape ≡ c.self.inside.shape = ap (λ w. w.shape) (sym view) ∙ c.self.inside.shaped in
     let lt : c.args.slot < c.self.inside.shape.slots = subst (λ (k : Shape). c.args.slot < k.slots) shape c.requires.slot in (
       search rules,
-      (let wide = c.self.inside.wide in omega arith),
-      closes-step _ _ _ _ _ (keeper_of c.self.inside.seat.me.0) (ap (λ m. m.0.keeper) c.self.inside.keeps) (subst (λ (k : Shape). c.args.slot < k.slots) (sym c.self.inside.keyed) lt)
+      (let wide = wide_at c.deref.ensures c.self.inside.wide in omega arith),
+      closes-step _ _ _ _ _ (keeper_of c.self.inside.seat.me.0) (ap (λ m. m.0.keeper) c.self.inside.keeps) (subst (λ (k : Shape). c.args.slot < k.slots) (sym (key_at c.deref.ensures c.self.inside.keyed)) lt)
           (subst (λ (z : KeeperView). (slot_of z.slots c.args.slot).phase ≡ Live) (sym view) c.requires.live),
     )

@@ -8,6 +8,7 @@ use Rattle.pin_words.specs.declared.view.KeeperView.{KeeperView}
 use Rattle.pin_words.specs.Views.{keeper_of}
 use Rattle.pin_words.proofs.KeeperSteps.{reclaims-step, word_closing, word_reclaimed}
 use Rattle.pin_words.proofs.Calls.{slot-known}
+use Rattle.pin_words.proofs.Owned.{key_at, wide_at}
 use Rattle.pin_words.proofs.keeper.Keeper.reclaim.Goals as goal
 
 pub compare_exchange-found-requires : goal.compare_exchange-found-requires
@@ -16,9 +17,9 @@ compare_exchange-found-requires c = let view : keeper_of c.self.inside.seat.me.0
     let lt : c.args.slot < c.self.inside.shape.slots = subst (λ (k : Shape). c.args.slot < k.slots) shape c.requires.slot in
     let was : c.index-was.result.now ≡ slot_of (keeper_of c.self.inside.seat.me.0).slots c.args.slot = slot-known _ c.self.inside.slots.items c.args.slot c.index-was.result.now c.self.inside.knows (let long = c.self.inside.long in omega arith) c.index-was.ensures in (
       search rules,
-      (let wide = c.self.inside.wide in omega arith),
-      reclaims-step _ _ _ _ _ _ _ (keeper_of c.self.inside.seat.me.0) (ap (λ m. m.0.keeper) c.self.inside.keeps) (subst (λ (k : Shape). c.args.slot < k.slots) (sym c.self.inside.keyed) lt)
+      (let wide = wide_at c.deref.ensures c.self.inside.wide in omega arith),
+      reclaims-step _ _ _ _ _ _ _ (keeper_of c.self.inside.seat.me.0) (ap (λ m. m.0.keeper) c.self.inside.keeps) (subst (λ (k : Shape). c.args.slot < k.slots) (sym (key_at c.deref.ensures c.self.inside.keyed)) lt)
           (subst (λ (z : KeeperView). (slot_of z.slots c.args.slot).phase ≡ Closing) (sym view) c.requires.closing)
           (c.encode.ensures ∙ ap word_closing was)
-          (c.encode-2.ensures ∙ (ap (λ (y : Slot). packed y.generation (code_of y.phase) 0) c.reclaimed-next.ensures ∙ λ k. word_reclaimed (ap (λ (z : Shape). z.max_gen) (sym c.self.inside.keyed) k) (was k))),
+          (c.encode-2.ensures ∙ (ap (λ (y : Slot). packed y.generation (code_of y.phase) 0) c.reclaimed-next.ensures ∙ λ k. word_reclaimed (ap (λ (z : Shape). z.max_gen) (sym (key_at c.deref.ensures c.self.inside.keyed)) k) (was k))),
     )

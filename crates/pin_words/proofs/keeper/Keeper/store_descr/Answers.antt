@@ -6,6 +6,7 @@ use Rattle.pin_words.specs.declared.view.KeeperView.{KeeperView}
 use Rattle.pin_words.specs.Views.{keeper_of}
 use Rattle.pin_core.specs.declared.word.Phase.TheVariants.{Free}
 use Rattle.pin_words.proofs.Calls.{stores-there, stored-one, slot-known}
+use Rattle.pin_words.proofs.Owned.{key_at, wide_at}
 use Rattle.pin_words.proofs.keeper.Keeper.store_descr.Goals as goal
 
 pub store-requires : goal.store-requires
@@ -13,8 +14,8 @@ store-requires c = let view : keeper_of c.self.inside.seat.me.0 ≡ c.args.self.
     let shape : c.args.self.now.view.shape ≡ c.self.inside.shape = ap (λ w. w.shape) (sym view) ∙ c.self.inside.shaped in
     let lt : c.args.slot < c.self.inside.shape.slots = subst (λ (k : Shape). c.args.slot < k.slots) shape c.requires.slot in (
       search rules,
-      (let wide = c.self.inside.wide in omega arith),
-      stores-there _ _ _ c.args.slot _ _ (keeper_of c.self.inside.seat.me.0) c.args.descr c.self.inside.shape c.self.inside.keyed (ap (λ m. m.0.keeper) c.self.inside.keeps) lt
+      (let wide = wide_at c.deref.ensures c.self.inside.wide in omega arith),
+      stores-there _ _ _ c.args.slot _ _ (keeper_of c.self.inside.seat.me.0) c.args.descr c.self.inside.shape (key_at c.deref.ensures c.self.inside.keyed) (ap (λ m. m.0.keeper) c.self.inside.keeps) lt
           (subst (λ (z : KeeperView). (slot_of z.slots c.args.slot).phase ≡ Free) (sym view) c.requires.free) c.requires.given c.encode.ensures,
     )
 

@@ -6,6 +6,7 @@ use Rattle.pin_words.specs.declared.view.ReaderView.{ReaderView}
 use Rattle.pin_words.specs.Views.{reader_of, reader_released}
 use Rattle.pin_words.proofs.ReaderSteps.{releases-step}
 use Rattle.pin_words.proofs.Calls.{id-inside, inside-less, released-one}
+use Rattle.pin_words.proofs.Owned.{key_at, wide_at}
 use Rattle.pin_words.proofs.reader.Reader.release.Goals as goal
 
 pub fetch_sub-requires : goal.fetch_sub-requires
@@ -13,8 +14,8 @@ fetch_sub-requires c = let view : reader_of c.self.inside.seat.me.0 ≡ c.args.s
     let held : c.args.self.now.view.held ≡ c.self.inside.held.items = ap (λ w. w.held) (sym view) ∙ c.self.inside.holds in
     let lt : c.args.id.slot < c.self.inside.shape.slots = id-inside _ c.args.id _ _ held c.requires c.self.inside.inside in (
       search rules,
-      (let wide = c.self.inside.wide in omega arith),
-      releases-step _ _ _ _ _ (reader_of c.self.inside.seat.me.0) c.args.id (ap (λ m. m.0.reader) c.self.inside.reads) (subst (λ (k : Shape). c.args.id.slot < k.slots) (sym c.self.inside.keyed) lt) refl (subst (λ (z : ReaderView). 0 < tally (same_id c.args.id) z.held) (sym view) c.requires),
+      (let wide = wide_at c.deref.ensures c.self.inside.wide in omega arith),
+      releases-step _ _ _ _ _ (reader_of c.self.inside.seat.me.0) c.args.id (ap (λ m. m.0.reader) c.self.inside.reads) (subst (λ (k : Shape). c.args.id.slot < k.slots) (sym (key_at c.deref.ensures c.self.inside.keyed)) lt) refl (subst (λ (z : ReaderView). 0 < tally (same_id c.args.id) z.held) (sym view) c.requires),
     )
 
 pub invariant_of-self-inside : goal.invariant_of-self-inside

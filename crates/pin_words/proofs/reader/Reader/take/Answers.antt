@@ -6,15 +6,16 @@ use Rattle.pin_core.specs.Holds.{tally, same_id}
 use Rattle.pin_words.specs.Views.{reader_of}
 use Rattle.pin_words.proofs.ReaderSteps.{pins-step}
 use Rattle.pin_words.proofs.Calls.{go-means, got-one, inside-more}
+use Rattle.pin_words.proofs.Owned.{key_at, wide_at}
 use Rattle.pin_words.proofs.reader.Reader.take.Goals as goal
 
 pub compare_exchange-seen-requires : goal.compare_exchange-seen-requires
 compare_exchange-seen-requires c = let shape : c.args.self.now.view.shape ≡ c.self.inside.shape = ap (λ w. w.view.shape) (sym c.self.view_is) ∙ c.self.inside.shaped in
-    let key : c.args.self.now.view.shape ≡ c.self.inside.shared.now.key = shape ∙ sym c.self.inside.keyed in
+    let key = shape ∙ sym (key_at c.deref.ensures c.self.inside.keyed) in
     let lt : c.args.id.slot < c.self.inside.shape.slots = subst (λ (k : Shape). c.args.id.slot < k.slots) shape c.requires.slot in
     let go = go-means c.args.self.now.view.shape.max_pins c.args.id (decoded c.args.found) c.requires.go in (
       search rules,
-      (let wide = c.self.inside.wide in omega arith),
+      (let wide = wide_at c.deref.ensures c.self.inside.wide in omega arith),
       pins-step _ _ _ _ _ _ _ (reader_of c.self.inside.seat.me.0) (ap (λ m. m.0.reader) c.self.inside.reads) (subst (λ (k : Shape). c.args.id.slot < k.slots) key c.requires.slot) refl go.0 (subst (λ (k : Shape). (decoded c.args.found).pins ≢ k.max_pins) key go.2),
     )
 

@@ -3,11 +3,11 @@ use Rattle.obman_c.proofs.Walks.{◌≡◌, refl, ap, ◌∙◌, [], ◌∷◌, 
 use contract.Running.{tables, tables_of}
 use Rattle.std.specs.contracts.boxed.Box.into_raw_with_allocator as callee
 use Rattle.std.proofs.boxed.Box.into_raw_with_allocator.Met.{met}
-use Rattle.obman_c.specs.contracts.owner.parts.Parts as Parts
-use Rattle.obman_c.specs.contracts.owner.parts.Parts.of as F
-use Rattle.obman_c.specs.contracts.owner.parts.Parts.of.Key.{name as #self}
-use Rattle.obman_c.proofs.owner.parts.Parts.of.Statement.{statement}
-use Rattle.obman_c.proofs.owner.parts.Parts.of.Code as code
+use Rattle.obman_c.specs.contracts.parts.Parts as Parts
+use Rattle.obman_c.specs.contracts.parts.Parts.of as F
+use Rattle.obman_c.specs.contracts.parts.Parts.of.Key.{name as #self}
+use Rattle.obman_c.proofs.parts.Parts.of.Statement.{statement}
+use Rattle.obman_c.proofs.parts.Parts.of.Code as code
 
 pub of_spec : {M : Type 1} → statement M
 unfolding tables_of

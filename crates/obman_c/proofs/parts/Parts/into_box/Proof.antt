@@ -4,11 +4,11 @@ use contract.Running.{tables, tables_of}
 use Rattle.std.proofs.BoxSteps.Form.{args}
 use Rattle.std.specs.contracts.boxed.Box.from_raw as callee
 use Rattle.std.proofs.boxed.Box.from_raw.Met.{met}
-use Rattle.obman_c.specs.contracts.owner.parts.Parts as Parts
-use Rattle.obman_c.specs.contracts.owner.parts.Parts.into_box as F
-use Rattle.obman_c.specs.contracts.owner.parts.Parts.into_box.Key.{name as #self}
-use Rattle.obman_c.proofs.owner.parts.Parts.into_box.Statement.{statement}
-use Rattle.obman_c.proofs.owner.parts.Parts.into_box.Code as code
+use Rattle.obman_c.specs.contracts.parts.Parts as Parts
+use Rattle.obman_c.specs.contracts.parts.Parts.into_box as F
+use Rattle.obman_c.specs.contracts.parts.Parts.into_box.Key.{name as #self}
+use Rattle.obman_c.proofs.parts.Parts.into_box.Statement.{statement}
+use Rattle.obman_c.proofs.parts.Parts.into_box.Code as code
 
 pub into_box_spec : {M : Type 1} → statement M
 unfolding tables_of

@@ -1,7 +1,0 @@
-use Rattle.std.proofs.Common.{rules, ap, arith}
-use Rattle.pin_words.specs.Views.{keeper_of}
-use Rattle.pin_words.proofs.Reseated.{gives}
-use Rattle.pin_words.proofs.keeper.Keeper.reader.Goals as goal
-
-pub split_seat-seat-requires : goal.split_seat-seat-requires
-split_seat-seat-requires c = (search rules, (let wide = c.self.inside.wide in let some = c.self.inside.some in omega arith), gives _ _ _ (keeper_of c.self.inside.seat.me.0) (ap (λ m. m.0.keeper) c.self.inside.keeps))
