@@ -13,7 +13,6 @@
 #![tactic(auto)]
 
 mod act;
-mod asked;
 mod book;
 mod closing;
 mod comparing;
