@@ -1,7 +1,7 @@
 -- Threads and processes end: what is sound stays so, and is on its way to the settled state.
-use Rattle.std.proofs.Common.{◌≡◌, ◌≢◌, ℕ, ◌+◌, ◌<◌, ◌≤◌, List, [], length, Option, Some, None, refl, ap, ◌∙◌, sym, subst, arith, get_or, set, map, Bool, true, false, cond, inl, inr, eqb}
+use Rattle.std.proofs.Common.{◌≡◌, ◌≢◌, ℕ, ◌<◌, List, [], length, Option, Some, None, refl, ap, ◌∙◌, sym, subst, arith, get_or, set, map, Bool, true, false, cond, inl, inr, eqb}
 use Rattle.std.specs.Prelude.{IsSome, is_some, sum_by}
-use Rattle.std.proofs.lemmas.List.{length-set, length-map, get_or_past, get_or-set_same, get_or-set_other, get_or-map, ext_get_or}
+use Rattle.std.proofs.lemmas.List.{length-set, length-map, get_or_past, get_or-set_same, get_or-set_other}
 use Rattle.std.proofs.lemmas.Bool.{cases_eq, cases_lt}
 use Rattle.std.proofs.lemmas.Bool.Decides.{nat_tests}
 use Rattle.pin_core.specs.declared.id.Id.{Id}
@@ -9,7 +9,6 @@ use Rattle.pin_words.specs.Keepers.{KeeperState}
 use Rattle.ob_body.specs.declared.body.Body.{Body}
 use Rattle.ob_body.specs.declared.body.Body.TheVariants.{Event, Mutex, Semaphore, Timer}
 use Rattle.ob_body.specs.Mutex as mutex
-use Rattle.ob_body.specs.Mutex.{is_owner}
 use Rattle.ob_body.specs.Body.{owner_of, after_abandon}
 use Rattle.ob_body.proofs.Effects.{room_after_abandon}
 use Rattle.ob_tables.specs.declared.entry.Entry.{Entry}
@@ -34,25 +33,25 @@ use Rattle.ob_store.specs.Kept.{IsCounted, IsLive}
 use Rattle.ob_store.specs.Lives.{LivesState}
 use Rattle.ob_store.specs.Objects.{ObjectsState, KeptRest, kept_rest}
 use Rattle.ob_store.specs.Parts.{PartsState}
-use Rattle.ob_store.specs.Signaled.{SignaledState, IsEnough}
+use Rattle.ob_store.specs.Signaled.{SignaledState, KeepsEnough}
 use Rattle.ob_store.specs.State.{State, by_slot}
 use Rattle.ob_store.specs.UnderWay.{AreLeft, IsEnding, IsUnderWay}
 use Rattle.ob_store.proofs.BodyLaws.{formed_by}
 use Rattle.ob_store.proofs.BySlot.{recounted}
 use Rattle.ob_store.proofs.CountedLaws.{blocks_at}
-use Rattle.ob_store.proofs.EnoughLaws.{at_left_by, enough_unwaited}
+use Rattle.ob_store.proofs.EnoughLaws.{enough_unwaited}
 use Rattle.ob_store.proofs.KeptLaws.{sound_rested, state_rested}
 use Rattle.ob_store.proofs.LeftLaws.{left_blocks, left_more, room_left_at}
 use Rattle.ob_store.proofs.ListingLaws.{listing_counts}
 use Rattle.ob_store.proofs.NamedLaws.{named_fewer, sum_none}
-use Rattle.ob_store.proofs.OwnerLaws.{left_by_other}
+use Rattle.ob_store.proofs.SeatLaws.{read}
 
 left_mapped : (t : ℕ) (bodies after : List (Option Body)) → AreLeft bodies after → AreLeft (map (slot_left_by t) bodies) (map (slot_left_by t) after)
 left_mapped t bodies after l = record {
   long = length-map after (slot_left_by t) ∙ l.long ∙ sym (length-map bodies (slot_left_by t));
   each = λ k. elim (l.each k) [
-    | inl same ↦ inl (at_left_by t after k ∙ ap (slot_left_by t) same ∙ sym (at_left_by t bodies k))
-    | inr none ↦ inr (at_left_by t after k ∙ ap (slot_left_by t) none)
+    | inl same ↦ inl (read (slot_left_by t) after k ∙ ap (slot_left_by t) same ∙ sym (read (slot_left_by t) bodies k))
+    | inr none ↦ inr (read (slot_left_by t) after k ∙ ap (slot_left_by t) none)
   ];
 }
 
@@ -101,12 +100,6 @@ waiter_left t u w h = by (is_waits_of t w) refl h
     by true is h = absurd (cc)
     by false is h = (h, λ same. absurd (let own : is_waits_of t w ≡ true = thread_waits t w (h ∙ ap Some same) in cc (own, is)))
 
-at_dropped : (t : ℕ) (ws : List (Option Wait)) (n : ℕ) → get_or (map (unless_of t) ws) n None ≡ unless_of t (get_or ws n None)
-at_dropped t ws n = elim (cases_lt n (length ws)) [
-  | inl lt ↦ get_or-map (unless_of t) ws n None None lt
-  | inr le ↦ get_or_past (map (unless_of t) ws) n None (omega (arith, length-map ws (unless_of t))) ∙ ap (unless_of t) (sym (get_or_past ws n None le))
-]
-
 live_still : (threads : List (Option ℕ)) (t u : ℕ) → u ≢ t → IsLive threads u → IsLive (set threads t None) u
 live_still threads t u other live = subst IsSome (sym (get_or-set_other threads t u None None other)) live
 
@@ -151,7 +144,7 @@ module _ (p : PartsState) (q r : ObjectsState) (a : SignaledState) (t : ℕ)
   bodies_are = ap (λ (x : Objects). x.bodies) seen
 
   body_is : (k : ℕ) → get_or r.seen.bodies k None ≡ slot_left_by t (get_or q.seen.bodies k None)
-  body_is k = ap (λ (x : List (Option Body)). get_or x k None) bodies_are ∙ at_left_by t q.seen.bodies k
+  body_is k = ap (λ (x : List (Option Body)). get_or x k None) bodies_are ∙ read (slot_left_by t) q.seen.bodies k
 
   fewer : AreLeft p.objects.seen.bodies q.seen.bodies
   fewer = subst (λ (x : Objects). AreLeft p.objects.seen.bodies x.bodies) (sym blocks) (left_blocks ids p.objects.seen)
@@ -187,7 +180,7 @@ module _ (p : PartsState) (q r : ObjectsState) (a : SignaledState) (t : ℕ)
         (formed_by p.waits.clock p.objects.objects p.objects.seen.bodies r.seen.bodies form_at way.sound.formed)
         (record {
           owners = λ k u h. let own = owner_at k u h in live_still p.lives.threads t u own.1 (way.sound.of_live.owners k u own.0);
-          waiters = λ n u h. let own = waiter_left t u (get_or p.waits.waits n None) (sym (ap thread_of (at_dropped t p.waits.waits n)) ∙ h) in live_still p.lives.threads t u own.1 (way.sound.of_live.waiters n u own.0);
+          waiters = λ n u h. let own = waiter_left t u (get_or p.waits.waits n None) (sym (ap thread_of (read (unless_of t) p.waits.waits n)) ∙ h) in live_still p.lives.threads t u own.1 (way.sound.of_live.waiters n u own.0);
         })
         (room_dropped limit r.seen.bodies p.waits.waits t (room_changed limit p.objects.seen.bodies r.seen.bodies p.waits.waits
         (λ u k h. subst (λ (x : Option Body). slot_room limit u x ≡ true) (sym (body_is k)) (room_left_by limit t u (get_or q.seen.bodies k None) (room_left_at limit u p.objects.seen.bodies q.seen.bodies k fewer h))) way.sound.room));
@@ -210,7 +203,7 @@ module _ (p : PartsState) (q r : ObjectsState) (a : SignaledState) (t : ℕ)
             omega (arith, at, x, y, z));
       }
 
-  pub ending_thread : IsTied r → ((waits : List (Option Wait)) → IsEnough p.signaled q.seen.bodies waits → IsEnough a r.seen.bodies waits) → (first : KeeperState) (s : State) → IsEnding first p s → IsEnding first without (thread_ended s t)
+  pub ending_thread : IsTied r → KeepsEnough p.signaled q.seen.bodies a r.seen.bodies → (first : KeeperState) (s : State) → IsEnding first p s → IsEnding first without (thread_ended s t)
   ending_thread tied more first s ending = record {
     way = way_thread tied first s ending.way;
     enough = more dropped (enough_unwaited p.signaled p.objects.seen q.seen p.waits.waits t ids blocks ending.enough);
@@ -270,28 +263,3 @@ module _ (first : KeeperState) (p : PartsState) (s : State) (process : ℕ)
     };
     enough = ending.enough;
   }
-
--- the mutexes of the slots below one more are abandoned
-pub abandoned_more : (t i : ℕ) (old now after : List (Option Body)) → after ≡ set now i (slot_left_by t (get_or now i None)) → length now ≡ length old → get_or now i None ≡ get_or old i None
-    → ((k : ℕ) → k < i → get_or now k None ≡ slot_left_by t (get_or old k None)) → (k : ℕ) → k < i + 1 → get_or after k None ≡ slot_left_by t (get_or old k None)
-abandoned_more t i old now after is long here done k lt = ap (λ (x : List (Option Body)). get_or x k None) is ∙ elim (cases_eq k i) [
-  | inl same ↦ ap (λ j. get_or (set now i (slot_left_by t (get_or now i None))) j None) same ∙ at_set_own now i t ∙ ap (slot_left_by t) here ∙ ap (λ j. slot_left_by t (get_or old j None)) (sym same)
-  | inr other ↦ get_or-set_other now i k (slot_left_by t (get_or now i None)) None other ∙ done k (omega (arith, lt, other))
-]
-  where
-    at_set_own : (now : List (Option Body)) (i t : ℕ) → get_or (set now i (slot_left_by t (get_or now i None))) i None ≡ slot_left_by t (get_or now i None)
-    at_set_own now i t = elim (cases_lt i (length now)) [
-      | inl lt ↦ get_or-set_same now i (slot_left_by t (get_or now i None)) None lt
-      | inr le ↦ get_or_past (set now i (slot_left_by t (get_or now i None))) i None (omega (arith, length-set now i (slot_left_by t (get_or now i None)))) ∙ ap (slot_left_by t) (sym (get_or_past now i None le))
-    ]
-
-pub all_abandoned : (t n : ℕ) (old now : List (Option Body)) → length now ≡ length old → length old ≤ n → ((k : ℕ) → k < n → get_or now k None ≡ slot_left_by t (get_or old k None)) → now ≡ map (slot_left_by t) old
-all_abandoned t n old now long few done = ext_get_or None now (map (slot_left_by t) old) (long ∙ sym (length-map old (slot_left_by t))) (λ k lt. done k (omega (arith, lt, long, few)) ∙ sym (at_left_by t old k))
-
--- and where the thread owns none any more all are
-pub abandoned_early : (t i : ℕ) (old now : List (Option Body)) → length now ≡ length old → ((k : ℕ) → k < i → get_or now k None ≡ slot_left_by t (get_or old k None)) → ((k : ℕ) → i ≤ k → get_or now k None ≡ get_or old k None)
-    → ((k : ℕ) → is_owner t (slot_owner (get_or now k None)) ≡ false) → now ≡ map (slot_left_by t) old
-abandoned_early t i old now long done above none = all_abandoned t (length old) old now long (omega arith) (λ k lt. elim (cases_lt k i) [
-  | inl below ↦ done k below
-  | inr past ↦ above k past ∙ sym (left_by_other t (get_or old k None) (sym (ap (λ x. is_owner t (slot_owner x)) (above k past)) ∙ none k))
-])

@@ -1,22 +1,19 @@
 -- The slots by which it is enough to settle, while bodies and waits go and mutexes are abandoned.
-use Rattle.std.proofs.Common.{◌≡◌, ℕ, zero, suc, ◌<◌, List, [], ◌∷◌, length, Option, None, refl, ap, ◌∙◌, sym, subst, arith, get_or, set, map, Bool, true, false, inl, inr}
-use Rattle.std.proofs.lemmas.List.{length-map, get_or-map, get_or_past, get_or-set_other, set-get_or}
+use Rattle.std.proofs.Common.{◌≡◌, ℕ, zero, suc, ◌<◌, List, [], ◌∷◌, ◌++◌, length, Option, None, refl, ap, ◌∙◌, sym, subst, arith, get_or, set, map, Bool, true, false, inl, inr}
+use Rattle.std.specs.Prelude.{◌||◌}
+use Rattle.std.proofs.lemmas.List.{length-append, length-map, get_or-map, get_or_past, get_or-set_other}
 use Rattle.std.proofs.lemmas.Bool.{cases_eq, cases_lt}
 use Rattle.pin_core.specs.declared.id.Id.{Id}
 use Rattle.ob_body.specs.declared.body.Body.{Body}
-use Rattle.ob_body.specs.Mutex.{is_owner}
 use Rattle.ob_waits.specs.declared.wait.Wait.{Wait}
-use Rattle.ob_waits.specs.Form.{slot_owner}
 use Rattle.ob_waits.specs.Objects.{Objects, without_blocks}
 use Rattle.ob_waits.specs.Rules.{IsSettled, IsReadyAtOne}
-use Rattle.ob_waits.specs.Waits.{nowhere, is_ready, is_waits_of, names_one, unless_of}
+use Rattle.ob_waits.specs.Waits.{nowhere, is_ready, is_waits_of, names_one, names_slot, unless_of}
 use Rattle.ob_waits.proofs.Apart.{ready_at_changes}
 use Rattle.ob_waits.proofs.Settling.{ready_less}
-use Rattle.ob_store.specs.Signaled.{SignaledState, Grows, IsEnough, IsNoted}
-use Rattle.ob_store.specs.Ends.{slot_left_by}
+use Rattle.ob_store.specs.Signaled.{SignaledState, IsEnough, KeepsEnough}
 use Rattle.ob_store.specs.UnderWay.{AreLeft}
 use Rattle.ob_store.proofs.LeftLaws.{left_blocks, less_gone}
-use Rattle.ob_store.proofs.OwnerLaws.{left_by_other}
 
 -- where no wait is ready any are enough
 pub enough_settled : (a : SignaledState) (bodies : List (Option Body)) (ws : List (Option Wait)) → IsSettled bodies ws → IsEnough a bodies ws
@@ -57,53 +54,31 @@ ready_more bodies after ws ids more grown same at = record { each = λ n ready. 
         alone w is zero = is
         alone w is (suc n) = refl
 
--- a thread's mutexes are abandoned
-pub at_left_by : (t : ℕ) (bodies : List (Option Body)) (k : ℕ) → get_or (map (slot_left_by t) bodies) k None ≡ slot_left_by t (get_or bodies k None)
-at_left_by t bodies k = elim (cases_lt k (length bodies)) [
-  | inl lt ↦ get_or-map (slot_left_by t) bodies k None None lt
-  | inr le ↦ get_or_past (map (slot_left_by t) bodies) k None (omega (arith, length-map bodies (slot_left_by t))) ∙ ap (slot_left_by t) (sym (get_or_past bodies k None le))
-]
+names_more : (ids : List Id) (id : Id) (w : Option Wait) → names_one ids w ≡ true → names_one (ids ++ id ∷ []) w ≡ true
+names_more [] id w h = absurd (cc)
+names_more (x ∷ ids) id w h = by (names_slot x.slot w) h (names_more ids id w)
+  where
+    by : (b : Bool) → b || names_one ids w ≡ true → (names_one ids w ≡ true → names_one (ids ++ id ∷ []) w ≡ true) → b || names_one (ids ++ id ∷ []) w ≡ true
+    by true h more = refl
+    by false h more = more h
 
--- a thread's mutexes are abandoned, all of whose slots were added
-pub enough_abandoned : (a b : SignaledState) (bodies after : List (Option Body)) (t : ℕ) → after ≡ map (slot_left_by t) bodies → (b.whole ≡ true → a.whole ≡ true) → (b.whole ≡ true → (w : Option Wait) → names_one a.ids w ≡ true → names_one b.ids w ≡ true)
-    → (b.whole ≡ true → (k : ℕ) → ((i : ℕ) → i < length b.ids → (get_or b.ids i nowhere).slot ≡ k → ⊥) → is_owner t (slot_owner (get_or bodies k None)) ≡ false)
-    → (ws : List (Option Wait)) → IsEnough a bodies ws → IsEnough b after ws
-enough_abandoned a b bodies after t is before grown others ws enough = record {
-  each = λ whole. ready_more bodies after ws a.ids b.ids (grown whole)
-      (λ k out. ap (λ (x : List (Option Body)). get_or x k None) is ∙ at_left_by t bodies k ∙ left_by_other t (get_or bodies k None) (others whole k out))
-      (enough.each (before whole));
-}
+last_noted : (ids : List Id) (id : Id) → get_or (ids ++ id ∷ []) (length ids) nowhere ≡ id
+last_noted [] id = refl
+last_noted (x ∷ ids) id = last_noted ids id
 
-pub grows_same : (a : SignaledState) → Grows a a
-grows_same a = record { whole = λ whole. whole; named = λ whole w named. named; out = λ whole k out. out }
-
-pub grows_more : (a b c : SignaledState) → Grows a b → Grows b c → Grows a c
-grows_more a b c ab bc = record {
-  whole = λ whole. ab.whole (bc.whole whole);
-  named = λ whole w named. bc.named whole w (ab.named (bc.whole whole) w named);
-  out = λ whole k out. ab.out (bc.whole whole) k (bc.out whole k out);
-}
-
-pub noted_still : (a b : SignaledState) (bodies : List (Option Body)) (t k : ℕ) → Grows a b → IsNoted a bodies t k → IsNoted b bodies t k
-noted_still a b bodies t k grown noted = λ whole out. noted (grown.whole whole) (grown.out whole k out)
-
--- a thread's mutexes are abandoned, whose slots were all noted
-pub enough_noted : (a b : SignaledState) (p q : Objects) (t : ℕ) → q ≡ record p { bodies = map (slot_left_by t) p.bodies } → Grows a b → ((k : ℕ) → IsNoted b p.bodies t k)
-    → (ws : List (Option Wait)) → IsEnough a p.bodies ws → IsEnough b q.bodies ws
-enough_noted a b p q t seen grown noted = enough_abandoned a b p.bodies q.bodies t (ap (λ (x : Objects). x.bodies) seen) grown.whole grown.named (λ whole k. noted k whole)
-
--- one slot was noted, and the mutex in it is abandoned
-pub enough_at : (a b : SignaledState) (p q : Objects) (t k : ℕ) → q ≡ record p { bodies = set p.bodies k (slot_left_by t (get_or p.bodies k None)) } → Grows a b → IsNoted b p.bodies t k
-    → (ws : List (Option Wait)) → IsEnough a p.bodies ws → IsEnough b q.bodies ws
-enough_at a b p q t k is grown noted ws enough = record {
-  each = λ whole. ready_more p.bodies q.bodies ws a.ids b.ids (grown.named whole)
-      (λ j out. ap (λ (x : Objects). get_or x.bodies j None) is ∙ elim (cases_eq j k) [
-        | inl same ↦
-            let stays : slot_left_by t (get_or p.bodies k None) ≡ get_or p.bodies k None = left_by_other t (get_or p.bodies k None) (noted whole (λ i lt at. out i lt (at ∙ sym same))) in
-            ap (λ x. get_or (set p.bodies k x) j None) stays ∙ ap (λ (l : List (Option Body)). get_or l j None) (set-get_or p.bodies k None)
-        | inr other ↦ get_or-set_other p.bodies k j (slot_left_by t (get_or p.bodies k None)) None other
+-- a slot was noted, and its body changed
+pub enough_added : (a b : SignaledState) (p q : Objects) (id : Id) (x : Option Body) → q ≡ record p { bodies = set p.bodies id.slot x }
+    → (b.whole ≡ true → b.ids ≡ a.ids ++ id ∷ []) → (b.whole ≡ true → a.whole ≡ true) → KeepsEnough a p.bodies b q.bodies
+enough_added a b p q id x is added before ws enough = record {
+  each = λ whole. ready_more p.bodies q.bodies ws a.ids b.ids
+      (λ w named. ap (λ (ids : List Id). names_one ids w) (added whole) ∙ names_more a.ids id w named)
+      (λ j out. ap (λ (o : Objects). get_or o.bodies j None) is ∙ elim (cases_eq j id.slot) [
+        | inl same ↦ absurd (out (length a.ids)
+            (let long = ap (λ (ids : List Id). length ids) (added whole) in let more = length-append a.ids (id ∷ []) in omega (arith, long, more))
+            (ap (λ (ids : List Id). (get_or ids (length a.ids) nowhere).slot) (added whole) ∙ ap (λ (i : Id). i.slot) (last_noted a.ids id) ∙ sym same))
+        | inr other ↦ get_or-set_other p.bodies id.slot j x None other
       ])
-      (enough.each (grown.whole whole));
+      (enough.each (before whole));
 }
 
 -- a thread's blocks leave, and its wait

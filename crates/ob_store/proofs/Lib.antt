@@ -16,6 +16,7 @@ pub mod ListingLaws
 pub mod SettledLaws
 pub mod KeptLaws
 pub mod OwnerLaws
+pub mod OneByOne
 pub mod TimerLaws
 pub mod MemberLaws
 pub mod LeftLaws

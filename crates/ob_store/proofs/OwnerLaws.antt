@@ -3,7 +3,6 @@ use Rattle.std.proofs.Common.{◌≡◌, ◌≢◌, ℕ, zero, suc, ◌-◌, ◌
 use Rattle.std.specs.Prelude.{count_by, is_some, IsSome}
 use Rattle.std.proofs.lemmas.List.{length-set, length-map, length-replicate, get_or_past, get_or-set_same, get_or-set_other, get_or-map}
 use Rattle.std.proofs.lemmas.List.Sums.{sum_by-set, sum_by-cons, get_or-le-sum_by, count_by-le-length}
-use Rattle.std.proofs.Math.Seq.{map-set_same}
 use Rattle.std.proofs.lemmas.Bool.{cases_eq, cases_lt}
 use Rattle.std.proofs.lemmas.Bool.Decides.{nat_tests}
 use Rattle.ob_body.specs.declared.body.Body.{Body}
@@ -12,7 +11,6 @@ use Rattle.ob_body.specs.Mutex.{after_abandon, free_mutex, is_owner}
 use Rattle.ob_arena.specs.Slots.{Slots, is_vacant_at}
 use Rattle.ob_arena.proofs.SlotLemmas.{vacant_empty, vacant_within}
 use Rattle.ob_waits.specs.Form.{slot_owner}
-use Rattle.ob_waits.specs.Objects.{Objects}
 use Rattle.ob_store.specs.declared.seat.Seat.{Seat}
 use Rattle.ob_store.specs.Ends.{slot_left_by}
 use Rattle.ob_store.specs.Objects.{Tag, object_at, objects_in, no_tag, places_of, seat_body, vacancy}
@@ -164,7 +162,7 @@ left_by_other t (Some (Semaphore s)) h = refl
 left_by_other t (Some (Timer m)) h = refl
 
 -- what a thread left it doesn't own, so it leaves it again as it is
-left_twice : (t : ℕ) (x : Option Body) → slot_left_by t (slot_left_by t x) ≡ slot_left_by t x
+pub left_twice : (t : ℕ) (x : Option Body) → slot_left_by t (slot_left_by t x) ≡ slot_left_by t x
 left_twice t None = refl
 left_twice t (Some (Event e)) = refl
 left_twice t (Some (Semaphore s)) = refl
@@ -174,13 +172,6 @@ left_twice t (Some (Mutex m)) = ap (λ z. Some (Mutex z)) (by (is_owner t m.owne
     by : (b : Bool) → is_owner t m.owner ≡ b → after_abandon t (cond b (free_mutex true) m) ≡ cond b (free_mutex true) m
     by true is = refl
     by false is = ap (λ b. cond b (free_mutex true) m) is
-
--- a slot that was left before the others are
-pub left_before : (t k : ℕ) (o p : Objects) → p ≡ record o { bodies = set o.bodies k (slot_left_by t (get_or o.bodies k None)) } → record p { bodies = map (slot_left_by t) p.bodies } ≡ record o { bodies = map (slot_left_by t) o.bodies }
-left_before t k o p is =
-    let f = slot_left_by t in
-    let bodies : map f (set o.bodies k (f (get_or o.bodies k None))) ≡ map f o.bodies = map-set_same f o.bodies k (f (get_or o.bodies k None)) None (left_twice t (get_or o.bodies k None)) in
-    ap (λ (z : Objects). record z { bodies = map f z.bodies }) is ∙ (λ i. record o { bodies = bodies i })
 
 -- a vacant slot has no seat
 pub vacant_seat : (s : Slots Seat) (labels : List Tag) (k : ℕ) → is_vacant_at (vacancy (places_of s labels)) k ≡ true → (k < length s.bodies) × (get_or s.bodies k None ≡ None)

@@ -1,12 +1,10 @@
 -- Timers fire: what is sound stays so, and is on its way to the settled state; none is due then.
-use Rattle.std.proofs.Common.{◌≡◌, ℕ, ◌<◌, List, [], ◌∷◌, ◌++◌, length, Option, Some, None, refl, ap, ◌∙◌, sym, subst, arith, get_or, set, map, Bool, true, false, cond, inl, inr}
-use Rattle.std.specs.Prelude.{◌||◌, count_by}
-use Rattle.std.proofs.Math.Seq.{map-set_same}
-use Rattle.std.proofs.lemmas.List.{length-append, length-map, get_or-map, get_or_past, get_or-set_other, ext_get_or}
+use Rattle.std.proofs.Common.{◌≡◌, ℕ, ◌<◌, List, length, Option, Some, None, refl, ap, ◌∙◌, sym, subst, arith, get_or, set, map, Bool, true, false, cond, inl, inr}
+use Rattle.std.specs.Prelude.{count_by}
+use Rattle.std.proofs.lemmas.List.{get_or_past}
 use Rattle.std.proofs.lemmas.List.Sums.{sum_by-set}
-use Rattle.std.proofs.lemmas.Bool.{cases_eq, cases_lt}
+use Rattle.std.proofs.lemmas.Bool.{cases_lt}
 use Rattle.std.proofs.lemmas.Bool.Decides.{nat_tests}
-use Rattle.pin_core.specs.declared.id.Id.{Id}
 use Rattle.ob_body.specs.declared.body.Body.{Body}
 use Rattle.ob_body.specs.declared.body.Body.TheVariants.{Event, Mutex, Semaphore, Timer}
 use Rattle.ob_body.specs.declared.timer.Timer.{Timer as TimerBody}
@@ -15,12 +13,10 @@ use Rattle.ob_body.specs.Timer as timer
 use Rattle.ob_rights.specs.declared.kind.Kind.TheVariants as kind
 use Rattle.ob_body.specs.Body.{after_fire, due_of, kind_of}
 use Rattle.ob_body.proofs.Effects.{room_after_fire}
-use Rattle.ob_waits.specs.declared.wait.Wait.{Wait}
 use Rattle.ob_waits.specs.Form.{IsAfter, form_of, slot_due, slot_owner}
 use Rattle.ob_waits.specs.Objects.{Objects, slot_room}
-use Rattle.ob_waits.specs.Waits.{names_one, names_slot, nowhere}
 use Rattle.ob_waits.proofs.Room.{room_changed}
-use Rattle.ob_store.specs.Signaled.{SignaledState, IsEnough}
+use Rattle.ob_store.specs.Signaled.{SignaledState}
 use Rattle.ob_store.specs.Agreement.{IsTied}
 use Rattle.ob_store.specs.Objects.{Object, ObjectsState, KeptRest, kept_rest}
 use Rattle.ob_store.specs.Parts.{PartsState, state_of}
@@ -29,7 +25,7 @@ use Rattle.ob_store.specs.Kept.{IsKept, AreFormed, form_in, unset}
 use Rattle.ob_store.specs.UnderWay.{AreLeft, IsUnderWay}
 use Rattle.ob_store.proofs.KeptLaws.{sound_rested, state_rested}
 use Rattle.ob_store.proofs.LeftLaws.{left_same}
-use Rattle.ob_store.proofs.EnoughLaws.{ready_more}
+use Rattle.ob_store.proofs.SeatLaws.{read}
 
 -- a timer that isn't due stays
 timer_fired : (now : ℕ) (t : TimerBody) → is_due now t.due ≡ false → timer.after_fire now t ≡ t
@@ -70,25 +66,9 @@ fired_done : (now : ℕ) (x : Option Body) → slot_is_due now (slot_fired now x
 fired_done now None = refl
 fired_done now (Some b) = body_done now b
 
--- a slot that fired before the others do
-pub fired_before : (now k : ℕ) (o p : Objects) → p ≡ record o { bodies = set o.bodies k (slot_fired now (get_or o.bodies k None)) } → record p { bodies = map (slot_fired now) p.bodies } ≡ record o { bodies = map (slot_fired now) o.bodies }
-fired_before now k o p is =
-    let f = slot_fired now in
-    let bodies : map f (set o.bodies k (f (get_or o.bodies k None))) ≡ map f o.bodies = map-set_same f o.bodies k (f (get_or o.bodies k None)) None (fired_other now (f (get_or o.bodies k None)) (fired_done now (get_or o.bodies k None))) in
-    ap (λ (z : Objects). record z { bodies = map f z.bodies }) is ∙ (λ i. record o { bodies = bodies i })
-
-pub at_fired : (now : ℕ) (bodies : List (Option Body)) (k : ℕ) → get_or (map (slot_fired now) bodies) k None ≡ slot_fired now (get_or bodies k None)
-at_fired now bodies k = elim (cases_lt k (length bodies)) [
-  | inl lt ↦ get_or-map (slot_fired now) bodies k None None lt
-  | inr le ↦ get_or_past (map (slot_fired now) bodies) k None (omega (arith, length-map bodies (slot_fired now))) ∙ ap (slot_fired now) (sym (get_or_past bodies k None le))
-]
-
--- where none is due all have fired
-pub none_fired : (now : ℕ) (bodies : List (Option Body)) → ((k : ℕ) → slot_is_due now (get_or bodies k None) ≡ false) → map (slot_fired now) bodies ≡ bodies
-none_fired now bodies none = ext_get_or None (map (slot_fired now) bodies) bodies (length-map bodies (slot_fired now)) (λ k lt. at_fired now bodies k ∙ fired_other now (get_or bodies k None) (none k))
-
-pub all_fired : (now : ℕ) (o p : Objects) → ((k : ℕ) → slot_is_due now (get_or p.bodies k None) ≡ false) → record p { bodies = map (slot_fired now) p.bodies } ≡ record o { bodies = map (slot_fired now) o.bodies } → p ≡ record o { bodies = map (slot_fired now) o.bodies }
-all_fired now o p none same = (λ i. record p { bodies = sym (none_fired now p.bodies none) i }) ∙ same
+-- what fired is as it was fired again
+pub fired_twice : (now : ℕ) (x : Option Body) → slot_fired now (slot_fired now x) ≡ slot_fired now x
+fired_twice now x = fired_other now (slot_fired now x) (fired_done now x)
 
 -- with each that fires one fewer is due
 due_within : (now : ℕ) (bodies : List (Option Body)) (k : ℕ) → slot_is_due now (get_or bodies k None) ≡ true → k < length bodies
@@ -106,20 +86,6 @@ fewer_due now k o p is due =
     let zero : f y ≡ 0 = ap {B = ℕ} (λ b. cond b 1 0) (fired_done now (get_or o.bodies k None)) in
     let same : count_by (slot_is_due now) p.bodies ≡ count_by (slot_is_due now) (set o.bodies k y) = ap (λ (z : Objects). count_by (slot_is_due now) z.bodies) is in
     omega (arith, a, one, zero, same)
-
--- to settle by the slots that fired is enough, where they are noted
-pub enough_fired : (a b : SignaledState) (p q : Objects) (now k : ℕ) → q ≡ record p { bodies = set p.bodies k (slot_fired now (get_or p.bodies k None)) }
-    → (b.whole ≡ true → a.whole ≡ true) → (b.whole ≡ true → (w : Option Wait) → names_one a.ids w ≡ true → names_one b.ids w ≡ true)
-    → (b.whole ≡ true → ((i : ℕ) → i < length b.ids → (get_or b.ids i nowhere).slot ≡ k → ⊥) → ⊥)
-    → (ws : List (Option Wait)) → IsEnough a p.bodies ws → IsEnough b q.bodies ws
-enough_fired a b p q now k is before grown noted ws enough = record {
-  each = λ whole. ready_more p.bodies q.bodies ws a.ids b.ids (grown whole)
-      (λ j out. ap (λ (x : Objects). get_or x.bodies j None) is ∙ elim (cases_eq j k) [
-        | inl same ↦ absurd (noted whole (λ i lt at. out i lt (at ∙ sym same)))
-        | inr other ↦ get_or-set_other p.bodies k j (slot_fired now (get_or p.bodies k None)) None other
-      ])
-      (enough.each (before whole));
-}
 
 -- what holds of a body holds of it once it fired
 unset_fired : (now : ℕ) (b : Body) → unset (form_of (after_fire now b)) ≡ unset (form_of b)
@@ -162,8 +128,8 @@ room_fired limit t now (Some b) h = room_after_fire limit t now b h
 
 formed_fired : (clock now : ℕ) (objects : List (Option Object)) (bodies : List (Option Body)) → AreFormed clock objects bodies → AreFormed clock objects (map (slot_fired now) bodies)
 formed_fired clock now objects bodies f = record {
-  each = λ k o b there is. by k o b (get_or bodies k None) refl there (sym (at_fired now bodies k) ∙ is);
-  later = λ k. subst (λ (x : Option Body). IsAfter clock (slot_due x)) (sym (at_fired now bodies k)) (slot_after clock now (get_or bodies k None) (f.later k));
+  each = λ k o b there is. by k o b (get_or bodies k None) refl there (sym (read (slot_fired now) bodies k) ∙ is);
+  later = λ k. subst (λ (x : Option Body). IsAfter clock (slot_due x)) (sym (read (slot_fired now) bodies k)) (slot_after clock now (get_or bodies k None) (f.later k));
 }
   where
     by : (k : ℕ) (o : Object) (b : Body) (x : Option Body) → get_or bodies k None ≡ x → get_or objects k None ≡ Some o → slot_fired now x ≡ Some b → unset (form_of b) ≡ form_in o.descr
@@ -191,7 +157,7 @@ module _ (p : PartsState) (q : ObjectsState) (a : SignaledState) (now : ℕ)
   bodies_are = ap (λ (x : Objects). x.bodies) seen
 
   body_is : (k : ℕ) → get_or q.seen.bodies k None ≡ slot_fired now (get_or p.objects.seen.bodies k None)
-  body_is k = ap (λ (x : List (Option Body)). get_or x k None) bodies_are ∙ at_fired now p.objects.seen.bodies k
+  body_is k = ap (λ (x : List (Option Body)). get_or x k None) bodies_are ∙ read (slot_fired now) p.objects.seen.bodies k
 
   pub way_fired : IsUnderWay p.objects.keeper (record p { objects = q; signaled = a }) (record (state_of p) { bodies = map (slot_fired now) p.objects.seen.bodies })
   way_fired = record {
@@ -210,24 +176,3 @@ module _ (p : PartsState) (q : ObjectsState) (a : SignaledState) (now : ℕ)
     bodies = subst (λ (x : List (Option Body)). AreLeft x q.seen.bodies) bodies_are (left_same q.seen.bodies);
     keeper = ap (λ (r : KeptRest). r.keeper) rest;
   }
-
--- a slot was noted, and its timer fired
-names_more : (ids : List Id) (id : Id) (w : Option Wait) → names_one ids w ≡ true → names_one (ids ++ id ∷ []) w ≡ true
-names_more [] id w h = absurd (cc)
-names_more (x ∷ ids) id w h = by (names_slot x.slot w) h (names_more ids id w)
-  where
-    by : (b : Bool) → b || names_one ids w ≡ true → (names_one ids w ≡ true → names_one (ids ++ id ∷ []) w ≡ true) → b || names_one (ids ++ id ∷ []) w ≡ true
-    by true h more = refl
-    by false h more = more h
-
-last_noted : (ids : List Id) (id : Id) → get_or (ids ++ id ∷ []) (length ids) nowhere ≡ id
-last_noted [] id = refl
-last_noted (x ∷ ids) id = last_noted ids id
-
-pub enough_signaled : (a b : SignaledState) (p q : Objects) (now k : ℕ) (id : Id) → q ≡ record p { bodies = set p.bodies k (slot_fired now (get_or p.bodies k None)) } → id.slot ≡ k
-    → (b.whole ≡ true → b.ids ≡ a.ids ++ id ∷ []) → (b.whole ≡ true → a.whole ≡ true) → (ws : List (Option Wait)) → IsEnough a p.bodies ws → IsEnough b q.bodies ws
-enough_signaled a b p q now k id is own added before ws enough = enough_fired a b p q now k is before
-    (λ whole w named. ap (λ (ids : List Id). names_one ids w) (added whole) ∙ names_more a.ids id w named)
-    (λ whole out. out (length a.ids)
-    (let long = ap (λ (ids : List Id). length ids) (added whole) in let more = length-append a.ids (id ∷ []) in omega (arith, long, more))
-    (ap (λ (ids : List Id). (get_or ids (length a.ids) nowhere).slot) (added whole) ∙ ap (λ (x : Id). x.slot) (last_noted a.ids id) ∙ own)) ws enough

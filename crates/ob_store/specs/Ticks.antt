@@ -5,6 +5,7 @@ use Rattle.ob_body.specs.Body.{after_fire}
 use Rattle.ob_body.specs.Timer.{is_due}
 use Rattle.ob_waits.specs.Deadlines as waits
 use Rattle.ob_waits.specs.Form.{slot_due}
+use Rattle.ob_waits.specs.Objects.{Objects}
 use Rattle.ob_store.specs.State.{State, settled}
 
 -- the greatest moment that it can be
@@ -18,6 +19,9 @@ slot_is_due now x = is_due now (slot_due x)
 abbrev pub slot_fired : ℕ → Option Body → Option Body
 slot_fired now None = None
 slot_fired now (Some b) = Some (after_fire now b)
+
+abbrev pub timers_fired : ℕ → Objects → Objects
+timers_fired now o = record o { bodies = map (slot_fired now) o.bodies }
 
 -- it is the moment now, and the timers that are due have fired
 abbrev pub fired : ℕ → State → State

@@ -4,10 +4,11 @@ use Rattle.std.specs.Prelude.{◌≡◌, ◌⊎◌, ℕ, zero, suc, List, [], �
 use Rattle.ob_body.specs.declared.body.Body.{Body}
 use Rattle.ob_tables.specs.declared.entry.Entry.{Entry}
 use Rattle.pin_words.specs.Keepers.{KeeperState}
+use Rattle.ob_store.specs.declared.parts.Parts.{Parts}
 use Rattle.ob_store.specs.Agreement.{IsTied}
 use Rattle.ob_store.specs.Kept.{IsSound}
 use Rattle.ob_store.specs.Moves.{OnlyCloses}
-use Rattle.ob_store.specs.Parts.{PartsState, state_of}
+use Rattle.ob_store.specs.Parts.{PartsState, parts_of, state_of}
 use Rattle.ob_store.specs.Signaled.{IsEnough}
 use Rattle.ob_store.specs.State.{State}
 
@@ -28,6 +29,10 @@ pub record IsUnderWay (first : KeeperState) (p : PartsState) (s : State) : Type 
 pub record IsEnding (first : KeeperState) (p : PartsState) (s : State) : Type 0 where
   pub way : IsUnderWay first p s
   pub enough : IsEnough p.signaled p.objects.seen.bodies p.waits.waits
+
+-- the parts are on their way to a change of wherever they were on their way to
+abbrev pub Carries : {K : Type 0} → Parts K → Parts K → (State → State) → Type 0
+Carries old new change = (first : KeeperState) (s : State) → IsEnding first (parts_of old) s → IsEnding first (parts_of new) (change s)
 
 -- the places of a table whose first n entries have left
 abbrev pub without_first : ℕ → List (Option Entry) → List (Option Entry)

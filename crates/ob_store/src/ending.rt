@@ -1,18 +1,20 @@
-ghost use Rattle.std.specs.Prelude.{◌≡◌, ◌+◌, ◌<◌, ℕ, List, Option, IsSome, None, Some, if◌then◌else◌, length, map, slice_index_or, slice_set};
+ghost use Rattle.std.specs.Prelude.{false, ◌≡◌, ◌+◌, ◌<◌, ℕ, List, Option, IsSome, None, Some, if◌then◌else◌, length, map, slice_index_or, slice_set};
 ghost use Rattle.pin_words.specs.Keepers.{KeeperState};
 ghost use Rattle.ob_waits.specs.Objects.{without_blocks};
+ghost use Rattle.ob_body.specs.Mutex.{is_owner};
+ghost use Rattle.ob_waits.specs.Form.{slot_owner};
 ghost use Rattle.ob_waits.specs.Rules.{IsKept as AreWaits};
 ghost use Rattle.ob_waits.specs.declared.wait.Wait.{Wait};
-ghost use Rattle.ob_store.specs.Signaled.{Grows, IsEnough, IsNoted};
+ghost use Rattle.ob_store.specs.Signaled.{KeepsEnough};
 ghost use Rattle.ob_waits.specs.Waits.{thread_ids};
-ghost use Rattle.ob_store.specs.Ends.{exited, left, process_ended, slot_left_by, thread_ended, threads_ended, unless_threads};
+ghost use Rattle.ob_store.specs.Ends.{abandoned_by, exited, left, process_ended, thread_ended, threads_ended, unless_threads};
 ghost use Rattle.ob_store.specs.Lives.{is_of};
 ghost use Rattle.ob_store.specs.Moves.{OnlyCloses};
 ghost use Rattle.ob_store.specs.Objects.{kept_rest};
 ghost use Rattle.ob_store.specs.Kept.{IsSound};
 ghost use Rattle.ob_store.specs.Parts.{parts_of};
 ghost use Rattle.ob_store.specs.State.{State, settled};
-ghost use Rattle.ob_store.specs.UnderWay.{IsEnding, tables_left, with_left};
+ghost use Rattle.ob_store.specs.UnderWay.{Carries, IsEnding, tables_left, with_left};
 
 use crate::entries::leave_directory;
 use crate::objects::Objects;
@@ -39,68 +41,61 @@ fn leave_wait<K: PinKeeper>(objects: &mut Objects<K>, waits: &Waits, thread: u32
     leave_all(objects, ids);
 }
 
-/// The slot is noted, if the thread owns the mutex in it.
-fn note_at<K: PinKeeper>(objects: &Objects<K>, signaled: &mut SignaledSlots, thread: u32, slot: u32)
-    ensures grown { Grows signaled.old signaled.new }
-    ensures noted { IsNoted signaled.new objects.now.seen.bodies thread slot }
-{
-    let id = Id {
-        slot,
-        generation: 0,
-    };
-    let Some(body) = objects.body(id) else {
-        return;
-    };
-    if body.owner() == Some(thread) {
-        signaled.add(id);
-    }
-}
-
-/// The slots of the mutexes that a thread owns are noted. It looks at no slot where the thread owns none, else at each.
-fn note_all<K: PinKeeper>(objects: &Objects<K>, signaled: &mut SignaledSlots, thread: u32)
-    ensures grown { Grows signaled.old signaled.new }
-    ensures noted { (k : ℕ) → IsNoted signaled.new objects.now.seen.bodies thread k }
-{
-    if objects.owns_none(thread) {
-        return;
-    }
-    // Called for its clause: that there are as many bodies as slots.
-    objects.kept();
-    for slot in 0..objects.slots() {
-        note_at(objects, signaled, thread, slot);
-    }
-}
-
-/// The mutexes of a thread that are listed are abandoned, and their slots noted: all that it owns, unless the list is wrong or
-/// the thread isn't counted.
-fn abandon_listed<K: PinKeeper>(objects: &mut Objects<K>, signaled: &mut SignaledSlots, thread: u32)
-    ensures seen { record objects.new.seen { bodies = map (slot_left_by thread) objects.new.seen.bodies } ≡ record objects.old.seen { bodies = map (slot_left_by thread) objects.old.seen.bodies } }
+/// The mutex in a slot is abandoned and the slot noted, where the thread owns it.
+fn abandon_at<K: PinKeeper>(
+    objects: &mut Objects<K>,
+    signaled: &mut SignaledSlots,
+    thread: u32,
+    slot: u32,
+)
+    ensures seen { abandoned_by thread objects.new.seen ≡ abandoned_by thread objects.old.seen }
     ensures rest { kept_rest objects.new ≡ kept_rest objects.old }
-    ensures enough { (waits : List (Option Wait)) → IsEnough signaled.old objects.old.seen.bodies waits → IsEnough signaled.new objects.new.seen.bodies waits }
+    ensures enough { KeepsEnough signaled.old objects.old.seen.bodies signaled.new objects.new.seen.bodies }
+    ensures gone { is_owner thread (slot_owner (slice_index_or objects.new.seen.bodies slot None)) ≡ false }
+    ensures others { (k : ℕ) → is_owner thread (slot_owner (slice_index_or objects.old.seen.bodies k None)) ≡ false → is_owner thread (slot_owner (slice_index_or objects.new.seen.bodies k None)) ≡ false }
+{
+    if objects.abandon_at(slot, thread) {
+        signaled.add(Id {
+            slot,
+            generation: 0,
+        });
+    }
+}
+
+/// The mutexes of a thread that are listed are abandoned, and their slots noted.
+fn abandon_listed<K: PinKeeper>(objects: &mut Objects<K>, signaled: &mut SignaledSlots, thread: u32)
+    ensures seen { abandoned_by thread objects.new.seen ≡ abandoned_by thread objects.old.seen }
+    ensures rest { kept_rest objects.new ≡ kept_rest objects.old }
+    ensures enough { KeepsEnough signaled.old objects.old.seen.bodies signaled.new objects.new.seen.bodies }
 {
     for _ in 0..objects.owned(thread) {
         let slot = objects.hint(thread);
-        note_at(objects, signaled, thread, slot);
-        objects.abandon_at(slot, thread);
+        abandon_at(objects, signaled, thread, slot);
     }
 }
 
-/// The mutexes that a thread owns are abandoned, and their slots noted. Where its list is right, it looks at these alone, and
-/// else at each slot.
+/// The mutexes that a thread owns are abandoned, and their slots noted. Its list says where they are, but nothing is proved of
+/// the list: so as long as the thread is known to own more, or isn't counted, slot after slot is looked at.
 fn abandon<K: PinKeeper>(objects: &mut Objects<K>, signaled: &mut SignaledSlots, thread: u32)
-    ensures seen { objects.new.seen ≡ record objects.old.seen { bodies = map (slot_left_by thread) objects.old.seen.bodies } }
+    ensures seen { objects.new.seen ≡ abandoned_by thread objects.old.seen }
     ensures rest { kept_rest objects.new ≡ kept_rest objects.old }
-    ensures enough { (waits : List (Option Wait)) → IsEnough signaled.old objects.old.seen.bodies waits → IsEnough signaled.new objects.new.seen.bodies waits }
+    ensures enough { KeepsEnough signaled.old objects.old.seen.bodies signaled.new objects.new.seen.bodies }
 {
     abandon_listed(objects, signaled, thread);
-    note_all(objects, signaled, thread);
-    objects.abandon(thread);
+    // There are as many bodies as slots.
+    objects.kept();
+    for slot in 0..objects.slots() {
+        if objects.owns_none(thread) {
+            return;
+        }
+        abandon_at(objects, signaled, thread, slot);
+    }
 }
 
 impl<K: PinKeeper> Parts<K> {
     /// A thread ends, and nothing settles yet: its wait is dropped, then its mutexes are abandoned.
     fn end_one(&mut self, thread: u32)
-        ensures way { (first : KeeperState) (s : State) → IsEnding first (parts_of self.old) s → IsEnding first (parts_of self.new) (thread_ended s thread) }
+        ensures way { Carries self.old self.new (λ s. thread_ended s thread) }
         ensures lives { self.new.lives ≡ record self.old.lives { threads = slice_set self.old.lives.threads thread None } }
     {
         leave_wait(&mut self.objects, &self.waits, thread);
@@ -112,7 +107,7 @@ impl<K: PinKeeper> Parts<K> {
 
     /// The same of a thread that is live and of the process, if it is.
     fn end_of(&mut self, process: u32, thread: u32)
-        ensures way { (first : KeeperState) (s : State) → IsEnding first (parts_of self.old) s → IsEnding first (parts_of self.new) (if is_of process (slice_index_or s.threads thread None) then thread_ended s thread else s) }
+        ensures way { Carries self.old self.new (λ s. if is_of process (slice_index_or s.threads thread None) then thread_ended s thread else s) }
         ensures long { length self.new.lives.threads ≡ length self.old.lives.threads }
         ensures gone { slice_index_or self.new.lives.threads thread None ≡ Some process → ⊥ }
         ensures fewer { (t q : ℕ) → slice_index_or self.new.lives.threads t None ≡ Some q → slice_index_or self.old.lives.threads t None ≡ Some q }
@@ -124,7 +119,7 @@ impl<K: PinKeeper> Parts<K> {
 
     /// The threads of a process end, by rising number. It looks at the threads that the process was given.
     fn end_all(&mut self, process: u32)
-        ensures way { (first : KeeperState) (s : State) → IsEnding first (parts_of self.old) s → IsEnding first (parts_of self.new) (threads_ended s process (length self.old.lives.threads)) }
+        ensures way { Carries self.old self.new (λ s. threads_ended s process (length self.old.lives.threads)) }
         ensures gone { (t : ℕ) → slice_index_or self.new.lives.threads t None ≡ Some process → ⊥ }
     {
         let end = self.lives.next_thread();
@@ -171,7 +166,7 @@ impl<K: PinKeeper> Parts<K> {
         requires sound { IsSound (parts_of self.old) }
         requires table { process < length self.old.tables.tables }
         requires alone { (t : ℕ) → slice_index_or self.old.lives.threads t None ≡ Some process → ⊥ }
-        ensures way { (first : KeeperState) (s : State) → IsEnding first (parts_of self.old) s → IsEnding first (parts_of self.new) (process_ended s process) }
+        ensures way { Carries self.old self.new (λ s. process_ended s process) }
     {
         let places = self.tables.take_entries(process);
         self.leave_entries(process, places.as_slice());
@@ -182,7 +177,7 @@ impl<K: PinKeeper> Parts<K> {
     fn leave_process(&mut self, process: u32)
         requires sound { IsSound (parts_of self.old) }
         requires table { process < length self.old.tables.tables }
-        ensures way { (first : KeeperState) (s : State) → IsEnding first (parts_of self.old) s → IsEnding first (parts_of self.new) (unless_threads s process) }
+        ensures way { Carries self.old self.new (λ s. unless_threads s process) }
     {
         if self.lives.has_threads(process) {
             return;

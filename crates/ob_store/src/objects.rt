@@ -48,8 +48,7 @@ impl<K: PinKeeper> Model for Objects<K> {
 
 impl<K: PinKeeper> Objects<K> {
     /// As many slots as the keeper has, and no object. The keeper comes back where memory is wanting. The mutexes of threads
-    /// below `threads` are counted and listed, so that [`abandon`](Objects::abandon) looks at what a thread has alone. That
-    /// takes 8 bytes for each slot and 8 for each of these threads.
+    /// below `threads` are counted and listed, so that the end of a thread looks at what it has alone. That takes 8 bytes for each slot and 8 for each of these threads.
     pub fn new(alloc: Global, slots: u32, threads: u32, keeper: K) -> Result<Objects<K>, K>
         requires fresh { IsFresh (K.kept keeper) (K.kept keeper).shape }
         requires slots { slots ≡ (K.kept keeper).shape.slots }
@@ -208,8 +207,9 @@ impl<K: PinKeeper> Objects<K> {
         }
     }
 
-    /// The mutex in a slot is abandoned, where the thread owns it.
-    pub(crate) fn abandon_at(&mut self, slot: u32, thread: u32)
+    /// The mutex in a slot is abandoned, where the thread owns it; whether it did.
+    pub(crate) fn abandon_at(&mut self, slot: u32, thread: u32) -> bool
+        ensures owned { result ≡ is_owner thread (slot_owner (slice_index_or self.old.seen.bodies slot None)) }
         ensures seen { self.new.seen ≡ record self.old.seen { bodies = slice_set self.old.seen.bodies slot (slot_left_by thread (slice_index_or self.old.seen.bodies slot None)) } }
         ensures rest { kept_rest self.new ≡ kept_rest self.old }
     {
@@ -218,13 +218,14 @@ impl<K: PinKeeper> Objects<K> {
             generation: 0,
         };
         let Some(mut body) = self.body(id) else {
-            return;
+            return false;
         };
         if body.owner() != Some(thread) {
-            return;
+            return false;
         }
         body.abandon(thread);
         self.put(id, body);
+        true
     }
 
     /// Whether it is known that a thread owns no mutex.
@@ -232,34 +233,6 @@ impl<K: PinKeeper> Objects<K> {
         ensures { IsTrue result → (k : ℕ) → is_owner thread (slot_owner (slice_index_or self.now.seen.bodies k None)) ≡ false }
     {
         self.seats.owns_none(thread)
-    }
-
-    /// The mutexes that a thread owns are abandoned, by a pass over the slots up to the last of them.
-    fn abandon_all(&mut self, thread: u32)
-        ensures seen { self.new.seen ≡ record self.old.seen { bodies = map (slot_left_by thread) self.old.seen.bodies } }
-        ensures rest { kept_rest self.new ≡ kept_rest self.old }
-    {
-        // Called for its clause: that there are as many bodies as slots.
-        self.kept();
-        for slot in 0..self.slots() {
-            if self.owns_none(thread) {
-                return;
-            }
-            self.abandon_at(slot, thread);
-        }
-    }
-
-    /// The mutexes that a thread owns are abandoned. Where its list is right, it looks at these alone, and else at the slots up to
-    /// the last of them. For a thread that isn't counted it looks at all slots.
-    pub fn abandon(&mut self, thread: u32)
-        ensures seen { self.new.seen ≡ record self.old.seen { bodies = map (slot_left_by thread) self.old.seen.bodies } }
-        ensures rest { kept_rest self.new ≡ kept_rest self.old }
-    {
-        for _ in 0..self.seats.owned(thread) {
-            let slot = self.seats.hint(thread);
-            self.abandon_at(slot, thread);
-        }
-        self.abandon_all(thread);
     }
 
     /// A slot whose timer is due. Where none is, that is known at once.

@@ -1,11 +1,11 @@
 ghost use Rattle.std.specs.Prelude.{◌≡◌, ◌≤◌, ℕ, IfNone, IfSome, List, None, Option, false, map, slice_index_or, true};
 ghost use Rattle.ob_waits.specs.declared.wait.Wait.{Wait};
 ghost use Rattle.ob_waits.specs.Deadlines.{is_overdue};
-ghost use Rattle.ob_store.specs.Signaled.{IsEnough};
+ghost use Rattle.ob_store.specs.Signaled.{KeepsEnough};
 ghost use Rattle.ob_store.specs.Moves.{OnlyCloses};
 ghost use Rattle.ob_store.specs.Objects.{kept_rest};
 ghost use Rattle.ob_store.specs.State.{settled};
-ghost use Rattle.ob_store.specs.Ticks.{lapsed, slot_fired, slot_is_due, ticked};
+ghost use Rattle.ob_store.specs.Ticks.{lapsed, slot_fired, slot_is_due, ticked, timers_fired};
 
 use crate::objects::Objects;
 use crate::signaled::SignaledSlots;
@@ -16,9 +16,9 @@ use pin_words::PinKeeper;
 
 /// The timers that are due fire, and their slots are noted. It looks at these alone.
 fn fire_all<K: PinKeeper>(objects: &mut Objects<K>, signaled: &mut SignaledSlots, now: u64)
-    ensures seen { objects.new.seen ≡ record objects.old.seen { bodies = map (slot_fired now) objects.old.seen.bodies } }
+    ensures seen { objects.new.seen ≡ timers_fired now objects.old.seen }
     ensures rest { kept_rest objects.new ≡ kept_rest objects.old }
-    ensures enough { (waits : List (Option Wait)) → IsEnough signaled.old objects.old.seen.bodies waits → IsEnough signaled.new objects.new.seen.bodies waits }
+    ensures enough { KeepsEnough signaled.old objects.old.seen.bodies signaled.new objects.new.seen.bodies }
     ensures undue { (k : ℕ) → slot_is_due now (slice_index_or objects.new.seen.bodies k None) ≡ false }
 {
     while let Some(slot) = objects.next_due(now) {

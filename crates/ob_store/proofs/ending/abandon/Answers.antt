@@ -1,12 +1,42 @@
-use Rattle.std.proofs.Common.{◌∙◌}
-use Rattle.ob_store.proofs.EnoughLaws.{enough_noted}
+use Rattle.std.proofs.Common.{◌≡◌, ◌∙◌, ℕ, None, ap, sym, arith, false, get_or, length, inl, inr}
+use Rattle.std.proofs.lemmas.Bool.{cases_eq, cases_lt}
+use Rattle.std.proofs.lemmas.List.{get_or_past, length-map}
+use Rattle.ob_body.specs.Mutex.{is_owner}
+use Rattle.ob_waits.specs.Form.{slot_owner}
+use Rattle.ob_waits.specs.Objects.{Objects}
+use Rattle.ob_store.specs.Ends.{slot_left_by}
+use Rattle.ob_store.proofs.OneByOne.{all_done}
+use Rattle.ob_store.proofs.OwnerLaws.{left_by_other}
 use Rattle.ob_store.proofs.ending.abandon.Goals as goal
 
-pub returns : goal.returns
-returns g c = record {
-  seen = c.abandon.ensures.seen ∙ c.abandon_listed.ensures.seen;
-  rest = c.abandon.ensures.rest ∙ c.abandon_listed.ensures.rest;
-  enough = λ waits enough.
-      enough_noted c.abandon_listed.new.signaled c.note_all.new.signaled c.abandon_listed.new.objects.seen c.abandon.new.self.seen c.args.thread c.abandon.ensures.seen c.note_all.ensures.grown c.note_all.ensures.noted waits
-      (c.abandon_listed.ensures.enough waits enough);
+pub loop-slot-preserved : goal.loop-slot-preserved
+loop-slot-preserved g c = record {
+  seen = c.abandon_at.ensures.seen ∙ c.loop-slot.invariant.seen;
+  rest = c.abandon_at.ensures.rest ∙ c.loop-slot.invariant.rest;
+  enough = λ waits enough. c.abandon_at.ensures.enough waits (c.loop-slot.invariant.enough waits enough);
+  none = λ k lt. elim (cases_eq k c.loop-slot.slot) [
+    | inl same ↦ ap (λ i. is_owner c.args.thread (slot_owner (get_or c.abandon_at.new.objects.seen.bodies i None))) same ∙ c.abandon_at.ensures.gone
+    | inr other ↦ c.abandon_at.ensures.others k (c.loop-slot.invariant.none k (omega (arith, lt, other)))
+  ];
 }
+
+pub returns-then-owns_none-clause-seen : goal.returns-then-owns_none-clause-seen
+returns-then-owns_none-clause-seen g c =
+    all_done (slot_left_by c.args.thread) c.args.objects.now.seen c.loop-slot.objects.seen (λ k. left_by_other c.args.thread (get_or c.loop-slot.objects.seen.bodies k None) (c.owns_none.ensures c.if-owns_none.true k)) c.loop-slot.invariant.seen
+
+pub returns-clause-seen : goal.returns-clause-seen
+returns-clause-seen g c =
+    let t = c.args.thread in
+    let bodies = c.loop-slot.objects.seen.bodies in
+    let f = slot_left_by t in
+    let same = ap (λ (o : Objects). length o.bodies) (c.loop-slot.invariant.seen ∙ sym c.abandon_listed.ensures.seen) in
+    let long = length-map bodies f in
+    let before = length-map c.abandon_listed.new.objects.seen.bodies f in
+    let slots = c.kept.ensures.agreed.bodied in
+    let end = c.slots-slot-end.ensures in
+    let over = c.loop-slot-test.false in
+    let none : (k : ℕ) → is_owner t (slot_owner (get_or bodies k None)) ≡ false = (λ k. elim (cases_lt k c.loop-slot.slot) [
+      | inl lt ↦ c.loop-slot.invariant.none k lt
+      | inr past ↦ ap (λ x. is_owner t (slot_owner x)) (get_or_past bodies k None (omega (arith, same, long, before, slots, end, over, past)))
+    ]) in
+    all_done f c.args.objects.now.seen c.loop-slot.objects.seen (λ k. left_by_other t (get_or bodies k None) (none k)) c.loop-slot.invariant.seen

@@ -1,14 +1,17 @@
-use Rattle.std.proofs.Common.{◌∙◌, refl}
-use Rattle.ob_store.proofs.TickLaws.{all_fired, enough_signaled, fired_before}
+use Rattle.std.proofs.Common.{◌∙◌, None, get_or}
+use Rattle.ob_store.specs.Ticks.{slot_fired}
+use Rattle.ob_store.proofs.EnoughLaws.{enough_added}
+use Rattle.ob_store.proofs.OneByOne.{all_done, one_before}
+use Rattle.ob_store.proofs.TickLaws.{fired_other, fired_twice}
 use Rattle.ob_store.proofs.ticking.fire_all.Goals as goal
 
 pub loop-slot-preserved : goal.loop-slot-preserved
 loop-slot-preserved g c = record {
-  seen = fired_before c.args.now c.in-Some.slot c.loop-slot.objects.seen c.fire_at.new.self.seen c.fire_at.ensures.seen ∙ c.loop-slot.invariant.seen;
+  seen = one_before (slot_fired c.args.now) (fired_twice c.args.now) c.in-Some.slot c.loop-slot.objects.seen c.fire_at.new.self.seen c.fire_at.ensures.seen ∙ c.loop-slot.invariant.seen;
   rest = c.fire_at.ensures.rest ∙ c.loop-slot.invariant.rest;
-  enough = λ ws enough. enough_signaled c.loop-slot.signaled c.add.new.self c.loop-slot.objects.seen c.fire_at.new.self.seen c.args.now c.in-Some.slot (record { slot = c.in-Some.slot; generation = 0 })
-      c.fire_at.ensures.seen refl c.add.ensures.added c.add.ensures.before ws (c.loop-slot.invariant.enough ws enough);
+  enough = λ ws enough. enough_added c.loop-slot.signaled c.add.new.self c.loop-slot.objects.seen c.fire_at.new.self.seen (record { slot = c.in-Some.slot; generation = 0 }) (slot_fired c.args.now (get_or c.loop-slot.objects.seen.bodies c.in-Some.slot None))
+      c.fire_at.ensures.seen c.add.ensures.added c.add.ensures.before ws (c.loop-slot.invariant.enough ws enough);
 }
 
 pub returns-clause-seen : goal.returns-clause-seen
-returns-clause-seen g c = all_fired c.args.now c.args.objects.now.seen c.loop-slot.objects.seen c.in_default.ensures.none c.loop-slot.invariant.seen
+returns-clause-seen g c = all_done (slot_fired c.args.now) c.args.objects.now.seen c.loop-slot.objects.seen (λ k. fired_other c.args.now (get_or c.loop-slot.objects.seen.bodies k None) (c.in_default.ensures.none k)) c.loop-slot.invariant.seen

@@ -1,16 +1,15 @@
-use Rattle.std.proofs.Common.{◌≡◌, List, Option, map}
+use Rattle.std.proofs.Common.{◌≡◌}
 use Rattle.std.specs.Prelude.{count_by}
-use Rattle.ob_waits.specs.declared.wait.Wait.{Wait}
-use Rattle.ob_store.specs.Signaled.{IsEnough}
 use Rattle.ob_store.specs.Objects.{kept_rest}
-use Rattle.ob_store.specs.Ticks.{slot_fired, slot_is_due}
+use Rattle.ob_store.specs.Signaled.{KeepsEnough}
+use Rattle.ob_store.specs.Ticks.{slot_is_due, timers_fired}
 use Rattle.ob_store.proofs.ticking.fire_all.Given as goal
 
 abbrev pub invariant-loop-slot : goal.invariant-loop-slot
 invariant-loop-slot g l = record {
-  seen : record l.objects.seen { bodies = map (slot_fired l.now) l.objects.seen.bodies } ≡ record l.fn.objects.seen { bodies = map (slot_fired l.now) l.fn.objects.seen.bodies };
+  seen : timers_fired l.now l.objects.seen ≡ timers_fired l.now l.fn.objects.seen;
   rest : kept_rest l.objects ≡ kept_rest l.fn.objects;
-  enough : (waits : List (Option Wait)) → IsEnough l.fn.signaled l.fn.objects.seen.bodies waits → IsEnough l.signaled l.objects.seen.bodies waits;
+  enough : KeepsEnough l.fn.signaled l.fn.objects.seen.bodies l.signaled l.objects.seen.bodies;
 }
 
 abbrev pub decreases-loop-slot : goal.decreases-loop-slot

@@ -1,0 +1,20 @@
+-- A change of all bodies that is made at one slot after another.
+use Rattle.std.proofs.Common.{◌≡◌, ℕ, arith, Option, None, ap, ◌∙◌, sym, get_or, set, map}
+use Rattle.std.proofs.Math.Seq.{map-set_same}
+use Rattle.std.proofs.lemmas.List.{length-map, get_or-map, ext_get_or}
+use Rattle.ob_body.specs.declared.body.Body.{Body}
+use Rattle.ob_waits.specs.Objects.{Objects}
+
+module _ (f : Option Body → Option Body) where
+  -- a slot that changed before the others do
+  pub one_before : ((x : Option Body) → f (f x) ≡ f x) → (k : ℕ) (o p : Objects) → p ≡ record o { bodies = set o.bodies k (f (get_or o.bodies k None)) }
+      → record p { bodies = map f p.bodies } ≡ record o { bodies = map f o.bodies }
+  one_before twice k o p is =
+      let bodies : map f (set o.bodies k (f (get_or o.bodies k None))) ≡ map f o.bodies = map-set_same f o.bodies k (f (get_or o.bodies k None)) None (twice (get_or o.bodies k None)) in
+      ap (λ (z : Objects). record z { bodies = map f z.bodies }) is ∙ (λ i. record o { bodies = bodies i })
+
+  -- where none is left to change all have changed
+  pub all_done : (o p : Objects) → ((k : ℕ) → f (get_or p.bodies k None) ≡ get_or p.bodies k None) → record p { bodies = map f p.bodies } ≡ record o { bodies = map f o.bodies } → p ≡ record o { bodies = map f o.bodies }
+  all_done o p none same =
+      let bodies : map f p.bodies ≡ p.bodies = ext_get_or None (map f p.bodies) p.bodies (length-map p.bodies f) (λ k lt. get_or-map f p.bodies k None None (omega (arith, lt, length-map p.bodies f)) ∙ none k) in
+      (λ i. record p { bodies = sym bodies i }) ∙ same
