@@ -18,7 +18,7 @@ use Rattle.ob_store.specs.declared.limits.Limits.{Limits}
 use Rattle.ob_store.specs.State.{State, Whole, with_child, with_process}
 use Rattle.ob_store.specs.Directory.{directory_of}
 use Rattle.ob_store.specs.Ends.{thread_ended, threads_ended, process_ended, left}
-use Rattle.ob_store.specs.Lives.{is_of}
+use Rattle.ob_store.specs.Processes.{is_of}
 use Rattle.ob_manager.specs.declared.call.Call.{Call}
 use Rattle.ob_manager.specs.declared.call.Call.TheVariants as calls
 use Rattle.ob_manager.specs.Makings.{Making}

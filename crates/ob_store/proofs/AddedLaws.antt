@@ -35,7 +35,7 @@ use Rattle.ob_store.proofs.NamedLaws.{named_added}
 use Rattle.ob_store.proofs.BodyLaws.{formed_added, of_live_added}
 use Rattle.ob_store.proofs.ListingLaws.{listing_added, listing_name_added, placed_agreed}
 use Rattle.ob_store.proofs.PlacedLaws.{unreferenced}
-use Rattle.ob_store.proofs.KeptLaws.{lives_same}
+use Rattle.ob_store.proofs.KeptLaws.{processes_same}
 
 -- a slot without an object has no body
 pub bodiless : (s : ObjectsState) (k : ℕ) → object_at s k ≡ None → k < length s.objects → IsAgreed s → body_at s k ≡ None
@@ -77,7 +77,7 @@ module _ (p : PartsState) (kept : IsKept p) (tied : IsTied p.objects)
     (table : process < length p.tables.tables)
     (vacant : is_vacant_at (vacancy (places_in p.objects)) slot ≡ true)
     (formed : form_of body ≡ form_in head.descr)
-    (owned : (t : ℕ) → owner_of body ≡ Some t → IsLive p.lives.threads t) where
+    (owned : (t : ℕ) → owner_of body ≡ Some t → IsLive p.processes.threads t) where
   abbrev pub entry : Entry
   entry = record { id = id_of p.objects.keeper.slots slot; rights = rights; flags = flags }
 
@@ -107,12 +107,12 @@ module _ (p : PartsState) (kept : IsKept p) (tied : IsTied p.objects)
       record {
         sound = record {
           limited = sound.limited;
-          lives_kept = lives_same p.limits p.lives (length p.tables.tables) (length (with_entry_of p.tables.tables process entry)) (length-set p.tables.tables process _) sound.lives_kept;
+          processes_kept = processes_same p.limits p.processes (length p.tables.tables) (length (with_entry_of p.tables.tables process entry)) (length-set p.tables.tables process _) sound.processes_kept;
           counted = subst (λ (n : ℕ). IsCounted (with_object o slot head body).seen n (with_entry_of p.tables.tables process entry) p.waits.waits) (sym (length-set o.objects slot (Some (object_in o slot head))))
               (counted_added o.seen (length o.objects) p.tables.tables p.waits.waits sound.counted (set o.seen.bodies slot (Some body)) process entry table within no_references.0 no_references.1);
           named = named_added o.objects p.tables.tables p.waits.waits sound.named process entry (object_in o slot head) table refl none within;
           formed = formed_added o.seen.bodies slot body p.waits.clock o.objects (object_in o slot head) within bodied formed sound.formed;
-          of_live = of_live_added o.seen.bodies slot body p.lives.threads p.waits.waits owned sound.of_live;
+          of_live = of_live_added o.seen.bodies slot body p.processes.threads p.waits.waits owned sound.of_live;
           room = room_unnamed p.limits.max_recursion o.seen.bodies p.waits.waits slot (Some body) unnamed sound.room;
           listing = listing;
         };

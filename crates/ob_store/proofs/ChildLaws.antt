@@ -14,7 +14,7 @@ use Rattle.ob_tables.specs.Tables.{IsBounded, table_of}
 use Rattle.ob_tables.proofs.Counting.{handles_among-with_child, handles_in-inherited, handles_in-among}
 use Rattle.ob_tables.proofs.Inheriting.{at-trimmed}
 use Rattle.ob_tables.proofs.SlotCounts.{one_in, slot_handles-with_child, slot_handles-few}
-use Rattle.ob_store.specs.Lives as lives
+use Rattle.ob_store.specs.Processes as spec
 use Rattle.ob_store.specs.Objects.{ObjectsState, with_handle_at, with_handles_of}
 use Rattle.ob_store.specs.Agreement.{IsTied}
 use Rattle.ob_store.specs.State as state
@@ -26,7 +26,7 @@ use Rattle.ob_store.proofs.CameLaws.{came_one}
 use Rattle.ob_store.proofs.CountedLaws.{handles_at, handles_long}
 use Rattle.ob_store.proofs.NamedLaws.{entry_counted}
 use Rattle.ob_store.proofs.ListingLaws.{listing_child}
-use Rattle.ob_store.proofs.KeptLaws.{whole_kept, handled, kept_process, lives_same}
+use Rattle.ob_store.proofs.KeptLaws.{whole_kept, handled, kept_process, processes_same}
 
 -- a place of a child's table has what its parent's has there
 inherited_at : (t : List (Option Entry)) (i : ℕ) → get_or (inherited t) i None ≡ inheritable (get_or t i None)
@@ -116,20 +116,20 @@ module _ (p : PartsState) (kept : IsKept p) (parent : ℕ) (table : parent < len
   }
 
   abbrev pub with_child : ℕ → ObjectsState → PartsState
-  with_child session objects = record p { lives = lives.with_process p.lives session; tables = record p.tables { tables = tables.with_child p.tables.tables parent }; objects = objects }
+  with_child session objects = record p { processes = spec.with_process p.processes session; tables = record p.tables { tables = tables.with_child p.tables.tables parent }; objects = objects }
 
   -- all of the objects but their counts of handles stays
   abbrev counted : ObjectsState
   counted = record p.objects { seen = record p.objects.seen { handles = (with_handles_of p.objects child_table).seen.handles } }
 
-  pub kept_child : (session : ℕ) → length p.lives.processes ≤ p.limits.processes → length p.lives.threads ≤ p.limits.threads → IsKept (with_child session (with_handles_of p.objects (inherited (table_of p.tables.tables parent))))
+  pub kept_child : (session : ℕ) → length p.processes.processes ≤ p.limits.processes → length p.processes.threads ≤ p.limits.threads → IsKept (with_child session (with_handles_of p.objects (inherited (table_of p.tables.tables parent))))
   kept_child session processes threads =
       let plain = (kept_process p session kept processes threads).sound in
       let long : length (tables.with_child ts parent) ≡ length (tables.with_process ts) = length-append ts (child_table ∷ []) ∙ sym (length-append ts ([] ∷ [])) in
       let is : IsKept (with_child session counted) = record {
         sound = record {
           limited = kept.sound.limited;
-          lives_kept = lives_same p.limits (lives.with_process p.lives session) (length (tables.with_process ts)) (length (tables.with_child ts parent)) long plain.lives_kept;
+          processes_kept = processes_same p.limits (spec.with_process p.processes session) (length (tables.with_process ts)) (length (tables.with_child ts parent)) long plain.processes_kept;
           counted = record { handles = handles_after; blocks = kept.sound.counted.blocks };
           named = named_child;
           formed = kept.sound.formed;

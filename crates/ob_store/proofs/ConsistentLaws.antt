@@ -14,7 +14,7 @@ use Rattle.ob_store.proofs.KeptLaws.{settled_kept}
 
 pub consistent : (p : PartsState) → IsKept p → IsTied p.objects → rules.IsKept p.waits.waits → AreAhead p.waits.clock p.waits.waits → IsConsistent (whole_of p)
 consistent p kept tied waits ahead = record {
-  lives = kept.sound.lives_kept;
+  processes = kept.sound.processes_kept;
   slots = tied.agreed.each;
   shape = kept.sound.limited.shape_is;
   generations = refl;

@@ -135,7 +135,7 @@ taken_out ts new process places is taken =
 module _ (first : KeeperState) (p : PartsState) (s : State) (process : ℕ) (places : List (Option Entry))
     (same : p.tables.tables ≡ s.tables)
     (within : process < length p.tables.tables)
-    (alone : (t : ℕ) → get_or p.lives.threads t None ≡ Some process → ⊥) where
+    (alone : (t : ℕ) → get_or p.processes.threads t None ≡ Some process → ⊥) where
   abbrev out : List (List (Option Entry))
   out = without_entries p.tables.tables process
 
@@ -153,10 +153,10 @@ module _ (first : KeeperState) (p : PartsState) (s : State) (process : ℕ) (pla
 
   pub ending_emptied : (new : HandleTables) → new ≡ record p.tables { tables = without_entries p.tables.tables process }
       → IsEnding first (with_left (record p { tables = new }) process places (length places)) (record s { tables = tables_left new.tables process places (length places) })
-      → IsEnding first (record p { lives = record p.lives { processes = set p.lives.processes process None }; tables = new }) (process_ended s process)
+      → IsEnding first (record p { processes = record p.processes { processes = set p.processes.processes process None }; tables = new }) (process_ended s process)
   ending_emptied new is ending =
-      subst (λ (t : HandleTables). IsEnding first (record p { lives = record p.lives { processes = set p.lives.processes process None }; tables = t }) (process_ended s process)) (sym is)
-      (subst (λ (z : List (List (Option Entry)) × List (List (Option Entry))). IsEnding first (record p { lives = record p.lives { processes = set p.lives.processes process None }; tables = record p.tables { tables = z.0 } }) (record s { tables = z.1; processes = set s.processes process None }))
+      subst (λ (t : HandleTables). IsEnding first (record p { processes = record p.processes { processes = set p.processes.processes process None }; tables = t }) (process_ended s process)) (sym is)
+      (subst (λ (z : List (List (Option Entry)) × List (List (Option Entry))). IsEnding first (record p { processes = record p.processes { processes = set p.processes.processes process None }; tables = record p.tables { tables = z.0 } }) (record s { tables = z.1; processes = set s.processes process None }))
       (λ i. (gone i, (gone ∙ ap (λ (t : List (List (Option Entry))). without_entries t process) same) i))
       (ending_process first (record p { tables = record p.tables { tables = last } }) (record s { tables = last }) process
       (subst (λ (t : HandleTables). IsEnding first (with_left (record p { tables = t }) process places (length places)) (record s { tables = tables_left t.tables process places (length places) })) is ending)

@@ -30,7 +30,7 @@ use Rattle.ob_waits.proofs.TrackedLaws.{thread_waits}
 use Rattle.ob_store.specs.Agreement.{IsTied}
 use Rattle.ob_store.specs.Ends.{slot_left_by, thread_ended}
 use Rattle.ob_store.specs.Kept.{IsCounted, IsLive}
-use Rattle.ob_store.specs.Lives.{LivesState}
+use Rattle.ob_store.specs.Processes.{ProcessesState}
 use Rattle.ob_store.specs.Objects.{ObjectsState, KeptRest, kept_rest}
 use Rattle.ob_store.specs.Parts.{PartsState}
 use Rattle.ob_store.specs.Signaled.{SignaledState, KeepsEnough}
@@ -128,11 +128,11 @@ module _ (p : PartsState) (q r : ObjectsState) (a : SignaledState) (t : ℕ)
   abbrev dropped : List (Option Wait)
   dropped = map (unless_of t) p.waits.waits
 
-  abbrev lives_left : LivesState
-  lives_left = record p.lives { threads = set p.lives.threads t None }
+  abbrev processes_left : ProcessesState
+  processes_left = record p.processes { threads = set p.processes.threads t None }
 
   abbrev pub without : PartsState
-  without = record p { lives = record p.lives { threads = set p.lives.threads t None }; objects = r; waits = without_thread p.waits t; signaled = a }
+  without = record p { processes = record p.processes { threads = set p.processes.threads t None }; objects = r; waits = without_thread p.waits t; signaled = a }
 
   abbrev limit : ℕ
   limit = p.limits.max_recursion
@@ -168,23 +168,23 @@ module _ (p : PartsState) (q r : ObjectsState) (a : SignaledState) (t : ℕ)
   way_thread : IsTied r → (first : KeeperState) (s : State) → IsUnderWay first p s → IsUnderWay first without (thread_ended s t)
   way_thread tied first s way = record {
     tied = tied;
-    sound = sound_rested p lives_left r (without_thread p.waits t) a rests way.sound refl
+    sound = sound_rested p processes_left r (without_thread p.waits t) a rests way.sound refl
         (record {
-          few_processes = way.sound.lives_kept.few_processes;
-          few_threads = (let x = length-set p.lives.threads t None in let y = way.sound.lives_kept.few_threads in omega (arith, x, y));
-          tabled = way.sound.lives_kept.tabled;
-          live = λ u n h. way.sound.lives_kept.live u n (live_before p.lives.threads t u n h);
+          few_processes = way.sound.processes_kept.few_processes;
+          few_threads = (let x = length-set p.processes.threads t None in let y = way.sound.processes_kept.few_threads in omega (arith, x, y));
+          tabled = way.sound.processes_kept.tabled;
+          live = λ u n h. way.sound.processes_kept.live u n (live_before p.processes.threads t u n h);
         })
         counted
         (named_fewer p.objects.objects p.tables.tables p.tables.tables p.waits.waits dropped (λ id. omega arith) (λ id. let x = blocks_dropped id t p.waits.waits alone in omega (arith, x)) way.sound.named)
         (formed_by p.waits.clock p.objects.objects p.objects.seen.bodies r.seen.bodies form_at way.sound.formed)
         (record {
-          owners = λ k u h. let own = owner_at k u h in live_still p.lives.threads t u own.1 (way.sound.of_live.owners k u own.0);
-          waiters = λ n u h. let own = waiter_left t u (get_or p.waits.waits n None) (sym (ap thread_of (read (unless_of t) p.waits.waits n)) ∙ h) in live_still p.lives.threads t u own.1 (way.sound.of_live.waiters n u own.0);
+          owners = λ k u h. let own = owner_at k u h in live_still p.processes.threads t u own.1 (way.sound.of_live.owners k u own.0);
+          waiters = λ n u h. let own = waiter_left t u (get_or p.waits.waits n None) (sym (ap thread_of (read (unless_of t) p.waits.waits n)) ∙ h) in live_still p.processes.threads t u own.1 (way.sound.of_live.waiters n u own.0);
         })
         (room_dropped limit r.seen.bodies p.waits.waits t (room_changed limit p.objects.seen.bodies r.seen.bodies p.waits.waits
         (λ u k h. subst (λ (x : Option Body). slot_room limit u x ≡ true) (sym (body_is k)) (room_left_by limit t u (get_or q.seen.bodies k None) (room_left_at limit u p.objects.seen.bodies q.seen.bodies k fewer h))) way.sound.room));
-    rest = state_rested p lives_left r (without_thread p.waits t) a rests
+    rest = state_rested p processes_left r (without_thread p.waits t) a rests
         ∙ ap (λ (x : State). record x { threads = set x.threads t None; bodies = r.seen.bodies; waits = map (unless_of t) x.waits }) way.rest;
     bodies = subst (λ (x : List (Option Body)). AreLeft (map (slot_left_by t) s.bodies) x) (sym bodies_are) (left_mapped t s.bodies q.seen.bodies (left_more s.bodies p.objects.seen.bodies q.seen.bodies way.bodies fewer));
     keeper = ap (λ (x : KeptRest). x.keeper) rests ∙ way.keeper;
@@ -218,7 +218,7 @@ module _ (first : KeeperState) (p : PartsState) (s : State) (process : ℕ)
     (ending : IsEnding first p s)
     (table : process < length p.tables.tables)
     (none : (k : ℕ) → get_or (table_of p.tables.tables process) k None ≡ None)
-    (alone : (t : ℕ) → get_or p.lives.threads t None ≡ Some process → ⊥) where
+    (alone : (t : ℕ) → get_or p.processes.threads t None ≡ Some process → ⊥) where
   abbrev cleared : List (List (Option Entry))
   cleared = without_entries p.tables.tables process
 
@@ -237,18 +237,18 @@ module _ (first : KeeperState) (p : PartsState) (s : State) (process : ℕ)
       let y : handles_in id (table_of p.tables.tables process) ≡ 0 = none_counted (λ z. cond (names id z) 1 0) refl (table_of p.tables.tables process) none in
       omega (arith, x, y)
 
-  pub ending_process : IsEnding first (record p { lives = record p.lives { processes = set p.lives.processes process None }; tables = record p.tables { tables = without_entries p.tables.tables process } })
+  pub ending_process : IsEnding first (record p { processes = record p.processes { processes = set p.processes.processes process None }; tables = record p.tables { tables = without_entries p.tables.tables process } })
       (record s { tables = without_entries p.tables.tables process; processes = set s.processes process None })
   ending_process = record {
     way = record {
       tied = way.tied;
       sound = record {
         limited = way.sound.limited;
-        lives_kept = record {
-          few_processes = (let a = length-set p.lives.processes process None in let b = way.sound.lives_kept.few_processes in omega (arith, a, b));
-          few_threads = way.sound.lives_kept.few_threads;
-          tabled = length-set p.tables.tables process [] ∙ way.sound.lives_kept.tabled ∙ sym (length-set p.lives.processes process None);
-          live = λ t r h. live_still p.lives.processes process r (λ same. alone t (h ∙ ap Some same)) (way.sound.lives_kept.live t r h);
+        processes_kept = record {
+          few_processes = (let a = length-set p.processes.processes process None in let b = way.sound.processes_kept.few_processes in omega (arith, a, b));
+          few_threads = way.sound.processes_kept.few_threads;
+          tabled = length-set p.tables.tables process [] ∙ way.sound.processes_kept.tabled ∙ sym (length-set p.processes.processes process None);
+          live = λ t r h. live_still p.processes.processes process r (λ same. alone t (h ∙ ap Some same)) (way.sound.processes_kept.live t r h);
         };
         counted = record { handles = way.sound.counted.handles ∙ ap (by_slot (length p.objects.objects)) (λ i k. sym (slots_same k) i); blocks = way.sound.counted.blocks };
         named = named_fewer p.objects.objects p.tables.tables cleared p.waits.waits p.waits.waits (λ id. let x = ids_same id in omega (arith, x)) (λ id. omega arith) way.sound.named;

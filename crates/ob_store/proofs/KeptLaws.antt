@@ -16,14 +16,14 @@ use Rattle.ob_tables.proofs.SlotCounts.{slot_handles-le}
 use Rattle.ob_waits.specs.Rules.{HasBodies, WaitsHaveRoom}
 use Rattle.ob_waits.specs.Waits.{WaitList}
 use Rattle.ob_store.specs.declared.limits.Limits.{Limits}
-use Rattle.ob_store.specs.Lives as lives
-use Rattle.ob_store.specs.Lives.{LivesState}
+use Rattle.ob_store.specs.Processes as spec
+use Rattle.ob_store.specs.Processes.{ProcessesState}
 use Rattle.ob_store.specs.Objects.{Object, ObjectsState, KeptRest, kept_rest, with_handle_of, opened, open_slot}
 use Rattle.ob_store.specs.Agreement.{IsTied}
 use Rattle.ob_store.specs.Parts.{PartsState, state_of, whole_of}
 use Rattle.ob_store.specs.Signaled.{SignaledState}
 use Rattle.ob_store.specs.State.{Whole, objects_of, settled, generation_of}
-use Rattle.ob_store.specs.Kept.{IsKept, IsSound, IsCounted, AreFormed, AreOfLive, IsListing, LivesKept, IsNamed, IsLive}
+use Rattle.ob_store.specs.Kept.{IsKept, IsSound, IsCounted, AreFormed, AreOfLive, IsListing, ProcessesKept, IsNamed, IsLive}
 use Rattle.ob_store.proofs.CountedLaws.{handles_at, handles_few, counted_flags, counted_placed, counted_process}
 use Rattle.ob_store.proofs.NamedLaws.{there_within, named_flags, named_placed, named_process}
 use Rattle.ob_store.proofs.BodyLaws.{of_live_more}
@@ -31,8 +31,8 @@ use Rattle.ob_store.proofs.ListingLaws.{listing_flags, listing_process, listing_
 use Rattle.ob_store.proofs.SettledLaws.{settled_still}
 
 -- as many tables as there are processes
-pub lives_same : (limits : Limits) (l : LivesState) (n m : ℕ) → m ≡ n → LivesKept limits l n → LivesKept limits l m
-lives_same limits l n m same k = subst (λ (i : ℕ). LivesKept limits l i) (sym same) k
+pub processes_same : (limits : Limits) (l : ProcessesState) (n m : ℕ) → m ≡ n → ProcessesKept limits l n → ProcessesKept limits l m
+processes_same limits l n m same k = subst (λ (i : ℕ). ProcessesKept limits l i) (sym same) k
 
 -- what stands at a place stays there where one more comes at the end
 pub live_pushed : (xs : List (Option ℕ)) (x : Option ℕ) (n : ℕ) → IsLive xs n → IsLive (xs ++ x ∷ []) n
@@ -70,9 +70,9 @@ pub same_shape : (a b : KeeperState) → opened a ≡ opened b → a.shape ≡ b
 same_shape a b same = ap (λ (k : KeeperState). k.shape) same
 
 -- threads, objects and waits changed, but for what waits leave of objects as it is
-module _ (p : PartsState) (l : LivesState) (q : ObjectsState) (ws : WaitList) (a : SignaledState) (rest : kept_rest q ≡ kept_rest p.objects) where
+module _ (p : PartsState) (l : ProcessesState) (q : ObjectsState) (ws : WaitList) (a : SignaledState) (rest : kept_rest q ≡ kept_rest p.objects) where
   abbrev pub rested : PartsState
-  rested = record p { lives = l; objects = q; waits = ws; signaled = a }
+  rested = record p { processes = l; objects = q; waits = ws; signaled = a }
 
   objects_same : q.objects ≡ p.objects.objects
   objects_same = ap (λ (r : KeptRest). r.rest.objects) rest
@@ -85,7 +85,7 @@ module _ (p : PartsState) (l : LivesState) (q : ObjectsState) (ws : WaitList) (a
       let generations = same_generations q.keeper p.objects.keeper (ap (λ (r : KeptRest). r.keeper) rest) in
       λ i. record (state_of rested) { objects = objects_same i; generations = generations i; retired = (rest i).rest.retired; births = births_same i }
 
-  pub sound_rested : IsSound p → ws.limit ≡ p.waits.limit → LivesKept p.limits l (length p.tables.tables) → IsCounted q.seen (length p.objects.objects) p.tables.tables ws.waits → IsNamed p.objects.objects p.tables.tables ws.waits
+  pub sound_rested : IsSound p → ws.limit ≡ p.waits.limit → ProcessesKept p.limits l (length p.tables.tables) → IsCounted q.seen (length p.objects.objects) p.tables.tables ws.waits → IsNamed p.objects.objects p.tables.tables ws.waits
       → AreFormed ws.clock p.objects.objects q.seen.bodies → AreOfLive l.threads q.seen.bodies ws.waits → WaitsHaveRoom p.limits.max_recursion q.seen.bodies ws.waits → IsSound rested
   sound_rested sound limit live counted named formed of_live room = record {
     limited = record {
@@ -94,7 +94,7 @@ module _ (p : PartsState) (l : LivesState) (q : ObjectsState) (ws : WaitList) (a
       waits_are = limit ∙ sound.limited.waits_are;
       shape_is = same_shape q.keeper p.objects.keeper (ap (λ (r : KeptRest). r.keeper) rest) ∙ sound.limited.shape_is;
     };
-    lives_kept = live;
+    processes_kept = live;
     counted = subst (λ (xs : List (Option Object)). IsCounted q.seen (length xs) p.tables.tables ws.waits) (sym objects_same) counted;
     named = subst (λ (xs : List (Option Object)). IsNamed xs p.tables.tables ws.waits) (sym objects_same) named;
     formed = subst (λ (xs : List (Option Object)). AreFormed ws.clock xs q.seen.bodies) (sym objects_same) formed;
@@ -126,7 +126,7 @@ kept_placed p process e kept table some =
     record {
       sound = record {
         limited = sound.limited;
-        lives_kept = lives_same p.limits p.lives (length ts) (length (with_entry_of ts process e)) (length-set ts process _) sound.lives_kept;
+        processes_kept = processes_same p.limits p.processes (length ts) (length (with_entry_of ts process e)) (length-set ts process _) sound.processes_kept;
         counted = counted_placed p.objects.seen (length p.objects.objects) ts p.waits.waits sound.counted process e table;
         named = named_placed p.objects.objects ts p.waits.waits sound.named process e table some;
         formed = sound.formed;
@@ -149,7 +149,7 @@ kept_flags p process value flags kept some = by (entry_at (table_of p.tables.tab
     by (Some e) found _ = record {
       sound = record {
         limited = kept.sound.limited;
-        lives_kept = lives_same p.limits p.lives (length p.tables.tables) (length (with_flags_of p.tables.tables process value flags)) (length-set p.tables.tables process _) kept.sound.lives_kept;
+        processes_kept = processes_same p.limits p.processes (length p.tables.tables) (length (with_flags_of p.tables.tables process value flags)) (length-set p.tables.tables process _) kept.sound.processes_kept;
         counted = counted_flags p.objects.seen (length p.objects.objects) p.tables.tables p.waits.waits kept.sound.counted process value e flags found;
         named = named_flags p.objects.objects p.tables.tables p.waits.waits kept.sound.named process value e flags found;
         formed = kept.sound.formed;
@@ -162,55 +162,55 @@ kept_flags p process value flags kept some = by (entry_at (table_of p.tables.tab
 
 -- a process comes
 abbrev pub with_process : PartsState → ℕ → PartsState
-with_process p session = record p { lives = lives.with_process p.lives session; tables = record p.tables { tables = tables.with_process p.tables.tables } }
+with_process p session = record p { processes = spec.with_process p.processes session; tables = record p.tables { tables = tables.with_process p.tables.tables } }
 
-pub kept_process : (p : PartsState) (session : ℕ) → IsKept p → length p.lives.processes ≤ p.limits.processes → length p.lives.threads ≤ p.limits.threads → IsKept (with_process p session)
+pub kept_process : (p : PartsState) (session : ℕ) → IsKept p → length p.processes.processes ≤ p.limits.processes → length p.processes.threads ≤ p.limits.threads → IsKept (with_process p session)
 kept_process p session kept processes threads = record {
   sound = record {
     limited = kept.sound.limited;
-    lives_kept = record {
+    processes_kept = record {
       few_processes = simp length-append (omega arith);
       few_threads = simp length-append (omega arith);
-      tabled = (let a = length-append p.lives.processes (Some session ∷ []) in let b = length-append p.tables.tables ([] ∷ []) in let c = kept.sound.lives_kept.tabled in omega (arith, a, b, c));
+      tabled = (let a = length-append p.processes.processes (Some session ∷ []) in let b = length-append p.tables.tables ([] ∷ []) in let c = kept.sound.processes_kept.tabled in omega (arith, a, b, c));
       live = live_after;
     };
     counted = counted_process p.objects.seen (length p.objects.objects) p.tables.tables p.waits.waits kept.sound.counted;
     named = named_process p.objects.objects p.tables.tables p.waits.waits kept.sound.named;
     formed = kept.sound.formed;
-    of_live = of_live_more p.lives.threads (lives.with_process p.lives session).threads p.objects.seen.bodies p.waits.waits (λ t h. live_pushed p.lives.threads (Some (length p.lives.processes)) t h) kept.sound.of_live;
+    of_live = of_live_more p.processes.threads (spec.with_process p.processes session).threads p.objects.seen.bodies p.waits.waits (λ t h. live_pushed p.processes.threads (Some (length p.processes.processes)) t h) kept.sound.of_live;
     room = kept.sound.room;
     listing = listing_process p.rows p.tables.tables p.objects.objects p.objects.births kept.sound.listing;
   };
   settled = kept.settled;
 }
   where
-    live_after : (t q : ℕ) → get_or (p.lives.threads ++ Some (length p.lives.processes) ∷ []) t None ≡ Some q → IsLive (p.lives.processes ++ Some session ∷ []) q
-    live_after t q h = elim (pushed_at p.lives.threads (length p.lives.processes) t q h) [
-      | inl old ↦ live_pushed p.lives.processes (Some session) q (kept.sound.lives_kept.live t q old)
-      | inr new ↦ subst (λ (r : ℕ). IsLive (p.lives.processes ++ Some session ∷ []) r) new (at_end p.lives.processes session)
+    live_after : (t q : ℕ) → get_or (p.processes.threads ++ Some (length p.processes.processes) ∷ []) t None ≡ Some q → IsLive (p.processes.processes ++ Some session ∷ []) q
+    live_after t q h = elim (pushed_at p.processes.threads (length p.processes.processes) t q h) [
+      | inl old ↦ live_pushed p.processes.processes (Some session) q (kept.sound.processes_kept.live t q old)
+      | inr new ↦ subst (λ (r : ℕ). IsLive (p.processes.processes ++ Some session ∷ []) r) new (at_end p.processes.processes session)
     ]
 
 -- a thread comes
 abbrev pub with_thread : PartsState → ℕ → PartsState
-with_thread p process = record p { lives = lives.with_thread p.lives process }
+with_thread p process = record p { processes = spec.with_thread p.processes process }
 
-pub kept_thread : (p : PartsState) (process : ℕ) → IsKept p → length p.lives.threads ≤ p.limits.threads → IsLive p.lives.processes process → IsKept (with_thread p process)
+pub kept_thread : (p : PartsState) (process : ℕ) → IsKept p → length p.processes.threads ≤ p.limits.threads → IsLive p.processes.processes process → IsKept (with_thread p process)
 kept_thread p process kept threads live =
-    let l = p.lives in
+    let l = p.processes in
     let sound = kept.sound in
     record {
       sound = record {
         limited = sound.limited;
-        lives_kept = record {
-          few_processes = sound.lives_kept.few_processes;
+        processes_kept = record {
+          few_processes = sound.processes_kept.few_processes;
           few_threads = simp length-append (omega arith);
-          tabled = sound.lives_kept.tabled;
-          live = λ t q h. elim (pushed_at l.threads process t q h) [ inl old ↦ sound.lives_kept.live t q old | inr new ↦ subst (λ (r : ℕ). IsLive l.processes r) new live ];
+          tabled = sound.processes_kept.tabled;
+          live = λ t q h. elim (pushed_at l.threads process t q h) [ inl old ↦ sound.processes_kept.live t q old | inr new ↦ subst (λ (r : ℕ). IsLive l.processes r) new live ];
         };
         counted = sound.counted;
         named = sound.named;
         formed = sound.formed;
-        of_live = of_live_more l.threads (lives.with_thread l process).threads p.objects.seen.bodies p.waits.waits (λ t h. live_pushed l.threads (Some process) t h) sound.of_live;
+        of_live = of_live_more l.threads (spec.with_thread l process).threads p.objects.seen.bodies p.waits.waits (λ t h. live_pushed l.threads (Some process) t h) sound.of_live;
         room = sound.room;
         listing = sound.listing;
       };

@@ -29,7 +29,7 @@ use Rattle.ob_store.proofs.NamedLaws.{there_some, there_within, named_entry, nam
 use Rattle.ob_store.proofs.BodyLaws.{of_live_gone}
 use Rattle.ob_store.proofs.LeftLaws.{formed_left, left_gone, left_more, room_left_at}
 use Rattle.ob_store.proofs.ListingLaws.{placed_agreed, listing_removed, listing_removed_last, listing_name_removed}
-use Rattle.ob_store.proofs.KeptLaws.{lives_same, same_generations, same_shape}
+use Rattle.ob_store.proofs.KeptLaws.{processes_same, same_generations, same_shape}
 
 -- the slot of an object that has a body is live
 live_slot : (k : ℕ) (x : Option Object) (b : Option Body) (r : Bool) (s : Slot) → IsSome x → is_some b ≡ true → Agrees k x b r s → s.phase ≡ phase.Live
@@ -93,11 +93,11 @@ module _ (p : PartsState) (process value : ℕ) (e : Entry)
       → IsSound (record p { tables = record p.tables { tables = without_entry_of p.tables.tables process value }; objects = without_handle_of p.objects e.id.slot; rows = rows })
   sound_removed rows listing = record {
     limited = record { processes_are = sound.limited.processes_are; handles_are = sound.limited.handles_are; waits_are = sound.limited.waits_are; shape_is = same_shape handle_left.keeper o.keeper only_closes ∙ sound.limited.shape_is };
-    lives_kept = lives_same p.limits p.lives (length p.tables.tables) (length tables_after) (length-set p.tables.tables process _) sound.lives_kept;
+    processes_kept = processes_same p.limits p.processes (length p.tables.tables) (length tables_after) (length-set p.tables.tables process _) sound.processes_kept;
     counted = counted_removed o.seen (length o.objects) p.tables.tables p.waits.waits sound.counted handle_left.seen.bodies process value e found;
     named = named_after;
     formed = formed_left p.waits.clock o.objects o.seen.bodies handle_left.seen.bodies bodies_left sound.formed;
-    of_live = of_live_gone (is_last_handle (places_in o) e.id.slot) o.seen.bodies e.id.slot p.lives.threads p.waits.waits sound.of_live;
+    of_live = of_live_gone (is_last_handle (places_in o) e.id.slot) o.seen.bodies e.id.slot p.processes.threads p.waits.waits sound.of_live;
     room = room_changed p.limits.max_recursion o.seen.bodies handle_left.seen.bodies p.waits.waits (λ t k h. room_left_at p.limits.max_recursion t o.seen.bodies handle_left.seen.bodies k bodies_left h) sound.room;
     listing = listing;
   }

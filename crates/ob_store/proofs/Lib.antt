@@ -18,7 +18,7 @@ pub mod KeptLaws
 pub mod OwnerLaws
 pub mod OneByOne
 pub mod TimerLaws
-pub mod MemberLaws
+pub mod ThreadListLaws
 pub mod LeftLaws
 pub mod UnderWayLaws
 pub mod EnoughLaws
@@ -34,7 +34,7 @@ pub mod AddedLaws
 pub mod ReclaimedLaws
 pub mod CameLaws
 pub mod WaitedLaws
-pub mod LapseLaws
+pub mod TimeoutLaws
 pub mod ChildLaws
 pub mod ConsistentLaws
 pub mod StoredLaws

@@ -15,7 +15,7 @@ use Rattle.ob_waits.specs.Rules.{WaitHasRoom, thread_of}
 use Rattle.ob_waits.specs.Waits.{WaitList, is_ready}
 use Rattle.ob_store.specs.declared.limits.Limits.{Limits}
 use Rattle.ob_store.specs.Agreement.{IsTied, made_in}
-use Rattle.ob_store.specs.Lives.{no_lives}
+use Rattle.ob_store.specs.Processes.{no_processes}
 use Rattle.ob_store.specs.Objects.{Object, ObjectsState, with_keeper, vacant_places}
 use Rattle.ob_store.specs.Parts.{PartsState, whole_of}
 use Rattle.ob_store.specs.Signaled.{none_signaled}
@@ -51,13 +51,13 @@ module _ (limits : Limits) (keeper : KeeperState) (fresh : IsFresh keeper (shape
   no_objects = with_keeper (vacant_places limits.slots) 0 keeper
 
   abbrev pub no_parts : PartsState
-  no_parts = record { limits = limits; lives = no_lives; tables = no_tables limits; objects = no_objects; waits = no_waits limits; rows = []; signaled = none_signaled }
+  no_parts = record { limits = limits; processes = no_processes; tables = no_tables limits; objects = no_objects; waits = no_waits limits; rows = []; signaled = none_signaled }
 
   pub kept_opening : IsKept no_parts
   kept_opening = record {
     sound = record {
       limited = record { processes_are = refl; handles_are = refl; waits_are = refl; shape_is = fresh.shape_is };
-      lives_kept = record {
+      processes_kept = record {
         few_processes = omega arith;
         few_threads = omega arith;
         tabled = refl;

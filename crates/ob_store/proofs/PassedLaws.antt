@@ -6,7 +6,7 @@ use Rattle.pin_words.specs.Keepers.{KeeperState}
 use Rattle.ob_store.specs.Parts.{PartsState}
 use Rattle.ob_store.specs.UnderWay.{IsEnding, IsUnderWay}
 use Rattle.ob_store.specs.Ends.{thread_ended, threads_ended}
-use Rattle.ob_store.specs.Lives.{is_of}
+use Rattle.ob_store.specs.Processes.{is_of}
 use Rattle.ob_store.specs.State.{State}
 
 is_of_none : (p : ℕ) (x : Option ℕ) → (x ≡ Some p → ⊥) → is_of p x ≡ false
@@ -35,11 +35,11 @@ passed_to s p a b le none =
     ap (threads_ended s p) (sym is) ∙ passed s p a (b - a) (λ t above below. none t above (omega (arith, below, is)))
 
 -- what is under way says which threads are live
-pub way_threads : (first : KeeperState) (p : PartsState) (s : State) (t process : ℕ) → IsUnderWay first p s → get_or s.threads t None ≡ Some process → get_or p.lives.threads t None ≡ Some process
+pub way_threads : (first : KeeperState) (p : PartsState) (s : State) (t process : ℕ) → IsUnderWay first p s → get_or s.threads t None ≡ Some process → get_or p.processes.threads t None ≡ Some process
 way_threads first p s t process way h = ap (λ (x : State). get_or x.threads t None) way.rest ∙ h
 
 -- the parts are on their way as well to where no thread between has ended
-pub ending_passed : (first : KeeperState) (p : PartsState) (s : State) (process a b : ℕ) → a ≤ b → ((t : ℕ) → a ≤ t → t < b → get_or p.lives.threads t None ≡ Some process → ⊥)
+pub ending_passed : (first : KeeperState) (p : PartsState) (s : State) (process a b : ℕ) → a ≤ b → ((t : ℕ) → a ≤ t → t < b → get_or p.processes.threads t None ≡ Some process → ⊥)
     → IsEnding first p (threads_ended s process a) → IsEnding first p (threads_ended s process b)
 ending_passed first p s process a b le none ending =
     subst (λ (x : State). IsEnding first p x)

@@ -10,10 +10,10 @@ use Rattle.ob_tables.specs.Counts.{handles_among}
 use Rattle.ob_waits.specs.Waits.{blocks_among}
 use Rattle.ob_store.specs.declared.limits.Limits.{Limits}
 use Rattle.ob_store.specs.declared.found.Found.{Found}
-use Rattle.ob_store.specs.Lives.{LivesState}
+use Rattle.ob_store.specs.Processes.{ProcessesState}
 use Rattle.ob_store.specs.Objects.{Object, ObjectsState, object_of, tag_of}
 use Rattle.ob_store.specs.Agreement.{IsTied}
-use Rattle.ob_store.specs.Kept.{IsLive, IsSound, IsThere, LivesKept, id_in}
+use Rattle.ob_store.specs.Kept.{IsLive, IsSound, IsThere, ProcessesKept, id_in}
 use Rattle.ob_store.specs.Parts.{PartsState}
 use Rattle.ob_store.proofs.AgreeLaws.{body_at, object_within}
 use Rattle.ob_store.proofs.CountedLaws.{handles_at, blocks_at}
@@ -64,11 +64,11 @@ pub live_within : (numbers : List (Option ℕ)) (n : ℕ) → IsLive numbers n �
 live_within numbers n live = elim (cases_lt n (length numbers)) [ inl lt ↦ lt | inr le ↦ absurd (let none = ap is_some (get_or_past numbers n None le) in cc (none, live)) ]
 
 -- a live process has its table
-pub process_tabled : (limits : Limits) (l : LivesState) (tables process : ℕ) (x : Option ℕ) → LivesKept limits l tables → x ≡ get_or l.processes process None → OnSome x (process < tables)
+pub process_tabled : (limits : Limits) (l : ProcessesState) (tables process : ℕ) (x : Option ℕ) → ProcessesKept limits l tables → x ≡ get_or l.processes process None → OnSome x (process < tables)
 process_tabled limits l tables process None kept is = tt
 process_tabled limits l tables process (Some s) kept is = let lt = live_within l.processes process (ap is_some (sym is)) in let same = kept.tabled in omega (arith, lt, same)
 
 -- the process of a live thread has its table
-pub thread_tabled : (limits : Limits) (l : LivesState) (tables thread : ℕ) (x : Option ℕ) → LivesKept limits l tables → x ≡ get_or l.threads thread None → IfSome x (λ p. p < tables)
+pub thread_tabled : (limits : Limits) (l : ProcessesState) (tables thread : ℕ) (x : Option ℕ) → ProcessesKept limits l tables → x ≡ get_or l.threads thread None → IfSome x (λ p. p < tables)
 thread_tabled limits l tables thread None kept is = tt
 thread_tabled limits l tables thread (Some p) kept is = let lt = live_within l.processes p (kept.live thread p (sym is)) in let same = kept.tabled in omega (arith, lt, same)

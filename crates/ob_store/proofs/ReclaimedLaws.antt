@@ -83,12 +83,12 @@ module _ (p : PartsState) (kept : IsKept p) (tied : IsTied p.objects)
     kept_left = record {
       sound = record {
         limited = record { processes_are = kept.sound.limited.processes_are; handles_are = kept.sound.limited.handles_are; waits_are = kept.sound.limited.waits_are; shape_is = shape ∙ kept.sound.limited.shape_is };
-        lives_kept = kept.sound.lives_kept;
+        processes_kept = kept.sound.processes_kept;
         counted = subst (λ (n : ℕ). IsCounted left.seen n p.tables.tables p.waits.waits) (sym (length-set o.objects k None))
             (counted_left o.seen (length o.objects) p.tables.tables p.waits.waits kept.sound.counted (set o.seen.bodies k None) k no_references.0 no_references.1);
         named = subst (λ (i : ℕ). IsNamed (set o.objects i None) p.tables.tables p.waits.waits) own (named_left o.objects p.tables.tables p.waits.waits object.id (placed_there o tied k object is_object.1) no_handles no_blocks kept.sound.named);
         formed = subst (λ (bs : List (Option Body)). AreFormed p.waits.clock (set o.objects k None) bs) (sym bodies_same) (formed_fewer p.waits.clock o.objects o.seen.bodies k kept.sound.formed);
-        of_live = subst (λ (bs : List (Option Body)). AreOfLive p.lives.threads bs p.waits.waits) (sym bodies_same) kept.sound.of_live;
+        of_live = subst (λ (bs : List (Option Body)). AreOfLive p.processes.threads bs p.waits.waits) (sym bodies_same) kept.sound.of_live;
         room = subst (λ (bs : List (Option Body)). WaitsHaveRoom p.limits.max_recursion bs p.waits.waits) (sym bodies_same) kept.sound.room;
         listing = listing_left p.rows p.tables.tables o.objects o.births kept.sound.listing k object is_object.1 no_handles;
       };
@@ -102,7 +102,7 @@ module _ (p : PartsState) (kept : IsKept p) (tied : IsTied p.objects)
   kept_reclaimed (Held n) q h = subst (λ (z : ObjectsState). IsKept (record p { objects = z })) (sym h.0) (record {
     sound = record {
       limited = record { processes_are = kept.sound.limited.processes_are; handles_are = kept.sound.limited.handles_are; waits_are = kept.sound.limited.waits_are; shape_is = ap (λ (z : KeeperState). z.shape) h.1.0 ∙ kept.sound.limited.shape_is };
-      lives_kept = kept.sound.lives_kept;
+      processes_kept = kept.sound.processes_kept;
       counted = kept.sound.counted;
       named = kept.sound.named;
       formed = kept.sound.formed;

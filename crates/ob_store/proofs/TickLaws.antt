@@ -162,7 +162,7 @@ module _ (p : PartsState) (q : ObjectsState) (a : SignaledState) (now : ℕ)
   pub way_fired : IsUnderWay p.objects.keeper (record p { objects = q; signaled = a }) (record (state_of p) { bodies = map (slot_fired now) p.objects.seen.bodies })
   way_fired = record {
     tied = tied;
-    sound = sound_rested p p.lives q p.waits a rest kept.sound refl kept.sound.lives_kept
+    sound = sound_rested p p.processes q p.waits a rest kept.sound refl kept.sound.processes_kept
         (record { handles = ap (λ (x : Objects). x.handles) seen ∙ kept.sound.counted.handles; blocks = ap (λ (x : Objects). x.blocks) seen ∙ kept.sound.counted.blocks })
         kept.sound.named
         (subst (λ (bs : List (Option Body)). AreFormed p.waits.clock p.objects.objects bs) (sym bodies_are) (formed_fired p.waits.clock now p.objects.objects p.objects.seen.bodies kept.sound.formed))
@@ -172,7 +172,7 @@ module _ (p : PartsState) (q : ObjectsState) (a : SignaledState) (now : ℕ)
         })
         (room_changed limit p.objects.seen.bodies q.seen.bodies p.waits.waits
         (λ t k h. subst (λ (x : Option Body). slot_room limit t x ≡ true) (sym (body_is k)) (room_fired limit t now (get_or p.objects.seen.bodies k None) h)) kept.sound.room);
-    rest = state_rested p p.lives q p.waits a rest;
+    rest = state_rested p p.processes q p.waits a rest;
     bodies = subst (λ (x : List (Option Body)). AreLeft x q.seen.bodies) bodies_are (left_same q.seen.bodies);
     keeper = ap (λ (r : KeptRest). r.keeper) rest;
   }

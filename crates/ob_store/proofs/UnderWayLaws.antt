@@ -38,7 +38,7 @@ pub ending_begins : (p : PartsState) (a : SignaledState) → IsKept p → IsTied
 ending_begins p a kept tied = record {
   way = record {
     tied = tied;
-    sound = sound_rested p p.lives p.objects p.waits a refl kept.sound refl kept.sound.lives_kept kept.sound.counted kept.sound.named kept.sound.formed kept.sound.of_live kept.sound.room;
+    sound = sound_rested p p.processes p.objects p.waits a refl kept.sound refl kept.sound.processes_kept kept.sound.counted kept.sound.named kept.sound.formed kept.sound.of_live kept.sound.room;
     rest = refl;
     bodies = left_same p.objects.seen.bodies;
     keeper = refl;
@@ -58,11 +58,11 @@ module _ (p : PartsState) (q : ObjectsState) (ws : WaitList)
 
   pub way_kept : WaitsHaveRoom p.limits.max_recursion q.seen.bodies ws.waits → IsSettled q.seen.bodies ws.waits → IsKept (record p { objects = q; waits = ws })
   way_kept room quiet = record {
-    sound = sound_rested p p.lives q ws p.signaled rest sound limit sound.lives_kept
+    sound = sound_rested p p.processes q ws p.signaled rest sound limit sound.processes_kept
         (counted_settled p.objects.seen (length p.objects.objects) p.tables.tables p.waits.waits sound.counted p.objects.seen.bodies q.seen ws.waits value)
         (named_settled p.objects.objects p.tables.tables p.waits.waits sound.named scene ws.waits refl (ap (λ (x : Scene). x.waits) value))
         (subst (λ n. AreFormed n p.objects.objects q.seen.bodies) (sym clock) (formed_settled scene q.seen ws.waits value p.waits.clock p.objects.objects sound.formed))
-        (of_live_settled scene q.seen ws.waits value p.lives.threads sound.of_live)
+        (of_live_settled scene q.seen ws.waits value p.processes.threads sound.of_live)
         room;
     settled = quiet;
   }
@@ -80,7 +80,7 @@ module _ (p : PartsState) (q : ObjectsState) (ws : WaitList)
 
     pub way_state : state_of (record p { objects = q; waits = ws }) ≡ settled s
     way_state =
-        state_rested p p.lives q ws p.signaled rest
+        state_rested p p.processes q ws p.signaled rest
         ∙ (λ i. record (state_of p) { bodies = (value i).objects.bodies; waits = (value i).waits; clock = clock i })
         ∙ ap (λ (x : State). with_scene x (waits.settled (record { objects = p.objects.seen; waits = x.waits }))) way.rest
         ∙ ap (λ (x : Objects). with_scene s (waits.settled (record { objects = x; waits = s.waits }))) (sym ends_are)
@@ -106,13 +106,13 @@ module _ (p : PartsState) (q : ObjectsState) (id : Id) (old new : Body)
   pub way_put : IsTied q → IsUnderWay p.objects.keeper (record p { objects = q }) (with_body (state_of p) id new)
   way_put tied = record {
     tied = tied;
-    sound = sound_rested p p.lives q p.waits p.signaled rest kept.sound refl kept.sound.lives_kept
+    sound = sound_rested p p.processes q p.waits p.signaled rest kept.sound refl kept.sound.processes_kept
         (record { handles = ap (λ (x : Objects). x.handles) put ∙ kept.sound.counted.handles; blocks = ap (λ (x : Objects). x.blocks) put ∙ kept.sound.counted.blocks })
         kept.sound.named
         (subst (λ (x : List (Option Body)). AreFormed p.waits.clock p.objects.objects x) (sym put_bodies) (formed_put p.objects.seen.bodies id.slot old new p.waits.clock there yields p.objects.objects kept.sound.formed))
-        (subst (λ (x : List (Option Body)). AreOfLive p.lives.threads x p.waits.waits) (sym put_bodies) (of_live_put p.objects.seen.bodies id.slot old new p.waits.clock there yields p.lives.threads p.waits.waits kept.sound.of_live))
+        (subst (λ (x : List (Option Body)). AreOfLive p.processes.threads x p.waits.waits) (sym put_bodies) (of_live_put p.objects.seen.bodies id.slot old new p.waits.clock there yields p.processes.threads p.waits.waits kept.sound.of_live))
         (subst (λ (x : List (Option Body)). WaitsHaveRoom p.limits.max_recursion x p.waits.waits) (sym put_bodies) (room_put p.objects.seen.bodies id.slot old new p.waits.clock there yields p.limits.max_recursion p.waits.waits kept.sound.room));
-    rest = state_rested p p.lives q p.waits p.signaled rest;
+    rest = state_rested p p.processes q p.waits p.signaled rest;
     bodies = subst (λ (x : List (Option Body)). AreLeft x q.seen.bodies) put_bodies (left_same q.seen.bodies);
     keeper = ap (λ (r : KeptRest). r.keeper) rest;
   }

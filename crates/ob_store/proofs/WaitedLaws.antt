@@ -86,31 +86,31 @@ module _ (p : PartsState) (q : ObjectsState) (t : ℕ) (mode : Mode) (ids : List
     (kept : IsKept p)
     (rest : kept_rest q ≡ kept_rest p.objects)
     (alone : number_of t p.waits.waits ≡ None)
-    (live : IsLive p.lives.threads t)
+    (live : IsLive p.processes.threads t)
     (seen : q.seen ≡ record p.objects.seen { bodies = bodies_after mode t p.objects.seen.bodies ids }) where
   bodies_are : q.seen.bodies ≡ bodies_after mode t p.objects.seen.bodies ids
   bodies_are = ap (λ (x : Objects). x.bodies) seen
 
   kept_taken : IsKept (record p { objects = q })
   kept_taken = record {
-    sound = sound_rested p p.lives q p.waits p.signaled rest kept.sound refl kept.sound.lives_kept
+    sound = sound_rested p p.processes q p.waits p.signaled rest kept.sound refl kept.sound.processes_kept
         (record { handles = ap (λ (x : Objects). x.handles) seen ∙ kept.sound.counted.handles; blocks = ap (λ (x : Objects). x.blocks) seen ∙ kept.sound.counted.blocks })
         kept.sound.named
         (subst (λ (bs : List (Option Body)). AreFormed p.waits.clock p.objects.objects bs) (sym bodies_are) (formed_taken p.waits.clock p.objects.objects p.objects.seen.bodies t mode ids kept.sound.formed))
-        (subst (λ (bs : List (Option Body)). AreOfLive p.lives.threads bs p.waits.waits) (sym bodies_are) (of_live_taken p.lives.threads p.objects.seen.bodies p.waits.waits t mode ids live kept.sound.of_live))
+        (subst (λ (bs : List (Option Body)). AreOfLive p.processes.threads bs p.waits.waits) (sym bodies_are) (of_live_taken p.processes.threads p.objects.seen.bodies p.waits.waits t mode ids live kept.sound.of_live))
         (subst (λ (bs : List (Option Body)). WaitsHaveRoom p.limits.max_recursion bs p.waits.waits) (sym bodies_are) (room_now p.limits.max_recursion mode t p.objects.seen.bodies ids p.waits.waits alone kept.sound.room));
     settled = subst (λ (bs : List (Option Body)). IsSettled bs p.waits.waits) (sym bodies_are) (settled_now mode t p.objects.seen.bodies ids p.waits.waits kept.settled);
   }
 
   taken_state : IsTied q → state_of (record p { objects = q }) ≡ settled (with_taken (state_of p) t mode ids)
-  taken_state tied = sym (settled_kept (record p { objects = q }) kept_taken tied) ∙ ap settled (state_rested p p.lives q p.waits p.signaled rest ∙ ap (λ (bs : List (Option Body)). record (state_of p) { bodies = bs }) bodies_are)
+  taken_state tied = sym (settled_kept (record p { objects = q }) kept_taken tied) ∙ ap settled (state_rested p p.processes q p.waits p.signaled rest ∙ ap (λ (bs : List (Option Body)). record (state_of p) { bodies = bs }) bodies_are)
 
 -- where a thread's wait was satisfied it took, and else nothing changed
 module _ (p : PartsState) (q : ObjectsState) (t : ℕ) (mode : Mode) (ids : List Id)
     (kept : IsKept p)
     (rest : kept_rest q ≡ kept_rest p.objects)
     (alone : number_of t p.waits.waits ≡ None)
-    (live : IsLive p.lives.threads t)
+    (live : IsLive p.processes.threads t)
     (seen : q.seen ≡ objects_now mode t p.objects.seen ids) where
   took : (code : ℕ) → Some code ≡ code_now mode t p.objects.seen.bodies ids → q.seen ≡ record p.objects.seen { bodies = bodies_after mode t p.objects.seen.bodies ids }
   took code is = seen ∙ taken_now mode t p.objects.seen ids (ready_now mode t p.objects.seen.bodies ids code is)
@@ -177,10 +177,10 @@ module _ (p : PartsState) (t : ℕ) (mode : Mode) (ids : List Id) (d : Option �
     ];
   }
 
-  pub kept_waiting : HasRoom p.limits.max_recursion t p.objects.seen.bodies ids → IsLive p.lives.threads t → list_ready mode t p.objects.seen.bodies ids ≡ false → IsKept waiting
+  pub kept_waiting : HasRoom p.limits.max_recursion t p.objects.seen.bodies ids → IsLive p.processes.threads t → list_ready mode t p.objects.seen.bodies ids ≡ false → IsKept waiting
   kept_waiting room live unready = subst (λ (z : ObjectsState). IsKept (record p { objects = z; waits = more })) (sym came) (record {
-    sound = sound_rested p p.lives (record p.objects { seen = record p.objects.seen { blocks = (with_blocks_of p.objects ids).seen.blocks } }) more p.signaled refl kept.sound refl kept.sound.lives_kept counted_after named_after kept.sound.formed
-        (of_live_waiting p.lives.threads p.objects.seen.bodies p.waits.waits t mode ids d live kept.sound.of_live)
+    sound = sound_rested p p.processes (record p.objects { seen = record p.objects.seen { blocks = (with_blocks_of p.objects ids).seen.blocks } }) more p.signaled refl kept.sound refl kept.sound.processes_kept counted_after named_after kept.sound.formed
+        (of_live_waiting p.processes.threads p.objects.seen.bodies p.waits.waits t mode ids d live kept.sound.of_live)
         (room_added p.limits.max_recursion p.objects.seen.bodies p.waits.waits t mode ids d room kept.sound.room);
     settled = settled_added p.objects.seen.bodies p.waits.waits t mode ids d unready kept.settled;
   })
@@ -230,15 +230,15 @@ module _ (p : PartsState) (q : ObjectsState) (n code : ℕ) (ids : List Id)
   pub way_expired : IsTied q → IsUnderWay p.objects.keeper expired (with_answer (state_of p) n code)
   way_expired tied = record {
     tied = tied;
-    sound = sound_rested p p.lives q (waits.with_answer p.waits n code) p.signaled rest kept.sound refl kept.sound.lives_kept counted_left
+    sound = sound_rested p p.processes q (waits.with_answer p.waits n code) p.signaled rest kept.sound refl kept.sound.processes_kept counted_left
         (named_fewer p.objects.objects p.tables.tables p.tables.tables p.waits.waits after (λ id. omega arith) (λ id. let x = blocks_answered id p.waits.waits n code in omega (arith, x)) kept.sound.named)
         (formed_left p.waits.clock p.objects.objects p.objects.seen.bodies q.seen.bodies fewer kept.sound.formed)
         (record {
           owners = λ k u h. elim (fewer.each k) [ inl same ↦ kept.sound.of_live.owners k u (sym (ap slot_owner same) ∙ h) | inr none ↦ absurd (let e = ap slot_owner none in cc (e, h)) ];
-          waiters = set_waiters p.lives.threads p.waits.waits n (answered (get_or p.waits.waits n None) code) (λ u h. answered_thread (get_or p.waits.waits n None) code u h) kept.sound.of_live.waiters;
+          waiters = set_waiters p.processes.threads p.waits.waits n (answered (get_or p.waits.waits n None) code) (λ u h. answered_thread (get_or p.waits.waits n None) code u h) kept.sound.of_live.waiters;
         })
         (room_answered limit q.seen.bodies p.waits.waits n code (room_changed limit p.objects.seen.bodies q.seen.bodies p.waits.waits (λ u k h. room_left_at limit u p.objects.seen.bodies q.seen.bodies k fewer h) kept.sound.room));
-    rest = state_rested p p.lives q (waits.with_answer p.waits n code) p.signaled rest;
+    rest = state_rested p p.processes q (waits.with_answer p.waits n code) p.signaled rest;
     bodies = fewer;
     keeper = ap (λ (r : KeptRest). r.keeper) rest;
   }
@@ -254,7 +254,7 @@ pub kept_over : (p : PartsState) (n code : ℕ) → IsKept p → code_at (get_or
 kept_over p n code kept is =
     let gone = waits.without_wait p.waits n in
     record {
-      sound = sound_rested p p.lives p.objects gone p.signaled refl kept.sound refl kept.sound.lives_kept
+      sound = sound_rested p p.processes p.objects gone p.signaled refl kept.sound refl kept.sound.processes_kept
           (record {
             handles = kept.sound.counted.handles;
             blocks = recounted p.objects.seen.blocks p.objects.seen.blocks (length p.objects.objects) (λ k. slot_blocks k p.waits.waits) (λ k. slot_blocks k gone.waits) kept.sound.counted.blocks refl
@@ -266,7 +266,7 @@ kept_over p n code kept is =
           })
           (named_fewer p.objects.objects p.tables.tables p.tables.tables p.waits.waits gone.waits (λ id. omega arith) (λ id. let x = blocks_removed id p.waits.waits n in omega (arith, x)) kept.sound.named)
           kept.sound.formed
-          (record { owners = kept.sound.of_live.owners; waiters = set_waiters p.lives.threads p.waits.waits n None (λ u h. absurd (cc)) kept.sound.of_live.waiters })
+          (record { owners = kept.sound.of_live.owners; waiters = set_waiters p.processes.threads p.waits.waits n None (λ u h. absurd (cc)) kept.sound.of_live.waiters })
           (room_removed p.limits.max_recursion p.objects.seen.bodies p.waits.waits n kept.sound.room);
       settled = settled_removed p.objects.seen.bodies p.waits.waits n kept.settled;
     }

@@ -8,11 +8,11 @@ use Rattle.ob_waits.specs.Rules.{IsKept}
 use Rattle.ob_store.specs.Agreement.{Agrees, AreBorn, IsListed}
 use Rattle.ob_store.specs.State.{Whole, generation_of, handles_of, blocks_of, settled, shape_of}
 use Rattle.ob_store.specs.Directory.{directory_of}
-use Rattle.ob_store.specs.Kept.{AreFormed, AreOfLive, IsNamed, IsQuiet, IsThere, LivesKept}
+use Rattle.ob_store.specs.Kept.{AreFormed, AreOfLive, IsNamed, IsQuiet, IsThere, ProcessesKept}
 
 pub record IsConsistent (w : Whole) : Type 0 where
   -- numbers are within the limits, each process number has a table, and a live thread's process is live
-  pub lives : LivesKept w.state.limits (record { processes = w.state.processes; threads = w.state.threads }) (length w.state.tables)
+  pub processes : ProcessesKept w.state.limits (record { processes = w.state.processes; threads = w.state.threads }) (length w.state.tables)
   -- slot by slot: free, or given up, or with one object of the slot's Id and descriptor, live with a body and closing without
   pub slots : (k : ℕ) → k < w.keeper.shape.slots → Agrees k (slice_index_or w.state.objects k None) (slice_index_or w.state.bodies k None) (slice_index_or w.state.retired k false) (slot_of w.keeper.slots k)
   pub shape : w.keeper.shape ≡ shape_of w.state.limits

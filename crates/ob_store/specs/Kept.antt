@@ -15,7 +15,7 @@ use Rattle.ob_waits.specs.Form.{Form, IsAfter, form_of, slot_due, slot_owner}
 use Rattle.ob_waits.specs.Rules.{IsSettled, WaitsHaveRoom, thread_of}
 use Rattle.ob_waits.specs.Waits.{blocks_among, slot_blocks}
 use Rattle.ob_store.specs.declared.limits.Limits.{Limits}
-use Rattle.ob_store.specs.Lives.{LivesState}
+use Rattle.ob_store.specs.Processes.{ProcessesState}
 use Rattle.ob_store.specs.Objects.{Object}
 use Rattle.ob_store.specs.Parts.{PartsState}
 use Rattle.ob_store.specs.State.{by_slot, shape_of}
@@ -33,11 +33,11 @@ abbrev pub IsLive : List (Option ℕ) → ℕ → Type 0
 IsLive numbers n = IsSome (slice_index_or numbers n None)
 
 -- no more numbers than the limits let; each process number has a table; a live thread's process is live
-pub record LivesKept (limits : Limits) (lives : LivesState) (tables : ℕ) : Type 0 where
-  pub few_processes : length lives.processes ≤ limits.processes + 1
-  pub few_threads : length lives.threads ≤ limits.threads + 1
-  pub tabled : tables ≡ length lives.processes
-  pub live : (t p : ℕ) → slice_index_or lives.threads t None ≡ Some p → IsLive lives.processes p
+pub record ProcessesKept (limits : Limits) (p : ProcessesState) (tables : ℕ) : Type 0 where
+  pub few_processes : length p.processes ≤ limits.processes + 1
+  pub few_threads : length p.threads ≤ limits.threads + 1
+  pub tabled : tables ≡ length p.processes
+  pub live : (thread process : ℕ) → slice_index_or p.threads thread None ≡ Some process → IsLive p.processes process
 
 -- the stored counts are the numbers of entries and of places of pending waits
 pub record IsCounted (seen : Objects) (n : ℕ) (tables : List (List (Option Entry))) (waits : List (Option Wait)) : Type 0 where
@@ -97,11 +97,11 @@ pub record IsListing (rows : Rows) (tables : List (List (Option Entry))) (object
 -- what ties the parts of a store to one another while a call is under way
 pub record IsSound (p : PartsState) : Type 0 where
   pub limited : AreLimited p.limits p.tables.process_limit p.tables.handle_limit p.waits.limit p.objects.keeper.shape
-  pub lives_kept : LivesKept p.limits p.lives (length p.tables.tables)
+  pub processes_kept : ProcessesKept p.limits p.processes (length p.tables.tables)
   pub counted : IsCounted p.objects.seen (length p.objects.objects) p.tables.tables p.waits.waits
   pub named : IsNamed p.objects.objects p.tables.tables p.waits.waits
   pub formed : AreFormed p.waits.clock p.objects.objects p.objects.seen.bodies
-  pub of_live : AreOfLive p.lives.threads p.objects.seen.bodies p.waits.waits
+  pub of_live : AreOfLive p.processes.threads p.objects.seen.bodies p.waits.waits
   pub room : WaitsHaveRoom p.limits.max_recursion p.objects.seen.bodies p.waits.waits
   pub listing : IsListing p.rows p.tables.tables p.objects.objects p.objects.births
 

@@ -1,6 +1,6 @@
 pub mod Limits
-pub mod Lives
-pub mod Members
+pub mod Processes
+pub mod ThreadLists
 pub mod Objects
 pub mod Agreement
 pub mod State

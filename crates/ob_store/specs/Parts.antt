@@ -5,14 +5,14 @@ use Rattle.ob_tables.specs.Tables.{HandleTables}
 use Rattle.ob_waits.specs.Waits.{WaitList}
 use Rattle.ob_store.specs.declared.limits.Limits.{Limits}
 use Rattle.ob_store.specs.declared.parts.Parts.{Parts}
-use Rattle.ob_store.specs.Lives.{LivesState}
+use Rattle.ob_store.specs.Processes.{ProcessesState}
 use Rattle.ob_store.specs.Objects.{ObjectsState}
 use Rattle.ob_store.specs.Signaled.{SignaledState}
 use Rattle.ob_store.specs.State.{State, Whole, generation_of}
 
 pub record PartsState : Type 0 where
   pub limits : Limits
-  pub lives : LivesState
+  pub processes : ProcessesState
   pub tables : HandleTables
   pub objects : ObjectsState
   pub waits : WaitList
@@ -20,13 +20,13 @@ pub record PartsState : Type 0 where
   pub signaled : SignaledState
 
 abbrev pub parts_of : {K : Type 0} → Parts K → PartsState
-parts_of p = record { limits = p.limits; lives = p.lives; tables = p.tables; objects = p.objects; waits = p.waits; rows = p.names.rows; signaled = p.signaled }
+parts_of p = record { limits = p.limits; processes = p.processes; tables = p.tables; objects = p.objects; waits = p.waits; rows = p.names.rows; signaled = p.signaled }
 
 abbrev pub state_of : PartsState → State
 state_of p = record {
   limits = p.limits;
-  processes = p.lives.processes;
-  threads = p.lives.threads;
+  processes = p.processes.processes;
+  threads = p.processes.threads;
   tables = p.tables.tables;
   objects = p.objects.objects;
   bodies = p.objects.seen.bodies;

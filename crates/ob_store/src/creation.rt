@@ -53,7 +53,6 @@ impl<K: PinKeeper> Store<K> {
         ensures memory { IfErr result (λ fault. fault ≡ Memory) }
         ensures err { OnErr result (self.new ≡ self.old) }
     {
-        // Called for its clause, before and after: that nothing refers to a slot without a body.
         self.parts.objects.kept();
         let entry = Entry {
             id: self.parts.objects.id_at(slot),
@@ -95,7 +94,6 @@ impl<K: PinKeeper> Store<K> {
     {
         let entered = self.parts.names.reserve(name)?;
         let kept = Name::new(self.alloc, name)?;
-        // As in `add_nameless`.
         self.parts.objects.kept();
         let entry = Entry {
             id: self.parts.objects.id_at(slot),

@@ -8,7 +8,7 @@ ghost use Rattle.ob_waits.specs.declared.wait.Wait.{Wait};
 ghost use Rattle.ob_store.specs.Signaled.{KeepsEnough};
 ghost use Rattle.ob_waits.specs.Waits.{thread_ids};
 ghost use Rattle.ob_store.specs.Ends.{abandoned_by, exited, left, process_ended, thread_ended, threads_ended, unless_threads};
-ghost use Rattle.ob_store.specs.Lives.{is_of};
+ghost use Rattle.ob_store.specs.Processes.{is_of};
 ghost use Rattle.ob_store.specs.Moves.{OnlyCloses};
 ghost use Rattle.ob_store.specs.Objects.{kept_rest};
 ghost use Rattle.ob_store.specs.Kept.{IsSound};
@@ -26,7 +26,7 @@ use ob_waits::{Bodies, Waits, leave_all};
 use pin_core::Id;
 use pin_words::PinKeeper;
 
-/// The blocks of a thread's wait leave.
+/// The objects of a thread's wait are no longer referred to by it.
 fn leave_wait<K: PinKeeper>(objects: &mut Objects<K>, waits: &Waits, thread: u32)
     ensures seen { objects.new.seen ≡ without_blocks objects.old.seen (thread_ids thread waits.now.waits) }
     ensures rest { kept_rest objects.new ≡ kept_rest objects.old }
@@ -68,8 +68,8 @@ fn abandon_listed<K: PinKeeper>(objects: &mut Objects<K>, signaled: &mut Signale
     ensures rest { kept_rest objects.new ≡ kept_rest objects.old }
     ensures enough { KeepsEnough signaled.old objects.old.seen.bodies signaled.new objects.new.seen.bodies }
 {
-    for _ in 0..objects.owned(thread) {
-        let slot = objects.hint(thread);
+    for _ in 0..objects.owned_count(thread) {
+        let slot = objects.first_owned(thread);
         abandon_at(objects, signaled, thread, slot);
     }
 }
@@ -95,38 +95,38 @@ fn abandon<K: PinKeeper>(objects: &mut Objects<K>, signaled: &mut SignaledSlots,
 impl<K: PinKeeper> Parts<K> {
     /// A thread ends, and nothing settles yet: its wait is dropped, then its mutexes are abandoned.
     fn end_one(&mut self, thread: u32)
-        ensures way { Carries self.old self.new (λ s. thread_ended s thread) }
-        ensures lives { self.new.lives ≡ record self.old.lives { threads = slice_set self.old.lives.threads thread None } }
+        ensures carries { Carries self.old self.new (λ s. thread_ended s thread) }
+        ensures threads { self.new.processes ≡ record self.old.processes { threads = slice_set self.old.processes.threads thread None } }
     {
         leave_wait(&mut self.objects, &self.waits, thread);
         self.waits.drop_thread(thread);
         abandon(&mut self.objects, &mut self.signaled, thread);
         self.objects.kept();
-        self.lives.end_thread(thread);
+        self.processes.end_thread(thread);
     }
 
-    /// The same of a thread that is live and of the process, if it is.
+    /// Ends a thread, if it is a live one of the process.
     fn end_of(&mut self, process: u32, thread: u32)
-        ensures way { Carries self.old self.new (λ s. if is_of process (slice_index_or s.threads thread None) then thread_ended s thread else s) }
-        ensures long { length self.new.lives.threads ≡ length self.old.lives.threads }
-        ensures gone { slice_index_or self.new.lives.threads thread None ≡ Some process → ⊥ }
-        ensures fewer { (t q : ℕ) → slice_index_or self.new.lives.threads t None ≡ Some q → slice_index_or self.old.lives.threads t None ≡ Some q }
+        ensures carries { Carries self.old self.new (λ s. if is_of process (slice_index_or s.threads thread None) then thread_ended s thread else s) }
+        ensures count { length self.new.processes.threads ≡ length self.old.processes.threads }
+        ensures ended { slice_index_or self.new.processes.threads thread None ≡ Some process → ⊥ }
+        ensures none_comes { (t q : ℕ) → slice_index_or self.new.processes.threads t None ≡ Some q → slice_index_or self.old.processes.threads t None ≡ Some q }
     {
-        if self.lives.process(thread) == Some(process) {
+        if self.processes.process(thread) == Some(process) {
             self.end_one(thread);
         }
     }
 
     /// The threads of a process end, by rising number. It looks at the threads that the process was given.
     fn end_all(&mut self, process: u32)
-        ensures way { Carries self.old self.new (λ s. threads_ended s process (length self.old.lives.threads)) }
-        ensures gone { (t : ℕ) → slice_index_or self.new.lives.threads t None ≡ Some process → ⊥ }
+        ensures carries { Carries self.old self.new (λ s. threads_ended s process (length self.old.processes.threads)) }
+        ensures ended { (t : ℕ) → slice_index_or self.new.processes.threads t None ≡ Some process → ⊥ }
     {
-        let end = self.lives.next_thread();
-        let mut thread = self.lives.first_of(process);
+        let end = self.processes.next_thread();
+        let mut thread = self.processes.first_of(process);
         while thread < end {
             self.end_of(process, thread);
-            thread = self.lives.next_of(process, thread);
+            thread = self.processes.next_of(process, thread);
         }
     }
 
@@ -135,11 +135,10 @@ impl<K: PinKeeper> Parts<K> {
         requires sound { IsSound (with_left (parts_of self.old) process places.now place) }
         requires table { process < length self.old.tables.tables }
         requires within { place < length places.now }
-        ensures way { (first : KeeperState) (s : State) → IsEnding first (with_left (parts_of self.old) process places.now place) s → IsEnding first (with_left (parts_of self.new) process places.now (place + 1)) (record s { tables = tables_left self.old.tables.tables process places.now (place + 1) }) }
+        ensures carries { (first : KeeperState) (s : State) → IsEnding first (with_left (parts_of self.old) process places.now place) s → IsEnding first (with_left (parts_of self.new) process places.now (place + 1)) (record s { tables = tables_left self.old.tables.tables process places.now (place + 1) }) }
         ensures sound { IsSound (with_left (parts_of self.new) process places.now (place + 1)) }
         ensures rest { self.new ≡ record self.old { objects = self.new.objects; names = self.new.names } }
     {
-        // Called for its clause, before and after the change.
         self.objects.kept();
         let Some(entry) = places[place] else {
             return;
@@ -153,7 +152,7 @@ impl<K: PinKeeper> Parts<K> {
     fn leave_entries(&mut self, process: u32, places: &[Option<Entry>])
         requires sound { IsSound (with_left (parts_of self.old) process places.now 0) }
         requires table { process < length self.old.tables.tables }
-        ensures way { (first : KeeperState) (s : State) → IsEnding first (with_left (parts_of self.old) process places.now 0) s → IsEnding first (with_left (parts_of self.new) process places.now (length places.now)) (record s { tables = tables_left self.old.tables.tables process places.now (length places.now) }) }
+        ensures carries { (first : KeeperState) (s : State) → IsEnding first (with_left (parts_of self.old) process places.now 0) s → IsEnding first (with_left (parts_of self.new) process places.now (length places.now)) (record s { tables = tables_left self.old.tables.tables process places.now (length places.now) }) }
         ensures rest { self.new ≡ record self.old { objects = self.new.objects; names = self.new.names } }
     {
         for place in 0..places.len() {
@@ -165,21 +164,21 @@ impl<K: PinKeeper> Parts<K> {
     fn end_process(&mut self, process: u32)
         requires sound { IsSound (parts_of self.old) }
         requires table { process < length self.old.tables.tables }
-        requires alone { (t : ℕ) → slice_index_or self.old.lives.threads t None ≡ Some process → ⊥ }
-        ensures way { Carries self.old self.new (λ s. process_ended s process) }
+        requires alone { (t : ℕ) → slice_index_or self.old.processes.threads t None ≡ Some process → ⊥ }
+        ensures carries { Carries self.old self.new (λ s. process_ended s process) }
     {
         let places = self.tables.take_entries(process);
         self.leave_entries(process, places.as_slice());
-        self.lives.end_process(process);
+        self.processes.end_process(process);
     }
 
-    /// The same of a process that may have live threads: then it stays.
+    /// Ends a process, if it has no live thread left.
     fn leave_process(&mut self, process: u32)
         requires sound { IsSound (parts_of self.old) }
         requires table { process < length self.old.tables.tables }
-        ensures way { Carries self.old self.new (λ s. unless_threads s process) }
+        ensures carries { Carries self.old self.new (λ s. unless_threads s process) }
     {
-        if self.lives.has_threads(process) {
+        if self.processes.has_threads(process) {
             return;
         }
         self.end_process(process);
@@ -195,7 +194,6 @@ impl<K: PinKeeper> Store<K> {
         ensures state { self.new.state ≡ settled (left self.old.state process thread) }
         ensures keeper { OnlyCloses self.old.keeper self.new.keeper }
     {
-        // Called for its clause.
         self.parts.objects.kept();
         self.parts.signaled.clear();
         self.parts.end_one(thread);
@@ -211,7 +209,6 @@ impl<K: PinKeeper> Store<K> {
         ensures state { self.new.state ≡ settled (exited self.old.state process) }
         ensures keeper { OnlyCloses self.old.keeper self.new.keeper }
     {
-        // Called for its clause.
         self.parts.objects.kept();
         self.parts.signaled.clear();
         self.parts.end_all(process);

@@ -20,7 +20,7 @@ impl<K: PinKeeper> Store<K> {
     #[inline(always)]
     pub fn place_entry(&mut self, process: u32, entry: Entry) -> Result<u32, Fault>
         requires process { process < length self.old.state.tables }
-        requires there { 0 < handles_among entry.id self.old.state.tables }
+        requires handled { 0 < handles_among entry.id self.old.state.tables }
         ensures value { IfOk result (λ value. value ≡ value_of (free_place (table_of self.old.state.tables process))) }
         ensures ok { OnOk result (self.new ≡ record self.old { state = settled (with_entry self.old.state process entry) }) }
         // And nothing settles by it.
@@ -31,7 +31,6 @@ impl<K: PinKeeper> Store<K> {
         ensures reuses { IfErr result (λ fault. fault ≡ Memory → is_packed (table_of self.old.state.tables process) ≡ true) }
         ensures err { OnErr result (self.new ≡ self.old) }
     {
-        // Called for its clause, before and after the change.
         self.parts.objects.kept();
         match self.parts.tables.place(process, entry) {
             Ok(value) => {
@@ -50,7 +49,6 @@ impl<K: PinKeeper> Store<K> {
         ensures state { self.new.state ≡ settled (without_entry self.old.state process handle) }
         ensures keeper { OnlyCloses self.old.keeper self.new.keeper }
     {
-        // Called for its clause, before and after the change.
         self.parts.objects.kept();
         let _ = self.parts.tables.remove(process, handle);
         self.parts.objects.handle_left(entry.id.slot);
@@ -66,7 +64,6 @@ impl<K: PinKeeper> Store<K> {
         requires { IsSome (entry_at (table_of self.old.state.tables process) handle) }
         ensures { self.new ≡ record self.old { state = settled (with_flags self.old.state process handle flags) } }
     {
-        // Called for its clause.
         self.parts.objects.kept();
         self.parts.tables.set_flags(process, handle, flags);
     }

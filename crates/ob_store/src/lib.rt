@@ -1,8 +1,8 @@
 //! What a manager keeps: processes, threads and their handle tables, objects in their slots with their keeper, names and waits.
 //!
-//! [`Store`] stands to its callers for a plain state without counts (`specs/State.antt`) and for what the keeper of the slots
-//! says. It counts what refers to each object, finds objects by name, and keeps both right at each of its changes, of which
-//! the calls of a manager are made.
+//! To its callers a [`Store`] is a plain state without counts (`specs/State.antt`), and what the keeper of the slots says. It counts
+//! what refers to each object, finds objects by name, and keeps both right at each of its changes, of which the calls of a
+//! manager are made.
 //!
 //! ```text
 //! let mut store = Store::new(alloc, limits, keeper)?;
@@ -15,7 +15,6 @@
 //! ```
 #![tactic(auto)]
 
-mod children;
 mod creation;
 mod ending;
 mod entries;
@@ -23,9 +22,7 @@ mod found;
 mod label;
 mod limits;
 mod links;
-mod lives;
 mod meeting;
-mod members;
 mod numbers;
 mod objects;
 mod owners;
@@ -39,8 +36,10 @@ mod seats;
 mod settling;
 mod signaled;
 mod signaling;
+mod starting;
 mod store;
 mod stored;
+mod thread_lists;
 mod ticking;
 mod timers;
 mod waiting;

@@ -38,7 +38,7 @@ impl Objects<Keeper> {
         ensures same { self.new ≡ self.old }
         ensures table { reader.new.table ≡ reader.old.table }
     {
-        // What they say is wanted here: that the slot is one of the keeper's.
+        // Both tell the proof that the slot is one of the keeper's.
         self.keeper.same_shape(reader);
         let slot = reader.slot_of_held(id);
         self.keeper.meet(reader, slot);

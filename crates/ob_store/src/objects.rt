@@ -52,7 +52,7 @@ impl<K: PinKeeper> Objects<K> {
     pub fn new(alloc: Global, slots: u32, threads: u32, keeper: K) -> Result<Objects<K>, K>
         requires fresh { IsFresh (K.kept keeper) (K.kept keeper).shape }
         requires slots { slots ≡ (K.kept keeper).shape.slots }
-        requires few { slots ≤ SLOTS_MAX }
+        requires most { slots ≤ SLOTS_MAX }
         requires first { 1 ≤ (K.kept keeper).shape.max_gen }
         requires last { (K.kept keeper).shape.max_gen ≤ 4294967295 }
         ensures ok { IfOk result (λ o. o ≡ with_keeper (vacant_places slots) 0 (K.kept keeper)) }
@@ -75,7 +75,8 @@ impl<K: PinKeeper> Objects<K> {
         self.seats.len()
     }
 
-    /// What holds of the objects and their keeper whenever no call is under way.
+    /// What holds of the objects and their keeper whenever no call is under way. It does nothing when it runs: callers call it
+    /// where their proofs need the fact.
     pub fn kept(&self)
         ensures { IsTied self.now }
     {
@@ -144,7 +145,7 @@ impl<K: PinKeeper> Objects<K> {
     /// One handle more of an object that has a body.
     pub fn handle_came(&mut self, slot: u32)
         requires live { IsSome (slice_index_or self.old.seen.bodies slot None) }
-        requires few { slice_index_or self.old.seen.handles slot 0 < 4294967295 }
+        requires room { slice_index_or self.old.seen.handles slot 0 < 4294967295 }
         ensures { self.new ≡ with_handle_of self.old slot }
     {
         self.seats.handle_came(slot);
@@ -153,10 +154,10 @@ impl<K: PinKeeper> Objects<K> {
     /// One handle more where the place of a table has an entry, of an object that has a body.
     fn handle_came_at(&mut self, place: Option<Entry>)
         requires live { IfSome place (λ entry. IsSome (slice_index_or self.old.seen.bodies entry.id.slot None)) }
-        requires few { (k : ℕ) → slice_index_or self.old.seen.handles k 0 < 4294967295 }
+        requires room { (k : ℕ) → slice_index_or self.old.seen.handles k 0 < 4294967295 }
         ensures value { self.new ≡ with_handle_at self.old place }
         ensures bodies { self.new.seen.bodies ≡ self.old.seen.bodies }
-        ensures few { (k : ℕ) → slice_index_or self.new.seen.handles k 0 ≤ slice_index_or self.old.seen.handles k 0 + 1 }
+        ensures room { (k : ℕ) → slice_index_or self.new.seen.handles k 0 ≤ slice_index_or self.old.seen.handles k 0 + 1 }
     {
         if let Some(entry) = place {
             self.handle_came(entry.id.slot);
@@ -167,7 +168,7 @@ impl<K: PinKeeper> Objects<K> {
     pub fn handles_came(&mut self, places: &[Option<Entry>])
         requires live { (i : ℕ) → IfSome (slice_index_or places.now i None) (λ entry. IsSome (slice_index_or self.old.seen.bodies entry.id.slot None)) }
         requires short { length places.now ≤ 16384 }
-        requires few { (k : ℕ) → slice_index_or self.old.seen.handles k 0 + 16384 ≤ 4294967295 }
+        requires room { (k : ℕ) → slice_index_or self.old.seen.handles k 0 + 16384 ≤ 4294967295 }
         ensures { self.new ≡ with_handles_of self.old places.now }
     {
         for place in places {
@@ -178,7 +179,7 @@ impl<K: PinKeeper> Objects<K> {
     /// One handle fewer. The object ends where that was the last reference to it.
     #[inline]
     pub fn handle_left(&mut self, slot: u32)
-        requires some { 0 < slice_index_or self.old.seen.handles slot 0 }
+        requires handled { 0 < slice_index_or self.old.seen.handles slot 0 }
         ensures { self.new ≡ without_handle_of self.old slot }
     {
         if self.seats.handle_left(slot) {
@@ -189,7 +190,7 @@ impl<K: PinKeeper> Objects<K> {
     /// One more place of a pending wait names the object, which has a body.
     pub fn block_came(&mut self, slot: u32)
         requires live { IsSome (slice_index_or self.old.seen.bodies slot None) }
-        requires few { slice_index_or self.old.seen.blocks slot 0 < 18446744073709551615 }
+        requires room { slice_index_or self.old.seen.blocks slot 0 < 18446744073709551615 }
         ensures { self.new ≡ with_block_of self.old slot }
     {
         self.seats.block_came(slot);
@@ -199,7 +200,7 @@ impl<K: PinKeeper> Objects<K> {
     pub fn blocks_came(&mut self, ids: &[Id])
         requires live { (i : ℕ) → i < length ids.now → IsSome (slice_index_or self.old.seen.bodies (slice_index_or ids.now i nowhere).slot None) }
         requires short { length ids.now ≤ 64 }
-        requires few { (k : ℕ) → slice_index_or self.old.seen.blocks k 0 + 64 ≤ 18446744073709551615 }
+        requires room { (k : ℕ) → slice_index_or self.old.seen.blocks k 0 + 64 ≤ 18446744073709551615 }
         ensures { self.new ≡ with_blocks_of self.old ids.now }
     {
         for id in ids {
@@ -208,7 +209,7 @@ impl<K: PinKeeper> Objects<K> {
     }
 
     /// The mutex in a slot is abandoned, where the thread owns it; whether it did.
-    pub(crate) fn abandon_at(&mut self, slot: u32, thread: u32) -> bool
+    pub fn abandon_at(&mut self, slot: u32, thread: u32) -> bool
         ensures owned { result ≡ is_owner thread (slot_owner (slice_index_or self.old.seen.bodies slot None)) }
         ensures seen { self.new.seen ≡ record self.old.seen { bodies = slice_set self.old.seen.bodies slot (slot_left_by thread (slice_index_or self.old.seen.bodies slot None)) } }
         ensures rest { kept_rest self.new ≡ kept_rest self.old }
@@ -266,7 +267,7 @@ impl<K: PinKeeper> Objects<K> {
     /// Takes the slot of an ended object back, unless somebody holds it: the object leaves it, and where it was at its last
     /// generation it is given up for good.
     pub fn reclaim(&mut self, slot: u32) -> Reclaim
-        requires there { IsSome (slice_index_or self.old.objects slot None) }
+        requires object { IsSome (slice_index_or self.old.objects slot None) }
         requires ended { slice_index_or self.old.seen.bodies slot None ≡ None }
         ensures kind { Reclaimed self.old slot result self.new }
         ensures exact { K.reclaims self.old.keeper slot result self.new.keeper }
@@ -285,14 +286,15 @@ impl<K: PinKeeper> Objects<K> {
         }
     }
 
-    /// How many mutexes a thread owns, as far as they are counted.
-    pub(crate) fn owned(&self, thread: u32) -> u32 {
-        self.seats.owned(thread)
+    /// How many mutexes a thread owns; 0 for a thread that isn't counted.
+    pub fn owned_count(&self, thread: u32) -> u32 {
+        self.seats.owned_count(thread)
     }
 
-    /// A slot where a mutex of the thread may be, or a number past all slots.
-    pub(crate) fn hint(&self, thread: u32) -> u32 {
-        self.seats.hint(thread)
+    /// The slot that is listed first for a thread: that of a mutex that it owns, if the list is right. Past all slots where none is
+    /// listed.
+    pub fn first_owned(&self, thread: u32) -> u32 {
+        self.seats.first_owned(thread)
     }
 }
 

@@ -74,7 +74,7 @@ impl Owners {
         self.links.add(thread, slot);
     }
 
-    /// The body of a slot went, and had this owner. Most have none.
+    /// Takes the mutex of a slot from the thread that owned it, if any did.
     #[inline]
     pub(crate) fn left(&mut self, slot: u32, owner: Option<u32>)
         ensures { self.new ≡ owned_left self.old owner }
@@ -84,7 +84,7 @@ impl Owners {
         }
     }
 
-    /// A body with this owner came to a slot.
+    /// Gives the mutex of a slot to the thread that owns it now, if any does.
     #[inline]
     pub(crate) fn came(&mut self, slot: u32, owner: Option<u32>)
         requires { (t : ℕ) → slice_index_or self.old t 0 ≤ 65536 }
@@ -95,7 +95,7 @@ impl Owners {
         }
     }
 
-    /// The body of a slot had one owner, and has another.
+    /// The mutex of a slot passes from one owner to another.
     #[inline]
     #[tactic(auto, using(crate::proofs::OwnerLaws::few_left))]
     pub(crate) fn moved(&mut self, slot: u32, before: Option<u32>, after: Option<u32>)

@@ -1,6 +1,6 @@
 use crate::limits::Limits;
-use crate::lives::Lives;
 use crate::objects::Objects;
+use crate::processes::Processes;
 use crate::signaled::SignaledSlots;
 use ob_name::Directory;
 use ob_tables::Tables;
@@ -11,7 +11,7 @@ use pin_words::PinKeeper;
 #[derive(Drop)]
 pub(crate) struct Parts<K: PinKeeper> {
     pub(crate) limits: Limits,
-    pub(crate) lives: Lives,
+    pub(crate) processes: Processes,
     pub(crate) tables: Tables,
     pub(crate) objects: Objects<K>,
     pub(crate) waits: Waits,

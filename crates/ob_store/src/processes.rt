@@ -1,40 +1,169 @@
-ghost use Rattle.std.specs.Prelude.{◌≡◌, ◌<◌, ◌≤◌, IsSome, None, OnErr, OnOk, length, slice_index_or};
-ghost use Rattle.ob_store.specs.State.{settled, with_process, with_thread};
+ghost use Rattle.std.specs.Prelude.{ℕ, ◌∷◌, [], ◌++◌, ◌≡◌, ◌<◌, ◌≤◌, None, Some, IfOk, OnOk, OnErr, length, slice_index_or, slice_set};
+ghost use Rattle.std.specs.List.{list_any};
+ghost use Rattle.ob_store.specs.Processes.{ProcessesState, is_of, no_processes, with_process, with_thread};
+ghost use Rattle.ob_store.specs.ThreadLists.{IsNewest};
 
-use crate::store::Store;
-use pin_words::PinKeeper;
-use std::alloc::AllocError;
+use crate::numbers::Numbers;
+use crate::thread_lists::ThreadLists;
+use std::alloc::{AllocError, Global};
+use std::marker::Model;
 
-impl<K: PinKeeper> Store<K> {
-    /// The next process, of a session, with the next thread.
-    pub fn add_process(&mut self, session: u32) -> Result<(), AllocError>
-        requires processes { length self.old.state.processes ≤ self.old.state.limits.processes }
-        requires threads { length self.old.state.threads ≤ self.old.state.limits.threads }
-        ensures ok { OnOk result (self.new ≡ record self.old { state = settled (with_process self.old.state session) }) }
-        ensures err { OnErr result (self.new ≡ self.old) }
+/// The live processes and threads, by their numbers.
+#[derive(Drop)]
+pub(crate) struct Processes {
+    processes: Numbers,
+    threads: Numbers,
+    lists: ThreadLists,
+}
+
+impl Model for Processes {
+    ghost use Rattle.ob_store.specs.Processes.{ProcessesState};
+
+    ghost Value = { ProcessesState };
+
+    ghost use Rattle.std.specs.Prelude.{length};
+    ghost use Rattle.ob_store.specs.ThreadLists.{AreThreadLists};
+
+    ghost view = { λ l. record { processes = l.processes; threads = l.threads } };
+
+    // Hidden from the value: how many live threads each process has, and which it was given.
+    ghost invariant = { λ l. AreThreadLists (length l.processes) l.threads l.lists };
+}
+
+impl Processes {
+    pub(crate) fn new(alloc: Global) -> Result<Processes, AllocError>
+        ensures { IfOk result (λ processes. processes ≡ no_processes) }
     {
-        // Called for its clause.
-        self.parts.objects.kept();
-        self.parts.lives.add_process(session)?;
-        match self.parts.tables.add_process() {
-            Ok(_) => return Ok(()),
-            Err(_) => {
-                self.parts.lives.take_back();
-                return Err(AllocError);
-            }
-        }
+        let processes = Numbers::new(alloc)?;
+        let threads = Numbers::new(alloc)?;
+        let lists = ThreadLists::new(alloc)?;
+        Ok(Processes {
+            processes,
+            threads,
+            lists,
+        })
     }
 
-    /// The next thread, of a live process.
-    pub fn add_thread(&mut self, process: u32) -> Result<(), AllocError>
-        requires threads { length self.old.state.threads ≤ self.old.state.limits.threads }
-        requires live { IsSome (slice_index_or self.old.state.processes process None) }
-        ensures ok { OnOk result (self.new ≡ record self.old { state = settled (with_thread self.old.state process) }) }
+    /// The next process number.
+    pub(crate) fn next_process(&self) -> u32
+        ensures { result ≡ length self.now.processes }
+    {
+        self.processes.next()
+    }
+
+    /// The next thread number.
+    pub(crate) fn next_thread(&self) -> u32
+        ensures { result ≡ length self.now.threads }
+    {
+        self.threads.next()
+    }
+
+    /// The session of a live process.
+    pub(crate) fn session(&self, process: u32) -> Option<u32>
+        ensures { result ≡ slice_index_or self.now.processes process None }
+    {
+        self.processes.get(process)
+    }
+
+    /// The process of a live thread.
+    pub(crate) fn process(&self, thread: u32) -> Option<u32>
+        ensures { result ≡ slice_index_or self.now.threads thread None }
+    {
+        self.threads.get(thread)
+    }
+
+    /// A new process of a session, with its first thread.
+    pub(crate) fn add_process(&mut self, session: u32) -> Result<(), AllocError>
+        requires processes { length self.old.processes ≤ 65536 }
+        requires threads { length self.old.threads ≤ 65536 }
+        ensures ok { OnOk result (self.new ≡ with_process self.old session) }
         ensures err { OnErr result (self.new ≡ self.old) }
     {
-        // Called for its clause.
-        self.parts.objects.kept();
-        self.parts.lives.add_thread(process)?;
+        let process = self.processes.next();
+        self.processes.give(session)?;
+        if self.threads.give(process).is_err() {
+            self.processes.take_back();
+            return Err(AllocError);
+        }
+        if self.lists.add_process().is_err() {
+            self.processes.take_back();
+            self.threads.take_back();
+            return Err(AllocError);
+        }
+        Ok(())
+    }
+
+    /// Takes back the process that was added last, with its first thread, which is its only one.
+    pub(crate) fn take_back(&mut self)
+        requires { IsNewest self.old }
+        ensures { (before : ProcessesState) (session : ℕ) → self.old ≡ with_process before session → self.new ≡ before }
+    {
+        self.processes.take_back();
+        self.threads.take_back();
+        self.lists.take_back();
+    }
+
+    /// Whether a process has live threads.
+    pub(crate) fn has_threads(&self, process: u32) -> bool
+        ensures { result ≡ list_any (is_of process) self.now.threads }
+    {
+        self.lists.has_live(process)
+    }
+
+    /// A number that no live thread of a process is below.
+    pub(crate) fn first_of(&self, process: u32) -> u32
+        ensures { (t : ℕ) → slice_index_or self.now.threads t None ≡ Some process → result ≤ t }
+    {
+        self.lists.first(process)
+    }
+
+    /// A greater number, with no live thread of the process between. Behind a thread of the process it is the next that the
+    /// process was given.
+    pub(crate) fn next_of(&self, process: u32, thread: u32) -> u32
+        requires { thread < length self.now.threads }
+        ensures greater { thread < result }
+        ensures none { (t : ℕ) → slice_index_or self.now.threads t None ≡ Some process → thread < t → result ≤ t }
+    {
+        let link = self.lists.link(thread);
+        if link.process != process || thread < self.lists.first(process) {
+            return thread + 1;
+        }
+        if thread < link.next {
+            return link.next;
+        }
+        self.threads.next()
+    }
+
+    /// A thread's number is gone.
+    pub(crate) fn end_thread(&mut self, thread: u32)
+        ensures { self.new ≡ record self.old { threads = slice_set self.old.threads thread None } }
+    {
+        let Some(process) = self.threads.get(thread) else {
+            return;
+        };
+        self.lists.end_thread(process);
+        self.threads.leave(thread);
+    }
+
+    /// A process's number is gone.
+    pub(crate) fn end_process(&mut self, process: u32)
+        ensures { self.new ≡ record self.old { processes = slice_set self.old.processes process None } }
+    {
+        self.processes.leave(process);
+    }
+
+    /// A new thread of a process.
+    pub(crate) fn add_thread(&mut self, process: u32) -> Result<(), AllocError>
+        requires process { process < length self.old.processes }
+        requires threads { length self.old.threads ≤ 65536 }
+        ensures ok { OnOk result (self.new ≡ with_thread self.old process) }
+        ensures err { OnErr result (self.new ≡ self.old) }
+    {
+        self.threads.give(process)?;
+        if self.lists.add_thread(process).is_err() {
+            self.threads.take_back();
+            return Err(AllocError);
+        }
         Ok(())
     }
 }

@@ -31,7 +31,7 @@ pub(crate) struct Acquired {
     pub(crate) after: Option<u32>,
 }
 
-/// What an object was: which thread owned the mutex, and when the timer was due.
+/// Which thread owned the mutex that was replaced, and when the timer that was replaced was due.
 #[derive(Clone, Copy)]
 pub(crate) struct Was {
     pub(crate) owner: Option<u32>,
@@ -53,7 +53,7 @@ impl Seat {
         }
     }
 
-    /// It gets a body. What it was before.
+    /// Replaces the body. The answer says which thread owned the old one, and when it was due.
     #[inline(always)]
     pub(crate) fn put(&mut self, body: Body) -> Was
         ensures value { self.new ≡ record self.old { body = Some body } }
@@ -74,7 +74,7 @@ impl Seat {
         was
     }
 
-    /// A thread acquires it, which is signaled for the thread.
+    /// A thread acquires the object, which has to be signaled for the thread.
     pub(crate) fn acquire(&mut self, thread: u32) -> Acquired
         requires signaled { slot_signaled thread self.old.body ≡ true }
         requires room { slot_room RECURSION_MAX thread self.old.body ≡ true }
@@ -95,7 +95,7 @@ impl Seat {
         }
     }
 
-    /// One handle fewer: the body goes with the last reference. The body that went.
+    /// Counts one handle less. With the last reference the body goes, and is returned.
     #[inline]
     pub(crate) fn handle_left(&mut self) -> Option<Body>
         requires { 0 < self.old.handles }
@@ -106,7 +106,7 @@ impl Seat {
         self.end_if_free()
     }
 
-    /// One block fewer, where there is one: the body goes with the last reference. The body that went.
+    /// Counts one block less, where there is one. With the last reference the body goes, and is returned.
     pub(crate) fn block_left(&mut self) -> Option<Body>
         ensures value { self.new ≡ seat_block_left self.old }
         ensures gone { result ≡ if self.old.handles + (self.old.blocks - 1) == 0 then self.old.body else None }

@@ -46,7 +46,7 @@ impl Model for Seats {
     ghost invariant = { λ s. AreNoted s.arena.bodies s.owners s.timers s.labels.items s.names.items };
 }
 
-/// The thread that owns the mutex that a body is.
+/// The thread that owns a mutex.
 fn owner_of(body: Option<Body>) -> Option<u32>
     ensures { result ≡ slot_owner body }
 {
@@ -56,7 +56,7 @@ fn owner_of(body: Option<Body>) -> Option<u32>
     }
 }
 
-/// The moment at which the timer that a body is is due.
+/// When a timer is due.
 fn due_of(body: Option<Body>) -> Option<u64>
     ensures { result ≡ slot_due body }
 {
@@ -129,13 +129,13 @@ impl Seats {
         self.owners.has_none(thread)
     }
 
-    /// How many mutexes a thread owns, as far as they are counted.
-    pub(crate) fn owned(&self, thread: u32) -> u32 {
+    /// How many mutexes a thread owns; 0 for a thread that isn't counted.
+    pub(crate) fn owned_count(&self, thread: u32) -> u32 {
         self.owners.count(thread)
     }
 
-    /// A slot where a mutex of the thread may be, or a number past all slots.
-    pub(crate) fn hint(&self, thread: u32) -> u32 {
+    /// The slot that is listed first for a thread, or a number past all slots.
+    pub(crate) fn first_owned(&self, thread: u32) -> u32 {
         self.owners.first(thread)
     }
 
@@ -217,8 +217,8 @@ impl Seats {
 
     /// One handle more.
     pub(crate) fn handle_came(&mut self, slot: u32)
-        requires there { IsSome (slice_index_or self.old.objects slot None) }
-        requires few { slice_index_or self.old.seen.handles slot 0 < 4294967295 }
+        requires object { IsSome (slice_index_or self.old.objects slot None) }
+        requires room { slice_index_or self.old.seen.handles slot 0 < 4294967295 }
         ensures { self.new ≡ with_handle self.old slot }
     {
         self.arena.get_mut(slot).handles += 1;
@@ -227,8 +227,8 @@ impl Seats {
     /// One handle fewer; whether the object ended.
     #[inline]
     pub(crate) fn handle_left(&mut self, slot: u32) -> bool
-        requires there { IsSome (slice_index_or self.old.objects slot None) }
-        requires some { 0 < slice_index_or self.old.seen.handles slot 0 }
+        requires object { IsSome (slice_index_or self.old.objects slot None) }
+        requires handled { 0 < slice_index_or self.old.seen.handles slot 0 }
         ensures value { self.new ≡ without_handle self.old slot }
         ensures ended { result ≡ is_some (slice_index_or self.old.seen.bodies slot None) && is_last_handle self.old slot }
     {
@@ -240,8 +240,8 @@ impl Seats {
 
     /// One more place of a pending wait names the object.
     pub(crate) fn block_came(&mut self, slot: u32)
-        requires there { IsSome (slice_index_or self.old.objects slot None) }
-        requires few { slice_index_or self.old.seen.blocks slot 0 < 18446744073709551615 }
+        requires object { IsSome (slice_index_or self.old.objects slot None) }
+        requires room { slice_index_or self.old.seen.blocks slot 0 < 18446744073709551615 }
         ensures { self.new ≡ with_block self.old slot }
     {
         self.arena.get_mut(slot).blocks += 1;
@@ -249,7 +249,7 @@ impl Seats {
 
     /// An object without a body leaves the slot, which is vacant then.
     pub(crate) fn remove(&mut self, slot: u32)
-        requires there { IsSome (slice_index_or self.old.objects slot None) }
+        requires object { IsSome (slice_index_or self.old.objects slot None) }
         requires ended { slice_index_or self.old.seen.bodies slot None ≡ None }
         ensures value { self.new ≡ without_seat self.old slot }
         ensures vacant { is_vacant_at (vacancy self.new) slot ≡ true }
@@ -291,7 +291,7 @@ impl Seats {
 
     /// A thread acquires an object that is signaled for it; whether that was an abandoned mutex.
     pub(crate) fn acquire(&mut self, id: Id, thread: u32) -> bool
-        requires there { IsSome (body_of self.old.seen.bodies id) }
+        requires bodied { IsSome (body_of self.old.seen.bodies id) }
         requires signaled { is_signaled thread self.old.seen.bodies id ≡ true }
         requires room { slot_room RECURSION_MAX thread (body_of self.old.seen.bodies id) ≡ true }
         ensures was_abandoned { result ≡ is_abandoned self.old.seen.bodies id }

@@ -23,7 +23,7 @@ impl Model for SignaledSlots {
 }
 
 impl SignaledSlots {
-    /// None, with room for as many as there are slots: 8 bytes each.
+    /// An empty list with room for each slot, 8 bytes each.
     pub(crate) fn new(alloc: Global, slots: u32) -> Result<SignaledSlots, AllocError>
         ensures { IfOk result (λ signaled. signaled ≡ none_signaled) }
     {
@@ -33,7 +33,7 @@ impl SignaledSlots {
         })
     }
 
-    /// None any more; the room stays.
+    /// Empties the list. Its memory stays.
     pub(crate) fn clear(&mut self)
         ensures { self.new ≡ none_signaled }
     {
@@ -41,7 +41,7 @@ impl SignaledSlots {
         self.is_whole = true;
     }
 
-    /// One more, or without room for it not all any more. It takes no memory.
+    /// Adds a slot. Where there is no room for it the list isn't whole from then on. It takes no memory.
     pub(crate) fn add(&mut self, id: Id)
         ensures added { self.new.whole ≡ true → self.new.ids ≡ self.old.ids ++ id ∷ [] }
         ensures before { self.new.whole ≡ true → self.old.whole ≡ true }
@@ -53,7 +53,7 @@ impl SignaledSlots {
         }
     }
 
-    /// Whether all are there.
+    /// Whether each slot that was added is in the list.
     pub(crate) fn is_whole(&self) -> bool
         ensures { result ≡ self.now.whole }
     {

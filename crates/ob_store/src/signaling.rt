@@ -16,12 +16,11 @@ impl<K: PinKeeper> Store<K> {
     /// An object has another body, and the waits for it settle.
     #[inline(always)]
     pub(crate) fn put(&mut self, id: Id, old: Body, new: Body)
-        requires there { slice_index_or self.old.state.bodies id.slot None ≡ Some old }
+        requires bodied { slice_index_or self.old.state.bodies id.slot None ≡ Some old }
         requires yields { Yields self.old.state.clock old new }
         ensures state { self.new.state ≡ settled (with_body self.old.state id new) }
         ensures keeper { OnlyCloses self.old.keeper self.new.keeper }
     {
-        // Called for its clause, before and after the change.
         self.parts.objects.kept();
         let blocks = self.parts.objects.blocks(id.slot);
         self.parts.objects.put(id, new);
@@ -36,7 +35,7 @@ impl<K: PinKeeper> Store<K> {
     #[inline(always)]
     #[tactic(auto, using(crate::proofs::Yielding::set_yields))]
     pub fn set(&mut self, id: Id, event: Body)
-        requires there { slice_index_or self.old.state.bodies id.slot None ≡ Some event }
+        requires bodied { slice_index_or self.old.state.bodies id.slot None ≡ Some event }
         requires event { spec.kind_of event ≡ Event }
         ensures state { self.new.state ≡ settled (with_body self.old.state id (spec.after_set event)) }
         ensures keeper { OnlyCloses self.old.keeper self.new.keeper }
@@ -49,13 +48,12 @@ impl<K: PinKeeper> Store<K> {
     /// An object has another body, by which nothing is signaled that wasn't: so nothing settles.
     #[inline(always)]
     fn put_less(&mut self, id: Id, old: Body, new: Body)
-        requires there { slice_index_or self.old.state.bodies id.slot None ≡ Some old }
+        requires bodied { slice_index_or self.old.state.bodies id.slot None ≡ Some old }
         requires yields { Yields self.old.state.clock old new }
         requires less { (t : ℕ) → spec.is_signaled t new ≡ true → spec.is_signaled t old ≡ true }
         ensures state { self.new.state ≡ settled (with_body self.old.state id new) }
         ensures keeper { OnlyCloses self.old.keeper self.new.keeper }
     {
-        // Called for its clause, before and after the change.
         self.parts.objects.kept();
         self.parts.objects.put(id, new);
         self.parts.objects.kept();
@@ -65,7 +63,7 @@ impl<K: PinKeeper> Store<K> {
     #[inline(always)]
     #[tactic(auto, using(crate::proofs::Yielding::reset_less, crate::proofs::Yielding::reset_yields))]
     pub fn reset(&mut self, id: Id, event: Body)
-        requires there { slice_index_or self.old.state.bodies id.slot None ≡ Some event }
+        requires bodied { slice_index_or self.old.state.bodies id.slot None ≡ Some event }
         requires event { spec.kind_of event ≡ Event }
         ensures state { self.new.state ≡ settled (with_body self.old.state id (spec.after_reset event)) }
         ensures keeper { OnlyCloses self.old.keeper self.new.keeper }
@@ -80,7 +78,7 @@ impl<K: PinKeeper> Store<K> {
     /// Refused with 298 where the count would pass the maximum.
     #[tactic(auto, using(crate::proofs::Yielding::post_yields))]
     pub fn post(&mut self, id: Id, semaphore: Body, count: u32) -> Result<u32, Fault>
-        requires there { slice_index_or self.old.state.bodies id.slot None ≡ Some semaphore }
+        requires bodied { slice_index_or self.old.state.bodies id.slot None ≡ Some semaphore }
         requires semaphore { spec.kind_of semaphore ≡ Semaphore }
         ensures answer { result ≡ spec.post_answer count semaphore }
         ensures ok { OnOk result (self.new.state ≡ settled (with_body self.old.state id (spec.after_post count semaphore))) }
@@ -98,7 +96,7 @@ impl<K: PinKeeper> Store<K> {
     /// Refused with 288 where the thread doesn't own it.
     #[tactic(auto, using(crate::proofs::Yielding::unlock_yields))]
     pub fn unlock(&mut self, id: Id, mutex: Body, thread: u32) -> Result<(), Fault>
-        requires there { slice_index_or self.old.state.bodies id.slot None ≡ Some mutex }
+        requires bodied { slice_index_or self.old.state.bodies id.slot None ≡ Some mutex }
         requires mutex { spec.kind_of mutex ≡ Mutex }
         ensures answer { result ≡ spec.unlock_answer thread mutex }
         ensures ok { OnOk result (self.new.state ≡ settled (with_body self.old.state id (spec.after_unlock thread mutex))) }
@@ -115,7 +113,7 @@ impl<K: PinKeeper> Store<K> {
     /// else it is nonsignaled until then, and nothing settles.
     #[tactic(auto, using(crate::proofs::Yielding::arm_yields))]
     pub fn arm(&mut self, id: Id, timer: Body, due: u64)
-        requires there { slice_index_or self.old.state.bodies id.slot None ≡ Some timer }
+        requires bodied { slice_index_or self.old.state.bodies id.slot None ≡ Some timer }
         requires timer { spec.kind_of timer ≡ Timer }
         ensures state { self.new.state ≡ settled (with_body self.old.state id (spec.after_arm due self.old.state.clock timer)) }
         ensures keeper { OnlyCloses self.old.keeper self.new.keeper }
@@ -128,7 +126,7 @@ impl<K: PinKeeper> Store<K> {
     /// Takes a timer's due moment away: nothing is signaled by that, so nothing settles.
     #[tactic(auto, using(crate::proofs::Yielding::disarm_less, crate::proofs::Yielding::disarm_yields))]
     pub fn disarm(&mut self, id: Id, timer: Body)
-        requires there { slice_index_or self.old.state.bodies id.slot None ≡ Some timer }
+        requires bodied { slice_index_or self.old.state.bodies id.slot None ≡ Some timer }
         requires timer { spec.kind_of timer ≡ Timer }
         ensures state { self.new.state ≡ settled (with_body self.old.state id (spec.after_disarm timer)) }
         ensures keeper { OnlyCloses self.old.keeper self.new.keeper }

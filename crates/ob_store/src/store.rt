@@ -14,9 +14,9 @@ ghost use Rattle.ob_store.specs.Directory.{directory_of};
 
 use crate::found::Found;
 use crate::limits::Limits;
-use crate::lives::Lives;
 use crate::objects::Objects;
 use crate::parts::Parts;
+use crate::processes::Processes;
 use crate::signaled::SignaledSlots;
 use ob_body::Body;
 use ob_name::{Directory, NameRef, Rows};
@@ -53,7 +53,7 @@ impl<K: PinKeeper> Store<K> {
         ensures ok { IfOk result (λ store. store ≡ record { state = opening limits; keeper = K.kept keeper }) }
         ensures err { IfErr result (λ k. k ≡ keeper) }
     {
-        let Ok(lives) = Lives::new(alloc) else {
+        let Ok(processes) = Processes::new(alloc) else {
             return Err(keeper);
         };
         let Ok(tables) = Tables::new(alloc, limits.processes, limits.handles) else {
@@ -66,7 +66,7 @@ impl<K: PinKeeper> Store<K> {
             Ok(objects) => {
                 let parts = Parts {
                     limits,
-                    lives,
+                    processes,
                     tables,
                     objects,
                     waits: Waits::new(alloc, limits.waits),
@@ -79,7 +79,8 @@ impl<K: PinKeeper> Store<K> {
         }
     }
 
-    /// What holds of the state and the keeper whenever no call is under way.
+    /// What holds of the state and the keeper whenever no call is under way. It does nothing when it runs: callers call it where
+    /// their proofs need the fact.
     pub fn kept(&self)
         ensures { IsConsistent self.now }
     {
@@ -106,14 +107,14 @@ impl<K: PinKeeper> Store<K> {
     pub fn next_process(&self) -> u32
         ensures { result ≡ length self.now.state.processes }
     {
-        self.parts.lives.next_process()
+        self.parts.processes.next_process()
     }
 
     /// The next thread number.
     pub fn next_thread(&self) -> u32
         ensures { result ≡ length self.now.state.threads }
     {
-        self.parts.lives.next_thread()
+        self.parts.processes.next_thread()
     }
 
     /// The session of a live process, which has a handle table.
@@ -121,7 +122,7 @@ impl<K: PinKeeper> Store<K> {
         ensures value { result ≡ slice_index_or self.now.state.processes process None }
         ensures table { OnSome result (process < length self.now.state.tables) }
     {
-        self.parts.lives.session(process)
+        self.parts.processes.session(process)
     }
 
     /// The process of a live thread, which has a handle table.
@@ -130,7 +131,7 @@ impl<K: PinKeeper> Store<K> {
         ensures live { IfSome result (λ process. IsSome (slice_index_or self.now.state.processes process None)) }
         ensures table { IfSome result (λ process. process < length self.now.state.tables) }
     {
-        self.parts.lives.process(thread)
+        self.parts.processes.process(thread)
     }
 
     /// Whether the thread has a wait.
@@ -169,7 +170,6 @@ impl<K: PinKeeper> Store<K> {
         requires { is_vacant_at (vacancy self.now.state) slot ≡ true }
         ensures { result ≡ id_at self.now.state slot }
     {
-        // Called for its clause: that the keeper has the slot.
         self.parts.objects.kept();
         self.parts.objects.id_at(slot)
     }
@@ -183,7 +183,6 @@ impl<K: PinKeeper> Store<K> {
         ensures id { IfSome result (λ found. found.seat.now.id.slot ≡ slot) }
         ensures within { IfSome result (λ found. slot < self.now.state.limits.slots) }
     {
-        // Called for its clause: that the object has the Id of its slot.
         self.parts.objects.kept();
         self.parts.objects.look(slot)
     }
@@ -200,7 +199,6 @@ impl<K: PinKeeper> Store<K> {
         ensures value { result ≡ find_name (name_at name.now) (directory_of self.now.state) }
         ensures handled { IfSome result (λ id. 0 < handles_of self.now.state id) }
     {
-        // Called for its clause.
         self.parts.objects.kept();
         self.parts.names.find(name)
     }

@@ -49,7 +49,6 @@ impl<K: PinKeeper> Store<K> {
     pub fn stored(&self) -> Stored<'_, K>
         ensures { MatchesState self.now result }
     {
-        // Called for its clause.
         self.parts.objects.kept();
         Stored {
             objects: &self.parts.objects,

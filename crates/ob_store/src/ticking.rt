@@ -5,7 +5,7 @@ ghost use Rattle.ob_store.specs.Signaled.{KeepsEnough};
 ghost use Rattle.ob_store.specs.Moves.{OnlyCloses};
 ghost use Rattle.ob_store.specs.Objects.{kept_rest};
 ghost use Rattle.ob_store.specs.State.{settled};
-ghost use Rattle.ob_store.specs.Ticks.{lapsed, slot_fired, slot_is_due, ticked, timers_fired};
+ghost use Rattle.ob_store.specs.Ticks.{timed_out, slot_fired, slot_is_due, ticked, timers_fired};
 
 use crate::objects::Objects;
 use crate::signaled::SignaledSlots;
@@ -39,7 +39,6 @@ impl<K: PinKeeper> Store<K> {
     {
         self.parts.signaled.clear();
         fire_all(&mut self.parts.objects, &mut self.parts.signaled, now);
-        // Called for its clause.
         self.parts.objects.kept();
         self.parts.settle();
     }
@@ -53,7 +52,7 @@ impl<K: PinKeeper> Store<K> {
         self.parts.waits.overdue(now)
     }
 
-    /// It is a moment, at which nothing is due and no pending wait's time is up.
+    /// Sets the clock to a moment at which no timer is due and no pending wait's deadline has come.
     fn pass_to(&mut self, now: u64)
         requires later { self.old.state.clock ≤ now }
         requires last { now ≤ LAST_MOMENT }
@@ -65,14 +64,13 @@ impl<K: PinKeeper> Store<K> {
     }
 
     /// Each pending wait whose deadline isn't after a moment, at which nothing is due, is answered with 258, `WAIT_TIMEOUT`.
-    fn lapse(&mut self, now: u64)
+    fn time_out(&mut self, now: u64)
         requires later { self.old.state.clock ≤ now }
         requires last { now ≤ LAST_MOMENT }
         requires undue { (k : ℕ) → slot_is_due now (slice_index_or self.old.state.bodies k None) ≡ false }
-        ensures state { self.new.state ≡ settled (lapsed now self.old.state) }
+        ensures state { self.new.state ≡ settled (timed_out now self.old.state) }
         ensures keeper { OnlyCloses self.old.keeper self.new.keeper }
     {
-        // Called for its clause, each time.
         self.kept();
         while let Some(wait) = self.overdue(now) {
             self.expire(wait);
@@ -91,6 +89,6 @@ impl<K: PinKeeper> Store<K> {
         ensures keeper { OnlyCloses self.old.keeper self.new.keeper }
     {
         self.fire(now);
-        self.lapse(now);
+        self.time_out(now);
     }
 }

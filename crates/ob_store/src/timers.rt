@@ -46,11 +46,11 @@ impl Timers {
         Some(slot as u32)
     }
 
-    /// The timer of a slot was due at one moment, and is at another. Most objects never are.
+    /// Notes when the timer of a slot is due from now on. Most objects are no timers, and have no such moment.
     #[inline(always)]
     pub(crate) fn moved(&mut self, slot: u32, before: Option<u64>, after: Option<u64>)
-        requires there { slot < length self.old }
-        requires was { slice_index_or self.old slot None ≡ before }
+        requires within { slot < length self.old }
+        requires before { slice_index_or self.old slot None ≡ before }
         ensures { self.new ≡ slice_set self.old slot after }
     {
         if before != after {
@@ -58,7 +58,7 @@ impl Timers {
         }
     }
 
-    /// The body of a slot went, whose timer was due at a moment, if it was one that was set.
+    /// Forgets the timer of a slot whose body went, if it was set.
     #[inline]
     pub(crate) fn left(&mut self, slot: u32, due: Option<u64>)
         requires { slot < length self.old }

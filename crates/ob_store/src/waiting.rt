@@ -34,7 +34,6 @@ impl<K: PinKeeper> Store<K> {
         ensures none { IfNone result (self.new ≡ self.old) }
         ensures keeper { OnlyCloses self.old.keeper self.new.keeper }
     {
-        // Called for its clause, before and after the change.
         self.parts.objects.kept();
         let code = try_now(&mut self.parts.objects, thread, mode, ids);
         self.parts.objects.kept();
@@ -57,14 +56,13 @@ impl<K: PinKeeper> Store<K> {
         requires alone { number_of thread self.old.state.waits ≡ None }
         requires live { IsSome (slice_index_or self.old.state.threads thread None) }
         requires unready { list_ready mode thread self.old.state.bodies ids.now ≡ false }
-        requires there { (i : ℕ) → i < length ids.now → 0 < handles_of self.old.state (slice_index_or ids.now i nowhere) }
+        requires handled { (i : ℕ) → i < length ids.now → 0 < handles_of self.old.state (slice_index_or ids.now i nowhere) }
         ensures number { IfOk result (λ number. number ≡ length self.old.state.waits) }
         ensures ok { OnOk result (self.new ≡ record self.old { state = settled (with_wait self.old.state thread mode ids.now deadline) }) }
         ensures limit { (result ≡ Err Limit) ↔ (are_waits_given self.old.state ≡ true) }
         ensures memory { IfErr result (λ fault. are_waits_given self.old.state ≡ false → fault ≡ Memory) }
         ensures err { OnErr result (self.new ≡ self.old) }
     {
-        // Called for its clause, before and after the change.
         self.parts.objects.kept();
         match self.parts.waits.add(thread, mode, ids, deadline) {
             Ok(number) => {
@@ -82,7 +80,6 @@ impl<K: PinKeeper> Store<K> {
         ensures state { self.new.state ≡ settled (with_answer self.old.state wait WAIT_TIMEOUT) }
         ensures keeper { OnlyCloses self.old.keeper self.new.keeper }
     {
-        // Called for its clause, before and after the change.
         self.parts.objects.kept();
         let Some((_, ids)) = self.parts.waits.look(wait) else {
             unreachable!()
@@ -98,7 +95,6 @@ impl<K: PinKeeper> Store<K> {
         ensures code { code_at (slice_index_or self.old.state.waits wait None) ≡ Some result }
         ensures over { self.new ≡ record self.old { state = settled (without_wait self.old.state wait) } }
     {
-        // Called for its clause.
         self.parts.objects.kept();
         self.parts.waits.take_result(wait)
     }

@@ -148,6 +148,14 @@ fn has_released<K: PinKeeper>(objects: &mut Objects<K>, thread: u32, slot: u32) 
     true
 }
 
+/// The mutexes that are listed for a thread are abandoned: as many as it owns.
+fn abandon_listed<K: PinKeeper>(objects: &mut Objects<K>, thread: u32) {
+    for _ in 0..objects.owned_count(thread) {
+        let slot = objects.first_owned(thread);
+        objects.abandon_at(slot, thread);
+    }
+}
+
 /// What is done with objects, and what is answered; or what is seen then.
 #[derive(Clone, Copy)]
 enum Act {
@@ -185,7 +193,7 @@ fn play_one<K: PinKeeper>(rt: &impl Abort, objects: &mut Objects<K>, act: Act) {
         Act::Release(thread, slot, released) => {
             same(rt, has_released(objects, thread, slot), released);
         }
-        Act::Abandon(thread) => objects.abandon(thread),
+        Act::Abandon(thread) => abandon_listed(objects, thread),
         Act::OwnsNone(thread, none) => same(rt, objects.owns_none(thread), none),
         Act::Reclaim(slot, outcome) => same(rt, reclaimed(objects, slot), outcome),
     }

@@ -2,7 +2,7 @@ use Rattle.ob_store.specs.Parts.{parts_of}
 use Rattle.ob_store.proofs.EndingLaws.{ending_thread}
 use Rattle.ob_store.proofs.parts.Parts.end_one.Goals as goal
 
-pub returns-clause-way : goal.returns-clause-way
-returns-clause-way g c = rw (c.end_thread.ensures, c.drop_thread.ensures)
+pub returns-clause-carries : goal.returns-clause-carries
+returns-clause-carries g c = rw (c.end_thread.ensures, c.drop_thread.ensures)
     (ending_thread (parts_of c.args.self.now) c.leave_wait.new.objects c.abandon.new.objects c.abandon.new.signaled c.args.thread
     c.leave_wait.ensures.waits c.leave_wait.ensures.seen c.leave_wait.ensures.rest c.abandon.ensures.seen c.abandon.ensures.rest c.kept.ensures c.abandon.ensures.enough)

@@ -7,8 +7,8 @@ use Rattle.ob_store.specs.UnderWay.{tables_left, with_left}
 use Rattle.ob_store.proofs.EmptiedLaws.{left_held, left_none, next_ending, next_sound, same_ending}
 use Rattle.ob_store.proofs.parts.Parts.leave_at.Goals as goal
 
-pub returns-in_default-clause-way : goal.returns-in_default-clause-way
-returns-in_default-clause-way g c = λ first s ending.
+pub returns-in_default-clause-carries : goal.returns-in_default-clause-carries
+returns-in_default-clause-carries g c = λ first s ending.
     let none : get_or c.args.places.now c.args.place None ≡ None = search rules in
     same_ending first (with_left (parts_of c.args.self.now) c.args.process c.args.places.now c.args.place) s (tables_left c.args.self.now.tables.tables c.args.process c.args.places.now (c.args.place + 1))
     (left_none c.args.self.now.tables.tables c.args.process c.args.places.now c.args.place none) ending
@@ -22,10 +22,10 @@ returns-in_default-clause-sound g c =
 pub handle_left-requires : goal.handle_left-requires
 handle_left-requires g c =
     let here : get_or c.args.places.now c.args.place None ≡ Some c.in-Some.entry = search rules in
-    record { some = left_held (parts_of c.args.self.now) c.args.process c.args.places.now c.args.place c.in-Some.entry c.requires.sound c.kept.ensures c.requires.table here }
+    record { handled = left_held (parts_of c.args.self.now) c.args.process c.args.places.now c.args.place c.in-Some.entry c.requires.sound c.kept.ensures c.requires.table here }
 
-pub returns-clause-way : goal.returns-clause-way
-returns-clause-way g c =
+pub returns-clause-carries : goal.returns-clause-carries
+returns-clause-carries g c =
     let here : get_or c.args.places.now c.args.place None ≡ Some c.in-Some.entry = search rules in
     next_ending (parts_of c.args.self.now) c.args.process c.args.places.now c.args.place c.in-Some.entry c.requires.sound c.kept.ensures c.requires.table here
     c.look.result (λ x. x.seat.now.handles) (λ x. object_of x.seat.now (tag_of x.label.now x.name.now)) c.handle_left.new.self c.leave_directory.new.names.rows

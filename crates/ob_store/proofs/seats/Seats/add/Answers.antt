@@ -62,12 +62,12 @@ invariant_of-self c =
       timed = subst (λ (s : Slots Seat). c.moved.new.self ≡ map seat_due s.bodies) (sym arena) (rw c.moved.ensures (timed_set c.self.inside.arena.bodies c.self.inside.timers c.args.id.slot (Some seat) c.due.result c.self.invariant.timed c.due.ensures));
     }
 
-pub moved-requires-clause-there : goal.moved-requires-clause-there
-moved-requires-clause-there c =
+pub moved-requires-clause-within : goal.moved-requires-clause-within
+moved-requires-clause-within c =
     let vacant = vacant_seat c.self.inside.arena (tags_in c.self.inside.labels.items c.self.inside.names.items) c.args.id.slot (subst (λ (p : Places). is_vacant_at (vacancy p) c.args.id.slot ≡ true) (sym c.self.view_is) c.requires) in
     timed_within c.self.inside.arena.bodies c.self.inside.timers c.args.id.slot c.self.invariant.timed vacant.0
 
-pub moved-requires-clause-was : goal.moved-requires-clause-was
-moved-requires-clause-was c =
+pub moved-requires-clause-before : goal.moved-requires-clause-before
+moved-requires-clause-before c =
     let vacant = vacant_seat c.self.inside.arena (tags_in c.self.inside.labels.items c.self.inside.names.items) c.args.id.slot (subst (λ (p : Places). is_vacant_at (vacancy p) c.args.id.slot ≡ true) (sym c.self.view_is) c.requires) in
     timed_vacant c.self.inside.arena.bodies c.self.inside.timers c.args.id.slot c.self.invariant.timed vacant.1

@@ -9,7 +9,7 @@ use Rattle.ob_store.proofs.TimerLaws.{timed_stays}
 use Rattle.ob_store.proofs.seats.Seats.handle_came.Goals as goal
 
 pub get_mut-requires : goal.get_mut-requires
-get_mut-requires c = seat_there c.self.inside.arena.bodies (tags_in c.self.inside.labels.items c.self.inside.names.items) c.args.slot (subst (λ (p : Places). IsSome (get_or p.objects c.args.slot None)) (sym c.self.view_is) c.requires.there)
+get_mut-requires c = seat_there c.self.inside.arena.bodies (tags_in c.self.inside.labels.items c.self.inside.names.items) c.args.slot (subst (λ (p : Places). IsSome (get_or p.objects c.args.slot None)) (sym c.self.view_is) c.requires.object)
 
 pub returns : goal.returns
 returns c = places_handle_came c.self.inside.arena.bodies c.args.slot c.get_mut.result.now c.get_mut.ensures.value c.self.inside.arena.retired (tags_in c.self.inside.labels.items c.self.inside.names.items) ∙ ap (λ (p : Places). with_handle p c.args.slot) c.self.view_is

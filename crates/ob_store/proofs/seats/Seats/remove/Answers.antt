@@ -13,7 +13,7 @@ use Rattle.ob_store.proofs.TimerLaws.{timed_removed}
 use Rattle.ob_store.proofs.seats.Seats.remove.Goals as goal
 
 pub take-requires : goal.take-requires
-take-requires c = seat_there c.self.inside.arena.bodies (tags_in c.self.inside.labels.items c.self.inside.names.items) c.args.slot (subst (λ (p : Places). IsSome (get_or p.objects c.args.slot None)) (sym c.self.view_is) c.requires.there)
+take-requires c = seat_there c.self.inside.arena.bodies (tags_in c.self.inside.labels.items c.self.inside.names.items) c.args.slot (subst (λ (p : Places). IsSome (get_or p.objects c.args.slot None)) (sym c.self.view_is) c.requires.object)
 
 pub returns-clause-vacant : goal.returns-clause-vacant
 returns-clause-vacant c = vacant_same c.take.new.self (tags_in c.self.inside.labels.items c.self.inside.names.items) c.args.slot ∙ c.take.ensures.vacant
@@ -23,7 +23,7 @@ returns-clause-value c = ap (λ (s : Slots Seat). places_of s (tags_in c.self.in
 
 pub invariant_of-self : goal.invariant_of-self
 invariant_of-self c =
-    let there = subst (λ (p : Places). IsSome (get_or p.objects c.args.slot None)) (sym c.self.view_is) c.requires.there in
+    let there = subst (λ (p : Places). IsSome (get_or p.objects c.args.slot None)) (sym c.self.view_is) c.requires.object in
     let ended = subst (λ (p : Places). get_or p.seen.bodies c.args.slot None ≡ None) (sym c.self.view_is) c.requires.ended in
     record {
       labelled = c.self.invariant.labelled ∙ sym (ap (λ (s : Slots Seat). length s.bodies) c.take.ensures.after ∙ length-set c.self.inside.arena.bodies c.args.slot None);

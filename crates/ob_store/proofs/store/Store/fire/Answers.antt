@@ -4,7 +4,7 @@ use Rattle.ob_store.specs.Parts.{parts_of}
 use Rattle.ob_store.specs.State.{Whole, settled}
 use Rattle.ob_store.specs.Ticks.{slot_fired}
 use Rattle.ob_store.proofs.EnoughLaws.{enough_settled}
-use Rattle.ob_store.proofs.LapseLaws.{undue_settled}
+use Rattle.ob_store.proofs.TimeoutLaws.{undue_settled}
 use Rattle.ob_store.proofs.TickLaws.{way_fired}
 use Rattle.ob_store.proofs.store.Store.fire.Goals as goal
 

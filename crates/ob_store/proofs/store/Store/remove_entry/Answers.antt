@@ -15,7 +15,7 @@ pub handle_left-requires : goal.handle_left-requires
 handle_left-requires g c =
     let s = c.self.inside.parts in
     let found : entry_at (table_of s.tables.tables c.args.process) c.args.handle ≡ Some c.args.entry = subst (λ (w : Whole). entry_at (table_of w.state.tables c.args.process) c.args.handle ≡ Some c.args.entry) (sym c.self.view_is) c.requires in
-    record { some = held (parts_of s) c.args.process c.args.handle c.args.entry c.self.invariant.sound c.kept.ensures found }
+    record { handled = held (parts_of s) c.args.process c.args.handle c.args.entry c.self.invariant.sound c.kept.ensures found }
 
 pub invariant_of-self : goal.invariant_of-self
 invariant_of-self g c =

@@ -22,7 +22,7 @@ use Rattle.ob_waits.proofs.Staying.{settled_form}
 use Rattle.ob_store.specs.Kept.{IsKept, IsNamed}
 use Rattle.ob_store.specs.Parts.{PartsState}
 use Rattle.ob_store.specs.State.{State, objects_of, settled}
-use Rattle.ob_store.specs.Ticks.{lapsed, slot_is_due}
+use Rattle.ob_store.specs.Ticks.{timed_out, slot_is_due}
 use Rattle.ob_store.specs.UnderWay.{AreLeft}
 use Rattle.ob_store.specs.Waiting.{with_answer}
 use Rattle.ob_store.proofs.BodyLaws.{due_same}
@@ -56,7 +56,7 @@ module _ (s : State) (now n : ℕ) (named : IsNamed s.objects s.tables s.waits) 
   one = with_answer s n 258
 
   abbrev all : State
-  all = lapsed now s
+  all = timed_out now s
 
   one_named : IsNamed s.objects s.tables one.waits
   one_named = named_fewer s.objects s.tables s.tables s.waits one.waits (λ id. omega arith) (λ id. let x = blocks_answered id s.waits n 258 in omega (arith, x)) named
@@ -84,8 +84,8 @@ module _ (s : State) (now n : ℕ) (named : IsNamed s.objects s.tables s.waits) 
   abbrev others : State
   others = record all { bodies = left }
 
-  others_are : lapsed now (settled one) ≡ others
-  others_are = ap (lapsed now) one_is ∙ (λ i. record s { clock = now; waits = same_waits i; bodies = left })
+  others_are : timed_out now (settled one) ≡ others
+  others_are = ap (timed_out now) one_is ∙ (λ i. record s { clock = now; waits = same_waits i; bodies = left })
 
   fewer_blocks : (k : ℕ) → get_or (objects_of all).blocks k 0 ≤ get_or (objects_of one).blocks k 0
   fewer_blocks k = elim (cases_lt k (length s.objects)) [
@@ -99,8 +99,8 @@ module _ (s : State) (now n : ℕ) (named : IsNamed s.objects s.tables s.waits) 
   others_quiet : IsSettled left all.waits
   others_quiet = settled_less s.bodies left all.waits (less_gone s.bodies left (ended_left (objects_of one))) all_quiet
 
-  pub lapse_step : settled (lapsed now (settled (with_answer s n 258))) ≡ settled (lapsed now s)
-  lapse_step =
+  pub time_out_step : settled (timed_out now (settled (with_answer s n 258))) ≡ settled (timed_out now s)
+  time_out_step =
       let bodies : ended (objects_of others) ≡ ended (objects_of all) = ended_twice (objects_of all) (objects_of one).blocks fewer_blocks in
       ap settled others_are ∙ by_ends others all_named others_quiet ∙ ap (λ (o : Objects). record all { bodies = o.bodies }) bodies ∙ sym (by_ends all all_named all_quiet)
 
@@ -121,8 +121,8 @@ module _ (s : State) (now n : ℕ) (named : IsNamed s.objects s.tables s.waits) 
       let fewer = fewer_overdue now s.waits n over in omega (arith, same, fewer)
 
 -- where no time is up, the clock alone goes on
-pub lapse_last : (s : State) (now : ℕ) → settled s ≡ s → ((n : ℕ) → is_overdue now (get_or s.waits n None) ≡ false) → record s { clock = now } ≡ settled (lapsed now s)
-lapse_last s now still none =
+pub time_out_last : (s : State) (now : ℕ) → settled s ≡ s → ((n : ℕ) → is_overdue now (get_or s.waits n None) ≡ false) → record s { clock = now } ≡ settled (timed_out now s)
+time_out_last s now still none =
     (λ i. record (sym still i) { clock = now })
     ∙ ap (λ (ws : List (Option Wait)). settled (record s { clock = now; waits = ws })) (sym (none_lapsed now s.waits none))
 
@@ -131,7 +131,7 @@ pub kept_passed : (p : PartsState) (now : ℕ) → ((k : ℕ) → slot_is_due no
 kept_passed p now undue kept = record {
   sound = record {
     limited = kept.sound.limited;
-    lives_kept = kept.sound.lives_kept;
+    processes_kept = kept.sound.processes_kept;
     counted = kept.sound.counted;
     named = kept.sound.named;
     formed = formed_now p.waits.clock now p.objects.objects p.objects.seen.bodies undue kept.sound.formed;

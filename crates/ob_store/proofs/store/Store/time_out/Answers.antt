@@ -3,10 +3,10 @@ use Rattle.std.specs.Prelude.{count_by}
 use Rattle.ob_waits.specs.Deadlines.{is_overdue}
 use Rattle.ob_store.specs.Objects.{opened}
 use Rattle.ob_store.specs.State.{State, Whole, settled}
-use Rattle.ob_store.specs.Ticks.{lapsed, slot_is_due}
+use Rattle.ob_store.specs.Ticks.{timed_out, slot_is_due}
 use Rattle.ob_store.specs.Waiting.{with_answer}
-use Rattle.ob_store.proofs.LapseLaws.{fewer_step, lapse_last, lapse_step, undue_step}
-use Rattle.ob_store.proofs.store.Store.lapse.Goals as goal
+use Rattle.ob_store.proofs.TimeoutLaws.{fewer_step, time_out_last, time_out_step, undue_step}
+use Rattle.ob_store.proofs.store.Store.time_out.Goals as goal
 
 pub loop-wait-smaller : goal.loop-wait-smaller
 loop-wait-smaller g c =
@@ -24,7 +24,7 @@ loop-wait-preserved g c =
     let quiet = c.loop-wait.invariant.kept.quiet.settled in
     record {
       kept = c.kept-in-Some.ensures;
-      same = ap (λ (t : State). settled (lapsed c.args.now t)) is ∙ lapse_step s c.args.now c.in-Some.wait named quiet c.in-Some.ensures.some ∙ c.loop-wait.invariant.same;
+      same = ap (λ (t : State). settled (timed_out c.args.now t)) is ∙ time_out_step s c.args.now c.in-Some.wait named quiet c.in-Some.ensures.some ∙ c.loop-wait.invariant.same;
       keeper = c.expire.ensures.keeper ∙ ap (λ (w : Whole). opened w.keeper) c.in-Some.ensures.same ∙ c.loop-wait.invariant.keeper;
       undue = λ k. ap (λ (t : State). slot_is_due c.args.now (get_or t.bodies k None)) is ∙ undue_step s c.args.now c.in-Some.wait named quiet c.in-Some.ensures.some c.loop-wait.invariant.undue k;
       clock = ap (λ (t : State). t.clock) is ∙ c.loop-wait.invariant.clock;
@@ -35,5 +35,5 @@ returns-clause-state g c =
     let s = c.loop-wait.self.state in
     ap (λ (w : Whole). w.state) c.pass_to.ensures
     ∙ ap (λ (w : Whole). record w.state { clock = c.args.now }) c.in_default.ensures.same
-    ∙ lapse_last s c.args.now c.loop-wait.invariant.kept.still c.in_default.ensures.none
+    ∙ time_out_last s c.args.now c.loop-wait.invariant.kept.still c.in_default.ensures.none
     ∙ c.loop-wait.invariant.same

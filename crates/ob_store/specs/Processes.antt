@@ -2,19 +2,19 @@
 -- next number is the length.
 use Rattle.std.specs.Prelude.{ℕ, ◌==◌, Bool, false, List, [], ◌∷◌, ◌++◌, Option, Some, None, length}
 
-pub record LivesState : Type 0 where
+pub record ProcessesState : Type 0 where
   pub processes : List (Option ℕ)  -- the session of each live process
   pub threads : List (Option ℕ)  -- the process of each live thread
 
-abbrev pub no_lives : LivesState
-no_lives = record { processes = None ∷ []; threads = None ∷ [] }
+abbrev pub no_processes : ProcessesState
+no_processes = record { processes = None ∷ []; threads = None ∷ [] }
 
 -- the next process, of a session, with the next thread
-abbrev pub with_process : LivesState → ℕ → LivesState
+abbrev pub with_process : ProcessesState → ℕ → ProcessesState
 with_process l session = record { processes = l.processes ++ Some session ∷ []; threads = l.threads ++ Some (length l.processes) ∷ [] }
 
 -- the next thread, of a process
-abbrev pub with_thread : LivesState → ℕ → LivesState
+abbrev pub with_thread : ProcessesState → ℕ → ProcessesState
 with_thread l process = record l { threads = l.threads ++ Some process ∷ [] }
 
 -- whether this stands at a number: the process, at the number of a live thread

@@ -4,13 +4,13 @@ use Rattle.ob_waits.specs.Deadlines.{is_overdue}
 use Rattle.ob_store.specs.Consistent.{IsConsistent}
 use Rattle.ob_store.specs.Moves.{OnlyCloses}
 use Rattle.ob_store.specs.State.{settled}
-use Rattle.ob_store.specs.Ticks.{lapsed, slot_is_due}
-use Rattle.ob_store.proofs.store.Store.lapse.Given as goal
+use Rattle.ob_store.specs.Ticks.{timed_out, slot_is_due}
+use Rattle.ob_store.proofs.store.Store.time_out.Given as goal
 
 abbrev pub invariant-loop-wait : goal.invariant-loop-wait
 invariant-loop-wait g l = record {
   kept : IsConsistent l.self;
-  same : settled (lapsed l.now l.self.state) ≡ settled (lapsed l.now l.fn.self.state);
+  same : settled (timed_out l.now l.self.state) ≡ settled (timed_out l.now l.fn.self.state);
   keeper : OnlyCloses l.fn.self.keeper l.self.keeper;
   undue : (k : ℕ) → slot_is_due l.now (get_or l.self.state.bodies k None) ≡ false;
   clock : l.self.state.clock ≡ l.fn.self.state.clock;

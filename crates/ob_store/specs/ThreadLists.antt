@@ -1,0 +1,71 @@
+-- The threads of each process: how many are live, and those that it was given, by rising number.
+use Rattle.std.specs.Prelude.{◌≡◌, ℕ, ◌+◌, ◌-◌, ◌<◌, ◌≤◌, List, [], ◌∷◌, ◌++◌, Option, Some, None, length, count_by, slice_index_or, slice_set}
+use Rattle.ob_store.specs.declared.thread_lists.ThreadList.{ThreadList}
+use Rattle.ob_store.specs.declared.thread_lists.ThreadLink.{ThreadLink}
+use Rattle.ob_store.specs.Processes.{ProcessesState, is_of, with_process}
+
+pub record ThreadListsState : Type 0 where
+  pub lists : List ThreadList  -- by process
+  pub links : List ThreadLink  -- by thread
+
+abbrev pub no_list : ThreadList
+no_list = record { live = 0; first = 0; last = 0 }
+
+abbrev pub no_link : ThreadLink
+no_link = record { process = 0; next = 0 }
+
+abbrev pub list_at : ThreadListsState → ℕ → ThreadList
+list_at m p = slice_index_or m.lists p no_list
+
+abbrev pub link_at : ThreadListsState → ℕ → ThreadLink
+link_at m t = slice_index_or m.links t no_link
+
+abbrev pub no_lists : ThreadListsState
+no_lists = record { lists = no_list ∷ []; links = no_link ∷ [] }
+
+-- the next process, with the next thread
+abbrev pub with_list : ThreadListsState → ThreadListsState
+with_list m = record {
+  lists = m.lists ++ (record { live = 1; first = length m.links; last = length m.links }) ∷ [];
+  links = m.links ++ (record { process = length m.lists; next = 0 }) ∷ [];
+}
+
+-- the next thread of a process: it comes behind the one that was the last
+abbrev pub with_next : List ThreadLink → ℕ → ℕ → List ThreadLink
+with_next links t next = slice_set links t (record (slice_index_or links t no_link) { next = next })
+
+abbrev pub with_link : ThreadListsState → ℕ → ThreadListsState
+with_link m p = record {
+  lists = slice_set m.lists p (record (list_at m p) { live = (list_at m p).live + 1; last = length m.links });
+  links = with_next (m.links ++ (record { process = p; next = 0 }) ∷ []) (list_at m p).last (length m.links);
+}
+
+-- a live thread of a process ends
+abbrev pub without_live : ThreadListsState → ℕ → ThreadListsState
+without_live m p = record m { lists = slice_set m.lists p (record (list_at m p) { live = (list_at m p).live - 1 }) }
+
+-- what the counts and links are worth, beside the process of each live thread
+pub record AreThreadLists (processes : ℕ) (threads : List (Option ℕ)) (m : ThreadListsState) : Type 0 where
+  pub lists_long : length m.lists ≡ processes
+  pub links_long : length m.links ≡ length threads
+  pub few : length threads ≤ 65537
+  pub counted : (p : ℕ) → p < processes → (list_at m p).live ≡ count_by (is_of p) threads
+  -- a live thread is one that its process was given
+  pub given : (t p : ℕ) → slice_index_or threads t None ≡ Some p → (p < processes) × ((link_at m t).process ≡ p) × ((list_at m p).first ≤ t)
+  -- none of them is between one and the next
+  pub next : (p t u : ℕ) → p < processes → u < length threads → (link_at m t).process ≡ p → (link_at m u).process ≡ p → (list_at m p).first ≤ t → t < u → (t < (link_at m t).next) × ((link_at m t).next ≤ u)
+  -- the last is one of them, and past it is none
+  pub ending : (p : ℕ) → p < processes → ((list_at m p).last < length threads) × ((link_at m (list_at m p).last).process ≡ p) × ((list_at m p).first ≤ (list_at m p).last)
+  pub last : (p t : ℕ) → p < processes → t < length threads → (link_at m t).process ≡ p → t ≤ (list_at m p).last
+
+-- without its last element
+pub record IsPopped {A : Type 0} (none : A) (xs ys : List A) : Type 0 where
+  pub long : length xs ≡ length ys + 1
+  pub same : (k : ℕ) → k < length ys → slice_index_or ys k none ≡ slice_index_or xs k none
+
+-- the last process was added last, and the last thread is its only live one
+pub record IsNewest (l : ProcessesState) : Type 0 where
+  pub before : ProcessesState
+  pub session : ℕ
+  pub is : l ≡ with_process before session
+  pub alone : (t : ℕ) → slice_index_or before.threads t None ≡ Some (length before.processes) → ⊥

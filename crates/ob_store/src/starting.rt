@@ -1,0 +1,63 @@
+ghost use Rattle.std.specs.Prelude.{◌≡◌, ◌<◌, ◌≤◌, IsSome, None, OnErr, OnOk, length, slice_index_or};
+ghost use Rattle.ob_store.specs.State.{settled, with_child, with_process, with_thread};
+
+use crate::store::Store;
+use pin_words::PinKeeper;
+use std::alloc::AllocError;
+
+impl<K: PinKeeper> Store<K> {
+    /// The next process, of a session, with the next thread.
+    pub fn add_process(&mut self, session: u32) -> Result<(), AllocError>
+        requires processes { length self.old.state.processes ≤ self.old.state.limits.processes }
+        requires threads { length self.old.state.threads ≤ self.old.state.limits.threads }
+        ensures ok { OnOk result (self.new ≡ record self.old { state = settled (with_process self.old.state session) }) }
+        ensures err { OnErr result (self.new ≡ self.old) }
+    {
+        self.parts.objects.kept();
+        self.parts.processes.add_process(session)?;
+        match self.parts.tables.add_process() {
+            Ok(_) => return Ok(()),
+            Err(_) => {
+                self.parts.processes.take_back();
+                return Err(AllocError);
+            }
+        }
+    }
+
+    /// The next thread, of a live process.
+    pub fn add_thread(&mut self, process: u32) -> Result<(), AllocError>
+        requires threads { length self.old.state.threads ≤ self.old.state.limits.threads }
+        requires live { IsSome (slice_index_or self.old.state.processes process None) }
+        ensures ok { OnOk result (self.new ≡ record self.old { state = settled (with_thread self.old.state process) }) }
+        ensures err { OnErr result (self.new ≡ self.old) }
+    {
+        self.parts.objects.kept();
+        self.parts.processes.add_thread(process)?;
+        Ok(())
+    }
+
+    /// The next process, of a session, with the next thread and with the inheritable entries of a parent at the same values.
+    pub fn add_child(&mut self, parent: u32, session: u32) -> Result<(), AllocError>
+        requires processes { length self.old.state.processes ≤ self.old.state.limits.processes }
+        requires threads { length self.old.state.threads ≤ self.old.state.limits.threads }
+        requires parent { parent < length self.old.state.tables }
+        ensures ok { OnOk result (self.new ≡ record self.old { state = settled (with_child self.old.state parent session) }) }
+        ensures err { OnErr result (self.new ≡ self.old) }
+    {
+        self.parts.objects.kept();
+        self.parts.processes.add_process(session)?;
+        match self.parts.tables.copy_inheritable(parent) {
+            Ok(child) => {
+                self.parts
+                    .objects
+                    .handles_came(self.parts.tables.entries(child));
+                self.parts.objects.kept();
+                return Ok(());
+            }
+            Err(_) => {
+                self.parts.processes.take_back();
+                return Err(AllocError);
+            }
+        }
+    }
+}

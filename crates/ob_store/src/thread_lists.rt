@@ -1,0 +1,155 @@
+ghost use Rattle.std.specs.Prelude.{ℕ, ◌∷◌, [], ◌++◌, ◌≡◌, ◌<◌, ◌≤◌, IfOk, OnOk, OnErr, length, nat_lt, slice_index_or};
+ghost use Rattle.ob_store.specs.ThreadLists.{IsPopped, list_at, link_at, no_list, no_link, no_lists, with_list, with_link, without_live};
+
+use std::alloc::{AllocError, Global};
+use std::marker::Model;
+
+/// What a process has of threads: how many are live, and the first and the last that it was given.
+#[derive(Clone, Copy)]
+pub(crate) struct ThreadList {
+    pub(crate) live: u32,
+    pub(crate) first: u32,
+    pub(crate) last: u32,
+}
+
+/// The process of a thread, which stays when the thread ends, and the next thread that the process was given; 0 at its last.
+#[derive(Clone, Copy)]
+pub(crate) struct ThreadLink {
+    pub(crate) process: u32,
+    pub(crate) next: u32,
+}
+
+/// The threads of each process: how many are live, and those that it was given, by rising number.
+#[derive(Drop)]
+pub(crate) struct ThreadLists {
+    lists: Vec<ThreadList>,
+    links: Vec<ThreadLink>,
+}
+
+impl Model for ThreadLists {
+    ghost use Rattle.ob_store.specs.ThreadLists.{ThreadListsState};
+
+    ghost Value = { ThreadListsState };
+
+    ghost view = { λ m. record { lists = m.lists.items; links = m.links.items } };
+}
+
+impl ThreadLists {
+    /// Number 0 of both, which is never given.
+    pub(crate) fn new(alloc: Global) -> Result<ThreadLists, AllocError>
+        ensures { IfOk result (λ links. links ≡ no_lists) }
+    {
+        let mut lists = Vec::new(alloc);
+        let mut links = Vec::new(alloc);
+        lists.push(ThreadList {
+            live: 0,
+            first: 0,
+            last: 0,
+        })?;
+        links.push(ThreadLink {
+            process: 0,
+            next: 0,
+        })?;
+        Ok(ThreadLists { lists, links })
+    }
+
+    /// The next process, with the next thread.
+    pub(crate) fn add_process(&mut self) -> Result<(), AllocError>
+        requires lists { length self.old.lists ≤ 65536 }
+        requires links { length self.old.links ≤ 65536 }
+        ensures ok { OnOk result (self.new ≡ with_list self.old) }
+        ensures err { OnErr result (self.new ≡ self.old) }
+    {
+        let process = self.lists.len() as u32;
+        let thread = self.links.len() as u32;
+        self.lists.push(ThreadList {
+            live: 1,
+            first: thread,
+            last: thread,
+        })?;
+        let link = ThreadLink { process, next: 0 };
+        if self.links.push(link).is_err() {
+            let _ = self.lists.pop();
+            return Err(AllocError);
+        }
+        Ok(())
+    }
+
+    /// The next thread, of a process.
+    pub(crate) fn add_thread(&mut self, process: u32) -> Result<(), AllocError>
+        requires process { process < length self.old.lists }
+        requires count { (list_at self.old process).live ≤ 65537 }
+        requires last { (list_at self.old process).last < length self.old.links }
+        requires links { length self.old.links ≤ 65536 }
+        ensures ok { OnOk result (self.new ≡ with_link self.old process) }
+        ensures err { OnErr result (self.new ≡ self.old) }
+    {
+        let thread = self.links.len() as u32;
+        self.links.push(ThreadLink { process, next: 0 })?;
+        let list = self.lists[process as usize];
+        self.links[list.last as usize].next = thread;
+        self.lists[process as usize] = ThreadList {
+            live: list.live + 1,
+            first: list.first,
+            last: thread,
+        };
+        Ok(())
+    }
+
+    /// Takes back the process that was added last, with its first thread.
+    #[tactic(auto, using(crate::proofs::ThreadListLaws::popped))]
+    pub(crate) fn take_back(&mut self)
+        requires lists { 0 < length self.old.lists }
+        requires links { 0 < length self.old.links }
+        ensures lists { IsPopped no_list self.old.lists self.new.lists }
+        ensures links { IsPopped no_link self.old.links self.new.links }
+    {
+        let _ = self.lists.pop();
+        let _ = self.links.pop();
+    }
+
+    /// A live thread of a process ends.
+    pub(crate) fn end_thread(&mut self, process: u32)
+        ensures { self.new ≡ without_live self.old process }
+    {
+        let at = process as usize;
+        if at < self.lists.len() {
+            self.lists[at].live = self.lists[at].live.saturating_sub(1);
+        }
+    }
+
+    /// Whether a process has live threads.
+    pub(crate) fn has_live(&self, process: u32) -> bool
+        ensures { result ≡ nat_lt 0 (list_at self.now process).live }
+    {
+        let at = process as usize;
+        at < self.lists.len() && self.lists[at].live > 0
+    }
+
+    /// The first thread that a process was given.
+    pub(crate) fn first(&self, process: u32) -> u32
+        ensures { result ≡ (list_at self.now process).first }
+    {
+        let at = process as usize;
+        if at < self.lists.len() {
+            self.lists[at].first
+        } else {
+            0
+        }
+    }
+
+    /// The process of a thread, and the next thread that it was given.
+    pub(crate) fn link(&self, thread: u32) -> ThreadLink
+        ensures { result ≡ link_at self.now thread }
+    {
+        let at = thread as usize;
+        if at < self.links.len() {
+            self.links[at]
+        } else {
+            ThreadLink {
+                process: 0,
+                next: 0,
+            }
+        }
+    }
+}
