@@ -78,11 +78,17 @@ not_false true h = refl
 not_false false h = absurd (h refl)
 
 -- The theorem: where no wait was ready and one slot changed, each wait that is ready names the slot.
+pub ready_named : (bodies : List (Option Body)) (waits : List (Option Wait)) (k : ℕ) (x : Option Body) → IsSettled bodies waits → (n : ℕ) → is_ready (set bodies k x) (get_or waits n None) ≡ true → names_slot k (get_or waits n None) ≡ true
+ready_named bodies waits k x settled n ready = not_false _ (λ none.
+    let e = ready_same bodies (set bodies k x) (get_or waits n None) (λ j named. get_or-set_other bodies k j x None (λ same. let h : names_slot k (get_or waits n None) ≡ true = ap (λ i. names_slot i (get_or waits n None)) (sym same) ∙ named in absurd (cc (h, none)))) in
+    let q = settled.each n in absurd (cc (e, q, ready)))
+
+-- and it is so by the slot
 pub ready_at_change : (bodies : List (Option Body)) (waits : List (Option Wait)) (k : ℕ) (x : Option Body) → IsSettled bodies waits → IsReadyAt k (set bodies k x) waits
 ready_at_change bodies waits k x settled = record {
-  each = λ n ready. not_false _ (λ none.
-      let e = ready_same bodies (set bodies k x) (get_or waits n None) (λ j named. get_or-set_other bodies k j x None (λ same. let h : names_slot k (get_or waits n None) ≡ true = ap (λ i. names_slot i (get_or waits n None)) (sym same) ∙ named in absurd (cc (h, none)))) in
-      let q = settled.each n in absurd (cc (e, q, ready)));
+  before = bodies;
+  settled = settled;
+  less = λ t j out signaled. sym (ap (slot_signaled t) (get_or-set_other bodies k j x None (λ same. let e : eqb j k ≡ true = grind (arith, nat_tests, same) in cc (e, out)))) ∙ signaled;
 }
 
 -- some slots changed

@@ -17,6 +17,7 @@ pub mod Ends
 pub mod EndsLast
 pub mod Counted
 pub mod Staying
+pub mod PassLaws
 pub mod MergeLaws
 pub mod SettleLaws
 pub mod DeadlineLaws

@@ -1,17 +1,17 @@
 -- Settling over the numbers of several slots: always the least number above the last one takes effect next.
-use Rattle.std.proofs.Common.{◌≡◌, ℕ, zero, suc, ◌<◌, ◌≤◌, List, [], ◌∷◌, length, Some, None, refl, ap, ◌∙◌, sym, arith, get_or, Bool, true, false, inl, inr, leb, leb-true}
+use Rattle.std.proofs.Common.{◌≡◌, ℕ, zero, suc, ◌<◌, ◌≤◌, List, [], ◌∷◌, length, Some, None, ap, ◌∙◌, sym, arith, get_or, true, false, inl, inr, leb, leb-true}
 use Rattle.std.specs.List.Sorted.{IsPartitionedBy, IsPartitionPoint}
 use Rattle.std.proofs.lemmas.List.{get_or_default}
 use Rattle.std.proofs.lemmas.List.Sorted.{IsPartitionedBy-leb}
 use Rattle.std.proofs.lemmas.Bool.Decides.{nat_tests}
-use Rattle.std.proofs.lemmas.List.Sums.{count_by-le-length, passes_at_first}
 use Rattle.std.proofs.lemmas.Bool.{cases_eq, cases_lt}
 use Rattle.pin_core.specs.declared.id.Id.{Id}
 use Rattle.ob_waits.specs.Numbers.{IsNext, IsNextOf, numbers_of}
-use Rattle.ob_waits.specs.Rules.{Within, IsRising, IsSettled, IsReadyAtOne}
+use Rattle.ob_waits.specs.Rules.{Within, IsRising, IsReadyAtOne}
 use Rattle.ob_waits.specs.Roster.{AreIndexed}
-use Rattle.ob_waits.specs.Waits.{nowhere, Scene, is_ready, is_pending, names_slot, first_ready, effect, passed, settled, settled_within}
-use Rattle.ob_waits.proofs.Settling.{pending_count, not_true, ready_within, ready_counted, fewer, was_ready, settled_at_end, settled_none, settled_same, settled_first, first_is}
+use Rattle.ob_waits.specs.Waits.{nowhere, Scene, is_ready, names_slot, passed, settled}
+use Rattle.ob_waits.proofs.Settling.{not_true, settled_same}
+use Rattle.ob_waits.proofs.PassLaws.{steps}
 use Rattle.ob_waits.proofs.AddedLaws.{any_at}
 use Rattle.ob_waits.proofs.NumberLaws.{within_at}
 
@@ -52,31 +52,6 @@ module _ (ns : List ℕ) (last at : ℕ) (rising : IsRising ns) (point : IsParti
   pub next_none : length ns ≤ at → IsNext last ns None
   next_none past = record { above = tt; least = λ k w above. let i = from_there k w above in let a = i.1 in let b = i.2 in absurd (omega (arith, a, b, past)) }
 
--- it makes no difference how often a wait may take effect, once that is often enough
-nothing_pending : (s : Scene) → pending_count s.waits ≤ 0 → IsSettled s.objects.bodies s.waits
-nothing_pending s few = record { each = λ k. not_true _ (λ ready. omega (arith, few, ready_counted s k ready)) }
-
-settled_fuel : (f g : ℕ) (s : Scene) → pending_count s.waits ≤ f → pending_count s.waits ≤ g → settled_within f s ≡ settled_within g s
-settled_fuel zero g s a b = sym (settled_none g s (nothing_pending s a))
-settled_fuel (suc f) zero s a b = settled_none (suc f) s (nothing_pending s b)
-settled_fuel (suc f) (suc g) s a b =
-    let k = first_ready s.objects.bodies s.waits in
-    elim (cases_lt k (length s.waits)) [
-      | inl lt ↦ (let ready : is_ready s.objects.bodies (get_or s.waits k None) ≡ true = passes_at_first (is_ready s.objects.bodies) s.waits None lt in
-          let less = fewer s k lt ready in
-          settled_first f s k ready refl ∙ settled_fuel f g (effect s k) (omega (arith, less, a)) (omega (arith, less, b)) ∙ sym (settled_first g s k ready refl))
-      | inr le ↦ settled_none (suc f) s (settled_at_end s le) ∙ sym (settled_none (suc g) s (settled_at_end s le))
-    ]
-
--- the least number that is ready takes effect first
-settled_next : (s : Scene) (m : ℕ) → is_ready s.objects.bodies (get_or s.waits m None) ≡ true → ((k : ℕ) → k < m → is_ready s.objects.bodies (get_or s.waits k None) ≡ false) → settled (effect s m) ≡ settled s
-settled_next s m ready below =
-    let less = fewer s m (ready_within s m ready) ready in
-    let few = count_by-le-length is_pending s.waits in
-    let few' = count_by-le-length is_pending (effect s m).waits in
-    sym (settled_first (length (effect s m).waits) s m ready (first_is s m ready below))
-    ∙ settled_fuel (suc (length (effect s m).waits)) (length s.waits) s (omega (arith, less, few')) few
-
 -- what is ready stands above the last number, among the numbers of the slots
 pub record Remains (last : ℕ) (lists : List (List ℕ)) (ids : List Id) (s : Scene) : Type 0 where
   pub each : (k : ℕ) → is_ready s.objects.bodies (get_or s.waits k None) ≡ true → (last < k) × (i : ℕ) × (i < length ids) × Within k (numbers_of lists (get_or ids i nowhere).slot)
@@ -99,30 +74,10 @@ pub record Goes (m : ℕ) (lists : List (List ℕ)) (ids : List Id) (s after : S
   pub same : settled after ≡ settled s
   pub remains : Remains m lists ids after
 
-least_at : (last m : ℕ) (lists : List (List ℕ)) (ids : List Id) (s : Scene) → Remains last lists ids s → IsNextOf last lists ids (Some m) → (k : ℕ) → is_ready s.objects.bodies (get_or s.waits k None) ≡ true → m ≤ k
-least_at last m lists ids s r next k ready = let at = r.each k ready in next.least at.1 k at.2 at.3 at.0
-
 pub goes : (last m : ℕ) (lists : List (List ℕ)) (ids : List Id) (s : Scene) → Remains last lists ids s → IsNextOf last lists ids (Some m) → Goes m lists ids s (passed (m ∷ []) s)
-goes last m lists ids s r next = by (is_ready s.objects.bodies (get_or s.waits m None)) refl
-  where
-    least : (k : ℕ) → is_ready s.objects.bodies (get_or s.waits k None) ≡ true → m ≤ k
-    least = least_at last m lists ids s r next
-
-    by : (b : Bool) → is_ready s.objects.bodies (get_or s.waits m None) ≡ b → Goes m lists ids s (passed (m ∷ []) s)
-    by true ready = rw ready (record {
-      same = settled_next s m ready (λ k below. not_true _ (λ h. omega (arith, below, least k h)));
-      remains = record { each = λ k after. let w = was_ready s m k ready after in (let le = least k w.before in let other = w.other in omega (arith, le, other), (r.each k w.before).1, (r.each k w.before).2, (r.each k w.before).3) };
-    })
-    by false none = rw none (record {
-      same = refl;
-      remains = record { each = λ k ready. let le = least k ready in (other k ready le, (r.each k ready).1, (r.each k ready).2, (r.each k ready).3) };
-    })
-      where
-        other : (k : ℕ) → is_ready s.objects.bodies (get_or s.waits k None) ≡ true → m ≤ k → m < k
-        other k ready le = elim (cases_eq k m) [
-          | inl same ↦ absurd (let e : is_ready s.objects.bodies (get_or s.waits k None) ≡ false = ap (λ i. is_ready s.objects.bodies (get_or s.waits i None)) same ∙ none in cc (e, ready))
-          | inr apart ↦ omega (arith, le, apart)
-        ]
+goes last m lists ids s r next =
+    let step = steps m s (λ k ready. let at = r.each k ready in next.least at.1 k at.2 at.3 at.0) in
+    record { same = step.same; remains = record { each = λ k ready. let l = step.later k ready in let at = r.each k l.0 in (l.1, at.1, at.2, at.3) } }
 
 -- no number is left
 pub all_gone : (last : ℕ) (lists : List (List ℕ)) (ids : List Id) (s : Scene) → Remains last lists ids s → IsNextOf last lists ids None → settled s ≡ s

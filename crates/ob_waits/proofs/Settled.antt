@@ -9,7 +9,7 @@ use Rattle.ob_waits.specs.declared.wait.Wait.{Wait}
 use Rattle.ob_waits.specs.Rules.{IsSettled}
 use Rattle.ob_waits.specs.Waits.{new_wait, is_ready, list_ready, answered, unless_of, is_waits_of, bodies_after, slot_blocks}
 use Rattle.ob_waits.proofs.Settling.{not_true, IsLess, less_after, ready_less}
-use Rattle.ob_waits.proofs.Apart.{ready_at_change}
+use Rattle.ob_waits.proofs.Apart.{ready_named}
 use Rattle.ob_waits.proofs.Counted.{named_counts}
 use Rattle.ob_waits.proofs.AddedLaws.{by_number}
 
@@ -34,12 +34,12 @@ settled_now mode t bodies ids ws s = settled_less bodies (bodies_after mode t bo
 pub settled_unnamed : (bodies : List (Option Body)) (ws : List (Option Wait)) (k : ℕ) (x : Option Body) → slot_blocks k ws ≡ 0 → IsSettled bodies ws → IsSettled (set bodies k x) ws
 settled_unnamed bodies ws k x unnamed s = record {
   each = λ n. not_true _ (λ ready.
-      let named = named_counts k n ws ((ready_at_change bodies ws k x s).each n ready) in
+      let named = named_counts k n ws (ready_named bodies ws k x s n ready) in
       omega (arith, named, unnamed));
 }
 
 -- a wait is replaced by one that isn't ready, as by none or by an answered one
-settled_replaced : (bodies : List (Option Body)) (ws : List (Option Wait)) (n : ℕ) (x : Option Wait) → is_ready bodies x ≡ false → IsSettled bodies ws → IsSettled bodies (set ws n x)
+pub settled_replaced : (bodies : List (Option Body)) (ws : List (Option Wait)) (n : ℕ) (x : Option Wait) → is_ready bodies x ≡ false → IsSettled bodies ws → IsSettled bodies (set ws n x)
 settled_replaced bodies ws n x unready s = record {
   each = λ m. elim (cases_eq m n) [
     | inl same ↦ elim (cases_lt n (length ws)) [

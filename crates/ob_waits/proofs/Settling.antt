@@ -1,5 +1,5 @@
 -- Taking makes nothing signaled, so a pass over the waits in order settles them, and what it leaves is settled.
-use Rattle.std.proofs.Common.{◌≡◌, ℕ, zero, suc, ◌+◌, ◌<◌, ◌≤◌, List, [], ◌∷◌, length, Option, Some, None, refl, ap, ◌∙◌, sym, subst, arith, get_or, set, Bool, true, false, cond, inl, inr, ltb, eqb, ◌-◌}
+use Rattle.std.proofs.Common.{◌≡◌, ℕ, zero, suc, ◌+◌, ◌<◌, ◌≤◌, List, [], ◌∷◌, length, Option, Some, None, refl, ap, ◌∙◌, subst, arith, get_or, set, Bool, true, false, cond, inl, inr, ltb, eqb, ◌-◌}
 use Rattle.std.specs.Prelude.{count_by, sum_by}
 use Rattle.std.specs.List.{position_or_len, list_all}
 use Rattle.std.proofs.lemmas.List.{length-set, get_or_past, get_or-set_same, get_or-set_other}
@@ -15,8 +15,8 @@ use Rattle.ob_waits.specs.declared.wait.Wait.{Wait}
 use Rattle.ob_waits.specs.declared.wait.State.{State}
 use Rattle.ob_waits.specs.declared.wait.State.TheVariants.{Pending, Answered}
 use Rattle.ob_waits.specs.Objects.{Objects, slot_signaled, slot_room, slot_acquired, without_block, without_blocks}
-use Rattle.ob_waits.specs.Rules.{IsSettled, IsRising, Covers}
-use Rattle.ob_waits.specs.Waits.{nowhere, is_signaled, first_signaled, list_ready, state_ready, is_ready, first_ready, Scene, with_acquired, with_all_acquired, bodies_after, code_of, answered_wait, effect, effect_of, effect_at, settled_within, settled, passed, is_pending, state_pending}
+use Rattle.ob_waits.specs.Rules.{IsSettled, thread_of}
+use Rattle.ob_waits.specs.Waits.{nowhere, is_signaled, first_signaled, list_ready, state_ready, is_ready, first_ready, Scene, with_acquired, with_all_acquired, bodies_after, code_of, answered_wait, effect, effect_of, effect_at, settled_within, settled, ids_of, is_pending, state_ids, state_pending}
 
 -- no object is signaled that was not, for any thread
 pub record IsLess (bodies after : List (Option Body)) : Type 0 where
@@ -75,36 +75,45 @@ pub less_left : (ids : List Id) (objects : Objects) → IsLess objects.bodies (w
 less_left [] objects = record { each = λ t id h. h }
 less_left (id ∷ ids) objects = less_trans objects.bodies (without_block objects id).bodies _ (less_if (eqb (get_or objects.handles id.slot 0 + (get_or objects.blocks id.slot 0 - 1)) 0) objects.bodies id.slot) (less_left ids (without_block objects id))
 
--- a wait that is ready where less is signaled was ready
-all_less : (p q : Id → Bool) → ((x : Id) → q x ≡ true → p x ≡ true) → (xs : List Id) → list_all q xs ≡ true → list_all p xs ≡ true
-all_less p q less [] h = refl
-all_less p q less (x ∷ xs) h =
-    let a : p x ≡ true = less x (grind (arith, h)) in
-    let b : list_all p xs ≡ true = all_less p q less xs (grind (arith, h)) in
-    grind (arith, a, b)
+-- a wait that is ready where less is signaled was ready: it is enough that less is at its places, for its thread
+module _ (p q : Id → Bool) where
+  all_less : (xs : List Id) → ((i : ℕ) → i < length xs → q (get_or xs i nowhere) ≡ true → p (get_or xs i nowhere) ≡ true) → list_all q xs ≡ true → list_all p xs ≡ true
+  all_less [] less h = refl
+  all_less (x ∷ xs) less h =
+      let a : p x ≡ true = less zero (omega arith) (grind (arith, h)) in
+      let b : list_all p xs ≡ true = all_less xs (λ i lt. less (suc i) (omega (arith, lt))) (grind (arith, h)) in
+      grind (arith, a, b)
 
-some_less : (p q : Id → Bool) → ((x : Id) → q x ≡ true → p x ≡ true) → (xs : List Id) → ltb (position_or_len q xs) (length xs) ≡ true → ltb (position_or_len p xs) (length xs) ≡ true
-some_less p q less xs h = elim (cases_lt (position_or_len p xs) (length xs)) [
-  | inl lt ↦ lt-ltb (position_or_len p xs) (length xs) lt
-  | inr le ↦
-      let k = position_or_len q xs in
-      let in' : k < length xs = grind (arith, nat_tests, h) in
-      let yes : p (get_or xs k nowhere) ≡ true = less (get_or xs k nowhere) (passes_at_first q xs nowhere in') in
-      let none : p (get_or xs k nowhere) ≡ false = fails_before_first p xs k nowhere (omega arith) in
-      absurd (cc (yes, none))
-]
+  some_less : (xs : List Id) → ((i : ℕ) → i < length xs → q (get_or xs i nowhere) ≡ true → p (get_or xs i nowhere) ≡ true)
+      → ltb (position_or_len q xs) (length xs) ≡ true → ltb (position_or_len p xs) (length xs) ≡ true
+  some_less xs less h = elim (cases_lt (position_or_len p xs) (length xs)) [
+    | inl lt ↦ lt-ltb (position_or_len p xs) (length xs) lt
+    | inr le ↦
+        let k = position_or_len q xs in
+        let in' : k < length xs = grind (arith, nat_tests, h) in
+        let yes : p (get_or xs k nowhere) ≡ true = less k in' (passes_at_first q xs nowhere in') in
+        let none : p (get_or xs k nowhere) ≡ false = fails_before_first p xs k nowhere (omega arith) in
+        absurd (cc (yes, none))
+  ]
 
-list_less : (bodies after : List (Option Body)) → IsLess bodies after → (mode : Mode) (t : ℕ) (ids : List Id) → list_ready mode t after ids ≡ true → list_ready mode t bodies ids ≡ true
-list_less bodies after l Any t ids h = some_less (is_signaled t bodies) (is_signaled t after) (λ x k. l.each t x k) ids h
-list_less bodies after l All t ids h = all_less (is_signaled t bodies) (is_signaled t after) (λ x k. l.each t x k) ids h
+module _ (bodies after : List (Option Body)) where
+  abbrev pub LessAt : ℕ → List Id → Type 0
+  LessAt t ids = (i : ℕ) → i < length ids → is_signaled t after (get_or ids i nowhere) ≡ true → is_signaled t bodies (get_or ids i nowhere) ≡ true
 
-state_less : (bodies after : List (Option Body)) → IsLess bodies after → (t : ℕ) (st : State) → state_ready t after st ≡ true → state_ready t bodies st ≡ true
-state_less bodies after l t (Pending mode ids) h = list_less bodies after l mode t ids h
-state_less bodies after l t (Answered code) h = h
+  list_less : (mode : Mode) (t : ℕ) (ids : List Id) → LessAt t ids → list_ready mode t after ids ≡ true → list_ready mode t bodies ids ≡ true
+  list_less Any t ids less h = some_less (is_signaled t bodies) (is_signaled t after) ids less h
+  list_less All t ids less h = all_less (is_signaled t bodies) (is_signaled t after) ids less h
 
-pub ready_less : (bodies after : List (Option Body)) → IsLess bodies after → (w : Option Wait) → is_ready after w ≡ true → is_ready bodies w ≡ true
-ready_less bodies after l None h = h
-ready_less bodies after l (Some w) h = state_less bodies after l w.thread w.state h
+  state_less : (t : ℕ) (st : State) → LessAt t (state_ids st) → state_ready t after st ≡ true → state_ready t bodies st ≡ true
+  state_less t (Pending mode ids) less h = list_less mode t ids less h
+  state_less t (Answered code) less h = h
+
+  pub ready_where : (w : Option Wait) → ((t : ℕ) → thread_of w ≡ Some t → LessAt t (ids_of w)) → is_ready after w ≡ true → is_ready bodies w ≡ true
+  ready_where None less h = h
+  ready_where (Some w) less h = state_less w.thread w.state (less w.thread refl) h
+
+  pub ready_less : IsLess bodies after → (w : Option Wait) → is_ready after w ≡ true → is_ready bodies w ≡ true
+  ready_less l w = ready_where w (λ t own i lt. l.each t (get_or (ids_of w) i nowhere))
 
 -- taking by one thread leaves the room of the others
 pub record RoomKept (limit u : ℕ) (bodies after : List (Option Body)) : Type 0 where
@@ -291,35 +300,3 @@ pub settled_first : (fuel : ℕ) (scene : Scene) (m : ℕ) → is_ready scene.ob
 settled_first fuel scene m ready first =
     let lt : first_ready scene.objects.bodies scene.waits < length scene.waits = (let w = ready_within scene m ready in omega arith) in
     rw (lt-ltb (first_ready scene.objects.bodies scene.waits) (length scene.waits) lt) (ap (λ k. settled_within fuel (effect scene k)) first)
-
-least_of : (m : ℕ) (ns : List ℕ) (scene : Scene) → IsRising (m ∷ ns) → Covers (m ∷ ns) scene → (k : ℕ) → k < m → is_ready scene.objects.bodies (get_or scene.waits k None) ≡ false
-least_of m ns scene rising covers k lt = not_true _ (λ ready. elim (covers.each k ready) [ inl same ↦ omega arith | inr in' ↦ omega (arith, rising.0 k in') ])
-
--- one number of a pass, given that the pass over the others settles
-pass_step : (m : ℕ) (ns : List ℕ) (fuel : ℕ) (scene : Scene) → ((f : ℕ) (x : Scene) → Covers ns x → pending_count x.waits ≤ f → passed ns x ≡ settled_within f x) →
-    IsRising (m ∷ ns) → Covers (m ∷ ns) scene → pending_count scene.waits ≤ fuel → passed (m ∷ ns) scene ≡ settled_within fuel scene
-pass_step m ns fuel scene others rising covers few = by_ready (is_ready scene.objects.bodies (get_or scene.waits m None)) refl
-  where
-    rest : is_ready scene.objects.bodies (get_or scene.waits m None) ≡ true → Covers ns (effect scene m)
-    rest ready = record { each = λ k after. let w = was_ready scene m k ready after in elim (covers.each k w.before) [ inl same ↦ absurd (w.other same) | inr in' ↦ in' ] }
-
-    skip : is_ready scene.objects.bodies (get_or scene.waits m None) ≡ false → Covers ns scene
-    skip none = record { each = λ k ready. elim (covers.each k ready) [ inl same ↦ absurd (let e : is_ready scene.objects.bodies (get_or scene.waits m None) ≡ true = subst (λ i. is_ready scene.objects.bodies (get_or scene.waits i None) ≡ true) same ready in cc (e, none)) | inr in' ↦ in' ] }
-
-    by_fuel : (f : ℕ) → pending_count scene.waits ≤ f → is_ready scene.objects.bodies (get_or scene.waits m None) ≡ true → passed ns (effect scene m) ≡ settled_within f scene
-    by_fuel zero k ready = absurd (omega (arith, ready_counted scene m ready))
-    by_fuel (suc f) k ready =
-        others f (effect scene m) (rest ready) (omega (arith, fewer scene m (ready_within scene m ready) ready))
-        ∙ sym (settled_first f scene m ready (first_is scene m ready (least_of m ns scene rising covers)))
-
-    by_ready : (b : Bool) → is_ready scene.objects.bodies (get_or scene.waits m None) ≡ b → passed (m ∷ ns) scene ≡ settled_within fuel scene
-    by_ready true is = rw is (by_fuel fuel few is)
-    by_ready false is = rw is (others fuel scene (skip is) few)
-
--- The theorem: one pass over numbers in order that cover all waits that are ready is settling.
-pass_settles : (ns : List ℕ) (fuel : ℕ) (scene : Scene) → IsRising ns → Covers ns scene → pending_count scene.waits ≤ fuel → passed ns scene ≡ settled_within fuel scene
-pass_settles [] fuel scene rising covers few = sym (settled_none fuel scene (record { each = λ n. not_true _ (λ ready. covers.each n ready) }))
-pass_settles (m ∷ ns) fuel scene rising covers few = pass_step m ns fuel scene (λ f x c k. pass_settles ns f x rising.1 c k) rising covers few
-
-pub covered_settles : (numbers : List ℕ) (scene : Scene) → IsRising numbers → Covers numbers scene → passed numbers scene ≡ settled scene
-covered_settles numbers scene rising covers = pass_settles numbers (length scene.waits) scene rising covers (count_by-le-length is_pending scene.waits)

@@ -6,12 +6,10 @@ use Rattle.std.proofs.lemmas.List.Sums.{position_or_len_is, fails_before_first}
 use Rattle.std.proofs.lemmas.Bool.{cases_eq, cases_lt, lt-ltb, le-ltb}
 use Rattle.std.proofs.lemmas.Bool.Decides.{nat_tests}
 use Rattle.ob_waits.specs.declared.wait.Wait.{Wait}
-use Rattle.ob_waits.specs.Objects.{Objects}
-use Rattle.ob_waits.specs.Rules.{thread_of, WaitWaitable, Covers, IsReadyAt}
-use Rattle.ob_waits.specs.Numbers.{IsOrdered, numbers_of, AreOrdered}
+use Rattle.ob_waits.specs.Rules.{thread_of, WaitWaitable}
+use Rattle.ob_waits.specs.Numbers.{IsOrdered, AreOrdered}
 use Rattle.ob_waits.specs.Waits.{is_pending, names_slot, is_waits_of, number_of, unless_of, answered}
 use Rattle.ob_waits.specs.Roster.{Roster, AreThreads, AreIndexed, Leaves, with_number, IsTracked}
-use Rattle.ob_waits.proofs.Settling.{ready_pending}
 use Rattle.ob_waits.proofs.Keeping.{Fade, fade_one, kept_faded}
 use Rattle.ob_waits.proofs.RosterLaws.{right_left}
 
@@ -94,7 +92,7 @@ no_thread : (w : Option Wait) → thread_of w ≡ None → w ≡ None
 no_thread None h = refl
 no_thread (Some w) h = absurd (cc)
 
-lists_faded : (ws ws' : List (Option Wait)) (order : List ℕ) (index : List (List ℕ)) → Fade ws ws' → AreIndexed ws order index → AreIndexed ws' order index
+pub lists_faded : (ws ws' : List (Option Wait)) (order : List ℕ) (index : List (List ℕ)) → Fade ws ws' → AreIndexed ws order index → AreIndexed ws' order index
 lists_faded ws ws' order index f a = record {
   order_rises = subst (λ n. IsOrdered n order) (sym f.len) a.order_rises;
   order_all = record { each = λ n h. a.order_all.each n ((f.each n).pending h) };
@@ -102,7 +100,7 @@ lists_faded ws ws' order index f a = record {
   index_all = λ s. record { each = λ n h. (a.index_all s).each n ((f.each n).names s h) };
 }
 
-threads_faded : (ws ws' : List (Option Wait)) (threads : List ℕ) → Fade ws ws' → AreThreads ws threads → AreThreads ws' threads
+pub threads_faded : (ws ws' : List (Option Wait)) (threads : List ℕ) → Fade ws ws' → AreThreads ws threads → AreThreads ws' threads
 threads_faded ws ws' threads f a = record {
   right = λ t some. (f.each (get_or threads t 0)).thread ∙ a.right t some;
   all = λ n t h. a.all n t (sym (f.each n).thread ∙ h);
@@ -119,13 +117,6 @@ tracked_faded limit ws ws' r f k = record {
 
 pub tracked_left : (limit : ℕ) (ws : List (Option Wait)) (r r' : Roster) → Leaves ws r r' → IsTracked limit ws r → IsTracked limit ws r'
 tracked_left limit ws r r' l k = record { limit_fits = k.limit_fits; few = k.few; zero_has_none = k.zero_has_none; kept = k.kept; right = right_left ws r r' l k.right }
-
--- the lists have the numbers of all waits that are ready
-pub covers_order : (objects : Objects) (ws : List (Option Wait)) (order : List ℕ) (index : List (List ℕ)) → AreIndexed ws order index → Covers order (record { objects = objects; waits = ws })
-covers_order objects ws order index a = record { each = λ n ready. a.order_all.each n (ready_pending objects.bodies (get_or ws n None) ready) }
-
-pub covers_slot : (objects : Objects) (slot : ℕ) (ws : List (Option Wait)) (order : List ℕ) (index : List (List ℕ)) → IsReadyAt slot objects.bodies ws → AreIndexed ws order index → Covers (numbers_of index slot) (record { objects = objects; waits = ws })
-covers_slot objects slot ws order index at a = record { each = λ n ready. (a.index_all slot).each n (at.each n ready) }
 
 -- a pending wait is answered
 pub fade_answered : (ws : List (Option Wait)) (n code : ℕ) → is_pending (get_or ws n None) ≡ true → Fade ws (set ws n (answered (get_or ws n None) code))

@@ -1,5 +1,5 @@
 -- Lists of numbers in order, among which are the numbers of some waits.
-use Rattle.std.specs.Prelude.{◌≡◌, ℕ, ◌-◌, ◌<◌, ◌≤◌, IfSome, ◌==◌, ◌&&◌, nat_lt, length, Bool, true, List, [], Option, Some, None, slice_index_or, filter}
+use Rattle.std.specs.Prelude.{◌≡◌, ℕ, ◌-◌, ◌<◌, ◌≤◌, IfSome, ◌==◌, ◌&&◌, nat_lt, length, Bool, true, List, [], Option, Some, None, slice_index_or}
 use Rattle.ob_waits.specs.declared.wait.Wait.{Wait}
 use Rattle.ob_waits.specs.Rules.{Within, IsRising}
 use Rattle.pin_core.specs.declared.id.Id.{Id}
@@ -44,9 +44,9 @@ pub record IsNextOf (last : ℕ) (lists : List (List ℕ)) (ids : List Id) (next
 abbrev pub ends_with : ℕ → List ℕ → Bool
 ends_with number numbers = nat_lt 0 (length numbers) && (slice_index_or numbers (length numbers - 1) 0 == number)
 
--- only the numbers of waits that are pending
-abbrev pub thinned : List (Option Wait) → List ℕ → List ℕ
-thinned waits numbers = filter (λ (n : ℕ). is_pending (slice_index_or waits n None)) numbers
+-- whether the wait of a number is pending
+abbrev pub has_pending : List (Option Wait) → ℕ → Bool
+has_pending waits number = is_pending (slice_index_or waits number None)
 
 -- a list without some numbers, none of them of a wait that is pending
 pub record Thins (waits : List (Option Wait)) (old new : List ℕ) : Type 0 where

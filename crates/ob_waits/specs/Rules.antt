@@ -1,5 +1,5 @@
 -- What waits keep, and what settling asks of them.
-use Rattle.std.specs.Prelude.{◌≡◌, ℕ, ◌+◌, ◌⊎◌, ◌<◌, ◌≤◌, nat_lt, is_some, true, false, List, [], ◌∷◌, Option, Some, None, length, slice_index_or}
+use Rattle.std.specs.Prelude.{◌≡◌, ℕ, ◌+◌, ◌⊎◌, ◌<◌, ◌≤◌, ◌==◌, Bool, nat_lt, is_some, true, false, List, [], ◌∷◌, Option, Some, None, length, slice_index_or}
 use Rattle.pin_core.specs.declared.id.Id.{Id}
 use Rattle.ob_body.specs.declared.body.Body.{Body}
 use Rattle.ob_waits.specs.declared.wait.Mode.{Mode}
@@ -7,8 +7,8 @@ use Rattle.ob_waits.specs.declared.wait.Mode.TheVariants.{All}
 use Rattle.ob_waits.specs.declared.wait.Wait.{Wait}
 use Rattle.ob_waits.specs.declared.wait.State.{State}
 use Rattle.ob_waits.specs.declared.wait.State.TheVariants.{Pending, Answered}
-use Rattle.ob_waits.specs.Objects.{Objects, slot_room}
-use Rattle.ob_waits.specs.Waits.{nowhere, Scene, is_ready, names_slot, names_one, ids_of}
+use Rattle.ob_waits.specs.Objects.{Objects, slot_room, slot_signaled}
+use Rattle.ob_waits.specs.Waits.{nowhere, Scene, is_pending, is_ready, names_one, ids_of}
 
 -- each object of a list has room for the thread
 pub record HasRoom (limit thread : ℕ) (bodies : List (Option Body)) (ids : List Id) : Type 0 where
@@ -58,11 +58,23 @@ pub record Fits (limit : ℕ) (bodies : List (Option Body)) (waits : List (Optio
 pub record IsSettled (bodies : List (Option Body)) (waits : List (Option Wait)) : Type 0 where
   pub each : (n : ℕ) → is_ready bodies (slice_index_or waits n None) ≡ false
 
--- each wait that is ready names the slot
-pub record IsReadyAt (slot : ℕ) (bodies : List (Option Body)) (waits : List (Option Wait)) : Type 0 where
-  pub each : (n : ℕ) → is_ready bodies (slice_index_or waits n None) ≡ true → names_slot slot (slice_index_or waits n None) ≡ true
+-- no wait was ready at some bodies, and since then only slots that pass the test came to be signaled for a thread
+pub record IsReadyBy (changed : ℕ → Bool) (bodies : List (Option Body)) (waits : List (Option Wait)) : Type 0 where
+  pub before : List (Option Body)
+  pub settled : IsSettled before waits
+  pub less : (t k : ℕ) → changed k ≡ false
+      → slot_signaled t (slice_index_or bodies k None) ≡ true → slot_signaled t (slice_index_or before k None) ≡ true
 
--- or the slot of one of some objects
+-- each wait that is ready is so by the slot
+abbrev pub IsReadyAt : ℕ → List (Option Body) → List (Option Wait) → Type 0
+IsReadyAt slot bodies waits = IsReadyBy (λ k. k == slot) bodies waits
+
+-- what is in the slot is signaled for no thread that has a pending wait
+abbrev pub IsSpent : List (Option Body) → List (Option Wait) → ℕ → Type 0
+IsSpent bodies waits slot = (n t : ℕ) → thread_of (slice_index_or waits n None) ≡ Some t
+    → is_pending (slice_index_or waits n None) ≡ true → slot_signaled t (slice_index_or bodies slot None) ≡ false
+
+-- each wait that is ready names the slot of one of some objects
 pub record IsReadyAtOne (ids : List Id) (bodies : List (Option Body)) (waits : List (Option Wait)) : Type 0 where
   pub each : (n : ℕ) → is_ready bodies (slice_index_or waits n None) ≡ true → names_one ids (slice_index_or waits n None) ≡ true
 

@@ -1,4 +1,4 @@
-ghost use Rattle.std.specs.Prelude.{◌≡◌, ◌<◌, ℕ, [], length, slice_index_or, OnOk};
+ghost use Rattle.std.specs.Prelude.{◌≡◌, ◌<◌, ◌≤◌, ℕ, [], length, slice_index_or, OnOk};
 ghost use Rattle.ob_waits.specs.Rules.{Within};
 ghost use Rattle.ob_waits.specs.Numbers.{numbers_of, AreOrdered, Keeps, ThinsEach};
 ghost use Rattle.ob_waits.specs.Waits.{nowhere};
@@ -46,18 +46,19 @@ impl Index {
         &[]
     }
 
-    /// Drops the numbers of a slot whose waits are not pending.
-    pub(crate) fn thin(&mut self, live: &Live, slot: u32)
+    /// Drops the numbers of a slot whose waits are not pending, of the first ones, so many.
+    pub(crate) fn thin(&mut self, live: &Live, slot: u32, count: usize)
+        requires { count ≤ length (numbers_of self.old slot) }
         ensures { ThinsEach live.now self.old self.new }
     {
         let at = slot as usize;
         if at < self.lists.len() {
             let numbers = &mut self.lists[at];
-            numbers.thin(live);
+            numbers.thin(live, count);
         }
     }
 
-    /// The same, where it is due.
+    /// Drops them all, where it is due.
     pub(crate) fn thin_if_due(&mut self, live: &Live, slot: u32)
         ensures { ThinsEach live.now self.old self.new }
     {
@@ -113,13 +114,14 @@ impl Index {
         Ok(())
     }
 
-    /// The same at the slot of each object.
+    /// Drops all that are not pending at the slot of each object.
     #[tactic(auto, using(crate::proofs::IndexLaws::thins_each_none, crate::proofs::IndexLaws::thins_each_both))]
     pub(crate) fn thin_each(&mut self, live: &Live, ids: &[Id])
         ensures { ThinsEach live.now self.old self.new }
     {
         for id in ids {
-            self.thin(live, id.slot);
+            let count = self.numbers(id.slot).len();
+            self.thin(live, id.slot, count);
         }
     }
 

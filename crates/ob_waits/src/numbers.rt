@@ -1,7 +1,7 @@
-ghost use Rattle.std.specs.Prelude.{[], ◌≡◌, ◌≤◌, ◌<◌, ℕ, List, Option, None, false, slice_index_or, OnOk};
+ghost use Rattle.std.specs.Prelude.{[], ◌≡◌, ◌≤◌, ◌<◌, ◌-◌, ◌++◌, ℕ, List, Option, None, drop, false, filter, length, slice_index_or, take, OnOk};
 ghost use Rattle.ob_waits.specs.declared.wait.Wait.{Wait};
 ghost use Rattle.ob_waits.specs.Waits.{is_pending};
-ghost use Rattle.ob_waits.specs.Numbers.{IsOrdered, ends_with, thinned, Thins};
+ghost use Rattle.ob_waits.specs.Numbers.{IsOrdered, ends_with, has_pending, Thins};
 ghost use Rattle.ob_waits.specs.Rules.{Within};
 
 use crate::live::Live;
@@ -9,18 +9,23 @@ use std::alloc::{AllocError, Global};
 use std::marker::Model;
 
 /// Numbers of waits, rising, among which are all of some that are pending.
+///
+/// Waits for one object are mostly answered from the front, so the numbers begin at a place that moves.
 #[derive(Drop)]
 pub(crate) struct Numbers {
     numbers: Vec<u32>,
+    start: usize,
     due: usize,
 }
 
 impl Model for Numbers {
-    ghost use Rattle.std.specs.Prelude.{List, ℕ};
+    ghost use Rattle.std.specs.Prelude.{List, ℕ, drop, length, ◌≤◌};
 
     ghost Value = { List ℕ };
 
-    ghost view = { λ r. r.numbers.items };
+    ghost view = { λ r. drop r.start r.numbers.items };
+
+    ghost invariant = { λ r. r.start ≤ length r.numbers.items };
 }
 
 fn ends_with(numbers: &[u32], number: u32) -> bool
@@ -32,12 +37,34 @@ fn ends_with(numbers: &[u32], number: u32) -> bool
     }
 }
 
+/// Of the numbers between two places, those of pending waits move to the end. Where they begin then.
+fn sift(numbers: &mut Vec<u32>, live: &Live, start: usize, end: usize) -> usize
+    requires some { start ≤ end }
+    requires within { end ≤ length numbers.old.items }
+    ensures long { length numbers.new.items ≡ length numbers.old.items }
+    ensures bound { result ≤ length numbers.old.items }
+    ensures sifted { drop result numbers.new.items ≡ filter (has_pending live.now) (take (end - start) (drop start numbers.old.items)) ++ drop end numbers.old.items }
+{
+    let mut to = end;
+    let mut at = end;
+    while at > start {
+        at -= 1;
+        let number = numbers[at];
+        if live.is_pending(number) {
+            to -= 1;
+            numbers[to] = number;
+        }
+    }
+    to
+}
+
 impl Numbers {
     pub(crate) fn new(alloc: Global) -> Numbers
         ensures { result ≡ [] }
     {
         Numbers {
             numbers: Vec::new(alloc),
+            start: 0,
             due: 8,
         }
     }
@@ -46,7 +73,7 @@ impl Numbers {
     pub(crate) fn as_slice(&self) -> &[u32]
         ensures { result.now ≡ self.now }
     {
-        self.numbers.as_slice()
+        &self.numbers.as_slice()[self.start..]
     }
 
     /// Puts a number in that is not below any that is there.
@@ -56,7 +83,7 @@ impl Numbers {
         ensures keeps { (k : ℕ) → Within k self.old → Within k self.new }
         ensures entered { OnOk result (Within number self.new) }
     {
-        if ends_with(self.numbers.as_slice(), number) {
+        if ends_with(self.as_slice(), number) {
             return Ok(());
         }
         self.numbers.push(number)?;
@@ -67,35 +94,56 @@ impl Numbers {
     pub(crate) fn forget(&mut self, number: u32)
         ensures { (waits : List (Option Wait)) → is_pending (slice_index_or waits number None) ≡ false → Thins waits self.old self.new }
     {
-        if !ends_with(self.numbers.as_slice(), number) {
+        if !ends_with(self.as_slice(), number) {
             return;
         }
         let _ = self.numbers.pop();
     }
 
-    fn drop_others(&mut self, live: &Live)
-        ensures { self.new ≡ thinned live.now self.old }
+    fn drop_others(&mut self, live: &Live, count: usize)
+        requires { count ≤ length self.old }
+        ensures { self.new ≡ filter (has_pending live.now) (take count self.old) ++ drop count self.old }
     {
-        self.numbers.retain(|number| live.is_pending(*number));
-        self.due = self.numbers.len().saturating_mul(2).saturating_add(8);
+        let start = self.start;
+        self.start = sift(&mut self.numbers, live, start, start + count);
+        if self.start == self.numbers.len() {
+            self.numbers.clear();
+            self.start = 0;
+        }
     }
 
-    /// Drops the numbers of waits that are not pending.
-    #[tactic(auto, using(crate::proofs::NumberLaws::thins_all))]
-    pub(crate) fn thin(&mut self, live: &Live)
+    /// Drops the numbers of waits that are not pending, of the first ones, so many.
+    #[tactic(auto, using(crate::proofs::NumberLaws::thins_front))]
+    pub(crate) fn thin(&mut self, live: &Live, count: usize)
+        requires { count ≤ length self.old }
         ensures { Thins live.now self.old self.new }
     {
-        self.drop_others(live);
+        self.drop_others(live, count);
     }
 
-    /// Drops them where it is due: once there are eight more than twice as many as were left the last time, so
+    /// Moves the numbers to the first place.
+    fn pack(&mut self)
+        ensures { self.new ≡ self.old }
+    {
+        let start = self.start;
+        let left = self.numbers.len() - start;
+        self.numbers.rotate_left(start);
+        self.numbers.truncate(left);
+        self.start = 0;
+    }
+
+    /// Drops them all where it is due: once there are eight more than twice as many as were left the last time, so
     /// that it costs constant time for each number, over all calls.
     #[tactic(auto, using(crate::proofs::NumberLaws::thins_none))]
     pub(crate) fn thin_if_due(&mut self, live: &Live)
         ensures { Thins live.now self.old self.new }
     {
-        if self.numbers.len() >= self.due {
-            self.thin(live);
+        if self.numbers.len() < self.due {
+            return;
         }
+        let count = self.numbers.len() - self.start;
+        self.thin(live, count);
+        self.pack();
+        self.due = self.numbers.len().saturating_mul(2).saturating_add(8);
     }
 }

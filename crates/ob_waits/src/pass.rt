@@ -1,7 +1,8 @@
-ghost use Rattle.std.specs.Prelude.{[], ◌∷◌, ◌≡◌, ◌<◌, true, None, Some, length, slice_index_or, slice_set};
+ghost use Rattle.std.specs.Prelude.{[], ◌∷◌, ◌≡◌, ◌<◌, ◌≤◌, true, false, None, Some, length, slice_index_or, slice_set};
 ghost use Rattle.ob_waits.specs.Objects.{without_blocks};
-ghost use Rattle.ob_waits.specs.Roster.{AreIndexed};
-ghost use Rattle.ob_waits.specs.Rules.{Fits, IsReadyAtOne};
+ghost use Rattle.ob_waits.specs.Numbers.{numbers_of};
+ghost use Rattle.ob_waits.specs.Roster.{AreIndexed, AreThreads, IsRight};
+ghost use Rattle.ob_waits.specs.Rules.{Covers, Fits, IsReadyAt, IsReadyAtOne, IsRising, IsSpent};
 ghost use Rattle.ob_waits.specs.Waits.{passed, settled};
 
 use crate::bodies::Bodies;
@@ -44,13 +45,54 @@ fn take_effect<B: Bodies>(live: &mut Live, bodies: &mut B, number: u32)
 
 /// The waits of these numbers take effect, in this order, where they are ready when their turn comes.
 pub(crate) fn pass<B: Bodies>(live: &mut Live, bodies: &mut B, numbers: &[u32])
-    requires { Fits RECURSION_MAX (B.objects bodies.old).bodies live.old }
+    requires fits { Fits RECURSION_MAX (B.objects bodies.old).bodies live.old }
+    requires rising { IsRising numbers.now }
+    requires covers { Covers numbers.now (record { objects = B.objects bodies.old; waits = live.old }) }
     ensures rest { B.rest bodies.new ≡ B.rest bodies.old }
-    ensures scene { record { objects = B.objects bodies.new; waits = live.new } ≡ passed numbers.now (record { objects = B.objects bodies.old; waits = live.old }) }
+    ensures scene { record { objects = B.objects bodies.new; waits = live.new } ≡ settled (record { objects = B.objects bodies.old; waits = live.old }) }
 {
     for number in numbers {
         take_effect(live, bodies, *number);
     }
+}
+
+/// Whether an object may be signaled for a thread whose wait is pending.
+fn is_open<B: Bodies>(live: &Live, bodies: &B, roster: &Roster, id: Id) -> bool
+    requires { AreThreads live.now roster.now.threads }
+    ensures { result ≡ false → IsSpent (B.objects bodies.now).bodies live.now id.slot }
+{
+    let Some(body) = bodies.body(id) else {
+        return false;
+    };
+    match body.owner() {
+        Some(owner) => live.is_pending(roster.number_of(owner)),
+        None => body.signaled_for(0),
+    }
+}
+
+/// The waits for an object in the slot take effect where they are ready, in the order of their numbers, until
+/// nobody who waits can have the object any more. How many were looked at.
+pub(crate) fn pass_slot<B: Bodies>(
+    live: &mut Live,
+    bodies: &mut B,
+    roster: &Roster,
+    id: Id,
+) -> usize
+    requires fits { Fits RECURSION_MAX (B.objects bodies.old).bodies live.old }
+    requires right { IsRight live.old roster.now }
+    requires ready { IsReadyAt id.slot (B.objects bodies.old).bodies live.old }
+    ensures rest { B.rest bodies.new ≡ B.rest bodies.old }
+    ensures scene { record { objects = B.objects bodies.new; waits = live.new } ≡ settled (record { objects = B.objects bodies.old; waits = live.old }) }
+    ensures bound { result ≤ length (numbers_of roster.now.index id.slot) }
+{
+    let numbers = roster.numbers(id.slot);
+    for (at, number) in numbers.iter().enumerate() {
+        if at > 0 && !is_open(live, bodies, roster, id) {
+            return at;
+        }
+        take_effect(live, bodies, *number);
+    }
+    numbers.len()
 }
 
 /// The waits for an object in the slots of these take effect where they are ready, in the order of their

@@ -1,4 +1,4 @@
-ghost use Rattle.std.specs.Prelude.{[], ◌≡◌, ◌<◌, ℕ, List, Option, None, false, length, slice_index_or, OnOk};
+ghost use Rattle.std.specs.Prelude.{[], ◌≡◌, ◌<◌, ◌≤◌, ℕ, List, Option, None, false, length, slice_index_or, OnOk};
 ghost use Rattle.ob_waits.specs.declared.wait.Wait.{Wait};
 ghost use Rattle.ob_waits.specs.Waits.{is_pending};
 ghost use Rattle.ob_waits.specs.Numbers.{IsNextOf, numbers_of};
@@ -112,7 +112,8 @@ impl Roster {
     pub(crate) fn thin(&mut self, live: &Live)
         ensures { Leaves live.now self.old self.new }
     {
-        self.order.thin(live);
+        let count = self.order.as_slice().len();
+        self.order.thin(live, count);
     }
 
     /// Drops the number of a wait that is not pending, where it is the last.
@@ -122,11 +123,12 @@ impl Roster {
         self.order.forget(number);
     }
 
-    /// Drops them at a slot alone.
-    pub(crate) fn thin_slot(&mut self, live: &Live, slot: u32)
+    /// Drops them at a slot alone, of the first ones, so many.
+    pub(crate) fn thin_slot(&mut self, live: &Live, slot: u32, count: usize)
+        requires { count ≤ length (numbers_of self.old.index slot) }
         ensures { Leaves live.now self.old self.new }
     {
-        self.index.thin(live, slot);
+        self.index.thin(live, slot, count);
     }
 
     /// Drops them at the slots of some objects.

@@ -12,7 +12,7 @@ use crate::deadlines::Deadlines;
 use crate::ids::Ids;
 use crate::live::Live;
 use crate::overdue::next_overdue;
-use crate::pass::{pass, pass_each};
+use crate::pass::{pass, pass_each, pass_slot};
 use crate::roster::Roster;
 use crate::wait::{Mode, State, Wait, WaitState};
 use ob_body::RECURSION_MAX;
@@ -31,12 +31,12 @@ use std::marker::Model;
 /// [`drop_thread`](Waits::drop_thread) and [`take_result`](Waits::take_result) do no more.
 ///
 /// Beside these there is a list of wait numbers for each slot, and one for all. Such a list has the numbers of
-/// all pending waits for its objects, and may have others, until a settling that goes over it drops them, or an
+/// all pending waits for its objects, and may have others, until a settling that looks at them drops them, or an
 /// `add` that finds eight more than twice as many there as were left the last time. So `add` costs constant
 /// time for each object that it lists, amortised over all calls, beside the growth of the tables to the
 /// greatest thread number and slot that a wait had.
-/// [`settle_after`](Waits::settle_after) and [`blocks_of`](Waits::blocks_of) go over the list of one slot,
-/// [`settle`](Waits::settle) over the one for all.
+/// [`settle_after`](Waits::settle_after) looks at the list of one slot up to the last wait that it satisfies, and
+/// [`blocks_of`](Waits::blocks_of) goes over all of it, [`settle`](Waits::settle) over the list for all.
 #[derive(Drop)]
 pub struct Waits {
     limit: u32,
@@ -197,8 +197,9 @@ impl Waits {
         self.roster.thin(&self.live);
     }
 
-    /// The same as [`settle`](Waits::settle) where each wait that is satisfied names the slot of this
-    /// object, as after a change of its body in a settled state. It looks at no other wait.
+    /// The same as [`settle`](Waits::settle) where each wait that is satisfied is so by the slot of this object,
+    /// as after a change of its body in a settled state. It looks at the waits for this object alone, by their
+    /// numbers, until nobody who waits could have the object any more.
     #[inline(never)]
     pub fn settle_after<B: Bodies>(&mut self, bodies: &mut B, id: Id)
         requires room { WaitsHaveRoom RECURSION_MAX (B.objects bodies.old).bodies self.old.waits }
@@ -210,8 +211,8 @@ impl Waits {
         ensures settled { IsSettled (B.objects bodies.new).bodies self.new.waits }
         ensures room { (limit : ℕ) → WaitsHaveRoom limit (B.objects bodies.old).bodies self.old.waits → WaitsHaveRoom limit (B.objects bodies.new).bodies self.new.waits }
     {
-        pass(&mut self.live, bodies, self.roster.numbers(id.slot));
-        self.roster.thin_slot(&self.live, id.slot);
+        let looked = pass_slot(&mut self.live, bodies, &self.roster, id);
+        self.roster.thin_slot(&self.live, id.slot, looked);
     }
 
     /// The same where each wait that is satisfied names the slot of one of these objects, as after changes of

@@ -1,38 +1,27 @@
-use Rattle.std.proofs.Common.{ap, subst, sym, ◌∙◌}
-use Rattle.ob_waits.specs.Rules.{WaitsHaveRoom}
-use Rattle.ob_waits.specs.Waits.{Scene, WaitList, settled}
-use Rattle.ob_waits.proofs.SettleLaws.{order_settles, tracked_after, settled_after, room_settled}
-use Rattle.ob_waits.proofs.DeadlineLaws.{timely_settled}
+use Rattle.std.proofs.Common.{List, ℕ, ap, subst, sym, ◌∙◌}
+use Rattle.ob_waits.specs.Rules.{Covers, IsRising, WaitsHaveRoom}
+use Rattle.ob_waits.specs.Waits.{WaitList, settled}
+use Rattle.ob_waits.proofs.SettleLaws.{kept_after, settled_after, room_settled}
+use Rattle.ob_waits.proofs.PassLaws.{covers_order}
 use Rattle.ob_waits.proofs.waits.Waits.settle.Goals as goal
 
+pub pass-requires-clause-rising : goal.pass-requires-clause-rising
+pass-requires-clause-rising g c = subst IsRising (sym c.order.ensures) c.self.invariant.0.right.lists.order_rises.rising
+
+pub pass-requires-clause-covers : goal.pass-requires-clause-covers
+pass-requires-clause-covers g c = subst (λ (ns : List ℕ). Covers ns (record { objects = g.B.Bodies.objects c.args.bodies.now; waits = c.self.inside.live })) (sym c.order.ensures)
+    (covers_order (g.B.Bodies.objects c.args.bodies.now) c.self.inside.live c.self.inside.roster.order c.self.inside.roster.index c.self.invariant.0.right.lists)
+
 pub invariant_of-self : goal.invariant_of-self
-invariant_of-self g c =
-    let before = g.B.Bodies.objects c.args.bodies.now in
-    let after = g.B.Bodies.objects c.pass.new.bodies in
-    let scene : Scene = record { objects = after; waits = c.pass.new.live } in
-    let value = order_settles before c.self.inside.live c.self.inside.roster.order c.self.inside.roster.index scene c.self.invariant.0.right.lists c.order.result.now c.order.ensures c.pass.ensures.scene in
-    (tracked_after before after c.self.inside.live c.pass.new.live value c.self.inside.limit c.self.inside.roster c.thin.new.self c.thin.ensures c.self.invariant.0, timely_settled c.self.inside.clock before after c.self.inside.live c.pass.new.live c.self.inside.deadlines value c.self.invariant.1)
+invariant_of-self g c = kept_after (g.B.Bodies.objects c.args.bodies.now) (g.B.Bodies.objects c.pass.new.bodies) c.self.inside.live c.pass.new.live c.pass.ensures.scene
+    c.self.inside.limit c.self.inside.clock _ _ _ c.thin.ensures c.self.invariant
 
 pub returns-clause-value : goal.returns-clause-value
-returns-clause-value g c =
-    let before = g.B.Bodies.objects c.args.bodies.now in
-    let after = g.B.Bodies.objects c.pass.new.bodies in
-    let scene : Scene = record { objects = after; waits = c.pass.new.live } in
-    let value = order_settles before c.self.inside.live c.self.inside.roster.order c.self.inside.roster.index scene c.self.invariant.0.right.lists c.order.result.now c.order.ensures c.pass.ensures.scene in
-    value ∙ ap (λ (l : WaitList). settled (record { objects = before; waits = l.waits })) c.self.view_is
+returns-clause-value g c = c.pass.ensures.scene ∙ ap (λ (l : WaitList). settled (record { objects = g.B.Bodies.objects c.args.bodies.now; waits = l.waits })) c.self.view_is
 
 pub returns-clause-settled : goal.returns-clause-settled
-returns-clause-settled g c =
-    let before = g.B.Bodies.objects c.args.bodies.now in
-    let after = g.B.Bodies.objects c.pass.new.bodies in
-    let scene : Scene = record { objects = after; waits = c.pass.new.live } in
-    let value = order_settles before c.self.inside.live c.self.inside.roster.order c.self.inside.roster.index scene c.self.invariant.0.right.lists c.order.result.now c.order.ensures c.pass.ensures.scene in
-    settled_after before after c.self.inside.live c.pass.new.live value
+returns-clause-settled g c = settled_after (g.B.Bodies.objects c.args.bodies.now) (g.B.Bodies.objects c.pass.new.bodies) c.self.inside.live c.pass.new.live c.pass.ensures.scene
 
 pub returns-clause-room : goal.returns-clause-room
-returns-clause-room g c limit h =
-    let before = g.B.Bodies.objects c.args.bodies.now in
-    let after = g.B.Bodies.objects c.pass.new.bodies in
-    let scene : Scene = record { objects = after; waits = c.pass.new.live } in
-    let value = order_settles before c.self.inside.live c.self.inside.roster.order c.self.inside.roster.index scene c.self.invariant.0.right.lists c.order.result.now c.order.ensures c.pass.ensures.scene in
-    room_settled before after c.self.inside.live c.pass.new.live value limit c.self.invariant.0.kept (subst (λ (l : WaitList). WaitsHaveRoom limit before.bodies l.waits) (sym c.self.view_is) h)
+returns-clause-room g c limit h = room_settled (g.B.Bodies.objects c.args.bodies.now) (g.B.Bodies.objects c.pass.new.bodies) c.self.inside.live c.pass.new.live c.pass.ensures.scene
+    limit c.self.invariant.0.kept (subst (λ (l : WaitList). WaitsHaveRoom limit (g.B.Bodies.objects c.args.bodies.now).bodies l.waits) (sym c.self.view_is) h)

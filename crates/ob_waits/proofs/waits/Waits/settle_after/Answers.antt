@@ -1,42 +1,19 @@
 use Rattle.std.proofs.Common.{ap, subst, sym, ◌∙◌}
-use Rattle.ob_waits.specs.Rules.{IsReadyAt, WaitsHaveRoom}
-use Rattle.ob_waits.specs.Waits.{Scene, WaitList, settled}
-use Rattle.ob_waits.proofs.SettleLaws.{slot_settles, tracked_after, settled_after, room_settled}
-use Rattle.ob_waits.proofs.DeadlineLaws.{timely_settled}
+use Rattle.ob_waits.specs.Rules.{WaitsHaveRoom}
+use Rattle.ob_waits.specs.Waits.{WaitList, settled}
+use Rattle.ob_waits.proofs.SettleLaws.{kept_after, settled_after, room_settled}
 use Rattle.ob_waits.proofs.waits.Waits.settle_after.Goals as goal
 
 pub invariant_of-self : goal.invariant_of-self
-invariant_of-self g c =
-    let before = g.B.Bodies.objects c.args.bodies.now in
-    let after = g.B.Bodies.objects c.pass.new.bodies in
-    let scene : Scene = record { objects = after; waits = c.pass.new.live } in
-    let ready : IsReadyAt c.args.id.slot before.bodies c.self.inside.live = subst (λ (l : WaitList). IsReadyAt c.args.id.slot before.bodies l.waits) (sym c.self.view_is) c.requires.ready in
-    let value = slot_settles before c.self.inside.live c.self.inside.roster.order c.self.inside.roster.index scene c.self.invariant.0.right.lists c.args.id.slot c.numbers.result.now c.numbers.ensures ready c.pass.ensures.scene in
-    (tracked_after before after c.self.inside.live c.pass.new.live value c.self.inside.limit c.self.inside.roster c.thin_slot.new.self c.thin_slot.ensures c.self.invariant.0, timely_settled c.self.inside.clock before after c.self.inside.live c.pass.new.live c.self.inside.deadlines value c.self.invariant.1)
+invariant_of-self g c = kept_after (g.B.Bodies.objects c.args.bodies.now) (g.B.Bodies.objects c.pass_slot-looked.new.bodies) c.self.inside.live c.pass_slot-looked.new.live c.pass_slot-looked.ensures.scene
+    c.self.inside.limit c.self.inside.clock _ _ _ c.thin_slot.ensures c.self.invariant
 
 pub returns-clause-value : goal.returns-clause-value
-returns-clause-value g c =
-    let before = g.B.Bodies.objects c.args.bodies.now in
-    let after = g.B.Bodies.objects c.pass.new.bodies in
-    let scene : Scene = record { objects = after; waits = c.pass.new.live } in
-    let ready : IsReadyAt c.args.id.slot before.bodies c.self.inside.live = subst (λ (l : WaitList). IsReadyAt c.args.id.slot before.bodies l.waits) (sym c.self.view_is) c.requires.ready in
-    let value = slot_settles before c.self.inside.live c.self.inside.roster.order c.self.inside.roster.index scene c.self.invariant.0.right.lists c.args.id.slot c.numbers.result.now c.numbers.ensures ready c.pass.ensures.scene in
-    value ∙ ap (λ (l : WaitList). settled (record { objects = before; waits = l.waits })) c.self.view_is
+returns-clause-value g c = c.pass_slot-looked.ensures.scene ∙ ap (λ (l : WaitList). settled (record { objects = g.B.Bodies.objects c.args.bodies.now; waits = l.waits })) c.self.view_is
 
 pub returns-clause-settled : goal.returns-clause-settled
-returns-clause-settled g c =
-    let before = g.B.Bodies.objects c.args.bodies.now in
-    let after = g.B.Bodies.objects c.pass.new.bodies in
-    let scene : Scene = record { objects = after; waits = c.pass.new.live } in
-    let ready : IsReadyAt c.args.id.slot before.bodies c.self.inside.live = subst (λ (l : WaitList). IsReadyAt c.args.id.slot before.bodies l.waits) (sym c.self.view_is) c.requires.ready in
-    let value = slot_settles before c.self.inside.live c.self.inside.roster.order c.self.inside.roster.index scene c.self.invariant.0.right.lists c.args.id.slot c.numbers.result.now c.numbers.ensures ready c.pass.ensures.scene in
-    settled_after before after c.self.inside.live c.pass.new.live value
+returns-clause-settled g c = settled_after (g.B.Bodies.objects c.args.bodies.now) (g.B.Bodies.objects c.pass_slot-looked.new.bodies) c.self.inside.live c.pass_slot-looked.new.live c.pass_slot-looked.ensures.scene
 
 pub returns-clause-room : goal.returns-clause-room
-returns-clause-room g c limit h =
-    let before = g.B.Bodies.objects c.args.bodies.now in
-    let after = g.B.Bodies.objects c.pass.new.bodies in
-    let scene : Scene = record { objects = after; waits = c.pass.new.live } in
-    let ready : IsReadyAt c.args.id.slot before.bodies c.self.inside.live = subst (λ (l : WaitList). IsReadyAt c.args.id.slot before.bodies l.waits) (sym c.self.view_is) c.requires.ready in
-    let value = slot_settles before c.self.inside.live c.self.inside.roster.order c.self.inside.roster.index scene c.self.invariant.0.right.lists c.args.id.slot c.numbers.result.now c.numbers.ensures ready c.pass.ensures.scene in
-    room_settled before after c.self.inside.live c.pass.new.live value limit c.self.invariant.0.kept (subst (λ (l : WaitList). WaitsHaveRoom limit before.bodies l.waits) (sym c.self.view_is) h)
+returns-clause-room g c limit h = room_settled (g.B.Bodies.objects c.args.bodies.now) (g.B.Bodies.objects c.pass_slot-looked.new.bodies) c.self.inside.live c.pass_slot-looked.new.live c.pass_slot-looked.ensures.scene
+    limit c.self.invariant.0.kept (subst (λ (l : WaitList). WaitsHaveRoom limit (g.B.Bodies.objects c.args.bodies.now).bodies l.waits) (sym c.self.view_is) h)
