@@ -8,8 +8,8 @@ ghost use Rattle.ob_manager.specs.Counting.{card};
 ghost use Rattle.ob_manager.specs.Steps.{Step};
 ghost use Rattle.ob_shared.specs.Closing.{AreWhole, IsCause};
 ghost use Rattle.ob_shared.specs.Journal.{IsHistory, replay};
-ghost use Rattle.ob_shared.specs.Lanes.{Enacts};
 
+use crate::asked::Asked;
 use crate::closing::{CloseCause, cause_of};
 use crate::lane::Lane;
 use ob_manager::{Call, Card, Manager, Reply, Stored};
@@ -39,8 +39,8 @@ impl Entry {
     }
 }
 
-/// That a call was entered in a journal, with the call and its reply. Only a [`Book`] that enters a call makes one, and it can't be
-/// copied.
+/// That a call was entered in a journal, with the call. Only what a [`Book`] says of a call that it entered makes one, and it
+/// can't be copied.
 #[derive(Drop)]
 pub struct Receipt {
     entry: Entry,
@@ -60,6 +60,54 @@ impl Receipt {
         ensures { result.now ≡ self.now }
     {
         &self.entry
+    }
+}
+
+/// That a call was entered in a journal, without the call, which its caller still has. Only a [`Book`] that enters a
+/// call makes one, and it can be neither copied nor let go (it isn't `Drop`): whatever was entered for a lane is listed
+/// in one.
+pub(crate) struct Entered {
+    lane: u32,
+    asked: Asked,
+    reply: Reply,
+}
+
+impl Model for Entered {
+    ghost use Rattle.ob_shared.specs.declared.book.Entry.{Entry};
+
+    ghost Value = { Entry };
+
+    ghost view = { λ entered. record { lane = entered.lane; call = entered.asked.call; reply = entered.reply } };
+}
+
+impl Entered {
+    /// The receipt, with the call that was entered.
+    #[inline(always)]
+    fn receipt(self, call: Call) -> Receipt
+        requires { call ≡ self.call }
+        ensures { result ≡ self }
+    {
+        let Entered {
+            lane,
+            asked: _,
+            reply,
+        } = self;
+        Receipt {
+            entry: Entry { lane, call, reply },
+        }
+    }
+
+    /// Lists the call that was entered, where there is room for one, and gives its reply.
+    #[inline(always)]
+    pub(crate) fn list(self, receipts: &mut Vec<Receipt>, call: Call) -> Reply
+        requires call { call ≡ self.call }
+        requires room { vec_len receipts.old < vec_capacity receipts.old }
+        ensures listed { receipts.new.items ≡ receipts.old.items ++ self ∷ [] }
+        ensures reply { result ≡ self.reply }
+    {
+        let reply = self.reply;
+        receipts.push_reserved(self.receipt(call));
+        reply
     }
 }
 
@@ -104,52 +152,32 @@ impl<K: PinKeeper> Book<K> {
         ensures memory { IfErr result (λ fault. (fault ≡ Memory) × (self.new ≡ self.old)) }
     {
         let copy = call.copy(self.alloc)?;
-        self.enact_with(lane, call, copy)
+        let entered = self.enter(lane, &call, copy)?;
+        Ok(entered.receipt(call))
     }
 
-    /// The same with a copy for the journal that was made before.
+    /// The same with a copy for the journal that was made before. The receipt can be made later.
     #[inline(always)]
     #[tactic(auto, using(crate::proofs::Journals::history_next))]
-    fn enact_with(&mut self, lane: u32, call: Call, copy: Call) -> Result<Receipt, Fault>
-        requires { copy ≡ call }
-        ensures entered { IfOk result (λ receipt. self.new.journal ≡ self.old.journal ++ receipt ∷ []) }
-        ensures entry { IfOk result (λ receipt. (receipt.lane ≡ lane) × (receipt.call ≡ call)) }
-        ensures step { IfOk result (λ receipt. Step self.old.manager call receipt.reply self.new.manager) }
+    pub(crate) fn enter(&mut self, lane: u32, call: &Call, copy: Call) -> Result<Entered, Fault>
+        requires { copy ≡ call.now }
+        ensures entered { IfOk result (λ entered. self.new.journal ≡ self.old.journal ++ entered ∷ []) }
+        ensures entry { IfOk result (λ entered. (entered.lane ≡ lane) × (entered.call ≡ call.now)) }
+        ensures step { IfOk result (λ entered. Step self.old.manager call.now entered.reply self.new.manager) }
         ensures memory { IfErr result (λ fault. (fault ≡ Memory) × (self.new ≡ self.old)) }
     {
         self.journal.reserve(1)?;
-        let reply = self.manager.apply(&call);
+        let reply = self.manager.apply(call);
         self.journal.push_reserved(Entry {
             lane,
             call: copy,
             reply,
         });
-        Ok(Receipt {
-            entry: Entry { lane, call, reply },
+        Ok(Entered {
+            lane,
+            asked: Asked::of(call),
+            reply,
         })
-    }
-
-    /// Makes a call of a lane, enters it, and lists its receipt in the lane; its reply. Where memory is wanting the answer is 8, and
-    /// nothing is changed, entered or listed.
-    #[inline(always)]
-    #[tactic(auto, using(crate::proofs::LaneLists::are_of_more))]
-    pub(crate) fn enact_in(&mut self, lane: &mut Lane, call: Call, copy: Call) -> Reply
-        requires { copy ≡ call }
-        ensures enacted { Enacts self.old lane.old call result self.new lane.new }
-    {
-        if lane.list.reserve(1).is_err() {
-            drop(call);
-            drop(copy);
-            return Reply::Refused(Fault::Memory);
-        }
-        match self.enact_with(lane.number, call, copy) {
-            Ok(receipt) => {
-                let reply = receipt.entry.reply;
-                lane.list.push_reserved(receipt);
-                reply
-            }
-            Err(fault) => Reply::Refused(fault),
-        }
     }
 
     /// Whether the manager says that a wait is pending.

@@ -13,6 +13,7 @@
 #![tactic(auto)]
 
 mod act;
+mod asked;
 mod book;
 mod closing;
 mod comparing;

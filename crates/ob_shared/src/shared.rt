@@ -1,6 +1,6 @@
 ghost use Rattle.std.specs.Prelude.{◌≡◌};
 
-use crate::book::{Book, Entry};
+use crate::book::{Book, Entered, Entry};
 use crate::closing::CloseCause;
 use crate::lane::Lane;
 use ob_manager::{Call, Card, Manager, Reply};
@@ -125,40 +125,79 @@ impl Shared {
 
     /// Makes a call, enters it in the journal, and lists it in its lane. Where memory is wanting before the manager is asked the
     /// answer is 8, and nothing is changed, entered or listed; an 8 of the manager's own is entered and listed as each refusal.
+    #[inline(always)]
+    #[tactic(auto, using(crate::proofs::LaneLists::are_of_more))]
     pub fn call<R: Wait>(&self, rt: &R, lane: &mut Lane, call: Call) -> Reply
         ensures listed { Lists lane.old call result lane.new }
         ensures number { lane.new.number ≡ lane.old.number }
     {
-        // (copied before the lock is taken, so that others wait less)
-        match call.copy(self.alloc) {
-            Ok(copy) => self.enact(rt, lane, call, copy),
-            Err(_) => {
+        if lane.list.reserve(1).is_err() {
+            drop(call);
+            return Reply::Refused(Fault::Memory);
+        }
+        match self.enter(rt, lane.number, &call) {
+            Ok(entered) => entered.list(&mut lane.list, call),
+            Err(fault) => {
                 drop(call);
-                Reply::Refused(Fault::Memory)
+                Reply::Refused(fault)
             }
         }
     }
 
-    /// The same with a copy for the journal.
+    /// Makes a call of a lane, and enters it in the journal. The refusal is want of memory (8), and nothing is entered.
     #[inline(never)]
-    fn enact<R: Wait>(&self, rt: &R, lane: &mut Lane, call: Call, copy: Call) -> Reply
-        requires { copy ≡ call }
-        ensures listed { Lists lane.old call result lane.new }
+    fn enter<R: Wait>(&self, rt: &R, lane: u32, call: &Call) -> Result<Entered, Fault>
+        ensures entry { IfOk result (λ entered. (entered.lane ≡ lane) × (entered.call ≡ call.now)) }
+        ensures memory { IfErr result (λ fault. fault ≡ Memory) }
+    {
+        // (copied before the lock is taken, so that others wait less)
+        if call.is_plain() {
+            return self.enter_with(rt, lane, call, call.plain_copy());
+        }
+        self.copy_and_enter(rt, lane, call)
+    }
+
+    /// The same of a create, an open or a wait, whose name or handles are copied first.
+    #[inline(never)]
+    fn copy_and_enter<R: Wait>(&self, rt: &R, lane: u32, call: &Call) -> Result<Entered, Fault>
+        ensures entry { IfOk result (λ entered. (entered.lane ≡ lane) × (entered.call ≡ call.now)) }
+        ensures memory { IfErr result (λ fault. fault ≡ Memory) }
+    {
+        let copy = call.copy(self.alloc)?;
+        self.enter_with(rt, lane, call, copy)
+    }
+
+    /// The same with the copy for the journal.
+    #[inline(always)]
+    fn enter_with<R: Wait>(
+        &self,
+        rt: &R,
+        lane: u32,
+        call: &Call,
+        copy: Call,
+    ) -> Result<Entered, Fault>
+        requires { copy ≡ call.now }
+        ensures entry { IfOk result (λ entered. (entered.lane ≡ lane) × (entered.call ≡ call.now)) }
+        ensures memory { IfErr result (λ fault. fault ≡ Memory) }
     {
         let mut held = self.lock(rt);
-        let reply = held.book.enact_in(lane, call, copy);
+        let answer = held.book.enter(lane, call, copy);
         let waiting = held.waiting;
         drop(held);
         self.tell(waiting);
-        reply
+        answer
     }
 
     /// Waits until a wait is no longer pending, and then asks for its result, under the same lock. It may wait forever.
+    #[tactic(auto, using(crate::proofs::LaneLists::are_of_more))]
     pub fn block<R: Wait>(&self, rt: &R, lane: &mut Lane, wait: u32) -> Reply
         ensures listed { Lists lane.old (calls.WaitResult wait) result lane.new }
         ensures answered { (w : ℕ) → result ≢ replies.Pending w }
         ensures number { lane.new.number ≡ lane.old.number }
     {
+        if lane.list.reserve(1).is_err() {
+            return Reply::Refused(Fault::Memory);
+        }
         let mut held = self.lock(rt);
         held.waiting = held.waiting.saturating_add(1);
         let mut held = self.changed.wait_while(
@@ -171,11 +210,17 @@ impl Shared {
         held.waiting = held.waiting.saturating_sub(1);
         let ask = Call::WaitResult { wait };
         let copy = Call::WaitResult { wait };
-        let reply = held.book.enact_in(lane, ask, copy);
+        let answer = held.book.enter(lane.number, &ask, copy);
         let waiting = held.waiting;
         drop(held);
         self.tell(waiting);
-        reply
+        match answer {
+            Ok(entered) => entered.list(&mut lane.list, ask),
+            Err(fault) => {
+                drop(ask);
+                Reply::Refused(fault)
+            }
+        }
     }
 
     /// Tells those who wait that the book has changed.

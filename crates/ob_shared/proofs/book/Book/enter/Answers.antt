@@ -4,7 +4,7 @@ use Rattle.ob_manager.specs.Steps.{Step}
 use Rattle.ob_shared.specs.declared.book.Entry.{Entry}
 use Rattle.ob_shared.specs.Journal.{IsHistory}
 use Rattle.ob_shared.proofs.Journals.{history_next}
-use Rattle.ob_shared.proofs.book.Book.enact_with.Goals as goal
+use Rattle.ob_shared.proofs.book.Book.enter.Goals as goal
 
 pub invariant_of-self-2 : goal.invariant_of-self-2
 invariant_of-self-2 g c =
