@@ -12,7 +12,7 @@ pub record SignaledState : Type 0 where
 abbrev pub none_signaled : SignaledState
 none_signaled = record { ids = []; whole = true }
 
--- to settle by the waits for these slots is enough: each wait that is ready names one of them
+-- to settle by the waits for these slots is enough: each wait that is ready is so by one of them
 pub record IsEnough (a : SignaledState) (bodies : List (Option Body)) (waits : List (Option Wait)) : Type 0 where
   pub each : a.whole ≡ true → IsReadyAtOne a.ids bodies waits
 

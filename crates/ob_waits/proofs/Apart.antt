@@ -1,5 +1,5 @@
 -- A wait is ready or not by the bodies of the slots that it names; so after a change in some slots, only waits that name one can become ready.
-use Rattle.std.proofs.Common.{◌≡◌, ℕ, zero, suc, ◌<◌, List, [], ◌∷◌, length, Option, Some, None, refl, ap, ◌∙◌, sym, arith, get_or, set, Bool, true, false, eqb, ltb}
+use Rattle.std.proofs.Common.{◌≡◌, ℕ, zero, suc, ◌<◌, List, [], ◌∷◌, length, Option, Some, None, refl, ap, ◌∙◌, sym, subst, arith, get_or, set, Bool, true, false, eqb, ltb}
 use Rattle.std.specs.List.{position_or_len, list_any, list_all}
 use Rattle.std.proofs.lemmas.Bool.Decides.{nat_tests}
 use Rattle.std.proofs.lemmas.List.{get_or-set_other}
@@ -12,7 +12,7 @@ use Rattle.ob_waits.specs.declared.wait.State.{State}
 use Rattle.ob_waits.specs.declared.wait.State.TheVariants.{Pending, Answered}
 use Rattle.ob_waits.specs.Objects.{slot_signaled}
 use Rattle.ob_waits.specs.Rules.{IsSettled, IsReadyAt, IsReadyAtOne}
-use Rattle.ob_waits.specs.Waits.{nowhere, is_ready, state_ready, list_ready, is_signaled, first_signaled, names_slot, names_one, state_ids}
+use Rattle.ob_waits.specs.Waits.{nowhere, is_ready, state_ready, list_ready, is_signaled, first_signaled, has_slot, names_slot, state_ids}
 
 abbrev pub in_slot : ℕ → Id → Bool
 in_slot k id = eqb id.slot k
@@ -92,16 +92,10 @@ ready_at_change bodies waits k x settled = record {
 }
 
 -- some slots changed
-one_named : (w : Option Wait) (ids : List Id) (i : ℕ) → i < length ids → names_slot (get_or ids i nowhere).slot w ≡ true → names_one ids w ≡ true
-one_named w [] i lt named = absurd (omega arith)
-one_named w (x ∷ xs) zero lt named = grind (arith, named)
-one_named w (x ∷ xs) (suc i) lt named = let later : names_one xs w ≡ true = one_named w xs i (omega arith) named in grind (arith, later)
-
 pub ready_at_changes : (bodies after : List (Option Body)) (waits : List (Option Wait)) (ids : List Id) →
     ((k : ℕ) → ((i : ℕ) → i < length ids → (get_or ids i nowhere).slot ≡ k → ⊥) → get_or after k None ≡ get_or bodies k None) → IsSettled bodies waits → IsReadyAtOne ids after waits
 ready_at_changes bodies after waits ids same settled = record {
-  each = λ n ready. not_false _ (λ none.
-      let e = ready_same bodies after (get_or waits n None) (λ k named. same k (λ i lt at.
-      let h = one_named (get_or waits n None) ids i lt (ap (λ j. names_slot j (get_or waits n None)) at ∙ named) in absurd (cc (h, none)))) in
-      let q = settled.each n in absurd (cc (e, q, ready)));
+  before = bodies;
+  settled = settled;
+  less = λ t k out signaled. sym (ap (slot_signaled t) (same k (λ i lt at. let some : has_slot ids k ≡ true = subst (λ j. has_slot ids j ≡ true) at (named_at ids i lt) in cc (some, out)))) ∙ signaled;
 }

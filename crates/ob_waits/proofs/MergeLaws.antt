@@ -1,17 +1,19 @@
 -- Settling over the numbers of several slots: always the least number above the last one takes effect next.
-use Rattle.std.proofs.Common.{◌≡◌, ℕ, zero, suc, ◌<◌, ◌≤◌, List, [], ◌∷◌, length, Some, None, ap, ◌∙◌, sym, arith, get_or, true, false, inl, inr, leb, leb-true}
+use Rattle.std.proofs.Common.{◌≡◌, ℕ, zero, suc, ◌<◌, ◌≤◌, List, [], ◌∷◌, length, Some, None, ap, ◌∙◌, sym, subst, arith, eqb, get_or, Option, true, false, inl, inr, leb, leb-true}
 use Rattle.std.specs.List.Sorted.{IsPartitionedBy, IsPartitionPoint}
 use Rattle.std.proofs.lemmas.List.{get_or_default}
 use Rattle.std.proofs.lemmas.List.Sorted.{IsPartitionedBy-leb}
 use Rattle.std.proofs.lemmas.Bool.Decides.{nat_tests}
 use Rattle.std.proofs.lemmas.Bool.{cases_eq, cases_lt}
 use Rattle.pin_core.specs.declared.id.Id.{Id}
-use Rattle.ob_waits.specs.Numbers.{IsNext, IsNextOf, numbers_of}
-use Rattle.ob_waits.specs.Rules.{Within, IsRising, IsReadyAtOne}
+use Rattle.ob_waits.specs.Numbers.{AtMost, IsNext, IsNextOf, numbers_of}
+use Rattle.ob_waits.specs.Objects.{slot_signaled}
+use Rattle.ob_waits.specs.Rules.{Within, IsRising, IsReadyAtOne, IsReadyBy, IsSettled}
 use Rattle.ob_waits.specs.Roster.{AreIndexed}
-use Rattle.ob_waits.specs.Waits.{nowhere, Scene, is_ready, names_slot, passed, settled}
-use Rattle.ob_waits.proofs.Settling.{not_true, settled_same}
-use Rattle.ob_waits.proofs.PassLaws.{steps}
+use Rattle.ob_waits.specs.Waits.{nowhere, Scene, has_slot, ids_of, is_ready, names_slot, passed, settled}
+use Rattle.ob_waits.proofs.Keeping.{passed_fades}
+use Rattle.ob_waits.proofs.Settling.{not_true, ready_pending}
+use Rattle.ob_waits.proofs.PassLaws.{any_from, by_passed, steps, unready}
 use Rattle.ob_waits.proofs.AddedLaws.{any_at}
 use Rattle.ob_waits.proofs.NumberLaws.{within_at}
 
@@ -52,33 +54,61 @@ module _ (ns : List ℕ) (last at : ℕ) (rising : IsRising ns) (point : IsParti
   pub next_none : length ns ≤ at → IsNext last ns None
   next_none past = record { above = tt; least = λ k w above. let i = from_there k w above in let a = i.1 in let b = i.2 in absurd (omega (arith, a, b, past)) }
 
--- what is ready stands above the last number, among the numbers of the slots
+-- what is ready is so by one of the slots, and stands above the last number; the slots have the numbers of all waits that name them
 pub record Remains (last : ℕ) (lists : List (List ℕ)) (ids : List Id) (s : Scene) : Type 0 where
-  pub each : (k : ℕ) → is_ready s.objects.bodies (get_or s.waits k None) ≡ true → (last < k) × (i : ℕ) × (i < length ids) × Within k (numbers_of lists (get_or ids i nowhere).slot)
+  pub above : (k : ℕ) → is_ready s.objects.bodies (get_or s.waits k None) ≡ true → last < k
+  pub by : IsReadyBy (has_slot ids) s.objects.bodies s.waits
+  pub listed : (slot k : ℕ) → names_slot slot (get_or s.waits k None) ≡ true → Within k (numbers_of lists slot)
 
 pub remains_first : (ids : List Id) (order : List ℕ) (lists : List (List ℕ)) (s : Scene) → get_or s.waits 0 None ≡ None → AreIndexed s.waits order lists → IsReadyAtOne ids s.objects.bodies s.waits → Remains 0 lists ids s
 remains_first ids order lists s none a at = record {
-  each = λ k ready.
-      let some = any_at (λ (id : Id). names_slot id.slot (get_or s.waits k None)) nowhere ids (at.each k ready) in
-      (above k ready, some.0, some.1, (a.index_all (get_or ids some.0 nowhere).slot).each k some.2);
+  above = λ k ready. elim (cases_eq k 0) [
+    | inl same ↦ absurd (let e : is_ready s.objects.bodies (get_or s.waits k None) ≡ false = ap (λ i. is_ready s.objects.bodies (get_or s.waits i None)) same ∙ ap (is_ready s.objects.bodies) none in cc (e, ready))
+    | inr other ↦ omega (arith, other)
+  ];
+  by = at;
+  listed = λ slot k named. (a.index_all slot).each k named;
 }
-  where
-    above : (k : ℕ) → is_ready s.objects.bodies (get_or s.waits k None) ≡ true → 0 < k
-    above k ready = elim (cases_eq k 0) [
-      | inl same ↦ absurd (let e : is_ready s.objects.bodies (get_or s.waits k None) ≡ false = ap (λ i. is_ready s.objects.bodies (get_or s.waits i None)) same ∙ ap (is_ready s.objects.bodies) none in cc (e, ready))
-      | inr other ↦ omega (arith, other)
-    ]
 
--- the next number takes effect, where it is ready
 pub record Goes (m : ℕ) (lists : List (List ℕ)) (ids : List Id) (s after : Scene) : Type 0 where
   pub same : settled after ≡ settled s
+  pub was : (k : ℕ) → is_ready after.objects.bodies (get_or after.waits k None) ≡ true → is_ready s.objects.bodies (get_or s.waits k None) ≡ true
   pub remains : Remains m lists ids after
 
-pub goes : (last m : ℕ) (lists : List (List ℕ)) (ids : List Id) (s : Scene) → Remains last lists ids s → IsNextOf last lists ids (Some m) → Goes m lists ids s (passed (m ∷ []) s)
-goes last m lists ids s r next =
-    let step = steps m s (λ k ready. let at = r.each k ready in next.least at.1 k at.2 at.3 at.0) in
-    record { same = step.same; remains = record { each = λ k ready. let l = step.later k ready in let at = r.each k l.0 in (l.1, at.1, at.2, at.3) } }
+module _ (last : ℕ) (lists : List (List ℕ)) (ids : List Id) (s : Scene) (r : Remains last lists ids s) where
+  -- nothing that is ready is below the next number
+  not_below : (next : Option ℕ) → IsNextOf last lists s ids next → (k : ℕ) → (AtMost next k → ⊥) → is_ready s.objects.bodies (get_or s.waits k None) ≡ false
+  not_below next is k below = not_true _ (λ ready.
+      let w = get_or s.waits k None in
+      let un = unready (has_slot ids) s.objects.bodies s.waits r.by k (λ t i own lt changed.
+      let slot = (get_or (ids_of w) i nowhere).slot in
+      let some = any_at (λ (id : Id). eqb id.slot slot) nowhere ids changed in
+      let same : (get_or ids some.0 nowhere).slot ≡ slot = grind (arith, nat_tests, some.2) in
+      let named : names_slot slot w ≡ true = any_from (λ (id : Id). eqb id.slot slot) (ids_of w) i lt (let e : eqb slot slot ≡ true = grind (arith, nat_tests) in e) in
+      elim (is.least some.0 k some.1 (subst (λ j. Within k (numbers_of lists j)) (sym same) (r.listed slot k named)) (r.above k ready)) [
+        | inl least ↦ absurd (below least)
+        | inr spent ↦ subst (λ j. slot_signaled t (get_or s.objects.bodies j None) ≡ false) same (spent k t own (ready_pending s.objects.bodies w ready))
+      ]) in
+      cc (un, ready))
 
--- no number is left
-pub all_gone : (last : ℕ) (lists : List (List ℕ)) (ids : List Id) (s : Scene) → Remains last lists ids s → IsNextOf last lists ids None → settled s ≡ s
-all_gone last lists ids s r next = settled_same s (record { each = λ k. not_true _ (λ ready. let at = r.each k ready in next.least at.1 k at.2 at.3 at.0) })
+  -- the next number takes effect, where it is ready
+  pub goes : (m : ℕ) → IsNextOf last lists s ids (Some m) → Goes m lists ids s (passed (m ∷ []) s)
+  goes m is =
+      let step = steps m s (λ k ready. elim (cases_lt k m) [
+        | inl lt ↦ absurd (let none = not_below (Some m) is k (λ le. omega (arith, le, lt)) in cc (none, ready))
+        | inr le ↦ le
+      ]) in
+      let fade = passed_fades (m ∷ []) s in
+      record {
+        same = step.same;
+        was = λ k ready. (step.later k ready).0;
+        remains = record {
+          above = λ k ready. (step.later k ready).1;
+          by = by_passed (has_slot ids) m s r.by;
+          listed = λ slot k named. r.listed slot k ((fade.each k).names slot named);
+        };
+      }
+
+  -- no number is left
+  pub all_gone : IsNextOf last lists s ids None → IsSettled s.objects.bodies s.waits
+  all_gone is = record { each = λ k. not_below None is k (λ none. none) }

@@ -157,6 +157,17 @@ thins_front waits count numbers new is = subst (λ ns. Thins waits numbers ns) (
   keeps = λ k passes w. within_sifted (has_pending waits) k count numbers passes w;
 })
 
+-- a first number whose wait is not pending leaves
+pub thins_first : (waits : List (Option Wait)) (ns : List ℕ) (i : ℕ) → i < length ns → is_pending (get_or waits (get_or ns i 0) None) ≡ false → Thins waits (drop i ns) (drop (i + 1) ns)
+thins_first waits ns i lt over = subst (λ (old : List ℕ). Thins waits old (drop (i + 1) ns)) (sym (drop_more ns i 0 lt)) (record {
+  rising = λ r. r.1;
+  only = λ k w. inr w;
+  keeps = λ k pending w. elim w [
+    | inl same ↦ absurd (let e : is_pending (get_or waits k None) ≡ false = ap (λ n. is_pending (get_or waits n None)) same ∙ over in cc (e, pending))
+    | inr later ↦ later
+  ];
+})
+
 pub thins_both : (waits : List (Option Wait)) (a b c : List ℕ) → Thins waits a b → Thins waits b c → Thins waits a c
 thins_both waits a b c x y = record { rising = λ r. y.rising (x.rising r); only = λ k i. x.only k (y.only k i); keeps = λ k p i. y.keeps k p (x.keeps k p i) }
 

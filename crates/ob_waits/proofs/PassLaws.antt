@@ -90,7 +90,7 @@ pub covered_all : (ns : List ℕ) (i : ℕ) (s : Scene) → length ns ≤ i → 
 covered_all ns i s past covers = settled_same s (record { each = λ k. not_true _ (λ ready. subst (λ (xs : List ℕ). Within k xs) (drop_all i ns past) (covers.each k ready)) })
 
 -- some element passes
-any_from : (p : Id → Bool) (xs : List Id) (i : ℕ) → i < length xs → p (get_or xs i nowhere) ≡ true → list_any p xs ≡ true
+pub any_from : (p : Id → Bool) (xs : List Id) (i : ℕ) → i < length xs → p (get_or xs i nowhere) ≡ true → list_any p xs ≡ true
 any_from p [] i lt h = absurd (omega arith)
 any_from p (x ∷ xs) zero lt h = grind (arith, h)
 any_from p (x ∷ xs) (suc i) lt h = let later : list_any p xs ≡ true = any_from p xs i (omega (arith, lt)) h in grind (arith, later)
@@ -101,7 +101,7 @@ not_false false h = absurd (h refl)
 
 module _ (changed : ℕ → Bool) (bodies : List (Option Body)) (ws : List (Option Wait)) (by : IsReadyBy changed bodies ws) where
   -- a wait isn't ready where each changed slot that it names is signaled for its thread in vain
-  unready : (n : ℕ) → ((t i : ℕ) → thread_of (get_or ws n None) ≡ Some t → i < length (ids_of (get_or ws n None)) → changed (get_or (ids_of (get_or ws n None)) i nowhere).slot ≡ true
+  pub unready : (n : ℕ) → ((t i : ℕ) → thread_of (get_or ws n None) ≡ Some t → i < length (ids_of (get_or ws n None)) → changed (get_or (ids_of (get_or ws n None)) i nowhere).slot ≡ true
       → slot_signaled t (get_or bodies (get_or (ids_of (get_or ws n None)) i nowhere).slot None) ≡ false) → is_ready bodies (get_or ws n None) ≡ false
   unready n none = not_true _ (λ ready.
       let w = get_or ws n None in

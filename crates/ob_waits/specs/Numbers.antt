@@ -1,9 +1,9 @@
 -- Lists of numbers in order, among which are the numbers of some waits.
-use Rattle.std.specs.Prelude.{◌≡◌, ℕ, ◌-◌, ◌<◌, ◌≤◌, IfSome, ◌==◌, ◌&&◌, nat_lt, length, Bool, true, List, [], Option, Some, None, slice_index_or}
+use Rattle.std.specs.Prelude.{◌≡◌, ℕ, ◌-◌, ◌<◌, ◌≤◌, ◌⊎◌, IfSome, ◌==◌, ◌&&◌, nat_lt, length, Bool, true, List, [], Option, Some, None, slice_index_or}
 use Rattle.ob_waits.specs.declared.wait.Wait.{Wait}
-use Rattle.ob_waits.specs.Rules.{Within, IsRising}
+use Rattle.ob_waits.specs.Rules.{Within, IsRising, IsSpent}
 use Rattle.pin_core.specs.declared.id.Id.{Id}
-use Rattle.ob_waits.specs.Waits.{nowhere, is_pending}
+use Rattle.ob_waits.specs.Waits.{nowhere, Scene, is_pending}
 
 -- the numbers rise, and none is above the last
 pub record IsOrdered (last : ℕ) (numbers : List ℕ) : Type 0 where
@@ -35,10 +35,11 @@ pub record IsNext (last : ℕ) (numbers : List ℕ) (next : Option ℕ) : Type 0
   pub above : IfSome next (λ n. last < n)
   pub least : (k : ℕ) → Within k numbers → last < k → AtMost next k
 
--- the same of the numbers of some objects' slots
-pub record IsNextOf (last : ℕ) (lists : List (List ℕ)) (ids : List Id) (next : Option ℕ) : Type 0 where
+-- the same of the numbers of some objects' slots, but of those that have nothing for who waits
+pub record IsNextOf (last : ℕ) (lists : List (List ℕ)) (scene : Scene) (ids : List Id) (next : Option ℕ) : Type 0 where
   pub above : IfSome next (λ n. last < n)
-  pub least : (i k : ℕ) → i < length ids → Within k (numbers_of lists (slice_index_or ids i nowhere).slot) → last < k → AtMost next k
+  pub least : (i k : ℕ) → i < length ids → Within k (numbers_of lists (slice_index_or ids i nowhere).slot) → last < k
+      → AtMost next k ⊎ IsSpent scene.objects.bodies scene.waits (slice_index_or ids i nowhere).slot
 
 -- whether a number is the last of a list
 abbrev pub ends_with : ℕ → List ℕ → Bool

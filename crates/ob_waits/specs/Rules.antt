@@ -8,7 +8,7 @@ use Rattle.ob_waits.specs.declared.wait.Wait.{Wait}
 use Rattle.ob_waits.specs.declared.wait.State.{State}
 use Rattle.ob_waits.specs.declared.wait.State.TheVariants.{Pending, Answered}
 use Rattle.ob_waits.specs.Objects.{Objects, slot_room, slot_signaled}
-use Rattle.ob_waits.specs.Waits.{nowhere, Scene, is_pending, is_ready, names_one, ids_of}
+use Rattle.ob_waits.specs.Waits.{nowhere, Scene, has_slot, is_pending, is_ready, ids_of}
 
 -- each object of a list has room for the thread
 pub record HasRoom (limit thread : ℕ) (bodies : List (Option Body)) (ids : List Id) : Type 0 where
@@ -69,14 +69,14 @@ pub record IsReadyBy (changed : ℕ → Bool) (bodies : List (Option Body)) (wai
 abbrev pub IsReadyAt : ℕ → List (Option Body) → List (Option Wait) → Type 0
 IsReadyAt slot bodies waits = IsReadyBy (λ k. k == slot) bodies waits
 
+-- or by the slot of one of some objects
+abbrev pub IsReadyAtOne : List Id → List (Option Body) → List (Option Wait) → Type 0
+IsReadyAtOne ids bodies waits = IsReadyBy (has_slot ids) bodies waits
+
 -- what is in the slot is signaled for no thread that has a pending wait
 abbrev pub IsSpent : List (Option Body) → List (Option Wait) → ℕ → Type 0
 IsSpent bodies waits slot = (n t : ℕ) → thread_of (slice_index_or waits n None) ≡ Some t
     → is_pending (slice_index_or waits n None) ≡ true → slot_signaled t (slice_index_or bodies slot None) ≡ false
-
--- each wait that is ready names the slot of one of some objects
-pub record IsReadyAtOne (ids : List Id) (bodies : List (Option Body)) (waits : List (Option Wait)) : Type 0 where
-  pub each : (n : ℕ) → is_ready bodies (slice_index_or waits n None) ≡ true → names_one ids (slice_index_or waits n None) ≡ true
 
 -- a list of numbers has this one
 abbrev pub Within : ℕ → List ℕ → Type 0

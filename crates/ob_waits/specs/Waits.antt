@@ -131,13 +131,13 @@ abbrev pub ids_of : Option Wait → List Id
 ids_of None = []
 ids_of (Some wait) = state_ids wait.state
 
+-- whether one of some objects is in a slot
+abbrev pub has_slot : List Id → ℕ → Bool
+has_slot ids slot = list_any (λ (id : Id). id.slot == slot) ids
+
 -- whether a pending wait names a slot
 abbrev pub names_slot : ℕ → Option Wait → Bool
-names_slot slot wait = list_any (λ (id : Id). id.slot == slot) (ids_of wait)
-
--- or the slot of one of some objects
-abbrev pub names_one : List Id → Option Wait → Bool
-names_one ids wait = list_any (λ (id : Id). names_slot id.slot wait) ids
+names_slot slot wait = has_slot (ids_of wait) slot
 
 -- how many places of pending waits name an object
 abbrev pub blocks_in : Id → Option Wait → ℕ

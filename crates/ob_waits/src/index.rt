@@ -114,14 +114,24 @@ impl Index {
         Ok(())
     }
 
-    /// Drops all that are not pending at the slot of each object.
+    /// Drops the first numbers of a slot as far as their waits are not pending.
+    fn advance(&mut self, live: &Live, slot: u32)
+        ensures { ThinsEach live.now self.old self.new }
+    {
+        let at = slot as usize;
+        if at < self.lists.len() {
+            let numbers = &mut self.lists[at];
+            numbers.advance(live);
+        }
+    }
+
+    /// The same at the slot of each object.
     #[tactic(auto, using(crate::proofs::IndexLaws::thins_each_none, crate::proofs::IndexLaws::thins_each_both))]
     pub(crate) fn thin_each(&mut self, live: &Live, ids: &[Id])
         ensures { ThinsEach live.now self.old self.new }
     {
         for id in ids {
-            let count = self.numbers(id.slot).len();
-            self.thin(live, id.slot, count);
+            self.advance(live, id.slot);
         }
     }
 

@@ -16,6 +16,7 @@ mod law;
 mod live;
 mod merge;
 mod numbers;
+mod open;
 mod overdue;
 mod pass;
 mod places;

@@ -1,8 +1,12 @@
-ghost use Rattle.std.specs.Prelude.{◌≡◌, ◌⊎◌, ℕ};
+ghost use Rattle.std.specs.Prelude.{◌≡◌, ◌⊎◌, ◌<◌, ℕ, IfSome};
 ghost use Rattle.ob_waits.specs.Numbers.{IsNext, IsNextOf, AtMost, numbers_of};
-ghost use Rattle.ob_waits.specs.Rules.{IsRising, Within};
+ghost use Rattle.ob_waits.specs.Roster.{IsRight};
+ghost use Rattle.ob_waits.specs.Rules.{IsRising, IsSpent, Within};
 
-use crate::index::Index;
+use crate::bodies::Bodies;
+use crate::live::Live;
+use crate::open::is_open;
+use crate::roster::Roster;
 use pin_core::Id;
 
 /// The least number above the last one, of numbers that rise.
@@ -30,14 +34,32 @@ fn lesser(first: Option<u32>, second: Option<u32>) -> Option<u32>
     }
 }
 
-/// The least number above the last one, of the numbers of some objects' slots.
-pub(crate) fn next_number(index: &Index, ids: &[Id], last: u32) -> Option<u32>
-    requires { (slot : ℕ) → IsRising (numbers_of index.now slot) }
-    ensures { IsNextOf last index.now ids.now result }
+/// The least number above the last one, of the numbers of an object's slot: none where it has nothing for who waits.
+fn next_open<B: Bodies>(live: &Live, bodies: &B, roster: &Roster, id: Id, last: u32) -> Option<u32>
+    requires right { IsRight live.now roster.now }
+    ensures above { IfSome result (λ n. last < n) }
+    ensures least { (k : ℕ) → Within k (numbers_of roster.now.index id.slot) → last < k → AtMost result k ⊎ IsSpent (B.objects bodies.now).bodies live.now id.slot }
+{
+    if !is_open(live, bodies, roster, id) {
+        return None;
+    }
+    next_of(roster.numbers(id.slot), last)
+}
+
+/// The same of some objects.
+pub(crate) fn next_number<B: Bodies>(
+    live: &Live,
+    bodies: &B,
+    roster: &Roster,
+    ids: &[Id],
+    last: u32,
+) -> Option<u32>
+    requires { IsRight live.now roster.now }
+    ensures { IsNextOf last roster.now.index (record { objects = B.objects bodies.now; waits = live.now }) ids.now result }
 {
     let mut least = None;
     for id in ids {
-        least = lesser(least, next_of(index.numbers(id.slot), last));
+        least = lesser(least, next_open(live, bodies, roster, *id, last));
     }
     least
 }

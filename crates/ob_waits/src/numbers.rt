@@ -121,6 +121,15 @@ impl Numbers {
         self.drop_others(live, count);
     }
 
+    /// Drops the first numbers as far as their waits are not pending.
+    pub(crate) fn advance(&mut self, live: &Live)
+        ensures { Thins live.now self.old self.new }
+    {
+        while self.start < self.numbers.len() && !live.is_pending(self.numbers[self.start]) {
+            self.start += 1;
+        }
+    }
+
     /// Moves the numbers to the first place.
     fn pack(&mut self)
         ensures { self.new ≡ self.old }

@@ -1,12 +1,14 @@
 ghost use Rattle.std.specs.Prelude.{[], ◌∷◌, ◌≡◌, ◌<◌, ◌≤◌, true, false, None, Some, length, slice_index_or, slice_set};
 ghost use Rattle.ob_waits.specs.Objects.{without_blocks};
 ghost use Rattle.ob_waits.specs.Numbers.{numbers_of};
-ghost use Rattle.ob_waits.specs.Roster.{AreIndexed, AreThreads, IsRight};
-ghost use Rattle.ob_waits.specs.Rules.{Covers, Fits, IsReadyAt, IsReadyAtOne, IsRising, IsSpent};
+ghost use Rattle.ob_waits.specs.Roster.{IsRight};
+ghost use Rattle.ob_waits.specs.Rules.{Covers, Fits, IsReadyAt, IsReadyAtOne, IsRising, IsSettled};
 ghost use Rattle.ob_waits.specs.Waits.{passed, settled};
 
 use crate::bodies::Bodies;
 use crate::live::Live;
+use crate::merge::next_number;
+use crate::open::is_open;
 use crate::roster::Roster;
 use crate::take::try_now;
 use crate::wait::State;
@@ -56,20 +58,6 @@ pub(crate) fn pass<B: Bodies>(live: &mut Live, bodies: &mut B, numbers: &[u32])
     }
 }
 
-/// Whether an object may be signaled for a thread whose wait is pending.
-fn is_open<B: Bodies>(live: &Live, bodies: &B, roster: &Roster, id: Id) -> bool
-    requires { AreThreads live.now roster.now.threads }
-    ensures { result ≡ false → IsSpent (B.objects bodies.now).bodies live.now id.slot }
-{
-    let Some(body) = bodies.body(id) else {
-        return false;
-    };
-    match body.owner() {
-        Some(owner) => live.is_pending(roster.number_of(owner)),
-        None => body.signaled_for(0),
-    }
-}
-
 /// The waits for an object in the slot take effect where they are ready, in the order of their numbers, until
 /// nobody who waits can have the object any more. How many were looked at.
 pub(crate) fn pass_slot<B: Bodies>(
@@ -96,18 +84,47 @@ pub(crate) fn pass_slot<B: Bodies>(
 }
 
 /// The waits for an object in the slots of these take effect where they are ready, in the order of their
-/// numbers over all these slots together.
+/// numbers over all these slots together, until so many were looked at. Whether no more is ready.
+fn pass_some<B: Bodies>(
+    live: &mut Live,
+    bodies: &mut B,
+    roster: &Roster,
+    ids: &[Id],
+    count: usize,
+) -> bool
+    requires fits { Fits RECURSION_MAX (B.objects bodies.old).bodies live.old }
+    requires right { IsRight live.old roster.now }
+    requires zero { slice_index_or live.old 0 None ≡ None }
+    requires ready { IsReadyAtOne ids.now (B.objects bodies.old).bodies live.old }
+    ensures rest { B.rest bodies.new ≡ B.rest bodies.old }
+    ensures fits { Fits RECURSION_MAX (B.objects bodies.new).bodies live.new }
+    ensures covers { Covers roster.now.order (record { objects = B.objects bodies.new; waits = live.new }) }
+    ensures same { settled (record { objects = B.objects bodies.new; waits = live.new }) ≡ settled (record { objects = B.objects bodies.old; waits = live.old }) }
+    ensures all { result ≡ true → IsSettled (B.objects bodies.new).bodies live.new }
+{
+    let mut last = 0;
+    for _ in 0..count {
+        let Some(number) = next_number(live, bodies, roster, ids, last) else {
+            return true;
+        };
+        take_effect(live, bodies, number);
+        last = number;
+    }
+    false
+}
+
+/// The same of all of them. Where that would look at more numbers than there are waits, the rest settles by the
+/// waits of all slots.
 pub(crate) fn pass_each<B: Bodies>(live: &mut Live, bodies: &mut B, roster: &Roster, ids: &[Id])
     requires fits { Fits RECURSION_MAX (B.objects bodies.old).bodies live.old }
-    requires indexed { AreIndexed live.old roster.now.order roster.now.index }
+    requires right { IsRight live.old roster.now }
     requires zero { slice_index_or live.old 0 None ≡ None }
     requires ready { IsReadyAtOne ids.now (B.objects bodies.old).bodies live.old }
     ensures rest { B.rest bodies.new ≡ B.rest bodies.old }
     ensures scene { record { objects = B.objects bodies.new; waits = live.new } ≡ settled (record { objects = B.objects bodies.old; waits = live.old }) }
 {
-    let mut last = 0;
-    while let Some(number) = roster.next(ids, last) {
-        take_effect(live, bodies, number);
-        last = number;
+    let order = roster.order();
+    if !pass_some(live, bodies, roster, ids, order.len() / ids.len().max(1)) {
+        pass(live, bodies, order);
     }
 }

@@ -1,13 +1,11 @@
 ghost use Rattle.std.specs.Prelude.{[], ◌≡◌, ◌<◌, ◌≤◌, ℕ, List, Option, None, false, length, slice_index_or, OnOk};
 ghost use Rattle.ob_waits.specs.declared.wait.Wait.{Wait};
 ghost use Rattle.ob_waits.specs.Waits.{is_pending};
-ghost use Rattle.ob_waits.specs.Numbers.{IsNextOf, numbers_of};
-ghost use Rattle.ob_waits.specs.Rules.{IsRising};
+ghost use Rattle.ob_waits.specs.Numbers.{numbers_of};
 ghost use Rattle.ob_waits.specs.Roster.{IsRight, HasPlace, Leaves, with_number};
 
 use crate::index::Index;
 use crate::live::Live;
-use crate::merge::next_number;
 use crate::numbers::Numbers;
 use crate::threads::Threads;
 use pin_core::Id;
@@ -62,23 +60,6 @@ impl Roster {
         self.index.numbers(slot)
     }
 
-    /// The least number above the last one, of the numbers of some objects' slots.
-    pub(crate) fn next(&self, ids: &[Id], last: u32) -> Option<u32>
-        requires { (slot : ℕ) → IsRising (numbers_of self.now.index slot) }
-        ensures { IsNextOf last self.now.index ids.now result }
-    {
-        next_number(&self.index, ids, last)
-    }
-
-    /// Whether it is less work to go over all numbers than over those of some objects' slots together.
-    pub(crate) fn is_order_shorter(&self, ids: &[Id]) -> bool {
-        let mut entries: usize = 0;
-        for id in ids {
-            entries = entries.saturating_add(self.numbers(id.slot).len());
-        }
-        entries.saturating_mul(ids.len()) > self.order.as_slice().len()
-    }
-
     /// Takes all memory that a thread's wait for these objects needs here.
     pub(crate) fn make_room(
         &mut self,
@@ -131,7 +112,7 @@ impl Roster {
         self.index.thin(live, slot, count);
     }
 
-    /// Drops them at the slots of some objects.
+    /// Drops them at the slots of some objects, from the front.
     pub(crate) fn thin_slots(&mut self, live: &Live, ids: &[Id])
         ensures { Leaves live.now self.old self.new }
     {

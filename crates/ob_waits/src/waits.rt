@@ -215,13 +215,13 @@ impl Waits {
         self.roster.thin_slot(&self.live, id.slot, looked);
     }
 
-    /// The same where each wait that is satisfied names the slot of one of these objects, as after changes of
-    /// their bodies in a settled state. The waits take effect in the order of their numbers over all these
-    /// slots together: to settle after one object and then after the next would be another order.
+    /// The same where each wait that is satisfied is so by the slot of one of these objects, as after changes of
+    /// their bodies in a settled state. The waits take effect in the order of their numbers over all these slots
+    /// together: to settle after one object and then after the next would be another order.
     ///
-    /// It takes no memory. With `n` numbers in the lists of `k` slots it finds the next number at most `n`
-    /// times, in `k` lists by halving, and looks at no other wait; where the list for all has less than `n * k`
-    /// numbers it goes over that one.
+    /// It takes no memory. For each wait that it looks at it finds the next number among `k` slots, by halving in
+    /// the lists of those whose object somebody who waits could still have; where it has looked at a `k`th of the
+    /// list for all it goes over that one.
     pub fn settle_after_each<B: Bodies>(&mut self, bodies: &mut B, ids: &[Id])
         requires room { WaitsHaveRoom RECURSION_MAX (B.objects bodies.old).bodies self.old.waits }
         requires ready { IsReadyAtOne ids.now (B.objects bodies.old).bodies self.old.waits }
@@ -232,10 +232,6 @@ impl Waits {
         ensures settled { IsSettled (B.objects bodies.new).bodies self.new.waits }
         ensures room { (limit : ℕ) → WaitsHaveRoom limit (B.objects bodies.old).bodies self.old.waits → WaitsHaveRoom limit (B.objects bodies.new).bodies self.new.waits }
     {
-        if self.roster.is_order_shorter(ids) {
-            self.settle(bodies);
-            return;
-        }
         pass_each(&mut self.live, bodies, &self.roster, ids);
         self.roster.thin_slots(&self.live, ids);
     }

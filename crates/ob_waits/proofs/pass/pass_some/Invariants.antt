@@ -1,16 +1,16 @@
-use Rattle.std.proofs.Common.{◌≡◌, ◌-◌}
-use Rattle.ob_waits.specs.Rules.{Fits}
+use Rattle.std.proofs.Common.{◌≡◌}
+use Rattle.ob_waits.specs.Rules.{Covers, Fits}
 use Rattle.ob_waits.specs.Waits.{Scene, settled}
+use Rattle.ob_waits.proofs.Keeping.{Fade}
 use Rattle.ob_waits.proofs.MergeLaws.{Remains}
-use Rattle.ob_waits.proofs.pass.pass_each.Given as goal
+use Rattle.ob_waits.proofs.pass.pass_some.Given as goal
 
-abbrev pub invariant-loop-number : goal.invariant-loop-number
-invariant-loop-number g l = record {
+abbrev pub invariant-loop : goal.invariant-loop
+invariant-loop g l = record {
   same : ◌≡◌ {A = Scene} (settled (record { objects = g.B.Bodies.objects l.bodies; waits = l.live })) (settled (record { objects = g.B.Bodies.objects l.fn.bodies; waits = l.fn.live }));
   rest : g.B.Bodies.rest l.bodies ≡ g.B.Bodies.rest l.fn.bodies;
+  covers : Covers l.roster.order (record { objects = g.B.Bodies.objects l.bodies; waits = l.live });
   remains : Remains l.last l.roster.index l.ids (record { objects = g.B.Bodies.objects l.bodies; waits = l.live });
   fits : Fits 2147483647 (g.B.Bodies.objects l.bodies).bodies l.live;
+  fade : Fade l.fn.live l.live;
 }
-
-abbrev pub decreases-loop-number : goal.decreases-loop-number
-decreases-loop-number g l = 4294967296 - l.last
