@@ -1,10 +1,10 @@
 //! Rows that several crates' tests play.
-use crate::ask::Ask::{
+use crate::ask::{Line, PLAIN};
+use crate::step::Step;
+use ob_manager::CallOf::{
     Child, CloseHandle, Counts, Duplicate, Expire, MakeEvent, MakeMutex, MakeSemaphore, OpenNamed,
     Reap, ReleaseMutex, ReleaseSemaphore, SetEvent, Spawn, StartThread, WaitFor, WaitResult,
 };
-use crate::ask::{Line, PLAIN};
-use crate::step::Step;
 use ob_manager::Reply::{
     Closed, Code, CountsAre, Done, Duplicated, Exists, Expired, Made, Opened, Pending, Previous,
     Reaped, Refused, Spawned, Started,

@@ -13,11 +13,11 @@ mod store;
 mod timing;
 mod waiting;
 
-use call_tables::Ask::{
+use call_tables::{Line, PLAIN, Step};
+use ob_manager::CallOf::{
     CloseHandle, Counts, MakeEvent, MakeMutex, MakeSemaphore, OpenNamed, Reap, ReleaseMutex,
     ReleaseSemaphore, ResetEvent, SetEvent, Spawn, StartThread,
 };
-use call_tables::{Line, PLAIN, Step};
 use ob_manager::Reply::{
     Closed, CountsAre, Done, Exists, Made, Opened, Previous, Reaped, Refused, Spawned, Started,
 };

@@ -7,7 +7,7 @@ use Rattle.ob_rights.specs.declared.fault.Fault.TheVariants as fault
 use Rattle.ob_waits.specs.declared.wait.Mode.{Mode}
 use Rattle.ob_store.specs.State.{State, Whole}
 use Rattle.ob_manager.specs.declared.waiting.Timeout.{Timeout}
-use Rattle.ob_manager.specs.declared.call.Call.TheVariants as calls
+use Rattle.ob_manager.specs.declared.call.CallOf.TheVariants as calls
 use Rattle.ob_manager.specs.declared.reply.Reply.{Reply}
 use Rattle.ob_manager.specs.Outcomes.{◌>>=◌, refuse_if}
 use Rattle.ob_manager.specs.Checks.{caller}

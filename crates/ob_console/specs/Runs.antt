@@ -8,7 +8,7 @@ use Rattle.pin_words.specs.Keepers.{IsFresh}
 use Rattle.ob_store.specs.declared.limits.Limits.{Limits}
 use Rattle.ob_store.specs.State.{Whole, opening, shape_of}
 use Rattle.ob_store.specs.Directory.{directory_of}
-use Rattle.ob_manager.specs.declared.call.Call.{Call}
+use Rattle.ob_manager.specs.Calls.{Call}
 use Rattle.ob_manager.specs.declared.reply.Reply.{Reply}
 use Rattle.ob_manager.specs.Reaping.{IfReap, IfReaped}
 use Rattle.ob_manager.specs.Steps.{Step}

@@ -1,7 +1,7 @@
 -- The call that a line asks for, as a member makes it.
 use Rattle.std.specs.Prelude.{take}
-use Rattle.ob_manager.specs.declared.call.Call.{Call}
-use Rattle.ob_manager.specs.declared.call.Call.TheVariants.{WaitFor}
+use Rattle.ob_manager.specs.Calls.{Call}
+use Rattle.ob_manager.specs.declared.call.CallOf.TheVariants.{WaitFor}
 use Rattle.ob_script.specs.Acts.{call_in}
 use Rattle.ob_shared.specs.declared.act.Act.{Act}
 use Rattle.ob_shared.specs.declared.act.Act.TheVariants as does

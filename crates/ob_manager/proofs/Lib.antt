@@ -5,3 +5,4 @@ pub mod StepLaws
 pub mod LimitLaws
 pub mod Waited
 pub mod Rising
+pub mod OwnParts

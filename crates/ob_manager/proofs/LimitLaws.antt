@@ -19,8 +19,8 @@ use Rattle.ob_store.specs.State.{State, Whole, with_child, with_process}
 use Rattle.ob_store.specs.Directory.{directory_of}
 use Rattle.ob_store.specs.Ends.{thread_ended, threads_ended, process_ended, left}
 use Rattle.ob_store.specs.Processes.{is_of}
-use Rattle.ob_manager.specs.declared.call.Call.{Call}
-use Rattle.ob_manager.specs.declared.call.Call.TheVariants as calls
+use Rattle.ob_manager.specs.Calls.{Call}
+use Rattle.ob_manager.specs.declared.call.CallOf.TheVariants as calls
 use Rattle.ob_manager.specs.Makings.{Making}
 use Rattle.ob_manager.specs.declared.creating.New.{New}
 use Rattle.ob_manager.specs.declared.reply.Reply.{Reply}

@@ -20,8 +20,8 @@ use Rattle.ob_name.specs.Listing.{find_name}
 use Rattle.ob_store.specs.Objects.{Object}
 use Rattle.ob_store.specs.State.{State, Whole}
 use Rattle.ob_store.specs.Directory.{directory_of}
-use Rattle.ob_manager.specs.declared.call.Call.{Call}
-use Rattle.ob_manager.specs.declared.call.Call.TheVariants as calls
+use Rattle.ob_manager.specs.Calls.{Call}
+use Rattle.ob_manager.specs.declared.call.CallOf.TheVariants as calls
 use Rattle.ob_manager.specs.Makings.{Making}
 use Rattle.ob_manager.specs.declared.creating.New.{New}
 use Rattle.ob_manager.specs.declared.reply.Reply.{Reply}

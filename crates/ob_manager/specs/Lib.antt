@@ -1,5 +1,5 @@
-pub mod Plain
 pub mod Makings
+pub mod Calls
 pub mod Outcomes
 pub mod Checks
 pub mod Processes

@@ -5,8 +5,8 @@ use Rattle.pin_words.specs.declared.pin_keeper.Reclaim.{Reclaim}
 use Rattle.ob_rights.specs.declared.fault.Fault.{Fault}
 use Rattle.ob_rights.specs.declared.fault.Fault.TheVariants as fault
 use Rattle.ob_body.specs.declared.body.Body.{Body}
-use Rattle.ob_manager.specs.declared.call.Call.{Call}
-use Rattle.ob_manager.specs.declared.call.Call.TheVariants as calls
+use Rattle.ob_manager.specs.declared.call.CallOf.{CallOf}
+use Rattle.ob_manager.specs.declared.call.CallOf.TheVariants as calls
 use Rattle.ob_manager.specs.declared.reply.Reply.{Reply}
 use Rattle.ob_manager.specs.declared.reply.Reply.TheVariants.{Reaped}
 use Rattle.ob_store.specs.Objects.{Object}
@@ -28,7 +28,7 @@ reap s slot outcome = do
   Ok (record { reply = Reaped id outcome; state = settled (after_reclaim s slot outcome) })
 
 -- where a slot is asked for, and where the reply says what became of it
-abbrev pub IfReap : Call → (ℕ → Type 0) → Type 0
+abbrev pub IfReap : {M T H : Type 0} → CallOf M T H → (ℕ → Type 0) → Type 0
 IfReap (calls.Reap slot) P = P slot
 IfReap call P = Unit {0}
 

@@ -1,16 +1,17 @@
-ghost use Rattle.std.specs.Prelude.{◌≡◌, ◌↔◌, IfErr, IfOk, IsTrue, false, true};
-ghost use Rattle.ob_manager.specs.Plain.{is_plain};
+ghost use Rattle.std.specs.Prelude.{◌≡◌, ◌↔◌, ℕ, List, IfErr, IfOk, IsTrue, false, true};
+ghost use Rattle.ob_manager.specs.Calls.{is_plain, is_wait, with_parts};
 
-use crate::making::{Making, Text};
+use crate::making::{AsMake, Make, Making, Text};
 use crate::waiting::{HandleList, Timeout};
 use ob_rights::{Kind, Rights};
 use ob_waits::Mode;
 use pin_core::Id;
 use std::alloc::{AllocError, Global};
+use std::convert::AsSlice;
 
-/// A call of the manager, with its arguments.
-#[derive(Drop)]
-pub enum Call {
+/// A call of the manager with its arguments: what a create asks for is an `M`, a name a `T`, and a list of handles an `H`.
+#[derive(Clone, Copy, PartialEq, Drop)]
+pub enum CallOf<M, T, H> {
     /// `Manager::spawn`.
     Spawn {
         /// The session of the new process.
@@ -33,7 +34,7 @@ pub enum Call {
         /// The calling thread.
         thread: u32,
         /// What it asks for.
-        make: Making,
+        make: M,
         /// Whether the event is reset by hand.
         manual: bool,
         /// Whether it begins set.
@@ -44,7 +45,7 @@ pub enum Call {
         /// The calling thread.
         thread: u32,
         /// What it asks for.
-        make: Making,
+        make: M,
         /// Whether the calling thread owns it.
         owned: bool,
     },
@@ -53,7 +54,7 @@ pub enum Call {
         /// The calling thread.
         thread: u32,
         /// What it asks for.
-        make: Making,
+        make: M,
         /// The first count.
         initial: i32,
         /// The greatest count.
@@ -64,7 +65,7 @@ pub enum Call {
         /// The calling thread.
         thread: u32,
         /// What it asks for.
-        make: Making,
+        make: M,
         /// Whether only setting it resets it.
         manual: bool,
     },
@@ -79,7 +80,7 @@ pub enum Call {
         /// Whether the handle has the flag INHERIT.
         inherit: bool,
         /// The name, as the caller gives it.
-        text: Text,
+        text: T,
     },
     /// `Manager::duplicate`.
     Duplicate {
@@ -183,7 +184,7 @@ pub enum Call {
         /// How long it waits.
         timeout: Timeout,
         /// What it waits for.
-        handles: HandleList,
+        handles: H,
     },
     /// `Manager::wait_result`.
     WaitResult {
@@ -217,7 +218,13 @@ pub enum Call {
     },
 }
 
-impl Call {
+/// A call with a name and handles of its own, as a journal keeps it.
+pub type Call = CallOf<Making, Text, HandleList>;
+
+/// A call whose name and handles are borrowed.
+pub type Ask<'a> = CallOf<Make<'a>, &'a [u8], &'a [u32]>;
+
+impl<M, T, H> CallOf<M, T, H> {
     /// Whether nothing of it lies apart in memory: it is no create, no open and no wait, which may have a name or handles.
     #[inline(always)]
     pub fn is_plain(&self) -> bool
@@ -225,41 +232,26 @@ impl Call {
     {
         !matches!(
             self,
-            Call::MakeEvent { .. }
-                | Call::MakeMutex { .. }
-                | Call::MakeSemaphore { .. }
-                | Call::MakeTimer { .. }
-                | Call::OpenNamed { .. }
-                | Call::WaitFor { .. }
+            CallOf::MakeEvent { .. }
+                | CallOf::MakeMutex { .. }
+                | CallOf::MakeSemaphore { .. }
+                | CallOf::MakeTimer { .. }
+                | CallOf::OpenNamed { .. }
+                | CallOf::WaitFor { .. }
         )
     }
 
-    /// An equal one: its name or its handles are copied. The refusal is want of memory, of which a plain call takes none.
+    /// The same call with parts of other types, of which a plain one has none.
     #[inline(always)]
-    pub fn copy(&self, alloc: Global) -> Result<Call, AllocError>
-        ensures copy { IfOk result (λ copy. copy ≡ self.now) }
-        ensures refusal { IfErr result (λ _. is_plain self.now ≡ false) }
-    {
-        if self.is_plain() {
-            return Ok(self.plain_copy());
-        }
-        self.deep_copy(alloc)
-    }
-
-    /// An equal one, which takes no memory: nothing of the call may lie apart ([`Call::is_plain`]).
-    #[inline(never)]
-    pub fn plain_copy(&self) -> Call
+    fn plain<N, U, G>(&self) -> CallOf<N, U, G>
         requires { is_plain self.now ≡ true }
-        ensures { result ≡ self.now }
+        ensures { (f : M → N) (g : T → U) (h : H → G) → result ≡ with_parts f g h self.now }
     {
-        match self {
-            Call::Spawn { session } => Call::Spawn { session: *session },
-            Call::Child { thread, inherit } => Call::Child {
-                thread: *thread,
-                inherit: *inherit,
-            },
-            Call::StartThread { process } => Call::StartThread { process: *process },
-            Call::Duplicate {
+        match *self {
+            CallOf::Spawn { session } => CallOf::Spawn { session },
+            CallOf::Child { thread, inherit } => CallOf::Child { thread, inherit },
+            CallOf::StartThread { process } => CallOf::StartThread { process },
+            CallOf::Duplicate {
                 thread,
                 source,
                 handle,
@@ -267,127 +259,111 @@ impl Call {
                 mask,
                 inherit,
                 options,
-            } => Call::Duplicate {
-                thread: *thread,
-                source: *source,
-                handle: *handle,
-                target: *target,
-                mask: *mask,
-                inherit: *inherit,
-                options: *options,
+            } => CallOf::Duplicate {
+                thread,
+                source,
+                handle,
+                target,
+                mask,
+                inherit,
+                options,
             },
-            Call::CloseHandle { thread, handle } => Call::CloseHandle {
-                thread: *thread,
-                handle: *handle,
-            },
-            Call::GetFlags { thread, handle } => Call::GetFlags {
-                thread: *thread,
-                handle: *handle,
-            },
-            Call::SetFlags {
+            CallOf::CloseHandle { thread, handle } => CallOf::CloseHandle { thread, handle },
+            CallOf::GetFlags { thread, handle } => CallOf::GetFlags { thread, handle },
+            CallOf::SetFlags {
                 thread,
                 handle,
                 mask,
                 flags,
-            } => Call::SetFlags {
-                thread: *thread,
-                handle: *handle,
-                mask: *mask,
-                flags: *flags,
+            } => CallOf::SetFlags {
+                thread,
+                handle,
+                mask,
+                flags,
             },
-            Call::SetEvent { thread, handle } => Call::SetEvent {
-                thread: *thread,
-                handle: *handle,
-            },
-            Call::ResetEvent { thread, handle } => Call::ResetEvent {
-                thread: *thread,
-                handle: *handle,
-            },
-            Call::ReleaseSemaphore {
+            CallOf::SetEvent { thread, handle } => CallOf::SetEvent { thread, handle },
+            CallOf::ResetEvent { thread, handle } => CallOf::ResetEvent { thread, handle },
+            CallOf::ReleaseSemaphore {
                 thread,
                 handle,
                 count,
-            } => Call::ReleaseSemaphore {
-                thread: *thread,
-                handle: *handle,
-                count: *count,
+            } => CallOf::ReleaseSemaphore {
+                thread,
+                handle,
+                count,
             },
-            Call::ReleaseMutex { thread, handle } => Call::ReleaseMutex {
-                thread: *thread,
-                handle: *handle,
-            },
-            Call::SetTimer {
+            CallOf::ReleaseMutex { thread, handle } => CallOf::ReleaseMutex { thread, handle },
+            CallOf::SetTimer {
                 thread,
                 handle,
                 due,
-            } => Call::SetTimer {
-                thread: *thread,
-                handle: *handle,
-                due: *due,
+            } => CallOf::SetTimer {
+                thread,
+                handle,
+                due,
             },
-            Call::CancelTimer { thread, handle } => Call::CancelTimer {
-                thread: *thread,
-                handle: *handle,
-            },
-            Call::Tick { now } => Call::Tick { now: *now },
-            Call::WaitResult { wait } => Call::WaitResult { wait: *wait },
-            Call::Expire { wait } => Call::Expire { wait: *wait },
-            Call::EndThread { thread } => Call::EndThread { thread: *thread },
-            Call::Exit { process } => Call::Exit { process: *process },
-            Call::Reap { slot } => Call::Reap { slot: *slot },
-            Call::Counts { id } => Call::Counts { id: *id },
+            CallOf::CancelTimer { thread, handle } => CallOf::CancelTimer { thread, handle },
+            CallOf::Tick { now } => CallOf::Tick { now },
+            CallOf::WaitResult { wait } => CallOf::WaitResult { wait },
+            CallOf::Expire { wait } => CallOf::Expire { wait },
+            CallOf::EndThread { thread } => CallOf::EndThread { thread },
+            CallOf::Exit { process } => CallOf::Exit { process },
+            CallOf::Reap { slot } => CallOf::Reap { slot },
+            CallOf::Counts { id } => CallOf::Counts { id },
             _ => unreachable!(),
         }
     }
+}
 
-    /// An equal one of a create, an open or a wait.
-    #[inline(never)]
-    fn deep_copy(&self, alloc: Global) -> Result<Call, AllocError>
-        requires { is_plain self.now ≡ false }
-        ensures { IfOk result (λ copy. copy ≡ self.now) }
+impl<M: AsMake, T: AsSlice<u8>, H> CallOf<M, T, H> {
+    /// The same call, which is no wait, with a name of its own. The refusal is want of memory, of which a plain call takes none.
+    pub fn named(&self, alloc: Global) -> Result<Call, AllocError>
+        requires { is_wait self.now ≡ false }
+        ensures call { (h : H → List ℕ) → IfOk result (λ call. call ≡ with_parts M.making T.items h self.now) }
+        ensures refusal { IfErr result (λ _. is_plain self.now ≡ false) }
     {
         match self {
-            Call::MakeEvent {
+            CallOf::MakeEvent {
                 thread,
                 make,
                 manual,
                 set,
             } => Ok(Call::MakeEvent {
                 thread: *thread,
-                make: make.copy(alloc)?,
+                make: make.as_make().owned(alloc)?,
                 manual: *manual,
                 set: *set,
             }),
-            Call::MakeMutex {
+            CallOf::MakeMutex {
                 thread,
                 make,
                 owned,
             } => Ok(Call::MakeMutex {
                 thread: *thread,
-                make: make.copy(alloc)?,
+                make: make.as_make().owned(alloc)?,
                 owned: *owned,
             }),
-            Call::MakeSemaphore {
+            CallOf::MakeSemaphore {
                 thread,
                 make,
                 initial,
                 max,
             } => Ok(Call::MakeSemaphore {
                 thread: *thread,
-                make: make.copy(alloc)?,
+                make: make.as_make().owned(alloc)?,
                 initial: *initial,
                 max: *max,
             }),
-            Call::MakeTimer {
+            CallOf::MakeTimer {
                 thread,
                 make,
                 manual,
             } => Ok(Call::MakeTimer {
                 thread: *thread,
-                make: make.copy(alloc)?,
+                make: make.as_make().owned(alloc)?,
                 manual: *manual,
             }),
-            Call::OpenNamed {
+            CallOf::OpenNamed {
                 thread,
                 kind,
                 mask,
@@ -400,7 +376,21 @@ impl Call {
                 inherit: *inherit,
                 text: Text::new(alloc, text.as_slice())?,
             }),
-            Call::WaitFor {
+            CallOf::WaitFor { .. } => unreachable!(),
+            plain => Ok(plain.plain()),
+        }
+    }
+}
+
+impl<M: AsMake, T: AsSlice<u8>, H: AsSlice<u32>> CallOf<M, T, H> {
+    /// The same call with a name and handles of its own. The refusal is want of memory, of which a plain call takes none.
+    #[inline(never)]
+    pub fn owned(&self, alloc: Global) -> Result<Call, AllocError>
+        ensures call { IfOk result (λ call. call ≡ with_parts M.making T.items H.items self.now) }
+        ensures refusal { IfErr result (λ _. is_plain self.now ≡ false) }
+    {
+        match self {
+            CallOf::WaitFor {
                 thread,
                 mode,
                 timeout,
@@ -411,257 +401,38 @@ impl Call {
                 timeout: *timeout,
                 handles: HandleList::new(alloc, handles.as_slice())?,
             }),
-            _ => unreachable!(),
+            _ => self.named(alloc),
         }
+    }
+}
+
+impl Call {
+    /// An equal one: its name or its handles are copied. The refusal is want of memory, of which a plain call takes none.
+    #[inline(always)]
+    #[tactic(auto, using(crate::proofs::OwnParts::own_parts))]
+    pub fn copy(&self, alloc: Global) -> Result<Call, AllocError>
+        ensures copy { IfOk result (λ copy. copy ≡ self.now) }
+        ensures refusal { IfErr result (λ _. is_plain self.now ≡ false) }
+    {
+        if self.is_plain() {
+            return Ok(self.plain_copy());
+        }
+        self.owned(alloc)
+    }
+
+    /// An equal one, which takes no memory: nothing of the call may lie apart ([`CallOf::is_plain`]).
+    #[inline(never)]
+    pub fn plain_copy(&self) -> Call
+        requires { is_plain self.now ≡ true }
+        ensures { result ≡ self.now }
+    {
+        self.plain()
     }
 
     /// Whether it is the same call, with the same arguments.
     pub fn is_same(&self, other: &Call) -> bool
         ensures { IsTrue result ↔ (self.now ≡ other.now) }
     {
-        match (self, other) {
-            (
-                Call::Spawn { session },
-                Call::Spawn {
-                    session: other_session,
-                },
-            ) => *session == *other_session,
-            (
-                Call::Child { thread, inherit },
-                Call::Child {
-                    thread: other_thread,
-                    inherit: other_inherit,
-                },
-            ) => *thread == *other_thread && *inherit == *other_inherit,
-            (
-                Call::StartThread { process },
-                Call::StartThread {
-                    process: other_process,
-                },
-            ) => *process == *other_process,
-            (
-                Call::MakeEvent {
-                    thread,
-                    make,
-                    manual,
-                    set,
-                },
-                Call::MakeEvent {
-                    thread: other_thread,
-                    make: other_make,
-                    manual: other_manual,
-                    set: other_set,
-                },
-            ) => *thread == *other_thread
-                && make.is_same(other_make)
-                && *manual == *other_manual
-                && *set == *other_set,
-            (
-                Call::MakeMutex {
-                    thread,
-                    make,
-                    owned,
-                },
-                Call::MakeMutex {
-                    thread: other_thread,
-                    make: other_make,
-                    owned: other_owned,
-                },
-            ) => *thread == *other_thread && make.is_same(other_make) && *owned == *other_owned,
-            (
-                Call::MakeSemaphore {
-                    thread,
-                    make,
-                    initial,
-                    max,
-                },
-                Call::MakeSemaphore {
-                    thread: other_thread,
-                    make: other_make,
-                    initial: other_initial,
-                    max: other_max,
-                },
-            ) => *thread == *other_thread
-                && make.is_same(other_make)
-                && *initial == *other_initial
-                && *max == *other_max,
-            (
-                Call::MakeTimer {
-                    thread,
-                    make,
-                    manual,
-                },
-                Call::MakeTimer {
-                    thread: other_thread,
-                    make: other_make,
-                    manual: other_manual,
-                },
-            ) => *thread == *other_thread && make.is_same(other_make) && *manual == *other_manual,
-            (
-                Call::OpenNamed {
-                    thread,
-                    kind,
-                    mask,
-                    inherit,
-                    text,
-                },
-                Call::OpenNamed {
-                    thread: other_thread,
-                    kind: other_kind,
-                    mask: other_mask,
-                    inherit: other_inherit,
-                    text: other_text,
-                },
-            ) => *thread == *other_thread
-                && *kind == *other_kind
-                && *mask == *other_mask
-                && *inherit == *other_inherit
-                && text.is_same(other_text),
-            (
-                Call::Duplicate {
-                    thread,
-                    source,
-                    handle,
-                    target,
-                    mask,
-                    inherit,
-                    options,
-                },
-                Call::Duplicate {
-                    thread: other_thread,
-                    source: other_source,
-                    handle: other_handle,
-                    target: other_target,
-                    mask: other_mask,
-                    inherit: other_inherit,
-                    options: other_options,
-                },
-            ) => *thread == *other_thread
-                && *source == *other_source
-                && *handle == *other_handle
-                && *target == *other_target
-                && *mask == *other_mask
-                && *inherit == *other_inherit
-                && *options == *other_options,
-            (
-                Call::CloseHandle { thread, handle },
-                Call::CloseHandle {
-                    thread: other_thread,
-                    handle: other_handle,
-                },
-            ) => *thread == *other_thread && *handle == *other_handle,
-            (
-                Call::GetFlags { thread, handle },
-                Call::GetFlags {
-                    thread: other_thread,
-                    handle: other_handle,
-                },
-            ) => *thread == *other_thread && *handle == *other_handle,
-            (
-                Call::SetFlags {
-                    thread,
-                    handle,
-                    mask,
-                    flags,
-                },
-                Call::SetFlags {
-                    thread: other_thread,
-                    handle: other_handle,
-                    mask: other_mask,
-                    flags: other_flags,
-                },
-            ) => *thread == *other_thread
-                && *handle == *other_handle
-                && *mask == *other_mask
-                && *flags == *other_flags,
-            (
-                Call::SetEvent { thread, handle },
-                Call::SetEvent {
-                    thread: other_thread,
-                    handle: other_handle,
-                },
-            ) => *thread == *other_thread && *handle == *other_handle,
-            (
-                Call::ResetEvent { thread, handle },
-                Call::ResetEvent {
-                    thread: other_thread,
-                    handle: other_handle,
-                },
-            ) => *thread == *other_thread && *handle == *other_handle,
-            (
-                Call::ReleaseSemaphore {
-                    thread,
-                    handle,
-                    count,
-                },
-                Call::ReleaseSemaphore {
-                    thread: other_thread,
-                    handle: other_handle,
-                    count: other_count,
-                },
-            ) => *thread == *other_thread && *handle == *other_handle && *count == *other_count,
-            (
-                Call::ReleaseMutex { thread, handle },
-                Call::ReleaseMutex {
-                    thread: other_thread,
-                    handle: other_handle,
-                },
-            ) => *thread == *other_thread && *handle == *other_handle,
-            (
-                Call::SetTimer {
-                    thread,
-                    handle,
-                    due,
-                },
-                Call::SetTimer {
-                    thread: other_thread,
-                    handle: other_handle,
-                    due: other_due,
-                },
-            ) => *thread == *other_thread && *handle == *other_handle && *due == *other_due,
-            (
-                Call::CancelTimer { thread, handle },
-                Call::CancelTimer {
-                    thread: other_thread,
-                    handle: other_handle,
-                },
-            ) => *thread == *other_thread && *handle == *other_handle,
-            (Call::Tick { now }, Call::Tick { now: other_now }) => *now == *other_now,
-            (
-                Call::WaitFor {
-                    thread,
-                    mode,
-                    timeout,
-                    handles,
-                },
-                Call::WaitFor {
-                    thread: other_thread,
-                    mode: other_mode,
-                    timeout: other_timeout,
-                    handles: other_handles,
-                },
-            ) => *thread == *other_thread
-                && *mode == *other_mode
-                && *timeout == *other_timeout
-                && handles.is_same(other_handles),
-            (Call::WaitResult { wait }, Call::WaitResult { wait: other_wait }) => *wait
-                == *other_wait,
-            (Call::Expire { wait }, Call::Expire { wait: other_wait }) => *wait == *other_wait,
-            (
-                Call::EndThread { thread },
-                Call::EndThread {
-                    thread: other_thread,
-                },
-            ) => *thread == *other_thread,
-            (
-                Call::Exit { process },
-                Call::Exit {
-                    process: other_process,
-                },
-            ) => *process == *other_process,
-            (Call::Reap { slot }, Call::Reap { slot: other_slot }) => *slot == *other_slot,
-            (Call::Counts { id }, Call::Counts { id: other_id }) => *id == *other_id,
-            _ => false,
-        }
+        *self == *other
     }
 }

@@ -1,5 +1,5 @@
 ghost use Rattle.std.specs.Prelude.{◌≡◌};
-ghost use Rattle.ob_manager.specs.declared.call.Call.{Call};
+ghost use Rattle.ob_manager.specs.Calls.{Call};
 ghost use Rattle.ob_manager.specs.declared.reply.Reply.{Reply};
 ghost use Rattle.ob_manager.specs.Steps.{Step, next};
 ghost use Rattle.ob_store.specs.State.{Whole};

@@ -32,10 +32,10 @@ mod signaling;
 mod timing;
 mod waiting;
 
-pub use call::Call;
+pub use call::{Ask, Call, CallOf};
 pub use card::Card;
 pub use law::law_of_steps;
-pub use making::{Make, Making, Text};
+pub use making::{AsMake, Make, Making, Text};
 pub use manager::Manager;
 pub use ob_store::{Found, Label, Limits, Seat, Stored};
 pub use ob_waits::Mode;

@@ -1,9 +1,16 @@
-ghost use Rattle.std.specs.Prelude.{◌≡◌, ◌↔◌, [], IfErr, IfOk, IsSome, IsTrue, None};
-ghost use Rattle.std.specs.Option.{option_map};
+ghost use Rattle.std.specs.Prelude.{◌≡◌, ◌==◌, [], IfErr, IfOk, IsSome, None};
+ghost use Rattle.std.specs.Cmp.Lexicographic.{pointwise};
+ghost use Rattle.std.specs.Cmp.Rules.{comparing};
+ghost use Rattle.std.specs.Option.{option_eq, option_map};
+ghost use Rattle.std.specs.Ordering.{eq_of_both, on};
+ghost use Rattle.std.specs.Bool.{beq};
+ghost use Rattle.std.proofs.Common.{rules};
 ghost use Rattle.ob_manager.specs.Makings.{making_of};
+ghost use Rattle.ob_manager.specs.Makings.{Making as Asked};
 
 use ob_rights::Rights;
 use std::alloc::{AllocError, Global};
+use std::convert::AsSlice;
 use std::marker::Model;
 
 /// Bytes that somebody gave as a name. A contract sees them as the list that they are.
@@ -45,12 +52,23 @@ impl Text {
     {
         self.bytes.as_slice()
     }
+}
 
-    /// Whether the bytes are the same.
-    pub fn is_same(&self, other: &Text) -> bool
-        ensures { IsTrue result ↔ (self.now ≡ other.now) }
-    {
+impl PartialEq for Text {
+    ghost eq = { pointwise ◌==◌ };
+
+    ghost laws = { Prim.search (comparing, rules) };
+
+    fn eq(&self, other: &Text) -> bool {
         self.bytes.as_slice() == other.bytes.as_slice()
+    }
+}
+
+impl AsSlice<u8> for Text {
+    ghost items = { λ text. text };
+
+    fn as_slice(&self) -> &[u8] {
+        self.bytes.as_slice()
     }
 }
 
@@ -150,27 +168,43 @@ impl Making {
             grant: self.grant,
         }
     }
+}
 
-    /// An equal one. The refusal is want of memory, of which one without a name takes none.
-    pub fn copy(&self, alloc: Global) -> Result<Making, AllocError>
-        ensures copy { IfOk result (λ copy. copy ≡ self.now) }
-        ensures refusal { IfErr result (λ _. IsSome self.now.name) }
-    {
-        self.borrowed().owned(alloc)
-    }
+impl PartialEq for Making {
+    ghost eq = { eq_of_both (on (λ m. m.name) (option_eq (pointwise ◌==◌))) (eq_of_both (on (λ m. m.inherit) beq) (eq_of_both (on (λ m. m.access) (option_eq (on (λ r. r.0) ◌==◌))) (on (λ m. m.grant) (option_eq (on (λ r. r.0) ◌==◌))))) };
 
-    /// Whether the same is asked for.
-    pub fn is_same(&self, other: &Making) -> bool
-        ensures { IsTrue result ↔ (self.now ≡ other.now) }
-    {
-        let names_are = match (self.name(), other.name()) {
-            (Some(name), Some(text)) => name == text,
-            (None, None) => true,
-            _ => false,
-        };
-        names_are
+    ghost laws = { Prim.search (comparing, rules) depth 9 };
+
+    fn eq(&self, other: &Making) -> bool {
+        self.name() == other.name()
             && self.inherit == other.inherit
             && self.access == other.access
             && self.grant == other.grant
+    }
+}
+
+/// What a create asks for, borrowed or with a name of its own.
+pub trait AsMake {
+    ghost making: { Self → Asked };
+
+    /// The same with the name borrowed.
+    fn as_make(&self) -> Make<'_>
+        ensures { making_of result ≡ making self.now };
+}
+
+impl AsMake for Make<'_> {
+    ghost making = { making_of };
+
+    #[inline(always)]
+    fn as_make(&self) -> Make<'_> {
+        *self
+    }
+}
+
+impl AsMake for Making {
+    ghost making = { λ making. making };
+
+    fn as_make(&self) -> Make<'_> {
+        self.borrowed()
     }
 }

@@ -1,4 +1,4 @@
-ghost use Rattle.std.specs.Prelude.{◌≡◌, ◌<◌, IfErr, IfOk, IfSome, None, length, slice_get, slice_index_or};
+ghost use Rattle.std.specs.Prelude.{◌≡◌, ◌<◌, ℕ, List, false, IfErr, IfOk, IfSome, None, length, slice_get, slice_index_or};
 ghost use Rattle.std.specs.Option.{option_map};
 ghost use Rattle.ob_name.specs.Refs.{row_at};
 ghost use Rattle.pin_words.specs.Keepers.{IsFresh};
@@ -7,6 +7,8 @@ ghost use Rattle.ob_store.specs.Consistent.{IsConsistent};
 ghost use Rattle.ob_store.specs.Objects.{object_of, tag_of};
 ghost use Rattle.ob_store.specs.State.{blocks_of, handles_of, hold_of, opening, shape_of};
 ghost use Rattle.ob_store.specs.Stored.{MatchesState, hold_in};
+ghost use Rattle.ob_manager.specs.declared.call.CallOf.TheVariants as calls;
+ghost use Rattle.ob_manager.specs.Calls.{is_wait, with_parts};
 ghost use Rattle.ob_manager.specs.Makings.{making_of};
 ghost use Rattle.ob_manager.specs.Counting.{card};
 ghost use Rattle.ob_manager.specs.Handles.{resolve};
@@ -14,9 +16,9 @@ ghost use Rattle.ob_manager.specs.Reaping.{IfReap, IfReaped};
 ghost use Rattle.ob_waits.specs.Waits as waits;
 ghost use Rattle.ob_manager.specs.Steps.{Step, reply_of};
 
-use crate::call::Call;
+use crate::call::{Call, CallOf};
 use crate::card::Card;
-use crate::making::Make;
+use crate::making::{AsMake, Make};
 use crate::reply::Reply;
 use crate::waiting::Timeout;
 use crate::{
@@ -30,6 +32,7 @@ use ob_waits::Mode;
 use pin_core::Id;
 use pin_words::PinKeeper;
 use std::alloc::Global;
+use std::convert::AsSlice;
 use std::marker::Model;
 
 /// The object manager, over a keeper of its slots. A contract sees it as its state (`State` of ob_store) and what its keeper
@@ -103,7 +106,7 @@ impl<K: PinKeeper> Manager<K> {
     ///
     /// Refused with 1450 where each process number or each thread number was given, and with 8 for want of memory.
     pub fn spawn(&mut self, session: u32) -> Reply
-        ensures { Step self.old (Call.Spawn session) result self.new }
+        ensures { Step self.old (calls.Spawn session) result self.new }
     {
         reply_of(processes::spawn(&mut self.store, session))
     }
@@ -117,7 +120,7 @@ impl<K: PinKeeper> Manager<K> {
     ///
     /// [Handle inheritance]: https://learn.microsoft.com/windows/win32/sysinfo/handle-inheritance
     pub fn child(&mut self, thread: u32, inherit: bool) -> Reply
-        ensures { Step self.old (Call.Child thread inherit) result self.new }
+        ensures { Step self.old (calls.Child thread inherit) result self.new }
     {
         reply_of(children::child(&mut self.store, thread, inherit))
     }
@@ -127,7 +130,7 @@ impl<K: PinKeeper> Manager<K> {
     /// Refused with 87 where the process isn't live, with 1450 where each thread number was given, and with 8 for want of
     /// memory.
     pub fn thread(&mut self, process: u32) -> Reply
-        ensures { Step self.old (Call.StartThread process) result self.new }
+        ensures { Step self.old (calls.StartThread process) result self.new }
     {
         reply_of(processes::thread(&mut self.store, process))
     }
@@ -142,7 +145,7 @@ impl<K: PinKeeper> Manager<K> {
     ///
     /// [CreateEvent]: https://learn.microsoft.com/windows/win32/api/synchapi/nf-synchapi-createeventa
     pub fn create_event(&mut self, thread: u32, make: &Make<'_>, manual: bool, set: bool) -> Reply
-        ensures { Step self.old (Call.MakeEvent thread (making_of make.now) manual set) result self.new }
+        ensures { Step self.old (calls.MakeEvent thread (making_of make.now) manual set) result self.new }
     {
         reply_of(creating::create_event(&mut self.store, thread, make, manual, set))
     }
@@ -152,7 +155,7 @@ impl<K: PinKeeper> Manager<K> {
     ///
     /// [CreateMutex]: https://learn.microsoft.com/windows/win32/api/synchapi/nf-synchapi-createmutexa
     pub fn create_mutex(&mut self, thread: u32, make: &Make<'_>, owned: bool) -> Reply
-        ensures { Step self.old (Call.MakeMutex thread (making_of make.now) owned) result self.new }
+        ensures { Step self.old (calls.MakeMutex thread (making_of make.now) owned) result self.new }
     {
         reply_of(creating::create_mutex(&mut self.store, thread, make, owned))
     }
@@ -169,7 +172,7 @@ impl<K: PinKeeper> Manager<K> {
         initial: i32,
         max: i32,
     ) -> Reply
-        ensures { Step self.old (Call.MakeSemaphore thread (making_of make.now) initial max) result self.new }
+        ensures { Step self.old (calls.MakeSemaphore thread (making_of make.now) initial max) result self.new }
     {
         reply_of(creating::create_semaphore(&mut self.store, thread, make, initial, max))
     }
@@ -180,7 +183,7 @@ impl<K: PinKeeper> Manager<K> {
     ///
     /// [CreateWaitableTimer]: https://learn.microsoft.com/windows/win32/api/synchapi/nf-synchapi-createwaitabletimerw
     pub fn create_timer(&mut self, thread: u32, make: &Make<'_>, manual: bool) -> Reply
-        ensures { Step self.old (Call.MakeTimer thread (making_of make.now) manual) result self.new }
+        ensures { Step self.old (calls.MakeTimer thread (making_of make.now) manual) result self.new }
     {
         reply_of(creating::create_timer(&mut self.store, thread, make, manual))
     }
@@ -200,7 +203,7 @@ impl<K: PinKeeper> Manager<K> {
         inherit: bool,
         text: &[u8],
     ) -> Reply
-        ensures { Step self.old (Call.OpenNamed thread kind mask inherit text.now) result self.new }
+        ensures { Step self.old (calls.OpenNamed thread kind mask inherit text.now) result self.new }
     {
         reply_of(creating::open_named(&mut self.store, thread, kind, mask, inherit, text))
     }
@@ -230,7 +233,7 @@ impl<K: PinKeeper> Manager<K> {
         inherit: bool,
         options: u32,
     ) -> Reply
-        ensures { Step self.old (Call.Duplicate thread source handle target mask inherit options) result self.new }
+        ensures { Step self.old (calls.Duplicate thread source handle target mask inherit options) result self.new }
     {
         reply_of(copying::duplicate(
             &mut self.store,
@@ -252,7 +255,7 @@ impl<K: PinKeeper> Manager<K> {
     ///
     /// [CloseHandle]: https://learn.microsoft.com/windows/win32/api/handleapi/nf-handleapi-closehandle
     pub fn close(&mut self, thread: u32, handle: u32) -> Reply
-        ensures { Step self.old (Call.CloseHandle thread handle) result self.new }
+        ensures { Step self.old (calls.CloseHandle thread handle) result self.new }
     {
         reply_of(handles::close(&mut self.store, thread, handle))
     }
@@ -263,7 +266,7 @@ impl<K: PinKeeper> Manager<K> {
     ///
     /// [GetHandleInformation]: https://learn.microsoft.com/windows/win32/api/handleapi/nf-handleapi-gethandleinformation
     pub fn handle_flags(&self, thread: u32, handle: u32) -> Reply
-        ensures { Step self.now (Call.GetFlags thread handle) result self.now }
+        ensures { Step self.now (calls.GetFlags thread handle) result self.now }
     {
         reply_of(handles::handle_flags(&self.store, thread, handle))
     }
@@ -277,7 +280,7 @@ impl<K: PinKeeper> Manager<K> {
     ///
     /// [SetHandleInformation]: https://learn.microsoft.com/windows/win32/api/handleapi/nf-handleapi-sethandleinformation
     pub fn set_handle_flags(&mut self, thread: u32, handle: u32, mask: u32, flags: u32) -> Reply
-        ensures { Step self.old (Call.SetFlags thread handle mask flags) result self.new }
+        ensures { Step self.old (calls.SetFlags thread handle mask flags) result self.new }
     {
         reply_of(handles::set_handle_flags(&mut self.store, thread, handle, mask, flags))
     }
@@ -289,7 +292,7 @@ impl<K: PinKeeper> Manager<K> {
     ///
     /// [SetEvent]: https://learn.microsoft.com/windows/win32/api/synchapi/nf-synchapi-setevent
     pub fn set_event(&mut self, thread: u32, handle: u32) -> Reply
-        ensures { Step self.old (Call.SetEvent thread handle) result self.new }
+        ensures { Step self.old (calls.SetEvent thread handle) result self.new }
     {
         reply_of(signaling::set_event(&mut self.store, thread, handle))
     }
@@ -298,7 +301,7 @@ impl<K: PinKeeper> Manager<K> {
     ///
     /// [ResetEvent]: https://learn.microsoft.com/windows/win32/api/synchapi/nf-synchapi-resetevent
     pub fn reset_event(&mut self, thread: u32, handle: u32) -> Reply
-        ensures { Step self.old (Call.ResetEvent thread handle) result self.new }
+        ensures { Step self.old (calls.ResetEvent thread handle) result self.new }
     {
         reply_of(signaling::reset_event(&mut self.store, thread, handle))
     }
@@ -310,7 +313,7 @@ impl<K: PinKeeper> Manager<K> {
     ///
     /// [ReleaseSemaphore]: https://learn.microsoft.com/windows/win32/api/synchapi/nf-synchapi-releasesemaphore
     pub fn release_semaphore(&mut self, thread: u32, handle: u32, count: i32) -> Reply
-        ensures { Step self.old (Call.ReleaseSemaphore thread handle count) result self.new }
+        ensures { Step self.old (calls.ReleaseSemaphore thread handle count) result self.new }
     {
         reply_of(signaling::release_semaphore(&mut self.store, thread, handle, count))
     }
@@ -322,7 +325,7 @@ impl<K: PinKeeper> Manager<K> {
     ///
     /// [ReleaseMutex]: https://learn.microsoft.com/windows/win32/api/synchapi/nf-synchapi-releasemutex
     pub fn release_mutex(&mut self, thread: u32, handle: u32) -> Reply
-        ensures { Step self.old (Call.ReleaseMutex thread handle) result self.new }
+        ensures { Step self.old (calls.ReleaseMutex thread handle) result self.new }
     {
         reply_of(signaling::release_mutex(&mut self.store, thread, handle))
     }
@@ -336,7 +339,7 @@ impl<K: PinKeeper> Manager<K> {
     ///
     /// [SetWaitableTimer]: https://learn.microsoft.com/windows/win32/api/synchapi/nf-synchapi-setwaitabletimer
     pub fn set_timer(&mut self, thread: u32, handle: u32, due: i64) -> Reply
-        ensures { Step self.old (Call.SetTimer thread handle due) result self.new }
+        ensures { Step self.old (calls.SetTimer thread handle due) result self.new }
     {
         reply_of(timing::set_timer(&mut self.store, thread, handle, due))
     }
@@ -346,7 +349,7 @@ impl<K: PinKeeper> Manager<K> {
     ///
     /// [CancelWaitableTimer]: https://learn.microsoft.com/windows/win32/api/synchapi/nf-synchapi-cancelwaitabletimer
     pub fn cancel_timer(&mut self, thread: u32, handle: u32) -> Reply
-        ensures { Step self.old (Call.CancelTimer thread handle) result self.new }
+        ensures { Step self.old (calls.CancelTimer thread handle) result self.new }
     {
         reply_of(timing::cancel_timer(&mut self.store, thread, handle))
     }
@@ -358,7 +361,7 @@ impl<K: PinKeeper> Manager<K> {
     ///
     /// Refused with 87 where `now` is before the moment that it is, or above 9,223,372,036,854,775,807.
     pub fn tick(&mut self, now: u64) -> Reply
-        ensures { Step self.old (Call.Tick now) result self.new }
+        ensures { Step self.old (calls.Tick now) result self.new }
     {
         reply_of(timing::tick(&mut self.store, now))
     }
@@ -375,7 +378,7 @@ impl<K: PinKeeper> Manager<K> {
     ///
     /// [WaitForMultipleObjects]: https://learn.microsoft.com/windows/win32/api/synchapi/nf-synchapi-waitformultipleobjects
     pub fn wait(&mut self, thread: u32, mode: Mode, timeout: Timeout, handles: &[u32]) -> Reply
-        ensures { Step self.old (Call.WaitFor thread mode timeout handles.now) result self.new }
+        ensures { Step self.old (calls.WaitFor thread mode timeout handles.now) result self.new }
     {
         reply_of(waiting::wait(&mut self.store, thread, mode, timeout, handles))
     }
@@ -384,7 +387,7 @@ impl<K: PinKeeper> Manager<K> {
     ///
     /// Refused with 87 where there is no such wait.
     pub fn wait_result(&mut self, wait: u32) -> Reply
-        ensures { Step self.old (Call.WaitResult wait) result self.new }
+        ensures { Step self.old (calls.WaitResult wait) result self.new }
     {
         reply_of(waiting::wait_result(&mut self.store, wait))
     }
@@ -393,7 +396,7 @@ impl<K: PinKeeper> Manager<K> {
     ///
     /// Refused with 87 where no such wait is pending.
     pub fn expire(&mut self, wait: u32) -> Reply
-        ensures { Step self.old (Call.Expire wait) result self.new }
+        ensures { Step self.old (calls.Expire wait) result self.new }
     {
         reply_of(waiting::expire(&mut self.store, wait))
     }
@@ -412,7 +415,7 @@ impl<K: PinKeeper> Manager<K> {
     ///
     /// [Mutex Objects]: https://learn.microsoft.com/windows/win32/sync/mutex-objects
     pub fn end_thread(&mut self, thread: u32) -> Reply
-        ensures { Step self.old (Call.EndThread thread) result self.new }
+        ensures { Step self.old (calls.EndThread thread) result self.new }
     {
         reply_of(ending::end_thread(&mut self.store, thread))
     }
@@ -425,7 +428,7 @@ impl<K: PinKeeper> Manager<K> {
     ///
     /// [Terminating a Process]: https://learn.microsoft.com/windows/win32/procthread/terminating-a-process
     pub fn exit(&mut self, process: u32) -> Reply
-        ensures { Step self.old (Call.Exit process) result self.new }
+        ensures { Step self.old (calls.Exit process) result self.new }
     {
         reply_of(ending::exit(&mut self.store, process))
     }
@@ -434,7 +437,7 @@ impl<K: PinKeeper> Manager<K> {
     ///
     /// Refused with 87 where there is no such slot, and with 6 where it has no such object.
     pub fn reap(&mut self, slot: u32) -> Reply
-        ensures step { Step self.old (Call.Reap slot) result self.new }
+        ensures step { Step self.old (calls.Reap slot) result self.new }
         ensures exact { IfReaped result (λ outcome. K.reclaims self.old.keeper slot outcome self.new.keeper) }
     {
         reply_of(reaping::reap(&mut self.store, slot))
@@ -444,7 +447,7 @@ impl<K: PinKeeper> Manager<K> {
     ///
     /// Refused with 87 where there is no such slot, and with 6 where the slot has no object of this Id.
     pub fn counts(&self, id: Id) -> Reply
-        ensures { Step self.now (Call.Counts id) result self.now }
+        ensures { Step self.now (calls.Counts id) result self.now }
     {
         reply_of(counting::counts(&self.store, id))
     }
@@ -493,39 +496,57 @@ impl<K: PinKeeper> Manager<K> {
         ensures exact { IfReap call.now (λ slot. IfReaped result (λ outcome. K.reclaims self.old.keeper slot outcome self.new.keeper)) }
     {
         match call {
-            Call::Spawn { session } => self.spawn(*session),
-            Call::Child { thread, inherit } => self.child(*thread, *inherit),
-            Call::StartThread { process } => self.thread(*process),
-            Call::MakeEvent {
+            Call::WaitFor {
+                thread,
+                mode,
+                timeout,
+                handles,
+            } => self.wait(*thread, *mode, *timeout, handles.as_slice()),
+            _ => self.ask(call),
+        }
+    }
+
+    /// Makes a call that is no wait, whose name may be borrowed.
+    #[inline(always)]
+    pub fn ask<M: AsMake, T: AsSlice<u8>, H>(&mut self, call: &CallOf<M, T, H>) -> Reply
+        requires { is_wait call.now ≡ false }
+        ensures step { (h : H → List ℕ) → Step self.old (with_parts M.making T.items h call.now) result self.new }
+        ensures exact { IfReap call.now (λ slot. IfReaped result (λ outcome. K.reclaims self.old.keeper slot outcome self.new.keeper)) }
+    {
+        match call {
+            CallOf::Spawn { session } => self.spawn(*session),
+            CallOf::Child { thread, inherit } => self.child(*thread, *inherit),
+            CallOf::StartThread { process } => self.thread(*process),
+            CallOf::MakeEvent {
                 thread,
                 make,
                 manual,
                 set,
-            } => self.create_event(*thread, &make.borrowed(), *manual, *set),
-            Call::MakeMutex {
+            } => self.create_event(*thread, &make.as_make(), *manual, *set),
+            CallOf::MakeMutex {
                 thread,
                 make,
                 owned,
-            } => self.create_mutex(*thread, &make.borrowed(), *owned),
-            Call::MakeSemaphore {
+            } => self.create_mutex(*thread, &make.as_make(), *owned),
+            CallOf::MakeSemaphore {
                 thread,
                 make,
                 initial,
                 max,
-            } => self.create_semaphore(*thread, &make.borrowed(), *initial, *max),
-            Call::MakeTimer {
+            } => self.create_semaphore(*thread, &make.as_make(), *initial, *max),
+            CallOf::MakeTimer {
                 thread,
                 make,
                 manual,
-            } => self.create_timer(*thread, &make.borrowed(), *manual),
-            Call::OpenNamed {
+            } => self.create_timer(*thread, &make.as_make(), *manual),
+            CallOf::OpenNamed {
                 thread,
                 kind,
                 mask,
                 inherit,
                 text,
             } => self.open_named(*thread, *kind, *mask, *inherit, text.as_slice()),
-            Call::Duplicate {
+            CallOf::Duplicate {
                 thread,
                 source,
                 handle,
@@ -536,41 +557,36 @@ impl<K: PinKeeper> Manager<K> {
             } => self.duplicate(
                 *thread, *source, *handle, *target, *mask, *inherit, *options,
             ),
-            Call::CloseHandle { thread, handle } => self.close(*thread, *handle),
-            Call::GetFlags { thread, handle } => self.handle_flags(*thread, *handle),
-            Call::SetFlags {
+            CallOf::CloseHandle { thread, handle } => self.close(*thread, *handle),
+            CallOf::GetFlags { thread, handle } => self.handle_flags(*thread, *handle),
+            CallOf::SetFlags {
                 thread,
                 handle,
                 mask,
                 flags,
             } => self.set_handle_flags(*thread, *handle, *mask, *flags),
-            Call::SetEvent { thread, handle } => self.set_event(*thread, *handle),
-            Call::ResetEvent { thread, handle } => self.reset_event(*thread, *handle),
-            Call::ReleaseSemaphore {
+            CallOf::SetEvent { thread, handle } => self.set_event(*thread, *handle),
+            CallOf::ResetEvent { thread, handle } => self.reset_event(*thread, *handle),
+            CallOf::ReleaseSemaphore {
                 thread,
                 handle,
                 count,
             } => self.release_semaphore(*thread, *handle, *count),
-            Call::ReleaseMutex { thread, handle } => self.release_mutex(*thread, *handle),
-            Call::SetTimer {
+            CallOf::ReleaseMutex { thread, handle } => self.release_mutex(*thread, *handle),
+            CallOf::SetTimer {
                 thread,
                 handle,
                 due,
             } => self.set_timer(*thread, *handle, *due),
-            Call::CancelTimer { thread, handle } => self.cancel_timer(*thread, *handle),
-            Call::Tick { now } => self.tick(*now),
-            Call::WaitFor {
-                thread,
-                mode,
-                timeout,
-                handles,
-            } => self.wait(*thread, *mode, *timeout, handles.as_slice()),
-            Call::WaitResult { wait } => self.wait_result(*wait),
-            Call::Expire { wait } => self.expire(*wait),
-            Call::EndThread { thread } => self.end_thread(*thread),
-            Call::Exit { process } => self.exit(*process),
-            Call::Reap { slot } => self.reap(*slot),
-            Call::Counts { id } => self.counts(*id),
+            CallOf::CancelTimer { thread, handle } => self.cancel_timer(*thread, *handle),
+            CallOf::Tick { now } => self.tick(*now),
+            CallOf::WaitFor { .. } => unreachable!(),
+            CallOf::WaitResult { wait } => self.wait_result(*wait),
+            CallOf::Expire { wait } => self.expire(*wait),
+            CallOf::EndThread { thread } => self.end_thread(*thread),
+            CallOf::Exit { process } => self.exit(*process),
+            CallOf::Reap { slot } => self.reap(*slot),
+            CallOf::Counts { id } => self.counts(*id),
         }
     }
 }

@@ -1,5 +1,8 @@
-ghost use Rattle.std.specs.Prelude.{[], ◌∷◌, ℕ, ◌≡◌, ◌≢◌, ◌<◌, ◌≤◌, ◌↔◌, Err, IfErr, IfOk, IsSome, IsTrue, None, Ok, OnOk, Some, length, slice_index_or, true};
+ghost use Rattle.std.specs.Prelude.{[], ◌∷◌, ℕ, ◌≡◌, ◌≢◌, ◌==◌, ◌<◌, ◌≤◌, ◌↔◌, Err, IfErr, IfOk, IsSome, IsTrue, None, Ok, OnOk, Some, length, slice_index_or, true};
+ghost use Rattle.std.specs.Cmp.Lexicographic.{pointwise};
+ghost use Rattle.std.specs.Cmp.Rules.{comparing};
 ghost use Rattle.std.specs.List.{list_any};
+ghost use Rattle.std.proofs.Common.{rules};
 ghost use Rattle.ob_waits.specs.Waits as waits;
 ghost use Rattle.ob_waits.specs.Waits.{nowhere, number_of};
 ghost use Rattle.ob_store.specs.State.{handles_of};
@@ -19,6 +22,7 @@ use ob_waits::{MAXIMUM_WAIT_OBJECTS, Mode, WAIT_TIMEOUT, WaitState};
 use pin_core::{Id, same_id};
 use pin_words::PinKeeper;
 use std::alloc::{AllocError, Global};
+use std::convert::AsSlice;
 use std::marker::Model;
 
 /// How long a thread waits.
@@ -62,12 +66,23 @@ impl HandleList {
     {
         self.handles.as_slice()
     }
+}
 
-    /// Whether the handles are the same.
-    pub fn is_same(&self, other: &HandleList) -> bool
-        ensures { IsTrue result ↔ (self.now ≡ other.now) }
-    {
+impl PartialEq for HandleList {
+    ghost eq = { pointwise ◌==◌ };
+
+    ghost laws = { Prim.search (comparing, rules) };
+
+    fn eq(&self, other: &HandleList) -> bool {
         self.handles.as_slice() == other.handles.as_slice()
+    }
+}
+
+impl AsSlice<u32> for HandleList {
+    ghost items = { λ list. list };
+
+    fn as_slice(&self) -> &[u32] {
+        self.handles.as_slice()
     }
 }
 

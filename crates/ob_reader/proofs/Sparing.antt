@@ -15,7 +15,7 @@ use Rattle.ob_store.specs.Meetings.{IsMet}
 use Rattle.ob_store.specs.Moves.{after_reclaim}
 use Rattle.ob_store.specs.Objects.{Object}
 use Rattle.ob_store.specs.State.{State, Whole, settled}
-use Rattle.ob_manager.specs.declared.call.Call.TheVariants as calls
+use Rattle.ob_manager.specs.declared.call.CallOf.TheVariants as calls
 use Rattle.ob_manager.specs.declared.reply.Reply.{Reply}
 use Rattle.ob_manager.specs.declared.reply.Reply.TheVariants.{Spawned, Started, Made, Exists, Opened, Duplicated, Closed, Done, Flags, Previous, Code, Pending, Expired, Ticked, Ended, Exited, Reaped, CountsAre, Refused}
 use Rattle.ob_manager.specs.Outcomes.{Outcome, ◌>>=◌}

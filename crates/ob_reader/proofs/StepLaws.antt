@@ -8,7 +8,7 @@ use Rattle.pin_words.specs.Keepers.{KeeperState, Reclaims}
 use Rattle.pin_words.specs.Seats.{TableState}
 use Rattle.ob_store.specs.Objects.{Object}
 use Rattle.ob_store.specs.State.{State, Whole}
-use Rattle.ob_manager.specs.declared.call.Call.{Call}
+use Rattle.ob_manager.specs.Calls.{Call}
 use Rattle.ob_manager.specs.declared.reply.Reply.{Reply}
 use Rattle.ob_manager.specs.declared.reply.Reply.TheVariants.{Spawned, Started, Made, Exists, Opened, Duplicated, Closed, Done, Flags, Previous, Code, Pending, Expired, Ticked, Ended, Exited, Reaped, CountsAre, Refused}
 use Rattle.ob_manager.specs.Steps.{Step, does, closes, lacks, Keeps, Publishes}

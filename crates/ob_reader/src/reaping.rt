@@ -4,7 +4,7 @@ ghost use Rattle.pin_words.specs.Keepers.{ReclaimsFound};
 ghost use Rattle.pin_words.specs.Views.{sits};
 ghost use Rattle.ob_manager.specs.Reaping.{IfReaped};
 ghost use Rattle.ob_manager.specs.Steps.{Step};
-ghost use Rattle.ob_manager.specs.declared.call.Call.TheVariants as Call;
+ghost use Rattle.ob_manager.specs.declared.call.CallOf.TheVariants as Call;
 ghost use Rattle.ob_reader.specs.Pinning.{SparesHeld};
 
 use ob_manager::{Manager, Reply};

@@ -8,8 +8,8 @@ use Rattle.ob_waits.specs.declared.wait.Mode.TheVariants.{Any, All}
 use Rattle.ob_manager.specs.declared.waiting.Timeout.{Timeout}
 use Rattle.ob_manager.specs.declared.waiting.Timeout.TheVariants.{Infinite, Millis}
 use Rattle.ob_manager.specs.Makings.{Making}
-use Rattle.ob_manager.specs.declared.call.Call.{Call}
-use Rattle.ob_manager.specs.declared.call.Call.TheVariants.{Spawn, Child, StartThread, MakeEvent, MakeMutex, MakeSemaphore, MakeTimer, OpenNamed, Duplicate, CloseHandle, GetFlags, SetFlags, SetEvent, ResetEvent, ReleaseSemaphore, ReleaseMutex, SetTimer, CancelTimer, Tick, WaitFor, WaitResult, Expire, EndThread, Exit, Reap, Counts}
+use Rattle.ob_manager.specs.Calls.{Call}
+use Rattle.ob_manager.specs.declared.call.CallOf.TheVariants.{Spawn, Child, StartThread, MakeEvent, MakeMutex, MakeSemaphore, MakeTimer, OpenNamed, Duplicate, CloseHandle, GetFlags, SetFlags, SetEvent, ResetEvent, ReleaseSemaphore, ReleaseMutex, SetTimer, CancelTimer, Tick, WaitFor, WaitResult, Expire, EndThread, Exit, Reap, Counts}
 use Rattle.ob_script.specs.Acts.{Act, Nothing, Bad, ListNames, Asks, Pin, Unpin, ShowCard}
 use Rattle.ob_script.specs.Words.{words_of, joined, begins_with, behind, number_of, signed_of, moment_of, due_of, mask_of, kind_of, labelled, id_of, either_of, are_handles, handles_in, ◌>>=◌}
 

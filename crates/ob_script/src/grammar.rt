@@ -480,7 +480,7 @@ fn wait_of(mut words: Words<'_>) -> Act<'_>
     let thread = wanted!(thread);
     let mode = wanted!(mode_of(mode));
     let timeout = wanted!(timeout_of(timeout));
-    let rest = words.rest();
+    let handles = words.rest();
     if !are_handles(words) {
         return Act::Bad;
     }
@@ -488,7 +488,7 @@ fn wait_of(mut words: Words<'_>) -> Act<'_>
         thread,
         mode,
         timeout,
-        rest,
+        handles,
     })
 }
 

@@ -1,7 +1,7 @@
 -- A lane's list, and what a call adds to it.
 use Rattle.std.specs.Prelude.{◌≡◌, ◌⊎◌, ◌==◌, ℕ, List, [], ◌∷◌, ◌++◌, if◌then◌else◌}
 use Rattle.ob_rights.specs.declared.fault.Fault.TheVariants.{Memory}
-use Rattle.ob_manager.specs.declared.call.Call.{Call}
+use Rattle.ob_manager.specs.Calls.{Call}
 use Rattle.ob_manager.specs.declared.reply.Reply.{Reply}
 use Rattle.ob_manager.specs.declared.reply.Reply.TheVariants.{Refused}
 use Rattle.ob_shared.specs.declared.book.Entry.{Entry}

@@ -9,8 +9,8 @@ use Rattle.pin_words.specs.declared.view.ReaderView.{ReaderView}
 use Rattle.pin_words.specs.Seats.{ReaderState}
 use Rattle.pin_words.specs.Tries.{TriesUntilSettled}
 use Rattle.pin_words.specs.Views.{reader_noted, reader_released}
-use Rattle.ob_manager.specs.declared.call.Call.{Call}
-use Rattle.ob_manager.specs.declared.call.Call.TheVariants.{WaitFor, WaitResult}
+use Rattle.ob_manager.specs.Calls.{Call}
+use Rattle.ob_manager.specs.declared.call.CallOf.TheVariants.{WaitFor, WaitResult}
 use Rattle.ob_manager.specs.declared.card.Card.{Card}
 use Rattle.ob_manager.specs.declared.reply.Reply.{Reply}
 use Rattle.ob_manager.specs.declared.reply.Reply.TheVariants.{Pending, Refused}

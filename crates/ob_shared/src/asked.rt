@@ -1,7 +1,7 @@
 //! Which call was made, for proofs alone: it takes no memory, and its function does nothing at run time.
 ghost use Rattle.std.specs.Prelude.{◌≡◌};
 ghost use Rattle.std.specs.Borrow.{ftrue};
-ghost use Rattle.ob_manager.specs.declared.call.Call.{Call};
+ghost use Rattle.ob_manager.specs.Calls.{Call};
 
 use ob_manager::Call;
 use std::marker::Model;

@@ -65,7 +65,7 @@ impl Shared {
     ghost use Rattle.pin_core.specs.Holds.{tally, same_id};
     ghost use Rattle.ob_waits.specs.Waits.{is_pending};
     ghost use Rattle.ob_store.specs.State.{Whole, opening};
-    ghost use Rattle.ob_manager.specs.declared.call.Call.TheVariants as calls;
+    ghost use Rattle.ob_manager.specs.declared.call.CallOf.TheVariants as calls;
     ghost use Rattle.ob_manager.specs.declared.reply.Reply.{Reply};
     ghost use Rattle.ob_manager.specs.declared.reply.Reply.TheVariants as replies;
     ghost use Rattle.ob_store.specs.Consistent.{IsConsistent};

@@ -5,7 +5,7 @@ use Rattle.pin_core.specs.declared.id.Id.{Id}
 use Rattle.pin_words.specs.declared.pin_keeper.Reclaim.{Reclaim}
 use Rattle.pin_words.specs.declared.pin_keeper.Reclaim.TheVariants.{Freed, Retired, Held}
 use Rattle.ob_store.specs.State.{Whole}
-use Rattle.ob_manager.specs.declared.call.Call.{Call}
+use Rattle.ob_manager.specs.Calls.{Call}
 use Rattle.ob_manager.specs.declared.reply.Reply.{Reply}
 use Rattle.ob_manager.specs.declared.reply.Reply.TheVariants.{Spawned, Started, Made, Exists, Opened, Duplicated, Closed, Done, Flags, Previous, Code, Pending, Expired, Ended, Exited, Reaped, CountsAre, Ticked, Refused}
 use Rattle.ob_manager.specs.Steps.{Step}

@@ -1,7 +1,7 @@
 //! Objects, new or by their names.
 ghost use Rattle.std.specs.Prelude.{◌≡◌};
 ghost use Rattle.ob_manager.specs.Makings.{making_of};
-ghost use Rattle.ob_manager.specs.declared.call.Call.TheVariants as Call;
+ghost use Rattle.ob_manager.specs.declared.call.CallOf.TheVariants as Call;
 ghost use Rattle.obman_c.specs.Asking.{asked_for, mask_of, rights_in};
 ghost use Rattle.obman_c.specs.Telling.{TellsAs, opening_in};
 

@@ -1,7 +1,7 @@
 //! Handles.
 ghost use Rattle.std.specs.Prelude.{◌≡◌};
 ghost use Rattle.ob_manager.specs.Handles.{resolve};
-ghost use Rattle.ob_manager.specs.declared.call.Call.TheVariants as Call;
+ghost use Rattle.ob_manager.specs.declared.call.CallOf.TheVariants as Call;
 ghost use Rattle.obman_c.specs.Asking.{mask_of, process_at};
 ghost use Rattle.obman_c.specs.Finding.{Finds};
 ghost use Rattle.obman_c.specs.Telling.{Tells, TellsAs, flags_in, opening_in};

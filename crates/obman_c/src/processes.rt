@@ -1,5 +1,5 @@
 //! Processes and threads.
-ghost use Rattle.ob_manager.specs.declared.call.Call.TheVariants as Call;
+ghost use Rattle.ob_manager.specs.declared.call.CallOf.TheVariants as Call;
 ghost use Rattle.obman_c.specs.Telling.{Tells, TellsAs, member_in, thread_in};
 
 use crate::owner::Owner;

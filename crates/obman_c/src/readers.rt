@@ -4,7 +4,7 @@ ghost use Rattle.pin_core.specs.Holds.{same_id, tally};
 ghost use Rattle.pin_words.specs.Seats.{ReaderState};
 ghost use Rattle.ob_store.specs.State.{Whole};
 ghost use Rattle.ob_manager.specs.Steps.{Step};
-ghost use Rattle.ob_manager.specs.declared.call.Call.{Call};
+ghost use Rattle.ob_manager.specs.Calls.{Call};
 ghost use Rattle.ob_manager.specs.declared.reply.Reply.{Reply};
 ghost use Rattle.obman_c.specs.Pinning.{id_at};
 ghost use Rattle.obman_c.specs.Reading.{AreOfOne, DescribeTold, InspectTold, IsHeld, PinTold, ReaderOpens, UnpinTold, descriptor_of};

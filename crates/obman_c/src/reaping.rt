@@ -1,6 +1,6 @@
 //! Slots taken back, and what refers to objects.
 ghost use Rattle.std.specs.Prelude.{◌≡◌};
-ghost use Rattle.ob_manager.specs.declared.call.Call.TheVariants as Call;
+ghost use Rattle.ob_manager.specs.declared.call.CallOf.TheVariants as Call;
 ghost use Rattle.obman_c.specs.Pinning.{id_at};
 ghost use Rattle.obman_c.specs.Reaping.{ReapsTold};
 ghost use Rattle.obman_c.specs.Telling.{TellsAs, references_in};

@@ -1,5 +1,5 @@
 //! Events, semaphores and mutexes.
-ghost use Rattle.ob_manager.specs.declared.call.Call.TheVariants as Call;
+ghost use Rattle.ob_manager.specs.declared.call.CallOf.TheVariants as Call;
 ghost use Rattle.obman_c.specs.Telling.{Tells, TellsAs, count_in};
 
 use crate::owner::Owner;

@@ -1,5 +1,5 @@
 //! Timers, and the time.
-ghost use Rattle.ob_manager.specs.declared.call.Call.TheVariants as Call;
+ghost use Rattle.ob_manager.specs.declared.call.CallOf.TheVariants as Call;
 ghost use Rattle.obman_c.specs.Telling.{Tells};
 
 use crate::owner::Owner;

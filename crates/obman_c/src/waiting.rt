@@ -1,7 +1,7 @@
 //! Waits.
 ghost use Rattle.std.specs.Prelude.{◌≡◌, None, slice_index_or};
 ghost use Rattle.ob_waits.specs.Waits as waits;
-ghost use Rattle.ob_manager.specs.declared.call.Call.TheVariants as Call;
+ghost use Rattle.ob_manager.specs.declared.call.CallOf.TheVariants as Call;
 ghost use Rattle.obman_c.specs.Telling.{Tells, TellsAs, answer_in};
 ghost use Rattle.ob_manager.specs.declared.waiting.Timeout.TheVariants as Timeout;
 ghost use Rattle.obman_c.specs.Waiting.{mode_of};

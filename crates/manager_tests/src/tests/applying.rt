@@ -1,11 +1,11 @@
 //! Each call that takes memory, and the calls that take none after those that do.
 use super::playing::{over_locked, over_words};
 use super::{FIRST, NAMED_E, NAMED_S, SECOND, THIRD};
-use call_tables::Ask::{
+use call_tables::Step;
+use ob_manager::CallOf::{
     CloseHandle, Counts, MakeEvent, MakeMutex, MakeSemaphore, OpenNamed, Reap, ReleaseMutex,
     ReleaseSemaphore, ResetEvent, SetEvent, Spawn, StartThread,
 };
-use call_tables::Step;
 use ob_manager::Reply::{
     Closed, CountsAre, Done, Exists, Made, Opened, Previous, Reaped, Refused, Spawned, Started,
 };

@@ -1,10 +1,10 @@
 //! Children, and duplicates of handles.
 use super::playing::{over_both, over_locked, over_words};
 use super::{FIRST, NAMED_A, SECOND};
-use call_tables::Ask::{
+use call_tables::{GRANTS_ACROSS_PROCESSES, INHERITANCE, Line, PLAIN, RIGHTS_OF_DUPLICATES, Step};
+use ob_manager::CallOf::{
     Child, CloseHandle, Counts, Duplicate, Exit, MakeEvent, OpenNamed, Reap, SetEvent, Spawn,
 };
-use call_tables::{GRANTS_ACROSS_PROCESSES, INHERITANCE, Line, PLAIN, RIGHTS_OF_DUPLICATES, Step};
 use ob_manager::Limits;
 use ob_manager::Reply::{
     Closed, CountsAre, Done, Duplicated, Exited, Made, Opened, Reaped, Refused, Spawned,

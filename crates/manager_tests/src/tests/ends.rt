@@ -1,11 +1,11 @@
 //! The ends of threads and processes.
 use super::playing::{over_locked, over_words};
 use super::{FIRST, NAMED_E, NAMED_M, SECOND};
-use call_tables::Ask::{
+use call_tables::{PLAIN, Step};
+use ob_manager::CallOf::{
     Child, CloseHandle, Counts, EndThread, Exit, MakeEvent, MakeMutex, Reap, ReleaseMutex, Spawn,
     StartThread,
 };
-use call_tables::{PLAIN, Step};
 use ob_manager::Reply::{
     Closed, CountsAre, Done, Ended, Exited, Made, Reaped, Refused, Spawned, Started,
 };

@@ -1,10 +1,10 @@
 //! Limits at their ends: what is made until there is no more.
 use super::FIRST;
 use super::pinning::{Move, plays_moves};
-use call_tables::Ask::{
+use call_tables::{PLAIN, asked};
+use ob_manager::CallOf::{
     Child, CloseHandle, Counts, Duplicate, MakeEvent, Reap, Spawn, StartThread,
 };
-use call_tables::{PLAIN, asked};
 use ob_manager::Reply::{Closed, Made, Reaped, Refused, Spawned};
 use ob_manager::{Call, Limits, Making, Manager, Reply};
 use ob_rights::{Fault, Rights};

@@ -1,10 +1,10 @@
 //! The flags of handles, and protection from close.
 use super::FIRST;
 use super::playing::over_both;
-use call_tables::Ask::{
+use call_tables::{Line, PLAIN, Step};
+use ob_manager::CallOf::{
     Child, CloseHandle, Counts, Duplicate, Exit, GetFlags, MakeEvent, SetFlags, Spawn,
 };
-use call_tables::{Line, PLAIN, Step};
 use ob_manager::Limits;
 use ob_manager::Reply::{
     Closed, CountsAre, Done, Duplicated, Exited, Flags, Made, Refused, Spawned,

@@ -2,8 +2,8 @@
 use super::filling::{Fill, fills};
 use super::playing::{answers, plays};
 use super::{AGAIN, FIRST, SECOND, holds, same};
-use call_tables::Ask::{CloseHandle, MakeEvent, Reap, Spawn};
 use call_tables::{Line, PLAIN, Step, locked_manager};
+use ob_manager::CallOf::{CloseHandle, MakeEvent, Reap, Spawn};
 use ob_manager::Reply::{Closed, Made, Reaped, Spawned};
 use ob_manager::{Card, Limits, Manager};
 use ob_rights::{Fault, Kind, Rights};

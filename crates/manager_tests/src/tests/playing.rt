@@ -4,9 +4,9 @@ ghost use Rattle.ob_store.specs.State.{shape_of};
 
 use super::pinning::{Move, plays_moves};
 use super::same_at;
-use call_tables::{Ask, Line, Step, asked, manager_over, pins_for, started};
+use call_tables::{Line, Step, asked, manager_over, pins_for, started, takes_memory, to_call};
 use ob_body::Body;
-use ob_manager::{Limits, Manager, Reply};
+use ob_manager::{Ask, Limits, Manager, Reply};
 use ob_rights::{Fault, Kind, Rights};
 use pin_core::Id;
 use pin_words::{Opening, PinKeeper, Pins};
@@ -21,8 +21,8 @@ pub(super) fn answers<K: PinKeeper>(
     table: &[Line<'_>],
 ) -> Result<(), Fault> {
     for (place, (ask, due)) in table.iter().enumerate() {
-        let call = ask.to_call(alloc)?;
-        let reply = asked(manager, &call, ask.takes_memory(*due));
+        let call = to_call(ask, alloc)?;
+        let reply = asked(manager, &call, takes_memory(ask, *due));
         drop(call);
         same_at(rt, reply, *due, place);
     }

@@ -1,10 +1,10 @@
 //! Want of memory leaves nothing behind, and the same call then succeeds: of each call that takes memory.
 use super::{FIRST, NAMED_A, NAMED_E, NAMED_S, SECOND, THIRD, same_at};
-use call_tables::Ask::{
+use call_tables::{Line, PLAIN, asked, locked_manager, takes_memory, to_call};
+use ob_manager::CallOf::{
     Child, Counts, Duplicate, Expire, MakeEvent, MakeMutex, MakeSemaphore, MakeTimer, OpenNamed,
     SetEvent, SetTimer, Spawn, StartThread, Tick, WaitFor, WaitResult,
 };
-use call_tables::{Line, PLAIN, asked, locked_manager};
 use ob_manager::Reply::{
     Code, CountsAre, Done, Duplicated, Exists, Expired, Made, Opened, Pending, Spawned, Started,
     Ticked,
@@ -150,8 +150,8 @@ fn answers_twice(
     table: &[Line<'_>],
 ) -> Result<(), Fault> {
     for (place, (ask, due)) in table.iter().enumerate() {
-        let takes_memory = ask.takes_memory(*due);
-        let call = ask.to_call(alloc)?;
+        let takes_memory = takes_memory(ask, *due);
+        let call = to_call(ask, alloc)?;
         answers_both(rt, manager, twin, &call, takes_memory, *due, place);
         drop(call);
     }

@@ -1,11 +1,11 @@
 //! Timers, deadlines, and which goes first.
 use super::playing::over_both;
 use super::{FIRST, SECOND};
-use call_tables::Ask::{
+use call_tables::{Line, PLAIN, Step};
+use ob_manager::CallOf::{
     CancelTimer, CloseHandle, Counts, MakeEvent, MakeTimer, OpenNamed, Reap, SetEvent, SetTimer,
     Spawn, StartThread, Tick, WaitFor, WaitResult,
 };
-use call_tables::{Line, PLAIN, Step};
 use ob_manager::Reply::{
     Closed, Code, CountsAre, Done, Made, Opened, Pending, Reaped, Refused, Spawned, Started, Ticked,
 };

@@ -1,11 +1,11 @@
 //! Waits, and what they are satisfied or refused by.
 use super::playing::{over_both, over_locked};
 use super::{FIRST, NAMED_A, NAMED_E, NAMED_S, SECOND, THIRD};
-use call_tables::Ask::{
+use call_tables::{KEPT_BY_A_WAIT, Line, NAMED_EVENT_WAITS, PLAIN, Step, WAIT_FOR_ALL};
+use ob_manager::CallOf::{
     CloseHandle, Counts, Expire, MakeEvent, MakeMutex, MakeSemaphore, OpenNamed, Reap,
     ReleaseMutex, ReleaseSemaphore, Spawn, StartThread, WaitFor, WaitResult,
 };
-use call_tables::{KEPT_BY_A_WAIT, Line, NAMED_EVENT_WAITS, PLAIN, Step, WAIT_FOR_ALL};
 use ob_manager::Reply::{
     Closed, Code, CountsAre, Done, Expired, Made, Opened, Pending, Previous, Reaped, Refused,
     Spawned, Started,

@@ -1,8 +1,8 @@
 use super::opening::{Scene, over_shared};
 use super::playing::{answers, asked, is_last, two_lanes};
 use super::{FIRST, holds, same};
-use call_tables::Ask::{MakeEvent, SetEvent, Spawn, StartThread, WaitFor};
 use call_tables::{Line, PLAIN};
+use ob_manager::CallOf::{MakeEvent, SetEvent, Spawn, StartThread, WaitFor};
 use ob_manager::Reply::{Made, Pending, Spawned, Started};
 use ob_manager::{Call, Limits, Mode, Reply, Timeout};
 use ob_rights::Fault;

@@ -3,11 +3,11 @@ use super::members::{Deed, Script};
 use super::opening::{Scene, over_shared};
 use super::playing::answers_one;
 use super::{holds, same};
-use call_tables::Ask::{
+use call_tables::{PLAIN, asked, locked_manager};
+use ob_manager::CallOf::{
     CloseHandle, Counts, Duplicate, MakeEvent, MakeMutex, MakeSemaphore, Reap, ReleaseMutex,
     ReleaseSemaphore, ResetEvent, SetEvent, Spawn, StartThread, WaitFor,
 };
-use call_tables::{PLAIN, asked, locked_manager};
 use ob_manager::Reply::{Made, Spawned, Started};
 use ob_manager::{Call, Limits, Make, Manager, Mode, Reply, Timeout};
 use ob_rights::{Fault, Rights};

@@ -5,8 +5,8 @@ ghost use Rattle.ob_store.specs.State.{shape_of};
 use super::opening::{Scene, over_shared};
 use super::playing::{answers, one_lane};
 use super::{FIRST, SECOND, holds, same};
-use call_tables::Ask::{CloseHandle, MakeEvent, Reap, Spawn};
-use call_tables::{Line, PLAIN, asked, manager_over, pins_for, started};
+use call_tables::{Line, PLAIN, asked, manager_over, pins_for, started, takes_memory, to_call};
+use ob_manager::CallOf::{CloseHandle, MakeEvent, Reap, Spawn};
 use ob_manager::Reply::{Closed, Made, Reaped, Refused, Spawned};
 use ob_manager::{Card, Limits, Manager};
 use ob_rights::{Fault, Kind, Rights};
@@ -218,8 +218,8 @@ fn answers_alone(
     ensures { manager.new.keeper.table ≡ manager.old.keeper.table }
 {
     for (ask, due) in table {
-        let call = ask.to_call(alloc)?;
-        let reply = asked(manager, &call, ask.takes_memory(*due));
+        let call = to_call(ask, alloc)?;
+        let reply = asked(manager, &call, takes_memory(ask, *due));
         drop(call);
         same(rt, reply, *due);
     }

@@ -1,7 +1,7 @@
 use super::opening::{Scene, over_shared};
 use super::{FIRST, holds};
-use call_tables::Ask::{Counts, MakeEvent, Spawn};
 use call_tables::{PLAIN, Step};
+use ob_manager::CallOf::{Counts, MakeEvent, Spawn};
 use ob_manager::Reply::{CountsAre, Made, Spawned};
 use ob_manager::{Call, Limits};
 use ob_rights::Fault;

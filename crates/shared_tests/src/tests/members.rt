@@ -5,7 +5,8 @@ ghost use Rattle.ob_shared.specs.Members.{IsNew};
 use super::playing::{answers, room_for};
 use super::turns::{Turns, Until};
 use super::{crowd, holds, turns, wanting};
-use call_tables::{Ask, Line};
+use call_tables::{Line, to_call};
+use ob_manager::Ask;
 use ob_rights::Fault;
 use ob_shared::{Act, Gate, Lane, Member, OpenGate, Shared, drive};
 use pin_core::Id;
@@ -38,7 +39,7 @@ impl Deed<'_> {
     /// The act, with a name or handles of its own.
     fn to_act(self, alloc: Global) -> Result<Act, AllocError> {
         match self {
-            Deed::Ask(ask) => Ok(Act::Ask(ask.to_call(alloc)?)),
+            Deed::Ask(ask) => Ok(Act::Ask(to_call(&ask, alloc)?)),
             Deed::Pin(id) => Ok(Act::Pin(id)),
             Deed::Unpin(id) => Ok(Act::Unpin(id)),
             Deed::ShowCard(id) => Ok(Act::ShowCard(id)),

@@ -2,10 +2,10 @@
 use super::opening::{Scene, over_shared};
 use super::{holds, same};
 use call_tables::{
-    Ask, GRANTS_ACROSS_PROCESSES, INHERITANCE, KEPT_BY_A_WAIT, Line, NAMED_EVENT_WAITS,
-    RIGHTS_OF_DUPLICATES, Step, WAIT_FOR_ALL,
+    GRANTS_ACROSS_PROCESSES, INHERITANCE, KEPT_BY_A_WAIT, Line, NAMED_EVENT_WAITS,
+    RIGHTS_OF_DUPLICATES, Step, WAIT_FOR_ALL, to_call,
 };
-use ob_manager::{Call, Limits, Reply};
+use ob_manager::{Ask, Call, Limits, Reply};
 use ob_rights::Fault;
 use ob_shared::{Lane, Shared};
 use std::alloc::Global;
@@ -22,7 +22,7 @@ fn asked_once<R: Wait>(
     lane: &mut Lane,
     ask: Ask<'_>,
 ) -> Result<Reply, Fault> {
-    Ok(shared.call(rt, lane, ask.to_call(alloc)?))
+    Ok(shared.call(rt, lane, to_call(&ask, alloc)?))
 }
 
 /// The reply to a call of a lane. It is made again where memory was wanting: nothing was changed then, but the lane may list that
@@ -63,7 +63,7 @@ fn is_answered<R: Wait>(
     let (ask, due) = line;
     let listed = lane.receipts().len();
     let reply = asked(rt, alloc, shared, lane, ask)?;
-    let call = ask.to_call(alloc)?;
+    let call = to_call(&ask, alloc)?;
     let is_listed = is_last(lane, &call, reply);
     drop(call);
     Ok(is_listed && reply == due && lane.receipts().len() > listed)

@@ -2,10 +2,10 @@
 use super::opening::{Scene, over_shared};
 use super::playing::{answers_one, asked, one_lane};
 use super::{holds, same};
-use call_tables::Ask::{CloseHandle, MakeSemaphore, Reap, Spawn};
-use call_tables::{Ask, PLAIN};
+use call_tables::PLAIN;
+use ob_manager::CallOf::{CloseHandle, MakeSemaphore, Reap, Spawn};
 use ob_manager::Reply::{Closed, Made, Reaped, Spawned};
-use ob_manager::{Limits, Reply};
+use ob_manager::{Ask, Limits, Reply};
 use ob_rights::{Fault, Kind};
 use ob_shared::{Lane, Shared};
 use pin_core::{Descr, Id};

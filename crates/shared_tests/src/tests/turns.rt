@@ -1,8 +1,8 @@
 use super::members::{Deed, Script};
 use super::opening::{Scene, over_shared};
 use super::{FIRST, SECOND};
-use call_tables::Ask::{MakeEvent, SetEvent, Spawn, StartThread};
 use call_tables::{Line, PLAIN};
+use ob_manager::CallOf::{MakeEvent, SetEvent, Spawn, StartThread};
 use ob_manager::Reply::{Made, Spawned, Started};
 use ob_manager::{Limits, Reply};
 use ob_shared::{Entry, Gate, Member, Pass, Seen};

@@ -1,8 +1,8 @@
 use super::FIRST;
 use super::members::{Deed, Script};
 use super::opening::{Scene, over_shared};
-use call_tables::Ask::{MakeEvent, Spawn, WaitFor};
 use call_tables::{Line, PLAIN};
+use ob_manager::CallOf::{MakeEvent, Spawn, WaitFor};
 use ob_manager::Reply::{Made, Spawned};
 use ob_manager::{Limits, Mode, Timeout};
 use std::test::Fail;

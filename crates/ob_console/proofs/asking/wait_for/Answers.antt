@@ -1,6 +1,6 @@
 use Rattle.std.proofs.Common.{subst, ◌∙◌, List, ℕ}
 use Rattle.ob_manager.specs.Steps.{Step}
-use Rattle.ob_manager.specs.declared.call.Call.TheVariants as calls
+use Rattle.ob_manager.specs.declared.call.CallOf.TheVariants as calls
 use Rattle.ob_script.specs.Words.{handles_in}
 use Rattle.ob_script.specs.WordsLeft.{words_left}
 use Rattle.ob_console.proofs.Waited.{step_of_beginning}

@@ -2,7 +2,7 @@ use Rattle.std.proofs.Common.{◌<◌, ℕ, sym, subst}
 use Rattle.pin_core.specs.declared.shape.Shape.{Shape}
 use Rattle.ob_manager.specs.Reaping.{IfReaped}
 use Rattle.ob_manager.specs.Steps.{Step}
-use Rattle.ob_manager.specs.declared.call.Call.TheVariants as Call
+use Rattle.ob_manager.specs.declared.call.CallOf.TheVariants as Call
 use Rattle.ob_store.specs.Meetings.{IsMet}
 use Rattle.ob_reader.specs.Pinning.{SparesHeld}
 use Rattle.ob_reader.proofs.Sparing.{spares}

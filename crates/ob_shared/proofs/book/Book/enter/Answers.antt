@@ -1,5 +1,5 @@
 use Rattle.std.proofs.Common.{[], ◌∷◌, ◌++◌, List, ap, sym, subst, ◌∙◌}
-use Rattle.ob_manager.specs.declared.call.Call.{Call}
+use Rattle.ob_manager.specs.Calls.{Call}
 use Rattle.ob_manager.specs.Steps.{Step}
 use Rattle.ob_shared.specs.declared.book.Entry.{Entry}
 use Rattle.ob_shared.specs.Journal.{IsHistory}
