@@ -9,7 +9,7 @@ use Rattle.ob_waits.specs.Objects.{Objects, slot_signaled, without_blocks}
 use Rattle.ob_waits.specs.Rules.{IsSettled}
 use Rattle.ob_waits.specs.Waits.{has_slot, unless_of}
 use Rattle.ob_waits.proofs.Settled.{settled_dropped}
-use Rattle.ob_store.specs.Signaled.{SignaledState, IsEnough, KeepsEnough}
+use Rattle.ob_store.specs.Signaled.{SignaledState, IsEnough, KeepsEnough, in_slot}
 use Rattle.ob_store.specs.UnderWay.{AreLeft}
 use Rattle.ob_store.proofs.LeftLaws.{left_blocks, less_gone}
 
@@ -39,15 +39,15 @@ not_listed (x ∷ ids) id k h =
     let none = rest.0 in (grind (arith, h, none), rest.1)
 
 -- a slot was noted, and its body changed
-pub enough_added : (a b : SignaledState) (p q : Objects) (id : Id) (x : Option Body) → q ≡ record p { bodies = set p.bodies id.slot x }
-    → (b.whole ≡ true → b.ids ≡ a.ids ++ id ∷ []) → (b.whole ≡ true → a.whole ≡ true) → KeepsEnough a p.bodies b q.bodies
-enough_added a b p q id x is added before ws enough = record {
+pub enough_added : (a b : SignaledState) (p q : Objects) (slot : ℕ) (x : Option Body) → q ≡ record p { bodies = set p.bodies slot x }
+    → (b.whole ≡ true → b.ids ≡ a.ids ++ in_slot slot ∷ []) → (b.whole ≡ true → a.whole ≡ true) → KeepsEnough a p.bodies b q.bodies
+enough_added a b p q slot x is added before ws enough = record {
   each = λ whole. let e = enough.each (before whole) in record {
     before = e.before;
     settled = e.settled;
     less = λ t k out signaled.
-        let apart = not_listed a.ids id k (ap (λ (ids : List Id). has_slot ids k) (sym (added whole)) ∙ out) in
-        let stays : get_or q.bodies k None ≡ get_or p.bodies k None = ap (λ (o : Objects). get_or o.bodies k None) is ∙ get_or-set_other p.bodies id.slot k x None apart.1 in
+        let apart = not_listed a.ids (in_slot slot) k (ap (λ (ids : List Id). has_slot ids k) (sym (added whole)) ∙ out) in
+        let stays : get_or q.bodies k None ≡ get_or p.bodies k None = ap (λ (o : Objects). get_or o.bodies k None) is ∙ get_or-set_other p.bodies slot k x None apart.1 in
         e.less t k apart.0 (sym (ap (slot_signaled t) stays) ∙ signaled);
   };
 }

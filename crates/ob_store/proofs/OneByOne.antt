@@ -4,10 +4,11 @@ use Rattle.std.proofs.Math.Seq.{map-set_same}
 use Rattle.std.proofs.lemmas.List.{length-map, get_or-map, ext_get_or}
 use Rattle.ob_body.specs.declared.body.Body.{Body}
 use Rattle.ob_waits.specs.Objects.{Objects}
+use Rattle.ob_store.specs.Objects.{changed_at}
 
 module _ (f : Option Body → Option Body) where
   -- a slot that changed before the others do
-  pub one_before : ((x : Option Body) → f (f x) ≡ f x) → (k : ℕ) (o p : Objects) → p ≡ record o { bodies = set o.bodies k (f (get_or o.bodies k None)) }
+  pub one_before : ((x : Option Body) → f (f x) ≡ f x) → (k : ℕ) (o p : Objects) → p ≡ changed_at o k f
       → record p { bodies = map f p.bodies } ≡ record o { bodies = map f o.bodies }
   one_before twice k o p is =
       let bodies : map f (set o.bodies k (f (get_or o.bodies k None))) ≡ map f o.bodies = map-set_same f o.bodies k (f (get_or o.bodies k None)) None (twice (get_or o.bodies k None)) in

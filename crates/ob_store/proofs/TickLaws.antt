@@ -18,7 +18,7 @@ use Rattle.ob_waits.specs.Objects.{Objects, slot_room}
 use Rattle.ob_waits.proofs.Room.{room_changed}
 use Rattle.ob_store.specs.Signaled.{SignaledState}
 use Rattle.ob_store.specs.Agreement.{IsTied}
-use Rattle.ob_store.specs.Objects.{Object, ObjectsState, KeptRest, kept_rest}
+use Rattle.ob_store.specs.Objects.{Object, ObjectsState, KeptRest, changed_at, kept_rest}
 use Rattle.ob_store.specs.Parts.{PartsState, state_of}
 use Rattle.ob_store.specs.Ticks.{slot_fired, slot_is_due}
 use Rattle.ob_store.specs.Kept.{IsKept, AreFormed, form_in, unset}
@@ -77,7 +77,7 @@ due_within now bodies k due = elim (cases_lt k (length bodies)) [
   | inr past ↦ absurd (let none = ap (slot_is_due now) (get_or_past bodies k None past) in cc (none, due))
 ]
 
-pub fewer_due : (now k : ℕ) (o p : Objects) → p ≡ record o { bodies = set o.bodies k (slot_fired now (get_or o.bodies k None)) } → slot_is_due now (get_or o.bodies k None) ≡ true → count_by (slot_is_due now) p.bodies < count_by (slot_is_due now) o.bodies
+pub fewer_due : (now k : ℕ) (o p : Objects) → p ≡ changed_at o k (slot_fired now) → slot_is_due now (get_or o.bodies k None) ≡ true → count_by (slot_is_due now) p.bodies < count_by (slot_is_due now) o.bodies
 fewer_due now k o p is due =
     let f : Option Body → ℕ = λ x. cond (slot_is_due now x) 1 0 in
     let y = slot_fired now (get_or o.bodies k None) in

@@ -102,6 +102,10 @@ seat_block_left seat = record seat { blocks = seat.blocks - 1; body = if seat.ha
 abbrev pub seen_in : List (Option Seat) → waits.Objects
 seen_in seats = record { bodies = map seat_body seats; handles = map seat_handles seats; blocks = map seat_blocks seats }
 
+-- one body changed
+abbrev pub changed_at : waits.Objects → ℕ → (Option Body → Option Body) → waits.Objects
+changed_at o slot change = record o { bodies = slice_set o.bodies slot (change (slice_index_or o.bodies slot None)) }
+
 abbrev pub places_of : Slots Seat → List Tag → Places
 places_of s tags = record { objects = objects_in s.bodies tags; seen = seen_in s.bodies; retired = s.retired }
 

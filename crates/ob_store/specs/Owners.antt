@@ -1,5 +1,6 @@
 -- How many mutexes each thread owns, of the threads that are counted.
 use Rattle.std.specs.Prelude.{◌≡◌, ℕ, ◌+◌, ◌-◌, ◌≤◌, Bool, List, Option, Some, None, slice_index_or, slice_set, length, count_by}
+use Rattle.ob_body.specs.declared.body.Body.{Body}
 use Rattle.ob_body.specs.Mutex.{is_owner}
 use Rattle.ob_waits.specs.Form.{slot_owner}
 use Rattle.ob_store.specs.declared.seat.Seat.{Seat}
@@ -11,6 +12,10 @@ seat_owner x = slot_owner (seat_body x)
 
 abbrev pub is_seat_of : ℕ → Option Seat → Bool
 is_seat_of thread x = is_owner thread (seat_owner x)
+
+-- whether a thread owns the mutex in a slot
+abbrev pub owns_at : ℕ → List (Option Body) → ℕ → Bool
+owns_at thread bodies slot = is_owner thread (slot_owner (slice_index_or bodies slot None))
 
 abbrev pub owned_left : List ℕ → Option ℕ → List ℕ
 owned_left counts None = counts

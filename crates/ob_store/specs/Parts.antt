@@ -2,7 +2,7 @@
 use Rattle.std.specs.Prelude.{map}
 use Rattle.ob_name.specs.Listing.{Rows}
 use Rattle.ob_tables.specs.Tables.{HandleTables}
-use Rattle.ob_waits.specs.Waits.{WaitList}
+use Rattle.ob_waits.specs.Waits.{Scene, WaitList}
 use Rattle.ob_store.specs.declared.limits.Limits.{Limits}
 use Rattle.ob_store.specs.declared.parts.Parts.{Parts}
 use Rattle.ob_store.specs.Processes.{ProcessesState}
@@ -21,6 +21,9 @@ pub record PartsState : Type 0 where
 
 abbrev pub parts_of : {K : Type 0} → Parts K → PartsState
 parts_of p = record { limits = p.limits; processes = p.processes; tables = p.tables; objects = p.objects; waits = p.waits; rows = p.names.rows; signaled = p.signaled }
+
+abbrev pub scene_in : {K : Type 0} → Parts K → Scene
+scene_in p = record { objects = p.objects.seen; waits = p.waits.waits }
 
 abbrev pub state_of : PartsState → State
 state_of p = record {

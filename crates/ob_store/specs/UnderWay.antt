@@ -46,3 +46,8 @@ tables_left tables process places n = slice_set tables process (without_first n 
 
 abbrev pub with_left : PartsState → ℕ → List (Option Entry) → ℕ → PartsState
 with_left p process places n = record p { tables = record p.tables { tables = tables_left p.tables.tables process places n } }
+
+-- where the first n entries had left the first m have
+abbrev pub CarriesEntries : {K : Type 0} → Parts K → Parts K → ℕ → List (Option Entry) → ℕ → ℕ → Type 0
+CarriesEntries old new process places n m = (first : KeeperState) (s : State) → IsEnding first (with_left (parts_of old) process places n) s
+    → IsEnding first (with_left (parts_of new) process places m) (record s { tables = tables_left old.tables.tables process places m })

@@ -1,8 +1,6 @@
 ghost use Rattle.std.specs.Prelude.{false, ◌≡◌, ◌+◌, ◌<◌, ℕ, List, Option, IsSome, None, Some, if◌then◌else◌, length, map, slice_index_or, slice_set};
 ghost use Rattle.pin_words.specs.Keepers.{KeeperState};
 ghost use Rattle.ob_waits.specs.Objects.{without_blocks};
-ghost use Rattle.ob_body.specs.Mutex.{is_owner};
-ghost use Rattle.ob_waits.specs.Form.{slot_owner};
 ghost use Rattle.ob_waits.specs.Rules.{IsKept as AreWaits};
 ghost use Rattle.ob_waits.specs.declared.wait.Wait.{Wait};
 ghost use Rattle.ob_store.specs.Signaled.{KeepsEnough};
@@ -11,10 +9,11 @@ ghost use Rattle.ob_store.specs.Ends.{abandoned_by, exited, left, process_ended,
 ghost use Rattle.ob_store.specs.Processes.{is_of};
 ghost use Rattle.ob_store.specs.Moves.{OnlyCloses};
 ghost use Rattle.ob_store.specs.Objects.{kept_rest};
+ghost use Rattle.ob_store.specs.Owners.{owns_at};
 ghost use Rattle.ob_store.specs.Kept.{IsSound};
 ghost use Rattle.ob_store.specs.Parts.{parts_of};
 ghost use Rattle.ob_store.specs.State.{State, settled};
-ghost use Rattle.ob_store.specs.UnderWay.{Carries, IsEnding, tables_left, with_left};
+ghost use Rattle.ob_store.specs.UnderWay.{Carries, CarriesEntries, with_left};
 
 use crate::entries::leave_directory;
 use crate::objects::Objects;
@@ -23,7 +22,6 @@ use crate::signaled::SignaledSlots;
 use crate::store::Store;
 use ob_tables::Entry;
 use ob_waits::{Bodies, Waits, leave_all};
-use pin_core::Id;
 use pin_words::PinKeeper;
 
 /// The objects of a thread's wait are no longer referred to by it.
@@ -51,14 +49,11 @@ fn abandon_at<K: PinKeeper>(
     ensures seen { abandoned_by thread objects.new.seen ≡ abandoned_by thread objects.old.seen }
     ensures rest { kept_rest objects.new ≡ kept_rest objects.old }
     ensures enough { KeepsEnough signaled.old objects.old.seen.bodies signaled.new objects.new.seen.bodies }
-    ensures gone { is_owner thread (slot_owner (slice_index_or objects.new.seen.bodies slot None)) ≡ false }
-    ensures others { (k : ℕ) → is_owner thread (slot_owner (slice_index_or objects.old.seen.bodies k None)) ≡ false → is_owner thread (slot_owner (slice_index_or objects.new.seen.bodies k None)) ≡ false }
+    ensures gone { owns_at thread objects.new.seen.bodies slot ≡ false }
+    ensures others { (k : ℕ) → owns_at thread objects.old.seen.bodies k ≡ false → owns_at thread objects.new.seen.bodies k ≡ false }
 {
     if objects.abandon_at(slot, thread) {
-        signaled.add(Id {
-            slot,
-            generation: 0,
-        });
+        signaled.add(slot);
     }
 }
 
@@ -135,7 +130,7 @@ impl<K: PinKeeper> Parts<K> {
         requires sound { IsSound (with_left (parts_of self.old) process places.now place) }
         requires table { process < length self.old.tables.tables }
         requires within { place < length places.now }
-        ensures carries { (first : KeeperState) (s : State) → IsEnding first (with_left (parts_of self.old) process places.now place) s → IsEnding first (with_left (parts_of self.new) process places.now (place + 1)) (record s { tables = tables_left self.old.tables.tables process places.now (place + 1) }) }
+        ensures carries { CarriesEntries self.old self.new process places.now place (place + 1) }
         ensures sound { IsSound (with_left (parts_of self.new) process places.now (place + 1)) }
         ensures rest { self.new ≡ record self.old { objects = self.new.objects; names = self.new.names } }
     {
@@ -152,7 +147,7 @@ impl<K: PinKeeper> Parts<K> {
     fn leave_entries(&mut self, process: u32, places: &[Option<Entry>])
         requires sound { IsSound (with_left (parts_of self.old) process places.now 0) }
         requires table { process < length self.old.tables.tables }
-        ensures carries { (first : KeeperState) (s : State) → IsEnding first (with_left (parts_of self.old) process places.now 0) s → IsEnding first (with_left (parts_of self.new) process places.now (length places.now)) (record s { tables = tables_left self.old.tables.tables process places.now (length places.now) }) }
+        ensures carries { CarriesEntries self.old self.new process places.now 0 (length places.now) }
         ensures rest { self.new ≡ record self.old { objects = self.new.objects; names = self.new.names } }
     {
         for place in 0..places.len() {

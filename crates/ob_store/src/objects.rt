@@ -4,10 +4,9 @@ ghost use Rattle.pin_words.specs.Keepers.{IsFresh};
 ghost use Rattle.pin_words.specs.Views.{id_of};
 ghost use Rattle.pin_core.specs.Descrs.{IsGiven};
 ghost use Rattle.ob_arena.specs.Slots.{is_vacant_at, least_vacant};
-ghost use Rattle.ob_body.specs.Mutex.{is_owner};
-ghost use Rattle.ob_waits.specs.Form.{slot_owner};
 ghost use Rattle.ob_waits.specs.Waits.{nowhere};
-ghost use Rattle.ob_store.specs.Objects.{kept_rest, object_of, tag_of, places_in, with_keeper, vacant_places, vacancy, with_object, with_handle_of, with_handle_at, with_handles_of, without_handle_of, with_block_of, with_blocks_of};
+ghost use Rattle.ob_store.specs.Owners.{owns_at};
+ghost use Rattle.ob_store.specs.Objects.{changed_at, kept_rest, object_of, tag_of, places_in, with_keeper, vacant_places, vacancy, with_object, with_handle_of, with_handle_at, with_handles_of, without_handle_of, with_block_of, with_blocks_of};
 ghost use Rattle.ob_store.specs.Agreement.{IsTied, Reclaimed};
 ghost use Rattle.ob_store.specs.Ends.{slot_left_by};
 ghost use Rattle.ob_store.specs.Ticks.{slot_fired, slot_is_due};
@@ -210,28 +209,24 @@ impl<K: PinKeeper> Objects<K> {
 
     /// The mutex in a slot is abandoned, where the thread owns it; whether it did.
     pub fn abandon_at(&mut self, slot: u32, thread: u32) -> bool
-        ensures owned { result ≡ is_owner thread (slot_owner (slice_index_or self.old.seen.bodies slot None)) }
-        ensures seen { self.new.seen ≡ record self.old.seen { bodies = slice_set self.old.seen.bodies slot (slot_left_by thread (slice_index_or self.old.seen.bodies slot None)) } }
+        ensures owned { result ≡ owns_at thread self.old.seen.bodies slot }
+        ensures seen { self.new.seen ≡ changed_at self.old.seen slot (slot_left_by thread) }
         ensures rest { kept_rest self.new ≡ kept_rest self.old }
     {
-        let id = Id {
-            slot,
-            generation: 0,
-        };
-        let Some(mut body) = self.body(id) else {
+        let Some(mut body) = self.seats.body(slot) else {
             return false;
         };
         if body.owner() != Some(thread) {
             return false;
         }
         body.abandon(thread);
-        self.put(id, body);
+        self.seats.put(slot, body);
         true
     }
 
     /// Whether it is known that a thread owns no mutex.
     pub fn owns_none(&self, thread: u32) -> bool
-        ensures { IsTrue result → (k : ℕ) → is_owner thread (slot_owner (slice_index_or self.now.seen.bodies k None)) ≡ false }
+        ensures { IsTrue result → (k : ℕ) → owns_at thread self.now.seen.bodies k ≡ false }
     {
         self.seats.owns_none(thread)
     }
@@ -247,21 +242,17 @@ impl<K: PinKeeper> Objects<K> {
     /// The timer in a slot fires, if it is due.
     #[tactic(auto, using(crate::proofs::TickLaws::fired_another))]
     pub(crate) fn fire_at(&mut self, slot: u32, now: u64)
-        ensures seen { self.new.seen ≡ record self.old.seen { bodies = slice_set self.old.seen.bodies slot (slot_fired now (slice_index_or self.old.seen.bodies slot None)) } }
+        ensures seen { self.new.seen ≡ changed_at self.old.seen slot (slot_fired now) }
         ensures rest { kept_rest self.new ≡ kept_rest self.old }
     {
-        let id = Id {
-            slot,
-            generation: 0,
-        };
-        let Some(mut body) = self.body(id) else {
+        let Some(mut body) = self.seats.body(slot) else {
             return;
         };
         if body.kind() != Kind::Timer {
             return;
         }
         body.fire(now);
-        self.put(id, body);
+        self.seats.put(slot, body);
     }
 
     /// Takes the slot of an ended object back, unless somebody holds it: the object leaves it, and where it was at its last
@@ -308,12 +299,12 @@ impl<K: PinKeeper> Bodies for Objects<K> {
     ghost rest = { kept_rest };
 
     fn body(&self, id: Id) -> Option<Body> {
-        self.seats.body(id)
+        self.seats.body(id.slot)
     }
 
     #[inline(always)]
     fn put(&mut self, id: Id, body: Body) {
-        self.seats.put(id, body);
+        self.seats.put(id.slot, body);
     }
 
     #[tactic(auto, using(crate::proofs::BodyLaws::signaled_some))]

@@ -1,10 +1,10 @@
 ghost use Rattle.std.specs.Prelude.{◌≡◌, ◌<◌, ◌≤◌, ◌&&◌, ℕ, false, true, IfNone, IfOk, IfSome, IsSome, IsTrue, None, Some, is_some, length, slice_index_or, slice_set};
 ghost use Rattle.std.specs.Option.{option_map};
-ghost use Rattle.ob_body.specs.Mutex.{is_owner};
 ghost use Rattle.ob_waits.specs.Form.{slot_due, slot_owner};
 ghost use Rattle.ob_arena.specs.Slots.{is_vacant_at, least_vacant};
-ghost use Rattle.ob_waits.specs.Objects.{body_of, slot_room, with_body, without_block};
+ghost use Rattle.ob_waits.specs.Objects.{body_of, slot_room, without_block};
 ghost use Rattle.ob_waits.specs.Waits.{is_abandoned, is_signaled, with_acquired};
+ghost use Rattle.ob_store.specs.Owners.{owns_at};
 ghost use Rattle.ob_store.specs.Ticks.{slot_is_due};
 ghost use Rattle.ob_store.specs.Objects.{object_of, tag_of, tags_in, rest_of, vacant_places, vacancy, with_seat, with_handle, without_handle, is_last_handle, with_block, is_last_block, without_seat, with_retired};
 
@@ -124,7 +124,7 @@ impl Seats {
 
     /// Whether it is known that a thread owns no mutex.
     pub(crate) fn owns_none(&self, thread: u32) -> bool
-        ensures { IsTrue result → (k : ℕ) → is_owner thread (slot_owner (slice_index_or self.now.seen.bodies k None)) ≡ false }
+        ensures { IsTrue result → (k : ℕ) → owns_at thread self.now.seen.bodies k ≡ false }
     {
         self.owners.has_none(thread)
     }
@@ -266,27 +266,27 @@ impl Seats {
     }
 
     /// The body of an object.
-    pub(crate) fn body(&self, id: Id) -> Option<Body>
-        ensures { result ≡ body_of self.now.seen.bodies id }
+    pub(crate) fn body(&self, slot: u32) -> Option<Body>
+        ensures { result ≡ slice_index_or self.now.seen.bodies slot None }
     {
-        if self.arena.is_occupied(id.slot) {
-            return self.arena.get(id.slot).body;
+        if self.arena.is_occupied(slot) {
+            return self.arena.get(slot).body;
         }
         None
     }
 
     /// Changes the body of an object that has one.
     #[inline(always)]
-    pub(crate) fn put(&mut self, id: Id, body: Body)
-        requires { IsSome (body_of self.old.seen.bodies id) }
-        ensures objects { self.new.seen ≡ with_body self.old.seen id body }
+    pub(crate) fn put(&mut self, slot: u32, body: Body)
+        requires { IsSome (slice_index_or self.old.seen.bodies slot None) }
+        ensures objects { self.new.seen ≡ record self.old.seen { bodies = slice_set self.old.seen.bodies slot (Some body) } }
         ensures rest { rest_of self.new ≡ rest_of self.old }
     {
         let owner = body.owner();
         let due = body.due();
-        let was = self.arena.get_mut(id.slot).put(body);
-        self.owners.moved(id.slot, was.owner, owner);
-        self.timers.moved(id.slot, was.due, due);
+        let was = self.arena.get_mut(slot).put(body);
+        self.owners.moved(slot, was.owner, owner);
+        self.timers.moved(slot, was.due, due);
     }
 
     /// A thread acquires an object that is signaled for it; whether that was an abandoned mutex.

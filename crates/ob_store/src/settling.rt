@@ -4,7 +4,7 @@ ghost use Rattle.ob_waits.specs.Waits.{settled as waits_settled};
 ghost use Rattle.pin_words.specs.Keepers.{KeeperState};
 ghost use Rattle.ob_store.specs.Kept.{IsKept, IsSound};
 ghost use Rattle.ob_store.specs.Moves.{OnlyCloses};
-ghost use Rattle.ob_store.specs.Parts.{parts_of, state_of};
+ghost use Rattle.ob_store.specs.Parts.{parts_of, scene_in, state_of};
 ghost use Rattle.ob_store.specs.Signaled.{IsEnough};
 ghost use Rattle.ob_store.specs.State.{State, settled};
 ghost use Rattle.ob_store.specs.UnderWay.{IsUnderWay};
@@ -19,7 +19,7 @@ impl<K: PinKeeper> Parts<K> {
     pub(crate) fn settle(&mut self)
         requires sound { IsSound (parts_of self.old) }
         requires enough { IsEnough self.old.signaled self.old.objects.seen.bodies self.old.waits.waits }
-        ensures value { record { objects = self.new.objects.seen; waits = self.new.waits.waits } ≡ waits_settled (record { objects = self.old.objects.seen; waits = self.old.waits.waits }) }
+        ensures value { scene_in self.new ≡ waits_settled (scene_in self.old) }
         ensures kept { IsKept (parts_of self.new) }
         ensures state { (first : KeeperState) (s : State) → IsUnderWay first (parts_of self.old) s → state_of (parts_of self.new) ≡ settled s }
         ensures keeper { OnlyCloses self.old.objects.keeper self.new.objects.keeper }

@@ -1,5 +1,5 @@
 ghost use Rattle.std.specs.Prelude.{◌≡◌, ◌++◌, ◌∷◌, [], true, false, IfOk};
-ghost use Rattle.ob_store.specs.Signaled.{SignaledState, none_signaled};
+ghost use Rattle.ob_store.specs.Signaled.{SignaledState, in_slot, none_signaled};
 
 use pin_core::Id;
 use std::alloc::{AllocError, Global};
@@ -42,12 +42,15 @@ impl SignaledSlots {
     }
 
     /// Adds a slot. Where there is no room for it the list isn't whole from then on. It takes no memory.
-    pub(crate) fn add(&mut self, id: Id)
-        ensures added { self.new.whole ≡ true → self.new.ids ≡ self.old.ids ++ id ∷ [] }
+    pub(crate) fn add(&mut self, slot: u32)
+        ensures added { self.new.whole ≡ true → self.new.ids ≡ self.old.ids ++ in_slot slot ∷ [] }
         ensures before { self.new.whole ≡ true → self.old.whole ≡ true }
     {
         if self.ids.len() < self.ids.capacity() {
-            self.ids.push_reserved(id);
+            self.ids.push_reserved(Id {
+                slot,
+                generation: 0,
+            });
         } else {
             self.is_whole = false;
         }

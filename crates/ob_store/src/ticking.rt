@@ -11,7 +11,6 @@ use crate::objects::Objects;
 use crate::signaled::SignaledSlots;
 use crate::store::Store;
 use ob_waits::LAST_MOMENT;
-use pin_core::Id;
 use pin_words::PinKeeper;
 
 /// The timers that are due fire, and their slots are noted. It looks at these alone.
@@ -22,10 +21,7 @@ fn fire_all<K: PinKeeper>(objects: &mut Objects<K>, signaled: &mut SignaledSlots
     ensures undue { (k : ℕ) → slot_is_due now (slice_index_or objects.new.seen.bodies k None) ≡ false }
 {
     while let Some(slot) = objects.next_due(now) {
-        signaled.add(Id {
-            slot,
-            generation: 0,
-        });
+        signaled.add(slot);
         objects.fire_at(slot, now);
     }
 }

@@ -5,6 +5,7 @@ use Rattle.ob_body.specs.Mutex.{is_owner}
 use Rattle.ob_waits.specs.Form.{slot_owner}
 use Rattle.ob_waits.specs.Objects.{Objects}
 use Rattle.ob_store.specs.Ends.{slot_left_by}
+use Rattle.ob_store.specs.Owners.{owns_at}
 use Rattle.ob_store.proofs.OneByOne.{all_done}
 use Rattle.ob_store.proofs.OwnerLaws.{left_by_other}
 use Rattle.ob_store.proofs.ending.abandon.Goals as goal
@@ -15,7 +16,7 @@ loop-slot-preserved g c = record {
   rest = c.abandon_at.ensures.rest ∙ c.loop-slot.invariant.rest;
   enough = λ waits enough. c.abandon_at.ensures.enough waits (c.loop-slot.invariant.enough waits enough);
   none = λ k lt. elim (cases_eq k c.loop-slot.slot) [
-    | inl same ↦ ap (λ i. is_owner c.args.thread (slot_owner (get_or c.abandon_at.new.objects.seen.bodies i None))) same ∙ c.abandon_at.ensures.gone
+    | inl same ↦ ap (λ i. owns_at c.args.thread c.abandon_at.new.objects.seen.bodies i) same ∙ c.abandon_at.ensures.gone
     | inr other ↦ c.abandon_at.ensures.others k (c.loop-slot.invariant.none k (omega (arith, lt, other)))
   ];
 }
@@ -35,7 +36,7 @@ returns-clause-seen g c =
     let slots = c.kept.ensures.agreed.bodied in
     let end = c.slots-slot-end.ensures in
     let over = c.loop-slot-test.false in
-    let none : (k : ℕ) → is_owner t (slot_owner (get_or bodies k None)) ≡ false = (λ k. elim (cases_lt k c.loop-slot.slot) [
+    let none : (k : ℕ) → owns_at t bodies k ≡ false = (λ k. elim (cases_lt k c.loop-slot.slot) [
       | inl lt ↦ c.loop-slot.invariant.none k lt
       | inr past ↦ ap (λ x. is_owner t (slot_owner x)) (get_or_past bodies k None (omega (arith, same, long, before, slots, end, over, past)))
     ]) in

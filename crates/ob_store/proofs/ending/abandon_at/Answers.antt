@@ -14,7 +14,7 @@ returns-then-abandon_at-clause-seen g c = one_before (slot_left_by c.args.thread
 pub returns-then-abandon_at-clause-enough : goal.returns-then-abandon_at-clause-enough
 returns-then-abandon_at-clause-enough g c =
     let bodies = c.args.objects.now.seen.bodies in
-    enough_added c.args.signaled.now c.add.new.self c.args.objects.now.seen c.abandon_at.new.self.seen (record { slot = c.args.slot; generation = 0 }) (slot_left_by c.args.thread (get_or bodies c.args.slot None))
+    enough_added c.args.signaled.now c.add.new.self c.args.objects.now.seen c.abandon_at.new.self.seen c.args.slot (slot_left_by c.args.thread (get_or bodies c.args.slot None))
     c.abandon_at.ensures.seen c.add.ensures.added c.add.ensures.before
 
 pub returns-else-abandon_at-clause-enough : goal.returns-else-abandon_at-clause-enough
