@@ -1,8 +1,6 @@
-ghost use Rattle.std.specs.Prelude.{false, ◌≡◌, ◌+◌, ◌<◌, ℕ, List, Option, IsSome, None, Some, if◌then◌else◌, length, map, slice_index_or, slice_set};
-ghost use Rattle.pin_words.specs.Keepers.{KeeperState};
+ghost use Rattle.std.specs.Prelude.{false, ◌≡◌, ◌+◌, ◌<◌, ℕ, Option, IsSome, None, Some, if◌then◌else◌, length, slice_index_or, slice_set};
 ghost use Rattle.ob_waits.specs.Objects.{without_blocks};
 ghost use Rattle.ob_waits.specs.Rules.{IsKept as AreWaits};
-ghost use Rattle.ob_waits.specs.declared.wait.Wait.{Wait};
 ghost use Rattle.ob_store.specs.Signaled.{KeepsEnough};
 ghost use Rattle.ob_waits.specs.Waits.{thread_ids};
 ghost use Rattle.ob_store.specs.Ends.{abandoned_by, exited, left, process_ended, thread_ended, threads_ended, unless_threads};
@@ -12,7 +10,7 @@ ghost use Rattle.ob_store.specs.Objects.{kept_rest};
 ghost use Rattle.ob_store.specs.Owners.{owns_at};
 ghost use Rattle.ob_store.specs.Kept.{IsSound};
 ghost use Rattle.ob_store.specs.Parts.{parts_of};
-ghost use Rattle.ob_store.specs.State.{State, settled};
+ghost use Rattle.ob_store.specs.State.{settled};
 ghost use Rattle.ob_store.specs.UnderWay.{Carries, CarriesEntries, with_left};
 
 use crate::entries::leave_directory;

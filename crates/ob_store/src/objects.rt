@@ -1,4 +1,4 @@
-ghost use Rattle.std.specs.Prelude.{◌≡◌, ℕ, ◌+◌, ◌<◌, ◌≤◌, false, true, IfNone, IfOk, IfErr, IfSome, IsSome, IsTrue, None, Some, length, map, slice_index_or, slice_set};
+ghost use Rattle.std.specs.Prelude.{◌≡◌, ℕ, ◌+◌, ◌<◌, ◌≤◌, false, true, IfNone, IfOk, IfErr, IfSome, IsSome, IsTrue, None, Some, length, slice_index_or};
 ghost use Rattle.std.specs.Option.{option_map};
 ghost use Rattle.pin_words.specs.Keepers.{IsFresh};
 ghost use Rattle.pin_words.specs.Views.{id_of};

@@ -1,4 +1,4 @@
-ghost use Rattle.std.specs.Prelude.{◌≡◌, ℕ};
+ghost use Rattle.std.specs.Prelude.{◌≡◌};
 ghost use Rattle.ob_waits.specs.Rules.{IsReadyAt};
 ghost use Rattle.ob_waits.specs.Waits.{settled as waits_settled};
 ghost use Rattle.pin_words.specs.Keepers.{KeeperState};

@@ -1,4 +1,4 @@
-ghost use Rattle.std.specs.Prelude.{◌≡◌, ◌<◌, ◌≤◌, true, IfOk, IfErr, IfSome, IsSome, OnSome, None, Some, length, is_some, slice_get, slice_index_or};
+ghost use Rattle.std.specs.Prelude.{◌≡◌, ◌<◌, ◌≤◌, true, IfOk, IfErr, IfSome, IsSome, OnSome, None, length, is_some, slice_get, slice_index_or};
 ghost use Rattle.std.specs.Option.{option_map};
 ghost use Rattle.pin_words.specs.Keepers.{IsFresh};
 ghost use Rattle.ob_arena.specs.Slots.{is_vacant_at, least_vacant};

@@ -1,4 +1,4 @@
-ghost use Rattle.std.specs.Prelude.{ℕ, ◌∷◌, [], ◌++◌, ◌≡◌, ◌<◌, ◌≤◌, IfOk, OnOk, OnErr, length, nat_lt, slice_index_or};
+ghost use Rattle.std.specs.Prelude.{◌≡◌, ◌<◌, ◌≤◌, IfOk, OnOk, OnErr, length, nat_lt};
 ghost use Rattle.ob_store.specs.ThreadLists.{IsPopped, list_at, link_at, no_list, no_link, no_lists, with_list, with_link, without_live};
 
 use std::alloc::{AllocError, Global};

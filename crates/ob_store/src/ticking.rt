@@ -1,5 +1,4 @@
-ghost use Rattle.std.specs.Prelude.{◌≡◌, ◌≤◌, ℕ, IfNone, IfSome, List, None, Option, false, map, slice_index_or, true};
-ghost use Rattle.ob_waits.specs.declared.wait.Wait.{Wait};
+ghost use Rattle.std.specs.Prelude.{◌≡◌, ◌≤◌, ℕ, IfNone, IfSome, None, Option, false, map, slice_index_or, true};
 ghost use Rattle.ob_waits.specs.Deadlines.{is_overdue};
 ghost use Rattle.ob_store.specs.Signaled.{KeepsEnough};
 ghost use Rattle.ob_store.specs.Moves.{OnlyCloses};
