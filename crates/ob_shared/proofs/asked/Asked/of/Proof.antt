@@ -25,7 +25,10 @@ use denote.Triple.Spec.{Meets, triple_of}
 use denote.Triple.Table.{entered}
 use denote.Triple.Walked.{says, Stays, stay_dropped, walk_of, ends_at, walk_Meets, Goes-dropped}
 use Rattle.pin_words.proofs.Fieldless.{empty_value, owns_empty}
-use Rattle.ob_manager.specs.contracts.call.Call as Call
+use Rattle.ob_manager.specs.contracts.call.CallOf as CallOf
+use Rattle.ob_manager.specs.contracts.making.Making as Making
+use Rattle.ob_manager.specs.contracts.making.Text as Text
+use Rattle.ob_manager.specs.contracts.waiting.HandleList as HandleList
 use Rattle.ob_shared.specs.contracts.asked.Asked as Asked
 use Rattle.ob_shared.specs.contracts.asked.Asked.of as F
 use Rattle.ob_shared.specs.contracts.asked.Asked.of.Key.{name as #self}
@@ -66,7 +69,7 @@ module _ {M : Type 1} {𝓤 : Ura M} (𝓛 : Logic 𝓤) (at_mem : Memory → SP
 
   meets : (𝓣 : Tables 𝓤 H) → Meets 𝓛 ended.signature (WpFn 𝓤 H 𝓣.C 𝓣.Λ code.function) (closing 𝓛 ended held)
   meets 𝓣 =
-      walk_Meets 𝓛 ended stayed (Goes-dropped 𝓛 1 (RefOf (0 ∷ []) tt (plain (λ _. Call.the_row)) (λ _. tt)) yes (λ κs x f. refl), tt) held
+      walk_Meets 𝓛 ended stayed (Goes-dropped 𝓛 1 (RefOf (0 ∷ []) tt (plain (λ _. CallOf.the_row Making.the_row Text.the_row HandleList.the_row)) (λ _. tt)) yes (λ κs x f. refl), tt) held
       (WpFn 𝓤 H 𝓣.C 𝓣.Λ code.function) (WpFn-mono 𝓤 H 𝓛.laws 𝓣 code.function) (walks 𝓣.C 𝓣.Λ)
 
 pub of_spec : {M : Type 1} → stated.statement M
