@@ -1,8 +1,11 @@
-//! Rounds of a wait: wait, set and result, or wait, expire and result, beside waits on other objects.
+//! Rounds of a wait: wait, set and result, or wait, expire and result, beside waits on other objects; and threads that
+//! all wait for one object.
+mod herds;
 mod objects;
 mod world;
 
 use anyhow::Result;
+use ob_body::Body;
 use ob_rights::Fault;
 use std::alloc::Global;
 use std::time::{Clock, Instant};
@@ -92,9 +95,10 @@ fn run_over(
 }
 
 fn run(rt: &(impl Print + Clock), alloc: Global, elsewhere: u32, end: Option<End>) -> Result<()> {
+    let event = Body::new_event(false, false);
     run_over(
         rt,
-        &mut World::new(alloc, elsewhere as usize + 1)?,
+        &mut World::new(alloc, event, elsewhere as usize + 1)?,
         elsewhere,
         end,
     )
@@ -102,7 +106,8 @@ fn run(rt: &(impl Print + Clock), alloc: Global, elsewhere: u32, end: Option<End
 
 /// Prints what some rounds of each case add up to.
 pub(crate) fn show_all(rt: &(impl Print + Clock), alloc: Global) -> Result<()> {
-    run(rt, alloc, 3, None)
+    run(rt, alloc, 3, None)?;
+    herds::show_all(rt, alloc)
 }
 
 /// Prints what each case takes.
@@ -112,5 +117,5 @@ pub(crate) fn measure_all(rt: &(impl Print + Clock), alloc: Global) -> Result<()
             run(rt, alloc, elsewhere, Some(end))?;
         }
     }
-    Ok(())
+    herds::measure_all(rt, alloc)
 }

@@ -11,7 +11,7 @@ use pin_core::Id;
 use std::alloc::{AllocError, Global};
 use std::marker::Model;
 
-/// Events and waits with nothing left to settle.
+/// Objects and waits with nothing left to settle.
 #[derive(Drop)]
 pub(crate) struct World {
     slots: Slots,
@@ -52,14 +52,13 @@ fn have_room(slots: &Slots, thread: u32, ids: &[Id]) -> bool
 }
 
 impl World {
-    /// Events that are not set, and no waits.
-    pub(crate) fn new(alloc: Global, events: usize) -> Result<World, AllocError> {
-        let event = Body::new_event(false, false);
+    /// So many objects with one body, and no waits.
+    pub(crate) fn new(alloc: Global, body: Body, count: usize) -> Result<World, AllocError> {
         Ok(World {
             slots: Slots {
-                bodies: vec![in alloc; Some(event); events]?,
-                handles: vec![in alloc; 1; events]?,
-                blocks: vec![in alloc; 7; events]?,
+                bodies: vec![in alloc; Some(body); count]?,
+                handles: vec![in alloc; 1; count]?,
+                blocks: vec![in alloc; 7; count]?,
             },
             waits: Waits::new(alloc, u32::MAX),
         })
@@ -104,6 +103,48 @@ impl World {
             return Err(Fault::Handle);
         };
         body.set();
+        self.change(id, body);
+        Ok(())
+    }
+
+    /// Resets an event.
+    pub(crate) fn reset(&mut self, slot: u32) -> Result<(), Fault> {
+        let id = id(slot);
+        let Some(mut body) = self.slots.body(id) else {
+            return Err(Fault::Parameter);
+        };
+        let Kind::Event = body.kind() else {
+            return Err(Fault::Handle);
+        };
+        body.reset();
+        self.change(id, body);
+        Ok(())
+    }
+
+    /// Raises a semaphore's count by one.
+    pub(crate) fn post(&mut self, slot: u32) -> Result<(), Fault> {
+        let id = id(slot);
+        let Some(mut body) = self.slots.body(id) else {
+            return Err(Fault::Parameter);
+        };
+        let Kind::Semaphore = body.kind() else {
+            return Err(Fault::Handle);
+        };
+        body.post(1)?;
+        self.change(id, body);
+        Ok(())
+    }
+
+    /// Releases a thread's mutex.
+    pub(crate) fn unlock(&mut self, slot: u32, thread: u32) -> Result<(), Fault> {
+        let id = id(slot);
+        let Some(mut body) = self.slots.body(id) else {
+            return Err(Fault::Parameter);
+        };
+        let Kind::Mutex = body.kind() else {
+            return Err(Fault::Handle);
+        };
+        body.unlock(thread)?;
         self.change(id, body);
         Ok(())
     }
