@@ -18,46 +18,6 @@ fn pushed(dues: &mut Dues) -> Result<(), AllocError>
 }
 
 #[test]
-fn the_least_is_found_whatever_order_it_came_in(rt: HostRuntime) -> Result<(), Fail> {
-    set_in_any_order(&rt, &mut Dues::new(rt.alloc()))
-}
-
-fn set_in_any_order(rt: &impl Abort, dues: &mut Dues) -> Result<(), Fail>
-    requires { dues.old ≡ [] }
-{
-    same(rt, dues.least(), None);
-    same(rt, dues.least_place(), None);
-    pushed(dues)?;
-    pushed(dues)?;
-    pushed(dues)?;
-    pushed(dues)?;
-    set_four(rt, dues);
-    Ok(())
-}
-
-fn set_four(rt: &impl Abort, dues: &mut Dues)
-    requires { length dues.old ≡ 4 }
-{
-    same(rt, dues.least(), None);
-    dues.set(3, Some(50));
-    dues.set(1, Some(60));
-    same(rt, dues.least(), Some(50));
-    same(rt, dues.least_place(), Some(3));
-    dues.set(2, Some(0));
-    same(rt, dues.least_place(), Some(2));
-    dues.set(2, None);
-    dues.set(3, Some(u64::MAX));
-    same(rt, dues.least(), Some(60));
-    same(rt, dues.least_place(), Some(1));
-    dues.set(1, None);
-    same(rt, dues.least(), Some(u64::MAX));
-    same(rt, dues.get(3), Some(u64::MAX));
-    same(rt, dues.get(4), None);
-    dues.set(3, None);
-    same(rt, dues.least(), None);
-}
-
-#[test]
 fn all_come_due_in_order(rt: HostRuntime) -> Result<(), Fail> {
     come_due(&rt, &mut Dues::new(rt.alloc()), 5_000)
 }
