@@ -7,7 +7,7 @@ use crate::body::{Body, Mutex};
 use crate::directory::{GLOBAL, hash_of};
 use crate::id::Id;
 use crate::manager::Manager;
-use crate::objects::{Object, Phase};
+use crate::objects::Object;
 use crate::table::{Entry, Free, INHERIT};
 
 #[derive(Clone, Copy)]
@@ -115,9 +115,8 @@ impl Manager {
         let entry = Entry { id, rights, flags: flags_of(make.inherit) };
         let handle = table.place(entry, limit).ok_or(Fault::Limit)?;
         self.vacant.take(id.slot);
-        let place = &mut self.objects.slots[place];
-        place.phase = Phase::Live;
-        place.object = Some(Object {
+        self.objects.publish(place, new.kind, new.manual, new.max);
+        self.objects.slots[place].object = Some(Object {
             birth: self.births,
             kind: new.kind,
             manual: new.manual,

@@ -138,15 +138,16 @@ impl Manager {
         if pins > 0 {
             return Ok(Reply::Reaped { id, outcome: Reclaim::Held { pins } });
         }
-        place.object = None;
-        if place.generation >= self.limits.max_gen {
-            place.phase = Phase::Retired;
-            return Ok(Reply::Reaped { id, outcome: Reclaim::Retired });
+        let outcome = match self.objects.reclaim(slot, self.limits.max_gen) {
+            Ok(Phase::Free) => Reclaim::Freed,
+            Ok(_) => Reclaim::Retired,
+            Err(pins) => return Ok(Reply::Reaped { id, outcome: Reclaim::Held { pins } }),
+        };
+        self.objects.slots[slot as usize].object = None;
+        if outcome == Reclaim::Freed {
+            self.vacant.give_back(slot);
         }
-        place.generation += 1;
-        place.phase = Phase::Free;
-        self.vacant.give_back(slot);
-        Ok(Reply::Reaped { id, outcome: Reclaim::Freed })
+        Ok(Reply::Reaped { id, outcome })
     }
 
     pub(crate) fn counted(&self, id: Id) -> Result<Reply, Fault> {

@@ -1,10 +1,11 @@
 //! The objects in their slots, and which mutexes each thread owns.
 //!
-//! A slot's generation and phase stand beside its object, on one cache line.
+//! A slot's generation and phase stand beside its object, on one cache line, and in a word that readers on other threads could pin.
 
 use crate::answers::{Fault, Kind};
 use crate::body::Body;
 use crate::id::Id;
+use std::sync::atomic::{AtomicU64, Ordering::SeqCst};
 
 #[allow(dead_code)]
 pub struct Object {
@@ -38,8 +39,16 @@ pub struct Slot {
 
 const _: () = assert!(size_of::<Slot>() == 64);
 
+const LIVE: u64 = 1 << 30;
+
+const CLOSING: u64 = 3 << 30;
+
+const PINS: u64 = LIVE - 1;
+
 pub struct Objects {
     pub slots: Vec<Slot>,
+    /// A word for each slot, and behind them a descriptor for each.
+    words: Vec<AtomicU64>,
     /// By thread, the slots of the mutexes that it owns.
     pub owned: Vec<Vec<u32>>,
 }
@@ -47,7 +56,34 @@ pub struct Objects {
 impl Objects {
     pub fn new(slots: u32) -> Objects {
         let slot = || Slot { generation: 1, phase: Phase::Free, object: None };
-        Objects { slots: (0..slots).map(|_| slot()).collect(), owned: vec![Vec::new()] }
+        let words = (0..2 * slots as usize).map(|_| AtomicU64::new(1 << 32)).collect();
+        Objects { slots: (0..slots).map(|_| slot()).collect(), words, owned: vec![Vec::new()] }
+    }
+
+    /// A free slot is live, with the descriptor of its object.
+    #[inline(always)]
+    pub fn publish(&mut self, slot: usize, kind: Kind, manual: bool, max: u32) {
+        let descr = kind as u64 | u64::from(manual) << 2 | u64::from(max) << 3;
+        self.words[self.slots.len() + slot].store(descr, SeqCst);
+        self.words[slot].fetch_or(LIVE, SeqCst);
+        self.slots[slot].phase = Phase::Live;
+    }
+
+    /// A closing slot is free at the next generation, or retired, unless it is pinned; then how often.
+    pub fn reclaim(&mut self, slot: u32, max_gen: u32) -> Result<Phase, u32> {
+        let place = &mut self.slots[slot as usize];
+        let closing = u64::from(place.generation) << 32 | CLOSING;
+        let (phase, next) = if place.generation < max_gen {
+            (Phase::Free, u64::from(place.generation + 1) << 32)
+        } else {
+            (Phase::Retired, u64::from(place.generation) << 32 | 2 << 30)
+        };
+        if let Err(found) = self.words[slot as usize].compare_exchange(closing, next, SeqCst, SeqCst) {
+            return Err((found & PINS) as u32);
+        }
+        place.phase = phase;
+        place.generation += u32::from(phase == Phase::Free);
+        Ok(phase)
     }
 
     pub fn look(&self, slot: u32) -> Option<&Object> {
@@ -124,6 +160,7 @@ impl Objects {
 
     /// Nothing refers to it any more.
     fn end(&mut self, slot: u32) {
+        self.words[slot as usize].fetch_or(CLOSING, SeqCst);
         let place = &mut self.slots[slot as usize];
         place.phase = Phase::Closing;
         let body = place.object.as_mut().and_then(|object| object.body.take());

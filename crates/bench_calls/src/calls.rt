@@ -14,7 +14,7 @@ use cases::{
     Case, ChildAndExit, Home, OwnerAndEnd, ThreadAndEnd, WaitAndSet, WaitForAll, WaitForAny,
     add_process, empty_home, rounds_at,
 };
-use live::{Live, Locked, Text, live_events, locked, texts};
+use live::{Live, Measured, Text, live_events, measured, texts};
 use rounds::{
     Counts, DuplicateAndClose, OpenAndClose, Resolve, Round, SetAndReset, SetAndWait, make, reap,
     rounds,
@@ -62,13 +62,13 @@ const SHOWN: Plan = Plan {
 /// A manager and its events, and the names that come and go.
 #[derive(Drop)]
 struct Scene {
-    manager: Locked,
+    manager: Measured,
     events: Vec<Live>,
     texts: Vec<Text>,
 }
 
 fn empty_scene(alloc: Global) -> Option<Scene> {
-    let manager = locked(alloc).ok()?;
+    let manager = measured(alloc).ok()?;
     Some(Scene {
         manager,
         events: Vec::new(alloc),

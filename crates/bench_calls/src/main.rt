@@ -1,4 +1,4 @@
-//! Measures calls of the manager over pins under a lock: with the arguments `measure calls` it prints a line `CASE: ROUNDS in
+//! Measures calls of the manager over words that readers pin: with the arguments `measure calls` it prints a line `CASE: ROUNDS in
 //! NANOSECONDS` for each case, with `measure apart` for those that the C program of `bench/header` has too, where no round begins
 //! while another waits for memory, and without them what some rounds of each case add up to.
 #![tactic(auto)]

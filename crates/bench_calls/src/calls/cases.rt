@@ -1,5 +1,5 @@
 use crate::calls::answers::{code_of, done, ended, exited, given, pending, spawned, started};
-use crate::calls::live::{Locked, inheritable, live_events, locked, plain};
+use crate::calls::live::{Measured, inheritable, live_events, measured, plain};
 use ob_manager::{Mode, Timeout};
 use ob_rights::Fault;
 use std::alloc::Global;
@@ -7,7 +7,7 @@ use std::alloc::Global;
 /// A manager for a case that needs more than events with names, and who makes its calls.
 #[derive(Drop)]
 pub(crate) struct Home {
-    manager: Locked,
+    manager: Measured,
     process: u32,
     thread: u32,
     other: u32,
@@ -35,7 +35,7 @@ pub(crate) fn rounds_at<C: Case>(home: &mut Home, rounds: u32) -> Result<u64, Fa
 /// A manager without processes.
 pub(crate) fn empty_home(alloc: Global) -> Result<Home, Fault> {
     Ok(Home {
-        manager: locked(alloc)?,
+        manager: measured(alloc)?,
         process: 0,
         thread: 0,
         other: 0,

@@ -2,7 +2,7 @@ use crate::calls::answers::{given, spawned};
 use ob_manager::{Limits, Make, Manager};
 use ob_rights::Fault;
 use pin_core::Id;
-use pin_words::LockedPins;
+use pin_words::{Keeper, Pins};
 use std::alloc::{AllocError, Global};
 
 /// How many objects a process makes before the next one does.
@@ -12,7 +12,7 @@ const HANDLES: u32 = 15_000;
 pub(crate) type Text = [u8; 16];
 
 /// The manager that is measured.
-pub(crate) type Locked = Manager<LockedPins>;
+pub(crate) type Measured = Manager<Keeper>;
 
 /// A named event that stays, and its one handle.
 #[derive(Clone, Copy, Debug)]
@@ -69,17 +69,20 @@ fn limits() -> Result<Limits, Fault> {
     Limits::checked(65_536, 65_536, 65_536, 16_384, u32::MAX, 16, u32::MAX, 1)
 }
 
-/// A manager with these limits.
-pub(crate) fn locked(alloc: Global) -> Result<Locked, Fault> {
+/// A manager with these limits, over words of which nobody has pins.
+pub(crate) fn measured(alloc: Global) -> Result<Measured, Fault> {
     let limits = limits()?;
-    let keeper = LockedPins::new(alloc, limits.shape())?;
+    let (pins, opening) = Pins::new(alloc, limits.shape())?;
+    let Ok((keeper, _)) = opening.start(&pins) else {
+        return Err(Fault::Memory);
+    };
     match Manager::new(alloc, limits, keeper) {
         Ok(manager) => Ok(manager),
         Err(_) => Err(Fault::Memory),
     }
 }
 
-fn make(manager: &mut Locked, process: u32, thread: u32, text: Text) -> Result<Live, Fault> {
+fn make(manager: &mut Measured, process: u32, thread: u32, text: Text) -> Result<Live, Fault> {
     let (handle, id) = given(manager.create_event(thread, &plain(Some(&text)), false, false))?;
     Ok(Live {
         process,
@@ -93,7 +96,7 @@ fn make(manager: &mut Locked, process: u32, thread: u32, text: Text) -> Result<L
 /// Events of the first names, made by as many processes as it takes.
 pub(crate) fn live_events(
     alloc: Global,
-    manager: &mut Locked,
+    manager: &mut Measured,
     count: u32,
 ) -> Result<Vec<Live>, Fault> {
     let mut events = Vec::new(alloc);

@@ -1,5 +1,5 @@
 use crate::calls::answers::{code_of, counted, done, given, reaped};
-use crate::calls::live::{Live, Locked, Text, plain};
+use crate::calls::live::{Live, Measured, Text, plain};
 use ob_manager::{Mode, Timeout};
 use ob_rights::{Fault, Kind, Rights};
 use std::time::{Clock, Instant};
@@ -13,14 +13,14 @@ const SAME_ACCESS: u32 = 2;
 /// What is done in a round with an event that stays.
 pub(crate) trait Round {
     /// A number of the answer, which depends on what was done.
-    fn round(manager: &mut Locked, event: &Live) -> Result<u32, Fault>;
+    fn round(manager: &mut Measured, event: &Live) -> Result<u32, Fault>;
 }
 
 /// Another handle to the event, by its name, which is closed.
 pub(crate) struct OpenAndClose;
 
 impl Round for OpenAndClose {
-    fn round(manager: &mut Locked, event: &Live) -> Result<u32, Fault> {
+    fn round(manager: &mut Measured, event: &Live) -> Result<u32, Fault> {
         let opened = manager.open_named(
             event.thread,
             Kind::Event,
@@ -38,7 +38,7 @@ impl Round for OpenAndClose {
 pub(crate) struct SetAndReset;
 
 impl Round for SetAndReset {
-    fn round(manager: &mut Locked, event: &Live) -> Result<u32, Fault> {
+    fn round(manager: &mut Measured, event: &Live) -> Result<u32, Fault> {
         done(manager.set_event(event.thread, event.handle))?;
         done(manager.reset_event(event.thread, event.handle))?;
         Ok(1)
@@ -49,7 +49,7 @@ impl Round for SetAndReset {
 pub(crate) struct DuplicateAndClose;
 
 impl Round for DuplicateAndClose {
-    fn round(manager: &mut Locked, event: &Live) -> Result<u32, Fault> {
+    fn round(manager: &mut Measured, event: &Live) -> Result<u32, Fault> {
         let duplicated = manager.duplicate(
             event.thread,
             event.process,
@@ -69,7 +69,7 @@ impl Round for DuplicateAndClose {
 pub(crate) struct SetAndWait;
 
 impl Round for SetAndWait {
-    fn round(manager: &mut Locked, event: &Live) -> Result<u32, Fault> {
+    fn round(manager: &mut Measured, event: &Live) -> Result<u32, Fault> {
         done(manager.set_event(event.thread, event.handle))?;
         let waited = manager.wait(event.thread, Mode::Any, Timeout::Zero, &[event.handle]);
         Ok(code_of(waited)?.wrapping_add(1))
@@ -80,7 +80,7 @@ impl Round for SetAndWait {
 pub(crate) struct Counts;
 
 impl Round for Counts {
-    fn round(manager: &mut Locked, event: &Live) -> Result<u32, Fault> {
+    fn round(manager: &mut Measured, event: &Live) -> Result<u32, Fault> {
         counted(manager.counts(event.id))
     }
 }
@@ -89,7 +89,7 @@ impl Round for Counts {
 pub(crate) struct Resolve;
 
 impl Round for Resolve {
-    fn round(manager: &mut Locked, event: &Live) -> Result<u32, Fault> {
+    fn round(manager: &mut Measured, event: &Live) -> Result<u32, Fault> {
         let id = manager.resolve(event.process, event.handle)?;
         Ok(id.slot)
     }
@@ -100,7 +100,7 @@ impl Round for Resolve {
 /// between them, which waits for all that was begun, so that no round begins while another waits for memory.
 pub(crate) fn rounds<R: Round>(
     rt: &impl Clock,
-    manager: &mut Locked,
+    manager: &mut Measured,
     events: &[Live],
     rounds: u32,
     are_apart: bool,
@@ -127,7 +127,7 @@ pub(crate) fn rounds<R: Round>(
 }
 
 /// Makes an event and closes it; the slot that it leaves.
-fn come_and_go(manager: &mut Locked, thread: u32, name: Option<&[u8]>) -> Result<u32, Fault> {
+fn come_and_go(manager: &mut Measured, thread: u32, name: Option<&[u8]>) -> Result<u32, Fault> {
     let (handle, id) = given(manager.create_event(thread, &plain(name), false, false))?;
     done(manager.close(thread, handle))?;
     Ok(id.slot)
@@ -135,7 +135,7 @@ fn come_and_go(manager: &mut Locked, thread: u32, name: Option<&[u8]>) -> Result
 
 /// Makes an event and closes it for each of some texts, with or without it as the name, and writes the slots that they leave.
 pub(crate) fn make(
-    manager: &mut Locked,
+    manager: &mut Measured,
     thread: u32,
     texts: &[Text],
     is_named: bool,
@@ -153,7 +153,7 @@ pub(crate) fn make(
 }
 
 /// Takes slots back. Their sum.
-pub(crate) fn reap(manager: &mut Locked, slots: &[u32]) -> Result<u64, Fault> {
+pub(crate) fn reap(manager: &mut Measured, slots: &[u32]) -> Result<u64, Fault> {
     let mut sum = 0u64;
     for slot in slots {
         let id = reaped(manager.reap(*slot))?;
