@@ -6,6 +6,7 @@
 #include "calls.h"
 
 #include <pthread.h>
+#include <sched.h>
 #include <stdatomic.h>
 #include <stdlib.h>
 
@@ -15,6 +16,7 @@ static pthread_mutex_t lock = PTHREAD_MUTEX_INITIALIZER;
 static om_manager m;
 static om_object *objects;               /* by number, each written before its number stands in `current` */
 static _Atomic uint32_t current[PLACES]; /* the number of the object that is at a place now */
+static _Atomic int begun_readers;        /* how many have pinned something */
 static _Atomic bool is_over;
 
 static void locked(void) { must(pthread_mutex_lock(&lock) == 0, "no lock"); }
@@ -66,11 +68,14 @@ static void *read_on(void *of) {
         must(om_reader_holds(&it->reader, o.slot, o.generation), "what is pinned isn't held");
         must(om_reader_describe(&it->reader, o.slot, o.generation, &d) == OM_SUCCESS, "what is pinned has no descriptor");
         must(d.kind == OM_SEMAPHORE && d.max == number + 1, "a pin shows another object");
-        if (next_random(it) % 16 == 0) {
+        if (it->pinned == 1 || next_random(it) % 16 == 0) {
             inspect(it, o, number);
         }
         must(om_reader_unpin(&it->reader, o.slot, o.generation) == OM_SUCCESS, "what is held isn't let go");
         must(om_reader_unpin(&it->reader, o.slot, o.generation) == OM_ERROR_INVALID_HANDLE, "what isn't held is let go");
+        if (it->pinned == 1) {
+            atomic_fetch_add(&begun_readers, 1);
+        }
     }
     return NULL;
 }
@@ -133,6 +138,9 @@ int main(int count, char **words) {
         members[i].random = 0x9E3779B97F4A7C15ULL * (uint64_t)(i + 1);
         must(om_reader_new(&m, &members[i].reader) == OM_SUCCESS, "no reader");
         must(pthread_create(&threads[i], NULL, read_on, &members[i]) == 0, "no thread");
+    }
+    while (atomic_load(&begun_readers) < READERS) {
+        sched_yield();
     }
     for (uint32_t round = 0; round < rounds; round++, numbers++) {
         locked();
