@@ -1,5 +1,6 @@
 /* The rounds of crates/bench_calls that make, close, reap, set, wait for, count, resolve and duplicate events, through the header.
- * Then the rounds of time, which these don't have, among as many timers that are set for later and waits with a deadline.
+ * Then pins by a reader; and the rounds of time, which these don't have, among as many timers that are set for later and waits with a
+ * deadline.
  * Prints a line `CASE, EVENTS: ROUNDS in NANOSECONDS` for each case, as that program and bench/calls.rs do with `measure`. */
 #include <obman.h>
 #include <stdio.h>
@@ -28,6 +29,7 @@ typedef struct event {
 
 typedef struct scene {
     om_manager m;
+    om_reader r;
     event *events;
     uint32_t count;
 } scene;
@@ -63,9 +65,10 @@ static om_opening made(scene *s, uint32_t thread, const char *name) {
 static scene new_scene(uint32_t count) {
     om_limits limits = {65536, 65536, 65536, 16384, 4294967295u, 1073741823, 4294967295u, 1};
     om_member member = {0, 0};
-    scene s = {{NULL}, malloc(count * sizeof(event)), count};
+    scene s = {{NULL}, {NULL}, malloc(count * sizeof(event)), count};
     must(s.events != NULL, true);
     must(om_new(&limits, &s.m), OM_SUCCESS);
+    must(om_reader_new(&s.m, &s.r), OM_SUCCESS);
     for (uint32_t i = 0; i < count; i++) {
         event *e = &s.events[i];
         if (i % HANDLES == 0) {
@@ -150,6 +153,13 @@ static uint32_t set_and_wait(scene *s, event *e) {
     must(om_set_event(&s->m, e->thread, e->handle), OM_SUCCESS);
     must(om_wait(&s->m, e->thread, false, 0, &e->handle, 1, &code), OM_SUCCESS);
     return code + 1;
+}
+
+/* By a reader, as from another thread. */
+static uint32_t pin_and_unpin(scene *s, event *e) {
+    must(om_reader_pin(&s->r, e->object.slot, e->object.generation), OM_SUCCESS);
+    must(om_reader_unpin(&s->r, e->object.slot, e->object.generation), OM_SUCCESS);
+    return 1;
 }
 
 /* Whether rounds are apart: the clock is read between them, which waits for all that was begun. */
@@ -259,6 +269,10 @@ int main(int argc, char **argv) {
         measure(&s, "resolve", resolve);
         measure(&s, "duplicate and close", duplicate_and_close);
         measure(&s, "set and wait", set_and_wait);
+        if (!are_apart) {
+            measure(&s, "pin and unpin", pin_and_unpin);
+        }
+        om_reader_free(s.r);
         om_free(s.m);
         free(s.events);
     }
