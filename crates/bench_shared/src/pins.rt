@@ -19,12 +19,7 @@ const APART: [u32; 4] = [64, 128, 192, 256];
 const NEAR: [u32; 4] = [8, 9, 10, 11];
 
 // The reader is the thread's own, so that no two threads write to one line for it.
-fn spin<R: Wait + Clock>(
-    rt: &R,
-    start: Start<'_>,
-    mut reader: Reader,
-    slot: u32,
-) -> Option<Span> {
+fn spin<R: Wait + Clock>(rt: &R, start: Start<'_>, mut reader: Reader, slot: u32) -> Option<Span> {
     let id = Id {
         slot,
         generation: 1,

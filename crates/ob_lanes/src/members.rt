@@ -62,12 +62,7 @@ fn readers_of(
 }
 
 /// A member of the next lane, which does what the script says.
-fn member(
-    alloc: Global,
-    shared: &mut Shared,
-    reader: Reader,
-    script: Script,
-) -> Member
+fn member(alloc: Global, shared: &mut Shared, reader: Reader, script: Script) -> Member
     requires { shared.old < 65536 }
     ensures new { IsNew result }
     ensures number { result.lane.number ≡ shared.old }

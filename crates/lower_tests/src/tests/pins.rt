@@ -197,12 +197,7 @@ fn play(rt: &impl Abort, alloc: Global, shape: Shape, scene: Scene)
     drop(keeper);
 }
 
-fn pin_and_close(
-    rt: &impl Abort,
-    keeper: &mut Keeper,
-    a: &mut Reader,
-    b: &mut Reader,
-) {
+fn pin_and_close(rt: &impl Abort, keeper: &mut Keeper, a: &mut Reader, b: &mut Reader) {
     holds(rt, publish(keeper, 0));
     holds(rt, a.try_pin(FIRST).is_ok());
     holds(rt, b.try_pin(FIRST).is_ok());

@@ -26,12 +26,7 @@ const WAITS: &[Line<'static>] = &[
 ];
 
 /// Sets the event.
-fn sets<R: Wait>(
-    rt: &R,
-    alloc: Global,
-    shared: &Shared,
-    lane: &mut Lane,
-) -> Result<Reply, Fault> {
+fn sets<R: Wait>(rt: &R, alloc: Global, shared: &Shared, lane: &mut Lane) -> Result<Reply, Fault> {
     let set = SetEvent {
         thread: 1,
         handle: 4,

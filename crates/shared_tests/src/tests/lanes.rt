@@ -46,11 +46,7 @@ fn has_no_lane(shared: &mut Shared) -> bool {
 }
 
 /// All lanes are given. None is handed in.
-pub(super) fn plays_many_lanes(
-    rt: &impl Abort,
-    alloc: Global,
-    shared: &mut Shared,
-) -> Vec<Lane> {
+pub(super) fn plays_many_lanes(rt: &impl Abort, alloc: Global, shared: &mut Shared) -> Vec<Lane> {
     holds(rt, gives_lanes(shared, LANES));
     holds(rt, has_no_lane(shared));
     holds(rt, has_no_lane(shared));
