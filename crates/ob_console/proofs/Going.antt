@@ -4,12 +4,12 @@ use Rattle.pin_core.specs.declared.shape.Shape.{Shape}
 use Rattle.pin_core.specs.Holds.{drop_first, same_id}
 use Rattle.ob_store.specs.State.{Whole}
 use Rattle.ob_store.specs.Directory.{directory_of}
-use Rattle.ob_reader.specs.Pinning.{is_held, shown_of}
+use Rattle.ob_console.specs.Pinning.{is_held, shown_of}
 use Rattle.ob_script.specs.Acts.{Act, Nothing, Bad, ListNames, Asks, Pin, Unpin, ShowCard}
 use Rattle.ob_script.specs.Grammar.{act_of}
 use Rattle.ob_output.specs.Printed.{printed, printed_card, printed_names, printed_pin, printed_unpin, bad_line, line_end}
 use Rattle.ob_console.specs.Runs.{Point, Prints, Run, point}
-use Rattle.ob_reader.proofs.StepLaws.{step_shape}
+use Rattle.ob_console.proofs.StepLaws.{step_shape}
 use Rattle.ob_console.proofs.Answerable.{can_answer}
 use Rattle.ob_console.proofs.Pinnable.{can_pin}
 

@@ -13,7 +13,7 @@ use Rattle.pin_words.specs.declared.fault.PinFault.TheVariants as fault
 use Rattle.pin_words.specs.Verdicts.{verdict_of}
 use Rattle.pin_words.specs.Views.{sits}
 use Rattle.ob_store.specs.State.{State}
-use Rattle.ob_reader.specs.Pinning.{Judged, Pins, phase_at}
+use Rattle.ob_console.specs.Pinning.{Judged, Pins, phase_at}
 
 pub record CanPin (s : State) (held : List Id) (id : Id) : Type 0 where
   pub answer : Result Descr PinFault

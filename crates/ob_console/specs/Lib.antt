@@ -1,2 +1,4 @@
+pub mod Attempts
+pub mod Pinning
 pub mod Runs
 pub mod Sessions

@@ -6,9 +6,9 @@ ghost use Rattle.ob_script.specs.WordsLeft.{words_left};
 ghost use Rattle.ob_script.specs.Acts.{call_in};
 ghost use Rattle.ob_console.specs.Runs.{Spares};
 
+use crate::reaping::reap;
 use arrayvec::ArrayVec;
 use ob_manager::{Manager, Mode, Reply, Timeout};
-use ob_reader::reap;
 use ob_script::{Ask, read_handles};
 use pin_words::{Keeper, Reader};
 

@@ -10,10 +10,10 @@ ghost use Rattle.ob_output.specs.Pending.{IsWritten};
 ghost use Rattle.ob_output.specs.Devices.{Begins};
 
 use crate::asking::reply_to;
+use crate::pinning::{card, pin, unpin};
 use arrayvec::ArrayVec;
 use ob_manager::Manager;
 use ob_output::{Answer, NotWritten, Output, Sink};
-use ob_reader::{card, pin, unpin};
 use ob_script::{Act, HeldLine, ScriptLine, act_of};
 use pin_core::Id;
 use pin_words::{Keeper, Reader};

@@ -16,6 +16,8 @@ mod asking;
 mod console;
 mod evaluator;
 mod options;
+mod pinning;
+mod reaping;
 mod script;
 
 pub use ob_output::{Account, Sink, Source, Trouble, Wired};

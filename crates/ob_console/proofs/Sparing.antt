@@ -21,8 +21,8 @@ use Rattle.ob_manager.specs.declared.reply.Reply.TheVariants.{Spawned, Started, 
 use Rattle.ob_manager.specs.Outcomes.{Outcome, ◌>>=◌}
 use Rattle.ob_manager.specs.Reaping.{IfReaped, if_ended}
 use Rattle.ob_manager.specs.Steps.{Step, does, closes, lacks, final}
-use Rattle.ob_reader.specs.Pinning.{SparesHeld}
-use Rattle.ob_reader.proofs.Found.{met_found}
+use Rattle.ob_console.specs.Pinning.{SparesHeld}
+use Rattle.ob_console.proofs.Found.{met_found}
 
 -- the element at the place of a copy is that of some Id, which is counted
 same : (id : Id) → same_id id id ≡ true

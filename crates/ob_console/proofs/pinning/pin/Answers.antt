@@ -2,8 +2,8 @@ use Rattle.std.proofs.Common.{◌<◌, ap, subst, ◌∙◌, arith}
 use Rattle.pin_core.specs.declared.shape.Shape.{Shape}
 use Rattle.ob_store.specs.Meetings.{IsMet}
 use Rattle.ob_store.specs.State.{Whole}
-use Rattle.ob_reader.proofs.Attempting.{pins}
-use Rattle.ob_reader.proofs.pinning.pin.Goals as goal
+use Rattle.ob_console.proofs.Attempting.{pins}
+use Rattle.ob_console.proofs.pinning.pin.Goals as goal
 
 pub returns-clause-pins : goal.returns-clause-pins
 returns-clause-pins c =

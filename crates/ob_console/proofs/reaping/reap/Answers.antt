@@ -4,9 +4,9 @@ use Rattle.ob_manager.specs.Reaping.{IfReaped}
 use Rattle.ob_manager.specs.Steps.{Step}
 use Rattle.ob_manager.specs.declared.call.CallOf.TheVariants as Call
 use Rattle.ob_store.specs.Meetings.{IsMet}
-use Rattle.ob_reader.specs.Pinning.{SparesHeld}
-use Rattle.ob_reader.proofs.Sparing.{spares}
-use Rattle.ob_reader.proofs.reaping.reap.Goals as goal
+use Rattle.ob_console.specs.Pinning.{SparesHeld}
+use Rattle.ob_console.proofs.Sparing.{spares}
+use Rattle.ob_console.proofs.reaping.reap.Goals as goal
 
 pub returns-in-Some-clause-spares : goal.returns-in-Some-clause-spares
 returns-in-Some-clause-spares c =

@@ -5,7 +5,7 @@ ghost use Rattle.pin_words.specs.Views.{sits};
 ghost use Rattle.ob_manager.specs.Reaping.{IfReaped};
 ghost use Rattle.ob_manager.specs.Steps.{Step};
 ghost use Rattle.ob_manager.specs.declared.call.CallOf.TheVariants as Call;
-ghost use Rattle.ob_reader.specs.Pinning.{SparesHeld};
+ghost use Rattle.ob_console.specs.Pinning.{SparesHeld};
 
 use ob_manager::{Manager, Reply};
 use pin_core::Id;

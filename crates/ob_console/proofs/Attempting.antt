@@ -30,9 +30,9 @@ use Rattle.ob_store.specs.Consistent.{IsConsistent}
 use Rattle.ob_store.specs.Meetings.{IsFound, IsMet}
 use Rattle.ob_store.specs.Objects.{Object}
 use Rattle.ob_store.specs.State.{State, Whole, generation_of, shape_of}
-use Rattle.ob_reader.specs.Attempts.{Attempts, Told}
-use Rattle.ob_reader.specs.Pinning.{IsWord, IsPinned, IsBusy, Judged, Pins, phase_in, phase_at}
-use Rattle.ob_reader.proofs.Found.{card_found, met_found, within}
+use Rattle.ob_console.specs.Attempts.{Attempts, Told}
+use Rattle.ob_console.specs.Pinning.{IsWord, IsPinned, IsBusy, Judged, Pins, phase_in, phase_at}
+use Rattle.ob_console.proofs.Found.{card_found, met_found, within}
 
 -- there is no such slot
 pub no_slot : (s : State) (held : List Id) (id : Id) → s.limits.slots ≤ id.slot → Pins s held id (Err fault.NoSuchSlot) held

@@ -1,6 +1,11 @@
+//! What the one thread that has a manager and a reader of the same pins is answered.
+//!
+//! The reader pins slots without the manager, and the manager doesn't know what the reader holds. A meeting of the two
+//! ([`Manager::meet`](ob_manager::Manager::meet)) is one look at a slot that tells how they agree there: so a pin is
+//! answered by the manager's state, a held Id has its object, and a slot of which something is held isn't taken back.
 ghost use Rattle.std.specs.Prelude.{◌≡◌, Some};
-ghost use Rattle.ob_reader.specs.Attempts.{Attempts};
-ghost use Rattle.ob_reader.specs.Pinning.{Pins, Unpins, shown_of};
+ghost use Rattle.ob_console.specs.Attempts.{Attempts};
+ghost use Rattle.ob_console.specs.Pinning.{Pins, Unpins, shown_of};
 
 use ob_manager::{Card, Manager};
 use pin_core::{Descr, Id};
@@ -8,7 +13,7 @@ use pin_words::{Keeper, PinFault, Reader};
 
 /// Pins the slot of an Id once more, and reads its descriptor: [`Reader::try_pin`], and where that succeeds
 /// [`Reader::descr`]. At most three atomic steps.
-pub fn try_descr(reader: &mut Reader, id: Id) -> Result<Descr, PinFault>
+fn try_descr(reader: &mut Reader, id: Id) -> Result<Descr, PinFault>
     ensures attempts { Attempts reader.old.view id result reader.new.view }
     ensures table { reader.new.table ≡ reader.old.table }
 {

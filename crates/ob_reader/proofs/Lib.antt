@@ -1,4 +1,0 @@
-pub mod StepLaws
-pub mod Found
-pub mod Attempting
-pub mod Sparing
