@@ -195,6 +195,7 @@ pub trait AsMake {
 impl AsMake for Make<'_> {
     ghost making = { making_of };
 
+    // A copy, so that the call that it is a part of can stay in registers.
     #[inline(always)]
     fn as_make(&self) -> Make<'_> {
         *self
