@@ -32,6 +32,8 @@
  * - It sets the limits to what it needs in the manager's whole life: numbers of processes, threads and waits are given once.
  * - It tells the time (om_tick), or no timer fires and no wait with a timeout ends.
  *
+ * docs/EMBEDDING.md says how a host does that, and what it does for what isn't here.
+ *
  * Handles are 4, 8, 12 and so on; their two lowest bits are ignored. Processes, threads and waits have numbers from 1. A name may
  * begin with Global\ or Local\ and has at most 260 bytes; it need not end in a zero byte.
  *
