@@ -50,6 +50,8 @@ install: all
 examples: all
 	$(CC) -std=c99 -Iinclude -o build/guests examples/c/guests.c build/libobman.a
 	build/guests
+	$(CC) -std=c11 -pthread -Iinclude -o build/threads examples/c/threads.c build/libobman.a
+	build/threads
 	$(RUSTC) --edition 2021 --test -o build/obman_rust examples/rust/obman.rs -L build -l static=obman
 	build/obman_rust
 	OBMAN=build/libobman.so $(PYTHON) examples/python/guests.py
