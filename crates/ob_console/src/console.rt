@@ -30,7 +30,7 @@ impl Console {
     /// No line has come.
     pub fn new(manager: Manager<Keeper>, reader: Reader, output: Output) -> Console
         requires { manager.keeper.table ≡ Some reader.table }
-        ensures { result ≡ record { point = point manager.entry reader.entry.view.held; pending = output; held = Some []; lines = 0 } }
+        ensures { result ≡ record { point = point manager reader.view.held; pending = output; held = Some []; lines = 0 } }
     {
         Console {
             evaluator: Evaluator::new(manager, reader, output),

@@ -46,7 +46,7 @@ impl Evaluator {
     /// No line has come.
     pub fn new(manager: Manager<Keeper>, reader: Reader, output: Output) -> Evaluator
         requires { manager.keeper.table ≡ Some reader.table }
-        ensures { result ≡ record { point = point manager.entry reader.entry.view.held; pending = output; lines = 0 } }
+        ensures { result ≡ record { point = point manager reader.view.held; pending = output; lines = 0 } }
     {
         Evaluator {
             manager,
