@@ -12,6 +12,9 @@ const RETIRED: u64 = 2 << 30;
 
 const PHASE: u64 = 3 << 30;
 
+// A line for each slot, with room for its descriptor beside its pin word.
+const WORDS_A_SLOT: usize = 8;
+
 pub enum Refused {
     NoSuchSlot,
     Unborn,
@@ -27,21 +30,20 @@ pub struct Words {
 }
 
 impl Words {
-    // Each slot has a second word behind all the first ones, as the slots have their descriptors.
     pub fn new(slots: u32, max_pins: u32) -> Words {
-        let words = (0..2 * slots as usize).map(|_| AtomicU64::new(1 << 32)).collect();
+        let words = (0..slots as usize * WORDS_A_SLOT).map(|_| AtomicU64::new(1 << 32)).collect();
         Words { words, slots, max_pins }
     }
 
     pub fn publish(&self, slot: u32) {
-        self.words[slot as usize].fetch_or(LIVE, SeqCst);
+        self.words[slot as usize * WORDS_A_SLOT].fetch_or(LIVE, SeqCst);
     }
 
     fn try_pin(&self, id: Id) -> Result<(), Refused> {
         if id.slot >= self.slots {
             return Err(Refused::NoSuchSlot);
         }
-        let word = &self.words[id.slot as usize];
+        let word = &self.words[id.slot as usize * WORDS_A_SLOT];
         let found = word.load(SeqCst);
         let (generation, phase, pins) = ((found >> 32) as u32, found & PHASE, (found % LIVE) as u32);
         let born = phase == RETIRED || id.generation <= generation;
@@ -70,7 +72,7 @@ impl Words {
     }
 
     pub fn release(&self, id: Id) {
-        self.words[id.slot as usize].fetch_sub(1, SeqCst);
+        self.words[id.slot as usize * WORDS_A_SLOT].fetch_sub(1, SeqCst);
     }
 
     /// Pins a slot's first object and lets it go, so many times.

@@ -12,10 +12,10 @@ use std::time::{Clock, Instant};
 // Pairs of each thread in a run.
 const PAIRS: u64 = 40000;
 
-// Slots of which no two have their words on one cache line.
+// Slots whose words are far from each other.
 const APART: [u32; 4] = [64, 128, 192, 256];
 
-// Slots whose words are all on one cache line.
+// Slots beside each other.
 const NEAR: [u32; 4] = [8, 9, 10, 11];
 
 // The reader is the thread's own, so that no two threads write to one line for it.

@@ -4,9 +4,8 @@ use Rattle.pin_core.specs.declared.id.Id.{Id}
 use Rattle.pin_core.specs.declared.descr.Descr.{Descr}
 use Rattle.pin_core.specs.Holds.{same_id, tally}
 use Rattle.pin_words.specs.declared.fault.PinFault.{PinFault}
-use Rattle.pin_words.specs.declared.view.ReaderView.{ReaderView}
 use Rattle.pin_words.specs.Plays.{Show}
-use Rattle.pin_words.specs.Seats.{ReaderState, TableState}
+use Rattle.pin_words.specs.Seats.{ReaderState}
 use Rattle.pin_words.specs.Tries.{Tries}
 use Rattle.pin_words.specs.Views.{reader_noted, reader_released}
 use Rattle.ob_store.specs.Giving.{given_by, with_next}

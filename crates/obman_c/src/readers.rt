@@ -92,19 +92,16 @@ pub extern "C" fn om_reader_pin(owner: &mut ReaderOwner, slot: u32, generation: 
     }
 }
 
-/// [`Reader::release`], where a copy of the Id is held: 0, else 6.
+/// [`Reader::release_if_held`]: 0, else 6.
 #[tactic(auto, using(crate::proofs::Read::unpinned, crate::proofs::Read::unheld))]
 #[unsafe(no_mangle)]
 pub extern "C" fn om_reader_unpin(owner: &mut ReaderOwner, slot: u32, generation: u32) -> u32
     ensures told { UnpinTold (id_at slot generation) owner.old.value.reader result owner.new.value.reader }
     ensures table { owner.new.value.reader.table ≡ owner.old.value.reader.table }
 {
-    let id = id_at(slot, generation);
-    let held = &mut owner.lend().reader;
-    if !held.holds(id) {
+    if !owner.lend().reader.release_if_held(id_at(slot, generation)) {
         return code_of(Fault::Handle);
     }
-    held.release(id);
     SUCCESS
 }
 

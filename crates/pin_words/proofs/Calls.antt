@@ -23,6 +23,7 @@ use Rattle.pin_words.specs.declared.view.Look.{Look}
 use Rattle.pin_words.specs.declared.view.KeeperView.{KeeperView}
 use Rattle.pin_words.specs.declared.view.ReaderView.{ReaderView}
 use Rattle.pin_words.specs.declared.view.View.{View}
+use Rattle.pin_words.specs.Places.{place_of, descr_place}
 use Rattle.pin_words.specs.Views.{M, Of, on, view, look, id_in, reader_with, reader_looked, reader_got, reader_released, keeper_stored, reader_of, keeper_of, IsReaders, IsKeepers}
 use Rattle.pin_words.specs.Shown.{Shown}
 use Rattle.pin_words.specs.Plays.{NoLater, Behind, Tells, got_view, released, noted, stored}
@@ -47,10 +48,10 @@ slot-known xs ys i y same inside is = is ∙ (get_or_any ys i y opening_slot ins
     get_or_any (z ∷ zs) zero a b h = refl
     get_or_any (z ∷ zs) (suc i) a b h = get_or_any zs i a b (omega arith)
 
-pub released-one : (n : ℕ) (m m' : M) (id : Id) → IsReaders m → released (step 0 id.slot 1 0 none) m n m' → 0 < tally (same_id id) (reader_of m.0).held
+pub released-one : (n p : ℕ) (m m' : M) (id : Id) → p ≡ place_of id.slot → IsReaders m → released (step 0 p 1 0 none) m n m' → 0 < tally (same_id id) (reader_of m.0).held
     → IsReaders m' × (reader_of m'.0 ≡ reader_released (reader_of m.0) id)
-released-one n m m' id reads did have =
-    let r = reader_of m.0 in
+released-one n p m m' id at reads does have =
+    let did = does id.slot at in let r = reader_of m.0 in
     let tells : Tells r id.slot n = subst (λ (v : View). Of v.reader (λ r. Tells r id.slot n)) (ap (λ (z : M). z.0) reads) did.1 in
     let now : m' ≡ (view None (Some (reader_released r (id_in id.slot n))), []) =
     did.0 ∙ ap (λ (z : M). (view z.0.keeper (on (λ r. reader_released r (id_in id.slot n)) z.0.reader), z.1)) reads in
@@ -63,20 +64,31 @@ got-one n m m' id reads did gen =
     let now : m' ≡ (view None (Some (reader_got (reader_of m.0) (id_in id.slot n) n)), []) = did ∙ ap (λ (z : M). (got_view z.0 id.slot n, z.1)) reads in
     (now ∙ ap (λ (z : M). (view None (Some (reader_of z.0)), [])) (sym now), ap (λ (z : M). reader_of z.0) now ∙ λ c. reader_got (reader_of m.0) record { slot = id.slot; generation = gen c } n)
 
+-- what a change of the one part of a seat leaves to its caller
+pub read-one : (f : ReaderView → ReaderView) (m m' : M) → IsReaders m → m' ≡ (view m.0.keeper (on f m.0.reader), m.1) → IsReaders m' × (reader_of m'.0 ≡ f (reader_of m.0))
+read-one f m m' reads did =
+    let now : m' ≡ (view None (Some (f (reader_of m.0))), []) = did ∙ ap (λ (z : M). (view z.0.keeper (on f z.0.reader), z.1)) reads in
+    (now ∙ ap (λ (z : M). (view None (Some (reader_of z.0)), [])) (sym now), ap (λ (z : M). reader_of z.0) now)
+
+pub kept-one : (f : KeeperView → KeeperView) (m m' : M) → IsKeepers m → m' ≡ (view (on f m.0.keeper) m.0.reader, m.1) → IsKeepers m' × (keeper_of m'.0 ≡ f (keeper_of m.0))
+kept-one f m m' keeps did =
+    let now : m' ≡ (view (Some (f (keeper_of m.0))) None, []) = did ∙ ap (λ (z : M). (view (on f z.0.keeper) z.0.reader, z.1)) keeps in
+    (now ∙ ap (λ (z : M). (view (Some (keeper_of z.0)) None, [])) (sym now), ap (λ (z : M). keeper_of z.0) now)
+
 -- what a store leaves to its caller
-pub stored-one : (n : ℕ) (m m' : M) (s w : ℕ) (d : Descr) → IsKeepers m → ((k : KeeperView) (i : ℕ) (e : Descr) → m.0.keeper ≡ Some k → w ≡ k.shape.slots + i → descr_code.IsGiven e → n ≡ descr_code.encoded e → m' ≡ (view (Some (keeper_stored k i e)) m.0.reader, m.1))
-    → w ≡ (keeper_of m.0).shape.slots + s → descr_code.IsGiven d → n ≡ descr_code.encoded d → IsKeepers m' × (keeper_of m'.0 ≡ keeper_stored (keeper_of m.0) s d)
+pub stored-one : (n : ℕ) (m m' : M) (s w : ℕ) (d : Descr) → IsKeepers m → ((k : KeeperView) (i : ℕ) (e : Descr) → m.0.keeper ≡ Some k → w ≡ descr_place i → descr_code.IsGiven e → n ≡ descr_code.encoded e → m' ≡ (view (Some (keeper_stored k i e)) m.0.reader, m.1))
+    → w ≡ descr_place s → descr_code.IsGiven d → n ≡ descr_code.encoded d → IsKeepers m' × (keeper_of m'.0 ≡ keeper_stored (keeper_of m.0) s d)
 stored-one n m m' s w d mine did is valid n-is =
     let now : m' ≡ (view (Some (keeper_stored (keeper_of m.0) s d)) None, []) = did (keeper_of m.0) s d (ap (λ (z : M). z.0.keeper) mine) is valid n-is ∙ ap (λ (z : M). (view (Some (keeper_stored (keeper_of m.0) s d)) z.0.reader, z.1)) mine in
     (now ∙ ap (λ (z : M). (view (Some (keeper_of z.0)) None, [])) (sym now), ap (λ (z : M). keeper_of z.0) now)
 
-pub stores-there : (key : Shape) (slots id i x : ℕ) (me : M) (v : KeeperView) (d : Descr) (k : Shape) → key ≡ k → me.0.keeper ≡ Some v → i < k.slots → (slot_of v.slots i).phase ≡ Free → descr_code.IsGiven d → x ≡ descr_code.encoded d
-    → Allows (Shown key) slots id me (k.slots + i) (λ _. x) (λ _. stored (step slots (k.slots + i) x 0 none) me x)
-stores-there key slots id i x me v d k same is inside free descr-given x-is = subst (λ (z : Shape). Allows (Shown z) slots id me (k.slots + i) (λ _. x) (λ _. stored (step slots (k.slots + i) x 0 none) me x)) (sym same) (stores-step k slots id i x me v d is inside free descr-given x-is)
+pub stores-there : (key : Shape) (slots id i p x : ℕ) (me : M) (v : KeeperView) (d : Descr) (k : Shape) → p ≡ descr_place i → key ≡ k → me.0.keeper ≡ Some v → i < k.slots → (slot_of v.slots i).phase ≡ Free → descr_code.IsGiven d → x ≡ descr_code.encoded d
+    → Allows (Shown key) slots id me p (λ _. x) (λ _. stored (step slots p x 0 none) me x)
+stores-there key slots id i p x me v d k at same is inside free descr-given x-is = subst (λ (z : Shape × ℕ). Allows (Shown z.0) slots id me z.1 (λ _. x) (λ _. stored (step slots z.1 x 0 none) me x)) (λ c. (sym same c, sym at c)) (stores-step k slots id i x me v d is inside free descr-given x-is)
 
-pub notes-there : (key : Shape) (slots id : ℕ) (me : M) (r : ReaderView) (y : Id) (k : Shape) → key ≡ k → me.0.reader ≡ Some r → y.slot < k.slots → 0 < tally (same_id y) r.held
-    → Allows (Shown key) slots id me (k.slots + y.slot) (λ n. n) (noted (step slots (k.slots + y.slot) 0 0 none) me)
-notes-there key slots id me r y k same is inside have = subst (λ (z : Shape). Allows (Shown z) slots id me (k.slots + y.slot) (λ n. n) (noted (step slots (k.slots + y.slot) 0 0 none) me)) (sym same) (notes-step k slots id y.slot me r y is refl inside have)
+pub notes-there : (key : Shape) (slots id p : ℕ) (me : M) (r : ReaderView) (y : Id) (k : Shape) → p ≡ descr_place y.slot → key ≡ k → me.0.reader ≡ Some r → y.slot < k.slots → 0 < tally (same_id y) r.held
+    → Allows (Shown key) slots id me p (λ n. n) (noted (step slots p 0 0 none) me)
+notes-there key slots id p me r y k at same is inside have = subst (λ (z : Shape × ℕ). Allows (Shown z.0) slots id me z.1 (λ n. n) (noted (step slots z.1 0 0 none) me)) (λ c. (sym same c, sym at c)) (notes-step k slots id y.slot me r y is refl inside have)
 
 -- a held Id is one of these, or the new one
 pub inside-more : (n : ℕ) (id : Id) (xs : List Id) → id.slot < n → ((x : Id) → 0 < tally (same_id x) xs → x.slot < n) → (x : Id) → 0 < tally (same_id x) (xs ++ id ∷ []) → x.slot < n

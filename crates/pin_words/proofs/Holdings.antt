@@ -1,15 +1,17 @@
 -- What a reader holds, in the set of the world and in its own list.
-use Rattle.std.proofs.Common.{◌≡◌, ◌≢◌, ℕ, ◌+◌, ◌<◌, ◌≤◌, ◌&&◌, ◌==◌, nat_lt, eq-eqb, ne_eqb, Bool, true, false, cond, List, [], ◌∷◌, ◌++◌, sym, refl, ap, ◌∙◌, arith}
+use Rattle.std.proofs.Common.{◌≡◌, ◌≢◌, ℕ, ◌+◌, ◌<◌, ◌≤◌, ◌&&◌, ◌==◌, nat_lt, eq-eqb, ne_eqb, Bool, true, false, cond, List, [], ◌∷◌, ◌++◌, length, get_or, zero, suc, Option, Some, None, ◌↔◌, IsTrue, is_some, sym, refl, ap, ◌∙◌, arith}
 use native.Mathlib.Decide.{ℕ_discrete}
 use mathlib.Core.Logic.{dite}
 use Rattle.std.proofs.lemmas.Grind.{common_steps}
+use Rattle.std.proofs.lemmas.List.Quantifiers.{position-Some}
+use Rattle.std.specs.List.{position}
 use Rattle.pin_core.specs.declared.id.Id.{Id}
 use Rattle.pin_core.specs.declared.descr.Descr.{Descr}
 use Rattle.pin_core.specs.Descrs.{same_descr}
 use Rattle.pin_core.specs.Holds.{tally, weight, same_id, is_copy, is_hold, hold_of, with_hold, drop_first}
 use Rattle.pin_core.specs.Worlds.{WorldState, at, id_at, pins, copies, last_copy, is_of, is_with, given_as}
 use Rattle.pin_core.specs.Safety.{IsSafe}
-use Rattle.pin_core.proofs.Counts.{count-snoc, count-drop, count-with_hold}
+use Rattle.pin_core.proofs.Counts.{count-snoc, count-drop, count-with_hold, none-found}
 use Rattle.pin_core.proofs.Moves.{same_of_test, same_of_descr, copies-le-pins}
 use Rattle.pin_core.proofs.Holding.{release-count}
 use Rattle.pin_words.specs.declared.view.Note.{Note}
@@ -112,3 +114,16 @@ one-descr w id d e safe a b = cases (same_descr d e) refl
 -- a copy that was just taken is there
 pub got-held : (id : Id) (held : List Id) → 0 < tally (same_id id) (held ++ id ∷ [])
 got-held id held = let c = count-snoc (same_id id) held id in let one : weight (same_id id id) ≡ 1 = ap weight (is_itself id) in omega arith
+
+-- where a test finds a place, an element passes it
+pub found-there : {X : Type 0} (p : X → Bool) (xs : List X) (n : ℕ) (d : X) → position p xs ≡ Some n → 0 < tally p xs
+found-there {X = X} p xs n d e = let at = position-Some p xs n d e in some-at xs n at.0 at.1
+  where
+    some-at : (ys : List X) (i : ℕ) → i < length ys → p (get_or ys i d) ≡ true → 0 < tally p ys
+    some-at [] i h e = absurd (omega arith)
+    some-at (y ∷ ys) zero h e = let one : weight (p y) ≡ 1 = ap weight e in omega arith
+    some-at (y ∷ ys) (suc i) h e = let ih = some-at ys i (omega arith) e in omega arith
+
+pub found-where : {X : Type 0} (p : X → Bool) (xs : List X) (d : X) (o : Option ℕ) → position p xs ≡ o → IsTrue (is_some o) ↔ (0 < tally p xs)
+found-where p xs d None e = ((λ bad. absurd (let x : false ≡ true = bad in cc)), (λ have. absurd (let none = none-found p xs e in omega arith)))
+found-where p xs d (Some n) e = ((λ _. found-there p xs n d e), (λ _. refl))

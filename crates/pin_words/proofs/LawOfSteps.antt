@@ -23,6 +23,7 @@ use Rattle.pin_words.specs.declared.view.Note.{Note}
 use Rattle.pin_words.specs.declared.view.KeeperView.{KeeperView}
 use Rattle.pin_words.specs.declared.view.ReaderView.{ReaderView}
 use Rattle.pin_words.specs.declared.view.View.{View}
+use Rattle.pin_words.specs.Places.{place_of, descr_place}
 use Rattle.pin_words.specs.Views.{on, view, id_in, reader_looked, reader_got, reader_released, reader_noted, keeper_looked, keeper_stored, keeper_published, keeper_closed, keeper_reclaimed, keeper_gave, opening_keeper}
 use Rattle.pin_words.specs.Shown.{Table, AreNoted, HoldsJust, OfKeeper, OfReader, HasReader, IsShown}
 use Rattle.pin_words.specs.Plays.{Behind, Tells, AreListed, Show, Meets, MeetsBoth, looked_view, got_view, released_view, looked, pinned, released, noted, stored, published, closed, reclaiming, gave, reader_from, spent, or_else, joined, keeper_part, reader_part}
@@ -47,16 +48,16 @@ kept-as : (k : Shape) (s : Table) (w' : WorldState) (i n j : ℕ) (v : View) (g 
 kept-as k s w' i n j v g q is = subst (λ (z : Option KeeperView). IsShown k record { words = set s.words i n; homes = s.homes; views = set s.views j (view (on g z) v.reader) } w') is
 
 pub law-load : (k : Shape) (s : Table) (w : WorldState) (j i : ℕ) (v : View) (r : ReaderView) → IsShown k s w → ReaderAt s j v r → i < k.slots
-    → StepsBy k w (Load r.number i) (stepped s i (get_or s.words i 0) j (view v.keeper (Some (reader_looked r i (get_or s.words i 0)))))
+    → StepsBy k w (Load r.number i) (stepped s (place_of i) (get_or s.words (place_of i) 0) j (view v.keeper (Some (reader_looked r i (get_or s.words (place_of i) 0)))))
 law-load k s w j i v r sh here inside = record {
   can = can-by w (Load r.number i) (may_load w r.number i (in-shape k s w sh i inside));
-  shown = read-as k s w i (get_or s.words i 0) j v (λ z. reader_looked z i (get_or s.words i 0)) r here.part (looks-shown k s w sh j i v here.seated inside);
+  shown = read-as k s w (place_of i) (get_or s.words (place_of i) 0) j v (λ z. reader_looked z i (get_or s.words (place_of i) 0)) r here.part (looks-shown k s w sh j i v here.seated inside);
 }
 
-pub law-pin : (k : Shape) (s : Table) (w : WorldState) (j i : ℕ) (v : View) (r : ReaderView) → IsShown k s w → ReaderAt s j v r → i < k.slots → (decoded (get_or s.words i 0)).phase ≡ Live → (decoded (get_or s.words i 0)).pins ≢ k.max_pins
-    → StepsBy k w (Pin r.number i (decoded (get_or s.words i 0))) (stepped s i (get_or s.words i 0 + 1) j (view v.keeper (Some (reader_got r (id_in i (get_or s.words i 0)) (get_or s.words i 0)))))
+pub law-pin : (k : Shape) (s : Table) (w : WorldState) (j i : ℕ) (v : View) (r : ReaderView) → IsShown k s w → ReaderAt s j v r → i < k.slots → (decoded (get_or s.words (place_of i) 0)).phase ≡ Live → (decoded (get_or s.words (place_of i) 0)).pins ≢ k.max_pins
+    → StepsBy k w (Pin r.number i (decoded (get_or s.words (place_of i) 0))) (stepped s (place_of i) (get_or s.words (place_of i) 0 + 1) j (view v.keeper (Some (reader_got r (id_in i (get_or s.words (place_of i) 0)) (get_or s.words (place_of i) 0)))))
 law-pin k s w j i v r sh here inside live room = record {
-  can = can-by w (Pin r.number i (decoded (get_or s.words i 0))) (subst (λ (z : Word). refusal w (Pin r.number i z) ≡ None) (sym (found-is k s w sh i inside)) (may_pin_found k s w sh r.number i inside live room));
+  can = can-by w (Pin r.number i (decoded (get_or s.words (place_of i) 0))) (subst (λ (z : Word). refusal w (Pin r.number i z) ≡ None) (sym (found-is k s w sh i inside)) (may_pin_found k s w sh r.number i inside live room));
   shown = reader-pins k s w sh j i v r here.seated here.part inside live room;
 }
 
@@ -65,56 +66,56 @@ held-inside k s w sh j v r id here have = let mine = of-here (OfReader w sh.next
     (subst (λ (z : Shape). id.slot < z.slots) sh.shape (sh.safe.held r.number id c).0, c)
 
 pub law-release : (k : Shape) (s : Table) (w : WorldState) (j : ℕ) (v : View) (r : ReaderView) (id : Id) → IsShown k s w → ReaderAt s j v r → 0 < tally (same_id id) r.held
-    → StepsBy k w (Release r.number id) (stepped s id.slot (get_or s.words id.slot 0 - 1) j (view v.keeper (Some (reader_released r id))))
+    → StepsBy k w (Release r.number id) (stepped s (place_of id.slot) (get_or s.words (place_of id.slot) 0 - 1) j (view v.keeper (Some (reader_released r id))))
 law-release k s w j v r id sh here have = let known = held-inside k s w sh j v r id here have in record {
   can = can-by w (Release r.number id) (may_release w r.number id (in-shape k s w sh id.slot known.0) known.1);
   shown = reader-releases k s w sh j v r id here.seated here.part known.0 have;
 }
 
-pub law-read : (k : Shape) (s : Table) (w : WorldState) (j : ℕ) (v : View) (r : ReaderView) (id : Id) (d : Descr) → IsShown k s w → ReaderAt s j v r → 0 < tally (same_id id) r.held → descr_code.decoded (get_or s.words (k.slots + id.slot) 0) ≡ Some d
-    → StepsBy k w (ReadDescr r.number id d) (stepped s (k.slots + id.slot) (get_or s.words (k.slots + id.slot) 0) j (view v.keeper (Some (reader_noted r id d))))
+pub law-read : (k : Shape) (s : Table) (w : WorldState) (j : ℕ) (v : View) (r : ReaderView) (id : Id) (d : Descr) → IsShown k s w → ReaderAt s j v r → 0 < tally (same_id id) r.held → descr_code.decoded (get_or s.words (descr_place id.slot) 0) ≡ Some d
+    → StepsBy k w (ReadDescr r.number id d) (stepped s (descr_place id.slot) (get_or s.words (descr_place id.slot) 0) j (view v.keeper (Some (reader_noted r id d))))
 law-read k s w j v r id d sh here have is = let known = held-inside k s w sh j v r id here have in
-    let same : (at w id.slot).descr ≡ d = some-same (descr_code.decoded (get_or s.words (k.slots + id.slot) 0)) (at w id.slot).descr d (descr_found (at w id.slot).descr (get_or s.words (k.slots + id.slot) 0) (sh.given id.slot known.0) (sh.descrs id.slot known.0)) is in record {
+    let same : (at w id.slot).descr ≡ d = some-same (descr_code.decoded (get_or s.words (descr_place id.slot) 0)) (at w id.slot).descr d (descr_found (at w id.slot).descr (get_or s.words (descr_place id.slot) 0) (sh.given id.slot known.0) (sh.descrs id.slot known.0)) is in record {
       can = can-by w (ReadDescr r.number id d) (subst (λ (z : Descr). refusal w (ReadDescr r.number id z) ≡ None) same (may_read w r.number id (in-shape k s w sh id.slot known.0) known.1));
-      shown = subst (λ (z : Descr). IsShown k (stepped s (k.slots + id.slot) (get_or s.words (k.slots + id.slot) 0) j (view v.keeper (Some (reader_noted r id z)))) w) same (reader-notes k s w sh j v r id here.seated here.part known.0 have);
+      shown = subst (λ (z : Descr). IsShown k (stepped s (descr_place id.slot) (get_or s.words (descr_place id.slot) 0) j (view v.keeper (Some (reader_noted r id z)))) w) same (reader-notes k s w sh j v r id here.seated here.part known.0 have);
     }
 
 phase-at : (k : Shape) (s : Table) (w : WorldState) (sh : IsShown k s w) (j i : ℕ) (v : View) (q : KeeperView) → KeeperAt s j v q → (at w i).phase ≡ (slot_of q.slots i).phase
 phase-at k s w sh j i v q here = let mine = keeper-at k s w sh j v q here.seated here.part in ap (λ (z : List Slot). (slot_of z i).phase) (sym mine.slots)
 
 pub law-publish : (k : Shape) (s : Table) (w : WorldState) (j i : ℕ) (v : View) (q : KeeperView) → IsShown k s w → KeeperAt s j v q → i < k.slots → (slot_of q.slots i).phase ≡ Free
-    → StepsBy k w (Publish i) (stepped s i (bit_or (get_or s.words i 0) 1073741824) j (view (Some (keeper_published q i)) v.reader))
+    → StepsBy k w (Publish i) (stepped s (place_of i) (bit_or (get_or s.words (place_of i) 0) 1073741824) j (view (Some (keeper_published q i)) v.reader))
 law-publish k s w j i v q sh here inside free = record {
   can = can-by w (Publish i) (may_publish w i (in-shape k s w sh i inside) (phase-at k s w sh j i v q here ∙ free));
   shown = keeper-publishes k s w sh j i v q here.seated here.part inside free;
 }
 
 pub law-close : (k : Shape) (s : Table) (w : WorldState) (j i : ℕ) (v : View) (q : KeeperView) → IsShown k s w → KeeperAt s j v q → i < k.slots → (slot_of q.slots i).phase ≡ Live
-    → StepsBy k w (CloseSlot i) (stepped s i (bit_or (get_or s.words i 0) 2147483648) j (view (Some (keeper_closed q i)) v.reader))
+    → StepsBy k w (CloseSlot i) (stepped s (place_of i) (bit_or (get_or s.words (place_of i) 0) 2147483648) j (view (Some (keeper_closed q i)) v.reader))
 law-close k s w j i v q sh here inside live = record {
   can = can-by w (CloseSlot i) (may_close w i (in-shape k s w sh i inside) (phase-at k s w sh j i v q here ∙ live));
   shown = keeper-closes k s w sh j i v q here.seated here.part inside live;
 }
 
-pub law-reclaim : (k : Shape) (s : Table) (w : WorldState) (j i : ℕ) (v : View) (q : KeeperView) → IsShown k s w → KeeperAt s j v q → i < k.slots → (slot_of q.slots i).phase ≡ Closing → get_or s.words i 0 ≡ closing_word (slot_of q.slots i)
-    → StepsBy k w (Reclaim i) (stepped s i (next_word k.max_gen (slot_of q.slots i)) j (view (Some (keeper_reclaimed q i (get_or s.words i 0))) v.reader))
+pub law-reclaim : (k : Shape) (s : Table) (w : WorldState) (j i : ℕ) (v : View) (q : KeeperView) → IsShown k s w → KeeperAt s j v q → i < k.slots → (slot_of q.slots i).phase ≡ Closing → get_or s.words (place_of i) 0 ≡ closing_word (slot_of q.slots i)
+    → StepsBy k w (Reclaim i) (stepped s (place_of i) (next_word k.max_gen (slot_of q.slots i)) j (view (Some (keeper_reclaimed q i (get_or s.words (place_of i) 0))) v.reader))
 law-reclaim k s w j i v q sh here inside closing hit = record {
   can = can-by w (Reclaim i) (none-pinned k s w sh j i v q here.seated here.part inside closing hit);
   shown = keeper-reclaims k s w sh j i v q here.seated here.part inside closing hit;
 }
 
-pub law-reclaim-failed : (k : Shape) (s : Table) (w : WorldState) (j i n : ℕ) (v : View) (q : KeeperView) → IsShown k s w → KeeperAt s j v q → i < k.slots → (slot_of q.slots i).phase ≡ Closing → get_or s.words i 0 ≢ closing_word (slot_of q.slots i)
-    → (0 < (decoded (get_or s.words i 0)).pins) × StepsBy k w (Load n i) (stepped s i (get_or s.words i 0) j (view (Some (keeper_looked q i (get_or s.words i 0))) v.reader))
+pub law-reclaim-failed : (k : Shape) (s : Table) (w : WorldState) (j i n : ℕ) (v : View) (q : KeeperView) → IsShown k s w → KeeperAt s j v q → i < k.slots → (slot_of q.slots i).phase ≡ Closing → get_or s.words (place_of i) 0 ≢ closing_word (slot_of q.slots i)
+    → (0 < (decoded (get_or s.words (place_of i) 0)).pins) × StepsBy k w (Load n i) (stepped s (place_of i) (get_or s.words (place_of i) 0) j (view (Some (keeper_looked q i (get_or s.words (place_of i) 0))) v.reader))
 law-reclaim-failed k s w j i n v q sh here inside closing miss = (
   pinned-still k s w sh j i v q here.seated here.part inside closing miss,
   record {
     can = can-by w (Load n i) (may_load w n i (in-shape k s w sh i inside));
-    shown = kept-as k s w i (get_or s.words i 0) j v (λ z. keeper_looked z i (get_or s.words i 0)) q here.part (keeper-looks k s w sh j i v here.seated inside);
+    shown = kept-as k s w (place_of i) (get_or s.words (place_of i) 0) j v (λ z. keeper_looked z i (get_or s.words (place_of i) 0)) q here.part (keeper-looks k s w sh j i v here.seated inside);
   },
 )
 
 pub law-store : (k : Shape) (s : Table) (w : WorldState) (j i : ℕ) (v : View) (q : KeeperView) (d : Descr) → IsShown k s w → KeeperAt s j v q → i < k.slots → (slot_of q.slots i).phase ≡ Free → descr_code.IsGiven d
-    → StepsBy k w (StoreDescr i d) (stepped s (k.slots + i) (descr_code.encoded d) j (view (Some (keeper_stored q i d)) v.reader))
+    → StepsBy k w (StoreDescr i d) (stepped s (descr_place i) (descr_code.encoded d) j (view (Some (keeper_stored q i d)) v.reader))
 law-store k s w j i v q d sh here inside free valid = record {
   can = can-by w (StoreDescr i d) (may_store w i d (in-shape k s w sh i inside) (phase-at k s w sh j i v q here ∙ free));
   shown = keeper-stores k s w sh j i v q d here.seated here.part inside free valid;

@@ -1,10 +1,9 @@
 -- Seats that are split and joined leave the world as it is.
-use Rattle.std.proofs.Common.{◌≡◌, ◌≢◌, ◌⊎◌, inl, inr, ⊎_elim, ℕ, ◌+◌, ◌<◌, ◌≤◌, ◌==◌, eq-eqb, ne_eqb, Bool, cond, List, [], ◌∷◌, ◌++◌, length, length-append, get_or, set, replicate, zero, suc, Some, None, sym, refl, ap, ◌∙◌, subst, arith}
+use Rattle.std.proofs.Common.{◌≡◌, ◌≢◌, ◌⊎◌, inl, inr, ⊎_elim, ℕ, ◌+◌, ◌<◌, ◌≤◌, ◌==◌, eq-eqb, ne_eqb, Bool, cond, List, [], ◌∷◌, ◌++◌, length, set, zero, suc, Some, None, sym, refl, ap, ◌∙◌, subst, arith}
 use mathlib.Core.Option.{some, some-ne-none, some-injective}
 use native.Mathlib.Decide.{ℕ_discrete}
 use mathlib.Core.Logic.{dite}
-use lib.ListN.{get_elem?, get_or-replicate, length-replicate}
-use Rattle.std.proofs.lemmas.List.{get_or-append-add}
+use lib.ListN.{get_elem?}
 use Rattle.atomic_table.specs.Table.{Splits, Joins, opening}
 use Rattle.atomic_table.proofs.Lists.{at_set, set_here, set_else, set_again, at_longer, at_last}
 use Rattle.pin_core.specs.declared.shape.Shape.{Shape}
@@ -17,6 +16,7 @@ use Rattle.pin_core.proofs.Schedules.{opening-safe, opening_at}
 use Rattle.pin_words.specs.declared.view.KeeperView.{KeeperView}
 use Rattle.pin_words.specs.declared.view.ReaderView.{ReaderView}
 use Rattle.pin_words.specs.declared.view.View.{View}
+use Rattle.pin_words.specs.Places.{AreOpening}
 use Rattle.pin_words.specs.Views.{on, view, keeper_gave, reader_given, opening_keeper, opening_view}
 use Rattle.pin_words.specs.Shown.{Table, HoldsJust, OfKeeper, OfReader, Agrees, HasKeeper, HasReader, IsShown, Shown}
 use Rattle.pin_words.specs.Plays.{Behind, Tells, AreListed, Show, Meets, MeetsBoth, looked_view, got_view, released_view, looked, pinned, released, noted, stored, published, closed, reclaiming, gave, reader_from, spent, or_else, joined, keeper_part, reader_part}
@@ -40,18 +40,16 @@ moved-old : (n q : ℕ) (owner : ℕ → ℕ) (r : ℕ) → r ≢ n → moved-ow
 moved-old n q owner r h = ap (λ (b : Bool). cond b q (owner r)) (ne_eqb r n h)
 
 -- the table at the start
-pub opens : (k : Shape) (words : List ℕ) → IsWithinLimits k → words ≡ replicate k.slots 4294967296 ++ replicate k.slots 0 → Shown k (opening words [] (opening_view k))
+pub opens : (k : Shape) (words : List ℕ) → IsWithinLimits k → AreOpening k.slots k.slots words → Shown k (opening words [] (opening_view k))
 opens k words fits are = (
   opening_of k,
   record {
     fits = fits;
     shape = refl;
-    wide = ap length are ∙ (length-append (replicate k.slots 4294967296) (replicate k.slots 0) ∙ λ c. length-replicate {A = ℕ} k.slots 4294967296 c + length-replicate {A = ℕ} k.slots 0 c);
+    wide = are.wide;
     safe = opening-safe k fits.4;
-    words = λ i h. ap (λ (z : List ℕ). get_or z i 0) are ∙ (front (replicate k.slots 4294967296) (replicate k.slots 0) i (subst (λ (z : ℕ). i < z) (sym (length-replicate {A = ℕ} k.slots 4294967296)) h)
-        ∙ (get_or-replicate k.slots i 4294967296 0 h ∙ ap (λ (y : Slot). encoded record { generation = y.generation; phase = y.phase; pins = 0 }) (sym (opening_at k.slots i))));
-    descrs = λ i h. ap (λ (z : List ℕ). get_or z (k.slots + i) 0) are ∙ (ap (λ (z : ℕ). get_or (replicate k.slots 4294967296 ++ replicate k.slots 0) (z + i) 0) (sym (length-replicate {A = ℕ} k.slots 4294967296))
-        ∙ (get_or-append-add (replicate k.slots 4294967296) (replicate k.slots 0) i 0 ∙ (get_or-replicate k.slots i 0 0 h ∙ ap (λ (y : Slot). descr_code.encoded y.descr) (sym (opening_at k.slots i)))));
+    words = λ i h. are.words i h ∙ ap (λ (y : Slot). encoded record { generation = y.generation; phase = y.phase; pins = 0 }) (sym (opening_at k.slots i));
+    descrs = λ i h. are.descrs i h ∙ ap (λ (y : Slot). descr_code.encoded y.descr) (sym (opening_at k.slots i));
     given = λ i h. subst (λ (y : Slot). descr_code.IsGiven y.descr) (sym (opening_at k.slots i)) (omega arith, refl);
     keeper = 0;
     next = 1;
@@ -68,11 +66,6 @@ opens k words fits are = (
     beyond : (j : ℕ) (u : View) → j ≢ 0 → get_elem? (opening_view k ∷ []) j ≡ some u → ⊥
     beyond zero u other e = other refl
     beyond (suc j) u other e = some-ne-none u (sym e)
-
-    front : (xs ys : List ℕ) (i : ℕ) → i < length xs → get_or (xs ++ ys) i 0 ≡ get_or xs i 0
-    front [] ys i h = absurd (omega arith)
-    front (x ∷ xs) ys zero h = refl
-    front (x ∷ xs) ys (suc i) h = front xs ys i (omega arith)
 
 -- the same world under other views
 reseated : (k : Shape) (s : Table) (W : WorldState) (sh : IsShown k s W) (next : ℕ) (owner : ℕ → ℕ) (views : List View) → ((j : ℕ) (u : View) → get_elem? views j ≡ some u → Agrees W sh.keeper next owner j u) → ((r : ℕ) → next ≤ r → HoldsJust W r [])

@@ -25,6 +25,7 @@ use Rattle.pin_words.specs.declared.view.Note.{Note}
 use Rattle.pin_words.specs.declared.view.KeeperView.{KeeperView}
 use Rattle.pin_words.specs.declared.view.ReaderView.{ReaderView}
 use Rattle.pin_words.specs.declared.view.View.{View}
+use Rattle.pin_words.specs.Places.{place_of, descr_place, AtSlot}
 use Rattle.pin_words.specs.Views.{Of, on, view, look, reader_looked, unwrap}
 use Rattle.pin_words.specs.Shown.{Table, word_age, IsPast, NotAhead, AreNoted, HoldsJust, OfKeeper, OfReader, Agrees, HasKeeper, HasReader, IsShown}
 use Rattle.pin_words.specs.Plays.{Behind, Tells, AreListed, Show, MeetsBoth, looked_view}
@@ -66,10 +67,14 @@ has-reader vs id j r v v' seated turn h = dite (ℕ_discrete j id)
     (v', new.0, ap (get_elem? (set vs id v')) e ∙ set_here vs id v' (in-list vs id v seated), new.1, new.2 ∙ h.4))
     (λ ne. (h.0, h.1, set_else vs id j v' ne ∙ h.2, h.3, h.4))
 
+-- a slot is told by its place
+pub at-slot : (i : ℕ) (P : ℕ → Type 0) → P i → AtSlot (place_of i) P
+at-slot i P have s is = let same : i ≡ s = omega arith in subst P same have
+
 -- a step of one seat, after which the world is w'
 pub step-shown : (k : Shape) (s : Table) (W : WorldState) (sh : IsShown k s W) (id i n : ℕ) (v' : View) (w' : WorldState) → w'.shape ≡ k → IsSafe w'
-    → ((j : ℕ) → j < k.slots → get_or (set s.words i n) j 0 ≡ encoded (word_at w' j))
-    → ((j : ℕ) → j < k.slots → get_or (set s.words i n) (k.slots + j) 0 ≡ descr_code.encoded (at w' j).descr)
+    → ((j : ℕ) → j < k.slots → get_or (set s.words i n) (place_of j) 0 ≡ encoded (word_at w' j))
+    → ((j : ℕ) → j < k.slots → get_or (set s.words i n) (descr_place j) 0 ≡ descr_code.encoded (at w' j).descr)
     → ((j : ℕ) → j < k.slots → descr_code.IsGiven (at w' j).descr)
     → Agrees w' sh.keeper sh.next sh.owner id v'
     → ((j : ℕ) (u : View) → j ≢ id → Agrees W sh.keeper sh.next sh.owner j u → Agrees w' sh.keeper sh.next sh.owner j u)
@@ -98,17 +103,17 @@ step-shown k s W sh id i n v' w' shape safe words descrs given mine others unbor
 pub still-shown : (k : Shape) (s : Table) (W : WorldState) (sh : IsShown k s W) (id i : ℕ) (v' : View) → Agrees W sh.keeper sh.next sh.owner id v' → (v : View) → get_elem? s.views id ≡ some v → Turns v v'
     → IsShown k record { words = set s.words i (get_or s.words i 0); homes = s.homes; views = set s.views id v' } W
 still-shown k s W sh id i v' mine v seated turn = let same = set-get_or s.words i 0 in
-    step-shown k s W sh id i (get_or s.words i 0) v' W sh.shape sh.safe (λ j h. ap (λ (ws : List ℕ). get_or ws j 0) same ∙ sh.words j h)
-    (λ j h. ap (λ (ws : List ℕ). get_or ws (k.slots + j) 0) same ∙ sh.descrs j h) sh.given mine (λ j u n a. a) sh.unborn v seated turn (λ r e. inl e)
+    step-shown k s W sh id i (get_or s.words i 0) v' W sh.shape sh.safe (λ j h. ap (λ (ws : List ℕ). get_or ws (place_of j) 0) same ∙ sh.words j h)
+    (λ j h. ap (λ (ws : List ℕ). get_or ws (descr_place j) 0) same ∙ sh.descrs j h) sh.given mine (λ j u n a. a) sh.unborn v seated turn (λ r e. inl e)
 
 pub few-pins : (k : Shape) (s : Table) (W : WorldState) (sh : IsShown k s W) (i : ℕ) → pins W i < 1073741824
 few-pins k s W sh i = let room = sh.safe.room i in let max : W.shape.max_pins ≡ k.max_pins = ap (λ (z : Shape). z.max_pins) sh.shape in let fit = sh.fits.3 in omega arith
 
 -- what the word that is found says
-pub found-is : (k : Shape) (s : Table) (W : WorldState) (sh : IsShown k s W) (i : ℕ) → i < k.slots → decoded (get_or s.words i 0) ≡ word_at W i
+pub found-is : (k : Shape) (s : Table) (W : WorldState) (sh : IsShown k s W) (i : ℕ) → i < k.slots → decoded (get_or s.words (place_of i) 0) ≡ word_at W i
 found-is k s W sh i inside = ap decoded (sh.words i inside) ∙ decoded-encoded (word_at W i) (few-pins k s W sh i)
 
-pub found-age : (k : Shape) (s : Table) (W : WorldState) (sh : IsShown k s W) (i : ℕ) → i < k.slots → word_age (get_or s.words i 0) ≡ age (at W i)
+pub found-age : (k : Shape) (s : Table) (W : WorldState) (sh : IsShown k s W) (i : ℕ) → i < k.slots → word_age (get_or s.words (place_of i) 0) ≡ age (at W i)
 found-age k s W sh i inside = ap (λ (x : Word). x.generation * 4 + rank_of x.phase) (found-is k s W sh i inside)
 
 pub in-shape : (k : Shape) (s : Table) (W : WorldState) (sh : IsShown k s W) (i : ℕ) → i < k.slots → i < W.shape.slots
@@ -138,15 +143,15 @@ behind w (l ∷ ls) s n is phase bounded h = (
   behind w ls s n is phase bounded h.1,
 )
 
-pub told : (k : Shape) (s : Table) (W : WorldState) (sh : IsShown k s W) (id i : ℕ) (r : ReaderView) → i < k.slots → OfReader W sh.next sh.owner id r → Tells r i (get_or s.words i 0)
+pub told : (k : Shape) (s : Table) (W : WorldState) (sh : IsShown k s W) (id i : ℕ) (r : ReaderView) → i < k.slots → OfReader W sh.next sh.owner id r → Tells r i (get_or s.words (place_of i) 0)
 told k s W sh id i r inside mine = let is = found-is k s W sh i inside in record {
-  pins = let le = held-le-pins W r.number i r.held sh.safe mine.held in let count : (decoded (get_or s.words i 0)).pins ≡ pins W i = ap (λ (x : Word). x.pins) is in omega arith;
-  room = let le = sh.safe.room i in let count : (decoded (get_or s.words i 0)).pins ≡ pins W i = ap (λ (x : Word). x.pins) is in let max : r.shape.max_pins ≡ W.shape.max_pins = ap (λ (z : Shape). z.max_pins) mine.shape in omega arith;
+  pins = let le = held-le-pins W r.number i r.held sh.safe mine.held in let count : (decoded (get_or s.words (place_of i) 0)).pins ≡ pins W i = ap (λ (x : Word). x.pins) is in omega arith;
+  room = let le = sh.safe.room i in let count : (decoded (get_or s.words (place_of i) 0)).pins ≡ pins W i = ap (λ (x : Word). x.pins) is in let max : r.shape.max_pins ≡ W.shape.max_pins = ap (λ (z : Shape). z.max_pins) mine.shape in omega arith;
   held = λ x have here. let h = sh.safe.held r.number x (has-copies W r x mine.held have) in (
     ap (λ (y : Word). y.generation) is ∙ (ap (λ (z : ℕ). (at W z).generation) (sym here) ∙ h.1),
     ap (λ (y : Word). may_be_held y.phase) is ∙ (ap (λ (z : ℕ). may_be_held (at W z).phase) (sym here) ∙ h.2),
   );
-  looks = behind W r.looks i (get_or s.words i 0) (found-age k s W sh i inside) (ap (λ (x : Word). x.phase) is) (sh.safe.slots i (in-shape k s W sh i inside)).bounded mine.looks;
+  looks = behind W r.looks i (get_or s.words (place_of i) 0) (found-age k s W sh i inside) (ap (λ (x : Word). x.phase) is) (sh.safe.slots i (in-shape k s W sh i inside)).bounded mine.looks;
 }
 
 listed : (w : WorldState) (ps : List (Id × Descr)) (xs : List Note) → ps ≡ w.published → AreNoted w xs → AreListed ps xs
@@ -157,10 +162,10 @@ shows : (w : WorldState) (id : Id) (d : Descr) (xs : List Note) → IsSafe w →
 shows w id d [] safe have h = tt
 shows w id d (x ∷ xs) safe have h = ((λ e. one-descr w id x.descr d safe (subst (λ (z : Id). 0 < given_as w z x.descr) e h.0) have), shows w id d xs safe have h.1)
 
-pub met : (k : Shape) (s : Table) (W : WorldState) (sh : IsShown k s W) (id i : ℕ) (v : View) → i < k.slots → Agrees W sh.keeper sh.next sh.owner id v → MeetsBoth v.keeper v.reader i (get_or s.words i 0)
+pub met : (k : Shape) (s : Table) (W : WorldState) (sh : IsShown k s W) (id i : ℕ) (v : View) → i < k.slots → Agrees W sh.keeper sh.next sh.owner id v → MeetsBoth v.keeper v.reader i (get_or s.words (place_of i) 0)
 met k s W sh id i v inside a = cases v.keeper v.reader a.0 a.1
   where
-    cases : (x : Option KeeperView) (y : Option ReaderView) → Of x (OfKeeper W sh.keeper sh.next id) → Of y (OfReader W sh.next sh.owner id) → MeetsBoth x y i (get_or s.words i 0)
+    cases : (x : Option KeeperView) (y : Option ReaderView) → Of x (OfKeeper W sh.keeper sh.next id) → Of y (OfReader W sh.next sh.owner id) → MeetsBoth x y i (get_or s.words (place_of i) 0)
     cases None y a b = tt
     cases (Some x) None a b = tt
     cases (Some x) (Some y) a b = let is = found-is k s W sh i inside in let here : at W i ≡ slot_of x.slots i = ap (λ (z : List Slot). slot_of z i) (sym a.slots) in record {
@@ -177,15 +182,15 @@ met k s W sh id i v inside a = cases v.keeper v.reader a.0 a.1
           (shows W (id_at W i) (at W i).descr y.notes sh.safe (let one = (sh.safe.slots i (in-shape k s W sh i inside)).shown (ap (λ (z : Slot). may_be_held z.phase) here ∙ on) in omega arith) b.notes);
     }
 
-pub past-here : (k : Shape) (s : Table) (W : WorldState) (sh : IsShown k s W) (i : ℕ) → i < k.slots → IsPast W (look i (get_or s.words i 0))
+pub past-here : (k : Shape) (s : Table) (W : WorldState) (sh : IsShown k s W) (i : ℕ) → i < k.slots → IsPast W (look i (get_or s.words (place_of i) 0))
 past-here k s W sh i inside = let now = found-age k s W sh i inside in let is = found-is k s W sh i inside in (
-  (let goal : word_age (get_or s.words i 0) ≤ age (at W i) = omega arith in goal),
+  (let goal : word_age (get_or s.words (place_of i) 0) ≤ age (at W i) = omega arith in goal),
   λ e. let last : (at W i).generation ≡ W.shape.max_gen = (sh.safe.slots i (in-shape k s W sh i inside)).last (sym (ap (λ (x : Word). x.phase) is) ∙ e) in
-      let same : (decoded (get_or s.words i 0)).generation ≡ (at W i).generation = ap (λ (x : Word). x.generation) is in
-      (let goal : W.shape.max_gen ≤ (decoded (get_or s.words i 0)).generation = omega arith in goal),
+      let same : (decoded (get_or s.words (place_of i) 0)).generation ≡ (at W i).generation = ap (λ (x : Word). x.generation) is in
+      (let goal : W.shape.max_gen ≤ (decoded (get_or s.words (place_of i) 0)).generation = omega arith in goal),
 )
 
-pub reader-looks : (k : Shape) (s : Table) (W : WorldState) (sh : IsShown k s W) (id i : ℕ) → i < k.slots → (r : ReaderView) → OfReader W sh.next sh.owner id r → OfReader W sh.next sh.owner id (reader_looked r i (get_or s.words i 0))
+pub reader-looks : (k : Shape) (s : Table) (W : WorldState) (sh : IsShown k s W) (id i : ℕ) → i < k.slots → (r : ReaderView) → OfReader W sh.next sh.owner id r → OfReader W sh.next sh.owner id (reader_looked r i (get_or s.words (place_of i) 0))
 reader-looks k s W sh id i inside r mine =
     record { shape = mine.shape; born = mine.born; mine = mine.mine; held = mine.held; notes = mine.notes; looks = (past-here k s W sh i inside, mine.looks) }
 
@@ -205,8 +210,8 @@ turn-to v r r' is same = record { keeper = λ k e. (k, e); reader = λ x e. (r',
 pub turn-keeper-to : (v : View) (k' : KeeperView) → Turns v (view (Some k') v.reader)
 turn-keeper-to v k' = record { keeper = λ k e. (k', refl); reader = λ x e. (x, e, refl) }
 
-pub looks-agree : (k : Shape) (s : Table) (W : WorldState) (sh : IsShown k s W) (id i : ℕ) (v : View) → i < k.slots → Agrees W sh.keeper sh.next sh.owner id v → Agrees W sh.keeper sh.next sh.owner id (looked_view v i (get_or s.words i 0))
-looks-agree k s W sh id i v inside a = (a.0, of-on (OfReader W sh.next sh.owner id) (λ r. reader_looked r i (get_or s.words i 0)) v.reader (reader-looks k s W sh id i inside) a.1)
+pub looks-agree : (k : Shape) (s : Table) (W : WorldState) (sh : IsShown k s W) (id i : ℕ) (v : View) → i < k.slots → Agrees W sh.keeper sh.next sh.owner id v → Agrees W sh.keeper sh.next sh.owner id (looked_view v i (get_or s.words (place_of i) 0))
+looks-agree k s W sh id i v inside a = (a.0, of-on (OfReader W sh.next sh.owner id) (λ r. reader_looked r i (get_or s.words (place_of i) 0)) v.reader (reader-looks k s W sh id i inside) a.1)
 
 -- looks stay behind as slots get older
 pub looks-stay : (w w' : WorldState) (ls : List Look) → w'.shape ≡ w.shape → ((j : ℕ) → age (at w j) ≤ age (at w' j)) → NotAhead w ls → NotAhead w' ls

@@ -23,6 +23,7 @@ use Rattle.pin_words.specs.declared.view.Note.{Note}
 use Rattle.pin_words.specs.declared.view.KeeperView.{KeeperView}
 use Rattle.pin_words.specs.declared.view.ReaderView.{ReaderView}
 use Rattle.pin_words.specs.declared.view.View.{View}
+use Rattle.pin_words.specs.Places.{place_of, descr_place}
 use Rattle.pin_words.specs.Views.{view, id_in, reader_looked, reader_got, reader_released, reader_noted, keeper_looked, keeper_stored, keeper_published, keeper_closed, keeper_reclaimed}
 use Rattle.pin_words.specs.Shown.{Table, IsShown}
 use Rattle.pin_words.specs.Plays.{NoLater, gave, given, spent}
@@ -44,11 +45,14 @@ with_reader v r = view v.keeper (Some r)
 abbrev pub with_keeper : View → KeeperView → View
 with_keeper v k = view (Some k) v.reader
 
--- the word i
+-- the pin word of the slot i, and its descriptor's
 abbrev pub word : Table → ℕ → ℕ
-word s i = slice_index s.words i
+word s i = slice_index s.words (place_of i)
 
--- the table after the word i became n, and the seat j got the view v
+abbrev pub descr_word : Table → ℕ → ℕ
+descr_word s i = slice_index s.words (descr_place i)
+
+-- the table after the word at the place i became n, and the seat j got the view v
 abbrev pub stepped : Table → ℕ → ℕ → ℕ → View → Table
 stepped s i n j v = record { words = slice_set s.words i n; homes = s.homes; views = slice_set s.views j v }
 
@@ -91,51 +95,51 @@ ShowsSafeWorld = (k : Shape) (s : Table) (w : WorldState) → IsShown k s w → 
 -- a reader's load of a pin word
 abbrev pub LoadSteps : Type 0
 LoadSteps = (k : Shape) (s : Table) (w : WorldState) (j i : ℕ) (v : View) (r : ReaderView) → IsShown k s w → ReaderAt s j v r → i < k.slots
-    → StepsBy k w (event.Load r.number i) (stepped s i (word s i) j (with_reader v (reader_looked r i (word s i))))
+    → StepsBy k w (event.Load r.number i) (stepped s (place_of i) (word s i) j (with_reader v (reader_looked r i (word s i))))
 
 -- a reader's exchange of a pin word for one with one more pin, where it is the word that was expected; else it is a load
 abbrev pub PinSteps : Type 0
 PinSteps = (k : Shape) (s : Table) (w : WorldState) (j i : ℕ) (v : View) (r : ReaderView) → IsShown k s w → ReaderAt s j v r → i < k.slots
     → (decoded (word s i)).phase ≡ Live → (decoded (word s i)).pins ≢ k.max_pins
-    → StepsBy k w (event.Pin r.number i (decoded (word s i))) (stepped s i (word s i + 1) j (with_reader v (reader_got r (id_in i (word s i)) (word s i))))
+    → StepsBy k w (event.Pin r.number i (decoded (word s i))) (stepped s (place_of i) (word s i + 1) j (with_reader v (reader_got r (id_in i (word s i)) (word s i))))
 
 -- a reader's subtraction of one pin
 abbrev pub ReleaseSteps : Type 0
 ReleaseSteps = (k : Shape) (s : Table) (w : WorldState) (j : ℕ) (v : View) (r : ReaderView) (id : Id) → IsShown k s w → ReaderAt s j v r → 0 < tally (same_id id) r.held
-    → StepsBy k w (event.Release r.number id) (stepped s id.slot (word s id.slot - 1) j (with_reader v (reader_released r id)))
+    → StepsBy k w (event.Release r.number id) (stepped s (place_of id.slot) (word s id.slot - 1) j (with_reader v (reader_released r id)))
 
 -- the keeper's or of bit 30
 abbrev pub PublishSteps : Type 0
 PublishSteps = (k : Shape) (s : Table) (w : WorldState) (j i : ℕ) (v : View) (q : KeeperView) → IsShown k s w → KeeperAt s j v q → i < k.slots → (slot_of q.slots i).phase ≡ Free
-    → StepsBy k w (event.Publish i) (stepped s i (bit_or (word s i) 1073741824) j (with_keeper v (keeper_published q i)))
+    → StepsBy k w (event.Publish i) (stepped s (place_of i) (bit_or (word s i) 1073741824) j (with_keeper v (keeper_published q i)))
 
 -- the keeper's or of bit 31
 abbrev pub CloseSteps : Type 0
 CloseSteps = (k : Shape) (s : Table) (w : WorldState) (j i : ℕ) (v : View) (q : KeeperView) → IsShown k s w → KeeperAt s j v q → i < k.slots → (slot_of q.slots i).phase ≡ Live
-    → StepsBy k w (event.CloseSlot i) (stepped s i (bit_or (word s i) 2147483648) j (with_keeper v (keeper_closed q i)))
+    → StepsBy k w (event.CloseSlot i) (stepped s (place_of i) (bit_or (word s i) 2147483648) j (with_keeper v (keeper_closed q i)))
 
 -- the keeper's exchange of a closing word without pins
 abbrev pub ReclaimSteps : Type 0
 ReclaimSteps = (k : Shape) (s : Table) (w : WorldState) (j i : ℕ) (v : View) (q : KeeperView) → IsShown k s w → KeeperAt s j v q → i < k.slots → (slot_of q.slots i).phase ≡ Closing
     → word s i ≡ closing_word (slot_of q.slots i)
-    → StepsBy k w (event.Reclaim i) (stepped s i (next_word k.max_gen (slot_of q.slots i)) j (with_keeper v (keeper_reclaimed q i (word s i))))
+    → StepsBy k w (event.Reclaim i) (stepped s (place_of i) (next_word k.max_gen (slot_of q.slots i)) j (with_keeper v (keeper_reclaimed q i (word s i))))
 
 -- that exchange where it fails: there are pins, and it is a load. The keeper stands in the place of a reader, of whatever number
 abbrev pub FailedReclaimSteps : Type 0
 FailedReclaimSteps = (k : Shape) (s : Table) (w : WorldState) (j i n : ℕ) (v : View) (q : KeeperView) → IsShown k s w → KeeperAt s j v q → i < k.slots → (slot_of q.slots i).phase ≡ Closing
     → word s i ≢ closing_word (slot_of q.slots i)
-    → (0 < (decoded (word s i)).pins) × StepsBy k w (event.Load n i) (stepped s i (word s i) j (with_keeper v (keeper_looked q i (word s i))))
+    → (0 < (decoded (word s i)).pins) × StepsBy k w (event.Load n i) (stepped s (place_of i) (word s i) j (with_keeper v (keeper_looked q i (word s i))))
 
 -- the keeper's store of a descriptor word
 abbrev pub StoreSteps : Type 0
 StoreSteps = (k : Shape) (s : Table) (w : WorldState) (j i : ℕ) (v : View) (q : KeeperView) (d : Descr) → IsShown k s w → KeeperAt s j v q → i < k.slots → (slot_of q.slots i).phase ≡ Free → descr_code.IsGiven d
-    → StepsBy k w (event.StoreDescr i d) (stepped s (k.slots + i) (descr_code.encoded d) j (with_keeper v (keeper_stored q i d)))
+    → StepsBy k w (event.StoreDescr i d) (stepped s (descr_place i) (descr_code.encoded d) j (with_keeper v (keeper_stored q i d)))
 
 -- a reader's load of the descriptor word of a slot that it holds
 abbrev pub ReadSteps : Type 0
 ReadSteps = (k : Shape) (s : Table) (w : WorldState) (j : ℕ) (v : View) (r : ReaderView) (id : Id) (d : Descr) → IsShown k s w → ReaderAt s j v r → 0 < tally (same_id id) r.held
-    → descr_code.decoded (word s (k.slots + id.slot)) ≡ Some d
-    → StepsBy k w (event.ReadDescr r.number id d) (stepped s (k.slots + id.slot) (word s (k.slots + id.slot)) j (with_reader v (reader_noted r id d)))
+    → descr_code.decoded (descr_word s id.slot) ≡ Some d
+    → StepsBy k w (event.ReadDescr r.number id d) (stepped s (descr_place id.slot) (descr_word s id.slot) j (with_reader v (reader_noted r id d)))
 
 -- the keeper's seat gives a reader's; a seat gives one that knows nothing; the keeper's and a reader's are joined,
 -- and parted again: the world stays

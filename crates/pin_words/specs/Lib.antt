@@ -6,3 +6,4 @@ pub mod Tries
 pub mod Seats
 pub mod Keepers
 pub mod Laws
+pub mod Places

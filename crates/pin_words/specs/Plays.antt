@@ -1,5 +1,5 @@
 -- What each atomic step tells the seat that makes it.
-use Rattle.std.specs.Prelude.{◌≡◌, ◌≢◌, ℕ, ◌+◌, ◌<◌, ◌≤◌, true, List, [], ◌∷◌, Option, Some, None}
+use Rattle.std.specs.Prelude.{◌≡◌, ◌≢◌, ℕ, ◌<◌, ◌≤◌, true, List, [], ◌∷◌, Option, Some, None}
 use Rattle.atomic_table.specs.Table.{Step}
 use Rattle.pin_core.specs.declared.id.Id.{Id}
 use Rattle.pin_core.specs.declared.descr.Descr.{Descr}
@@ -17,6 +17,7 @@ use Rattle.pin_words.specs.declared.view.KeeperView.{KeeperView}
 use Rattle.pin_words.specs.declared.view.ReaderView.{ReaderView}
 use Rattle.pin_words.specs.declared.view.View.{View}
 use Rattle.pin_words.specs.Views.{M, Of, on, view, sits, id_of, id_in, reader_looked, reader_got, reader_released, reader_noted, reader_given, keeper_looked, keeper_stored, keeper_published, keeper_closed, keeper_reclaimed, keeper_gave}
+use Rattle.pin_words.specs.Places.{AtSlot, descr_place}
 use Rattle.pin_words.specs.Shown.{word_age}
 
 -- the word m is no later than the word n, and retired is for good
@@ -80,40 +81,58 @@ got_view v s n = view v.keeper (on (λ r. reader_got r (id_in s n) n) v.reader)
 abbrev pub released_view : View → ℕ → ℕ → View
 released_view v s n = view v.keeper (on (λ r. reader_released r (id_in s n)) v.reader)
 
--- a load of the word of a slot
+-- a load of the word of the slot s
+abbrev pub LookedAt : M → ℕ → M → ℕ → Type 0
+LookedAt m n m' s = (m' ≡ (looked_view m.0 s n, m.1)) × Of m.0.reader (λ r. Tells r s n) × MeetsBoth m.0.keeper m.0.reader s n
+
 abbrev pub looked : St → M → ℕ → M → Type 0
-looked st m n m' = (m' ≡ (looked_view m.0 st.word n, m.1)) × Of m.0.reader (λ r. Tells r st.word n) × MeetsBoth m.0.keeper m.0.reader st.word n
+looked st m n m' = AtSlot st.word (LookedAt m n m')
 
 -- an exchange of a slot's word for one with one more pin
+abbrev pub PinnedAt : ℕ → M → ℕ → M → ℕ → Type 0
+PinnedAt first m n m' s = (n ≡ first → m' ≡ (got_view m.0 s n, m.1)) × (n ≢ first → m' ≡ (looked_view m.0 s n, m.1)) × Of m.0.reader (λ r. Tells r s n)
+
 abbrev pub pinned : St → M → ℕ → M → Type 0
-pinned st m n m' = (n ≡ st.first → m' ≡ (got_view m.0 st.word n, m.1)) × (n ≢ st.first → m' ≡ (looked_view m.0 st.word n, m.1)) × Of m.0.reader (λ r. Tells r st.word n)
+pinned st m n m' = AtSlot st.word (PinnedAt st.first m n m')
 
 -- a subtraction of one pin
+abbrev pub ReleasedAt : M → ℕ → M → ℕ → Type 0
+ReleasedAt m n m' s = (m' ≡ (released_view m.0 s n, m.1)) × Of m.0.reader (λ r. Tells r s n)
+
 abbrev pub released : St → M → ℕ → M → Type 0
-released st m n m' = (m' ≡ (released_view m.0 st.word n, m.1)) × Of m.0.reader (λ r. Tells r st.word n)
+released st m n m' = AtSlot st.word (ReleasedAt m n m')
 
 -- a load of the descriptor word of a slot that the reader holds
 abbrev pub noted : St → M → ℕ → M → Type 0
-noted st m n m' = (r : ReaderView) (id : Id) → m.0.reader ≡ Some r → 0 < tally (same_id id) r.held → st.word ≡ r.shape.slots + id.slot
+noted st m n m' = (r : ReaderView) (id : Id) → m.0.reader ≡ Some r → 0 < tally (same_id id) r.held → st.word ≡ descr_place id.slot
     → (d : Descr) × (descr_code.decoded n ≡ Some d) × (m' ≡ (view m.0.keeper (Some (reader_noted r id d)), m.1))
 
 -- bit 30 is set: live
+abbrev pub PublishedAt : M → M → ℕ → Type 0
+PublishedAt m m' s = m' ≡ (view (on (λ k. keeper_published k s) m.0.keeper) m.0.reader, m.1)
+
 abbrev pub published : St → M → ℕ → M → Type 0
-published st m n m' = m' ≡ (view (on (λ k. keeper_published k st.word) m.0.keeper) m.0.reader, m.1)
+published st m n m' = AtSlot st.word (PublishedAt m m')
 
 -- bit 31 is set: closing
+abbrev pub ClosedAt : M → M → ℕ → Type 0
+ClosedAt m m' s = m' ≡ (view (on (λ k. keeper_closed k s) m.0.keeper) m.0.reader, m.1)
+
 abbrev pub closed : St → M → ℕ → M → Type 0
-closed st m n m' = m' ≡ (view (on (λ k. keeper_closed k st.word) m.0.keeper) m.0.reader, m.1)
+closed st m n m' = AtSlot st.word (ClosedAt m m')
 
 -- a store of a descriptor word
 abbrev pub stored : St → M → ℕ → M → Type 0
-stored st m n m' = (k : KeeperView) (s : ℕ) (d : Descr) → m.0.keeper ≡ Some k → st.word ≡ k.shape.slots + s → descr_code.IsGiven d → n ≡ descr_code.encoded d
+stored st m n m' = (k : KeeperView) (s : ℕ) (d : Descr) → m.0.keeper ≡ Some k → st.word ≡ descr_place s → descr_code.IsGiven d → n ≡ descr_code.encoded d
     → m' ≡ (view (Some (keeper_stored k s d)) m.0.reader, m.1)
 
 -- an exchange of the word of a closing slot without pins for the next
+abbrev pub ReclaimedAt : ℕ → M → ℕ → M → ℕ → Type 0
+ReclaimedAt first m n m' s = (n ≡ first → m' ≡ (view (on (λ k. keeper_reclaimed k s n) m.0.keeper) m.0.reader, m.1))
+    × (n ≢ first → (m' ≡ (view (on (λ k. keeper_looked k s n) m.0.keeper) m.0.reader, m.1)) × (0 < (decoded n).pins)) × Of m.0.keeper (λ k. TellsSlot k.shape k.slots s n)
+
 abbrev pub reclaiming : St → M → ℕ → M → Type 0
-reclaiming st m n m' = (n ≡ st.first → m' ≡ (view (on (λ k. keeper_reclaimed k st.word n) m.0.keeper) m.0.reader, m.1))
-    × (n ≢ st.first → (m' ≡ (view (on (λ k. keeper_looked k st.word n) m.0.keeper) m.0.reader, m.1)) × (0 < (decoded n).pins)) × Of m.0.keeper (λ k. TellsSlot k.shape k.slots st.word n)
+reclaiming st m n m' = AtSlot st.word (ReclaimedAt st.first m n m')
 
 -- the keeper's seat gives a reader of the next number
 abbrev pub gave : View → View

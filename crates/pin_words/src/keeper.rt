@@ -1,9 +1,11 @@
-ghost use Rattle.std.specs.Prelude.{◌≡◌, ◌+◌, ◌≤◌, length};
+ghost use Rattle.std.specs.Prelude.{◌≡◌, ◌*◌, ◌≤◌, length};
 ghost use Rattle.std.specs.Arc.{arc_value};
+ghost use Rattle.pin_words.specs.Places.{words_a_slot};
 ghost use Rattle.pin_words.specs.Views.{IsKeepers, keeper_of};
 
 use crate::pin_keeper::{PinKeeper, Reclaim};
 use crate::pins::Words;
+use crate::places::{descr_place, place_of};
 use crate::plays::{Apart, Blank, Closes, Gives, Looks, Publishing, Reclaiming, Storing, Together};
 use crate::reader::Reader;
 use crate::view::View;
@@ -22,7 +24,7 @@ pub struct Keeper {
     seat: Seat<(), View>,
     slots: Vec<Slot>,
     ghost keyed: { (arc_value words).shared.key ≡ shape },
-    ghost wide: { (arc_value words).shared.table_id.words ≡ shape.slots + shape.slots },
+    ghost wide: { (arc_value words).shared.table_id.words ≡ shape.slots * words_a_slot },
     ghost some: { 1 ≤ shape.slots },
     ghost seated: { seat.table_id ≡ (arc_value words).shared.table_id },
     ghost keeps: { IsKeepers seat.me },
@@ -41,7 +43,7 @@ impl Model for Keeper {
 }
 
 impl Keeper {
-    ghost use Rattle.std.specs.Prelude.{◌≡◌, ◌+◌, ◌<◌, ◌≤◌, true, length, IfSome, IsNone, OnSome};
+    ghost use Rattle.std.specs.Prelude.{◌≡◌, ◌*◌, ◌<◌, ◌≤◌, true, length, IfSome, IsNone, OnSome};
     ghost use Rattle.std.specs.Arc.{arc_value};
     ghost use Rattle.pin_core.specs.declared.id.Id.{Id};
     ghost use Rattle.pin_core.specs.declared.word.Phase.TheVariants.{Free, Live, Closing};
@@ -49,6 +51,7 @@ impl Keeper {
     ghost use Rattle.pin_core.specs.Holds.{tally, same_id};
     ghost use Rattle.pin_core.specs.Worlds.{slot_of};
     ghost use Rattle.pin_core.specs.Safety.{may_be_held};
+    ghost use Rattle.pin_words.specs.Places.{words_a_slot};
     ghost use Rattle.pin_words.specs.Views.{IsKeepers, id_of, keeper_of, keeper_stored, keeper_published, keeper_closed, keeper_gave, reader_given};
     ghost use Rattle.pin_words.specs.Plays.{Show};
     ghost use Rattle.pin_words.specs.Tries.{Reclaims, Met};
@@ -60,7 +63,7 @@ impl Keeper {
         slots: Vec<Slot>,
     ) -> Keeper
         requires keyed { (arc_value words).shared.key ≡ shape }
-        requires wide { (arc_value words).shared.table_id.words ≡ shape.slots + shape.slots }
+        requires wide { (arc_value words).shared.table_id.words ≡ shape.slots * words_a_slot }
         requires some { 1 ≤ shape.slots }
         requires seated { seat.table_id ≡ (arc_value words).shared.table_id }
         requires keeps { IsKeepers seat.me }
@@ -81,7 +84,7 @@ impl Keeper {
     pub fn slots(&self) -> u32
         ensures slots { result ≡ self.now.view.shape.slots }
         ensures shape { self.now.table.shape ≡ self.now.view.shape }
-        ensures words { self.now.table.id.words ≡ result + result }
+        ensures words { self.now.table.id.words ≡ result * words_a_slot }
     {
         self.shape.slots
     }
@@ -119,10 +122,9 @@ impl Keeper {
         ensures view { self.new.view ≡ keeper_stored self.old.view slot descr }
         ensures table { self.new.table ≡ self.old.table }
     {
-        let place = self.shape.slots as usize + slot as usize;
         self.words
             .shared
-            .store::<Storing>(&mut self.seat, place, descr.encode());
+            .store::<Storing>(&mut self.seat, descr_place(slot), descr.encode());
         let was = self.slots[slot as usize];
         self.slots[slot as usize] = Slot { descr, ..was };
     }
@@ -136,7 +138,7 @@ impl Keeper {
     {
         self.words
             .shared
-            .fetch_or::<Publishing>(&mut self.seat, slot as usize, LIVE_BIT);
+            .fetch_or::<Publishing>(&mut self.seat, place_of(slot), LIVE_BIT);
         let was = self.slots[slot as usize];
         self.slots[slot as usize] = Slot {
             phase: Phase::Live,
@@ -153,7 +155,7 @@ impl Keeper {
     {
         self.words
             .shared
-            .fetch_or::<Closes>(&mut self.seat, slot as usize, CLOSING_BIT);
+            .fetch_or::<Closes>(&mut self.seat, place_of(slot), CLOSING_BIT);
         let was = self.slots[slot as usize];
         self.slots[slot as usize] = Slot {
             phase: Phase::Closing,
@@ -183,7 +185,7 @@ impl Keeper {
         };
         let found = self.words.shared.compare_exchange::<Reclaiming>(
             &mut self.seat,
-            slot as usize,
+            place_of(slot),
             expected.encode(),
             becomes.encode(),
         );
@@ -222,7 +224,7 @@ impl Keeper {
             .join_seat::<Together>(&mut self.seat, seat);
         self.words
             .shared
-            .load::<Looks>(&mut self.seat, slot as usize);
+            .load::<Looks>(&mut self.seat, place_of(slot));
         reader.seat = self.words.shared.split_seat::<Apart>(&mut self.seat);
     }
 

@@ -7,7 +7,7 @@ ghost use Rattle.pin_words.specs.Views.{sits};
 use crate::fault::{PinFault, Verdict, judge};
 use crate::pin_keeper::{PinKeeper, Reclaim};
 use crate::published::Published;
-use crate::reader::{copies_of, forget};
+use crate::reader::{forget, is_among};
 use arrayvec::ArrayVec;
 use ob_rights::Fault;
 use pin_core::{Descr, Id, Phase, Shape, Slot, Word};
@@ -138,7 +138,7 @@ impl LockedPins {
     pub fn holds(&self, id: Id) -> bool
         ensures { IsTrue result ↔ (0 < tally (same_id id) self.now.held) }
     {
-        copies_of(self.held.as_slice(), id) > 0
+        is_among(self.held.as_slice(), id)
     }
 
     /// Stores the descriptor of a free slot.

@@ -1,19 +1,21 @@
-ghost use Rattle.std.specs.Prelude.{◌≡◌, ◌≤◌, ◌+◌, []};
+ghost use Rattle.std.specs.Prelude.{◌≡◌, ◌≤◌, ◌*◌, []};
 ghost use Rattle.std.specs.Arc.{arc_value};
+ghost use Rattle.pin_words.specs.Places.{words_a_slot};
 ghost use Rattle.pin_words.specs.Views.{opening_view};
 
 use crate::keeper::Keeper;
+use crate::places::{WORDS_A_SLOT, free_all};
 use crate::plays::PinRule;
 use crate::reader::Reader;
 use crate::view::View;
 use atomic_table::{Seat, Table};
 use ob_rights::Fault;
-use pin_core::{LIVE_BIT, Shape, Slot};
+use pin_core::{Shape, Slot};
 use std::alloc::Global;
 use std::marker::Model;
 use std::sync::Arc;
 
-/// The words of the slots: a pin word and a descriptor word each.
+/// The words of the slots: a line for each, with a pin word and a descriptor word.
 pub(crate) type Words = Table<(), View, Shape, PinRule, Global>;
 
 /// The words of the slots. The keeper and each reader own them too, and with the last owner they go.
@@ -22,7 +24,7 @@ pub struct Pins {
     words: Arc<Words, Global>,
     shape: Shape,
     ghost keyed: { (arc_value words).shared.key ≡ shape },
-    ghost wide: { (arc_value words).shared.table_id.words ≡ shape.slots + shape.slots },
+    ghost wide: { (arc_value words).shared.table_id.words ≡ shape.slots * words_a_slot },
     ghost some: { 1 ≤ shape.slots },
 }
 
@@ -52,15 +54,12 @@ impl Model for Opening {
     ghost view = { λ o. record { id = o.seat.table_id; shape = o.shape } };
 }
 
-// The word of a free slot at the first generation, without pins.
-const FIRST: u64 = 4 * LIVE_BIT;
-
 impl Pins {
     ghost use Rattle.std.specs.Prelude.{◌≡◌, IfOk, IfErr};
     ghost use Rattle.ob_rights.specs.declared.fault.Fault.TheVariants.{Memory};
     ghost use Rattle.pin_core.specs.Shapes.{IsWithinLimits};
 
-    /// New pins: each slot is free at generation 1 with the descriptor of an event that is reset by itself.
+    /// New pins: each slot is free at generation 1 with the descriptor of an event that is reset by itself. A slot takes 64 bytes.
     ///
     /// [`Fault::Memory`] (8) where memory ran out.
     pub fn new(alloc: Global, shape: Shape) -> Result<(Pins, Opening), Fault>
@@ -68,15 +67,10 @@ impl Pins {
         ensures ok { IfOk result (λ r. (r.0.shape ≡ shape) × (r.1 ≡ r.0)) }
         ensures err { IfErr result (λ e. e ≡ Memory) }
     {
-        let Ok(mut words) = vec![in alloc; FIRST; shape.slots as usize] else {
+        let Ok(mut words) = vec![in alloc; 0; shape.slots as usize * WORDS_A_SLOT] else {
             return Err(Fault::Memory);
         };
-        let Ok(descrs) = vec![in alloc; 0; shape.slots as usize] else {
-            return Err(Fault::Memory);
-        };
-        let Ok(()) = words.extend_from_slice(descrs.as_slice()) else {
-            return Err(Fault::Memory);
-        };
+        free_all(&mut words, shape.slots);
         let Ok((table, seat)) = Table::of_words(alloc, words.as_slice(), &shape) else {
             return Err(Fault::Memory);
         };

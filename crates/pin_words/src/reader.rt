@@ -1,53 +1,74 @@
-ghost use Rattle.std.specs.Prelude.{◌≡◌, ◌+◌, ◌<◌, ◌≤◌, length, position, count_by};
+ghost use Rattle.std.specs.Prelude.{◌≡◌, ◌*◌, ◌<◌, ◌≤◌, ◌↔◌, false, length, position, IsTrue};
 ghost use Rattle.std.specs.List.{remove};
 ghost use Rattle.std.specs.Arc.{arc_value};
 ghost use Rattle.pin_core.specs.declared.id.Id.{Id};
 ghost use Rattle.pin_core.specs.Holds.{tally, drop_first, same_id};
+ghost use Rattle.pin_words.specs.Places.{words_a_slot};
 ghost use Rattle.pin_words.specs.Views.{IsReaders, reader_of};
 
 use crate::fault::{PinFault, Verdict, judge};
 use crate::pins::Words;
+use crate::places::{descr_place, place_of};
 use crate::plays::{Looks, Noting, Pinning, Releasing};
 use crate::view::View;
 use arrayvec::ArrayVec;
 use atomic_table::Seat;
 use pin_core::{Descr, Id, Shape, Word, same_id};
 use std::alloc::Global;
+use std::hint::spin_loop;
 use std::marker::Model;
 use std::sync::{Arc, Wait};
 
-fn place_of(held: &[Id], id: Id) -> Option<usize>
+fn found_at(held: &[Id], id: Id) -> Option<usize>
     ensures { result ≡ position (same_id id) held.now }
 {
     held.iter().position(|h| same_id(id, *h))
 }
 
-pub(crate) fn copies_of(held: &[Id], id: Id) -> usize
-    ensures { result ≡ count_by (same_id id) held.now }
+pub(crate) fn is_among(held: &[Id], id: Id) -> bool
+    ensures { IsTrue result ↔ (0 < tally (same_id id) held.now) }
 {
-    held.iter().filter(|h| same_id(id, **h)).count()
+    found_at(held, id).is_some()
 }
 
 pub(crate) fn forget(held: &mut ArrayVec<Id, 16>, id: Id)
     ensures { held.new.items ≡ drop_first (same_id id) held.old.items }
 {
-    if let Some(place) = place_of(held.as_slice(), id) {
-        if place + 1 == held.len() {
-            held.pop();
-        } else {
-            take_out(held, place);
-        }
+    if let Some(place) = found_at(held.as_slice(), id) {
+        take_out(held, place);
     }
 }
 
-// The copy that is let go is mostly the last, so this stays out of the way of whoever pins and releases.
-#[cold]
-#[inline(never)]
+// The copy that is let go is mostly the last.
 fn take_out(held: &mut ArrayVec<Id, 16>, place: usize)
     requires { place < length held.old.items }
     ensures { held.new.items ≡ remove held.old.items place }
 {
+    let len = held.len();
+    if place + 1 == len {
+        held.pop();
+    } else {
+        take_from_between(held, place);
+    }
+}
+
+// This stays out of the way of whoever pins and releases.
+#[cold]
+#[inline(never)]
+fn take_from_between(held: &mut ArrayVec<Id, 16>, place: usize)
+    requires { place < length held.old.items }
+    ensures { held.new.items ≡ remove held.old.items place }
+{
     held.remove(place);
+}
+
+// Before the next try, after so many lost ones besides the first. It is for callers that may wait, so that a C library, which
+// may not, has no part of it.
+#[cold]
+fn pause<R: Wait>(_rt: &R, lost: u32) {
+    for _ in 1..1u32 << lost.min(6) {
+        spin_loop();
+    }
 }
 
 /// Who pins slots. It holds at most 16 copies, and its calls take no memory and no lock.
@@ -58,7 +79,7 @@ pub struct Reader {
     pub(crate) seat: Seat<(), View>,
     held: ArrayVec<Id, 16>,
     ghost keyed: { (arc_value words).shared.key ≡ shape },
-    ghost wide: { (arc_value words).shared.table_id.words ≡ shape.slots + shape.slots },
+    ghost wide: { (arc_value words).shared.table_id.words ≡ shape.slots * words_a_slot },
     ghost seated: { seat.table_id ≡ (arc_value words).shared.table_id },
     ghost reads: { IsReaders seat.me },
     ghost shaped: { (reader_of seat.me.0).shape ≡ shape },
@@ -76,7 +97,7 @@ impl Model for Reader {
 }
 
 impl Reader {
-    ghost use Rattle.std.specs.Prelude.{◌≡◌, ◌≢◌, ◌+◌, ◌<◌, ◌≤◌, ◌↔◌, [], length, IsTrue, OnOk, Err};
+    ghost use Rattle.std.specs.Prelude.{◌≡◌, ◌≢◌, ◌*◌, ◌<◌, ◌≤◌, ◌↔◌, false, [], length, position, IsTrue, OnOk, Err};
     ghost use Rattle.std.specs.Arc.{arc_value};
     ghost use Rattle.pin_core.specs.declared.word.Word.{Word};
     ghost use Rattle.pin_core.specs.declared.shape.Shape.{Shape};
@@ -86,13 +107,14 @@ impl Reader {
     ghost use Rattle.pin_words.specs.declared.fault.Verdict.TheVariants as verdict;
     ghost use Rattle.pin_words.specs.declared.fault.PinFault.TheVariants as fault;
     ghost use Rattle.pin_words.specs.Verdicts.{verdict_of};
+    ghost use Rattle.pin_words.specs.Places.{words_a_slot};
     ghost use Rattle.pin_words.specs.Views.{M, view, reader_looked, reader_got, reader_released, reader_noted};
     ghost use Rattle.pin_words.specs.Plays.{Tells};
     ghost use Rattle.pin_words.specs.Tries.{Tries, TriesUntilSettled, HasOnlyLooked};
 
     pub(crate) fn of_parts(words: Arc<Words, Global>, shape: Shape, seat: Seat<(), View>) -> Reader
         requires keyed { (arc_value words).shared.key ≡ shape }
-        requires wide { (arc_value words).shared.table_id.words ≡ shape.slots + shape.slots }
+        requires wide { (arc_value words).shared.table_id.words ≡ shape.slots * words_a_slot }
         requires seated { seat.table_id ≡ (arc_value words).shared.table_id }
         requires reads { IsReaders seat.me }
         requires shaped { (reader_of seat.me.0).shape ≡ shape }
@@ -116,7 +138,14 @@ impl Reader {
     {
         self.words
             .shared
-            .load::<Looks>(&mut self.seat, slot as usize)
+            .load::<Looks>(&mut self.seat, place_of(slot))
+    }
+
+    // Where it lists a copy of the Id.
+    fn found(&self, id: Id) -> Option<usize>
+        ensures { result ≡ position (same_id id) self.now.view.held }
+    {
+        found_at(self.held.as_slice(), id)
     }
 
     // One more pin where the word is still `found`.
@@ -134,7 +163,7 @@ impl Reader {
         let seen = self
             .words
             .shared
-            .compare_exchange::<Pinning>(&mut self.seat, id.slot as usize, found, found + 1);
+            .compare_exchange::<Pinning>(&mut self.seat, place_of(id.slot), found, found + 1);
         if seen != found {
             self.held.pop();
         }
@@ -177,8 +206,9 @@ impl Reader {
         }
     }
 
-    /// Pins as [`try_pin`](Reader::try_pin) does, again and again while it answers [`PinFault::Busy`]. Its answer
-    /// is that of its last try, before which nothing changed but that it looked.
+    /// Pins as [`try_pin`](Reader::try_pin) does, again and again while it answers [`PinFault::Busy`]: the second try follows
+    /// at once, and before each further one there is a pause, longer each time, of at most 63 turns. Its answer is that of
+    /// its last try, before which nothing changed but that it looked.
     pub fn pin<R: Wait>(&mut self, rt: &R, id: Id) -> Result<(), PinFault>
         ensures tries { TriesUntilSettled self.old.view id result self.new.view }
         ensures last { (r : ReaderView) × HasOnlyLooked self.old.view r
@@ -188,11 +218,14 @@ impl Reader {
         ensures settled { (w : Word) → result ≢ Err (fault.Busy w) }
         ensures table { self.new.table ≡ self.old.table }
     {
+        let mut lost = 0u32;
         for _ in rt.forever() {
             match self.try_pin(id) {
                 Err(PinFault::Busy { .. }) => {}
                 settled => return settled,
             }
+            pause(rt, lost);
+            lost = lost.saturating_add(1);
         }
         unreachable!()
     }
@@ -204,10 +237,30 @@ impl Reader {
         ensures view { self.new.view ≡ reader_released self.old.view id }
         ensures table { self.new.table ≡ self.old.table }
     {
+        // First of all, so that what is held is looked through while the next step waits.
         self.words
             .shared
-            .fetch_sub::<Releasing>(&mut self.seat, id.slot as usize, 1);
+            .fetch_sub::<Releasing>(&mut self.seat, place_of(id.slot), 1);
         forget(&mut self.held, id);
+    }
+
+    /// Lets one copy of an Id go as [`release`](Reader::release) does, where one is held, and whether one was. One look
+    /// through what is held.
+    #[inline]
+    pub fn release_if_held(&mut self, id: Id) -> bool
+        ensures held { IsTrue result ↔ (0 < tally (same_id id) self.old.view.held) }
+        ensures view { IsTrue result → self.new.view ≡ reader_released self.old.view id }
+        ensures none { result ≡ false → self.new.view ≡ self.old.view }
+        ensures table { self.new.table ≡ self.old.table }
+    {
+        let Some(place) = self.found(id) else {
+            return false;
+        };
+        self.words
+            .shared
+            .fetch_sub::<Releasing>(&mut self.seat, place_of(id.slot), 1);
+        take_out(&mut self.held, place);
+        true
     }
 
     /// The descriptor that was published with a held Id.
@@ -216,8 +269,10 @@ impl Reader {
         ensures view { self.new.view ≡ reader_noted self.old.view id result }
         ensures table { self.new.table ≡ self.old.table }
     {
-        let place = self.shape.slots as usize + id.slot as usize;
-        let word = self.words.shared.load::<Noting>(&mut self.seat, place);
+        let word = self
+            .words
+            .shared
+            .load::<Noting>(&mut self.seat, descr_place(id.slot));
         match Descr::decode(word) {
             Some(descr) => descr,
             None => unreachable!(),
@@ -228,7 +283,7 @@ impl Reader {
     pub fn holds(&self, id: Id) -> bool
         ensures { IsTrue result ↔ (0 < tally (same_id id) self.now.view.held) }
     {
-        copies_of(self.held(), id) > 0
+        is_among(self.held(), id)
     }
 
     /// The Ids that it holds, one for each copy.

@@ -209,7 +209,8 @@ fn pin_and_close(rt: &impl Abort, keeper: &mut Keeper, a: &mut Reader, b: &mut R
     same(rt, reclaim(keeper, 0), Some(Reclaim::Held { pins: 2 }));
     holds(rt, release(a, FIRST));
     same(rt, reclaim(keeper, 0), Some(Reclaim::Held { pins: 1 }));
-    holds(rt, release(b, FIRST));
+    holds(rt, b.release_if_held(FIRST));
+    holds(rt, !b.release_if_held(FIRST));
     holds(rt, !b.holds(FIRST));
     same(rt, reclaim(keeper, 0), Some(Reclaim::Freed));
     holds(rt, is_at(keeper, 0, 2));

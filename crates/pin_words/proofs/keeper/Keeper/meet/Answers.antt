@@ -24,7 +24,7 @@ join_seat-requires c = let kv = keeper_of c.self.inside.seat.me.0 in let rv = re
 pub load-requires : goal.load-requires
 load-requires c = let shape : c.args.self.now.view.shape ≡ c.self.inside.shape = ap (λ w. w.view.shape) (sym c.self.view_is) ∙ c.self.inside.shaped in
     let lt : c.args.slot < c.self.inside.shape.slots = subst (λ (k : Shape). c.args.slot < k.slots) shape c.requires.slot in
-    (search rules, (let wide = wide_at c.deref-3.ensures c.self.inside.wide in omega arith), loads _ _ _ _ _ (subst (λ (k : Shape). c.args.slot < k.slots) (sym (key_at c.deref-3.ensures c.self.inside.keyed)) lt))
+    (search rules, (let wide = wide_at c.deref-3.ensures c.self.inside.wide in let at = c.place_of.ensures in omega arith), loads _ _ _ _ _ _ c.place_of.ensures (subst (λ (k : Shape). c.args.slot < k.slots) (sym (key_at c.deref-3.ensures c.self.inside.keyed)) lt))
 
 pub split_seat-requires : goal.split_seat-requires
 split_seat-requires c = let kv = keeper_of c.self.inside.seat.me.0 in let rv = reader_of c.reader.inside.seat.me.0 in
@@ -33,5 +33,23 @@ split_seat-requires c = let kv = keeper_of c.self.inside.seat.me.0 in let rv = r
     let both : c.join_seat.new.seat.me.0 ≡ view (Some kv) (Some rv) = ap (λ m. m.0) c.join_seat.ensures.2 ∙ λ i. joined (kept i) (read i) in (
       search rules,
       (let wide = wide_at c.deref-4.ensures c.self.inside.wide in let some = c.self.inside.some in omega arith),
-      parts-any _ _ _ kv (reader_looked rv c.args.slot c.load.result) (ap (λ m. m.0) c.load.ensures.2.0 ∙ ap (λ z. looked_view z c.args.slot c.load.result) both),
+      parts-any _ _ _ kv (reader_looked rv c.args.slot c.load.result) (ap (λ m. m.0) (c.load.ensures.2 c.args.slot c.place_of.ensures).0 ∙ ap (λ z. looked_view z c.args.slot c.load.result) both),
     )
+
+pub invariant_of-self-inside : goal.invariant_of-self-inside
+invariant_of-self-inside c = let played = c.load.ensures.2 c.args.slot c.place_of.ensures in search rules
+
+pub invariant_of-reader-inside : goal.invariant_of-reader-inside
+invariant_of-reader-inside c = let played = c.load.ensures.2 c.args.slot c.place_of.ensures in search rules
+
+pub returns-clause-look : goal.returns-clause-look
+returns-clause-look c = let played = c.load.ensures.2 c.args.slot c.place_of.ensures in search rules
+
+pub returns-clause-held : goal.returns-clause-held
+returns-clause-held c = let played = c.load.ensures.2 c.args.slot c.place_of.ensures in search rules
+
+pub returns-clause-noted : goal.returns-clause-noted
+returns-clause-noted c = let played = c.load.ensures.2 c.args.slot c.place_of.ensures in search rules
+
+pub returns-clause-view : goal.returns-clause-view
+returns-clause-view c = let played = c.load.ensures.2 c.args.slot c.place_of.ensures in search rules

@@ -1,4 +1,4 @@
-use Rattle.std.proofs.Common.{rules, ◌≡◌, ◌∙◌, sym, ap, subst, ◌<◌, ◌+◌, length-set, set, arith}
+use Rattle.std.proofs.Common.{rules, ◌≡◌, ◌∙◌, sym, ap, subst, ◌<◌, length-set, set, arith}
 use Rattle.pin_core.specs.Events.{with_descr}
 use Rattle.pin_core.specs.declared.shape.Shape.{Shape}
 use Rattle.pin_core.specs.Worlds.{slot_of}
@@ -14,8 +14,8 @@ store-requires c = let view : keeper_of c.self.inside.seat.me.0 ≡ c.args.self.
     let shape : c.args.self.now.view.shape ≡ c.self.inside.shape = ap (λ w. w.shape) (sym view) ∙ c.self.inside.shaped in
     let lt : c.args.slot < c.self.inside.shape.slots = subst (λ (k : Shape). c.args.slot < k.slots) shape c.requires.slot in (
       search rules,
-      (let wide = wide_at c.deref.ensures c.self.inside.wide in omega arith),
-      stores-there _ _ _ c.args.slot _ _ (keeper_of c.self.inside.seat.me.0) c.args.descr c.self.inside.shape (key_at c.deref.ensures c.self.inside.keyed) (ap (λ m. m.0.keeper) c.self.inside.keeps) lt
+      (let wide = wide_at c.deref.ensures c.self.inside.wide in let at = c.descr_place.ensures in omega arith),
+      stores-there _ _ _ c.args.slot _ _ _ (keeper_of c.self.inside.seat.me.0) c.args.descr c.self.inside.shape c.descr_place.ensures (key_at c.deref.ensures c.self.inside.keyed) (ap (λ m. m.0.keeper) c.self.inside.keeps) lt
           (subst (λ (z : KeeperView). (slot_of z.slots c.args.slot).phase ≡ Free) (sym view) c.requires.free) c.requires.given c.encode.ensures,
     )
 
@@ -23,8 +23,7 @@ pub invariant_of-self-inside : goal.invariant_of-self-inside
 invariant_of-self-inside c = let did = c.store.ensures in
     let shape : c.args.self.now.view.shape ≡ c.self.inside.shape = ap (λ w. w.view.shape) (sym c.self.view_is) ∙ c.self.inside.shaped in
     let lt : c.args.slot < c.self.inside.shape.slots = subst (λ (k : Shape). c.args.slot < k.slots) shape c.requires.slot in
-    let at : c.self.inside.shape.slots + c.args.slot ≡ (keeper_of c.self.inside.seat.me.0).shape.slots + c.args.slot = ap (λ (k : Shape). k.slots + c.args.slot) (sym c.self.inside.shaped) in
-    let one = stored-one _ c.self.inside.seat.me c.store.new.seat.me c.args.slot (c.self.inside.shape.slots + c.args.slot) c.args.descr c.self.inside.keeps did.2 at c.requires.given c.encode.ensures in
+    let one = stored-one _ c.self.inside.seat.me c.store.new.seat.me c.args.slot c.descr_place.result c.args.descr c.self.inside.keeps did.2 c.descr_place.ensures c.requires.given c.encode.ensures in
     let was : c.index-was.result.now ≡ slot_of (keeper_of c.self.inside.seat.me.0).slots c.args.slot = slot-known _ c.self.inside.slots.items c.args.slot c.index-was.result.now c.self.inside.knows (let long = c.self.inside.long in omega arith) c.index-was.ensures in (
       c.self.inside.keyed,
       (

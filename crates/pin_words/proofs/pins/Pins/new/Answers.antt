@@ -1,7 +1,7 @@
-use Rattle.std.proofs.Common.{◌∙◌, ◌++◌}
+use Rattle.std.proofs.Common.{ℕ, List, sym, subst}
+use Rattle.pin_words.specs.Places.{AreOpening}
 use Rattle.pin_words.proofs.Reseated.{opens}
 use Rattle.pin_words.proofs.pins.Pins.new.Goals as goal
 
 pub of_words-requires : goal.of_words-requires
-of_words-requires c = let firsts = c.in-Ok.ensures.items_if_clones_equal (λ y h. h) in let descrs = c.in-Ok-vec.ensures.items_if_clones_equal (λ y h. h) in
-    opens c.args.shape _ c.requires (c.as_slice-2.ensures.value ∙ (c.in-Ok-extend_from_slice.ensures.items ∙ λ i. firsts i ++ (c.as_slice.ensures.value ∙ descrs) i))
+of_words-requires c = opens c.args.shape _ c.requires (subst (λ (words : List ℕ). AreOpening c.args.shape.slots c.args.shape.slots words) (sym c.as_slice.ensures.value) c.free_all.ensures)

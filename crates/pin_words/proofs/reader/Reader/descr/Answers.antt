@@ -11,6 +11,6 @@ load-word-requires c = let view : reader_of c.self.inside.seat.me.0 ≡ c.args.s
     let held : c.args.self.now.view.held ≡ c.self.inside.held.items = ap (λ w. w.held) (sym view) ∙ c.self.inside.holds in
     let lt : c.args.id.slot < c.self.inside.shape.slots = id-inside _ c.args.id _ _ held c.requires c.self.inside.inside in (
       search rules,
-      (let wide = wide_at c.deref.ensures c.self.inside.wide in omega arith),
-      notes-there _ _ _ _ (reader_of c.self.inside.seat.me.0) c.args.id c.self.inside.shape (key_at c.deref.ensures c.self.inside.keyed) (ap (λ m. m.0.reader) c.self.inside.reads) lt (subst (λ (z : ReaderView). 0 < tally (same_id c.args.id) z.held) (sym view) c.requires),
+      (let wide = wide_at c.deref.ensures c.self.inside.wide in let at = c.descr_place.ensures in omega arith),
+      notes-there _ _ _ _ _ (reader_of c.self.inside.seat.me.0) c.args.id c.self.inside.shape c.descr_place.ensures (key_at c.deref.ensures c.self.inside.keyed) (ap (λ m. m.0.reader) c.self.inside.reads) lt (subst (λ (z : ReaderView). 0 < tally (same_id c.args.id) z.held) (sym view) c.requires),
     )
