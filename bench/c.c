@@ -1,6 +1,6 @@
 /* The rounds of crates/bench_calls that make, close, reap, set, wait for, count, resolve and duplicate events, through the header.
- * Then pins by a reader; and the rounds of time, which these don't have, among as many timers that are set for later and waits with a
- * deadline.
+ * Then pins by a reader; the rounds of time, which these don't have, among as many timers that are set for later and waits with a
+ * deadline; and the turns of a host, of whose waiting guests each wakes the next.
  * Prints a line `CASE, EVENTS: ROUNDS in NANOSECONDS` for each case, as that program and bench/calls.rs do with `measure`. */
 #include <obman.h>
 #include <stdio.h>
@@ -256,6 +256,62 @@ static void pass(clockwork *c, const char *what, void (*round)(clockwork *, uint
     printf("%s, %u: %u in %llu\n", what, (unsigned)c->count, MOMENTS, (unsigned long long)(now() - started));
 }
 
+/* Guests of which each waits for an event of its own, in processes with a thread that never waits. */
+typedef struct crowd {
+    om_manager m;
+    uint32_t count, *hosts, *guests, *events;
+    uint32_t *places; /* by thread: the guest's place in these lists */
+} crowd;
+
+static void wait_again(crowd *c, uint32_t place) {
+    uint32_t number;
+    must(om_wait(&c->m, c->guests[place], false, OM_INFINITE, &c->events[place], 1, &number), OM_ERROR_IO_PENDING);
+}
+
+static crowd new_crowd(uint32_t count) {
+    om_limits limits = {65536, 65536, 65536, 16384, 4294967295u, 1073741823, 4294967295u, 1};
+    om_making making = {0, 0, false, false, false, false};
+    om_member host = {0, 0};
+    om_opening o;
+    uint32_t *lists = malloc((3 * count + limits.threads + 1) * sizeof *lists);
+    crowd c = {{NULL}, count, lists, lists + count, lists + 2 * count, lists + 3 * count};
+    must(lists != NULL, true);
+    must(om_new(&limits, &c.m), OM_SUCCESS);
+    for (uint32_t i = 0; i < count; i++) {
+        if (i % HANDLES == 0) {
+            must(om_spawn(&c.m, 1, &host), OM_SUCCESS);
+        }
+        must(om_thread(&c.m, host.process, &c.guests[i]), OM_SUCCESS);
+        must(om_create_event(&c.m, host.thread, &making, "", 0, false, false, &o), OM_SUCCESS);
+        c.hosts[i] = host.thread;
+        c.events[i] = o.handle;
+        c.places[c.guests[i]] = i;
+        wait_again(&c, i);
+    }
+    return c;
+}
+
+/* A guest's event is set, its answer is taken, and it waits again. */
+static void take_turns(crowd *c) {
+    uint32_t step = STRIDE % c->count, at = 0;
+    uint64_t started = now();
+    for (uint32_t i = 0; i < ROUNDS; i++) {
+        om_answer answers[4];
+        size_t taken;
+        must(om_set_event(&c->m, c->hosts[at], c->events[at]), OM_SUCCESS);
+        must(om_take_answered(&c->m, answers, 4, &taken), OM_SUCCESS);
+        for (size_t j = 0; j < taken; j++) {
+            uint32_t place = c->places[answers[j].thread];
+            wait_again(c, place);
+            at = place + step;
+        }
+        if (at >= c->count) {
+            at -= c->count;
+        }
+    }
+    printf("set, answer, wait again, %u: %u in %llu\n", (unsigned)c->count, ROUNDS, (unsigned long long)(now() - started));
+}
+
 int main(int argc, char **argv) {
     static const uint32_t each[] = {16, 1000, 60000};
     are_apart = argc > 2 && strcmp(argv[2], "apart") == 0;
@@ -285,6 +341,13 @@ int main(int argc, char **argv) {
         pass(c, "wait, tick that is past it", lapse);
         om_free(c->m);
         free(c);
+    }
+    static const uint32_t guests[] = {1, 16, 1000, 60000};
+    for (int i = 0; i < 4 && !are_apart; i++) {
+        crowd c = new_crowd(guests[i]);
+        take_turns(&c);
+        om_free(c.m);
+        free(c.hosts);
     }
     return 0;
 }

@@ -33,7 +33,8 @@ mod waiting;
 
 use answers::{Fault, Kind, Limits, MODIFY_STATE, Mode, Reply, Timeout};
 use cases::{
-    Case, ChildAndExit, OwnerAndEnd, ThreadAndEnd, WaitAndSet, WaitForAll, WaitForAny, code_of, rounds_at,
+    Case, ChildAndExit, OwnerAndEnd, ThreadAndEnd, WaitAndSet, WaitForAll, WaitForAny, code_of, pending, rounds_at, spawned,
+    started,
 };
 use directory::text;
 use given::{done, given, plain, refusal};
@@ -272,6 +273,63 @@ fn measure_life<C: Case>(plan: Plan, case: &str, count: u32) -> Result<(), Fault
     measure_anew::<C>(plan, case, count, plan.managers, plan.lives)
 }
 
+/// Guests of which each waits for an event of its own, in processes with a thread that never waits.
+struct Crowd {
+    manager: Manager,
+    /// Who sets it, who waits for it, and its handle.
+    guests: Vec<(u32, u32, u32)>,
+    /// By thread.
+    places: Vec<usize>,
+}
+
+impl Crowd {
+    fn new(count: u32) -> Result<Crowd, Fault> {
+        let mut crowd =
+            Crowd { manager: Manager::new(LIMITS), guests: Vec::new(), places: vec![0; LIMITS.threads as usize + 1] };
+        let (mut process, mut host) = (0, 0);
+        for number in 0..count {
+            if number % HANDLES == 0 {
+                (process, host) = spawned(crowd.manager.spawn(1))?;
+            }
+            let guest = started(crowd.manager.thread(process))?;
+            let (handle, _) = given(crowd.manager.create_event(host, &plain(None), false, false))?;
+            crowd.places[guest as usize] = number as usize;
+            crowd.guests.push((host, guest, handle));
+            crowd.wait_again(number as usize)?;
+        }
+        Ok(crowd)
+    }
+
+    fn wait_again(&mut self, place: usize) -> Result<(), Fault> {
+        let (_, guest, handle) = self.guests[place];
+        pending(self.manager.wait(guest, Mode::Any, Timeout::Infinite, &[handle])).map(|_| ())
+    }
+
+    /// A guest's event is set, its answer is taken, and it waits again.
+    fn take_turns(&mut self, rounds: u32) -> Result<u64, Fault> {
+        let (count, mut at, mut sum) = (self.guests.len(), 0, 0);
+        for _ in 0..rounds {
+            let (host, _, handle) = self.guests[at];
+            done(self.manager.set_event(host, handle))?;
+            while let Some((thread, code)) = self.manager.take_answered() {
+                let place = self.places[thread as usize];
+                self.wait_again(place)?;
+                at = (place + STRIDE % count) % count;
+                sum += u64::from(code) + 1;
+            }
+        }
+        Ok(sum)
+    }
+}
+
+fn run_crowd(plan: Plan, count: u32) -> Result<(), Fault> {
+    let mut crowd = Crowd::new(count)?;
+    let started = Instant::now();
+    let sum = crowd.take_turns(plan.rounds)?;
+    report(plan, "set, answer, wait again", count as usize, plan.rounds, started.elapsed(), sum);
+    Ok(())
+}
+
 fn run_waits(plan: Plan, beside: u32) -> Result<(), Fault> {
     measure_wait::<WaitForAny>(plan, "wait for any", 64)?;
     measure_wait::<WaitForAll>(plan, "wait for all", 64)?;
@@ -293,6 +351,7 @@ fn main() -> Result<(), Fault> {
         [16, 1000, 60000].into_iter().try_for_each(|count| run(MEASURED, count))?;
         run_waits(MEASURED, 10000)?;
         [16, 1000].into_iter().try_for_each(|handles| run_children(MEASURED, handles))?;
+        [1, 16, 1000, 60000].into_iter().try_for_each(|guests| run_crowd(MEASURED, guests))?;
         return [16, 60000].into_iter().try_for_each(|count| run_threads(MEASURED, count));
     }
     run(SHOWN, 16)?;

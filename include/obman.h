@@ -26,11 +26,12 @@
  *
  * What a host does beside the calls of its guests
  *
- * - It takes the answer of each wait (om_wait_result): until then every call in that thread's name is refused with OM_ERROR_BUSY.
- * - It reaps slots (om_reap): an object that no handle and no pending wait refers to keeps its slot until then, and where each slot
- *   is taken a create is refused with OM_ERROR_NO_SYSTEM_RESOURCES.
+ * - It takes the answers of waits (om_take_answered after each call): until then every call in that thread's name is refused with
+ *   OM_ERROR_BUSY.
+ * - It takes what ended (om_take_ended): an object that no handle and no pending wait refers to keeps its slot until then, and where
+ *   each slot is taken a create is refused with OM_ERROR_NO_SYSTEM_RESOURCES.
  * - It sets the limits to what it needs in the manager's whole life: numbers of processes, threads and waits are given once.
- * - It tells the time (om_tick), or no timer fires and no wait with a timeout ends.
+ * - It tells the time (om_tick, at om_next_due), or no timer fires and no wait with a timeout ends.
  *
  * docs/EMBEDDING.md says how a host does that, and what it does for what isn't here.
  *
@@ -97,11 +98,12 @@ extern "C" {
 #define OM_WAIT_ABANDONED_0 128u
 #define OM_WAIT_TIMEOUT 258u
 
-/* Kinds of objects, and what became of a slot. */
+/* Kinds of objects, with what om_state says of one that has ended; and what became of a slot. */
 #define OM_EVENT 0u
 #define OM_MUTEX 1u
 #define OM_SEMAPHORE 2u
 #define OM_TIMER 3u
+#define OM_ENDED 4u
 #define OM_FREED 0u
 #define OM_RETIRED 1u
 #define OM_HELD 2u
@@ -177,6 +179,26 @@ typedef struct om_descriptor {
     bool manual;      /* an event that is reset by hand, or a timer that stays signaled */
 } om_descriptor;
 
+/* What state an object is in. What its kind hasn't is 0. */
+typedef struct om_object_state {
+    uint64_t due;     /* the moment at which a timer is due, in units of 100 ns, with has_due */
+    uint32_t kind;    /* OM_EVENT, OM_MUTEX, OM_SEMAPHORE or OM_TIMER; OM_ENDED where no handle and no pending wait refers to it */
+    uint32_t count;   /* of a semaphore; of a mutex how often its owner owns it */
+    uint32_t max;     /* of a semaphore */
+    uint32_t owner;   /* the thread that owns a mutex, or 0 */
+    bool signaled;    /* an event is set, a mutex isn't owned, a semaphore has a count, a timer's moment has come */
+    bool abandoned;   /* the last owner of a mutex ended, and nobody has acquired it since */
+    bool has_due;     /* a timer is set for a moment to come */
+} om_object_state;
+
+/* A handle with what it names. */
+typedef struct om_entry {
+    om_object object;
+    uint32_t handle;
+    uint32_t access;   /* the rights that it grants */
+    uint32_t flags;    /* OM_HANDLE_FLAG_INHERIT and OM_HANDLE_FLAG_PROTECT_FROM_CLOSE */
+} om_entry;
+
 /* What became of a slot. */
 typedef struct om_reaping {
     om_object object;  /* what was in it */
@@ -190,6 +212,13 @@ typedef struct om_references {
     uint32_t handles;
     uint32_t hold;     /* 1 where there is neither, else 0 */
 } om_references;
+
+/* The answer of a wait: the thread that waited may make calls again. */
+typedef struct om_answer {
+    uint32_t wait;
+    uint32_t thread;
+    uint32_t code;     /* OM_WAIT_OBJECT_0 and an index, OM_WAIT_ABANDONED_0 and an index, or OM_WAIT_TIMEOUT */
+} om_answer;
 
 /* A row of the directory of names. */
 typedef struct om_row {
@@ -342,6 +371,11 @@ uint32_t om_cancel_timer(om_manager *m, uint32_t thread, uint32_t handle);
  * OM_ERROR_INVALID_PARAMETER for a moment before that of the last tick, or above 9,223,372,036,854,775,807. */
 uint32_t om_tick(om_manager *m, uint64_t now);
 
+/* The next moment at which something is due: the least of those of all set timers and of the deadlines of all pending waits. A tick to
+ * an earlier moment wakes nobody.
+ * OM_ERROR_NO_MORE_ITEMS where nothing is due. */
+uint32_t om_next_due(om_manager *m, uint64_t *moment);
+
 /* ---- Waits ---- */
 
 /* A thread waits for any or all of 1 to 64 objects (WaitForSingleObject, WaitForMultipleObjects), for so many milliseconds. Where
@@ -362,6 +396,11 @@ uint32_t om_wait(om_manager *m, uint32_t thread, bool all, uint32_t milliseconds
  * OM_ERROR_INVALID_PARAMETER where there is no such wait. */
 uint32_t om_wait_result(om_manager *m, uint32_t wait, uint32_t *answer);
 
+/* Takes the answers of waits that were answered, by rising number of the wait: each is one om_wait_result, so the wait is over.
+ * `capacity` places stand at `answers`, and *count says how many were written. Where that is all of them there may be more, and the
+ * next call goes on. What it does grows with the answers alone, however many waits are pending. It answers always 0. */
+uint32_t om_take_answered(om_manager *m, om_answer *answers, size_t capacity, size_t *count);
+
 /* A pending wait's time is up: its answer is OM_WAIT_TIMEOUT.
  * OM_ERROR_INVALID_PARAMETER where no such wait is pending. */
 uint32_t om_expire(om_manager *m, uint32_t wait);
@@ -372,6 +411,24 @@ uint32_t om_expire(om_manager *m, uint32_t wait);
  * OM_ERROR_INVALID_HANDLE where there is no such object. */
 uint32_t om_card(om_manager *m, uint32_t slot, uint32_t generation, om_description *description);
 
+/* What state an object is in, until its slot is taken back; nothing is changed (NtQueryEvent, NtQueryMutant, NtQuerySemaphore,
+ * NtQueryTimer).
+ * OM_ERROR_INVALID_HANDLE where there is no such object. */
+uint32_t om_state(om_manager *m, uint32_t slot, uint32_t generation, om_object_state *state);
+
+/* What a handle of a process names, and what it grants.
+ * OM_ERROR_INVALID_PARAMETER where no such process lives; OM_ERROR_INVALID_HANDLE where there is no such handle. */
+uint32_t om_handle(om_manager *m, uint32_t process, uint32_t handle, om_entry *entry);
+
+/* Walks over all that there is: begin with 0, go on with what was found (behind a slot: with the next one).
+ * OM_ERROR_NO_MORE_ITEMS behind the last. */
+uint32_t om_next_object(om_manager *m, uint32_t from, om_object *object);                          /* from a slot on */
+uint32_t om_next_handle(om_manager *m, uint32_t process, uint32_t after, om_entry *entry);         /* a process's handles */
+
+/* The session of a process.
+ * OM_ERROR_INVALID_PARAMETER where no such process lives. */
+uint32_t om_session_of(om_manager *m, uint32_t process, uint32_t *session);
+
 /* What refers to an object.
  * OM_ERROR_INVALID_PARAMETER where there is no such slot; OM_ERROR_INVALID_HANDLE where it has no such object. */
 uint32_t om_counts(om_manager *m, uint32_t slot, uint32_t generation, om_references *references);
@@ -379,6 +436,11 @@ uint32_t om_counts(om_manager *m, uint32_t slot, uint32_t generation, om_referen
 /* Takes the slot of an object that nothing refers to back, for objects to come, unless somebody pins it.
  * OM_ERROR_INVALID_PARAMETER where there is no such slot; OM_ERROR_INVALID_HANDLE where it has no such object. */
 uint32_t om_reap(om_manager *m, uint32_t slot, om_reaping *reaping);
+
+/* Takes back the slots of all objects that nothing refers to, by rising slot: each is one om_reap, and those that somebody pins are told
+ * too, once in a call. `capacity` places stand at `reapings`, and *count says how many were written. Where that is all of them there
+ * may be more, and the next call goes on, where there are more places than pinned objects. It answers always 0. */
+uint32_t om_take_ended(om_manager *m, om_reaping *reapings, size_t capacity, size_t *count);
 
 /* A row of the directory, which has the names in the order in which their objects were made. The name is written without its
  * prefix and with no zero byte behind it; `capacity` bytes stand at `name`, and OM_NAME_MOST are always enough.
@@ -427,6 +489,17 @@ bool om_reader_holds(om_reader *r, uint32_t slot, uint32_t generation);
 
 /* Whether a wait is pending. */
 bool om_is_pending(om_manager *m, uint32_t wait);
+
+/* The moment of the last tick, in units of 100 ns. */
+uint64_t om_now(om_manager *m);
+
+/* The next live process, and the next live thread of a process, by rising number: begin with 0. 0 behind the last. */
+uint32_t om_next_process(om_manager *m, uint32_t after);
+uint32_t om_next_thread(om_manager *m, uint32_t process, uint32_t after);
+
+/* The process of a thread, or 0 where no such thread lives; and a thread's wait that is pending, or whose answer wasn't taken, or 0. */
+uint32_t om_process_of(om_manager *m, uint32_t thread);
+uint32_t om_wait_of(om_manager *m, uint32_t thread);
 
 /* How many names objects have. */
 size_t om_directory_len(om_manager *m);

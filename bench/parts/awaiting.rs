@@ -92,13 +92,25 @@ impl Manager {
         Ok(Reply::Pending { wait })
     }
 
-    pub(crate) fn result(&mut self, wait: u32) -> Result<Reply, Fault> {
-        let Some((thread, code)) = self.waits.take_result(wait)? else {
-            return Ok(Reply::Pending { wait });
-        };
-        if let Some(thread) = &mut self.threads[thread as usize] {
-            thread.wait = None;
+    /// The thread of a wait that is answered, and the code; the wait is over then.
+    fn take(&mut self, wait: u32) -> Result<Option<(u32, u32)>, Fault> {
+        let taken = self.waits.take_result(wait)?;
+        if let Some((thread, _)) = taken {
+            if let Some(thread) = &mut self.threads[thread as usize] {
+                thread.wait = None;
+            }
         }
-        Ok(Reply::Code { code })
+        Ok(taken)
+    }
+
+    pub(crate) fn result(&mut self, wait: u32) -> Result<Reply, Fault> {
+        Ok(self.take(wait)?.map_or(Reply::Pending { wait }, |(_, code)| Reply::Code { code }))
+    }
+
+    /// The least wait that is answered: its thread and the code. It is over then.
+    #[allow(dead_code)]
+    pub fn take_answered(&mut self) -> Option<(u32, u32)> {
+        let wait = self.waits.next_answered()?;
+        self.take(wait).ok()?
     }
 }

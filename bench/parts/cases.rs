@@ -29,14 +29,14 @@ pub fn rounds_at<C: Case>(home: &mut Home, rounds: u32) -> Result<u64, Fault> {
     Ok(sum)
 }
 
-fn spawned(reply: Reply) -> Result<(u32, u32), Fault> {
+pub fn spawned(reply: Reply) -> Result<(u32, u32), Fault> {
     match reply {
         Reply::Spawned { process, thread } => Ok((process, thread)),
         _ => Err(refusal(reply)),
     }
 }
 
-fn started(reply: Reply) -> Result<u32, Fault> {
+pub fn started(reply: Reply) -> Result<u32, Fault> {
     match reply {
         Reply::Started { thread } => Ok(thread),
         _ => Err(refusal(reply)),
@@ -64,7 +64,7 @@ pub fn code_of(reply: Reply) -> Result<u32, Fault> {
     }
 }
 
-fn pending(reply: Reply) -> Result<u32, Fault> {
+pub fn pending(reply: Reply) -> Result<u32, Fault> {
     match reply {
         Reply::Pending { wait } => Ok(wait),
         _ => Err(refusal(reply)),

@@ -3,7 +3,7 @@
 use crate::answers::{Fault, Mode, WAIT_TIMEOUT};
 use crate::id::Id;
 use crate::objects::Objects;
-use std::collections::HashMap;
+use std::collections::{HashMap, VecDeque};
 use std::hash::{BuildHasherDefault, Hasher};
 
 /// One object in place, or a list.
@@ -86,6 +86,8 @@ pub struct Waits {
     live: HashMap<u32, Wait, BuildHasherDefault<NumberHasher>>,
     /// By slot, the pending waits that list its object, by rising number.
     rows: Vec<Vec<u32>>,
+    /// Those that are answered and not taken, by rising number.
+    answered: VecDeque<u32>,
 }
 
 fn leave_row(rows: &mut [Vec<u32>], slot: u32, number: u32) {
@@ -97,7 +99,7 @@ fn leave_row(rows: &mut [Vec<u32>], slot: u32, number: u32) {
 
 impl Waits {
     pub fn new(limit: u32) -> Waits {
-        Waits { limit, given: 0, live: HashMap::default(), rows: Vec::new() }
+        Waits { limit, given: 0, live: HashMap::default(), rows: Vec::new(), answered: VecDeque::new() }
     }
 
     /// The wait's number, and where each was given, the limit.
@@ -119,6 +121,30 @@ impl Waits {
         objects.blocks_came(ids);
         self.live.insert(number, Wait { thread, state: State::Pending(mode, Ids::new(ids)) });
         Ok(number)
+    }
+
+    fn note_answer(&mut self, number: u32) {
+        if self.answered.back().is_none_or(|last| *last < number) {
+            self.answered.push_back(number);
+            return;
+        }
+        let at = self.answered.partition_point(|other| *other < number);
+        self.answered.insert(at, number);
+    }
+
+    fn drop_answer(&mut self, number: u32) {
+        if self.answered.front() == Some(&number) {
+            self.answered.pop_front();
+            return;
+        }
+        if let Ok(at) = self.answered.binary_search(&number) {
+            self.answered.remove(at);
+        }
+    }
+
+    /// The least wait that is answered and not taken.
+    pub fn next_answered(&self) -> Option<u32> {
+        self.answered.front().copied()
     }
 
     #[allow(dead_code)]
@@ -172,6 +198,7 @@ impl Waits {
             objects.block_left(id.slot);
         }
         wait.state = State::Answered(code);
+        self.note_answer(number);
         true
     }
 
@@ -183,6 +210,7 @@ impl Waits {
         };
         let thread = wait.thread;
         self.live.remove(&number);
+        self.drop_answer(number);
         Ok(Some((thread, code)))
     }
 
@@ -196,6 +224,7 @@ impl Waits {
             objects.block_left(id.slot);
         }
         wait.state = State::Answered(WAIT_TIMEOUT);
+        self.note_answer(number);
         Ok(())
     }
 
@@ -205,6 +234,7 @@ impl Waits {
             return;
         };
         let State::Pending(_, ids) = &wait.state else {
+            self.drop_answer(number);
             return;
         };
         for id in ids.as_slice() {

@@ -51,6 +51,19 @@ void *__wrap_realloc(void *block, size_t size) {
     CALL(uint32_t, om_reap, (om_manager *m, uint32_t s, om_reaping *r), (m, s, r), status == OM_SUCCESS)                            \
     CALL(uint32_t, om_directory_at, (om_manager *m, size_t at, char *n, size_t c, om_row *r), (m, at, n, c, r),                     \
          status == OM_SUCCESS)                                                                                                      \
+    CALL(uint32_t, om_take_answered, (om_manager *m, om_answer *a, size_t c, size_t *n), (m, a, c, n), *n > 0)                      \
+    CALL(uint32_t, om_take_ended, (om_manager *m, om_reaping *r, size_t c, size_t *n), (m, r, c, n), *n > 0)                        \
+    CALL(uint32_t, om_next_due, (om_manager *m, uint64_t *n), (m, n), status == OM_SUCCESS)                                         \
+    CALL(uint32_t, om_state, (om_manager *m, uint32_t s, uint32_t g, om_object_state *o), (m, s, g, o), status == OM_SUCCESS)       \
+    CALL(uint32_t, om_handle, (om_manager *m, uint32_t p, uint32_t h, om_entry *e), (m, p, h, e), status == OM_SUCCESS)             \
+    CALL(uint32_t, om_next_object, (om_manager *m, uint32_t f, om_object *o), (m, f, o), status == OM_SUCCESS)                      \
+    CALL(uint32_t, om_next_handle, (om_manager *m, uint32_t p, uint32_t a, om_entry *e), (m, p, a, e), status == OM_SUCCESS)        \
+    CALL(uint32_t, om_session_of, (om_manager *m, uint32_t p, uint32_t *s), (m, p, s), status == OM_SUCCESS)                        \
+    CALL(uint32_t, om_next_process, (om_manager *m, uint32_t a), (m, a), status != 0)                                               \
+    CALL(uint32_t, om_next_thread, (om_manager *m, uint32_t p, uint32_t a), (m, p, a), status != 0)                                 \
+    CALL(uint32_t, om_process_of, (om_manager *m, uint32_t t), (m, t), status != 0)                                                 \
+    CALL(uint32_t, om_wait_of, (om_manager *m, uint32_t t), (m, t), status != 0)                                                    \
+    CALL(uint64_t, om_now, (om_manager *m), (m), true)                                                                              \
     CALL(bool, om_is_pending, (om_manager *m, uint32_t w), (m, w), true)                                                            \
     CALL(bool, om_reader_holds, (om_reader *r, uint32_t s, uint32_t g), (r, s, g), true)                                            \
     CALL(size_t, om_directory_len, (om_manager *m), (m), true)
@@ -101,6 +114,33 @@ uint32_t __wrap_om_duplicate(om_manager *m, uint32_t t, uint32_t s, uint32_t h, 
     return status;
 }
 
+/* Asks for what a host is told, and for what there is. Answers and ends are taken now and then, so that there are some. */
+static void ask(calls *c) {
+    om_answer answers[2];
+    om_reaping ended[2];
+    om_object_state state;
+    om_object object;
+    om_entry entry;
+    uint64_t moment;
+    uint32_t session, process = om_next_process(&c->m, below(c, 2));
+    size_t count = 0;
+    if (below(c, 4) == 0) {
+        om_take_answered(&c->m, answers, 2, &count);
+        om_take_ended(&c->m, ended, 2, &count);
+    }
+    om_next_due(&c->m, &moment);
+    if (om_next_object(&c->m, below(c, 4), &object) == OM_SUCCESS) {
+        om_state(&c->m, object.slot, object.generation, &state);
+    }
+    if (om_next_handle(&c->m, process, 4 * below(c, 4), &entry) == OM_SUCCESS) {
+        om_handle(&c->m, process, entry.handle, &entry);
+    }
+    om_session_of(&c->m, process, &session);
+    om_process_of(&c->m, om_next_thread(&c->m, process, 0));
+    om_wait_of(&c->m, om_next_thread(&c->m, process, 0));
+    om_now(&c->m);
+}
+
 /* A new manager, and random calls of it. Threads and processes end more often than they do in other trials. */
 static void make_calls(calls *c) {
     make_manager(c);
@@ -108,10 +148,22 @@ static void make_calls(calls *c) {
         om_member member;
         om_object object;
         call(c);
+        ask(c);
         om_resolve(&c->m, c->processes, 4 * (1 + below(c, 8)), &object);
         if (below(c, 20) == 0 && om_spawn(&c->m, 0, &member) == OM_SUCCESS) {
-            uint32_t thread;
-            om_thread(&c->m, member.process, &thread);
+            uint32_t thread, wait;
+            om_making making = {0, 0, false, false, false, false};
+            om_opening event;
+            if (om_thread(&c->m, member.process, &thread) == OM_SUCCESS &&
+                om_create_event(&c->m, member.thread, &making, "", 0, false, false, &event) == OM_SUCCESS &&
+                om_wait(&c->m, thread, false, OM_INFINITE, &event.handle, 1, &wait) == OM_ERROR_IO_PENDING) {
+                c->waits = wait;
+                om_set_event(&c->m, member.thread, event.handle);
+                if (below(c, 2) == 0) {
+                    om_wait_result(&c->m, wait, &wait);
+                }
+                ask(c);
+            }
             om_end_thread(&c->m, member.thread);
             om_exit(&c->m, member.process);
         }

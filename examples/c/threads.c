@@ -1,4 +1,5 @@
-/* A thread for each guest, one lock round the manager, and a monitor that reads what the guests' objects are without taking it. */
+/* A thread for each guest, one lock round the manager, a condition variable for each guest, and a monitor that reads what the guests'
+ * objects are without taking the lock. */
 #include <obman.h>
 #include <pthread.h>
 #include <stdatomic.h>
@@ -8,8 +9,16 @@
 enum { GUESTS = 4, ROUNDS = 1000, OBJECTS = 3 };
 
 static pthread_mutex_t lock = PTHREAD_MUTEX_INITIALIZER;
-static pthread_cond_t changed = PTHREAD_COND_INITIALIZER;
 static om_manager m;
+
+/* Where the threads of guests sleep while their waits are pending, by thread number. */
+static struct {
+    pthread_cond_t answered;
+    uint32_t code;
+    bool is_asleep;
+} sleepers[GUESTS + 2];
+
+
 static om_opening mutex, semaphore, finished; /* each guest has inherited the three handles */
 static uint32_t total;                        /* what the guests count, under the guests' own mutex */
 static _Atomic bool is_over;
@@ -21,24 +30,39 @@ static void must(bool holds, const char *what) {
     }
 }
 
+/* Behind each call, under the lock: wakes just those whose waits it has answered. */
+static void wake_answered(void) {
+    om_answer answers[GUESTS + 1]; /* one for each that may wait */
+    size_t count;
+    om_take_answered(&m, answers, GUESTS + 1, &count);
+    for (size_t i = 0; i < count; i++) {
+        sleepers[answers[i].thread].code = answers[i].code;
+        sleepers[answers[i].thread].is_asleep = false;
+        pthread_cond_signal(&sleepers[answers[i].thread].answered);
+    }
+}
+
 /* A guest's wait for one object: its thread sleeps here until the wait is answered. */
 static uint32_t wait_for(uint32_t thread, uint32_t handle) {
     uint32_t answer;
     pthread_mutex_lock(&lock);
-    if (om_wait(&m, thread, false, OM_INFINITE, &handle, 1, &answer) == OM_ERROR_IO_PENDING) {
-        uint32_t wait = answer;
-        while (om_wait_result(&m, wait, &answer) == OM_ERROR_IO_PENDING) {
-            pthread_cond_wait(&changed, &lock);
+    uint32_t status = om_wait(&m, thread, false, OM_INFINITE, &handle, 1, &answer);
+    must(status == OM_SUCCESS || status == OM_ERROR_IO_PENDING, "a wait");
+    if (status == OM_ERROR_IO_PENDING) {
+        sleepers[thread].is_asleep = true;
+        while (sleepers[thread].is_asleep) {
+            pthread_cond_wait(&sleepers[thread].answered, &lock);
         }
+        answer = sleepers[thread].code;
     }
     pthread_mutex_unlock(&lock);
     return answer;
 }
 
-/* What a guest's call answers, and whoever may wait for what it signaled looks again. */
+/* What a guest's call has answered, which was made under the lock. */
 static void signals(uint32_t status) {
     must(status == OM_SUCCESS, "a signal");
-    pthread_cond_broadcast(&changed);
+    wake_answered();
     pthread_mutex_unlock(&lock);
 }
 
@@ -85,6 +109,9 @@ int main(void) {
     om_reader reader;
     pthread_t threads[GUESTS], watching;
 
+    for (int i = 0; i < GUESTS + 2; i++) {
+        pthread_cond_init(&sleepers[i].answered, NULL);
+    }
     must(om_new(&limits, &m) == OM_SUCCESS && om_spawn(&m, 1, &host) == OM_SUCCESS, "no manager");
     must(om_create_mutex(&m, host.thread, &inherited, "", 0, false, &mutex) == OM_SUCCESS, "no mutex");
     must(om_create_semaphore(&m, host.thread, &inherited, "", 0, 0, GUESTS, &semaphore) == OM_SUCCESS, "no semaphore");

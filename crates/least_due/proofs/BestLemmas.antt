@@ -1,11 +1,15 @@
 -- What the tree of least moments says of all places, and how it changes.
-use Rattle.std.proofs.Common.{◌≡◌, ◌≢◌, ◌∙◌, sym, ap, refl, subst, ℕ, zero, suc, ◌+◌, ◌*◌, ◌-◌, ◌/◌, ◌<◌, ◌≤◌, List, [], ◌∷◌, ◌++◌, length, min, arith, set, Option, Some, None, inl, inr}
+use Rattle.std.proofs.Common.{◌≡◌, ◌≢◌, ◌∙◌, sym, ap, refl, subst, ℕ, zero, suc, ◌+◌, ◌*◌, ◌-◌, ◌/◌, ◌<◌, ◌≤◌, List, [], ◌∷◌, ◌++◌, length, min, arith, set, leb, leb-true, cond, true, false, Bool, Option, Some, None, inl, inr}
 use Rattle.std.specs.Prelude.{◌⊎◌, IfSome, IsSome}
-use Rattle.std.proofs.lemmas.Bool.{cases_eq, cases_lt}
-use Rattle.std.proofs.lemmas.List.{get_or_past, get_or-set_same, get_or-set_other}
+use Rattle.std.proofs.lemmas.Bool.{cases_eq, cases_lt, le-leb}
+use Rattle.std.proofs.lemmas.List.{get_or_past, get_or-set_same, get_or-set_other, get_or_append_left, get_or-append-add}
 use Rattle.std.proofs.lemmas.Option.{none-some}
-use Rattle.least_due.specs.Dues.{due_at, NotAfter, IsLeast}
+use Rattle.least_due.specs.Dues.{due_at, since, NotAfter, IsLeast, IsLeastSince}
 use Rattle.least_due.specs.Best.{sooner, best_below, IsBest, IsBestBut}
+
+-- it stands at a place
+abbrev Stands : List (Option ℕ) → Option ℕ → Type 0
+Stands dues x = IfSome x (λ moment. (place : ℕ) × (due_at dues place ≡ Some moment))
 
 sooner_first : (x y : Option ℕ) (m : ℕ) → NotAfter x m → NotAfter (sooner x y) m
 sooner_first None y m h = absurd h
@@ -110,3 +114,76 @@ is_there xs k some = elim (cases_lt k (length xs)) [
   where
     no_some : IsSome {T = ℕ} None → ⊥
     no_some h = cc
+
+-- the least of two lists
+pub least_joined : (xs ys : List (Option ℕ)) (x y : Option ℕ) → IsLeast xs x → IsLeast ys y → IsLeast (xs ++ ys) (sooner x y)
+least_joined xs ys x y a b = record {
+  stands = elim (sooner_either x y) [
+    | inl e ↦ subst (λ z. Stands (xs ++ ys) z) (sym e) (left x a.stands)
+    | inr e ↦ subst (λ z. Stands (xs ++ ys) z) (sym e) (right y b.stands)
+  ];
+  first = λ place moment is. elim (cases_lt place (length xs)) [
+    | inl lt ↦ sooner_first x y moment (a.first place moment (sym (get_or_append_left xs ys None place lt) ∙ is))
+    | inr past ↦
+        let at : length xs + (place - length xs) ≡ place = omega (arith, past) in
+        sooner_second x y moment (b.first (place - length xs) moment (sym (get_or-append-add xs ys (place - length xs) None) ∙ ap (λ i. due_at (xs ++ ys) i) at ∙ is))
+  ];
+}
+  where
+    left : (z : Option ℕ) → Stands xs z → Stands (xs ++ ys) z
+    left None h = tt
+    left (Some m) h = (h.0, get_or_append_left xs ys None h.0 (is_there xs h.0 (subst (λ o. IsSome o) (sym h.1) refl)) ∙ h.1)
+
+    right : (z : Option ℕ) → Stands ys z → Stands (xs ++ ys) z
+    right None h = tt
+    right (Some m) h = (length xs + h.0, get_or-append-add xs ys h.0 None ∙ h.1)
+
+-- the least moment from one on of the first places, so many
+pub record IsLeastAmong (from count : ℕ) (dues : List (Option ℕ)) (least : Option ℕ) : Type 0 where
+  pub stands : Stands dues least
+  pub from_on : IfSome least (λ moment. from ≤ moment)
+  pub first : (place moment : ℕ) → place < count → due_at dues place ≡ Some moment → from ≤ moment → NotAfter least moment
+
+pub among_none : (from : ℕ) (dues : List (Option ℕ)) → IsLeastAmong from 0 dues None
+among_none from dues = record { stands = tt; from_on = tt; first = λ place moment lt is le. absurd (omega (arith, lt)) }
+
+since_stands : (from place : ℕ) (dues : List (Option ℕ)) (x : Option ℕ) → due_at dues place ≡ x → Stands dues (since from x) × IfSome (since from x) (λ moment. from ≤ moment)
+since_stands from place dues None is = (tt, tt)
+since_stands from place dues (Some m) is = by (leb from m) refl
+  where
+    by : (b : Bool) → leb from m ≡ b → Stands dues (cond b (Some m) None) × IfSome (cond b (Some m) None) (λ moment. from ≤ moment)
+    by true le = ((place, is), leb-true from m le)
+    by false le = (tt, tt)
+
+since_first : (from moment : ℕ) (x : Option ℕ) → x ≡ Some moment → from ≤ moment → NotAfter (since from x) moment
+since_first from moment x is le = rw (is, le-leb from moment le) (omega arith)
+
+pub among_more : (from count : ℕ) (dues : List (Option ℕ)) (least : Option ℕ) → IsLeastAmong from count dues least → IsLeastAmong from (count + 1) dues (sooner least (since from (due_at dues count)))
+among_more from count dues least among = record {
+  stands = elim (sooner_either least own) [ inl e ↦ subst (λ z. Stands dues z) (sym e) among.stands | inr e ↦ subst (λ z. Stands dues z) (sym e) here.0 ];
+  from_on = elim (sooner_either least own) [ inl e ↦ subst (λ z. IfSome z (λ moment. from ≤ moment)) (sym e) among.from_on | inr e ↦ subst (λ z. IfSome z (λ moment. from ≤ moment)) (sym e) here.1 ];
+  first = λ place moment lt is le. elim (cases_lt place count) [
+    | inl below ↦ sooner_first least own moment (among.first place moment below is le)
+    | inr past ↦ (let same : place ≡ count = omega (arith, lt, past) in sooner_second least own moment (since_first from moment (due_at dues count) (ap (λ i. due_at dues i) (sym same) ∙ is) le))
+  ];
+}
+  where
+    own : Option ℕ
+    own = since from (due_at dues count)
+
+    here : Stands dues (since from (due_at dues count)) × IfSome (since from (due_at dues count)) (λ moment. from ≤ moment)
+    here = since_stands from count dues (due_at dues count) refl
+
+pub among_all : (from count : ℕ) (dues : List (Option ℕ)) (least : Option ℕ) → length dues ≤ count → IsLeastAmong from count dues least → IsLeastSince from dues least
+among_all from count dues least all among = record {
+  stands = among.stands;
+  from_on = among.from_on;
+  first = λ place moment is le. among.first place moment (let there = is_there dues place (subst (λ o. IsSome o) (sym is) refl) in omega (arith, there, all)) is le;
+}
+
+-- where the least of all isn't before a moment, it is the least from there on; and where there is none, there is none
+pub from_least : (from : ℕ) (dues : List (Option ℕ)) (least : ℕ) → IsLeast dues (Some least) → from ≤ least → IsLeastSince from dues (Some least)
+from_least from dues least is le = record { stands = is.stands; from_on = le; first = λ place moment at after. is.first place moment at }
+
+pub from_none : (from : ℕ) (dues : List (Option ℕ)) → IsLeast dues None → IsLeastSince from dues None
+from_none from dues is = record { stands = tt; from_on = tt; first = λ place moment at after. is.first place moment at }

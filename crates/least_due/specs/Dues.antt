@@ -1,5 +1,5 @@
 -- Due moments by place, and the least of them. A place past the end has none.
-use Rattle.std.specs.Prelude.{◌≡◌, ℕ, ◌≤◌, List, Option, Some, None, IfSome, slice_index_or}
+use Rattle.std.specs.Prelude.{◌≡◌, ℕ, ◌≤◌, nat_le, if◌then◌else◌, List, Option, Some, None, IfSome, slice_index_or}
 
 -- the moment at a place, or none
 abbrev pub due_at : List (Option ℕ) → ℕ → Option ℕ
@@ -14,3 +14,14 @@ NotAfter (Some least) moment = least ≤ moment
 pub record IsLeast (dues : List (Option ℕ)) (least : Option ℕ) : Type 0 where
   pub stands : IfSome least (λ moment. (place : ℕ) × (due_at dues place ≡ Some moment))
   pub first : (place moment : ℕ) → due_at dues place ≡ Some moment → NotAfter least moment
+
+-- a moment that is not before another, or none
+abbrev pub since : ℕ → Option ℕ → Option ℕ
+since from None = None
+since from (Some moment) = if nat_le from moment then Some moment else None
+
+-- the same of the moments that are not before one
+pub record IsLeastSince (from : ℕ) (dues : List (Option ℕ)) (least : Option ℕ) : Type 0 where
+  pub stands : IfSome least (λ moment. (place : ℕ) × (due_at dues place ≡ Some moment))
+  pub from_on : IfSome least (λ moment. from ≤ moment)
+  pub first : (place moment : ℕ) → due_at dues place ≡ Some moment → from ≤ moment → NotAfter least moment

@@ -1,7 +1,7 @@
 // The tree of least moments.
 ghost use Rattle.std.specs.Prelude.{◌≡◌, ◌≢◌, ℕ, ◌-◌, ◌/◌, ◌<◌, ◌≤◌, true, false, length, List, Option, IsSome, OnOk, ◌+◌, ◌*◌};
 ghost use Rattle.least_due.specs.Best.{sooner, best_below, IsBest, IsBestBut};
-ghost use Rattle.least_due.specs.Dues.{due_at};
+ghost use Rattle.least_due.specs.Dues.{due_at, since, IsLeastSince};
 
 use crate::PLACES_MAX;
 use std::alloc::AllocError;
@@ -17,7 +17,8 @@ pub(crate) fn moment_at(moments: &Vec<Option<u64>>, place: usize) -> Option<u64>
     }
 }
 
-fn sooner(first: Option<u64>, second: Option<u64>) -> Option<u64>
+/// The lesser of two moments, or the one that is there.
+pub fn sooner(first: Option<u64>, second: Option<u64>) -> Option<u64>
     ensures { result ≡ sooner first second }
 {
     match (first, second) {
@@ -32,6 +33,27 @@ fn is_same(first: Option<u64>, second: Option<u64>) -> bool
     ensures no { result ≡ false → first ≢ second }
 {
     first == second
+}
+
+/// A moment that isn't before another.
+fn not_before(due: Option<u64>, from: u64) -> Option<u64>
+    ensures { result ≡ since from due }
+{
+    match due {
+        Some(moment) if moment >= from => due,
+        _ => None,
+    }
+}
+
+/// The least moment from one on.
+pub(crate) fn least_since(dues: &[Option<u64>], from: u64) -> Option<u64>
+    ensures { IsLeastSince from dues.now result }
+{
+    let mut least = None;
+    for due in dues {
+        least = sooner(least, not_before(*due, from));
+    }
+    least
 }
 
 fn best_below(dues: &Vec<Option<u64>>, best: &Vec<Option<u64>>, place: usize) -> Option<u64>

@@ -15,11 +15,12 @@
 #![tactic(auto)]
 
 ghost use Rattle.std.specs.Prelude.{◌≡◌, ◌<◌, ◌≤◌, length, List, [], ◌∷◌, ◌++◌, None, is_some, replicate, slice_set, IfOk, IfSome, IfNone, IsSome, OnOk, OnErr};
-ghost use Rattle.least_due.specs.Dues.{due_at, IsLeast};
+ghost use Rattle.least_due.specs.Dues.{due_at, IsLeast, IsLeastSince};
 
 mod best;
 
-use best::{cover, moment_at, place_of_least, raise};
+pub use best::sooner;
+use best::{cover, least_since, moment_at, place_of_least, raise};
 use std::alloc::{AllocError, Global};
 use std::marker::Model;
 
@@ -88,6 +89,18 @@ impl Dues {
         ensures { IsLeast self.now result }
     {
         moment_at(&self.best, 0)
+    }
+
+    /// The least moment from one on, or none where no place has one. It is read in constant time where no place has an
+    /// earlier one; else each place is looked at.
+    pub fn least_since(&self, from: u64) -> Option<u64>
+        ensures { IsLeastSince from self.now result }
+    {
+        let least = self.least()?;
+        if least >= from {
+            return Some(least);
+        }
+        least_since(self.dues.as_slice(), from)
     }
 
     /// A place whose moment is the least, or none where no place has one.

@@ -1,3 +1,4 @@
 pub mod LevelLemmas
 pub mod SpareLemmas
 pub mod TakenLemmas
+pub mod NextLemmas

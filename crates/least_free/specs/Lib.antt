@@ -2,3 +2,4 @@ pub mod Bits
 pub mod Levels
 pub mod Spare
 pub mod Taken
+pub mod From

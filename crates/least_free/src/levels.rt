@@ -1,11 +1,15 @@
-ghost use Rattle.std.specs.Prelude.{◌≡◌, ◌≢◌, ℕ, ◌/◌, ◌<◌, ◌≤◌, length, [], ◌∷◌, ◌++◌, true, false, replicate, slice_set, Some, slice_get, IfOk, OnOk, OnErr};
+ghost use Rattle.std.specs.Prelude.{◌≡◌, ◌≢◌, ℕ, ◌/◌, ◌<◌, ◌≤◌, ◌==◌, length, [], ◌∷◌, ◌++◌, true, false, replicate, slice_set, Some, slice_get, IfOk, IfSome, OnOk, OnErr};
 ghost use Rattle.std.specs.Int.{bit_at};
 ghost use Rattle.least_free.specs.Bits.{bit};
+ghost use Rattle.least_free.specs.From.{IsLeastFrom};
 ghost use Rattle.least_free.specs.Levels.{SumsUp};
-ghost use Rattle.least_free.specs.Taken.{least_free};
+ghost use Rattle.least_free.specs.Taken.{is_free_within, is_taken, least_free};
 
 use crate::NUMBERS_MAX;
-use crate::words::{add_word, clear, lowest, lowest_in, set, with_bit, without_bit};
+use crate::words::{
+    add_word, clear, lowest, lowest_from, lowest_in, next_clear, rest_of_word, set, with_bit,
+    without_bit,
+};
 use std::alloc::{AllocError, Global};
 use std::marker::Model;
 
@@ -34,6 +38,19 @@ fn raised(top: u64, middle: &mut Vec<u64>, n: usize) -> u64
         return top;
     }
     with_bit(top, n / 64)
+}
+
+/// The least bit of the middle level, from one on.
+fn next_word(top: u64, middle: &Vec<u64>, from: usize) -> Option<usize>
+    requires few { length middle.now.items ≤ 16 }
+    requires summed { SumsUp (bit_at top) middle.now.items }
+    ensures { IsLeastFrom from (λ w. bit middle.now.items w == 1) result }
+{
+    if let Some(w) = rest_of_word(middle, from) {
+        return Some(w);
+    }
+    let m = lowest_from(top, from / 64 + 1)?;
+    Some(lowest_in(middle, m))
 }
 
 impl Model for Levels {
@@ -95,6 +112,25 @@ impl Levels {
         let m = lowest(self.top);
         let w = lowest_in(&self.middle, m);
         lowest_in(&self.leaves, w)
+    }
+
+    /// The least free number below the length, from one on.
+    pub(crate) fn next(&self, from: usize) -> Option<usize>
+        ensures { IsLeastFrom from (is_free_within self.now) result }
+    {
+        if let Some(n) = rest_of_word(&self.leaves, from) {
+            return Some(n);
+        }
+        let w = next_word(self.top, &self.middle, from / 64 + 1)?;
+        Some(lowest_in(&self.leaves, w))
+    }
+
+    /// The least number that is taken, from one on.
+    pub(crate) fn next_taken(&self, from: usize) -> Option<usize>
+        ensures least { IsLeastFrom from (is_taken self.now) result }
+        ensures within { IfSome result (λ n. n < NUMBERS_MAX) }
+    {
+        next_clear(&self.leaves, from, self.len)
     }
 
     #[inline(never)]

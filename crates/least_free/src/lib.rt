@@ -12,8 +12,9 @@
 //! ```
 #![tactic(auto)]
 
-ghost use Rattle.std.specs.Prelude.{◌≡◌, ◌<◌, ◌≤◌, length, List, [], ◌∷◌, ◌++◌, true, false, replicate, slice_set, Some, slice_get, IfOk, OnOk, OnErr};
-ghost use Rattle.least_free.specs.Taken.{least_free};
+ghost use Rattle.std.specs.Prelude.{◌≡◌, ◌<◌, ◌≤◌, length, List, [], ◌∷◌, ◌++◌, true, false, replicate, slice_set, Some, slice_get, IfOk, IfSome, OnOk, OnErr};
+ghost use Rattle.least_free.specs.From.{IsLeastFrom};
+ghost use Rattle.least_free.specs.Taken.{is_free_within, is_taken, least_free};
 
 mod levels;
 mod words;
@@ -92,6 +93,36 @@ impl LeastFree {
             Some(spare) if spare < least => spare,
             _ => least,
         }
+    }
+
+    /// The least free number from `from` on, of those below the length: one that was given back. It takes a few word
+    /// operations, as [`least`](LeastFree::least) does.
+    pub fn next_free(&self, from: usize) -> Option<usize>
+        ensures { IsLeastFrom from (is_free_within self.now) result }
+    {
+        let next = self.levels.next(from);
+        let Some(spare) = self.spare else {
+            return next;
+        };
+        if spare < from {
+            return next;
+        }
+        match next {
+            Some(n) if n < spare => Some(n),
+            _ => Some(spare),
+        }
+    }
+
+    /// The least number that is taken, from `from` on. It looks at 64 numbers at a time, one after another.
+    pub fn next_taken(&self, from: usize) -> Option<usize>
+        ensures least { IsLeastFrom from (is_taken self.now) result }
+        ensures within { IfSome result (λ n. n < NUMBERS_MAX) }
+    {
+        let at = self.levels.next_taken(from)?;
+        if self.spare == Some(at) {
+            return self.levels.next_taken(at + 1);
+        }
+        Some(at)
     }
 
     /// Takes a free number below the length.

@@ -1,7 +1,8 @@
 // Bits of one word, and of a level.
-ghost use Rattle.std.specs.Prelude.{◌≡◌, ◌≢◌, ℕ, ◌+◌, ◌*◌, ◌/◌, ◌%◌, ◌<◌, ◌≤◌, length, slice_index, true, false, [], ◌∷◌, ◌++◌, OnOk, OnErr};
+ghost use Rattle.std.specs.Prelude.{◌≡◌, ◌≢◌, ℕ, ◌+◌, ◌*◌, ◌/◌, ◌%◌, ◌<◌, ◌≤◌, ◌==◌, ◌&&◌, nat_lt, length, slice_index, true, false, [], ◌∷◌, ◌++◌, OnOk, OnErr, IfSome};
 ghost use Rattle.std.specs.Int.{bit_at};
 ghost use Rattle.least_free.specs.Bits.{bit};
+ghost use Rattle.least_free.specs.From.{IsAtMost, IsLeastFrom};
 
 use std::alloc::AllocError;
 
@@ -12,6 +13,21 @@ pub(crate) fn lowest(word: u64) -> usize
     ensures least { (i : ℕ) → i < result → bit_at word i ≡ 0 }
 {
     word.trailing_zeros() as usize
+}
+
+/// The lowest bit of a word from bit `k` on.
+pub(crate) fn lowest_from(word: u64, k: usize) -> Option<usize>
+    ensures least { IsLeastFrom k (λ i. bit_at word i == 1) result }
+    ensures within { IfSome result (λ i. i < 64) }
+{
+    if k >= 64 {
+        return None;
+    }
+    let rest = word >> k;
+    if rest == 0 {
+        return None;
+    }
+    Some(k + lowest(rest))
 }
 
 pub(crate) fn with_bit(word: u64, k: usize) -> u64
@@ -40,6 +56,63 @@ pub(crate) fn lowest_in(words: &Vec<u64>, w: usize) -> usize
     ensures least { (k : ℕ) → 64 * w ≤ k → k < result → bit words.now.items k ≡ 0 }
 {
     64 * w + lowest(words[w])
+}
+
+/// The lowest bit, by its place in the level, from `from` on in the word where that stands.
+pub(crate) fn rest_of_word(words: &Vec<u64>, from: usize) -> Option<usize>
+    requires { length words.now.items ≤ 1024 }
+    ensures set { IfSome result (λ n. bit words.now.items n ≡ 1) }
+    ensures above { IfSome result (λ n. from ≤ n) }
+    ensures within { IfSome result (λ n. n < 64 * (from / 64 + 1)) }
+    ensures least { (k : ℕ) → from ≤ k → k < 64 * (from / 64 + 1) → bit words.now.items k ≡ 1 → IsAtMost result k }
+{
+    let w = from / 64;
+    if words.len() <= w {
+        return None;
+    }
+    let k = lowest_from(words[w], from % 64)?;
+    Some(64 * w + k)
+}
+
+/// The lowest bit of a word that is clear, from bit `k` on.
+fn lowest_clear(word: u64, k: usize) -> Option<usize>
+    ensures clear { IfSome result (λ i. bit_at word i ≡ 0) }
+    ensures above { IfSome result (λ i. k ≤ i) }
+    ensures within { IfSome result (λ i. i < 64) }
+    ensures least { (i : ℕ) → k ≤ i → i < 64 → bit_at word i ≡ 0 → IsAtMost result i }
+{
+    lowest_from(!word, k)
+}
+
+/// The least number whose bit is clear, by its place in the level, from `from` on in the word where that stands.
+fn rest_clear(words: &Vec<u64>, from: usize) -> Option<usize>
+    requires within { from / 64 < length words.now.items }
+    requires few { length words.now.items ≤ 1024 }
+    ensures clear { IfSome result (λ n. bit words.now.items n ≡ 0) }
+    ensures above { IfSome result (λ n. from ≤ n) }
+    ensures within { IfSome result (λ n. n < 64 * (from / 64 + 1)) }
+    ensures least { (k : ℕ) → from ≤ k → k < 64 * (from / 64 + 1) → bit words.now.items k ≡ 0 → IsAtMost result k }
+{
+    let w = from / 64;
+    let k = lowest_clear(words[w], from % 64)?;
+    Some(64 * w + k)
+}
+
+/// The least number below `len` whose bit is clear, from one on. It looks at one word after another.
+pub(crate) fn next_clear(words: &Vec<u64>, from: usize, len: usize) -> Option<usize>
+    requires room { len ≤ 64 * length words.now.items }
+    requires few { length words.now.items ≤ 1024 }
+    ensures least { IsLeastFrom from (λ k. nat_lt k len && bit words.now.items k == 0) result }
+    ensures within { IfSome result (λ n. n < len) }
+{
+    let mut n = from;
+    while n < len {
+        if let Some(at) = rest_clear(words, n) {
+            return if at < len { Some(at) } else { None };
+        }
+        n = 64 * (n / 64 + 1);
+    }
+    None
 }
 
 /// Sets bit `n` of the level, and tells whether its word had no bit before.

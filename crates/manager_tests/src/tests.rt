@@ -1,5 +1,6 @@
 ghost use Rattle.std.specs.Prelude.{◌≡◌, true};
 
+mod answers;
 mod applying;
 mod copies;
 mod ends;
@@ -12,6 +13,7 @@ mod schedules;
 mod store;
 mod timing;
 mod waiting;
+mod walking;
 
 use call_tables::{Line, PLAIN, Step};
 use ob_manager::CallOf::{

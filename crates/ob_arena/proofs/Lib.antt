@@ -4,3 +4,4 @@ pub mod StorageSharing
 pub mod StorageThreads
 pub mod Phasing
 pub mod SlotLemmas
+pub mod NextLemmas

@@ -1,5 +1,7 @@
-ghost use Rattle.std.specs.Prelude.{◌≡◌, ◌<◌, ◌≤◌, true, length, replicate, None, Some, is_some, IsSome, IfOk};
+ghost use Rattle.std.specs.Prelude.{◌≡◌, ◌<◌, ◌≤◌, true, length, map, replicate, None, Some, is_some, slice_index_or, IsSome, IfOk};
 ghost use Rattle.std.specs.Borrow.{sem};
+ghost use Rattle.least_free.specs.From.{IsLeastFrom};
+ghost use Rattle.ob_arena.specs.Phases.{is_in_use, is_occupied};
 ghost use Rattle.ob_arena.specs.Slots.{body_at, is_vacant_at, least_vacant, vacant_slots, with_body, with_retired, without_body};
 
 use crate::phase::Phase;
@@ -20,6 +22,21 @@ pub struct Arena<B> {
     phases: Vec<Phase>,
     free: LeastFree,
     alloc: Global,
+}
+
+/// The least slot that is occupied, from one on.
+fn next_body(free: &LeastFree, phases: &Vec<Phase>, from: usize) -> Option<usize>
+    requires { free.now ≡ map is_in_use phases.now.items }
+    ensures { IsLeastFrom from (λ k. is_occupied (slice_index_or phases.now.items k Phase.Vacant)) result }
+{
+    let mut at = from;
+    while let Some(slot) = free.next_taken(at) {
+        if phases[slot].is_occupied() {
+            return Some(slot);
+        }
+        at = slot + 1;
+    }
+    None
 }
 
 impl<B> Model for Arena<B> {
@@ -87,6 +104,17 @@ impl<B> Arena<B> {
     {
         let at = slot as usize;
         at < self.phases.len() && self.phases[at].is_occupied()
+    }
+
+    /// The least slot with a body, from one on. It looks at 64 slots at a time from there to the one that it finds, and at each
+    /// that is retired.
+    pub fn next_occupied(&self, from: u32) -> Option<u32>
+        ensures { IsLeastFrom from (λ slot. is_some (body_at self.now slot)) result }
+    {
+        match next_body(&self.free, &self.phases, from as usize) {
+            Some(at) => Some(at as u32),
+            None => None,
+        }
     }
 
     /// The body of a slot that has one.

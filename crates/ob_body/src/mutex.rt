@@ -110,11 +110,25 @@ impl Mutex {
     }
 
     /// The thread that owns it. While one does, it isn't abandoned.
-    pub(crate) fn owner(&self) -> Option<u32>
+    pub fn owner(&self) -> Option<u32>
         ensures owner { result ≡ self.now.owner }
         ensures unabandoned { IsSome result → self.now.abandoned ≡ false }
     {
         self.owner
+    }
+
+    /// How many times its owner owns it; 0 where it has none.
+    pub fn recursion(&self) -> u32
+        ensures { result ≡ self.now.recursion }
+    {
+        self.recursion
+    }
+
+    /// Whether its last owner ended, and nobody acquired it since.
+    pub fn is_abandoned(&self) -> bool
+        ensures { result ≡ self.now.abandoned }
+    {
+        self.abandoned
     }
 
     /// Without owner.

@@ -49,6 +49,20 @@ impl Semaphore {
         self.count > 0
     }
 
+    /// How often it may be acquired before it is released again.
+    pub fn count(&self) -> u32
+        ensures { result ≡ self.now.count }
+    {
+        self.count
+    }
+
+    /// Its greatest count.
+    pub fn maximum(&self) -> u32
+        ensures { result ≡ self.now.maximum }
+    {
+        self.maximum
+    }
+
     /// The count falls by 1.
     pub(crate) fn acquire(&mut self)
         requires { 0 < self.old.count }

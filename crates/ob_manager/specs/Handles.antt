@@ -4,6 +4,7 @@ use Rattle.pin_core.specs.declared.id.Id.{Id}
 use Rattle.ob_rights.specs.declared.fault.Fault.{Fault}
 use Rattle.ob_rights.specs.declared.fault.Fault.TheVariants as fault
 use Rattle.ob_rights.specs.Flags.{changed_flags, is_protected}
+use Rattle.ob_tables.specs.declared.entry.Entry.{Entry}
 use Rattle.ob_manager.specs.declared.reply.Reply.TheVariants.{Closed, Done, Flags}
 use Rattle.ob_store.specs.State.{State, settled, with_flags, without_entry}
 use Rattle.ob_manager.specs.Outcomes.{Outcome, ◌>>=◌, or_refuse, refuse_if}
@@ -32,9 +33,14 @@ set_handle_flags s thread handle mask flags = do
   entry ← found s process handle
   Ok (record { reply = Done; state = settled (with_flags s process handle (changed_flags entry.flags mask flags)) })
 
--- what a handle names: 87 where the process isn't live, 6 where there is no such handle
+-- what a handle of a process has: 87 where the process isn't live, 6 where there is no such handle
+abbrev pub entry_of : State → ℕ → ℕ → Result Entry Fault
+entry_of s process handle = do
+  _ ← or_refuse (slice_index_or s.processes process None) fault.Parameter
+  found s process handle
+
+-- and what it names
 abbrev pub resolve : State → ℕ → ℕ → Result Id Fault
 resolve s process handle = do
-  _ ← or_refuse (slice_index_or s.processes process None) fault.Parameter
-  entry ← found s process handle
+  entry ← entry_of s process handle
   Ok entry.id

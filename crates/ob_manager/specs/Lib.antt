@@ -9,6 +9,7 @@ pub mod Copying
 pub mod Signaling
 pub mod Timing
 pub mod Counting
+pub mod States
 pub mod Ending
 pub mod Reaping
 pub mod Rising

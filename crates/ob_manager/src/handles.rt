@@ -1,11 +1,12 @@
 ghost use Rattle.std.specs.Prelude.{◌≡◌};
-ghost use Rattle.ob_manager.specs.Handles.{close, handle_flags, resolve, set_handle_flags};
+ghost use Rattle.ob_manager.specs.Handles.{close, entry_of, handle_flags, resolve, set_handle_flags};
 ghost use Rattle.ob_manager.specs.Steps.{Gives};
 
 use crate::checks::{caller, found};
 use crate::reply::Reply;
 use ob_rights::Fault;
 use ob_store::Store;
+use ob_tables::Entry;
 use pin_core::Id;
 use pin_words::PinKeeper;
 
@@ -59,13 +60,19 @@ pub fn set_handle_flags<K: PinKeeper>(
     Ok(Reply::Done)
 }
 
-/// What a handle names.
-pub fn resolve<K: PinKeeper>(store: &Store<K>, process: u32, handle: u32) -> Result<Id, Fault>
-    ensures { result ≡ resolve store.now.state process handle }
+/// What a handle of a process has.
+pub fn entry<K: PinKeeper>(store: &Store<K>, process: u32, handle: u32) -> Result<Entry, Fault>
+    ensures { result ≡ entry_of store.now.state process handle }
 {
     if store.session(process).is_none() {
         return Err(Fault::Parameter);
     }
-    let entry = found(store, process, handle)?;
-    Ok(entry.id)
+    found(store, process, handle)
+}
+
+/// What a handle names.
+pub fn resolve<K: PinKeeper>(store: &Store<K>, process: u32, handle: u32) -> Result<Id, Fault>
+    ensures { result ≡ resolve store.now.state process handle }
+{
+    Ok(entry(store, process, handle)?.id)
 }

@@ -11,6 +11,7 @@
 //! ```
 #![tactic(auto)]
 
+mod answers;
 mod call;
 mod card;
 mod checks;
@@ -24,6 +25,7 @@ mod law;
 mod making;
 mod manager;
 mod meeting;
+mod object_state;
 mod pinning;
 mod processes;
 mod reaping;
@@ -31,6 +33,7 @@ mod reply;
 mod signaling;
 mod timing;
 mod waiting;
+mod walking;
 
 pub use call::{Ask, Call, CallOf};
 pub use card::Card;
@@ -38,6 +41,8 @@ pub use law::law_of_steps;
 pub use making::{AsMake, Make, Making, Text};
 pub use manager::Manager;
 pub use ob_store::{Found, Label, Limits, Seat, Stored};
-pub use ob_waits::Mode;
+pub use ob_tables::Entry;
+pub use ob_waits::{Answer, Mode};
+pub use object_state::ObjectState;
 pub use reply::Reply;
 pub use waiting::{HandleList, Timeout};

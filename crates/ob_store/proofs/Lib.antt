@@ -18,6 +18,8 @@ pub mod KeptLaws
 pub mod OwnerLaws
 pub mod OneByOne
 pub mod TimerLaws
+pub mod WalkingLaws
+pub mod ClosingLaws
 pub mod ThreadListLaws
 pub mod LeftLaws
 pub mod UnderWayLaws

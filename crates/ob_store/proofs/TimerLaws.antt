@@ -1,5 +1,5 @@
 -- The due moments of slots, while bodies change, and the least of them.
-use Rattle.std.proofs.Common.{◌≡◌, ℕ, zero, suc, ◌∷◌, ◌<◌, ◌≤◌, List, length, Option, Some, None, refl, ap, ◌∙◌, sym, arith, get_or, set, map, replicate, Bool, true, false, cond}
+use Rattle.std.proofs.Common.{◌≡◌, ℕ, zero, suc, [], ◌∷◌, ◌<◌, ◌≤◌, List, length, Option, Some, None, refl, ap, ◌∙◌, sym, subst, arith, get_or, set, map, replicate, Bool, true, false, cond}
 use Rattle.std.specs.Prelude.{IfNone, IfSome}
 use Rattle.std.proofs.Math.Seq.{map-set_same}
 use Rattle.std.proofs.lemmas.List.{length-map, map-set}
@@ -34,6 +34,14 @@ due_too now due dues (Some moment) is soon other = let before : moment ≤ due =
 -- the due moment of a slot
 pub due_read : (xs : List (Option Seat)) (k : ℕ) → get_or (map seat_due xs) k None ≡ slot_due (get_or (map seat_body xs) k None)
 due_read xs k = read seat_due xs k ∙ ap slot_due (sym (read seat_body xs k))
+
+-- the least of the slots' is the least of the bodies'
+dues_of_bodies : (xs : List (Option Seat)) → map seat_due xs ≡ map slot_due (map seat_body xs)
+dues_of_bodies [] = refl
+dues_of_bodies (x ∷ xs) = ap (λ (dues : List (Option ℕ)). seat_due x ∷ dues) (dues_of_bodies xs)
+
+pub least_of_bodies : (xs : List (Option Seat)) (dues : List (Option ℕ)) (least : Option ℕ) → dues ≡ map seat_due xs → IsLeast dues least → IsLeast (map slot_due (map seat_body xs)) least
+least_of_bodies xs dues least timed is = subst (λ (ds : List (Option ℕ)). IsLeast ds least) (timed ∙ dues_of_bodies xs) is
 
 pub timed_set : (xs : List (Option Seat)) (dues : List (Option ℕ)) (k : ℕ) (y : Option Seat) (due : Option ℕ) → dues ≡ map seat_due xs → due ≡ seat_due y → set dues k due ≡ map seat_due (set xs k y)
 timed_set xs dues k y due timed is = (λ i. set (timed i) k (is i)) ∙ sym (map-set seat_due xs k y)

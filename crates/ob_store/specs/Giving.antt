@@ -1,5 +1,5 @@
 -- A further reader of a keeper's pins, over what is said of every keeper.
-use Rattle.std.specs.Prelude.{ℕ, ◌+◌, []}
+use Rattle.std.specs.Prelude.{◌+◌, []}
 use Rattle.pin_words.specs.declared.view.ReaderView.{ReaderView}
 use Rattle.pin_words.specs.Keepers.{KeeperState}
 

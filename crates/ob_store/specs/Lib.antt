@@ -11,7 +11,10 @@ pub mod Moves
 pub mod Waiting
 pub mod Ends
 pub mod Ticks
+pub mod Dues
 pub mod Owners
+pub mod Closing
+pub mod Walking
 pub mod Timers
 pub mod UnderWay
 pub mod Meetings

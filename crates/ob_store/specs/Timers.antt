@@ -1,10 +1,11 @@
 -- When the timer in each slot is due, and what is kept beside the objects.
-use Rattle.std.specs.Prelude.{◌≡◌, ℕ, List, Option, Some, None, length, map, slice_set}
+use Rattle.std.specs.Prelude.{◌≡◌, ℕ, Bool, List, Option, Some, None, length, map, slice_set}
 use Rattle.ob_name.specs.Names.{ObjectName}
 use Rattle.ob_waits.specs.Form.{slot_due}
 use Rattle.ob_store.specs.declared.label.Label.{Label}
 use Rattle.ob_store.specs.declared.seat.Seat.{Seat}
 use Rattle.ob_store.specs.Objects.{seat_body}
+use Rattle.ob_store.specs.Closing.{is_open}
 use Rattle.ob_store.specs.Owners.{IsOwned}
 
 abbrev pub seat_due : Option Seat → Option ℕ
@@ -15,9 +16,11 @@ abbrev pub due_left : List (Option ℕ) → ℕ → Option ℕ → List (Option 
 due_left dues slot None = dues
 due_left dues slot (Some due) = slice_set dues slot None
 
--- the mutexes of each thread are counted, each slot's due moment is known, and there is a label and a place for a name for each slot
-pub record AreNoted (seats : List (Option Seat)) (counts : List ℕ) (dues : List (Option ℕ)) (labels : List Label) (names : List (Option ObjectName)) : Type 0 where
+-- the mutexes of each thread are counted, each slot's due moment is known and whether its object ended, and there is a label and a
+-- place for a name for each slot
+pub record AreNoted (seats : List (Option Seat)) (counts : List ℕ) (dues : List (Option ℕ)) (opens : List Bool) (labels : List Label) (names : List (Option ObjectName)) : Type 0 where
   pub owned : IsOwned seats counts
   pub timed : dues ≡ map seat_due seats
+  pub opened : opens ≡ map is_open seats
   pub labelled : length labels ≡ length seats
   pub named : length names ≡ length seats

@@ -15,9 +15,13 @@
 //! ```
 #![tactic(auto)]
 
+mod answers;
+mod closing;
 mod creation;
+mod dues;
 mod ending;
 mod entries;
+mod finding;
 mod found;
 mod label;
 mod limits;
@@ -43,6 +47,7 @@ mod thread_lists;
 mod ticking;
 mod timers;
 mod waiting;
+mod walking;
 
 pub use creation::Creation;
 pub use found::Found;

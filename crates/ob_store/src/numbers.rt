@@ -1,5 +1,7 @@
-ghost use Rattle.std.specs.Prelude.{ℕ, List, Option, [], ◌∷◌, ◌++◌, ◌≡◌, ◌<◌, ◌≤◌, None, Some, IfOk, OnOk, OnErr, length, slice_index_or, slice_set};
+ghost use Rattle.std.specs.Prelude.{ℕ, List, Option, [], ◌∷◌, ◌++◌, ◌≡◌, ◌+◌, ◌<◌, ◌≤◌, None, Some, IfOk, OnOk, OnErr, is_some, length, slice_index_or, slice_set};
+ghost use Rattle.least_free.specs.From.{IsLeastFrom};
 
+use crate::finding::next_place;
 use std::alloc::{AllocError, Global};
 use std::marker::Model;
 
@@ -46,6 +48,16 @@ impl Numbers {
             self.places[at]
         } else {
             None
+        }
+    }
+
+    /// The least number behind one that isn't gone. It looks at each number from there to the one that it finds.
+    pub fn next_after(&self, after: u32) -> Option<u32>
+        ensures { IsLeastFrom (after + 1) (λ n. is_some (slice_index_or self.now n None)) result }
+    {
+        match next_place(self.places.as_slice(), after as usize + 1) {
+            Some(number) => Some(number as u32),
+            None => None,
         }
     }
 

@@ -1,10 +1,12 @@
-ghost use Rattle.std.specs.Prelude.{◌≡◌, ℕ, ◌+◌, ◌<◌, ◌≤◌, false, true, IfNone, IfOk, IfErr, IfSome, IsSome, IsTrue, None, Some, length, slice_index_or};
+ghost use Rattle.std.specs.Prelude.{◌≡◌, ℕ, ◌+◌, ◌<◌, ◌≤◌, false, true, IfNone, IfOk, IfErr, IfSome, IsSome, IsTrue, None, Some, is_some, length, slice_index_or};
 ghost use Rattle.std.specs.Option.{option_map};
 ghost use Rattle.pin_words.specs.Keepers.{IsFresh};
 ghost use Rattle.pin_words.specs.Views.{id_of};
 ghost use Rattle.pin_core.specs.Descrs.{IsGiven};
+ghost use Rattle.least_free.specs.From.{IsLeastFrom};
 ghost use Rattle.ob_arena.specs.Slots.{is_vacant_at, least_vacant};
 ghost use Rattle.ob_waits.specs.Waits.{nowhere};
+ghost use Rattle.ob_store.specs.Closing.{is_closing_in};
 ghost use Rattle.ob_store.specs.Owners.{owns_at};
 ghost use Rattle.ob_store.specs.Objects.{changed_at, kept_rest, object_of, tag_of, places_in, with_keeper, vacant_places, vacancy, with_object, with_handle_of, with_handle_at, with_handles_of, without_handle_of, with_block_of, with_blocks_of};
 ghost use Rattle.ob_store.specs.Agreement.{IsTied, Reclaimed};
@@ -29,7 +31,7 @@ use std::marker::Model;
 /// An object's body goes with the last reference to it, and its slot closes then.
 #[derive(Drop)]
 pub struct Objects<K: PinKeeper> {
-    seats: Seats,
+    pub(crate) seats: Seats,
     births: u64,
     pub(crate) keeper: K,
 }
@@ -237,6 +239,20 @@ impl<K: PinKeeper> Objects<K> {
         ensures none { IfNone result ((k : ℕ) → slot_is_due now (slice_index_or self.now.seen.bodies k None) ≡ false) }
     {
         self.seats.next_due(now)
+    }
+
+    /// The least slot whose object ended, from one on.
+    pub(crate) fn next_closing(&self, from: u32) -> Option<u32>
+        ensures { IsLeastFrom from (is_closing_in self.now.objects self.now.seen.bodies) result }
+    {
+        self.seats.next_closing(from)
+    }
+
+    /// The least slot with an object, from one on.
+    pub(crate) fn next_object(&self, from: u32) -> Option<u32>
+        ensures { IsLeastFrom from (λ slot. is_some (slice_index_or self.now.objects slot None)) result }
+    {
+        self.seats.next_object(from)
     }
 
     /// The timer in a slot fires, if it is due.

@@ -1,5 +1,6 @@
-ghost use Rattle.std.specs.Prelude.{ℕ, ◌≡◌, ◌<◌, ◌≤◌, None, Some, IfOk, OnOk, OnErr, length, slice_index_or, slice_set};
+ghost use Rattle.std.specs.Prelude.{ℕ, ◌≡◌, ◌+◌, ◌<◌, ◌≤◌, None, Some, IfOk, OnOk, OnErr, is_some, length, slice_index_or, slice_set};
 ghost use Rattle.std.specs.List.{list_any};
+ghost use Rattle.least_free.specs.From.{IsLeastFrom};
 ghost use Rattle.ob_store.specs.Processes.{ProcessesState, is_of, no_processes, with_process, with_thread};
 ghost use Rattle.ob_store.specs.ThreadLists.{IsNewest};
 
@@ -132,6 +133,42 @@ impl Processes {
             return link.next;
         }
         self.threads.next()
+    }
+
+    /// The least live process behind a number.
+    pub(crate) fn next_live(&self, after: u32) -> Option<u32>
+        ensures { IsLeastFrom (after + 1) (λ process. is_some (slice_index_or self.now.processes process None)) result }
+    {
+        self.processes.next_after(after)
+    }
+
+    /// The least live thread of a process, from a thread of it on.
+    fn live_from(&self, process: u32, from: u32) -> Option<u32>
+        ensures { IsLeastFrom from (λ thread. is_of process (slice_index_or self.now.threads thread None)) result }
+    {
+        let end = self.threads.next();
+        let mut thread = from;
+        while thread < end {
+            if self.threads.get(thread) == Some(process) {
+                return Some(thread);
+            }
+            thread = self.next_of(process, thread);
+        }
+        None
+    }
+
+    /// The least live thread of a process behind a number.
+    pub(crate) fn next_live_of(&self, process: u32, after: u32) -> Option<u32>
+        ensures { IsLeastFrom (after + 1) (λ thread. is_of process (slice_index_or self.now.threads thread None)) result }
+    {
+        let first = self.first_of(process);
+        if after < first {
+            return self.live_from(process, first);
+        }
+        if after >= self.threads.next() {
+            return None;
+        }
+        self.live_from(process, self.next_of(process, after))
     }
 
     /// A thread's number is gone.

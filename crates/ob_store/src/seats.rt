@@ -1,13 +1,16 @@
 ghost use Rattle.std.specs.Prelude.{◌≡◌, ◌<◌, ◌≤◌, ◌&&◌, ℕ, false, true, IfNone, IfOk, IfSome, IsSome, IsTrue, None, Some, is_some, length, slice_index_or, slice_set};
 ghost use Rattle.std.specs.Option.{option_map};
+ghost use Rattle.least_free.specs.From.{IsLeastFrom};
 ghost use Rattle.ob_waits.specs.Form.{slot_due, slot_owner};
 ghost use Rattle.ob_arena.specs.Slots.{is_vacant_at, least_vacant};
 ghost use Rattle.ob_waits.specs.Objects.{body_of, slot_room, without_block};
 ghost use Rattle.ob_waits.specs.Waits.{is_abandoned, is_signaled, with_acquired};
+ghost use Rattle.ob_store.specs.Closing.{is_closing_in};
 ghost use Rattle.ob_store.specs.Owners.{owns_at};
 ghost use Rattle.ob_store.specs.Ticks.{slot_is_due};
 ghost use Rattle.ob_store.specs.Objects.{object_of, tag_of, tags_in, rest_of, vacant_places, vacancy, with_seat, with_handle, without_handle, is_last_handle, with_block, is_last_block, without_seat, with_retired};
 
+use crate::closing::ClosingSlots;
 use crate::found::Found;
 use crate::label::Label;
 use crate::owners::Owners;
@@ -30,7 +33,8 @@ pub(crate) struct Seats {
     // By slot, where the label says that there is a name. What an object had stays until a name comes to its slot.
     names: Vec<Option<Name>>,
     owners: Owners,
-    timers: Timers,
+    pub(crate) timers: Timers,
+    closing: ClosingSlots,
 }
 
 impl Model for Seats {
@@ -42,8 +46,9 @@ impl Model for Seats {
 
     ghost use Rattle.ob_store.specs.Timers.{AreNoted};
 
-    // Hidden from the value: how many mutexes each thread owns, and when the timer in each slot is due.
-    ghost invariant = { λ s. AreNoted s.arena.bodies s.owners s.timers s.labels.items s.names.items };
+    // Hidden from the value: how many mutexes each thread owns, when the timer in each slot is due, and in which slots an object
+    // ended.
+    ghost invariant = { λ s. AreNoted s.arena.bodies s.owners s.timers s.closing s.labels.items s.names.items };
 }
 
 /// The thread that owns a mutex.
@@ -119,6 +124,7 @@ impl Seats {
             names,
             owners: Owners::new(alloc, slots, threads)?,
             timers: Timers::new(alloc, slots)?,
+            closing: ClosingSlots::new(alloc, slots)?,
         })
     }
 
@@ -145,6 +151,20 @@ impl Seats {
         ensures none { IfNone result ((k : ℕ) → slot_is_due now (slice_index_or self.now.seen.bodies k None) ≡ false) }
     {
         self.timers.next_due(now)
+    }
+
+    /// The least slot whose object ended, from one on.
+    pub(crate) fn next_closing(&self, from: u32) -> Option<u32>
+        ensures { IsLeastFrom from (is_closing_in self.now.objects self.now.seen.bodies) result }
+    {
+        self.closing.next(from)
+    }
+
+    /// The least slot with an object, from one on.
+    pub(crate) fn next_object(&self, from: u32) -> Option<u32>
+        ensures { IsLeastFrom from (λ slot. is_some (slice_index_or self.now.objects slot None)) result }
+    {
+        self.arena.next_occupied(from)
     }
 
     /// How many slots there are.
@@ -235,6 +255,7 @@ impl Seats {
         let gone = self.arena.get_mut(slot).handle_left();
         self.owners.left(slot, owner_of(gone));
         self.timers.left(slot, due_of(gone));
+        self.closing.came(slot, gone.is_some());
         gone.is_some()
     }
 
@@ -255,6 +276,7 @@ impl Seats {
         ensures vacant { is_vacant_at (vacancy self.new) slot ≡ true }
     {
         let _ = self.arena.take(slot);
+        self.closing.left(slot);
     }
 
     /// A vacant slot is never given again.
@@ -315,6 +337,7 @@ impl Seats {
         let gone = self.arena.get_mut(id.slot).block_left();
         self.owners.left(id.slot, owner_of(gone));
         self.timers.left(id.slot, due_of(gone));
+        self.closing.came(id.slot, gone.is_some());
         gone.is_some()
     }
 }

@@ -9,7 +9,7 @@ use std::marker::Model;
 /// When the timer in each slot is due.
 #[derive(Drop)]
 pub(crate) struct Timers {
-    dues: Dues,
+    pub(crate) dues: Dues,
 }
 
 impl Model for Timers {

@@ -1,7 +1,7 @@
 -- Deadlines go on being ahead and listed while waits come, are answered and go, and the code finds those that are over.
 use Rattle.std.proofs.Common.{◌≡◌, ◌⊎◌, ℕ, zero, suc, ◌++◌, ◌∷◌, [], ◌<◌, ◌≤◌, List, length, Option, Some, None, refl, ap, ◌∙◌, sym, subst, arith, get_or, set, Bool, true, false, cond, inl, inr}
-use Rattle.std.specs.Prelude.{count_by}
-use Rattle.std.proofs.lemmas.List.{length-set, get_or_past, get_or-set_same, get_or-set_other}
+use Rattle.std.specs.Prelude.{count_by, is_some, map}
+use Rattle.std.proofs.lemmas.List.{length-map, length-set, get_or_past, get_or-set_same, get_or-set_other, get_or-map}
 use Rattle.std.proofs.lemmas.List.Sums.{sum_by-set}
 use Rattle.std.proofs.lemmas.Bool.{cases_eq, cases_lt}
 use Rattle.std.proofs.lemmas.Bool.Decides.{nat_tests}
@@ -140,18 +140,29 @@ listed_cleared now ws threads dues t right due idle listed = record {
 }
 
 -- with each that is dropped one fewer is due
-pub fewer_listed : (now : ℕ) (dues : List (Option ℕ)) (t : ℕ) → is_due now (get_or dues t None) ≡ true → count_by (is_due now) (set dues t None) < count_by (is_due now) dues
-fewer_listed now dues t due =
-    let f : Option ℕ → ℕ = λ x. cond (is_due now x) 1 0 in
+fewer : (p : Option ℕ → Bool) (dues : List (Option ℕ)) (t : ℕ) → p None ≡ false → p (get_or dues t None) ≡ true → count_by p (set dues t None) < count_by p dues
+fewer p dues t none due =
+    let f : Option ℕ → ℕ = λ x. cond (p x) 1 0 in
     let a = sum_by-set f dues t None None within in
     let one : f (get_or dues t None) ≡ 1 = ap {B = ℕ} (λ b. cond b 1 0) due in
-    omega (arith, a, one)
+    let zero : f None ≡ 0 = ap {B = ℕ} (λ b. cond b 1 0) none in
+    omega (arith, a, one, zero)
   where
     within : t < length dues
     within = elim (cases_lt t (length dues)) [
       | inl lt ↦ lt
-      | inr past ↦ absurd (let none = ap (is_due now) (get_or_past dues t None past) in cc (none, due))
+      | inr past ↦ absurd (let e = ap p (get_or_past dues t None past) in cc (e, none, due))
     ]
+
+pub fewer_listed : (now : ℕ) (dues : List (Option ℕ)) (t : ℕ) → is_due now (get_or dues t None) ≡ true → count_by (is_due now) (set dues t None) < count_by (is_due now) dues
+fewer_listed now dues t due = fewer (is_due now) dues t refl due
+
+due_some : (now : ℕ) (x : Option ℕ) → is_due now x ≡ true → is_some x ≡ true
+due_some now None due = absurd (cc (due))
+due_some now (Some moment) due = refl
+
+pub fewer_moments : (now : ℕ) (dues : List (Option ℕ)) (t : ℕ) → is_due now (get_or dues t None) ≡ true → count_by is_some (set dues t None) < count_by is_some dues
+fewer_moments now dues t due = fewer is_some dues t refl (due_some now (get_or dues t None) due)
 
 -- where none that is listed is due, no wait is overdue
 pub none_overdue : (now : ℕ) (ws : List (Option Wait)) (dues : List (Option ℕ)) → ((t : ℕ) → is_due now (get_or dues t None) ≡ false) → AreListed ws dues → (n : ℕ) → is_overdue now (get_or ws n None) ≡ false
@@ -177,3 +188,43 @@ none_due now dues least is none k = undue now least (get_or dues k None) none (�
 pub due_too : (now due : ℕ) (dues : List (Option ℕ)) (x : Option ℕ) → IsLeast dues (Some due) → due ≤ now → IsLeast dues x → is_due now x ≡ true
 due_too now due dues None is soon other = absurd (other.first is.stands.0 due is.stands.1)
 due_too now due dues (Some moment) is soon other = let before : moment ≤ due = other.first is.stands.0 due is.stands.1 in grind (arith, nat_tests, before, soon)
+
+-- the least deadline: of the waits, where it is that of a pending one
+deadline_at : (ws : List (Option Wait)) (n : ℕ) → get_or (map deadline_of ws) n None ≡ deadline_of (get_or ws n None)
+deadline_at ws n = elim (cases_lt n (length ws)) [
+  | inl lt ↦ get_or-map deadline_of ws n None None lt
+  | inr past ↦ get_or_past (map deadline_of ws) n None (omega (arith, length-map ws deadline_of, past)) ∙ sym (ap deadline_of (get_or_past ws n None past))
+]
+
+-- what is listed for a deadline that some wait has
+listed_at : (ws : List (Option Wait)) (dues : List (Option ℕ)) (n d : ℕ) → AreListed ws dues → deadline_of (get_or ws n None) ≡ Some d → (t : ℕ) × (get_or dues t None ≡ Some d)
+listed_at ws dues n d listed is = by (get_or ws n None) refl
+  where
+    by : (w : Option Wait) → get_or ws n None ≡ w → (t : ℕ) × (get_or dues t None ≡ Some d)
+    by None at = absurd (let e : deadline_of (get_or ws n None) ≡ None = ap deadline_of at in cc (e, is))
+    by (Some w) at = (w.thread, listed.each n w.thread d (ap thread_of at) is)
+
+not_before_least : (ws : List (Option Wait)) (dues : List (Option ℕ)) (least : Option ℕ) → AreListed ws dues → IsLeast dues least → (n d : ℕ) → get_or (map deadline_of ws) n None ≡ Some d → NotAfter least d
+not_before_least ws dues least listed is n d at = let there = listed_at ws dues n d listed (sym (deadline_at ws n) ∙ at) in is.first there.0 d there.1
+
+pub least_none : (ws : List (Option Wait)) (dues : List (Option ℕ)) → AreListed ws dues → IsLeast dues None → IsLeast (map deadline_of ws) None
+least_none ws dues listed is = record { stands = tt; first = not_before_least ws dues None listed is }
+
+pub least_deadline : (ws : List (Option Wait)) (dues : List (Option ℕ)) (n due : ℕ) → AreListed ws dues → IsLeast dues (Some due) → is_overdue due (get_or ws n None) ≡ true → IsLeast (map deadline_of ws) (Some due)
+least_deadline ws dues n due listed is over = record { stands = by (deadline_of (get_or ws n None)) refl; first = not_before_least ws dues (Some due) listed is }
+  where
+    by : (x : Option ℕ) → deadline_of (get_or ws n None) ≡ x → (place : ℕ) × (get_or (map deadline_of ws) place None ≡ Some due)
+    by None at = absurd (let e : is_due due (deadline_of (get_or ws n None)) ≡ false = ap (is_due due) at in cc (e, over))
+    by (Some d) at =
+        let soon : is_due due (Some d) ≡ true = ap (is_due due) (sym at) ∙ over in
+        let early : d ≤ due = grind (arith, nat_tests, soon) in
+        let late : due ≤ d = not_before_least ws dues (Some due) listed is n d (deadline_at ws n ∙ at) in
+        let same : d ≡ due = omega (arith, early, late) in
+        (n, deadline_at ws n ∙ at ∙ ap Some same)
+
+-- the least that is listed is due at its moment
+pub least_is_due : (dues : List (Option ℕ)) (due : ℕ) → IsLeast dues (Some due) → ((t : ℕ) → is_due due (get_or dues t None) ≡ false) → ⊥
+least_is_due dues due is none =
+    let at : is_due due (Some due) ≡ false = ap (is_due due) (sym is.stands.1) ∙ none is.stands.0 in
+    let yes : is_due due (Some due) ≡ true = grind (arith, nat_tests) in
+    cc (at, yes)

@@ -22,3 +22,4 @@ pub mod MergeLaws
 pub mod SettleLaws
 pub mod DeadlineLaws
 pub mod LapseLaws
+pub mod AnswerLaws

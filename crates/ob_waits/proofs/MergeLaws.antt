@@ -6,7 +6,8 @@ use Rattle.std.proofs.lemmas.List.Sorted.{IsPartitionedBy-leb}
 use Rattle.std.proofs.lemmas.Bool.Decides.{nat_tests}
 use Rattle.std.proofs.lemmas.Bool.{cases_eq, cases_lt}
 use Rattle.pin_core.specs.declared.id.Id.{Id}
-use Rattle.ob_waits.specs.Numbers.{AtMost, IsNext, IsNextOf, numbers_of}
+use Rattle.least_free.specs.From.{IsAtMost}
+use Rattle.ob_waits.specs.Numbers.{IsNext, IsNextOf, numbers_of}
 use Rattle.ob_waits.specs.Objects.{slot_signaled}
 use Rattle.ob_waits.specs.Rules.{Within, IsRising, IsReadyAtOne, IsReadyBy, IsSettled}
 use Rattle.ob_waits.specs.Roster.{AreIndexed}
@@ -77,7 +78,7 @@ pub record Goes (m : ℕ) (lists : List (List ℕ)) (ids : List Id) (s after : S
 
 module _ (last : ℕ) (lists : List (List ℕ)) (ids : List Id) (s : Scene) (r : Remains last lists ids s) where
   -- nothing that is ready is below the next number
-  not_below : (next : Option ℕ) → IsNextOf last lists s ids next → (k : ℕ) → (AtMost next k → ⊥) → is_ready s.objects.bodies (get_or s.waits k None) ≡ false
+  not_below : (next : Option ℕ) → IsNextOf last lists s ids next → (k : ℕ) → (IsAtMost next k → ⊥) → is_ready s.objects.bodies (get_or s.waits k None) ≡ false
   not_below next is k below = not_true _ (λ ready.
       let w = get_or s.waits k None in
       let un = unready (has_slot ids) s.objects.bodies s.waits r.by k (λ t i own lt changed.

@@ -18,11 +18,11 @@ pub within_last : (m : ℕ) (ns : List ℕ) → Within m (ns ++ m ∷ [])
 within_last m [] = inl refl
 within_last m (x ∷ ns) = inr (within_last m ns)
 
-within_either : (n m : ℕ) (ns : List ℕ) → Within n (ns ++ m ∷ []) → Within n ns ⊎ (n ≡ m)
+pub within_either : (n m : ℕ) (ns : List ℕ) → Within n (ns ++ m ∷ []) → Within n ns ⊎ (n ≡ m)
 within_either n m [] i = elim i [ inl same ↦ inr same | inr later ↦ absurd later ]
 within_either n m (x ∷ ns) i = elim i [ inl same ↦ inl (inl same) | inr later ↦ elim (within_either n m ns later) [ inl old ↦ inl (inr old) | inr last ↦ inr last ] ]
 
-rising_push : (m : ℕ) (ns : List ℕ) → ((k : ℕ) → Within k ns → k < m) → IsRising ns → IsRising (ns ++ m ∷ [])
+pub rising_push : (m : ℕ) (ns : List ℕ) → ((k : ℕ) → Within k ns → k < m) → IsRising ns → IsRising (ns ++ m ∷ [])
 rising_push m [] below r = ((λ k later. absurd later), tt)
 rising_push m (x ∷ ns) below r = ((λ k later. elim (within_either k m ns later) [ inl old ↦ r.0 k old | inr last ↦ omega (arith, last, below x (inl refl)) ]), rising_push m ns (λ k i. below k (inr i)) r.1)
 
@@ -40,7 +40,7 @@ within_end n ns h =
     subst (λ k. Within k ns) e (within_at ns (length ns - 1) lt)
 
 -- no number of a list is above its last
-last_most : (k x : ℕ) (ns : List ℕ) → IsRising (x ∷ ns) → Within k (x ∷ ns) → k ≤ get_or (x ∷ ns) (length ns) 0
+pub last_most : (k x : ℕ) (ns : List ℕ) → IsRising (x ∷ ns) → Within k (x ∷ ns) → k ≤ get_or (x ∷ ns) (length ns) 0
 last_most k x [] r i = elim i [ inl same ↦ omega arith | inr later ↦ absurd later ]
 last_most k x (y ∷ ns) r i = elim i [
   | inl same ↦ omega (arith, same, r.0 y (inl refl), last_most y y ns r.1 (inl refl))

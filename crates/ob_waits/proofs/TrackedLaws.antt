@@ -13,7 +13,7 @@ use Rattle.ob_waits.specs.Roster.{Roster, AreThreads, AreIndexed, Leaves, with_n
 use Rattle.ob_waits.proofs.Keeping.{Fade, fade_one, kept_faded}
 use Rattle.ob_waits.proofs.RosterLaws.{right_left}
 
-no_wait : (n : ℕ) → get_or {A = Option Wait} (None ∷ []) n None ≡ None
+pub no_wait : (n : ℕ) → get_or {A = Option Wait} (None ∷ []) n None ≡ None
 no_wait zero = refl
 no_wait (suc n) = refl
 

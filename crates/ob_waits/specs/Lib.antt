@@ -8,3 +8,4 @@ pub mod Roster
 pub mod Ends
 pub mod Form
 pub mod Deadlines
+pub mod Answers

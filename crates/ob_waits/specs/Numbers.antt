@@ -1,5 +1,6 @@
 -- Lists of numbers in order, among which are the numbers of some waits.
-use Rattle.std.specs.Prelude.{◌≡◌, ℕ, ◌-◌, ◌<◌, ◌≤◌, ◌⊎◌, IfSome, ◌==◌, ◌&&◌, nat_lt, length, Bool, true, List, [], Option, Some, None, slice_index_or}
+use Rattle.std.specs.Prelude.{◌≡◌, ℕ, ◌-◌, ◌<◌, ◌≤◌, ◌⊎◌, IfSome, ◌==◌, ◌&&◌, nat_lt, length, Bool, true, List, [], Option, None, slice_index_or}
+use Rattle.least_free.specs.From.{IsAtMost}
 use Rattle.ob_waits.specs.declared.wait.Wait.{Wait}
 use Rattle.ob_waits.specs.Rules.{Within, IsRising, IsSpent}
 use Rattle.pin_core.specs.declared.id.Id.{Id}
@@ -25,21 +26,16 @@ pub record AreOrdered (last : ℕ) (lists : List (List ℕ)) : Type 0 where
 pub record Keeps (old new : List (List ℕ)) : Type 0 where
   pub each : (slot k : ℕ) → Within k (numbers_of old slot) → Within k (numbers_of new slot)
 
--- a bound, if there is one
-abbrev pub AtMost : Option ℕ → ℕ → Type 0
-AtMost None k = ⊥
-AtMost (Some n) k = n ≤ k
-
 -- a number above the last, such that none of these is between; and none where none of these is above
 pub record IsNext (last : ℕ) (numbers : List ℕ) (next : Option ℕ) : Type 0 where
   pub above : IfSome next (λ n. last < n)
-  pub least : (k : ℕ) → Within k numbers → last < k → AtMost next k
+  pub least : (k : ℕ) → Within k numbers → last < k → IsAtMost next k
 
 -- the same of the numbers of some objects' slots, but of those that have nothing for who waits
 pub record IsNextOf (last : ℕ) (lists : List (List ℕ)) (scene : Scene) (ids : List Id) (next : Option ℕ) : Type 0 where
   pub above : IfSome next (λ n. last < n)
   pub least : (i k : ℕ) → i < length ids → Within k (numbers_of lists (slice_index_or ids i nowhere).slot) → last < k
-      → AtMost next k ⊎ IsSpent scene.objects.bodies scene.waits (slice_index_or ids i nowhere).slot
+      → IsAtMost next k ⊎ IsSpent scene.objects.bodies scene.waits (slice_index_or ids i nowhere).slot
 
 -- whether a number is the last of a list
 abbrev pub ends_with : ℕ → List ℕ → Bool

@@ -5,27 +5,32 @@
 //! [`law_of_settling`] says what settling leaves as it is, and [`law_of_ends`] when objects end.
 #![tactic(auto)]
 
+mod answer;
 mod blocks;
 mod bodies;
 mod codes;
-mod deadlines;
+mod fresh;
 mod held;
 mod ids;
 mod index;
 mod law;
 mod live;
 mod merge;
+mod numbered;
 mod numbers;
 mod open;
 mod overdue;
 mod pass;
+mod per_thread;
 mod places;
 mod roster;
 mod take;
 mod threads;
+mod untaken;
 mod wait;
 mod waits;
 
+pub use answer::Answer;
 pub use bodies::Bodies;
 pub use codes::{LAST_MOMENT, MAXIMUM_WAIT_OBJECTS, WAIT_ABANDONED_0, WAIT_TIMEOUT};
 pub use law::{law_of_ends, law_of_settling};

@@ -1,38 +1,34 @@
-ghost use Rattle.std.specs.Prelude.{◌≡◌, ◌+◌, ◌<◌, ◌≤◌, true, Some, None, [], ◌∷◌, ◌++◌, length, slice_index_or, slice_set, OnOk, OnErr};
-ghost use Rattle.std.specs.Option.{option_copied};
+ghost use Rattle.std.specs.Prelude.{◌≡◌, ◌+◌, ◌<◌, ◌≤◌, true, Some, None, [], ◌∷◌, ◌++◌, IfSome, length, slice_index_or, slice_set, OnOk, OnErr};
+ghost use Rattle.std.specs.Option.{option_copied, option_map};
+ghost use Rattle.least_free.specs.From.{IsLeastFrom};
+ghost use Rattle.ob_waits.specs.Answers.{answer_of, is_answered};
 ghost use Rattle.ob_waits.specs.Deadlines.{is_overdue};
-ghost use Rattle.ob_waits.specs.Waits.{answered, is_pending};
+ghost use Rattle.ob_waits.specs.Waits.{answered, is_pending, number_of};
 
-use crate::held::Held;
-use crate::places;
+use crate::answer::Answer;
+use crate::numbered::Numbered;
+use crate::untaken::Untaken;
 use crate::wait::{State, Wait};
 use std::alloc::{AllocError, Global};
-use std::collections::HashMap;
 use std::marker::Model;
 
-/// The waits by their numbers, from 1 on. A wait that is over takes no room.
-///
-/// A new wait stands at the place that its number gives, where it is found at once. The wait that stood
-/// there before goes to a hash map, which thus has only waits that last.
+/// The waits by their numbers, of which those that are answered are found in order.
 #[derive(Drop)]
 pub(crate) struct Live {
-    given: u32,
-    places: Vec<Option<Held>>,
-    others: HashMap<u32, Wait>,
+    waits: Numbered,
+    untaken: Untaken,
 }
 
 impl Model for Live {
-    ghost use Rattle.std.specs.Prelude.{List, Option, suc, nat_eq};
-    ghost use Rattle.std.specs.HashMap.{get};
+    ghost use Rattle.std.specs.Prelude.{List, Option};
     ghost use Rattle.ob_waits.specs.declared.wait.Wait.{Wait};
-    ghost use Rattle.ob_waits.specs.Listed.{listed, IsSparse};
-    ghost use Rattle.ob_waits.specs.Places.{found, IsPlaced};
+    ghost use Rattle.ob_waits.specs.Answers.{AreTold};
 
     ghost Value = { List (Option Wait) };
 
-    ghost view = { λ l. listed (suc l.given) (found l.places.items (get nat_eq l.others)) };
+    ghost view = { λ l. l.waits };
 
-    ghost invariant = { λ l. IsSparse l.given (found l.places.items (get nat_eq l.others)) × IsPlaced l.places.items (get nat_eq l.others) };
+    ghost invariant = { λ l. AreTold l.waits l.untaken };
 }
 
 impl Live {
@@ -40,9 +36,8 @@ impl Live {
         ensures { result ≡ None ∷ [] }
     {
         Live {
-            given: 0,
-            places: Vec::new(alloc),
-            others: HashMap::new(alloc),
+            waits: Numbered::new(alloc),
+            untaken: Untaken::new(alloc),
         }
     }
 
@@ -50,54 +45,49 @@ impl Live {
     pub(crate) fn given(&self) -> u32
         ensures { length self.now ≡ result + 1 }
     {
-        self.given
+        self.waits.given()
     }
 
     /// The wait of a number.
     pub(crate) fn get(&self, number: u32) -> Option<&Wait>
         ensures { option_copied result ≡ slice_index_or self.now number None }
     {
-        if let Some(wait) = places::find(self.places.as_slice(), number) {
-            return Some(wait);
-        }
-        self.others.get(&number)
+        self.waits.get(number)
     }
 
     /// Whether the wait of a number is pending.
     pub(crate) fn is_pending(&self, number: u32) -> bool
         ensures { result ≡ is_pending (slice_index_or self.now number None) }
     {
-        match self.get(number) {
-            Some(wait) => match &wait.state {
-                State::Pending(_, _) => true,
-                State::Answered(_) => false,
-            },
-            None => false,
-        }
+        self.waits.is_pending(number)
     }
 
     /// Whether the wait of a number is pending, and its time is up at a moment.
     pub(crate) fn is_overdue(&self, number: u32, now: u64) -> bool
         ensures { result ≡ is_overdue now (slice_index_or self.now number None) }
     {
-        match self.get(number) {
-            Some(wait) => match (&wait.state, wait.deadline) {
-                (State::Pending(_, _), Some(deadline)) => deadline <= now,
-                _ => false,
-            },
-            None => false,
-        }
+        self.waits.is_overdue(number, now)
     }
 
-    /// Gives the next number to a wait.
+    /// The answer of the least number above one.
+    pub(crate) fn next_answered(&self, after: u32) -> Option<Answer>
+        ensures least { IsLeastFrom (after + 1) (λ n. is_answered (slice_index_or self.now n None)) (option_map (λ a. a.wait) result) }
+        ensures answer { IfSome result (λ a. answer_of a.wait (slice_index_or self.now a.wait None) ≡ Some a) }
+    {
+        let number = self.untaken.least_above(&self.waits, after)?;
+        self.waits.answer_of(number)
+    }
+
+    /// Gives the next number to a pending wait, of a thread that has none.
     pub(crate) fn push(&mut self, wait: Wait) -> Result<(), AllocError>
-        requires { length self.old < 4294967296 }
+        requires few { length self.old < 4294967296 }
+        requires alone { number_of wait.thread self.old ≡ None }
+        requires pending { is_pending (Some wait) ≡ true }
         ensures ok { OnOk result (self.new ≡ self.old ++ Some wait ∷ []) }
         ensures err { OnErr result (self.new ≡ self.old) }
     {
-        let number = self.given + 1;
-        places::put(&mut self.places, &mut self.others, Held { number, wait })?;
-        self.given = number;
+        self.untaken.make_room(wait.thread)?;
+        self.waits.push(wait)?;
         Ok(())
     }
 
@@ -106,13 +96,8 @@ impl Live {
         requires { is_pending (slice_index_or self.old number None) ≡ true }
         ensures { self.new ≡ slice_set self.old number (answered (slice_index_or self.old number None) code) }
     {
-        if places::answer(&mut self.places, number, code) {
-            return;
-        }
-        let Some(wait) = self.others.get_mut(&number) else {
-            unreachable!()
-        };
-        wait.answer(code);
+        self.waits.answer(number, code);
+        self.untaken.came(&self.waits, number);
     }
 
     /// Takes the wait of a number away.
@@ -120,9 +105,11 @@ impl Live {
         ensures value { result ≡ slice_index_or self.old number None }
         ensures removed { self.new ≡ slice_set self.old number None }
     {
-        if let Some(wait) = places::take(&mut self.places, number) {
-            return Some(wait);
+        let removed = self.waits.remove(number);
+        if let Some(wait) = &removed {
+            self.untaken.forget(wait.thread, number);
+            self.untaken.drop_first(&self.waits, number);
         }
-        self.others.remove(&number)
+        removed
     }
 }

@@ -1,5 +1,6 @@
 ghost use Rattle.std.specs.Prelude.{◌≡◌, ◌⊎◌, ◌<◌, ℕ, IfSome};
-ghost use Rattle.ob_waits.specs.Numbers.{IsNext, IsNextOf, AtMost, numbers_of};
+ghost use Rattle.least_free.specs.From.{IsAtMost};
+ghost use Rattle.ob_waits.specs.Numbers.{IsNext, IsNextOf, numbers_of};
 ghost use Rattle.ob_waits.specs.Roster.{IsRight};
 ghost use Rattle.ob_waits.specs.Rules.{IsRising, IsSpent, Within};
 
@@ -10,7 +11,7 @@ use crate::roster::Roster;
 use pin_core::Id;
 
 /// The least number above the last one, of numbers that rise.
-fn next_of(numbers: &[u32], last: u32) -> Option<u32>
+pub(crate) fn next_of(numbers: &[u32], last: u32) -> Option<u32>
     requires { IsRising numbers.now }
     ensures { IsNext last numbers.now result }
 {
@@ -22,10 +23,10 @@ fn next_of(numbers: &[u32], last: u32) -> Option<u32>
 }
 
 /// The lesser of two numbers, or the one that is there.
-fn lesser(first: Option<u32>, second: Option<u32>) -> Option<u32>
+pub(crate) fn lesser(first: Option<u32>, second: Option<u32>) -> Option<u32>
     ensures either { (result ≡ first) ⊎ (result ≡ second) }
-    ensures first { (k : ℕ) → AtMost first k → AtMost result k }
-    ensures second { (k : ℕ) → AtMost second k → AtMost result k }
+    ensures first { (k : ℕ) → IsAtMost first k → IsAtMost result k }
+    ensures second { (k : ℕ) → IsAtMost second k → IsAtMost result k }
 {
     match (first, second) {
         (Some(a), Some(b)) if b < a => Some(b),
@@ -38,7 +39,7 @@ fn lesser(first: Option<u32>, second: Option<u32>) -> Option<u32>
 fn next_open<B: Bodies>(live: &Live, bodies: &B, roster: &Roster, id: Id, last: u32) -> Option<u32>
     requires right { IsRight live.now roster.now }
     ensures above { IfSome result (λ n. last < n) }
-    ensures least { (k : ℕ) → Within k (numbers_of roster.now.index id.slot) → last < k → AtMost result k ⊎ IsSpent (B.objects bodies.now).bodies live.now id.slot }
+    ensures least { (k : ℕ) → Within k (numbers_of roster.now.index id.slot) → last < k → IsAtMost result k ⊎ IsSpent (B.objects bodies.now).bodies live.now id.slot }
 {
     if !is_open(live, bodies, roster, id) {
         return None;

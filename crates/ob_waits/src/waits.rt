@@ -1,18 +1,22 @@
-ghost use Rattle.std.specs.Prelude.{[], ◌∷◌, ◌≡◌, false, Err, IfNone, ◌≢◌, ◌+◌, ◌<◌, ◌≤◌, ◌↔◌, ℕ, true, None, Some, length, slice_index_or, OnOk, OnErr, IfOk, IfErr, IfSome, IsSome};
+ghost use Rattle.std.specs.Prelude.{[], ◌∷◌, ◌≡◌, false, Err, IfNone, ◌≢◌, ◌+◌, ◌<◌, ◌≤◌, ◌↔◌, ℕ, true, None, Some, length, map, slice_index_or, OnOk, OnErr, IfOk, IfErr, IfSome, IsSome};
 ghost use Rattle.std.specs.Option.{option_map};
 ghost use Rattle.ob_waits.specs.Waits.{settled, passed, blocks_among, number_of, with_wait, with_answer, without_wait, without_thread, is_pending, code_at, state_at, ids_of, is_full};
-ghost use Rattle.ob_waits.specs.Deadlines.{AreAhead, is_overdue};
+ghost use Rattle.least_due.specs.Dues.{IsLeast};
+ghost use Rattle.least_free.specs.From.{IsLeastFrom};
+ghost use Rattle.ob_waits.specs.Answers.{answer_of, is_answered};
+ghost use Rattle.ob_waits.specs.Deadlines.{AreAhead, deadline_of, is_overdue};
 ghost use Rattle.ob_waits.specs.Form.{IsAfter};
 ghost use Rattle.ob_waits.specs.Rules.{IsKept, IsWaitable, WaitsHaveRoom, IsSettled, IsReadyAt, IsReadyAtOne};
 
+use crate::answer::Answer;
 use crate::blocks::blocks_of;
 use crate::bodies::Bodies;
 use crate::codes::{LAST_MOMENT, WAIT_TIMEOUT};
-use crate::deadlines::Deadlines;
 use crate::ids::Ids;
 use crate::live::Live;
-use crate::overdue::next_overdue;
+use crate::overdue::{next_due, next_overdue};
 use crate::pass::{pass, pass_each, pass_slot};
+use crate::per_thread::PerThread;
 use crate::roster::Roster;
 use crate::wait::{Mode, State, Wait, WaitState};
 use ob_body::RECURSION_MAX;
@@ -44,7 +48,7 @@ pub struct Waits {
     alloc: Global,
     live: Live,
     roster: Roster,
-    deadlines: Deadlines,
+    deadlines: PerThread,
 }
 
 impl Model for Waits {
@@ -70,7 +74,7 @@ impl Waits {
             alloc,
             live: Live::new(alloc),
             roster: Roster::new(alloc),
-            deadlines: Deadlines::new(alloc),
+            deadlines: PerThread::new(alloc),
         }
     }
 
@@ -117,6 +121,19 @@ impl Waits {
             },
             None => None,
         }
+    }
+
+    /// The answer of the least wait number above one, of the waits that are answered and not over: so, from 0 on, one
+    /// after another.
+    ///
+    /// Its cost does not grow with the waits that are pending. It is found in constant time where waits were answered in
+    /// the order of their numbers, or each answer was taken before the next came; else by halving. Answers that came out
+    /// of that order are looked for thread by thread where one of them has a number up to `after`.
+    pub fn next_answered(&self, after: u32) -> Option<Answer>
+        ensures least { IsLeastFrom (after + 1) (λ n. is_answered (slice_index_or self.now.waits n None)) (option_map (λ a. a.wait) result) }
+        ensures answer { IfSome result (λ a. answer_of a.wait (slice_index_or self.now.waits a.wait None) ≡ Some a) }
+    {
+        self.live.next_answered(after)
     }
 
     fn admit(
@@ -256,6 +273,15 @@ impl Waits {
         ensures same { self.new ≡ self.old }
     {
         next_overdue(&self.live, &self.roster, &mut self.deadlines, now)
+    }
+
+    /// The least deadline of the pending waits. That of a wait that was answered before is dropped here, once, in a time
+    /// that grows with the logarithm of the threads; else it is known at once.
+    pub fn next_due(&mut self) -> Option<u64>
+        ensures least { IsLeast (map deadline_of self.old.waits) result }
+        ensures same { self.new ≡ self.old }
+    {
+        next_due(&self.live, &self.roster, &mut self.deadlines)
     }
 
     /// It is a moment, at which no pending wait's time is up.

@@ -15,7 +15,7 @@ rights_in false mask = None
 abbrev pub asked_for : Asking → List ℕ → Making
 asked_for asking name = record { name = given_name asking.named name; inherit = asking.inherit; access = rights_in asking.has_access asking.access; grant = rights_in asking.has_grant asking.grant }
 
--- a process that is named by its number, from 1; 0 for none
-abbrev pub process_at : ℕ → Option ℕ
-process_at zero = None
-process_at (suc n) = Some (suc n)
+-- a process, a thread or a wait by its number, from 1; 0 for none
+abbrev pub number_at : ℕ → Option ℕ
+number_at zero = None
+number_at (suc n) = Some (suc n)

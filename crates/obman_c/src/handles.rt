@@ -2,7 +2,7 @@
 ghost use Rattle.std.specs.Prelude.{◌≡◌};
 ghost use Rattle.ob_manager.specs.Handles.{resolve};
 ghost use Rattle.ob_manager.specs.declared.call.CallOf.TheVariants as Call;
-ghost use Rattle.obman_c.specs.Asking.{mask_of, process_at};
+ghost use Rattle.obman_c.specs.Asking.{mask_of, number_at};
 ghost use Rattle.obman_c.specs.Finding.{Finds};
 ghost use Rattle.obman_c.specs.Telling.{Tells, TellsAs, flags_in, opening_in};
 
@@ -26,9 +26,9 @@ pub extern "C" fn om_duplicate(
     options: u32,
     opening: &mut Opening,
 ) -> u32
-    ensures { TellsAs opening_in owner.old.value.manager (Call.Duplicate thread source handle (process_at target) (mask_of access) inherit options) result owner.new.value.manager opening.old opening.new }
+    ensures { TellsAs opening_in owner.old.value.manager (Call.Duplicate thread source handle (number_at target) (mask_of access) inherit options) result owner.new.value.manager opening.old opening.new }
 {
-    let target = process_at(target);
+    let target = number_at(target);
     let reply = owner.lend().manager.duplicate(
         thread,
         source,
@@ -42,8 +42,8 @@ pub extern "C" fn om_duplicate(
 }
 
 /// A process by its number, and none by 0.
-fn process_at(number: u32) -> Option<u32>
-    ensures { result ≡ process_at number }
+fn number_at(number: u32) -> Option<u32>
+    ensures { result ≡ number_at number }
 {
     if number == 0 { None } else { Some(number) }
 }

@@ -16,6 +16,7 @@
 
 mod creating;
 mod handles;
+mod looking;
 mod opening;
 mod owned;
 mod owner;

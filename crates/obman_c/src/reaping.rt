@@ -2,12 +2,15 @@
 ghost use Rattle.std.specs.Prelude.{◌≡◌};
 ghost use Rattle.ob_manager.specs.declared.call.CallOf.TheVariants as Call;
 ghost use Rattle.obman_c.specs.Pinning.{id_at};
-ghost use Rattle.obman_c.specs.Reaping.{ReapsTold};
+ghost use Rattle.obman_c.specs.Reaping.{ReapsAll, ReapsTold};
 ghost use Rattle.obman_c.specs.Telling.{TellsAs, references_in};
 
 use crate::owner::Owner;
 use crate::values::{Reaping, References, tell_reaping, tell_references};
+use ob_manager::Manager;
+use obman_c_base::SUCCESS;
 use pin_core::Id;
+use pin_words::Keeper;
 
 /// [`Manager::reap`](ob_manager::Manager::reap): 0, 87 or 6.
 #[tactic(auto, using(crate::proofs::Told::reaps))]
@@ -16,6 +19,38 @@ pub extern "C" fn om_reap(owner: &mut Owner, slot: u32, reaping: &mut Reaping) -
     ensures { ReapsTold slot owner.old.value.manager result owner.new.value.manager reaping.old reaping.new }
 {
     tell_reaping(owner.lend().manager.reap(slot), reaping)
+}
+
+/// Slots of ended objects by rising number, each taken back by [`Manager::reap`], as far as there are any and places for them. How
+/// many.
+fn take_ended(manager: &mut Manager<Keeper>, reapings: &mut [Reaping]) -> usize
+    ensures { ReapsAll manager.old reapings.old result manager.new reapings.new }
+{
+    let mut from = 0;
+    for place in 0..reapings.len() {
+        manager.kept();
+        let Some(id) = manager.next_closing(from) else {
+            return place;
+        };
+        let reply = manager.reap(id.slot);
+        let _ = tell_reaping(reply, &mut reapings[place]);
+        from = id.slot + 1;
+    }
+    reapings.len()
+}
+
+/// As many steps [`Manager::reap`] as there are slots whose objects have ended, by rising slot, or as there are places: always 0.
+#[unsafe(no_mangle)]
+pub extern "C" fn om_take_ended(
+    owner: &mut Owner,
+    reapings: &mut [Reaping],
+    count: &mut usize,
+) -> u32
+    ensures ended { ReapsAll owner.old.value.manager reapings.old count.new owner.new.value.manager reapings.new }
+    ensures status { result ≡ 0 }
+{
+    *count = take_ended(&mut owner.lend().manager, reapings);
+    SUCCESS
 }
 
 /// [`Manager::counts`](ob_manager::Manager::counts): 0, 87 or 6.

@@ -1,9 +1,12 @@
 //! Timers, and the time.
+ghost use Rattle.std.specs.Prelude.{◌≡◌};
 ghost use Rattle.ob_manager.specs.declared.call.CallOf.TheVariants as Call;
+ghost use Rattle.obman_c.specs.Looking.{NextDue};
 ghost use Rattle.obman_c.specs.Telling.{Tells};
 
 use crate::owner::Owner;
-use crate::status::told;
+use crate::status::{NO_MORE, told};
+use obman_c_base::SUCCESS;
 
 /// [`Manager::set_timer`](ob_manager::Manager::set_timer): 0, 87, 170, 6 or 5.
 #[tactic(auto, using(crate::proofs::Told::tells))]
@@ -30,4 +33,20 @@ pub extern "C" fn om_tick(owner: &mut Owner, now: u64) -> u32
     ensures { Tells owner.old.value.manager (Call.Tick now) result owner.new.value.manager }
 {
     told(owner.lend().manager.tick(now))
+}
+
+/// [`Manager::next_due`](ob_manager::Manager::next_due): 0, or 259 where nothing is due.
+#[tactic(auto, using(crate::proofs::Looked::due_next))]
+#[unsafe(no_mangle)]
+pub extern "C" fn om_next_due(owner: &mut Owner, moment: &mut u64) -> u32
+    ensures due { NextDue owner.old.value.manager.state result moment.old moment.new }
+    ensures same { owner.new.value ≡ owner.old.value }
+{
+    match owner.lend().manager.next_due() {
+        Some(due) => {
+            *moment = due;
+            SUCCESS
+        }
+        None => NO_MORE,
+    }
 }

@@ -4,12 +4,26 @@ ghost use Rattle.ob_waits.specs.Waits as waits;
 ghost use Rattle.ob_manager.specs.declared.call.CallOf.TheVariants as Call;
 ghost use Rattle.obman_c.specs.Telling.{Tells, TellsAs, answer_in};
 ghost use Rattle.ob_manager.specs.declared.waiting.Timeout.TheVariants as Timeout;
-ghost use Rattle.obman_c.specs.Waiting.{mode_of};
+ghost use Rattle.obman_c.specs.Waiting.{TakesAll, mode_of};
 
 use crate::owner::Owner;
 use crate::status::told;
 use crate::values::tell_answer;
-use ob_manager::{Mode, Timeout};
+use ob_manager::{Answer, Manager, Mode, Timeout};
+use obman_c_base::SUCCESS;
+use pin_words::Keeper;
+
+/// The answer of a wait (`om_answer`).
+#[repr(C)]
+#[derive(Clone, Copy)]
+pub struct Answered {
+    /// The wait, which is over.
+    pub wait: u32,
+    /// Its thread, which may make calls again.
+    pub thread: u32,
+    /// Its code.
+    pub code: u32,
+}
 
 /// For any or for all.
 fn mode_of(all: bool) -> Mode
@@ -45,6 +59,34 @@ pub extern "C" fn om_wait_result(owner: &mut Owner, wait: u32, answer: &mut u32)
     ensures { TellsAs answer_in owner.old.value.manager (Call.WaitResult wait) result owner.new.value.manager answer.old answer.new }
 {
     tell_answer(owner.lend().manager.wait_result(wait), answer)
+}
+
+/// The answers of waits by rising number, each taken by [`Manager::wait_result`], as far as there are any and places for them. How many.
+fn take_answers(manager: &mut Manager<Keeper>, answers: &mut [Answered]) -> usize
+    ensures { TakesAll manager.old answers.old result manager.new answers.new }
+{
+    for place in 0..answers.len() {
+        let Some(Answer { wait, thread, code }) = manager.next_answered(0) else {
+            return place;
+        };
+        let _ = manager.wait_result(wait);
+        answers[place] = Answered { wait, thread, code };
+    }
+    answers.len()
+}
+
+/// As many steps [`Manager::wait_result`] as waits are answered, by rising number, or as there are places: always 0.
+#[unsafe(no_mangle)]
+pub extern "C" fn om_take_answered(
+    owner: &mut Owner,
+    answers: &mut [Answered],
+    count: &mut usize,
+) -> u32
+    ensures taken { TakesAll owner.old.value.manager answers.old count.new owner.new.value.manager answers.new }
+    ensures status { result ≡ 0 }
+{
+    *count = take_answers(&mut owner.lend().manager, answers);
+    SUCCESS
 }
 
 /// [`Manager::expire`](ob_manager::Manager::expire): 0 or 87.

@@ -1,6 +1,6 @@
 ghost use Rattle.std.specs.Prelude.{◌≡◌, ◌<◌, ◌≤◌, length, [], ◌∷◌, ◌++◌, true, false, replicate, IfOk, OnOk};
 
-use crate::tests::{holds, same};
+use crate::tests::{holds, next, same};
 use least_free::{LeastFree, NUMBERS_MAX};
 use std::alloc::{AllocError, Global};
 use std::process::Abort;
@@ -55,5 +55,82 @@ fn grows_to(rt: &impl Abort, free: &mut LeastFree, most: usize) -> Result<(), Fa
         }
     }
     same(rt, free.least(), most);
+    Ok(())
+}
+
+/// The least number from one on that is free, or that isn't, found by looking at each.
+fn scanned(frees: &Vec<bool>, from: usize, free: bool) -> Option<usize> {
+    for n in from..frees.len() {
+        if frees[n] == free {
+            return Some(n);
+        }
+    }
+    None
+}
+
+/// Takes a number if it is free, and gives it back if it isn't, `times` times. Each time the next free number and the next that is
+/// taken are asked for.
+#[tactic(auto, using(least_free::proofs::TakenLemmas::found_free, least_free::proofs::TakenLemmas::found_taken))]
+fn turns(rt: &impl Abort, free: &mut LeastFree, frees: &mut Vec<bool>, times: u32, seed: u32)
+    requires same { length free.old ≡ length frees.old.items }
+    requires some { 0 < length frees.old.items }
+{
+    let len = frees.len();
+    let mut random = seed;
+    for _ in 0..times {
+        random = next(random);
+        let n = (random >> 8) as usize % len;
+        let found = free.next_free(n);
+        same(rt, found, scanned(frees, n, true));
+        same(rt, free.next_taken(n), scanned(frees, n, false));
+        if found == Some(n) {
+            free.take(n);
+            frees[n] = false;
+        } else {
+            free.give_back(n);
+            frees[n] = true;
+        }
+    }
+    same(rt, free.next_free(len), None);
+}
+
+/// A list of so many answers.
+fn marks(alloc: Global, n: usize, mark: bool) -> Result<Vec<bool>, AllocError>
+    ensures { IfOk result (λ marks. length marks.items ≡ n) }
+{
+    match Vec::from_elem(alloc, mark, n) {
+        Ok(marks) => Ok(marks),
+        Err(_) => Vec::from_elem(alloc, mark, n),
+    }
+}
+
+/// A set of numbers that are all taken.
+fn all_taken(alloc: Global, n: usize) -> Result<LeastFree, AllocError>
+    requires { n ≤ NUMBERS_MAX }
+    ensures { IfOk result (λ s. s ≡ replicate n true) }
+{
+    match LeastFree::with_taken(alloc, n) {
+        Ok(free) => Ok(free),
+        Err(_) => LeastFree::with_taken(alloc, n),
+    }
+}
+
+#[test]
+fn the_next_free_number_of_a_few(rt: HostRuntime) -> Result<(), Fail> {
+    let mut frees = marks(rt.alloc(), 200, true)?;
+    turns(&rt, &mut all_free(rt.alloc(), 200)?, &mut frees, 20_000, 1);
+    Ok(())
+}
+
+#[test]
+fn the_next_free_number_where_few_are_free(rt: HostRuntime) -> Result<(), Fail> {
+    let mut frees = marks(rt.alloc(), NUMBERS_MAX, false)?;
+    turns(
+        &rt,
+        &mut all_taken(rt.alloc(), NUMBERS_MAX)?,
+        &mut frees,
+        400,
+        2,
+    );
     Ok(())
 }

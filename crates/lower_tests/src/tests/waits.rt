@@ -1,12 +1,15 @@
 ghost use Rattle.std.specs.Prelude.{◌≡◌, ◌≢◌, ◌<◌, ◌≤◌, [], ◌∷◌, true, length, slice_index_or, IsTrue, IsSome, ℕ, Some, None};
+ghost use Rattle.ob_waits.specs.Form.{IsAfter};
 ghost use Rattle.ob_waits.specs.Objects.{body_of, slot_room};
 ghost use Rattle.ob_waits.specs.Rules.{HasRoom, IsWaitable};
 ghost use Rattle.ob_waits.specs.Waits.{state_at};
 
-use crate::tests::{holds, same};
+use crate::tests::{holds, next, same};
 use ob_body::{Body, RECURSION_MAX};
 use ob_rights::{Fault, Kind};
-use ob_waits::{Bodies, MAXIMUM_WAIT_OBJECTS, Mode, WAIT_TIMEOUT, WaitState, Waits, try_now};
+use ob_waits::{
+    Answer, Bodies, MAXIMUM_WAIT_OBJECTS, Mode, WAIT_TIMEOUT, WaitState, Waits, try_now,
+};
 use pin_core::Id;
 use std::alloc::{AllocError, Global};
 use std::marker::Model;
@@ -659,4 +662,143 @@ fn add_and_find(rt: &impl Abort, waits: &mut Waits) {
         let found = waits.look(thread);
         holds(rt, matches!(found, Some((WaitState::Pending, _))));
     }
+}
+
+/// How many threads make random calls.
+const THREADS: u32 = 8;
+
+const MANY_WAITS: Opening = Opening {
+    places: [
+        Place::Event(false),
+        Place::Event(false),
+        Place::Nothing,
+        Place::Event(false),
+    ],
+    limit: 20_000,
+    handles: 1,
+    blocks: 7,
+};
+
+impl World {
+    /// A random call: mostly a thread begins to wait, or an event is set.
+    fn call_any(&mut self, rt: &impl Abort, seed: u32) -> Result<(), Fail> {
+        let thread = (seed >> 20) % THREADS + 1;
+        let id = [A, B, D][(seed >> 16) as usize % 3];
+        let state = self.state_of(thread);
+        match (seed >> 28, state) {
+            (0..=6, None) => {
+                self.wait_any(rt, thread, &[id])?;
+            }
+            (7..=10, _) => self.set(rt, id, false),
+            (11, _) => self.set_both(rt, A, D),
+            (12, Some(WaitState::Pending)) => self.expire(rt, thread),
+            (13, _) => self.drop_thread(thread),
+            (_, Some(WaitState::Answered(_))) => {
+                self.take_result(rt, thread);
+            }
+            _ => {}
+        }
+        Ok(())
+    }
+
+    /// How many threads have a wait that is answered, by asking each of them.
+    fn count_asked(&self) -> usize {
+        let mut count = 0usize;
+        for thread in 1..=THREADS {
+            if let Some(WaitState::Answered(_)) = self.state_of(thread) {
+                count = count.saturating_add(1);
+            }
+        }
+        count
+    }
+
+    /// How many answers are told one after another, each of them that of its thread's wait.
+    fn count_told(&self, rt: &impl Abort) -> usize {
+        let mut after = 0;
+        for count in 0..=THREADS as usize {
+            let Some(answer) = self.waits.next_answered(after) else {
+                return count;
+            };
+            holds(rt, answer.wait > after);
+            same(rt, self.waits.wait_of(answer.thread), Some(answer.wait));
+            same(
+                rt,
+                self.state_at(answer.wait),
+                Some(WaitState::Answered(answer.code)),
+            );
+            after = answer.wait;
+        }
+        panic!(rt; "more answers than threads")
+    }
+}
+
+fn call_and_ask(rt: &impl Abort, world: &mut World) -> Result<(), Fail> {
+    let mut seed = 1;
+    for _ in 0..10_000 {
+        seed = next(seed);
+        world.call_any(rt, seed)?;
+        same(rt, world.count_told(rt), world.count_asked());
+    }
+    Ok(())
+}
+
+#[test]
+fn the_answers_told_are_those_that_there_are(rt: HostRuntime) -> Result<(), Fail> {
+    let mut world = World::new(rt.alloc(), &MANY_WAITS)?;
+    let called = call_and_ask(&rt, &mut world);
+    drop(world);
+    called
+}
+
+/// Adds the wait of a thread that has none, until a moment. Where memory fails it is added by a second call.
+fn added_until(rt: &impl Abort, waits: &mut Waits, thread: u32, deadline: Option<u64>)
+    requires { IsAfter waits.old.clock deadline }
+    ensures { waits.new.clock ≡ waits.old.clock }
+{
+    holds(rt, waits.wait_of(thread).is_none());
+    let added = waits.add(thread, Mode::Any, &[D], deadline);
+    if added.is_err() {
+        same(rt, waits.add(thread, Mode::Any, &[D], deadline), Ok(thread));
+    }
+}
+
+fn expired(rt: &impl Abort, waits: &mut Waits, wait: u32)
+    ensures { waits.new.clock ≡ waits.old.clock }
+{
+    let found = waits.look(wait);
+    holds(rt, matches!(found, Some((WaitState::Pending, _))));
+    waits.expire(wait);
+}
+
+#[test]
+fn the_least_deadline_is_that_of_a_pending_wait(rt: HostRuntime) {
+    add_and_expire(&rt, &mut Waits::new(rt.alloc(), 9));
+}
+
+fn add_and_expire(rt: &impl Abort, waits: &mut Waits)
+    requires { waits.old.clock ≡ 0 }
+{
+    same(rt, waits.next_due(), None);
+    added_until(rt, waits, 1, Some(70));
+    added_until(rt, waits, 2, None);
+    added_until(rt, waits, 3, Some(50));
+    same(rt, waits.next_due(), Some(50));
+    same(rt, waits.next_answered(0), None);
+    expired(rt, waits, 3);
+    same(rt, waits.next_due(), Some(70));
+    expired(rt, waits, 1);
+    same(rt, waits.next_due(), None);
+    let first = Answer {
+        wait: 1,
+        thread: 1,
+        code: WAIT_TIMEOUT,
+    };
+    same(rt, waits.next_answered(0), Some(first));
+    let third = Answer {
+        wait: 3,
+        thread: 3,
+        code: WAIT_TIMEOUT,
+    };
+    same(rt, waits.next_answered(1), Some(third));
+    same(rt, waits.next_answered(3), None);
 }

@@ -7,8 +7,10 @@ use Rattle.ob_store.proofs.LabelLaws.{tags_length}
 use Rattle.ob_store.proofs.SeatLaws.{places_added, added_handle, vacant_same}
 use Rattle.ob_store.specs.Owners.{IsOwned, seat_owner}
 use Rattle.ob_store.proofs.OwnerLaws.{moved_owned, owned_few, vacant_seat}
+use Rattle.ob_store.specs.Closing.{is_open}
 use Rattle.ob_store.specs.Timers.{seat_due}
 use Rattle.ob_store.proofs.TimerLaws.{timed_set, timed_vacant, timed_within}
+use Rattle.ob_store.proofs.ClosingLaws.{opened_same}
 use Rattle.ob_store.proofs.seats.Seats.add.Goals as goal
 
 pub put-requires : goal.put-requires
@@ -59,6 +61,7 @@ invariant_of-self c =
       named = c.relabel.ensures.names ∙ c.self.invariant.named ∙ sym (ap (λ (s : Slots Seat). length s.bodies) arena ∙ length-set c.self.inside.arena.bodies c.args.id.slot (Some seat));
       owned = subst (λ (s : Slots Seat). IsOwned s.bodies c.came.new.self) (sym arena) (rw c.came.ensures (moved_owned c.self.inside.arena.bodies c.self.inside.owners c.args.id.slot (Some seat) None c.owner.result c.self.invariant.owned
           vacant.0 (ap seat_owner (sym vacant.1)) c.owner.ensures.owner));
+      opened = subst (λ (s : Slots Seat). c.self.inside.closing ≡ map is_open s.bodies) (sym arena) (opened_same c.self.inside.arena.bodies c.self.inside.closing c.args.id.slot (Some seat) c.self.invariant.opened (ap is_open (sym vacant.1)));
       timed = subst (λ (s : Slots Seat). c.moved.new.self ≡ map seat_due s.bodies) (sym arena) (rw c.moved.ensures (timed_set c.self.inside.arena.bodies c.self.inside.timers c.args.id.slot (Some seat) c.due.result c.self.invariant.timed c.due.ensures));
     }
 

@@ -6,6 +6,7 @@ use Rattle.ob_store.proofs.LabelLaws.{seat_there}
 use Rattle.ob_store.proofs.SeatLaws.{places_block_came}
 use Rattle.ob_store.proofs.OwnerLaws.{owned_stays}
 use Rattle.ob_store.proofs.TimerLaws.{timed_stays}
+use Rattle.ob_store.proofs.ClosingLaws.{opened_stays}
 use Rattle.ob_store.proofs.seats.Seats.block_came.Goals as goal
 
 pub get_mut-requires : goal.get_mut-requires
@@ -18,6 +19,7 @@ pub invariant_of-self : goal.invariant_of-self
 invariant_of-self c = record {
   owned = owned_stays c.self.inside.arena.bodies c.self.inside.owners c.args.slot c.get_mut.result.now _ c.self.invariant.owned c.get_mut.ensures.value refl;
   timed = timed_stays c.self.inside.arena.bodies c.self.inside.timers c.args.slot c.get_mut.result.now _ c.self.invariant.timed c.get_mut.ensures.value refl;
+  opened = opened_stays c.self.inside.arena.bodies c.self.inside.closing c.args.slot c.get_mut.result.now _ c.self.invariant.opened c.get_mut.ensures.value refl;
   labelled = c.self.invariant.labelled ∙ sym (length-set c.self.inside.arena.bodies c.args.slot _);
   named = c.self.invariant.named ∙ sym (length-set c.self.inside.arena.bodies c.args.slot _);
 }

@@ -6,6 +6,7 @@ use Rattle.ob_store.specs.Objects.{tags_in, Places, rest_of, seen_in, object_of}
 use Rattle.ob_store.proofs.SeatLaws.{seen_block_left, seen_absent, rest_same, none_of}
 use Rattle.ob_store.proofs.OwnerLaws.{owned_left_at}
 use Rattle.ob_store.proofs.TimerLaws.{timed_left_at}
+use Rattle.ob_store.proofs.ClosingLaws.{gone_was_there, opened_left_at}
 use Rattle.ob_store.proofs.seats.Seats.block_left.Goals as goal
 
 pub returns-clause-objects : goal.returns-clause-objects
@@ -31,6 +32,12 @@ invariant_of-self c = record {
       c.get_mut.ensures.value c.block_left-gone.ensures.gone (ap (λ (x : Seat). x.body) c.block_left-gone.ensures.value)));
   timed = rw c.left-2.ensures (rw c.due_of.ensures (timed_left_at c.self.inside.arena.bodies c.self.inside.timers c.args.id.slot c.get_mut.result.now c.block_left-gone.new.self _ c.block_left-gone.result c.self.invariant.timed
       c.get_mut.ensures.value c.block_left-gone.ensures.gone (ap (λ (x : Seat). x.body) c.block_left-gone.ensures.value)));
+  opened = rw c.came.ensures (rw c.is_some.ensures (opened_left_at c.self.inside.arena.bodies c.self.inside.closing c.args.id.slot c.get_mut.result.now c.block_left-gone.new.self _ c.block_left-gone.result c.self.invariant.opened
+      c.get_mut.ensures.value c.block_left-gone.ensures.gone (ap (λ (x : Seat). x.body) c.block_left-gone.ensures.value)));
   labelled = c.self.invariant.labelled ∙ sym (length-set c.self.inside.arena.bodies c.args.id.slot (Some c.block_left-gone.new.self));
   named = c.self.invariant.named ∙ sym (length-set c.self.inside.arena.bodies c.args.id.slot (Some c.block_left-gone.new.self));
 }
+
+pub came-requires : goal.came-requires
+came-requires c = λ some. gone_was_there c.self.inside.arena.bodies c.self.inside.closing c.args.id.slot c.get_mut.result.now _ c.block_left-gone.result c.self.invariant.opened c.get_mut.ensures.value c.block_left-gone.ensures.gone
+    (sym c.is_some.ensures ∙ some)

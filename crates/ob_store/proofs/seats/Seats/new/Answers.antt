@@ -6,8 +6,10 @@ use Rattle.ob_arena.specs.Slots.{Slots}
 use Rattle.ob_store.specs.declared.seat.Seat.{Seat}
 use Rattle.ob_store.specs.Owners.{IsOwned}
 use Rattle.ob_store.proofs.OwnerLaws.{owned_none}
+use Rattle.ob_store.specs.Closing.{is_open}
 use Rattle.ob_store.specs.Timers.{seat_due}
 use Rattle.ob_store.proofs.TimerLaws.{timed_none}
+use Rattle.ob_store.proofs.ClosingLaws.{opened_none}
 use Rattle.ob_store.proofs.seats.Seats.new.Goals as goal
 
 pub returns : goal.returns
@@ -20,5 +22,6 @@ invariant_of-result c = record {
   owned = subst (λ (s : Slots Seat). IsOwned s.bodies c.in_ok-new-2.field-0) (sym c.in_ok-new.ensures) (rw c.in_ok-new-2.ensures (owned_none c.args.slots c.args.threads c.requires));
   named = search rules ∙ sym (ap (λ (s : Slots Seat). length s.bodies) c.in_ok-new.ensures ∙ length-replicate c.args.slots None);
   labelled = search rules ∙ sym (ap (λ (s : Slots Seat). length s.bodies) c.in_ok-new.ensures ∙ length-replicate c.args.slots None);
+  opened = subst (λ (s : Slots Seat). c.in_ok-new-4.field-0 ≡ map is_open s.bodies) (sym c.in_ok-new.ensures) (c.in_ok-new-4.ensures ∙ opened_none c.args.slots);
   timed = subst (λ (s : Slots Seat). c.in_ok-new-3.field-0 ≡ map seat_due s.bodies) (sym c.in_ok-new.ensures) (c.in_ok-new-3.ensures ∙ timed_none c.args.slots);
 }

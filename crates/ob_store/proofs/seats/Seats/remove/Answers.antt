@@ -1,4 +1,4 @@
-use Rattle.std.proofs.Common.{◌≡◌, ◌∙◌, ap, sym, subst, get_or, length, map, None}
+use Rattle.std.proofs.Common.{true, ◌≡◌, ◌∙◌, ap, refl, sym, subst, get_or, length, map, None}
 use Rattle.std.proofs.lemmas.List.{length-set}
 use Rattle.ob_store.specs.Objects.{tags_in, Places, places_of, without_seat}
 use Rattle.ob_store.proofs.LabelLaws.{seat_there}
@@ -8,8 +8,10 @@ use Rattle.ob_arena.specs.Slots.{Slots}
 use Rattle.ob_store.specs.declared.seat.Seat.{Seat}
 use Rattle.ob_store.specs.Owners.{IsOwned}
 use Rattle.ob_store.proofs.OwnerLaws.{object_within, owned_removed}
+use Rattle.ob_store.specs.Closing.{is_open}
 use Rattle.ob_store.specs.Timers.{seat_due}
 use Rattle.ob_store.proofs.TimerLaws.{timed_removed}
+use Rattle.ob_store.proofs.ClosingLaws.{ended_here, opened_set}
 use Rattle.ob_store.proofs.seats.Seats.remove.Goals as goal
 
 pub take-requires : goal.take-requires
@@ -30,5 +32,12 @@ invariant_of-self c =
       named = c.self.invariant.named ∙ sym (ap (λ (s : Slots Seat). length s.bodies) c.take.ensures.after ∙ length-set c.self.inside.arena.bodies c.args.slot None);
       owned = subst (λ (s : Slots Seat). IsOwned s.bodies c.self.inside.owners) (sym c.take.ensures.after)
           (owned_removed c.self.inside.arena.bodies c.self.inside.owners c.args.slot c.self.invariant.owned ended (object_within c.self.inside.arena (tags_in c.self.inside.labels.items c.self.inside.names.items) c.args.slot there));
+      opened = subst (λ (s : Slots Seat). c.left.new.self ≡ map is_open s.bodies) (sym c.take.ensures.after) (c.left.ensures ∙ opened_set c.self.inside.arena.bodies c.self.inside.closing c.args.slot None true c.self.invariant.opened refl);
       timed = subst (λ (s : Slots Seat). c.self.inside.timers ≡ map seat_due s.bodies) (sym c.take.ensures.after) (timed_removed c.self.inside.arena.bodies c.self.inside.timers c.args.slot c.self.invariant.timed ended);
     }
+
+pub left-requires : goal.left-requires
+left-requires c =
+    let there = subst (λ (p : Places). IsSome (get_or p.objects c.args.slot None)) (sym c.self.view_is) c.requires.object in
+    let ended = subst (λ (p : Places). get_or p.seen.bodies c.args.slot None ≡ None) (sym c.self.view_is) c.requires.ended in
+    ended_here c.self.inside.arena.bodies (tags_in c.self.inside.labels.items c.self.inside.names.items) c.self.inside.closing c.args.slot c.self.invariant.opened there ended

@@ -1,0 +1,111 @@
+ghost use Rattle.std.specs.Prelude.{◌≡◌, ◌+◌, IfSome, None, Some, slice_index_or};
+ghost use Rattle.std.specs.Option.{option_map};
+ghost use Rattle.least_free.specs.From.{IsLeastFrom};
+ghost use Rattle.ob_tables.specs.Table.{entry_at};
+ghost use Rattle.ob_tables.specs.Tables.{table_of};
+ghost use Rattle.ob_waits.specs.Waits.{number_of};
+ghost use Rattle.ob_store.specs.Closing.{is_closing_at};
+ghost use Rattle.ob_store.specs.Kept.{IsThere};
+ghost use Rattle.ob_store.specs.Walking.{is_object_at, is_process, is_thread_of, is_value_of};
+ghost use Rattle.ob_manager.specs.Handles.{entry_of};
+ghost use Rattle.ob_manager.specs.States.{state_of};
+
+use crate::handles;
+use crate::manager::Manager;
+use crate::object_state::{self, ObjectState};
+use ob_rights::Fault;
+use ob_tables::Entry;
+use pin_core::Id;
+use pin_words::PinKeeper;
+
+impl<K: PinKeeper> Manager<K> {
+    /// The object that ended in the least slot with such an object, from slot `from` on: no handle and no pending wait names
+    /// it, and its slot is taken back by [`reap`](Manager::reap), unless somebody has a pin there. A host that reaps begins at
+    /// slot 0, and goes on behind each slot that is held. It takes a few word operations, however many slots there are.
+    pub fn next_closing(&self, from: u32) -> Option<Id>
+        ensures least { IsLeastFrom from (is_closing_at self.now.state) (option_map (λ id. id.slot) result) }
+        ensures object { IfSome result (λ id. IsThere self.now.state.objects id) }
+    {
+        self.store.next_closing(from)
+    }
+
+    /// What state an object is in: none where no object of that Id is in its slot, as before it was made and once its slot was
+    /// taken back. It changes nothing, where a wait takes what it is satisfied by. It says what NtQueryEvent, NtQueryMutant,
+    /// NtQuerySemaphore and NtQueryTimer say; what the object was created as stands in its [`card`](Manager::card).
+    pub fn state_of(&self, id: Id) -> Option<ObjectState>
+        ensures { result ≡ state_of self.now.state id }
+    {
+        object_state::state_of(&self.store, id)
+    }
+
+    /// The object in the least slot with one, from slot `from` on, whether it ended or not. It looks at each slot from there to
+    /// the one that it finds, so a walk over all objects looks at each slot once.
+    pub fn next_object(&self, from: u32) -> Option<Id>
+        ensures least { IsLeastFrom from (is_object_at self.now.state) (option_map (λ id. id.slot) result) }
+        ensures object { IfSome result (λ id. IsThere self.now.state.objects id) }
+    {
+        self.store.next_object(from)
+    }
+
+    /// The least live process whose number is above `after`. It looks at each number that was given from there to the one that
+    /// it finds.
+    pub fn next_process(&self, after: u32) -> Option<u32>
+        ensures { IsLeastFrom (after + 1) (is_process self.now.state) result }
+    {
+        self.store.next_live(after)
+    }
+
+    /// The least live thread of a process whose number is above `after`. Where `after` is 0 or a thread of the process, it looks
+    /// at the threads that the process was given from there to the one that it finds.
+    pub fn next_thread(&self, process: u32, after: u32) -> Option<u32>
+        ensures { IsLeastFrom (after + 1) (is_thread_of self.now.state process) result }
+    {
+        self.store.next_live_of(process, after)
+    }
+
+    /// The handle of least value above `after` that a process has, with what it refers to: its object, its rights and its flags.
+    /// It looks at the values from there to the one that it finds.
+    pub fn next_handle(&self, process: u32, after: u32) -> Option<(u32, Entry)>
+        ensures least { IsLeastFrom (after + 1) (is_value_of self.now.state process) (option_map (λ handle. handle.0) result) }
+        ensures entry { IfSome result (λ handle. entry_at (table_of self.now.state.tables process) handle.0 ≡ Some handle.1) }
+    {
+        self.store.next_entry(process, after)
+    }
+
+    /// The process of a live thread.
+    pub fn process_of(&self, thread: u32) -> Option<u32>
+        ensures { result ≡ slice_index_or self.now.state.threads thread None }
+    {
+        self.store.process(thread)
+    }
+
+    /// The session of a live process.
+    pub fn session_of(&self, process: u32) -> Option<u32>
+        ensures { result ≡ slice_index_or self.now.state.processes process None }
+    {
+        self.store.session(process)
+    }
+
+    /// The number of the thread's wait, whether it is pending or answered and not taken.
+    pub fn wait_of(&self, thread: u32) -> Option<u32>
+        ensures { result ≡ number_of thread self.now.state.waits }
+    {
+        self.store.wait_of(thread)
+    }
+
+    /// The moment that it is, in units of 100 ns: that of the last [`tick`](Manager::tick), and 0 before the first.
+    pub fn now(&self) -> u64
+        ensures { result ≡ self.now.state.clock }
+    {
+        self.store.now()
+    }
+
+    /// What a handle of a process has: what it names, the rights that it grants, and its flags.
+    ///
+    /// Refused with 87 where the process isn't live, and 6 where there is no such handle.
+    pub fn handle(&self, process: u32, handle: u32) -> Result<Entry, Fault>
+        ensures { result ≡ entry_of self.now.state process handle }
+    {
+        handles::entry(&self.store, process, handle)
+    }
+}

@@ -1,0 +1,14 @@
+use Rattle.std.proofs.Common.{◌∙◌, ap}
+use Rattle.least_free.specs.Taken.{is_free_within}
+use Rattle.least_free.proofs.NextLemmas.{same_test}
+use Rattle.ob_store.specs.Closing.{is_closing_in}
+use Rattle.ob_store.specs.Objects.{Places, tags_in}
+use Rattle.ob_store.proofs.ClosingLaws.{closing_read}
+use Rattle.ob_store.proofs.seats.Seats.next_closing.Goals as goal
+
+pub returns : goal.returns
+returns c =
+    let i = c.self.inside in
+    same_test (is_free_within i.closing) (is_closing_in c.args.self.now.objects c.args.self.now.seen.bodies) c.args.from c.next.result
+    (λ k. closing_read i.arena.bodies (tags_in i.labels.items i.names.items) i.closing k c.self.invariant.opened ∙ ap (λ (p : Places). is_closing_in p.objects p.seen.bodies k) c.self.view_is)
+    c.next.ensures

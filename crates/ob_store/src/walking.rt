@@ -1,0 +1,84 @@
+ghost use Rattle.std.specs.Prelude.{◌≡◌, ◌+◌, ◌≤◌, Some, IfSome, length};
+ghost use Rattle.std.specs.Option.{option_map};
+ghost use Rattle.least_free.specs.From.{IsLeastFrom};
+ghost use Rattle.ob_tables.specs.Table.{entry_at};
+ghost use Rattle.ob_tables.specs.Tables.{table_of};
+ghost use Rattle.ob_waits.specs.Waits.{number_of};
+ghost use Rattle.ob_store.specs.Closing.{is_closing_at};
+ghost use Rattle.ob_store.specs.Kept.{IsThere};
+ghost use Rattle.ob_store.specs.Walking.{is_object_at, is_process, is_thread_of, is_value_in, is_value_of};
+
+use crate::finding::next_place;
+use crate::store::Store;
+use ob_tables::Entry;
+use pin_core::Id;
+use pin_words::PinKeeper;
+
+/// The entry of least value behind one, with its value.
+fn next_entry(places: &[Option<Entry>], after: u32) -> Option<(u32, Entry)>
+    requires { length places.now ≤ 16384 }
+    ensures least { IsLeastFrom (after + 1) (is_value_in places.now) (option_map (λ handle. handle.0) result) }
+    ensures entry { IfSome result (λ handle. entry_at places.now handle.0 ≡ Some handle.1) }
+{
+    let place = next_place(places, after as usize / 4)?;
+    let entry = places[place]?;
+    Some((4 * (place as u32 + 1), entry))
+}
+
+impl<K: PinKeeper> Store<K> {
+    /// The object that ended in the least slot with such an object, from one on.
+    pub fn next_closing(&self, from: u32) -> Option<Id>
+        ensures least { IsLeastFrom from (is_closing_at self.now.state) (option_map (λ id. id.slot) result) }
+        ensures object { IfSome result (λ id. IsThere self.now.state.objects id) }
+    {
+        let slot = self.parts.objects.next_closing(from)?;
+        let Some(found) = self.parts.objects.look(slot) else {
+            unreachable!()
+        };
+        Some(found.seat.id)
+    }
+
+    /// The object in the least slot with one, from one on.
+    pub fn next_object(&self, from: u32) -> Option<Id>
+        ensures least { IsLeastFrom from (is_object_at self.now.state) (option_map (λ id. id.slot) result) }
+        ensures object { IfSome result (λ id. IsThere self.now.state.objects id) }
+    {
+        let slot = self.parts.objects.next_object(from)?;
+        let Some(found) = self.parts.objects.look(slot) else {
+            unreachable!()
+        };
+        Some(found.seat.id)
+    }
+
+    /// The least live process behind a number.
+    pub fn next_live(&self, after: u32) -> Option<u32>
+        ensures { IsLeastFrom (after + 1) (is_process self.now.state) result }
+    {
+        self.parts.processes.next_live(after)
+    }
+
+    /// The least live thread of a process behind a number.
+    pub fn next_live_of(&self, process: u32, after: u32) -> Option<u32>
+        ensures { IsLeastFrom (after + 1) (is_thread_of self.now.state process) result }
+    {
+        self.parts.processes.next_live_of(process, after)
+    }
+
+    /// The handle of least value behind one that a process has, with its entry.
+    pub fn next_entry(&self, process: u32, after: u32) -> Option<(u32, Entry)>
+        ensures least { IsLeastFrom (after + 1) (is_value_of self.now.state process) (option_map (λ handle. handle.0) result) }
+        ensures entry { IfSome result (λ handle. entry_at (table_of self.now.state.tables process) handle.0 ≡ Some handle.1) }
+    {
+        if !self.parts.tables.is_given(process) {
+            return None;
+        }
+        next_entry(self.parts.tables.entries(process), after)
+    }
+
+    /// The number of the thread's wait, pending or answered.
+    pub fn wait_of(&self, thread: u32) -> Option<u32>
+        ensures { result ≡ number_of thread self.now.state.waits }
+    {
+        self.parts.waits.wait_of(thread)
+    }
+}

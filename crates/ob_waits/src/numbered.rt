@@ -1,0 +1,158 @@
+ghost use Rattle.std.specs.Prelude.{◌≡◌, ◌+◌, ◌<◌, ◌≤◌, true, Some, None, [], ◌∷◌, ◌++◌, length, slice_index_or, slice_set, OnOk, OnErr};
+ghost use Rattle.std.specs.Option.{option_copied};
+ghost use Rattle.ob_waits.specs.Answers.{answer_of, is_answered};
+ghost use Rattle.ob_waits.specs.Deadlines.{is_overdue};
+ghost use Rattle.ob_waits.specs.Waits.{answered, is_pending};
+
+use crate::answer::Answer;
+use crate::held::Held;
+use crate::places;
+use crate::wait::{State, Wait};
+use std::alloc::{AllocError, Global};
+use std::collections::HashMap;
+use std::marker::Model;
+
+/// The waits by their numbers, from 1 on. A wait that is over takes no room.
+///
+/// A new wait stands at the place that its number gives, where it is found at once. The wait that stood
+/// there before goes to a hash map, which thus has only waits that last.
+#[derive(Drop)]
+pub(crate) struct Numbered {
+    given: u32,
+    places: Vec<Option<Held>>,
+    others: HashMap<u32, Wait>,
+}
+
+impl Model for Numbered {
+    ghost use Rattle.std.specs.Prelude.{List, Option, suc, nat_eq};
+    ghost use Rattle.std.specs.HashMap.{get};
+    ghost use Rattle.ob_waits.specs.declared.wait.Wait.{Wait};
+    ghost use Rattle.ob_waits.specs.Listed.{listed, IsSparse};
+    ghost use Rattle.ob_waits.specs.Places.{found, IsPlaced};
+
+    ghost Value = { List (Option Wait) };
+
+    ghost view = { λ l. listed (suc l.given) (found l.places.items (get nat_eq l.others)) };
+
+    ghost invariant = { λ l. IsSparse l.given (found l.places.items (get nat_eq l.others)) × IsPlaced l.places.items (get nat_eq l.others) };
+}
+
+impl Numbered {
+    pub(crate) fn new(alloc: Global) -> Numbered
+        ensures { result ≡ None ∷ [] }
+    {
+        Numbered {
+            given: 0,
+            places: Vec::new(alloc),
+            others: HashMap::new(alloc),
+        }
+    }
+
+    /// The last number given, or 0.
+    pub(crate) fn given(&self) -> u32
+        ensures { length self.now ≡ result + 1 }
+    {
+        self.given
+    }
+
+    /// The wait of a number.
+    pub(crate) fn get(&self, number: u32) -> Option<&Wait>
+        ensures { option_copied result ≡ slice_index_or self.now number None }
+    {
+        if let Some(wait) = places::find(self.places.as_slice(), number) {
+            return Some(wait);
+        }
+        self.others.get(&number)
+    }
+
+    /// Whether the wait of a number is pending.
+    pub(crate) fn is_pending(&self, number: u32) -> bool
+        ensures { result ≡ is_pending (slice_index_or self.now number None) }
+    {
+        match self.get(number) {
+            Some(wait) => match &wait.state {
+                State::Pending(_, _) => true,
+                State::Answered(_) => false,
+            },
+            None => false,
+        }
+    }
+
+    /// Whether the wait of a number is answered.
+    pub(crate) fn is_answered(&self, number: u32) -> bool
+        ensures { result ≡ is_answered (slice_index_or self.now number None) }
+    {
+        match self.get(number) {
+            Some(wait) => match &wait.state {
+                State::Pending(_, _) => false,
+                State::Answered(_) => true,
+            },
+            None => false,
+        }
+    }
+
+    /// The answer of the wait of a number, if it has one.
+    pub(crate) fn answer_of(&self, number: u32) -> Option<Answer>
+        ensures { result ≡ answer_of number (slice_index_or self.now number None) }
+    {
+        let wait = self.get(number)?;
+        match &wait.state {
+            State::Pending(_, _) => None,
+            State::Answered(code) => Some(Answer {
+                wait: number,
+                thread: wait.thread,
+                code: *code,
+            }),
+        }
+    }
+
+    /// Whether the wait of a number is pending, and its time is up at a moment.
+    pub(crate) fn is_overdue(&self, number: u32, now: u64) -> bool
+        ensures { result ≡ is_overdue now (slice_index_or self.now number None) }
+    {
+        match self.get(number) {
+            Some(wait) => match (&wait.state, wait.deadline) {
+                (State::Pending(_, _), Some(deadline)) => deadline <= now,
+                _ => false,
+            },
+            None => false,
+        }
+    }
+
+    /// Gives the next number to a wait.
+    pub(crate) fn push(&mut self, wait: Wait) -> Result<(), AllocError>
+        requires { length self.old < 4294967296 }
+        ensures ok { OnOk result (self.new ≡ self.old ++ Some wait ∷ []) }
+        ensures err { OnErr result (self.new ≡ self.old) }
+    {
+        let number = self.given + 1;
+        places::put(&mut self.places, &mut self.others, Held { number, wait })?;
+        self.given = number;
+        Ok(())
+    }
+
+    /// Answers the wait of a number.
+    pub(crate) fn answer(&mut self, number: u32, code: u32)
+        requires { is_pending (slice_index_or self.old number None) ≡ true }
+        ensures { self.new ≡ slice_set self.old number (answered (slice_index_or self.old number None) code) }
+    {
+        if places::answer(&mut self.places, number, code) {
+            return;
+        }
+        let Some(wait) = self.others.get_mut(&number) else {
+            unreachable!()
+        };
+        wait.answer(code);
+    }
+
+    /// Takes the wait of a number away.
+    pub(crate) fn remove(&mut self, number: u32) -> Option<Wait>
+        ensures value { result ≡ slice_index_or self.old number None }
+        ensures removed { self.new ≡ slice_set self.old number None }
+    {
+        if let Some(wait) = places::take(&mut self.places, number) {
+            return Some(wait);
+        }
+        self.others.remove(&number)
+    }
+}

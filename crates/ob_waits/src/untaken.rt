@@ -1,0 +1,115 @@
+ghost use Rattle.std.specs.Prelude.{[], ◌≡◌, ◌<◌, ◌≤◌, ◌+◌, ℕ, IfSome, List, None, Option, Some, OnOk, false, true, length, slice_index_or, slice_set};
+ghost use Rattle.least_free.specs.From.{IsAtMost, IsLeastFrom};
+ghost use Rattle.ob_waits.specs.declared.wait.Wait.{Wait};
+ghost use Rattle.ob_waits.specs.Answers.{is_answered, AreTold, AreToldBut};
+ghost use Rattle.ob_waits.specs.Rules.{thread_of};
+
+use crate::fresh::Fresh;
+use crate::merge::lesser;
+use crate::numbered::Numbered;
+use crate::per_thread::PerThread;
+use std::alloc::{AllocError, Global};
+use std::marker::Model;
+
+/// The numbers of the waits that are answered and not over.
+///
+/// A wait that is answered after those of lesser numbers, as most are, has its number at the end of a list. One that is
+/// answered later than a wait of a greater number has it at its thread.
+#[derive(Drop)]
+pub(crate) struct Untaken {
+    fresh: Fresh,
+    late: PerThread,
+}
+
+impl Model for Untaken {
+    ghost use Rattle.ob_waits.specs.Answers as spec;
+
+    ghost Value = { spec.Untaken };
+
+    ghost view = { λ u. record { fresh = u.fresh; late = u.late } };
+}
+
+impl Untaken {
+    pub(crate) fn new(alloc: Global) -> Untaken
+        ensures { result ≡ record { fresh = []; late = [] } }
+    {
+        Untaken {
+            fresh: Fresh::new(alloc),
+            late: PerThread::new(alloc),
+        }
+    }
+
+    /// Takes the memory that the answer of a thread's wait needs.
+    pub(crate) fn make_room(&mut self, thread: u32) -> Result<(), AllocError>
+        ensures room { OnOk result (thread < length self.new.late) }
+        ensures fresh { self.new.fresh ≡ self.old.fresh }
+        ensures late { (t : ℕ) → slice_index_or self.new.late t None ≡ slice_index_or self.old.late t None }
+        ensures longer { length self.old.late ≤ length self.new.late }
+    {
+        self.fresh.make_room(thread)?;
+        self.late.make_room(thread)
+    }
+
+    #[cold]
+    fn come_late(&mut self, waits: &Numbered, number: u32)
+        requires answered { is_answered (slice_index_or waits.now number None) ≡ true }
+        requires told { AreToldBut (Some number) waits.now self.old }
+        ensures { AreTold waits.now self.new }
+    {
+        let Some(wait) = waits.get(number) else {
+            unreachable!()
+        };
+        self.late.set(wait.thread, Some(u64::from(number)));
+    }
+
+    /// The wait of a number is answered.
+    pub(crate) fn came(&mut self, waits: &Numbered, number: u32)
+        requires answered { is_answered (slice_index_or waits.now number None) ≡ true }
+        requires told { AreToldBut (Some number) waits.now self.old }
+        ensures { AreTold waits.now self.new }
+    {
+        if self.fresh.enter(number) {
+            return;
+        }
+        self.come_late(waits, number);
+    }
+
+    /// A thread's wait is over.
+    pub(crate) fn forget(&mut self, thread: u32, number: u32)
+        ensures { (waits : List (Option Wait)) → thread_of (slice_index_or waits number None) ≡ Some thread → AreTold waits self.old → AreTold (slice_set waits number None) self.new }
+    {
+        if self.late.get(thread) == Some(u64::from(number)) {
+            self.late.clear(thread);
+        }
+    }
+
+    /// The number of a wait that is over needs no place in the list any more.
+    pub(crate) fn drop_first(&mut self, waits: &Numbered, number: u32)
+        requires { is_answered (slice_index_or waits.now number None) ≡ false }
+        ensures { AreTold waits.now self.old → AreTold waits.now self.new }
+    {
+        self.fresh.leave(waits, number);
+    }
+
+    fn late_above(&self, waits: &Numbered, after: u32) -> Option<u32>
+        requires { AreTold waits.now self.now }
+        ensures answered { IfSome result (λ n. is_answered (slice_index_or waits.now n None) ≡ true) }
+        ensures above { IfSome result (λ n. after < n) }
+        ensures least { (t n : ℕ) → slice_index_or self.now.late t None ≡ Some n → after < n → IsAtMost result n }
+    {
+        let _given = waits.given();
+        let number = self.late.least_since(u64::from(after) + 1)?;
+        Some(number as u32)
+    }
+
+    /// The least number above one whose wait is answered.
+    pub(crate) fn least_above(&self, waits: &Numbered, after: u32) -> Option<u32>
+        requires { AreTold waits.now self.now }
+        ensures { IsLeastFrom (after + 1) (λ n. is_answered (slice_index_or waits.now n None)) result }
+    {
+        lesser(
+            self.fresh.next_above(waits, after),
+            self.late_above(waits, after),
+        )
+    }
+}

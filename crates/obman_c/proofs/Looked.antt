@@ -1,0 +1,47 @@
+-- What a walk found, as C is told of it.
+use Rattle.std.proofs.Common.{◌≡◌, ◌+◌, ◌≤◌, ℕ, zero, suc, Bool, Option, Some, None, IfSome, ap, ◌∙◌, refl, subst, sym, arith}
+use Rattle.std.specs.Option.{option_map}
+use Rattle.least_due.specs.Dues.{IsLeast}
+use Rattle.least_free.specs.From.{IsLeastFrom}
+use Rattle.pin_core.specs.declared.id.Id.{Id}
+use Rattle.ob_tables.specs.declared.entry.Entry.{Entry}
+use Rattle.ob_tables.specs.Table.{entry_at}
+use Rattle.ob_tables.specs.Tables.{table_of}
+use Rattle.ob_store.specs.Dues.{dues_of}
+use Rattle.ob_store.specs.Kept.{IsThere}
+use Rattle.ob_store.specs.State.{State}
+use Rattle.ob_store.specs.Walking.{is_object_at, is_value_of}
+use Rattle.obman_c.specs.declared.looking.HandleEntry.{HandleEntry}
+use Rattle.obman_c.specs.declared.values.Object.{Object}
+use Rattle.obman_c.specs.Asking.{number_at}
+use Rattle.obman_c.specs.Looking.{NextDue, NextHandle, NextObject, Walks, handle_entry, or_zero}
+use Rattle.obman_c.specs.Telling.{object_of}
+
+pub object_next : {s : State} {from status : ℕ} {before after : Object} (found : Option Id) → IsLeastFrom from (is_object_at s) (option_map (λ (id : Id). id.slot) found)
+    → IfSome found (λ id. IsThere s.objects id) → Walks object_of found status before after → NextObject s from status before after
+object_next found least object told = record { found = found; least = least; object = object; told = told }
+
+pub handle_next : {s : State} {process behind status : ℕ} {before after : HandleEntry} (found : Option (ℕ × Entry))
+    → IsLeastFrom (behind + 1) (is_value_of s process) (option_map (λ (handle : ℕ × Entry). handle.0) found)
+    → IfSome found (λ handle. entry_at (table_of s.tables process) handle.0 ≡ Some handle.1) → Walks handle_entry found status before after
+    → NextHandle s process behind status before after
+handle_next found least entry told = record { found = found; least = least; entry = entry; told = told }
+
+pub due_next : {s : State} {status before after : ℕ} {found : Option ℕ} → IsLeast (dues_of s) found → Walks (λ moment. moment) found status before after
+    → NextDue s status before after
+due_next {found = found} least told = record { found = found; least = least; told = told }
+
+-- a number from 1 on is told as it is, and none as 0
+at_or_zero : (found : Option ℕ) → IfSome found (λ n. 1 ≤ n) → number_at (or_zero found) ≡ found
+at_or_zero None above = refl
+at_or_zero (Some zero) above = absurd (omega (arith, above))
+at_or_zero (Some (suc n)) above = refl
+
+above_zero : (from : ℕ) (found : Option ℕ) → IfSome found (λ n. from + 1 ≤ n) → IfSome found (λ n. 1 ≤ n)
+above_zero from None above = tt
+above_zero from (Some n) above = omega (arith, above)
+
+pub numbered : (from : ℕ) {number : ℕ} {test : ℕ → Bool} (found : Option ℕ) → number ≡ or_zero found → IsLeastFrom (from + 1) test found
+    → IsLeastFrom (from + 1) test (number_at number)
+numbered from {number} {test} found told least =
+    subst (λ (o : Option ℕ). IsLeastFrom (from + 1) test o) (sym (ap number_at told ∙ at_or_zero found (above_zero from found least.above))) least

@@ -1,0 +1,28 @@
+use Rattle.std.proofs.Common.{◌<◌, ◌∙◌, length, length-set, subst, arith}
+use Rattle.ob_manager.specs.declared.call.CallOf.TheVariants as calls
+use Rattle.ob_manager.specs.declared.reply.Reply.{Reply}
+use Rattle.ob_manager.specs.declared.reply.Reply.TheVariants.{Code}
+use Rattle.ob_manager.specs.Steps.{Step}
+use Rattle.obman_c.specs.declared.waiting.Answered.{Answered}
+use Rattle.obman_c.specs.Waiting.{TakesNext}
+use Rattle.obman_c.proofs.Chains.{chain_set, rest_set}
+use Rattle.obman_c.proofs.Taking.{answered}
+use Rattle.obman_c.proofs.waiting.take_answers.Goals as goal
+
+pub loop-place-preserved : goal.loop-place-preserved
+loop-place-preserved c =
+    let place = c.loop-place.place in
+    let list = c.loop-place.answers in
+    let old = c.loop-place.manager in
+    let new = c.wait_result.new.self in
+    let a = c.in-Some.field-0 in
+    let told : Answered = record { wait = a.wait; thread = a.thread; code = a.code } in
+    let step : Step old (calls.WaitResult a.wait) (Code a.code) new =
+    subst (λ (reply : Reply). Step old (calls.WaitResult a.wait) reply new) (answered old new a.wait a c.wait_result.result c.in-Some.ensures.answer c.wait_result.ensures) c.wait_result.ensures in
+    let next : TakesNext old told new = record { least = c.in-Some.ensures.least; answer = c.in-Some.ensures.answer; step = step } in
+    let within : place < length list = omega (arith, c.loop-place-test.true, c.loop-place.invariant.long) in
+    record {
+      taken = chain_set TakesNext c.args.manager.now old new told place list within c.loop-place.invariant.taken next;
+      rest = rest_set list c.args.answers.now told place c.loop-place.invariant.rest;
+      long = length-set list place told ∙ c.loop-place.invariant.long;
+    }

@@ -1,0 +1,11 @@
+use Rattle.std.proofs.Common.{◌≡◌, drop, length, take}
+use Rattle.obman_c.specs.Chains.{Chain}
+use Rattle.obman_c.specs.Waiting.{TakesNext}
+use Rattle.obman_c.proofs.waiting.take_answers.Given as goal
+
+abbrev pub invariant-loop-place : goal.invariant-loop-place
+invariant-loop-place l = record {
+  taken : Chain TakesNext l.fn.manager (take l.place l.answers) l.manager;
+  rest : drop l.place l.answers ≡ drop l.place l.fn.answers;
+  long : length l.answers ≡ length l.fn.answers;
+}

@@ -1,0 +1,269 @@
+//! What there is, and what state it is in, for debuggers and monitors and for whoever runs the guests. Nothing is changed.
+ghost use Rattle.std.specs.Prelude.{◌≡◌, ◌+◌, ◌≤◌, IfSome, None, slice_index_or};
+ghost use Rattle.std.specs.Option.{option_map};
+ghost use Rattle.least_free.specs.From.{IsLeastFrom};
+ghost use Rattle.ob_waits.specs.Waits.{number_of};
+ghost use Rattle.ob_store.specs.Walking.{is_object_at, is_process, is_thread_of, is_value_of};
+ghost use Rattle.ob_manager.specs.Handles.{entry_of};
+ghost use Rattle.ob_manager.specs.States.{state_of};
+ghost use Rattle.obman_c.specs.Asking.{number_at};
+ghost use Rattle.obman_c.specs.Looking.{FindsEntry, NextHandle, NextObject, SessionTold, Stands, handle_entry, or_zero, standing_of};
+ghost use Rattle.obman_c.specs.Pinning.{id_at};
+
+use crate::owner::Owner;
+use crate::pinning::id_at;
+use crate::status::NO_MORE;
+use crate::values::{Object, object_of};
+use ob_manager::ObjectState;
+use ob_rights::{Fault, code_of};
+use ob_tables::Entry;
+use obman_c_base::SUCCESS;
+
+/// What state an object is in (`om_object_state`). What its kind hasn't is 0.
+#[repr(C)]
+#[derive(Clone, Copy)]
+pub struct Standing {
+    /// The moment at which a timer is due, in units of 100 ns.
+    pub due: u64,
+    /// Its kind: an event 0, a mutex 1, a semaphore 2, a timer 3; 4 once it has ended.
+    pub kind: u32,
+    /// The count of a semaphore; how often a mutex is owned.
+    pub count: u32,
+    /// The maximum of a semaphore.
+    pub max: u32,
+    /// The thread that owns a mutex, or 0.
+    pub owner: u32,
+    /// Whether it is signaled: an event is set, a mutex isn't owned, a semaphore has a count, a timer's moment has come.
+    pub signaled: bool,
+    /// Whether the last owner of a mutex ended.
+    pub abandoned: bool,
+    /// Whether a timer is set for a moment to come.
+    pub has_due: bool,
+}
+
+/// A handle with what it names (`om_entry`).
+#[repr(C)]
+#[derive(Clone, Copy)]
+pub struct HandleEntry {
+    /// The object.
+    pub object: Object,
+    /// The handle.
+    pub handle: u32,
+    /// The rights that it grants.
+    pub access: u32,
+    /// Its flags.
+    pub flags: u32,
+}
+
+/// The state of an object that has ended.
+const ENDED: Standing = Standing {
+    due: 0,
+    kind: 4,
+    count: 0,
+    max: 0,
+    owner: 0,
+    signaled: false,
+    abandoned: false,
+    has_due: false,
+};
+
+/// A number, or 0 for none.
+fn or_zero(number: Option<u32>) -> u32
+    ensures { result ≡ or_zero number }
+{
+    match number {
+        Some(number) => number,
+        None => 0,
+    }
+}
+
+/// A state as C is told of it.
+fn standing_of(state: ObjectState) -> Standing
+    ensures { result ≡ standing_of state }
+{
+    match state {
+        ObjectState::Event { set } => Standing {
+            kind: 0,
+            signaled: set,
+            ..ENDED
+        },
+        ObjectState::Mutex {
+            owner,
+            recursion,
+            abandoned,
+        } => Standing {
+            kind: 1,
+            count: recursion,
+            owner: or_zero(owner),
+            signaled: owner.is_none(),
+            abandoned,
+            ..ENDED
+        },
+        ObjectState::Semaphore { count, max } => Standing {
+            kind: 2,
+            count,
+            max,
+            signaled: count > 0,
+            ..ENDED
+        },
+        ObjectState::Timer { signaled, due } => Standing {
+            kind: 3,
+            due: due.unwrap_or(0),
+            signaled,
+            has_due: due.is_some(),
+            ..ENDED
+        },
+        ObjectState::Ended => ENDED,
+    }
+}
+
+/// A handle's entry as C is told of it.
+fn handle_entry(handle: u32, entry: Entry) -> HandleEntry
+    ensures { result ≡ handle_entry (handle, entry) }
+{
+    HandleEntry {
+        object: object_of(entry.id),
+        handle,
+        access: entry.rights.0,
+        flags: entry.flags.0,
+    }
+}
+
+/// [`Manager::state_of`](ob_manager::Manager::state_of): 0, or 6 where there is no such object.
+#[unsafe(no_mangle)]
+pub extern "C" fn om_state(
+    owner: &mut Owner,
+    slot: u32,
+    generation: u32,
+    state: &mut Standing,
+) -> u32
+    ensures stands { Stands (state_of owner.old.value.manager.state (id_at slot generation)) result state.old state.new }
+    ensures same { owner.new.value ≡ owner.old.value }
+{
+    match owner.lend().manager.state_of(id_at(slot, generation)) {
+        Some(found) => {
+            *state = standing_of(found);
+            SUCCESS
+        }
+        None => code_of(Fault::Handle),
+    }
+}
+
+/// [`Manager::handle`](ob_manager::Manager::handle): 0, 87 or 6.
+#[unsafe(no_mangle)]
+pub extern "C" fn om_handle(
+    owner: &mut Owner,
+    process: u32,
+    handle: u32,
+    entry: &mut HandleEntry,
+) -> u32
+    ensures finds { FindsEntry handle (entry_of owner.old.value.manager.state process handle) result entry.old entry.new }
+    ensures same { owner.new.value ≡ owner.old.value }
+{
+    match owner.lend().manager.handle(process, handle) {
+        Ok(found) => {
+            *entry = handle_entry(handle, found);
+            SUCCESS
+        }
+        Err(fault) => code_of(fault),
+    }
+}
+
+/// [`Manager::next_process`](ob_manager::Manager::next_process): 0 for none.
+#[tactic(auto, using(crate::proofs::Looked::numbered))]
+#[unsafe(no_mangle)]
+pub extern "C" fn om_next_process(owner: &mut Owner, after: u32) -> u32
+    ensures next { IsLeastFrom (after + 1) (is_process owner.old.value.manager.state) (number_at result) }
+    ensures same { owner.new.value ≡ owner.old.value }
+{
+    or_zero(owner.lend().manager.next_process(after))
+}
+
+/// [`Manager::next_thread`](ob_manager::Manager::next_thread): 0 for none.
+#[tactic(auto, using(crate::proofs::Looked::numbered))]
+#[unsafe(no_mangle)]
+pub extern "C" fn om_next_thread(owner: &mut Owner, process: u32, after: u32) -> u32
+    ensures next { IsLeastFrom (after + 1) (is_thread_of owner.old.value.manager.state process) (number_at result) }
+    ensures same { owner.new.value ≡ owner.old.value }
+{
+    or_zero(owner.lend().manager.next_thread(process, after))
+}
+
+/// [`Manager::next_object`](ob_manager::Manager::next_object): 0, or 259 behind the last.
+#[tactic(auto, using(crate::proofs::Looked::object_next))]
+#[unsafe(no_mangle)]
+pub extern "C" fn om_next_object(owner: &mut Owner, from: u32, object: &mut Object) -> u32
+    ensures next { NextObject owner.old.value.manager.state from result object.old object.new }
+    ensures same { owner.new.value ≡ owner.old.value }
+{
+    match owner.lend().manager.next_object(from) {
+        Some(id) => {
+            *object = object_of(id);
+            SUCCESS
+        }
+        None => NO_MORE,
+    }
+}
+
+/// [`Manager::next_handle`](ob_manager::Manager::next_handle): 0, or 259 behind the last.
+#[tactic(auto, using(crate::proofs::Looked::handle_next))]
+#[unsafe(no_mangle)]
+pub extern "C" fn om_next_handle(
+    owner: &mut Owner,
+    process: u32,
+    after: u32,
+    entry: &mut HandleEntry,
+) -> u32
+    ensures next { NextHandle owner.old.value.manager.state process after result entry.old entry.new }
+    ensures same { owner.new.value ≡ owner.old.value }
+{
+    match owner.lend().manager.next_handle(process, after) {
+        Some((handle, found)) => {
+            *entry = handle_entry(handle, found);
+            SUCCESS
+        }
+        None => NO_MORE,
+    }
+}
+
+/// [`Manager::process_of`](ob_manager::Manager::process_of): 0 where the thread isn't live.
+#[unsafe(no_mangle)]
+pub extern "C" fn om_process_of(owner: &mut Owner, thread: u32) -> u32
+    ensures process { result ≡ or_zero (slice_index_or owner.old.value.manager.state.threads thread None) }
+    ensures same { owner.new.value ≡ owner.old.value }
+{
+    or_zero(owner.lend().manager.process_of(thread))
+}
+
+/// [`Manager::session_of`](ob_manager::Manager::session_of): 0, or 87 where the process isn't live.
+#[unsafe(no_mangle)]
+pub extern "C" fn om_session_of(owner: &mut Owner, process: u32, session: &mut u32) -> u32
+    ensures session { SessionTold (slice_index_or owner.old.value.manager.state.processes process None) result session.old session.new }
+    ensures same { owner.new.value ≡ owner.old.value }
+{
+    match owner.lend().manager.session_of(process) {
+        Some(number) => {
+            *session = number;
+            SUCCESS
+        }
+        None => code_of(Fault::Parameter),
+    }
+}
+
+/// [`Manager::wait_of`](ob_manager::Manager::wait_of): 0 where the thread has no wait.
+#[unsafe(no_mangle)]
+pub extern "C" fn om_wait_of(owner: &mut Owner, thread: u32) -> u32
+    ensures wait { result ≡ or_zero (number_of thread owner.old.value.manager.state.waits) }
+    ensures same { owner.new.value ≡ owner.old.value }
+{
+    or_zero(owner.lend().manager.wait_of(thread))
+}
+
+/// [`Manager::now`](ob_manager::Manager::now).
+#[unsafe(no_mangle)]
+pub extern "C" fn om_now(owner: &mut Owner) -> u64
+    ensures moment { result ≡ owner.old.value.manager.state.clock }
+    ensures same { owner.new.value ≡ owner.old.value }
+{
+    owner.lend().manager.now()
+}
