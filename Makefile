@@ -1,23 +1,31 @@
 # The object layer as a C library.
 #
 #     make                       build/libobman.a, build/libobman.so
-#     make install PREFIX=/usr   both, the header and a file for pkg-config; DESTDIR goes before PREFIX
-#     make examples              builds and runs the examples in C, Rust and Python
+#     make install PREFIX=/usr   both, the header, and files for pkg-config and CMake; DESTDIR goes before all of it, and LIBDIR and
+#                                INCLUDEDIR say where a distribution has libraries and headers
+#     make install-strip         the same without symbols for a debugger
+#     make examples              builds and runs the examples in C, C++, Rust and Python
 #
 # It needs the Rattle kit, which proves the library and builds it, a C compiler and ar.
 PREFIX ?= /usr/local
+LIBDIR ?= $(PREFIX)/lib
+INCLUDEDIR ?= $(PREFIX)/include
 CC ?= cc
-RUSTC ?= rustc
+STRIP ?= strip
+CXX ?= c++
+CARGO ?= cargo
 PYTHON ?= python3
 
 KIT = $(dir $(shell rt doc))
 PROVED = crates/obman_c/out/libobman_c.a crates/obman_c_script/out/libobman_c_script.a
 SOURCES = $(shell find crates.txt crates/*/src crates/*/specs crates/*/proofs -type f)
+# A program that was linked with a shared library runs with each later one of the same first number.
 VERSION = 1
+RELEASE = 1.0.0
 
-.PHONY: all install examples clean
+.PHONY: all install install-strip examples clean
 
-all: build/libobman.a build/libobman.so build/obman.pc
+all: build/libobman.a build/libobman.so
 
 $(PROVED): $(SOURCES)
 	cd $(dir $(@D)) && rt lib >&2
@@ -30,31 +38,46 @@ build/libobman.a: $(PROVED)
 	cd build/objects && for archive in $(abspath $(PROVED)) $(KIT)c/liblibc_c.a; do ar x $$archive || exit 1; done
 	ar rcs $@ build/objects/*.o
 
+# Its functions alone can be seen.
 build/libobman.so: build/libobman.a
-	$(CC) -shared -o $@ -Wl,-soname,libobman.so.$(VERSION) -Wl,--whole-archive $< -Wl,--no-whole-archive
-
-build/obman.pc: Makefile
-	mkdir -p build
-	printf '%s\n' 'prefix=$(PREFIX)' 'libdir=$${prefix}/lib' 'includedir=$${prefix}/include' '' 'Name: obman' \
-		'Description: the object layer of the NT kernel as Win32 programs see it' 'Version: $(VERSION)' \
-		'Libs: -L$${libdir} -lobman' 'Cflags: -I$${includedir}' > $@
+	echo '{ global: om_*; local: *; };' > build/libobman.map
+	$(CC) -shared -o $@ -Wl,-soname,libobman.so.$(VERSION) -Wl,--version-script=build/libobman.map -Wl,--whole-archive $< -Wl,--no-whole-archive
 
 install: all
-	mkdir -p $(DESTDIR)$(PREFIX)/lib/pkgconfig $(DESTDIR)$(PREFIX)/include
-	cp build/libobman.a $(DESTDIR)$(PREFIX)/lib/
-	cp build/libobman.so $(DESTDIR)$(PREFIX)/lib/libobman.so.$(VERSION)
-	ln -sf libobman.so.$(VERSION) $(DESTDIR)$(PREFIX)/lib/libobman.so
-	sed 's|^prefix=.*|prefix=$(PREFIX)|' build/obman.pc > $(DESTDIR)$(PREFIX)/lib/pkgconfig/obman.pc
-	cp include/obman.h $(DESTDIR)$(PREFIX)/include/
+	mkdir -p $(DESTDIR)$(LIBDIR)/pkgconfig $(DESTDIR)$(LIBDIR)/cmake/obman $(DESTDIR)$(INCLUDEDIR)
+	cp build/libobman.a $(DESTDIR)$(LIBDIR)/
+	cp build/libobman.so $(DESTDIR)$(LIBDIR)/libobman.so.$(VERSION)
+	ln -sf libobman.so.$(VERSION) $(DESTDIR)$(LIBDIR)/libobman.so
+	cp include/obman.h include/obman.hpp $(DESTDIR)$(INCLUDEDIR)/
+	printf '%s\n' 'prefix=$(PREFIX)' 'libdir=$(LIBDIR)' 'includedir=$(INCLUDEDIR)' '' 'Name: obman' \
+		'Description: the object layer of the NT kernel as Win32 programs see it' 'Version: $(RELEASE)' \
+		'Libs: -L$${libdir} -lobman' 'Cflags: -I$${includedir}' > $(DESTDIR)$(LIBDIR)/pkgconfig/obman.pc
+	printf '%s\n' 'add_library(obman::obman SHARED IMPORTED)' \
+		'set_target_properties(obman::obman PROPERTIES IMPORTED_LOCATION "$(LIBDIR)/libobman.so.$(VERSION)"' \
+		'  IMPORTED_SONAME "libobman.so.$(VERSION)" INTERFACE_INCLUDE_DIRECTORIES "$(INCLUDEDIR)")' \
+		'add_library(obman::static STATIC IMPORTED)' \
+		'set_target_properties(obman::static PROPERTIES IMPORTED_LOCATION "$(LIBDIR)/libobman.a"' \
+		'  INTERFACE_INCLUDE_DIRECTORIES "$(INCLUDEDIR)")' > $(DESTDIR)$(LIBDIR)/cmake/obman/obman-config.cmake
+	printf '%s\n' 'set(PACKAGE_VERSION "$(RELEASE)")' 'if(PACKAGE_FIND_VERSION VERSION_GREATER PACKAGE_VERSION OR' \
+		'   (DEFINED PACKAGE_FIND_VERSION_MAJOR AND NOT PACKAGE_FIND_VERSION_MAJOR EQUAL $(VERSION)))' \
+		'  set(PACKAGE_VERSION_COMPATIBLE FALSE)' 'else()' '  set(PACKAGE_VERSION_COMPATIBLE TRUE)' 'endif()' \
+		> $(DESTDIR)$(LIBDIR)/cmake/obman/obman-config-version.cmake
+
+install-strip: install
+	$(STRIP) --strip-debug $(DESTDIR)$(LIBDIR)/libobman.a
+	$(STRIP) --strip-unneeded $(DESTDIR)$(LIBDIR)/libobman.so.$(VERSION)
 
 examples: all
 	$(CC) -std=c99 -Iinclude -o build/guests examples/c/guests.c build/libobman.a
 	build/guests
+	$(CC) -std=c99 -Iinclude -o build/emulator examples/c/emulator.c build/libobman.a
+	build/emulator
 	$(CC) -std=c11 -pthread -Iinclude -o build/threads examples/c/threads.c build/libobman.a
 	build/threads
-	$(RUSTC) --edition 2021 --test -o build/obman_rust examples/rust/obman.rs -L build -l static=obman
-	build/obman_rust
-	OBMAN=build/libobman.so $(PYTHON) examples/python/guests.py
+	$(CXX) -std=c++17 -Iinclude -o build/host examples/cpp/host.cc build/libobman.a
+	build/host
+	cd bindings/rust && OBMAN_LIB=$(abspath build) CARGO_TARGET_DIR=$(abspath build/cargo) $(CARGO) run --offline --example host
+	OBMAN=build/libobman.so $(PYTHON) examples/python/host.py
 
 clean:
 	rm -rf build

@@ -1,0 +1,515 @@
+"""The object layer of the NT kernel as Win32 programs see it: a binding of libobman by ctypes.
+
+    import obman
+
+    with obman.Manager() as m:
+        a, b = m.spawn(1), m.spawn(1)
+        event = m.create_event(a.thread, name="Local\\\\ready")
+        again = m.open_event(b.thread, obman.SYNCHRONIZE, False, "ready")
+        m.wait(b.thread, [again.handle])                # Pending(wait=1)
+        m.set_event(a.thread, event.handle)
+        for answer in m.answers():                      # behind each call: who may go on, and with which code
+            print(answer.thread, answer.code)
+
+A call that is refused raises an `Error` with the Win32 number. What each call does and refuses `obman.h` says, and how a host lives
+with the library docs/EMBEDDING.md. The shared library is the one that the environment's OBMAN names, else the system's.
+"""
+
+import ctypes
+import ctypes.util
+import os
+from collections import namedtuple
+from ctypes import POINTER, Structure, c_bool, c_char, c_int32, c_int64, c_size_t, c_uint32, c_uint64, c_void_p
+
+MODIFY_STATE = 0x2
+DELETE = 0x10000
+READ_CONTROL = 0x20000
+WRITE_DAC = 0x40000
+WRITE_OWNER = 0x80000
+SYNCHRONIZE = 0x100000
+EVENT_ALL_ACCESS = SEMAPHORE_ALL_ACCESS = TIMER_ALL_ACCESS = 0x1F0003
+MUTEX_ALL_ACCESS = 0x1F0001
+HANDLE_FLAG_INHERIT, HANDLE_FLAG_PROTECT_FROM_CLOSE = 1, 2
+DUPLICATE_CLOSE_SOURCE, DUPLICATE_SAME_ACCESS = 1, 2
+INFINITE = 0xFFFFFFFF
+MAXIMUM_WAIT_OBJECTS = 64
+WAIT_OBJECT_0, WAIT_ABANDONED_0, WAIT_TIMEOUT = 0, 128, 258
+EVENT, MUTEX, SEMAPHORE, TIMER, ENDED = range(5)
+FREED, RETIRED, HELD = range(3)
+NAME_MOST = 260
+SUCCESS, ERROR_ALREADY_EXISTS, ERROR_IO_PENDING = 0, 183, 997
+
+ERRORS = {
+    2: "ERROR_FILE_NOT_FOUND",
+    3: "ERROR_PATH_NOT_FOUND",
+    5: "ERROR_ACCESS_DENIED",
+    6: "ERROR_INVALID_HANDLE",
+    8: "ERROR_NOT_ENOUGH_MEMORY",
+    87: "ERROR_INVALID_PARAMETER",
+    122: "ERROR_INSUFFICIENT_BUFFER",
+    170: "ERROR_BUSY",
+    206: "ERROR_FILENAME_EXCED_RANGE",
+    259: "ERROR_NO_MORE_ITEMS",
+    288: "ERROR_NOT_OWNER",
+    298: "ERROR_TOO_MANY_POSTS",
+    1168: "ERROR_NOT_FOUND",
+    1450: "ERROR_NO_SYSTEM_RESOURCES",
+    1816: "ERROR_NOT_ENOUGH_QUOTA",
+}
+
+
+class Error(Exception):
+    """A call was refused; `number` is the Win32 system error code."""
+
+    def __init__(self, number):
+        super().__init__(f"{ERRORS.get(number, 'error')} ({number})")
+        self.number = number
+
+
+def _struct(name, **fields):
+    def shown(self):
+        return f"{name}({', '.join(f'{field}={getattr(self, field)!r}' for field in fields)})"
+
+    def same(self, other):
+        return type(self) is type(other) and bytes(self) == bytes(other)
+
+    return type(name, (Structure,), {"_fields_": [*fields.items()], "__repr__": shown, "__eq__": same, "__hash__": lambda self: hash(bytes(self))})
+
+
+_Manager = _struct("om_manager", at=c_void_p)
+_Reader = _struct("om_reader", at=c_void_p)
+Limits = _struct(
+    "om_limits", slots=c_uint32, processes=c_uint32, threads=c_uint32, handles=c_uint32, waits=c_uint32, max_pins=c_uint32, max_gen=c_uint32, max_recursion=c_uint32
+)
+Member = _struct("om_member", process=c_uint32, thread=c_uint32)
+Object = _struct("om_object", slot=c_uint32, generation=c_uint32)
+Opening = _struct("om_opening", handle=c_uint32, object=Object)
+_Making = _struct("om_making", access=c_uint32, grant=c_uint32, named=c_bool, inherit=c_bool, has_access=c_bool, has_grant=c_bool)
+Description = _struct("om_description", kind=c_uint32, max=c_uint32, grant=c_uint32, manual=c_bool)
+Descriptor = _struct("om_descriptor", kind=c_uint32, max=c_uint32, manual=c_bool)
+State = _struct("om_object_state", due=c_uint64, kind=c_uint32, count=c_uint32, max=c_uint32, owner=c_uint32, signaled=c_bool, abandoned=c_bool, has_due=c_bool)
+Entry = _struct("om_entry", object=Object, handle=c_uint32, access=c_uint32, flags=c_uint32)
+Reaping = _struct("om_reaping", object=Object, outcome=c_uint32, pins=c_uint32)
+References = _struct("om_references", waits=c_uint64, handles=c_uint32, hold=c_uint32)
+Answer = _struct("om_answer", wait=c_uint32, thread=c_uint32, code=c_uint32)
+_Row = _struct("om_row", object=Object, session=c_uint32, length=c_uint32)
+
+# How a wait stands: its code, or its number while it is pending.
+Over = namedtuple("Over", "code")
+Pending = namedtuple("Pending", "wait")
+# A row of the directory of names: session 0 is the global namespace.
+Name = namedtuple("Name", "object session base")
+
+
+def default_limits(**limits):
+    """The limits that serve most guests, with some others."""
+    most = dict(slots=64, processes=64, threads=256, handles=1024, waits=1_000_000, max_pins=1073741823, max_gen=4294967295, max_recursion=2147483647)
+    return Limits(**{**most, **limits})
+
+
+_M, _R, _U, _B, _Z = POINTER(_Manager), POINTER(_Reader), c_uint32, c_bool, c_size_t
+_NAMED = [_M, _U, POINTER(_Making), ctypes.c_char_p, _Z]
+_OPENS = [_M, _U, _U, _B, ctypes.c_char_p, _Z, POINTER(Opening)]
+
+# Each function with its result and its parameters, as the header declares them.
+FUNCTIONS = {
+    "om_new": (_U, [POINTER(Limits), _M]),
+    "om_free": (None, [_Manager]),
+    "om_spawn": (_U, [_M, _U, POINTER(Member)]),
+    "om_child": (_U, [_M, _U, _B, POINTER(Member)]),
+    "om_thread": (_U, [_M, _U, POINTER(_U)]),
+    "om_end_thread": (_U, [_M, _U]),
+    "om_exit": (_U, [_M, _U]),
+    "om_create_event": (_U, [*_NAMED, _B, _B, POINTER(Opening)]),
+    "om_create_mutex": (_U, [*_NAMED, _B, POINTER(Opening)]),
+    "om_create_semaphore": (_U, [*_NAMED, c_int32, c_int32, POINTER(Opening)]),
+    "om_create_timer": (_U, [*_NAMED, _B, POINTER(Opening)]),
+    "om_open_event": (_U, _OPENS),
+    "om_open_mutex": (_U, _OPENS),
+    "om_open_semaphore": (_U, _OPENS),
+    "om_open_timer": (_U, _OPENS),
+    "om_duplicate": (_U, [_M, _U, _U, _U, _U, _U, _B, _U, POINTER(Opening)]),
+    "om_close": (_U, [_M, _U, _U]),
+    "om_handle_flags": (_U, [_M, _U, _U, POINTER(_U)]),
+    "om_set_handle_flags": (_U, [_M, _U, _U, _U, _U]),
+    "om_resolve": (_U, [_M, _U, _U, POINTER(Object)]),
+    "om_set_event": (_U, [_M, _U, _U]),
+    "om_reset_event": (_U, [_M, _U, _U]),
+    "om_release_semaphore": (_U, [_M, _U, _U, c_int32, POINTER(_U)]),
+    "om_release_mutex": (_U, [_M, _U, _U]),
+    "om_set_timer": (_U, [_M, _U, _U, c_int64]),
+    "om_cancel_timer": (_U, [_M, _U, _U]),
+    "om_tick": (_U, [_M, c_uint64]),
+    "om_next_due": (_U, [_M, POINTER(c_uint64)]),
+    "om_wait": (_U, [_M, _U, _B, _U, POINTER(_U), _Z, POINTER(_U)]),
+    "om_wait_result": (_U, [_M, _U, POINTER(_U)]),
+    "om_take_answered": (_U, [_M, POINTER(Answer), _Z, POINTER(_Z)]),
+    "om_expire": (_U, [_M, _U]),
+    "om_card": (_U, [_M, _U, _U, POINTER(Description)]),
+    "om_state": (_U, [_M, _U, _U, POINTER(State)]),
+    "om_handle": (_U, [_M, _U, _U, POINTER(Entry)]),
+    "om_next_object": (_U, [_M, _U, POINTER(Object)]),
+    "om_next_handle": (_U, [_M, _U, _U, POINTER(Entry)]),
+    "om_session_of": (_U, [_M, _U, POINTER(_U)]),
+    "om_counts": (_U, [_M, _U, _U, POINTER(References)]),
+    "om_reap": (_U, [_M, _U, POINTER(Reaping)]),
+    "om_take_ended": (_U, [_M, POINTER(Reaping), _Z, POINTER(_Z)]),
+    "om_directory_at": (_U, [_M, _Z, POINTER(c_char), _Z, POINTER(_Row)]),
+    "om_script": (_U, [POINTER(Limits), ctypes.c_char_p, _Z, POINTER(c_char), _Z, POINTER(_Z)]),
+    "om_reader_new": (_U, [_M, _R]),
+    "om_reader_free": (None, [_Reader]),
+    "om_reader_pin": (_U, [_R, _U, _U]),
+    "om_reader_unpin": (_U, [_R, _U, _U]),
+    "om_reader_describe": (_U, [_R, _U, _U, POINTER(Descriptor)]),
+    "om_inspect": (_U, [_M, _R, _U, _U, POINTER(Description)]),
+    "om_reader_holds": (_B, [_R, _U, _U]),
+    "om_is_pending": (_B, [_M, _U]),
+    "om_now": (c_uint64, [_M]),
+    "om_next_process": (_U, [_M, _U]),
+    "om_next_thread": (_U, [_M, _U, _U]),
+    "om_process_of": (_U, [_M, _U]),
+    "om_wait_of": (_U, [_M, _U]),
+    "om_directory_len": (_Z, [_M]),
+}
+
+
+def _loaded():
+    library = ctypes.CDLL(os.environ.get("OBMAN") or ctypes.util.find_library("obman") or "libobman.so.1")
+    for name, (result, parameters) in FUNCTIONS.items():
+        function = getattr(library, name)
+        function.restype, function.argtypes = result, parameters
+    return library
+
+
+_c = _loaded()
+
+
+def _done(status):
+    if status != SUCCESS:
+        raise Error(status)
+
+
+def _told(kind, call, *words):
+    """The value that a call writes behind its other parameters."""
+    value = kind()
+    _done(call(*words, value))
+    return value.value if kind in (c_uint32, c_uint64) else value
+
+
+def _waited(status, answer):
+    if status == ERROR_IO_PENDING:
+        return Pending(answer.value)
+    _done(status)
+    return Over(answer.value)
+
+
+def _bytes(name):
+    return name.encode() if isinstance(name, str) else bytes(name)
+
+
+def _taken(call, kind, most):
+    """What a call hands out in one block."""
+    block, count = (kind * most)(), c_size_t()
+    _done(call(block, most, count))
+    return [kind.from_buffer_copy(one) for one in block[: count.value]]
+
+
+class _Owner:
+    """What is freed at its end, once."""
+
+    def close_all(self):
+        if self._at is not None:
+            self._free(self._at)
+            self._at = None
+
+    def __enter__(self):
+        return self
+
+    def __exit__(self, *why):
+        self.close_all()
+
+    def __del__(self):
+        if getattr(self, "_at", None) is not None:
+            self.close_all()
+
+
+class Reader(_Owner):
+    """Who pins objects on any thread, without their manager. It lets all go at its end."""
+
+    _free = staticmethod(_c.om_reader_free)
+
+    def __init__(self, manager):
+        self._at = None
+        self.manager, at = manager, _Reader()
+        _done(_c.om_reader_new(manager._at, at))
+        self._at = at
+
+    def pin(self, o):
+        """Pins an object's slot once more, in one try: 170 where another thread changed it meanwhile."""
+        _done(_c.om_reader_pin(self._at, o.slot, o.generation))
+
+    def unpin(self, o):
+        """Lets one pin go."""
+        _done(_c.om_reader_unpin(self._at, o.slot, o.generation))
+
+    def holds(self, o):
+        """Whether it pins an object."""
+        return _c.om_reader_holds(self._at, o.slot, o.generation)
+
+    def describe(self, o):
+        """What never changes of an object that it pins."""
+        return _told(Descriptor, _c.om_reader_describe, self._at, o.slot, o.generation)
+
+
+class Manager(_Owner):
+    """A manager, which ends with its context. One call at a time: threads keep a lock round it."""
+
+    _free = staticmethod(_c.om_free)
+
+    def __init__(self, limits=None):
+        self._at = None
+        at = _Manager()
+        _done(_c.om_new(limits or default_limits(), at))
+        self._at = at
+
+    def spawn(self, session):
+        """A guest's process begins in a session, with its first thread."""
+        return _told(Member, _c.om_spawn, self._at, session)
+
+    def child(self, thread, inherit):
+        """A thread begins a process, which with `inherit` has its inheritable handles."""
+        return _told(Member, _c.om_child, self._at, thread, inherit)
+
+    def thread(self, process):
+        """A thread begins in a process."""
+        return _told(c_uint32, _c.om_thread, self._at, process)
+
+    def end_thread(self, thread):
+        """A thread ends, and with the last one its process."""
+        _done(_c.om_end_thread(self._at, thread))
+
+    def exit(self, process):
+        """A process ends."""
+        _done(_c.om_exit(self._at, process))
+
+    def _created(self, call, thread, name, inherit, access, grant, *words):
+        opening, text = Opening(), _bytes(name or "")
+        making = _Making(access or 0, grant or 0, name is not None, inherit, access is not None, grant is not None)
+        status = call(self._at, thread, making, text, len(text), *words, opening)
+        if status != ERROR_ALREADY_EXISTS:
+            _done(status)
+        opening.existed = status == ERROR_ALREADY_EXISTS
+        return opening
+
+    def create_event(self, thread, name=None, manual=False, set=False, inherit=False, access=None, grant=None):
+        """A new event and a handle to it; `existed` says whether one had the name already."""
+        return self._created(_c.om_create_event, thread, name, inherit, access, grant, manual, set)
+
+    def create_mutex(self, thread, name=None, owned=False, inherit=False, access=None, grant=None):
+        """A new mutex, as create_event."""
+        return self._created(_c.om_create_mutex, thread, name, inherit, access, grant, owned)
+
+    def create_semaphore(self, thread, initial, max, name=None, inherit=False, access=None, grant=None):
+        """A new semaphore, as create_event."""
+        return self._created(_c.om_create_semaphore, thread, name, inherit, access, grant, initial, max)
+
+    def create_timer(self, thread, name=None, manual=False, inherit=False, access=None, grant=None):
+        """A new timer, as create_event."""
+        return self._created(_c.om_create_timer, thread, name, inherit, access, grant, manual)
+
+    def _opened(self, call, thread, access, inherit, name):
+        text = _bytes(name)
+        return _told(Opening, call, self._at, thread, access, inherit, text, len(text))
+
+    def open_event(self, thread, access, inherit, name):
+        """A handle to the event of a name."""
+        return self._opened(_c.om_open_event, thread, access, inherit, name)
+
+    def open_mutex(self, thread, access, inherit, name):
+        """A handle to the mutex of a name."""
+        return self._opened(_c.om_open_mutex, thread, access, inherit, name)
+
+    def open_semaphore(self, thread, access, inherit, name):
+        """A handle to the semaphore of a name."""
+        return self._opened(_c.om_open_semaphore, thread, access, inherit, name)
+
+    def open_timer(self, thread, access, inherit, name):
+        """A handle to the timer of a name."""
+        return self._opened(_c.om_open_timer, thread, access, inherit, name)
+
+    def duplicate(self, thread, source, handle, target, access=0, inherit=False, options=0):
+        """A handle of the process `target` to what a handle of the process `source` names."""
+        return _told(Opening, _c.om_duplicate, self._at, thread, source, handle, target, access, inherit, options)
+
+    def close(self, thread, handle):
+        """Closes a handle."""
+        _done(_c.om_close(self._at, thread, handle))
+
+    def handle_flags(self, thread, handle):
+        """A handle's flags."""
+        return _told(c_uint32, _c.om_handle_flags, self._at, thread, handle)
+
+    def set_handle_flags(self, thread, handle, mask, flags):
+        """The flags in the mask become what they are in `flags`."""
+        _done(_c.om_set_handle_flags(self._at, thread, handle, mask, flags))
+
+    def resolve(self, process, handle):
+        """What a handle of a process names."""
+        return _told(Object, _c.om_resolve, self._at, process, handle)
+
+    def handle(self, process, handle):
+        """What a handle of a process names, its rights and its flags."""
+        return _told(Entry, _c.om_handle, self._at, process, handle)
+
+    def set_event(self, thread, handle):
+        """Sets an event."""
+        _done(_c.om_set_event(self._at, thread, handle))
+
+    def reset_event(self, thread, handle):
+        """Resets an event."""
+        _done(_c.om_reset_event(self._at, thread, handle))
+
+    def release_semaphore(self, thread, handle, count=1):
+        """Raises a semaphore's count, and says what it was."""
+        return _told(c_uint32, _c.om_release_semaphore, self._at, thread, handle, count)
+
+    def release_mutex(self, thread, handle):
+        """Releases a mutex once."""
+        _done(_c.om_release_mutex(self._at, thread, handle))
+
+    def set_timer(self, thread, handle, due):
+        """Sets a timer for a moment in units of 100 ns, or below 0 for so many units from now."""
+        _done(_c.om_set_timer(self._at, thread, handle, due))
+
+    def cancel_timer(self, thread, handle):
+        """Takes a timer's moment away."""
+        _done(_c.om_cancel_timer(self._at, thread, handle))
+
+    def tick(self, now):
+        """It is this moment now, in units of 100 ns."""
+        _done(_c.om_tick(self._at, now))
+
+    def now(self):
+        """The moment of the last tick."""
+        return _c.om_now(self._at)
+
+    def next_due(self):
+        """The next moment at which a timer or a wait is due, or None."""
+        moment = c_uint64()
+        return moment.value if _c.om_next_due(self._at, moment) == SUCCESS else None
+
+    def wait(self, thread, handles, all=False, milliseconds=INFINITE):
+        """A thread waits for any or all of 1 to 64 objects: `Over` with a code, or `Pending` with the wait's number."""
+        answer = c_uint32()
+        return _waited(_c.om_wait(self._at, thread, all, milliseconds, (c_uint32 * max(1, len(handles)))(*handles), len(handles), answer), answer)
+
+    def wait_result(self, wait):
+        """Takes the answer of one wait, as wait."""
+        answer = c_uint32()
+        return _waited(_c.om_wait_result(self._at, wait, answer), answer)
+
+    def expire(self, wait):
+        """A pending wait's time is up."""
+        _done(_c.om_expire(self._at, wait))
+
+    def is_pending(self, wait):
+        """Whether a wait is pending."""
+        return _c.om_is_pending(self._at, wait)
+
+    def answers(self):
+        """Takes the answers of all waits that were answered, by rising number of the wait."""
+        while block := _taken(lambda *to: _c.om_take_answered(self._at, *to), Answer, 32):
+            yield from block
+
+    def ended(self):
+        """Takes back the slots of all objects that ended, by rising slot; those that are pinned are told too."""
+        most, freed = 32, []
+        while True:
+            block = _taken(lambda *to: _c.om_take_ended(self._at, *to), Reaping, most)
+            held = [one for one in block if one.outcome == HELD]
+            freed += [one for one in block if one.outcome != HELD]
+            if len(block) < most:
+                return sorted(freed + held, key=lambda one: one.object.slot)
+            most = 32 + 2 * len(held)
+
+    def reap(self, slot):
+        """Takes back one slot."""
+        return _told(Reaping, _c.om_reap, self._at, slot)
+
+    def card(self, o):
+        """What an object was created as."""
+        return _told(Description, _c.om_card, self._at, o.slot, o.generation)
+
+    def state(self, o):
+        """What state an object is in."""
+        return _told(State, _c.om_state, self._at, o.slot, o.generation)
+
+    def counts(self, o):
+        """What refers to an object."""
+        return _told(References, _c.om_counts, self._at, o.slot, o.generation)
+
+    def session_of(self, process):
+        """The session of a process."""
+        return _told(c_uint32, _c.om_session_of, self._at, process)
+
+    def process_of(self, thread):
+        """The process of a live thread, or None."""
+        return _c.om_process_of(self._at, thread) or None
+
+    def wait_of(self, thread):
+        """A thread's wait that is pending, or whose answer wasn't taken, or None."""
+        return _c.om_wait_of(self._at, thread) or None
+
+    def processes(self):
+        """All live processes, by rising number."""
+        process = 0
+        while process := _c.om_next_process(self._at, process):
+            yield process
+
+    def threads(self, process):
+        """All live threads of a process, by rising number."""
+        thread = 0
+        while thread := _c.om_next_thread(self._at, process, thread):
+            yield thread
+
+    def handles(self, process):
+        """All handles of a process, by rising value."""
+        entry = Entry()
+        while _c.om_next_handle(self._at, process, entry.handle, entry) == SUCCESS:
+            yield Entry.from_buffer_copy(entry)
+
+    def objects(self):
+        """All objects, by rising slot."""
+        o, slot = Object(), 0
+        while _c.om_next_object(self._at, slot, o) == SUCCESS:
+            slot = o.slot + 1
+            yield Object.from_buffer_copy(o)
+
+    def names(self):
+        """All names, in the order in which their objects were made."""
+        base, row = ctypes.create_string_buffer(NAME_MOST), _Row()
+        for at in range(_c.om_directory_len(self._at)):
+            _done(_c.om_directory_at(self._at, at, base, NAME_MOST, row))
+            yield Name(Object.from_buffer_copy(row.object), row.session, base.raw[: row.length])
+
+    def reader(self):
+        """A reader, which pins objects on any thread without this manager."""
+        return Reader(self)
+
+    def inspect(self, reader, o):
+        """What an object that a reader of this manager pins was created as, also when it has ended."""
+        if reader.manager is not self:
+            raise Error(87)
+        return _told(Description, _c.om_inspect, self._at, reader._at, o.slot, o.generation)
+
+
+def script(text, limits=None):
+    """The answers of a whole script over a manager of its own, as the program `obman` gives them."""
+    text, written, most = _bytes(text), c_size_t(), 2 * len(text) + 256
+    while True:
+        answers = ctypes.create_string_buffer(most)
+        status = _c.om_script(limits or default_limits(), text, len(text), answers, most, written)
+        if status != 122:
+            _done(status)
+            return answers.raw[: written.value]
+        most = written.value

@@ -1,0 +1,63 @@
+"""The binding against the library: OBMAN=build/libobman.so python3 -m unittest"""
+
+import unittest
+
+import obman
+
+
+class Calls(unittest.TestCase):
+    def test_a_child_inherits_and_sets_what_its_parent_waits_for(self):
+        with obman.Manager() as m:
+            parent = m.spawn(1)
+            event = m.create_event(parent.thread, name="ready", inherit=True)
+            child = m.child(parent.thread, True)
+            self.assertEqual(m.resolve(child.process, event.handle), event.object)
+            waits = m.wait(parent.thread, [event.handle])
+            self.assertEqual(waits, obman.Pending(1))
+            with self.assertRaises(obman.Error) as refused:
+                m.close(parent.thread, event.handle)
+            self.assertEqual((refused.exception.number, str(refused.exception)), (170, "ERROR_BUSY (170)"))
+            m.set_event(child.thread, event.handle)
+            self.assertEqual([(a.wait, a.thread, a.code) for a in m.answers()], [(1, parent.thread, obman.WAIT_OBJECT_0)])
+
+    def test_a_mutex_is_abandoned(self):
+        with obman.Manager() as m:
+            first, second = m.spawn(1), m.spawn(1)
+            mutex = m.create_mutex(first.thread, name="Local\\m", owned=True)
+            again = m.create_mutex(second.thread, name="m")
+            self.assertTrue(again.existed and not mutex.existed and again.object == mutex.object)
+            m.exit(first.process)
+            self.assertTrue(m.state(mutex.object).abandoned)
+            self.assertEqual(m.wait(second.thread, [again.handle]), obman.Over(obman.WAIT_ABANDONED_0))
+
+    def test_time(self):
+        with obman.Manager() as m:
+            member = m.spawn(1)
+            event = m.create_event(member.thread)
+            self.assertIsNone(m.next_due())
+            m.wait(member.thread, [event.handle], milliseconds=2)
+            m.tick(m.next_due())
+            self.assertEqual((m.now(), [answer.code for answer in m.answers()]), (20_000, [obman.WAIT_TIMEOUT]))
+
+    def test_walks_and_ends(self):
+        with obman.Manager(obman.default_limits(slots=2)) as m:
+            member = m.spawn(7)
+            event = m.create_event(member.thread, name="a")
+            self.assertEqual((list(m.processes()), list(m.threads(member.process))), ([1], [1]))
+            self.assertEqual([entry.handle for entry in m.handles(member.process)], [event.handle])
+            self.assertEqual([name.base for name in m.names()], [b"a"])
+            self.assertEqual(m.session_of(member.process), 7)
+            with m.reader() as reader:
+                reader.pin(event.object)
+                m.close(member.thread, event.handle)
+                self.assertEqual([(end.outcome, end.pins) for end in m.ended()], [(obman.HELD, 1)])
+                self.assertEqual(m.inspect(reader, event.object).kind, obman.EVENT)
+            self.assertEqual([end.outcome for end in m.ended()], [obman.FREED])
+            self.assertEqual(list(m.objects()), [])
+
+    def test_a_script(self):
+        self.assertEqual(obman.script("spawn 1\nevent t1 auto set\n"), b"p1 t1\nh4 new s0.1\n")
+
+
+if __name__ == "__main__":
+    unittest.main()

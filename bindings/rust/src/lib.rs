@@ -1,0 +1,861 @@
+//! The object layer of the NT kernel as Win32 programs see it: events, mutexes, semaphores and timers, the handle tables of many
+//! simulated processes, names and waits, for programs that run others. This is a safe binding of the C library; what each call does
+//! and refuses `obman.h` says, and the guide to a host's loop is docs/EMBEDDING.md there.
+//!
+//! ```
+//! use obman::{Create, Limits, Manager, Outcome, Waited, INFINITE};
+//!
+//! # fn main() -> Result<(), obman::Error> {
+//! let mut m = Manager::new(&Limits::default())?;
+//! let (a, b) = (m.spawn(1)?, m.spawn(1)?); // two processes of session 1, each with a thread
+//! let event = m.create_event(a.thread, &Create::named("Local\\ready"), false, false)?.opening();
+//! let again = m.open_event(b.thread, obman::SYNCHRONIZE, false, "ready")?;
+//!
+//! // b waits: the call answers at once that the wait is pending, and gives its number
+//! let Waited::Pending(_wait) = m.wait(b.thread, false, INFINITE, &[again.handle])? else { unreachable!() };
+//! m.set_event(a.thread, event.handle)?;
+//!
+//! // behind each call a host takes the answers of waits, and what ended
+//! for answer in m.answers() {
+//!     assert_eq!((answer.thread, answer.outcome), (b.thread, Outcome::Signaled(0)));
+//! }
+//! # Ok(())
+//! # }
+//! ```
+
+#![warn(missing_docs)]
+
+pub mod sys;
+
+use std::fmt;
+use std::sync::atomic::{AtomicU64, Ordering};
+
+/// A process and a thread of it.
+pub use sys::om_member as Member;
+/// An object for its whole life: its slot, and the slot's generation, from 1.
+pub use sys::om_object as Object;
+/// A handle and the object that it names.
+pub use sys::om_opening as Opening;
+/// A handle with what it names, its rights and its flags.
+pub use sys::om_entry as Entry;
+/// What refers to an object: handles, places of pending waits, and a hold of 1 where there is neither.
+pub use sys::om_references as References;
+
+/// The right to set, reset, release, or set for a moment.
+pub const MODIFY_STATE: u32 = 0x2;
+/// The right to wait.
+pub const SYNCHRONIZE: u32 = 0x0010_0000;
+/// All rights of an event.
+pub const EVENT_ALL_ACCESS: u32 = 0x001F_0003;
+/// All rights of a mutex.
+pub const MUTEX_ALL_ACCESS: u32 = 0x001F_0001;
+/// All rights of a semaphore.
+pub const SEMAPHORE_ALL_ACCESS: u32 = 0x001F_0003;
+/// All rights of a timer.
+pub const TIMER_ALL_ACCESS: u32 = 0x001F_0003;
+/// Children inherit the handle.
+pub const HANDLE_FLAG_INHERIT: u32 = 1;
+/// The handle is closed with its process alone.
+pub const HANDLE_FLAG_PROTECT_FROM_CLOSE: u32 = 2;
+/// A duplicate closes its source.
+pub const DUPLICATE_CLOSE_SOURCE: u32 = 1;
+/// A duplicate has the rights of its source.
+pub const DUPLICATE_SAME_ACCESS: u32 = 2;
+/// The milliseconds of a wait without end.
+pub const INFINITE: u32 = u32::MAX;
+
+macro_rules! errors {
+    ($($name:ident = $number:literal, $win32:literal;)*) => {
+        /// Why a call was refused: a Win32 system error code.
+        #[derive(Clone, Copy, Debug, PartialEq, Eq, Hash)]
+        #[repr(u32)]
+        pub enum Error {
+            $(#[doc = $win32] $name = $number,)*
+        }
+
+        impl Error {
+            /// Each of them.
+            pub const ALL: &'static [Error] = &[$(Error::$name),*];
+
+            /// The Win32 name.
+            pub fn name(self) -> &'static str {
+                match self {
+                    $(Error::$name => $win32,)*
+                }
+            }
+
+            fn of(status: u32) -> Error {
+                match status {
+                    $($number => Error::$name,)*
+                    _ => unreachable!("the library answered with {status}"),
+                }
+            }
+        }
+    };
+}
+
+errors! {
+    FileNotFound = 2, "ERROR_FILE_NOT_FOUND";
+    PathNotFound = 3, "ERROR_PATH_NOT_FOUND";
+    AccessDenied = 5, "ERROR_ACCESS_DENIED";
+    InvalidHandle = 6, "ERROR_INVALID_HANDLE";
+    NotEnoughMemory = 8, "ERROR_NOT_ENOUGH_MEMORY";
+    InvalidParameter = 87, "ERROR_INVALID_PARAMETER";
+    InsufficientBuffer = 122, "ERROR_INSUFFICIENT_BUFFER";
+    Busy = 170, "ERROR_BUSY";
+    FilenameExcedRange = 206, "ERROR_FILENAME_EXCED_RANGE";
+    NoMoreItems = 259, "ERROR_NO_MORE_ITEMS";
+    NotOwner = 288, "ERROR_NOT_OWNER";
+    TooManyPosts = 298, "ERROR_TOO_MANY_POSTS";
+    NotFound = 1168, "ERROR_NOT_FOUND";
+    NoSystemResources = 1450, "ERROR_NO_SYSTEM_RESOURCES";
+    NotEnoughQuota = 1816, "ERROR_NOT_ENOUGH_QUOTA";
+}
+
+impl Error {
+    /// The Win32 number.
+    pub fn number(self) -> u32 {
+        self as u32
+    }
+}
+
+impl fmt::Display for Error {
+    fn fmt(&self, f: &mut fmt::Formatter<'_>) -> fmt::Result {
+        write!(f, "{} ({})", self.name(), self.number())
+    }
+}
+
+impl std::error::Error for Error {}
+
+const ALREADY_EXISTS: u32 = 183;
+const IO_PENDING: u32 = 997;
+
+/// How much a manager may hold.
+#[derive(Clone, Copy, Debug, PartialEq, Eq, Hash)]
+pub struct Limits {
+    /// Objects at a time: 1 to 65,536.
+    pub slots: u32,
+    /// Process numbers ever given: 1 to 65,536.
+    pub processes: u32,
+    /// Thread numbers ever given: 1 to 65,536.
+    pub threads: u32,
+    /// Handles of one process at a time: 1 to 16,384.
+    pub handles: u32,
+    /// Numbers of pending waits ever given, from 1.
+    pub waits: u32,
+    /// Pins of one slot: 1 to 1,073,741,823.
+    pub max_pins: u32,
+    /// The last generation of a slot, from 1.
+    pub max_gen: u32,
+    /// How often a thread may own a mutex: 1 to 2,147,483,647.
+    pub max_recursion: u32,
+}
+
+impl Limits {
+    /// The greatest limits: numbers of threads and waits last longest. Slots cost memory from the start.
+    pub const MOST: Limits = Limits {
+        slots: 65_536,
+        processes: 65_536,
+        threads: 65_536,
+        handles: 16_384,
+        waits: u32::MAX,
+        max_pins: 1_073_741_823,
+        max_gen: u32::MAX,
+        max_recursion: 2_147_483_647,
+    };
+}
+
+impl Default for Limits {
+    /// What serves most guests.
+    fn default() -> Limits {
+        Limits { slots: 64, processes: 64, threads: 256, handles: 1_024, waits: 1_000_000, ..Limits::MOST }
+    }
+}
+
+/// What a create asks for. The default is no name, a handle that isn't inherited, and all rights.
+#[derive(Clone, Copy, Debug, Default)]
+pub struct Create<'a> {
+    /// The name: UTF-8 text or other bytes.
+    pub name: Option<&'a [u8]>,
+    /// Children inherit the handle.
+    pub inherit: bool,
+    /// The rights of the handle, or all of the kind.
+    pub access: Option<u32>,
+    /// The rights that opens of a new object may get, or all of the kind.
+    pub grant: Option<u32>,
+}
+
+impl<'a> Create<'a> {
+    /// An object with this name, and all else by default.
+    pub fn named(name: &'a (impl AsRef<[u8]> + ?Sized)) -> Create<'a> {
+        Create { name: Some(name.as_ref()), ..Create::default() }
+    }
+
+    fn making(&self) -> (sys::om_making, &'a [u8]) {
+        let making = sys::om_making {
+            access: self.access.unwrap_or(0),
+            grant: self.grant.unwrap_or(0),
+            named: self.name.is_some(),
+            inherit: self.inherit,
+            has_access: self.access.is_some(),
+            has_grant: self.grant.is_some(),
+        };
+        (making, self.name.unwrap_or(b""))
+    }
+}
+
+/// What a create found.
+#[derive(Clone, Copy, Debug, PartialEq, Eq)]
+pub enum Created {
+    /// A new object.
+    New(Opening),
+    /// An object that had the name already (183, `ERROR_ALREADY_EXISTS`).
+    Existed(Opening),
+}
+
+impl Created {
+    /// The handle, whichever it is.
+    pub fn opening(self) -> Opening {
+        match self {
+            Created::New(opening) | Created::Existed(opening) => opening,
+        }
+    }
+}
+
+/// How a wait ended.
+#[derive(Clone, Copy, Debug, PartialEq, Eq, Hash)]
+pub enum Outcome {
+    /// The object of this index satisfied it, or with index 0 all did.
+    Signaled(u32),
+    /// The same, and that was an abandoned mutex; of a wait for all one of them was.
+    Abandoned(u32),
+    /// Its time was up.
+    TimedOut,
+}
+
+impl Outcome {
+    fn of(code: u32) -> Outcome {
+        match code {
+            258 => Outcome::TimedOut,
+            128.. => Outcome::Abandoned(code - 128),
+            _ => Outcome::Signaled(code),
+        }
+    }
+
+    /// The number that Win32 has for it: `WAIT_OBJECT_0`, `WAIT_ABANDONED_0` and an index, or `WAIT_TIMEOUT`.
+    pub fn code(self) -> u32 {
+        match self {
+            Outcome::Signaled(index) => index,
+            Outcome::Abandoned(index) => 128 + index,
+            Outcome::TimedOut => 258,
+        }
+    }
+}
+
+/// How a wait stands.
+#[derive(Clone, Copy, Debug, PartialEq, Eq, Hash)]
+pub enum Waited {
+    /// It is over.
+    Over(Outcome),
+    /// It is pending, with this number.
+    Pending(u32),
+}
+
+/// The answer of a wait that was pending: its thread may make calls again.
+#[derive(Clone, Copy, Debug, PartialEq, Eq, Hash)]
+pub struct Answer {
+    /// The wait, which is over.
+    pub wait: u32,
+    /// Its thread.
+    pub thread: u32,
+    /// How it ended.
+    pub outcome: Outcome,
+}
+
+/// What became of a slot whose object ended.
+#[derive(Clone, Copy, Debug, PartialEq, Eq, Hash)]
+pub enum Slot {
+    /// It is free for another object.
+    Freed,
+    /// It had its last generation, and is never used again.
+    Retired,
+    /// So many pins hold it.
+    Held(u32),
+}
+
+/// An object that ended, and what became of its slot.
+#[derive(Clone, Copy, Debug, PartialEq, Eq, Hash)]
+pub struct Reaped {
+    /// The object.
+    pub object: Object,
+    /// Its slot.
+    pub slot: Slot,
+}
+
+fn reaped(r: sys::om_reaping) -> Reaped {
+    let slot = match r.outcome {
+        0 => Slot::Freed,
+        1 => Slot::Retired,
+        _ => Slot::Held(r.pins),
+    };
+    Reaped { object: r.object, slot }
+}
+
+/// A kind of objects.
+#[derive(Clone, Copy, Debug, PartialEq, Eq, Hash)]
+pub enum Kind {
+    /// An event; one that is `manual` stays set until it is reset.
+    Event {
+        /// Whether it is reset by hand.
+        manual: bool,
+    },
+    /// A mutex.
+    Mutex,
+    /// A semaphore.
+    Semaphore {
+        /// Its maximum.
+        max: u32,
+    },
+    /// A timer; one that is `manual` stays signaled until it is set again.
+    Timer {
+        /// Whether it stays signaled.
+        manual: bool,
+    },
+}
+
+fn kind_of(kind: u32, max: u32, manual: bool) -> Kind {
+    match kind {
+        0 => Kind::Event { manual },
+        1 => Kind::Mutex,
+        2 => Kind::Semaphore { max },
+        _ => Kind::Timer { manual },
+    }
+}
+
+/// What an object was created as.
+#[derive(Clone, Copy, Debug, PartialEq, Eq, Hash)]
+pub struct Card {
+    /// Its kind.
+    pub kind: Kind,
+    /// The rights that opens may get.
+    pub grant: u32,
+}
+
+fn card_of(d: sys::om_description) -> Card {
+    Card { kind: kind_of(d.kind, d.max, d.manual), grant: d.grant }
+}
+
+/// What state an object is in.
+#[derive(Clone, Copy, Debug, PartialEq, Eq, Hash)]
+pub enum State {
+    /// An event.
+    Event {
+        /// Whether it is set.
+        set: bool,
+    },
+    /// A mutex.
+    Mutex {
+        /// The thread that owns it.
+        owner: Option<u32>,
+        /// How often.
+        recursion: u32,
+        /// Whether its last owner ended, and nobody has acquired it since.
+        abandoned: bool,
+    },
+    /// A semaphore.
+    Semaphore {
+        /// Its count.
+        count: u32,
+        /// Its maximum.
+        max: u32,
+    },
+    /// A timer.
+    Timer {
+        /// Whether it is signaled.
+        signaled: bool,
+        /// The moment for which it is set, in units of 100 ns.
+        due: Option<u64>,
+    },
+    /// No handle and no pending wait refers to it any more.
+    Ended,
+}
+
+fn state_of(s: sys::om_object_state) -> State {
+    match s.kind {
+        0 => State::Event { set: s.signaled },
+        1 => State::Mutex { owner: (s.owner > 0).then_some(s.owner), recursion: s.count, abandoned: s.abandoned },
+        2 => State::Semaphore { count: s.count, max: s.max },
+        3 => State::Timer { signaled: s.signaled, due: s.has_due.then_some(s.due) },
+        _ => State::Ended,
+    }
+}
+
+/// A name, as the directory has it.
+#[derive(Clone, Debug, PartialEq, Eq)]
+pub struct Name {
+    /// The object.
+    pub object: Object,
+    /// The session of the namespace, or 0 for the global one.
+    pub session: u32,
+    /// The name without its prefix.
+    pub base: Vec<u8>,
+}
+
+fn done(status: u32) -> Result<(), Error> {
+    if status == 0 {
+        return Ok(());
+    }
+    Err(Error::of(status))
+}
+
+/// The value that a call writes where it answers with 0.
+fn told<T: Default>(call: impl FnOnce(&mut T) -> u32) -> Result<T, Error> {
+    let mut value = T::default();
+    done(call(&mut value)).map(|()| value)
+}
+
+fn created(call: impl FnOnce(&mut Opening) -> u32) -> Result<Created, Error> {
+    let mut opening = Opening::default();
+    match call(&mut opening) {
+        ALREADY_EXISTS => Ok(Created::Existed(opening)),
+        status => done(status).map(|()| Created::New(opening)),
+    }
+}
+
+fn waited(call: impl FnOnce(&mut u32) -> u32) -> Result<Waited, Error> {
+    let mut answer = 0;
+    match call(&mut answer) {
+        IO_PENDING => Ok(Waited::Pending(answer)),
+        status => done(status).map(|()| Waited::Over(Outcome::of(answer))),
+    }
+}
+
+/// A number, where it isn't 0.
+fn some(number: u32) -> Option<u32> {
+    (number > 0).then_some(number)
+}
+
+static MANAGERS: AtomicU64 = AtomicU64::new(0);
+
+/// A manager. It makes one call at a time: to share it between threads, put it behind a lock.
+pub struct Manager {
+    m: sys::om_manager,
+    number: u64,
+}
+
+// Nothing in it belongs to a thread.
+unsafe impl Send for Manager {}
+
+impl Drop for Manager {
+    fn drop(&mut self) {
+        unsafe { sys::om_free(self.m) }
+    }
+}
+
+impl fmt::Debug for Manager {
+    fn fmt(&self, f: &mut fmt::Formatter<'_>) -> fmt::Result {
+        f.debug_struct("Manager").finish_non_exhaustive()
+    }
+}
+
+impl Manager {
+    /// A manager with no process.
+    pub fn new(limits: &Limits) -> Result<Manager, Error> {
+        let limits = sys::om_limits {
+            slots: limits.slots,
+            processes: limits.processes,
+            threads: limits.threads,
+            handles: limits.handles,
+            waits: limits.waits,
+            max_pins: limits.max_pins,
+            max_gen: limits.max_gen,
+            max_recursion: limits.max_recursion,
+        };
+        let mut m = sys::om_manager { at: std::ptr::null_mut() };
+        done(unsafe { sys::om_new(&limits, &mut m) })?;
+        Ok(Manager { m, number: MANAGERS.fetch_add(1, Ordering::Relaxed) })
+    }
+
+    /// A guest's process begins in a session, with its first thread.
+    pub fn spawn(&mut self, session: u32) -> Result<Member, Error> {
+        told(|member| unsafe { sys::om_spawn(&mut self.m, session, member) })
+    }
+
+    /// A thread begins a process of its own process's session, which with `inherit` has its inheritable handles.
+    pub fn child(&mut self, thread: u32, inherit: bool) -> Result<Member, Error> {
+        told(|member| unsafe { sys::om_child(&mut self.m, thread, inherit, member) })
+    }
+
+    /// A thread begins in a process.
+    pub fn thread(&mut self, process: u32) -> Result<u32, Error> {
+        told(|thread| unsafe { sys::om_thread(&mut self.m, process, thread) })
+    }
+
+    /// A thread ends, and with the last one its process.
+    pub fn end_thread(&mut self, thread: u32) -> Result<(), Error> {
+        done(unsafe { sys::om_end_thread(&mut self.m, thread) })
+    }
+
+    /// A process ends.
+    pub fn exit(&mut self, process: u32) -> Result<(), Error> {
+        done(unsafe { sys::om_exit(&mut self.m, process) })
+    }
+
+    /// A new event, or the one that has the name.
+    pub fn create_event(&mut self, thread: u32, of: &Create<'_>, manual: bool, set: bool) -> Result<Created, Error> {
+        let (making, name) = of.making();
+        created(|o| unsafe {
+            sys::om_create_event(&mut self.m, thread, &making, name.as_ptr(), name.len(), manual, set, o)
+        })
+    }
+
+    /// A new mutex, or the one that has the name.
+    pub fn create_mutex(&mut self, thread: u32, of: &Create<'_>, owned: bool) -> Result<Created, Error> {
+        let (making, name) = of.making();
+        created(|o| unsafe { sys::om_create_mutex(&mut self.m, thread, &making, name.as_ptr(), name.len(), owned, o) })
+    }
+
+    /// A new semaphore, or the one that has the name.
+    pub fn create_semaphore(&mut self, thread: u32, of: &Create<'_>, initial: i32, max: i32) -> Result<Created, Error> {
+        let (making, name) = of.making();
+        created(|o| unsafe {
+            sys::om_create_semaphore(&mut self.m, thread, &making, name.as_ptr(), name.len(), initial, max, o)
+        })
+    }
+
+    /// A new timer, or the one that has the name.
+    pub fn create_timer(&mut self, thread: u32, of: &Create<'_>, manual: bool) -> Result<Created, Error> {
+        let (making, name) = of.making();
+        created(|o| unsafe { sys::om_create_timer(&mut self.m, thread, &making, name.as_ptr(), name.len(), manual, o) })
+    }
+
+    /// A handle to the event of a name.
+    pub fn open_event(&mut self, thread: u32, access: u32, inherit: bool, name: impl AsRef<[u8]>) -> Result<Opening, Error> {
+        let name = name.as_ref();
+        told(|o| unsafe { sys::om_open_event(&mut self.m, thread, access, inherit, name.as_ptr(), name.len(), o) })
+    }
+
+    /// A handle to the mutex of a name.
+    pub fn open_mutex(&mut self, thread: u32, access: u32, inherit: bool, name: impl AsRef<[u8]>) -> Result<Opening, Error> {
+        let name = name.as_ref();
+        told(|o| unsafe { sys::om_open_mutex(&mut self.m, thread, access, inherit, name.as_ptr(), name.len(), o) })
+    }
+
+    /// A handle to the semaphore of a name.
+    pub fn open_semaphore(&mut self, thread: u32, access: u32, inherit: bool, name: impl AsRef<[u8]>) -> Result<Opening, Error> {
+        let name = name.as_ref();
+        told(|o| unsafe { sys::om_open_semaphore(&mut self.m, thread, access, inherit, name.as_ptr(), name.len(), o) })
+    }
+
+    /// A handle to the timer of a name.
+    pub fn open_timer(&mut self, thread: u32, access: u32, inherit: bool, name: impl AsRef<[u8]>) -> Result<Opening, Error> {
+        let name = name.as_ref();
+        told(|o| unsafe { sys::om_open_timer(&mut self.m, thread, access, inherit, name.as_ptr(), name.len(), o) })
+    }
+
+    /// A handle of the process `target` to what a handle of the process `source` names.
+    #[allow(clippy::too_many_arguments)]
+    pub fn duplicate(
+        &mut self,
+        thread: u32,
+        source: u32,
+        handle: u32,
+        target: u32,
+        access: u32,
+        inherit: bool,
+        options: u32,
+    ) -> Result<Opening, Error> {
+        told(|o| unsafe { sys::om_duplicate(&mut self.m, thread, source, handle, target, access, inherit, options, o) })
+    }
+
+    /// Closes a handle.
+    pub fn close(&mut self, thread: u32, handle: u32) -> Result<(), Error> {
+        done(unsafe { sys::om_close(&mut self.m, thread, handle) })
+    }
+
+    /// A handle's flags.
+    pub fn handle_flags(&mut self, thread: u32, handle: u32) -> Result<u32, Error> {
+        told(|flags| unsafe { sys::om_handle_flags(&mut self.m, thread, handle, flags) })
+    }
+
+    /// The flags in the mask become what they are in `flags`.
+    pub fn set_handle_flags(&mut self, thread: u32, handle: u32, mask: u32, flags: u32) -> Result<(), Error> {
+        done(unsafe { sys::om_set_handle_flags(&mut self.m, thread, handle, mask, flags) })
+    }
+
+    /// What a handle of a process names.
+    pub fn resolve(&mut self, process: u32, handle: u32) -> Result<Object, Error> {
+        told(|object| unsafe { sys::om_resolve(&mut self.m, process, handle, object) })
+    }
+
+    /// Sets an event.
+    pub fn set_event(&mut self, thread: u32, handle: u32) -> Result<(), Error> {
+        done(unsafe { sys::om_set_event(&mut self.m, thread, handle) })
+    }
+
+    /// Resets an event.
+    pub fn reset_event(&mut self, thread: u32, handle: u32) -> Result<(), Error> {
+        done(unsafe { sys::om_reset_event(&mut self.m, thread, handle) })
+    }
+
+    /// Raises a semaphore's count, and says what it was.
+    pub fn release_semaphore(&mut self, thread: u32, handle: u32, count: i32) -> Result<u32, Error> {
+        told(|before| unsafe { sys::om_release_semaphore(&mut self.m, thread, handle, count, before) })
+    }
+
+    /// Releases a mutex once.
+    pub fn release_mutex(&mut self, thread: u32, handle: u32) -> Result<(), Error> {
+        done(unsafe { sys::om_release_mutex(&mut self.m, thread, handle) })
+    }
+
+    /// Sets a timer for a moment in units of 100 ns, or below 0 for so many units from now.
+    pub fn set_timer(&mut self, thread: u32, handle: u32, due: i64) -> Result<(), Error> {
+        done(unsafe { sys::om_set_timer(&mut self.m, thread, handle, due) })
+    }
+
+    /// Takes a timer's moment away.
+    pub fn cancel_timer(&mut self, thread: u32, handle: u32) -> Result<(), Error> {
+        done(unsafe { sys::om_cancel_timer(&mut self.m, thread, handle) })
+    }
+
+    /// It is this moment now, in units of 100 ns.
+    pub fn tick(&mut self, now: u64) -> Result<(), Error> {
+        done(unsafe { sys::om_tick(&mut self.m, now) })
+    }
+
+    /// The moment of the last tick.
+    pub fn now(&mut self) -> u64 {
+        unsafe { sys::om_now(&mut self.m) }
+    }
+
+    /// The next moment at which a timer or a wait is due.
+    pub fn next_due(&mut self) -> Option<u64> {
+        told(|moment| unsafe { sys::om_next_due(&mut self.m, moment) }).ok()
+    }
+
+    /// A thread waits for any or all of 1 to 64 objects, for so many milliseconds.
+    pub fn wait(&mut self, thread: u32, all: bool, milliseconds: u32, handles: &[u32]) -> Result<Waited, Error> {
+        waited(|answer| unsafe {
+            sys::om_wait(&mut self.m, thread, all, milliseconds, handles.as_ptr(), handles.len(), answer)
+        })
+    }
+
+    /// Takes the answer of one wait.
+    pub fn wait_result(&mut self, wait: u32) -> Result<Waited, Error> {
+        waited(|answer| unsafe { sys::om_wait_result(&mut self.m, wait, answer) })
+    }
+
+    /// A pending wait's time is up.
+    pub fn expire(&mut self, wait: u32) -> Result<(), Error> {
+        done(unsafe { sys::om_expire(&mut self.m, wait) })
+    }
+
+    /// Whether a wait is pending.
+    pub fn is_pending(&mut self, wait: u32) -> bool {
+        unsafe { sys::om_is_pending(&mut self.m, wait) }
+    }
+
+    /// Takes the answers of all waits that were answered, by rising number of the wait: behind each call.
+    pub fn answers(&mut self) -> impl Iterator<Item = Answer> + '_ {
+        std::iter::from_fn(move || {
+            let (mut answer, mut count) = (sys::om_answer::default(), 0);
+            unsafe { sys::om_take_answered(&mut self.m, &mut answer, 1, &mut count) };
+            let sys::om_answer { wait, thread, code } = answer;
+            (count > 0).then(|| Answer { wait, thread, outcome: Outcome::of(code) })
+        })
+    }
+
+    /// Takes back the slots of all objects that ended, by rising slot; those that are pinned are told too.
+    pub fn ended(&mut self) -> Vec<Reaped> {
+        let mut all = vec![sys::om_reaping::default(); 32];
+        let mut ended = Vec::new();
+        loop {
+            let mut count = 0;
+            unsafe { sys::om_take_ended(&mut self.m, all.as_mut_ptr(), all.len(), &mut count) };
+            let held = all[..count].iter().filter(|r| r.outcome == 2).count();
+            ended.retain(|r: &Reaped| !matches!(r.slot, Slot::Held(_)));
+            ended.extend(all[..count].iter().copied().map(reaped));
+            if count < all.len() {
+                return ended;
+            }
+            all.resize(32 + 2 * held, sys::om_reaping::default());
+        }
+    }
+
+    /// Takes back one slot.
+    pub fn reap(&mut self, slot: u32) -> Result<Reaped, Error> {
+        told(|r| unsafe { sys::om_reap(&mut self.m, slot, r) }).map(reaped)
+    }
+
+    /// What an object was created as.
+    pub fn card(&mut self, o: Object) -> Result<Card, Error> {
+        told(|d| unsafe { sys::om_card(&mut self.m, o.slot, o.generation, d) }).map(card_of)
+    }
+
+    /// What state an object is in.
+    pub fn state(&mut self, o: Object) -> Result<State, Error> {
+        told(|s| unsafe { sys::om_state(&mut self.m, o.slot, o.generation, s) }).map(state_of)
+    }
+
+    /// What refers to an object.
+    pub fn counts(&mut self, o: Object) -> Result<References, Error> {
+        told(|r| unsafe { sys::om_counts(&mut self.m, o.slot, o.generation, r) })
+    }
+
+    /// A handle of a process, with its rights and flags.
+    pub fn handle(&mut self, process: u32, handle: u32) -> Result<Entry, Error> {
+        told(|entry| unsafe { sys::om_handle(&mut self.m, process, handle, entry) })
+    }
+
+    /// The session of a process.
+    pub fn session_of(&mut self, process: u32) -> Result<u32, Error> {
+        told(|session| unsafe { sys::om_session_of(&mut self.m, process, session) })
+    }
+
+    /// The process of a live thread.
+    pub fn process_of(&mut self, thread: u32) -> Option<u32> {
+        some(unsafe { sys::om_process_of(&mut self.m, thread) })
+    }
+
+    /// A thread's wait that is pending, or whose answer wasn't taken.
+    pub fn wait_of(&mut self, thread: u32) -> Option<u32> {
+        some(unsafe { sys::om_wait_of(&mut self.m, thread) })
+    }
+
+    /// All live processes, by rising number.
+    pub fn processes(&mut self) -> impl Iterator<Item = u32> + '_ {
+        let mut after = 0;
+        std::iter::from_fn(move || {
+            after = some(unsafe { sys::om_next_process(&mut self.m, after) })?;
+            Some(after)
+        })
+    }
+
+    /// All live threads of a process, by rising number.
+    pub fn threads(&mut self, process: u32) -> impl Iterator<Item = u32> + '_ {
+        let mut after = 0;
+        std::iter::from_fn(move || {
+            after = some(unsafe { sys::om_next_thread(&mut self.m, process, after) })?;
+            Some(after)
+        })
+    }
+
+    /// All handles of a process, by rising value.
+    pub fn handles(&mut self, process: u32) -> impl Iterator<Item = Entry> + '_ {
+        let mut after = 0;
+        std::iter::from_fn(move || {
+            let entry: Entry = told(|e| unsafe { sys::om_next_handle(&mut self.m, process, after, e) }).ok()?;
+            after = entry.handle;
+            Some(entry)
+        })
+    }
+
+    /// All objects, by rising slot.
+    pub fn objects(&mut self) -> impl Iterator<Item = Object> + '_ {
+        let mut from = 0;
+        std::iter::from_fn(move || {
+            let object: Object = told(|o| unsafe { sys::om_next_object(&mut self.m, from, o) }).ok()?;
+            from = object.slot + 1;
+            Some(object)
+        })
+    }
+
+    /// All names, in the order in which their objects were made.
+    pub fn names(&mut self) -> impl Iterator<Item = Name> + '_ {
+        let mut at = 0;
+        std::iter::from_fn(move || {
+            let mut base = vec![0; 260];
+            let row: sys::om_row =
+                told(|row| unsafe { sys::om_directory_at(&mut self.m, at, base.as_mut_ptr(), base.len(), row) }).ok()?;
+            at += 1;
+            base.truncate(row.length as usize);
+            Some(Name { object: row.object, session: row.session, base })
+        })
+    }
+
+    /// How many names objects have.
+    pub fn directory_len(&mut self) -> usize {
+        unsafe { sys::om_directory_len(&mut self.m) }
+    }
+
+    /// A reader, which pins objects on any thread without this manager.
+    pub fn reader(&mut self) -> Result<Reader, Error> {
+        let mut r = sys::om_reader { at: std::ptr::null_mut() };
+        done(unsafe { sys::om_reader_new(&mut self.m, &mut r) })?;
+        Ok(Reader { r, of: self.number })
+    }
+
+    /// What an object that a reader of this manager pins was created as, also when it has ended. 87 for a reader of another manager.
+    pub fn inspect(&mut self, reader: &mut Reader, o: Object) -> Result<Card, Error> {
+        if reader.of != self.number {
+            return Err(Error::InvalidParameter);
+        }
+        told(|d| unsafe { sys::om_inspect(&mut self.m, &mut reader.r, o.slot, o.generation, d) }).map(card_of)
+    }
+}
+
+/// Who pins objects without their manager. It lets all go at its end, which may be after the manager's.
+pub struct Reader {
+    r: sys::om_reader,
+    of: u64,
+}
+
+// Nothing in it belongs to a thread.
+unsafe impl Send for Reader {}
+
+impl Drop for Reader {
+    fn drop(&mut self) {
+        unsafe { sys::om_reader_free(self.r) }
+    }
+}
+
+impl Reader {
+    /// Pins an object's slot once more, in one try: [`Error::Busy`] where another thread changed it meanwhile.
+    pub fn pin(&mut self, o: Object) -> Result<(), Error> {
+        done(unsafe { sys::om_reader_pin(&mut self.r, o.slot, o.generation) })
+    }
+
+    /// Lets one pin go.
+    pub fn unpin(&mut self, o: Object) -> Result<(), Error> {
+        done(unsafe { sys::om_reader_unpin(&mut self.r, o.slot, o.generation) })
+    }
+
+    /// Whether it pins an object.
+    pub fn holds(&mut self, o: Object) -> bool {
+        unsafe { sys::om_reader_holds(&mut self.r, o.slot, o.generation) }
+    }
+
+    /// The kind of an object that it pins.
+    pub fn describe(&mut self, o: Object) -> Result<Kind, Error> {
+        told(|d: &mut sys::om_descriptor| unsafe { sys::om_reader_describe(&mut self.r, o.slot, o.generation, d) })
+            .map(|d| kind_of(d.kind, d.max, d.manual))
+    }
+}
+
+/// Answers a whole script over a manager of its own, as the program `obman` does.
+pub fn script(limits: &Limits, script: &[u8]) -> Result<Vec<u8>, Error> {
+    let limits = sys::om_limits {
+        slots: limits.slots,
+        processes: limits.processes,
+        threads: limits.threads,
+        handles: limits.handles,
+        waits: limits.waits,
+        max_pins: limits.max_pins,
+        max_gen: limits.max_gen,
+        max_recursion: limits.max_recursion,
+    };
+    let mut answers = vec![0; 2 * script.len() + 256];
+    loop {
+        let mut written = 0;
+        let status = unsafe {
+            sys::om_script(&limits, script.as_ptr(), script.len(), answers.as_mut_ptr(), answers.len(), &mut written)
+        };
+        if status == Error::InsufficientBuffer.number() {
+            answers.resize(written, 0);
+            continue;
+        }
+        done(status)?;
+        answers.truncate(written);
+        return Ok(answers);
+    }
+}

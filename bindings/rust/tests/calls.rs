@@ -1,0 +1,139 @@
+//! The binding against the library: what is refused, what waits, what a host is told.
+
+use obman::{script, Answer, Create, Created, Error, Kind, Limits, Manager, Outcome, Slot, State, Waited, INFINITE};
+use std::sync::{Arc, Mutex};
+
+fn pending(waited: Waited) -> u32 {
+    match waited {
+        Waited::Pending(wait) => wait,
+        Waited::Over(outcome) => panic!("a wait is over: {outcome:?}"),
+    }
+}
+
+#[test]
+fn a_child_inherits_and_sets_what_its_parent_waits_for() -> Result<(), Error> {
+    let mut m = Manager::new(&Limits::default())?;
+    let parent = m.spawn(1)?;
+    let of = Create { inherit: true, ..Create::named("ready") };
+    let event = m.create_event(parent.thread, &of, false, false)?.opening();
+    let child = m.child(parent.thread, true)?;
+    assert_eq!(m.resolve(child.process, event.handle)?, event.object);
+    let wait = pending(m.wait(parent.thread, false, INFINITE, &[event.handle])?);
+    assert_eq!(m.close(parent.thread, event.handle), Err(Error::Busy));
+    m.set_event(child.thread, event.handle)?;
+    let answers: Vec<Answer> = m.answers().collect();
+    assert_eq!(answers, [Answer { wait, thread: parent.thread, outcome: Outcome::Signaled(0) }]);
+    assert_eq!(m.wait_result(wait), Err(Error::InvalidParameter));
+    Ok(())
+}
+
+#[test]
+fn a_mutex_is_abandoned() -> Result<(), Error> {
+    let mut m = Manager::new(&Limits::default())?;
+    let (first, second) = (m.spawn(1)?, m.spawn(1)?);
+    let mutex = m.create_mutex(first.thread, &Create::named("Local\\m"), true)?.opening();
+    let Created::Existed(again) = m.create_mutex(second.thread, &Create::named("m"), true)? else {
+        panic!("the mutex is there");
+    };
+    assert_eq!(again.object, mutex.object);
+    assert_eq!(m.release_mutex(second.thread, again.handle), Err(Error::NotOwner));
+    m.exit(first.process)?;
+    assert_eq!(m.state(mutex.object)?, State::Mutex { owner: None, recursion: 0, abandoned: true });
+    assert_eq!(m.wait(second.thread, false, 0, &[again.handle])?, Waited::Over(Outcome::Abandoned(0)));
+    m.release_mutex(second.thread, again.handle)
+}
+
+#[test]
+fn a_timer_fires_and_a_wait_runs_out_of_time() -> Result<(), Error> {
+    let mut m = Manager::new(&Limits::default())?;
+    let (first, second) = (m.spawn(1)?, m.spawn(1)?);
+    let timer = m.create_timer(first.thread, &Create::default(), true)?.opening();
+    let over = m.create_event(second.thread, &Create::default(), true, false)?.opening();
+    assert_eq!(m.next_due(), None);
+    m.set_timer(first.thread, timer.handle, -10_000)?;
+    pending(m.wait(first.thread, false, INFINITE, &[timer.handle])?);
+    pending(m.wait(second.thread, false, 2, &[over.handle])?);
+    for outcome in [Outcome::Signaled(0), Outcome::TimedOut] {
+        let moment = m.next_due().expect("something is due");
+        m.tick(moment)?;
+        assert_eq!(m.answers().map(|answer| answer.outcome).collect::<Vec<_>>(), [outcome]);
+    }
+    assert_eq!((m.next_due(), m.now()), (None, 20_000));
+    assert_eq!(m.tick(19_999), Err(Error::InvalidParameter));
+    Ok(())
+}
+
+#[test]
+fn walks_come_to_all_that_there_is() -> Result<(), Error> {
+    let mut m = Manager::new(&Limits::default())?;
+    let (first, second) = (m.spawn(1)?, m.spawn(2)?);
+    let thread = m.thread(first.process)?;
+    let event = m.create_event(first.thread, &Create::named("a"), true, true)?.opening();
+    let semaphore = m.create_semaphore(first.thread, &Create::default(), 1, 3)?.opening();
+    assert_eq!(m.processes().collect::<Vec<_>>(), [first.process, second.process]);
+    assert_eq!(m.threads(first.process).collect::<Vec<_>>(), [first.thread, thread]);
+    assert_eq!(m.handles(first.process).map(|entry| entry.handle).collect::<Vec<_>>(), [event.handle, semaphore.handle]);
+    assert_eq!(m.objects().collect::<Vec<_>>(), [event.object, semaphore.object]);
+    assert_eq!(m.names().map(|name| name.base).collect::<Vec<_>>(), [b"a".to_vec()]);
+    assert_eq!(m.state(semaphore.object)?, State::Semaphore { count: 1, max: 3 });
+    assert_eq!(m.handle(first.process, event.handle)?.access, obman::EVENT_ALL_ACCESS);
+    assert_eq!((m.session_of(second.process)?, m.process_of(thread)), (2, Some(first.process)));
+    Ok(())
+}
+
+#[test]
+fn a_reader_holds_a_slot_behind_its_managers_back() -> Result<(), Error> {
+    let mut m = Manager::new(&Limits::default())?;
+    let mut other = Manager::new(&Limits::default())?;
+    let member = m.spawn(1)?;
+    let event = m.create_event(member.thread, &Create::default(), true, false)?.opening();
+    let mut reader = m.reader()?;
+    reader.pin(event.object)?;
+    assert_eq!(reader.describe(event.object)?, Kind::Event { manual: true });
+    assert_eq!(m.inspect(&mut reader, event.object)?.kind, Kind::Event { manual: true });
+    assert_eq!(other.inspect(&mut reader, event.object), Err(Error::InvalidParameter));
+    m.close(member.thread, event.handle)?;
+    assert_eq!(m.ended().iter().map(|ended| ended.slot).collect::<Vec<_>>(), [Slot::Held(1)]);
+    reader.unpin(event.object)?;
+    assert_eq!(m.ended().iter().map(|ended| ended.slot).collect::<Vec<_>>(), [Slot::Freed]);
+    assert_eq!(reader.unpin(event.object), Err(Error::InvalidHandle));
+    Ok(())
+}
+
+#[test]
+fn limits_out_of_range_are_refused_and_errors_have_names() {
+    assert_eq!(Manager::new(&Limits { slots: 0, ..Limits::default() }).err(), Some(Error::InvalidParameter));
+    assert_eq!(Error::Busy.to_string(), "ERROR_BUSY (170)");
+}
+
+#[test]
+fn a_script_is_answered() -> Result<(), Error> {
+    assert_eq!(script(&Limits::default(), b"spawn 1\nevent t1 auto set\n")?, b"p1 t1\nh4 new s0.1\n");
+    Ok(())
+}
+
+#[test]
+fn threads_share_a_manager_behind_a_lock() -> Result<(), Error> {
+    let m = Arc::new(Mutex::new(Manager::new(&Limits::default())?));
+    let threads: Vec<_> = (0..4)
+        .map(|_| {
+            let m = Arc::clone(&m);
+            std::thread::spawn(move || -> Result<(), Error> {
+                let member = m.lock().unwrap().spawn(1)?;
+                for _ in 0..1_000 {
+                    let event = m.lock().unwrap().create_event(member.thread, &Create::default(), true, true)?.opening();
+                    let waited = m.lock().unwrap().wait(member.thread, false, 0, &[event.handle])?;
+                    assert_eq!(waited, Waited::Over(Outcome::Signaled(0)));
+                    m.lock().unwrap().close(member.thread, event.handle)?;
+                    let reaped = m.lock().unwrap().reap(event.object.slot)?;
+                    assert_eq!((reaped.object, reaped.slot), (event.object, Slot::Freed));
+                }
+                Ok(())
+            })
+        })
+        .collect();
+    for thread in threads {
+        thread.join().unwrap()?;
+    }
+    Ok(())
+}
