@@ -3,7 +3,7 @@
  *
  * A manager does nothing by itself. Whoever runs the guests tells it what they do, and is told what comes of it: it has no thread,
  * takes no lock, reads no clock, and never waits. A call in which a guest's thread would wait answers OM_ERROR_IO_PENDING at once,
- * with the wait's number; om_wait_result says later how it ended.
+ * with the wait's number; om_take_answered says later which waits have ended, and how.
  *
  * Rules of use
  *
@@ -35,8 +35,13 @@
  *
  * docs/EMBEDDING.md says how a host does that, and what it does for what isn't here.
  *
- * Handles are 4, 8, 12 and so on; their two lowest bits are ignored. Processes, threads and waits have numbers from 1. A name may
- * begin with Global\ or Local\ and has at most 260 bytes; it need not end in a zero byte.
+ * Handles are 4, 8, 12 and so on; their two lowest bits are ignored. Processes, threads and waits have numbers from 1.
+ *
+ * A name is 1 to 260 bytes of printable ASCII, 0x20 to 0x7E, in which case counts; it need not end in a zero byte, and a host maps other
+ * text so. It may begin with Global\, for all sessions, or Local\, as without either for that of the process; session 0 is the global
+ * one. The reasons that are given for a name: OM_ERROR_FILENAME_EXCED_RANGE past 260 bytes, the prefix counted in;
+ * OM_ERROR_INVALID_PARAMETER for another byte, and for nothing behind the prefix; OM_ERROR_PATH_NOT_FOUND for a further backslash, so
+ * for another prefix.
  *
  * Where it is said why a call is refused, the reasons stand in the order in which they are tested. In every call that a guest's
  * thread makes (its second parameter is `thread`; the end of a thread is nobody's call) these come first:
@@ -238,7 +243,8 @@ void om_free(om_manager m);
 
 /* ---- Processes and threads ---- */
 
-/* A guest's process begins in a session, with its first thread (CreateProcess, by nobody's process).
+/* A guest's process begins in a session, with its first thread (CreateProcess, by nobody's process). A session is any number: 1 will
+ * do for guests that are one user's.
  * OM_ERROR_NO_SYSTEM_RESOURCES where each process number or each thread number was given; OM_ERROR_NOT_ENOUGH_MEMORY. */
 uint32_t om_spawn(om_manager *m, uint32_t session, om_member *member);
 
@@ -252,8 +258,8 @@ uint32_t om_child(om_manager *m, uint32_t thread, bool inherit, om_member *membe
  * OM_ERROR_NOT_ENOUGH_MEMORY. */
 uint32_t om_thread(om_manager *m, uint32_t process, uint32_t *thread);
 
-/* A thread ends, whether it waits or not (ExitThread, TerminateThread): its wait is dropped, its mutexes are abandoned, and with
- * its last thread a process ends.
+/* A thread ends, whether it waits or not (ExitThread, TerminateThread): its wait is dropped, or its answer, though what that took stays
+ * taken; its mutexes are abandoned; and with its last thread a process ends.
  * OM_ERROR_INVALID_PARAMETER where no such thread lives. */
 uint32_t om_end_thread(om_manager *m, uint32_t thread);
 
@@ -264,7 +270,7 @@ uint32_t om_exit(om_manager *m, uint32_t process);
 /* ---- Objects ---- */
 
 /* A new event and a handle to it (CreateEvent, CreateEventEx). `manual`: it stays set until it is reset. `set`: it begins so.
- * Where an event has the name already the handle is to that one, and the answer is OM_ERROR_ALREADY_EXISTS.
+ * Where an event has the name already the handle is to that one, *opening is written too, and the answer is OM_ERROR_ALREADY_EXISTS.
  * OM_ERROR_INVALID_PARAMETER for a grant with a right that events haven't; for the name OM_ERROR_FILENAME_EXCED_RANGE,
  * OM_ERROR_INVALID_PARAMETER or OM_ERROR_PATH_NOT_FOUND; OM_ERROR_INVALID_HANDLE where an object of another kind has it;
  * OM_ERROR_ACCESS_DENIED for rights that events haven't, or that the object's grant doesn't allow; OM_ERROR_NO_SYSTEM_RESOURCES
@@ -371,8 +377,8 @@ uint32_t om_cancel_timer(om_manager *m, uint32_t thread, uint32_t handle);
  * OM_ERROR_INVALID_PARAMETER for a moment before that of the last tick, or above 9,223,372,036,854,775,807. */
 uint32_t om_tick(om_manager *m, uint64_t now);
 
-/* The next moment at which something is due: the least of those of all set timers and of the deadlines of all pending waits. A tick to
- * an earlier moment wakes nobody.
+/* The next moment at which something is due: the least of those of all set timers and of the deadlines of all pending waits, which is
+ * after now; however many there are, it is known at once. A tick to an earlier moment wakes nobody.
  * OM_ERROR_NO_MORE_ITEMS where nothing is due. */
 uint32_t om_next_due(om_manager *m, uint64_t *moment);
 
@@ -384,7 +390,7 @@ uint32_t om_next_due(om_manager *m, uint64_t *moment);
  * OM_WAIT_OBJECT_0, or OM_WAIT_ABANDONED_0 where one is an abandoned mutex. Else, for 0 milliseconds, the answer is 0 and *answer
  * OM_WAIT_TIMEOUT; and for others the answer is OM_ERROR_IO_PENDING and *answer the wait's number: it lasts until a tick to the
  * moment so many milliseconds (of 10,000 units each) from now, and for OM_INFINITE until it is satisfied. A pending wait keeps its
- * objects; until om_wait_result takes its answer its thread makes no other call.
+ * objects; until its answer is taken (om_take_answered, om_wait_result) its thread makes no other call.
  * OM_ERROR_INVALID_PARAMETER for no handle, more than 64, or one that stands twice; OM_ERROR_INVALID_HANDLE where there is no such
  * handle; OM_ERROR_ACCESS_DENIED without OM_SYNCHRONIZE; OM_ERROR_INVALID_PARAMETER where a wait for all is for one object twice;
  * OM_ERROR_NO_SYSTEM_RESOURCES for a mutex that the thread owns as often as it may, and where the wait would be pending and each
@@ -438,8 +444,9 @@ uint32_t om_counts(om_manager *m, uint32_t slot, uint32_t generation, om_referen
 uint32_t om_reap(om_manager *m, uint32_t slot, om_reaping *reaping);
 
 /* Takes back the slots of all objects that nothing refers to, by rising slot: each is one om_reap, and those that somebody pins are told
- * too, once in a call. `capacity` places stand at `reapings`, and *count says how many were written. Where that is all of them there
- * may be more, and the next call goes on, where there are more places than pinned objects. It answers always 0. */
+ * too, once in each call: so don't repeat it until there is nothing left. `capacity` places stand at `reapings`, and *count says how many
+ * were written; where that is all of them, what is behind the last is for the next call, which needs more places than there are pinned
+ * objects to come to it. A reader pins 16 at most. It answers always 0. */
 uint32_t om_take_ended(om_manager *m, om_reaping *reapings, size_t capacity, size_t *count);
 
 /* A row of the directory, which has the names in the order in which their objects were made. The name is written without its

@@ -163,6 +163,11 @@ impl Limits {
         max_gen: u32::MAX,
         max_recursion: 2_147_483_647,
     };
+
+    fn raw(&self) -> sys::om_limits {
+        let Limits { slots, processes, threads, handles, waits, max_pins, max_gen, max_recursion } = *self;
+        sys::om_limits { slots, processes, threads, handles, waits, max_pins, max_gen, max_recursion }
+    }
 }
 
 impl Default for Limits {
@@ -461,16 +466,7 @@ impl fmt::Debug for Manager {
 impl Manager {
     /// A manager with no process.
     pub fn new(limits: &Limits) -> Result<Manager, Error> {
-        let limits = sys::om_limits {
-            slots: limits.slots,
-            processes: limits.processes,
-            threads: limits.threads,
-            handles: limits.handles,
-            waits: limits.waits,
-            max_pins: limits.max_pins,
-            max_gen: limits.max_gen,
-            max_recursion: limits.max_recursion,
-        };
+        let limits = limits.raw();
         let mut m = sys::om_manager { at: std::ptr::null_mut() };
         done(unsafe { sys::om_new(&limits, &mut m) })?;
         Ok(Manager { m, number: MANAGERS.fetch_add(1, Ordering::Relaxed) })
@@ -834,16 +830,7 @@ impl Reader {
 
 /// Answers a whole script over a manager of its own, as the program `obman` does.
 pub fn script(limits: &Limits, script: &[u8]) -> Result<Vec<u8>, Error> {
-    let limits = sys::om_limits {
-        slots: limits.slots,
-        processes: limits.processes,
-        threads: limits.threads,
-        handles: limits.handles,
-        waits: limits.waits,
-        max_pins: limits.max_pins,
-        max_gen: limits.max_gen,
-        max_recursion: limits.max_recursion,
-    };
+    let limits = limits.raw();
     let mut answers = vec![0; 2 * script.len() + 256];
     loop {
         let mut written = 0;
