@@ -18,6 +18,8 @@ mod directory;
 mod given;
 #[path = "parts/handles.rs"]
 mod handles;
+#[path = "parts/herds.rs"]
+mod herds;
 #[path = "parts/id.rs"]
 mod id;
 #[path = "parts/lives.rs"]
@@ -33,11 +35,12 @@ mod waiting;
 
 use answers::{Fault, Kind, Limits, MODIFY_STATE, Mode, Reply, Timeout};
 use cases::{
-    Case, ChildAndExit, OwnerAndEnd, ThreadAndEnd, WaitAndSet, WaitForAll, WaitForAny, code_of, pending, rounds_at, spawned,
-    started,
+    Case, ChildAndExit, OwnerAndEnd, ThreadAndEnd, WaitAndSet, WaitForAll, WaitForAny, WaitForSome, code_of, pending,
+    rounds_at, spawned, started,
 };
 use directory::text;
 use given::{done, given, plain, refusal};
+use herds::{Gathered, HERDS};
 use id::Id;
 use manager::Manager;
 use std::time::{Duration, Instant};
@@ -82,12 +85,14 @@ struct Plan {
     rounds: u32,
     managers: u32,
     lives: u32,
+    waits: u32,
     is_timed: bool,
 }
 
-const MEASURED: Plan = Plan { batches: 1000, rounds: 1_000_000, managers: 20, lives: 1000, is_timed: true };
+const MEASURED: Plan =
+    Plan { batches: 1000, rounds: 1_000_000, managers: 20, lives: 1000, waits: 240_000, is_timed: true };
 
-const SHOWN: Plan = Plan { batches: 2, rounds: 100, managers: 2, lives: 10, is_timed: false };
+const SHOWN: Plan = Plan { batches: 2, rounds: 100, managers: 2, lives: 10, waits: 6, is_timed: false };
 
 fn live_events(manager: &mut Manager, count: u32) -> Result<Vec<Live>, Fault> {
     let (mut process, mut thread) = (0, 0);
@@ -333,8 +338,21 @@ fn run_crowd(plan: Plan, count: u32) -> Result<(), Fault> {
 fn run_waits(plan: Plan, beside: u32) -> Result<(), Fault> {
     measure_wait::<WaitForAny>(plan, "wait for any", 64)?;
     measure_wait::<WaitForAll>(plan, "wait for all", 64)?;
+    measure_wait::<WaitForSome>(plan, "wait for any, set and result", 64)?;
     measure_wait::<WaitAndSet>(plan, "wait, set and result, waits beside", 0)?;
     measure_wait::<WaitAndSet>(plan, "wait, set and result, waits beside", beside)
+}
+
+/// So many threads that all wait for one object.
+fn run_herds(plan: Plan, count: u32) -> Result<(), Fault> {
+    for herd in HERDS {
+        let rounds = (plan.waits / count).max(1);
+        let mut gathered = Gathered::new(LIMITS, herd, count)?;
+        let started = Instant::now();
+        let sum = gathered.rounds(rounds)?;
+        report(plan, herd.name(), count as usize, rounds * count, started.elapsed(), sum);
+    }
+    Ok(())
 }
 
 fn run_children(plan: Plan, handles: u32) -> Result<(), Fault> {
@@ -350,12 +368,14 @@ fn main() -> Result<(), Fault> {
     if std::env::args().count() > 1 {
         [16, 1000, 60000].into_iter().try_for_each(|count| run(MEASURED, count))?;
         run_waits(MEASURED, 10000)?;
+        [1, 1000, 16000, 60000].into_iter().try_for_each(|count| run_herds(MEASURED, count))?;
         [16, 1000].into_iter().try_for_each(|handles| run_children(MEASURED, handles))?;
         [1, 16, 1000, 60000].into_iter().try_for_each(|guests| run_crowd(MEASURED, guests))?;
         return [16, 60000].into_iter().try_for_each(|count| run_threads(MEASURED, count));
     }
     run(SHOWN, 16)?;
     run_waits(SHOWN, 16)?;
+    run_herds(SHOWN, 3)?;
     run_children(SHOWN, 16)?;
     run_threads(SHOWN, 16)
 }

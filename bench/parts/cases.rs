@@ -141,6 +141,25 @@ impl Case for WaitForAll {
     }
 }
 
+/// A wait for any of some events becomes pending, the last of them is set, and the answer is taken.
+pub struct WaitForSome;
+
+impl Case for WaitForSome {
+    fn home(limits: Limits, count: u32) -> Result<Home, Fault> {
+        let mut home = Home::empty(limits)?;
+        (0..count).try_for_each(|_| home.add_event(false, false))?;
+        home.other = started(home.manager.thread(home.process))?;
+        Ok(home)
+    }
+
+    fn round(home: &mut Home) -> Result<u32, Fault> {
+        let wait = pending(home.manager.wait(home.other, Mode::Any, Timeout::Infinite, &home.handles))?;
+        let handle = home.last();
+        done(home.manager.set_event(home.thread, handle))?;
+        code_of(home.manager.wait_result(wait))
+    }
+}
+
 /// A thread waits for an event, another sets it, and the answer is taken, beside waits of other threads for other events.
 pub struct WaitAndSet;
 

@@ -1,4 +1,4 @@
-//! Waits: by number, and by the slots of what they wait for.
+//! Waits: each at its thread, in linked lists by the slots of what it waits for, and found by its number.
 
 use crate::answers::{Fault, Mode, WAIT_TIMEOUT};
 use crate::id::Id;
@@ -6,35 +6,103 @@ use crate::objects::Objects;
 use std::collections::{HashMap, VecDeque};
 use std::hash::{BuildHasherDefault, Hasher};
 
-/// One object in place, or a list.
-enum Ids {
-    One([Id; 1]),
-    More(Vec<Id>),
+/// No place.
+const NONE: u32 = u32::MAX;
+
+/// A wait's place in the list of a slot. A free one is linked by `behind`.
+#[derive(Clone, Copy)]
+struct Block {
+    number: u32,
+    thread: u32,
+    id: Id,
+    before: u32,
+    behind: u32,
 }
 
-impl Ids {
-    fn new(ids: &[Id]) -> Ids {
-        match ids {
-            [id] => Ids::One([*id]),
-            _ => Ids::More(ids.to_vec()),
-        }
+/// The blocks of a slot, by rising number of their waits.
+#[derive(Clone, Copy)]
+struct Queue {
+    first: u32,
+    last: u32,
+}
+
+struct Blocks {
+    pool: Vec<Block>,
+    free: u32,
+    queues: Vec<Queue>,
+}
+
+impl Blocks {
+    fn first(&self, slot: u32) -> u32 {
+        self.queues.get(slot as usize).map_or(NONE, |queue| queue.first)
     }
 
-    fn as_slice(&self) -> &[Id] {
+    fn queue(&mut self, slot: u32) -> &mut Queue {
+        let at = slot as usize;
+        if self.queues.len() <= at {
+            self.queues.resize(at + 1, Queue { first: NONE, last: NONE });
+        }
+        &mut self.queues[at]
+    }
+
+    /// A block at the end of its slot's list; its place.
+    fn link(&mut self, number: u32, thread: u32, id: Id) -> u32 {
+        let before = self.queue(id.slot).last;
+        let block = Block { number, thread, id, before, behind: NONE };
+        let place = if self.free == NONE {
+            self.pool.push(block);
+            self.pool.len() as u32 - 1
+        } else {
+            let place = self.free;
+            self.free = self.pool[place as usize].behind;
+            self.pool[place as usize] = block;
+            place
+        };
+        match before {
+            NONE => self.queue(id.slot).first = place,
+            _ => self.pool[before as usize].behind = place,
+        }
+        self.queue(id.slot).last = place;
+        place
+    }
+
+    fn unlink(&mut self, place: u32) {
+        let Block { id, before, behind, .. } = self.pool[place as usize];
+        match before {
+            NONE => self.queue(id.slot).first = behind,
+            _ => self.pool[before as usize].behind = behind,
+        }
+        match behind {
+            NONE => self.queue(id.slot).last = before,
+            _ => self.pool[behind as usize].before = before,
+        }
+        self.pool[place as usize].behind = self.free;
+        self.free = place;
+    }
+}
+
+/// The blocks of a wait: one in place, or a list.
+enum Places {
+    One([u32; 1]),
+    More(Vec<u32>),
+}
+
+impl Places {
+    fn as_slice(&self) -> &[u32] {
         match self {
-            Ids::One(id) => id,
-            Ids::More(ids) => ids,
+            Places::One(place) => place,
+            Places::More(places) => places,
         }
     }
 }
 
 enum State {
-    Pending(Mode, Ids),
+    Pending(Mode, Places),
     Answered(u32),
 }
 
 struct Wait {
-    thread: u32,
+    number: u32,
     state: State,
 }
 
@@ -79,27 +147,23 @@ pub fn try_now(objects: &mut Objects, thread: u32, mode: Mode, ids: &[Id]) -> Op
     }
 }
 
-/// The waits of all threads, by their numbers, which rise from 1.
+/// The waits of all threads. Their numbers rise from 1.
 pub struct Waits {
     limit: u32,
     given: u32,
-    live: HashMap<u32, Wait, BuildHasherDefault<NumberHasher>>,
-    /// By slot, the pending waits that list its object, by rising number.
-    rows: Vec<Vec<u32>>,
+    /// By thread.
+    waits: Vec<Option<Wait>>,
+    /// By number.
+    threads: HashMap<u32, u32, BuildHasherDefault<NumberHasher>>,
+    blocks: Blocks,
     /// Those that are answered and not taken, by rising number.
     answered: VecDeque<u32>,
 }
 
-fn leave_row(rows: &mut [Vec<u32>], slot: u32, number: u32) {
-    let row = &mut rows[slot as usize];
-    if let Ok(at) = row.binary_search(&number) {
-        row.remove(at);
-    }
-}
-
 impl Waits {
     pub fn new(limit: u32) -> Waits {
-        Waits { limit, given: 0, live: HashMap::default(), rows: Vec::new(), answered: VecDeque::new() }
+        let blocks = Blocks { pool: Vec::new(), free: NONE, queues: Vec::new() };
+        Waits { limit, given: 0, waits: Vec::new(), threads: HashMap::default(), blocks, answered: VecDeque::new() }
     }
 
     /// The wait's number, and where each was given, the limit.
@@ -109,17 +173,17 @@ impl Waits {
         }
         self.given += 1;
         let number = self.given;
-        for id in ids {
-            let slot = id.slot as usize;
-            if self.rows.len() <= slot {
-                self.rows.resize_with(slot + 1, Vec::new);
-            }
-            if self.rows[slot].last() != Some(&number) {
-                self.rows[slot].push(number);
-            }
-        }
+        let places = match ids {
+            [id] => Places::One([self.blocks.link(number, thread, *id)]),
+            _ => Places::More(ids.iter().map(|id| self.blocks.link(number, thread, *id)).collect()),
+        };
         objects.blocks_came(ids);
-        self.live.insert(number, Wait { thread, state: State::Pending(mode, Ids::new(ids)) });
+        let at = thread as usize;
+        if self.waits.len() <= at {
+            self.waits.resize_with(at + 1, || None);
+        }
+        self.waits[at] = Some(Wait { number, state: State::Pending(mode, places) });
+        self.threads.insert(number, thread);
         Ok(number)
     }
 
@@ -147,21 +211,35 @@ impl Waits {
         self.answered.front().copied()
     }
 
+    fn found(&self, number: u32) -> Result<(u32, &Wait), Fault> {
+        let thread = *self.threads.get(&number).ok_or(Fault::Parameter)?;
+        Ok((thread, self.waits[thread as usize].as_ref().ok_or(Fault::Parameter)?))
+    }
+
     #[allow(dead_code)]
     pub fn is_pending(&self, number: u32) -> bool {
-        self.live.get(&number).is_some_and(|wait| matches!(wait.state, State::Pending(..)))
+        self.found(number).is_ok_and(|(_, wait)| matches!(wait.state, State::Pending(..)))
     }
 
     /// The waits for a slot take effect, by rising number, as long as it has something to take.
     pub fn settle_after(&mut self, objects: &mut Objects, slot: u32) {
-        let mut at = 0;
-        while objects.is_free(slot) {
-            let Some(number) = self.rows.get(slot as usize).and_then(|row| row.get(at)) else {
-                return;
-            };
-            if !self.take_effect(objects, *number) {
-                at += 1;
+        let mut place = self.blocks.first(slot);
+        while place != NONE && objects.is_free(slot) {
+            let Block { number, thread, .. } = self.blocks.pool[place as usize];
+            // (a wait may have several blocks here, and all leave with it)
+            while place != NONE && self.blocks.pool[place as usize].number == number {
+                place = self.blocks.pool[place as usize].behind;
             }
+            self.take_effect(objects, thread);
+        }
+    }
+
+    fn waiters(&self, slot: u32, found: &mut Vec<(u32, u32)>) {
+        let mut place = self.blocks.first(slot);
+        while place != NONE {
+            let block = self.blocks.pool[place as usize];
+            found.push((block.number, block.thread));
+            place = block.behind;
         }
     }
 
@@ -171,75 +249,100 @@ impl Waits {
             [] => {}
             [slot] => self.settle_after(objects, *slot),
             _ => {
-                let rows = slots.iter().filter_map(|slot| self.rows.get(*slot as usize));
-                let mut numbers: Vec<u32> = rows.flatten().copied().collect();
-                numbers.sort_unstable();
-                numbers.dedup();
-                for number in numbers {
-                    self.take_effect(objects, number);
+                let mut found = Vec::new();
+                slots.iter().for_each(|slot| self.waiters(*slot, &mut found));
+                found.sort_unstable();
+                found.dedup();
+                for (_, thread) in found {
+                    self.take_effect(objects, thread);
                 }
             }
         }
     }
 
-    /// Whether the wait was ready.
-    fn take_effect(&mut self, objects: &mut Objects, number: u32) -> bool {
-        let Some(wait) = self.live.get_mut(&number) else {
-            return false;
-        };
-        let State::Pending(mode, ids) = &wait.state else {
-            return false;
-        };
-        let Some(code) = try_now(objects, wait.thread, *mode, ids.as_slice()) else {
-            return false;
-        };
-        for id in ids.as_slice() {
-            leave_row(&mut self.rows, id.slot, number);
-            objects.block_left(id.slot);
+    /// What a list of blocks takes now, and its code.
+    fn try_blocks(&self, objects: &mut Objects, thread: u32, mode: Mode, places: &[u32]) -> Option<u32> {
+        let slot = |place: &u32| self.blocks.pool[*place as usize].id.slot;
+        match mode {
+            Mode::Any => {
+                let index = places.iter().position(|place| objects.is_signaled(thread, slot(place)))?;
+                let was_abandoned = objects.acquire(thread, slot(&places[index]));
+                Some(index as u32 + if was_abandoned { 128 } else { 0 })
+            }
+            Mode::All => {
+                if !places.iter().all(|place| objects.is_signaled(thread, slot(place))) {
+                    return None;
+                }
+                let mut was_abandoned = false;
+                for place in places {
+                    was_abandoned |= objects.acquire(thread, slot(place));
+                }
+                Some(if was_abandoned { 128 } else { 0 })
+            }
         }
-        wait.state = State::Answered(code);
-        self.note_answer(number);
+    }
+
+    /// Whether the wait was ready.
+    fn take_effect(&mut self, objects: &mut Objects, thread: u32) -> bool {
+        let Some(Wait { state: State::Pending(mode, places), .. }) = &self.waits[thread as usize] else {
+            return false;
+        };
+        let Some(code) = self.try_blocks(objects, thread, *mode, places.as_slice()) else {
+            return false;
+        };
+        self.answer(objects, thread, code);
         true
+    }
+
+    fn leave(blocks: &mut Blocks, objects: &mut Objects, places: &Places) {
+        for place in places.as_slice() {
+            let slot = blocks.pool[*place as usize].id.slot;
+            blocks.unlink(*place);
+            objects.block_left(slot);
+        }
+    }
+
+    /// The pending wait of a thread is answered.
+    fn answer(&mut self, objects: &mut Objects, thread: u32, code: u32) {
+        let Some(wait) = &mut self.waits[thread as usize] else {
+            return;
+        };
+        if let State::Pending(_, places) = std::mem::replace(&mut wait.state, State::Answered(code)) {
+            let number = wait.number;
+            Waits::leave(&mut self.blocks, objects, &places);
+            self.note_answer(number);
+        }
     }
 
     /// What became of a wait, which is over with its answer: its thread and the code.
     pub fn take_result(&mut self, number: u32) -> Result<Option<(u32, u32)>, Fault> {
-        let wait = self.live.get(&number).ok_or(Fault::Parameter)?;
+        let (thread, wait) = self.found(number)?;
         let State::Answered(code) = wait.state else {
             return Ok(None);
         };
-        let thread = wait.thread;
-        self.live.remove(&number);
+        self.waits[thread as usize] = None;
+        self.threads.remove(&number);
         self.drop_answer(number);
         Ok(Some((thread, code)))
     }
 
     pub fn expire(&mut self, objects: &mut Objects, number: u32) -> Result<(), Fault> {
-        let wait = self.live.get_mut(&number).ok_or(Fault::Parameter)?;
-        let State::Pending(_, ids) = &wait.state else {
+        let (thread, wait) = self.found(number)?;
+        let State::Pending(..) = wait.state else {
             return Err(Fault::Parameter);
         };
-        for id in ids.as_slice() {
-            leave_row(&mut self.rows, id.slot, number);
-            objects.block_left(id.slot);
-        }
-        wait.state = State::Answered(WAIT_TIMEOUT);
-        self.note_answer(number);
+        self.answer(objects, thread, WAIT_TIMEOUT);
         Ok(())
     }
 
     /// A wait goes with its thread.
     pub fn drop_wait(&mut self, objects: &mut Objects, number: u32) {
-        let Some(wait) = self.live.remove(&number) else {
+        let Some(thread) = self.threads.remove(&number) else {
             return;
         };
-        let State::Pending(_, ids) = &wait.state else {
-            self.drop_answer(number);
-            return;
-        };
-        for id in ids.as_slice() {
-            leave_row(&mut self.rows, id.slot, number);
-            objects.block_left(id.slot);
+        match self.waits[thread as usize].take() {
+            Some(Wait { state: State::Pending(_, places), .. }) => Waits::leave(&mut self.blocks, objects, &places),
+            _ => self.drop_answer(number),
         }
     }
 }

@@ -7,13 +7,15 @@
 //! every 1000 rounds, which is made outside of what is timed.
 mod answers;
 mod cases;
+mod herds;
 mod live;
 mod rounds;
 
 use cases::{
     Case, ChildAndExit, Home, OwnerAndEnd, ThreadAndEnd, WaitAndSet, WaitForAll, WaitForAny,
-    add_process, empty_home, rounds_at,
+    WaitForSome, add_process, empty_home, rounds_at,
 };
+use herds::Herd;
 use live::{Live, Measured, Text, live_events, measured, texts};
 use rounds::{
     Counts, DuplicateAndClose, OpenAndClose, Resolve, Round, SetAndReset, SetAndWait, make, reap,
@@ -32,6 +34,7 @@ struct Plan {
     rounds: u32,
     managers: u32,
     lives: u32,
+    waits: u32,
     is_timed: bool,
     are_apart: bool,
 }
@@ -41,6 +44,7 @@ const MEASURED: Plan = Plan {
     rounds: 1_000_000,
     managers: 20,
     lives: 1000,
+    waits: 240_000,
     is_timed: true,
     are_apart: false,
 };
@@ -55,6 +59,7 @@ const SHOWN: Plan = Plan {
     rounds: 100,
     managers: 2,
     lives: 10,
+    waits: 6,
     is_timed: false,
     are_apart: false,
 };
@@ -320,6 +325,7 @@ fn measure_life<C: Case>(
 fn run_waits(rt: &(impl Print + Clock), alloc: Global, plan: Plan, beside: u32) -> Option<()> {
     measure_wait::<WaitForAny>(rt, alloc, plan, "wait for any", 64)?;
     measure_wait::<WaitForAll>(rt, alloc, plan, "wait for all", 64)?;
+    measure_wait::<WaitForSome>(rt, alloc, plan, "wait for any, set and result", 64)?;
     measure_wait::<WaitAndSet>(rt, alloc, plan, "wait, set and result, waits beside", 0)?;
     measure_wait::<WaitAndSet>(
         rt,
@@ -328,6 +334,53 @@ fn run_waits(rt: &(impl Print + Clock), alloc: Global, plan: Plan, beside: u32) 
         "wait, set and result, waits beside",
         beside,
     )
+}
+
+fn timed_herd(
+    rt: &impl Clock,
+    home: &mut Home,
+    herd: Herd,
+    count: u32,
+    rounds: u32,
+) -> Option<Spent> {
+    add_process(home).ok()?;
+    herds::gather(home, herd, count).ok()?;
+    let started = Instant::now(rt).ok()?;
+    let sum = herds::rounds(home, herd, rounds).ok()?;
+    let nanos = started.elapsed(rt).ok()?.as_nanos();
+    Some(Spent { nanos, sum })
+}
+
+fn run_herd(
+    rt: &(impl Print + Clock),
+    alloc: Global,
+    plan: Plan,
+    herd: Herd,
+    count: u32,
+) -> Option<()> {
+    let rounds = plan.waits.checked_div(count)?.max(1);
+    let Ok(mut home) = empty_home(alloc) else {
+        return None;
+    };
+    let spent = timed_herd(rt, &mut home, herd, count, rounds);
+    drop(home);
+    let Spent { nanos, sum } = spent?;
+    let waits = rounds.saturating_mul(count);
+    report(rt, plan, herd.name(), count as usize, waits, nanos, sum)
+}
+
+/// So many threads that all wait for one object.
+fn run_herds(rt: &(impl Print + Clock), alloc: Global, plan: Plan, count: u32) -> Option<()> {
+    for herd in [
+        Herd::Event,
+        Herd::Halves,
+        Herd::Semaphore,
+        Herd::Mutex,
+        Herd::ManualEvent,
+    ] {
+        run_herd(rt, alloc, plan, herd, count)?;
+    }
+    Some(())
 }
 
 fn run_children(rt: &(impl Print + Clock), alloc: Global, plan: Plan, handles: u32) -> Option<()> {
@@ -345,6 +398,9 @@ pub fn measure_all(rt: &(impl Print + Clock), alloc: Global) -> Option<()> {
         run(rt, alloc, MEASURED, count)?;
     }
     run_waits(rt, alloc, MEASURED, 10000)?;
+    for count in [1, 1000, 16000, 60000] {
+        run_herds(rt, alloc, MEASURED, count)?;
+    }
     for handles in [16, 1000] {
         run_children(rt, alloc, MEASURED, handles)?;
     }
@@ -366,6 +422,7 @@ pub fn measure_apart(rt: &(impl Print + Clock), alloc: Global) -> Option<()> {
 pub fn show_all(rt: &(impl Print + Clock), alloc: Global) -> Option<()> {
     run(rt, alloc, SHOWN, 16)?;
     run_waits(rt, alloc, SHOWN, 16)?;
+    run_herds(rt, alloc, SHOWN, 3)?;
     run_children(rt, alloc, SHOWN, 16)?;
     run_threads(rt, alloc, SHOWN, 16)
 }

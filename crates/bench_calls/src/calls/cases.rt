@@ -7,11 +7,13 @@ use std::alloc::Global;
 /// A manager for a case that needs more than events with names, and who makes its calls.
 #[derive(Drop)]
 pub(crate) struct Home {
-    manager: Measured,
-    process: u32,
-    thread: u32,
-    other: u32,
-    handles: Vec<u32>,
+    pub(crate) manager: Measured,
+    pub(crate) process: u32,
+    pub(crate) thread: u32,
+    pub(crate) other: u32,
+    pub(crate) handles: Vec<u32>,
+    pub(crate) threads: Vec<u32>,
+    pub(crate) waits: Vec<u32>,
 }
 
 /// What is done in a round in a manager of its own.
@@ -40,6 +42,8 @@ pub(crate) fn empty_home(alloc: Global) -> Result<Home, Fault> {
         thread: 0,
         other: 0,
         handles: Vec::new(alloc),
+        threads: Vec::new(alloc),
+        waits: Vec::new(alloc),
     })
 }
 
@@ -102,6 +106,28 @@ fn wait_at_once(home: &mut Home, mode: Mode) -> Result<u32, Fault> {
             .wait(home.thread, mode, Timeout::Zero, &home.handles),
     )?;
     Ok(code.wrapping_add(1))
+}
+
+/// A wait for any of some events becomes pending, the last of them is set, and the answer is taken.
+pub(crate) struct WaitForSome;
+
+impl Case for WaitForSome {
+    fn fill(home: &mut Home, _: Global, count: u32) -> Result<(), Fault> {
+        for _ in 0..count {
+            add_event(home, false, false)?;
+        }
+        home.other = started(home.manager.thread(home.process))?;
+        Ok(())
+    }
+
+    fn round(home: &mut Home) -> Result<u32, Fault> {
+        let wait = pending(
+            home.manager
+                .wait(home.other, Mode::Any, Timeout::Infinite, &home.handles),
+        )?;
+        set_last(home)?;
+        code_of(home.manager.wait_result(wait))
+    }
 }
 
 /// A thread waits for an event, another sets it, and the answer is taken, beside waits of other threads for other events.
