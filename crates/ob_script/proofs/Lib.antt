@@ -7,3 +7,7 @@ pub mod Texts
 pub mod Verbs
 pub mod FirstWords
 pub mod Marked
+pub mod Numerals
+pub mod Spaces
+pub mod Fields
+pub mod ReadBack

@@ -4,3 +4,4 @@ pub mod WordsLeft
 pub mod Grammar
 pub mod Held
 pub mod Marks
+pub mod Writing

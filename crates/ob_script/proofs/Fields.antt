@@ -1,0 +1,311 @@
+-- What stands in the line of a call is read as it was written, field by field.
+use Rattle.std.proofs.Common.{◌≡◌, ℕ, zero, suc, ◌+◌, ◌<◌, ◌≤◌, arith, refl, ap, sym, ◌∙◌, List, [], ◌∷◌, ◌++◌, Bool, true, false, not, ◌&&◌, ◌==◌, Option, Some, None, decimal, map, codes, ◌^◌, nat_lt, if◌then◌else◌, is_some, cond, length, take, drop}
+use Rattle.std.specs.Fmt.{digits}
+use Rattle.std.specs.Str.{bytes_eq}
+use Rattle.std.specs.Str.Parse.{IsNumeral, AllDigits}
+use Rattle.std.specs.Char.{digit_value}
+use Rattle.std.specs.List.{position_or_len}
+use Rattle.std.proofs.Math.Seq.{take-append_seam, drop-append-add}
+use Rattle.memchr.specs.Find.{is_byte}
+use Rattle.std.specs.Option.{unwrap_or}
+use Rattle.std.proofs.lemmas.Bool.Decides.{nat_tests}
+use Rattle.std.proofs.lemmas.Fmt.{decimal_is_IsNumeral}
+use Rattle.pin_core.specs.declared.id.Id.{Id}
+use Rattle.ob_rights.specs.declared.kind.Kind.{Kind}
+use Rattle.ob_rights.specs.declared.kind.Kind.TheVariants.{Event, Mutex, Semaphore, Timer}
+use Rattle.ob_rights.specs.declared.rights.Rights.{Rights}
+use Rattle.ob_waits.specs.declared.wait.Mode.{Mode}
+use Rattle.ob_waits.specs.declared.wait.Mode.TheVariants.{Any, All}
+use Rattle.ob_manager.specs.declared.waiting.Timeout.{Timeout}
+use Rattle.ob_manager.specs.declared.waiting.Timeout.TheVariants.{Zero, Infinite, Millis}
+use Rattle.ob_manager.specs.Makings.{Making}
+use Rattle.ob_script.specs.Words.{words_of, joined, begins_with, behind, labelled, number_of, id_of, mask_of, kind_of, either_of, are_handles, handles_in, ◌>>=◌}
+use Rattle.ob_script.specs.Grammar.{some_mask, masked, text_of_words, name_of, named, make_of, target_of, access_of, closing_of, mode_of, timeout_of}
+use Rattle.ob_script.specs.Writing.{label, id_word, mask_word, either_word, word_if, mask_words, text_words, name_words, make_words, kind_word, mode_word, timeout_word, target_word, access_word, has_same, has_close}
+use Rattle.ob_script.proofs.Cuts.{words_joined, words_some}
+use Rattle.ob_script.proofs.Numerals.{reads_number, reads_mask, digit_is}
+use Rattle.ob_script.proofs.Spaces.{is_word, AreWords, read_words, reads_next, reads_front, word_append, decimal_word, hex_word, label_word}
+
+-- the next value is read, and what is made of it
+pub read_next : {A B : Type 0} (read : Option A) (value : A) (make : A → Option B) → read ≡ Some value → (read >>= make) ≡ make value
+read_next read value make is = ap (λ r. r >>= make) is
+
+-- an optional number fits 32 bits
+abbrev pub FitsMask : Option Rights → Type 0
+FitsMask None = Unit {0}
+FitsMask (Some mask) = mask.0 ≤ 4294967295
+
+pub reads_either : (first second : List ℕ) (is_so : Bool) → bytes_eq first first ≡ true → bytes_eq second first ≡ false → bytes_eq second second ≡ true
+    → either_of first second (either_word first second is_so) ≡ Some is_so
+reads_either first second true same other self = ap (λ b. if b then Some false else (if bytes_eq second second then Some true else None)) other ∙ ap (λ b. if b then Some true else None) self
+reads_either first second false same other self = ap (λ b. if b then Some false else (if bytes_eq first second then Some true else None)) same
+
+pub reads_rights : (mask : Rights) → mask.0 ≤ 4294967295 → mask_of (mask_word mask) ≡ Some mask
+reads_rights mask fits = reads_mask mask.0 fits
+
+-- what isn't the keyword stays
+not_behind : (keyword : List ℕ) (words : List (List ℕ)) → begins_with keyword words ≡ false → behind keyword words ≡ words
+not_behind keyword [] is = refl
+not_behind keyword (word ∷ words) is = ap (λ b. if b then words else word ∷ words) is
+
+pub behind_inherit : (is_so : Bool) (rest : List (List ℕ)) → begins_with (codes "inherit") rest ≡ false → behind (codes "inherit") (word_if is_so (codes "inherit") ++ rest) ≡ rest
+behind_inherit true rest is = refl
+behind_inherit false rest is = not_behind (codes "inherit") rest is
+
+pub begins_inherit : (is_so : Bool) (rest : List (List ℕ)) → begins_with (codes "inherit") rest ≡ false → begins_with (codes "inherit") (word_if is_so (codes "inherit") ++ rest) ≡ is_so
+begins_inherit true rest is = refl
+begins_inherit false rest is = is
+
+reads_masked : (keyword : List ℕ) (mask : Option Rights) (rest : List (List ℕ)) → bytes_eq keyword keyword ≡ true → begins_with keyword rest ≡ false → FitsMask mask
+    → masked keyword (mask_words keyword mask ++ rest) ≡ Some (mask, rest)
+reads_masked keyword None rest self is fits = ap (λ b. if b then some_mask (behind keyword rest) else Some (None, rest)) is
+reads_masked keyword (Some mask) rest self is fits =
+    ap (λ b. if b then some_mask (if b then mask_word mask ∷ rest else keyword ∷ mask_word mask ∷ rest) else Some (None, keyword ∷ mask_word mask ∷ rest)) self
+    ∙ read_next (mask_of (mask_word mask)) mask (λ m. Some (Some m, rest)) (reads_rights mask fits)
+
+-- the name of a create, as it stands in the words of a line
+abbrev pub name_read : Option (List ℕ) → List (List ℕ)
+name_read None = []
+name_read (Some text) = codes "name" ∷ words_of text
+
+abbrev pub make_read : Making → List (List ℕ)
+make_read make = word_if make.inherit (codes "inherit") ++ (mask_words (codes "access") make.access ++ (mask_words (codes "grant") make.grant ++ name_read make.name))
+
+not_name : (keyword : List ℕ) → bytes_eq (codes "name") keyword ≡ false → (name : Option (List ℕ)) → begins_with keyword (name_read name) ≡ false
+not_name keyword other None = refl
+not_name keyword other (Some text) = other
+
+not_mask : (keyword other : List ℕ) → bytes_eq other keyword ≡ false → (mask : Option Rights) (rest : List (List ℕ)) → begins_with keyword rest ≡ false → begins_with keyword (mask_words other mask ++ rest) ≡ false
+not_mask keyword other differs None rest is = is
+not_mask keyword other differs (Some mask) rest is = differs
+
+some_text : (words : List (List ℕ)) → (words ≡ [] → ⊥) → text_of_words words ≡ Some (joined words)
+some_text [] some = absurd (some refl)
+some_text (word ∷ words) some = refl
+
+pub reads_text : (text : List ℕ) → name_of (codes "name" ∷ words_of text) ≡ Some text
+reads_text text = some_text (words_of text) (words_some text) ∙ ap (λ t. Some t) (words_joined text)
+
+reads_named : (name : Option (List ℕ)) → named (name_read name) ≡ Some name
+reads_named None = refl
+reads_named (Some text) = read_next (name_of (codes "name" ∷ words_of text)) text (λ t. Some (Some t)) (reads_text text)
+
+-- a create's masks fit 32 bits
+pub record FitsMake (make : Making) : Type 0 where
+  pub access : FitsMask make.access
+  pub grant : FitsMask make.grant
+
+abbrev made : List (List ℕ) → Option Rights → Option Rights → Option (List ℕ) → Making
+made words access grant name = record { name = name; inherit = begins_with (codes "inherit") words; access = access; grant = grant }
+
+abbrev from_name : List (List ℕ) → Option Rights → Option Rights × List (List ℕ) → Option Making
+from_name words access grant = named grant.1 >>= (λ name. Some (made words access grant.0 name))
+
+abbrev from_grant : List (List ℕ) → Option Rights × List (List ℕ) → Option Making
+from_grant words access = masked (codes "grant") access.1 >>= from_name words access.0
+
+module _ (make : Making) where
+  abbrev named_rest : List (List ℕ)
+  named_rest = name_read make.name
+
+  abbrev grant_rest : List (List ℕ)
+  grant_rest = mask_words (codes "grant") make.grant ++ named_rest
+
+  abbrev access_rest : List (List ℕ)
+  access_rest = mask_words (codes "access") make.access ++ grant_rest
+
+  no_grant : begins_with (codes "grant") named_rest ≡ false
+  no_grant = not_name (codes "grant") refl make.name
+
+  no_access : begins_with (codes "access") grant_rest ≡ false
+  no_access = not_mask (codes "access") (codes "grant") refl make.grant named_rest (not_name (codes "access") refl make.name)
+
+  no_inherit : begins_with (codes "inherit") access_rest ≡ false
+  no_inherit = not_mask (codes "inherit") (codes "access") refl make.access grant_rest (not_mask (codes "inherit") (codes "grant") refl make.grant named_rest (not_name (codes "inherit") refl make.name))
+
+  pub reads_make : FitsMake make → make_of (make_read make) ≡ Some make
+  reads_make fits =
+      ap (λ rest. masked (codes "access") rest >>= from_grant (make_read make)) (behind_inherit make.inherit access_rest no_inherit)
+      ∙ read_next (masked (codes "access") access_rest) (make.access, grant_rest) (from_grant (make_read make)) (reads_masked (codes "access") make.access grant_rest refl no_access fits.access)
+      ∙ read_next (masked (codes "grant") grant_rest) (make.grant, named_rest) (from_name (make_read make) make.access) (reads_masked (codes "grant") make.grant named_rest refl no_grant fits.grant)
+      ∙ read_next (named named_rest) make.name (λ name. Some (made (make_read make) make.access make.grant name)) (reads_named make.name)
+      ∙ ap (λ is_so. Some (record make { inherit = is_so })) (begins_inherit make.inherit access_rest no_inherit)
+
+-- the words of a create have no space but in the name
+word_if_is : (is_so : Bool) (word : List ℕ) → is_word word ≡ true → AreWords (word_if is_so word)
+word_if_is true word is = (is, tt)
+word_if_is false word is = tt
+
+pub mask_is_word : (mask : Rights) → mask.0 ≤ 4294967295 → is_word (mask_word mask) ≡ true
+mask_is_word mask fits = hex_word mask.0 (omega (arith, fits))
+
+masks_are : (keyword : List ℕ) (mask : Option Rights) → is_word keyword ≡ true → FitsMask mask → AreWords (mask_words keyword mask)
+masks_are keyword None is fits = tt
+masks_are keyword (Some mask) is fits = (is, (mask_is_word mask fits, tt))
+
+pub reads_name_words : (name : Option (List ℕ)) → read_words (name_words name) ≡ name_read name
+reads_name_words None = refl
+reads_name_words (Some text) = reads_next (codes "name") (text ∷ []) refl
+
+pub reads_make_words : (make : Making) → FitsMake make → read_words (make_words make) ≡ make_read make
+reads_make_words make fits =
+    reads_front (word_if make.inherit (codes "inherit")) (mask_words (codes "access") make.access ++ (mask_words (codes "grant") make.grant ++ name_words make.name)) (word_if_is make.inherit (codes "inherit") refl)
+    ∙ ap (λ rest. word_if make.inherit (codes "inherit") ++ rest)
+        (reads_front (mask_words (codes "access") make.access) (mask_words (codes "grant") make.grant ++ name_words make.name) (masks_are (codes "access") make.access refl fits.access)
+        ∙ ap (λ rest. mask_words (codes "access") make.access ++ rest)
+            (reads_front (mask_words (codes "grant") make.grant) (name_words make.name) (masks_are (codes "grant") make.grant refl fits.grant)
+            ∙ ap (λ rest. mask_words (codes "grant") make.grant ++ rest) (reads_name_words make.name)))
+
+-- an open's words behind its mask
+pub reads_open_words : (inherit : Bool) (text : List ℕ) → read_words (word_if inherit (codes "inherit") ++ text_words text) ≡ word_if inherit (codes "inherit") ++ (codes "name" ∷ words_of text)
+reads_open_words inherit text =
+    reads_front (word_if inherit (codes "inherit")) (text_words text) (word_if_is inherit (codes "inherit") refl)
+    ∙ ap (λ rest. word_if inherit (codes "inherit") ++ rest) (reads_next (codes "name") (text ∷ []) refl)
+
+-- the words of a duplicate behind its mask
+pub dup_words_are : (inherit : Bool) (closes : Bool) → AreWords (word_if inherit (codes "inherit") ++ word_if closes (codes "close"))
+dup_words_are true true = (refl, (refl, tt))
+dup_words_are true false = (refl, tt)
+dup_words_are false true = (refl, tt)
+dup_words_are false false = tt
+
+pub no_inherit_close : (closes : Bool) → begins_with (codes "inherit") (word_if closes (codes "close")) ≡ false
+no_inherit_close true = refl
+no_inherit_close false = refl
+
+pub reads_closing : (closes : Bool) → closing_of (word_if closes (codes "close")) ≡ Some (if closes then 1 else 0)
+reads_closing true = refl
+reads_closing false = refl
+
+abbrev pub said_mask : ℕ → Rights → Rights
+said_mask options mask = if has_same options then record { 0 = 0 } else mask
+
+pub reads_access : (same : Bool) (mask : Rights) → mask.0 ≤ 4294967295
+    → access_of (if same then codes "same" else mask_word mask) ≡ Some (if same then record { 0 = 0 } else mask, if same then 2 else 0)
+reads_access true mask fits = refl
+reads_access false mask fits = read_next (mask_of (mask_word mask)) mask (λ m. Some (m, 0)) (reads_rights mask fits)
+
+pub options_are : (options : ℕ) → nat_lt options 4 ≡ true → (if has_same options then 2 else 0) + (if has_close options then 1 else 0) ≡ options
+options_are zero few = refl
+options_are (suc zero) few = refl
+options_are (suc (suc zero)) few = refl
+options_are (suc (suc (suc zero))) few = refl
+options_are (suc (suc (suc (suc more)))) few = grind (arith, nat_tests)
+
+abbrev pub FitsTarget : Option ℕ → Type 0
+FitsTarget None = Unit {0}
+FitsTarget (Some process) = process ≤ 4294967295
+
+pub reads_target : (target : Option ℕ) → FitsTarget target → target_of (target_word target) ≡ Some target
+reads_target None fits = refl
+reads_target (Some process) fits = read_next (labelled 112 (label 112 process)) process (λ p. Some (Some p)) (reads_number process fits)
+
+pub target_is_word : (target : Option ℕ) → FitsTarget target → is_word (target_word target) ≡ true
+target_is_word None fits = refl
+target_is_word (Some process) fits = label_word 112 process refl (omega (arith, fits))
+
+pub access_is_word : (same : Bool) (mask : Rights) → mask.0 ≤ 4294967295 → is_word (if same then codes "same" else mask_word mask) ≡ true
+access_is_word true mask fits = refl
+access_is_word false mask fits = mask_is_word mask fits
+
+pub reads_kind : (kind : Kind) → kind_of (kind_word kind) ≡ Some kind
+reads_kind Event = refl
+reads_kind Mutex = refl
+reads_kind Semaphore = refl
+reads_kind Timer = refl
+
+pub kind_is_word : (kind : Kind) → is_word (kind_word kind) ≡ true
+kind_is_word Event = refl
+kind_is_word Mutex = refl
+kind_is_word Semaphore = refl
+kind_is_word Timer = refl
+
+pub either_is_word : (first second : List ℕ) (is_so : Bool) → is_word first ≡ true → is_word second ≡ true → is_word (either_word first second is_so) ≡ true
+either_is_word first second true first_is second_is = second_is
+either_is_word first second false first_is second_is = first_is
+
+pub reads_mode : (mode : Mode) → mode_of (mode_word mode) ≡ Some mode
+reads_mode Any = refl
+reads_mode All = refl
+
+pub mode_is_word : (mode : Mode) → is_word (mode_word mode) ≡ true
+mode_is_word Any = refl
+mode_is_word All = refl
+
+-- digits are no keyword
+not_inf : (ds : List ℕ) → IsNumeral 10 ds → bytes_eq ds (codes "inf") ≡ false
+not_inf [] is = absurd (omega (arith, is.0))
+not_inf (c ∷ cs) is = let d = digit_is c is.1.0 in grind (arith, nat_tests)
+
+reads_millis : (n : ℕ) → n ≤ 4294967295 → timeout_of (decimal n) ≡ Some (Millis n)
+reads_millis n fits =
+    ap (λ b. if b then Some Infinite else (number_of (decimal n) >>= (λ millis. Some (Millis millis)))) (not_inf (decimal n) (decimal_is_IsNumeral n (omega (arith, fits))).0)
+    ∙ read_next (number_of (decimal n)) n (λ millis. Some (Millis millis)) (reads_number n fits)
+
+abbrev pub FitsTimeout : Timeout → Type 0
+FitsTimeout Zero = Unit {0}
+FitsTimeout Infinite = Unit {0}
+FitsTimeout (Millis millis) = millis ≤ 4294967295
+
+abbrev pub said_timeout : Timeout → Timeout
+said_timeout Zero = Millis 0
+said_timeout Infinite = Infinite
+said_timeout (Millis millis) = Millis millis
+
+pub reads_timeout : (timeout : Timeout) → FitsTimeout timeout → timeout_of (timeout_word timeout) ≡ Some (said_timeout timeout)
+reads_timeout Zero fits = reads_millis 0 (omega arith)
+reads_timeout Infinite fits = refl
+reads_timeout (Millis millis) fits = reads_millis millis fits
+
+pub timeout_is_word : (timeout : Timeout) → FitsTimeout timeout → is_word (timeout_word timeout) ≡ true
+timeout_is_word Zero fits = decimal_word 0 (omega arith)
+timeout_is_word Infinite fits = refl
+timeout_is_word (Millis millis) fits = decimal_word millis (omega (arith, fits))
+
+-- each handle fits 32 bits
+abbrev pub FitHandles : List ℕ → Type 0
+FitHandles [] = Unit {0}
+FitHandles (handle ∷ handles) = (handle ≤ 4294967295) × FitHandles handles
+
+pub reads_handles : (handles : List ℕ) → FitHandles handles → (are_handles (map (label 104) handles) ≡ true) × (handles_in (map (label 104) handles) ≡ handles)
+reads_handles [] fit = (refl, refl)
+reads_handles (handle ∷ handles) fit =
+    let rest = reads_handles handles fit.1 in
+    ( ap (λ read. is_some read && are_handles (map (label 104) handles)) (reads_number handle fit.0) ∙ rest.0
+    , ap (λ read. unwrap_or read 0 ∷ handles_in (map (label 104) handles)) (reads_number handle fit.0) ∙ ap (λ more. handle ∷ more) rest.1 )
+
+pub handles_are_words : (handles : List ℕ) → FitHandles handles → AreWords (map (label 104) handles)
+handles_are_words [] fit = tt
+handles_are_words (handle ∷ handles) fit = (label_word 104 handle refl (omega (arith, fit.0)), handles_are_words handles fit.1)
+
+-- an object's slot ends at the full stop
+stop_place : (ds rest : List ℕ) → AllDigits 10 ds → position_or_len (is_byte 46) (ds ++ 46 ∷ rest) ≡ length ds
+stop_place [] rest all = refl
+stop_place (c ∷ cs) rest all =
+    ap (λ b. cond (not b) (1 + position_or_len (is_byte 46) (cs ++ 46 ∷ rest)) 0) (no_stop c all.0)
+    ∙ omega (arith, stop_place cs rest all.1)
+  where
+    no_stop : (c : ℕ) → digit_value c < 10 → is_byte 46 c ≡ false
+    no_stop c small = let d = digit_is c small in grind (arith, nat_tests)
+
+pub reads_id : (id : Id) → id.slot ≤ 4294967295 → id.generation ≤ 4294967295 → id_of (id_word id) ≡ Some id
+reads_id id slot_fits generation_fits =
+    ap (λ at. labelled 115 (take at word) >>= (λ slot. number_of (drop (at + 1) word) >>= (λ generation. Some (record { slot = slot; generation = generation })))) place
+    ∙ ap (λ front. labelled 115 front >>= (λ slot. number_of (drop (length (115 ∷ slot_digits) + 1) word) >>= (λ generation. Some (record { slot = slot; generation = generation }))))
+        (take-append_seam (115 ∷ slot_digits) (46 ∷ decimal id.generation))
+    ∙ read_next (number_of slot_digits) id.slot _ (reads_number id.slot slot_fits)
+    ∙ ap (λ back. number_of back >>= (λ generation. Some (record { slot = id.slot; generation = generation })))
+        (drop-append-add (115 ∷ slot_digits) (46 ∷ decimal id.generation) 1)
+    ∙ read_next (number_of (decimal id.generation)) id.generation _ (reads_number id.generation generation_fits)
+  where
+    slot_digits : List ℕ
+    slot_digits = decimal id.slot
+
+    word : List ℕ
+    word = (115 ∷ slot_digits) ++ 46 ∷ decimal id.generation
+
+    place : position_or_len (is_byte 46) word ≡ length (115 ∷ slot_digits)
+    place = omega (arith, stop_place slot_digits (decimal id.generation) (decimal_is_IsNumeral id.slot (omega (arith, slot_fits))).0.1)
+
+pub id_is_word : (id : Id) → id.slot ≤ 4294967295 → id.generation ≤ 4294967295 → is_word (id_word id) ≡ true
+id_is_word id slot_fits generation_fits = word_append (label 115 id.slot) (label 46 id.generation) (label_word 115 id.slot refl (omega (arith, slot_fits))) (label_word 46 id.generation refl (omega (arith, generation_fits)))

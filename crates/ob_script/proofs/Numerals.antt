@@ -1,0 +1,129 @@
+-- A number is read as it was written.
+use Rattle.std.proofs.Common.{◌≡◌, ◌≢◌, ℕ, zero, suc, ◌+◌, ◌-◌, ◌*◌, ◌/◌, ◌%◌, ◌^◌, ◌<◌, ◌≤◌, arith, refl, ap, sym, subst, ◌∙◌}
+use Rattle.std.proofs.Common.{List, [], ◌∷◌, ◌++◌, length, Bool, true, false, cond, eqb, eq-eqb, pow-suc, Option, Some, None}
+use Rattle.std.specs.Prelude.{ℤ, pos, negsuc, decimal}
+use Rattle.std.specs.Fmt.{digits, digits_onto, digit_glyph, signed_decimal}
+use Rattle.std.specs.Char.{digit_value, is_ascii_digit, is_ascii_hexdigit}
+use Rattle.std.specs.List.{list_all}
+use Rattle.std.specs.Str.Parse.{AllDigits, IsNumeral, digits_value, digits_value_after}
+use Rattle.std.proofs.lemmas.Bool.Decides.{nat_tests}
+use Rattle.std.proofs.lemmas.Fmt.{digits_is_IsNumeral, decimal_is_IsNumeral, length-decimal-le}
+use Rattle.ob_rights.specs.declared.rights.Rights.{Rights}
+use Rattle.ob_script.specs.Words.{number_of, value_of, value_after, signed_of, negated, unless_great, long_of, moment_of, unless_late, due_of, at_moment, from_now, mask_of, hex_of, hex_after, ◌>>=◌}
+
+-- a decimal digit is its value behind the digit 0, and no other byte that has a meaning
+pub digit_is : (c : ℕ) → digit_value c < 10 → (48 ≤ c) × (c ≤ 57) × (c - 48 ≡ digit_value c)
+digit_is c small = (low, high, grind (arith, nat_tests))
+  where
+    low : 48 ≤ c
+    low = grind (arith, nat_tests)
+
+    high : c ≤ 57
+    high = grind (arith, nat_tests)
+
+all_digits : (ds : List ℕ) → AllDigits 10 ds → list_all is_ascii_digit ds ≡ true
+all_digits [] all = refl
+all_digits (c ∷ cs) all =
+    let d = digit_is c all.0 in let rest = all_digits cs all.1 in grind (arith, nat_tests)
+
+value_same : (n : ℕ) (ds : List ℕ) → AllDigits 10 ds → value_after n ds ≡ digits_value_after 10 n ds
+value_same n [] all = refl
+value_same n (c ∷ cs) all =
+    ap (λ d. value_after (n * 10 + d) cs) (digit_is c all.0).2 ∙ value_same (n * 10 + digit_value c) cs all.1
+
+module _ (n : ℕ) (small : n < 2 ^ 64) where
+  numeral : IsNumeral 10 (decimal n) × (digits_value 10 (decimal n) ≡ n)
+  numeral = decimal_is_IsNumeral n small
+
+  value_is : value_of (decimal n) ≡ n
+  value_is = value_same 0 (decimal n) numeral.0.1 ∙ numeral.1
+
+  are_digits : list_all is_ascii_digit (decimal n) ≡ true
+  are_digits = all_digits (decimal n) numeral.0.1
+
+pub reads_number : (n : ℕ) → n ≤ 4294967295 → number_of (decimal n) ≡ Some n
+reads_number n fits =
+    let small : n < 2 ^ 64 = omega arith in
+    let some = (numeral n small).0.0 in
+    let few = length-decimal-le 10 n (omega arith) (omega arith) small in
+    let all = are_digits n small in
+    let value = value_is n small in
+    grind (arith, nat_tests)
+
+reads_long : (n : ℕ) → n ≤ 9223372036854775808 → long_of (decimal n) ≡ Some n
+reads_long n fits =
+    let small : n < 2 ^ 64 = omega arith in
+    let some = (numeral n small).0.0 in
+    let few = length-decimal-le 19 n (omega arith) (omega arith) small in
+    let all = are_digits n small in
+    let value = value_is n small in
+    grind (arith, nat_tests)
+
+pub reads_moment : (n : ℕ) → n ≤ 9223372036854775807 → moment_of (decimal n) ≡ Some n
+reads_moment n fits = ap (λ read. read >>= unless_late) (reads_long n (omega arith)) ∙ grind (arith, nat_tests)
+
+-- a digit is no minus, so a text of digits is read as a number that isn't negative
+signed_digits : (ds : List ℕ) → IsNumeral 10 ds → signed_of ds ≡ (number_of ds >>= unless_great)
+signed_digits [] is = absurd (omega (arith, is.0))
+signed_digits (c ∷ cs) is = let d = digit_is c is.1.0 in grind (arith, nat_tests)
+
+due_digits : (ds : List ℕ) → IsNumeral 10 ds → due_of ds ≡ (long_of ds >>= at_moment)
+due_digits [] is = absurd (omega (arith, is.0))
+due_digits (c ∷ cs) is = let d = digit_is c is.1.0 in grind (arith, nat_tests)
+
+-- a number of 32 bits with a sign, and one of 64
+abbrev pub FitsSign : ℕ → ℤ → Type 0
+FitsSign limit (pos n) = n < limit
+FitsSign limit (negsuc n) = n < limit
+
+pub reads_signed : (z : ℤ) → FitsSign 2147483648 z → signed_of (signed_decimal z) ≡ Some z
+reads_signed (pos n) fits =
+    signed_digits (decimal n) (decimal_is_IsNumeral n (omega (arith, fits))).0
+    ∙ ap (λ read. read >>= unless_great) (reads_number n (omega (arith, fits))) ∙ grind (arith, nat_tests)
+reads_signed (negsuc n) fits =
+    ap (λ read. read >>= negated) (reads_number (suc n) (omega (arith, fits))) ∙ grind (arith, nat_tests)
+
+pub reads_due : (z : ℤ) → FitsSign 9223372036854775808 z → due_of (signed_decimal z) ≡ Some z
+reads_due (pos n) fits =
+    due_digits (decimal n) (decimal_is_IsNumeral n (omega (arith, fits))).0
+    ∙ ap (λ read. read >>= at_moment) (reads_long n (omega (arith, fits))) ∙ grind (arith, nat_tests)
+reads_due (negsuc n) fits =
+    ap (λ read. read >>= from_now) (reads_long (suc n) (omega (arith, fits))) ∙ grind (arith, nat_tests)
+
+hex_is : (c : ℕ) → digit_value c < 16 → is_ascii_hexdigit c ≡ true
+hex_is c small = grind (arith, nat_tests)
+
+all_hex : (ds : List ℕ) → AllDigits 16 ds → list_all is_ascii_hexdigit ds ≡ true
+all_hex [] all = refl
+all_hex (c ∷ cs) all = let d = hex_is c all.0 in let rest = all_hex cs all.1 in grind (arith, nat_tests)
+
+hex_same : (n : ℕ) (ds : List ℕ) → hex_after n ds ≡ digits_value_after 16 n ds
+hex_same n [] = refl
+hex_same n (c ∷ cs) = hex_same (n * 16 + digit_value c) cs
+
+either : (b : Bool) (xs ys : List ℕ) (most : ℕ) → length xs ≤ most → length ys ≤ most → length (cond b xs ys) ≤ most
+either true xs ys most p q = p
+either false xs ys most p q = q
+
+-- the digits of n < 16 ^ j are at most j
+hex_length : (k j n : ℕ) (acc : List ℕ) → n < 16 ^ suc j → length (digits_onto k 16 false n acc) ≤ suc j + length acc
+hex_length zero j n acc fits = omega arith
+hex_length (suc k) zero n acc fits =
+    subst (λ b. length (cond b (digit_glyph false (n % 16) ∷ acc) (digits_onto k 16 false (n / 16) (digit_glyph false (n % 16) ∷ acc))) ≤ 1 + length acc)
+        (sym (eq-eqb (n / 16) 0 (omega (arith, fits)))) (omega arith)
+hex_length (suc k) (suc i) n acc fits =
+    either (eqb (n / 16) 0) _ _ (suc (suc i) + length acc) (omega arith)
+        (omega (arith, hex_length k i (n / 16) (digit_glyph false (n % 16) ∷ acc) (omega (arith, fits, pow-suc 16 (suc i)))))
+
+hex_few : (n : ℕ) → n ≤ 4294967295 → length (digits 16 false n) ≤ 8
+unfolding digits
+hex_few n fits = omega (arith, hex_length 64 7 n [] (omega arith))
+
+pub reads_mask : (n : ℕ) → n ≤ 4294967295 → mask_of (48 ∷ 120 ∷ digits 16 false n) ≡ Some (record { 0 = n })
+reads_mask n fits =
+    let is = digits_is_IsNumeral 16 false (omega arith) (omega arith) n (omega arith) in
+    let few = hex_few n fits in
+    let all : list_all is_ascii_hexdigit (digits 16 false n) ≡ true = all_hex (digits 16 false n) is.0.1 in
+    let value : hex_after 0 (digits 16 false n) ≡ n = hex_same 0 (digits 16 false n) ∙ is.1 in
+    let some : 0 < length (digits 16 false n) = is.0.0 in
+    grind (arith, nat_tests)

@@ -1,0 +1,78 @@
+-- Words that are joined by spaces are read as they were.
+use Rattle.std.proofs.Common.{◌≡◌, ℕ, ◌<◌, ◌≤◌, arith, refl, ap, sym, subst, ◌∙◌, List, [], ◌∷◌, ◌++◌, length, Bool, true, false, not, ◌&&◌, ◌==◌, All, decimal, true≢false, ◌^◌}
+use Rattle.std.specs.Fmt.{digits, signed_decimal}
+use Rattle.std.specs.Char.{digit_value}
+use Rattle.std.specs.List.{list_all, slice_split}
+use Rattle.std.specs.Str.Parse.{AllDigits, IsNumeral}
+use Rattle.std.proofs.lemmas.Bool.Decides.{nat_tests}
+use Rattle.std.proofs.lemmas.Fmt.{digits_is_IsNumeral}
+use Rattle.std.proofs.lemmas.List.Splits.{slice_split_at, slice_split_none}
+use Rattle.std.proofs.lemmas.List.Sums.{AllPass-from_list_all}
+use Rattle.memchr.specs.Find.{is_byte}
+use Rattle.ob_script.specs.Words.{words_of, joined}
+
+-- whether a word has no space
+abbrev pub is_word : List ℕ → Bool
+is_word word = list_all (λ byte. not (byte == 32)) word
+
+-- none of these has a space
+abbrev pub AreWords : List (List ℕ) → Type 0
+AreWords [] = Unit {0}
+AreWords (word ∷ words) = (is_word word ≡ true) × AreWords words
+
+both : (a b : Bool) → a ≡ true → b ≡ true → (a && b) ≡ true
+both a b a_is b_is = ap (λ x. x && b) a_is ∙ b_is
+
+first_of_both : (a b : Bool) → (a && b) ≡ true → a ≡ true
+first_of_both true b is = refl
+first_of_both false b is = is
+
+second_of_both : (a b : Bool) → (a && b) ≡ true → b ≡ true
+second_of_both true b is = is
+second_of_both false b is = absurd (true≢false (sym is))
+
+no_space : (byte : ℕ) → not (byte == 32) ≡ true → is_byte 32 byte ≡ false
+no_space byte is = grind (arith, nat_tests)
+
+no_spaces : (word : List ℕ) → is_word word ≡ true → All (λ byte. is_byte 32 byte ≡ false) word
+no_spaces word is = λ k d within. no_space _ (AllPass-from_list_all (λ byte. not (byte == 32)) word is k d within)
+
+-- the words of a text that some words are
+abbrev pub read_words : List (List ℕ) → List (List ℕ)
+read_words [] = []
+read_words (word ∷ words) = words_of (joined (word ∷ words))
+
+pub reads_next : (word : List ℕ) (words : List (List ℕ)) → is_word word ≡ true → read_words (word ∷ words) ≡ word ∷ read_words words
+reads_next word [] is = slice_split_none (is_byte 32) word (no_spaces word is)
+reads_next word (next ∷ words) is = slice_split_at (is_byte 32) word 32 (joined (next ∷ words)) (no_spaces word is) refl
+
+pub reads_front : (front words : List (List ℕ)) → AreWords front → read_words (front ++ words) ≡ front ++ read_words words
+reads_front [] words are = refl
+reads_front (word ∷ front) words are = reads_next word (front ++ words) are.0 ∙ ap (λ rest. word ∷ rest) (reads_front front words are.1)
+
+pub reads_all : (words : List (List ℕ)) → AreWords words → read_words words ≡ words
+reads_all [] are = refl
+reads_all (word ∷ words) are = reads_next word words are.0 ∙ ap (λ rest. word ∷ rest) (reads_all words are.1)
+
+-- digits have no space
+no_digit : (c : ℕ) → digit_value c < 16 → not (c == 32) ≡ true
+no_digit c small = grind (arith, nat_tests)
+
+digits_word : (base : ℕ) → base ≤ 16 → (ds : List ℕ) → AllDigits base ds → is_word ds ≡ true
+digits_word base high [] all = refl
+digits_word base high (c ∷ cs) all = both (not (c == 32)) (is_word cs) (no_digit c (omega (arith, high, all.0))) (digits_word base high cs all.1)
+
+pub hex_word : (n : ℕ) → n < 2 ^ 64 → is_word (digits 16 false n) ≡ true
+hex_word n small = digits_word 16 (omega arith) (digits 16 false n) (digits_is_IsNumeral 16 false (omega arith) (omega arith) n (omega arith)).0.1
+
+pub decimal_word : (n : ℕ) → n < 2 ^ 64 → is_word (decimal n) ≡ true
+decimal_word n small = digits_word 10 (omega arith) (decimal n) (digits_is_IsNumeral 10 false (omega arith) (omega arith) n (omega arith)).0.1
+
+pub label_word : (letter n : ℕ) → not (letter == 32) ≡ true → n < 2 ^ 64 → is_word (letter ∷ decimal n) ≡ true
+label_word letter n is small = both (not (letter == 32)) (is_word (decimal n)) is (decimal_word n small)
+
+pub word_append : (front back : List ℕ) → is_word front ≡ true → is_word back ≡ true → is_word (front ++ back) ≡ true
+word_append [] back front_is back_is = back_is
+word_append (byte ∷ front) back front_is back_is =
+    both (not (byte == 32)) (is_word (front ++ back)) (first_of_both (not (byte == 32)) (is_word front) front_is)
+        (word_append front back (second_of_both (not (byte == 32)) (is_word front) front_is) back_is)
