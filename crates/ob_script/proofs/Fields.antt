@@ -151,10 +151,10 @@ pub reads_make_words : (make : Making) → FitsMake make → read_words (make_wo
 reads_make_words make fits =
     reads_front (word_if make.inherit (codes "inherit")) (mask_words (codes "access") make.access ++ (mask_words (codes "grant") make.grant ++ name_words make.name)) (word_if_is make.inherit (codes "inherit") refl)
     ∙ ap (λ rest. word_if make.inherit (codes "inherit") ++ rest)
-        (reads_front (mask_words (codes "access") make.access) (mask_words (codes "grant") make.grant ++ name_words make.name) (masks_are (codes "access") make.access refl fits.access)
-        ∙ ap (λ rest. mask_words (codes "access") make.access ++ rest)
-            (reads_front (mask_words (codes "grant") make.grant) (name_words make.name) (masks_are (codes "grant") make.grant refl fits.grant)
-            ∙ ap (λ rest. mask_words (codes "grant") make.grant ++ rest) (reads_name_words make.name)))
+    (reads_front (mask_words (codes "access") make.access) (mask_words (codes "grant") make.grant ++ name_words make.name) (masks_are (codes "access") make.access refl fits.access)
+    ∙ ap (λ rest. mask_words (codes "access") make.access ++ rest)
+    (reads_front (mask_words (codes "grant") make.grant) (name_words make.name) (masks_are (codes "grant") make.grant refl fits.grant)
+    ∙ ap (λ rest. mask_words (codes "grant") make.grant ++ rest) (reads_name_words make.name)))
 
 -- an open's words behind its mask
 pub reads_open_words : (inherit : Bool) (text : List ℕ) → read_words (word_if inherit (codes "inherit") ++ text_words text) ≡ word_if inherit (codes "inherit") ++ (codes "name" ∷ words_of text)
@@ -270,9 +270,10 @@ FitHandles (handle ∷ handles) = (handle ≤ 4294967295) × FitHandles handles
 pub reads_handles : (handles : List ℕ) → FitHandles handles → (are_handles (map (label 104) handles) ≡ true) × (handles_in (map (label 104) handles) ≡ handles)
 reads_handles [] fit = (refl, refl)
 reads_handles (handle ∷ handles) fit =
-    let rest = reads_handles handles fit.1 in
-    ( ap (λ read. is_some read && are_handles (map (label 104) handles)) (reads_number handle fit.0) ∙ rest.0
-    , ap (λ read. unwrap_or read 0 ∷ handles_in (map (label 104) handles)) (reads_number handle fit.0) ∙ ap (λ more. handle ∷ more) rest.1 )
+    let rest = reads_handles handles fit.1 in (
+      ap (λ read. is_some read && are_handles (map (label 104) handles)) (reads_number handle fit.0) ∙ rest.0,
+      ap (λ read. unwrap_or read 0 ∷ handles_in (map (label 104) handles)) (reads_number handle fit.0) ∙ ap (λ more. handle ∷ more) rest.1,
+    )
 
 pub handles_are_words : (handles : List ℕ) → FitHandles handles → AreWords (map (label 104) handles)
 handles_are_words [] fit = tt
@@ -292,10 +293,10 @@ pub reads_id : (id : Id) → id.slot ≤ 4294967295 → id.generation ≤ 429496
 reads_id id slot_fits generation_fits =
     ap (λ at. labelled 115 (take at word) >>= (λ slot. number_of (drop (at + 1) word) >>= (λ generation. Some (record { slot = slot; generation = generation })))) place
     ∙ ap (λ front. labelled 115 front >>= (λ slot. number_of (drop (length (115 ∷ slot_digits) + 1) word) >>= (λ generation. Some (record { slot = slot; generation = generation }))))
-        (take-append_seam (115 ∷ slot_digits) (46 ∷ decimal id.generation))
+    (take-append_seam (115 ∷ slot_digits) (46 ∷ decimal id.generation))
     ∙ read_next (number_of slot_digits) id.slot _ (reads_number id.slot slot_fits)
     ∙ ap (λ back. number_of back >>= (λ generation. Some (record { slot = id.slot; generation = generation })))
-        (drop-append-add (115 ∷ slot_digits) (46 ∷ decimal id.generation) 1)
+    (drop-append-add (115 ∷ slot_digits) (46 ∷ decimal id.generation) 1)
     ∙ read_next (number_of (decimal id.generation)) id.generation _ (reads_number id.generation generation_fits)
   where
     slot_digits : List ℕ

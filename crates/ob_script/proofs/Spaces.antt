@@ -1,8 +1,9 @@
 -- Words that are joined by spaces are read as they were.
-use Rattle.std.proofs.Common.{◌≡◌, ℕ, ◌<◌, ◌≤◌, arith, refl, ap, sym, subst, ◌∙◌, List, [], ◌∷◌, ◌++◌, length, Bool, true, false, not, ◌&&◌, ◌==◌, All, decimal, true≢false, ◌^◌}
+use Rattle.std.proofs.Common.{◌≡◌, ℕ, ◌<◌, ◌≤◌, arith, refl, ap, sym, subst, ◌∙◌, List, [], ◌∷◌, ◌++◌, length, Bool, true, false, not, ◌&&◌, ◌==◌, All, decimal, true≢false, ◌^◌, append-nil, map}
 use Rattle.std.specs.Fmt.{digits, signed_decimal}
 use Rattle.std.specs.Char.{digit_value}
-use Rattle.std.specs.List.{list_all, slice_split}
+use Rattle.std.specs.List.{list_all, slice_split, flat_map}
+use Rattle.std.proofs.lemmas.List.Folds.{flat_map-map}
 use Rattle.std.specs.Str.Parse.{AllDigits, IsNumeral}
 use Rattle.std.proofs.lemmas.Bool.Decides.{nat_tests}
 use Rattle.std.proofs.lemmas.Fmt.{digits_is_IsNumeral}
@@ -10,6 +11,7 @@ use Rattle.std.proofs.lemmas.List.Splits.{slice_split_at, slice_split_none}
 use Rattle.std.proofs.lemmas.List.Sums.{AllPass-from_list_all}
 use Rattle.memchr.specs.Find.{is_byte}
 use Rattle.ob_script.specs.Words.{words_of, joined}
+use Rattle.ob_script.specs.Writing.{said, behind_spaces, label}
 
 -- whether a word has no space
 abbrev pub is_word : List ℕ → Bool
@@ -75,4 +77,13 @@ pub word_append : (front back : List ℕ) → is_word front ≡ true → is_word
 word_append [] back front_is back_is = back_is
 word_append (byte ∷ front) back front_is back_is =
     both (not (byte == 32)) (is_word (front ++ back)) (first_of_both (not (byte == 32)) (is_word front) front_is)
-        (word_append front back (second_of_both (not (byte == 32)) (is_word front) front_is) back_is)
+    (word_append front back (second_of_both (not (byte == 32)) (is_word front) front_is) back_is)
+
+-- words that each have a space before them
+pub said_joined : (words : List (List ℕ)) → said words ≡ joined words
+said_joined [] = refl
+said_joined (word ∷ []) = append-nil word
+said_joined (word ∷ next ∷ words) = ap (λ rest. word ++ 32 ∷ rest) (said_joined (next ∷ words))
+
+pub spaces_of_handles : (handles : List ℕ) → flat_map (λ handle. 32 ∷ label 104 handle) handles ≡ behind_spaces (map (label 104) handles)
+spaces_of_handles handles = sym (flat_map-map (λ word. 32 ∷ word) (label 104) handles)

@@ -2,7 +2,7 @@
 use Rattle.std.specs.Prelude.{ℕ, ◌-◌, ◌==◌, ◌&&◌, ◌||◌, nat_le, nat_lt, Bool, true, false, not, List, [], ◌∷◌, ◌++◌}
 use Rattle.std.specs.Prelude.{Option, Some, None, if◌then◌else◌, length, codes, slice_index, decimal, map, ℤ}
 use Rattle.std.specs.Fmt.{digits, signed_decimal}
-use Rattle.std.specs.List.{list_all}
+use Rattle.std.specs.List.{list_all, flat_map}
 use Rattle.pin_core.specs.declared.id.Id.{Id}
 use Rattle.ob_rights.specs.declared.kind.Kind.{Kind}
 use Rattle.ob_rights.specs.declared.kind.Kind.TheVariants.{Event, Mutex, Semaphore, Timer}
@@ -95,7 +95,7 @@ words_for (calls.Child thread inherit) =
 words_for (calls.StartThread process) = codes "thread" ∷ label 112 process ∷ []
 words_for (calls.MakeEvent thread make manual set) =
     codes "event" ∷ label 116 thread ∷ either_word (codes "auto") (codes "manual") manual
-        ∷ either_word (codes "clear") (codes "set") set ∷ make_words make
+    ∷ either_word (codes "clear") (codes "set") set ∷ make_words make
 words_for (calls.MakeMutex thread make owned) =
     codes "mutex" ∷ label 116 thread ∷ either_word (codes "free") (codes "owned") owned ∷ make_words make
 words_for (calls.MakeSemaphore thread make initial max) =
@@ -104,11 +104,11 @@ words_for (calls.MakeTimer thread make manual) =
     codes "timer" ∷ label 116 thread ∷ either_word (codes "auto") (codes "manual") manual ∷ make_words make
 words_for (calls.OpenNamed thread kind mask inherit text) =
     codes "open" ∷ label 116 thread ∷ kind_word kind ∷ mask_word mask
-        ∷ (word_if inherit (codes "inherit") ++ text_words text)
+    ∷ (word_if inherit (codes "inherit") ++ text_words text)
 words_for (calls.Duplicate thread source handle target mask inherit options) =
     codes "dup" ∷ label 116 thread ∷ label 112 source ∷ label 104 handle ∷ target_word target
-        ∷ access_word options mask
-        ∷ (word_if inherit (codes "inherit") ++ word_if (has_close options) (codes "close"))
+    ∷ access_word options mask
+    ∷ (word_if inherit (codes "inherit") ++ word_if (has_close options) (codes "close"))
 words_for (calls.CloseHandle thread handle) = handle_words (codes "close") thread handle []
 words_for (calls.GetFlags thread handle) = handle_words (codes "flags") thread handle []
 words_for (calls.SetFlags thread handle mask flags) =
@@ -131,6 +131,15 @@ words_for (calls.Exit process) = codes "exit" ∷ label 112 process ∷ []
 words_for (calls.Reap slot) = codes "reap" ∷ label 115 slot ∷ []
 words_for (calls.Counts id) = codes "count" ∷ id_word id ∷ []
 
+-- some words, each behind a space
+abbrev pub behind_spaces : List (List ℕ) → List ℕ
+behind_spaces words = flat_map (λ word. 32 ∷ word) words
+
+-- the same as text: the first word, and the others each behind a space
+abbrev pub said : List (List ℕ) → List ℕ
+said [] = []
+said (word ∷ words) = word ++ behind_spaces words
+
 -- the text of the line
 abbrev pub text_for : Call → List ℕ
 text_for call = joined (words_for call)
@@ -148,7 +157,7 @@ can_be_said call = true
 
 -- Whether a text is that of a line: it has no line feed, and 4,096 bytes at most.
 abbrev pub is_line : List ℕ → Bool
-is_line text = nat_le (length text) 4096 && list_all (λ byte. not (byte == 10)) text
+is_line text = not (nat_lt 4096 (length text)) && list_all (λ byte. not (byte == 10)) text
 
 -- The line that asks for a call, where there is one: not for a name with a line feed, nor for what takes too long a line.
 abbrev pub line_of : Call → Option (List ℕ)

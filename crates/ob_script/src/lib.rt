@@ -21,6 +21,7 @@ mod naming;
 mod numbers;
 mod rights;
 mod words;
+mod writing;
 
 pub use act::{Act, Ask};
 pub use grammar::{act_of, is_too_long, text_of};
