@@ -1,6 +1,5 @@
 -- What stands in the line of a call is read as it was written, field by field.
-use Rattle.std.proofs.Common.{◌≡◌, ℕ, zero, suc, ◌+◌, ◌<◌, ◌≤◌, arith, refl, ap, sym, ◌∙◌, List, [], ◌∷◌, ◌++◌, Bool, true, false, not, ◌&&◌, ◌==◌, Option, Some, None, decimal, map, codes, ◌^◌, nat_lt, if◌then◌else◌, is_some, cond, length, take, drop}
-use Rattle.std.specs.Fmt.{digits}
+use Rattle.std.proofs.Common.{◌≡◌, ℕ, zero, suc, ◌+◌, ◌<◌, ◌≤◌, arith, refl, ap, ◌∙◌, List, [], ◌∷◌, ◌++◌, Bool, true, false, not, ◌&&◌, Option, Some, None, decimal, map, codes, nat_lt, if◌then◌else◌, is_some, cond, length, take, drop}
 use Rattle.std.specs.Str.{bytes_eq}
 use Rattle.std.specs.Str.Parse.{IsNumeral, AllDigits}
 use Rattle.std.specs.Char.{digit_value}
@@ -19,9 +18,11 @@ use Rattle.ob_waits.specs.declared.wait.Mode.TheVariants.{Any, All}
 use Rattle.ob_manager.specs.declared.waiting.Timeout.{Timeout}
 use Rattle.ob_manager.specs.declared.waiting.Timeout.TheVariants.{Zero, Infinite, Millis}
 use Rattle.ob_manager.specs.Makings.{Making}
+use Rattle.ob_manager.specs.Copying.{closes, keeps_rights}
 use Rattle.ob_script.specs.Words.{words_of, joined, begins_with, behind, labelled, number_of, id_of, mask_of, kind_of, either_of, are_handles, handles_in, ◌>>=◌}
 use Rattle.ob_script.specs.Grammar.{some_mask, masked, text_of_words, name_of, named, make_of, target_of, access_of, closing_of, mode_of, timeout_of}
-use Rattle.ob_script.specs.Writing.{label, id_word, mask_word, either_word, word_if, mask_words, text_words, name_words, make_words, kind_word, mode_word, timeout_word, target_word, access_word, has_same, has_close}
+use Rattle.ob_script.specs.Fitting.{FitsMask, FitsMake, FitsTarget, FitsTimeout, FitHandles}
+use Rattle.ob_script.specs.Writing.{label, id_word, mask_word, either_word, word_if, mask_words, text_words, name_words, make_words, kind_word, mode_word, timeout_word, target_word}
 use Rattle.ob_script.proofs.Cuts.{words_joined, words_some}
 use Rattle.ob_script.proofs.Numerals.{reads_number, reads_mask, digit_is}
 use Rattle.ob_script.proofs.Spaces.{is_word, AreWords, read_words, reads_next, reads_front, word_append, decimal_word, hex_word, label_word}
@@ -29,11 +30,6 @@ use Rattle.ob_script.proofs.Spaces.{is_word, AreWords, read_words, reads_next, r
 -- the next value is read, and what is made of it
 pub read_next : {A B : Type 0} (read : Option A) (value : A) (make : A → Option B) → read ≡ Some value → (read >>= make) ≡ make value
 read_next read value make is = ap (λ r. r >>= make) is
-
--- an optional number fits 32 bits
-abbrev pub FitsMask : Option Rights → Type 0
-FitsMask None = Unit {0}
-FitsMask (Some mask) = mask.0 ≤ 4294967295
 
 pub reads_either : (first second : List ℕ) (is_so : Bool) → bytes_eq first first ≡ true → bytes_eq second first ≡ false → bytes_eq second second ≡ true
     → either_of first second (either_word first second is_so) ≡ Some is_so
@@ -89,11 +85,6 @@ reads_text text = some_text (words_of text) (words_some text) ∙ ap (λ t. Some
 reads_named : (name : Option (List ℕ)) → named (name_read name) ≡ Some name
 reads_named None = refl
 reads_named (Some text) = read_next (name_of (codes "name" ∷ words_of text)) text (λ t. Some (Some t)) (reads_text text)
-
--- a create's masks fit 32 bits
-pub record FitsMake (make : Making) : Type 0 where
-  pub access : FitsMask make.access
-  pub grant : FitsMask make.grant
 
 abbrev made : List (List ℕ) → Option Rights → Option Rights → Option (List ℕ) → Making
 made words access grant name = record { name = name; inherit = begins_with (codes "inherit") words; access = access; grant = grant }
@@ -163,38 +154,34 @@ reads_open_words inherit text =
     ∙ ap (λ rest. word_if inherit (codes "inherit") ++ rest) (reads_next (codes "name") (text ∷ []) refl)
 
 -- the words of a duplicate behind its mask
-pub dup_words_are : (inherit : Bool) (closes : Bool) → AreWords (word_if inherit (codes "inherit") ++ word_if closes (codes "close"))
+pub dup_words_are : (inherit : Bool) (is_so : Bool) → AreWords (word_if inherit (codes "inherit") ++ word_if is_so (codes "close"))
 dup_words_are true true = (refl, (refl, tt))
 dup_words_are true false = (refl, tt)
 dup_words_are false true = (refl, tt)
 dup_words_are false false = tt
 
-pub no_inherit_close : (closes : Bool) → begins_with (codes "inherit") (word_if closes (codes "close")) ≡ false
+pub no_inherit_close : (is_so : Bool) → begins_with (codes "inherit") (word_if is_so (codes "close")) ≡ false
 no_inherit_close true = refl
 no_inherit_close false = refl
 
-pub reads_closing : (closes : Bool) → closing_of (word_if closes (codes "close")) ≡ Some (if closes then 1 else 0)
+pub reads_closing : (is_so : Bool) → closing_of (word_if is_so (codes "close")) ≡ Some (if is_so then 1 else 0)
 reads_closing true = refl
 reads_closing false = refl
 
 abbrev pub said_mask : ℕ → Rights → Rights
-said_mask options mask = if has_same options then record { 0 = 0 } else mask
+said_mask options mask = if keeps_rights options then record { 0 = 0 } else mask
 
 pub reads_access : (same : Bool) (mask : Rights) → mask.0 ≤ 4294967295
     → access_of (if same then codes "same" else mask_word mask) ≡ Some (if same then record { 0 = 0 } else mask, if same then 2 else 0)
 reads_access true mask fits = refl
 reads_access false mask fits = read_next (mask_of (mask_word mask)) mask (λ m. Some (m, 0)) (reads_rights mask fits)
 
-pub options_are : (options : ℕ) → nat_lt options 4 ≡ true → (if has_same options then 2 else 0) + (if has_close options then 1 else 0) ≡ options
+pub options_are : (options : ℕ) → nat_lt options 4 ≡ true → (if keeps_rights options then 2 else 0) + (if closes options then 1 else 0) ≡ options
 options_are zero few = refl
 options_are (suc zero) few = refl
 options_are (suc (suc zero)) few = refl
 options_are (suc (suc (suc zero))) few = refl
 options_are (suc (suc (suc (suc more)))) few = grind (arith, nat_tests)
-
-abbrev pub FitsTarget : Option ℕ → Type 0
-FitsTarget None = Unit {0}
-FitsTarget (Some process) = process ≤ 4294967295
 
 pub reads_target : (target : Option ℕ) → FitsTarget target → target_of (target_word target) ≡ Some target
 reads_target None fits = refl
@@ -242,11 +229,6 @@ reads_millis n fits =
     ap (λ b. if b then Some Infinite else (number_of (decimal n) >>= (λ millis. Some (Millis millis)))) (not_inf (decimal n) (decimal_is_IsNumeral n (omega (arith, fits))).0)
     ∙ read_next (number_of (decimal n)) n (λ millis. Some (Millis millis)) (reads_number n fits)
 
-abbrev pub FitsTimeout : Timeout → Type 0
-FitsTimeout Zero = Unit {0}
-FitsTimeout Infinite = Unit {0}
-FitsTimeout (Millis millis) = millis ≤ 4294967295
-
 abbrev pub said_timeout : Timeout → Timeout
 said_timeout Zero = Millis 0
 said_timeout Infinite = Infinite
@@ -261,11 +243,6 @@ pub timeout_is_word : (timeout : Timeout) → FitsTimeout timeout → is_word (t
 timeout_is_word Zero fits = decimal_word 0 (omega arith)
 timeout_is_word Infinite fits = refl
 timeout_is_word (Millis millis) fits = decimal_word millis (omega (arith, fits))
-
--- each handle fits 32 bits
-abbrev pub FitHandles : List ℕ → Type 0
-FitHandles [] = Unit {0}
-FitHandles (handle ∷ handles) = (handle ≤ 4294967295) × FitHandles handles
 
 pub reads_handles : (handles : List ℕ) → FitHandles handles → (are_handles (map (label 104) handles) ≡ true) × (handles_in (map (label 104) handles) ≡ handles)
 reads_handles [] fit = (refl, refl)

@@ -11,3 +11,4 @@ pub mod Numerals
 pub mod Spaces
 pub mod Fields
 pub mod ReadBack
+pub mod Alike

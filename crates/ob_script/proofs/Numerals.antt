@@ -1,6 +1,6 @@
 -- A number is read as it was written.
-use Rattle.std.proofs.Common.{◌≡◌, ◌≢◌, ℕ, zero, suc, ◌+◌, ◌-◌, ◌*◌, ◌/◌, ◌%◌, ◌^◌, ◌<◌, ◌≤◌, arith, refl, ap, sym, subst, ◌∙◌}
-use Rattle.std.proofs.Common.{List, [], ◌∷◌, ◌++◌, length, Bool, true, false, cond, eqb, eq-eqb, pow-suc, Option, Some, None}
+use Rattle.std.proofs.Common.{◌≡◌, ℕ, zero, suc, ◌+◌, ◌-◌, ◌*◌, ◌/◌, ◌%◌, ◌^◌, ◌<◌, ◌≤◌, arith, refl, ap, sym, subst, ◌∙◌}
+use Rattle.std.proofs.Common.{List, [], ◌∷◌, length, Bool, true, false, cond, eqb, eq-eqb, pow-suc, Some}
 use Rattle.std.specs.Prelude.{ℤ, pos, negsuc, decimal}
 use Rattle.std.specs.Fmt.{digits, digits_onto, digit_glyph, signed_decimal}
 use Rattle.std.specs.Char.{digit_value, is_ascii_digit, is_ascii_hexdigit}
@@ -8,8 +8,8 @@ use Rattle.std.specs.List.{list_all}
 use Rattle.std.specs.Str.Parse.{AllDigits, IsNumeral, digits_value, digits_value_after}
 use Rattle.std.proofs.lemmas.Bool.Decides.{nat_tests}
 use Rattle.std.proofs.lemmas.Fmt.{digits_is_IsNumeral, decimal_is_IsNumeral, length-decimal-le}
-use Rattle.ob_rights.specs.declared.rights.Rights.{Rights}
-use Rattle.ob_script.specs.Words.{number_of, value_of, value_after, signed_of, negated, unless_great, long_of, moment_of, unless_late, due_of, at_moment, from_now, mask_of, hex_of, hex_after, ◌>>=◌}
+use Rattle.ob_script.specs.Fitting.{FitsSign}
+use Rattle.ob_script.specs.Words.{number_of, value_of, value_after, signed_of, negated, unless_great, long_of, moment_of, unless_late, due_of, at_moment, from_now, mask_of, hex_after, ◌>>=◌}
 
 -- a decimal digit is its value behind the digit 0, and no other byte that has a meaning
 pub digit_is : (c : ℕ) → digit_value c < 10 → (48 ≤ c) × (c ≤ 57) × (c - 48 ≡ digit_value c)
@@ -70,11 +70,6 @@ signed_digits (c ∷ cs) is = let d = digit_is c is.1.0 in grind (arith, nat_tes
 due_digits : (ds : List ℕ) → IsNumeral 10 ds → due_of ds ≡ (long_of ds >>= at_moment)
 due_digits [] is = absurd (omega (arith, is.0))
 due_digits (c ∷ cs) is = let d = digit_is c is.1.0 in grind (arith, nat_tests)
-
--- a number of 32 bits with a sign, and one of 64
-abbrev pub FitsSign : ℕ → ℤ → Type 0
-FitsSign limit (pos n) = n < limit
-FitsSign limit (negsuc n) = n < limit
 
 pub reads_signed : (z : ℤ) → FitsSign 2147483648 z → signed_of (signed_decimal z) ≡ Some z
 reads_signed (pos n) fits =

@@ -1,5 +1,5 @@
 -- The grammar reads the line of a call as that call.
-use Rattle.std.proofs.Common.{◌≡◌, ℕ, ◌+◌, ◌-◌, ◌<◌, ◌≤◌, arith, refl, ap, sym, subst, ◌∙◌, List, [], ◌∷◌, ◌++◌, length, Bool, true, false, not, ◌&&◌, ◌==◌, Option, Some, None, IfSome, decimal, map, codes, nat_le, nat_lt, if◌then◌else◌, take, ℤ, pos, negsuc, suc, length-append, eq-eqb, true≢false}
+use Rattle.std.proofs.Common.{◌≡◌, ℕ, ◌+◌, ◌-◌, ◌≤◌, arith, refl, ap, sym, ◌∙◌, List, [], ◌∷◌, ◌++◌, length, Bool, true, false, not, ◌&&◌, ◌==◌, Option, Some, None, IfSome, decimal, map, codes, nat_lt, if◌then◌else◌, take, ℤ, pos, negsuc, suc, length-append, eq-eqb, true≢false}
 use Rattle.std.specs.Prelude.{slice_index}
 use Rattle.std.specs.Fmt.{signed_decimal}
 use Rattle.std.specs.Str.{bytes_eq}
@@ -10,47 +10,17 @@ use Rattle.ob_waits.specs.declared.wait.Mode.{Mode}
 use Rattle.ob_manager.specs.declared.waiting.Timeout.{Timeout}
 use Rattle.ob_manager.specs.declared.waiting.Timeout.TheVariants.{Zero, Infinite, Millis}
 use Rattle.ob_manager.specs.Makings.{Making}
+use Rattle.ob_manager.specs.Copying.{closes, keeps_rights}
 use Rattle.ob_manager.specs.Calls.{Call}
 use Rattle.ob_manager.specs.declared.call.CallOf.TheVariants as calls
-use Rattle.ob_script.specs.Acts.{Act, Asks}
-use Rattle.ob_script.specs.Words.{words_of, joined, labelled, number_of, signed_of, moment_of, due_of, mask_of, kind_of, either_of, id_of, are_handles, handles_in, begins_with, behind, ◌>>=◌}
+use Rattle.ob_script.specs.Acts.{Asks}
+use Rattle.ob_script.specs.Words.{words_of, labelled, number_of, signed_of, moment_of, due_of, mask_of, kind_of, either_of, id_of, are_handles, handles_in, begins_with, behind, ◌>>=◌}
 use Rattle.ob_script.specs.Grammar.{act_of, act_of_text, act_of_words, text_of, asked, handle_of, make_of, name_of, target_of, access_of, closing_of, mode_of, timeout_of}
-use Rattle.ob_script.specs.Writing.{label, id_word, mask_word, either_word, word_if, make_words, kind_word, mode_word, timeout_word, target_word, access_word, has_same, has_close, handle_words, words_for, text_for, ended, can_be_said, is_line, line_of, as_said, said}
-use Rattle.ob_script.proofs.Numerals.{FitsSign, reads_number, reads_signed, reads_due, reads_moment}
-use Rattle.ob_script.proofs.Spaces.{said_joined, is_word, AreWords, read_words, reads_next, reads_front, reads_all, decimal_word, label_word}
-use Rattle.ob_script.proofs.Fields.{read_next, FitsMask, FitsMake, FitsTarget, FitsTimeout, FitHandles, said_timeout, reads_either, reads_rights, reads_make, reads_make_words, make_read, reads_text, reads_open_words, reads_id, reads_kind, reads_mode, reads_timeout, reads_handles, reads_target, reads_access, reads_closing, no_inherit_close, options_are, behind_inherit, begins_inherit, dup_words_are, handles_are_words, id_is_word, kind_is_word, mode_is_word, timeout_is_word, target_is_word, access_is_word, either_is_word, mask_is_word}
-
-abbrev Small : ℕ → Type 0
-Small n = n ≤ 4294967295
-
--- the numbers of a call fit their types
-abbrev pub Fits : Call → Type 0
-Fits (calls.Spawn session) = Small session
-Fits (calls.Child thread inherit) = Small thread
-Fits (calls.StartThread process) = Small process
-Fits (calls.MakeEvent thread make manual set) = Small thread × FitsMake make
-Fits (calls.MakeMutex thread make owned) = Small thread × FitsMake make
-Fits (calls.MakeSemaphore thread make initial max) = Small thread × FitsMake make × FitsSign 2147483648 initial × FitsSign 2147483648 max
-Fits (calls.MakeTimer thread make manual) = Small thread × FitsMake make
-Fits (calls.OpenNamed thread kind mask inherit text) = Small thread × Small mask.0
-Fits (calls.Duplicate thread source handle target mask inherit options) = Small thread × Small source × Small handle × FitsTarget target × Small mask.0
-Fits (calls.CloseHandle thread handle) = Small thread × Small handle
-Fits (calls.GetFlags thread handle) = Small thread × Small handle
-Fits (calls.SetFlags thread handle mask flags) = Small thread × Small handle × Small mask × Small flags
-Fits (calls.SetEvent thread handle) = Small thread × Small handle
-Fits (calls.ResetEvent thread handle) = Small thread × Small handle
-Fits (calls.ReleaseSemaphore thread handle count) = Small thread × Small handle × FitsSign 2147483648 count
-Fits (calls.ReleaseMutex thread handle) = Small thread × Small handle
-Fits (calls.SetTimer thread handle due) = Small thread × Small handle × FitsSign 9223372036854775808 due
-Fits (calls.CancelTimer thread handle) = Small thread × Small handle
-Fits (calls.Tick now) = Unit {0}
-Fits (calls.WaitFor thread mode timeout handles) = Small thread × FitsTimeout timeout × FitHandles handles
-Fits (calls.WaitResult number) = Small number
-Fits (calls.Expire number) = Small number
-Fits (calls.EndThread thread) = Small thread
-Fits (calls.Exit process) = Small process
-Fits (calls.Reap slot) = Small slot
-Fits (calls.Counts id) = Small id.slot × Small id.generation
+use Rattle.ob_script.specs.Fitting.{Small, FitsSign, FitsMake, FitsTarget, FitsTimeout, FitHandles, Fits}
+use Rattle.ob_script.specs.Writing.{label, id_word, mask_word, either_word, word_if, make_words, kind_word, mode_word, timeout_word, target_word, access_word, handle_words, words_for, text_for, ended, can_be_said, is_line, line_of, as_said, said}
+use Rattle.ob_script.proofs.Numerals.{reads_number, reads_signed, reads_due, reads_moment}
+use Rattle.ob_script.proofs.Spaces.{said_joined, is_word, AreWords, read_words, reads_front, reads_all, decimal_word, label_word}
+use Rattle.ob_script.proofs.Fields.{read_next, said_timeout, reads_either, reads_rights, reads_make, reads_make_words, make_read, reads_text, reads_open_words, reads_id, reads_kind, reads_mode, reads_timeout, reads_handles, reads_target, reads_access, reads_closing, no_inherit_close, options_are, behind_inherit, begins_inherit, dup_words_are, handles_are_words, id_is_word, kind_is_word, mode_is_word, timeout_is_word, target_is_word, access_is_word, either_is_word, mask_is_word}
 
 -- a word of a label, and of a number
 letter : (byte n : ℕ) → not (byte == 32) ≡ true → Small n → is_word (label byte n) ≡ true
@@ -167,13 +137,13 @@ reads_open thread kind mask inherit text fits mask_fits =
 
 module _ (thread source handle : ℕ) (target : Option ℕ) (mask : Rights) (inherit : Bool) (options : ℕ) where
   abbrev access : Rights × ℕ
-  access = (if has_same options then record { 0 = 0 } else mask, if has_same options then 2 else 0)
+  access = (if keeps_rights options then record { 0 = 0 } else mask, if keeps_rights options then 2 else 0)
 
   abbrev closing : ℕ
-  closing = if has_close options then 1 else 0
+  closing = if closes options then 1 else 0
 
   abbrev rest : List (List ℕ)
-  rest = word_if (has_close options) (codes "close")
+  rest = word_if (closes options) (codes "close")
 
   abbrev words : List (List ℕ)
   words = word_if inherit (codes "inherit") ++ rest
@@ -182,17 +152,17 @@ module _ (thread source handle : ℕ) (target : Option ℕ) (mask : Rights) (inh
       → act_of_words (read_words (words_for (calls.Duplicate thread source handle target mask inherit options))) ≡ Asks (as_said (calls.Duplicate thread source handle target mask inherit options))
   reads_dup fits source_fits handle_fits target_fits mask_fits few =
       behind_front (codes "dup" ∷ label 116 thread ∷ label 112 source ∷ label 104 handle ∷ target_word target ∷ access_word options mask ∷ []) words words
-      (refl, ((letter 116 thread refl fits), ((letter 112 source refl source_fits), ((letter 104 handle refl handle_fits), ((target_is_word target target_fits), ((access_is_word (has_same options) mask mask_fits), tt))))))
-      (reads_all words (dup_words_are inherit (has_close options)))
+      (refl, ((letter 116 thread refl fits), ((letter 112 source refl source_fits), ((letter 104 handle refl handle_fits), ((target_is_word target target_fits), ((access_is_word (keeps_rights options) mask mask_fits), tt))))))
+      (reads_all words (dup_words_are inherit (closes options)))
       ∙ ap asked
       (read_next (labelled 116 (label 116 thread)) thread (λ t. labelled 112 (label 112 source) >>= (λ s. labelled 104 (label 104 handle) >>= (λ h. target_of (target_word target) >>= (λ g. access_of (access_word options mask) >>= (λ a. closing_of (behind (codes "inherit") words) >>= (λ c. Some (calls.Duplicate t s h g a.0 (begins_with (codes "inherit") words) (a.1 + c)))))))) (reads_number thread fits)
       ∙ read_next (labelled 112 (label 112 source)) source (λ s. labelled 104 (label 104 handle) >>= (λ h. target_of (target_word target) >>= (λ g. access_of (access_word options mask) >>= (λ a. closing_of (behind (codes "inherit") words) >>= (λ c. Some (calls.Duplicate thread s h g a.0 (begins_with (codes "inherit") words) (a.1 + c))))))) (reads_number source source_fits)
       ∙ read_next (labelled 104 (label 104 handle)) handle (λ h. target_of (target_word target) >>= (λ g. access_of (access_word options mask) >>= (λ a. closing_of (behind (codes "inherit") words) >>= (λ c. Some (calls.Duplicate thread source h g a.0 (begins_with (codes "inherit") words) (a.1 + c)))))) (reads_number handle handle_fits)
       ∙ read_next (target_of (target_word target)) target (λ g. access_of (access_word options mask) >>= (λ a. closing_of (behind (codes "inherit") words) >>= (λ c. Some (calls.Duplicate thread source handle g a.0 (begins_with (codes "inherit") words) (a.1 + c))))) (reads_target target target_fits)
-      ∙ read_next (access_of (access_word options mask)) access (λ a. closing_of (behind (codes "inherit") words) >>= (λ c. Some (calls.Duplicate thread source handle target a.0 (begins_with (codes "inherit") words) (a.1 + c)))) (reads_access (has_same options) mask mask_fits)
-      ∙ ap (λ r. closing_of r >>= (λ c. Some (calls.Duplicate thread source handle target access.0 (begins_with (codes "inherit") words) (access.1 + c)))) (behind_inherit inherit rest (no_inherit_close (has_close options)))
-      ∙ read_next (closing_of rest) closing (λ c. Some (calls.Duplicate thread source handle target access.0 (begins_with (codes "inherit") words) (access.1 + c))) (reads_closing (has_close options))
-      ∙ ap (λ i. Some (calls.Duplicate thread source handle target access.0 i (access.1 + closing))) (begins_inherit inherit rest (no_inherit_close (has_close options)))
+      ∙ read_next (access_of (access_word options mask)) access (λ a. closing_of (behind (codes "inherit") words) >>= (λ c. Some (calls.Duplicate thread source handle target a.0 (begins_with (codes "inherit") words) (a.1 + c)))) (reads_access (keeps_rights options) mask mask_fits)
+      ∙ ap (λ r. closing_of r >>= (λ c. Some (calls.Duplicate thread source handle target access.0 (begins_with (codes "inherit") words) (access.1 + c)))) (behind_inherit inherit rest (no_inherit_close (closes options)))
+      ∙ read_next (closing_of rest) closing (λ c. Some (calls.Duplicate thread source handle target access.0 (begins_with (codes "inherit") words) (access.1 + c))) (reads_closing (closes options))
+      ∙ ap (λ i. Some (calls.Duplicate thread source handle target access.0 i (access.1 + closing))) (begins_inherit inherit rest (no_inherit_close (closes options)))
       ∙ ap (λ o. Some (calls.Duplicate thread source handle target access.0 inherit o)) (options_are options few))
 
 reads_setflags : (thread handle mask flags : ℕ) → Small thread → Small handle → Small mask → Small flags

@@ -5,3 +5,4 @@ pub mod Grammar
 pub mod Held
 pub mod Marks
 pub mod Writing
+pub mod Fitting

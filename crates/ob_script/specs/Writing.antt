@@ -1,6 +1,6 @@
 -- The line that asks for a call.
-use Rattle.std.specs.Prelude.{ℕ, ◌-◌, ◌==◌, ◌&&◌, ◌||◌, nat_le, nat_lt, Bool, true, false, not, List, [], ◌∷◌, ◌++◌}
-use Rattle.std.specs.Prelude.{Option, Some, None, if◌then◌else◌, length, codes, slice_index, decimal, map, ℤ}
+use Rattle.std.specs.Prelude.{ℕ, ◌-◌, ◌==◌, ◌&&◌, nat_le, nat_lt, Bool, true, false, not, List, [], ◌∷◌, ◌++◌}
+use Rattle.std.specs.Prelude.{Option, Some, None, if◌then◌else◌, length, codes, slice_index, decimal, map}
 use Rattle.std.specs.Fmt.{digits, signed_decimal}
 use Rattle.std.specs.List.{list_all, flat_map}
 use Rattle.pin_core.specs.declared.id.Id.{Id}
@@ -13,6 +13,7 @@ use Rattle.ob_manager.specs.declared.waiting.Timeout.{Timeout}
 use Rattle.ob_manager.specs.declared.waiting.Timeout.TheVariants.{Zero, Infinite, Millis}
 use Rattle.ob_manager.specs.Makings.{Making}
 use Rattle.ob_manager.specs.Calls.{Call}
+use Rattle.ob_manager.specs.Copying.{closes, keeps_rights}
 use Rattle.ob_manager.specs.declared.call.CallOf.TheVariants as calls
 use Rattle.ob_script.specs.Words.{joined}
 
@@ -73,15 +74,8 @@ abbrev pub target_word : Option ℕ → List ℕ
 target_word None = codes "-"
 target_word (Some process) = label 112 process
 
--- whether a duplicate is to have the rights of its source, and whether it closes that
-abbrev pub has_same : ℕ → Bool
-has_same options = nat_le 2 options
-
-abbrev pub has_close : ℕ → Bool
-has_close options = (options == 1) || (options == 3)
-
 abbrev pub access_word : ℕ → Rights → List ℕ
-access_word options mask = if has_same options then codes "same" else mask_word mask
+access_word options mask = if keeps_rights options then codes "same" else mask_word mask
 
 -- a verb with the thread and the handle, and words behind
 abbrev pub handle_words : List ℕ → ℕ → ℕ → List (List ℕ) → List (List ℕ)
@@ -108,7 +102,7 @@ words_for (calls.OpenNamed thread kind mask inherit text) =
 words_for (calls.Duplicate thread source handle target mask inherit options) =
     codes "dup" ∷ label 116 thread ∷ label 112 source ∷ label 104 handle ∷ target_word target
     ∷ access_word options mask
-    ∷ (word_if inherit (codes "inherit") ++ word_if (has_close options) (codes "close"))
+    ∷ (word_if inherit (codes "inherit") ++ word_if (closes options) (codes "close"))
 words_for (calls.CloseHandle thread handle) = handle_words (codes "close") thread handle []
 words_for (calls.GetFlags thread handle) = handle_words (codes "flags") thread handle []
 words_for (calls.SetFlags thread handle mask flags) =
@@ -167,6 +161,6 @@ line_of call = if can_be_said call && is_line (text_for call) then Some (ended (
 -- and a wait of no time is one of 0 milliseconds.
 abbrev pub as_said : Call → Call
 as_said (calls.Duplicate thread source handle target mask inherit options) =
-    calls.Duplicate thread source handle target (if has_same options then record { 0 = 0 } else mask) inherit options
+    calls.Duplicate thread source handle target (if keeps_rights options then record { 0 = 0 } else mask) inherit options
 as_said (calls.WaitFor thread mode Zero handles) = calls.WaitFor thread mode (Millis 0) handles
 as_said call = call

@@ -309,7 +309,7 @@ impl Line {
     fn access(&mut self, alloc: Global, mask: Rights, options: u32) -> Result<(), AllocError>
         ensures { OnOk result (self.new ≡ self.old ++ 32 ∷ access_word options mask) }
     {
-        if options >= 2 {
+        if options & 2 == 2 {
             return self.word(b"same");
         }
         self.mask(alloc, mask)
@@ -335,7 +335,7 @@ impl Line {
         self.target(target)?;
         self.access(alloc, mask, options)?;
         self.word_if(inherit, b"inherit")?;
-        self.word_if(options == 1 || options == 3, b"close")
+        self.word_if(options & 1 == 1, b"close")
     }
 
     /// A verb with a thread and a handle.
