@@ -1,10 +1,10 @@
 //! Calls of the manager over pins under a lock.
 //!
-//! What comes and goes does so in batches: 256 events are made and closed one after another, then their slots are taken back.
-//! Each half is timed alone, so a reap has its own line.
+//! What comes and goes does so in batches: 256 events are made and closed one after another, then their slots are taken
+//! back. Each half is timed alone, so a reap has its own line.
 //!
-//! Numbers of processes and threads are never given again, so processes and threads come and go in a manager of its own for
-//! every 1000 rounds, which is made outside of what is timed.
+//! Numbers of processes and threads are never given again, so processes and threads come and go in a manager of its own
+//! for every 1000 rounds, which is made outside of what is timed.
 mod answers;
 mod cases;
 mod herds;

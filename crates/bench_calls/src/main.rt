@@ -1,6 +1,6 @@
-//! Measures calls of the manager over words that readers pin: with the arguments `measure calls` it prints a line `CASE: ROUNDS in
-//! NANOSECONDS` for each case, with `measure apart` for those that the C program of `bench/header` has too, where no round begins
-//! while another waits for memory, and without them what some rounds of each case add up to.
+//! Measures calls of the manager over words that readers pin: with the arguments `measure calls` it prints a line
+//! `CASE: ROUNDS in NANOSECONDS` for each case, with `measure apart` for those that the C program of `bench/header` has
+//! too, where no round begins while another waits for memory, and without them what some rounds of each case add up to.
 #![tactic(auto)]
 
 mod calls;

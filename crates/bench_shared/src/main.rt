@@ -1,5 +1,6 @@
-//! Measures threads that are at work at once: with the arguments `measure NAME` it prints a line `CASE: ROUNDS in NANOSECONDS` for
-//! each case of a manager behind its lock (`shared`) or of pins with their releases (`pins`), and without them only says so.
+//! Measures threads that are at work at once: with the arguments `measure NAME` it prints a line `CASE: ROUNDS in
+//! NANOSECONDS` for each case of a manager behind its lock (`shared`) or of pins with their releases (`pins`), and
+//! without them only says so.
 #![tactic(auto)]
 
 mod pins;

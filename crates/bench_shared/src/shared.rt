@@ -1,7 +1,7 @@
 //! Calls behind the lock, pins beside them, and members that are driven.
 //!
-//! Each lane sets an event of its own, in a thread of its own, and each run has a manager and a journal of its own, which are
-//! made and dropped outside of what is timed.
+//! Each lane sets an event of its own, in a thread of its own, and each run has a manager and a journal of its own,
+//! which are made and dropped outside of what is timed.
 ghost use Rattle.std.specs.Prelude.{◌≡◌};
 ghost use Rattle.ob_store.specs.State.{shape_of};
 

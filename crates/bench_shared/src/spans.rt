@@ -1,8 +1,8 @@
 //! Times runs of several threads that are at work at once.
 //!
 //! The middle one of the times of many short runs counts, since two threads that contend for a cache line are faster
-//! where their processors share one cache. Left out are the runs in which not all threads were at work for more than half
-//! of the time.
+//! where their processors share one cache. Left out are the runs in which not all threads were at work for more than
+//! half of the time.
 
 use std::io;
 use std::sync::Wait;

@@ -1,8 +1,9 @@
 //! Tables of calls and their replies, for tests of what answers calls: a manager, or one behind its lock.
 //!
-//! A [`Line`] is a call, with its name or its handles borrowed, and the reply that is due, so that a table is a constant: plain
-//! data, which costs a proof next to nothing however long it is. [`to_call`] makes the call that is played, and [`asked`] plays it
-//! over a manager: the one function of the tests with a call of any keeper's manager in it, which is dear to prove.
+//! A [`Line`] is a call, with its name or its handles borrowed, and the reply that is due, so that a table is a
+//! constant: plain data, which costs a proof next to nothing however long it is. [`to_call`] makes the call that is
+//! played, and [`asked`] plays it over a manager: the one function of the tests with a call of any keeper's manager in
+//! it, which is dear to prove.
 //!
 //! What tests make beforehand is here too, each asked for again where memory was wanting: it then comes back as it was.
 #![tactic(auto)]

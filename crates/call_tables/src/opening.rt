@@ -21,8 +21,10 @@ pub fn pins_for(alloc: Global, limits: Limits) -> Result<(Pins, Opening), Fault>
 /// The keeper of pins, and their first reader.
 pub fn started(opening: Opening, pins: &Pins) -> Result<(Keeper, Reader), Fault>
     requires { opening ≡ pins.now }
-    ensures keeper { IfOk result (λ r. (r.0.table ≡ opening) × (r.0.view ≡ keeper_gave (opening_keeper opening.shape))) }
-    ensures reader { IfOk result (λ r. (r.1.table ≡ opening) × (r.1.view ≡ reader_given (opening_keeper opening.shape))) }
+    ensures keeper { IfOk result (λ r. (r.0.table ≡ opening)
+        × (r.0.view ≡ keeper_gave (opening_keeper opening.shape))) }
+    ensures reader { IfOk result (λ r. (r.1.table ≡ opening)
+        × (r.1.view ≡ reader_given (opening_keeper opening.shape))) }
 {
     let opening = match opening.start(pins) {
         Ok(both) => return Ok(both),

@@ -62,11 +62,16 @@ pub const RIGHTS_OF_DUPLICATES: &[Line<'static>] = &[
     (Spawn { session: 1 }, Spawned { process: 1, thread: 1 }),
     (MakeEvent { thread: 1, make: LIMITED, manual: false, set: false }, Made { handle: 4, id: FIRST }),
     (SetEvent { thread: 1, handle: 4 }, Refused(Fault::Access)),
-    (Duplicate { thread: 1, source: 1, handle: 4, target: Some(1), mask: Rights(0x10_0002), inherit: false, options: 0 }, Duplicated { handle: 8, id: FIRST }),
+    (Duplicate {
+        thread: 1, source: 1, handle: 4, target: Some(1), mask: Rights(0x10_0002), inherit: false, options: 0,
+    }, Duplicated { handle: 8, id: FIRST }),
     (SetEvent { thread: 1, handle: 8 }, Done),
-    (Duplicate { thread: 1, source: 1, handle: 4, target: Some(1), mask: Rights(0x12_0000), inherit: false, options: 1 }, Refused(Fault::Access)),
+    (Duplicate {
+        thread: 1, source: 1, handle: 4, target: Some(1), mask: Rights(0x12_0000), inherit: false, options: 1,
+    }, Refused(Fault::Access)),
     (CloseHandle { thread: 1, handle: 4 }, Refused(Fault::Handle)),
-    (Duplicate { thread: 1, source: 1, handle: 8, target: Some(1), mask: Rights(0), inherit: false, options: 3 }, Duplicated { handle: 4, id: FIRST }),
+    (Duplicate { thread: 1, source: 1, handle: 8, target: Some(1), mask: Rights(0), inherit: false, options: 3 },
+        Duplicated { handle: 4, id: FIRST }),
     (Counts { id: FIRST }, CountsAre { handles: 1, waits: 0, hold: 0 }),
 ];
 
@@ -181,9 +186,11 @@ pub const GRANTS_ACROSS_PROCESSES: &[Line<'static>] = &[
     (Spawn { session: 1 }, Spawned { process: 2, thread: 2 }),
     (MakeMutex { thread: 1, make: GRANTED_M, owned: false }, Made { handle: 4, id: FIRST }),
     (MakeMutex { thread: 2, make: NAMED_M, owned: false }, Refused(Fault::Access)),
-    (OpenNamed { thread: 2, kind: Kind::Mutex, mask: Rights::SYNCHRONIZE, inherit: false, text: b"M" }, Opened { handle: 4, id: FIRST }),
+    (OpenNamed { thread: 2, kind: Kind::Mutex, mask: Rights::SYNCHRONIZE, inherit: false, text: b"M" },
+        Opened { handle: 4, id: FIRST }),
     (MakeMutex { thread: 2, make: ASKED_M, owned: false }, Exists { handle: 8, id: FIRST }),
-    (OpenNamed { thread: 2, kind: Kind::Event, mask: Rights::SYNCHRONIZE, inherit: false, text: b"M" }, Refused(Fault::Handle)),
+    (OpenNamed { thread: 2, kind: Kind::Event, mask: Rights::SYNCHRONIZE, inherit: false, text: b"M" },
+        Refused(Fault::Handle)),
     (WaitFor { thread: 2, mode: Mode::Any, timeout: Timeout::Zero, handles: &[4] }, Code { code: 0 }),
     (ReleaseMutex { thread: 2, handle: 8 }, Done),
     (MakeEvent { thread: 2, make: BLIND, manual: false, set: false }, Made { handle: 12, id: SECOND }),

@@ -1,5 +1,6 @@
 // The tree of least moments.
-ghost use Rattle.std.specs.Prelude.{◌≡◌, ◌≢◌, ℕ, ◌-◌, ◌/◌, ◌<◌, ◌≤◌, true, false, length, List, Option, IsSome, OnOk, ◌+◌, ◌*◌};
+ghost use Rattle.std.specs.Prelude.{◌≡◌, ◌≢◌, ℕ, ◌-◌, ◌/◌, ◌<◌, ◌≤◌, true, false, length, List, Option, IsSome, OnOk};
+ghost use Rattle.std.specs.Prelude.{◌+◌, ◌*◌};
 ghost use Rattle.least_due.specs.Best.{sooner, best_below, IsBest, IsBestBut};
 ghost use Rattle.least_due.specs.Dues.{due_at, since, IsLeastSince};
 
@@ -102,7 +103,8 @@ pub(crate) fn raise(dues: &Vec<Option<u64>>, best: &mut Vec<Option<u64>>, place:
 fn lower(best: &Vec<Option<u64>>, place: usize, least: Option<u64>) -> usize
     requires { place < PLACES_MAX }
     ensures below { place < result }
-    ensures least { (dues : List (Option ℕ)) → due_at best.now.items place ≡ least → due_at best.now.items place ≡ best_below dues best.now.items place
+    ensures least { (dues : List (Option ℕ)) → due_at best.now.items place ≡ least
+        → due_at best.now.items place ≡ best_below dues best.now.items place
         → due_at dues place ≢ least → due_at best.now.items result ≡ least }
 {
     let left = 2 * place + 1;

@@ -1,4 +1,5 @@
-ghost use Rattle.std.specs.Prelude.{◌≡◌, ◌≢◌, ℕ, ◌/◌, ◌<◌, ◌≤◌, ◌==◌, length, [], ◌∷◌, ◌++◌, true, false, replicate, slice_set, Some, slice_get, IfOk, IfSome, OnOk, OnErr};
+ghost use Rattle.std.specs.Prelude.{◌≡◌, ◌≢◌, ℕ, ◌/◌, ◌<◌, ◌≤◌, ◌==◌, length, [], ◌∷◌, ◌++◌, true, false, replicate};
+ghost use Rattle.std.specs.Prelude.{slice_set, Some, slice_get, IfOk, IfSome, OnOk, OnErr};
 ghost use Rattle.std.specs.Int.{bit_at};
 ghost use Rattle.least_free.specs.Bits.{bit};
 ghost use Rattle.least_free.specs.From.{IsLeastFrom};

@@ -12,7 +12,8 @@
 //! ```
 #![tactic(auto)]
 
-ghost use Rattle.std.specs.Prelude.{◌≡◌, ◌<◌, ◌≤◌, length, List, [], ◌∷◌, ◌++◌, true, false, replicate, slice_set, Some, slice_get, IfOk, IfSome, OnOk, OnErr};
+ghost use Rattle.std.specs.Prelude.{◌≡◌, ◌<◌, ◌≤◌, length, List, [], ◌∷◌, ◌++◌, true, false, replicate, slice_set};
+ghost use Rattle.std.specs.Prelude.{Some, slice_get, IfOk, IfSome, OnOk, OnErr};
 ghost use Rattle.least_free.specs.From.{IsLeastFrom};
 ghost use Rattle.least_free.specs.Taken.{is_free_within, is_taken, least_free};
 

@@ -1,5 +1,6 @@
 // Bits of one word, and of a level.
-ghost use Rattle.std.specs.Prelude.{◌≡◌, ◌≢◌, ℕ, ◌+◌, ◌*◌, ◌/◌, ◌%◌, ◌<◌, ◌≤◌, ◌==◌, ◌&&◌, nat_lt, length, slice_index, true, false, [], ◌∷◌, ◌++◌, OnOk, OnErr, IfSome};
+ghost use Rattle.std.specs.Prelude.{◌≡◌, ◌≢◌, ℕ, ◌+◌, ◌*◌, ◌/◌, ◌%◌, ◌<◌, ◌≤◌, ◌==◌, ◌&&◌, nat_lt, length, slice_index};
+ghost use Rattle.std.specs.Prelude.{true, false, [], ◌∷◌, ◌++◌, OnOk, OnErr, IfSome};
 ghost use Rattle.std.specs.Int.{bit_at};
 ghost use Rattle.least_free.specs.Bits.{bit};
 ghost use Rattle.least_free.specs.From.{IsAtMost, IsLeastFrom};

@@ -1,8 +1,10 @@
-ghost use Rattle.std.specs.Prelude.{◌≡◌, ◌<◌, ◌≤◌, true, length, map, replicate, None, Some, is_some, slice_index_or, IsSome, IfOk};
+ghost use Rattle.std.specs.Prelude.{◌≡◌, ◌<◌, ◌≤◌, true, length, map, replicate, None, Some, is_some, slice_index_or};
+ghost use Rattle.std.specs.Prelude.{IsSome, IfOk};
 ghost use Rattle.std.specs.Borrow.{sem};
 ghost use Rattle.least_free.specs.From.{IsLeastFrom};
 ghost use Rattle.ob_arena.specs.Phases.{is_in_use, is_occupied};
-ghost use Rattle.ob_arena.specs.Slots.{body_at, is_vacant_at, least_vacant, vacant_slots, with_body, with_retired, without_body};
+ghost use Rattle.ob_arena.specs.Slots.{body_at, is_vacant_at, least_vacant, vacant_slots, with_body, with_retired};
+ghost use Rattle.ob_arena.specs.Slots.{without_body};
 
 use crate::phase::Phase;
 use crate::storage::{Front, Storage, Title, allocate, deallocate, fits};
@@ -14,7 +16,8 @@ use std::marker::Model;
 pub const SLOTS_MAX: u32 = 65_536;
 
 /// Slots for bodies, numbered from 0: each is vacant, has a body, or is retired and never given again.
-// A number of `free` is taken where the phase of the slot isn't vacant, so the least free number is the least vacant slot.
+// A number of `free` is taken where the phase of the slot isn't vacant, so the least free number is the least vacant
+// slot.
 pub struct Arena<B> {
     front: Front<B>,
     storage: Storage<B>,
@@ -97,8 +100,8 @@ impl<B> Arena<B> {
         self.phases.len() as u32
     }
 
-    /// Whether a slot has a body, as [`get`](Arena::get), [`get_mut`](Arena::get_mut) and [`take`](Arena::take) want it. A number
-    /// past the slots names none.
+    /// Whether a slot has a body, as [`get`](Arena::get), [`get_mut`](Arena::get_mut) and [`take`](Arena::take) want
+    /// it. A number past the slots names none.
     pub fn is_occupied(&self, slot: u32) -> bool
         ensures { result ≡ is_some (body_at self.now slot) }
     {
@@ -106,8 +109,8 @@ impl<B> Arena<B> {
         at < self.phases.len() && self.phases[at].is_occupied()
     }
 
-    /// The least slot with a body, from one on. It looks at 64 slots at a time from there to the one that it finds, and at each
-    /// that is retired.
+    /// The least slot with a body, from one on. It looks at 64 slots at a time from there to the one that it finds, and
+    /// at each that is retired.
     pub fn next_occupied(&self, from: u32) -> Option<u32>
         ensures { IsLeastFrom from (λ slot. is_some (body_at self.now slot)) result }
     {
@@ -149,8 +152,8 @@ impl<B> Arena<B> {
         body
     }
 
-    /// Whether a slot is vacant. A number past the slots names none, and a retired slot isn't vacant, so a slot that isn't
-    /// vacant need not have a body: [`is_occupied`](Arena::is_occupied) tells that.
+    /// Whether a slot is vacant. A number past the slots names none, and a retired slot isn't vacant, so a slot that
+    /// isn't vacant need not have a body: [`is_occupied`](Arena::is_occupied) tells that.
     pub fn is_vacant(&self, slot: u32) -> bool
         ensures { result ≡ is_vacant_at self.now slot }
     {

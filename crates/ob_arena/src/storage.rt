@@ -1,6 +1,7 @@
-//! The storage: one block of memory for slots side by side, each empty or with a body. Each function here reaches memory
-//! by a pointer.
-ghost use Rattle.std.specs.Prelude.{◌≡◌, ℕ, ◌<◌, List, Option, Some, None, length, replicate, get_or, slice_set, IfOk, IsTrue, ⊤};
+//! The storage: one block of memory for slots side by side, each empty or with a body. Each function here reaches
+//! memory by a pointer.
+ghost use Rattle.std.specs.Prelude.{◌≡◌, ℕ, ◌<◌, List, Option, Some, None, length, replicate, get_or, slice_set, IfOk};
+ghost use Rattle.std.specs.Prelude.{IsTrue, ⊤};
 ghost use prog.Memory.{size, capped};
 ghost use denote.Param.{layout};
 ghost use Rattle.std.specs.Borrow.{sem};
@@ -99,7 +100,8 @@ pub(crate) fn allocate<B, A: Allocator>(
     len: usize,
 ) -> Result<(Front<B>, Storage<B>, Title<B, A>), AllocError>
     requires { FitsInBlock B.row len }
-    ensures { IfOk result (λ r. (r.1.front ≡ r.0.first) × (r.1.slots ≡ replicate len None) × (r.2.front ≡ r.0.first) × (r.2.len ≡ len) × (r.2.alloc ≡ alloc.now)) }
+    ensures { IfOk result (λ r. (r.1.front ≡ r.0.first) × (r.1.slots ≡ replicate len None) × (r.2.front ≡ r.0.first)
+        × (r.2.len ≡ len) × (r.2.alloc ≡ alloc.now)) }
 {
     match alloc.allocate(len * size_of::<B>(), align_of::<B>()) {
         Ok(block) => {
@@ -124,7 +126,8 @@ pub(crate) fn deallocate<B, A: Allocator>(
     storage: Storage<B>,
     title: Title<B, A>,
 )
-    requires { (storage.front ≡ front.first) × (storage.slots ≡ replicate len None) × (title.front ≡ front.first) × (title.len ≡ len) × (title.alloc ≡ alloc.now) }
+    requires { (storage.front ≡ front.first) × (storage.slots ≡ replicate len None) × (title.front ≡ front.first)
+        × (title.len ≡ len) × (title.alloc ≡ alloc.now) }
 {
     let Storage { mark: _ } = storage;
     let Title { mark: _ } = title;
@@ -142,7 +145,8 @@ impl<B> Storage<B> {
 
     /// Puts a body into an empty slot.
     pub(crate) fn fill(&mut self, front: Front<B>, at: usize, body: B)
-        requires { (front.first ≡ self.old.front) × (at < length self.old.slots) × (get_or self.old.slots at None ≡ None) }
+        requires { (front.first ≡ self.old.front) × (at < length self.old.slots)
+            × (get_or self.old.slots at None ≡ None) }
         ensures { (self.new.front ≡ self.old.front) × (self.new.slots ≡ slice_set self.old.slots at (Some body)) }
     {
         unsafe { front.first.add(at).write(body) }

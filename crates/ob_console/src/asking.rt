@@ -12,8 +12,8 @@ use ob_manager::{Manager, Mode, Reply, Timeout};
 use ob_script::{Ask, read_handles};
 use pin_words::{Keeper, Reader};
 
-/// Makes a call. The reader meets the manager where a slot is reaped of which it holds something; the handles of a wait are
-/// read to where those of the last stood.
+/// Makes a call. The reader meets the manager where a slot is reaped of which it holds something; the handles of a wait
+/// are read to where those of the last stood.
 pub fn reply_to(
     manager: &mut Manager<Keeper>,
     reader: &mut Reader,
@@ -47,7 +47,8 @@ fn wait_for(
     timeout: Timeout,
     rest: Option<&[u8]>,
 ) -> Reply
-    ensures { Step manager.old (Call.WaitFor thread mode timeout (handles_in (words_left rest.entry))) result manager.new }
+    ensures { Step manager.old (Call.WaitFor thread mode timeout
+        (handles_in (words_left rest.entry))) result manager.new }
 {
     read_handles(rest, handles);
     manager.wait(thread, mode, timeout, handles.as_slice())

@@ -1,4 +1,5 @@
-ghost use Rattle.std.specs.Prelude.{◌≡◌, ◌+◌, ◌<◌, ◌≤◌, ◌^◌, ◌++◌, ◌⊎◌, ◌≢◌, All, [], None, Some, List, ℕ, OnOk, OnErr, length};
+ghost use Rattle.std.specs.Prelude.{◌≡◌, ◌+◌, ◌<◌, ◌≤◌, ◌^◌, ◌++◌, ◌⊎◌, ◌≢◌, All, [], None, Some, List, ℕ, OnOk, OnErr};
+ghost use Rattle.std.specs.Prelude.{length};
 ghost use Rattle.ob_console.specs.Runs.{IsWithin, AnswersAll, point};
 ghost use Rattle.ob_output.specs.Pending.{IsWritten};
 ghost use Rattle.ob_output.specs.Printed.{line_end};
@@ -23,14 +24,24 @@ impl Model for Console {
 
     ghost Value = { ConsoleState };
 
-    ghost view = { λ console. record { point = console.evaluator.point; pending = console.evaluator.pending; held = console.held; lines = console.evaluator.lines } };
+    ghost view = { λ console. record {
+      point = console.evaluator.point;
+      pending = console.evaluator.pending;
+      held = console.held;
+      lines = console.evaluator.lines;
+    } };
 }
 
 impl Console {
     /// No line has come.
     pub fn new(manager: Manager<Keeper>, reader: Reader, output: Output) -> Console
         requires { manager.keeper.table ≡ Some reader.table }
-        ensures { result ≡ record { point = point manager reader.view.held; pending = output; held = Some []; lines = 0 } }
+        ensures { result ≡ record {
+          point = point manager reader.view.held;
+          pending = output;
+          held = Some [];
+          lines = 0;
+        } }
     {
         Console {
             evaluator: Evaluator::new(manager, reader, output),
@@ -43,9 +54,11 @@ impl Console {
         requires few { self.old.lines < 2 ^ 127 }
         requires within { IsWithin end.now }
         ensures advances { (printed : List ℕ) × Advances self.old (end.now ++ line_end) printed self.new
-            × IsWritten result (W.taken sink.old) (W.taken sink.new) (self.old.pending.bytes ++ printed) self.new.pending.bytes }
+            × IsWritten result (W.taken sink.old) (W.taken sink.new) (self.old.pending.bytes
+            ++ printed) self.new.pending.bytes }
         ensures lines { self.new.lines ≡ self.old.lines + 1 }
-        ensures calls { W.calls sink.new + self.new.pending.writes_left ≡ W.calls sink.old + self.old.pending.writes_left }
+        ensures calls { W.calls sink.new + self.new.pending.writes_left
+            ≡ W.calls sink.old + self.old.pending.writes_left }
         ensures faults { W.faults sink.old ≤ W.faults sink.new }
         ensures cause { OnErr result ((W.faults sink.old < W.faults sink.new) ⊎ (self.new.pending.writes_left ≡ 0)) }
     {
@@ -65,7 +78,8 @@ impl Console {
         ensures ok { OnOk result (IsFed self.old self.new block.now [] (W.taken sink.old) (W.taken sink.new)) }
         ensures err { OnErr result (IsCutShort self.old self.new block.now (W.taken sink.old) (W.taken sink.new)) }
         ensures lines { self.new.lines ≤ self.old.lines + length block.now }
-        ensures calls { W.calls sink.new + self.new.pending.writes_left ≡ W.calls sink.old + self.old.pending.writes_left }
+        ensures calls { W.calls sink.new + self.new.pending.writes_left
+            ≡ W.calls sink.old + self.old.pending.writes_left }
         ensures faults { W.faults sink.old ≤ W.faults sink.new }
         ensures cause { OnErr result ((W.faults sink.old < W.faults sink.new) ⊎ (self.new.pending.writes_left ≡ 0)) }
     {
@@ -87,7 +101,8 @@ impl Console {
         ensures written { OnOk result (self.new.pending.bytes ≡ []) }
         ensures err { OnErr result (IsCutShort self.old self.new block.now (W.taken sink.old) (W.taken sink.new)) }
         ensures lines { self.new.lines ≤ self.old.lines + length block.now }
-        ensures calls { W.calls sink.new + self.new.pending.writes_left ≡ W.calls sink.old + self.old.pending.writes_left }
+        ensures calls { W.calls sink.new + self.new.pending.writes_left
+            ≡ W.calls sink.old + self.old.pending.writes_left }
         ensures faults { W.faults sink.old ≤ W.faults sink.new }
         ensures cause { OnErr result ((W.faults sink.old < W.faults sink.new) ⊎ (self.new.pending.writes_left ≡ 0)) }
     {
@@ -101,8 +116,10 @@ impl Console {
     fn last_line<W: Sink>(&mut self, sink: &mut W) -> Result<(), NotWritten>
         requires { self.old.lines < 2 ^ 127 }
         ensures finishes { (printed : List ℕ) × Finishes self.old printed
-            × IsWritten result (W.taken sink.old) (W.taken sink.new) (self.old.pending.bytes ++ printed) self.new.pending.bytes }
-        ensures calls { W.calls sink.new + self.new.pending.writes_left ≡ W.calls sink.old + self.old.pending.writes_left }
+            × IsWritten result (W.taken sink.old) (W.taken sink.new) (self.old.pending.bytes
+            ++ printed) self.new.pending.bytes }
+        ensures calls { W.calls sink.new + self.new.pending.writes_left
+            ≡ W.calls sink.old + self.old.pending.writes_left }
         ensures faults { W.faults sink.old ≤ W.faults sink.new }
         ensures cause { OnErr result ((W.faults sink.old < W.faults sink.new) ⊎ (self.new.pending.writes_left ≡ 0)) }
     {
@@ -117,7 +134,8 @@ impl Console {
         requires { self.old.lines < 2 ^ 127 }
         ensures finishes { (printed : List ℕ) × Finishes self.old printed
             × IsWritten result (W.taken sink.old) (W.taken sink.new) (self.old.pending.bytes ++ printed) [] }
-        ensures calls { W.calls sink.new + self.new.pending.writes_left ≡ W.calls sink.old + self.old.pending.writes_left }
+        ensures calls { W.calls sink.new + self.new.pending.writes_left
+            ≡ W.calls sink.old + self.old.pending.writes_left }
         ensures faults { W.faults sink.old ≤ W.faults sink.new }
         ensures cause { OnErr result ((W.faults sink.old < W.faults sink.new) ⊎ (self.new.pending.writes_left ≡ 0)) }
     {

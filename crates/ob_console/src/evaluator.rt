@@ -37,7 +37,11 @@ impl Model for Evaluator {
 
     ghost Value = { Evaluation };
 
-    ghost view = { λ evaluator. record { point = point evaluator.manager evaluator.reader.view.held; pending = evaluator.output; lines = evaluator.lines } };
+    ghost view = { λ evaluator. record {
+      point = point evaluator.manager evaluator.reader.view.held;
+      pending = evaluator.output;
+      lines = evaluator.lines;
+    } };
 
     ghost invariant = { λ evaluator. evaluator.manager.keeper.table ≡ Some evaluator.reader.table };
 }
@@ -60,9 +64,11 @@ impl Evaluator {
     /// Does what a line asks, and prints its answer.
     pub fn answer<W: Sink>(&mut self, sink: &mut W, line: &ScriptLine<'_>) -> Result<(), NotWritten>
         requires { self.old.lines < 2 ^ 127 }
-        ensures prints { Enacts self.old (self.old.lines + 1) (act_of line.now) result (W.taken sink.old) (W.taken sink.new) self.new }
+        ensures prints { Enacts self.old (self.old.lines + 1) (act_of line.now) result (W.taken sink.old)
+            (W.taken sink.new) self.new }
         ensures lines { self.new.lines ≡ self.old.lines + 1 }
-        ensures calls { W.calls sink.new + self.new.pending.writes_left ≡ W.calls sink.old + self.old.pending.writes_left }
+        ensures calls { W.calls sink.new + self.new.pending.writes_left
+            ≡ W.calls sink.old + self.old.pending.writes_left }
         ensures faults { W.faults sink.old ≤ W.faults sink.new }
         ensures cause { OnErr result ((W.faults sink.old < W.faults sink.new) ⊎ (self.new.pending.writes_left ≡ 0)) }
     {
@@ -73,9 +79,11 @@ impl Evaluator {
     /// The same of a line that is held.
     pub fn answer_held<W: Sink>(&mut self, sink: &mut W, held: &HeldLine) -> Result<(), NotWritten>
         requires { self.old.lines < 2 ^ 127 }
-        ensures prints { Enacts self.old (self.old.lines + 1) (act_of_held held.now) result (W.taken sink.old) (W.taken sink.new) self.new }
+        ensures prints { Enacts self.old (self.old.lines + 1) (act_of_held held.now) result (W.taken sink.old)
+            (W.taken sink.new) self.new }
         ensures lines { self.new.lines ≡ self.old.lines + 1 }
-        ensures calls { W.calls sink.new + self.new.pending.writes_left ≡ W.calls sink.old + self.old.pending.writes_left }
+        ensures calls { W.calls sink.new + self.new.pending.writes_left
+            ≡ W.calls sink.old + self.old.pending.writes_left }
         ensures faults { W.faults sink.old ≤ W.faults sink.new }
         ensures cause { OnErr result ((W.faults sink.old < W.faults sink.new) ⊎ (self.new.pending.writes_left ≡ 0)) }
     {
@@ -90,12 +98,14 @@ impl Evaluator {
 
     /// Does the act of the last line, and prints its answer.
     //
-    // It is called in one place, so it stands there when it runs, and the act is nowhere else. What seldom comes has functions of
-    // its own that don't: room for what they print would be made on each line.
+    // It is called in one place, so it stands there when it runs, and the act is nowhere else. What seldom comes has
+    // functions of its own that don't: room for what they print would be made on each line.
     fn enact<W: Sink>(&mut self, sink: &mut W, act: &Act<'_>) -> Result<(), NotWritten>
-        ensures prints { Enacts self.old self.old.lines (act_in act.now) result (W.taken sink.old) (W.taken sink.new) self.new }
+        ensures prints { Enacts self.old self.old.lines (act_in act.now) result (W.taken sink.old)
+            (W.taken sink.new) self.new }
         ensures lines { self.new.lines ≡ self.old.lines }
-        ensures calls { W.calls sink.new + self.new.pending.writes_left ≡ W.calls sink.old + self.old.pending.writes_left }
+        ensures calls { W.calls sink.new + self.new.pending.writes_left
+            ≡ W.calls sink.old + self.old.pending.writes_left }
         ensures faults { W.faults sink.old ≤ W.faults sink.new }
         ensures cause { OnErr result ((W.faults sink.old < W.faults sink.new) ⊎ (self.new.pending.writes_left ≡ 0)) }
     {
@@ -119,7 +129,8 @@ impl Evaluator {
     fn refuse<W: Sink>(&mut self, sink: &mut W) -> Result<(), NotWritten>
         ensures prints { Enacts self.old self.old.lines Bad result (W.taken sink.old) (W.taken sink.new) self.new }
         ensures lines { self.new.lines ≡ self.old.lines }
-        ensures calls { W.calls sink.new + self.new.pending.writes_left ≡ W.calls sink.old + self.old.pending.writes_left }
+        ensures calls { W.calls sink.new + self.new.pending.writes_left
+            ≡ W.calls sink.old + self.old.pending.writes_left }
         ensures faults { W.faults sink.old ≤ W.faults sink.new }
         ensures cause { OnErr result ((W.faults sink.old < W.faults sink.new) ⊎ (self.new.pending.writes_left ≡ 0)) }
     {
@@ -132,7 +143,8 @@ impl Evaluator {
     fn pin<W: Sink>(&mut self, sink: &mut W, id: Id) -> Result<(), NotWritten>
         ensures prints { Enacts self.old self.old.lines (Pin id) result (W.taken sink.old) (W.taken sink.new) self.new }
         ensures lines { self.new.lines ≡ self.old.lines }
-        ensures calls { W.calls sink.new + self.new.pending.writes_left ≡ W.calls sink.old + self.old.pending.writes_left }
+        ensures calls { W.calls sink.new + self.new.pending.writes_left
+            ≡ W.calls sink.old + self.old.pending.writes_left }
         ensures faults { W.faults sink.old ≤ W.faults sink.new }
         ensures cause { OnErr result ((W.faults sink.old < W.faults sink.new) ⊎ (self.new.pending.writes_left ≡ 0)) }
     {
@@ -144,9 +156,11 @@ impl Evaluator {
     #[inline(never)]
     #[tactic(auto, using(ob_output::proofs::Written::put_written))]
     fn unpin<W: Sink>(&mut self, sink: &mut W, id: Id) -> Result<(), NotWritten>
-        ensures prints { Enacts self.old self.old.lines (Unpin id) result (W.taken sink.old) (W.taken sink.new) self.new }
+        ensures prints { Enacts self.old self.old.lines (Unpin id) result (W.taken sink.old)
+            (W.taken sink.new) self.new }
         ensures lines { self.new.lines ≡ self.old.lines }
-        ensures calls { W.calls sink.new + self.new.pending.writes_left ≡ W.calls sink.old + self.old.pending.writes_left }
+        ensures calls { W.calls sink.new + self.new.pending.writes_left
+            ≡ W.calls sink.old + self.old.pending.writes_left }
         ensures faults { W.faults sink.old ≤ W.faults sink.new }
         ensures cause { OnErr result ((W.faults sink.old < W.faults sink.new) ⊎ (self.new.pending.writes_left ≡ 0)) }
     {
@@ -158,9 +172,11 @@ impl Evaluator {
     #[inline(never)]
     #[tactic(auto, using(ob_output::proofs::Written::put_written))]
     fn show_card<W: Sink>(&mut self, sink: &mut W, id: Id) -> Result<(), NotWritten>
-        ensures prints { Enacts self.old self.old.lines (ShowCard id) result (W.taken sink.old) (W.taken sink.new) self.new }
+        ensures prints { Enacts self.old self.old.lines (ShowCard id) result (W.taken sink.old)
+            (W.taken sink.new) self.new }
         ensures lines { self.new.lines ≡ self.old.lines }
-        ensures calls { W.calls sink.new + self.new.pending.writes_left ≡ W.calls sink.old + self.old.pending.writes_left }
+        ensures calls { W.calls sink.new + self.new.pending.writes_left
+            ≡ W.calls sink.old + self.old.pending.writes_left }
         ensures faults { W.faults sink.old ≤ W.faults sink.new }
         ensures cause { OnErr result ((W.faults sink.old < W.faults sink.new) ⊎ (self.new.pending.writes_left ≡ 0)) }
     {
@@ -175,7 +191,8 @@ impl Evaluator {
         ensures ok { OnOk result (W.taken sink.new ≡ W.taken sink.old ++ self.old.pending.bytes) }
         ensures empty { OnOk result (self.new.pending.bytes ≡ []) }
         ensures err { OnErr result (Begins (W.taken sink.old) (W.taken sink.new) self.old.pending.bytes) }
-        ensures calls { W.calls sink.new + self.new.pending.writes_left ≡ W.calls sink.old + self.old.pending.writes_left }
+        ensures calls { W.calls sink.new + self.new.pending.writes_left
+            ≡ W.calls sink.old + self.old.pending.writes_left }
         ensures faults { W.faults sink.old ≤ W.faults sink.new }
         ensures cause { OnErr result ((W.faults sink.old < W.faults sink.new) ⊎ (self.new.pending.writes_left ≡ 0)) }
     {
@@ -189,7 +206,8 @@ fn list<W: Sink>(
     output: &mut Output,
     sink: &mut W,
 ) -> Result<(), NotWritten>
-    ensures written { IsWritten result (W.taken sink.old) (W.taken sink.new) (output.old.bytes ++ printed_names (directory_of manager.now.state)) output.new.bytes }
+    ensures written { IsWritten result (W.taken sink.old) (W.taken sink.new)
+        (output.old.bytes ++ printed_names (directory_of manager.now.state)) output.new.bytes }
     ensures calls { W.calls sink.new + output.new.writes_left ≡ W.calls sink.old + output.old.writes_left }
     ensures faults { W.faults sink.old ≤ W.faults sink.new }
     ensures cause { OnErr result ((W.faults sink.old < W.faults sink.new) ⊎ (output.new.writes_left ≡ 0)) }

@@ -1,8 +1,8 @@
 //! The console: reads a script, makes the calls of its lines, pins what they ask for, and prints the answers.
 //!
-//! [`run`] has a manager of its own and one reader of the manager's pins. It works over any [`Source`] and [`Sink`], whose
-//! bytes its contract names, and [`run_whole`] over a script in memory; [`Wired`] makes a reader or a writer of std one. [`read_options`] reads the program's command
-//! line.
+//! [`run`] has a manager of its own and one reader of the manager's pins. It works over any [`Source`] and [`Sink`],
+//! whose bytes its contract names, and [`run_whole`] over a script in memory; [`Wired`] makes a reader or a writer of
+//! std one. [`read_options`] reads the program's command line.
 //!
 //! ```text
 //! let options = read_options(rt.alloc(), args)?;

@@ -39,8 +39,8 @@ impl From<AllocError> for OptionsFault {
 }
 
 /// Reads the arguments after the program's name, by the habits of `clap`: `--slots 4` or `--slots=4`, in any order,
-/// each option at most once, and `--help` or `-h`. The options are the *profile*'s: one for each limit of [`Limits`], and
-/// `--lanes`.
+/// each option at most once, and `--help` or `-h`. The options are the *profile*'s: one for each limit of [`Limits`],
+/// and `--lanes`.
 pub fn read_options(alloc: Global, args: Vec<String>) -> Result<Options, OptionsFault>
     ensures lanes { IfOk result (λ options. options.lanes ≤ LANES_MOST) }
 {

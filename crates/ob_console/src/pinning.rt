@@ -25,10 +25,10 @@ fn try_descr(reader: &mut Reader, id: Id) -> Result<Descr, PinFault>
 
 /// [`try_descr`] between two meetings, so that its answer is told by the manager's state.
 ///
-/// Refused, in this order: [`PinFault::NoSuchSlot`] where there is no such slot; [`PinFault::HeldFull`] where 16 copies are
-/// held; [`PinFault::Unborn`] where the Id has no object yet; [`PinFault::Stale`] where its object ended;
-/// [`PinFault::PinsFull`] where the slot has all its pins; and [`PinFault::Busy`] where another reader changed the slot's word
-/// in between.
+/// Refused, in this order: [`PinFault::NoSuchSlot`] where there is no such slot; [`PinFault::HeldFull`] where 16 copies
+/// are held; [`PinFault::Unborn`] where the Id has no object yet; [`PinFault::Stale`] where its object ended;
+/// [`PinFault::PinsFull`] where the slot has all its pins; and [`PinFault::Busy`] where another reader changed the
+/// slot's word in between.
 #[tactic(auto, using(crate::proofs::Attempting::no_slot))]
 pub fn pin(manager: &mut Manager<Keeper>, reader: &mut Reader, id: Id) -> Result<Descr, PinFault>
     requires { manager.old.keeper.table ≡ Some reader.old.table }

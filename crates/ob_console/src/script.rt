@@ -1,4 +1,5 @@
-ghost use Rattle.std.specs.Prelude.{◌≡◌, ◌+◌, ◌<◌, ◌≤◌, ◌++◌, ◌⊎◌, [], List, ℕ, IfOk, IfSome, OnOk, IsErrOf, Some, length, vec_len};
+ghost use Rattle.std.specs.Prelude.{◌≡◌, ◌+◌, ◌<◌, ◌≤◌, ◌++◌, ◌⊎◌, [], List, ℕ, IfOk, IfSome, OnOk, IsErrOf, Some};
+ghost use Rattle.std.specs.Prelude.{length, vec_len};
 ghost use Rattle.ob_store.specs.declared.limits.Limits.{Limits};
 ghost use Rattle.ob_store.specs.State.{shape_of};
 ghost use Rattle.ob_console.specs.Sessions.{Session};
@@ -31,20 +32,25 @@ const BLOCK: usize = 65536;
 /// How many reads, and how many writes, [`run`] makes at most.
 pub const CALLS_MOST: u64 = 1_000_000_000;
 
-/// Runs a script over a new manager and one reader of its pins: reads blocks to the end of the input, answers each line, and
-/// writes all answers to a block before it reads on. Takes memory only at its start, but for the manager's calls.
+/// Runs a script over a new manager and one reader of its pins: reads blocks to the end of the input, answers each
+/// line, and writes all answers to a block before it reads on. Takes memory only at its start, but for the manager's
+/// calls.
 pub fn run<R: Source, W: Sink>(
     alloc: Global,
     limits: Limits,
     reader: &mut R,
     writer: &mut W,
 ) -> Result<(), RunFault>
-    ensures answers { (input output : List ℕ) × (R.given reader.new ≡ R.given reader.old ++ input) × (W.taken writer.new ≡ W.taken writer.old ++ output)
+    ensures answers { (input output : List ℕ) × (R.given reader.new ≡ R.given reader.old ++ input)
+        × (W.taken writer.new ≡ W.taken writer.old ++ output)
         × IsEnded result limits input output }
     ensures ended { OnOk result (R.HasEnded reader.new) }
-    ensures memory { IsErrOf result RunFault.Memory → (R.calls reader.new ≡ R.calls reader.old) × (W.calls writer.new ≡ W.calls writer.old) }
-    ensures read { IsErrOf result RunFault.Read → (R.faults reader.old < R.faults reader.new) ⊎ (R.calls reader.new ≡ R.calls reader.old + CALLS_MOST) }
-    ensures write { IsErrOf result RunFault.Write → (W.faults writer.old < W.faults writer.new) ⊎ (W.calls writer.new ≡ W.calls writer.old + CALLS_MOST) }
+    ensures memory { IsErrOf result RunFault.Memory → (R.calls reader.new ≡ R.calls reader.old)
+        × (W.calls writer.new ≡ W.calls writer.old) }
+    ensures read { IsErrOf result RunFault.Read → (R.faults reader.old < R.faults reader.new)
+        ⊎ (R.calls reader.new ≡ R.calls reader.old + CALLS_MOST) }
+    ensures write { IsErrOf result RunFault.Write → (W.faults writer.old < W.faults writer.new)
+        ⊎ (W.calls writer.new ≡ W.calls writer.old + CALLS_MOST) }
     ensures reads { R.calls reader.new ≤ R.calls reader.old + CALLS_MOST }
     ensures writes { W.calls writer.new ≤ W.calls writer.old + CALLS_MOST }
 {
@@ -60,12 +66,16 @@ pub fn run_bounded<R: Source, W: Sink>(
     reader: &mut R,
     writer: &mut W,
 ) -> Result<(), RunFault>
-    ensures answers { (input output : List ℕ) × (R.given reader.new ≡ R.given reader.old ++ input) × (W.taken writer.new ≡ W.taken writer.old ++ output)
+    ensures answers { (input output : List ℕ) × (R.given reader.new ≡ R.given reader.old ++ input)
+        × (W.taken writer.new ≡ W.taken writer.old ++ output)
         × IsEnded result limits input output }
     ensures ended { OnOk result (R.HasEnded reader.new) }
-    ensures memory { IsErrOf result RunFault.Memory → (R.calls reader.new ≡ R.calls reader.old) × (W.calls writer.new ≡ W.calls writer.old) }
-    ensures read { IsErrOf result RunFault.Read → (R.faults reader.old < R.faults reader.new) ⊎ (R.calls reader.new ≡ R.calls reader.old + reads) }
-    ensures write { IsErrOf result RunFault.Write → (W.faults writer.old < W.faults writer.new) ⊎ (W.calls writer.new ≡ W.calls writer.old + writes) }
+    ensures memory { IsErrOf result RunFault.Memory → (R.calls reader.new ≡ R.calls reader.old)
+        × (W.calls writer.new ≡ W.calls writer.old) }
+    ensures read { IsErrOf result RunFault.Read → (R.faults reader.old < R.faults reader.new)
+        ⊎ (R.calls reader.new ≡ R.calls reader.old + reads) }
+    ensures write { IsErrOf result RunFault.Write → (W.faults writer.old < W.faults writer.new)
+        ⊎ (W.calls writer.new ≡ W.calls writer.old + writes) }
     ensures reads { R.calls reader.new ≤ R.calls reader.old + reads }
     ensures writes { W.calls writer.new ≤ W.calls writer.old + writes }
 {
@@ -84,17 +94,19 @@ pub fn run_bounded<R: Source, W: Sink>(
     answered
 }
 
-/// Runs a script that is in memory as a whole, as [`run`] does: answers each line, and writes the answers. It reads nothing, so
-/// it never ends with [`RunFault::Read`].
+/// Runs a script that is in memory as a whole, as [`run`] does: answers each line, and writes the answers. It reads
+/// nothing, so it never ends with [`RunFault::Read`].
 pub fn run_whole<W: Sink>(
     alloc: Global,
     limits: Limits,
     script: &[u8],
     writer: &mut W,
 ) -> Result<(), RunFault>
-    ensures answers { (output : List ℕ) × (W.taken writer.new ≡ W.taken writer.old ++ output) × IsWholeEnded result limits script.now output }
+    ensures answers { (output : List ℕ) × (W.taken writer.new ≡ W.taken writer.old ++ output)
+        × IsWholeEnded result limits script.now output }
     ensures memory { IsErrOf result RunFault.Memory → W.calls writer.new ≡ W.calls writer.old }
-    ensures write { IsErrOf result RunFault.Write → (W.faults writer.old < W.faults writer.new) ⊎ (W.calls writer.new ≡ W.calls writer.old + CALLS_MOST) }
+    ensures write { IsErrOf result RunFault.Write → (W.faults writer.old < W.faults writer.new)
+        ⊎ (W.calls writer.new ≡ W.calls writer.old + CALLS_MOST) }
     ensures writes { W.calls writer.new ≤ W.calls writer.old + CALLS_MOST }
 {
     let Ok((pins, opening)) = Pins::new(alloc, limits.shape()) else {
@@ -117,10 +129,13 @@ fn answer_whole<W: Sink>(
     requires lines { console.old.lines ≡ 0 }
     requires pending { console.old.pending.bytes ≡ [] }
     ensures answers { (limits : Limits) → Session limits [] [] console.old →
-        (output : List ℕ) × (W.taken writer.new ≡ W.taken writer.old ++ output) × IsWholeEnded result limits script.now output }
+        (output : List ℕ) × (W.taken writer.new ≡ W.taken writer.old ++ output)
+        × IsWholeEnded result limits script.now output }
     ensures memory { IsErrOf result RunFault.Memory → ⊥ }
-    ensures write { IsErrOf result RunFault.Write → (W.faults writer.old < W.faults writer.new) ⊎ (console.new.pending.writes_left ≡ 0) }
-    ensures writes { W.calls writer.new + console.new.pending.writes_left ≡ W.calls writer.old + console.old.pending.writes_left }
+    ensures write { IsErrOf result RunFault.Write → (W.faults writer.old < W.faults writer.new)
+        ⊎ (console.new.pending.writes_left ≡ 0) }
+    ensures writes { W.calls writer.new + console.new.pending.writes_left
+        ≡ W.calls writer.old + console.old.pending.writes_left }
 {
     let _length = script.len();
     match console.take(writer, script) {
@@ -133,8 +148,8 @@ fn answer_whole<W: Sink>(
     }
 }
 
-/// A console of which no line has come, over a manager with no process and a reader that holds nothing; none where memory is
-/// wanting.
+/// A console of which no line has come, over a manager with no process and a reader that holds nothing; none where
+/// memory is wanting.
 fn opened(
     alloc: Global,
     limits: Limits,
@@ -173,14 +188,18 @@ fn answer_all<R: Source, W: Sink>(
     requires pending { console.old.pending.bytes ≡ [] }
     requires block { length block.old ≡ BLOCK }
     ensures answers { (limits : Limits) → Session limits [] [] console.old →
-        (input output : List ℕ) × (R.given reader.new ≡ R.given reader.old ++ input) × (W.taken writer.new ≡ W.taken writer.old ++ output)
+        (input output : List ℕ) × (R.given reader.new ≡ R.given reader.old ++ input)
+        × (W.taken writer.new ≡ W.taken writer.old ++ output)
         × IsEnded result limits input output }
     ensures ended { OnOk result (R.HasEnded reader.new) }
     ensures memory { IsErrOf result RunFault.Memory → ⊥ }
-    ensures read { IsErrOf result RunFault.Read → (R.faults reader.old < R.faults reader.new) ⊎ (R.calls reader.new ≡ R.calls reader.old + reads) }
-    ensures write { IsErrOf result RunFault.Write → (W.faults writer.old < W.faults writer.new) ⊎ (console.new.pending.writes_left ≡ 0) }
+    ensures read { IsErrOf result RunFault.Read → (R.faults reader.old < R.faults reader.new)
+        ⊎ (R.calls reader.new ≡ R.calls reader.old + reads) }
+    ensures write { IsErrOf result RunFault.Write → (W.faults writer.old < W.faults writer.new)
+        ⊎ (console.new.pending.writes_left ≡ 0) }
     ensures reads { R.calls reader.new ≤ R.calls reader.old + reads }
-    ensures writes { W.calls writer.new + console.new.pending.writes_left ≡ W.calls writer.old + console.old.pending.writes_left }
+    ensures writes { W.calls writer.new + console.new.pending.writes_left
+        ≡ W.calls writer.old + console.old.pending.writes_left }
 {
     for i in 0..reads {
         let _turn = i;

@@ -23,8 +23,8 @@ pub fn act_of(alloc: Global, request: Request<'_>) -> Result<Act, AllocError>
     }
 }
 
-/// The call that a line asks for, with names and handles of its own; of the handles of a wait the first 65, since a wait for more
-/// than 64 is refused, whichever they are. The refusal is want of memory.
+/// The call that a line asks for, with names and handles of its own; of the handles of a wait the first 65, since a
+/// wait for more than 64 is refused, whichever they are. The refusal is want of memory.
 fn call_of(alloc: Global, ask: Ask<'_>) -> Result<Call, AllocError>
     ensures { IfOk result (λ call. call ≡ shortened (call_in ask.entry)) }
 {

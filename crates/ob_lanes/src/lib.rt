@@ -1,5 +1,5 @@
-//! Scripts with lanes: reads a whole script, makes the calls of its prologue and then those of its lanes at once, each by a
-//! member on a thread of its own, and prints the answers lane by lane.
+//! Scripts with lanes: reads a whole script, makes the calls of its prologue and then those of its lanes at once, each
+//! by a member on a thread of its own, and prints the answers lane by lane.
 //!
 //! ```text
 //! spawn 1
@@ -9,8 +9,8 @@
 //! @2 pin s0.1
 //! ```
 //!
-//! Lines without a prefix before the first line that begins with `@` are the prologue, whose calls are made first. `@k ` puts the
-//! line behind it into lane k.
+//! Lines without a prefix before the first line that begins with `@` are the prologue, whose calls are made first. `@k
+//! ` puts the line behind it into lane k.
 #![tactic(auto)]
 
 mod calling;

@@ -1,5 +1,6 @@
 ghost use Rattle.std.specs.Prelude.{◌≡◌, ◌≤◌, IfSome};
-ghost use Rattle.ob_lanes.specs.Lines.{IsOfLane, behind_prefix, in_lane, in_prefixed, is_marked, lane_of, line_in, line_of, with_prefix, without_prefix};
+ghost use Rattle.ob_lanes.specs.Lines.{IsOfLane, behind_prefix, in_lane, in_prefixed, is_marked, lane_of, line_in};
+ghost use Rattle.ob_lanes.specs.Lines.{line_of, with_prefix, without_prefix};
 ghost use Rattle.ob_script.specs.Acts.{act_in};
 
 use ob_script::{Act, Ask, ScriptLine, act_of, cut_far, is_too_long, labelled, text_of};
@@ -31,8 +32,8 @@ pub enum Line<'a> {
     Acts(u32, Request<'a>),
 }
 
-/// What a line is, without its line feed, in a script with so many lanes beside the prologue. Without a prefix it belongs to the
-/// prologue, as long as that goes on.
+/// What a line is, without its line feed, in a script with so many lanes beside the prologue. Without a prefix it
+/// belongs to the prologue, as long as that goes on.
 pub fn line_of(lanes: u32, is_prologue: bool, line: &[u8]) -> Line<'_>
     ensures value { line_in result ≡ line_of lanes is_prologue line.now }
     ensures lane { IsOfLane lanes result }

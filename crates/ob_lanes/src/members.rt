@@ -10,7 +10,8 @@ use std::alloc::{AllocError, Global};
 use std::sync::Wait;
 use std::thread::Threads;
 
-/// A manager behind its lock, of which nothing was asked, and so many readers of its pins; none where memory is wanting.
+/// A manager behind its lock, of which nothing was asked, and so many readers of its pins; none where memory is
+/// wanting.
 pub fn started(
     alloc: Global,
     limits: Limits,

@@ -13,8 +13,8 @@ pub const BLOCK: usize = 65536;
 /// How many reads, and how many writes, are made at most.
 pub const CALLS_MOST: u64 = 1_000_000_000;
 
-/// The beginning of a line whose end has not come. A line that is too long for any act is not kept, but whether it begins with
-/// an @.
+/// The beginning of a line whose end has not come. A line that is too long for any act is not kept, but whether it
+/// begins with an @.
 #[derive(Drop)]
 struct Beginning {
     held: HeldLine,
@@ -52,10 +52,12 @@ impl Intake {
         requires { self.old.lines < 2 ^ 127 }
         ensures lanes { self.new.scripts.lanes ≡ self.old.scripts.lanes }
         ensures lines { self.new.lines ≡ self.old.lines + 1 }
-        ensures calls { W.calls sink.new + self.new.output.writes_left ≡ W.calls sink.old + self.old.output.writes_left }
+        ensures calls { W.calls sink.new + self.new.output.writes_left
+            ≡ W.calls sink.old + self.old.output.writes_left }
         ensures faults { W.faults sink.old ≤ W.faults sink.new }
         ensures read { IsErrOf result LanesFault.Read → ⊥ }
-        ensures write { IsErrOf result LanesFault.Write → (W.faults sink.old < W.faults sink.new) ⊎ (self.new.output.writes_left ≡ 0) }
+        ensures write { IsErrOf result LanesFault.Write → (W.faults sink.old < W.faults sink.new)
+            ⊎ (self.new.output.writes_left ≡ 0) }
     {
         self.lines += 1;
         if self.scripts.take(line)? {
@@ -69,10 +71,12 @@ impl Intake {
         requires { self.old.lines < 2 ^ 127 }
         ensures lanes { self.new.scripts.lanes ≡ self.old.scripts.lanes }
         ensures lines { self.new.lines ≡ self.old.lines + 1 }
-        ensures calls { W.calls sink.new + self.new.output.writes_left ≡ W.calls sink.old + self.old.output.writes_left }
+        ensures calls { W.calls sink.new + self.new.output.writes_left
+            ≡ W.calls sink.old + self.old.output.writes_left }
         ensures faults { W.faults sink.old ≤ W.faults sink.new }
         ensures read { IsErrOf result LanesFault.Read → ⊥ }
-        ensures write { IsErrOf result LanesFault.Write → (W.faults sink.old < W.faults sink.new) ⊎ (self.new.output.writes_left ≡ 0) }
+        ensures write { IsErrOf result LanesFault.Write → (W.faults sink.old < W.faults sink.new)
+            ⊎ (self.new.output.writes_left ≡ 0) }
     {
         self.lines += 1;
         if is_marked {
@@ -85,10 +89,12 @@ impl Intake {
     fn print_bad<W: Sink>(&mut self, sink: &mut W) -> Result<(), LanesFault>
         ensures scripts { self.new.scripts ≡ self.old.scripts }
         ensures lines { self.new.lines ≡ self.old.lines }
-        ensures calls { W.calls sink.new + self.new.output.writes_left ≡ W.calls sink.old + self.old.output.writes_left }
+        ensures calls { W.calls sink.new + self.new.output.writes_left
+            ≡ W.calls sink.old + self.old.output.writes_left }
         ensures faults { W.faults sink.old ≤ W.faults sink.new }
         ensures read { IsErrOf result LanesFault.Read → ⊥ }
-        ensures write { IsErrOf result LanesFault.Write → (W.faults sink.old < W.faults sink.new) ⊎ (self.new.output.writes_left ≡ 0) }
+        ensures write { IsErrOf result LanesFault.Write → (W.faults sink.old < W.faults sink.new)
+            ⊎ (self.new.output.writes_left ≡ 0) }
     {
         self.output.put(sink, &Answer::BadLine(self.lines))?;
         Ok(())
@@ -124,10 +130,12 @@ impl Reading {
         requires { self.old.intake.lines < 2 ^ 127 }
         ensures lanes { self.new.intake.scripts.lanes ≡ self.old.intake.scripts.lanes }
         ensures lines { self.new.intake.lines ≡ self.old.intake.lines + 1 }
-        ensures calls { W.calls sink.new + self.new.intake.output.writes_left ≡ W.calls sink.old + self.old.intake.output.writes_left }
+        ensures calls { W.calls sink.new + self.new.intake.output.writes_left
+            ≡ W.calls sink.old + self.old.intake.output.writes_left }
         ensures faults { W.faults sink.old ≤ W.faults sink.new }
         ensures read { IsErrOf result LanesFault.Read → ⊥ }
-        ensures write { IsErrOf result LanesFault.Write → (W.faults sink.old < W.faults sink.new) ⊎ (self.new.intake.output.writes_left ≡ 0) }
+        ensures write { IsErrOf result LanesFault.Write → (W.faults sink.old < W.faults sink.new)
+            ⊎ (self.new.intake.output.writes_left ≡ 0) }
     {
         let taken = match self.beginning.held.line() {
             Some(line) => self.intake.take(sink, line),
@@ -142,10 +150,12 @@ impl Reading {
         requires { self.old.intake.lines < 2 ^ 127 }
         ensures lanes { self.new.intake.scripts.lanes ≡ self.old.intake.scripts.lanes }
         ensures lines { self.new.intake.lines ≡ self.old.intake.lines + 1 }
-        ensures calls { W.calls sink.new + self.new.intake.output.writes_left ≡ W.calls sink.old + self.old.intake.output.writes_left }
+        ensures calls { W.calls sink.new + self.new.intake.output.writes_left
+            ≡ W.calls sink.old + self.old.intake.output.writes_left }
         ensures faults { W.faults sink.old ≤ W.faults sink.new }
         ensures read { IsErrOf result LanesFault.Read → ⊥ }
-        ensures write { IsErrOf result LanesFault.Write → (W.faults sink.old < W.faults sink.new) ⊎ (self.new.intake.output.writes_left ≡ 0) }
+        ensures write { IsErrOf result LanesFault.Write → (W.faults sink.old < W.faults sink.new)
+            ⊎ (self.new.intake.output.writes_left ≡ 0) }
     {
         if self.beginning.held.is_empty() {
             return self.intake.take(sink, end);
@@ -159,10 +169,12 @@ impl Reading {
         requires { self.old.intake.lines + length block.now < 2 ^ 127 }
         ensures lanes { self.new.intake.scripts.lanes ≡ self.old.intake.scripts.lanes }
         ensures lines { self.new.intake.lines ≤ self.old.intake.lines + length block.now }
-        ensures calls { W.calls sink.new + self.new.intake.output.writes_left ≡ W.calls sink.old + self.old.intake.output.writes_left }
+        ensures calls { W.calls sink.new + self.new.intake.output.writes_left
+            ≡ W.calls sink.old + self.old.intake.output.writes_left }
         ensures faults { W.faults sink.old ≤ W.faults sink.new }
         ensures read { IsErrOf result LanesFault.Read → ⊥ }
-        ensures write { IsErrOf result LanesFault.Write → (W.faults sink.old < W.faults sink.new) ⊎ (self.new.intake.output.writes_left ≡ 0) }
+        ensures write { IsErrOf result LanesFault.Write → (W.faults sink.old < W.faults sink.new)
+            ⊎ (self.new.intake.output.writes_left ≡ 0) }
     {
         let mut rest = block;
         while let Some((end, behind)) = cut_far(b'\n', rest) {
@@ -180,10 +192,12 @@ impl Reading {
         requires { self.old.intake.lines + length block.now < 2 ^ 127 }
         ensures lanes { self.new.intake.scripts.lanes ≡ self.old.intake.scripts.lanes }
         ensures lines { self.new.intake.lines ≤ self.old.intake.lines + length block.now }
-        ensures calls { W.calls sink.new + self.new.intake.output.writes_left ≡ W.calls sink.old + self.old.intake.output.writes_left }
+        ensures calls { W.calls sink.new + self.new.intake.output.writes_left
+            ≡ W.calls sink.old + self.old.intake.output.writes_left }
         ensures faults { W.faults sink.old ≤ W.faults sink.new }
         ensures read { IsErrOf result LanesFault.Read → ⊥ }
-        ensures write { IsErrOf result LanesFault.Write → (W.faults sink.old < W.faults sink.new) ⊎ (self.new.intake.output.writes_left ≡ 0) }
+        ensures write { IsErrOf result LanesFault.Write → (W.faults sink.old < W.faults sink.new)
+            ⊎ (self.new.intake.output.writes_left ≡ 0) }
     {
         self.feed(sink, block)?;
         self.intake.output.flush(sink)?;
@@ -194,10 +208,12 @@ impl Reading {
     fn finish<W: Sink>(&mut self, sink: &mut W) -> Result<(), LanesFault>
         requires { self.old.intake.lines < 2 ^ 127 }
         ensures lanes { self.new.intake.scripts.lanes ≡ self.old.intake.scripts.lanes }
-        ensures calls { W.calls sink.new + self.new.intake.output.writes_left ≡ W.calls sink.old + self.old.intake.output.writes_left }
+        ensures calls { W.calls sink.new + self.new.intake.output.writes_left
+            ≡ W.calls sink.old + self.old.intake.output.writes_left }
         ensures faults { W.faults sink.old ≤ W.faults sink.new }
         ensures read { IsErrOf result LanesFault.Read → ⊥ }
-        ensures write { IsErrOf result LanesFault.Write → (W.faults sink.old < W.faults sink.new) ⊎ (self.new.intake.output.writes_left ≡ 0) }
+        ensures write { IsErrOf result LanesFault.Write → (W.faults sink.old < W.faults sink.new)
+            ⊎ (self.new.intake.output.writes_left ≡ 0) }
     {
         if !self.beginning.held.is_empty() {
             self.end_line(sink)?;
@@ -206,7 +222,8 @@ impl Reading {
         Ok(())
     }
 
-    /// Reads a script to its end, with at most so many reads. What is bad in a block is written before the next is read.
+    /// Reads a script to its end, with at most so many reads. What is bad in a block is written before the next is
+    /// read.
     pub fn read_all<R: Source, W: Sink>(
         &mut self,
         block: &mut [u8],
@@ -218,10 +235,13 @@ impl Reading {
         requires block { length block.old ≡ BLOCK }
         ensures lanes { self.new.intake.scripts.lanes ≡ self.old.intake.scripts.lanes }
         ensures ended { OnOk result (R.HasEnded reader.new) }
-        ensures read { IsErrOf result LanesFault.Read → (R.faults reader.old < R.faults reader.new) ⊎ (R.calls reader.new ≡ R.calls reader.old + reads) }
-        ensures write { IsErrOf result LanesFault.Write → (W.faults writer.old < W.faults writer.new) ⊎ (self.new.intake.output.writes_left ≡ 0) }
+        ensures read { IsErrOf result LanesFault.Read → (R.faults reader.old < R.faults reader.new)
+            ⊎ (R.calls reader.new ≡ R.calls reader.old + reads) }
+        ensures write { IsErrOf result LanesFault.Write → (W.faults writer.old < W.faults writer.new)
+            ⊎ (self.new.intake.output.writes_left ≡ 0) }
         ensures reads { R.calls reader.new ≤ R.calls reader.old + reads }
-        ensures calls { W.calls writer.new + self.new.intake.output.writes_left ≡ W.calls writer.old + self.old.intake.output.writes_left }
+        ensures calls { W.calls writer.new + self.new.intake.output.writes_left
+            ≡ W.calls writer.old + self.old.intake.output.writes_left }
         ensures faults { W.faults writer.old ≤ W.faults writer.new }
     {
         for i in 0..reads {

@@ -13,11 +13,12 @@ use std::alloc::{AllocError, Global};
 use std::sync::Wait;
 use std::thread::Threads;
 
-/// Runs a script with so many lanes over a new manager behind its lock: reads the script to its end and prints meanwhile which
-/// lines are bad; makes the calls of the prologue, which is lane 0, and then those of the other lanes at once; prints the answers
-/// lane by lane; and closes the lanes. It may wait forever, since a lane may.
+/// Runs a script with so many lanes over a new manager behind its lock: reads the script to its end and prints
+/// meanwhile which lines are bad; makes the calls of the prologue, which is lane 0, and then those of the other lanes
+/// at once; prints the answers lane by lane; and closes the lanes. It may wait forever, since a lane may.
 ///
-/// At most 1,000,000,000 reads and as many writes are made. The answers are those of members: [`drive`](ob_shared::drive).
+/// At most 1,000,000,000 reads and as many writes are made. The answers are those of members:
+/// [`drive`](ob_shared::drive).
 pub fn run_lanes<R: Threads + Wait + Sync, I: Source, O: Sink>(
     rt: &R,
     alloc: Global,
@@ -29,8 +30,10 @@ pub fn run_lanes<R: Threads + Wait + Sync, I: Source, O: Sink>(
     requires some { 1 ≤ lanes }
     requires few { lanes ≤ 64 }
     ensures ended { OnOk result (I.HasEnded reader.new) }
-    ensures read { IsErrOf result LanesFault.Read → (I.faults reader.old < I.faults reader.new) ⊎ (I.calls reader.new ≡ I.calls reader.old + CALLS_MOST) }
-    ensures write { IsErrOf result LanesFault.Write → (O.faults writer.old < O.faults writer.new) ⊎ (O.calls writer.new ≡ O.calls writer.old + CALLS_MOST) }
+    ensures read { IsErrOf result LanesFault.Read → (I.faults reader.old < I.faults reader.new)
+        ⊎ (I.calls reader.new ≡ I.calls reader.old + CALLS_MOST) }
+    ensures write { IsErrOf result LanesFault.Write → (O.faults writer.old < O.faults writer.new)
+        ⊎ (O.calls writer.new ≡ O.calls writer.old + CALLS_MOST) }
     ensures reads { I.calls reader.new ≤ I.calls reader.old + CALLS_MOST }
     ensures writes { O.calls writer.new ≤ O.calls writer.old + CALLS_MOST }
 {
@@ -49,8 +52,8 @@ pub fn run_lanes<R: Threads + Wait + Sync, I: Source, O: Sink>(
     )
 }
 
-/// Makes the calls of scripts, of which the first is the prologue's, prints the answers, and closes the lanes. Want of memory is
-/// answered before anything is written.
+/// Makes the calls of scripts, of which the first is the prologue's, prints the answers, and closes the lanes. Want of
+/// memory is answered before anything is written.
 fn run_scripts<R: Threads + Wait + Sync, O: Sink>(
     rt: &R,
     alloc: Global,
@@ -63,7 +66,8 @@ fn run_scripts<R: Threads + Wait + Sync, O: Sink>(
     requires few { vec_len scripts ≤ 65 }
     ensures memory { IsErrOf result LanesFault.Memory → O.calls writer.new ≡ O.calls writer.old }
     ensures read { IsErrOf result LanesFault.Read → ⊥ }
-    ensures write { IsErrOf result LanesFault.Write → (O.faults writer.old < O.faults writer.new) ⊎ (output.new.writes_left ≡ 0) }
+    ensures write { IsErrOf result LanesFault.Write → (O.faults writer.old < O.faults writer.new)
+        ⊎ (output.new.writes_left ≡ 0) }
     ensures calls { O.calls writer.new + output.new.writes_left ≡ O.calls writer.old + output.old.writes_left }
 {
     let Ok((pins, opening)) = Pins::new(alloc, limits.shape()) else {
@@ -81,8 +85,8 @@ fn run_scripts<R: Threads + Wait + Sync, O: Sink>(
     }
 }
 
-/// Makes the calls of scripts over a manager behind its lock, by a member for each, and prints the answers. Their lanes, for which
-/// there is room before the first call is made.
+/// Makes the calls of scripts over a manager behind its lock, by a member for each, and prints the answers. Their
+/// lanes, for which there is room before the first call is made.
 fn answer_scripts<R: Threads + Wait + Sync, O: Sink>(
     rt: &R,
     alloc: Global,
@@ -98,7 +102,8 @@ fn answer_scripts<R: Threads + Wait + Sync, O: Sink>(
     requires few { vec_len scripts ≤ 65 }
     ensures memory { IsErrOf result LanesFault.Memory → O.calls writer.new ≡ O.calls writer.old }
     ensures read { IsErrOf result LanesFault.Read → ⊥ }
-    ensures write { IsErrOf result LanesFault.Write → (O.faults writer.old < O.faults writer.new) ⊎ (output.new.writes_left ≡ 0) }
+    ensures write { IsErrOf result LanesFault.Write → (O.faults writer.old < O.faults writer.new)
+        ⊎ (output.new.writes_left ≡ 0) }
     ensures calls { O.calls writer.new + output.new.writes_left ≡ O.calls writer.old + output.old.writes_left }
     ensures faults { O.faults writer.old ≤ O.faults writer.new }
 {
@@ -118,7 +123,8 @@ fn close<O: Sink>(
 ) -> Result<(), LanesFault>
     ensures memory { IsErrOf result LanesFault.Memory → ⊥ }
     ensures read { IsErrOf result LanesFault.Read → ⊥ }
-    ensures write { IsErrOf result LanesFault.Write → (O.faults writer.old < O.faults writer.new) ⊎ (output.new.writes_left ≡ 0) }
+    ensures write { IsErrOf result LanesFault.Write → (O.faults writer.old < O.faults writer.new)
+        ⊎ (output.new.writes_left ≡ 0) }
     ensures calls { O.calls writer.new + output.new.writes_left ≡ O.calls writer.old + output.old.writes_left }
     ensures faults { O.faults writer.old ≤ O.faults writer.new }
 {

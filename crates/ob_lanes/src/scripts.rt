@@ -47,8 +47,8 @@ impl Script {
     }
 }
 
-/// What the members of the prologue and of the lanes are to do, as far as lines have come. A contract sees the scripts by the
-/// number of their lane, and whether the prologue goes on.
+/// What the members of the prologue and of the lanes are to do, as far as lines have come. A contract sees the scripts
+/// by the number of their lane, and whether the prologue goes on.
 #[derive(Drop)]
 pub struct Scripts {
     scripts: Vec<Script>,
@@ -63,7 +63,11 @@ impl Model for Scripts {
 
     ghost Value = { ScriptsState };
 
-    ghost view = { λ scripts. record { scripts = scripts.scripts.items; lanes = scripts.lanes; is_prologue = scripts.is_prologue } };
+    ghost view = { λ scripts. record {
+      scripts = scripts.scripts.items;
+      lanes = scripts.lanes;
+      is_prologue = scripts.is_prologue;
+    } };
 
     ghost invariant = { λ scripts. vec_len scripts.scripts ≡ scripts.lanes + 1 };
 }
@@ -87,8 +91,8 @@ impl Scripts {
         })
     }
 
-    /// A line comes, without its line feed. Whether it is good; one that is bad may end the prologue all the same. Where memory
-    /// is wanting nothing has changed.
+    /// A line comes, without its line feed. Whether it is good; one that is bad may end the prologue all the same.
+    /// Where memory is wanting nothing has changed.
     pub fn take(&mut self, line: &[u8]) -> Result<bool, AllocError>
         ensures good { IfOk result (λ good. good ≡ is_good self.old line.now) }
         ensures taken { OnOk result (self.new ≡ with_line self.old line.now) }

@@ -10,18 +10,21 @@ use ob_waits::Answer;
 use pin_words::PinKeeper;
 
 impl<K: PinKeeper> Manager<K> {
-    /// The answer of the least wait number above `after`, of the waits that are answered and whose answer was not taken: which
-    /// wait, whose, and its code. 0 is below all numbers. Nothing changes: the answer stays until
+    /// The answer of the least wait number above `after`, of the waits that are answered and whose answer was not
+    /// taken: which wait, whose, and its code. 0 is below all numbers. Nothing changes: the answer stays until
     /// [`wait_result`](Manager::wait_result) takes it or its thread ends.
     ///
-    /// A host that asks from 0 on after each call, and takes what it is told until there is none, wakes just the threads whose
-    /// waits came to be answered, and never asks for another's. A call that answers waits is a signal, a release, a post, an
-    /// abandoned mutex, a tick or an expiry; the wait of a call that is answered at once has no number and is not told here.
+    /// A host that asks from 0 on after each call, and takes what it is told until there is none, wakes just the
+    /// threads whose waits came to be answered, and never asks for another's. A call that answers waits is a signal, a
+    /// release, a post, an abandoned mutex, a tick or an expiry; the wait of a call that is answered at once has no
+    /// number and is not told here.
     ///
     /// It takes no memory, and its cost does not grow with the waits that are pending.
     pub fn next_answered(&self, after: u32) -> Option<Answer>
-        ensures least { IsLeastFrom (after + 1) (λ n. is_answered (slice_index_or self.now.state.waits n None)) (option_map (λ a. a.wait) result) }
-        ensures answer { IfSome result (λ a. answer_of a.wait (slice_index_or self.now.state.waits a.wait None) ≡ Some a) }
+        ensures least { IsLeastFrom (after + 1) (λ n. is_answered (slice_index_or self.now.state.waits n None))
+            (option_map (λ a. a.wait) result) }
+        ensures answer { IfSome result (λ a. answer_of a.wait (slice_index_or self.now.state.waits a.wait None)
+            ≡ Some a) }
     {
         self.store.next_answered(after)
     }
@@ -29,8 +32,8 @@ impl<K: PinKeeper> Manager<K> {
     /// The least of all moments at which a timer is due or the time of a pending wait is up, in units of 100 ns, as
     /// [`tick`](Manager::tick) takes them; none where there is no such moment. It is after the moment that it is now.
     ///
-    /// Before it a tick answers no wait and signals no timer. It takes no memory and is known at once, but that the deadline of
-    /// a wait that was answered before it came is dropped by the first call behind it, once.
+    /// Before it a tick answers no wait and signals no timer. It takes no memory and is known at once, but that the
+    /// deadline of a wait that was answered before it came is dropped by the first call behind it, once.
     pub fn next_due(&mut self) -> Option<u64>
         ensures least { IsLeast (dues_of self.old.state) result }
         ensures same { self.new ≡ self.old }

@@ -9,7 +9,8 @@ use pin_core::Id;
 use std::alloc::{AllocError, Global};
 use std::convert::AsSlice;
 
-/// A call of the manager with its arguments: what a create asks for is an `M`, a name a `T`, and a list of handles an `H`.
+/// A call of the manager with its arguments: what a create asks for is an `M`, a name a `T`, and a list of handles an
+/// `H`.
 #[derive(Clone, Copy, PartialEq, Drop)]
 pub enum CallOf<M, T, H> {
     /// `Manager::spawn`.
@@ -225,7 +226,8 @@ pub type Call = CallOf<Making, Text, HandleList>;
 pub type Ask<'a> = CallOf<Make<'a>, &'a [u8], &'a [u32]>;
 
 impl<M, T, H> CallOf<M, T, H> {
-    /// Whether nothing of it lies apart in memory: it is no create, no open and no wait, which may have a name or handles.
+    /// Whether nothing of it lies apart in memory: it is no create, no open and no wait, which may have a name or
+    /// handles.
     #[inline(always)]
     pub fn is_plain(&self) -> bool
         ensures { result ≡ is_plain self.now }
@@ -316,7 +318,8 @@ impl<M, T, H> CallOf<M, T, H> {
 }
 
 impl<M: AsMake, T: AsSlice<u8>, H> CallOf<M, T, H> {
-    /// The same call, which is no wait, with a name of its own. The refusal is want of memory, of which a plain call takes none.
+    /// The same call, which is no wait, with a name of its own. The refusal is want of memory, of which a plain call
+    /// takes none.
     pub fn named(&self, alloc: Global) -> Result<Call, AllocError>
         requires { is_wait self.now ≡ false }
         ensures call { (h : H → List ℕ) → IfOk result (λ call. call ≡ with_parts M.making T.items h self.now) }
@@ -383,7 +386,8 @@ impl<M: AsMake, T: AsSlice<u8>, H> CallOf<M, T, H> {
 }
 
 impl<M: AsMake, T: AsSlice<u8>, H: AsSlice<u32>> CallOf<M, T, H> {
-    /// The same call with a name and handles of its own. The refusal is want of memory, of which a plain call takes none.
+    /// The same call with a name and handles of its own. The refusal is want of memory, of which a plain call takes
+    /// none.
     #[inline(never)]
     pub fn owned(&self, alloc: Global) -> Result<Call, AllocError>
         ensures call { IfOk result (λ call. call ≡ with_parts M.making T.items H.items self.now) }
@@ -407,7 +411,8 @@ impl<M: AsMake, T: AsSlice<u8>, H: AsSlice<u32>> CallOf<M, T, H> {
 }
 
 impl Call {
-    /// An equal one: its name or its handles are copied. The refusal is want of memory, of which a plain call takes none.
+    /// An equal one: its name or its handles are copied. The refusal is want of memory, of which a plain call takes
+    /// none.
     #[inline(always)]
     #[tactic(auto, using(crate::proofs::OwnParts::own_parts))]
     pub fn copy(&self, alloc: Global) -> Result<Call, AllocError>

@@ -11,8 +11,8 @@ use ob_tables::Entry;
 use pin_core::Id;
 use pin_words::PinKeeper;
 
-/// The process of a thread that makes a call in its own name: refused with 87 where the thread isn't live, and with 170 where
-/// it has a wait.
+/// The process of a thread that makes a call in its own name: refused with 87 where the thread isn't live, and with 170
+/// where it has a wait.
 pub fn caller<K: PinKeeper>(store: &Store<K>, thread: u32) -> Result<u32, Fault>
     ensures value { result ≡ caller store.now.state thread }
     ensures process { IfOk result (λ process. slice_index_or store.now.state.threads thread None ≡ Some process) }

@@ -3,7 +3,8 @@ ghost use Rattle.ob_rights.specs.declared.fault.Fault.TheVariants.{Memory};
 ghost use Rattle.ob_tables.specs.Table.{entry_at};
 ghost use Rattle.ob_tables.specs.Tables.{table_of};
 ghost use Rattle.ob_store.specs.State.{handles_of, is_full};
-ghost use Rattle.ob_manager.specs.Copying.{admitted, closes, copied, copied_to, copy_rights, duplicate, is_copy, is_stuck, is_wrong, keeps_rights, leaves};
+ghost use Rattle.ob_manager.specs.Copying.{admitted, closes, copied, copied_to, copy_rights, duplicate, is_copy};
+ghost use Rattle.ob_manager.specs.Copying.{is_stuck, is_wrong, keeps_rights, leaves};
 ghost use Rattle.ob_manager.specs.Creating.{takes_place};
 ghost use Rattle.ob_manager.specs.Steps.{Copies, Duplicates};
 
@@ -111,11 +112,14 @@ fn copied<K: PinKeeper>(
     options: u32,
 ) -> Result<Result<Reply, Fault>, AllocError>
     requires { 0 < handles_of store.old.state entry.id }
-    ensures ok { IfOk result (λ answer. Copies answer store.old store.new (copied store.old.state entry target mask inherit options)) }
+    ensures ok { IfOk result (λ answer. Copies answer store.old store.new
+        (copied store.old.state entry target mask inherit options)) }
     ensures memory { OnErr result (is_copy (copied store.old.state entry target mask inherit options) ≡ true) }
     ensures place { OnErr result (takes_place store.old.state (Some target) ≡ true) }
     ensures err { OnErr result (store.new ≡ store.old) }
-    ensures stays { (source handle : ℕ) (other : Entry) → entry_at (table_of store.old.state.tables source) handle ≡ Some other → entry_at (table_of store.new.state.tables source) handle ≡ Some other }
+    ensures stays { (source handle : ℕ) (other : Entry)
+        → entry_at (table_of store.old.state.tables source) handle ≡ Some other
+        → entry_at (table_of store.new.state.tables source) handle ≡ Some other }
 {
     let rights = match admitted(store, entry, target, mask, options) {
         Ok(rights) => rights,
@@ -139,11 +143,14 @@ fn copied_to<K: PinKeeper>(
     options: u32,
 ) -> Result<Result<Reply, Fault>, AllocError>
     requires { 0 < handles_of store.old.state entry.id }
-    ensures ok { IfOk result (λ answer. Copies answer store.old store.new (copied_to store.old.state entry target mask inherit options)) }
+    ensures ok { IfOk result (λ answer. Copies answer store.old store.new
+        (copied_to store.old.state entry target mask inherit options)) }
     ensures memory { OnErr result (is_copy (copied_to store.old.state entry target mask inherit options) ≡ true) }
     ensures place { OnErr result (takes_place store.old.state target ≡ true) }
     ensures err { OnErr result (store.new ≡ store.old) }
-    ensures stays { (source handle : ℕ) (other : Entry) → entry_at (table_of store.old.state.tables source) handle ≡ Some other → entry_at (table_of store.new.state.tables source) handle ≡ Some other }
+    ensures stays { (source handle : ℕ) (other : Entry)
+        → entry_at (table_of store.old.state.tables source) handle ≡ Some other
+        → entry_at (table_of store.new.state.tables source) handle ≡ Some other }
 {
     match target {
         Some(target) => copied(store, entry, target, mask, inherit, options),
@@ -162,8 +169,11 @@ pub fn duplicate<K: PinKeeper>(
     inherit: bool,
     options: u32,
 ) -> Result<Reply, Fault>
-    ensures outcome { Duplicates result store.old store.new (duplicate store.old.state thread source handle target mask inherit options) }
-    ensures memory { IfErr result (λ fault. fault ≡ Memory → is_copy (duplicate store.old.state thread source handle target mask inherit options) && takes_place store.old.state target ≡ true) }
+    ensures outcome { Duplicates result store.old store.new
+        (duplicate store.old.state thread source handle target mask inherit options) }
+    ensures memory { IfErr result (λ fault. fault ≡ Memory
+        → is_copy (duplicate store.old.state thread source handle target mask inherit options)
+        && takes_place store.old.state target ≡ true) }
 {
     caller(store, thread)?;
     if store.session(source).is_none() {

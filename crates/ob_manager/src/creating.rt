@@ -1,4 +1,5 @@
-ghost use Rattle.std.specs.Prelude.{◌≡◌, ◌≢◌, ◌<◌, false, true, IfErr, IfOk, None, Ok, OnErr, OnOk, Some, ℕ, length, slice_index_or};
+ghost use Rattle.std.specs.Prelude.{◌≡◌, ◌≢◌, ◌<◌, false, true, IfErr, IfOk, None, Ok, OnErr, OnOk, Some, ℕ, length};
+ghost use Rattle.std.specs.Prelude.{slice_index_or};
 ghost use Rattle.ob_body.specs.Body as spec;
 ghost use Rattle.ob_name.specs.Refs.{name_at, parsed_name};
 ghost use Rattle.ob_name.specs.Listing.{find_name};
@@ -11,7 +12,10 @@ ghost use Rattle.ob_arena.specs.Slots.{is_vacant_at};
 ghost use Rattle.ob_store.specs.State.{handles_of, is_full, vacancy};
 ghost use Rattle.ob_store.specs.Kept.{IsLive, form_in};
 ghost use Rattle.ob_manager.specs.Makings.{making_of};
-ghost use Rattle.ob_manager.specs.Creating.{create, create_event, create_mutex, create_semaphore, create_timer, created, flags_of, name_in, new_event, new_handle, new_mutex, new_object, new_semaphore, new_timer, next_handle, open_named, or_all, room_for, takes_place};
+ghost use Rattle.ob_manager.specs.Creating.{create, create_event, create_mutex, create_semaphore, create_timer};
+ghost use Rattle.ob_manager.specs.Creating.{created, flags_of, name_in, new_event, new_handle, new_mutex, new_object};
+ghost use Rattle.ob_manager.specs.Creating.{new_semaphore, new_timer, next_handle, open_named, or_all, room_for};
+ghost use Rattle.ob_manager.specs.Creating.{takes_place};
 ghost use Rattle.ob_manager.specs.Outcomes.{Refuses};
 ghost use Rattle.ob_manager.specs.Steps.{GivesOrLacks};
 
@@ -137,8 +141,8 @@ fn name_in<'a, K: PinKeeper>(
     parse(text, session)
 }
 
-/// The slot of a new object: refused with 5 for a right outside all rights of its kind, and with 1450 where the process has all
-/// its handles or no slot is vacant.
+/// The slot of a new object: refused with 5 for a right outside all rights of its kind, and with 1450 where the process
+/// has all its handles or no slot is vacant.
 fn room_for<K: PinKeeper>(
     store: &Store<K>,
     process: u32,
@@ -190,7 +194,8 @@ fn new_nameless<K: PinKeeper>(
     requires given { IsGiven new.descr }
     requires formed { form_of new.body ≡ form_in new.descr }
     requires owned { (t : ℕ) → spec.owner_of new.body ≡ Some t → IsLive store.old.state.threads t }
-    ensures { GivesOrLacks result store.old store.new (new_object store.old.state process (making_of make.now) new None) }
+    ensures { GivesOrLacks result store.old store.new
+        (new_object store.old.state process (making_of make.now) new None) }
 {
     let slot = room_for(store, process, make, new.descr.kind)?;
     let id = store.id_at(slot);
@@ -211,7 +216,8 @@ fn new_named<K: PinKeeper>(
     requires formed { form_of new.body ≡ form_in new.descr }
     requires owned { (t : ℕ) → spec.owner_of new.body ≡ Some t → IsLive store.old.state.threads t }
     requires absent { find_name (name_at name.now) (directory_of store.old.state) ≡ None }
-    ensures { GivesOrLacks result store.old store.new (new_object store.old.state process (making_of make.now) new (Some (name_at name.now))) }
+    ensures { GivesOrLacks result store.old store.new
+        (new_object store.old.state process (making_of make.now) new (Some (name_at name.now))) }
 {
     let slot = room_for(store, process, make, new.descr.kind)?;
     let id = store.id_at(slot);
@@ -219,8 +225,8 @@ fn new_named<K: PinKeeper>(
     Ok(Reply::Made { handle, id })
 }
 
-/// A handle to an object by its name: refused with 6 where it is of another kind, and with 5 where its grant doesn't allow the
-/// rights.
+/// A handle to an object by its name: refused with 6 where it is of another kind, and with 5 where its grant doesn't
+/// allow the rights.
 fn new_handle<K: PinKeeper>(
     store: &mut Store<K>,
     process: u32,
@@ -235,7 +241,8 @@ fn new_handle<K: PinKeeper>(
     ensures ok { OnOk result (new_handle store.old.state process id kind rights inherit ≡ Ok store.new.state) }
     ensures keeper { store.new.keeper ≡ store.old.keeper }
     ensures err { IfErr result (λ fault. Refuses fault (new_handle store.old.state process id kind rights inherit)) }
-    ensures memory { IfErr result (λ fault. fault ≡ Fault.Memory → is_packed (table_of store.old.state.tables process) ≡ true) }
+    ensures memory { IfErr result (λ fault. fault ≡ Fault.Memory
+        → is_packed (table_of store.old.state.tables process) ≡ true) }
     ensures same { OnErr result (store.new ≡ store.old) }
 {
     let Some(found) = store.object(id.slot) else {
@@ -270,7 +277,8 @@ fn named_object<K: PinKeeper>(
     requires given { IsGiven new.descr }
     requires formed { form_of new.body ≡ form_in new.descr }
     requires owned { (t : ℕ) → spec.owner_of new.body ≡ Some t → IsLive store.old.state.threads t }
-    ensures { GivesOrLacks result store.old store.new (created store.old.state process (making_of make.now) new (Some (name_at name.now))) }
+    ensures { GivesOrLacks result store.old store.new
+        (created store.old.state process (making_of make.now) new (Some (name_at name.now))) }
 {
     let Some(id) = store.find(name) else {
         return new_named(store, process, make, new, name);
@@ -318,7 +326,8 @@ pub fn create_event<K: PinKeeper>(
     manual: bool,
     set: bool,
 ) -> Result<Reply, Fault>
-    ensures { GivesOrLacks result store.old store.new (create_event store.old.state thread (making_of make.now) manual set) }
+    ensures { GivesOrLacks result store.old store.new
+        (create_event store.old.state thread (making_of make.now) manual set) }
 {
     create(store, thread, make, Ok(new_event(manual, set)))
 }
@@ -343,7 +352,8 @@ pub fn create_semaphore<K: PinKeeper>(
     initial: i32,
     max: i32,
 ) -> Result<Reply, Fault>
-    ensures { GivesOrLacks result store.old store.new (create_semaphore store.old.state thread (making_of make.now) initial max) }
+    ensures { GivesOrLacks result store.old store.new
+        (create_semaphore store.old.state thread (making_of make.now) initial max) }
 {
     create(store, thread, make, new_semaphore(initial, max))
 }
@@ -355,7 +365,8 @@ pub fn create_timer<K: PinKeeper>(
     make: &Make<'_>,
     manual: bool,
 ) -> Result<Reply, Fault>
-    ensures { GivesOrLacks result store.old store.new (create_timer store.old.state thread (making_of make.now) manual) }
+    ensures { GivesOrLacks result store.old store.new
+        (create_timer store.old.state thread (making_of make.now) manual) }
 {
     create(store, thread, make, Ok(new_timer(manual)))
 }
@@ -370,8 +381,10 @@ pub fn open_named<K: PinKeeper>(
     inherit: bool,
     text: &[u8],
 ) -> Result<Reply, Fault>
-    ensures gives { GivesOrLacks result store.old store.new (open_named store.old.state thread kind mask inherit text.now) }
-    ensures memory { IfErr result (λ fault. fault ≡ Fault.Memory → takes_place store.old.state (slice_index_or store.old.state.threads thread None) ≡ true) }
+    ensures gives { GivesOrLacks result store.old store.new
+        (open_named store.old.state thread kind mask inherit text.now) }
+    ensures memory { IfErr result (λ fault. fault ≡ Fault.Memory
+        → takes_place store.old.state (slice_index_or store.old.state.threads thread None) ≡ true) }
 {
     let process = caller(store, thread)?;
     let name = name_in(store, process, text)?;

@@ -6,6 +6,8 @@ ghost use Rattle.ob_store.specs.State.{Whole};
 
 /// The state after a call is a function of the state before it, the call and its reply; and no call changes the limits.
 pub fn law_of_steps()
-    ensures next { (w v : Whole) (call : Call) (reply : Reply) → Step w call reply v → v.state ≡ next w.state call reply }
-    ensures limits { (w v : Whole) (call : Call) (reply : Reply) → Step w call reply v → v.state.limits ≡ w.state.limits }
+    ensures next { (w v : Whole) (call : Call) (reply : Reply) → Step w call reply v
+        → v.state ≡ next w.state call reply }
+    ensures limits { (w v : Whole) (call : Call) (reply : Reply) → Step w call reply v
+        → v.state.limits ≡ w.state.limits }
 {}

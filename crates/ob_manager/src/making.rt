@@ -123,12 +123,17 @@ impl Model for Making {
 
     ghost Value = { spec.Making };
 
-    ghost view = { λ m. record { name = spec.given_name m.is_named m.text; inherit = m.inherit; access = m.access; grant = m.grant } };
+    ghost view = { λ m. record {
+      name = spec.given_name m.is_named m.text;
+      inherit = m.inherit;
+      access = m.access;
+      grant = m.grant;
+    } };
 }
 
 impl Making {
-    /// What asks for no name, with the flag INHERIT or without, for rights of the handle and rights that opens of the new object
-    /// may get, as [`Make`] has them.
+    /// What asks for no name, with the flag INHERIT or without, for rights of the handle and rights that opens of the
+    /// new object may get, as [`Make`] has them.
     pub fn unnamed(
         alloc: Global,
         inherit: bool,
@@ -171,7 +176,9 @@ impl Making {
 }
 
 impl PartialEq for Making {
-    ghost eq = { eq_of_both (on (λ m. m.name) (option_eq (pointwise ◌==◌))) (eq_of_both (on (λ m. m.inherit) beq) (eq_of_both (on (λ m. m.access) (option_eq (on (λ r. r.0) ◌==◌))) (on (λ m. m.grant) (option_eq (on (λ r. r.0) ◌==◌))))) };
+    ghost eq = { eq_of_both (on (λ m. m.name) (option_eq (pointwise ◌==◌)))
+        (eq_of_both (on (λ m. m.inherit) beq) (eq_of_both (on (λ m. m.access) (option_eq (on (λ r. r.0) ◌==◌)))
+        (on (λ m. m.grant) (option_eq (on (λ r. r.0) ◌==◌))))) };
 
     ghost laws = { Prim.search (comparing, rules) depth 9 };
 

@@ -1,4 +1,5 @@
-ghost use Rattle.std.specs.Prelude.{◌≡◌, ◌<◌, ℕ, List, false, IfErr, IfOk, IfSome, None, length, slice_get, slice_index_or};
+ghost use Rattle.std.specs.Prelude.{◌≡◌, ◌<◌, ℕ, List, false, IfErr, IfOk, IfSome, None, length, slice_get};
+ghost use Rattle.std.specs.Prelude.{slice_index_or};
 ghost use Rattle.std.specs.Option.{option_map};
 ghost use Rattle.ob_name.specs.Refs.{row_at};
 ghost use Rattle.pin_words.specs.Keepers.{IsFresh};
@@ -35,11 +36,11 @@ use std::alloc::Global;
 use std::convert::AsSlice;
 use std::marker::Model;
 
-/// The object manager, over a keeper of its slots. A contract sees it as its state (`State` of ob_store) and what its keeper
-/// says.
+/// The object manager, over a keeper of its slots. A contract sees it as its state (`State` of ob_store) and what its
+/// keeper says.
 ///
-/// Each call is one step (`specs/Steps.antt`), whose refusals are tested in the order in which they are listed. A refusal
-/// changes nothing, but that a [`duplicate`](Manager::duplicate) may close its source.
+/// Each call is one step (`specs/Steps.antt`), whose refusals are tested in the order in which they are listed. A
+/// refusal changes nothing, but that a [`duplicate`](Manager::duplicate) may close its source.
 #[derive(Drop)]
 pub struct Manager<K: PinKeeper> {
     pub(crate) store: Store<K>,
@@ -54,8 +55,8 @@ impl<K: PinKeeper> Model for Manager<K> {
 }
 
 impl<K: PinKeeper> Manager<K> {
-    /// A manager with no process, and no object in any slot. The keeper, which has to have as many slots as the limits say,
-    /// pins and generations, comes back where memory is wanting.
+    /// A manager with no process, and no object in any slot. The keeper, which has to have as many slots as the limits
+    /// say, pins and generations, comes back where memory is wanting.
     pub fn new(alloc: Global, limits: Limits, keeper: K) -> Result<Manager<K>, K>
         requires { IsFresh (K.kept keeper) (shape_of limits) }
         ensures opening { IfOk result (λ manager. manager ≡ record { state = opening limits; keeper = K.kept keeper }) }
@@ -68,32 +69,34 @@ impl<K: PinKeeper> Manager<K> {
     }
 
     /// What holds whenever no call is under way: each slot is empty or holds one object, which has a body exactly where
-    /// entries or pending waits refer to it; each of these refers to an object that is there; no name stands twice; and no
-    /// pending wait is ready.
+    /// entries or pending waits refer to it; each of these refers to an object that is there; no name stands twice; and
+    /// no pending wait is ready.
     pub fn kept(&self)
         ensures { IsConsistent self.now }
     {
         self.store.kept();
     }
 
-    /// What is stored, whenever no call is under way: each slot is empty or holds one object with its body, and there are no
-    /// other slots; the object's handle count is the number of table entries that name it, and its references are these entries,
-    /// its places in pending waits, and a hold once there is neither; the directory lists just the named objects that have
-    /// handles; and each object's Id is published with its descriptor.
+    /// What is stored, whenever no call is under way: each slot is empty or holds one object with its body, and there
+    /// are no other slots; the object's handle count is the number of table entries that name it, and its references
+    /// are these entries, its places in pending waits, and a hold once there is neither; the directory lists just the
+    /// named objects that have handles; and each object's Id is published with its descriptor.
     pub fn stored(&self) -> Stored<'_, K>
         ensures { MatchesState self.now result }
     {
         self.store.stored()
     }
 
-    /// What a slot holds, as it is stored: the object and its body; its handles are the entries that name the object, its blocks
-    /// the places of pending waits that do, and it has a hold once there is neither.
+    /// What a slot holds, as it is stored: the object and its body; its handles are the entries that name the object,
+    /// its blocks the places of pending waits that do, and it has a hold once there is neither.
     pub fn slot(&self, slot: u32) -> Option<Found<'_>>
-        ensures object { slice_index_or self.now.state.objects slot None ≡ option_map (λ found. object_of found.seat.now (tag_of found.label.now found.name.now)) result }
+        ensures object { slice_index_or self.now.state.objects slot None
+            ≡ option_map (λ found. object_of found.seat.now (tag_of found.label.now found.name.now)) result }
         ensures place { IfSome result (λ found. found.seat.now.id.slot ≡ slot) }
         ensures body { IfSome result (λ found. slice_index_or self.now.state.bodies slot None ≡ found.seat.now.body) }
         ensures within { IfSome result (λ found. slot < self.now.state.limits.slots) }
-        ensures handles { IfSome result (λ found. found.seat.now.handles ≡ handles_of self.now.state found.seat.now.id) }
+        ensures handles { IfSome result (λ found. found.seat.now.handles
+            ≡ handles_of self.now.state found.seat.now.id) }
         ensures blocks { IfSome result (λ found. found.seat.now.blocks ≡ blocks_of self.now.state found.seat.now.id) }
         ensures hold { IfSome result (λ found. hold_in found.seat.now.body ≡ hold_of self.now.state found.seat.now.id) }
     {
@@ -111,12 +114,13 @@ impl<K: PinKeeper> Manager<K> {
         reply_of(processes::spawn(&mut self.store, session))
     }
 
-    /// A new process of the session of the thread's process, with its first thread: `Spawned`. With `inherit` it has each
-    /// inheritable entry of the thread's process, at the same value and with the same rights and flags, so inheritable in turn
-    /// and protected from close where that one is ([Handle inheritance]; that the flags are the same is *profile*).
+    /// A new process of the session of the thread's process, with its first thread: `Spawned`. With `inherit` it has
+    /// each inheritable entry of the thread's process, at the same value and with the same rights and flags, so
+    /// inheritable in turn and protected from close where that one is ([Handle inheritance]; that the flags are the
+    /// same is *profile*).
     ///
-    /// Refused with 87 where the thread isn't live, 170 where it waits, 1450 where each process number or each thread number
-    /// was given, and with 8 for want of memory.
+    /// Refused with 87 where the thread isn't live, 170 where it waits, 1450 where each process number or each thread
+    /// number was given, and with 8 for want of memory.
     ///
     /// [Handle inheritance]: https://learn.microsoft.com/windows/win32/sysinfo/handle-inheritance
     pub fn child(&mut self, thread: u32, inherit: bool) -> Reply
@@ -127,21 +131,21 @@ impl<K: PinKeeper> Manager<K> {
 
     /// A new thread of a process: `Started`.
     ///
-    /// Refused with 87 where the process isn't live, with 1450 where each thread number was given, and with 8 for want of
-    /// memory.
+    /// Refused with 87 where the process isn't live, with 1450 where each thread number was given, and with 8 for want
+    /// of memory.
     pub fn thread(&mut self, process: u32) -> Reply
         ensures { Step self.old (calls.StartThread process) result self.new }
     {
         reply_of(processes::thread(&mut self.store, process))
     }
 
-    /// A new event, in the least slot that may have one, and a handle to it at the least free value: `Made`. Where an event has
-    /// the name already, a handle to that one: `Exists` ([CreateEvent]).
+    /// A new event, in the least slot that may have one, and a handle to it at the least free value: `Made`. Where an
+    /// event has the name already, a handle to that one: `Exists` ([CreateEvent]).
     ///
-    /// Refused with 87 where the thread isn't live, 170 where it waits, 87 for a grant with a bit outside all rights of an
-    /// event; for the name with 206, 87 or 3 ([`parse`](ob_name::parse)); 6 where an object of another kind has the name; 5
-    /// where a new event is asked for with a right that events haven't, or an old one's grant doesn't allow the rights; 1450
-    /// where the process has each handle or each slot has an object; and 8 for want of memory.
+    /// Refused with 87 where the thread isn't live, 170 where it waits, 87 for a grant with a bit outside all rights of
+    /// an event; for the name with 206, 87 or 3 ([`parse`](ob_name::parse)); 6 where an object of another kind has the
+    /// name; 5 where a new event is asked for with a right that events haven't, or an old one's grant doesn't allow the
+    /// rights; 1450 where the process has each handle or each slot has an object; and 8 for want of memory.
     ///
     /// [CreateEvent]: https://learn.microsoft.com/windows/win32/api/synchapi/nf-synchapi-createeventa
     pub fn create_event(&mut self, thread: u32, make: &Make<'_>, manual: bool, set: bool) -> Reply
@@ -150,8 +154,8 @@ impl<K: PinKeeper> Manager<K> {
         reply_of(creating::create_event(&mut self.store, thread, make, manual, set))
     }
 
-    /// A new mutex, which the calling thread owns once or nobody, as [`create_event`](Manager::create_event) makes an event
-    /// ([CreateMutex]). It is refused in the same way.
+    /// A new mutex, which the calling thread owns once or nobody, as [`create_event`](Manager::create_event) makes an
+    /// event ([CreateMutex]). It is refused in the same way.
     ///
     /// [CreateMutex]: https://learn.microsoft.com/windows/win32/api/synchapi/nf-synchapi-createmutexa
     pub fn create_mutex(&mut self, thread: u32, make: &Make<'_>, owned: bool) -> Reply
@@ -162,7 +166,8 @@ impl<K: PinKeeper> Manager<K> {
 
     /// A new semaphore, as [`create_event`](Manager::create_event) makes an event ([CreateSemaphore]).
     ///
-    /// It is refused in the same way, and with 87 for a maximum that isn't above 0 and a count below 0 or above the maximum.
+    /// It is refused in the same way, and with 87 for a maximum that isn't above 0 and a count below 0 or above the
+    /// maximum.
     ///
     /// [CreateSemaphore]: https://learn.microsoft.com/windows/win32/api/winbase/nf-winbase-createsemaphorea
     pub fn create_semaphore(
@@ -178,8 +183,8 @@ impl<K: PinKeeper> Manager<K> {
     }
 
     /// A new timer, which isn't signaled and isn't set, as [`create_event`](Manager::create_event) makes an event
-    /// ([CreateWaitableTimer]). Once it is signaled, one that is `manual` stays so until it is set again, and another until it
-    /// satisfies a wait. It is refused in the same way.
+    /// ([CreateWaitableTimer]). Once it is signaled, one that is `manual` stays so until it is set again, and another
+    /// until it satisfies a wait. It is refused in the same way.
     ///
     /// [CreateWaitableTimer]: https://learn.microsoft.com/windows/win32/api/synchapi/nf-synchapi-createwaitabletimerw
     pub fn create_timer(&mut self, thread: u32, make: &Make<'_>, manual: bool) -> Reply
@@ -190,9 +195,10 @@ impl<K: PinKeeper> Manager<K> {
 
     /// A handle to the object of a name: `Opened` ([OpenEvent]).
     ///
-    /// Refused with 87 where the thread isn't live, 170 where it waits; for the name with 206, 87 or 3; 2 where no object has
-    /// it; 6 where an object of another kind has it; 5 for no rights and for one that the object's grant doesn't have; 1450
-    /// where the process has each handle; and 8 for want of memory, unless the value of a handle that was closed is free.
+    /// Refused with 87 where the thread isn't live, 170 where it waits; for the name with 206, 87 or 3; 2 where no
+    /// object has it; 6 where an object of another kind has it; 5 for no rights and for one that the object's grant
+    /// doesn't have; 1450 where the process has each handle; and 8 for want of memory, unless the value of a handle
+    /// that was closed is free.
     ///
     /// [OpenEvent]: https://learn.microsoft.com/windows/win32/api/synchapi/nf-synchapi-openeventa
     pub fn open_named(
@@ -208,19 +214,20 @@ impl<K: PinKeeper> Manager<K> {
         reply_of(creating::open_named(&mut self.store, thread, kind, mask, inherit, text))
     }
 
-    /// A handle of the process `target` to what a handle of the process `source` names: `Duplicated` ([DuplicateHandle]). The
-    /// options are `DUPLICATE_CLOSE_SOURCE`, 1, and `DUPLICATE_SAME_ACCESS`, 2, with which `mask` is ignored. Without a target
-    /// the source alone is closed: `Closed`.
+    /// A handle of the process `target` to what a handle of the process `source` names: `Duplicated`
+    /// ([DuplicateHandle]). The options are `DUPLICATE_CLOSE_SOURCE`, 1, and `DUPLICATE_SAME_ACCESS`, 2, with which
+    /// `mask` is ignored. Without a target the source alone is closed: `Closed`.
     ///
-    /// Refused with 87 where the thread isn't live, 170 where it waits, 87 where the source process isn't live, 87 for another
-    /// option, and for no target without `DUPLICATE_CLOSE_SOURCE`; 6 where there is no such handle; 87 where the target
-    /// process isn't live; 5 for a right that neither the source has nor the object's grant; 1450 where the target has each
-    /// handle; and 8 for want of memory, only with a target, and unless the value of a handle that was closed is free there.
+    /// Refused with 87 where the thread isn't live, 170 where it waits, 87 where the source process isn't live, 87 for
+    /// another option, and for no target without `DUPLICATE_CLOSE_SOURCE`; 6 where there is no such handle; 87 where
+    /// the target process isn't live; 5 for a right that neither the source has nor the object's grant; 1450 where the
+    /// target has each handle; and 8 for want of memory, only with a target, and unless the value of a handle that was
+    /// closed is free there.
     ///
     /// Once the source is found `DUPLICATE_CLOSE_SOURCE` closes it, whatever the answer is, want of memory excepted
-    /// (*profile*): a refusal by the target, by a right or by the limit then leaves all but the source as it was. A source that is
-    /// protected from close stays, whatever the answer is; without a target that is then 6 (*profile*). The copy isn't
-    /// protected.
+    /// (*profile*): a refusal by the target, by a right or by the limit then leaves all but the source as it was. A
+    /// source that is protected from close stays, whatever the answer is; without a target that is then 6 (*profile*).
+    /// The copy isn't protected.
     ///
     /// [DuplicateHandle]: https://learn.microsoft.com/windows/win32/api/handleapi/nf-handleapi-duplicatehandle
     pub fn duplicate(
@@ -247,11 +254,11 @@ impl<K: PinKeeper> Manager<K> {
         ))
     }
 
-    /// Closes a handle of the thread's process, whose two lowest bits are ignored (*profile*): `Closed`. With its last handle
-    /// an object's name leaves the directory, and with the last reference the object ends ([CloseHandle]).
+    /// Closes a handle of the thread's process, whose two lowest bits are ignored (*profile*): `Closed`. With its last
+    /// handle an object's name leaves the directory, and with the last reference the object ends ([CloseHandle]).
     ///
-    /// Refused with 87 where the thread isn't live, 170 where it waits, and 6 where there is no such handle or it is protected
-    /// from close (*profile*).
+    /// Refused with 87 where the thread isn't live, 170 where it waits, and 6 where there is no such handle or it is
+    /// protected from close (*profile*).
     ///
     /// [CloseHandle]: https://learn.microsoft.com/windows/win32/api/handleapi/nf-handleapi-closehandle
     pub fn close(&mut self, thread: u32, handle: u32) -> Reply
@@ -264,21 +271,23 @@ impl<K: PinKeeper> Manager<K> {
     ///
     /// Refused with 87 where the thread isn't live, 170 where it waits, and 6 where there is no such handle.
     ///
-    /// [GetHandleInformation]: https://learn.microsoft.com/windows/win32/api/handleapi/nf-handleapi-gethandleinformation
+    /// [GetHandleInformation]:
+    /// https://learn.microsoft.com/windows/win32/api/handleapi/nf-handleapi-gethandleinformation
     pub fn handle_flags(&self, thread: u32, handle: u32) -> Reply
         ensures { Step self.now (calls.GetFlags thread handle) result self.now }
     {
         reply_of(handles::handle_flags(&self.store, thread, handle))
     }
 
-    /// Sets the flags of a handle that are in the mask to what they are in `flags`, whose other bits are ignored (*profile*):
-    /// `Done` ([SetHandleInformation]). `HANDLE_FLAG_INHERIT` is 1, `HANDLE_FLAG_PROTECT_FROM_CLOSE` 2. A handle that is
-    /// protected from close is closed only with its process.
+    /// Sets the flags of a handle that are in the mask to what they are in `flags`, whose other bits are ignored
+    /// (*profile*): `Done` ([SetHandleInformation]). `HANDLE_FLAG_INHERIT` is 1, `HANDLE_FLAG_PROTECT_FROM_CLOSE` 2. A
+    /// handle that is protected from close is closed only with its process.
     ///
-    /// Refused with 87 where the thread isn't live, 170 where it waits, 87 for a mask with another bit (*profile*), and 6 where
-    /// there is no such handle.
+    /// Refused with 87 where the thread isn't live, 170 where it waits, 87 for a mask with another bit (*profile*), and
+    /// 6 where there is no such handle.
     ///
-    /// [SetHandleInformation]: https://learn.microsoft.com/windows/win32/api/handleapi/nf-handleapi-sethandleinformation
+    /// [SetHandleInformation]:
+    /// https://learn.microsoft.com/windows/win32/api/handleapi/nf-handleapi-sethandleinformation
     pub fn set_handle_flags(&mut self, thread: u32, handle: u32, mask: u32, flags: u32) -> Reply
         ensures { Step self.old (calls.SetFlags thread handle mask flags) result self.new }
     {
@@ -287,8 +296,8 @@ impl<K: PinKeeper> Manager<K> {
 
     /// Sets an event, and lets what waits for it be satisfied: `Done` ([SetEvent]).
     ///
-    /// Refused with 87 where the thread isn't live, 170 where it waits, 6 where there is no such handle or it is no event's, 5
-    /// without the right MODIFY_STATE.
+    /// Refused with 87 where the thread isn't live, 170 where it waits, 6 where there is no such handle or it is no
+    /// event's, 5 without the right MODIFY_STATE.
     ///
     /// [SetEvent]: https://learn.microsoft.com/windows/win32/api/synchapi/nf-synchapi-setevent
     pub fn set_event(&mut self, thread: u32, handle: u32) -> Reply
@@ -308,8 +317,9 @@ impl<K: PinKeeper> Manager<K> {
 
     /// Raises a semaphore's count: `Previous`, with the count before ([ReleaseSemaphore]).
     ///
-    /// Refused with 87 where the thread isn't live, 170 where it waits, 87 for a count of 0 or less, 6 where there is no such
-    /// handle or it is no semaphore's, 5 without the right MODIFY_STATE, and 298 where the maximum would be passed.
+    /// Refused with 87 where the thread isn't live, 170 where it waits, 87 for a count of 0 or less, 6 where there is
+    /// no such handle or it is no semaphore's, 5 without the right MODIFY_STATE, and 298 where the maximum would be
+    /// passed.
     ///
     /// [ReleaseSemaphore]: https://learn.microsoft.com/windows/win32/api/synchapi/nf-synchapi-releasesemaphore
     pub fn release_semaphore(&mut self, thread: u32, handle: u32, count: i32) -> Reply
@@ -320,8 +330,8 @@ impl<K: PinKeeper> Manager<K> {
 
     /// Releases a mutex once: `Done` ([ReleaseMutex]). It needs no right (*profile*).
     ///
-    /// Refused with 87 where the thread isn't live, 170 where it waits, 6 where there is no such handle or it is no mutex's,
-    /// and 288 where the thread doesn't own it.
+    /// Refused with 87 where the thread isn't live, 170 where it waits, 6 where there is no such handle or it is no
+    /// mutex's, and 288 where the thread doesn't own it.
     ///
     /// [ReleaseMutex]: https://learn.microsoft.com/windows/win32/api/synchapi/nf-synchapi-releasemutex
     pub fn release_mutex(&mut self, thread: u32, handle: u32) -> Reply
@@ -330,12 +340,12 @@ impl<K: PinKeeper> Manager<K> {
         reply_of(signaling::release_mutex(&mut self.store, thread, handle))
     }
 
-    /// Sets a timer: `Done` ([SetWaitableTimer]). `due` is a moment in units of 100 ns, or below 0 so many units from now. The
-    /// timer is nonsignaled until then; where the moment isn't after now it is signaled at once, and what waits for it may be
-    /// satisfied.
+    /// Sets a timer: `Done` ([SetWaitableTimer]). `due` is a moment in units of 100 ns, or below 0 so many units from
+    /// now. The timer is nonsignaled until then; where the moment isn't after now it is signaled at once, and what
+    /// waits for it may be satisfied.
     ///
-    /// Refused with 87 where the thread isn't live, 170 where it waits, 6 where there is no such handle or it is no timer's, 5
-    /// without the right MODIFY_STATE.
+    /// Refused with 87 where the thread isn't live, 170 where it waits, 6 where there is no such handle or it is no
+    /// timer's, 5 without the right MODIFY_STATE.
     ///
     /// [SetWaitableTimer]: https://learn.microsoft.com/windows/win32/api/synchapi/nf-synchapi-setwaitabletimer
     pub fn set_timer(&mut self, thread: u32, handle: u32, due: i64) -> Reply
@@ -354,10 +364,11 @@ impl<K: PinKeeper> Manager<K> {
         reply_of(timing::cancel_timer(&mut self.store, thread, handle))
     }
 
-    /// It is the moment `now`, in units of 100 ns from 0: `Ticked` (*profile*). Each timer that is due becomes signaled, then
-    /// what waits may be satisfied, and then each pending wait whose deadline isn't after `now` is answered with 258. So a signal
-    /// goes before a deadline of the same tick. Where nothing is due and no deadline is over it looks at no timer and no wait; the
-    /// deadline of a wait that was answered before it came is dropped once it is over.
+    /// It is the moment `now`, in units of 100 ns from 0: `Ticked` (*profile*). Each timer that is due becomes
+    /// signaled, then what waits may be satisfied, and then each pending wait whose deadline isn't after `now` is
+    /// answered with 258. So a signal goes before a deadline of the same tick. Where nothing is due and no deadline is
+    /// over it looks at no timer and no wait; the deadline of a wait that was answered before it came is dropped once
+    /// it is over.
     ///
     /// Refused with 87 where `now` is before the moment that it is, or above 9,223,372,036,854,775,807.
     pub fn tick(&mut self, now: u64) -> Reply
@@ -366,24 +377,27 @@ impl<K: PinKeeper> Manager<K> {
         reply_of(timing::tick(&mut self.store, now))
     }
 
-    /// Waits for any or all of 1 to 64 objects ([WaitForMultipleObjects]): `Code` where the wait is satisfied at once, and then
-    /// the thread has what satisfies it; else `Code` with 258 for [`Timeout::Zero`], and otherwise `Pending` with the next wait
-    /// number, until its time is up. A pending wait keeps its objects, and its thread makes no other call until
-    /// [`wait_result`](Manager::wait_result) took the answer (*profile*).
+    /// Waits for any or all of 1 to 64 objects ([WaitForMultipleObjects]): `Code` where the wait is satisfied at once,
+    /// and then the thread has what satisfies it; else `Code` with 258 for [`Timeout::Zero`], and otherwise `Pending`
+    /// with the next wait number, until its time is up. A pending wait keeps its objects, and its thread makes no other
+    /// call until [`wait_result`](Manager::wait_result) took the answer (*profile*).
     ///
-    /// Refused with 87 where the thread isn't live, 170 where it waits, 87 for no handle, more than 64, or one that stands twice,
-    /// whose two lowest bits don't count (*profile*); 6 where there is no such handle; 5 without the right SYNCHRONIZE; 87 where
-    /// a wait for all is for one object twice (*profile*); 1450 for a mutex that the thread owns as often as the limit lets, and
-    /// where the wait would become pending and each wait number was given; and there with 8 for want of memory.
+    /// Refused with 87 where the thread isn't live, 170 where it waits, 87 for no handle, more than 64, or one that
+    /// stands twice, whose two lowest bits don't count (*profile*); 6 where there is no such handle; 5 without the
+    /// right SYNCHRONIZE; 87 where a wait for all is for one object twice (*profile*); 1450 for a mutex that the thread
+    /// owns as often as the limit lets, and where the wait would become pending and each wait number was given; and
+    /// there with 8 for want of memory.
     ///
-    /// [WaitForMultipleObjects]: https://learn.microsoft.com/windows/win32/api/synchapi/nf-synchapi-waitformultipleobjects
+    /// [WaitForMultipleObjects]:
+    /// https://learn.microsoft.com/windows/win32/api/synchapi/nf-synchapi-waitformultipleobjects
     pub fn wait(&mut self, thread: u32, mode: Mode, timeout: Timeout, handles: &[u32]) -> Reply
         ensures { Step self.old (calls.WaitFor thread mode timeout handles.now) result self.new }
     {
         reply_of(waiting::wait(&mut self.store, thread, mode, timeout, handles))
     }
 
-    /// Takes the answer of a wait, which is over with it: `Code`, and `Pending` where it isn't answered yet (*profile*).
+    /// Takes the answer of a wait, which is over with it: `Code`, and `Pending` where it isn't answered yet
+    /// (*profile*).
     ///
     /// Refused with 87 where there is no such wait.
     pub fn wait_result(&mut self, wait: u32) -> Reply
@@ -409,7 +423,8 @@ impl<K: PinKeeper> Manager<K> {
     }
 
     /// Ends a thread: `Ended`. Its wait is dropped, answered or not; then the mutexes that it owns are abandoned
-    /// ([Mutex Objects]), and who waits may get them. With its last thread a process ends, as by [`exit`](Manager::exit).
+    /// ([Mutex Objects]), and who waits may get them. With its last thread a process ends, as by
+    /// [`exit`](Manager::exit).
     ///
     /// Refused with 87 where the thread isn't live. A thread that waits may be ended (*profile*).
     ///
@@ -420,9 +435,9 @@ impl<K: PinKeeper> Manager<K> {
         reply_of(ending::end_thread(&mut self.store, thread))
     }
 
-    /// Ends a process: `Exited`. Its threads end by rising number, as by [`end_thread`](Manager::end_thread), then its handles
-    /// are closed by rising value, protected ones too, and then who waits may get what is signaled (the order is *profile*;
-    /// [Terminating a Process] has what is done).
+    /// Ends a process: `Exited`. Its threads end by rising number, as by [`end_thread`](Manager::end_thread), then its
+    /// handles are closed by rising value, protected ones too, and then who waits may get what is signaled (the order
+    /// is *profile*; [Terminating a Process] has what is done).
     ///
     /// Refused with 87 where the process isn't live.
     ///
@@ -482,8 +497,8 @@ impl<K: PinKeeper> Manager<K> {
         self.store.name_at(at)
     }
 
-    /// The names with their objects, in the order in which the objects were made. A walk over all of them takes a time that
-    /// grows with their number.
+    /// The names with their objects, in the order in which the objects were made. A walk over all of them takes a time
+    /// that grows with their number.
     pub fn directory(&self) -> Rows<'_>
         ensures { result ≡ directory_of self.now.state }
     {
@@ -493,7 +508,8 @@ impl<K: PinKeeper> Manager<K> {
     /// Makes a call.
     pub fn apply(&mut self, call: &Call) -> Reply
         ensures step { Step self.old call.now result self.new }
-        ensures exact { IfReap call.now (λ slot. IfReaped result (λ outcome. K.reclaims self.old.keeper slot outcome self.new.keeper)) }
+        ensures exact { IfReap call.now (λ slot. IfReaped result
+            (λ outcome. K.reclaims self.old.keeper slot outcome self.new.keeper)) }
     {
         match call {
             Call::WaitFor {
@@ -511,7 +527,8 @@ impl<K: PinKeeper> Manager<K> {
     pub fn ask<M: AsMake, T: AsSlice<u8>, H>(&mut self, call: &CallOf<M, T, H>) -> Reply
         requires { is_wait call.now ≡ false }
         ensures step { (h : H → List ℕ) → Step self.old (with_parts M.making T.items h call.now) result self.new }
-        ensures exact { IfReap call.now (λ slot. IfReaped result (λ outcome. K.reclaims self.old.keeper slot outcome self.new.keeper)) }
+        ensures exact { IfReap call.now (λ slot. IfReaped result
+            (λ outcome. K.reclaims self.old.keeper slot outcome self.new.keeper)) }
     {
         match call {
             CallOf::Spawn { session } => self.spawn(*session),
@@ -592,8 +609,8 @@ impl<K: PinKeeper> Manager<K> {
 }
 
 /// The reply of a body's answer.
-// It names the parts of most replies, so that these are handed over one by one, and not as bytes that were just written in parts.
-// `Flags`, `Reaped` and `CountsAre` are handed over whole.
+// It names the parts of most replies, so that these are handed over one by one, and not as bytes that were just written
+// in parts. `Flags`, `Reaped` and `CountsAre` are handed over whole.
 #[inline(always)]
 pub(crate) fn reply_of(answer: Result<Reply, Fault>) -> Reply
     ensures { result ≡ reply_of answer }

@@ -33,9 +33,9 @@ impl Manager<Keeper> {
         self.store.meet(reader, slot);
     }
 
-    /// What the object of an Id that the reader holds was created as, which is what [`card`](Manager::card) answers: an object
-    /// that somebody holds is there, though it may have ended. Where the reader has read the descriptor under its pin, it is
-    /// this one. One look at the slot.
+    /// What the object of an Id that the reader holds was created as, which is what [`card`](Manager::card) answers: an
+    /// object that somebody holds is there, though it may have ended. Where the reader has read the descriptor under
+    /// its pin, it is this one. One look at the slot.
     pub fn inspect(&mut self, reader: &mut Reader, id: Id) -> Card
         requires held { 0 < tally (same_id id) reader.old.view.held }
         requires same { self.old.keeper.table ≡ Some reader.old.table }
@@ -55,7 +55,8 @@ impl Manager<Keeper> {
 
     /// A further reader of the same pins, which holds nothing. [`None`] where 2^63 readers are.
     pub fn reader(&mut self) -> Option<Reader>
-        ensures reader { IfSome result (λ r. (r.view ≡ given_by self.old.keeper) × (self.old.keeper.table ≡ Some r.table)) }
+        ensures reader { IfSome result (λ r. (r.view ≡ given_by self.old.keeper)
+            × (self.old.keeper.table ≡ Some r.table)) }
         ensures given { OnSome result (self.new ≡ record self.old { keeper = with_next self.old.keeper }) }
         ensures none { IsNone result → self.new ≡ self.old }
     {

@@ -63,8 +63,8 @@ pub enum Reply {
     ///
     /// [Wait Functions]: https://learn.microsoft.com/windows/win32/sync/wait-functions
     Code {
-        /// For any, the index of the object that satisfied it, from 0, and 128 more where that is an abandoned mutex; for all,
-        /// 0, or 128 where one is an abandoned mutex (*profile*); 258 where its time was up.
+        /// For any, the index of the object that satisfied it, from 0, and 128 more where that is an abandoned mutex;
+        /// for all, 0, or 128 where one is an abandoned mutex (*profile*); 258 where its time was up.
         code: u32,
     },
     /// A wait isn't satisfied yet.

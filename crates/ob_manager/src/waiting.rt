@@ -1,4 +1,5 @@
-ghost use Rattle.std.specs.Prelude.{[], ◌∷◌, ℕ, ◌≡◌, ◌≢◌, ◌==◌, ◌<◌, ◌≤◌, ◌↔◌, Err, IfErr, IfOk, IsSome, IsTrue, None, Ok, OnOk, Some, length, slice_index_or, true};
+ghost use Rattle.std.specs.Prelude.{[], ◌∷◌, ℕ, ◌≡◌, ◌≢◌, ◌==◌, ◌<◌, ◌≤◌, ◌↔◌, Err, IfErr, IfOk, IsSome, IsTrue, None};
+ghost use Rattle.std.specs.Prelude.{Ok, OnOk, Some, length, slice_index_or, true};
 ghost use Rattle.std.specs.Cmp.Lexicographic.{pointwise};
 ghost use Rattle.std.specs.Cmp.Rules.{comparing};
 ghost use Rattle.std.specs.List.{list_any};
@@ -6,7 +7,9 @@ ghost use Rattle.std.proofs.Common.{rules};
 ghost use Rattle.ob_waits.specs.Waits as waits;
 ghost use Rattle.ob_waits.specs.Waits.{nowhere, number_of};
 ghost use Rattle.ob_store.specs.State.{handles_of};
-ghost use Rattle.ob_manager.specs.Waiting.{becomes_pending, collected, deadline_in, expire, has_twice, have_room, is_for_one_twice, is_misshapen, is_zero, lacks_synchronize, objects_of, same_handle, wait, wait_on, wait_result};
+ghost use Rattle.ob_manager.specs.Waiting.{becomes_pending, collected, deadline_in, expire, has_twice, have_room};
+ghost use Rattle.ob_manager.specs.Waiting.{is_for_one_twice, is_misshapen, is_zero, lacks_synchronize, objects_of};
+ghost use Rattle.ob_manager.specs.Waiting.{same_handle, wait, wait_on, wait_result};
 ghost use Rattle.ob_manager.specs.Checks.{caller};
 ghost use Rattle.ob_manager.specs.Steps.{Gives, GivesOrLacks};
 ghost use Rattle.pin_core.specs.Holds.{same_id};
@@ -32,7 +35,8 @@ pub enum Timeout {
     Zero,
     /// Until the wait is satisfied: `INFINITE`.
     Infinite,
-    /// For so many milliseconds, of 10,000 units of time each: 0 is not at all, 4,294,967,295 until the wait is satisfied.
+    /// For so many milliseconds, of 10,000 units of time each: 0 is not at all, 4,294,967,295 until the wait is
+    /// satisfied.
     Millis(u32),
 }
 
@@ -137,8 +141,8 @@ fn lacks_synchronize(entry: Entry) -> bool
     !within(Rights::SYNCHRONIZE, entry.rights)
 }
 
-/// Writes the objects of handles into an empty list: refused with 6 where there is no such handle, and where all are there with
-/// 5 where one wasn't granted SYNCHRONIZE.
+/// Writes the objects of handles into an empty list: refused with 6 where there is no such handle, and where all are
+/// there with 5 where one wasn't granted SYNCHRONIZE.
 fn objects_of<K: PinKeeper>(
     store: &Store<K>,
     process: u32,
@@ -151,7 +155,8 @@ fn objects_of<K: PinKeeper>(
     ensures value { collected result ids.new ≡ objects_of store.now.state process handles.now }
     ensures refusal { IfErr result (λ fault. fault ≢ Fault.Memory) }
     ensures many { OnOk result (length ids.new.items ≡ length handles.now) }
-    ensures there { OnOk result ((i : ℕ) → i < length ids.new.items → 0 < handles_of store.now.state (slice_index_or ids.new.items i nowhere)) }
+    ensures there { OnOk result ((i : ℕ) → i < length ids.new.items
+        → 0 < handles_of store.now.state (slice_index_or ids.new.items i nowhere)) }
 {
     let mut lacks = false;
     for handle in handles {
@@ -264,7 +269,8 @@ fn wait_on<K: PinKeeper>(
     requires live { IsSome (slice_index_or store.old.state.threads thread None) }
     requires there { (i : ℕ) → i < length ids.now → 0 < handles_of store.old.state (slice_index_or ids.now i nowhere) }
     ensures gives { GivesOrLacks result store.old store.new (wait_on store.old.state thread mode timeout ids.now) }
-    ensures memory { result ≡ Err Fault.Memory → becomes_pending (wait_on store.old.state thread mode timeout ids.now) ≡ true }
+    ensures memory { result ≡ Err Fault.Memory → becomes_pending (wait_on store.old.state thread mode timeout ids.now)
+        ≡ true }
 {
     // Called for its clause: that an object's slot has no other object.
     store.kept();
@@ -300,7 +306,8 @@ fn wait_for_one<K: PinKeeper>(
     requires live { IsSome (slice_index_or store.old.state.threads thread None) }
     requires alone { number_of thread store.old.state.waits ≡ None }
     ensures gives { GivesOrLacks result store.old store.new (wait store.old.state thread mode timeout (handle ∷ [])) }
-    ensures memory { result ≡ Err Fault.Memory → becomes_pending (wait store.old.state thread mode timeout (handle ∷ [])) ≡ true }
+    ensures memory { result ≡ Err Fault.Memory
+        → becomes_pending (wait store.old.state thread mode timeout (handle ∷ [])) ≡ true }
 {
     let entry = found(store, process, handle)?;
     if lacks_synchronize(entry) {
@@ -324,7 +331,8 @@ fn wait_for_some<K: PinKeeper>(
     requires live { IsSome (slice_index_or store.old.state.threads thread None) }
     requires alone { number_of thread store.old.state.waits ≡ None }
     ensures gives { GivesOrLacks result store.old store.new (wait store.old.state thread mode timeout handles.now) }
-    ensures memory { result ≡ Err Fault.Memory → becomes_pending (wait store.old.state thread mode timeout handles.now) ≡ true }
+    ensures memory { result ≡ Err Fault.Memory → becomes_pending (wait store.old.state thread mode timeout handles.now)
+        ≡ true }
 {
     if is_misshapen(handles) {
         return Err(Fault::Parameter);
@@ -343,7 +351,8 @@ pub fn wait<K: PinKeeper>(
     handles: &[u32],
 ) -> Result<Reply, Fault>
     ensures gives { GivesOrLacks result store.old store.new (wait store.old.state thread mode timeout handles.now) }
-    ensures memory { result ≡ Err Fault.Memory → becomes_pending (wait store.old.state thread mode timeout handles.now) ≡ true }
+    ensures memory { result ≡ Err Fault.Memory → becomes_pending (wait store.old.state thread mode timeout handles.now)
+        ≡ true }
 {
     let process = caller(store, thread)?;
     if let [handle] = handles {

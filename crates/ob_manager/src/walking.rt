@@ -19,9 +19,10 @@ use pin_core::Id;
 use pin_words::PinKeeper;
 
 impl<K: PinKeeper> Manager<K> {
-    /// The object that ended in the least slot with such an object, from slot `from` on: no handle and no pending wait names
-    /// it, and its slot is taken back by [`reap`](Manager::reap), unless somebody has a pin there. A host that reaps begins at
-    /// slot 0, and goes on behind each slot that is held. It takes a few word operations, however many slots there are.
+    /// The object that ended in the least slot with such an object, from slot `from` on: no handle and no pending wait
+    /// names it, and its slot is taken back by [`reap`](Manager::reap), unless somebody has a pin there. A host that
+    /// reaps begins at slot 0, and goes on behind each slot that is held. It takes a few word operations, however many
+    /// slots there are.
     pub fn next_closing(&self, from: u32) -> Option<Id>
         ensures least { IsLeastFrom from (is_closing_at self.now.state) (option_map (λ id. id.slot) result) }
         ensures object { IfSome result (λ id. IsThere self.now.state.objects id) }
@@ -29,17 +30,18 @@ impl<K: PinKeeper> Manager<K> {
         self.store.next_closing(from)
     }
 
-    /// What state an object is in: none where no object of that Id is in its slot, as before it was made and once its slot was
-    /// taken back. It changes nothing, where a wait takes what it is satisfied by. It says what NtQueryEvent, NtQueryMutant,
-    /// NtQuerySemaphore and NtQueryTimer say; what the object was created as stands in its [`card`](Manager::card).
+    /// What state an object is in: none where no object of that Id is in its slot, as before it was made and once its
+    /// slot was taken back. It changes nothing, where a wait takes what it is satisfied by. It says what NtQueryEvent,
+    /// NtQueryMutant, NtQuerySemaphore and NtQueryTimer say; what the object was created as stands in its
+    /// [`card`](Manager::card).
     pub fn state_of(&self, id: Id) -> Option<ObjectState>
         ensures { result ≡ state_of self.now.state id }
     {
         object_state::state_of(&self.store, id)
     }
 
-    /// The object in the least slot with one, from slot `from` on, whether it ended or not. It looks at each slot from there to
-    /// the one that it finds, so a walk over all objects looks at each slot once.
+    /// The object in the least slot with one, from slot `from` on, whether it ended or not. It looks at each slot from
+    /// there to the one that it finds, so a walk over all objects looks at each slot once.
     pub fn next_object(&self, from: u32) -> Option<Id>
         ensures least { IsLeastFrom from (is_object_at self.now.state) (option_map (λ id. id.slot) result) }
         ensures object { IfSome result (λ id. IsThere self.now.state.objects id) }
@@ -47,27 +49,29 @@ impl<K: PinKeeper> Manager<K> {
         self.store.next_object(from)
     }
 
-    /// The least live process whose number is above `after`. It looks at each number that was given from there to the one that
-    /// it finds.
+    /// The least live process whose number is above `after`. It looks at each number that was given from there to the
+    /// one that it finds.
     pub fn next_process(&self, after: u32) -> Option<u32>
         ensures { IsLeastFrom (after + 1) (is_process self.now.state) result }
     {
         self.store.next_live(after)
     }
 
-    /// The least live thread of a process whose number is above `after`. Where `after` is 0 or a thread of the process, it looks
-    /// at the threads that the process was given from there to the one that it finds.
+    /// The least live thread of a process whose number is above `after`. Where `after` is 0 or a thread of the process,
+    /// it looks at the threads that the process was given from there to the one that it finds.
     pub fn next_thread(&self, process: u32, after: u32) -> Option<u32>
         ensures { IsLeastFrom (after + 1) (is_thread_of self.now.state process) result }
     {
         self.store.next_live_of(process, after)
     }
 
-    /// The handle of least value above `after` that a process has, with what it refers to: its object, its rights and its flags.
-    /// It looks at the values from there to the one that it finds.
+    /// The handle of least value above `after` that a process has, with what it refers to: its object, its rights and
+    /// its flags. It looks at the values from there to the one that it finds.
     pub fn next_handle(&self, process: u32, after: u32) -> Option<(u32, Entry)>
-        ensures least { IsLeastFrom (after + 1) (is_value_of self.now.state process) (option_map (λ handle. handle.0) result) }
-        ensures entry { IfSome result (λ handle. entry_at (table_of self.now.state.tables process) handle.0 ≡ Some handle.1) }
+        ensures least { IsLeastFrom (after + 1) (is_value_of self.now.state process)
+            (option_map (λ handle. handle.0) result) }
+        ensures entry { IfSome result (λ handle. entry_at (table_of self.now.state.tables process) handle.0
+            ≡ Some handle.1) }
     {
         self.store.next_entry(process, after)
     }

@@ -1,7 +1,9 @@
 ghost use Rattle.std.specs.Prelude.{[], ◌∷◌, ◌++◌, ◌≡◌, ◌+◌, ◌^◌, ◌<◌, ◌≤◌, IsTrue, codes, decimal, false, length};
 ghost use Rattle.std.specs.Fmt.{digit_glyph, digits};
 ghost use Rattle.ob_name.specs.Refs.{namespace_of};
-ghost use Rattle.ob_output.specs.Printed.{printed, printed_answer, printed_card, printed_descr, printed_fault, printed_id, printed_pin, printed_reclaim, printed_reply, printed_space, printed_unpin};
+ghost use Rattle.ob_output.specs.Printed.{printed, printed_answer, printed_card, printed_descr, printed_fault};
+ghost use Rattle.ob_output.specs.Printed.{printed_id, printed_pin, printed_reclaim, printed_reply, printed_space};
+ghost use Rattle.ob_output.specs.Printed.{printed_unpin};
 
 use crate::answer::Answer;
 use arrayvec::ArrayVec;

@@ -1,7 +1,8 @@
 //! Where scripts are read from, and how answers are printed and written.
 //!
-//! A [`Source`] gives bytes and a [`Sink`] takes them, and a contract names these bytes; [`Wired`] makes a reader or a writer of
-//! std one. An [`Output`] prints each [`Answer`] as one line into a block of fixed size, and writes the block.
+//! A [`Source`] gives bytes and a [`Sink`] takes them, and a contract names these bytes; [`Wired`] makes a reader or a
+//! writer of std one. An [`Output`] prints each [`Answer`] as one line into a block of fixed size, and writes the
+//! block.
 //!
 //! ```text
 //! let mut sink = Wired::new(rt.stdout());

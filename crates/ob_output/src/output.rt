@@ -43,8 +43,10 @@ impl Output {
     /// Adds an answer; writes first where the block has no room for it.
     #[tactic(auto, using(crate::proofs::Written::begins_more, crate::proofs::Written::writes_pending, crate::proofs::Written::writes_flushed))]
     pub fn put<W: Sink>(&mut self, sink: &mut W, answer: &Answer<'_>) -> Result<(), NotWritten>
-        ensures ok { OnOk result (Writes (W.taken sink.old) (W.taken sink.new) (self.old.bytes ++ printed_answer answer.now) self.new.bytes) }
-        ensures err { OnErr result (Begins (W.taken sink.old) (W.taken sink.new) (self.old.bytes ++ printed_answer answer.now)) }
+        ensures ok { OnOk result (Writes (W.taken sink.old) (W.taken sink.new)
+            (self.old.bytes ++ printed_answer answer.now) self.new.bytes) }
+        ensures err { OnErr result (Begins (W.taken sink.old) (W.taken sink.new)
+            (self.old.bytes ++ printed_answer answer.now)) }
         ensures calls { W.calls sink.new + self.new.writes_left ≡ W.calls sink.old + self.old.writes_left }
         ensures faults { W.faults sink.old ≤ W.faults sink.new }
         ensures cause { OnErr result ((W.faults sink.old < W.faults sink.new) ⊎ (self.new.writes_left ≡ 0)) }
@@ -60,8 +62,10 @@ impl Output {
     #[inline(always)]
     #[tactic(auto, using(crate::proofs::Written::begins_more, crate::proofs::Written::writes_pending, crate::proofs::Written::writes_flushed))]
     pub fn put_reply<W: Sink>(&mut self, sink: &mut W, reply: &Reply) -> Result<(), NotWritten>
-        ensures ok { OnOk result (Writes (W.taken sink.old) (W.taken sink.new) (self.old.bytes ++ printed reply.now) self.new.bytes) }
-        ensures err { OnErr result (Begins (W.taken sink.old) (W.taken sink.new) (self.old.bytes ++ printed reply.now)) }
+        ensures ok { OnOk result (Writes (W.taken sink.old) (W.taken sink.new)
+            (self.old.bytes ++ printed reply.now) self.new.bytes) }
+        ensures err { OnErr result (Begins (W.taken sink.old) (W.taken sink.new)
+            (self.old.bytes ++ printed reply.now)) }
         ensures calls { W.calls sink.new + self.new.writes_left ≡ W.calls sink.old + self.old.writes_left }
         ensures faults { W.faults sink.old ≤ W.faults sink.new }
         ensures cause { OnErr result ((W.faults sink.old < W.faults sink.new) ⊎ (self.new.writes_left ≡ 0)) }

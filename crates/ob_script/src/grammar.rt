@@ -1,7 +1,12 @@
 ghost use Rattle.std.specs.Prelude.{◌≡◌, ◌≤◌, IfSome, length, nat_lt};
 ghost use Rattle.ob_script.specs.Words.{are_handles, words_of};
 ghost use Rattle.ob_script.specs.Acts.{act_in};
-ghost use Rattle.ob_script.specs.Grammar.{access_of, act_of, asked, cancel_of, card_of, child_of, close_of, closing_of, count_of, dup_of, endthread_of, event_of, exit_of, expire_of, flags_of, handle_of, mode_of, mutex_of, object_of, open_of, or_bad, pin_of, reap_of, release_of, reset_of, result_of, semaphore_of, set_of, setflags_of, settimer_of, spawn_of, target_of, text_of, thread_of, tick_of, timeout_of, timer_of, unlock_of, unpin_of, wait_of};
+ghost use Rattle.ob_script.specs.Grammar.{access_of, act_of, asked, cancel_of, card_of, child_of, close_of, closing_of};
+ghost use Rattle.ob_script.specs.Grammar.{count_of, dup_of, endthread_of, event_of, exit_of, expire_of, flags_of};
+ghost use Rattle.ob_script.specs.Grammar.{handle_of, mode_of, mutex_of, object_of, open_of, or_bad, pin_of, reap_of};
+ghost use Rattle.ob_script.specs.Grammar.{release_of, reset_of, result_of, semaphore_of, set_of, setflags_of};
+ghost use Rattle.ob_script.specs.Grammar.{settimer_of, spawn_of, target_of, text_of, thread_of, tick_of, timeout_of};
+ghost use Rattle.ob_script.specs.Grammar.{timer_of, unlock_of, unpin_of, wait_of};
 
 use crate::act::{Act, Ask};
 use crate::line::ScriptLine;
@@ -35,10 +40,10 @@ pub fn is_too_long(text: &[u8]) -> bool
 
 /// What a line is. The number of its reader changes nothing.
 //
-// What a line of each verb is stands in this one function when it runs: a function of its own would have a copy of the words
-// that are left, and each of these would be cleared for every line. Each verb makes its act in one step, with no option
-// between: that would be taken apart and put together for every line. Each reader of lines has a copy of its own: where it is
-// called in one place alone, it stands there, and no act is made where its parts are enough.
+// What a line of each verb is stands in this one function when it runs: a function of its own would have a copy of the
+// words that are left, and each of these would be cleared for every line. Each verb makes its act in one step, with no
+// option between: that would be taken apart and put together for every line. Each reader of lines has a copy of its
+// own: where it is called in one place alone, it stands there, and no act is made where its parts are enough.
 #[tactic(auto, using(crate::proofs::Verbs::lone_is_bad))]
 pub fn act_of<'a, const READER: u8>(line: &ScriptLine<'a>) -> Act<'a>
     ensures { act_in result ≡ act_of line.now }

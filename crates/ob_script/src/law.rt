@@ -8,8 +8,8 @@ ghost use Rattle.ob_script.specs.Grammar.{act_of};
 ghost use Rattle.ob_script.specs.Writing.{as_said, line_of};
 ghost use Rattle.ob_store.specs.State.{Whole};
 
-/// The grammar reads the line of a call as the call that it says, whatever the call is, and a manager answers that one as the
-/// call: the same replies lead to the same states.
+/// The grammar reads the line of a call as the call that it says, whatever the call is, and a manager answers that one
+/// as the call: the same replies lead to the same states.
 pub fn law_of_lines()
     ensures read { (call : Call) → Fits call → IfSome (line_of call) (λ line. act_of line ≡ Asks (as_said call)) }
     ensures alike { (w v : Whole) (call : Call) (reply : Reply) → Step w (as_said call) reply v ↔ Step w call reply v }

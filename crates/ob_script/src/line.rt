@@ -65,7 +65,8 @@ impl<'a> ScriptLine<'a> {
     #[inline(always)]
     #[tactic(auto, using(crate::proofs::FirstWords::first_word, crate::proofs::FirstWords::only_word))]
     pub(crate) fn parted(&self) -> Option<(&'a [u8], Words<'a>)>
-        ensures { MatchOption result (words_of (text_of self.now) ≡ text_of self.now ∷ []) (λ parts. words_of (text_of self.now) ≡ parts.0.now ∷ parts.1) }
+        ensures { MatchOption result (words_of (text_of self.now) ≡ text_of self.now ∷ [])
+            (λ parts. words_of (text_of self.now) ≡ parts.0.now ∷ parts.1) }
     {
         let text = text_of(self.bytes);
         if self.word >= text.len() {

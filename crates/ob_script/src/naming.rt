@@ -26,7 +26,8 @@ pub fn make_of(mut words: Words<'_>) -> Option<Make<'_>>
 
 /// `[KEYWORD M]`
 fn masked(keyword: &[u8], words: &mut Words<'_>) -> Option<Option<Rights>>
-    ensures { MatchOption result (masked keyword.now words.old ≡ None) (λ mask. masked keyword.now words.old ≡ Some (mask, words.new)) }
+    ensures { MatchOption result (masked keyword.now words.old ≡ None)
+        (λ mask. masked keyword.now words.old ≡ Some (mask, words.new)) }
 {
     if !words.skip(keyword) {
         return Some(None);

@@ -1,7 +1,8 @@
 ghost use Rattle.std.specs.Prelude.{◌≡◌, ◌≢◌, ◌≤◌, ◌∷◌, ℕ, List, IfSome, Some, codes, length, take, true};
 ghost use Rattle.std.specs.List.{list_all};
 ghost use Rattle.std.specs.Char.{is_ascii_digit};
-ghost use Rattle.ob_script.specs.Words.{at_moment, due_of, from_now, long_of, moment_of, number_of, negated, signed_of, unless_great, labelled, id_of, either_of, value_of, words_of};
+ghost use Rattle.ob_script.specs.Words.{at_moment, due_of, from_now, long_of, moment_of, number_of, negated, signed_of};
+ghost use Rattle.ob_script.specs.Words.{unless_great, labelled, id_of, either_of, value_of, words_of};
 ghost use Rattle.ob_script.specs.WordsLeft.{words_left};
 
 use crate::words::{cut, is};
@@ -71,7 +72,8 @@ fn leading_digits(text: &[u8]) -> (u64, usize)
 #[inline(always)]
 #[tactic(auto, using(crate::proofs::Leading::number_last, crate::proofs::Leading::number_first))]
 fn leading_number(text: &[u8]) -> Option<(u32, Option<&[u8]>)>
-    ensures { IfSome result (λ found. (word : List ℕ) × (number_of word ≡ Some found.0) × (words_of text.now ≡ word ∷ words_left found.1)) }
+    ensures { IfSome result (λ found. (word : List ℕ) × (number_of word ≡ Some found.0)
+        × (words_of text.now ≡ word ∷ words_left found.1)) }
 {
     let (value, count) = leading_digits(text);
     if count == 0 || count > 10 || value > 4_294_967_295 {
@@ -90,7 +92,8 @@ fn leading_number(text: &[u8]) -> Option<(u32, Option<&[u8]>)>
 #[inline(always)]
 pub fn leading_labelled(letter: u8, text: &[u8]) -> Option<(u32, Option<&[u8]>)>
     requires { letter ≢ 32 }
-    ensures { IfSome result (λ found. (word : List ℕ) × (labelled letter word ≡ Some found.0) × (words_of text.now ≡ word ∷ words_left found.1)) }
+    ensures { IfSome result (λ found. (word : List ℕ) × (labelled letter word ≡ Some found.0)
+        × (words_of text.now ≡ word ∷ words_left found.1)) }
 {
     match text {
         [first, digits @ ..] if *first == letter => leading_number(digits),

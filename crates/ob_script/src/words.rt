@@ -1,4 +1,5 @@
-ghost use Rattle.std.specs.Prelude.{◌≡◌, ◌≢◌, ◌<◌, ℕ, List, [], ◌∷◌, length, IfSome, IfNone, IsSome, IsTrue, ◌↔◌, MatchOption};
+ghost use Rattle.std.specs.Prelude.{◌≡◌, ◌≢◌, ◌<◌, ℕ, List, [], ◌∷◌, length, IfSome, IfNone, IsSome, IsTrue, ◌↔◌};
+ghost use Rattle.std.specs.Prelude.{MatchOption};
 ghost use Rattle.std.specs.Str.{bytes_eq};
 ghost use Rattle.std.specs.List.{after_first, before_first, position_or_len};
 ghost use Rattle.memchr.specs.Find.{IsFirstByte, is_byte};
@@ -73,12 +74,13 @@ impl<'a> Words<'a> {
         }
     }
 
-    /// The next word, as a number behind a letter; there is none inside where it isn't one. Its digits are read while its end
-    /// is looked for.
+    /// The next word, as a number behind a letter; there is none inside where it isn't one. Its digits are read while
+    /// its end is looked for.
     #[inline(always)]
     pub fn labelled(&mut self, letter: u8) -> Option<Option<u32>>
         requires { letter ≢ 32 }
-        ensures { MatchOption result (self.old ≡ []) (λ number. (word : List ℕ) × (self.old ≡ word ∷ self.new) × (number ≡ labelled letter word)) }
+        ensures { MatchOption result (self.old ≡ []) (λ number. (word : List ℕ) × (self.old ≡ word ∷ self.new)
+            × (number ≡ labelled letter word)) }
     {
         let rest = self.rest?;
         match leading_labelled(letter, rest) {

@@ -6,7 +6,8 @@ ghost use Rattle.std.specs.List.{flat_map, list_all};
 ghost use Rattle.ob_manager.specs.Calls.{with_parts};
 ghost use Rattle.ob_manager.specs.declared.call.CallOf.TheVariants as calls;
 ghost use Rattle.ob_manager.specs.Makings.{making_of, Making};
-ghost use Rattle.ob_script.specs.Writing.{access_word, behind_spaces, can_be_said, either_word, ended, handle_words, id_word, is_line, kind_word};
+ghost use Rattle.ob_script.specs.Writing.{access_word, behind_spaces, can_be_said, either_word, ended, handle_words};
+ghost use Rattle.ob_script.specs.Writing.{id_word, is_line, kind_word};
 ghost use Rattle.ob_script.specs.Writing.{label, line_of, make_words, mask_word, mask_words, mode_word, name_words};
 ghost use Rattle.ob_script.specs.Writing.{said, target_word, text_for, text_words, timeout_word, word_if, words_for};
 
@@ -153,7 +154,8 @@ impl Line {
     }
 
     fn named(&mut self, name: Option<&[u8]>) -> Result<(), AllocError>
-        ensures { OnOk result (self.new ≡ self.old ++ behind_spaces (name_words (option_map (λ text. text.now) name.entry))) }
+        ensures { OnOk result (self.new ≡ self.old
+            ++ behind_spaces (name_words (option_map (λ text. text.now) name.entry))) }
     {
         match name {
             Some(text) => self.name(text),
@@ -235,7 +237,8 @@ impl Line {
         make: Make<'_>,
         owned: bool,
     ) -> Result<(), AllocError>
-        ensures { OnOk result (self.new ≡ self.old ++ said (words_for (calls.MakeMutex thread (making_of make.entry) owned))) }
+        ensures { OnOk result (self.new ≡ self.old
+            ++ said (words_for (calls.MakeMutex thread (making_of make.entry) owned))) }
     {
         self.lone(b"mutex", b't', thread)?;
         self.either(b"free", b"owned", owned)?;
@@ -280,7 +283,8 @@ impl Line {
         make: Make<'_>,
         manual: bool,
     ) -> Result<(), AllocError>
-        ensures { OnOk result (self.new ≡ self.old ++ said (words_for (calls.MakeTimer thread (making_of make.entry) manual))) }
+        ensures { OnOk result (self.new ≡ self.old
+            ++ said (words_for (calls.MakeTimer thread (making_of make.entry) manual))) }
     {
         self.lone(b"timer", b't', thread)?;
         self.either(b"auto", b"manual", manual)?;
@@ -354,7 +358,8 @@ impl Line {
         handle: u32,
         number: i64,
     ) -> Result<(), AllocError>
-        ensures { OnOk result (self.new ≡ self.old ++ said (handle_words verb.now thread handle (signed_decimal number ∷ []))) }
+        ensures { OnOk result (self.new ≡ self.old
+            ++ said (handle_words verb.now thread handle (signed_decimal number ∷ []))) }
     {
         self.handle(verb, thread, handle)?;
         self.signed(number)
@@ -375,7 +380,8 @@ impl Line {
         timeout: Timeout,
         handles: &[u32],
     ) -> Result<(), AllocError>
-        ensures { OnOk result (self.new ≡ self.old ++ said (words_for (calls.WaitFor thread mode timeout handles.now))) }
+        ensures { OnOk result (self.new ≡ self.old
+            ++ said (words_for (calls.WaitFor thread mode timeout handles.now))) }
     {
         self.lone(b"wait", b't', thread)?;
         self.word(mode_of(mode))?;
@@ -559,12 +565,13 @@ impl Line {
     }
 }
 
-/// The line of a script that asks for a call, without its line feed; none where no line does: for a name with a line feed, for
-/// what takes a line of more than 4,096 bytes, for a duplicate with options beyond 3, and for a tick past the last moment. Such
-/// calls but a wait for more than 64 handles and names of more than 260 bytes are refused, and so are these two.
+/// The line of a script that asks for a call, without its line feed; none where no line does: for a name with a line
+/// feed, for what takes a line of more than 4,096 bytes, for a duplicate with options beyond 3, and for a tick past the
+/// last moment. Such calls but a wait for more than 64 handles and names of more than 260 bytes are refused, and so are
+/// these two.
 ///
-/// What the grammar reads in the line is this call, but that a wait of no time is one of 0 milliseconds, and that a duplicate
-/// with the rights of its source asks for no mask, which it has no use for. The refusal is want of memory.
+/// What the grammar reads in the line is this call, but that a wait of no time is one of 0 milliseconds, and that a
+/// duplicate with the rights of its source asks for no mask, which it has no use for. The refusal is want of memory.
 #[tactic(auto, using(crate::proofs::ReadBack::gives_none, crate::proofs::ReadBack::gives_line))]
 pub fn line_of<M: AsMake, T: AsSlice<u8>, H: AsSlice<u32>>(
     alloc: Global,

@@ -5,7 +5,8 @@ use pin_words::PinFault;
 /// What a member is to do.
 #[derive(Drop)]
 pub enum Act {
-    /// Makes a call, as [`Shared::call`](crate::Shared::call) does. The member keeps the call, and a copy of it is made.
+    /// Makes a call, as [`Shared::call`](crate::Shared::call) does. The member keeps the call, and a copy of it is
+    /// made.
     Ask(Call),
     /// Pins an object, as [`Reader::pin`](pin_words::Reader::pin) does, and reads its descriptor.
     Pin(Id),
@@ -13,8 +14,9 @@ pub enum Act {
     Unpin(Id),
     /// Asks what an object was created as. Where the member doesn't hold it, nothing is done.
     ShowCard(Id),
-    /// Waits, as [`Shared::block`](crate::Shared::block) does, for the last wait that an act of the member left pending and no
-    /// `Block` has taken. A `Block` takes its wait, unless it answers 8. Where there is no such wait, nothing is done.
+    /// Waits, as [`Shared::block`](crate::Shared::block) does, for the last wait that an act of the member left pending
+    /// and no `Block` has taken. A `Block` takes its wait, unless it answers 8. Where there is no such wait, nothing is
+    /// done.
     Block,
 }
 
@@ -29,7 +31,8 @@ pub enum Seen {
     Unpinned(bool),
     /// [`Act::ShowCard`]: the card, if the Id is held.
     Shown(Option<Card>),
-    /// [`Act::Block`]: the result of the wait, if there was one. It is 8, and not listed in the lane, where memory was wanting.
+    /// [`Act::Block`]: the result of the wait, if there was one. It is 8, and not listed in the lane, where memory was
+    /// wanting.
     Blocked(Option<Reply>),
     /// The gate stopped the member before this act. Nothing comes after it.
     Stopped,

@@ -1,4 +1,5 @@
-ghost use Rattle.std.specs.Prelude.{◌≡◌, ◌↔◌, ◌<◌, [], ◌∷◌, ◌++◌, IfNone, IfOk, IfErr, IfSome, IsTrue, None, slice_index_or, vec_len, vec_capacity};
+ghost use Rattle.std.specs.Prelude.{◌≡◌, ◌↔◌, ◌<◌, [], ◌∷◌, ◌++◌, IfNone, IfOk, IfErr, IfSome, IsTrue, None};
+ghost use Rattle.std.specs.Prelude.{slice_index_or, vec_len, vec_capacity};
 ghost use Rattle.ob_rights.specs.declared.fault.Fault.TheVariants.{Memory};
 ghost use Rattle.ob_waits.specs.Waits.{is_pending};
 ghost use Rattle.ob_store.specs.Consistent.{IsConsistent};
@@ -39,8 +40,8 @@ impl Entry {
     }
 }
 
-/// That a call was entered in a journal, with the call. Only what a [`Book`] says of a call that it entered makes one, and it
-/// can't be copied.
+/// That a call was entered in a journal, with the call. Only what a [`Book`] says of a call that it entered makes one,
+/// and it can't be copied.
 #[derive(Drop)]
 pub struct Receipt {
     entry: Entry,
@@ -194,8 +195,8 @@ impl<K: PinKeeper> Book<K> {
         self.manager.card(id)
     }
 
-    /// What holds of a book: the manager is kept, its journal has all calls since it was made, each of them a step, and its
-    /// state is the one after them.
+    /// What holds of a book: the manager is kept, its journal has all calls since it was made, each of them a step, and
+    /// its state is the one after them.
     #[tactic(auto, using(crate::proofs::Journals::history_state))]
     pub fn replays(&self)
         ensures kept { IsConsistent self.now.manager }
@@ -215,8 +216,8 @@ impl<K: PinKeeper> Book<K> {
         cause_of(given, lanes, self.journal())
     }
 
-    /// What the manager stores, as [`Manager::stored`] answers it: each slot with its object, the object's body and its counters,
-    /// and the directory. It matches the state that [`replays`](Book::replays) tells of.
+    /// What the manager stores, as [`Manager::stored`] answers it: each slot with its object, the object's body and its
+    /// counters, and the directory. It matches the state that [`replays`](Book::replays) tells of.
     pub fn stored(&self) -> Stored<'_, K>
         ensures { MatchesState self.now.manager result }
     {

@@ -1,6 +1,7 @@
 ghost use Rattle.std.specs.Prelude.{◌≡◌, ◌||◌, IfNone, IfSome, false, true};
 ghost use Rattle.std.specs.List.{list_any, range_with_len};
-ghost use Rattle.ob_shared.specs.Closing.{AreWhole, IsCause, has_number, has_twice, is_entry_missing, is_missing, is_stranger, misses};
+ghost use Rattle.ob_shared.specs.Closing.{AreWhole, IsCause, has_number, has_twice, is_entry_missing, is_missing};
+ghost use Rattle.ob_shared.specs.Closing.{is_stranger, misses};
 
 use crate::book::Entry;
 use crate::comparing::first_difference;

@@ -45,7 +45,8 @@ fn read_on(first: u32, lanes: &[Lane], journal: &[Entry], read: &mut [usize]) ->
 /// Whether each lane's list has as many entries.
 fn have_ended(lanes: &[Lane], read: &[usize]) -> bool
     requires { length lanes.now ≤ length read.now }
-    ensures { result ≡ true → ((k : ℕ) (d : LaneState) → k < length lanes.now → length (slice_index_or lanes.now k d).list ≡ slice_index_or read.now k 0) }
+    ensures { result ≡ true → ((k : ℕ) (d : LaneState) → k < length lanes.now
+        → length (slice_index_or lanes.now k d).list ≡ slice_index_or read.now k 0) }
 {
     for (k, lane) in lanes.iter().enumerate() {
         if lane.receipts().len() != read[k] {
@@ -80,7 +81,8 @@ fn are_whole(lanes: &[Lane], journal: &[Entry]) -> bool
 /// one pass didn't find it so.
 fn whole_to(from: usize, lanes: &[Lane], journal: &[Entry]) -> usize
     requires { from < length lanes.now }
-    ensures { (k : ℕ) (d : LaneState) → from ≤ k → k < result → k < length lanes.now → IsPart journal.now (slice_index_or lanes.now k d) }
+    ensures { (k : ℕ) (d : LaneState) → from ≤ k → k < result → k < length lanes.now
+        → IsPart journal.now (slice_index_or lanes.now k d) }
 {
     let to = from.saturating_add(AT_ONCE).min(lanes.len());
     if are_whole(&lanes[from..to], journal) {

@@ -14,7 +14,8 @@ use std::thread::Threads;
 /// Makes room for each member's answers.
 fn reserve(members: &mut [Member]) -> Result<(), Fault>
     requires { All IsNew members.old }
-    ensures same { (i : ℕ) (d : Member) → i < length members.old → IsSame (slice_index_or members.old i d) (slice_index_or members.new i d) }
+    ensures same { (i : ℕ) (d : Member) → i < length members.old
+        → IsSame (slice_index_or members.old i d) (slice_index_or members.new i d) }
     ensures ok { IfOk result (λ _. All IsReady members.new) }
     ensures err { IfErr result (λ fault. fault ≡ Memory) }
 {
@@ -34,7 +35,9 @@ fn drive_ready<R: Threads + Wait + Sync, G: Gate + Sync>(
     members: &mut [Member],
 )
     requires { All IsReady members.old }
-    ensures { (i : ℕ) (d : Member) → i < length members.old → IsDriven (G.may_answer gate.now) (of_places (G.is_told gate.now)) (slice_index_or members.old i d) (slice_index_or members.new i d) }
+    ensures { (i : ℕ) (d : Member) → i < length members.old
+        → IsDriven (G.may_answer gate.now) (of_places (G.is_told gate.now)) (slice_index_or members.old i d)
+        (slice_index_or members.new i d) }
 {
     if members.is_empty() {
         return;
@@ -46,14 +49,16 @@ fn drive_ready<R: Threads + Wait + Sync, G: Gate + Sync>(
         threads,
         &|_, member|
             requires { IsReady member.now }
-            ensures { IsDriven (G.may_answer gate.entry.now) (of_places (G.is_told gate.entry.now)) member.entry.now member.exit.now }
+            ensures { IsDriven (G.may_answer gate.entry.now)
+                (of_places (G.is_told gate.entry.now)) member.entry.now member.exit.now }
         { run(rt, shared, gate, member) },
     );
 }
 
-/// Does the acts of each member on a thread of its own, or of one member after another where no thread can be made. Each
-/// member's acts are answered in their order, as long as the gate lets it pass; how those of two members follow each other isn't
-/// said. The room for the answers is made before the first act: where memory is wanting, nothing is done (8).
+/// Does the acts of each member on a thread of its own, or of one member after another where no thread can be made.
+/// Each member's acts are answered in their order, as long as the gate lets it pass; how those of two members follow
+/// each other isn't said. The room for the answers is made before the first act: where memory is wanting, nothing is
+/// done (8).
 ///
 /// There are at most 64 members, and none has seen anything.
 pub fn drive<R: Threads + Wait + Sync, G: Gate + Sync>(
@@ -64,8 +69,12 @@ pub fn drive<R: Threads + Wait + Sync, G: Gate + Sync>(
 ) -> Result<(), Fault>
     requires new { All IsNew members.old }
     requires few { length members.old ≤ 64 }
-    ensures driven { IfOk result (λ _. (i : ℕ) (d : Member) → i < length members.old → IsDriven (G.may_answer gate.now) (of_places (G.is_told gate.now)) (slice_index_or members.old i d) (slice_index_or members.new i d)) }
-    ensures memory { IfErr result (λ fault. (fault ≡ Memory) × ((i : ℕ) (d : Member) → i < length members.old → IsSame (slice_index_or members.old i d) (slice_index_or members.new i d))) }
+    ensures driven { IfOk result (λ _. (i : ℕ) (d : Member) → i < length members.old
+        → IsDriven (G.may_answer gate.now) (of_places (G.is_told gate.now)) (slice_index_or members.old i d)
+        (slice_index_or members.new i d)) }
+    ensures memory { IfErr result (λ fault. (fault ≡ Memory)
+        × ((i : ℕ) (d : Member) → i < length members.old
+        → IsSame (slice_index_or members.old i d) (slice_index_or members.new i d))) }
 {
     reserve(members)?;
     drive_ready(rt, shared, gate, members);

@@ -1,5 +1,5 @@
-//! A manager whose calls are entered in a journal, one after another, by callers that have a lane each; and members that make
-//! such calls by a script, each on a thread of its own.
+//! A manager whose calls are entered in a journal, one after another, by callers that have a lane each; and members
+//! that make such calls by a script, each on a thread of its own.
 //!
 //! ```text
 //! let mut book = Book::new(alloc, manager);

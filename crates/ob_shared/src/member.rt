@@ -90,7 +90,8 @@ fn answer<R: Wait>(
     waits: &mut Vec<u32>,
     act: &Act,
 ) -> Seen
-    ensures answers { Answers act.now result (between lane.old waits.old.items reader.old) (between lane.new waits.new.items reader.new) }
+    ensures answers { Answers act.now result (between lane.old waits.old.items reader.old)
+        (between lane.new waits.new.items reader.new) }
     ensures number { lane.new.number ≡ lane.old.number }
 {
     match act {

@@ -18,7 +18,8 @@ const LANES_MOST: u32 = 65536;
 /// How often the lock is asked for before a caller waits for it, with a pause behind each.
 const LOOKS: u32 = 3;
 
-/// How long the first pause is, in the processor's steps of waiting, and how many times as long as the one before each other is.
+/// How long the first pause is, in the processor's steps of waiting, and how many times as long as the one before each
+/// other is.
 const PAUSES: u32 = 8;
 
 /// What lies under the lock.
@@ -41,8 +42,8 @@ impl Held {
     }
 }
 
-/// A manager behind a lock, with its journal. Whoever gets the lock finds a [`Book`]: the manager is kept, and the journal
-/// replays to its state. Calls are made in lanes. A contract sees how many lanes there are.
+/// A manager behind a lock, with its journal. Whoever gets the lock finds a [`Book`]: the manager is kept, and the
+/// journal replays to its state. Calls are made in lanes. A contract sees how many lanes there are.
 #[derive(Drop)]
 pub struct Shared {
     held: Mutex<Held>,
@@ -60,7 +61,8 @@ impl Model for Shared {
 }
 
 impl Shared {
-    ghost use Rattle.std.specs.Prelude.{ℕ, List, ◌≡◌, ◌≢◌, ◌+◌, ◌<◌, ◌≤◌, [], None, IfOk, IfErr, IfSome, slice_index_or};
+    ghost use Rattle.std.specs.Prelude.{ℕ, List, ◌≡◌, ◌≢◌, ◌+◌, ◌<◌, ◌≤◌, [], None, IfOk, IfErr, IfSome};
+    ghost use Rattle.std.specs.Prelude.{slice_index_or};
     ghost use Rattle.ob_rights.specs.declared.fault.Fault.TheVariants.{Limit, Memory};
     ghost use Rattle.pin_core.specs.Holds.{tally, same_id};
     ghost use Rattle.ob_waits.specs.Waits.{is_pending};
@@ -94,7 +96,8 @@ impl Shared {
 
     /// The next lane, by rising number from 0. It is refused with 1450 after 65,536.
     pub fn lane(&mut self) -> Result<Lane, Fault>
-        ensures ok { IfOk result (λ lane. (self.old < LANES_MOST) × (lane ≡ record { number = self.old; list = [] }) × (self.new ≡ self.old + 1)) }
+        ensures ok { IfOk result (λ lane. (self.old < LANES_MOST) × (lane ≡ record { number = self.old; list = [] })
+            × (self.new ≡ self.old + 1)) }
         ensures err { IfErr result (λ fault. (fault ≡ Limit) × (LANES_MOST ≤ self.old) × (self.new ≡ self.old)) }
     {
         if self.lanes >= LANES_MOST {
@@ -105,9 +108,9 @@ impl Shared {
         Ok(lane)
     }
 
-    /// Takes the lock. A call holds it for less time than a caller takes to fall asleep and wake, so it is asked for some times,
-    /// with a longer pause behind each, before the caller waits for it. Whoever asks takes the lock's word out of the cache of the
-    /// one that holds it, so the pauses soon are longer than many calls.
+    /// Takes the lock. A call holds it for less time than a caller takes to fall asleep and wake, so it is asked for
+    /// some times, with a longer pause behind each, before the caller waits for it. Whoever asks takes the lock's word
+    /// out of the cache of the one that holds it, so the pauses soon are longer than many calls.
     #[inline(never)]
     fn lock<R: Wait>(&self, rt: &R) -> MutexGuard<'_, Held> {
         let mut pauses = PAUSES;
@@ -123,8 +126,9 @@ impl Shared {
         self.held.lock(rt)
     }
 
-    /// Makes a call, enters it in the journal, and lists it in its lane. Where memory is wanting before the manager is asked the
-    /// answer is 8, and nothing is changed, entered or listed; an 8 of the manager's own is entered and listed as each refusal.
+    /// Makes a call, enters it in the journal, and lists it in its lane. Where memory is wanting before the manager is
+    /// asked the answer is 8, and nothing is changed, entered or listed; an 8 of the manager's own is entered and
+    /// listed as each refusal.
     #[inline(always)]
     #[tactic(auto, using(crate::proofs::LaneLists::are_of_more))]
     pub fn call<R: Wait>(&self, rt: &R, lane: &mut Lane, call: Call) -> Reply
@@ -204,7 +208,8 @@ impl Shared {
             rt,
             held,
             |held| -> bool
-                ensures { (result ≡ is_pending (slice_index_or held.entry.now.book.manager.state.waits wait None)) × (held.exit.now ≡ held.entry.now) }
+                ensures { (result ≡ is_pending (slice_index_or held.entry.now.book.manager.state.waits wait None))
+                    × (held.exit.now ≡ held.entry.now) }
             { held.is_pending(wait) },
         );
         held.waiting = held.waiting.saturating_sub(1);
@@ -239,15 +244,18 @@ impl Shared {
         self.lock(rt).book.card(id)
     }
 
-    /// The manager and its journal, where the lanes that are handed in are whole: they have the numbers that were given, each
-    /// once, each entry of the journal is of one of them, and the list of each is its part of the journal. Otherwise all is
-    /// handed back, with the first cause why not, which is what [`Book::cause`] says of the book under the lock.
+    /// The manager and its journal, where the lanes that are handed in are whole: they have the numbers that were
+    /// given, each once, each entry of the journal is of one of them, and the list of each is its part of the journal.
+    /// Otherwise all is handed back, with the first cause why not, which is what [`Book::cause`] says of the book under
+    /// the lock.
     pub fn close(self, lanes: Vec<Lane>) -> Result<Closed, NotClosed>
         ensures kept { IfOk result (λ closed. IsConsistent closed.manager) }
         ensures history { IfOk result (λ closed. IsHistory closed.journal.items closed.manager) }
-        ensures state { IfOk result (λ closed. closed.manager.state ≡ replay (opening closed.manager.state.limits) closed.journal.items) }
+        ensures state { IfOk result (λ closed. closed.manager.state
+            ≡ replay (opening closed.manager.state.limits) closed.journal.items) }
         ensures whole { IfOk result (λ closed. AreWhole self lanes.items closed.journal.items) }
-        ensures cause { IfErr result (λ refused. (journal : List Entry) × (w : Whole) × IsHistory journal w × IsCause self lanes.items journal refused.cause) }
+        ensures cause { IfErr result (λ refused. (journal : List Entry) × (w : Whole) × IsHistory journal w
+            × IsCause self lanes.items journal refused.cause) }
         ensures back { IfErr result (λ refused. (refused.shared ≡ self) × (refused.lanes ≡ lanes)) }
     {
         let Shared {

@@ -10,8 +10,10 @@ use pin_words::PinKeeper;
 impl<K: PinKeeper> Store<K> {
     /// The answer of the least wait number above one, of the waits that are answered and not over.
     pub fn next_answered(&self, after: u32) -> Option<Answer>
-        ensures least { IsLeastFrom (after + 1) (λ n. is_answered (slice_index_or self.now.state.waits n None)) (option_map (λ a. a.wait) result) }
-        ensures answer { IfSome result (λ a. answer_of a.wait (slice_index_or self.now.state.waits a.wait None) ≡ Some a) }
+        ensures least { IsLeastFrom (after + 1) (λ n. is_answered (slice_index_or self.now.state.waits n None))
+            (option_map (λ a. a.wait) result) }
+        ensures answer { IfSome result (λ a. answer_of a.wait (slice_index_or self.now.state.waits a.wait None)
+            ≡ Some a) }
     {
         self.parts.waits.next_answered(after)
     }

@@ -48,7 +48,10 @@ impl<K: PinKeeper> Store<K> {
         requires formed { form_of new.body ≡ form_in new.descr }
         requires owned { (t : ℕ) → spec.owner_of new.body ≡ Some t → IsLive self.old.state.threads t }
         ensures value { IfOk result (λ value. value ≡ value_of (free_place (table_of self.old.state.tables process))) }
-        ensures state { OnOk result (self.new.state ≡ settled (with_entry (with_object self.old.state slot (record { descr = new.descr; grant = new.grant; name = None }) new.body) process (record { id = id_at self.old.state slot; rights = new.rights; flags = new.flags }))) }
+        ensures state { OnOk result (self.new.state
+            ≡ settled (with_entry (with_object self.old.state slot
+            (record { descr = new.descr; grant = new.grant; name = None }) new.body) process
+            (record { id = id_at self.old.state slot; rights = new.rights; flags = new.flags }))) }
         ensures keeper { OnOk result (self.new.keeper ≡ published (stored self.old.keeper slot new.descr) slot) }
         ensures memory { IfErr result (λ fault. fault ≡ Memory) }
         ensures err { OnErr result (self.new ≡ self.old) }
@@ -87,7 +90,10 @@ impl<K: PinKeeper> Store<K> {
         requires owned { (t : ℕ) → spec.owner_of new.body ≡ Some t → IsLive self.old.state.threads t }
         requires absent { find_name (name_at name.now) (directory_of self.old.state) ≡ None }
         ensures value { IfOk result (λ value. value ≡ value_of (free_place (table_of self.old.state.tables process))) }
-        ensures state { OnOk result (self.new.state ≡ settled (with_entry (with_object self.old.state slot (record { descr = new.descr; grant = new.grant; name = Some (name_at name.now) }) new.body) process (record { id = id_at self.old.state slot; rights = new.rights; flags = new.flags }))) }
+        ensures state { OnOk result (self.new.state
+            ≡ settled (with_entry (with_object self.old.state slot
+            (record { descr = new.descr; grant = new.grant; name = Some (name_at name.now) }) new.body) process
+            (record { id = id_at self.old.state slot; rights = new.rights; flags = new.flags }))) }
         ensures keeper { OnOk result (self.new.keeper ≡ published (stored self.old.keeper slot new.descr) slot) }
         ensures memory { IfErr result (λ fault. fault ≡ Memory) }
         ensures err { OnErr result (self.new ≡ self.old) }

@@ -1,9 +1,11 @@
-ghost use Rattle.std.specs.Prelude.{false, ◌≡◌, ◌+◌, ◌<◌, ℕ, Option, IsSome, None, Some, if◌then◌else◌, length, slice_index_or, slice_set};
+ghost use Rattle.std.specs.Prelude.{false, ◌≡◌, ◌+◌, ◌<◌, ℕ, Option, IsSome, None, Some, if◌then◌else◌, length};
+ghost use Rattle.std.specs.Prelude.{slice_index_or, slice_set};
 ghost use Rattle.ob_waits.specs.Objects.{without_blocks};
 ghost use Rattle.ob_waits.specs.Rules.{IsKept as AreWaits};
 ghost use Rattle.ob_store.specs.Signaled.{KeepsEnough};
 ghost use Rattle.ob_waits.specs.Waits.{thread_ids};
-ghost use Rattle.ob_store.specs.Ends.{abandoned_by, exited, left, process_ended, thread_ended, threads_ended, unless_threads};
+ghost use Rattle.ob_store.specs.Ends.{abandoned_by, exited, left, process_ended, thread_ended, threads_ended};
+ghost use Rattle.ob_store.specs.Ends.{unless_threads};
 ghost use Rattle.ob_store.specs.Processes.{is_of};
 ghost use Rattle.ob_store.specs.Moves.{OnlyCloses};
 ghost use Rattle.ob_store.specs.Objects.{kept_rest};
@@ -48,7 +50,8 @@ fn abandon_at<K: PinKeeper>(
     ensures rest { kept_rest objects.new ≡ kept_rest objects.old }
     ensures enough { KeepsEnough signaled.old objects.old.seen.bodies signaled.new objects.new.seen.bodies }
     ensures gone { owns_at thread objects.new.seen.bodies slot ≡ false }
-    ensures others { (k : ℕ) → owns_at thread objects.old.seen.bodies k ≡ false → owns_at thread objects.new.seen.bodies k ≡ false }
+    ensures others { (k : ℕ) → owns_at thread objects.old.seen.bodies k ≡ false
+        → owns_at thread objects.new.seen.bodies k ≡ false }
 {
     if objects.abandon_at(slot, thread) {
         signaled.add(slot);
@@ -67,8 +70,8 @@ fn abandon_listed<K: PinKeeper>(objects: &mut Objects<K>, signaled: &mut Signale
     }
 }
 
-/// The mutexes that a thread owns are abandoned, and their slots noted. Its list says where they are, but nothing is proved of
-/// the list: so as long as the thread is known to own more, or isn't counted, slot after slot is looked at.
+/// The mutexes that a thread owns are abandoned, and their slots noted. Its list says where they are, but nothing is
+/// proved of the list: so as long as the thread is known to own more, or isn't counted, slot after slot is looked at.
 fn abandon<K: PinKeeper>(objects: &mut Objects<K>, signaled: &mut SignaledSlots, thread: u32)
     ensures seen { objects.new.seen ≡ abandoned_by thread objects.old.seen }
     ensures rest { kept_rest objects.new ≡ kept_rest objects.old }
@@ -89,7 +92,8 @@ impl<K: PinKeeper> Parts<K> {
     /// A thread ends, and nothing settles yet: its wait is dropped, then its mutexes are abandoned.
     fn end_one(&mut self, thread: u32)
         ensures carries { Carries self.old self.new (λ s. thread_ended s thread) }
-        ensures threads { self.new.processes ≡ record self.old.processes { threads = slice_set self.old.processes.threads thread None } }
+        ensures threads { self.new.processes
+            ≡ record self.old.processes { threads = slice_set self.old.processes.threads thread None } }
     {
         leave_wait(&mut self.objects, &self.waits, thread);
         self.waits.drop_thread(thread);
@@ -100,10 +104,12 @@ impl<K: PinKeeper> Parts<K> {
 
     /// Ends a thread, if it is a live one of the process.
     fn end_of(&mut self, process: u32, thread: u32)
-        ensures carries { Carries self.old self.new (λ s. if is_of process (slice_index_or s.threads thread None) then thread_ended s thread else s) }
+        ensures carries { Carries self.old self.new (λ s. if is_of process (slice_index_or s.threads thread None)
+            then thread_ended s thread else s) }
         ensures count { length self.new.processes.threads ≡ length self.old.processes.threads }
         ensures ended { slice_index_or self.new.processes.threads thread None ≡ Some process → ⊥ }
-        ensures none_comes { (t q : ℕ) → slice_index_or self.new.processes.threads t None ≡ Some q → slice_index_or self.old.processes.threads t None ≡ Some q }
+        ensures none_comes { (t q : ℕ) → slice_index_or self.new.processes.threads t None ≡ Some q
+            → slice_index_or self.old.processes.threads t None ≡ Some q }
     {
         if self.processes.process(thread) == Some(process) {
             self.end_one(thread);
@@ -179,9 +185,9 @@ impl<K: PinKeeper> Parts<K> {
 }
 
 impl<K: PinKeeper> Store<K> {
-    /// A live thread ends, and with the last thread of a process that: the thread's wait is dropped, its mutexes are abandoned,
-    /// and the waits settle. It looks at no other thread, at no slot but those of its mutexes and of the handles that leave, and
-    /// of the pending waits at those for the abandoned mutexes alone.
+    /// A live thread ends, and with the last thread of a process that: the thread's wait is dropped, its mutexes are
+    /// abandoned, and the waits settle. It looks at no other thread, at no slot but those of its mutexes and of the
+    /// handles that leave, and of the pending waits at those for the abandoned mutexes alone.
     pub fn end_thread(&mut self, thread: u32, process: u32)
         requires live { slice_index_or self.old.state.threads thread None ≡ Some process }
         ensures state { self.new.state ≡ settled (left self.old.state process thread) }
@@ -194,9 +200,9 @@ impl<K: PinKeeper> Store<K> {
         self.parts.settle();
     }
 
-    /// A live process ends: its threads end by rising number, then its entries leave by rising value, and the waits settle
-    /// once. It looks at the threads that the process was given, at no slot but those of their mutexes and of the handles that
-    /// leave, and of the pending waits at those for the abandoned mutexes alone.
+    /// A live process ends: its threads end by rising number, then its entries leave by rising value, and the waits
+    /// settle once. It looks at the threads that the process was given, at no slot but those of their mutexes and of
+    /// the handles that leave, and of the pending waits at those for the abandoned mutexes alone.
     pub fn exit(&mut self, process: u32)
         requires live { IsSome (slice_index_or self.old.state.processes process None) }
         ensures state { self.new.state ≡ settled (exited self.old.state process) }

@@ -22,13 +22,18 @@ impl<K: PinKeeper> Store<K> {
         requires process { process < length self.old.state.tables }
         requires handled { 0 < handles_among entry.id self.old.state.tables }
         ensures value { IfOk result (λ value. value ≡ value_of (free_place (table_of self.old.state.tables process))) }
-        ensures ok { OnOk result (self.new ≡ record self.old { state = settled (with_entry self.old.state process entry) }) }
+        ensures ok { OnOk result (self.new ≡ record self.old {
+          state = settled
+              (with_entry self.old.state process entry);
+        }) }
         // And nothing settles by it.
         ensures plain { OnOk result (self.new.state ≡ with_entry self.old.state process entry) }
-        ensures limit { (result ≡ Err Limit) ↔ (entries_in (table_of self.old.state.tables process) ≡ self.old.state.limits.handles) }
+        ensures limit { (result ≡ Err Limit) ↔ (entries_in (table_of self.old.state.tables process)
+            ≡ self.old.state.limits.handles) }
         ensures refusal { IfErr result (λ fault. (fault ≡ Limit) ⊎ (fault ≡ Memory)) }
         // A value that was given back is given again without memory.
-        ensures reuses { IfErr result (λ fault. fault ≡ Memory → is_packed (table_of self.old.state.tables process) ≡ true) }
+        ensures reuses { IfErr result (λ fault. fault ≡ Memory
+            → is_packed (table_of self.old.state.tables process) ≡ true) }
         ensures err { OnErr result (self.new ≡ self.old) }
     {
         self.parts.objects.kept();
@@ -42,8 +47,8 @@ impl<K: PinKeeper> Store<K> {
         }
     }
 
-    /// The entry of a handle leaves. With its last handle an object's name leaves the directory, and with the last reference
-    /// the object ends.
+    /// The entry of a handle leaves. With its last handle an object's name leaves the directory, and with the last
+    /// reference the object ends.
     pub fn remove_entry(&mut self, process: u32, handle: u32, entry: Entry)
         requires { entry_at (table_of self.old.state.tables process) handle ≡ Some entry }
         ensures state { self.new.state ≡ settled (without_entry self.old.state process handle) }
@@ -72,7 +77,8 @@ impl<K: PinKeeper> Store<K> {
 /// The name of an object leaves the directory where the object has no handle left.
 #[inline(always)]
 pub(crate) fn leave_directory(names: &mut Directory, found: Option<Found<'_>>)
-    ensures { names.new.rows ≡ rows_left names.old.rows (option_map (λ f. f.seat.now.handles) found.entry) (option_map (λ f. object_of f.seat.now (tag_of f.label.now f.name.now)) found.entry) }
+    ensures { names.new.rows ≡ rows_left names.old.rows (option_map (λ f. f.seat.now.handles) found.entry)
+        (option_map (λ f. object_of f.seat.now (tag_of f.label.now f.name.now)) found.entry) }
 {
     let Some(found) = found else {
         return;

@@ -1,8 +1,9 @@
-//! What a manager keeps: processes, threads and their handle tables, objects in their slots with their keeper, names and waits.
+//! What a manager keeps: processes, threads and their handle tables, objects in their slots with their keeper, names
+//! and waits.
 //!
-//! To its callers a [`Store`] is a plain state without counts (`specs/State.antt`), and what the keeper of the slots says. It counts
-//! what refers to each object, finds objects by name, and keeps both right at each of its changes, of which the calls of a
-//! manager are made.
+//! To its callers a [`Store`] is a plain state without counts (`specs/State.antt`), and what the keeper of the slots
+//! says. It counts what refers to each object, finds objects by name, and keeps both right at each of its changes, of
+//! which the calls of a manager are made.
 //!
 //! ```text
 //! let mut store = Store::new(alloc, limits, keeper)?;

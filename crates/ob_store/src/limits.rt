@@ -38,7 +38,8 @@ impl Limits {
         max_gen: u32,
         max_recursion: u32,
     ) -> Result<Limits, Fault>
-        ensures in_range { IsOk result ↔ AreInRange slots processes threads handles waits max_pins max_gen max_recursion }
+        ensures in_range { IsOk result
+            ↔ AreInRange slots processes threads handles waits max_pins max_gen max_recursion }
         ensures slots { IfOk result (λ limits. limits.slots ≡ slots) }
         ensures processes { IfOk result (λ limits. limits.processes ≡ processes) }
         ensures threads { IfOk result (λ limits. limits.threads ≡ threads) }

@@ -46,7 +46,8 @@ impl Objects<Keeper> {
 
     /// A further reader of the same pins, which holds nothing. [`None`] where 2^63 readers are.
     pub fn reader(&mut self) -> Option<Reader>
-        ensures reader { IfSome result (λ r. (r.view ≡ given_by self.old.keeper) × (self.old.keeper.table ≡ Some r.table)) }
+        ensures reader { IfSome result (λ r. (r.view ≡ given_by self.old.keeper)
+            × (self.old.keeper.table ≡ Some r.table)) }
         ensures given { OnSome result (self.new ≡ record self.old { keeper = with_next self.old.keeper }) }
         ensures none { IsNone result → self.new ≡ self.old }
     {
@@ -88,7 +89,8 @@ impl Store<Keeper> {
 
     /// A further reader of the same pins, which holds nothing. [`None`] where 2^63 readers are.
     pub fn reader(&mut self) -> Option<Reader>
-        ensures reader { IfSome result (λ r. (r.view ≡ given_by self.old.keeper) × (self.old.keeper.table ≡ Some r.table)) }
+        ensures reader { IfSome result (λ r. (r.view ≡ given_by self.old.keeper)
+            × (self.old.keeper.table ≡ Some r.table)) }
         ensures given { OnSome result (self.new ≡ record self.old { keeper = with_next self.old.keeper }) }
         ensures none { IsNone result → self.new ≡ self.old }
     {

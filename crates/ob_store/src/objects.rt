@@ -1,4 +1,5 @@
-ghost use Rattle.std.specs.Prelude.{◌≡◌, ℕ, ◌+◌, ◌<◌, ◌≤◌, false, true, IfNone, IfOk, IfErr, IfSome, IsSome, IsTrue, None, Some, is_some, length, slice_index_or};
+ghost use Rattle.std.specs.Prelude.{◌≡◌, ℕ, ◌+◌, ◌<◌, ◌≤◌, false, true, IfNone, IfOk, IfErr, IfSome, IsSome, IsTrue};
+ghost use Rattle.std.specs.Prelude.{None, Some, is_some, length, slice_index_or};
 ghost use Rattle.std.specs.Option.{option_map};
 ghost use Rattle.pin_words.specs.Keepers.{IsFresh};
 ghost use Rattle.pin_words.specs.Views.{id_of};
@@ -8,7 +9,9 @@ ghost use Rattle.ob_arena.specs.Slots.{is_vacant_at, least_vacant};
 ghost use Rattle.ob_waits.specs.Waits.{nowhere};
 ghost use Rattle.ob_store.specs.Closing.{is_closing_in};
 ghost use Rattle.ob_store.specs.Owners.{owns_at};
-ghost use Rattle.ob_store.specs.Objects.{changed_at, kept_rest, object_of, tag_of, places_in, with_keeper, vacant_places, vacancy, with_object, with_handle_of, with_handle_at, with_handles_of, without_handle_of, with_block_of, with_blocks_of};
+ghost use Rattle.ob_store.specs.Objects.{changed_at, kept_rest, object_of, tag_of, places_in, with_keeper};
+ghost use Rattle.ob_store.specs.Objects.{vacant_places, vacancy, with_object, with_handle_of, with_handle_at};
+ghost use Rattle.ob_store.specs.Objects.{with_handles_of, without_handle_of, with_block_of, with_blocks_of};
 ghost use Rattle.ob_store.specs.Agreement.{IsTied, Reclaimed};
 ghost use Rattle.ob_store.specs.Ends.{slot_left_by};
 ghost use Rattle.ob_store.specs.Ticks.{slot_fired, slot_is_due};
@@ -48,8 +51,9 @@ impl<K: PinKeeper> Model for Objects<K> {
 }
 
 impl<K: PinKeeper> Objects<K> {
-    /// As many slots as the keeper has, and no object. The keeper comes back where memory is wanting. The mutexes of threads
-    /// below `threads` are counted and listed, so that the end of a thread looks at what it has alone. That takes 8 bytes for each slot and 8 for each of these threads.
+    /// As many slots as the keeper has, and no object. The keeper comes back where memory is wanting. The mutexes of
+    /// threads below `threads` are counted and listed, so that the end of a thread looks at what it has alone. That
+    /// takes 8 bytes for each slot and 8 for each of these threads.
     pub fn new(alloc: Global, slots: u32, threads: u32, keeper: K) -> Result<Objects<K>, K>
         requires fresh { IsFresh (K.kept keeper) (K.kept keeper).shape }
         requires slots { slots ≡ (K.kept keeper).shape.slots }
@@ -76,8 +80,8 @@ impl<K: PinKeeper> Objects<K> {
         self.seats.len()
     }
 
-    /// What holds of the objects and their keeper whenever no call is under way. It does nothing when it runs: callers call it
-    /// where their proofs need the fact.
+    /// What holds of the objects and their keeper whenever no call is under way. It does nothing when it runs: callers
+    /// call it where their proofs need the fact.
     pub fn kept(&self)
         ensures { IsTied self.now }
     {
@@ -94,9 +98,11 @@ impl<K: PinKeeper> Objects<K> {
 
     /// The object in a slot.
     pub fn look(&self, slot: u32) -> Option<Found<'_>>
-        ensures object { slice_index_or self.now.objects slot None ≡ option_map (λ found. object_of found.seat.now (tag_of found.label.now found.name.now)) result }
+        ensures object { slice_index_or self.now.objects slot None
+            ≡ option_map (λ found. object_of found.seat.now (tag_of found.label.now found.name.now)) result }
         ensures body { IfSome result (λ found. slice_index_or self.now.seen.bodies slot None ≡ found.seat.now.body) }
-        ensures handles { IfSome result (λ found. slice_index_or self.now.seen.handles slot 0 ≡ found.seat.now.handles) }
+        ensures handles { IfSome result (λ found. slice_index_or self.now.seen.handles slot 0
+            ≡ found.seat.now.handles) }
         ensures blocks { IfSome result (λ found. slice_index_or self.now.seen.blocks slot 0 ≡ found.seat.now.blocks) }
         ensures id { IfSome result (λ found. found.seat.now.id.slot ≡ slot) }
     {
@@ -133,7 +139,8 @@ impl<K: PinKeeper> Objects<K> {
         requires vacant { is_vacant_at (vacancy (places_in self.old)) slot ≡ true }
         requires given { IsGiven descr }
         ensures id { result ≡ id_of self.old.keeper.slots slot }
-        ensures added { self.new ≡ with_object self.old slot (record { descr = descr; grant = grant; name = name }) body }
+        ensures added { self.new ≡ with_object self.old slot
+            (record { descr = descr; grant = grant; name = name }) body }
     {
         let id = self.id_at(slot);
         self.seats.add(id, self.births, descr, grant, name, body);
@@ -158,7 +165,8 @@ impl<K: PinKeeper> Objects<K> {
         requires room { (k : ℕ) → slice_index_or self.old.seen.handles k 0 < 4294967295 }
         ensures value { self.new ≡ with_handle_at self.old place }
         ensures bodies { self.new.seen.bodies ≡ self.old.seen.bodies }
-        ensures room { (k : ℕ) → slice_index_or self.new.seen.handles k 0 ≤ slice_index_or self.old.seen.handles k 0 + 1 }
+        ensures room { (k : ℕ) → slice_index_or self.new.seen.handles k 0 ≤ slice_index_or self.old.seen.handles k 0
+            + 1 }
     {
         if let Some(entry) = place {
             self.handle_came(entry.id.slot);
@@ -167,7 +175,8 @@ impl<K: PinKeeper> Objects<K> {
 
     /// One handle more for each entry of a table, of objects that have bodies.
     pub fn handles_came(&mut self, places: &[Option<Entry>])
-        requires live { (i : ℕ) → IfSome (slice_index_or places.now i None) (λ entry. IsSome (slice_index_or self.old.seen.bodies entry.id.slot None)) }
+        requires live { (i : ℕ) → IfSome (slice_index_or places.now i None)
+            (λ entry. IsSome (slice_index_or self.old.seen.bodies entry.id.slot None)) }
         requires short { length places.now ≤ 16384 }
         requires room { (k : ℕ) → slice_index_or self.old.seen.handles k 0 + 16384 ≤ 4294967295 }
         ensures { self.new ≡ with_handles_of self.old places.now }
@@ -199,7 +208,8 @@ impl<K: PinKeeper> Objects<K> {
 
     /// One block more for each place of a list: a wait for the list became pending.
     pub fn blocks_came(&mut self, ids: &[Id])
-        requires live { (i : ℕ) → i < length ids.now → IsSome (slice_index_or self.old.seen.bodies (slice_index_or ids.now i nowhere).slot None) }
+        requires live { (i : ℕ) → i < length ids.now
+            → IsSome (slice_index_or self.old.seen.bodies (slice_index_or ids.now i nowhere).slot None) }
         requires short { length ids.now ≤ 64 }
         requires room { (k : ℕ) → slice_index_or self.old.seen.blocks k 0 + 64 ≤ 18446744073709551615 }
         ensures { self.new ≡ with_blocks_of self.old ids.now }
@@ -271,8 +281,8 @@ impl<K: PinKeeper> Objects<K> {
         self.seats.put(slot, body);
     }
 
-    /// Takes the slot of an ended object back, unless somebody holds it: the object leaves it, and where it was at its last
-    /// generation it is given up for good.
+    /// Takes the slot of an ended object back, unless somebody holds it: the object leaves it, and where it was at its
+    /// last generation it is given up for good.
     pub fn reclaim(&mut self, slot: u32) -> Reclaim
         requires object { IsSome (slice_index_or self.old.objects slot None) }
         requires ended { slice_index_or self.old.seen.bodies slot None ≡ None }
@@ -298,8 +308,8 @@ impl<K: PinKeeper> Objects<K> {
         self.seats.owned_count(thread)
     }
 
-    /// The slot that is listed first for a thread: that of a mutex that it owns, if the list is right. Past all slots where none is
-    /// listed.
+    /// The slot that is listed first for a thread: that of a mutex that it owns, if the list is right. Past all slots
+    /// where none is listed.
     pub fn first_owned(&self, thread: u32) -> u32 {
         self.seats.first_owned(thread)
     }

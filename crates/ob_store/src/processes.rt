@@ -1,4 +1,5 @@
-ghost use Rattle.std.specs.Prelude.{ℕ, ◌≡◌, ◌+◌, ◌<◌, ◌≤◌, None, Some, IfOk, OnOk, OnErr, is_some, length, slice_index_or, slice_set};
+ghost use Rattle.std.specs.Prelude.{ℕ, ◌≡◌, ◌+◌, ◌<◌, ◌≤◌, None, Some, IfOk, OnOk, OnErr, is_some, length};
+ghost use Rattle.std.specs.Prelude.{slice_index_or, slice_set};
 ghost use Rattle.std.specs.List.{list_any};
 ghost use Rattle.least_free.specs.From.{IsLeastFrom};
 ghost use Rattle.ob_store.specs.Processes.{ProcessesState, is_of, no_processes, with_process, with_thread};
@@ -118,8 +119,8 @@ impl Processes {
         self.lists.first(process)
     }
 
-    /// A greater number, with no live thread of the process between. Behind a thread of the process it is the next that the
-    /// process was given.
+    /// A greater number, with no live thread of the process between. Behind a thread of the process it is the next that
+    /// the process was given.
     pub(crate) fn next_of(&self, process: u32, thread: u32) -> u32
         requires { thread < length self.now.threads }
         ensures greater { thread < result }
@@ -159,7 +160,8 @@ impl Processes {
 
     /// The least live thread of a process behind a number.
     pub(crate) fn next_live_of(&self, process: u32, after: u32) -> Option<u32>
-        ensures { IsLeastFrom (after + 1) (λ thread. is_of process (slice_index_or self.now.threads thread None)) result }
+        ensures { IsLeastFrom (after + 1) (λ thread.
+            is_of process (slice_index_or self.now.threads thread None)) result }
     {
         let first = self.first_of(process);
         if after < first {

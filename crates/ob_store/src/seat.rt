@@ -10,7 +10,8 @@ use pin_core::Id;
 /// An object in its slot, but for its label, and how much refers to it.
 #[derive(Drop)]
 pub struct Seat {
-    // One cache line, whatever an object was created with: what few calls read stands in its label, and its name beside that.
+    // One cache line, whatever an object was created with: what few calls read stands in its label, and its name beside
+    // that.
     /// Its Id, whose slot this is.
     pub id: Id,
     /// How many handles name it.
@@ -118,7 +119,10 @@ impl Seat {
     // The body goes where nothing refers to the object.
     #[inline]
     fn end_if_free(&mut self) -> Option<Body>
-        ensures value { self.new ≡ record self.old { body = if self.old.handles + self.old.blocks == 0 then None else self.old.body } }
+        ensures value { self.new ≡ record self.old {
+          body = if self.old.handles + self.old.blocks == 0 then None
+              else self.old.body;
+        } }
         ensures gone { result ≡ if self.old.handles + self.old.blocks == 0 then self.old.body else None }
     {
         if self.handles > 0 || self.blocks > 0 {

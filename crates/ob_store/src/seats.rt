@@ -1,4 +1,5 @@
-ghost use Rattle.std.specs.Prelude.{◌≡◌, ◌<◌, ◌≤◌, ◌&&◌, ℕ, false, true, IfNone, IfOk, IfSome, IsSome, IsTrue, None, Some, is_some, length, slice_index_or, slice_set};
+ghost use Rattle.std.specs.Prelude.{◌≡◌, ◌<◌, ◌≤◌, ◌&&◌, ℕ, false, true, IfNone, IfOk, IfSome, IsSome, IsTrue, None};
+ghost use Rattle.std.specs.Prelude.{Some, is_some, length, slice_index_or, slice_set};
 ghost use Rattle.std.specs.Option.{option_map};
 ghost use Rattle.least_free.specs.From.{IsLeastFrom};
 ghost use Rattle.ob_waits.specs.Form.{slot_due, slot_owner};
@@ -8,7 +9,9 @@ ghost use Rattle.ob_waits.specs.Waits.{is_abandoned, is_signaled, with_acquired}
 ghost use Rattle.ob_store.specs.Closing.{is_closing_in};
 ghost use Rattle.ob_store.specs.Owners.{owns_at};
 ghost use Rattle.ob_store.specs.Ticks.{slot_is_due};
-ghost use Rattle.ob_store.specs.Objects.{object_of, tag_of, tags_in, rest_of, vacant_places, vacancy, with_seat, with_handle, without_handle, is_last_handle, with_block, is_last_block, without_seat, with_retired};
+ghost use Rattle.ob_store.specs.Objects.{object_of, tag_of, tags_in, rest_of, vacant_places, vacancy, with_seat};
+ghost use Rattle.ob_store.specs.Objects.{with_handle, without_handle, is_last_handle, with_block, is_last_block};
+ghost use Rattle.ob_store.specs.Objects.{without_seat, with_retired};
 
 use crate::closing::ClosingSlots;
 use crate::found::Found;
@@ -46,8 +49,8 @@ impl Model for Seats {
 
     ghost use Rattle.ob_store.specs.Timers.{AreNoted};
 
-    // Hidden from the value: how many mutexes each thread owns, when the timer in each slot is due, and in which slots an object
-    // ended.
+    // Hidden from the value: how many mutexes each thread owns, when the timer in each slot is due, and in which slots
+    // an object ended.
     ghost invariant = { λ s. AreNoted s.arena.bodies s.owners s.timers s.closing s.labels.items s.names.items };
 }
 
@@ -88,7 +91,9 @@ fn relabel(
 )
     requires labelled { slot < length labels.old.items }
     requires named { slot < length names.old.items }
-    ensures value { tags_in labels.new.items names.new.items ≡ slice_set (tags_in labels.old.items names.old.items) slot (record { birth = birth; descr = descr; name = name }) }
+    ensures value { tags_in labels.new.items names.new.items
+        ≡ slice_set (tags_in labels.old.items names.old.items) slot
+        (record { birth = birth; descr = descr; name = name }) }
     ensures labels { length labels.new.items ≡ length labels.old.items }
     ensures names { length names.new.items ≡ length names.old.items }
 {
@@ -184,9 +189,11 @@ impl Seats {
 
     /// The object in a slot.
     pub(crate) fn look(&self, slot: u32) -> Option<Found<'_>>
-        ensures object { slice_index_or self.now.objects slot None ≡ option_map (λ found. object_of found.seat.now (tag_of found.label.now found.name.now)) result }
+        ensures object { slice_index_or self.now.objects slot None
+            ≡ option_map (λ found. object_of found.seat.now (tag_of found.label.now found.name.now)) result }
         ensures body { IfSome result (λ found. slice_index_or self.now.seen.bodies slot None ≡ found.seat.now.body) }
-        ensures handles { IfSome result (λ found. slice_index_or self.now.seen.handles slot 0 ≡ found.seat.now.handles) }
+        ensures handles { IfSome result (λ found. slice_index_or self.now.seen.handles slot 0
+            ≡ found.seat.now.handles) }
         ensures blocks { IfSome result (λ found. slice_index_or self.now.seen.blocks slot 0 ≡ found.seat.now.blocks) }
     {
         if !self.arena.is_occupied(slot) {
@@ -219,7 +226,8 @@ impl Seats {
         body: Body,
     )
         requires { is_vacant_at (vacancy self.old) id.slot ≡ true }
-        ensures value { self.new ≡ with_seat self.old id.slot (record { id = id; birth = birth; descr = descr; grant = grant; name = name }) body }
+        ensures value { self.new ≡ with_seat self.old id.slot
+            (record { id = id; birth = birth; descr = descr; grant = grant; name = name }) body }
         ensures handle { slice_index_or self.new.seen.handles id.slot 0 ≡ 1 }
     {
         self.arena.put(id.slot, Seat::new(id, grant, body));
@@ -250,7 +258,8 @@ impl Seats {
         requires object { IsSome (slice_index_or self.old.objects slot None) }
         requires handled { 0 < slice_index_or self.old.seen.handles slot 0 }
         ensures value { self.new ≡ without_handle self.old slot }
-        ensures ended { result ≡ is_some (slice_index_or self.old.seen.bodies slot None) && is_last_handle self.old slot }
+        ensures ended { result ≡ is_some (slice_index_or self.old.seen.bodies slot None)
+            && is_last_handle self.old slot }
     {
         let gone = self.arena.get_mut(slot).handle_left();
         self.owners.left(slot, owner_of(gone));
@@ -301,7 +310,10 @@ impl Seats {
     #[inline(always)]
     pub(crate) fn put(&mut self, slot: u32, body: Body)
         requires { IsSome (slice_index_or self.old.seen.bodies slot None) }
-        ensures objects { self.new.seen ≡ record self.old.seen { bodies = slice_set self.old.seen.bodies slot (Some body) } }
+        ensures objects { self.new.seen ≡ record self.old.seen {
+          bodies = slice_set self.old.seen.bodies slot
+              (Some body);
+        } }
         ensures rest { rest_of self.new ≡ rest_of self.old }
     {
         let owner = body.owner();
@@ -317,7 +329,8 @@ impl Seats {
         requires signaled { is_signaled thread self.old.seen.bodies id ≡ true }
         requires room { slot_room RECURSION_MAX thread (body_of self.old.seen.bodies id) ≡ true }
         ensures was_abandoned { result ≡ is_abandoned self.old.seen.bodies id }
-        ensures objects { self.new.seen ≡ record self.old.seen { bodies = with_acquired thread self.old.seen.bodies id } }
+        ensures objects { self.new.seen
+            ≡ record self.old.seen { bodies = with_acquired thread self.old.seen.bodies id } }
         ensures rest { rest_of self.new ≡ rest_of self.old }
     {
         let acquired = self.arena.get_mut(id.slot).acquire(thread);

@@ -14,14 +14,15 @@ use pin_core::Id;
 use pin_words::PinKeeper;
 
 impl<K: PinKeeper> Parts<K> {
-    /// The waits settle: where all slots that may have been signaled are noted by the waits for these alone, and where there are
-    /// none not at all.
+    /// The waits settle: where all slots that may have been signaled are noted by the waits for these alone, and where
+    /// there are none not at all.
     pub(crate) fn settle(&mut self)
         requires sound { IsSound (parts_of self.old) }
         requires enough { IsEnough self.old.signaled self.old.objects.seen.bodies self.old.waits.waits }
         ensures value { scene_in self.new ≡ waits_settled (scene_in self.old) }
         ensures kept { IsKept (parts_of self.new) }
-        ensures state { (first : KeeperState) (s : State) → IsUnderWay first (parts_of self.old) s → state_of (parts_of self.new) ≡ settled s }
+        ensures state { (first : KeeperState) (s : State) → IsUnderWay first (parts_of self.old) s
+            → state_of (parts_of self.new) ≡ settled s }
         ensures keeper { OnlyCloses self.old.objects.keeper self.new.objects.keeper }
     {
         if self.signaled.is_whole() {
@@ -37,7 +38,8 @@ impl<K: PinKeeper> Parts<K> {
         requires sound { IsSound (parts_of self.old) }
         requires ready { IsReadyAt id.slot self.old.objects.seen.bodies self.old.waits.waits }
         ensures kept { IsKept (parts_of self.new) }
-        ensures state { (first : KeeperState) (s : State) → IsUnderWay first (parts_of self.old) s → state_of (parts_of self.new) ≡ settled s }
+        ensures state { (first : KeeperState) (s : State) → IsUnderWay first (parts_of self.old) s
+            → state_of (parts_of self.new) ≡ settled s }
         ensures keeper { OnlyCloses self.old.objects.keeper self.new.objects.keeper }
     {
         self.waits.settle_after(&mut self.objects, id);

@@ -5,9 +5,9 @@ use pin_core::Id;
 use std::alloc::{AllocError, Global};
 use std::marker::Model;
 
-/// The slots in which a call may have made something signaled: those of the mutexes that it abandoned, or of the timers that it
-/// fired. They are listed as long as there is room; once one isn't, the list is not whole, and the waits settle by a pass over
-/// all of them.
+/// The slots in which a call may have made something signaled: those of the mutexes that it abandoned, or of the timers
+/// that it fired. They are listed as long as there is room; once one isn't, the list is not whole, and the waits settle
+/// by a pass over all of them.
 #[derive(Drop)]
 pub(crate) struct SignaledSlots {
     ids: Vec<Id>,

@@ -81,7 +81,8 @@ impl<K: PinKeeper> Store<K> {
         requires bodied { slice_index_or self.old.state.bodies id.slot None ≡ Some semaphore }
         requires semaphore { spec.kind_of semaphore ≡ Semaphore }
         ensures answer { result ≡ spec.post_answer count semaphore }
-        ensures ok { OnOk result (self.new.state ≡ settled (with_body self.old.state id (spec.after_post count semaphore))) }
+        ensures ok { OnOk result (self.new.state
+            ≡ settled (with_body self.old.state id (spec.after_post count semaphore))) }
         ensures err { OnErr result (self.new ≡ self.old) }
         ensures keeper { OnlyCloses self.old.keeper self.new.keeper }
     {
@@ -99,7 +100,8 @@ impl<K: PinKeeper> Store<K> {
         requires bodied { slice_index_or self.old.state.bodies id.slot None ≡ Some mutex }
         requires mutex { spec.kind_of mutex ≡ Mutex }
         ensures answer { result ≡ spec.unlock_answer thread mutex }
-        ensures ok { OnOk result (self.new.state ≡ settled (with_body self.old.state id (spec.after_unlock thread mutex))) }
+        ensures ok { OnOk result (self.new.state
+            ≡ settled (with_body self.old.state id (spec.after_unlock thread mutex))) }
         ensures err { OnErr result (self.new ≡ self.old) }
         ensures keeper { OnlyCloses self.old.keeper self.new.keeper }
     {
@@ -109,13 +111,14 @@ impl<K: PinKeeper> Store<K> {
         Ok(())
     }
 
-    /// Sets a timer to a moment, in units of 100 ns. One that isn't after now signals it at once, and the waits for it settle;
-    /// else it is nonsignaled until then, and nothing settles.
+    /// Sets a timer to a moment, in units of 100 ns. One that isn't after now signals it at once, and the waits for it
+    /// settle; else it is nonsignaled until then, and nothing settles.
     #[tactic(auto, using(crate::proofs::Yielding::arm_yields))]
     pub fn arm(&mut self, id: Id, timer: Body, due: u64)
         requires bodied { slice_index_or self.old.state.bodies id.slot None ≡ Some timer }
         requires timer { spec.kind_of timer ≡ Timer }
-        ensures state { self.new.state ≡ settled (with_body self.old.state id (spec.after_arm due self.old.state.clock timer)) }
+        ensures state { self.new.state ≡ settled (with_body self.old.state id
+            (spec.after_arm due self.old.state.clock timer)) }
         ensures keeper { OnlyCloses self.old.keeper self.new.keeper }
     {
         let mut after = timer;

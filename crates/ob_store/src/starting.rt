@@ -10,7 +10,10 @@ impl<K: PinKeeper> Store<K> {
     pub fn add_process(&mut self, session: u32) -> Result<(), AllocError>
         requires processes { length self.old.state.processes ≤ self.old.state.limits.processes }
         requires threads { length self.old.state.threads ≤ self.old.state.limits.threads }
-        ensures ok { OnOk result (self.new ≡ record self.old { state = settled (with_process self.old.state session) }) }
+        ensures ok { OnOk result (self.new ≡ record self.old {
+          state = settled
+              (with_process self.old.state session);
+        }) }
         ensures err { OnErr result (self.new ≡ self.old) }
     {
         self.parts.objects.kept();
@@ -36,12 +39,16 @@ impl<K: PinKeeper> Store<K> {
         Ok(())
     }
 
-    /// The next process, of a session, with the next thread and with the inheritable entries of a parent at the same values.
+    /// The next process, of a session, with the next thread and with the inheritable entries of a parent at the same
+    /// values.
     pub fn add_child(&mut self, parent: u32, session: u32) -> Result<(), AllocError>
         requires processes { length self.old.state.processes ≤ self.old.state.limits.processes }
         requires threads { length self.old.state.threads ≤ self.old.state.limits.threads }
         requires parent { parent < length self.old.state.tables }
-        ensures ok { OnOk result (self.new ≡ record self.old { state = settled (with_child self.old.state parent session) }) }
+        ensures ok { OnOk result (self.new ≡ record self.old {
+          state = settled
+              (with_child self.old.state parent session);
+        }) }
         ensures err { OnErr result (self.new ≡ self.old) }
     {
         self.parts.objects.kept();

@@ -1,4 +1,5 @@
-ghost use Rattle.std.specs.Prelude.{◌≡◌, ◌<◌, ◌≤◌, true, IfOk, IfErr, IfSome, IsSome, OnSome, None, length, is_some, slice_get, slice_index_or};
+ghost use Rattle.std.specs.Prelude.{◌≡◌, ◌<◌, ◌≤◌, true, IfOk, IfErr, IfSome, IsSome, OnSome, None, length, is_some};
+ghost use Rattle.std.specs.Prelude.{slice_get, slice_index_or};
 ghost use Rattle.std.specs.Option.{option_map};
 ghost use Rattle.pin_words.specs.Keepers.{IsFresh};
 ghost use Rattle.ob_arena.specs.Slots.{is_vacant_at, least_vacant};
@@ -79,8 +80,8 @@ impl<K: PinKeeper> Store<K> {
         }
     }
 
-    /// What holds of the state and the keeper whenever no call is under way. It does nothing when it runs: callers call it where
-    /// their proofs need the fact.
+    /// What holds of the state and the keeper whenever no call is under way. It does nothing when it runs: callers call
+    /// it where their proofs need the fact.
     pub fn kept(&self)
         ensures { IsConsistent self.now }
     {
@@ -176,9 +177,11 @@ impl<K: PinKeeper> Store<K> {
 
     /// The object in a slot, with all that refers to it counted.
     pub fn object(&self, slot: u32) -> Option<Found<'_>>
-        ensures object { slice_index_or self.now.state.objects slot None ≡ option_map (λ found. object_of found.seat.now (tag_of found.label.now found.name.now)) result }
+        ensures object { slice_index_or self.now.state.objects slot None
+            ≡ option_map (λ found. object_of found.seat.now (tag_of found.label.now found.name.now)) result }
         ensures body { IfSome result (λ found. slice_index_or self.now.state.bodies slot None ≡ found.seat.now.body) }
-        ensures handles { IfSome result (λ found. found.seat.now.handles ≡ handles_of self.now.state found.seat.now.id) }
+        ensures handles { IfSome result (λ found. found.seat.now.handles
+            ≡ handles_of self.now.state found.seat.now.id) }
         ensures blocks { IfSome result (λ found. found.seat.now.blocks ≡ blocks_of self.now.state found.seat.now.id) }
         ensures id { IfSome result (λ found. found.seat.now.id.slot ≡ slot) }
         ensures within { IfSome result (λ found. slot < self.now.state.limits.slots) }

@@ -1,5 +1,6 @@
 ghost use Rattle.std.specs.Prelude.{◌≡◌, ◌<◌, ◌≤◌, IfOk, OnOk, OnErr, length, nat_lt};
-ghost use Rattle.ob_store.specs.ThreadLists.{IsPopped, list_at, link_at, no_list, no_link, no_lists, with_list, with_link, without_live};
+ghost use Rattle.ob_store.specs.ThreadLists.{IsPopped, list_at, link_at, no_list, no_link, no_lists, with_list};
+ghost use Rattle.ob_store.specs.ThreadLists.{with_link, without_live};
 
 use std::alloc::{AllocError, Global};
 use std::marker::Model;
@@ -12,7 +13,8 @@ pub(crate) struct ThreadList {
     pub(crate) last: u32,
 }
 
-/// The process of a thread, which stays when the thread ends, and the next thread that the process was given; 0 at its last.
+/// The process of a thread, which stays when the thread ends, and the next thread that the process was given; 0 at its
+/// last.
 #[derive(Clone, Copy)]
 pub(crate) struct ThreadLink {
     pub(crate) process: u32,

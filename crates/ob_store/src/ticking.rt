@@ -28,7 +28,8 @@ fn fire_all<K: PinKeeper>(objects: &mut Objects<K>, signaled: &mut SignaledSlots
 impl<K: PinKeeper> Store<K> {
     /// The timers that are due fire, and the waits settle.
     fn fire(&mut self, now: u64)
-        ensures state { self.new.state ≡ settled (record self.old.state { bodies = map (slot_fired now) self.old.state.bodies }) }
+        ensures state { self.new.state ≡ settled
+            (record self.old.state { bodies = map (slot_fired now) self.old.state.bodies }) }
         ensures keeper { OnlyCloses self.old.keeper self.new.keeper }
         ensures undue { (k : ℕ) → slot_is_due now (slice_index_or self.new.state.bodies k None) ≡ false }
     {
@@ -58,7 +59,8 @@ impl<K: PinKeeper> Store<K> {
         self.parts.waits.pass_to(now);
     }
 
-    /// Each pending wait whose deadline isn't after a moment, at which nothing is due, is answered with 258, `WAIT_TIMEOUT`.
+    /// Each pending wait whose deadline isn't after a moment, at which nothing is due, is answered with 258,
+    /// `WAIT_TIMEOUT`.
     fn time_out(&mut self, now: u64)
         requires later { self.old.state.clock ≤ now }
         requires last { now ≤ LAST_MOMENT }
@@ -74,9 +76,10 @@ impl<K: PinKeeper> Store<K> {
         self.pass_to(now);
     }
 
-    /// It is a moment now: what is due fires, the waits settle, and then each wait whose time is up is answered. Where nothing is
-    /// due and no time is up, it looks at no timer and no wait that is pending; else it costs by what is, and a logarithm. The
-    /// deadline of a wait that was answered before it came is dropped by the first tick behind it, once.
+    /// It is a moment now: what is due fires, the waits settle, and then each wait whose time is up is answered. Where
+    /// nothing is due and no time is up, it looks at no timer and no wait that is pending; else it costs by what is,
+    /// and a logarithm. The deadline of a wait that was answered before it came is dropped by the first tick behind it,
+    /// once.
     pub fn tick(&mut self, now: u64)
         requires later { self.old.state.clock ≤ now }
         requires last { now ≤ LAST_MOMENT }

@@ -1,4 +1,5 @@
-ghost use Rattle.std.specs.Prelude.{ℕ, ◌≡◌, ◌<◌, ◌↔◌, true, false, Err, IfErr, IfOk, IsSome, None, OnErr, OnOk, Some, length, slice_index_or};
+ghost use Rattle.std.specs.Prelude.{ℕ, ◌≡◌, ◌<◌, ◌↔◌, true, false, Err, IfErr, IfOk, IsSome, None, OnErr, OnOk, Some};
+ghost use Rattle.std.specs.Prelude.{length, slice_index_or};
 ghost use Rattle.std.specs.Option.{IfNone, OnSome};
 ghost use Rattle.ob_rights.specs.declared.fault.Fault.TheVariants.{Limit, Memory};
 ghost use Rattle.ob_waits.specs.Form.{IsAfter};
@@ -22,8 +23,8 @@ impl<K: PinKeeper> Store<K> {
         self.parts.waits.look(wait).map(|(state, _)| state)
     }
 
-    /// A thread takes at once what its wait for these objects is satisfied by, and gives the wait's code. Where it isn't
-    /// satisfied now, nothing changes.
+    /// A thread takes at once what its wait for these objects is satisfied by, and gives the wait's code. Where it
+    /// isn't satisfied now, nothing changes.
     pub fn take_now(&mut self, thread: u32, mode: Mode, ids: &[Id]) -> Option<u32>
         requires waitable { IsWaitable mode ids.now }
         requires room { HasRoom self.old.state.limits.max_recursion thread self.old.state.bodies ids.now }
@@ -40,7 +41,8 @@ impl<K: PinKeeper> Store<K> {
         code
     }
 
-    /// The wait of a thread that isn't satisfied now becomes pending, until a moment after now or for good; its number. It counts among what refers to its objects.
+    /// The wait of a thread that isn't satisfied now becomes pending, until a moment after now or for good; its number.
+    /// It counts among what refers to its objects.
     ///
     /// Refused with 1450 where each wait number was given, and else with 8 for want of memory.
     pub fn add_wait(
@@ -56,9 +58,13 @@ impl<K: PinKeeper> Store<K> {
         requires alone { number_of thread self.old.state.waits ≡ None }
         requires live { IsSome (slice_index_or self.old.state.threads thread None) }
         requires unready { list_ready mode thread self.old.state.bodies ids.now ≡ false }
-        requires handled { (i : ℕ) → i < length ids.now → 0 < handles_of self.old.state (slice_index_or ids.now i nowhere) }
+        requires handled { (i : ℕ) → i < length ids.now → 0 < handles_of self.old.state
+            (slice_index_or ids.now i nowhere) }
         ensures number { IfOk result (λ number. number ≡ length self.old.state.waits) }
-        ensures ok { OnOk result (self.new ≡ record self.old { state = settled (with_wait self.old.state thread mode ids.now deadline) }) }
+        ensures ok { OnOk result (self.new ≡ record self.old {
+          state = settled
+              (with_wait self.old.state thread mode ids.now deadline);
+        }) }
         ensures limit { (result ≡ Err Limit) ↔ (are_waits_given self.old.state ≡ true) }
         ensures memory { IfErr result (λ fault. are_waits_given self.old.state ≡ false → fault ≡ Memory) }
         ensures err { OnErr result (self.new ≡ self.old) }

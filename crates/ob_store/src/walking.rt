@@ -66,8 +66,10 @@ impl<K: PinKeeper> Store<K> {
 
     /// The handle of least value behind one that a process has, with its entry.
     pub fn next_entry(&self, process: u32, after: u32) -> Option<(u32, Entry)>
-        ensures least { IsLeastFrom (after + 1) (is_value_of self.now.state process) (option_map (λ handle. handle.0) result) }
-        ensures entry { IfSome result (λ handle. entry_at (table_of self.now.state.tables process) handle.0 ≡ Some handle.1) }
+        ensures least { IsLeastFrom (after + 1) (is_value_of self.now.state process)
+            (option_map (λ handle. handle.0) result) }
+        ensures entry { IfSome result (λ handle. entry_at (table_of self.now.state.tables process) handle.0
+            ≡ Some handle.1) }
     {
         if !self.parts.tables.is_given(process) {
             return None;

@@ -130,7 +130,8 @@ impl Case for WaitForSome {
     }
 }
 
-/// A thread waits for an event, another sets it, and the answer is taken, beside waits of other threads for other events.
+/// A thread waits for an event, another sets it, and the answer is taken, beside waits of other threads for other
+/// events.
 pub(crate) struct WaitAndSet;
 
 impl Case for WaitAndSet {

@@ -95,9 +95,10 @@ impl Round for Resolve {
     }
 }
 
-/// The sum of some rounds, from event to event. As a caller does that waits for an answer before it calls again, the walk goes on
-/// behind the answer: which event is next is known by the sum, whose top bit stays 0. Where they are to be apart the clock is read
-/// between them, which waits for all that was begun, so that no round begins while another waits for memory.
+/// The sum of some rounds, from event to event. As a caller does that waits for an answer before it calls again, the
+/// walk goes on behind the answer: which event is next is known by the sum, whose top bit stays 0. Where they are to be
+/// apart the clock is read between them, which waits for all that was begun, so that no round begins while another
+/// waits for memory.
 pub(crate) fn rounds<R: Round>(
     rt: &impl Clock,
     manager: &mut Measured,
@@ -133,7 +134,8 @@ fn come_and_go(manager: &mut Measured, thread: u32, name: Option<&[u8]>) -> Resu
     Ok(id.slot)
 }
 
-/// Makes an event and closes it for each of some texts, with or without it as the name, and writes the slots that they leave.
+/// Makes an event and closes it for each of some texts, with or without it as the name, and writes the slots that they
+/// leave.
 pub(crate) fn make(
     manager: &mut Measured,
     thread: u32,

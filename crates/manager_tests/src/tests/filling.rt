@@ -193,7 +193,9 @@ const SLOTS: &[Move<'static>] = &[
     Move::Fills(Fill::Events { thread: 1, slot: 0, many: 16_384 }),
     Move::Calls(&[
         (MakeEvent { thread: 1, make: PLAIN, manual: false, set: false }, Refused(Fault::Limit)),
-        (Duplicate { thread: 1, source: 1, handle: 65_536, target: Some(1), mask: Rights(0), inherit: false, options: 2 }, Refused(Fault::Limit)),
+        (Duplicate {
+            thread: 1, source: 1, handle: 65_536, target: Some(1), mask: Rights(0), inherit: false, options: 2,
+        }, Refused(Fault::Limit)),
     ]),
     Move::Fills(Fill::Events { thread: 2, slot: 16_384, many: 16_384 }),
     Move::Fills(Fill::Events { thread: 3, slot: 32_768, many: 16_384 }),

@@ -105,8 +105,8 @@ fn holds_at(rt: &impl Abort, condition: bool, otherwise: &str, place: usize) {
     assert!(rt; condition, "{otherwise} at place {place}");
 }
 
-/// The reply to a call of a manager. Where memory was wanting, the manager shows what its twin does, to which the call was not
-/// made; it is made again.
+/// The reply to a call of a manager. Where memory was wanting, the manager shows what its twin does, to which the call
+/// was not made; it is made again.
 fn asked_beside(
     rt: &impl Abort,
     manager: &mut Manager<LockedPins>,
@@ -140,8 +140,8 @@ fn answers_both(
     holds_at(rt, are_same(manager, twin), "they differ", place);
 }
 
-/// Makes the calls of a table, and each of them of a second manager behind the first. Where memory was wanting, the first shows
-/// what the second does, to which the call was not made; made again, it is answered as is due.
+/// Makes the calls of a table, and each of them of a second manager behind the first. Where memory was wanting, the
+/// first shows what the second does, to which the call was not made; made again, it is answered as is due.
 fn answers_twice(
     rt: &impl Abort,
     alloc: Global,
@@ -191,9 +191,11 @@ const EACH: &[Line<'static>] = &[
     (MakeSemaphore { thread: 1, make: NAMED_S, initial: 1, max: 2 }, Made { handle: 12, id: THIRD }),
     (MakeEvent { thread: 1, make: PLAIN, manual: false, set: false }, Made { handle: 16, id: FOURTH }),
     (MakeEvent { thread: 1, make: NAMED_E, manual: false, set: true }, Exists { handle: 20, id: FIRST }),
-    (OpenNamed { thread: 2, kind: Kind::Event, mask: Rights::SYNCHRONIZE, inherit: true, text: b"E" }, Opened { handle: 24, id: FIRST }),
+    (OpenNamed { thread: 2, kind: Kind::Event, mask: Rights::SYNCHRONIZE, inherit: true, text: b"E" },
+        Opened { handle: 24, id: FIRST }),
     (Child { thread: 1, inherit: true }, Spawned { process: 2, thread: 3 }),
-    (Duplicate { thread: 1, source: 1, handle: 12, target: Some(2), mask: Rights(0), inherit: false, options: 3 }, Duplicated { handle: 4, id: THIRD }),
+    (Duplicate { thread: 1, source: 1, handle: 12, target: Some(2), mask: Rights(0), inherit: false, options: 3 },
+        Duplicated { handle: 4, id: THIRD }),
     (Counts { id: FIRST }, CountsAre { handles: 4, waits: 0, hold: 0 }),
     (WaitFor { thread: 2, mode: Mode::Any, timeout: Timeout::Infinite, handles: &[4, 16] }, Pending { wait: 1 }),
     (WaitFor { thread: 3, mode: Mode::All, timeout: Timeout::Infinite, handles: &[8, 24] }, Pending { wait: 2 }),

@@ -328,9 +328,8 @@ fn a_pinned_slot_is_held(rt: HostRuntime) -> Result<(), Fail> {
     over_locked(&rt, rt.alloc(), 1, Scene::Pinned)
 }
 
-/// Mutexes in seven slots.
-/// Thread 1 takes those of 0 to 4, the last of them twice, and thread 2 that of 5. Then thread 1 loses one from the middle of its
-/// list, its neighbour and the first, and takes another; thread 2 loses its last.
+/// Mutexes in seven slots. Thread 1 takes those of 0 to 4, the last of them twice, and thread 2 that of 5. Then thread
+/// 1 loses one from the middle of its list, its neighbour and the first, and takes another; thread 2 loses its last.
 #[rattlefmt::skip]
 const TAKEN_AND_LOST: &[Act] = &[
     Act::Make(MUTEX, Some(FIRST)),

@@ -71,7 +71,8 @@ fn timers_fire_and_waits_run_out_of_time(rt: HostRuntime) -> Result<(), Fail> {
     Ok(())
 }
 
-/// Two timers of one moment fire before the waits settle: the wait for both takes them, and the later one for the first not.
+/// Two timers of one moment fire before the waits settle: the wait for both takes them, and the later one for the first
+/// not.
 #[rattlefmt::skip]
 const TWO_AT_ONCE: &[Line<'static>] = &[
     (Spawn { session: 1 }, Spawned { process: 1, thread: 1 }),
@@ -131,8 +132,10 @@ const REFUSED: &[Line<'static>] = &[
     (Spawn { session: 1 }, Spawned { process: 1, thread: 1 }),
     (MakeTimer { thread: 1, make: NAMED_T, manual: true }, Made { handle: 4, id: FIRST }),
     (MakeEvent { thread: 1, make: PLAIN, manual: true, set: false }, Made { handle: 8, id: SECOND }),
-    (OpenNamed { thread: 1, kind: Kind::Timer, mask: Rights::SYNCHRONIZE, inherit: false, text: b"T" }, Opened { handle: 12, id: FIRST }),
-    (OpenNamed { thread: 1, kind: Kind::Event, mask: Rights::SYNCHRONIZE, inherit: false, text: b"T" }, Refused(Fault::Handle)),
+    (OpenNamed { thread: 1, kind: Kind::Timer, mask: Rights::SYNCHRONIZE, inherit: false, text: b"T" },
+        Opened { handle: 12, id: FIRST }),
+    (OpenNamed { thread: 1, kind: Kind::Event, mask: Rights::SYNCHRONIZE, inherit: false, text: b"T" },
+        Refused(Fault::Handle)),
     (SetTimer { thread: 2, handle: 4, due: 0 }, Refused(Fault::Parameter)),
     (SetTimer { thread: 1, handle: 16, due: 0 }, Refused(Fault::Handle)),
     (SetTimer { thread: 1, handle: 8, due: 0 }, Refused(Fault::Handle)),

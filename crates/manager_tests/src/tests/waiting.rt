@@ -141,7 +141,8 @@ const LISTS: &[Step<'static>] = &[
     Step::Resolves(1, 7, Ok(FIRST)),
     Step::Calls(&[
         (WaitFor { thread: 1, mode: ANY, timeout: Zero, handles: &[7] }, Code { code: 0 }),
-        (OpenNamed { thread: 1, kind: Kind::Event, mask: Rights::SYNCHRONIZE, inherit: false, text: b"A" }, Opened { handle: 8, id: FIRST }),
+        (OpenNamed { thread: 1, kind: Kind::Event, mask: Rights::SYNCHRONIZE, inherit: false, text: b"A" },
+            Opened { handle: 8, id: FIRST }),
         (WaitFor { thread: 1, mode: ANY, timeout: Zero, handles: &[] }, Refused(Fault::Parameter)),
         (WaitFor { thread: 1, mode: ANY, timeout: Zero, handles: &[4, 5] }, Refused(Fault::Parameter)),
         (WaitFor { thread: 1, mode: ANY, timeout: Zero, handles: &[4, 8] }, Code { code: 0 }),
@@ -200,7 +201,8 @@ fn waits_are_refused_in_order(rt: HostRuntime) -> Result<(), Fail> {
     Ok(())
 }
 
-/// A wait that is satisfied at once, and one that isn't: a wait that becomes pending takes memory, and nothing else of one does.
+/// A wait that is satisfied at once, and one that isn't: a wait that becomes pending takes memory, and nothing else of
+/// one does.
 #[rattlefmt::skip]
 const APPLIED: &[Line<'static>] = &[
     (Spawn { session: 1 }, Spawned { process: 1, thread: 1 }),

@@ -111,7 +111,8 @@ fn over_locked(
     played
 }
 
-/// An object ends with its last handle, with the last wait for it, and with its process, and is told of until it is reaped.
+/// An object ends with its last handle, with the last wait for it, and with its process, and is told of until it is
+/// reaped.
 #[rattlefmt::skip]
 const ENDS: &[Scene<'static>] = &[
     (&[], &[Ask::Closing(0, None), Ask::Object(0, None), Ask::Closing(u32::MAX, None)]),
@@ -189,20 +190,25 @@ const WALKS: &[Scene<'static>] = &[
         (Child { thread: 1, inherit: true }, Spawned { process: 3, thread: 5 }),
         (WaitFor { thread: 3, mode: Mode::Any, timeout: Timeout::Infinite, handles: &[4] }, Pending { wait: 1 }),
      ], &[
-        Ask::Process(0, Some(1)), Ask::Process(1, Some(2)), Ask::Process(2, Some(3)), Ask::Process(3, None), Ask::Process(u32::MAX, None),
+        Ask::Process(0, Some(1)), Ask::Process(1, Some(2)), Ask::Process(2, Some(3)), Ask::Process(3, None),
+        Ask::Process(u32::MAX, None),
         Ask::Session(1, Some(3)), Ask::Session(3, Some(3)), Ask::Session(4, None),
-        Ask::Thread(1, 0, Some(1)), Ask::Thread(1, 1, Some(3)), Ask::Thread(1, 2, Some(3)), Ask::Thread(1, 3, Some(4)), Ask::Thread(1, 4, None),
+        Ask::Thread(1, 0, Some(1)), Ask::Thread(1, 1, Some(3)), Ask::Thread(1, 2, Some(3)), Ask::Thread(1, 3, Some(4)),
+        Ask::Thread(1, 4, None),
         Ask::Thread(2, 0, Some(2)), Ask::Thread(2, 2, None), Ask::Thread(3, u32::MAX, None),
         Ask::Member(3, Some(1), Some(1)), Ask::Member(2, Some(2), None), Ask::Member(6, None, None),
-        Ask::Handle(1, 0, Some((4, FIRST, 0))), Ask::Handle(1, 4, Some((8, SECOND, 0))), Ask::Handle(1, 9, Some((12, THIRD, 1))),
-        Ask::Handle(1, 12, None), Ask::Handle(1, u32::MAX, None), Ask::Handle(2, 0, None), Ask::Handle(3, 0, Some((12, THIRD, 1))),
+        Ask::Handle(1, 0, Some((4, FIRST, 0))), Ask::Handle(1, 4, Some((8, SECOND, 0))),
+        Ask::Handle(1, 9, Some((12, THIRD, 1))),
+        Ask::Handle(1, 12, None), Ask::Handle(1, u32::MAX, None), Ask::Handle(2, 0, None),
+        Ask::Handle(3, 0, Some((12, THIRD, 1))),
      ]),
     (&[
         (CloseHandle { thread: 1, handle: 8 }, Closed),
         (EndThread { thread: 3 }, Ended { thread: 3 }),
         (Exit { process: 2 }, Exited { process: 2 }),
      ], &[
-        Ask::Process(1, Some(3)), Ask::Thread(1, 1, Some(4)), Ask::Thread(2, 0, None), Ask::Handle(1, 4, Some((12, THIRD, 1))),
+        Ask::Process(1, Some(3)), Ask::Thread(1, 1, Some(4)), Ask::Thread(2, 0, None),
+        Ask::Handle(1, 4, Some((12, THIRD, 1))),
         Ask::Member(3, None, None), Ask::Session(2, None), Ask::Object(0, Some(FIRST)), Ask::Closing(0, Some(SECOND)),
      ]),
 ];

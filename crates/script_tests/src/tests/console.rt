@@ -78,7 +78,8 @@ fn a_read_fault_leaves_the_complete_lines_answered(rt: HostRuntime) {
     ends(&rt, rt.alloc(), &mut source, fault, b"p1 t1\nh4 new s0.1\n");
 }
 
-/// Runs the script over a page of so many bytes, by a writer that fails then: the run ends so, and leaves this on the page.
+/// Runs the script over a page of so many bytes, by a writer that fails then: the run ends so, and leaves this on the
+/// page.
 fn fills<R: Abort>(
     rt: &R,
     alloc: Global,

@@ -39,9 +39,9 @@ const NAMED: Make<'static> = Make {
     grant: None,
 };
 
-/// The acts of a round, of a member that has one process with a thread that calls and a thread that waits. What it pins, if it is
-/// there, is in an even slot, and those in odd slots are taken back, so that nobody holds what is taken back. It waits for what
-/// it sees to before it blocks.
+/// The acts of a round, of a member that has one process with a thread that calls and a thread that waits. What it
+/// pins, if it is there, is in an even slot, and those in odd slots are taken back, so that nobody holds what is taken
+/// back. It waits for what it sees to before it blocks.
 #[rattlefmt::skip]
 fn acts_of(caller: u32, waiter: u32, id: Id, slot: u32) -> [Deed<'static>; ROUND] {
     [
@@ -70,8 +70,8 @@ fn acts_of(caller: u32, waiter: u32, id: Id, slot: u32) -> [Deed<'static>; ROUND
     ]
 }
 
-/// The act of a member at a place. It uses one process, with a thread that calls and a thread that waits: each of the number of
-/// its lane.
+/// The act of a member at a place. It uses one process, with a thread that calls and a thread that waits: each of the
+/// number of its lane.
 pub(super) fn deed(number: u32, place: usize) -> Deed<'static> {
     let round = u32::try_from(place / ROUND).unwrap_or(0);
     let id = Id {

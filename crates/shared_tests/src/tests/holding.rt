@@ -196,7 +196,8 @@ const DROPPED: &[Move<'static>] = &[
     Move::Calls(&[
         (CloseHandle { thread: 1, handle: 4 }, Closed),
         (Reap { slot: 1 }, Reaped { id: SECOND, outcome: Reclaim::Freed }),
-        (MakeEvent { thread: 1, make: PLAIN, manual: false, set: false }, Made { handle: 4, id: Id { slot: 1, generation: 2 } }),
+        (MakeEvent { thread: 1, make: PLAIN, manual: false, set: false },
+            Made { handle: 4, id: Id { slot: 1, generation: 2 } }),
     ]),
     Move::Calls(IS_HELD),
 ];

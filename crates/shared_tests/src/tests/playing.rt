@@ -25,8 +25,8 @@ fn asked_once<R: Wait>(
     Ok(shared.call(rt, lane, to_call(&ask, alloc)?))
 }
 
-/// The reply to a call of a lane. It is made again where memory was wanting: nothing was changed then, but the lane may list that
-/// the manager refused it.
+/// The reply to a call of a lane. It is made again where memory was wanting: nothing was changed then, but the lane may
+/// list that the manager refused it.
 pub(super) fn asked<R: Wait>(
     rt: &R,
     alloc: Global,

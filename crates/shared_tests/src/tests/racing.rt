@@ -64,8 +64,8 @@ fn pins_another<R: Wait>(rt: &R, reader: &mut Reader, id: Id) -> Result<bool, Pi
     Ok(descr != descr_of(id))
 }
 
-/// Tries to pin the slots in turn, each at the generation after the last that was stale. Whether something was pinned, and
-/// nothing seen but what was made.
+/// Tries to pin the slots in turn, each at the generation after the last that was stale. Whether something was pinned,
+/// and nothing seen but what was made.
 fn reads<R: Wait>(rt: &R, reader: &mut Reader) -> bool {
     let mut pins = 0u32;
     let mut generations = [1u32; 4];

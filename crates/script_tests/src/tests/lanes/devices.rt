@@ -23,7 +23,8 @@ fn a_read_fault_leaves_bad_lines_printed_and_makes_no_call(rt: HostRuntime) {
     );
 }
 
-/// Runs a script with so many lanes, 1 to 64, over a page that is too small: the run ends by that, and leaves this on the page.
+/// Runs a script with so many lanes, 1 to 64, over a page that is too small: the run ends by that, and leaves this on
+/// the page.
 fn fills<R: Abort + Wait + Threads + Sync>(
     rt: &R,
     alloc: Global,
