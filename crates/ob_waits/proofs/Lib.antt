@@ -1,6 +1,7 @@
 pub mod Settling
 pub mod ListedLaws
 pub mod PlaceLaws
+pub mod SeatLaws
 pub mod Keeping
 pub mod NumberLaws
 pub mod IndexLaws

@@ -1,210 +1,257 @@
 -- What the places and the others have at each number, and how that changes.
-use Rattle.std.proofs.Common.{◌≡◌, ℕ, ◌<◌, ◌≤◌, ◌+◌, List, Option, Some, None, length, refl, ap, ◌∙◌, sym, arith, get_or, set, Bool, true, false, cond, inl, inr, eqb}
-use Rattle.std.proofs.lemmas.List.{get_or-set_same, get_or-set_other}
-use Rattle.std.proofs.lemmas.Bool.{cases_eq}
+use Rattle.std.proofs.Common.{◌≡◌, ℕ, ◌<◌, ◌≤◌, ◌+◌, ◌*◌, ◌-◌, ◌%◌, ◌^◌, List, Option, Some, None, length, refl, ap, ◌∙◌, sym, arith, get_or, set, Bool, true, false, cond, inl, inr, eqb}
+use Rattle.std.specs.Int.Bits.{bit_and}
+use Rattle.std.specs.Option.{is_some}
+use Rattle.std.proofs.lemmas.List.{get_or-set_same, get_or-set_other, get_or_past, get_or_default}
+use Rattle.std.proofs.lemmas.Bool.{cases_eq, cases_lt}
+use Rattle.std.proofs.lemmas.Nat.{and_mask, and_le_r, pow_pos, pow-add}
 use Rattle.std.proofs.lemmas.Option.{same_Some, none-some}
 use Rattle.std.proofs.lemmas.Bool.Decides.{nat_tests}
-use Rattle.ob_waits.specs.declared.wait.Wait.{Wait}
-use Rattle.ob_waits.specs.declared.wait.State.TheVariants.{Answered}
-use Rattle.ob_waits.specs.declared.held.Held.{Held}
-use Rattle.std.specs.Option.{is_some}
-use Rattle.ob_waits.specs.Waits.{answered, is_pending}
-use Rattle.ob_waits.specs.Listed.{IsSparse}
-use Rattle.ob_waits.proofs.ListedLaws.{is_given}
-use Rattle.ob_waits.specs.Places.{home, here, answered_here, found, IsPlaced}
+use Rattle.std.proofs.Math.Pow.{mod-mod-pow}
+use Rattle.ob_waits.specs.declared.finder.Entry.{Entry}
+use Rattle.ob_waits.specs.Seats.{home, here, thread_in, IsPlaced, AreApart, IsSpread}
 
-pub here_some : (n : ℕ) (p : Option Held) (other : Option Wait) (w : Wait) → here n p None ≡ Some w → here n p other ≡ Some w
-here_some n None other w is = absurd (none-some w is)
-here_some n (Some h) other w is = by (eqb h.number n) is
-  where
-    by : (b : Bool) → cond b (Some h.wait) None ≡ Some w → cond b (Some h.wait) other ≡ Some w
-    by true e = e
-    by false e = absurd (none-some w e)
-
-pub here_none : (n : ℕ) (p : Option Held) (other : Option Wait) → here n p None ≡ None → here n p other ≡ other
+pub here_none : (n : ℕ) (p : Option Entry) (other : Option ℕ) → here n p None ≡ None → here n p other ≡ other
 here_none n None other is = refl
-here_none n (Some h) other is = by (eqb h.number n) is
+here_none n (Some e) other is = by (eqb e.number n) is
   where
-    by : (b : Bool) → cond b (Some h.wait) None ≡ None → cond b (Some h.wait) other ≡ other
-    by true e = absurd (none-some h.wait (sym e))
-    by false e = refl
+    by : (b : Bool) → cond b (Some e.thread) None ≡ None → cond b (Some e.thread) other ≡ other
+    by true e' = absurd (none-some e.thread (sym e'))
+    by false e' = refl
 
-unlike : {A : Type 0} (n m : ℕ) (x y : A) → (n ≡ m → ⊥) → cond (eqb n m) x y ≡ y
-unlike n m x y apart = by (eqb n m) refl
-  where
-    by : (b : Bool) → eqb n m ≡ b → cond b x y ≡ y
-    by true e = absurd (apart (grind (arith, nat_tests, e)))
-    by false e = refl
+module _ {A : Type 0} (n m : ℕ) (x y : A) where
+  pub unlike : (n ≡ m → ⊥) → cond (eqb n m) x y ≡ y
+  unlike apart = by (eqb n m) refl
+    where
+      by : (b : Bool) → eqb n m ≡ b → cond b x y ≡ y
+      by true e = absurd (apart (grind (arith, nat_tests, e)))
+      by false e = refl
 
-alike : {A : Type 0} (n m : ℕ) (x y : A) → n ≡ m → cond (eqb n m) x y ≡ x
-alike n m x y same = by (eqb n m) refl
-  where
-    by : (b : Bool) → eqb n m ≡ b → cond b x y ≡ x
-    by true e = refl
-    by false e = absurd (grind (arith, nat_tests, e, same))
-
--- a place has no wait of a number that has another place
-elsewhere : (ps : List (Option Held)) (f : ℕ → Option Wait) (i q : ℕ) (p : Option Held) (other : Option Wait) → IsPlaced ps f → get_or ps i None ≡ p → (home q ≡ i → ⊥) → here q p other ≡ other
-elsewhere ps f i q None other placed is apart = refl
-elsewhere ps f i q (Some h) other placed is apart = unlike h.number q (Some h.wait) other (λ e. apart (ap home (sym e) ∙ (placed.each i h is).0))
+  pub alike : n ≡ m → cond (eqb n m) x y ≡ x
+  alike same = by (eqb n m) refl
+    where
+      by : (b : Bool) → eqb n m ≡ b → cond b x y ≡ x
+      by true e = refl
+      by false e = absurd (grind (arith, nat_tests, e, same))
 
 -- a list changed at one place
-pub set_read : (ps : List (Option Held)) (k : ℕ) (y : Option Held) → k < length ps → (i : ℕ) → get_or (set ps k y) i None ≡ cond (eqb k i) y (get_or ps i None)
+pub set_read : {A : Type 0} (ps : List (Option A)) (k : ℕ) (y : Option A) → k < length ps → (i : ℕ) → get_or (set ps k y) i None ≡ cond (eqb k i) y (get_or ps i None)
 set_read ps k y lt i = elim (cases_eq i k) [
   | inl same ↦ ap (λ j. get_or (set ps k y) j None) same ∙ get_or-set_same ps k y None lt ∙ sym (alike k i y (get_or ps i None) (sym same))
   | inr apart ↦ get_or-set_other ps k i y None apart ∙ sym (unlike k i y (get_or ps i None) (λ e. apart (sym e)))
 ]
 
--- places that are as they were
-pub same_found : (ps qs : List (Option Held)) (f g : ℕ → Option Wait) → ((i : ℕ) → get_or qs i None ≡ get_or ps i None) → ((n : ℕ) → g n ≡ f n) → (n : ℕ) → found qs g n ≡ found ps f n
-same_found ps qs f g places others n = ap (λ p. here n p (g n)) (places (home n)) ∙ ap (here n (get_or ps (home n) None)) (others n)
+module _ (mask : ℕ) (ps qs : List (Option Entry)) (f g : ℕ → Option ℕ) where
+  -- places that are as they were
+  pub same_threads : ((i : ℕ) → get_or qs i None ≡ get_or ps i None) → ((n : ℕ) → g n ≡ f n) → (n : ℕ) → thread_in mask qs g n ≡ thread_in mask ps f n
+  same_threads places others n = ap (λ p. here n p (g n)) (places (home mask n)) ∙ ap (here n (get_or ps (home mask n) None)) (others n)
 
-pub same_placed : (ps qs : List (Option Held)) (f g : ℕ → Option Wait) → ((i : ℕ) → get_or qs i None ≡ get_or ps i None) → ((n : ℕ) → g n ≡ f n) → IsPlaced ps f → IsPlaced qs g
-same_placed ps qs f g places others placed = record { each = λ i held is. let old = placed.each i held (sym (places i) ∙ is) in (old.0, others held.number ∙ old.1) }
+  pub same_placed : ((i : ℕ) → get_or qs i None ≡ get_or ps i None) → ((n : ℕ) → g n ≡ f n) → IsPlaced mask ps f → IsPlaced mask qs g
+  same_placed places others placed = record { each = λ i entry is. let old = placed.each i entry (sym (places i) ∙ is) in (old.0, others entry.number ∙ old.1) }
 
--- a new wait at its place, and what stood there among the others
-pub inserted : (ps qs : List (Option Held)) (f g : ℕ → Option Wait) (h : Held) → IsPlaced ps f → ((i : ℕ) → get_or qs i None ≡ cond (eqb (home h.number) i) (Some h) (get_or ps i None)) → ((q : ℕ) → g q ≡ here q (get_or ps (home h.number) None) (f q)) → (q : ℕ) → found qs g q ≡ cond (eqb h.number q) (Some h.wait) (found ps f q)
-inserted ps qs f g h placed new moved q = elim (cases_eq (home h.number) (home q)) [
-  | inl same ↦ ap (λ p. here q p (g q)) (new (home q) ∙ alike (home h.number) (home q) (Some h) (get_or ps (home q) None) same)
-      ∙ ap (cond (eqb h.number q) (Some h.wait)) (moved q ∙ ap (λ i. here q (get_or ps i None) (f q)) same)
-  | inr apart ↦ ap (λ p. here q p (g q)) (new (home q) ∙ unlike (home h.number) (home q) (Some h) (get_or ps (home q) None) apart)
-      ∙ ap (here q (get_or ps (home q) None)) (moved q ∙ elsewhere ps f (home h.number) q (get_or ps (home h.number) None) (f q) placed refl (λ e. apart (sym e)))
-      ∙ sym (unlike h.number q (Some h.wait) (found ps f q) (λ e. apart (ap home e)))
-]
+-- a place has no thread of a number that has another place
+elsewhere : (mask : ℕ) (ps : List (Option Entry)) (f : ℕ → Option ℕ) (i q : ℕ) (p : Option Entry) (other : Option ℕ) → IsPlaced mask ps f → get_or ps i None ≡ p → (home mask q ≡ i → ⊥) → here q p other ≡ other
+elsewhere mask ps f i q None other placed is apart = refl
+elsewhere mask ps f i q (Some e) other placed is apart = unlike e.number q (Some e.thread) other (λ same. apart (ap (home mask) (sym same) ∙ (placed.each i e is).0))
 
-pub inserted_placed : (ps qs : List (Option Held)) (f g : ℕ → Option Wait) (h : Held) → found ps f h.number ≡ None → IsPlaced ps f → ((i : ℕ) → get_or qs i None ≡ cond (eqb (home h.number) i) (Some h) (get_or ps i None)) → ((q : ℕ) → g q ≡ here q (get_or ps (home h.number) None) (f q)) → IsPlaced qs g
-inserted_placed ps qs f g h free placed new moved = record { each = at }
-  where
-    at : (i : ℕ) (held : Held) → get_or qs i None ≡ Some held → (home held.number ≡ i) × (g held.number ≡ None)
-    at i held is = elim (cases_eq (home h.number) i) [
-      | inl same ↦
-          let it : Some h ≡ Some held = sym (new i ∙ alike (home h.number) i (Some h) (get_or ps i None) same) ∙ is in
-          let own : h ≡ held = same_Some h held it in
-          (sym (ap (λ (x : Held). home x.number) own) ∙ same, ap (λ (x : Held). g x.number) (sym own) ∙ moved h.number ∙ free)
-      | inr apart ↦
-          let was : get_or ps i None ≡ Some held = sym (new i ∙ unlike (home h.number) i (Some h) (get_or ps i None) apart) ∙ is in
-          let old = placed.each i held was in
-          (old.0, moved held.number ∙ elsewhere ps f (home h.number) held.number (get_or ps (home h.number) None) (f held.number) placed refl (λ e. apart (sym e ∙ old.0)) ∙ old.1)
+-- a new number at its place, and what stood there among the others
+module _ (mask : ℕ) (ps qs : List (Option Entry)) (f g : ℕ → Option ℕ) (e : Entry) (placed : IsPlaced mask ps f) (new : (i : ℕ) → get_or qs i None ≡ cond (eqb (home mask e.number) i) (Some e) (get_or ps i None)) (moved : (q : ℕ) → g q ≡ here q (get_or ps (home mask e.number) None) (f q)) where
+  abbrev at : ℕ
+  at = home mask e.number
+
+  pub inserted : (q : ℕ) → thread_in mask qs g q ≡ cond (eqb e.number q) (Some e.thread) (thread_in mask ps f q)
+  inserted q = elim (cases_eq at (home mask q)) [
+    | inl same ↦ ap (λ p. here q p (g q)) (new (home mask q) ∙ alike at (home mask q) (Some e) (get_or ps (home mask q) None) same)
+        ∙ ap (cond (eqb e.number q) (Some e.thread)) (moved q ∙ ap (λ i. here q (get_or ps i None) (f q)) same)
+    | inr apart ↦ ap (λ p. here q p (g q)) (new (home mask q) ∙ unlike at (home mask q) (Some e) (get_or ps (home mask q) None) apart)
+        ∙ ap (here q (get_or ps (home mask q) None)) (moved q ∙ elsewhere mask ps f at q (get_or ps at None) (f q) placed refl (λ is. apart (sym is)))
+        ∙ sym (unlike e.number q (Some e.thread) (thread_in mask ps f q) (λ is. apart (ap (home mask) is)))
+  ]
+
+  pub inserted_placed : thread_in mask ps f e.number ≡ None → IsPlaced mask qs g
+  inserted_placed free = record { each = there }
+    where
+      there : (i : ℕ) (entry : Entry) → get_or qs i None ≡ Some entry → (home mask entry.number ≡ i) × (g entry.number ≡ None)
+      there i entry is = elim (cases_eq at i) [
+        | inl same ↦
+            let it : Some e ≡ Some entry = sym (new i ∙ alike at i (Some e) (get_or ps i None) same) ∙ is in
+            let own : e ≡ entry = same_Some e entry it in
+            (sym (ap (λ (x : Entry). home mask x.number) own) ∙ same, ap (λ (x : Entry). g x.number) (sym own) ∙ moved e.number ∙ free)
+        | inr apart ↦
+            let was : get_or ps i None ≡ Some entry = sym (new i ∙ unlike at i (Some e) (get_or ps i None) apart) ∙ is in
+            let old = placed.each i entry was in
+            (old.0, moved entry.number ∙ elsewhere mask ps f at entry.number (get_or ps at None) (f entry.number) placed refl (λ is'. apart (sym is' ∙ old.0)) ∙ old.1)
+      ]
+
+-- a number is put at its place, of places of which there may be more
+module _ (mask : ℕ) (ps more : List (Option Entry)) (e : Entry) (x y : Option Entry) (room : mask < length more) (same : (i : ℕ) → get_or more i None ≡ get_or ps i None) (is : x ≡ get_or more (home mask e.number) x) where
+  place : home mask e.number < length more
+  place = let le = and_le_r e.number mask in omega arith
+
+  read : x ≡ get_or more (home mask e.number) None
+  read = is ∙ get_or_default more (home mask e.number) x None place
+
+  abbrev after : List (Option Entry)
+  after = set more (home mask e.number) y
+
+  module _ (f g : ℕ → Option ℕ) (placed : IsPlaced mask ps f) (new : y ≡ Some e) (moved : (n : ℕ) → g n ≡ here n x (f n)) where
+    old : IsPlaced mask more f
+    old = same_placed mask ps more f f same (λ n. refl) placed
+
+    written : (i : ℕ) → get_or after i None ≡ cond (eqb (home mask e.number) i) (Some e) (get_or more i None)
+    written i = set_read more (home mask e.number) y place i ∙ ap (λ z. cond (eqb (home mask e.number) i) z (get_or more i None)) new
+
+    others : (q : ℕ) → g q ≡ here q (get_or more (home mask e.number) None) (f q)
+    others q = moved q ∙ ap (λ p. here q p (f q)) read
+
+    pub put_threads : (q : ℕ) → thread_in mask after g q ≡ cond (eqb e.number q) (Some e.thread) (thread_in mask ps f q)
+    put_threads q = inserted mask more after f g e old written others q ∙ ap (cond (eqb e.number q) (Some e.thread)) (same_threads mask ps more f f same (λ n. refl) q)
+
+    pub put_placed : thread_in mask ps f e.number ≡ None → IsPlaced mask after g
+    put_placed free = inserted_placed mask more after f g e old written others (same_threads mask ps more f f same (λ n. refl) e.number ∙ free)
+
+  -- and where memory is wanting all is as it was
+  pub unput : y ≡ x → (i : ℕ) → get_or after i None ≡ get_or ps i None
+  unput kept i = set_read more (home mask e.number) y place i ∙ elim (cases_eq (home mask e.number) i) [
+    | inl it ↦ alike (home mask e.number) i y (get_or more i None) it ∙ kept ∙ read ∙ ap (λ j. get_or more j None) it ∙ same i
+    | inr apart ↦ unlike (home mask e.number) i y (get_or more i None) apart ∙ same i
+  ]
+
+-- a number leaves its place
+module _ (mask : ℕ) (ps qs : List (Option Entry)) (f : ℕ → Option ℕ) (n : ℕ) (e : Entry) (placed : IsPlaced mask ps f) (own : e.number ≡ n) (is : get_or ps (home mask n) None ≡ Some e) (new : (i : ℕ) → get_or qs i None ≡ cond (eqb (home mask n) i) None (get_or ps i None)) where
+  pub left_there : (q : ℕ) → thread_in mask qs f q ≡ cond (eqb n q) None (thread_in mask ps f q)
+  left_there q = elim (cases_eq (home mask n) (home mask q)) [
+    | inl same ↦ ap (λ p. here q p (f q)) (new (home mask q) ∙ alike (home mask n) (home mask q) None (get_or ps (home mask q) None) same) ∙ elim (cases_eq n q) [
+      | inl it ↦ ap f (sym it ∙ sym own) ∙ (placed.each (home mask n) e is).1 ∙ sym (alike n q None (thread_in mask ps f q) it)
+      | inr apart ↦ sym (unlike e.number q (Some e.thread) (f q) (λ z. apart (sym own ∙ z))) ∙ sym (ap (λ p. here q p (f q)) (ap (λ i. get_or ps i None) (sym same) ∙ is)) ∙ sym (unlike n q None (thread_in mask ps f q) apart)
     ]
+    | inr apart ↦ ap (λ p. here q p (f q)) (new (home mask q) ∙ unlike (home mask n) (home mask q) None (get_or ps (home mask q) None) apart) ∙ sym (unlike n q None (thread_in mask ps f q) (λ z. apart (ap (home mask) z)))
+  ]
 
--- the wait at its place changes to another, or none
-pub changed_there : (ps qs : List (Option Held)) (f : ℕ → Option Wait) (n : ℕ) (w : Wait) (x : Option Wait) (y : Option Held) → IsPlaced ps f → get_or ps (home n) None ≡ Some (record { number = n; wait = w }) → ((i : ℕ) → get_or qs i None ≡ cond (eqb (home n) i) y (get_or ps i None)) → ((q : ℕ) → f n ≡ None → here q y (f q) ≡ cond (eqb n q) x (f q)) → (q : ℕ) → found qs f q ≡ cond (eqb n q) x (found ps f q)
-changed_there ps qs f n w x y placed is new there q = elim (cases_eq (home n) (home q)) [
-  | inl same ↦ ap (λ p. here q p (f q)) (new (home q) ∙ alike (home n) (home q) y (get_or ps (home q) None) same) ∙ there q (placed.each (home n) (record { number = n; wait = w }) is).1
-      ∙ over (eqb n q) ∙ sym (ap (λ p. cond (eqb n q) x (here q p (f q))) (ap (λ i. get_or ps i None) (sym same) ∙ is))
-  | inr apart ↦ ap (λ p. here q p (f q)) (new (home q) ∙ unlike (home n) (home q) y (get_or ps (home q) None) apart) ∙ sym (unlike n q x (found ps f q) (λ e. apart (ap home e)))
-]
-  where
-    over : (b : Bool) → cond b x (f q) ≡ cond b x (cond b (Some w) (f q))
-    over true = refl
-    over false = refl
+  pub left_placed : IsPlaced mask qs f
+  left_placed = record {
+    each = λ i entry has. elim (cases_eq (home mask n) i) [
+      | inl same ↦ absurd (none-some entry (sym (new i ∙ alike (home mask n) i None (get_or ps i None) same) ∙ has))
+      | inr apart ↦ placed.each i entry (sym (new i ∙ unlike (home mask n) i None (get_or ps i None) apart) ∙ has)
+    ];
+  }
 
-pub changed_there_placed : (ps qs : List (Option Held)) (f : ℕ → Option Wait) (n : ℕ) (w : Wait) (y : Option Held) → IsPlaced ps f → get_or ps (home n) None ≡ Some (record { number = n; wait = w }) → ((i : ℕ) → get_or qs i None ≡ cond (eqb (home n) i) y (get_or ps i None)) → ((held : Held) → y ≡ Some held → held.number ≡ n) → IsPlaced qs f
-changed_there_placed ps qs f n w y placed is new own = record { each = at }
-  where
-    at : (i : ℕ) (held : Held) → get_or qs i None ≡ Some held → (home held.number ≡ i) × (f held.number ≡ None)
-    at i held has = elim (cases_eq (home n) i) [
-      | inl same ↦
-          let it : y ≡ Some held = sym (new i ∙ alike (home n) i y (get_or ps i None) same) ∙ has in
-          (ap home (own held it) ∙ same, ap f (own held it) ∙ (placed.each (home n) (record { number = n; wait = w }) is).1)
-      | inr apart ↦ placed.each i held (sym (new i ∙ unlike (home n) i y (get_or ps i None) apart) ∙ has)
-    ]
+-- a number leaves the others
+module _ (mask : ℕ) (ps : List (Option Entry)) (f g : ℕ → Option ℕ) (n : ℕ) (new : (q : ℕ) → g q ≡ cond (eqb n q) None (f q)) where
+  pub left_others : here n (get_or ps (home mask n) None) None ≡ None → (q : ℕ) → thread_in mask ps g q ≡ cond (eqb n q) None (thread_in mask ps f q)
+  left_others absent q = elim (cases_eq n q) [
+    | inl same ↦
+        ap (λ k. here k (get_or ps (home mask k) None) (g q)) (sym same) ∙ here_none n (get_or ps (home mask n) None) (g q) absent ∙ new q ∙ alike n q None (f q) same ∙ sym (alike n q None (thread_in mask ps f q) same)
+    | inr apart ↦ ap (here q (get_or ps (home mask q) None)) (new q ∙ unlike n q None (f q) apart) ∙ sym (unlike n q None (thread_in mask ps f q) apart)
+  ]
 
--- one of the others changes
-pub changed_other : (ps : List (Option Held)) (f g : ℕ → Option Wait) (n : ℕ) (x : Option Wait) → here n (get_or ps (home n) None) None ≡ None → ((q : ℕ) → g q ≡ cond (eqb n q) x (f q)) → (q : ℕ) → found ps g q ≡ cond (eqb n q) x (found ps f q)
-changed_other ps f g n x absent new q = elim (cases_eq n q) [
-  | inl same ↦
-      ap (λ m. here m (get_or ps (home m) None) (g q)) (sym same) ∙ here_none n (get_or ps (home n) None) (g q) absent ∙ new q ∙ alike n q x (f q) same ∙ sym (alike n q x (found ps f q) same)
-  | inr apart ↦ ap (here q (get_or ps (home q) None)) (new q ∙ unlike n q x (f q) apart) ∙ sym (unlike n q x (found ps f q) apart)
-]
+  pub left_others_placed : IsPlaced mask ps f → IsPlaced mask ps g
+  left_others_placed placed = record {
+    each = λ i entry is. let old = placed.each i entry is in (
+      old.0,
+      new entry.number ∙ elim (cases_eq n entry.number) [
+        | inl same ↦ alike n entry.number None (f entry.number) same
+        | inr apart ↦ unlike n entry.number None (f entry.number) apart ∙ old.1
+      ],
+    );
+  }
 
-pub changed_other_placed : (ps : List (Option Held)) (f g : ℕ → Option Wait) (n : ℕ) (x : Option Wait) → here n (get_or ps (home n) None) None ≡ None → IsPlaced ps f → ((q : ℕ) → g q ≡ cond (eqb n q) x (f q)) → IsPlaced ps g
-changed_other_placed ps f g n x absent placed new = record { each = at }
-  where
-    at : (i : ℕ) (held : Held) → get_or ps i None ≡ Some held → (home held.number ≡ i) × (g held.number ≡ None)
-    at i held is = (old.0, new held.number ∙ unlike n held.number x (f held.number) other ∙ old.1)
+-- the places of a longer mask: two numbers that have one there have one
+more_bits : (bits : ℕ) → (2 ^ bits - 1) * 2 + 1 ≡ 2 ^ (1 + bits) - 1
+more_bits bits = let some = pow_pos bits in let twice : 2 ^ (1 + bits) ≡ 2 * 2 ^ bits = pow-add 2 1 bits in omega (arith, some, twice)
+
+module _ (mask : ℕ) (ps : List (Option Entry)) (f : ℕ → Option ℕ) (bits : ℕ) (placed : IsPlaced mask ps f) (is : mask ≡ 2 ^ bits - 1) where
+  abbrev wide : ℕ
+  wide = mask * 2 + 1
+
+  pub wide_is : wide ≡ 2 ^ (1 + bits) - 1
+  wide_is = ap (λ m. m * 2 + 1) is ∙ more_bits bits
+
+  narrow : (n : ℕ) → home mask n ≡ home wide n % 2 ^ bits
+  narrow n = ap (bit_and n) is ∙ and_mask n bits ∙ sym (mod-mod-pow n 1 bits) ∙ ap (λ x. x % 2 ^ bits) (sym (ap (bit_and n) wide_is ∙ and_mask n (1 + bits)))
+
+  pub apart_wide : AreApart wide ps
+  apart_wide = record { apart = λ i j a b at_i at_j same. sym (placed.each i a at_i).0 ∙ narrow a.number ∙ ap (λ x. x % 2 ^ bits) same ∙ sym (narrow b.number) ∙ (placed.each j b at_j).0 }
+
+  -- what is found is the same
+  pub spread_threads : (qs : List (Option Entry)) → IsSpread wide ps qs → (q : ℕ) → thread_in wide qs f q ≡ thread_in mask ps f q
+  spread_threads qs spread q = by (get_or ps (home mask q) None) refl
+    where
+      new : (p : Option Entry) → get_or qs (home wide q) None ≡ p → (here q (get_or ps (home mask q) None) (f q) ≡ f q) → here q p (f q) ≡ f q
+      new None stands was = refl
+      new (Some e) stands was = elim (cases_eq e.number q) [
+        | inl same ↦
+            let from = (spread.only (home wide q) e stands).1 in
+            let place = (placed.each from.0 e from.1).0 in
+            let there : get_or ps (home mask q) None ≡ Some e = ap (λ k. get_or ps (home mask k) None) (sym same) ∙ ap (λ i. get_or ps i None) place ∙ from.1 in
+            ap (λ p. here q p (f q)) (sym there) ∙ was
+        | inr apart ↦ unlike e.number q (Some e.thread) (f q) apart
+      ]
+
+      by : (p : Option Entry) → get_or ps (home mask q) None ≡ p → thread_in wide qs f q ≡ here q p (f q)
+      by None stands = new (get_or qs (home wide q) None) refl (ap (λ p. here q p (f q)) stands)
+      by (Some e) stands = elim (cases_eq e.number q) [
+        | inl same ↦ ap (λ p. here q p (f q)) (ap (λ k. get_or qs (home wide k) None) (sym same) ∙ spread.all (home mask q) e stands)
+        | inr apart ↦ new (get_or qs (home wide q) None) refl (ap (λ p. here q p (f q)) stands ∙ unlike e.number q (Some e.thread) (f q) apart) ∙ sym (unlike e.number q (Some e.thread) (f q) apart)
+      ]
+
+  pub spread_placed : (qs : List (Option Entry)) → IsSpread wide ps qs → IsPlaced wide qs f
+  spread_placed qs spread = record { each = λ i e at. let from = spread.only i e at in (from.0, (placed.each from.1.0 e from.1.1).1) }
+
+-- the first so many of some places are spread
+pub record Spreads (count mask : ℕ) (from to : List (Option Entry)) : Type 0 where
+  pub all : (i : ℕ) (entry : Entry) → i < count → get_or from i None ≡ Some entry → get_or to (home mask entry.number) None ≡ Some entry
+  pub only : (i : ℕ) (entry : Entry) → get_or to i None ≡ Some entry → (home mask entry.number ≡ i) × ((j : ℕ) × (j < count) × (get_or from j None ≡ Some entry))
+
+module _ (mask : ℕ) (from to : List (Option Entry)) where
+  pub spreads_none : ((i : ℕ) → get_or to i None ≡ None) → Spreads 0 mask from to
+  spreads_none free = record { all = λ i e lt is. absurd (omega arith); only = λ i e is. absurd (none-some e (sym (free i) ∙ is)) }
+
+  pub spreads_all : (count : ℕ) → length from ≤ count → Spreads count mask from to → IsSpread mask from to
+  spreads_all count le s = record {
+    all = λ i e is. elim (cases_lt i count) [ inl lt ↦ s.all i e lt is | inr past ↦ absurd (none-some e (sym (get_or_past from i None (omega arith)) ∙ is)) ];
+    only = λ i e is. let o = s.only i e is in (o.0, (o.1.0, o.1.2));
+  }
+
+  module _ (i : ℕ) (s : Spreads i mask from to) where
+    pub spreads_empty : get_or from i None ≡ None → Spreads (i + 1) mask from to
+    spreads_empty none = record {
+      all = λ j e lt is. elim (cases_eq j i) [ inl same ↦ absurd (none-some e (sym (ap (λ k. get_or from k None) same ∙ none) ∙ is)) | inr other ↦ s.all j e (omega arith) is ];
+      only = λ j e is. let o = s.only j e is in (o.0, (o.1.0, (let lt = o.1.1 in omega (arith, lt)), o.1.2));
+    }
+
+    pub spreads_one : (e : Entry) → AreApart mask from → mask < length to → get_or from i None ≡ Some e → Spreads (i + 1) mask from (set to (home mask e.number) (Some e))
+    spreads_one e apart room is = record {
+      all = λ j x lt at. elim (cases_eq j i) [
+        | inl same ↦ let it : e ≡ x = same_Some e x (sym is ∙ ap (λ k. get_or from k None) (sym same) ∙ at) in
+            ap (λ (y : Entry). get_or after (home mask y.number) None) (sym it) ∙ get_or-set_same to (home mask e.number) (Some e) None (fits e) ∙ ap Some it
+        | inr other ↦ get_or-set_other to (home mask e.number) (home mask x.number) (Some e) None (λ z. other (apart.apart j i x e at is z)) ∙ s.all j x (omega arith) at
+      ];
+      only = λ k x at. elim (cases_eq k (home mask e.number)) [
+        | inl same ↦ let it : e ≡ x = same_Some e x (sym (ap (λ j. get_or after j None) same ∙ get_or-set_same to (home mask e.number) (Some e) None (fits e)) ∙ at) in
+            (sym (ap (λ (y : Entry). home mask y.number) it) ∙ sym same, (i, omega arith, is ∙ ap Some it))
+        | inr other ↦ let o = s.only k x (sym (get_or-set_other to (home mask e.number) k (Some e) None other) ∙ at) in (o.0, (o.1.0, (let lt = o.1.1 in omega (arith, lt)), o.1.2))
+      ];
+    }
       where
-        old : (home held.number ≡ i) × (f held.number ≡ None)
-        old = placed.each i held is
+        after : List (Option Entry)
+        after = set to (home mask e.number) (Some e)
 
-        other : n ≡ held.number → ⊥
-        other e =
-            let there : get_or ps (home n) None ≡ Some held = ap (λ (m : ℕ). get_or ps (home m) None) e ∙ ap (λ (j : ℕ). get_or ps j None) old.0 ∙ is in
-            let none : here n (Some held) None ≡ None = ap (λ (p : Option Held). here n p None) (sym there) ∙ absent in
-            let some : here n (Some held) None ≡ Some held.wait = alike held.number n (Some held.wait) None (sym e) in
-            cc (none, some)
+        fits : (x : Entry) → home mask x.number < length to
+        fits x = let le = and_le_r x.number mask in omega (arith, le)
 
--- where a wait stands, and where it does not
-standing : (n : ℕ) (p : Option Held) → is_some (here n p None) ≡ true → (w : Wait) × (p ≡ Some (record { number = n; wait = w }))
-standing n None some = absurd (cc (some))
-standing n (Some h) some = (h.wait, ap (λ (m : ℕ). Some (record { number = m; wait = h.wait })) (by (eqb h.number n) refl some))
+-- a number stands at a place
+pub stands_there : (n : ℕ) (p : Option Entry) → is_some (here n p None) ≡ true → (e : Entry) × (p ≡ Some e) × (e.number ≡ n)
+stands_there n None some = absurd (cc (some))
+stands_there n (Some e) some = (e, refl, by (eqb e.number n) refl some)
   where
-    by : (b : Bool) → eqb h.number n ≡ b → is_some (cond b (Some h.wait) None) ≡ true → h.number ≡ n
-    by true e some' = grind (arith, nat_tests, e)
-    by false e some' = absurd (cc (some'))
+    by : (b : Bool) → eqb e.number n ≡ b → is_some (cond b (Some e.thread) None) ≡ true → e.number ≡ n
+    by true is some' = grind (arith, nat_tests, is)
+    by false is some' = absurd (cc (some'))
 
-pub absent : (o : Option Wait) → is_some o ≡ false → o ≡ None
-absent None e = refl
-absent (Some w) e = absurd (cc (e))
-
-pub gone : (f : ℕ → Option Wait) (n q : ℕ) → f n ≡ None → f q ≡ cond (eqb n q) None (f q)
-gone f n q none = elim (cases_eq n q) [
-  | inl same ↦ ap f (sym same) ∙ none ∙ sym (alike n q None (f q) same)
-  | inr apart ↦ sym (unlike n q None (f q) apart)
-]
-
--- what stands at its place is what is found
-pub found_there : (ps : List (Option Held)) (f : ℕ → Option Wait) (n : ℕ) (w : Wait) → get_or ps (home n) None ≡ Some (record { number = n; wait = w }) → found ps f n ≡ Some w
-found_there ps f n w is = ap (λ p. here n p (f n)) is ∙ alike n n (Some w) (f n) refl
-
--- the wait that stands at its place is answered
-module _ (ps qs : List (Option Held)) (f : ℕ → Option Wait) (n code : ℕ) (placed : IsPlaced ps f) (some : is_some (here n (get_or ps (home n) None) None) ≡ true) (new : (i : ℕ) → get_or qs i None ≡ cond (eqb (home n) i) (answered_here n code (get_or ps (home n) None)) (get_or ps i None)) where
-  abbrev there : (w : Wait) × (get_or ps (home n) None ≡ Some (record { number = n; wait = w }))
-  there = standing n (get_or ps (home n) None) some
-
-  abbrev after : Held
-  after = record { number = n; wait = record there.0 { state = Answered code } }
-
-  at : (i : ℕ) → get_or qs i None ≡ cond (eqb (home n) i) (Some after) (get_or ps i None)
-  at i = new i ∙ ap (λ z. cond (eqb (home n) i) z (get_or ps i None)) (ap (answered_here n code) there.1 ∙ alike n n (Some after) (Some (record { number = n; wait = there.0 })) refl)
-
-  pub answered_there : (q : ℕ) → found qs f q ≡ cond (eqb n q) (answered (found ps f n) code) (found ps f q)
-  answered_there q = changed_there ps qs f n there.0 (Some after.wait) (Some after) placed there.1 at (λ m none. refl) q
-      ∙ ap (λ z. cond (eqb n q) z (found ps f q)) (sym (ap (λ o. answered o code) (found_there ps f n there.0 there.1)))
-
-  pub answered_there_placed : IsPlaced qs f
-  answered_there_placed = changed_there_placed ps qs f n there.0 (Some after) placed there.1 at (λ held is. sym (ap (λ (x : Held). x.number) (same_Some after held is)))
-
--- only given numbers have a value, after a change
-pub sparse_less : (n k : ℕ) (f g : ℕ → Option Wait) → ((q : ℕ) → g q ≡ cond (eqb k q) None (f q)) → IsSparse n f → IsSparse n g
-sparse_less n k f g changed s = record {
-  zero_has_none = changed 0 ∙ over (eqb k 0) (f 0) s.zero_has_none;
-  past_has_none = λ m past. changed m ∙ over (eqb k m) (f m) (s.past_has_none m past);
-}
+pub stands_none : (n : ℕ) (p : Option Entry) → is_some (here n p None) ≡ false → here n p None ≡ None
+stands_none n p none = by (here n p None) none
   where
-    over : (b : Bool) (o : Option Wait) → o ≡ None → cond b None o ≡ None
-    over true o e = refl
-    over false o e = e
-
-pub sparse_changed : (n k : ℕ) (x : Option Wait) (f g : ℕ → Option Wait) → 0 < k → k ≤ n → ((q : ℕ) → g q ≡ cond (eqb k q) x (f q)) → IsSparse n f → IsSparse n g
-sparse_changed n k x f g some le changed s = record {
-  zero_has_none = changed 0 ∙ unlike k 0 x (f 0) (λ e. omega arith) ∙ s.zero_has_none;
-  past_has_none = λ m past. changed m ∙ unlike k m x (f m) (λ e. omega arith) ∙ s.past_has_none m past;
-}
-
-pub sparse_more : (n k : ℕ) (x : Option Wait) (f g : ℕ → Option Wait) → k ≡ n + 1 → ((q : ℕ) → g q ≡ cond (eqb k q) x (f q)) → IsSparse n f → IsSparse k g
-sparse_more n k x f g is changed s = record {
-  zero_has_none = changed 0 ∙ unlike k 0 x (f 0) (λ e. omega arith) ∙ s.zero_has_none;
-  past_has_none = λ m past. changed m ∙ unlike k m x (f m) (λ e. omega arith) ∙ s.past_has_none m (omega arith);
-}
-
-pub none_held : (n : ℕ) (held : Held) → None ≡ Some held → held.number ≡ n
-none_held n held is = absurd (none-some held is)
-
--- a number that is pending was given
-pub pending_given : (n k : ℕ) (f : ℕ → Option Wait) → is_pending (f k) ≡ true → IsSparse n f → (0 < k) × (k ≤ n)
-pending_given n k f pending s = by (f k) refl pending
-  where
-    by : (o : Option Wait) → f k ≡ o → is_pending o ≡ true → (0 < k) × (k ≤ n)
-    by None e p = absurd (cc (p))
-    by (Some w) e p = is_given n f k w e s
+    by : (o : Option ℕ) → is_some o ≡ false → o ≡ None
+    by None is = refl
+    by (Some t) is = absurd (cc (is))

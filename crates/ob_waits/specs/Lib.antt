@@ -2,7 +2,7 @@ pub mod Objects
 pub mod Waits
 pub mod Rules
 pub mod Listed
-pub mod Places
+pub mod Seats
 pub mod Numbers
 pub mod Roster
 pub mod Ends

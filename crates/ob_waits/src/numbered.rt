@@ -2,39 +2,37 @@ ghost use Rattle.std.specs.Prelude.{◌≡◌, ◌+◌, ◌<◌, ◌≤◌, true
 ghost use Rattle.std.specs.Option.{option_copied};
 ghost use Rattle.ob_waits.specs.Answers.{answer_of, is_answered};
 ghost use Rattle.ob_waits.specs.Deadlines.{is_overdue};
-ghost use Rattle.ob_waits.specs.Waits.{answered, is_pending};
+ghost use Rattle.ob_waits.specs.Waits.{answered, is_pending, number_of};
 
 use crate::answer::Answer;
+use crate::finder::{Entry, Finder};
 use crate::held::Held;
-use crate::places;
+use crate::seats;
 use crate::wait::{State, Wait};
 use std::alloc::{AllocError, Global};
-use std::collections::HashMap;
 use std::marker::Model;
 
 /// The waits by their numbers, from 1 on. A wait that is over takes no room.
 ///
-/// A new wait stands at the place that its number gives, where it is found at once. The wait that stood
-/// there before goes to a hash map, which thus has only waits that last.
+/// A wait stands at its thread, which the number gives.
 #[derive(Drop)]
 pub(crate) struct Numbered {
     given: u32,
-    places: Vec<Option<Held>>,
-    others: HashMap<u32, Wait>,
+    seats: Vec<Option<Held>>,
+    finder: Finder,
 }
 
 impl Model for Numbered {
-    ghost use Rattle.std.specs.Prelude.{List, Option, suc, nat_eq};
-    ghost use Rattle.std.specs.HashMap.{get};
+    ghost use Rattle.std.specs.Prelude.{List, Option, suc};
     ghost use Rattle.ob_waits.specs.declared.wait.Wait.{Wait};
-    ghost use Rattle.ob_waits.specs.Listed.{listed, IsSparse};
-    ghost use Rattle.ob_waits.specs.Places.{found, IsPlaced};
+    ghost use Rattle.ob_waits.specs.Listed.{listed};
+    ghost use Rattle.ob_waits.specs.Seats.{found, thread_at, AreSeated, IsFinder};
 
     ghost Value = { List (Option Wait) };
 
-    ghost view = { λ l. listed (suc l.given) (found l.places.items (get nat_eq l.others)) };
+    ghost view = { λ l. listed (suc l.given) (found l.seats.items (thread_at l.finder)) };
 
-    ghost invariant = { λ l. IsSparse l.given (found l.places.items (get nat_eq l.others)) × IsPlaced l.places.items (get nat_eq l.others) };
+    ghost invariant = { λ l. AreSeated l.given l.seats.items (thread_at l.finder) × IsFinder l.finder };
 }
 
 impl Numbered {
@@ -43,8 +41,8 @@ impl Numbered {
     {
         Numbered {
             given: 0,
-            places: Vec::new(alloc),
-            others: HashMap::new(alloc),
+            seats: Vec::new(alloc),
+            finder: Finder::new(alloc),
         }
     }
 
@@ -59,10 +57,10 @@ impl Numbered {
     pub(crate) fn get(&self, number: u32) -> Option<&Wait>
         ensures { option_copied result ≡ slice_index_or self.now number None }
     {
-        if let Some(wait) = places::find(self.places.as_slice(), number) {
-            return Some(wait);
-        }
-        self.others.get(&number)
+        let Some(thread) = self.finder.get(number) else {
+            return None;
+        };
+        seats::find(self.seats.as_slice(), thread, number)
     }
 
     /// Whether the wait of a number is pending.
@@ -119,14 +117,18 @@ impl Numbered {
         }
     }
 
-    /// Gives the next number to a wait.
+    /// Gives the next number to the wait of a thread that has none.
     pub(crate) fn push(&mut self, wait: Wait) -> Result<(), AllocError>
-        requires { length self.old < 4294967296 }
+        requires few { length self.old < 4294967296 }
+        requires alone { number_of wait.thread self.old ≡ None }
         ensures ok { OnOk result (self.new ≡ self.old ++ Some wait ∷ []) }
         ensures err { OnErr result (self.new ≡ self.old) }
     {
         let number = self.given + 1;
-        places::put(&mut self.places, &mut self.others, Held { number, wait })?;
+        let thread = wait.thread;
+        seats::make_room(&mut self.seats, thread)?;
+        self.finder.put(Entry { number, thread })?;
+        self.seats[thread as usize] = Some(Held { number, wait });
         self.given = number;
         Ok(())
     }
@@ -136,13 +138,10 @@ impl Numbered {
         requires { is_pending (slice_index_or self.old number None) ≡ true }
         ensures { self.new ≡ slice_set self.old number (answered (slice_index_or self.old number None) code) }
     {
-        if places::answer(&mut self.places, number, code) {
-            return;
-        }
-        let Some(wait) = self.others.get_mut(&number) else {
+        let Some(thread) = self.finder.get(number) else {
             unreachable!()
         };
-        wait.answer(code);
+        seats::answer(&mut self.seats, thread, number, code);
     }
 
     /// Takes the wait of a number away.
@@ -150,9 +149,10 @@ impl Numbered {
         ensures value { result ≡ slice_index_or self.old number None }
         ensures removed { self.new ≡ slice_set self.old number None }
     {
-        if let Some(wait) = places::take(&mut self.places, number) {
-            return Some(wait);
-        }
-        self.others.remove(&number)
+        let Some(thread) = self.finder.get(number) else {
+            return None;
+        };
+        self.finder.remove(number);
+        seats::take(&mut self.seats, thread, number)
     }
 }

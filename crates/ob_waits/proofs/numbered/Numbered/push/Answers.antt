@@ -1,34 +1,58 @@
-use Rattle.std.proofs.Common.{◌≡◌, ℕ, Some, None, Option, List, [], ◌∷◌, ◌+◌, ◌++◌, length, nat_eq, arith, ap, suc, ◌∙◌, refl}
-use Rattle.std.specs.HashMap.{get}
+use Rattle.std.proofs.Common.{◌≡◌, ◌+◌, ◌++◌, ◌∙◌, [], ◌∷◌, ℕ, suc, List, None, Option, Some, ap, arith, cond, eqb, get_or, length, refl, set, subst, sym}
+use Rattle.ob_waits.specs.declared.wait.Wait.{Wait}
 use Rattle.ob_waits.specs.declared.held.Held.{Held}
-use Rattle.ob_waits.specs.Places.{found}
+use Rattle.ob_waits.specs.Seats.{found, thread_at}
+use Rattle.ob_waits.specs.Waits.{number_of}
 use Rattle.ob_waits.proofs.ListedLaws.{length-listed, listed_inserted}
-use Rattle.ob_waits.proofs.PlaceLaws.{inserted, inserted_placed, sparse_more}
+use Rattle.ob_waits.proofs.PlaceLaws.{set_read}
+use Rattle.ob_waits.proofs.SeatLaws.{free_seat, same_seated, same_found, took_found, took_seated}
 use Rattle.ob_waits.proofs.numbered.Numbered.push.Goals as goal
 
 pub overflow_add-number : goal.overflow_add-number
-overflow_add-number c = let le = c.requires in omega (arith, ap length c.self.view_is, length-listed (suc c.self.inside.given) (found c.self.inside.places.items (get nat_eq c.self.inside.others)))
+overflow_add-number c = let le = c.requires.few in omega (arith, ap length c.self.view_is, length-listed (suc c.self.inside.given) (found c.self.inside.seats.items (thread_at c.self.inside.finder)))
+
+pub put-requires : goal.put-requires
+put-requires c = record { finder = c.self.invariant.1; free = c.self.invariant.0.past (c.self.inside.given + 1) (omega arith) }
+
+pub invariant_of-self : goal.invariant_of-self
+invariant_of-self c =
+    let s = c.self.inside in (
+      same_seated s.given s.seats.items c.make_room.new.seats.items (thread_at s.finder) (thread_at s.finder) c.make_room.ensures.same (λ n. refl) c.self.invariant.0,
+      c.self.invariant.1,
+    )
+
+pub invariant_of-self-in_err-put : goal.invariant_of-self-in_err-put
+invariant_of-self-in_err-put c =
+    let s = c.self.inside in (
+      same_seated s.given s.seats.items c.make_room.new.seats.items (thread_at s.finder) (thread_at c.put.new.self) c.make_room.ensures.same c.in_err-put.ensures.err c.self.invariant.0,
+      c.in_err-put.ensures.finder,
+    )
 
 pub invariant_of-self-2 : goal.invariant_of-self-2
 invariant_of-self-2 c =
-    let ps : List (Option Held) = c.self.inside.places.items in
-    let qs : List (Option Held) = c.put.new.places.items in
-    let f = get nat_eq c.self.inside.others in
-    let g = get nat_eq c.put.new.others in
-    let n : ℕ = c.self.inside.given + 1 in
-    let held : Held = record { number = n; wait = c.args.wait } in
-    let free : found ps f n ≡ None = c.self.invariant.0.past_has_none n (omega arith) in (
-      sparse_more c.self.inside.given n (Some c.args.wait) (found ps f) (found qs g) refl (inserted ps qs f g held c.self.invariant.1 c.in_ok-put.ensures.placed c.in_ok-put.ensures.moved) c.self.invariant.0,
-      inserted_placed ps qs f g held free c.self.invariant.1 c.in_ok-put.ensures.placed c.in_ok-put.ensures.moved,
+    let s = c.self.inside in
+    let w = c.args.wait in
+    let n : ℕ = s.given + 1 in
+    let more : List (Option Held) = c.make_room.new.seats.items in
+    let held : Held = record { number = n; wait = w } in
+    let old = same_seated s.given s.seats.items more (thread_at s.finder) (thread_at s.finder) c.make_room.ensures.same (λ q. refl) c.self.invariant.0 in
+    let free : get_or more w.thread None ≡ None = c.make_room.ensures.same w.thread
+    ∙ free_seat s.given s.seats.items (thread_at s.finder) c.self.invariant.0 w.thread (subst (λ (ws : List (Option Wait)). number_of w.thread ws ≡ None) (sym c.self.view_is) c.requires.alone) in (
+      took_seated s.given n w.thread w more (set more w.thread (Some held)) (thread_at s.finder) (thread_at c.put.new.self) old refl refl free (set_read more w.thread (Some held) c.in_ok-make_room.ensures.room) c.in_ok-put.ensures.ok,
+      c.in_ok-put.ensures.finder,
     )
 
 pub returns-clause-ok : goal.returns-clause-ok
 returns-clause-ok c =
-    let ps : List (Option Held) = c.self.inside.places.items in
-    let qs : List (Option Held) = c.put.new.places.items in
-    let f = get nat_eq c.self.inside.others in
-    let g = get nat_eq c.put.new.others in
-    let n : ℕ = c.self.inside.given + 1 in
-    let held : Held = record { number = n; wait = c.args.wait } in
-    listed_inserted c.self.inside.given n (found ps f) (found qs g) (Some c.args.wait) (omega arith) (inserted ps qs f g held c.self.invariant.1 c.in_ok-put.ensures.placed c.in_ok-put.ensures.moved)
-    ∙ ap (λ ws. ws ++ Some c.args.wait ∷ []) c.self.view_is
+    let s = c.self.inside in
+    let w = c.args.wait in
+    let n : ℕ = s.given + 1 in
+    let more : List (Option Held) = c.make_room.new.seats.items in
+    let held : Held = record { number = n; wait = w } in
+    let old = same_seated s.given s.seats.items more (thread_at s.finder) (thread_at s.finder) c.make_room.ensures.same (λ q. refl) c.self.invariant.0 in
+    let free : get_or more w.thread None ≡ None = c.make_room.ensures.same w.thread
+    ∙ free_seat s.given s.seats.items (thread_at s.finder) c.self.invariant.0 w.thread (subst (λ (ws : List (Option Wait)). number_of w.thread ws ≡ None) (sym c.self.view_is) c.requires.alone) in
+    let took = took_found s.given n w.thread w more (set more w.thread (Some held)) (thread_at s.finder) (thread_at c.put.new.self) old refl refl free (set_read more w.thread (Some held) c.in_ok-make_room.ensures.room) c.in_ok-put.ensures.ok in
+    listed_inserted s.given n (found s.seats.items (thread_at s.finder)) (found (set more w.thread (Some held)) (thread_at c.put.new.self)) (Some w) (omega arith)
+    (λ q. took q ∙ ap (cond (eqb n q) (Some w)) (same_found s.given s.seats.items more (thread_at s.finder) (thread_at s.finder) c.make_room.ensures.same (λ k. refl) q))
+    ∙ ap (λ ws. ws ++ Some w ∷ []) c.self.view_is

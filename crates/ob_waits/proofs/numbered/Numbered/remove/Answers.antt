@@ -1,63 +1,40 @@
-use Rattle.std.proofs.Common.{◌≡◌, ℕ, None, Option, List, nat_eq, ap, get_or, set, sym, refl, ◌∙◌, cond, eqb}
-use Rattle.std.specs.HashMap.{get}
-use Rattle.ob_waits.specs.declared.held.Held.{Held}
-use Rattle.ob_waits.specs.Places.{home, found}
-use Rattle.ob_waits.proofs.ListedLaws.{value_at, listed_removed}
-use Rattle.ob_waits.proofs.PlaceLaws.{here_none, changed_there, changed_there_placed, changed_other, changed_other_placed, same_found, same_placed, gone, found_there, sparse_less, none_held}
+use Rattle.std.proofs.Common.{◌≡◌, ◌∙◌, ℕ, None, Option, ap, get_or, set, sym}
+use Rattle.ob_waits.specs.Seats.{found, seat_of, seated, thread_at}
+use Rattle.ob_waits.proofs.ListedLaws.{listed_removed}
+use Rattle.ob_waits.proofs.SeatLaws.{left_found, left_seated, number_reads, same_absent}
 use Rattle.ob_waits.proofs.numbered.Numbered.remove.Goals as goal
+
+pub returns-in_default-clause-value : goal.returns-in_default-clause-value
+returns-in_default-clause-value c =
+    let s = c.self.inside in
+    let n = c.args.number in
+    ap (λ (o : Option ℕ). seated n (seat_of s.seats.items o)) c.in_default.ensures
+    ∙ sym (number_reads s.given s.seats.items (thread_at s.finder) c.self.invariant.0 n) ∙ ap (λ ws. get_or ws n None) c.self.view_is
+
+pub returns-in_default-clause-removed : goal.returns-in_default-clause-removed
+returns-in_default-clause-removed c =
+    let s = c.self.inside in
+    let n = c.args.number in
+    let f = found s.seats.items (thread_at s.finder) in
+    let none : f n ≡ None = ap (λ (o : Option ℕ). seated n (seat_of s.seats.items o)) (sym c.in_default.ensures) in
+    sym c.self.view_is ∙ listed_removed s.given f f n (same_absent f n none) ∙ ap (λ ws. set ws n None) c.self.view_is
 
 pub invariant_of-self : goal.invariant_of-self
 invariant_of-self c =
-    let ps : List (Option Held) = c.self.inside.places.items in
-    let qs : List (Option Held) = c.take.new.places.items in
-    let f = get nat_eq c.self.inside.others in
-    let n = c.args.number in
-    let changed : (q : ℕ) → found qs f q ≡ cond (eqb n q) None (found ps f q) = changed_there ps qs f n c.in-Some.wait None None c.self.invariant.1 c.in-Some.ensures.taken c.in-Some.ensures.left (λ q none. gone f n q none) in (
-      sparse_less c.self.inside.given n (found ps f) (found qs f) changed c.self.invariant.0,
-      changed_there_placed ps qs f n c.in-Some.wait None c.self.invariant.1 c.in-Some.ensures.taken c.in-Some.ensures.left (none_held n),
-    )
-
-pub returns-in-Some-clause-value : goal.returns-in-Some-clause-value
-returns-in-Some-clause-value c =
-    let ps : List (Option Held) = c.self.inside.places.items in
-    let f = get nat_eq c.self.inside.others in
-    let n = c.args.number in
-    sym (found_there ps f n c.in-Some.wait c.in-Some.ensures.taken) ∙ sym (value_at c.self.inside.given (found ps f) n c.self.invariant.0) ∙ ap (λ ws. get_or ws n None) c.self.view_is
-
-pub returns-in-Some-clause-removed : goal.returns-in-Some-clause-removed
-returns-in-Some-clause-removed c =
-    let ps : List (Option Held) = c.self.inside.places.items in
-    let qs : List (Option Held) = c.take.new.places.items in
-    let f = get nat_eq c.self.inside.others in
-    let n = c.args.number in
-    let changed : (q : ℕ) → found qs f q ≡ cond (eqb n q) None (found ps f q) = changed_there ps qs f n c.in-Some.wait None None c.self.invariant.1 c.in-Some.ensures.taken c.in-Some.ensures.left (λ q none. gone f n q none) in
-    listed_removed c.self.inside.given (found ps f) (found qs f) n changed ∙ ap (λ ws. set ws n None) c.self.view_is
-
-pub invariant_of-self-2 : goal.invariant_of-self-2
-invariant_of-self-2 c =
-    let ps : List (Option Held) = c.self.inside.places.items in
-    let qs : List (Option Held) = c.take.new.places.items in
-    let f = get nat_eq c.self.inside.others in
-    let g = get nat_eq c.remove.new.self in
-    let n = c.args.number in
-    let changed : (q : ℕ) → found qs g q ≡ cond (eqb n q) None (found ps f q) = λ q. same_found ps qs g g c.in_default.ensures.same (λ m. refl) q ∙ changed_other ps f g n None c.in_default.ensures.absent c.remove.ensures.updates.0 q in (
-      sparse_less c.self.inside.given n (found ps f) (found qs g) changed c.self.invariant.0,
-      same_placed ps qs g g c.in_default.ensures.same (λ m. refl) (changed_other_placed ps f g n None c.in_default.ensures.absent c.self.invariant.1 c.remove.ensures.updates.0),
-    )
+    let s = c.self.inside in
+    (left_seated s.given c.args.number c.in-Some.thread s.seats.items c.take.new.seats.items (thread_at s.finder) (thread_at c.remove.new.self) c.self.invariant.0 (sym c.in-Some.ensures) c.take.ensures.left c.remove.ensures.removed, c.remove.ensures.finder)
 
 pub returns-clause-value : goal.returns-clause-value
 returns-clause-value c =
-    let ps : List (Option Held) = c.self.inside.places.items in
-    let f = get nat_eq c.self.inside.others in
+    let s = c.self.inside in
     let n = c.args.number in
-    c.remove.ensures.value ∙ sym (here_none n (get_or ps (home n) None) (f n) c.in_default.ensures.absent) ∙ sym (value_at c.self.inside.given (found ps f) n c.self.invariant.0) ∙ ap (λ ws. get_or ws n None) c.self.view_is
+    c.take.ensures.taken ∙ ap (λ (o : Option ℕ). seated n (seat_of s.seats.items o)) c.in-Some.ensures
+    ∙ sym (number_reads s.given s.seats.items (thread_at s.finder) c.self.invariant.0 n) ∙ ap (λ ws. get_or ws n None) c.self.view_is
 
 pub returns-clause-removed : goal.returns-clause-removed
 returns-clause-removed c =
-    let ps : List (Option Held) = c.self.inside.places.items in
-    let qs : List (Option Held) = c.take.new.places.items in
-    let f = get nat_eq c.self.inside.others in
-    let g = get nat_eq c.remove.new.self in
+    let s = c.self.inside in
     let n = c.args.number in
-    let changed : (q : ℕ) → found qs g q ≡ cond (eqb n q) None (found ps f q) = λ q. same_found ps qs g g c.in_default.ensures.same (λ m. refl) q ∙ changed_other ps f g n None c.in_default.ensures.absent c.remove.ensures.updates.0 q in
-    listed_removed c.self.inside.given (found ps f) (found qs g) n changed ∙ ap (λ ws. set ws n None) c.self.view_is
+    listed_removed s.given (found s.seats.items (thread_at s.finder)) (found c.take.new.seats.items (thread_at c.remove.new.self)) n
+    (left_found s.given n c.in-Some.thread s.seats.items c.take.new.seats.items (thread_at s.finder) (thread_at c.remove.new.self) c.self.invariant.0 (sym c.in-Some.ensures) c.take.ensures.left c.remove.ensures.removed)
+    ∙ ap (λ ws. set ws n None) c.self.view_is

@@ -1,0 +1,78 @@
+-- Waits by number: each stands at its thread, and the thread is found by the number, at a place or in a map.
+use Rattle.std.specs.Prelude.{◌≡◌, ℕ, ◌==◌, ◌<◌, ◌≤◌, ◌-◌, ◌^◌, List, Option, Some, None, if◌then◌else◌, nat_eq, slice_index_or}
+use Rattle.std.specs.Int.Bits.{bit_and}
+use Rattle.std.specs.HashMap.{get}
+use Rattle.ob_waits.specs.declared.wait.Wait.{Wait}
+use Rattle.ob_waits.specs.declared.wait.State.TheVariants.{Answered}
+use Rattle.ob_waits.specs.declared.held.Held.{Held}
+use Rattle.ob_waits.specs.declared.finder.Entry.{Entry}
+use Rattle.ob_waits.specs.declared.finder.Finder.{Finder}
+
+-- the place of a number
+abbrev pub home : ℕ → ℕ → ℕ
+home mask number = bit_and number mask
+
+-- the thread of a number, where it stands at a place; else another
+abbrev pub here : ℕ → Option Entry → Option ℕ → Option ℕ
+here number None other = other
+here number (Some entry) other = if entry.number == number then Some entry.thread else other
+
+-- the thread of a number, wherever that stands
+abbrev pub thread_in : ℕ → List (Option Entry) → (ℕ → Option ℕ) → ℕ → Option ℕ
+thread_in mask places others number = here number (slice_index_or places (home mask number) None) (others number)
+
+abbrev pub thread_at : Finder → ℕ → Option ℕ
+thread_at finder number = thread_in finder.mask finder.places.items (get nat_eq finder.others) number
+
+-- a number stands at its own place, and then it is not among the others
+pub record IsPlaced (mask : ℕ) (places : List (Option Entry)) (others : ℕ → Option ℕ) : Type 0 where
+  pub each : (i : ℕ) (entry : Entry) → slice_index_or places i None ≡ Some entry → (home mask entry.number ≡ i) × (others entry.number ≡ None)
+
+-- and the mask is that of some low bits
+pub record IsFinder (finder : Finder) : Type 0 where
+  pub placed : IsPlaced finder.mask finder.places.items (get nat_eq finder.others)
+  pub bits : ℕ
+  pub mask : finder.mask ≡ 2 ^ bits - 1
+
+-- no two of some numbers have one place under another mask
+pub record AreApart (mask : ℕ) (places : List (Option Entry)) : Type 0 where
+  pub apart : (i j : ℕ) (a b : Entry) → slice_index_or places i None ≡ Some a → slice_index_or places j None ≡ Some b → home mask a.number ≡ home mask b.number → i ≡ j
+
+-- what stands at some places stands at others, at those that it has under another mask, and nothing else does
+pub record IsSpread (mask : ℕ) (from to : List (Option Entry)) : Type 0 where
+  pub all : (i : ℕ) (entry : Entry) → slice_index_or from i None ≡ Some entry → slice_index_or to (home mask entry.number) None ≡ Some entry
+  pub only : (i : ℕ) (entry : Entry) → slice_index_or to i None ≡ Some entry → (home mask entry.number ≡ i) × ((j : ℕ) × (slice_index_or from j None ≡ Some entry))
+
+-- the wait of a number, where it stands at a seat
+abbrev pub seated : ℕ → Option Held → Option Wait
+seated number None = None
+seated number (Some held) = if held.number == number then Some held.wait else None
+
+-- the same seat without that wait, and with that wait answered
+abbrev pub unseated : ℕ → Option Held → Option Held
+unseated number None = None
+unseated number (Some held) = if held.number == number then None else Some held
+
+abbrev pub answered_here : ℕ → ℕ → Option Held → Option Held
+answered_here number code None = None
+answered_here number code (Some held) = if held.number == number then Some (record held { wait = record held.wait { state = Answered code } }) else Some held
+
+-- the seat of a thread, if it is known
+abbrev pub seat_of : List (Option Held) → Option ℕ → Option Held
+seat_of seats None = None
+seat_of seats (Some thread) = slice_index_or seats thread None
+
+-- the wait of a number, which stands at the number's thread
+abbrev pub found : List (Option Held) → (ℕ → Option ℕ) → ℕ → Option Wait
+found seats threads number = seated number (seat_of seats (threads number))
+
+-- a wait at a thread's seat is the thread's, its number was given, and it is found by it
+pub record IsSeated (given : ℕ) (threads : ℕ → Option ℕ) (thread : ℕ) (held : Held) : Type 0 where
+  pub own : held.wait.thread ≡ thread
+  pub some : 0 < held.number
+  pub fits : held.number ≤ given
+  pub known : threads held.number ≡ Some thread
+
+pub record AreSeated (given : ℕ) (seats : List (Option Held)) (threads : ℕ → Option ℕ) : Type 0 where
+  pub each : (t : ℕ) (held : Held) → slice_index_or seats t None ≡ Some held → IsSeated given threads t held
+  pub past : (n : ℕ) → given < n → threads n ≡ None

@@ -1,0 +1,176 @@
+ghost use Rattle.std.specs.Prelude.{◌≡◌, ◌==◌, ◌<◌, ℕ, None, Some, OnOk, OnErr, true, is_some, if◌then◌else◌, slice_index_or, length, nat_eq};
+ghost use Rattle.std.specs.HashMap.{get};
+ghost use Rattle.ob_waits.specs.Seats.{AreApart, IsFinder, IsSpread, here, thread_at};
+
+use std::alloc::{AllocError, Global};
+use std::collections::HashMap;
+
+/// The number of a wait, and the thread that waits.
+#[derive(Clone, Copy)]
+pub struct Entry {
+    /// The number.
+    pub number: u32,
+    /// The thread.
+    pub thread: u32,
+}
+
+/// The threads of waits, by the waits' numbers.
+///
+/// A number stands at the place that its low bits give, where it is found at once. Where another one stands
+/// there, and there are fewer than two places for each thread, the places double. Else that one goes to a hash
+/// map: the number of a wait that has outlasted as many later ones as there are places.
+#[derive(Drop)]
+pub struct Finder {
+    /// The low bits: one less than there are places, once there are any.
+    pub mask: usize,
+    /// The places.
+    pub places: Vec<Option<Entry>>,
+    /// The threads of the numbers that stand at no place.
+    pub others: HashMap<u32, u32>,
+    /// Where memory comes from.
+    pub alloc: Global,
+}
+
+/// Whether a number stands at a place.
+fn stands(places: &[Option<Entry>], at: usize, number: u32) -> bool
+    ensures value { result ≡ is_some (here number (slice_index_or places.now at None) None) }
+    ensures within { result ≡ true → at < length places.now }
+{
+    if at < places.len() {
+        return match places[at] {
+            Some(entry) => entry.number == number,
+            None => false,
+        };
+    }
+    false
+}
+
+fn put_at(
+    place: &mut Option<Entry>,
+    others: &mut HashMap<u32, u32>,
+    entry: Entry,
+) -> Result<(), AllocError>
+    ensures placed { OnOk result (place.new ≡ Some entry) }
+    ensures moved { OnOk result ((n : ℕ) → get nat_eq others.new n ≡ here n place.old (get nat_eq others.old n)) }
+    ensures kept { OnErr result (place.new ≡ place.old) }
+    ensures same { OnErr result ((n : ℕ) → get nat_eq others.new n ≡ get nat_eq others.old n) }
+{
+    if let Some(old) = *place {
+        others.insert(old.number, old.thread)?;
+    }
+    *place = Some(entry);
+    Ok(())
+}
+
+fn make_places(places: &mut Vec<Option<Entry>>, mask: usize) -> Result<(), AllocError>
+    ensures made { OnOk result (mask < length places.new.items) }
+    ensures same { (i : ℕ) → slice_index_or places.new.items i None ≡ slice_index_or places.old.items i None }
+{
+    while places.len() <= mask {
+        places.push(None)?;
+    }
+    Ok(())
+}
+
+/// Puts what stands at some places at those that its numbers have under another mask.
+fn spread(from: &[Option<Entry>], mask: usize, places: &mut Vec<Option<Entry>>)
+    requires places { mask < length places.old.items }
+    requires free { (i : ℕ) → slice_index_or places.old.items i None ≡ None }
+    requires apart { AreApart mask from.now }
+    ensures { IsSpread mask from.now places.new.items }
+{
+    for entry in from {
+        if let Some(entry) = *entry {
+            places[entry.number as usize & mask] = Some(entry);
+        }
+    }
+}
+
+impl Finder {
+    pub(crate) fn new(alloc: Global) -> Finder
+        ensures finder { IsFinder result }
+        ensures none { (n : ℕ) → thread_at result n ≡ None }
+    {
+        Finder {
+            mask: 63,
+            places: Vec::new(alloc),
+            others: HashMap::new(alloc),
+            alloc,
+        }
+    }
+
+    /// The thread of a number.
+    pub(crate) fn get(&self, number: u32) -> Option<u32>
+        ensures { result ≡ thread_at self.now number }
+    {
+        let at = number as usize & self.mask;
+        if at < self.places.len() {
+            match self.places[at] {
+                Some(entry) if entry.number == number => return Some(entry.thread),
+                _ => (),
+            }
+        }
+        self.others.get(&number).copied()
+    }
+
+    /// Doubles the places.
+    fn widen(&mut self) -> Result<(), AllocError>
+        requires finder { IsFinder self.old }
+        requires fits { self.old.mask < 8589934592 }
+        ensures finder { IsFinder self.new }
+        ensures same { (n : ℕ) → thread_at self.new n ≡ thread_at self.old n }
+    {
+        let mask = self.mask * 2 + 1;
+        let mut places = Vec::new(self.alloc);
+        make_places(&mut places, mask)?;
+        spread(self.places.as_slice(), mask, &mut places);
+        self.places = places;
+        self.mask = mask;
+        Ok(())
+    }
+
+    /// Doubles the places where a number's is taken, and there are fewer than two for each thread up to its own.
+    fn make_way(&mut self, entry: Entry) -> Result<(), AllocError>
+        requires { IsFinder self.old }
+        ensures finder { IsFinder self.new }
+        ensures same { (n : ℕ) → thread_at self.new n ≡ thread_at self.old n }
+    {
+        let at = entry.number as usize & self.mask;
+        if self.mask / 2 > entry.thread as usize
+            || at >= self.places.len()
+            || self.places[at].is_none()
+        {
+            return Ok(());
+        }
+        self.widen()
+    }
+
+    /// Puts a new number in.
+    pub(crate) fn put(&mut self, entry: Entry) -> Result<(), AllocError>
+        requires finder { IsFinder self.old }
+        requires free { thread_at self.old entry.number ≡ None }
+        ensures finder { IsFinder self.new }
+        ensures ok { OnOk result ((n : ℕ) → thread_at self.new n ≡ (if entry.number == n then Some entry.thread else thread_at self.old n)) }
+        ensures err { OnErr result ((n : ℕ) → thread_at self.new n ≡ thread_at self.old n) }
+    {
+        self.make_way(entry)?;
+        make_places(&mut self.places, self.mask)?;
+        let at = entry.number as usize & self.mask;
+        put_at(&mut self.places[at], &mut self.others, entry)?;
+        Ok(())
+    }
+
+    /// Takes a number away.
+    pub(crate) fn remove(&mut self, number: u32)
+        requires { IsFinder self.old }
+        ensures finder { IsFinder self.new }
+        ensures removed { (n : ℕ) → thread_at self.new n ≡ (if number == n then None else thread_at self.old n) }
+    {
+        let at = number as usize & self.mask;
+        if stands(self.places.as_slice(), at, number) {
+            self.places[at] = None;
+            return;
+        }
+        let _ = self.others.remove(&number);
+    }
+}
