@@ -1,8 +1,8 @@
 -- One more wait at the end.
-use Rattle.std.proofs.Common.{◌≡◌, ℕ, zero, suc, ◌<◌, ◌≤◌, List, [], ◌∷◌, ◌++◌, length, Option, Some, None, refl, ap, ◌∙◌, sym, subst, arith, get_or, set, Bool, true, false, inl, inr}
+use Rattle.std.proofs.Common.{◌≡◌, ℕ, zero, suc, ◌<◌, ◌≤◌, List, [], ◌∷◌, ◌++◌, length, Option, Some, None, refl, ap, ◌∙◌, sym, subst, arith, get_or, Bool, true, false, inl, inr}
 use Rattle.std.specs.List.{list_any}
 use Rattle.std.specs.Prelude.{◌==◌, ◌⊎◌}
-use Rattle.std.proofs.lemmas.List.{get_or_past, get_or-set_same, get_or-set_other, get_or_append_left, get_or_push, length_push}
+use Rattle.std.proofs.lemmas.List.{get_or_past, get_or_append_left, get_or_push, length_push}
 use Rattle.std.proofs.lemmas.Bool.{cases_eq, cases_lt}
 use Rattle.std.proofs.lemmas.Bool.Decides.{nat_tests}
 use Rattle.pin_core.specs.declared.id.Id.{Id}
@@ -11,16 +11,8 @@ use Rattle.ob_waits.specs.declared.wait.Wait.{Wait}
 use Rattle.ob_waits.specs.Rules.{thread_of, IsWaitable, WaitWaitable, Within}
 use Rattle.ob_waits.specs.Numbers.{IsOrdered, numbers_of}
 use Rattle.ob_waits.specs.Waits.{new_wait, nowhere, is_pending, names_slot, number_of}
-use Rattle.ob_waits.specs.Roster.{Roster, AreThreads, IsRight, HasPlace, with_number, IsTracked}
-use Rattle.ob_waits.proofs.TrackedLaws.{number_found, has_wait, given_some}
-
--- a thread without a wait owns none
-alone_owns : (ws : List (Option Wait)) (threads : List ℕ) (t n : ℕ) → get_or ws 0 None ≡ None → AreThreads ws threads → number_of t ws ≡ None → thread_of (get_or ws n None) ≡ Some t → ⊥
-alone_owns ws threads t n none a alone own =
-    let some = given_some ws n t none own in
-    let at = a.all n t own in
-    let found = number_found ws threads t a (omega (arith, at)) in
-    cc (found, alone)
+use Rattle.ob_waits.specs.Roster.{Roster, IsRight, HasPlace, IsTracked}
+use Rattle.ob_waits.proofs.TrackedLaws.{no_number}
 
 -- some element passes
 pub any_at : {A : Type 0} (p : A → Bool) (d : A) (xs : List A) → list_any p xs ≡ true → (i : ℕ) × (i < length xs) × (p (get_or xs i d) ≡ true)
@@ -44,7 +36,7 @@ module _ (ws : List (Option Wait)) (w : Wait) where
 
 -- The theorem: a wait of a thread that had none, for which the roster has a place, is tracked.
 pub tracked_added : (limit : ℕ) (ws : List (Option Wait)) (r r' : Roster) (n t : ℕ) (mode : Mode) (ids : List Id) (d : Option ℕ) → length ws ≡ n → 0 < n → n ≤ limit → IsWaitable mode ids → number_of t ws ≡ None →
-    IsTracked limit ws r → IsRight ws r' → HasPlace r' t ids n → IsTracked limit (ws ++ Some (new_wait t mode ids d) ∷ []) (with_number r' t n)
+    IsTracked limit ws r → IsRight ws r' → HasPlace r' ids n → IsTracked limit (ws ++ Some (new_wait t mode ids d) ∷ []) r'
 tracked_added limit ws r r' n t mode ids d len some below waitable alone k right place = record {
   limit_fits = k.limit_fits;
   few = omega (arith, length_push ws (Some w));
@@ -54,13 +46,10 @@ tracked_added limit ws r r' n t mode ids d len some below waitable alone k right
     one_each = one_each;
   };
   right = record {
-    threads = record { right = threads_right; all = threads_all };
-    lists = record {
-      order_rises = ordered_more r'.order right.lists.order_rises;
-      order_all = record { each = λ m h. by_number ws w (λ i x. is_pending x ≡ true → Within i r'.order) (λ i lt g. right.lists.order_all.each i g) (λ g. subst (λ i. Within i r'.order) (sym len) place.order_place) (λ i past g. absurd (cc)) m h };
-      index_rises = record { each = λ s. ordered_more (numbers_of r'.index s) (right.lists.index_rises.each s) };
-      index_all = λ s. record { each = λ m h. by_number ws w (λ i x. names_slot s x ≡ true → Within i (numbers_of r'.index s)) (λ i lt g. (right.lists.index_all s).each i g) (λ g. named s g) (λ i past g. absurd (cc)) m h };
-    };
+    order_rises = ordered_more r'.order right.order_rises;
+    order_all = record { each = λ m h. by_number ws w (λ i x. is_pending x ≡ true → Within i r'.order) (λ i lt g. right.order_all.each i g) (λ g. subst (λ i. Within i r'.order) (sym len) place.order_place) (λ i past g. absurd (cc)) m h };
+    index_rises = record { each = λ s. ordered_more (numbers_of r'.index s) (right.index_rises.each s) };
+    index_all = λ s. record { each = λ m h. by_number ws w (λ i x. names_slot s x ≡ true → Within i (numbers_of r'.index s)) (λ i lt g. (right.index_all s).each i g) (λ g. named s g) (λ i past g. absurd (cc)) m h };
   };
 }
   where
@@ -71,29 +60,12 @@ tracked_added limit ws r r' n t mode ids d len some below waitable alone k right
     ours m u = by_number ws w (λ i x. thread_of x ≡ Some u → (thread_of (get_or ws i None) ≡ Some u × (i < length ws)) ⊎ ((i ≡ length ws) × (u ≡ t))) (λ i lt g. inl (g, lt)) (λ g. inr (refl, (let e : Some t ≡ Some u = g in cc))) (λ i past g. absurd (cc)) m
 
     alone_here : (m u : ℕ) → thread_of (get_or ws m None) ≡ Some u → u ≡ t → ⊥
-    alone_here m u own same = alone_owns ws r'.threads t m k.zero_has_none right.threads alone (own ∙ ap Some same)
+    alone_here m u own same = no_number t ws m alone (own ∙ ap Some same)
 
     one_each : (i j u : ℕ) → thread_of (get_or (ws ++ Some w ∷ []) i None) ≡ Some u → thread_of (get_or (ws ++ Some w ∷ []) j None) ≡ Some u → i ≡ j
     one_each i j u p q = elim (ours i u p) [
       | inl a ↦ elim (ours j u q) [ inl b ↦ k.kept.one_each i j u a.0 b.0 | inr b ↦ absurd (alone_here i u a.0 b.1) ]
       | inr a ↦ elim (ours j u q) [ inl b ↦ absurd (alone_here j u b.0 a.1) | inr b ↦ a.0 ∙ sym b.0 ]
-    ]
-
-    threads_right : (u : ℕ) → 0 < get_or (set r'.threads t n) u 0 → thread_of (get_or (ws ++ Some w ∷ []) (get_or (set r'.threads t n) u 0) None) ≡ Some u
-    threads_right u above = elim (cases_eq u t) [
-      | inl same ↦
-          let number : get_or (set r'.threads t n) u 0 ≡ n = ap (λ v. get_or (set r'.threads t n) v 0) same ∙ get_or-set_same r'.threads t n 0 place.thread_place in
-          ap (λ i. thread_of (get_or (ws ++ Some w ∷ []) i None)) number ∙ ap thread_of (get_or_push ws (Some w) None n len) ∙ ap Some (sym same)
-      | inr other ↦
-          let number : get_or (set r'.threads t n) u 0 ≡ get_or r'.threads u 0 = get_or-set_other r'.threads t u n 0 other in
-          let own = right.threads.right u (omega (arith, number)) in
-          ap (λ i. thread_of (get_or (ws ++ Some w ∷ []) i None)) number ∙ ap thread_of (get_or_append_left ws (Some w ∷ []) None (get_or r'.threads u 0) (has_wait ws (get_or r'.threads u 0) u own)) ∙ own
-    ]
-
-    threads_all : (m u : ℕ) → thread_of (get_or (ws ++ Some w ∷ []) m None) ≡ Some u → get_or (set r'.threads t n) u 0 ≡ m
-    threads_all m u p = elim (ours m u p) [
-      | inl a ↦ get_or-set_other r'.threads t u n 0 (alone_here m u a.0) ∙ right.threads.all m u a.0
-      | inr a ↦ ap (λ v. get_or (set r'.threads t n) v 0) a.1 ∙ get_or-set_same r'.threads t n 0 place.thread_place ∙ sym len ∙ sym a.0
     ]
 
     ordered_more : (numbers : List ℕ) → IsOrdered (length ws) numbers → IsOrdered (length (ws ++ Some w ∷ [])) numbers

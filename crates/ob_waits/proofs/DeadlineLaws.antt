@@ -1,6 +1,6 @@
 -- Deadlines go on being ahead and listed while waits come, are answered and go, and the code finds those that are over.
 use Rattle.std.proofs.Common.{◌≡◌, ◌⊎◌, ℕ, zero, suc, ◌++◌, ◌∷◌, [], ◌<◌, ◌≤◌, List, length, Option, Some, None, refl, ap, ◌∙◌, sym, subst, arith, get_or, set, Bool, true, false, cond, inl, inr}
-use Rattle.std.specs.Prelude.{count_by, is_some, map}
+use Rattle.std.specs.Prelude.{IfSome, count_by, is_some, map}
 use Rattle.std.proofs.lemmas.List.{length-map, length-set, get_or_past, get_or-set_same, get_or-set_other, get_or-map}
 use Rattle.std.proofs.lemmas.List.Sums.{sum_by-set}
 use Rattle.std.proofs.lemmas.Bool.{cases_eq, cases_lt}
@@ -15,7 +15,6 @@ use Rattle.ob_waits.specs.declared.wait.State.TheVariants.{Pending, Answered}
 use Rattle.ob_waits.specs.Deadlines.{AreListed, AreTimely, deadline_of, is_overdue, state_deadline}
 use Rattle.ob_waits.specs.Form.{IsAfter}
 use Rattle.ob_waits.specs.Objects.{Objects}
-use Rattle.ob_waits.specs.Roster.{AreThreads}
 use Rattle.ob_waits.specs.Rules.{thread_of}
 use Rattle.ob_waits.specs.Waits.{Scene, is_pending, new_wait, number_of, settled}
 use Rattle.ob_waits.proofs.AddedLaws.{by_number}
@@ -126,14 +125,13 @@ pub timely_passed : (clock now : ℕ) (ws : List (Option Wait)) (dues : List (Op
 timely_passed clock now ws dues last none timely = record { moment = last; ahead = record { each = λ n. undue_after now (deadline_of (get_or ws n None)) (none n) }; listed = timely.listed }
 
 -- a deadline that is listed, but not of a pending wait, is dropped
-pub listed_cleared : (now : ℕ) (ws : List (Option Wait)) (threads : List ℕ) (dues : List (Option ℕ)) (t : ℕ) → AreThreads ws threads → is_due now (get_or dues t None) ≡ true → is_overdue now (get_or ws (get_or threads t 0) None) ≡ false
+pub listed_cleared : (now : ℕ) (ws : List (Option Wait)) (dues : List (Option ℕ)) (t : ℕ) → is_due now (get_or dues t None) ≡ true → ((n : ℕ) → thread_of (get_or ws n None) ≡ Some t → is_overdue now (get_or ws n None) ≡ false)
     → AreListed ws dues → AreListed ws (set dues t None)
-listed_cleared now ws threads dues t right due idle listed = record {
+listed_cleared now ws dues t due idle listed = record {
   each = λ n u d own is. elim (cases_eq u t) [
-    | inl same ↦ absurd (let number : get_or threads t 0 ≡ n = right.all n t (own ∙ ap Some same) in
-        let stands : get_or dues t None ≡ Some d = ap (λ v. get_or dues v None) (sym same) ∙ listed.each n u d own is in
+    | inl same ↦ absurd (let stands : get_or dues t None ≡ Some d = ap (λ v. get_or dues v None) (sym same) ∙ listed.each n u d own is in
         let yes : is_due now (Some d) ≡ true = ap (is_due now) (sym stands) ∙ due in
-        let no : is_due now (Some d) ≡ false = ap (is_due now) (sym is) ∙ ap (λ i. is_overdue now (get_or ws i None)) (sym number) ∙ idle in
+        let no : is_due now (Some d) ≡ false = ap (is_due now) (sym is) ∙ idle n (own ∙ ap Some same) in
         cc (yes, no))
     | inr other ↦ get_or-set_other dues t u None None other ∙ listed.each n u d own is
   ];
@@ -210,7 +208,7 @@ not_before_least ws dues least listed is n d at = let there = listed_at ws dues 
 pub least_none : (ws : List (Option Wait)) (dues : List (Option ℕ)) → AreListed ws dues → IsLeast dues None → IsLeast (map deadline_of ws) None
 least_none ws dues listed is = record { stands = tt; first = not_before_least ws dues None listed is }
 
-pub least_deadline : (ws : List (Option Wait)) (dues : List (Option ℕ)) (n due : ℕ) → AreListed ws dues → IsLeast dues (Some due) → is_overdue due (get_or ws n None) ≡ true → IsLeast (map deadline_of ws) (Some due)
+least_deadline : (ws : List (Option Wait)) (dues : List (Option ℕ)) (n due : ℕ) → AreListed ws dues → IsLeast dues (Some due) → is_overdue due (get_or ws n None) ≡ true → IsLeast (map deadline_of ws) (Some due)
 least_deadline ws dues n due listed is over = record { stands = by (deadline_of (get_or ws n None)) refl; first = not_before_least ws dues (Some due) listed is }
   where
     by : (x : Option ℕ) → deadline_of (get_or ws n None) ≡ x → (place : ℕ) × (get_or (map deadline_of ws) place None ≡ Some due)
@@ -221,6 +219,10 @@ least_deadline ws dues n due listed is over = record { stands = by (deadline_of 
         let late : due ≤ d = not_before_least ws dues (Some due) listed is n d (deadline_at ws n ∙ at) in
         let same : d ≡ due = omega (arith, early, late) in
         (n, deadline_at ws n ∙ at ∙ ap Some same)
+
+pub least_overdue : (ws : List (Option Wait)) (dues : List (Option ℕ)) (n : Option ℕ) (due : ℕ) → AreListed ws dues → IsLeast dues (Some due) → is_some n ≡ true → IfSome n (λ m. is_overdue due (get_or ws m None) ≡ true) → IsLeast (map deadline_of ws) (Some due)
+least_overdue ws dues None due listed is some over = absurd (cc (some))
+least_overdue ws dues (Some n) due listed is some over = least_deadline ws dues n due listed is over
 
 -- the least that is listed is due at its moment
 pub least_is_due : (dues : List (Option ℕ)) (due : ℕ) → IsLeast dues (Some due) → ((t : ℕ) → is_due due (get_or dues t None) ≡ false) → ⊥

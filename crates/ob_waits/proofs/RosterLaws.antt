@@ -1,15 +1,15 @@
 -- The roster stays right while lists are thinned and grow, and while waits come, are answered and go.
-use Rattle.std.proofs.Common.{◌≡◌, ℕ, ◌<◌, List, length, Option, Some, None, refl, ◌∙◌, sym, subst, get_or, true}
+use Rattle.std.proofs.Common.{◌≡◌, ℕ, List, length, Option, Some, None, refl, sym, subst, true}
 use Rattle.std.specs.List.{list_any}
 use Rattle.std.specs.Prelude.{◌==◌}
 use Rattle.pin_core.specs.declared.id.Id.{Id}
 use Rattle.ob_waits.specs.declared.wait.Wait.{Wait}
 use Rattle.ob_waits.specs.declared.wait.State.{State}
 use Rattle.ob_waits.specs.declared.wait.State.TheVariants.{Pending, Answered}
-use Rattle.ob_waits.specs.Rules.{thread_of, Within}
+use Rattle.ob_waits.specs.Rules.{Within}
 use Rattle.ob_waits.specs.Numbers.{IsOrdered, numbers_of, AreOrdered, Keeps, Thins, ThinsEach}
 use Rattle.ob_waits.specs.Waits.{is_pending, state_pending, names_slot, state_ids}
-use Rattle.ob_waits.specs.Roster.{Roster, AreThreads, AreIndexed, IsRight, Leaves}
+use Rattle.ob_waits.specs.Roster.{Roster, AreIndexed, IsRight, Leaves}
 use Rattle.ob_waits.proofs.NumberLaws.{ordered_thinned, all_thinned, thins_none}
 use Rattle.ob_waits.proofs.IndexLaws.{thins_each_none}
 
@@ -31,10 +31,7 @@ lists_thinned waits order order' index index' t ts a = record {
 }
 
 pub right_left : (waits : List (Option Wait)) (old new : Roster) → Leaves waits old new → IsRight waits old → IsRight waits new
-right_left waits old new l r = record {
-  threads = subst (λ ts. AreThreads waits ts) (sym l.threads) r.threads;
-  lists = lists_thinned waits old.order new.order old.index new.index l.order l.index r.lists;
-}
+right_left waits old new l r = lists_thinned waits old.order new.order old.index new.index l.order l.index r
 
 -- lists that grew have what they had
 pub order_grown : (waits : List (Option Wait)) (order order' : List ℕ) (index : List (List ℕ)) → IsOrdered (length waits) order' → ((k : ℕ) → Within k order → Within k order') → AreIndexed waits order index → AreIndexed waits order' index
@@ -48,12 +45,6 @@ order_thinned waits order order' index t a = lists_thinned waits order order' in
 
 pub index_thinned : (waits : List (Option Wait)) (order : List ℕ) (index index' : List (List ℕ)) → ThinsEach waits index index' → AreIndexed waits order index → AreIndexed waits order index'
 index_thinned waits order index index' ts a = lists_thinned waits order order index index' (thins_none waits order) ts a
-
-pub threads_grown : (waits : List (Option Wait)) (threads threads' : List ℕ) → ((t : ℕ) → get_or threads' t 0 ≡ get_or threads t 0) → AreThreads waits threads → AreThreads waits threads'
-threads_grown waits threads threads' same a = record {
-  right = λ t some. subst (λ n. thread_of (get_or waits n None) ≡ Some t) (sym (same t)) (a.right t (subst (λ n. 0 < n) (same t) some));
-  all = λ n t h. same t ∙ a.all n t h;
-}
 
 -- the two lists of a wait to come, one after another: thinned, then with its number
 pub order_ready : (waits : List (Option Wait)) (n : ℕ) (order thin new : List ℕ) (index : List (List ℕ)) → length waits ≡ n → Thins waits order thin → IsOrdered n new → ((k : ℕ) → Within k thin → Within k new) → AreIndexed waits order index → AreIndexed waits new index

@@ -7,11 +7,11 @@ use Rattle.ob_waits.specs.declared.held.Held.{Held}
 use Rattle.ob_waits.specs.declared.wait.State.TheVariants.{Answered}
 use Rattle.ob_waits.specs.Listed.{listed, IsSparse}
 use Rattle.ob_waits.specs.Rules.{thread_of}
-use Rattle.ob_waits.specs.Seats.{AreSeated, IsSeated, answered_here, found, seat_of, seated, unseated}
+use Rattle.ob_waits.specs.Seats.{AreSeated, IsSeated, answered_here, found, seat_number, seat_of, seated, unseated}
 use Rattle.ob_waits.specs.Waits.{answered, is_pending, number_of}
 use Rattle.ob_waits.proofs.ListedLaws.{listed_by, value_at}
 use Rattle.ob_waits.proofs.PlaceLaws.{alike, unlike}
-use Rattle.ob_waits.proofs.TrackedLaws.{no_number}
+use Rattle.ob_waits.proofs.TrackedLaws.{no_number, number_is, number_none}
 
 -- the wait of a number, where it stands
 pub seated_own : (n : ℕ) (h : Held) → h.number ≡ n → seated n (Some h) ≡ Some h.wait
@@ -73,6 +73,27 @@ module _ (given : ℕ) (seats : List (Option Held)) (threads : ℕ → Option �
       by : (o : Option Held) → get_or seats t None ≡ o → o ≡ None
       by None e = refl
       by (Some h) e = absurd (no_number t (listed (suc given) (found seats threads)) h.number none (ap thread_of (number_reads h.number ∙ seat_found t h e) ∙ ap Some (s.each t h e).own))
+
+  -- the number of a thread's wait is that of the wait at its seat
+  held_at : (t n : ℕ) → thread_of (get_or (listed (suc given) (found seats threads)) n None) ≡ Some t → (w : Wait) × (get_or seats t None ≡ Some (record { number = n; wait = w }))
+  held_at t n own = by (found seats threads n) refl
+    where
+      by : (o : Option Wait) → found seats threads n ≡ o → (w : Wait) × (get_or seats t None ≡ Some (record { number = n; wait = w }))
+      by None e = absurd (let none = ap thread_of (number_reads n ∙ e) in cc (none, own))
+      by (Some w) e =
+          let thread : Some w.thread ≡ Some t = sym (ap thread_of (number_reads n ∙ e)) ∙ own in
+          (w, ap (λ i. get_or seats i None) (sym (same_Some w.thread t thread)) ∙ found_seat n w e)
+
+  pub number_held : (t n : ℕ) → thread_of (get_or (listed (suc given) (found seats threads)) n None) ≡ Some t → seat_number (get_or seats t None) ≡ Some n
+  number_held t n own = ap seat_number (held_at t n own).1
+
+  pub number_at : (t : ℕ) → seat_number (get_or seats t None) ≡ number_of t (listed (suc given) (found seats threads))
+  number_at t = by (get_or seats t None) refl
+    where
+      by : (o : Option Held) → get_or seats t None ≡ o → seat_number o ≡ number_of t (listed (suc given) (found seats threads))
+      by None e = sym (number_none (listed (suc given) (found seats threads)) t (λ m own. none-some m (sym (ap seat_number e) ∙ number_held t m own)))
+      by (Some h) e = sym (number_is (listed (suc given) (found seats threads)) t h.number (ap thread_of (number_reads h.number ∙ seat_found t h e) ∙ ap Some (s.each t h e).own)
+          (λ m own. same_Some m h.number (sym (number_held t m own) ∙ ap seat_number e)))
 
 -- seats and threads that read as they did
 module _ (given : ℕ) (seats seats' : List (Option Held)) (threads threads' : ℕ → Option ℕ) (same : (i : ℕ) → get_or seats' i None ≡ get_or seats i None) (known : (q : ℕ) → threads' q ≡ threads q) where

@@ -1,15 +1,16 @@
 -- What the waits keep from call to call.
-use Rattle.std.proofs.Common.{◌≡◌, ℕ, zero, suc, ◌<◌, List, [], ◌∷◌, length, Option, Some, None, refl, ap, ◌∙◌, sym, subst, arith, get_or, set, Bool, true, false, cond, inl, inr, map, ltb}
+use Rattle.std.proofs.Common.{◌≡◌, ℕ, zero, suc, ◌<◌, List, [], ◌∷◌, length, Option, Some, None, refl, ap, ◌∙◌, sym, subst, arith, get_or, set, Bool, true, false, cond, inl, inr, ltb}
 use Rattle.std.specs.List.{position_or_len}
-use Rattle.std.proofs.lemmas.List.{length-set, length-map, get_or_past, get_or-set_same, get_or-set_other, get_or-map, ext_get_or}
+use Rattle.std.proofs.lemmas.List.{length-set, get_or_past, get_or-set_same, get_or-set_other}
+use Rattle.std.proofs.lemmas.List.Quantifiers.{position-Some}
 use Rattle.std.proofs.lemmas.List.Sums.{position_or_len_is, fails_before_first}
 use Rattle.std.proofs.lemmas.Bool.{cases_eq, cases_lt, lt-ltb, le-ltb}
 use Rattle.std.proofs.lemmas.Bool.Decides.{nat_tests}
 use Rattle.ob_waits.specs.declared.wait.Wait.{Wait}
 use Rattle.ob_waits.specs.Rules.{thread_of, WaitWaitable}
 use Rattle.ob_waits.specs.Numbers.{IsOrdered, AreOrdered}
-use Rattle.ob_waits.specs.Waits.{is_pending, names_slot, is_waits_of, number_of, unless_of, answered}
-use Rattle.ob_waits.specs.Roster.{Roster, AreThreads, AreIndexed, Leaves, with_number, IsTracked}
+use Rattle.ob_waits.specs.Waits.{is_pending, names_slot, is_waits_of, number_of, answered}
+use Rattle.ob_waits.specs.Roster.{Roster, AreIndexed, Leaves, IsTracked}
 use Rattle.ob_waits.proofs.Keeping.{Fade, fade_one, kept_faded}
 use Rattle.ob_waits.proofs.RosterLaws.{right_left}
 
@@ -21,7 +22,7 @@ no_list : (s : ℕ) → get_or {A = List ℕ} [] s [] ≡ []
 no_list s = refl
 
 -- at first nothing is there
-pub tracked_none : (limit : ℕ) → limit < 4294967296 → IsTracked limit (None ∷ []) (record { threads = []; order = []; index = [] })
+pub tracked_none : (limit : ℕ) → limit < 4294967296 → IsTracked limit (None ∷ []) (record { order = []; index = [] })
 tracked_none limit fits = record {
   limit_fits = fits;
   few = omega arith;
@@ -31,13 +32,10 @@ tracked_none limit fits = record {
     one_each = λ n m t p q. absurd (let e = ap thread_of (no_wait n) in cc (e, p));
   };
   right = record {
-    threads = record { right = λ t some. absurd (omega arith); all = λ n t h. absurd (let e = ap thread_of (no_wait n) in cc (e, h)) };
-    lists = record {
-      order_rises = record { rising = tt; below = λ k i. absurd i };
-      order_all = record { each = λ n h. absurd (let e = ap is_pending (no_wait n) in cc (e, h)) };
-      index_rises = record { each = λ s. record { rising = tt; below = λ k i. absurd i } };
-      index_all = λ s. record { each = λ n h. absurd (let e = ap (names_slot s) (no_wait n) in cc (e, h)) };
-    };
+    order_rises = record { rising = tt; below = λ k i. absurd i };
+    order_all = record { each = λ n h. absurd (let e = ap is_pending (no_wait n) in cc (e, h)) };
+    index_rises = record { each = λ s. record { rising = tt; below = λ k i. absurd i } };
+    index_all = λ s. record { each = λ n h. absurd (let e = ap (names_slot s) (no_wait n) in cc (e, h)) };
   };
 }
 
@@ -67,24 +65,21 @@ no_number t ws n none own = elim (cases_lt (position_or_len (is_waits_of t) ws) 
       let passes = thread_waits t (get_or ws n None) own in cc (fails, passes)
 ]
 
--- the number of a thread's wait is the first place that has a wait of the thread
-pub number_found : (ws : List (Option Wait)) (threads : List ℕ) (t : ℕ) → AreThreads ws threads → 0 < get_or threads t 0 → number_of t ws ≡ Some (get_or threads t 0)
-number_found ws threads t a some =
-    let n = get_or threads t 0 in
-    let at : thread_of (get_or ws n None) ≡ Some t = a.right t some in
-    let lt : n < length ws = has_wait ws n t at in
+-- the number of a thread's wait
+pub number_own : (ws : List (Option Wait)) (t n : ℕ) → number_of t ws ≡ Some n → thread_of (get_or ws n None) ≡ Some t
+number_own ws t n is = waits_thread t (get_or ws n None) (position-Some (is_waits_of t) ws n None is).1
+
+pub number_is : (ws : List (Option Wait)) (t n : ℕ) → thread_of (get_or ws n None) ≡ Some t → ((m : ℕ) → thread_of (get_or ws m None) ≡ Some t → m ≡ n) → number_of t ws ≡ Some n
+number_is ws t n own alone =
+    let lt : n < length ws = has_wait ws n t own in
     let first : position_or_len (is_waits_of t) ws ≡ n = position_or_len_is (is_waits_of t) ws n None (omega arith)
-    (λ k below. false_of _ (λ h. let e = a.all k t (waits_thread t (get_or ws k None) h) in omega (arith, e))) (λ l. thread_waits t (get_or ws n None) at) in
+    (λ k below. false_of _ (λ h. let e = alone k (waits_thread t (get_or ws k None) h) in omega (arith, e))) (λ l. thread_waits t (get_or ws n None) own) in
     ap (λ k. cond (ltb k (length ws)) (Some k) None) first ∙ ap (λ b. cond b (Some n) None) (lt-ltb n (length ws) lt)
 
-pub number_missing : (ws : List (Option Wait)) (threads : List ℕ) (t : ℕ) → AreThreads ws threads → get_or ws 0 None ≡ None → get_or threads t 0 ≡ 0 → number_of t ws ≡ None
-number_missing ws threads t a zero_has_none none =
+pub number_none : (ws : List (Option Wait)) (t : ℕ) → ((m : ℕ) → thread_of (get_or ws m None) ≡ Some t → ⊥) → number_of t ws ≡ None
+number_none ws t none =
     let first : position_or_len (is_waits_of t) ws ≡ length ws = position_or_len_is (is_waits_of t) ws (length ws) None (omega arith)
-    (λ k below. false_of _ (λ h.
-    let own = waits_thread t (get_or ws k None) h in
-    let k_is : k ≡ 0 = sym (a.all k t own) ∙ none in
-    let empty : thread_of (get_or ws k None) ≡ None = ap (λ i. thread_of (get_or ws i None)) k_is ∙ ap thread_of zero_has_none in
-    cc (own, empty))) (λ l. absurd (omega arith)) in
+    (λ k below. false_of _ (λ h. none k (waits_thread t (get_or ws k None) h))) (λ l. absurd (omega arith)) in
     ap (λ k. cond (ltb k (length ws)) (Some k) None) first ∙ ap (λ b. cond b (Some (length ws)) None) (le-ltb (length ws) (length ws) (omega arith))
 
 -- some waits were answered
@@ -100,19 +95,13 @@ lists_faded ws ws' order index f a = record {
   index_all = λ s. record { each = λ n h. (a.index_all s).each n ((f.each n).names s h) };
 }
 
-pub threads_faded : (ws ws' : List (Option Wait)) (threads : List ℕ) → Fade ws ws' → AreThreads ws threads → AreThreads ws' threads
-threads_faded ws ws' threads f a = record {
-  right = λ t some. (f.each (get_or threads t 0)).thread ∙ a.right t some;
-  all = λ n t h. a.all n t (sym (f.each n).thread ∙ h);
-}
-
 pub tracked_faded : (limit : ℕ) (ws ws' : List (Option Wait)) (r : Roster) → Fade ws ws' → IsTracked limit ws r → IsTracked limit ws' r
 tracked_faded limit ws ws' r f k = record {
   limit_fits = k.limit_fits;
   few = let e = f.len in let le = k.few in omega arith;
   zero_has_none = no_thread (get_or ws' 0 None) ((f.each 0).thread ∙ ap thread_of k.zero_has_none);
   kept = kept_faded ws ws' f k.kept;
-  right = record { threads = threads_faded ws ws' r.threads f k.right.threads; lists = lists_faded ws ws' r.order r.index f k.right.lists };
+  right = lists_faded ws ws' r.order r.index f k.right;
 }
 
 pub tracked_left : (limit : ℕ) (ws : List (Option Wait)) (r r' : Roster) → Leaves ws r r' → IsTracked limit ws r → IsTracked limit ws r'
@@ -141,24 +130,13 @@ lists_removed ws n order index lt a = record {
       | inr other ↦ subst (λ x. p x ≡ true) (get_or-set_other ws n m None None other) h
     ]
 
--- the number of a thread that has a wait stands in its place
-pub has_place : (threads : List ℕ) (t : ℕ) → 0 < get_or threads t 0 → t < length threads
-has_place threads t some = elim (cases_lt t (length threads)) [ inl lt ↦ lt | inr past ↦ absurd (let e = get_or_past threads t 0 past in omega (arith, e)) ]
-
 pub given_some : (ws : List (Option Wait)) (n t : ℕ) → get_or ws 0 None ≡ None → thread_of (get_or ws n None) ≡ Some t → 0 < n
 given_some ws n t none own = elim (cases_eq n 0) [
   | inl same ↦ absurd (let e : thread_of (get_or ws n None) ≡ None = ap (λ i. thread_of (get_or ws i None)) same ∙ ap thread_of none in cc (e, own))
   | inr other ↦ omega arith
 ]
 
--- a thread's wait has a place
-pub thread_placed : (limit : ℕ) (ws : List (Option Wait)) (r : Roster) (n t : ℕ) → IsTracked limit ws r → thread_of (get_or ws n None) ≡ Some t → t < length r.threads
-thread_placed limit ws r n t k own =
-    let e = k.right.threads.all n t own in
-    let some = given_some ws n t k.zero_has_none own in
-    has_place r.threads t (omega (arith, e))
-
-pub tracked_removed : (limit : ℕ) (ws : List (Option Wait)) (r : Roster) (n t : ℕ) → thread_of (get_or ws n None) ≡ Some t → IsTracked limit ws r → IsTracked limit (set ws n None) (with_number r t 0)
+pub tracked_removed : (limit : ℕ) (ws : List (Option Wait)) (r : Roster) (n t : ℕ) → thread_of (get_or ws n None) ≡ Some t → IsTracked limit ws r → IsTracked limit (set ws n None) r
 tracked_removed limit ws r n t own k = record {
   limit_fits = k.limit_fits;
   few = let le = k.few in omega (arith, length-set ws n None);
@@ -170,31 +148,11 @@ tracked_removed limit ws r n t own k = record {
     ];
     one_each = λ i j u p q. k.kept.one_each i j u (was i u p) (was j u q);
   };
-  right = record {
-    threads = record {
-      right = λ u some. elim (cases_eq u t) [
-        | inl same ↦ absurd (let z : get_or (set r.threads t 0) u 0 ≡ 0 = ap (λ v. get_or (set r.threads t 0) v 0) same ∙ get_or-set_same r.threads t 0 0 placed in omega (arith, z))
-        | inr other ↦
-            let number : get_or (set r.threads t 0) u 0 ≡ get_or r.threads u 0 = get_or-set_other r.threads t u 0 0 other in
-            let own_u = k.right.threads.right u (omega (arith, number)) in
-            let apart : get_or r.threads u 0 ≡ n → ⊥ = λ e. other (let same : Some u ≡ Some t = sym own_u ∙ ap (λ i. thread_of (get_or ws i None)) e ∙ own in cc) in
-            ap (λ i. thread_of (get_or (set ws n None) i None)) number ∙ ap thread_of (get_or-set_other ws n (get_or r.threads u 0) None None apart) ∙ own_u
-      ];
-      all = λ m u p.
-          let here = was m u p in
-          let there = k.right.threads.all m u here in
-          let apart : u ≡ t → ⊥ = λ e. still m u p (let same : get_or r.threads u 0 ≡ get_or r.threads t 0 = ap (λ v. get_or r.threads v 0) e in sym there ∙ same ∙ k.right.threads.all n t own) in
-          get_or-set_other r.threads t u 0 0 apart ∙ there;
-    };
-    lists = lists_removed ws n r.order r.index lt k.right.lists;
-  };
+  right = lists_removed ws n r.order r.index lt k.right;
 }
   where
     lt : n < length ws
     lt = has_wait ws n t own
-
-    placed : t < length r.threads
-    placed = thread_placed limit ws r n t k own
 
     gone : (m : ℕ) → m ≡ n → get_or (set ws n None) m None ≡ None
     gone m same = ap (λ i. get_or (set ws n None) i None) same ∙ get_or-set_same ws n None None lt
@@ -204,31 +162,6 @@ tracked_removed limit ws r n t own k = record {
 
     was : (m u : ℕ) → thread_of (get_or (set ws n None) m None) ≡ Some u → thread_of (get_or ws m None) ≡ Some u
     was m u p = subst (λ x. thread_of x ≡ Some u) (get_or-set_other ws n m None None (still m u p)) p
-
--- the waits without the thread's: the one is gone, if there was one
-unless_other : (t : ℕ) (w : Option Wait) → is_waits_of t w ≡ false → unless_of t w ≡ w
-unless_other t w h = ap (λ b. cond b None w) h
-
-unless_own : (t : ℕ) (w : Option Wait) → is_waits_of t w ≡ true → unless_of t w ≡ None
-unless_own t w h = ap (λ b. cond b None w) h
-
-pub dropped_none : (ws : List (Option Wait)) (threads : List ℕ) (t : ℕ) → AreThreads ws threads → get_or ws 0 None ≡ None → get_or threads t 0 ≡ 0 → map (unless_of t) ws ≡ ws
-dropped_none ws threads t a zero_has_none none = ext_get_or None (map (unless_of t) ws) ws (length-map ws (unless_of t))
-    (λ i lt. get_or-map (unless_of t) ws i None None (omega (arith, length-map ws (unless_of t))) ∙ unless_other t (get_or ws i None) (false_of _ (λ h.
-    let own = waits_thread t (get_or ws i None) h in
-    let some = given_some ws i t zero_has_none own in
-    let e = a.all i t own in omega (arith, e))))
-
-pub dropped_one : (ws : List (Option Wait)) (threads : List ℕ) (t : ℕ) → AreThreads ws threads → 0 < get_or threads t 0 → map (unless_of t) ws ≡ set ws (get_or threads t 0) None
-dropped_one ws threads t a some =
-    let n = get_or threads t 0 in
-    let own : thread_of (get_or ws n None) ≡ Some t = a.right t some in
-    ext_get_or None (map (unless_of t) ws) (set ws n None) (length-map ws (unless_of t) ∙ sym (length-set ws n None))
-    (λ i lt. get_or-map (unless_of t) ws i None None (omega (arith, length-map ws (unless_of t))) ∙ elim (cases_eq i n) [
-      | inl same ↦ unless_own t (get_or ws i None) (thread_waits t (get_or ws i None) (ap (λ j. thread_of (get_or ws j None)) same ∙ own))
-          ∙ sym (ap (λ j. get_or (set ws n None) j None) same ∙ get_or-set_same ws n None None (has_wait ws n t own))
-      | inr other ↦ unless_other t (get_or ws i None) (false_of _ (λ h. other (sym (a.all i t (waits_thread t (get_or ws i None) h))))) ∙ sym (get_or-set_other ws n i None None other)
-    ])
 
 -- a number whose wait was taken away has none
 pub removed_none : (ws : List (Option Wait)) (n : ℕ) → get_or (set ws n None) n None ≡ None

@@ -57,6 +57,11 @@ abbrev pub answered_here : ℕ → ℕ → Option Held → Option Held
 answered_here number code None = None
 answered_here number code (Some held) = if held.number == number then Some (record held { wait = record held.wait { state = Answered code } }) else Some held
 
+-- the number of the wait that stands at a seat
+abbrev pub seat_number : Option Held → Option ℕ
+seat_number None = None
+seat_number (Some held) = Some held.number
+
 -- the seat of a thread, if it is known
 abbrev pub seat_of : List (Option Held) → Option ℕ → Option Held
 seat_of seats None = None

@@ -26,7 +26,6 @@ mod per_thread;
 mod roster;
 mod seats;
 mod take;
-mod threads;
 mod untaken;
 mod wait;
 mod waits;

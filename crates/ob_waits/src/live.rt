@@ -1,8 +1,9 @@
-ghost use Rattle.std.specs.Prelude.{◌≡◌, ◌+◌, ◌<◌, ◌≤◌, true, Some, None, [], ◌∷◌, ◌++◌, IfSome, length, slice_index_or, slice_set, OnOk, OnErr};
+ghost use Rattle.std.specs.Prelude.{◌≡◌, ◌+◌, ◌<◌, ◌≤◌, ℕ, true, false, Some, None, [], ◌∷◌, ◌++◌, IfNone, IfSome, length, slice_index_or, slice_set, OnOk, OnErr};
 ghost use Rattle.std.specs.Option.{option_copied, option_map};
 ghost use Rattle.least_free.specs.From.{IsLeastFrom};
 ghost use Rattle.ob_waits.specs.Answers.{answer_of, is_answered};
 ghost use Rattle.ob_waits.specs.Deadlines.{is_overdue};
+ghost use Rattle.ob_waits.specs.Rules.{thread_of};
 ghost use Rattle.ob_waits.specs.Waits.{answered, is_pending, number_of};
 
 use crate::answer::Answer;
@@ -62,11 +63,26 @@ impl Live {
         self.waits.is_pending(number)
     }
 
-    /// Whether the wait of a number is pending, and its time is up at a moment.
-    pub(crate) fn is_overdue(&self, number: u32, now: u64) -> bool
-        ensures { result ≡ is_overdue now (slice_index_or self.now number None) }
+    /// The number of a thread's wait.
+    pub(crate) fn number_of(&self, thread: u32) -> Option<u32>
+        ensures number { result ≡ number_of thread self.now }
+        ensures own { (n : ℕ) → thread_of (slice_index_or self.now n None) ≡ Some thread → result ≡ Some n }
     {
-        self.waits.is_overdue(number, now)
+        self.waits.number_of(thread)
+    }
+
+    /// The number of a thread's wait, where that is pending and its time is up at a moment.
+    pub(crate) fn overdue_of(&self, thread: u32, now: u64) -> Option<u32>
+        ensures some { IfSome result (λ n. is_overdue now (slice_index_or self.now n None) ≡ true) }
+        ensures none { IfNone result ((n : ℕ) → thread_of (slice_index_or self.now n None) ≡ Some thread → is_overdue now (slice_index_or self.now n None) ≡ false) }
+    {
+        let Some(number) = self.waits.number_of(thread) else {
+            return None;
+        };
+        if self.waits.is_overdue(number, now) {
+            return Some(number);
+        }
+        None
     }
 
     /// The answer of the least number above one.

@@ -41,7 +41,7 @@ fn next_open<B: Bodies>(live: &Live, bodies: &B, roster: &Roster, id: Id, last: 
     ensures above { IfSome result (λ n. last < n) }
     ensures least { (k : ℕ) → Within k (numbers_of roster.now.index id.slot) → last < k → IsAtMost result k ⊎ IsSpent (B.objects bodies.now).bodies live.now id.slot }
 {
-    if !is_open(live, bodies, roster, id) {
+    if !is_open(live, bodies, id) {
         return None;
     }
     next_of(roster.numbers(id.slot), last)

@@ -1,7 +1,8 @@
-ghost use Rattle.std.specs.Prelude.{◌≡◌, ◌+◌, ◌<◌, ◌≤◌, true, Some, None, [], ◌∷◌, ◌++◌, length, slice_index_or, slice_set, OnOk, OnErr};
+ghost use Rattle.std.specs.Prelude.{◌≡◌, ◌+◌, ◌<◌, ◌≤◌, ℕ, true, Some, None, [], ◌∷◌, ◌++◌, length, slice_index_or, slice_set, OnOk, OnErr};
 ghost use Rattle.std.specs.Option.{option_copied};
 ghost use Rattle.ob_waits.specs.Answers.{answer_of, is_answered};
 ghost use Rattle.ob_waits.specs.Deadlines.{is_overdue};
+ghost use Rattle.ob_waits.specs.Rules.{thread_of};
 ghost use Rattle.ob_waits.specs.Waits.{answered, is_pending, number_of};
 
 use crate::answer::Answer;
@@ -61,6 +62,14 @@ impl Numbered {
             return None;
         };
         seats::find(self.seats.as_slice(), thread, number)
+    }
+
+    /// The number of a thread's wait.
+    pub(crate) fn number_of(&self, thread: u32) -> Option<u32>
+        ensures number { result ≡ number_of thread self.now }
+        ensures own { (n : ℕ) → thread_of (slice_index_or self.now n None) ≡ Some thread → result ≡ Some n }
+    {
+        seats::number_at(self.seats.as_slice(), thread)
     }
 
     /// Whether the wait of a number is pending.

@@ -75,7 +75,7 @@ pub(crate) fn pass_slot<B: Bodies>(
 {
     let numbers = roster.numbers(id.slot);
     for (at, number) in numbers.iter().enumerate() {
-        if at > 0 && !is_open(live, bodies, roster, id) {
+        if at > 0 && !is_open(live, bodies, id) {
             return at;
         }
         take_effect(live, bodies, *number);

@@ -2,20 +2,18 @@ ghost use Rattle.std.specs.Prelude.{[], ◌≡◌, ◌<◌, ◌≤◌, ℕ, List
 ghost use Rattle.ob_waits.specs.declared.wait.Wait.{Wait};
 ghost use Rattle.ob_waits.specs.Waits.{is_pending};
 ghost use Rattle.ob_waits.specs.Numbers.{numbers_of};
-ghost use Rattle.ob_waits.specs.Roster.{IsRight, HasPlace, Leaves, with_number};
+ghost use Rattle.ob_waits.specs.Roster.{IsRight, HasPlace, Leaves};
 
 use crate::index::Index;
 use crate::live::Live;
 use crate::numbers::Numbers;
-use crate::threads::Threads;
 use pin_core::Id;
 use std::alloc::{AllocError, Global};
 use std::marker::Model;
 
-/// Finds waits by their thread, in order, and by the slot of an object.
+/// Finds waits in order, and by the slot of an object.
 #[derive(Drop)]
 pub(crate) struct Roster {
-    threads: Threads,
     order: Numbers,
     index: Index,
 }
@@ -25,25 +23,17 @@ impl Model for Roster {
 
     ghost Value = { spec.Roster };
 
-    ghost view = { λ r. record { threads = r.threads; order = r.order; index = r.index } };
+    ghost view = { λ r. record { order = r.order; index = r.index } };
 }
 
 impl Roster {
     pub(crate) fn new(alloc: Global) -> Roster
-        ensures { result ≡ record { threads = []; order = []; index = [] } }
+        ensures { result ≡ record { order = []; index = [] } }
     {
         Roster {
-            threads: Threads::new(alloc),
             order: Numbers::new(alloc),
             index: Index::new(alloc),
         }
-    }
-
-    /// The number of a thread's wait, or 0.
-    pub(crate) fn number_of(&self, thread: u32) -> u32
-        ensures { result ≡ slice_index_or self.now.threads thread 0 }
-    {
-        self.threads.get(thread)
     }
 
     /// Numbers, rising, among which are all of pending waits.
@@ -60,33 +50,23 @@ impl Roster {
         self.index.numbers(slot)
     }
 
-    /// Takes all memory that a thread's wait for these objects needs here.
+    /// Takes all memory that a wait for these objects needs here.
     pub(crate) fn make_room(
         &mut self,
         live: &Live,
-        thread: u32,
         ids: &[Id],
         number: u32,
     ) -> Result<(), AllocError>
         requires right { IsRight live.now self.old }
         requires next { length live.now ≡ number }
         ensures right { IsRight live.now self.new }
-        ensures place { OnOk result (HasPlace self.new thread ids.now number) }
+        ensures place { OnOk result (HasPlace self.new ids.now number) }
     {
-        self.threads.make_room(thread)?;
         self.order.thin_if_due(live);
         self.order.enter(number)?;
         self.index.thin_all(live, ids);
         self.index.enter_all(ids, number)?;
         Ok(())
-    }
-
-    /// Writes the number of a thread's wait, or 0.
-    pub(crate) fn set_number(&mut self, thread: u32, number: u32)
-        requires { thread < length self.old.threads }
-        ensures { self.new ≡ with_number self.old thread number }
-    {
-        self.threads.set(thread, number);
     }
 
     /// Drops numbers of waits that are not pending.

@@ -1,6 +1,6 @@
 ghost use Rattle.std.specs.Prelude.{◌≡◌, ◌==◌, ◌<◌, ℕ, None, OnOk, slice_index_or, length, if◌then◌else◌};
 ghost use Rattle.std.specs.Option.{option_copied};
-ghost use Rattle.ob_waits.specs.Seats.{answered_here, seated, unseated};
+ghost use Rattle.ob_waits.specs.Seats.{answered_here, seat_number, seated, unseated};
 
 use crate::held::Held;
 use crate::wait::Wait;
@@ -53,6 +53,20 @@ pub(crate) fn find(seats: &[Option<Held>], thread: u32, number: u32) -> Option<&
     let at = thread as usize;
     if at < seats.len() {
         return find_at(&seats[at], number);
+    }
+    None
+}
+
+/// The number of the wait that stands at a thread.
+pub(crate) fn number_at(seats: &[Option<Held>], thread: u32) -> Option<u32>
+    ensures { result ≡ seat_number (slice_index_or seats.now thread None) }
+{
+    let at = thread as usize;
+    if at < seats.len() {
+        return match &seats[at] {
+            Some(held) => Some(held.number),
+            None => None,
+        };
     }
     None
 }

@@ -95,11 +95,7 @@ impl Waits {
         ensures kept { IsKept self.now.waits }
         ensures few { length self.now.waits ≤ 4294967296 }
     {
-        let number = self.roster.number_of(thread);
-        if number == 0 {
-            return None;
-        }
-        Some(number)
+        self.live.number_of(thread)
     }
 
     /// How many places of pending waits name the object. It goes over the list of its slot.
@@ -153,14 +149,13 @@ impl Waits {
     {
         let number = self.live.given() + 1;
         let list = Ids::new(self.alloc, ids)?;
-        self.roster.make_room(&self.live, thread, ids, number)?;
+        self.roster.make_room(&self.live, ids, number)?;
         self.deadlines.make_room(thread)?;
         self.live.push(Wait {
             thread,
             deadline,
             state: State::Pending(mode, list),
         })?;
-        self.roster.set_number(thread, number);
         self.deadlines.set(thread, deadline);
         Ok(number)
     }
@@ -272,7 +267,7 @@ impl Waits {
         ensures none { IfNone result ((n : ℕ) → is_overdue now (slice_index_or self.old.waits n None) ≡ false) }
         ensures same { self.new ≡ self.old }
     {
-        next_overdue(&self.live, &self.roster, &mut self.deadlines, now)
+        next_overdue(&self.live, &mut self.deadlines, now)
     }
 
     /// The least deadline of the pending waits. That of a wait that was answered before is dropped here, once, in a time
@@ -281,7 +276,7 @@ impl Waits {
         ensures least { IsLeast (map deadline_of self.old.waits) result }
         ensures same { self.new ≡ self.old }
     {
-        next_due(&self.live, &self.roster, &mut self.deadlines)
+        next_due(&self.live, &mut self.deadlines)
     }
 
     /// It is a moment, at which no pending wait's time is up.
@@ -299,12 +294,10 @@ impl Waits {
     pub fn drop_thread(&mut self, thread: u32)
         ensures { self.new ≡ without_thread self.old thread }
     {
-        let number = self.roster.number_of(thread);
-        if number == 0 {
+        let Some(number) = self.live.number_of(thread) else {
             return;
-        }
+        };
         let _ = self.live.remove(number);
-        self.roster.set_number(thread, 0);
     }
 
     /// The code of a wait that is answered, which is over with it: its thread may wait again.
@@ -315,7 +308,7 @@ impl Waits {
     {
         let Some(
             Wait {
-                thread,
+                thread: _,
                 deadline: _,
                 state: State::Answered(code),
             },
@@ -323,7 +316,6 @@ impl Waits {
         else {
             unreachable!()
         };
-        self.roster.set_number(thread, 0);
         self.roster.forget(wait);
         code
     }

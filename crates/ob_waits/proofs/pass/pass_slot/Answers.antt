@@ -6,21 +6,17 @@ use Rattle.ob_waits.specs.Waits.{Scene, passed, settled}
 use Rattle.ob_waits.proofs.Keeping.{Fade, fade_both, fade_none, fits_passed, passed_fades}
 use Rattle.ob_waits.proofs.PassLaws.{by_passed, covered_all, covers_slot, settled_spent, steps_on}
 use Rattle.ob_waits.proofs.Settling.{settled_same}
-use Rattle.ob_waits.proofs.TrackedLaws.{threads_faded}
 use Rattle.ob_waits.proofs.pass.pass_slot.Goals as goal
 
 pub loop-at-init : goal.loop-at-init
 loop-at-init g c = record {
   same = refl;
   rest = refl;
-  covers = covers_slot (g.B.Bodies.objects c.args.bodies.now) c.args.id.slot c.args.live.now c.args.roster.now.order c.args.roster.now.index c.requires.ready c.requires.right.lists;
+  covers = covers_slot (g.B.Bodies.objects c.args.bodies.now) c.args.id.slot c.args.live.now c.args.roster.now.order c.args.roster.now.index c.requires.ready c.requires.right;
   fits = c.requires.fits;
   ready = c.requires.ready;
   fade = fade_none c.args.live.now;
 }
-
-pub is_open-requires : goal.is_open-requires
-is_open-requires g c = threads_faded c.args.live.now c.loop-at.live c.args.roster.now.threads c.loop-at.invariant.fade c.requires.right.threads
 
 pub loop-at-preserved : goal.loop-at-preserved
 loop-at-preserved g c =
@@ -29,7 +25,7 @@ loop-at-preserved g c =
     let after : Scene = record { objects = g.B.Bodies.objects c.take_effect.new.bodies; waits = c.take_effect.new.live } in
     let next : Scene = passed (get_or ns c.loop-at.at 0 ∷ []) scene in
     let lt : c.loop-at.at < length ns = search rules in
-    let step = steps_on ns c.loop-at.at scene lt (c.requires.right.lists.index_rises.each c.args.id.slot).rising c.loop-at.invariant.covers in
+    let step = steps_on ns c.loop-at.at scene lt (c.requires.right.index_rises.each c.args.id.slot).rising c.loop-at.invariant.covers in
     let is : after ≡ next = search rules in
     record {
       same = ap settled is ∙ step.same ∙ c.loop-at.invariant.same;

@@ -4,7 +4,7 @@ use Rattle.ob_waits.specs.Waits.{Scene, passed, settled}
 use Rattle.ob_waits.proofs.Keeping.{Fade, fade_both, fade_none, fits_passed, passed_fades}
 use Rattle.ob_waits.proofs.MergeLaws.{Remains, remains_first, goes, all_gone}
 use Rattle.ob_waits.proofs.PassLaws.{covers_order}
-use Rattle.ob_waits.proofs.TrackedLaws.{lists_faded, threads_faded}
+use Rattle.ob_waits.proofs.TrackedLaws.{lists_faded}
 use Rattle.ob_waits.proofs.pass.pass_some.Goals as goal
 
 pub loop-init : goal.loop-init
@@ -13,17 +13,14 @@ loop-init g c =
     record {
       same = refl;
       rest = refl;
-      covers = covers_order first.objects first.waits c.args.roster.now.order c.args.roster.now.index c.requires.right.lists;
-      remains = remains_first c.args.ids.now c.args.roster.now.order c.args.roster.now.index first c.requires.zero c.requires.right.lists c.requires.ready;
+      covers = covers_order first.objects first.waits c.args.roster.now.order c.args.roster.now.index c.requires.right;
+      remains = remains_first c.args.ids.now c.args.roster.now.order c.args.roster.now.index first c.requires.zero c.requires.right c.requires.ready;
       fits = c.requires.fits;
       fade = fade_none c.args.live.now;
     }
 
 pub next_number-requires : goal.next_number-requires
-next_number-requires g c = record {
-  threads = threads_faded c.args.live.now c.loop.live c.args.roster.now.threads c.loop.invariant.fade c.requires.right.threads;
-  lists = lists_faded c.args.live.now c.loop.live c.args.roster.now.order c.args.roster.now.index c.loop.invariant.fade c.requires.right.lists;
-}
+next_number-requires g c = lists_faded c.args.live.now c.loop.live c.args.roster.now.order c.args.roster.now.index c.loop.invariant.fade c.requires.right
 
 pub loop-preserved : goal.loop-preserved
 loop-preserved g c =

@@ -3,7 +3,7 @@ use Rattle.std.proofs.lemmas.Bool.Decides.{nat_tests}
 use Rattle.pin_core.specs.declared.id.Id.{Id}
 use Rattle.ob_waits.specs.declared.wait.Wait.{Wait}
 use Rattle.ob_waits.specs.Waits.{new_wait, WaitList, number_of, is_full}
-use Rattle.ob_waits.specs.Roster.{Roster, IsTracked}
+use Rattle.ob_waits.specs.Roster.{IsTracked}
 use Rattle.ob_waits.proofs.AddedLaws.{tracked_added}
 use Rattle.ob_waits.specs.Deadlines.{AreTimely}
 use Rattle.ob_waits.specs.Form.{IsAfter}
@@ -19,10 +19,9 @@ invariant_of-self-2 c =
     let below : number ≤ c.self.inside.limit = grind (arith, nat_tests, full, len) in
     let waits : c.push.new.self ≡ c.self.inside.live ++ Some (new_wait c.args.thread c.args.mode c.args.ids.now c.args.deadline) ∷ [] =
     c.in_ok-push.ensures.ok ∙ ap (λ (ids : List Id). c.self.inside.live ++ Some (new_wait c.args.thread c.args.mode ids c.args.deadline) ∷ []) c.in_ok-list.ensures in
-    subst (λ (ws : List (Option Wait)). IsTracked c.self.inside.limit ws c.set_number.new.self × AreTimely c.self.inside.clock ws c.set.new.self) (sym waits) (
-      (subst (λ (r : Roster). IsTracked c.self.inside.limit (c.self.inside.live ++ Some (new_wait c.args.thread c.args.mode c.args.ids.now c.args.deadline) ∷ []) r) (sym c.set_number.ensures)
-          (tracked_added c.self.inside.limit c.self.inside.live c.self.inside.roster c.make_room.new.self number c.args.thread c.args.mode c.args.ids.now c.args.deadline
-          len (omega arith) below c.requires.waitable alone c.self.invariant.0 c.in_ok-make_room.ensures.right c.in_ok-make_room.ensures.place)),
+    subst (λ (ws : List (Option Wait)). IsTracked c.self.inside.limit ws c.make_room.new.self × AreTimely c.self.inside.clock ws c.set.new.self) (sym waits) (
+      tracked_added c.self.inside.limit c.self.inside.live c.self.inside.roster c.make_room.new.self number c.args.thread c.args.mode c.args.ids.now c.args.deadline
+          len (omega arith) below c.requires.waitable alone c.self.invariant.0 c.in_ok-make_room.ensures.right c.in_ok-make_room.ensures.place,
       subst (AreTimely c.self.inside.clock (c.self.inside.live ++ Some (new_wait c.args.thread c.args.mode c.args.ids.now c.args.deadline) ∷ [])) (sym c.set.ensures)
           (timely_added c.self.inside.clock c.self.inside.live c.args.thread c.args.mode c.args.ids.now c.args.deadline c.self.inside.deadlines c.make_room-2.new.self alone
           (subst (λ (l : WaitList). IsAfter l.clock c.args.deadline) (sym c.self.view_is) c.requires.ahead) c.in_ok-make_room-2.ensures.room c.in_ok-make_room-2.ensures.same c.self.invariant.1),

@@ -7,7 +7,7 @@ use Rattle.ob_waits.proofs.waits.Waits.blocks_of.Goals as goal
 
 pub blocks_of-requires : goal.blocks_of-requires
 blocks_of-requires c =
-    let numbers = c.self.invariant.0.right.lists.index_rises.each c.args.id.slot in
+    let numbers = c.self.invariant.0.right.index_rises.each c.args.id.slot in
     let few = c.self.invariant.0.few in
     let fits = c.self.invariant.0.limit_fits in
     let same = ap (length {A = ℕ}) c.numbers.ensures in
@@ -15,7 +15,7 @@ blocks_of-requires c =
 
 pub returns : goal.returns
 returns c =
-    let lists = c.self.invariant.0.right.lists in
+    let lists = c.self.invariant.0.right in
     c.blocks_of.ensures
     ∙ ap (sum_by (λ (n : ℕ). blocks_in c.args.id (get_or c.self.inside.live n None))) c.numbers.ensures
     ∙ sum_numbers (blocks_in c.args.id) refl (numbers_of c.self.inside.roster.index c.args.id.slot) c.self.inside.live (lists.index_rises.each c.args.id.slot).rising
