@@ -1,56 +1,53 @@
 -- What is found at the seats by each number, and how that changes.
-use Rattle.std.proofs.Common.{◌≡◌, ◌<◌, ◌≤◌, ◌+◌, ℕ, suc, List, Option, Some, None, refl, ap, ◌∙◌, sym, subst, arith, get_or, Bool, true, false, cond, inl, inr, eqb}
+use Rattle.std.proofs.Common.{◌≡◌, ◌<◌, ◌≤◌, ◌+◌, ℕ, suc, List, Option, Some, None, refl, ap, ◌∙◌, sym, subst, arith, get_or, true, cond, inl, inr, eqb}
 use Rattle.std.proofs.lemmas.Bool.{cases_eq, cases_lt}
 use Rattle.std.proofs.lemmas.Option.{same_Some, none-some}
 use Rattle.ob_waits.specs.declared.wait.Wait.{Wait}
 use Rattle.ob_waits.specs.declared.held.Held.{Held}
-use Rattle.ob_waits.specs.declared.wait.State.TheVariants.{Answered}
 use Rattle.ob_waits.specs.Listed.{listed, IsSparse}
 use Rattle.ob_waits.specs.Rules.{thread_of}
-use Rattle.ob_waits.specs.Seats.{AreSeated, IsSeated, answered_here, found, seat_number, seat_of, seated, unseated}
+use Rattle.ob_waits.specs.Seats.{AreSeated, IsSeated, answered_at, found, number_at, seat_of, wait_at}
 use Rattle.ob_waits.specs.Waits.{answered, is_pending, number_of}
 use Rattle.ob_waits.proofs.ListedLaws.{listed_by, value_at}
 use Rattle.ob_waits.proofs.PlaceLaws.{alike, unlike}
 use Rattle.ob_waits.proofs.TrackedLaws.{no_number, number_is, number_none}
 
--- the wait of a number, where it stands
-pub seated_own : (n : ℕ) (h : Held) → h.number ≡ n → seated n (Some h) ≡ Some h.wait
-seated_own n h same = alike h.number n (Some h.wait) None same
+-- what has a number, or a wait, is there
+number_there : (p : Option Held) (n : ℕ) → number_at p ≡ Some n → (h : Held) × (p ≡ Some h) × (h.number ≡ n)
+number_there None n is = absurd (none-some n is)
+number_there (Some h) n is = (h, refl, same_Some h.number n is)
 
-pub seated_other : (n : ℕ) (h : Held) → (h.number ≡ n → ⊥) → seated n (Some h) ≡ None
-seated_other n h apart = unlike h.number n (Some h.wait) None apart
-
--- a wait that stands at a seat has the number
-pub standing : (n : ℕ) (p : Option Held) (w : Wait) → seated n p ≡ Some w → p ≡ Some (record { number = n; wait = w })
-standing n None w is = absurd (none-some w is)
-standing n (Some h) w is = elim (cases_eq h.number n) [
-  | inl same ↦ let it : h.wait ≡ w = same_Some h.wait w (sym (seated_own n h same) ∙ is) in ap (λ (m : ℕ). Some (record { number = m; wait = h.wait })) same ∙ ap (λ (x : Wait). Some (record { number = n; wait = x })) it
-  | inr apart ↦ absurd (none-some w (sym (seated_other n h apart) ∙ is))
-]
+wait_there : (p : Option Held) (w : Wait) → wait_at p ≡ Some w → (h : Held) × (p ≡ Some h) × (h.wait ≡ w)
+wait_there None w is = absurd (none-some w is)
+wait_there (Some h) w is = (h, refl, same_Some h.wait w is)
 
 module _ (given : ℕ) (seats : List (Option Held)) (threads : ℕ → Option ℕ) (s : AreSeated given seats threads) where
   -- what a seat has is found by its number
-  pub seat_found : (t : ℕ) (h : Held) → get_or seats t None ≡ Some h → found seats threads h.number ≡ Some h.wait
-  seat_found t h is = ap (λ o. seated h.number (seat_of seats o)) (s.each t h is).known ∙ ap (seated h.number) is ∙ seated_own h.number h refl
+  seat_found : (t : ℕ) (h : Held) → get_or seats t None ≡ Some h → found seats threads h.number ≡ Some h.wait
+  seat_found t h is = ap (λ o. wait_at (seat_of seats o)) (s.each t h is).known ∙ ap wait_at is
 
   -- what is found by a number stands at its thread
-  pub found_seat : (n : ℕ) (w : Wait) → found seats threads n ≡ Some w → get_or seats w.thread None ≡ Some (record { number = n; wait = w })
+  found_seat : (n : ℕ) (w : Wait) → found seats threads n ≡ Some w → (0 < n) × (n ≤ given) × (number_at (get_or seats w.thread None) ≡ Some n)
   found_seat n w is = by (threads n) refl
     where
-      by : (o : Option ℕ) → threads n ≡ o → get_or seats w.thread None ≡ Some (record { number = n; wait = w })
-      by None e = absurd (none-some w (ap (λ o. seated n (seat_of seats o)) (sym e) ∙ is))
+      by : (o : Option ℕ) → threads n ≡ o → (0 < n) × (n ≤ given) × (number_at (get_or seats w.thread None) ≡ Some n)
+      by None e = absurd (none-some w (ap (λ o. wait_at (seat_of seats o)) (sym e) ∙ is))
       by (Some t) e =
-          let at = standing n (get_or seats t None) w (ap (λ o. seated n (seat_of seats o)) (sym e) ∙ is) in
-          ap (λ i. get_or seats i None) (s.each t (record { number = n; wait = w }) at).own ∙ at
+          let number = s.there n t e in
+          let at = wait_there (get_or seats t None) w (ap (λ o. wait_at (seat_of seats o)) (sym e) ∙ is) in
+          let own = s.each t at.0 at.1 in
+          let same : at.0.number ≡ n = same_Some at.0.number n (ap number_at (sym at.1) ∙ number) in
+          let thread : w.thread ≡ t = ap (λ (x : Wait). x.thread) (sym at.2) ∙ own.own in
+          (subst (λ i. 0 < i) same own.some, subst (λ i. i ≤ given) same own.fits, ap (λ i. number_at (get_or seats i None)) thread ∙ number)
 
   none : (n : ℕ) → (0 < n → n ≤ given → ⊥) → found seats threads n ≡ None
   none n out = by (found seats threads n) refl
     where
       by : (o : Option Wait) → found seats threads n ≡ o → o ≡ None
       by None e = refl
-      by (Some w) e = let at = s.each w.thread (record { number = n; wait = w }) (found_seat n w e) in absurd (out at.some at.fits)
+      by (Some w) e = let at = found_seat n w e in absurd (out at.0 at.1)
 
-  pub seated_sparse : IsSparse given (found seats threads)
+  seated_sparse : IsSparse given (found seats threads)
   seated_sparse = record {
     zero_has_none = none 0 (λ some le. omega (arith, some));
     past_has_none = λ n past. none n (λ some le. omega (arith, past, le));
@@ -66,43 +63,48 @@ module _ (given : ℕ) (seats : List (Option Held)) (threads : ℕ → Option �
     | inr past ↦ absurd (let e = ap is_pending (seated_sparse.past_has_none n (omega arith)) in cc (e, pending))
   ]
 
+  -- a number that wasn't given has no thread
+  pub not_given : (n : ℕ) → given < n → threads n ≡ None
+  not_given n past = by (threads n) refl
+    where
+      by : (o : Option ℕ) → threads n ≡ o → o ≡ None
+      by None e = refl
+      by (Some t) e = let at = number_there (get_or seats t None) n (s.there n t e) in let fits = (s.each t at.0 at.1).fits in let same = at.2 in absurd (omega (arith, fits, same, past))
+
+  -- the number of a thread's wait is that of the wait at its seat
+  seat_own : (t : ℕ) (h : Held) → get_or seats t None ≡ Some h → thread_of (get_or (listed (suc given) (found seats threads)) h.number None) ≡ Some t
+  seat_own t h is = ap thread_of (number_reads h.number ∙ seat_found t h is) ∙ ap Some (s.each t h is).own
+
+  pub number_held : (t n : ℕ) → thread_of (get_or (listed (suc given) (found seats threads)) n None) ≡ Some t → number_at (get_or seats t None) ≡ Some n
+  number_held t n own = by (found seats threads n) refl
+    where
+      by : (o : Option Wait) → found seats threads n ≡ o → number_at (get_or seats t None) ≡ Some n
+      by None e = absurd (let gone = ap thread_of (number_reads n ∙ e) in cc (gone, own))
+      by (Some w) e = ap (λ i. number_at (get_or seats i None)) (sym (same_Some w.thread t (sym (ap thread_of (number_reads n ∙ e)) ∙ own))) ∙ (found_seat n w e).2
+
+  pub number_held_is : (t : ℕ) → number_at (get_or seats t None) ≡ number_of t (listed (suc given) (found seats threads))
+  number_held_is t = by (get_or seats t None) refl
+    where
+      by : (o : Option Held) → get_or seats t None ≡ o → number_at o ≡ number_of t (listed (suc given) (found seats threads))
+      by None e = sym (number_none (listed (suc given) (found seats threads)) t (λ m own. none-some m (sym (ap number_at e) ∙ number_held t m own)))
+      by (Some h) e = sym (number_is (listed (suc given) (found seats threads)) t h.number (seat_own t h e) (λ m own. same_Some m h.number (sym (number_held t m own) ∙ ap number_at e)))
+
   -- a thread that has no wait has nothing at its seat
   pub free_seat : (t : ℕ) → number_of t (listed (suc given) (found seats threads)) ≡ None → get_or seats t None ≡ None
-  free_seat t none = by (get_or seats t None) refl
+  free_seat t free = by (get_or seats t None) refl
     where
       by : (o : Option Held) → get_or seats t None ≡ o → o ≡ None
       by None e = refl
-      by (Some h) e = absurd (no_number t (listed (suc given) (found seats threads)) h.number none (ap thread_of (number_reads h.number ∙ seat_found t h e) ∙ ap Some (s.each t h e).own))
-
-  -- the number of a thread's wait is that of the wait at its seat
-  held_at : (t n : ℕ) → thread_of (get_or (listed (suc given) (found seats threads)) n None) ≡ Some t → (w : Wait) × (get_or seats t None ≡ Some (record { number = n; wait = w }))
-  held_at t n own = by (found seats threads n) refl
-    where
-      by : (o : Option Wait) → found seats threads n ≡ o → (w : Wait) × (get_or seats t None ≡ Some (record { number = n; wait = w }))
-      by None e = absurd (let none = ap thread_of (number_reads n ∙ e) in cc (none, own))
-      by (Some w) e =
-          let thread : Some w.thread ≡ Some t = sym (ap thread_of (number_reads n ∙ e)) ∙ own in
-          (w, ap (λ i. get_or seats i None) (sym (same_Some w.thread t thread)) ∙ found_seat n w e)
-
-  pub number_held : (t n : ℕ) → thread_of (get_or (listed (suc given) (found seats threads)) n None) ≡ Some t → seat_number (get_or seats t None) ≡ Some n
-  number_held t n own = ap seat_number (held_at t n own).1
-
-  pub number_at : (t : ℕ) → seat_number (get_or seats t None) ≡ number_of t (listed (suc given) (found seats threads))
-  number_at t = by (get_or seats t None) refl
-    where
-      by : (o : Option Held) → get_or seats t None ≡ o → seat_number o ≡ number_of t (listed (suc given) (found seats threads))
-      by None e = sym (number_none (listed (suc given) (found seats threads)) t (λ m own. none-some m (sym (ap seat_number e) ∙ number_held t m own)))
-      by (Some h) e = sym (number_is (listed (suc given) (found seats threads)) t h.number (ap thread_of (number_reads h.number ∙ seat_found t h e) ∙ ap Some (s.each t h e).own)
-          (λ m own. same_Some m h.number (sym (number_held t m own) ∙ ap seat_number e)))
+      by (Some h) e = absurd (no_number t (listed (suc given) (found seats threads)) h.number free (seat_own t h e))
 
 -- seats and threads that read as they did
 module _ (given : ℕ) (seats seats' : List (Option Held)) (threads threads' : ℕ → Option ℕ) (same : (i : ℕ) → get_or seats' i None ≡ get_or seats i None) (known : (q : ℕ) → threads' q ≡ threads q) where
   pub same_found : (q : ℕ) → found seats' threads' q ≡ found seats threads q
-  same_found q = ap (λ o. seated q (seat_of seats' o)) (known q) ∙ by (threads q)
+  same_found q = ap (λ o. wait_at (seat_of seats' o)) (known q) ∙ by (threads q)
     where
-      by : (o : Option ℕ) → seated q (seat_of seats' o) ≡ seated q (seat_of seats o)
+      by : (o : Option ℕ) → wait_at (seat_of seats' o) ≡ wait_at (seat_of seats o)
       by None = refl
-      by (Some t) = ap (seated q) (same t)
+      by (Some t) = ap wait_at (same t)
 
   pub same_listed : listed (suc given) (found seats' threads') ≡ listed (suc given) (found seats threads)
   same_listed = listed_by (suc given) (found seats' threads') (found seats threads) (λ k lt. same_found k)
@@ -110,159 +112,111 @@ module _ (given : ℕ) (seats seats' : List (Option Held)) (threads threads' : �
   pub same_seated : AreSeated given seats threads → AreSeated given seats' threads'
   same_seated s = record {
     each = λ t h is. let old = s.each t h (sym (same t) ∙ is) in record { own = old.own; some = old.some; fits = old.fits; known = known h.number ∙ old.known };
-    past = λ n past. known n ∙ s.past n past;
+    there = λ n t is. ap number_at (same t) ∙ s.there n t (sym (known n) ∙ is);
   }
 
 -- a number that has nothing is as good as taken away
 pub same_absent : {A : Type 0} (f : ℕ → Option A) (n : ℕ) → f n ≡ None → (q : ℕ) → f q ≡ cond (eqb n q) None (f q)
-same_absent f n none q = elim (cases_eq n q) [
-  | inl same ↦ ap f (sym same) ∙ none ∙ sym (alike n q None (f q) same)
+same_absent f n gone q = elim (cases_eq n q) [
+  | inl same ↦ ap f (sym same) ∙ gone ∙ sym (alike n q None (f q) same)
   | inr apart ↦ sym (unlike n q None (f q) apart)
 ]
 
+-- one seat changes, and the thread of one number, whose wait stands or stood there and nowhere else
+module _ (given given' n t : ℕ) (x : Option ℕ) (y : Option Held) (seats seats' : List (Option Held)) (threads threads' : ℕ → Option ℕ) (s : AreSeated given seats threads) (more : given ≤ given')
+    (new : (i : ℕ) → get_or seats' i None ≡ cond (eqb t i) y (get_or seats i None)) (known : (q : ℕ) → threads' q ≡ cond (eqb n q) x (threads q))
+    (was : (q : ℕ) → threads q ≡ Some t → n ≡ q) (only : (u : ℕ) → threads n ≡ Some u → t ≡ u)
+    (now : (h : Held) → y ≡ Some h → IsSeated given' threads' t h) (stands : (u : ℕ) → x ≡ Some u → (t ≡ u) × (number_at y ≡ Some n)) where
+  here : (i : ℕ) → t ≡ i → get_or seats' i None ≡ y
+  here i same = new i ∙ alike t i y (get_or seats i None) same
+
+  other : (i : ℕ) → (t ≡ i → ⊥) → get_or seats' i None ≡ get_or seats i None
+  other i apart = new i ∙ unlike t i y (get_or seats i None) apart
+
+  same_thread : (q : ℕ) → (n ≡ q → ⊥) → threads' q ≡ threads q
+  same_thread q apart = known q ∙ unlike n q x (threads q) apart
+
+  pub changed_found : (q : ℕ) → found seats' threads' q ≡ cond (eqb n q) (wait_at (seat_of seats' x)) (found seats threads q)
+  changed_found q = elim (cases_eq n q) [
+    | inl same ↦ ap (λ o. wait_at (seat_of seats' o)) (known q ∙ alike n q x (threads q) same) ∙ sym (alike n q (wait_at (seat_of seats' x)) (found seats threads q) same)
+    | inr apart ↦ ap (λ o. wait_at (seat_of seats' o)) (same_thread q apart) ∙ by apart (threads q) refl ∙ sym (unlike n q (wait_at (seat_of seats' x)) (found seats threads q) apart)
+  ]
+    where
+      by : (n ≡ q → ⊥) → (o : Option ℕ) → threads q ≡ o → wait_at (seat_of seats' o) ≡ wait_at (seat_of seats o)
+      by apart None e = refl
+      by apart (Some u) e = ap wait_at (other u (λ same. apart (was q (e ∙ ap Some (sym same)))))
+
+  pub changed_seated : AreSeated given' seats' threads'
+  changed_seated = record {
+    each = λ u h is. elim (cases_eq t u) [
+      | inl same ↦ subst (λ v. IsSeated given' threads' v h) same (now h (sym (here u same) ∙ is))
+      | inr apart ↦
+          let old = s.each u h (sym (other u apart) ∙ is) in
+          let fits = old.fits in
+          record { own = old.own; some = old.some; fits = omega (arith, fits, more); known = same_thread h.number (λ e. apart (only u (ap threads e ∙ old.known))) ∙ old.known }
+    ];
+    there = λ q u is. elim (cases_eq n q) [
+      | inl same ↦ let at = stands u (sym (known q ∙ alike n q x (threads q) same) ∙ is) in ap number_at (here u at.0) ∙ at.1 ∙ ap Some same
+      | inr apart ↦ let is' : threads q ≡ Some u = sym (same_thread q apart) ∙ is in ap number_at (other u (λ e. apart (was q (is' ∙ ap Some (sym e))))) ∙ s.there q u is'
+    ];
+  }
+
 -- a thread takes its seat, with the next number
-module _ (given n t : ℕ) (w : Wait) (seats seats' : List (Option Held)) (threads threads' : ℕ → Option ℕ) (s : AreSeated given seats threads) (is : n ≡ given + 1) (own : w.thread ≡ t) (free : get_or seats t None ≡ None)
-    (new : (i : ℕ) → get_or seats' i None ≡ cond (eqb t i) (Some (record { number = n; wait = w })) (get_or seats i None)) (known : (q : ℕ) → threads' q ≡ cond (eqb n q) (Some t) (threads q)) where
-  abbrev held : Held
-  held = record { number = n; wait = w }
+module _ (given n : ℕ) (w : Wait) (seats seats' : List (Option Held)) (threads threads' : ℕ → Option ℕ) (s : AreSeated given seats threads) (is : n ≡ given + 1) (free : get_or seats w.thread None ≡ None)
+    (new : (i : ℕ) → get_or seats' i None ≡ cond (eqb w.thread i) (Some (record { number = n; wait = w })) (get_or seats i None)) (known : (q : ℕ) → threads' q ≡ cond (eqb n q) (Some w.thread) (threads q)) where
+  was_free : (q : ℕ) → threads q ≡ Some w.thread → n ≡ q
+  was_free q e = absurd (none-some q (ap number_at (sym free) ∙ s.there q w.thread e))
+
+  was_new : (u : ℕ) → threads n ≡ Some u → w.thread ≡ u
+  was_new u e = absurd (none-some u (sym (not_given given seats threads s n (omega arith)) ∙ e))
+
+  sits : (h : Held) → Some (record { number = n; wait = w }) ≡ Some h → IsSeated n threads' w.thread h
+  sits h e = subst (IsSeated n threads' w.thread) (same_Some (record { number = n; wait = w }) h e) (record { own = refl; some = omega arith; fits = omega arith; known = known n ∙ alike n n (Some w.thread) (threads n) refl })
 
   pub took_found : (q : ℕ) → found seats' threads' q ≡ cond (eqb n q) (Some w) (found seats threads q)
-  took_found q = elim (cases_eq n q) [
-    | inl same ↦ ap (λ o. seated q (seat_of seats' o)) (known q ∙ alike n q (Some t) (threads q) same) ∙ ap (seated q) (new t ∙ alike t t (Some held) (get_or seats t None) refl) ∙ seated_own q held same ∙ sym (alike n q (Some w) (found seats threads q) same)
-    | inr apart ↦ ap (λ o. seated q (seat_of seats' o)) (known q ∙ unlike n q (Some t) (threads q) apart) ∙ at apart (threads q) ∙ sym (unlike n q (Some w) (found seats threads q) apart)
-  ]
-    where
-      at : (n ≡ q → ⊥) → (o : Option ℕ) → seated q (seat_of seats' o) ≡ seated q (seat_of seats o)
-      at apart None = refl
-      at apart (Some u) = elim (cases_eq t u) [
-        | inl same ↦ ap (seated q) (new u ∙ alike t u (Some held) (get_or seats u None) same) ∙ seated_other q held apart ∙ sym (ap (seated q) (ap (λ i. get_or seats i None) (sym same) ∙ free))
-        | inr other ↦ ap (seated q) (new u ∙ unlike t u (Some held) (get_or seats u None) other)
-      ]
+  took_found q = changed_found given n n w.thread (Some w.thread) (Some (record { number = n; wait = w })) seats seats' threads threads' s (omega arith) new known was_free was_new sits (λ u e. (same_Some w.thread u e, refl)) q
+      ∙ ap (λ p. cond (eqb n q) (wait_at p) (found seats threads q)) (new w.thread ∙ alike w.thread w.thread (Some (record { number = n; wait = w })) (get_or seats w.thread None) refl)
 
   pub took_seated : AreSeated n seats' threads'
-  took_seated = record {
-    past = λ q past. known q ∙ unlike n q (Some t) (threads q) (λ e. omega (arith, e, past)) ∙ s.past q (omega (arith, past));
-    each = λ u h at. elim (cases_eq t u) [
-      | inl same ↦
-          let it : held ≡ h = same_Some held h (sym (new u ∙ alike t u (Some held) (get_or seats u None) same) ∙ at) in
-          subst (IsSeated n threads' u) it (record { own = own ∙ same; some = omega arith; fits = omega arith; known = known n ∙ alike n n (Some t) (threads n) refl ∙ ap Some same })
-      | inr other ↦
-          let old = s.each u h (sym (new u ∙ unlike t u (Some held) (get_or seats u None) other) ∙ at) in
-          let fits = old.fits in
-          record { own = old.own; some = old.some; fits = omega (arith, fits); known = known h.number ∙ unlike n h.number (Some t) (threads h.number) (λ e. omega (arith, e, fits)) ∙ old.known }
-    ];
-  }
+  took_seated = changed_seated given n n w.thread (Some w.thread) (Some (record { number = n; wait = w })) seats seats' threads threads' s (omega arith) new known was_free was_new sits (λ u e. (same_Some w.thread u e, refl))
 
--- the wait of a number is answered at its seat
-module _ (given n t code : ℕ) (seats seats' : List (Option Held)) (threads : ℕ → Option ℕ) (s : AreSeated given seats threads) (at : threads n ≡ Some t)
-    (new : (i : ℕ) → get_or seats' i None ≡ cond (eqb t i) (answered_here n code (get_or seats i None)) (get_or seats i None)) where
-  seat_answered : (q : ℕ) (p : Option Held) → seated q (answered_here n code p) ≡ cond (eqb n q) (answered (seated n p) code) (seated q p)
-  seat_answered q None = over (eqb n q)
-    where
-      over : (b : Bool) → None ≡ cond b (answered None code) None
-      over true = refl
-      over false = refl
-  seat_answered q (Some h) = elim (cases_eq h.number n) [
-    | inl own ↦
-        ap (seated q) (alike h.number n (Some after) (Some h) own)
-        ∙ elim (cases_eq n q) [
-          | inl same ↦ seated_own q after (own ∙ same) ∙ sym (alike n q (answered (seated n (Some h)) code) (seated q (Some h)) same ∙ ap (λ o. answered o code) (seated_own n h own))
-          | inr apart ↦ seated_other q after (λ e. apart (sym own ∙ e)) ∙ sym (unlike n q (answered (seated n (Some h)) code) (seated q (Some h)) apart ∙ seated_other q h (λ e. apart (sym own ∙ e)))
-        ]
-    | inr other ↦ ap (seated q) (unlike h.number n (Some after) (Some h) other) ∙ elim (cases_eq n q) [
-      | inl same ↦ seated_other q h (λ e. other (e ∙ sym same)) ∙ sym (alike n q (answered (seated n (Some h)) code) (seated q (Some h)) same ∙ ap (λ o. answered o code) (seated_other n h other))
-      | inr apart ↦ sym (unlike n q (answered (seated n (Some h)) code) (seated q (Some h)) apart)
-    ]
-  ]
-    where
-      after : Held
-      after = record { number = h.number; wait = record h.wait { state = Answered code } }
+-- the wait of a number is answered, or leaves its seat
+module _ (given n t : ℕ) (seats seats' : List (Option Held)) (threads : ℕ → Option ℕ) (s : AreSeated given seats threads) (at : threads n ≡ Some t) where
+  was_own : (q : ℕ) → threads q ≡ Some t → n ≡ q
+  was_own q e = same_Some n q (sym (s.there n t at) ∙ s.there q t e)
 
-  pub answered_found : (q : ℕ) → found seats' threads q ≡ cond (eqb n q) (answered (found seats threads n) code) (found seats threads q)
-  answered_found q = by (threads q) refl
-    where
-      here : found seats threads n ≡ seated n (get_or seats t None)
-      here = ap (λ o. seated n (seat_of seats o)) at
+  was_there : (u : ℕ) → threads n ≡ Some u → t ≡ u
+  was_there u e = same_Some t u (sym at ∙ e)
 
-      by : (o : Option ℕ) → threads q ≡ o → seated q (seat_of seats' o) ≡ cond (eqb n q) (answered (found seats threads n) code) (seated q (seat_of seats o))
-      by None e = sym (unlike n q (answered (found seats threads n) code) None (λ same. let some : Some t ≡ None = sym at ∙ ap threads same ∙ e in cc (some)))
-      by (Some u) e = elim (cases_eq t u) [
-        | inl same ↦
-            ap (seated q) (new u ∙ alike t u (answered_here n code (get_or seats u None)) (get_or seats u None) same) ∙ seat_answered q (get_or seats u None)
-            ∙ ap (λ z. cond (eqb n q) z (seated q (get_or seats u None))) (ap (λ i. answered (seated n (get_or seats i None)) code) (sym same) ∙ ap (λ o. answered o code) (sym here))
-        | inr other ↦
-            ap (seated q) (new u ∙ unlike t u (answered_here n code (get_or seats u None)) (get_or seats u None) other)
-            ∙ sym (unlike n q (answered (found seats threads n) code) (seated q (get_or seats u None)) (λ same. other (let it : Some t ≡ Some u = sym at ∙ ap threads same ∙ e in same_Some t u it)))
-      ]
+  module _ (code : ℕ) (new : (i : ℕ) → get_or seats' i None ≡ cond (eqb t i) (answered_at code (get_or seats t None)) (get_or seats i None)) where
+    known_still : (q : ℕ) → threads q ≡ cond (eqb n q) (Some t) (threads q)
+    known_still q = elim (cases_eq n q) [ inl same ↦ ap threads (sym same) ∙ at ∙ sym (alike n q (Some t) (threads q) same) | inr apart ↦ sym (unlike n q (Some t) (threads q) apart) ]
 
-  pub answered_seated : AreSeated given seats' threads
-  answered_seated = record {
-    past = s.past;
-    each = λ u h is. elim (cases_eq t u) [
-      | inl same ↦ own u h (get_or seats u None) refl (sym (new u ∙ alike t u (answered_here n code (get_or seats u None)) (get_or seats u None) same) ∙ is)
-      | inr other ↦ s.each u h (sym (new u ∙ unlike t u (answered_here n code (get_or seats u None)) (get_or seats u None) other) ∙ is)
-    ];
-  }
-    where
-      own : (u : ℕ) (h : Held) (p : Option Held) → get_or seats u None ≡ p → answered_here n code p ≡ Some h → IsSeated given threads u h
-      own u h None e is = absurd (none-some h is)
-      own u h (Some x) e is = elim (cases_eq x.number n) [
-        | inl same ↦
-            let old = s.each u x e in
-            let it : after ≡ h = same_Some after h (sym (alike x.number n (Some after) (Some x) same) ∙ is) in
-            subst (IsSeated given threads u) it (record { own = old.own; some = old.some; fits = old.fits; known = old.known })
-        | inr other ↦ s.each u h (e ∙ sym (unlike x.number n (Some after) (Some x) other) ∙ is)
-      ]
-        where
-          after : Held
-          after = record { number = x.number; wait = record x.wait { state = Answered code } }
+    sits_on : (p : Option Held) → get_or seats t None ≡ p → (h : Held) → answered_at code p ≡ Some h → IsSeated given threads t h
+    sits_on None is h e = absurd (none-some h e)
+    sits_on (Some x) is h e = let old = s.each t x is in subst (IsSeated given threads t) (same_Some _ h e) (record { own = old.own; some = old.some; fits = old.fits; known = old.known })
 
--- the wait of a number leaves its seat
-module _ (given n t : ℕ) (seats seats' : List (Option Held)) (threads threads' : ℕ → Option ℕ) (s : AreSeated given seats threads) (at : threads n ≡ Some t)
-    (new : (i : ℕ) → get_or seats' i None ≡ cond (eqb t i) (unseated n (get_or seats i None)) (get_or seats i None)) (known : (q : ℕ) → threads' q ≡ cond (eqb n q) None (threads q)) where
-  seat_left : (q : ℕ) (p : Option Held) → (n ≡ q → ⊥) → seated q (unseated n p) ≡ seated q p
-  seat_left q None apart = refl
-  seat_left q (Some h) apart = elim (cases_eq h.number n) [
-    | inl own ↦ ap (seated q) (alike h.number n None (Some h) own) ∙ sym (seated_other q h (λ e. apart (sym own ∙ e)))
-    | inr other ↦ ap (seated q) (unlike h.number n None (Some h) other)
-  ]
+    number_still : (p : Option Held) → number_at (answered_at code p) ≡ number_at p
+    number_still None = refl
+    number_still (Some h) = refl
 
-  pub left_found : (q : ℕ) → found seats' threads' q ≡ cond (eqb n q) None (found seats threads q)
-  left_found q = elim (cases_eq n q) [
-    | inl same ↦ ap (λ o. seated q (seat_of seats' o)) (known q ∙ alike n q None (threads q) same) ∙ sym (alike n q None (found seats threads q) same)
-    | inr apart ↦ ap (λ o. seated q (seat_of seats' o)) (known q ∙ unlike n q None (threads q) apart) ∙ by apart (threads q) ∙ sym (unlike n q None (found seats threads q) apart)
-  ]
-    where
-      by : (n ≡ q → ⊥) → (o : Option ℕ) → seated q (seat_of seats' o) ≡ seated q (seat_of seats o)
-      by apart None = refl
-      by apart (Some u) = elim (cases_eq t u) [
-        | inl same ↦ ap (seated q) (new u ∙ alike t u (unseated n (get_or seats u None)) (get_or seats u None) same) ∙ seat_left q (get_or seats u None) apart
-        | inr other ↦ ap (seated q) (new u ∙ unlike t u (unseated n (get_or seats u None)) (get_or seats u None) other)
-      ]
+    wait_answered : (p : Option Held) → wait_at (answered_at code p) ≡ answered (wait_at p) code
+    wait_answered None = refl
+    wait_answered (Some h) = refl
 
-  pub left_seated : AreSeated given seats' threads'
-  left_seated = record {
-    past = λ q past. known q ∙ gone (eqb n q) (threads q) (s.past q past);
-    each = λ u h is. elim (cases_eq t u) [
-      | inl same ↦ own u h (get_or seats u None) refl (sym (new u ∙ alike t u (unseated n (get_or seats u None)) (get_or seats u None) same) ∙ is)
-      | inr other ↦
-          let there : get_or seats u None ≡ Some h = sym (new u ∙ unlike t u (unseated n (get_or seats u None)) (get_or seats u None) other) ∙ is in
-          stays u h there (λ e. other (let it : Some t ≡ Some u = sym at ∙ ap threads e ∙ (s.each u h there).known in same_Some t u it))
-    ];
-  }
-    where
-      gone : (b : Bool) (o : Option ℕ) → o ≡ None → cond b None o ≡ None
-      gone true o e = refl
-      gone false o e = e
+    pub answered_found : (q : ℕ) → found seats' threads q ≡ cond (eqb n q) (answered (found seats threads n) code) (found seats threads q)
+    answered_found q = changed_found given given n t (Some t) (answered_at code (get_or seats t None)) seats seats' threads threads s (omega arith) new known_still was_own was_there (sits_on (get_or seats t None) refl)
+        (λ u e. (same_Some t u e, number_still (get_or seats t None) ∙ s.there n t at)) q
+        ∙ ap (λ (o : Option Wait). cond (eqb n q) o (found seats threads q)) (ap wait_at (new t ∙ alike t t (answered_at code (get_or seats t None)) (get_or seats t None) refl) ∙ wait_answered (get_or seats t None)
+        ∙ ap (λ o. answered (wait_at (seat_of seats o)) code) (sym at))
 
-      stays : (u : ℕ) (h : Held) → get_or seats u None ≡ Some h → (n ≡ h.number → ⊥) → IsSeated given threads' u h
-      stays u h there apart = let old = s.each u h there in record { own = old.own; some = old.some; fits = old.fits; known = known h.number ∙ unlike n h.number None (threads h.number) apart ∙ old.known }
+    pub answered_seated : AreSeated given seats' threads
+    answered_seated = changed_seated given given n t (Some t) (answered_at code (get_or seats t None)) seats seats' threads threads s (omega arith) new known_still was_own was_there (sits_on (get_or seats t None) refl)
+        (λ u e. (same_Some t u e, number_still (get_or seats t None) ∙ s.there n t at))
 
-      own : (u : ℕ) (h : Held) (p : Option Held) → get_or seats u None ≡ p → unseated n p ≡ Some h → IsSeated given threads' u h
-      own u h None e is = absurd (none-some h is)
-      own u h (Some x) e is = elim (cases_eq x.number n) [
-        | inl same ↦ absurd (none-some h (sym (alike x.number n None (Some x) same) ∙ is))
-        | inr other ↦
-            let it : x ≡ h = same_Some x h (sym (unlike x.number n None (Some x) other) ∙ is) in
-            stays u h (e ∙ ap Some it) (λ z. other (ap (λ (y : Held). y.number) it ∙ sym z))
-      ]
+  module _ (threads' : ℕ → Option ℕ) (new : (i : ℕ) → get_or seats' i None ≡ cond (eqb t i) None (get_or seats i None)) (known : (q : ℕ) → threads' q ≡ cond (eqb n q) None (threads q)) where
+    pub left_found : (q : ℕ) → found seats' threads' q ≡ cond (eqb n q) None (found seats threads q)
+    left_found = changed_found given given n t None None seats seats' threads threads' s (omega arith) new known was_own was_there (λ h e. absurd (none-some h e)) (λ u e. absurd (none-some u e))
+
+    pub left_seated : AreSeated given seats' threads'
+    left_seated = changed_seated given given n t None None seats seats' threads threads' s (omega arith) new known was_own was_there (λ h e. absurd (none-some h e)) (λ u e. absurd (none-some u e))

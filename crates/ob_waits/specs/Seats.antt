@@ -43,24 +43,19 @@ pub record IsSpread (mask : ℕ) (from to : List (Option Entry)) : Type 0 where
   pub all : (i : ℕ) (entry : Entry) → slice_index_or from i None ≡ Some entry → slice_index_or to (home mask entry.number) None ≡ Some entry
   pub only : (i : ℕ) (entry : Entry) → slice_index_or to i None ≡ Some entry → (home mask entry.number ≡ i) × ((j : ℕ) × (slice_index_or from j None ≡ Some entry))
 
--- the wait of a number, where it stands at a seat
-abbrev pub seated : ℕ → Option Held → Option Wait
-seated number None = None
-seated number (Some held) = if held.number == number then Some held.wait else None
+-- the number and the wait that stand at a seat
+abbrev pub number_at : Option Held → Option ℕ
+number_at None = None
+number_at (Some held) = Some held.number
 
--- the same seat without that wait, and with that wait answered
-abbrev pub unseated : ℕ → Option Held → Option Held
-unseated number None = None
-unseated number (Some held) = if held.number == number then None else Some held
+abbrev pub wait_at : Option Held → Option Wait
+wait_at None = None
+wait_at (Some held) = Some held.wait
 
-abbrev pub answered_here : ℕ → ℕ → Option Held → Option Held
-answered_here number code None = None
-answered_here number code (Some held) = if held.number == number then Some (record held { wait = record held.wait { state = Answered code } }) else Some held
-
--- the number of the wait that stands at a seat
-abbrev pub seat_number : Option Held → Option ℕ
-seat_number None = None
-seat_number (Some held) = Some held.number
+-- the same seat with the wait answered
+abbrev pub answered_at : ℕ → Option Held → Option Held
+answered_at code None = None
+answered_at code (Some held) = Some (record held { wait = record held.wait { state = Answered code } })
 
 -- the seat of a thread, if it is known
 abbrev pub seat_of : List (Option Held) → Option ℕ → Option Held
@@ -69,7 +64,7 @@ seat_of seats (Some thread) = slice_index_or seats thread None
 
 -- the wait of a number, which stands at the number's thread
 abbrev pub found : List (Option Held) → (ℕ → Option ℕ) → ℕ → Option Wait
-found seats threads number = seated number (seat_of seats (threads number))
+found seats threads number = wait_at (seat_of seats (threads number))
 
 -- a wait at a thread's seat is the thread's, its number was given, and it is found by it
 pub record IsSeated (given : ℕ) (threads : ℕ → Option ℕ) (thread : ℕ) (held : Held) : Type 0 where
@@ -78,6 +73,7 @@ pub record IsSeated (given : ℕ) (threads : ℕ → Option ℕ) (thread : ℕ) 
   pub fits : held.number ≤ given
   pub known : threads held.number ≡ Some thread
 
+-- and a number whose thread is known has its wait there
 pub record AreSeated (given : ℕ) (seats : List (Option Held)) (threads : ℕ → Option ℕ) : Type 0 where
   pub each : (t : ℕ) (held : Held) → slice_index_or seats t None ≡ Some held → IsSeated given threads t held
-  pub past : (n : ℕ) → given < n → threads n ≡ None
+  pub there : (n t : ℕ) → threads n ≡ Some t → number_at (slice_index_or seats t None) ≡ Some n

@@ -61,7 +61,7 @@ impl Numbered {
         let Some(thread) = self.finder.get(number) else {
             return None;
         };
-        seats::find(self.seats.as_slice(), thread, number)
+        seats::wait_at(self.seats.as_slice(), thread)
     }
 
     /// The number of a thread's wait.
@@ -150,7 +150,7 @@ impl Numbered {
         let Some(thread) = self.finder.get(number) else {
             unreachable!()
         };
-        seats::answer(&mut self.seats, thread, number, code);
+        seats::answer(&mut self.seats, thread, code);
     }
 
     /// Takes the wait of a number away.
@@ -162,6 +162,6 @@ impl Numbered {
             return None;
         };
         self.finder.remove(number);
-        seats::take(&mut self.seats, thread, number)
+        seats::take(&mut self.seats, thread)
     }
 }
