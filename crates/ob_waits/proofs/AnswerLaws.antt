@@ -9,11 +9,11 @@ use Rattle.ob_waits.specs.declared.wait.State.{State}
 use Rattle.ob_waits.specs.declared.wait.State.TheVariants.{Pending, Answered}
 use Rattle.ob_waits.specs.Answers.{is_answered, Untaken, IsAnswered, AreToldBut, AreTold, Drops}
 use Rattle.ob_waits.specs.Rules.{thread_of, IsRising, Within}
-use Rattle.ob_waits.specs.Waits.{answered, is_pending, number_of}
+use Rattle.ob_waits.specs.Waits.{answered, is_pending}
 use Rattle.ob_waits.proofs.AddedLaws.{by_number}
 use Rattle.ob_waits.proofs.Keeping.{Fade}
 use Rattle.ob_waits.proofs.NumberLaws.{last_most, within_left, within_last}
-use Rattle.ob_waits.proofs.TrackedLaws.{fade_answered, no_number, no_wait}
+use Rattle.ob_waits.proofs.TrackedLaws.{fade_answered, no_wait}
 
 -- no waits
 pub told_none : AreTold (None ∷ []) (record { fresh = []; late = [] })
@@ -21,7 +21,6 @@ told_none = record {
   rising = tt;
   late = λ t n h. absurd (cc (h));
   each = λ t n apart own. absurd (let e = ap thread_of (no_wait n) in let o = own.0 in cc (e, o));
-  alone = λ t n m p q. absurd (let e = ap thread_of (no_wait n) in cc (e, p));
   placed = λ t n own. absurd (let e = ap thread_of (no_wait n) in cc (e, own));
 }
 
@@ -31,7 +30,6 @@ told_room ws u u' fresh late longer told = record {
   rising = subst IsRising (sym fresh) told.rising;
   late = λ t n h. told.late t n (sym (late t) ∙ h);
   each = λ t n apart own. elim (told.each t n apart own) [ inl w ↦ inl (subst (Within n) (sym fresh) w) | inr at ↦ inr (late t ∙ at) ];
-  alone = told.alone;
   placed = λ t n own. let lt = told.placed t n own in omega (arith, lt, longer);
 }
 
@@ -44,8 +42,8 @@ unanswered (Some w) h = by w.state h
     by (Pending mode ids) h = refl
     by (Answered code) h = absurd (cc (h))
 
-pub told_added : (ws : List (Option Wait)) (w : Wait) (u : Untaken) → number_of w.thread ws ≡ None → is_pending (Some w) ≡ true → w.thread < length u.late → AreTold ws u → AreTold (ws ++ Some w ∷ []) u
-told_added ws w u alone pending place told = record {
+pub told_added : (ws : List (Option Wait)) (w : Wait) (u : Untaken) → is_pending (Some w) ≡ true → w.thread < length u.late → AreTold ws u → AreTold (ws ++ Some w ∷ []) u
+told_added ws w u pending place told = record {
   rising = told.rising;
   late = λ t n h.
       let old = told.late t n h in
@@ -54,10 +52,6 @@ told_added ws w u alone pending place told = record {
       (λ m past e. absurd (let none = get_or_past ws n None (omega (arith, e, past)) in let o : thread_of (get_or ws n None) ≡ Some t = old.0 in let z = ap thread_of none in cc (z, o))) n refl;
   each = λ t n apart. by_number ws w (λ m x. IsAnswered t x → Within m u.fresh ⊎ (get_or u.late t None ≡ Some m)) (λ m lt own. told.each t m (λ e. cc (e)) own)
       (λ own. absurd (let a = own.1 in let b = unanswered (Some w) pending in cc (a, b))) (λ m past own. absurd (let o = own.0 in cc (o))) n;
-  alone = λ t n m p q. elim (ours n t p) [
-    | inl a ↦ elim (ours m t q) [ inl b ↦ told.alone t n m a b | inr b ↦ absurd (no_number w.thread ws n alone (a ∙ ap Some b.1)) ]
-    | inr a ↦ elim (ours m t q) [ inl b ↦ absurd (no_number w.thread ws m alone (b ∙ ap Some a.1)) | inr b ↦ a.0 ∙ sym b.0 ]
-  ];
   placed = λ t n own. elim (ours n t own) [ inl a ↦ told.placed t n a | inr a ↦ let e = a.1 in omega (arith, e, place) ];
 }
   where
@@ -73,7 +67,6 @@ told_answered ws n code u pending told = record {
     | inr other ↦ subst (IsAnswered t) (sym (get_or-set_other ws n m x None other)) old
   ];
   each = λ t m apart own. let other : m ≢ n = λ e. apart (ap Some e) in told.each t m (λ e. cc (e)) (subst (IsAnswered t) (get_or-set_other ws n m x None other) own);
-  alone = λ t m k p q. told.alone t m k (sym (fade.each m).thread ∙ p) (sym (fade.each k).thread ∙ q);
   placed = λ t m own. told.placed t m (sym (fade.each m).thread ∙ own);
 }
   where
@@ -105,12 +98,11 @@ told_fresh ws n u u' fresh late rising told = record {
       | inr at ↦ inr (ap (λ (l : List (Option ℕ)). get_or l t None) late ∙ at)
     ]
   ];
-  alone = told.alone;
   placed = λ t m own. subst (λ (l : List (Option ℕ)). t < length l) (sym late) (told.placed t m own);
 }
 
-pub told_late : (ws : List (Option Wait)) (n t : ℕ) (u : Untaken) → IsAnswered t (get_or ws n None) → AreToldBut (Some n) ws u → AreTold ws (record u { late = set u.late t (Some n) })
-told_late ws n t u own told = record {
+pub told_late : (ws : List (Option Wait)) (n t : ℕ) (u : Untaken) → IsAnswered t (get_or ws n None) → ((m : ℕ) → thread_of (get_or ws m None) ≡ Some t → m ≡ n) → AreToldBut (Some n) ws u → AreTold ws (record u { late = set u.late t (Some n) })
+told_late ws n t u own alone told = record {
   rising = told.rising;
   late = λ s m h. elim (cases_eq s t) [
     | inl same ↦
@@ -124,10 +116,9 @@ told_late ws n t u own told = record {
         let thread : s ≡ t = cc (e) in inr (ap (λ i. get_or (set u.late t (Some n)) i None) thread ∙ get_or-set_same u.late t (Some n) None place ∙ ap Some (sym same))
     | inr other ↦ elim (told.each s m (λ e. other (let same : m ≡ n = cc (e) in same)) h) [
       | inl w ↦ inl w
-      | inr at ↦ inr (get_or-set_other u.late t s (Some n) None (λ e. other (told.alone s m n h.0 (own.0 ∙ ap Some (sym e)))) ∙ at)
+      | inr at ↦ inr (get_or-set_other u.late t s (Some n) None (λ e. other (alone m (h.0 ∙ ap Some e))) ∙ at)
     ]
   ];
-  alone = told.alone;
   placed = λ s m h. let lt = told.placed s m h in omega (arith, lt, length-set u.late t (Some n));
 }
   where
@@ -140,7 +131,6 @@ told_same ws ws' u same told = record {
   rising = told.rising;
   late = λ t m h. subst (IsAnswered t) (sym (same m)) (told.late t m h);
   each = λ t m apart own. told.each t m apart (subst (IsAnswered t) (same m) own);
-  alone = λ t n m p q. told.alone t n m (sym (ap thread_of (same n)) ∙ p) (sym (ap thread_of (same m)) ∙ q);
   placed = λ t n own. told.placed t n (sym (ap thread_of (same n)) ∙ own);
 }
 
@@ -170,7 +160,6 @@ module _ (ws : List (Option Wait)) (n t : ℕ) (own : thread_of (get_or ws n Non
         let e : Some t ≡ Some s = sym own ∙ ap (λ i. thread_of (get_or ws i None)) (sym same) ∙ old.0 in
         let thread : t ≡ s = cc (e) in free (ap (λ i. get_or u.late i None) thread ∙ h ∙ ap Some same)))) old;
     each = λ s m apart h. told.each s m apart (subst (IsAnswered s) (get_or-set_other ws n m None None (still m s h.0)) h);
-    alone = λ s i j p q. told.alone s i j (was i s p) (was j s q);
     placed = λ s m h. told.placed s m (was m s h);
   }
 
@@ -188,7 +177,6 @@ module _ (ws : List (Option Wait)) (n t : ℕ) (own : thread_of (get_or ws n Non
       | inl w ↦ inl w
       | inr here ↦ inr (get_or-set_other u.late t s None None (λ same. still m s h.0 (let e : Some m ≡ Some n = sym here ∙ ap (λ i. get_or u.late i None) same ∙ at in let number : m ≡ n = cc (e) in number)) ∙ here)
     ];
-    alone = λ s i j p q. told.alone s i j (was i s p) (was j s q);
     placed = λ s m h. let lt = told.placed s m (was m s h) in omega (arith, lt, length-set u.late t None);
   }
 
@@ -198,7 +186,6 @@ told_dropped ws u u' drops late told = record {
   rising = drops.rising told.rising;
   late = λ t n h. told.late t n (ap (λ (l : List (Option ℕ)). get_or l t None) (sym late) ∙ h);
   each = λ t n apart own. elim (told.each t n apart own) [ inl w ↦ inl (drops.keeps n own.1 w) | inr at ↦ inr (ap (λ (l : List (Option ℕ)). get_or l t None) late ∙ at) ];
-  alone = told.alone;
   placed = λ t n own. subst (λ (l : List (Option ℕ)). t < length l) (sym late) (told.placed t n own);
 }
 

@@ -19,7 +19,7 @@ module _ {A : Type 0} where
     | inr past ↦ let e : k ≡ n = omega arith in ap (λ i. get_or (listed (suc n) f) i d) e ∙ get_or_push (listed n f) (f n) d n (length-listed n f) ∙ sym (ap f e)
   ]
 
-  pub listed_by : (n : ℕ) (f g : ℕ → A) → ((k : ℕ) → k < n → f k ≡ g k) → listed n f ≡ listed n g
+  listed_by : (n : ℕ) (f g : ℕ → A) → ((k : ℕ) → k < n → f k ≡ g k) → listed n f ≡ listed n g
   unfolding listed
   listed_by zero f g same = refl
   listed_by (suc n) f g same = ap (λ l. l ++ f n ∷ []) (listed_by n f g (λ k lt. same k (omega arith))) ∙ ap (λ x. listed n g ++ x ∷ []) (same n (omega arith))

@@ -8,7 +8,7 @@ use Rattle.ob_waits.specs.Listed.{listed, IsSparse}
 use Rattle.ob_waits.specs.Rules.{thread_of}
 use Rattle.ob_waits.specs.Seats.{AreSeated, IsSeated, answered_at, found, number_at, seat_of, wait_at}
 use Rattle.ob_waits.specs.Waits.{answered, is_pending, number_of}
-use Rattle.ob_waits.proofs.ListedLaws.{listed_by, value_at}
+use Rattle.ob_waits.proofs.ListedLaws.{value_at}
 use Rattle.ob_waits.proofs.PlaceLaws.{alike, unlike}
 use Rattle.ob_waits.proofs.TrackedLaws.{no_number, number_is, number_none}
 
@@ -105,9 +105,6 @@ module _ (given : ℕ) (seats seats' : List (Option Held)) (threads threads' : �
       by : (o : Option ℕ) → wait_at (seat_of seats' o) ≡ wait_at (seat_of seats o)
       by None = refl
       by (Some t) = ap wait_at (same t)
-
-  pub same_listed : listed (suc given) (found seats' threads') ≡ listed (suc given) (found seats threads)
-  same_listed = listed_by (suc given) (found seats' threads') (found seats threads) (λ k lt. same_found k)
 
   pub same_seated : AreSeated given seats threads → AreSeated given seats' threads'
   same_seated s = record {

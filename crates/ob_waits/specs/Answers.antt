@@ -29,12 +29,11 @@ pub record Untaken : Type 0 where
 abbrev pub IsAnswered : ℕ → Option Wait → Type 0
 IsAnswered thread wait = (thread_of wait ≡ Some thread) × (is_answered wait ≡ true)
 
--- each answered wait, but for that of one number, has its number here; a thread has one wait, and a place
+-- each answered wait, but for that of one number, has its number here; its thread has a place
 pub record AreToldBut (but : Option ℕ) (waits : List (Option Wait)) (untaken : Untaken) : Type 0 where
   pub rising : IsRising untaken.fresh
   pub late : (t n : ℕ) → slice_index_or untaken.late t None ≡ Some n → IsAnswered t (slice_index_or waits n None)
   pub each : (t n : ℕ) → Some n ≢ but → IsAnswered t (slice_index_or waits n None) → Within n untaken.fresh ⊎ (slice_index_or untaken.late t None ≡ Some n)
-  pub alone : (t n m : ℕ) → thread_of (slice_index_or waits n None) ≡ Some t → thread_of (slice_index_or waits m None) ≡ Some t → n ≡ m
   pub placed : (t n : ℕ) → thread_of (slice_index_or waits n None) ≡ Some t → t < length untaken.late
 
 abbrev pub AreTold : List (Option Wait) → Untaken → Type 0

@@ -59,6 +59,7 @@ impl Untaken {
         let Some(wait) = waits.get(number) else {
             unreachable!()
         };
+        let _number = waits.number_of(wait.thread);
         self.late.set(wait.thread, Some(u64::from(number)));
     }
 

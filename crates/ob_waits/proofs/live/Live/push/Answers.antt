@@ -1,7 +1,6 @@
-use Rattle.std.proofs.Common.{◌≡◌, None, List, Option, subst, sym}
+use Rattle.std.proofs.Common.{List, Option, subst, sym}
 use Rattle.ob_waits.specs.declared.wait.Wait.{Wait}
 use Rattle.ob_waits.specs.Answers.{AreTold}
-use Rattle.ob_waits.specs.Waits.{number_of}
 use Rattle.ob_waits.proofs.AnswerLaws.{told_added, told_room}
 use Rattle.ob_waits.proofs.live.Live.push.Goals as goal
 
@@ -16,5 +15,4 @@ invariant_of-self-in_err-push c =
 pub invariant_of-self-2 : goal.invariant_of-self-2
 invariant_of-self-2 c =
     let told = told_room c.self.inside.waits c.self.inside.untaken c.make_room.new.self c.make_room.ensures.fresh c.make_room.ensures.late c.make_room.ensures.longer c.self.invariant in
-    let alone : number_of c.args.wait.thread c.self.inside.waits ≡ None = subst (λ (ws : List (Option Wait)). number_of c.args.wait.thread ws ≡ None) (sym c.self.view_is) c.requires.alone in
-    subst (λ (ws : List (Option Wait)). AreTold ws c.make_room.new.self) (sym c.in_ok-push.ensures.ok) (told_added c.self.inside.waits c.args.wait c.make_room.new.self alone c.requires.pending c.in_ok-make_room.ensures.room told)
+    subst (λ (ws : List (Option Wait)). AreTold ws c.make_room.new.self) (sym c.in_ok-push.ensures.ok) (told_added c.self.inside.waits c.args.wait c.make_room.new.self c.requires.pending c.in_ok-make_room.ensures.room told)
