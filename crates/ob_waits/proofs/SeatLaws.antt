@@ -63,6 +63,9 @@ module _ (given : ℕ) (seats : List (Option Held)) (threads : ℕ → Option �
     | inr past ↦ absurd (let e = ap is_pending (seated_sparse.past_has_none n (omega arith)) in cc (e, pending))
   ]
 
+  pub thread_found : (n t : ℕ) → threads n ≡ Some t → thread_of (found seats threads n) ≡ Some t
+  thread_found n t is = let at = number_there (get_or seats t None) n (s.there n t is) in ap (λ o. thread_of (wait_at (seat_of seats o))) is ∙ ap (λ p. thread_of (wait_at p)) at.1 ∙ ap Some (s.each t at.0 at.1).own
+
   -- a number that wasn't given has no thread
   pub not_given : (n : ℕ) → given < n → threads n ≡ None
   not_given n past = by (threads n) refl

@@ -117,15 +117,12 @@ impl Live {
     }
 
     /// Takes the wait of a number away.
-    pub(crate) fn remove(&mut self, number: u32) -> Option<Wait>
-        ensures value { result ≡ slice_index_or self.old number None }
-        ensures removed { self.new ≡ slice_set self.old number None }
+    pub(crate) fn remove(&mut self, number: u32)
+        ensures { self.new ≡ slice_set self.old number None }
     {
-        let removed = self.waits.remove(number);
-        if let Some(wait) = &removed {
-            self.untaken.forget(wait.thread, number);
+        if let Some(thread) = self.waits.remove(number) {
+            self.untaken.forget(thread, number);
             self.untaken.drop_first(&self.waits, number);
         }
-        removed
     }
 }

@@ -153,15 +153,16 @@ impl Numbered {
         seats::answer(&mut self.seats, thread, code);
     }
 
-    /// Takes the wait of a number away.
-    pub(crate) fn remove(&mut self, number: u32) -> Option<Wait>
-        ensures value { result ≡ slice_index_or self.old number None }
+    /// Takes the wait of a number away. Its thread, if there was one.
+    pub(crate) fn remove(&mut self, number: u32) -> Option<u32>
+        ensures thread { result ≡ thread_of (slice_index_or self.old number None) }
         ensures removed { self.new ≡ slice_set self.old number None }
     {
         let Some(thread) = self.finder.get(number) else {
             return None;
         };
         self.finder.remove(number);
-        seats::take(&mut self.seats, thread)
+        seats::clear(&mut self.seats, thread);
+        Some(thread)
     }
 }

@@ -46,19 +46,14 @@ pub(crate) fn wait_at(seats: &[Option<Held>], thread: u32) -> Option<&Wait>
 }
 
 /// Takes a thread's wait away.
-pub(crate) fn take(seats: &mut Vec<Option<Held>>, thread: u32) -> Option<Wait>
-    ensures taken { result ≡ wait_at (slice_index_or seats.old.items thread None) }
-    ensures left { (t : ℕ) → slice_index_or seats.new.items t None
+pub(crate) fn clear(seats: &mut Vec<Option<Held>>, thread: u32)
+    ensures { (t : ℕ) → slice_index_or seats.new.items t None
         ≡ (if thread == t then None else slice_index_or seats.old.items t None) }
 {
     let at = thread as usize;
     if at < seats.len() {
-        return match seats[at].take() {
-            Some(held) => Some(held.wait),
-            None => None,
-        };
+        seats[at] = None;
     }
-    None
 }
 
 /// Answers a thread's wait.

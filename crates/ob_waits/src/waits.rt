@@ -297,7 +297,7 @@ impl Waits {
         let Some(number) = self.live.number_of(thread) else {
             return;
         };
-        let _ = self.live.remove(number);
+        self.live.remove(number);
     }
 
     /// The code of a wait that is answered, which is over with it: its thread may wait again.
@@ -312,10 +312,12 @@ impl Waits {
                 deadline: _,
                 state: State::Answered(code),
             },
-        ) = self.live.remove(wait)
+        ) = self.live.get(wait)
         else {
             unreachable!()
         };
+        let code = *code;
+        self.live.remove(wait);
         self.roster.forget(wait);
         code
     }

@@ -20,7 +20,7 @@ invariant_of-self c =
     let s = c.self.inside in
     let n = c.in-Some.number in
     let own : thread_of (get_or s.live n None) ≡ Some c.args.thread = number_own s.live c.args.thread n (sym c.in-Some.ensures.number) in
-    subst (λ (ws : List (Option Wait)). IsTracked s.limit ws s.roster × AreTimely s.clock ws s.deadlines) (sym c.remove.ensures.removed) (
+    subst (λ (ws : List (Option Wait)). IsTracked s.limit ws s.roster × AreTimely s.clock ws s.deadlines) (sym c.remove.ensures) (
       tracked_removed s.limit s.live s.roster n c.args.thread own c.self.invariant.0,
       timely_removed s.clock s.live n s.deadlines c.self.invariant.1,
     )
@@ -28,5 +28,5 @@ invariant_of-self c =
 pub returns : goal.returns
 returns c =
     let s = c.self.inside in
-    ap (λ (ws : List (Option Wait)). record { limit = s.limit; waits = ws; clock = s.clock }) (c.remove.ensures.removed ∙ sym (dropped_found s.live c.args.thread c.in-Some.number c.self.invariant.0.kept (sym c.in-Some.ensures.number)))
+    ap (λ (ws : List (Option Wait)). record { limit = s.limit; waits = ws; clock = s.clock }) (c.remove.ensures ∙ sym (dropped_found s.live c.args.thread c.in-Some.number c.self.invariant.0.kept (sym c.in-Some.ensures.number)))
     ∙ ap (λ (l : WaitList). without_thread l c.args.thread) c.self.view_is
