@@ -45,6 +45,30 @@ fn stands(places: &[Option<Entry>], at: usize, number: u32) -> bool
     false
 }
 
+// What seldom comes stands apart, so that the rest is inlined.
+#[cold]
+fn get_other(others: &HashMap<u32, u32>, number: u32) -> Option<u32>
+    ensures { result ≡ get nat_eq others.now number }
+{
+    others.get(&number).copied()
+}
+
+#[cold]
+fn put_other(others: &mut HashMap<u32, u32>, entry: Entry) -> Result<(), AllocError>
+    ensures ok { OnOk result ((n : ℕ) → get nat_eq others.new n ≡ here n (Some entry) (get nat_eq others.old n)) }
+    ensures err { OnErr result ((n : ℕ) → get nat_eq others.new n ≡ get nat_eq others.old n) }
+{
+    others.insert(entry.number, entry.thread)?;
+    Ok(())
+}
+
+#[cold]
+fn remove_other(others: &mut HashMap<u32, u32>, number: u32)
+    ensures { (n : ℕ) → get nat_eq others.new n ≡ (if number == n then None else get nat_eq others.old n) }
+{
+    let _ = others.remove(&number);
+}
+
 fn put_at(
     place: &mut Option<Entry>,
     others: &mut HashMap<u32, u32>,
@@ -56,7 +80,7 @@ fn put_at(
     ensures same { OnErr result ((n : ℕ) → get nat_eq others.new n ≡ get nat_eq others.old n) }
 {
     if let Some(old) = *place {
-        others.insert(old.number, old.thread)?;
+        put_other(others, old)?;
     }
     *place = Some(entry);
     Ok(())
@@ -100,6 +124,7 @@ impl Finder {
     }
 
     /// The thread of a number.
+    #[inline]
     pub(crate) fn get(&self, number: u32) -> Option<u32>
         ensures { result ≡ thread_at self.now number }
     {
@@ -110,10 +135,11 @@ impl Finder {
                 _ => (),
             }
         }
-        self.others.get(&number).copied()
+        get_other(&self.others, number)
     }
 
     /// Doubles the places.
+    #[cold]
     fn widen(&mut self) -> Result<(), AllocError>
         requires finder { IsFinder self.old }
         requires fits { self.old.mask < 8589934592 }
@@ -171,6 +197,6 @@ impl Finder {
             self.places[at] = None;
             return;
         }
-        let _ = self.others.remove(&number);
+        remove_other(&mut self.others, number);
     }
 }

@@ -31,7 +31,7 @@ returns-then-stands-clause-removed c =
 
 pub returns-clause-finder : goal.returns-clause-finder
 returns-clause-finder c = record {
-  placed = left_others_placed c.args.self.now.mask c.args.self.now.places.items (get nat_eq c.args.self.now.others) (get nat_eq c.remove.new.self) c.args.number c.remove.ensures.updates.0 c.requires.placed;
+  placed = left_others_placed c.args.self.now.mask c.args.self.now.places.items (get nat_eq c.args.self.now.others) (get nat_eq c.remove_other.new.others) c.args.number c.remove_other.ensures c.requires.placed;
   bits = c.requires.bits;
   mask = c.requires.mask;
 }
@@ -42,4 +42,4 @@ returns-clause-removed c =
     let n = c.args.number in
     let ps : List (Option Entry) = c.args.self.now.places.items in
     let absent : is_some (here n (get_or ps (home m n) None) None) ≡ false = ap (λ (l : List (Option Entry)). is_some (here n (get_or l (home m n) None) None)) (sym c.as_slice.ensures.value) ∙ sym c.if-stands.ensures.value in
-    left_others m ps (get nat_eq c.args.self.now.others) (get nat_eq c.remove.new.self) n c.remove.ensures.updates.0 (stands_none n (get_or ps (home m n) None) absent)
+    left_others m ps (get nat_eq c.args.self.now.others) (get nat_eq c.remove_other.new.others) n c.remove_other.ensures (stands_none n (get_or ps (home m n) None) absent)
