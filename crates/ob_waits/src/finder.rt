@@ -16,9 +16,9 @@ pub struct Entry {
 
 /// The threads of waits, by the waits' numbers.
 ///
-/// A number stands at the place that its low bits give, where it is found at once. Where another one stands
-/// there, and there are fewer than two places for each thread, the places double. Else that one goes to a hash
-/// map: the number of a wait that has outlasted as many later ones as there are places.
+/// A number stands at the place that its low bits give, where it is found at once. Where another one stands there,
+/// and there are at most two places for each thread up to the one that waits, the places double. Else that one goes to
+/// a hash map: the number of a wait that lasted while as many later ones were given as there are places.
 #[derive(Drop)]
 pub struct Finder {
     /// The low bits: one less than there are places, once there are any.
@@ -155,7 +155,7 @@ impl Finder {
         Ok(())
     }
 
-    /// Doubles the places where a number's is taken, and there are fewer than two for each thread up to its own.
+    /// Doubles the places where a number's is taken, and there are at most two for each thread up to its own.
     fn make_way(&mut self, entry: Entry) -> Result<(), AllocError>
         requires { IsFinder self.old }
         ensures finder { IsFinder self.new }

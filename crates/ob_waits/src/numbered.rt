@@ -13,9 +13,7 @@ use crate::wait::{State, Wait};
 use std::alloc::{AllocError, Global};
 use std::marker::Model;
 
-/// The waits by their numbers, from 1 on. A wait that is over takes no room.
-///
-/// A wait stands at its thread, which the number gives.
+/// The waits by their numbers, from 1 on. Each stands at its thread, which the number finds.
 #[derive(Drop)]
 pub(crate) struct Numbered {
     given: u32,
