@@ -1,6 +1,6 @@
-ghost use Rattle.std.specs.Prelude.{[], ◌∷◌, ◌≡◌, false, Err, IfNone, ◌≢◌, ◌+◌, ◌<◌, ◌≤◌, ◌↔◌, ℕ, true, None, Some, length, map, slice_index_or, OnOk, OnErr, IfOk, IfErr, IfSome, IsSome};
+ghost use Rattle.std.specs.Prelude.{[], ◌∷◌, ◌≡◌, false, Err, IfNone, ◌≢◌, ◌+◌, ◌<◌, ◌≤◌, ◌↔◌, ℕ, true, None, Some, length, map, slice_index_or, OnOk, OnErr, IfOk, IfErr, IfSome, IsSome, is_some};
 ghost use Rattle.std.specs.Option.{option_map};
-ghost use Rattle.ob_waits.specs.Waits.{settled, passed, blocks_among, number_of, with_wait, with_answer, without_wait, without_thread, is_pending, code_at, state_at, ids_of, is_full};
+ghost use Rattle.ob_waits.specs.Waits.{settled, passed, blocks_among, number_of, with_wait, with_answer, without_wait, without_thread, is_pending, code_at, state_at, ids_of, is_full, new_wait};
 ghost use Rattle.least_due.specs.Dues.{IsLeast};
 ghost use Rattle.least_free.specs.From.{IsLeastFrom};
 ghost use Rattle.ob_waits.specs.Answers.{answer_of, is_answered};
@@ -16,6 +16,7 @@ use crate::ids::Ids;
 use crate::live::Live;
 use crate::overdue::{next_due, next_overdue};
 use crate::pass::{pass, pass_each, pass_slot};
+use crate::pending::Pending;
 use crate::per_thread::PerThread;
 use crate::roster::Roster;
 use crate::wait::{Mode, State, Wait, WaitState};
@@ -31,7 +32,7 @@ use std::marker::Model;
 /// at a time, from [`add`](Waits::add) until its answer is taken.
 ///
 /// A thread's wait, and the wait of a number, are found in constant time, as that of a hash map's look-up:
-/// [`wait_of`](Waits::wait_of), [`look`](Waits::look), [`expire`](Waits::expire),
+/// [`wait_of`](Waits::wait_of), [`look`](Waits::look), [`pending`](Waits::pending), [`expire`](Waits::expire),
 /// [`drop_thread`](Waits::drop_thread) and [`take_result`](Waits::take_result) do no more.
 ///
 /// Beside these there is a list of wait numbers for each slot, and one for all. Such a list has the numbers of
@@ -116,6 +117,26 @@ impl Waits {
                 State::Answered(code) => Some((WaitState::Answered(*code), &[])),
             },
             None => None,
+        }
+    }
+
+    /// The wait of a number, where that is pending.
+    pub fn pending(&self, wait: u32) -> Option<Pending<'_>>
+        ensures there { is_some result ≡ is_pending (slice_index_or self.now.waits wait None) }
+        ensures wait { IfSome result (λ p. slice_index_or self.now.waits wait None
+            ≡ Some (new_wait p.thread p.mode p.ids.now p.deadline)) }
+    {
+        let Some(wait) = self.live.get(wait) else {
+            return None;
+        };
+        match &wait.state {
+            State::Pending(mode, ids) => Some(Pending {
+                thread: wait.thread,
+                mode: *mode,
+                deadline: wait.deadline,
+                ids: ids.as_slice(),
+            }),
+            State::Answered(_) => None,
         }
     }
 
