@@ -1,7 +1,8 @@
 -- What C's pointer owns: what a box of a manager owns, and nothing where no manager was put.
-use base.Fml.{Fml, ftrue}
+use base.Fml.{Fml, feq, ftrue}
 use base.Stored.{Coded}
-use denote.RawPtr.{Ptr}
+use denote.RattleType.{RattleType}
+use denote.RawPtr.{Ptr, null_ptr}
 use Rattle.std.specs.Prelude.{Option, Some, None}
 use Rattle.std.specs.Box.Ownership.{box_owns}
 use Rattle.std.specs.Coded.{coded_option}
@@ -21,3 +22,8 @@ manager_coded = the_row.coded
 
 abbrev pub place_coded : Coded (Option the_row.Denot)
 place_coded = coded_option manager_coded
+
+-- what C passes at an end: what a box owns, and nothing where the pointer is null
+abbrev pub owns_or_null : (R : RattleType) → Global → Ptr → Option R.Denot → Fml
+owns_or_null R alloc at None = feq Ptr at null_ptr
+owns_or_null R alloc at (Some held) = box_owns (ghosts.dealloc_token alloc) R at held

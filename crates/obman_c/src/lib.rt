@@ -31,4 +31,5 @@ mod signaling;
 mod status;
 mod timing;
 mod values;
+mod version;
 mod waiting;

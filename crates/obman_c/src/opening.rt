@@ -7,7 +7,7 @@ ghost use Rattle.obman_c.specs.declared.owned.OwnedManager.{OwnedManager};
 ghost use Rattle.obman_c.specs.Opening.{Opens, new_keeper, new_manager};
 
 use crate::owned::OwnedManager;
-use crate::owner::{Owner, Place};
+use crate::owner::{Ending, Place};
 use ob_manager::{Limits, Manager};
 use ob_rights::{Fault, code_of};
 use obman_c_base::{Bounds, SUCCESS, limits_of};
@@ -34,9 +34,12 @@ pub extern "C" fn om_new(alloc: Global, bounds: &Bounds, place: &mut Place) -> u
 }
 
 /// The end of a manager: its memory is given back, and C may use what it passed no more.
+/// Zeros are no manager, and nothing is done.
 #[unsafe(no_mangle)]
-pub extern "C" fn om_free(owner: Owner) {
-    drop(owner.into_box());
+pub extern "C" fn om_free(ending: Ending) {
+    if let Some(owner) = ending.owner() {
+        drop(owner.into_box());
+    }
 }
 
 /// A new manager in a box of its own.

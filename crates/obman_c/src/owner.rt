@@ -2,8 +2,10 @@
 //! that leads to memory of Rust's. In proofs each has the manager as its value.
 ghost use Rattle.std.specs.Prelude.{◌≡◌, Option, Some};
 ghost use Rattle.std.specs.Borrow.{sem};
+ghost use Rattle.std.specs.Option.{option_map};
+ghost use Rattle.obman_c.specs.contracts.owned.OwnedManager.{the_row};
 ghost use Rattle.obman_c.specs.declared.owned.OwnedManager.{OwnedManager};
-ghost use Rattle.obman_c.specs.Owning.{manager_coded, owner_owns, place_coded, place_owns};
+ghost use Rattle.obman_c.specs.Owning.{manager_coded, owner_owns, owns_or_null, place_coded, place_owns};
 
 use crate::owned::OwnedManager;
 use crate::parts::Parts;
@@ -36,8 +38,23 @@ impl Model for Place {
     ghost also_owns = { λ place. place_owns place.alloc place.at place.value };
 }
 
+/// What C ends: the same bytes, a manager, or nothing where they are zeros.
+#[repr(C)]
+#[derive(Drop)]
+pub struct Ending {
+    at: *mut u8,
+    alloc: Global,
+    pub ghost value: { Option OwnedManager } by { place_coded },
+}
+
+impl Model for Ending {
+    ghost also_owns = { λ ending. owns_or_null the_row ending.alloc ending.at ending.value };
+}
+
 // C may pass a manager from thread to thread, as long as one call at a time has it.
 unsafe impl Send for Owner {}
+
+unsafe impl Send for Ending {}
 
 impl Owner {
     ghost use Rattle.obman_c.specs.Lending.{LendsManager};
@@ -83,6 +100,20 @@ impl Place {
         Place {
             at: at as *mut u8,
             alloc,
+        }
+    }
+}
+
+impl Ending {
+    /// The owner of the manager, where there is one.
+    pub fn owner(self) -> Option<Owner>
+        ensures { option_map (λ owner. owner.value) result ≡ self.value }
+    {
+        let Ending { at, alloc } = self;
+        if at.is_null() {
+            None
+        } else {
+            Some(Owner { at, alloc })
         }
     }
 }

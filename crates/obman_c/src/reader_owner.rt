@@ -2,7 +2,10 @@
 //! that leads to memory of Rust's. In proofs each has the reader as its value.
 ghost use Rattle.std.specs.Prelude.{◌≡◌, Option, Some};
 ghost use Rattle.std.specs.Borrow.{sem};
+ghost use Rattle.std.specs.Option.{option_map};
+ghost use Rattle.obman_c.specs.contracts.owned.OwnedReader.{the_row};
 ghost use Rattle.obman_c.specs.declared.owned.OwnedReader.{OwnedReader};
+ghost use Rattle.obman_c.specs.Owning.{owns_or_null};
 ghost use Rattle.obman_c.specs.ReaderOwning.{reader_coded, reader_owns, reader_place_coded, reader_place_owns};
 
 use crate::owned::OwnedReader;
@@ -36,8 +39,23 @@ impl Model for ReaderPlace {
     ghost also_owns = { λ place. reader_place_owns place.alloc place.at place.value };
 }
 
+/// What C ends: the same bytes, a reader, or nothing where they are zeros.
+#[repr(C)]
+#[derive(Drop)]
+pub struct ReaderEnding {
+    at: *mut u8,
+    alloc: Global,
+    pub ghost value: { Option OwnedReader } by { reader_place_coded },
+}
+
+impl Model for ReaderEnding {
+    ghost also_owns = { λ ending. owns_or_null the_row ending.alloc ending.at ending.value };
+}
+
 // C may pass a reader from thread to thread, as long as one call at a time has it.
 unsafe impl Send for ReaderOwner {}
+
+unsafe impl Send for ReaderEnding {}
 
 impl ReaderOwner {
     ghost use Rattle.obman_c.specs.ReaderLending.{LendsReader};
@@ -83,6 +101,20 @@ impl ReaderPlace {
         ReaderPlace {
             at: at as *mut u8,
             alloc,
+        }
+    }
+}
+
+impl ReaderEnding {
+    /// The owner of the reader, where there is one.
+    pub fn owner(self) -> Option<ReaderOwner>
+        ensures { option_map (λ owner. owner.value) result ≡ self.value }
+    {
+        let ReaderEnding { at, alloc } = self;
+        if at.is_null() {
+            None
+        } else {
+            Some(ReaderOwner { at, alloc })
         }
     }
 }

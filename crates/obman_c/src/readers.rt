@@ -12,7 +12,7 @@ ghost use Rattle.obman_c.specs.Reading.{AreOfOne, DescribeTold, InspectTold, IsH
 use crate::owned::OwnedReader;
 use crate::owner::Owner;
 use crate::pinning::{Description, description_of, id_at, number_of, number_of_kind};
-use crate::reader_owner::{ReaderOwner, ReaderPlace};
+use crate::reader_owner::{ReaderEnding, ReaderOwner, ReaderPlace};
 use ob_rights::{Fault, code_of};
 use obman_c_base::SUCCESS;
 use pin_core::{Descr, Id};
@@ -50,11 +50,14 @@ pub extern "C" fn om_reader_new(alloc: Global, owner: &mut Owner, place: &mut Re
 }
 
 /// The end of a reader, which lets go what it holds. C may use what it passed no more.
+/// Zeros are no reader, and nothing is done.
 #[unsafe(no_mangle)]
-pub extern "C" fn om_reader_free(owner: ReaderOwner) {
-    let OwnedReader { mut reader } = Box::into_inner(owner.into_box());
-    let_go(&mut reader);
-    reader.finish();
+pub extern "C" fn om_reader_free(ending: ReaderEnding) {
+    if let Some(owner) = ending.owner() {
+        let OwnedReader { mut reader } = Box::into_inner(owner.into_box());
+        let_go(&mut reader);
+        reader.finish();
+    }
 }
 
 /// Lets all go that a reader holds.
