@@ -10,7 +10,8 @@
  * - One call at a time. Calls for one manager come from any thread, but one after another: keep a lock of your own around them.
  *   Different managers have nothing in common.
  * - om_new makes a manager and om_free ends it. In between an om_manager may be copied and moved: each copy is the same manager.
- *   A manager that was freed, or that no om_new made, is as a pointer that was freed: passing it is undefined.
+ *   A manager that was freed, or that no om_new made, is as a pointer that was freed: passing it is undefined. But om_free of an
+ *   om_manager of all zeros, and om_reader_free of an om_reader of all zeros, do nothing, so that one way out serves.
  * - A reader (om_reader_new) pins objects on any thread without that lock, beside calls for the manager and for other readers. It is
  *   given to one call at a time, and passed from thread to thread by a lock or a join; om_inspect takes it with the manager that it
  *   was made from. om_reader_free ends it, before the manager's end or after.
@@ -35,6 +36,12 @@
  *
  * docs/EMBEDDING.md says how a host does that, and what it does for what isn't here.
  *
+ * What stays
+ *
+ * A program that was compiled with this header runs with each later library of the same first number, by its soname: functions, the
+ * fields of structs, the values of constants and what a call answers stay. Functions, structs and constants may be added.
+ * The library is compiled for x86-64-v2 (SSSE3, SSE4.1 and more, as processors since 2009 have them), and doesn't ask what it runs on.
+ *
  * Handles are 4, 8, 12 and so on; their two lowest bits are ignored. Processes, threads and waits have numbers from 1.
  *
  * A name is 1 to 260 bytes of printable ASCII, 0x20 to 0x7E, in which case counts; it need not end in a zero byte, and a host maps other
@@ -57,6 +64,9 @@
 #ifdef __cplusplus
 extern "C" {
 #endif
+
+/* Which release this header is of, 1.0.0: two decimal digits each for the second number and the third. */
+#define OM_VERSION 10000u
 
 /* What a call answers: the numbers of the Win32 system error codes. */
 #define OM_SUCCESS 0u
@@ -118,6 +128,37 @@ extern "C" {
 
 /* Limits that serve most guests: om_limits limits = OM_LIMITS_DEFAULT; */
 #define OM_LIMITS_DEFAULT {64u, 64u, 256u, 1024u, 1000000u, 1073741823u, 4294967295u, 2147483647u}
+
+/* The greatest limits, for a host that runs for long: numbers of processes, threads and pending waits are given once, and two guests that
+ * wake each other in turn use up a million waits in less than a second. A manager takes 17 MiB from the start, nearly all for its
+ * slots, which come back: limits.slots = 64 behind it leaves half a MiB. */
+#define OM_LIMITS_MOST {65536u, 65536u, 65536u, 16384u, 4294967295u, 1073741823u, 4294967295u, 2147483647u}
+
+/* The Win32 name of a number that a call answers, or of WAIT_TIMEOUT, for logs; "unknown" for another. */
+static inline const char *om_error_name(uint32_t number) {
+    switch (number) {
+    case OM_SUCCESS: return "ERROR_SUCCESS";
+    case OM_ERROR_FILE_NOT_FOUND: return "ERROR_FILE_NOT_FOUND";
+    case OM_ERROR_PATH_NOT_FOUND: return "ERROR_PATH_NOT_FOUND";
+    case OM_ERROR_ACCESS_DENIED: return "ERROR_ACCESS_DENIED";
+    case OM_ERROR_INVALID_HANDLE: return "ERROR_INVALID_HANDLE";
+    case OM_ERROR_NOT_ENOUGH_MEMORY: return "ERROR_NOT_ENOUGH_MEMORY";
+    case OM_ERROR_INVALID_PARAMETER: return "ERROR_INVALID_PARAMETER";
+    case OM_ERROR_INSUFFICIENT_BUFFER: return "ERROR_INSUFFICIENT_BUFFER";
+    case OM_ERROR_BUSY: return "ERROR_BUSY";
+    case OM_ERROR_ALREADY_EXISTS: return "ERROR_ALREADY_EXISTS";
+    case OM_ERROR_FILENAME_EXCED_RANGE: return "ERROR_FILENAME_EXCED_RANGE";
+    case OM_WAIT_TIMEOUT: return "WAIT_TIMEOUT";
+    case OM_ERROR_NO_MORE_ITEMS: return "ERROR_NO_MORE_ITEMS";
+    case OM_ERROR_NOT_OWNER: return "ERROR_NOT_OWNER";
+    case OM_ERROR_TOO_MANY_POSTS: return "ERROR_TOO_MANY_POSTS";
+    case OM_ERROR_IO_PENDING: return "ERROR_IO_PENDING";
+    case OM_ERROR_NOT_FOUND: return "ERROR_NOT_FOUND";
+    case OM_ERROR_NO_SYSTEM_RESOURCES: return "ERROR_NO_SYSTEM_RESOURCES";
+    case OM_ERROR_NOT_ENOUGH_QUOTA: return "ERROR_NOT_ENOUGH_QUOTA";
+    default: return "unknown";
+    }
+}
 
 /* A manager: a pointer that is its own business. */
 typedef struct om_manager {
@@ -238,7 +279,7 @@ typedef struct om_row {
  * OM_ERROR_INVALID_PARAMETER for a limit out of its range; OM_ERROR_NOT_ENOUGH_MEMORY. */
 uint32_t om_new(const om_limits *limits, om_manager *m);
 
-/* Ends a manager and gives its memory back. */
+/* Ends a manager and gives its memory back. Of all zeros, as in om_manager m = {0}, there is nothing to end. */
 void om_free(om_manager m);
 
 /* ---- Processes and threads ---- */
@@ -466,7 +507,7 @@ uint32_t om_script(const om_limits *limits, const char *script, size_t length, c
  * OM_ERROR_NOT_ENOUGH_MEMORY. */
 uint32_t om_reader_new(om_manager *m, om_reader *r);
 
-/* Lets all go that a reader pins, and ends it. Its manager may have ended before. */
+/* Lets all go that a reader pins, and ends it. Its manager may have ended before. Of all zeros there is nothing to end. */
 void om_reader_free(om_reader r);
 
 /* Pins an object's slot once more: while it is pinned, its slot isn't given to another object. A reader has 16 pins at a time, each to
@@ -510,6 +551,9 @@ uint32_t om_wait_of(om_manager *m, uint32_t thread);
 
 /* How many names objects have. */
 size_t om_directory_len(om_manager *m);
+
+/* Which release the library is of, as OM_VERSION says it of the header. */
+uint32_t om_version(void);
 
 #ifdef __cplusplus
 }

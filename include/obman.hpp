@@ -24,10 +24,17 @@
 
 namespace obman {
 
+// Which release the library is of, as OM_VERSION says it of the header.
+inline std::uint32_t version() noexcept { return om_version(); }
+
+// The Win32 name of a status or of a wait's code WAIT_TIMEOUT, for logs; "unknown" for another number.
+inline const char *error_name(std::uint32_t status) noexcept { return om_error_name(status); }
+
 // Thrown where there is no manager, no reader, or no value, with the Win32 error number.
 class error : public std::runtime_error {
 public:
-    explicit error(std::uint32_t status) : std::runtime_error("obman: error " + std::to_string(status)), status_(status) {}
+    explicit error(std::uint32_t status)
+        : std::runtime_error(std::string("obman: ") + error_name(status) + " (" + std::to_string(status) + ")"), status_(status) {}
     std::uint32_t status() const noexcept { return status_; }
 
 private:
@@ -148,11 +155,7 @@ public:
         std::swap(r_, other.r_);
         return *this;
     }
-    ~reader() {
-        if (r_.at != nullptr) {
-            om_reader_free(r_);
-        }
-    }
+    ~reader() { om_reader_free(r_); }
     status_only pin(om_object o) noexcept { return status_only(om_reader_pin(&r_, o.slot, o.generation)); }
     status_only unpin(om_object o) noexcept { return status_only(om_reader_unpin(&r_, o.slot, o.generation)); }
     bool holds(om_object o) noexcept { return om_reader_holds(&r_, o.slot, o.generation); }
@@ -171,6 +174,8 @@ private:
 class manager {
 public:
     static constexpr om_limits default_limits = OM_LIMITS_DEFAULT;
+    // The greatest, for a host that runs for long: 17 MiB from the start.
+    static constexpr om_limits most_limits = OM_LIMITS_MOST;
 
     explicit manager(const om_limits &limits = default_limits) {
         if (std::uint32_t status = om_new(&limits, &m_); status != OM_SUCCESS) {
@@ -182,11 +187,7 @@ public:
         std::swap(m_, other.m_);
         return *this;
     }
-    ~manager() {
-        if (m_.at != nullptr) {
-            om_free(m_);
-        }
-    }
+    ~manager() { om_free(m_); }
     om_manager *get() noexcept { return &m_; }
 
     // Processes and threads.

@@ -12,14 +12,19 @@
             print(answer.thread, answer.code)
 
 A call that is refused raises an `Error` with the Win32 number. What each call does and refuses `obman.h` says, and how a host lives
-with the library docs/EMBEDDING.md. The shared library is the one that the environment's OBMAN names, else the system's.
+with the library docs/EMBEDDING.md. The shared library is the one that the environment's OBMAN names, or that of the tree in which this
+module was installed (share/obman/bindings/python), else the system's.
 """
 
 import ctypes
 import ctypes.util
 import os
+import pathlib
 from collections import namedtuple
 from ctypes import POINTER, Structure, c_bool, c_char, c_int32, c_int64, c_size_t, c_uint32, c_uint64, c_void_p
+
+# Which release this module is of, 1.0.0: two decimal digits each for the second number and the third.
+VERSION = 10000
 
 MODIFY_STATE = 0x2
 DELETE = 0x10000
@@ -56,13 +61,19 @@ ERRORS = {
     1450: "ERROR_NO_SYSTEM_RESOURCES",
     1816: "ERROR_NOT_ENOUGH_QUOTA",
 }
+NAMES = {0: "ERROR_SUCCESS", 183: "ERROR_ALREADY_EXISTS", 258: "WAIT_TIMEOUT", 997: "ERROR_IO_PENDING", **ERRORS}
+
+
+def error_name(number):
+    """The Win32 name of a number that a call answers, or of WAIT_TIMEOUT, for logs; "unknown" for another."""
+    return NAMES.get(number, "unknown")
 
 
 class Error(Exception):
     """A call was refused; `number` is the Win32 system error code."""
 
     def __init__(self, number):
-        super().__init__(f"{ERRORS.get(number, 'error')} ({number})")
+        super().__init__(f"{error_name(number)} ({number})")
         self.number = number
 
 
@@ -101,10 +112,23 @@ Pending = namedtuple("Pending", "wait")
 Name = namedtuple("Name", "object session base")
 
 
-def default_limits(**limits):
+LIMITS_DEFAULT = 64, 64, 256, 1024, 1_000_000, 1073741823, 4294967295, 2147483647
+LIMITS_MOST = 65536, 65536, 65536, 16384, 4294967295, 1073741823, 4294967295, 2147483647
+
+
+def _limits(values, others):
+    return Limits(**{**{name: value for (name, _), value in zip(Limits._fields_, values)}, **others})
+
+
+def default_limits(**others):
     """The limits that serve most guests, with some others."""
-    most = dict(slots=64, processes=64, threads=256, handles=1024, waits=1_000_000, max_pins=1073741823, max_gen=4294967295, max_recursion=2147483647)
-    return Limits(**{**most, **limits})
+    return _limits(LIMITS_DEFAULT, others)
+
+
+def most_limits(**others):
+    """The greatest limits, with some others, for a host that runs for long: numbers of processes, threads and pending waits are given once.
+    A manager takes 17 MiB from the start, nearly all for its slots."""
+    return _limits(LIMITS_MOST, others)
 
 
 _M, _R, _U, _B, _Z = POINTER(_Manager), POINTER(_Reader), c_uint32, c_bool, c_size_t
@@ -170,11 +194,20 @@ FUNCTIONS = {
     "om_process_of": (_U, [_M, _U]),
     "om_wait_of": (_U, [_M, _U]),
     "om_directory_len": (_Z, [_M]),
+    "om_version": (_U, []),
 }
 
 
+def _found():
+    here = pathlib.Path(__file__).resolve().parent
+    beside = here / "../../../../lib/libobman.so.1"
+    if here.match("share/obman/bindings/python") and beside.exists():
+        return str(beside)
+    return ctypes.util.find_library("obman") or "libobman.so.1"
+
+
 def _loaded():
-    library = ctypes.CDLL(os.environ.get("OBMAN") or ctypes.util.find_library("obman") or "libobman.so.1")
+    library = ctypes.CDLL(os.environ.get("OBMAN") or _found())
     for name, (result, parameters) in FUNCTIONS.items():
         function = getattr(library, name)
         function.restype, function.argtypes = result, parameters
@@ -182,6 +215,11 @@ def _loaded():
 
 
 _c = _loaded()
+
+
+def version():
+    """Which release the library is of, as VERSION says it of this module."""
+    return _c.om_version()
 
 
 def _done(status):

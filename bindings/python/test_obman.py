@@ -58,6 +58,12 @@ class Calls(unittest.TestCase):
     def test_a_script(self):
         self.assertEqual(obman.script("spawn 1\nevent t1 auto set\n"), b"p1 t1\nh4 new s0.1\n")
 
+    def test_a_library_of_this_release(self):
+        self.assertEqual(obman.version(), obman.VERSION)
+        self.assertEqual([obman.error_name(number) for number in (0, 183, 258, 87, 4)], ["ERROR_SUCCESS", "ERROR_ALREADY_EXISTS", "WAIT_TIMEOUT", "ERROR_INVALID_PARAMETER", "unknown"])
+        with obman.Manager(obman.most_limits(slots=1)) as m:
+            self.assertEqual(m.spawn(1).thread, 1)
+
 
 if __name__ == "__main__":
     unittest.main()

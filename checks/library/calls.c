@@ -42,6 +42,7 @@ om_limits make_manager(calls *c) {
     om_limits limits = limits_of(c);
     c->processes = c->threads = c->waits = 0;
     c->now = 0;
+    must(om_version() == OM_VERSION, "a library of another release");
     must(om_new(&limits, &c->m) == OM_SUCCESS, "no manager");
     must(om_reader_new(&c->m, &c->r) == OM_SUCCESS, "no reader");
     return limits;
@@ -54,6 +55,11 @@ void end_manager(calls *c) {
     }
     om_free(c->m);
     if (!is_reader_first) {
+        om_reader_free(c->r);
+    }
+    c->m.at = c->r.at = NULL; /* of zeros there is nothing to end, however often */
+    for (int i = 0; i < 2; i++) {
+        om_free(c->m);
         om_reader_free(c->r);
     }
 }
@@ -87,7 +93,10 @@ static const char *name(calls *c) {
 
 static void answer(calls *c, const char *words) { fprintf(c->answers, "%s\n", words); }
 
-static void refused(calls *c, uint32_t status) { fprintf(c->answers, "error %u\n", status); }
+static void refused(calls *c, uint32_t status) {
+    must(strncmp(om_error_name(status), "ERROR_", 6) == 0, "a refusal without a name");
+    fprintf(c->answers, "error %u\n", status);
+}
 
 static bool is_answered(calls *c, uint32_t status) {
     if (status == OM_SUCCESS) {

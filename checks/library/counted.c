@@ -63,6 +63,7 @@ void *__wrap_realloc(void *block, size_t size) {
     CALL(uint32_t, om_next_thread, (om_manager *m, uint32_t p, uint32_t a), (m, p, a), status != 0)                                 \
     CALL(uint32_t, om_process_of, (om_manager *m, uint32_t t), (m, t), status != 0)                                                 \
     CALL(uint32_t, om_wait_of, (om_manager *m, uint32_t t), (m, t), status != 0)                                                    \
+    CALL(uint32_t, om_version, (void), (), status == OM_VERSION)                                                                    \
     CALL(uint64_t, om_now, (om_manager *m), (m), true)                                                                              \
     CALL(bool, om_is_pending, (om_manager *m, uint32_t w), (m, w), true)                                                            \
     CALL(bool, om_reader_holds, (om_reader *r, uint32_t s, uint32_t g), (r, s, g), true)                                            \
@@ -139,6 +140,7 @@ static void ask(calls *c) {
     om_process_of(&c->m, om_next_thread(&c->m, process, 0));
     om_wait_of(&c->m, om_next_thread(&c->m, process, 0));
     om_now(&c->m);
+    om_version();
 }
 
 /* A new manager, and random calls of it. Threads and processes end more often than they do in other trials. */

@@ -63,6 +63,13 @@ pub const DUPLICATE_CLOSE_SOURCE: u32 = 1;
 pub const DUPLICATE_SAME_ACCESS: u32 = 2;
 /// The milliseconds of a wait without end.
 pub const INFINITE: u32 = u32::MAX;
+/// Which release this binding is of, 1.0.0: two decimal digits each for the second number and the third.
+pub const VERSION: u32 = 10000;
+
+/// Which release the library is of, as [`VERSION`] says it of this binding.
+pub fn version() -> u32 {
+    unsafe { sys::om_version() }
+}
 
 macro_rules! errors {
     ($($name:ident = $number:literal, $win32:literal;)*) => {
@@ -127,6 +134,17 @@ impl fmt::Display for Error {
 
 impl std::error::Error for Error {}
 
+/// The Win32 name of a number that a call answers, or of `WAIT_TIMEOUT`, for logs; "unknown" for another.
+pub fn error_name(number: u32) -> &'static str {
+    match number {
+        0 => "ERROR_SUCCESS",
+        183 => "ERROR_ALREADY_EXISTS",
+        258 => "WAIT_TIMEOUT",
+        997 => "ERROR_IO_PENDING",
+        _ => Error::ALL.iter().find(|error| error.number() == number).map_or("unknown", |error| error.name()),
+    }
+}
+
 const ALREADY_EXISTS: u32 = 183;
 const IO_PENDING: u32 = 997;
 
@@ -152,7 +170,8 @@ pub struct Limits {
 }
 
 impl Limits {
-    /// The greatest limits: numbers of threads and waits last longest. Slots cost memory from the start.
+    /// The greatest limits, for a host that runs for long: numbers of processes, threads and pending waits are given once. A manager takes
+    /// 17 MiB from the start, nearly all for its slots.
     pub const MOST: Limits = Limits {
         slots: 65_536,
         processes: 65_536,

@@ -229,4 +229,5 @@ extern "C" {
     pub fn om_process_of(m: *mut om_manager, thread: u32) -> u32;
     pub fn om_wait_of(m: *mut om_manager, thread: u32) -> u32;
     pub fn om_directory_len(m: *mut om_manager) -> usize;
+    pub fn om_version() -> u32;
 }

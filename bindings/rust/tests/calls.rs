@@ -137,3 +137,10 @@ fn threads_share_a_manager_behind_a_lock() -> Result<(), Error> {
     }
     Ok(())
 }
+
+#[test]
+fn a_library_of_this_release() {
+    assert_eq!(obman::version(), obman::VERSION);
+    assert_eq!([0, 183, 258, 87, 4].map(obman::error_name), ["ERROR_SUCCESS", "ERROR_ALREADY_EXISTS", "WAIT_TIMEOUT", "ERROR_INVALID_PARAMETER", "unknown"]);
+    assert!(Manager::new(&Limits::MOST).is_ok());
+}
