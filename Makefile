@@ -1,15 +1,20 @@
 # The object layer as a C library.
 #
 #     make                       build/libobman.a, build/libobman.so
-#     make install PREFIX=/usr   both, the header, and files for pkg-config and CMake; DESTDIR goes before all of it, and LIBDIR and
-#                                INCLUDEDIR say where a distribution has libraries and headers
+#     make install PREFIX=/usr   both, headers, man pages, files for pkg-config and CMake, and in share/obman bindings, examples and guides;
+#                                and the program, where `./obman prove` has made it. DESTDIR goes before all of it; LIBDIR, INCLUDEDIR,
+#                                MANDIR, DATADIR and BINDIR say where a distribution has such files
 #     make install-strip         the same without symbols for a debugger
+#     make dist                  all that as a tarball in build/, for machines without the kit, wherever it is unpacked
 #     make examples              builds and runs the examples in C, C++, Rust and Python
 #
 # It needs the Rattle kit, which proves the library and builds it, a C compiler and ar.
 PREFIX ?= /usr/local
 LIBDIR ?= $(PREFIX)/lib
 INCLUDEDIR ?= $(PREFIX)/include
+MANDIR ?= $(PREFIX)/share/man
+DATADIR ?= $(PREFIX)/share/obman
+BINDIR ?= $(PREFIX)/bin
 CC ?= cc
 STRIP ?= strip
 CXX ?= c++
@@ -19,11 +24,16 @@ PYTHON ?= python3
 KIT = $(dir $(shell rt doc))
 PROVED = crates/obman_c/out/libobman_c.a crates/obman_c_script/out/libobman_c_script.a
 SOURCES = $(shell find crates.txt crates/*/src crates/*/specs crates/*/proofs -type f)
+PROGRAM = crates/obman/out/obman
 # A program that was linked with a shared library runs with each later one of the same first number.
-VERSION = 1
-RELEASE = 1.0.0
+NUMBER := $(shell sed -n 's/^\#define OM_VERSION \([0-9]*\)u$$/\1/p' include/obman.h)
+VERSION := $(shell expr $(NUMBER) / 10000)
+RELEASE := $(VERSION).$(shell expr $(NUMBER) / 100 % 100).$(shell expr $(NUMBER) % 100)
+DIST = obman-$(RELEASE)-x86_64-linux
+# What is installed finds the rest from where it lies.
+HEADERS = $(shell realpath -ms --relative-to=$(LIBDIR) $(INCLUDEDIR))
 
-.PHONY: all install install-strip examples clean
+.PHONY: all install install-strip dist examples clean
 
 all: build/libobman.a build/libobman.so
 
@@ -40,32 +50,47 @@ build/libobman.a: $(PROVED)
 
 # Its functions alone can be seen.
 build/libobman.so: build/libobman.a
-	echo '{ global: om_*; local: *; };' > build/libobman.map
+	echo 'OBMAN_$(VERSION) { global: om_*; local: *; };' > build/libobman.map
 	$(CC) -shared -o $@ -Wl,-soname,libobman.so.$(VERSION) -Wl,--version-script=build/libobman.map -Wl,--whole-archive $< -Wl,--no-whole-archive
 
 install: all
-	mkdir -p $(DESTDIR)$(LIBDIR)/pkgconfig $(DESTDIR)$(LIBDIR)/cmake/obman $(DESTDIR)$(INCLUDEDIR)
+	mkdir -p $(DESTDIR)$(LIBDIR)/pkgconfig $(DESTDIR)$(LIBDIR)/cmake/obman $(DESTDIR)$(INCLUDEDIR) $(DESTDIR)$(MANDIR)/man1 $(DESTDIR)$(MANDIR)/man3
 	cp build/libobman.a $(DESTDIR)$(LIBDIR)/
 	cp build/libobman.so $(DESTDIR)$(LIBDIR)/libobman.so.$(VERSION)
 	ln -sf libobman.so.$(VERSION) $(DESTDIR)$(LIBDIR)/libobman.so
 	cp include/obman.h include/obman.hpp $(DESTDIR)$(INCLUDEDIR)/
-	printf '%s\n' 'prefix=$(PREFIX)' 'libdir=$(LIBDIR)' 'includedir=$(INCLUDEDIR)' '' 'Name: obman' \
+	cp man/obman.1 $(DESTDIR)$(MANDIR)/man1/
+	cp man/obman.3 $(DESTDIR)$(MANDIR)/man3/
+	printf '%s\n' 'libdir=$${pcfiledir}/..' 'includedir=$${libdir}/$(HEADERS)' '' 'Name: obman' \
 		'Description: the object layer of the NT kernel as Win32 programs see it' 'Version: $(RELEASE)' \
 		'Libs: -L$${libdir} -lobman' 'Cflags: -I$${includedir}' > $(DESTDIR)$(LIBDIR)/pkgconfig/obman.pc
-	printf '%s\n' 'add_library(obman::obman SHARED IMPORTED)' \
-		'set_target_properties(obman::obman PROPERTIES IMPORTED_LOCATION "$(LIBDIR)/libobman.so.$(VERSION)"' \
-		'  IMPORTED_SONAME "libobman.so.$(VERSION)" INTERFACE_INCLUDE_DIRECTORIES "$(INCLUDEDIR)")' \
+	printf '%s\n' 'get_filename_component(_obman "$${CMAKE_CURRENT_LIST_DIR}/../.." REALPATH)' \
+		'add_library(obman::obman SHARED IMPORTED)' \
+		'set_target_properties(obman::obman PROPERTIES IMPORTED_LOCATION "$${_obman}/libobman.so.$(VERSION)"' \
+		'  IMPORTED_SONAME "libobman.so.$(VERSION)" INTERFACE_INCLUDE_DIRECTORIES "$${_obman}/$(HEADERS)")' \
 		'add_library(obman::static STATIC IMPORTED)' \
-		'set_target_properties(obman::static PROPERTIES IMPORTED_LOCATION "$(LIBDIR)/libobman.a"' \
-		'  INTERFACE_INCLUDE_DIRECTORIES "$(INCLUDEDIR)")' > $(DESTDIR)$(LIBDIR)/cmake/obman/obman-config.cmake
+		'set_target_properties(obman::static PROPERTIES IMPORTED_LOCATION "$${_obman}/libobman.a"' \
+		'  INTERFACE_INCLUDE_DIRECTORIES "$${_obman}/$(HEADERS)")' > $(DESTDIR)$(LIBDIR)/cmake/obman/obman-config.cmake
 	printf '%s\n' 'set(PACKAGE_VERSION "$(RELEASE)")' 'if(PACKAGE_FIND_VERSION VERSION_GREATER PACKAGE_VERSION OR' \
 		'   (DEFINED PACKAGE_FIND_VERSION_MAJOR AND NOT PACKAGE_FIND_VERSION_MAJOR EQUAL $(VERSION)))' \
 		'  set(PACKAGE_VERSION_COMPATIBLE FALSE)' 'else()' '  set(PACKAGE_VERSION_COMPATIBLE TRUE)' 'endif()' \
 		> $(DESTDIR)$(LIBDIR)/cmake/obman/obman-config-version.cmake
+	mkdir -p $(DESTDIR)$(DATADIR)/docs $(DESTDIR)$(DATADIR)/bindings/rust $(DESTDIR)$(DATADIR)/bindings/python
+	cp -R examples $(DESTDIR)$(DATADIR)/
+	cp docs/C.md docs/EMBEDDING.md docs/FORMATS.md $(DESTDIR)$(DATADIR)/docs/
+	cp bindings/python/*.py $(DESTDIR)$(DATADIR)/bindings/python/
+	cp -R bindings/rust/Cargo.toml bindings/rust/build.rs bindings/rust/src bindings/rust/examples bindings/rust/tests $(DESTDIR)$(DATADIR)/bindings/rust/
+	if [ -x $(PROGRAM) ]; then mkdir -p $(DESTDIR)$(BINDIR) && cp $(PROGRAM) $(DESTDIR)$(BINDIR)/; fi
 
 install-strip: install
 	$(STRIP) --strip-debug $(DESTDIR)$(LIBDIR)/libobman.a
 	$(STRIP) --strip-unneeded $(DESTDIR)$(LIBDIR)/libobman.so.$(VERSION)
+
+dist: all
+	rm -rf build/$(DIST)
+	$(MAKE) install-strip PREFIX= LIBDIR=/lib INCLUDEDIR=/include MANDIR=/share/man DATADIR=/share/obman BINDIR=/bin DESTDIR=$(abspath build/$(DIST))
+	cp examples/README.md build/$(DIST)/
+	tar -C build --sort=name --owner=0 --group=0 -czf build/$(DIST).tar.gz $(DIST)
 
 examples: all
 	$(CC) -std=c99 -Iinclude -o build/guests examples/c/guests.c build/libobman.a
