@@ -131,7 +131,7 @@ extern "C" {
 
 /* The greatest limits, for a host that runs for long: numbers of processes, threads and pending waits are given once, and two guests that
  * wake each other in turn use up a million waits in less than a second. A manager takes 17 MiB from the start, nearly all for its
- * slots, which come back: limits.slots = 64 behind it leaves half a MiB. */
+ * slots, which come back; with limits.slots at 64 it takes half a MiB. */
 #define OM_LIMITS_MOST {65536u, 65536u, 65536u, 16384u, 4294967295u, 1073741823u, 4294967295u, 2147483647u}
 
 /* The Win32 name of a number that a call answers, or of WAIT_TIMEOUT, for logs; "unknown" for another. */
