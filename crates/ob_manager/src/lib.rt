@@ -42,7 +42,7 @@ pub use making::{AsMake, Make, Making, Text};
 pub use manager::Manager;
 pub use ob_store::{Found, Label, Limits, Seat, Stored};
 pub use ob_tables::Entry;
-pub use ob_waits::{Answer, Mode};
+pub use ob_waits::{Answer, Mode, Pending};
 pub use object_state::ObjectState;
 pub use reply::Reply;
 pub use waiting::{HandleList, Timeout};

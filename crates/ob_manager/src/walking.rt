@@ -1,9 +1,9 @@
-ghost use Rattle.std.specs.Prelude.{◌≡◌, ◌+◌, IfSome, None, Some, slice_index_or};
+ghost use Rattle.std.specs.Prelude.{◌≡◌, ◌+◌, IfSome, None, Some, is_some, slice_index_or};
 ghost use Rattle.std.specs.Option.{option_map};
 ghost use Rattle.least_free.specs.From.{IsLeastFrom};
 ghost use Rattle.ob_tables.specs.Table.{entry_at};
 ghost use Rattle.ob_tables.specs.Tables.{table_of};
-ghost use Rattle.ob_waits.specs.Waits.{number_of};
+ghost use Rattle.ob_waits.specs.Waits.{is_pending, new_wait, number_of};
 ghost use Rattle.ob_store.specs.Closing.{is_closing_at};
 ghost use Rattle.ob_store.specs.Kept.{IsThere};
 ghost use Rattle.ob_store.specs.Walking.{is_object_at, is_process, is_thread_of, is_value_of};
@@ -15,6 +15,7 @@ use crate::manager::Manager;
 use crate::object_state::{self, ObjectState};
 use ob_rights::Fault;
 use ob_tables::Entry;
+use ob_waits::Pending;
 use pin_core::Id;
 use pin_words::PinKeeper;
 
@@ -95,6 +96,16 @@ impl<K: PinKeeper> Manager<K> {
         ensures { result ≡ number_of thread self.now.state.waits }
     {
         self.store.wait_of(thread)
+    }
+
+    /// A pending wait as its thread asked for it: the thread, whether one of the objects satisfies it or all together,
+    /// until when, and the objects in the order of their handles. None where there is no pending wait of that number.
+    pub fn objects_waited_for(&self, wait: u32) -> Option<Pending<'_>>
+        ensures there { is_some result ≡ is_pending (slice_index_or self.now.state.waits wait None) }
+        ensures wait { IfSome result (λ p. slice_index_or self.now.state.waits wait None
+            ≡ Some (new_wait p.thread p.mode p.ids.now p.deadline)) }
+    {
+        self.store.pending(wait)
     }
 
     /// The moment that it is, in units of 100 ns: that of the last [`tick`](Manager::tick), and 0 before the first.

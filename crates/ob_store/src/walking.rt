@@ -1,9 +1,9 @@
-ghost use Rattle.std.specs.Prelude.{◌≡◌, ◌+◌, ◌≤◌, Some, IfSome, length};
+ghost use Rattle.std.specs.Prelude.{◌≡◌, ◌+◌, ◌≤◌, None, Some, IfSome, is_some, length, slice_index_or};
 ghost use Rattle.std.specs.Option.{option_map};
 ghost use Rattle.least_free.specs.From.{IsLeastFrom};
 ghost use Rattle.ob_tables.specs.Table.{entry_at};
 ghost use Rattle.ob_tables.specs.Tables.{table_of};
-ghost use Rattle.ob_waits.specs.Waits.{number_of};
+ghost use Rattle.ob_waits.specs.Waits.{is_pending, new_wait, number_of};
 ghost use Rattle.ob_store.specs.Closing.{is_closing_at};
 ghost use Rattle.ob_store.specs.Kept.{IsThere};
 ghost use Rattle.ob_store.specs.Walking.{is_object_at, is_process, is_thread_of, is_value_in, is_value_of};
@@ -11,6 +11,7 @@ ghost use Rattle.ob_store.specs.Walking.{is_object_at, is_process, is_thread_of,
 use crate::finding::next_place;
 use crate::store::Store;
 use ob_tables::Entry;
+use ob_waits::Pending;
 use pin_core::Id;
 use pin_words::PinKeeper;
 
@@ -82,5 +83,14 @@ impl<K: PinKeeper> Store<K> {
         ensures { result ≡ number_of thread self.now.state.waits }
     {
         self.parts.waits.wait_of(thread)
+    }
+
+    /// The wait of a number, where that is pending.
+    pub fn pending(&self, wait: u32) -> Option<Pending<'_>>
+        ensures there { is_some result ≡ is_pending (slice_index_or self.now.state.waits wait None) }
+        ensures wait { IfSome result (λ p. slice_index_or self.now.state.waits wait None
+            ≡ Some (new_wait p.thread p.mode p.ids.now p.deadline)) }
+    {
+        self.parts.waits.pending(wait)
     }
 }
