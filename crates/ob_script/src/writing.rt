@@ -461,7 +461,7 @@ impl Line {
         }
     }
 
-    /// What a verb asks for that names no object by a handle.
+    /// The words of a call.
     fn call<M: AsMake, T: AsSlice<u8>, H: AsSlice<u32>>(
         &mut self,
         alloc: Global,
@@ -567,8 +567,7 @@ impl Line {
 
 /// The line of a script that asks for a call, without its line feed; none where no line does: for a name with a line
 /// feed, for what takes a line of more than 4,096 bytes, for a duplicate with options beyond 3, and for a tick past the
-/// last moment. Such calls but a wait for more than 64 handles and names of more than 260 bytes are refused, and so are
-/// these two.
+/// last moment. Each of these calls is refused by every manager, since names have 260 bytes and waits 64 handles at most.
 ///
 /// What the grammar reads in the line is this call, but that a wait of no time is one of 0 milliseconds, and that a
 /// duplicate with the rights of its source asks for no mask, which it has no use for. The refusal is want of memory.
