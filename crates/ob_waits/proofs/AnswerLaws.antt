@@ -126,23 +126,6 @@ told_late ws n t u own alone told = record {
     place = told.placed t n own.0
 
 -- a wait goes
-pub told_same : (ws ws' : List (Option Wait)) (u : Untaken) → ((m : ℕ) → get_or ws' m None ≡ get_or ws m None) → AreTold ws u → AreTold ws' u
-told_same ws ws' u same told = record {
-  rising = told.rising;
-  late = λ t m h. subst (IsAnswered t) (sym (same m)) (told.late t m h);
-  each = λ t m apart own. told.each t m apart (subst (IsAnswered t) (same m) own);
-  placed = λ t n own. told.placed t n (sym (ap thread_of (same n)) ∙ own);
-}
-
-pub told_absent : (ws : List (Option Wait)) (n : ℕ) (u : Untaken) → get_or ws n None ≡ None → AreTold ws u → AreTold (set ws n None) u
-told_absent ws n u none told = told_same ws (set ws n None) u (λ m. elim (cases_eq m n) [
-  | inl same ↦ ap (λ i. get_or (set ws n None) i None) same ∙ gone ∙ sym (ap (λ i. get_or ws i None) same ∙ none)
-  | inr other ↦ get_or-set_other ws n m None None other
-]) told
-  where
-    gone : get_or (set ws n None) n None ≡ None
-    gone = elim (cases_lt n (length ws)) [ inl lt ↦ get_or-set_same ws n None None lt | inr past ↦ get_or_past (set ws n None) n None (omega (arith, past, length-set ws n None)) ]
-
 module _ (ws : List (Option Wait)) (n t : ℕ) (own : thread_of (get_or ws n None) ≡ Some t) where
   still : (m s : ℕ) → thread_of (get_or (set ws n None) m None) ≡ Some s → m ≢ n
   still m s h same = let gone : thread_of (get_or (set ws n None) m None) ≡ None = ap thread_of (ap (λ i. get_or (set ws n None) i None) same ∙ get_or-set_same ws n None None within) in cc (gone, h)

@@ -1,13 +1,13 @@
 -- What is found at the seats by each number, and how that changes.
-use Rattle.std.proofs.Common.{◌≡◌, ◌<◌, ◌≤◌, ◌+◌, ℕ, suc, List, Option, Some, None, refl, ap, ◌∙◌, sym, subst, arith, get_or, true, cond, inl, inr, eqb}
-use Rattle.std.proofs.lemmas.Bool.{cases_eq, cases_lt}
+use Rattle.std.proofs.Common.{◌≡◌, ◌<◌, ◌≤◌, ◌+◌, ℕ, suc, List, Option, Some, None, refl, ap, ◌∙◌, sym, subst, arith, get_or, cond, inl, inr, eqb}
+use Rattle.std.proofs.lemmas.Bool.{cases_eq}
 use Rattle.std.proofs.lemmas.Option.{same_Some, none-some}
 use Rattle.ob_waits.specs.declared.wait.Wait.{Wait}
 use Rattle.ob_waits.specs.declared.held.Held.{Held}
 use Rattle.ob_waits.specs.Listed.{listed, IsSparse}
 use Rattle.ob_waits.specs.Rules.{thread_of}
 use Rattle.ob_waits.specs.Seats.{AreSeated, IsSeated, answered_at, found, number_at, seat_of, wait_at}
-use Rattle.ob_waits.specs.Waits.{answered, is_pending, number_of}
+use Rattle.ob_waits.specs.Waits.{answered, number_of}
 use Rattle.ob_waits.proofs.ListedLaws.{value_at}
 use Rattle.ob_waits.proofs.PlaceLaws.{alike, unlike}
 use Rattle.ob_waits.proofs.TrackedLaws.{no_number, number_is, number_none}
@@ -57,15 +57,6 @@ module _ (given : ℕ) (seats : List (Option Held)) (threads : ℕ → Option �
   pub number_reads : (n : ℕ) → get_or (listed (suc given) (found seats threads)) n None ≡ found seats threads n
   number_reads n = value_at given (found seats threads) n seated_sparse
 
-  pub found_given : (n : ℕ) → is_pending (found seats threads n) ≡ true → n < suc given
-  found_given n pending = elim (cases_lt n (suc given)) [
-    | inl lt ↦ lt
-    | inr past ↦ absurd (let e = ap is_pending (seated_sparse.past_has_none n (omega arith)) in cc (e, pending))
-  ]
-
-  pub thread_found : (n t : ℕ) → threads n ≡ Some t → thread_of (found seats threads n) ≡ Some t
-  thread_found n t is = let at = number_there (get_or seats t None) n (s.there n t is) in ap (λ o. thread_of (wait_at (seat_of seats o))) is ∙ ap (λ p. thread_of (wait_at p)) at.1 ∙ ap Some (s.each t at.0 at.1).own
-
   -- a number that wasn't given has no thread
   pub not_given : (n : ℕ) → given < n → threads n ≡ None
   not_given n past = by (threads n) refl
@@ -114,13 +105,6 @@ module _ (given : ℕ) (seats seats' : List (Option Held)) (threads threads' : �
     each = λ t h is. let old = s.each t h (sym (same t) ∙ is) in record { own = old.own; some = old.some; fits = old.fits; known = known h.number ∙ old.known };
     there = λ n t is. ap number_at (same t) ∙ s.there n t (sym (known n) ∙ is);
   }
-
--- a number that has nothing is as good as taken away
-pub same_absent : {A : Type 0} (f : ℕ → Option A) (n : ℕ) → f n ≡ None → (q : ℕ) → f q ≡ cond (eqb n q) None (f q)
-same_absent f n gone q = elim (cases_eq n q) [
-  | inl same ↦ ap f (sym same) ∙ gone ∙ sym (alike n q None (f q) same)
-  | inr apart ↦ sym (unlike n q None (f q) apart)
-]
 
 -- one seat changes, and the thread of one number, whose wait stands or stood there and nowhere else
 module _ (given given' n t : ℕ) (x : Option ℕ) (y : Option Held) (seats seats' : List (Option Held)) (threads threads' : ℕ → Option ℕ) (s : AreSeated given seats threads) (more : given ≤ given')
@@ -220,3 +204,23 @@ module _ (given n t : ℕ) (seats seats' : List (Option Held)) (threads : ℕ �
 
     pub left_seated : AreSeated given seats' threads'
     left_seated = changed_seated given given n t None None seats seats' threads threads' s (omega arith) new known was_own was_there (λ h e. absurd (none-some h e)) (λ u e. absurd (none-some u e))
+
+-- a thread's wait is answered, if it has one
+pub answer_seated : (given t code : ℕ) (seats seats' : List (Option Held)) (threads : ℕ → Option ℕ) → AreSeated given seats threads
+    → ((i : ℕ) → get_or seats' i None ≡ cond (eqb t i) (answered_at code (get_or seats t None)) (get_or seats i None)) → AreSeated given seats' threads
+answer_seated given t code seats seats' threads s new = by (get_or seats t None) refl
+  where
+    by : (p : Option Held) → get_or seats t None ≡ p → AreSeated given seats' threads
+    by None is = same_seated given seats seats' threads threads (λ i. elim (cases_eq t i) [
+      | inl same ↦ new i ∙ alike t i (answered_at code (get_or seats t None)) (get_or seats i None) same ∙ ap (answered_at code) is ∙ sym (ap (λ j. get_or seats j None) (sym same) ∙ is)
+      | inr apart ↦ new i ∙ unlike t i (answered_at code (get_or seats t None)) (get_or seats i None) apart
+    ]) (λ q. refl) s
+    by (Some h) is = answered_seated given h.number t seats seats' threads s (s.each t h is).known code new
+
+pub known_held : (given t n : ℕ) (seats : List (Option Held)) (threads : ℕ → Option ℕ) → AreSeated given seats threads → thread_of (get_or (listed (suc given) (found seats threads)) n None) ≡ Some t → (threads n ≡ Some t) × (n < suc given)
+known_held given t n seats threads s own =
+    let h = number_there (get_or seats t None) n (number_held given seats threads s t n own) in
+    let old = s.each t h.0 h.1 in
+    let same = h.2 in
+    let fits = old.fits in
+    (ap threads (sym same) ∙ old.known, omega (arith, same, fits))

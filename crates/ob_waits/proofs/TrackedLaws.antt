@@ -83,7 +83,7 @@ number_none ws t none =
     ap (λ k. cond (ltb k (length ws)) (Some k) None) first ∙ ap (λ b. cond b (Some (length ws)) None) (le-ltb (length ws) (length ws) (omega arith))
 
 -- some waits were answered
-pub no_thread : (w : Option Wait) → thread_of w ≡ None → w ≡ None
+no_thread : (w : Option Wait) → thread_of w ≡ None → w ≡ None
 no_thread None h = refl
 no_thread (Some w) h = absurd (cc)
 

@@ -1,4 +1,5 @@
-ghost use Rattle.std.specs.Prelude.{◌≡◌, ◌==◌, ◌<◌, ℕ, None, Some, OnOk, OnErr, true, is_some, if◌then◌else◌, slice_index_or, length, nat_eq};
+ghost use Rattle.std.specs.Prelude.{◌≡◌, ◌==◌, ◌<◌, ℕ, None, Some, OnOk, OnErr, true, is_some, if◌then◌else◌};
+ghost use Rattle.std.specs.Prelude.{slice_index_or, length, nat_eq};
 ghost use Rattle.std.specs.HashMap.{get};
 ghost use Rattle.ob_waits.specs.Seats.{AreApart, IsFinder, IsSpread, here, thread_at};
 
@@ -176,7 +177,8 @@ impl Finder {
         requires finder { IsFinder self.old }
         requires free { thread_at self.old entry.number ≡ None }
         ensures finder { IsFinder self.new }
-        ensures ok { OnOk result ((n : ℕ) → thread_at self.new n ≡ (if entry.number == n then Some entry.thread else thread_at self.old n)) }
+        ensures ok { OnOk result ((n : ℕ) → thread_at self.new n
+            ≡ (if entry.number == n then Some entry.thread else thread_at self.old n)) }
         ensures err { OnErr result ((n : ℕ) → thread_at self.new n ≡ thread_at self.old n) }
     {
         self.make_way(entry)?;

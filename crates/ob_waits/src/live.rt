@@ -1,4 +1,5 @@
-ghost use Rattle.std.specs.Prelude.{◌≡◌, ◌+◌, ◌<◌, ◌≤◌, ℕ, true, false, Some, None, [], ◌∷◌, ◌++◌, IfNone, IfSome, length, slice_index_or, slice_set, OnOk, OnErr};
+ghost use Rattle.std.specs.Prelude.{◌≡◌, ◌+◌, ◌<◌, ◌≤◌, ℕ, true, false, Some, None, [], ◌∷◌, ◌++◌, IfNone, IfSome};
+ghost use Rattle.std.specs.Prelude.{length, slice_index_or, slice_set, OnOk, OnErr};
 ghost use Rattle.std.specs.Option.{option_copied, option_map};
 ghost use Rattle.least_free.specs.From.{IsLeastFrom};
 ghost use Rattle.ob_waits.specs.Answers.{answer_of, is_answered};
@@ -74,7 +75,8 @@ impl Live {
     /// The number of a thread's wait, where that is pending and its time is up at a moment.
     pub(crate) fn overdue_of(&self, thread: u32, now: u64) -> Option<u32>
         ensures some { IfSome result (λ n. is_overdue now (slice_index_or self.now n None) ≡ true) }
-        ensures none { IfNone result ((n : ℕ) → thread_of (slice_index_or self.now n None) ≡ Some thread → is_overdue now (slice_index_or self.now n None) ≡ false) }
+        ensures none { IfNone result ((n : ℕ) → thread_of (slice_index_or self.now n None) ≡ Some thread
+            → is_overdue now (slice_index_or self.now n None) ≡ false) }
     {
         let Some(number) = self.waits.number_of(thread) else {
             return None;
@@ -107,22 +109,23 @@ impl Live {
         Ok(())
     }
 
-    /// Answers the wait of a number.
-    pub(crate) fn answer(&mut self, number: u32, code: u32)
-        requires { is_pending (slice_index_or self.old number None) ≡ true }
+    /// Answers a thread's wait, of this number.
+    pub(crate) fn answer(&mut self, thread: u32, number: u32, code: u32)
+        requires own { thread_of (slice_index_or self.old number None) ≡ Some thread }
+        requires pending { is_pending (slice_index_or self.old number None) ≡ true }
         ensures { self.new ≡ slice_set self.old number (answered (slice_index_or self.old number None) code) }
     {
-        self.waits.answer(number, code);
+        self.waits.answer(thread, code);
         self.untaken.came(&self.waits, number);
     }
 
-    /// Takes the wait of a number away.
-    pub(crate) fn remove(&mut self, number: u32)
+    /// Takes a thread's wait away, of this number.
+    pub(crate) fn remove(&mut self, thread: u32, number: u32)
+        requires { thread_of (slice_index_or self.old number None) ≡ Some thread }
         ensures { self.new ≡ slice_set self.old number None }
     {
-        if let Some(thread) = self.waits.remove(number) {
-            self.untaken.forget(thread, number);
-            self.untaken.drop_first(&self.waits, number);
-        }
+        self.waits.remove(thread, number);
+        self.untaken.forget(thread, number);
+        self.untaken.drop_first(&self.waits, number);
     }
 }

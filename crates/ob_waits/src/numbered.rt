@@ -1,4 +1,5 @@
-ghost use Rattle.std.specs.Prelude.{◌≡◌, ◌+◌, ◌<◌, ◌≤◌, ℕ, true, Some, None, [], ◌∷◌, ◌++◌, length, slice_index_or, slice_set, OnOk, OnErr};
+ghost use Rattle.std.specs.Prelude.{◌≡◌, ◌+◌, ◌<◌, ◌≤◌, ℕ, true, Some, None, [], ◌∷◌, ◌++◌, length, slice_index_or};
+ghost use Rattle.std.specs.Prelude.{slice_set, OnOk, OnErr};
 ghost use Rattle.std.specs.Option.{option_copied};
 ghost use Rattle.ob_waits.specs.Answers.{answer_of, is_answered};
 ghost use Rattle.ob_waits.specs.Deadlines.{is_overdue};
@@ -140,27 +141,20 @@ impl Numbered {
         Ok(())
     }
 
-    /// Answers the wait of a number.
-    pub(crate) fn answer(&mut self, number: u32, code: u32)
-        requires { is_pending (slice_index_or self.old number None) ≡ true }
-        ensures { self.new ≡ slice_set self.old number (answered (slice_index_or self.old number None) code) }
+    /// Answers a thread's wait.
+    pub(crate) fn answer(&mut self, thread: u32, code: u32)
+        ensures { (n : ℕ) → thread_of (slice_index_or self.old n None) ≡ Some thread
+            → self.new ≡ slice_set self.old n (answered (slice_index_or self.old n None) code) }
     {
-        let Some(thread) = self.finder.get(number) else {
-            unreachable!()
-        };
         seats::answer(&mut self.seats, thread, code);
     }
 
-    /// Takes the wait of a number away. Its thread, if there was one.
-    pub(crate) fn remove(&mut self, number: u32) -> Option<u32>
-        ensures thread { result ≡ thread_of (slice_index_or self.old number None) }
-        ensures removed { self.new ≡ slice_set self.old number None }
+    /// Takes a thread's wait away, of this number.
+    pub(crate) fn remove(&mut self, thread: u32, number: u32)
+        requires { thread_of (slice_index_or self.old number None) ≡ Some thread }
+        ensures { self.new ≡ slice_set self.old number None }
     {
-        let Some(thread) = self.finder.get(number) else {
-            return None;
-        };
         self.finder.remove(number);
         seats::clear(&mut self.seats, thread);
-        Some(thread)
     }
 }

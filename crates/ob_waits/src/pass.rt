@@ -38,11 +38,12 @@ fn take_effect<B: Bodies>(live: &mut Live, bodies: &mut B, number: u32)
     let State::Pending(mode, ids) = &wait.state else {
         return;
     };
-    let Some(code) = try_now(bodies, wait.thread, *mode, ids.as_slice()) else {
+    let thread = wait.thread;
+    let Some(code) = try_now(bodies, thread, *mode, ids.as_slice()) else {
         return;
     };
     leave_all(bodies, ids.as_slice());
-    live.answer(number, code);
+    live.answer(thread, number, code);
 }
 
 /// The waits of these numbers take effect, in this order, where they are ready when their turn comes.

@@ -59,7 +59,8 @@ pub(crate) fn clear(seats: &mut Vec<Option<Held>>, thread: u32)
 /// Answers a thread's wait.
 pub(crate) fn answer(seats: &mut Vec<Option<Held>>, thread: u32, code: u32)
     ensures { (t : ℕ) → slice_index_or seats.new.items t None
-        ≡ (if thread == t then answered_at code (slice_index_or seats.old.items thread None) else slice_index_or seats.old.items t None) }
+        ≡ (if thread == t then answered_at code (slice_index_or seats.old.items thread None)
+        else slice_index_or seats.old.items t None) }
 {
     let at = thread as usize;
     if at < seats.len() {

@@ -1,6 +1,9 @@
-ghost use Rattle.std.specs.Prelude.{[], ◌∷◌, ◌≡◌, false, Err, IfNone, ◌≢◌, ◌+◌, ◌<◌, ◌≤◌, ◌↔◌, ℕ, true, None, Some, length, map, slice_index_or, OnOk, OnErr, IfOk, IfErr, IfSome, IsSome, is_some};
+ghost use Rattle.std.specs.Prelude.{[], ◌∷◌, ◌≡◌, false, Err, IfNone, ◌≢◌, ◌+◌, ◌<◌, ◌≤◌, ◌↔◌, ℕ, true, None, Some};
+ghost use Rattle.std.specs.Prelude.{length, map, slice_index_or, OnOk, OnErr, IfOk, IfErr, IfSome, IsSome, is_some};
 ghost use Rattle.std.specs.Option.{option_map};
-ghost use Rattle.ob_waits.specs.Waits.{settled, passed, blocks_among, number_of, with_wait, with_answer, without_wait, without_thread, is_pending, code_at, state_at, ids_of, is_full, new_wait};
+ghost use Rattle.ob_waits.specs.Waits.{settled, passed, blocks_among, number_of, with_wait, with_answer};
+ghost use Rattle.ob_waits.specs.Waits.{without_wait, without_thread, is_pending, code_at, state_at, ids_of, is_full};
+ghost use Rattle.ob_waits.specs.Waits.{new_wait};
 ghost use Rattle.least_due.specs.Dues.{IsLeast};
 ghost use Rattle.least_free.specs.From.{IsLeastFrom};
 ghost use Rattle.ob_waits.specs.Answers.{answer_of, is_answered};
@@ -278,7 +281,11 @@ impl Waits {
         requires { is_pending (slice_index_or self.old.waits wait None) ≡ true }
         ensures { self.new ≡ with_answer self.old wait WAIT_TIMEOUT }
     {
-        self.live.answer(wait, WAIT_TIMEOUT);
+        let Some(Wait { thread, .. }) = self.live.get(wait) else {
+            unreachable!()
+        };
+        let thread = *thread;
+        self.live.answer(thread, wait, WAIT_TIMEOUT);
     }
 
     /// A pending wait whose deadline isn't after a moment. Where there is none, and none was answered before its time, that is
@@ -318,7 +325,7 @@ impl Waits {
         let Some(number) = self.live.number_of(thread) else {
             return;
         };
-        self.live.remove(number);
+        self.live.remove(thread, number);
     }
 
     /// The code of a wait that is answered, which is over with it: its thread may wait again.
@@ -329,7 +336,7 @@ impl Waits {
     {
         let Some(
             Wait {
-                thread: _,
+                thread,
                 deadline: _,
                 state: State::Answered(code),
             },
@@ -337,8 +344,8 @@ impl Waits {
         else {
             unreachable!()
         };
-        let code = *code;
-        self.live.remove(wait);
+        let (thread, code) = (*thread, *code);
+        self.live.remove(thread, wait);
         self.roster.forget(wait);
         code
     }

@@ -15,6 +15,9 @@ returns-in_default c =
     sym c.self.view_is ∙ ap (λ (ws : List (Option Wait)). record { limit = s.limit; waits = ws; clock = s.clock }) (sym (dropped_missing s.live c.args.thread (sym c.in_default.ensures.number)))
     ∙ ap (λ (l : WaitList). without_thread l c.args.thread) c.self.view_is
 
+pub remove-requires : goal.remove-requires
+remove-requires c = number_own c.self.inside.live c.args.thread c.in-Some.number (sym c.in-Some.ensures.number)
+
 pub invariant_of-self : goal.invariant_of-self
 invariant_of-self c =
     let s = c.self.inside in
