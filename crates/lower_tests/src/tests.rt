@@ -1,5 +1,6 @@
 ghost use Rattle.std.specs.Prelude.{◌≡◌, true};
 
+mod codec;
 mod dues;
 mod handles;
 mod names;
