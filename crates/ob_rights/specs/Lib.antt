@@ -1,3 +1,5 @@
 pub mod Fault
 pub mod Flags
 pub mod Rights
+pub mod Spelling
+pub mod SpellingLaws

@@ -11,6 +11,7 @@ mod fault;
 mod handle_flags;
 mod kind;
 mod rights;
+mod spelling;
 
 pub use fault::{Fault, code_of};
 pub use handle_flags::HandleFlags;

@@ -7,3 +7,5 @@ pub mod Grouped
 pub mod Worlds
 pub mod Events
 pub mod Safety
+pub mod Spelling
+pub mod SpellingLaws

@@ -1,4 +1,6 @@
 ghost use Rattle.std.specs.Prelude.{◌≡◌, ℕ, ◌<◌, ◌≤◌, ◌^◌, List, None, Some};
+ghost use Rattle.ob_codec.specs.Laws.{IsCodec};
+ghost use Rattle.pin_core.specs.Spelling.{descr_at, descr_text};
 ghost use Rattle.pin_core.specs.Words as words;
 ghost use Rattle.pin_core.specs.Descrs as descrs;
 ghost use Rattle.pin_core.specs.Worlds.{WorldState, opening_of, at, pins, times, given_as};
@@ -12,7 +14,8 @@ ghost use Rattle.pin_core.specs.declared.holders.Hold.{Hold};
 ghost use Rattle.pin_core.specs.declared.event.Event.{Event};
 ghost use Rattle.pin_core.specs.declared.event.Event.TheVariants.{Publish, ReadDescr};
 
-/// The codes of words and of descriptors are inverse to each other, on all numbers of 64 bits that decode.
+/// The codes of words and of descriptors are inverse to each other, on all numbers of 64 bits that decode. So a
+/// descriptor that a word can have is read again as [`write_descr`](crate::write_descr) spells it.
 pub fn law_of_codes()
     ensures words { (n : ℕ) → n < 2 ^ 64 → words.encoded (words.decoded n) ≡ n }
     ensures decoded_words { (w : Word) → w.generation < 2 ^ 32 → w.pins < 2 ^ 30
@@ -21,6 +24,7 @@ pub fn law_of_codes()
         → (descrs.encoded d ≡ n) × descrs.IsGiven d }
     ensures decoded_descrs { (d : Descr) → descrs.IsGiven d
         → descrs.decoded (descrs.encoded d) ≡ Some d }
+    ensures spelled_descrs { IsCodec descr_text descr_at descrs.IsGiven }
 {}
 
 /// What holds of each safe world and of each event that is possible there, whatever led to that world. So it holds of

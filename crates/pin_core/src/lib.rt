@@ -13,6 +13,7 @@ mod id;
 mod law;
 mod schedule;
 mod shape;
+mod spelling;
 mod word;
 mod world;
 
@@ -23,5 +24,6 @@ pub use id::{Id, same_id};
 pub use law::{law_of_codes, law_of_schedules, law_of_worlds};
 pub use schedule::{replay, step};
 pub use shape::Shape;
+pub use spelling::{read_descr, write_descr};
 pub use word::{CLOSING_BIT, LIVE_BIT, Phase, Word};
 pub use world::{Slot, World};
