@@ -5,3 +5,5 @@ pub mod SemaphoreState
 pub mod Semaphore
 pub mod Timer
 pub mod Body
+pub mod Spelling
+pub mod SpellingLaws

@@ -8,6 +8,7 @@ mod body;
 mod event;
 mod mutex;
 mod semaphore;
+mod spelling;
 mod timer;
 
 pub use body::Body;

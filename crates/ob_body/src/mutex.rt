@@ -1,7 +1,6 @@
-ghost use Rattle.std.specs.Prelude.{◌≡◌, ◌<◌, true, false, IsSome};
-ghost use Rattle.ob_body.specs.Mutex as spec;
-
+use ob_codec::{Cursor, ReadFault, Spelled, TextFault};
 use ob_rights::Fault;
+use std::alloc::{AllocError, Global};
 use std::marker::Model;
 
 /// The greatest number of times that a thread may own a mutex at once (*profile*; Windows counts in a LONG).
@@ -30,6 +29,10 @@ impl Model for Mutex {
 }
 
 impl Mutex {
+    ghost use Rattle.std.specs.Prelude.{◌≡◌, ◌<◌, true, false, IsSome};
+    ghost use Rattle.ob_body.specs.Mutex as spec;
+    ghost use Rattle.ob_body.specs.Spelling.{mutex_of};
+
     /// A mutex owned once by a thread, or by none.
     pub(crate) fn new(owner: Option<u32>) -> Mutex
         ensures { result ≡ spec.opening owner }
@@ -39,6 +42,24 @@ impl Mutex {
             recursion: if owner.is_some() { 1 } else { 0 },
             abandoned: false,
         }
+    }
+
+    /// A mutex as it may have become, where such a one can be.
+    fn checked(owner: Option<u32>, recursion: u32, abandoned: bool) -> Option<Mutex>
+        ensures { result ≡ mutex_of (owner, (recursion, abandoned)) }
+    {
+        let can_be = match owner {
+            None => recursion == 0,
+            Some(_) => 0 < recursion && recursion <= RECURSION_MAX && !abandoned,
+        };
+        if can_be {
+            return Some(Mutex {
+                owner,
+                recursion,
+                abandoned,
+            });
+        }
+        None
     }
 
     /// Whether no thread owns it, or this one does.
@@ -138,4 +159,33 @@ impl Mutex {
         self.owner = None;
         self.recursion = 0;
     }
+}
+
+impl Spelled for Mutex {
+    ghost use Rattle.ob_body.specs.Spelling.{MutexFits, mutex_at, mutex_text};
+    ghost use Rattle.ob_body.specs.SpellingLaws.{mutex_codec};
+
+    ghost spell = { mutex_text };
+
+    ghost read_at = { mutex_at };
+
+    ghost Fits = { MutexFits };
+
+    fn write(&self, out: &mut Vec<u8>) -> Result<(), AllocError> {
+        self.owner.write(out)?;
+        self.recursion.write(out)?;
+        self.abandoned.write(out)
+    }
+
+    fn read(alloc: Global, from: &mut Cursor<'_>) -> Result<Mutex, ReadFault> {
+        let owner = Option::<u32>::read(alloc, from)?;
+        let recursion = from.four()?;
+        let abandoned = bool::read(alloc, from)?;
+        match Mutex::checked(owner, recursion, abandoned) {
+            Some(mutex) => Ok(mutex),
+            None => Err(ReadFault::Text(TextFault::Value)),
+        }
+    }
+
+    ghost codec = { mutex_codec };
 }

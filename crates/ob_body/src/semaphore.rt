@@ -1,7 +1,6 @@
-ghost use Rattle.std.specs.Prelude.{◌≡◌, ◌<◌, ◌≤◌};
-ghost use Rattle.ob_body.specs.Semaphore as spec;
-
+use ob_codec::{Cursor, ReadFault, Spelled, TextFault};
 use ob_rights::Fault;
+use std::alloc::{AllocError, Global};
 use std::marker::Model;
 
 /// The greatest maximum of a semaphore, which Windows counts in a LONG.
@@ -29,6 +28,10 @@ impl Model for Semaphore {
 }
 
 impl Semaphore {
+    ghost use Rattle.std.specs.Prelude.{◌≡◌, ◌<◌, ◌≤◌};
+    ghost use Rattle.ob_body.specs.Semaphore as spec;
+    ghost use Rattle.ob_body.specs.Spelling.{semaphore_of};
+
     /// A semaphore with a first count and a maximum.
     pub(crate) fn new(initial: u32, maximum: u32) -> Semaphore
         requires some { 0 < maximum }
@@ -40,6 +43,16 @@ impl Semaphore {
             count: initial,
             maximum,
         }
+    }
+
+    /// The same, where such a semaphore can be.
+    fn checked(count: u32, maximum: u32) -> Option<Semaphore>
+        ensures { result ≡ semaphore_of (count, maximum) }
+    {
+        if 0 < maximum && count <= maximum && maximum <= COUNT_MAX {
+            return Some(Semaphore { count, maximum });
+        }
+        None
     }
 
     /// Whether the count is above 0.
@@ -83,4 +96,31 @@ impl Semaphore {
         self.count += count;
         Ok(previous)
     }
+}
+
+impl Spelled for Semaphore {
+    ghost use Rattle.ob_body.specs.Spelling.{SemaphoreFits, semaphore_at, semaphore_text};
+    ghost use Rattle.ob_body.specs.SpellingLaws.{semaphore_codec};
+
+    ghost spell = { semaphore_text };
+
+    ghost read_at = { semaphore_at };
+
+    ghost Fits = { SemaphoreFits };
+
+    fn write(&self, out: &mut Vec<u8>) -> Result<(), AllocError> {
+        self.count.write(out)?;
+        self.maximum.write(out)
+    }
+
+    fn read(_alloc: Global, from: &mut Cursor<'_>) -> Result<Semaphore, ReadFault> {
+        let count = from.four()?;
+        let maximum = from.four()?;
+        match Semaphore::checked(count, maximum) {
+            Some(semaphore) => Ok(semaphore),
+            None => Err(ReadFault::Text(TextFault::Value)),
+        }
+    }
+
+    ghost codec = { semaphore_codec };
 }

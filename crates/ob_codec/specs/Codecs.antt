@@ -90,7 +90,7 @@ unfolding string_at
 string_again text rest fits =
     let regrouped : string text ++ rest ≡ to_le_bytes w32 (length text) ++ (text ++ rest) = append_assoc (to_le_bytes w32 (length text)) text rest in
     let long : ltb (length (text ++ rest)) (length text) ≡ false = le-ltb _ _ (omega (arith, length-append text rest)) in
-    ap string_at regrouped ∙ rw (u32_codec.again (length text) (text ++ rest) fits.few, long, take_at text rest (length text) refl, drop_at text rest (length text) refl) refl
+    ap string_at regrouped ∙ rw (u32_codec.again (length text) (text ++ rest) fits, long, take_at text rest (length text) refl, drop_at text rest (length text) refl) refl
 
 string_takes : TakesSpelled string string_at StringFits
 unfolding string_at
@@ -104,7 +104,7 @@ string_takes bytes text rest fits e =
     let second : Takes n.1 (take n.0 n.1) (drop n.0 n.1) = record { parts = sym (take-append-drop n.0 n.1); rest_fits = bytes-drop n.0 n.1 t.0.rest_fits } in
     let joined = takes-then bytes (to_le_bytes w32 n.0) n.1 (take n.0 n.1) (drop n.0 n.1) t.0 second in
     let whole : Takes bytes (string (take n.0 n.1)) (drop n.0 n.1) = subst (λ (k : ℕ). Takes bytes (to_le_bytes w32 k ++ take n.0 n.1) (drop n.0 n.1)) (sym len) joined in
-    subst (λ (p : List ℕ × List ℕ). Takes bytes (string p.0) p.1 × StringFits p.0) g.1 (whole, record { few = omega (arith, t.1); are = bytes-take n.0 n.1 t.0.rest_fits })
+    subst (λ (p : List ℕ × List ℕ). Takes bytes (string p.0) p.1 × StringFits p.0) g.1 (whole, omega (arith, t.1))
 
 pub string_codec : IsCodec string string_at StringFits
 string_codec = record { again = string_again; takes = string_takes }

@@ -33,10 +33,9 @@ ListFits Fits xs = (length xs < 2 ^ 32) × AllByRecursion Fits xs
 abbrev pub BothFit : {A B : Type 0} → (A → Type 0) → (B → Type 0) → A × B → Type 0
 BothFit FitsA FitsB p = FitsA p.0 × FitsB p.1
 
+abbrev pub StringFits : List ℕ → Type 0
+StringFits bytes = length bytes < 2 ^ 32
+
 -- every number of the list is a byte
 abbrev pub AreBytes : List ℕ → Type 0
 AreBytes bytes = (i : ℕ) → slice_index bytes i < 256
-
-pub record StringFits (bytes : List ℕ) : Type 0 where
-  pub few : length bytes < 2 ^ 32
-  pub are : AreBytes bytes

@@ -3,3 +3,4 @@ pub mod Inheriting
 pub mod Limits
 pub mod Counting
 pub mod SlotCounts
+pub mod Bounds

@@ -15,9 +15,12 @@
 #![tactic(auto)]
 
 mod entry;
+mod law;
+mod spelling;
 mod table;
 mod tables;
 
 pub use entry::Entry;
+pub use law::law_of_spelled_tables;
 pub use table::HANDLES_MAX;
 pub use tables::{PROCESSES_MAX, Tables};

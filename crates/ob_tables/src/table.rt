@@ -2,6 +2,7 @@ ghost use Rattle.std.specs.Prelude.{[], ◌∷◌, ◌++◌, ◌≡◌, ◌⊎�
 ghost use Rattle.ob_rights.specs.declared.fault.Fault.TheVariants.{Limit, Memory};
 ghost use Rattle.ob_tables.specs.Table.{at, entry_at, free_place, is_packed, place_of, value_of, with_entry, without_entry, with_flags};
 ghost use Rattle.ob_tables.specs.Inheritance.{inheritable, inherited};
+ghost use Rattle.ob_tables.specs.Spelling.{is_short};
 
 use crate::entry::{Entry, inheritable};
 use least_free::LeastFree;
@@ -66,9 +67,17 @@ impl Table {
 
     /// The places, each with its entry or with none.
     pub(crate) fn places(&self) -> &[Option<Entry>]
-        ensures { result.now ≡ self.now }
+        ensures places { result.now ≡ self.now }
+        ensures few { length result.now ≤ HANDLES_MAX }
     {
         self.places.as_slice()
+    }
+
+    /// Whether there are no more places than this.
+    pub(crate) fn is_short(&self, limit: u32) -> bool
+        ensures { result ≡ is_short limit self.now }
+    {
+        self.places.len() <= limit as usize
     }
 
     /// The places of a table that goes.
@@ -165,6 +174,19 @@ impl Table {
         }
     }
 
+    /// The table with these places.
+    pub(crate) fn of_places(alloc: Global, places: Vec<Option<Entry>>) -> Result<Table, AllocError>
+        requires { length places.items ≤ HANDLES_MAX }
+        ensures { IfOk result (λ table. table ≡ places.items) }
+    {
+        let len = places.len();
+        let mut free = LeastFree::with_taken(alloc, len)?;
+        for i in 0..len {
+            free_at(places.as_slice(), &mut free, i);
+        }
+        Ok(Table { places, free })
+    }
+
     /// The table of a child of a process with these places: just the inheritable entries.
     pub(crate) fn inheriting(alloc: Global, places: &[Option<Entry>]) -> Result<Table, AllocError>
         requires { length places.now ≤ HANDLES_MAX }
@@ -194,6 +216,18 @@ fn inherited_len(places: &[Option<Entry>]) -> usize
         }
     }
     0
+}
+
+/// Gives the number of a place back where it has no entry.
+fn free_at(places: &[Option<Entry>], free: &mut LeastFree, place: usize)
+    requires within { place < length places.now }
+    requires held { slice_get free.old place ≡ Some true }
+    ensures { free.new ≡ slice_set free.old place (is_some (at places.now place)) }
+{
+    let here = places[place];
+    if here.is_none() {
+        free.give_back(place);
+    }
 }
 
 /// Leaves the entry of a place out where it isn't inheritable, and gives its number back.

@@ -1,13 +1,17 @@
-ghost use Rattle.std.specs.Prelude.{[], ◌∷◌, ◌≡◌, ◌↔◌, ◌⊎◌, ◌+◌, ◌<◌, ◌≤◌, Err, IfErr, IfOk, OnErr, OnOk, IsSome, IsTrue, length, nat_lt, true};
+ghost use Rattle.std.specs.Prelude.{[], ◌∷◌, ◌++◌, ◌≡◌, ◌↔◌, ◌⊎◌, ◌+◌, ◌<◌, ◌≤◌, Err, IfErr, IfOk, OnErr, OnOk, IsSome, IsTrue, length, nat_le, nat_lt, ◌&&◌, true};
+ghost use Rattle.std.specs.List.{list_all};
+ghost use Rattle.ob_codec.specs.Reading.{Gives};
 ghost use Rattle.ob_rights.specs.declared.fault.Fault.TheVariants.{Limit, Memory};
 ghost use Rattle.ob_tables.specs.Table.{entry_at, free_place, is_packed, value_of};
 ghost use Rattle.ob_tables.specs.Counts.{entries_in};
+ghost use Rattle.ob_tables.specs.Spelling.{TablesFit, is_short, tables_at, tables_text};
 ghost use Rattle.ob_tables.specs.Tables.{table_of, with_child, with_entry_of, with_flags_of, with_process, without_entries, without_entry_of, IsBounded};
 
 use crate::entry::Entry;
 use crate::table::{HANDLES_MAX, Table};
+use ob_codec::{Cursor, ReadFault, TextFault, read_list, write_list};
 use ob_rights::{Fault, HandleFlags};
-use std::alloc::Global;
+use std::alloc::{AllocError, Global};
 use std::marker::Model;
 use std::mem;
 
@@ -38,6 +42,20 @@ impl Model for Tables {
     ghost invariant = { λ t. IsBounded t.processes t.handles t.tables.items };
 }
 
+/// Whether there is a table, and are no more of them than numbers.
+fn are_few(processes: u32, tables: &[Table]) -> bool
+    ensures { result ≡ nat_le 1 (length tables.now) && nat_le (length tables.now) (processes + 1) }
+{
+    !tables.is_empty() && tables.len() <= processes as usize + 1
+}
+
+/// Whether each table has no more places than this.
+fn are_short(handles: u32, tables: &[Table]) -> bool
+    ensures { result ≡ list_all (is_short handles) tables.now }
+{
+    tables.iter().all(|table| table.is_short(handles))
+}
+
 impl Tables {
     /// Tables for at most `processes` process numbers, at most 65,536, and `handles` entries in each, at most 16,384.
     /// No number is given yet. Want of memory answers 8.
@@ -49,6 +67,38 @@ impl Tables {
     {
         let mut tables = Vec::new(alloc);
         tables.push(Table::new(alloc))?;
+        Ok(Tables {
+            tables,
+            processes,
+            handles,
+            alloc,
+        })
+    }
+
+    /// Writes the tables behind some bytes, without their limits.
+    pub fn write(&self, out: &mut Vec<u8>) -> Result<(), AllocError>
+        ensures text { OnOk result (out.new.items ≡ out.old.items ++ tables_text self.now.tables) }
+        ensures fits { OnOk result (TablesFit self.now) }
+    {
+        write_list(out, self.tables.as_slice())
+    }
+
+    /// Reads tables for at most `processes` process numbers and `handles` entries in each, from the front of what is left.
+    /// [`TextFault::Value`] where there are more, or none for number 0.
+    pub fn read(
+        alloc: Global,
+        processes: u32,
+        handles: u32,
+        from: &mut Cursor<'_>,
+    ) -> Result<Tables, ReadFault>
+        requires few_processes { processes ≤ PROCESSES_MAX }
+        requires few_handles { handles ≤ HANDLES_MAX }
+        ensures { Gives (λ tables. tables) result (tables_at processes handles from.old) from.new }
+    {
+        let tables = read_list::<Table>(alloc, from)?;
+        if !are_few(processes, tables.as_slice()) || !are_short(handles, tables.as_slice()) {
+            return Err(ReadFault::Text(TextFault::Value));
+        }
         Ok(Tables {
             tables,
             processes,

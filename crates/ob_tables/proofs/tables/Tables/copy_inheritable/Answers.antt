@@ -10,7 +10,7 @@ invariant_of-self-2 c =
     let i = c.self.inside in
     let lt : c.args.from < length i.tables.items = subst (λ (s : HandleTables). c.args.from < length s.tables) (sym c.self.view_is) c.requires in
     let room : length i.tables.items ≤ i.processes = subst (λ (s : HandleTables). length s.tables ≤ s.process_limit) (sym c.self.view_is) c.in_ok-number.ensures.room in
-    let from : c.places.result.now ≡ table_of i.tables.items c.args.from = c.places.ensures ∙ table_is i.tables.items c.args.from c.index.result.now lt c.index.ensures in
+    let from : c.places.result.now ≡ table_of i.tables.items c.args.from = c.places.ensures.places ∙ table_is i.tables.items c.args.from c.index.result.now lt c.index.ensures in
     let grown : length c.push.new.self.items ≡ length i.tables.items + 1 = omega (arith, ap length c.in_ok-push.ensures.items, length-append i.tables.items (c.in_ok-child.child ∷ [])) in
     let short : length c.in_ok-child.child ≤ i.handles = omega (arith, ap length c.in_ok-child.ensures, length-inherited c.places.result.now, ap length from, c.self.invariant.short c.args.from) in
     record {

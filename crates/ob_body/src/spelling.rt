@@ -1,0 +1,114 @@
+// Bodies as bytes: a tag for the kind, and what each kind has.
+ghost use Rattle.ob_body.specs.Spelling.{BodyFits, EventFits, TimerFits};
+ghost use Rattle.ob_body.specs.Spelling as spelling;
+ghost use Rattle.ob_body.specs.SpellingLaws.{body_codec, event_codec, timer_codec};
+
+use crate::body::Body;
+use crate::event::Event;
+use crate::mutex::Mutex;
+use crate::semaphore::Semaphore;
+use crate::timer::Timer;
+use ob_codec::{Cursor, ReadFault, Spelled, TextFault};
+use std::alloc::{AllocError, Global};
+
+impl Spelled for Event {
+    ghost spell = { spelling.event_text };
+
+    ghost read_at = { spelling.event_at };
+
+    ghost Fits = { EventFits };
+
+    fn write(&self, out: &mut Vec<u8>) -> Result<(), AllocError> {
+        self.manual.write(out)?;
+        self.set.write(out)
+    }
+
+    fn read(alloc: Global, from: &mut Cursor<'_>) -> Result<Event, ReadFault> {
+        let manual = bool::read(alloc, from)?;
+        let set = bool::read(alloc, from)?;
+        Ok(Event { manual, set })
+    }
+
+    ghost codec = { event_codec };
+}
+
+impl Spelled for Timer {
+    ghost spell = { spelling.timer_text };
+
+    ghost read_at = { spelling.timer_at };
+
+    ghost Fits = { TimerFits };
+
+    fn write(&self, out: &mut Vec<u8>) -> Result<(), AllocError> {
+        self.manual.write(out)?;
+        self.signaled.write(out)?;
+        self.due.write(out)
+    }
+
+    fn read(alloc: Global, from: &mut Cursor<'_>) -> Result<Timer, ReadFault> {
+        let manual = bool::read(alloc, from)?;
+        let signaled = bool::read(alloc, from)?;
+        let due = Option::<u64>::read(alloc, from)?;
+        Ok(Timer {
+            manual,
+            signaled,
+            due,
+        })
+    }
+
+    ghost codec = { timer_codec };
+}
+
+impl Spelled for Body {
+    ghost spell = { spelling.body_text };
+
+    ghost read_at = { spelling.body_at };
+
+    ghost Fits = { BodyFits };
+
+    fn write(&self, out: &mut Vec<u8>) -> Result<(), AllocError> {
+        match self {
+            Body::Event(event) => {
+                out.push(0)?;
+                event.write(out)
+            }
+            Body::Mutex(mutex) => {
+                out.push(1)?;
+                mutex.write(out)
+            }
+            Body::Semaphore(semaphore) => {
+                out.push(2)?;
+                semaphore.write(out)
+            }
+            Body::Timer(timer) => {
+                out.push(3)?;
+                timer.write(out)
+            }
+        }
+    }
+
+    #[tactic(auto, unfolding(crate::specs::Spelling::body_in))]
+    fn read(alloc: Global, from: &mut Cursor<'_>) -> Result<Body, ReadFault> {
+        match from.byte()? {
+            0 => {
+                let event = Event::read(alloc, from)?;
+                Ok(Body::Event(event))
+            }
+            1 => {
+                let mutex = Mutex::read(alloc, from)?;
+                Ok(Body::Mutex(mutex))
+            }
+            2 => {
+                let semaphore = Semaphore::read(alloc, from)?;
+                Ok(Body::Semaphore(semaphore))
+            }
+            3 => {
+                let timer = Timer::read(alloc, from)?;
+                Ok(Body::Timer(timer))
+            }
+            _ => Err(ReadFault::Text(TextFault::Tag)),
+        }
+    }
+
+    ghost codec = { body_codec };
+}
