@@ -1,8 +1,9 @@
 ghost use Rattle.std.specs.Prelude.{◌≡◌, ◌≤◌, IfOk, IsOk, length};
 ghost use Rattle.ob_name.specs.Refs.{name_at};
 
-use crate::name::NameRef;
+use crate::name::{NAME_MOST, NameRef};
 use crate::space::Space;
+use ob_codec::{Cursor, ReadFault, Spelled, TextFault, write_string};
 use smallvec::SmallVec;
 use std::alloc::{AllocError, Global};
 use std::marker::Model;
@@ -53,4 +54,35 @@ impl Name {
             base: self.base.as_slice(),
         }
     }
+}
+
+/// A name is the number of its session, 0 for the global namespace, and its base.
+impl Spelled for Name {
+    ghost use Rattle.ob_name.specs.Spelling.{NameFits, name_text, name_text_at};
+    ghost use Rattle.ob_name.specs.SpellingLaws.{name_codec};
+
+    ghost spell = { name_text };
+
+    ghost read_at = { name_text_at };
+
+    ghost Fits = { NameFits };
+
+    fn write(&self, out: &mut Vec<u8>) -> Result<(), AllocError> {
+        self.session.write(out)?;
+        write_string(out, self.base.as_slice())
+    }
+
+    fn read(alloc: Global, from: &mut Cursor<'_>) -> Result<Name, ReadFault> {
+        let session = from.four()?;
+        let base = from.string()?;
+        if base.len() > NAME_MOST {
+            return Err(ReadFault::Text(TextFault::Value));
+        }
+        Ok(Name {
+            session,
+            base: SmallVec::from_slice(alloc, base)?,
+        })
+    }
+
+    ghost codec = { name_codec };
 }
