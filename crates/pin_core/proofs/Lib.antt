@@ -3,3 +3,4 @@ pub mod Groups
 pub mod Moves
 pub mod Holding
 pub mod Schedules
+pub mod Openings

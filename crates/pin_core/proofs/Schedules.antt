@@ -43,7 +43,7 @@ opening_at zero s = refl
 opening_at (suc n) zero = refl
 opening_at (suc n) (suc s) = opening_at n s
 
-none_numbered : (k : ℕ) → 0 ≡ weight (nat_lt 0 k && nat_le k 0)
+pub none_numbered : (k : ℕ) → 0 ≡ weight (nat_lt 0 k && nat_le k 0)
 none_numbered k = grind (arith, common_steps)
 
 pub opening-safe : (k : Shape) → 1 ≤ k.max_gen → IsSafe (opening_of k)

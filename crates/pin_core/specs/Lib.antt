@@ -9,3 +9,4 @@ pub mod Events
 pub mod Safety
 pub mod Spelling
 pub mod SpellingLaws
+pub mod Opened

@@ -1,15 +1,17 @@
-ghost use Rattle.std.specs.Prelude.{◌≡◌, ℕ, ◌<◌, ◌≤◌, ◌^◌, List, None, Some};
+ghost use Rattle.std.specs.Prelude.{◌≡◌, ℕ, ◌<◌, ◌≤◌, ◌^◌, List, None, Some, replicate};
 ghost use Rattle.ob_codec.specs.Laws.{IsCodec};
 ghost use Rattle.pin_core.specs.Spelling.{descr_at, descr_text};
 ghost use Rattle.pin_core.specs.Words as words;
 ghost use Rattle.pin_core.specs.Descrs as descrs;
-ghost use Rattle.pin_core.specs.Worlds.{WorldState, opening_of, at, pins, times, given_as};
+ghost use Rattle.pin_core.specs.Opened.{Opens, opened_with};
+ghost use Rattle.pin_core.specs.Worlds.{WorldState, opening_of, opening_slot, at, pins, times, given_as};
 ghost use Rattle.pin_core.specs.Events.{refusal, after};
 ghost use Rattle.pin_core.specs.Safety.{IsSafe, AreEvents, StaysGiven, reached, age};
 ghost use Rattle.pin_core.specs.declared.word.Word.{Word};
 ghost use Rattle.pin_core.specs.declared.id.Id.{Id};
 ghost use Rattle.pin_core.specs.declared.descr.Descr.{Descr};
 ghost use Rattle.pin_core.specs.declared.shape.Shape.{Shape};
+ghost use Rattle.pin_core.specs.declared.world.Slot.{Slot};
 ghost use Rattle.pin_core.specs.declared.holders.Hold.{Hold};
 ghost use Rattle.pin_core.specs.declared.event.Event.{Event};
 ghost use Rattle.pin_core.specs.declared.event.Event.TheVariants.{Publish, ReadDescr};
@@ -30,11 +32,14 @@ pub fn law_of_codes()
 /// What holds of each safe world and of each event that is possible there, whatever led to that world. So it holds of
 /// the world that a running table shows, of whose events no list is kept.
 ///
-/// The opening world is safe, and each possible event keeps a world safe. While a hold stays in the set, its slot is
+/// The opening world is safe; so is one that begins with given slots, which nobody holds, and which is the opening world
+/// where nothing was ever asked of the slots. Each possible event keeps a world safe. While a hold stays in the set, its slot is
 /// neither stored to, nor published, nor reclaimed. A slot's generation and phase never go back. A slot is published
 /// only where nobody holds it. A descriptor that is read under a pin is the one that was published with the Id.
 pub fn law_of_worlds()
     ensures opening { (k : Shape) → 1 ≤ k.max_gen → IsSafe (opening_of k) }
+    ensures opened { (k : Shape) (slots : List Slot) → Opens k slots → IsSafe (opened_with k slots) }
+    ensures fresh { (k : Shape) → opened_with k (replicate k.slots opening_slot) ≡ opening_of k }
     ensures safe { (w : WorldState) (e : Event) → IsSafe w → refusal w e ≡ None → IsSafe (after w e) }
     ensures kept { (w : WorldState) → IsSafe w → (h : Hold) → 0 < times w h → StaysGiven w h.id.slot }
     ensures onward { (w : WorldState) (e : Event) → IsSafe w → refusal w e ≡ None

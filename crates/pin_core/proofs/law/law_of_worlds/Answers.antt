@@ -1,3 +1,4 @@
+use Rattle.pin_core.proofs.Openings.{opened-safe, opening-is}
 use Rattle.pin_core.proofs.Schedules.{opening-safe, safe_kept, kept_while_held, onward, publish_alone, read_shown}
 use Rattle.pin_core.proofs.law.law_of_worlds.Goals as goal
 
@@ -18,3 +19,9 @@ returns-clause-alone c = publish_alone
 
 pub returns-clause-shown : goal.returns-clause-shown
 returns-clause-shown c = read_shown
+
+pub returns-clause-opened : goal.returns-clause-opened
+returns-clause-opened c = opened-safe
+
+pub returns-clause-fresh : goal.returns-clause-fresh
+returns-clause-fresh c = opening-is
