@@ -2,8 +2,6 @@
 use Rattle.std.proofs.Common.{refl}
 use Rattle.ob_codec.specs.Codecs.{as_codec, u32_codec}
 use Rattle.ob_codec.specs.Laws.{IsCodec}
-use Rattle.ob_rights.specs.declared.handle_flags.HandleFlags.{HandleFlags}
-use Rattle.ob_rights.specs.declared.rights.Rights.{Rights}
 use Rattle.ob_rights.specs.Spelling.{FlagsFit, RightsFit, flags_at, flags_of, flags_text, rights_at, rights_of, rights_text}
 
 pub rights_codec : IsCodec rights_text rights_at RightsFit

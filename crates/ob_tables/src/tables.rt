@@ -1,4 +1,5 @@
-ghost use Rattle.std.specs.Prelude.{[], ◌∷◌, ◌++◌, ◌≡◌, ◌↔◌, ◌⊎◌, ◌+◌, ◌<◌, ◌≤◌, Err, IfErr, IfOk, OnErr, OnOk, IsSome, IsTrue, length, nat_le, nat_lt, ◌&&◌, true};
+ghost use Rattle.std.specs.Prelude.{[], ◌∷◌, ◌++◌, ◌≡◌, ◌↔◌, ◌⊎◌, ◌+◌, ◌<◌, ◌≤◌, Err};
+ghost use Rattle.std.specs.Prelude.{IfErr, IfOk, OnErr, OnOk, IsSome, IsTrue, length, nat_le, nat_lt, ◌&&◌, true};
 ghost use Rattle.std.specs.List.{list_all};
 ghost use Rattle.ob_codec.specs.Reading.{Gives};
 ghost use Rattle.ob_rights.specs.declared.fault.Fault.TheVariants.{Limit, Memory};
@@ -83,8 +84,8 @@ impl Tables {
         write_list(out, self.tables.as_slice())
     }
 
-    /// Reads tables for at most `processes` process numbers and `handles` entries in each, from the front of what is left.
-    /// [`TextFault::Value`] where there are more, or none for number 0.
+    /// Reads tables for at most `processes` process numbers and `handles` entries in each, from the front of what is
+    /// left. [`TextFault::Value`] where there are more, or none for number 0.
     pub fn read(
         alloc: Global,
         processes: u32,

@@ -1,19 +1,16 @@
 -- A world that begins with given slots is safe.
-use Rattle.std.proofs.Common.{◌≡◌, ◌≢◌, ℕ, ◌+◌, ◌<◌, ◌≤◌, ◌==◌, ◌&&◌, nat_lt, nat_le, Bool, true, false, cond, List, [], ◌∷◌, length, replicate, zero, suc, sym, refl, ap, ◌∙◌, subst, arith, eq-eqb, ne_eqb}
+use Rattle.std.proofs.Common.{◌≡◌, ◌≢◌, ℕ, ◌+◌, ◌<◌, ◌≤◌, ◌==◌, ◌&&◌, Bool, true, false, cond, List, [], ◌∷◌, length, replicate, zero, suc, sym, refl, ap, ◌∙◌, subst, arith, ne_eqb}
 use Rattle.std.proofs.lemmas.Grind.{common_steps}
-use Rattle.std.proofs.lemmas.List.{length-replicate}
 use Rattle.pin_core.specs.declared.id.Id.{Id}
 use Rattle.pin_core.specs.declared.descr.Descr.{Descr}
 use Rattle.pin_core.specs.declared.word.Phase.{Phase}
-use Rattle.pin_core.specs.declared.word.Phase.TheVariants.{Free, Live, Closing, Retired}
 use Rattle.pin_core.specs.declared.shape.Shape.{Shape}
 use Rattle.pin_core.specs.declared.world.Slot.{Slot}
-use Rattle.pin_core.specs.declared.event.Event.{Event}
 use Rattle.pin_core.specs.Descrs.{same_descr}
 use Rattle.pin_core.specs.Holds.{tally, weight, same_id}
-use Rattle.pin_core.specs.Worlds.{WorldState, opening_slot, opening_of, slot_of, is_of, is_with}
+use Rattle.pin_core.specs.Worlds.{opening_slot, opening_of, slot_of, is_of, is_with}
 use Rattle.pin_core.specs.Safety.{may_be_held, IsSafe}
-use Rattle.pin_core.specs.Opened.{shown_from, opened_with, SlotOpens, Opens}
+use Rattle.pin_core.specs.Opened.{shown_from, opened_with, Opens}
 use Rattle.pin_core.proofs.Moves.{eq_of}
 use Rattle.pin_core.proofs.Schedules.{none_numbered}
 

@@ -9,3 +9,5 @@ pub mod Locking
 pub mod LawOfSteps
 pub mod Fieldless
 pub mod Owned
+pub mod Laying
+pub mod Showing

@@ -3,13 +3,14 @@ use Rattle.std.proofs.Common.{◌≡◌, ℕ, ◌∙◌, ap, Global}
 use Rattle.atomic_table.specs.declared.owned.Table.{Table}
 use Rattle.pin_core.specs.declared.shape.Shape.{Shape}
 use Rattle.pin_words.specs.declared.plays.PinRule.{PinRule}
+use Rattle.pin_words.specs.declared.view.Ground.{Ground}
 use Rattle.pin_words.specs.declared.view.View.{View}
 
 abbrev pub Words : Type 0
-Words = Table (Unit {0}) View Shape PinRule Global
+Words = Table (Unit {0}) View Ground PinRule Global
 
-pub key_at : {a b : Words} {k : Shape} → a ≡ b → b.shared.key ≡ k → a.shared.key ≡ k
-key_at is keyed = ap (λ (t : Words). t.shared.key) is ∙ keyed
+pub key_at : {a b : Words} {k : Shape} → a ≡ b → b.shared.key.shape ≡ k → a.shared.key.shape ≡ k
+key_at is keyed = ap (λ (t : Words). t.shared.key.shape) is ∙ keyed
 
 pub wide_at : {a b : Words} {n : ℕ} → a ≡ b → b.shared.table_id.words ≡ n → a.shared.table_id.words ≡ n
 wide_at is wide = ap (λ (t : Words). t.shared.table_id.words) is ∙ wide

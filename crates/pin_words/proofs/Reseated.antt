@@ -1,23 +1,24 @@
 -- Seats that are split and joined leave the world as it is.
-use Rattle.std.proofs.Common.{◌≡◌, ◌≢◌, ◌⊎◌, inl, inr, ⊎_elim, ℕ, ◌+◌, ◌<◌, ◌≤◌, ◌==◌, eq-eqb, ne_eqb, Bool, cond, List, [], ◌∷◌, ◌++◌, length, set, zero, suc, Some, None, sym, refl, ap, ◌∙◌, subst, arith}
+use Rattle.std.proofs.Common.{◌≡◌, ◌≢◌, ◌⊎◌, inl, inr, ⊎_elim, ℕ, ◌+◌, ◌*◌, ◌<◌, ◌≤◌, ◌==◌, eq-eqb, ne_eqb, Bool, cond, List, [], ◌∷◌, ◌++◌, length, replicate, set, zero, suc, Some, None, sym, refl, ap, ◌∙◌, subst, arith}
 use mathlib.Core.Option.{some, some-ne-none, some-injective}
 use native.Mathlib.Decide.{ℕ_discrete}
 use mathlib.Core.Logic.{dite}
 use lib.ListN.{get_elem?}
+use Rattle.std.proofs.lemmas.List.{length-replicate}
 use Rattle.atomic_table.specs.Table.{Splits, Joins, opening}
 use Rattle.atomic_table.proofs.Lists.{at_set, set_here, set_else, set_again, at_longer, at_last}
 use Rattle.pin_core.specs.declared.shape.Shape.{Shape}
 use Rattle.pin_core.specs.declared.world.Slot.{Slot}
 use Rattle.pin_core.specs.Shapes.{IsWithinLimits}
-use Rattle.pin_core.specs.Words.{encoded}
-use Rattle.pin_core.specs.Descrs as descr_code
-use Rattle.pin_core.specs.Worlds.{WorldState, opening_of, copies}
-use Rattle.pin_core.proofs.Schedules.{opening-safe, opening_at}
+use Rattle.pin_core.specs.Worlds.{WorldState, opening_slot, copies}
+use Rattle.pin_core.specs.Opened.{opened_with, Opens, SlotOpens}
+use Rattle.pin_core.proofs.Schedules.{opening_at}
+use Rattle.pin_core.proofs.Openings.{opened-safe, opening-is}
 use Rattle.pin_words.specs.declared.view.KeeperView.{KeeperView}
 use Rattle.pin_words.specs.declared.view.ReaderView.{ReaderView}
 use Rattle.pin_words.specs.declared.view.View.{View}
-use Rattle.pin_words.specs.Places.{AreOpening}
-use Rattle.pin_words.specs.Views.{on, view, keeper_gave, reader_given, opening_keeper, opening_view}
+use Rattle.pin_words.specs.Places.{AreLaid, words_a_slot}
+use Rattle.pin_words.specs.Views.{on, view, keeper_gave, reader_given, opening_keeper, keeper_with_slots, view_with_slots}
 use Rattle.pin_words.specs.Shown.{Table, HoldsJust, OfKeeper, OfReader, Agrees, HasKeeper, HasReader, IsShown, Shown}
 use Rattle.pin_words.specs.Plays.{Behind, Tells, AreListed, Show, Meets, MeetsBoth, looked_view, got_view, released_view, looked, pinned, released, noted, stored, published, closed, reclaiming, gave, reader_from, spent, or_else, joined, keeper_part, reader_part}
 use Rattle.pin_words.specs.Plays as play
@@ -40,32 +41,46 @@ moved-old : (n q : ℕ) (owner : ℕ → ℕ) (r : ℕ) → r ≢ n → moved-ow
 moved-old n q owner r h = ap (λ (b : Bool). cond b q (owner r)) (ne_eqb r n h)
 
 -- the table at the start
-pub opens : (k : Shape) (words : List ℕ) → IsWithinLimits k → AreOpening k.slots k.slots words → Shown k (opening words [] (opening_view k))
-opens k words fits are = (
-  opening_of k,
+pub opens : (k : Shape) (slots : List Slot) (words : List ℕ) → IsWithinLimits k → Opens k slots → AreLaid slots (length slots) words → Shown k (opening words [] (view_with_slots k slots))
+opens k slots words fits begins are = (
+  opened_with k slots,
   record {
     fits = fits;
     shape = refl;
-    wide = are.wide;
-    safe = opening-safe k fits.4;
-    words = λ i h. are.words i h ∙ ap (λ (y : Slot). encoded record { generation = y.generation; phase = y.phase; pins = 0 }) (sym (opening_at k.slots i));
-    descrs = λ i h. are.descrs i h ∙ ap (λ (y : Slot). descr_code.encoded y.descr) (sym (opening_at k.slots i));
-    given = λ i h. subst (λ (y : Slot). descr_code.IsGiven y.descr) (sym (opening_at k.slots i)) (omega arith, refl);
+    wide = are.wide ∙ ap (λ (n : ℕ). n * words_a_slot) begins.wide;
+    safe = opened-safe k slots begins;
+    words = λ i h. are.words i (inside i h);
+    descrs = λ i h. are.descrs i (inside i h);
+    given = λ i h. (begins.each i h).given;
     keeper = 0;
     next = 1;
     owner = λ _. 0;
-    each = λ j u e. ⊎_elim (λ (t : (j ≡ 0) × (opening_view k ≡ u)). subst (λ (z : ℕ × View). Agrees (opening_of k) 0 1 (λ _. 0) z.0 z.1) (λ c. (sym t.0 c, t.1 c))
+    each = λ j u e. ⊎_elim (λ (t : (j ≡ 0) × (view_with_slots k slots ≡ u)). subst (λ (z : ℕ × View). Agrees (opened_with k slots) 0 1 (λ _. 0) z.0 z.1) (λ c. (sym t.0 c, t.1 c))
         (record { shape = refl; mine = refl; slots = refl; published = refl; next_is = refl; looks = tt }, tt))
-        (λ (t : (j ≢ 0) × (get_elem? (opening_view k ∷ []) j ≡ some u)). absurd (beyond j u t.0 t.1)) (at_set (opening_view k ∷ []) 0 j (opening_view k) u e);
+        (λ (t : (j ≢ 0) × (get_elem? (view_with_slots k slots ∷ []) j ≡ some u)). absurd (beyond j u t.0 t.1)) (at_set (view_with_slots k slots ∷ []) 0 j (view_with_slots k slots) u e);
     unborn = λ r later x. refl;
-    kept = (opening_view k, opening_keeper k, refl, refl);
+    kept = (view_with_slots k slots, keeper_with_slots k slots, refl, refl);
     owned = λ r. inl (λ x. refl);
   },
 )
   where
-    beyond : (j : ℕ) (u : View) → j ≢ 0 → get_elem? (opening_view k ∷ []) j ≡ some u → ⊥
+    inside : (i : ℕ) → i < k.slots → i < length slots
+    inside i h = subst (λ (z : ℕ). i < z) (sym begins.wide) h
+
+    beyond : (j : ℕ) (u : View) → j ≢ 0 → get_elem? (view_with_slots k slots ∷ []) j ≡ some u → ⊥
     beyond zero u other e = other refl
     beyond (suc j) u other e = some-ne-none u (sym e)
+
+-- slots of which nothing was asked
+pub fresh_opens : (k : Shape) (slots : List Slot) → IsWithinLimits k → slots ≡ replicate k.slots opening_slot → Opens k slots
+fresh_opens k slots fits are = subst (Opens k) (sym are) (record {
+  wide = length-replicate k.slots opening_slot;
+  each = λ s h. subst (SlotOpens k.max_gen) (sym (opening_at k.slots s)) (record { given = (omega arith, refl); bounded = fits.4; last = λ e. cc });
+})
+
+pub fresh_keeper : (k : Shape) (slots : List Slot) → slots ≡ replicate k.slots opening_slot → keeper_with_slots k slots ≡ opening_keeper k
+fresh_keeper k slots are = ap (keeper_with_slots k) are
+    ∙ ap (λ (w : WorldState). record { shape = k; slots = replicate k.slots opening_slot; published = w.published; next = 1; looks = [] }) (opening-is k)
 
 -- the same world under other views
 reseated : (k : Shape) (s : Table) (W : WorldState) (sh : IsShown k s W) (next : ℕ) (owner : ℕ → ℕ) (views : List View) → ((j : ℕ) (u : View) → get_elem? views j ≡ some u → Agrees W sh.keeper next owner j u) → ((r : ℕ) → next ≤ r → HoldsJust W r [])

@@ -6,6 +6,7 @@ use Rattle.pin_core.specs.declared.descr.Descr.{Descr}
 use Rattle.pin_core.specs.declared.word.Phase.TheVariants.{Live, Closing}
 use Rattle.pin_core.specs.declared.shape.Shape.{Shape}
 use Rattle.pin_core.specs.declared.world.Slot.{Slot}
+use Rattle.pin_core.specs.Opened.{shown_from}
 use Rattle.pin_core.specs.Words.{decoded}
 use Rattle.pin_core.specs.Holds.{tally, same_id, drop_first}
 use Rattle.pin_core.specs.Worlds.{opening_slot, slot_of}
@@ -95,8 +96,12 @@ reader_given k = record { shape = k.shape; number = k.next; held = []; notes = [
 abbrev pub opening_keeper : Shape → KeeperView
 opening_keeper k = record { shape = k; slots = replicate k.slots opening_slot; published = []; next = 1; looks = [] }
 
-abbrev pub opening_view : Shape → View
-opening_view k = view (Some (opening_keeper k)) None
+-- the same over given slots, which nobody holds
+abbrev pub keeper_with_slots : Shape → List Slot → KeeperView
+keeper_with_slots k slots = record { shape = k; slots = slots; published = shown_from 0 slots; next = 1; looks = [] }
+
+abbrev pub view_with_slots : Shape → List Slot → View
+view_with_slots k slots = view (Some (keeper_with_slots k slots)) None
 
 abbrev pub M : Type 0
 M = Me (Unit {0}) View

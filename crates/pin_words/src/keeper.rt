@@ -23,7 +23,7 @@ pub struct Keeper {
     shape: Shape,
     seat: Seat<(), View>,
     slots: Vec<Slot>,
-    ghost keyed: { (arc_value words).shared.key ≡ shape },
+    ghost keyed: { (arc_value words).shared.key.shape ≡ shape },
     ghost wide: { (arc_value words).shared.table_id.words ≡ shape.slots * words_a_slot },
     ghost some: { 1 ≤ shape.slots },
     ghost seated: { seat.table_id ≡ (arc_value words).shared.table_id },
@@ -62,7 +62,7 @@ impl Keeper {
         seat: Seat<(), View>,
         slots: Vec<Slot>,
     ) -> Keeper
-        requires keyed { (arc_value words).shared.key ≡ shape }
+        requires keyed { (arc_value words).shared.key.shape ≡ shape }
         requires wide { (arc_value words).shared.table_id.words ≡ shape.slots * words_a_slot }
         requires some { 1 ≤ shape.slots }
         requires seated { seat.table_id ≡ (arc_value words).shared.table_id }
@@ -242,7 +242,7 @@ impl Keeper {
     }
 
     pub(crate) fn give(&mut self, words: Arc<Words, Global>) -> Reader
-        requires keyed { (arc_value words).shared.key ≡ self.old.table.shape }
+        requires keyed { (arc_value words).shared.key.shape ≡ self.old.table.shape }
         requires same { (arc_value words).shared.table_id ≡ self.old.table.id }
         ensures view { self.new.view ≡ keeper_gave self.old.view }
         ensures reader { result.view ≡ reader_given self.old.view }

@@ -29,6 +29,6 @@ pub use keeper::Keeper;
 pub use law::law_of_steps;
 pub use locked::LockedPins;
 pub use pin_keeper::{PinKeeper, Reclaim};
-pub use pins::{Opening, Pins};
+pub use pins::{Opening, Pins, Reopening};
 pub use reader::Reader;
 pub use view::{KeeperView, Look, Note, ReaderView, View};

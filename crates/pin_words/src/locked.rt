@@ -1,7 +1,8 @@
-ghost use Rattle.std.specs.Prelude.{◌≡◌, ◌≤◌, ◌<◌, ℕ, length, count_by};
+ghost use Rattle.std.specs.Prelude.{◌≡◌, ◌≤◌, ◌<◌, ℕ, [], ◌∷◌, ◌++◌, length, count_by};
 ghost use Rattle.pin_core.specs.declared.id.Id.{Id};
 ghost use Rattle.pin_core.specs.Shapes.{IsWithinLimits};
 ghost use Rattle.pin_core.specs.Holds.{tally, same_id};
+ghost use Rattle.pin_core.specs.Opened.{shown_from};
 ghost use Rattle.pin_words.specs.Views.{sits};
 
 use crate::fault::{PinFault, Verdict, judge};
@@ -41,6 +42,34 @@ fn pins_at(held: &[Id], slot: u32) -> usize
     held.iter().filter(|h| h.slot == slot).count()
 }
 
+/// What was published, and the Id of the slot where it is live or closing.
+fn with_slot(published: Published, number: u32, slot: Slot) -> Published
+    ensures { result.list ≡ published.list ++ shown_from number (slot ∷ []) }
+{
+    match slot.phase {
+        Phase::Live | Phase::Closing => {
+            let id = Id {
+                slot: number,
+                generation: slot.generation,
+            };
+            published.and(&id, &slot.descr)
+        }
+        Phase::Free | Phase::Retired => published,
+    }
+}
+
+/// What is published of slots that nobody holds: the Id of each live or closing one, with its descriptor.
+fn shown(slots: &[Slot]) -> Published
+    requires { length slots.now ≤ 65536 }
+    ensures { result.list ≡ shown_from 0 slots.now }
+{
+    let mut published = Published::new();
+    for i in 0..slots.len() {
+        published = with_slot(published, i as u32, slots[i]);
+    }
+    published
+}
+
 impl LockedPins {
     ghost use Rattle.std.specs.Prelude.{◌≡◌, ◌<◌, ◌≤◌, ◌↔◌, [], ◌∷◌, ◌++◌, length, replicate, slice_set, false, IsTrue, OnOk, IfOk, IfErr};
     ghost use Rattle.ob_rights.specs.declared.fault.Fault.TheVariants.{Memory};
@@ -48,6 +77,7 @@ impl LockedPins {
     ghost use Rattle.pin_core.specs.Shapes.{IsWithinLimits};
     ghost use Rattle.pin_core.specs.Descrs.{IsGiven};
     ghost use Rattle.pin_core.specs.Holds.{tally, same_id};
+    ghost use Rattle.pin_core.specs.Opened.{shown_from};
     ghost use Rattle.pin_core.specs.Worlds.{opening_slot, slot_of};
     ghost use Rattle.pin_words.specs.Views.{sits};
     ghost use Rattle.pin_words.specs.Keepers.{locked, with_slots, with_published, with_held, word_of, stored, published, closed, released, Tries, ReclaimsLocked};
@@ -68,6 +98,22 @@ impl LockedPins {
             published: Published::new(),
             held: ArrayVec::new(),
         })
+    }
+
+    /// Pins over given slots, which nobody holds. What is published is the Id of each live or closing slot, with its
+    /// descriptor.
+    pub fn with_slots(shape: Shape, slots: Vec<Slot>) -> LockedPins
+        requires within { IsWithinLimits shape }
+        requires long { length slots.items ≡ shape.slots }
+        ensures { result ≡ locked shape slots.items (shown_from 0 slots.items) [] }
+    {
+        let published = shown(slots.as_slice());
+        LockedPins {
+            shape,
+            slots,
+            published,
+            held: ArrayVec::new(),
+        }
     }
 
     /// How many slots there are.

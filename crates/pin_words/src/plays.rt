@@ -1,18 +1,17 @@
 ghost use Rattle.pin_words.specs.Shown.{Shown};
-ghost use Rattle.pin_words.specs.Views.{opening_view};
+ghost use Rattle.pin_words.specs.Views.{view_with_slots};
 ghost use Rattle.pin_words.specs.Plays.{looked, pinned, released, noted, stored, published, closed, reclaiming, gave, given, keeper_part, reader_part, spent, joined};
 
-use crate::view::View;
+use crate::view::{Ground, View};
 use atomic_table::{Join, Play, Split, TableRule};
-use pin_core::Shape;
 
 // The words are those of the world that the seats make.
 pub(crate) struct PinRule;
 
-impl TableRule<(), View, Shape> for PinRule {
-    ghost holds = { Shown };
+impl TableRule<(), View, Ground> for PinRule {
+    ghost holds = { λ ground. Shown ground.shape };
 
-    ghost first = { opening_view };
+    ghost first = { λ ground. view_with_slots ground.shape ground.slots.items };
 }
 
 pub(crate) struct Looks;

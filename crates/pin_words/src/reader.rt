@@ -78,7 +78,7 @@ pub struct Reader {
     shape: Shape,
     pub(crate) seat: Seat<(), View>,
     held: ArrayVec<Id, 16>,
-    ghost keyed: { (arc_value words).shared.key ≡ shape },
+    ghost keyed: { (arc_value words).shared.key.shape ≡ shape },
     ghost wide: { (arc_value words).shared.table_id.words ≡ shape.slots * words_a_slot },
     ghost seated: { seat.table_id ≡ (arc_value words).shared.table_id },
     ghost reads: { IsReaders seat.me },
@@ -113,7 +113,7 @@ impl Reader {
     ghost use Rattle.pin_words.specs.Tries.{Tries, TriesUntilSettled, HasOnlyLooked};
 
     pub(crate) fn of_parts(words: Arc<Words, Global>, shape: Shape, seat: Seat<(), View>) -> Reader
-        requires keyed { (arc_value words).shared.key ≡ shape }
+        requires keyed { (arc_value words).shared.key.shape ≡ shape }
         requires wide { (arc_value words).shared.table_id.words ≡ shape.slots * words_a_slot }
         requires seated { seat.table_id ≡ (arc_value words).shared.table_id }
         requires reads { IsReaders seat.me }

@@ -52,3 +52,10 @@ pub struct View {
     /// A reader's part.
     pub reader: Option<ReaderView>,
 }
+
+/// What the words of a table begin with: its shape, and the slots, which nobody holds.
+#[derive(Drop)]
+pub(crate) struct Ground {
+    pub(crate) shape: Shape,
+    pub(crate) slots: Vec<Slot>,
+}

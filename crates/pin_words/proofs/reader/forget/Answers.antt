@@ -1,4 +1,4 @@
-use Rattle.std.proofs.Common.{◌≡◌, ◌∙◌, sym, ap, Some, None, arith}
+use Rattle.std.proofs.Common.{◌≡◌, ◌∙◌, sym, ap, Some, None}
 use Rattle.std.specs.List.{position}
 use Rattle.pin_core.specs.Holds.{same_id}
 use Rattle.pin_core.proofs.Counts.{none-found, drop-absent, found-some}

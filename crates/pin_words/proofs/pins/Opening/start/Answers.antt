@@ -1,8 +1,17 @@
-use Rattle.std.proofs.Common.{rules, ◌≡◌}
-use Rattle.pin_words.specs.Views.{opening_keeper, keeper_gave}
+use Rattle.std.proofs.Common.{◌≡◌, ◌∙◌, ap}
+use Rattle.pin_words.specs.Seats.{TableState}
+use Rattle.pin_words.specs.Views.{keeper_gave, opening_keeper}
 use Rattle.pin_words.proofs.LawOfSteps.{shows_opening}
+use Rattle.pin_words.proofs.Reseated.{fresh_keeper}
 use Rattle.pin_words.proofs.pins.Opening.start.Goals as goal
 
-pub returns-clause-opens : goal.returns-clause-opens
-returns-clause-opens c = shows_opening c.give-reader.new.self.view c.args.self.shape
-    (let known : c.give-reader.new.self.view ≡ keeper_gave (opening_keeper c.args.self.shape) = search rules in known)
+known : (c : goal.In-Ok) → c.in-Ok.started.0.view ≡ keeper_gave (opening_keeper c.args.self.shape)
+known c =
+    let over = c.self.inside.over in
+    c.in-Ok.ensures.keeper.1 ∙ (ap keeper_gave (fresh_keeper over.table.shape over.slots c.self.inside.fresh) ∙ ap (λ (t : TableState). keeper_gave (opening_keeper t.shape)) c.self.view_is)
+
+pub returns-in-Ok-clause-keeper : goal.returns-in-Ok-clause-keeper
+returns-in-Ok-clause-keeper c = (c.in-Ok.ensures.keeper.0 ∙ c.self.view_is, known c)
+
+pub returns-in-Ok-clause-opens : goal.returns-in-Ok-clause-opens
+returns-in-Ok-clause-opens c = shows_opening c.in-Ok.started.0.view c.args.self.shape (known c)
