@@ -201,8 +201,8 @@ impl Body {
         }
     }
 
-    /// Sets a timer to a moment, in units of 100 ns: it is nonsignaled until then, and signaled at once where the moment
-    /// isn't after `now` ([SetWaitableTimer]).
+    /// Sets a timer to a moment, in units of 100 ns: it is nonsignaled until then, and signaled at once where the
+    /// moment isn't after `now` ([SetWaitableTimer]).
     ///
     /// [SetWaitableTimer]: https://learn.microsoft.com/windows/win32/api/synchapi/nf-synchapi-setwaitabletimer
     pub fn arm(&mut self, due: u64, now: u64)

@@ -1,4 +1,5 @@
-//! What an event, a mutex, a semaphore and a timer are to a thread that waits: when a body is signaled, and what a wait takes.
+//! What an event, a mutex, a semaphore and a timer are to a thread that waits: when a body is signaled, and what a wait
+//! takes.
 //!
 //! A [`Body`] is the part of an object that calls change. Each kind stands in a module of its own, and
 //! [`Body`] is no more than the choice among them. No call takes memory.

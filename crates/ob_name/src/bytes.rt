@@ -1,5 +1,5 @@
-// Texts with the same bytes. The test of std calls a function for any text but the shortest; this one is inlined where names
-// are looked up, and the eight tests of eight bytes become one of a word.
+// Texts with the same bytes. The test of std calls a function for any text but the shortest; this one is inlined where
+// names are looked up, and the eight tests of eight bytes become one of a word.
 ghost use Rattle.std.specs.Prelude.{◌≡◌, ◌+◌, ◌*◌, ◌/◌, ◌≤◌, ◌&&◌, drop, length};
 ghost use Rattle.std.specs.Str.{bytes_eq};
 
@@ -23,7 +23,8 @@ pub(crate) fn same_bytes(text: &[u8], other: &[u8]) -> bool
 fn same_eights(text: &[u8], other: &[u8], count: usize) -> bool
     requires text { count * 8 ≤ length text.now }
     requires other { count * 8 ≤ length other.now }
-    ensures { bytes_eq text.now other.now ≡ result && bytes_eq (drop (count * 8) text.now) (drop (count * 8) other.now) }
+    ensures { bytes_eq text.now other.now ≡ result && bytes_eq (drop (count * 8) text.now)
+        (drop (count * 8) other.now) }
 {
     for number in 0..count {
         if !same_eight(text, other, number * 8) {
@@ -38,7 +39,8 @@ fn same_eights(text: &[u8], other: &[u8], count: usize) -> bool
 fn same_eight(text: &[u8], other: &[u8], at: usize) -> bool
     requires text { at + 8 ≤ length text.now }
     requires other { at + 8 ≤ length other.now }
-    ensures { bytes_eq (drop at text.now) (drop at other.now) ≡ result && bytes_eq (drop (at + 8) text.now) (drop (at + 8) other.now) }
+    ensures { bytes_eq (drop at text.now) (drop at other.now) ≡ result
+        && bytes_eq (drop (at + 8) text.now) (drop (at + 8) other.now) }
 {
     (text[at] == other[at])
         & (text[at + 1] == other[at + 1])

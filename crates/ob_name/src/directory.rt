@@ -1,4 +1,5 @@
-ghost use Rattle.std.specs.Prelude.{◌≡◌, ◌+◌, ◌<◌, ◌≤◌, None, [], ◌∷◌, ◌++◌, length, slice_get, IfOk, IfErr, IsOk, OnOk};
+ghost use Rattle.std.specs.Prelude.{◌≡◌, ◌+◌, ◌<◌, ◌≤◌, None, [], ◌∷◌, ◌++◌, length, slice_get, IfOk, IfErr, IsOk};
+ghost use Rattle.std.specs.Prelude.{OnOk};
 ghost use Rattle.std.specs.Option.{option_map};
 ghost use Rattle.ob_rights.specs.declared.fault.Fault.TheVariants.{Memory};
 ghost use Rattle.ob_name.specs.Listing.{AreDistinct, find_name, without_name};
@@ -17,9 +18,9 @@ use std::marker::Model;
 
 /// The names of objects with their Ids, in the order of entry. No name stands twice.
 ///
-/// A name is found by its hash, in a time that doesn't grow with the number of names. The hash has no secret: names that
-/// somebody chose to have one hash are found one after another. A name that goes leaves a hole in the order of entry;
-/// where more than half are holes, [`remove`] closes them, in a time that grows with the number of names.
+/// A name is found by its hash, in a time that doesn't grow with the number of names. The hash has no secret: names
+/// that somebody chose to have one hash are found one after another. A name that goes leaves a hole in the order of
+/// entry; where more than half are holes, [`remove`] closes them, in a time that grows with the number of names.
 ///
 /// [`remove`]: Directory::remove
 #[derive(Drop)]
@@ -39,9 +40,13 @@ impl Model for Directory {
 
     ghost Value = { Listing };
 
-    ghost view = { λ d. record { rows = rows_of d.ids.entries d.order.items; spare = min (spare d.ids) (vec_capacity d.order - length d.order.items) } };
+    ghost view = { λ d. record {
+      rows = rows_of d.ids.entries d.order.items;
+      spare = min (spare d.ids) (vec_capacity d.order - length d.order.items);
+    } };
 
-    ghost invariant = { λ d. IsOrdered d.ids.entries d.order.items × (d.count ≡ length (rows_of d.ids.entries d.order.items)) };
+    ghost invariant = { λ d. IsOrdered d.ids.entries d.order.items
+        × (d.count ≡ length (rows_of d.ids.entries d.order.items)) };
 }
 
 impl Directory {
@@ -68,8 +73,8 @@ impl Directory {
 
     /// A copy of a name to enter, with room for one name more.
     ///
-    /// Where memory is wanting the answer is `Fault::Memory` (8). In either case the names stay. Where there is room for one more
-    /// a name of at most 16 bytes takes none.
+    /// Where memory is wanting the answer is `Fault::Memory` (8). In either case the names stay. Where there is room
+    /// for one more a name of at most 16 bytes takes none.
     pub fn reserve(&mut self, name: &NameRef<'_>) -> Result<Name, Fault>
         ensures rows { self.new.rows ≡ self.old.rows }
         ensures spare { self.old.spare ≤ self.new.spare }
@@ -146,7 +151,8 @@ impl Directory {
 
     /// The name at a place, with its Id. Places are numbers from 0, in the order of entry.
     ///
-    /// After a removal it may take a time that grows with the number of names; [`rows`] walks over all of them in such a time.
+    /// After a removal it may take a time that grows with the number of names; [`rows`] walks over all of them in such
+    /// a time.
     ///
     /// [`rows`]: Directory::rows
     pub fn row(&self, at: usize) -> Option<(NameRef<'_>, Id)>

@@ -1,5 +1,6 @@
 // Names that stand at numbered places: `order` has the number of the entry at each place, where one stands.
-ghost use Rattle.std.specs.Prelude.{◌≡◌, ℕ, ◌+◌, ◌-◌, ◌<◌, ◌≤◌, None, [], ◌∷◌, length, position, slice_get, vec_capacity, IfNone, IfSome, if◌then◌else◌};
+ghost use Rattle.std.specs.Prelude.{◌≡◌, ℕ, ◌+◌, ◌-◌, ◌<◌, ◌≤◌, None, [], ◌∷◌, length, position, slice_get};
+ghost use Rattle.std.specs.Prelude.{vec_capacity, IfNone, IfSome, if◌then◌else◌};
 ghost use Rattle.std.specs.HashMap.{spare, values};
 ghost use Rattle.std.specs.List.{IsDistinct};
 ghost use Rattle.std.specs.Map.{keys_of, lookup};
@@ -19,7 +20,8 @@ use pin_core::Id;
 pub(crate) fn entry_of(ids: &IndexMap<Name, Entered>, name: &NameRef<'_>) -> Option<usize>
     ensures index { result ≡ position (same_name (name_at name.now)) (keys_of ids.now.entries) }
     ensures none { IfNone result (lookup (same_name (name_at name.now)) ids.now.entries ≡ None) }
-    ensures value { IfSome result (λ index. slice_get (values ids.now) index ≡ lookup (same_name (name_at name.now)) ids.now.entries) }
+    ensures value { IfSome result (λ index. slice_get (values ids.now) index
+        ≡ lookup (same_name (name_at name.now)) ids.now.entries) }
     ensures within { IfSome result (λ index. index < length ids.now.entries) }
     ensures unique { IsDistinct same_name (keys_of ids.now.entries) }
 {
@@ -60,9 +62,12 @@ pub(crate) fn first_row<'a>(
     order: &Vec<usize>,
     from: usize,
 ) -> Option<(usize, (NameRef<'a>, Id))>
-    ensures none { IfNone result (rows_between (row_on ids.now.entries order.now.items) from (length order.now.items - from) ≡ []) }
-    ensures row { IfSome result (λ found. rows_between (row_on ids.now.entries order.now.items) from (length order.now.items - from)
-        ≡ row_at found.1 ∷ rows_between (row_on ids.now.entries order.now.items) found.0 (length order.now.items - found.0)) }
+    ensures none { IfNone result (rows_between (row_on ids.now.entries order.now.items) from
+        (length order.now.items - from) ≡ []) }
+    ensures row { IfSome result (λ found. rows_between (row_on ids.now.entries order.now.items) from
+        (length order.now.items - from)
+        ≡ row_at found.1 ∷ rows_between (row_on ids.now.entries order.now.items) found.0
+        (length order.now.items - found.0)) }
 {
     for place in from..order.len() {
         if let Some(row) = row_on(ids, order, place) {
@@ -72,7 +77,8 @@ pub(crate) fn first_row<'a>(
     None
 }
 
-/// Moves the row at a place down to another, where no row stands from there up to the place. Answers whether there was a row.
+/// Moves the row at a place down to another, where no row stands from there up to the place. Answers whether there was
+/// a row.
 fn move_row(
     ids: &mut IndexMap<Name, Entered>,
     order: &mut Vec<usize>,
@@ -85,7 +91,8 @@ fn move_row(
     requires gap { (q : ℕ) → to ≤ q → q < from → row_on ids.old.entries order.old.items q ≡ None }
     ensures ordered { IsOrdered ids.new.entries order.new.items }
     ensures rows { rows_of ids.new.entries order.new.items ≡ rows_of ids.old.entries order.old.items }
-    ensures gap { (q : ℕ) → (if result then to + 1 else to) ≤ q → q ≤ from → row_on ids.new.entries order.new.items q ≡ None }
+    ensures gap { (q : ℕ) → (if result then to + 1 else to) ≤ q → q ≤ from
+        → row_on ids.new.entries order.new.items q ≡ None }
     ensures len { length order.new.items ≡ length order.old.items }
     ensures capacity { vec_capacity order.new ≡ vec_capacity order.old }
     ensures spare { spare ids.new ≡ spare ids.old }

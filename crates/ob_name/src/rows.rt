@@ -30,7 +30,8 @@ impl<'a> Model for Rows<'a> {
 
     ghost Value = { listing.Rows };
 
-    ghost view = { λ r. rows_between (row_on r.ids.now.entries r.order.now.items) r.place (length r.order.now.items - r.place) };
+    ghost view = { λ r. rows_between (row_on r.ids.now.entries r.order.now.items) r.place
+        (length r.order.now.items - r.place) };
 }
 
 impl<'a> Rows<'a> {

@@ -48,8 +48,8 @@ impl HandleFlags {
         self.contains(HandleFlags::PROTECT_FROM_CLOSE)
     }
 
-    /// These flags, where each bit of the mask has the value that it has in `given`. Bits of `given` outside the mask are
-    /// ignored.
+    /// These flags, where each bit of the mask has the value that it has in `given`. Bits of `given` outside the mask
+    /// are ignored.
     pub fn changed(self, mask: u32, given: u32) -> HandleFlags
         ensures value { result ≡ changed_flags self mask given }
         ensures each { IsChanged self.0 mask given result.0 }

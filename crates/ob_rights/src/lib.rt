@@ -1,5 +1,5 @@
-//! What every layer of the object manager speaks of: access masks, handle flags, the kinds of objects, and why a call is
-//! refused.
+//! What every layer of the object manager speaks of: access masks, handle flags, the kinds of objects, and why a call
+//! is refused.
 //!
 //! ```text
 //! within(Rights::SYNCHRONIZE, all_access(Kind::Event))   // true: an event may be waited for

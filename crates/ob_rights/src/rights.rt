@@ -9,7 +9,8 @@ use bitflags::{Flag, Flags, bitflag_items};
 ///
 /// Any 32 bits are a mask, and bits without a name are kept.
 ///
-/// [Synchronization Object Security and Access Rights]: https://learn.microsoft.com/windows/win32/sync/synchronization-object-security-and-access-rights
+/// [Synchronization Object Security and Access Rights]:
+/// https://learn.microsoft.com/windows/win32/sync/synchronization-object-security-and-access-rights
 #[derive(Clone, Copy, Debug, PartialEq, Eq, Hash)]
 pub struct Rights(pub u32);
 
@@ -40,7 +41,9 @@ impl Flags for Rights {
 
     ghost exact = { ⊤ };
 
-    ghost table = { (codes "MODIFY_STATE", 0x0002) ∷ (codes "DELETE", 0x00010000) ∷ (codes "READ_CONTROL", 0x00020000) ∷ (codes "WRITE_DAC", 0x00040000) ∷ (codes "WRITE_OWNER", 0x00080000) ∷ (codes "SYNCHRONIZE", 0x00100000) ∷ (codes "EVENT_ALL_ACCESS", 0x001F0003) ∷ (codes "MUTEX_ALL_ACCESS", 0x001F0001) ∷ [] };
+    ghost table = { (codes "MODIFY_STATE", 0x0002) ∷ (codes "DELETE", 0x00010000) ∷ (codes "READ_CONTROL", 0x00020000)
+        ∷ (codes "WRITE_DAC", 0x00040000) ∷ (codes "WRITE_OWNER", 0x00080000) ∷ (codes "SYNCHRONIZE", 0x00100000)
+        ∷ (codes "EVENT_ALL_ACCESS", 0x001F0003) ∷ (codes "MUTEX_ALL_ACCESS", 0x001F0001) ∷ [] };
 
     ghost set_of = { λ mask. mask.0 };
 

@@ -1,6 +1,8 @@
-ghost use Rattle.std.specs.Prelude.{[], ◌∷◌, ◌++◌, ◌≡◌, ◌⊎◌, IfErr, Some, ◌+◌, ◌<◌, ◌≤◌, IfOk, OnOk, OnErr, IsSome, length, slice_get, slice_set, true, is_some, nat_le};
+ghost use Rattle.std.specs.Prelude.{[], ◌∷◌, ◌++◌, ◌≡◌, ◌⊎◌, IfErr, Some, ◌+◌, ◌<◌, ◌≤◌, IfOk, OnOk, OnErr, IsSome};
+ghost use Rattle.std.specs.Prelude.{length, slice_get, slice_set, true, is_some, nat_le};
 ghost use Rattle.ob_rights.specs.declared.fault.Fault.TheVariants.{Limit, Memory};
-ghost use Rattle.ob_tables.specs.Table.{at, entry_at, free_place, is_packed, place_of, value_of, with_entry, without_entry, with_flags};
+ghost use Rattle.ob_tables.specs.Table.{at, entry_at, free_place, is_packed, place_of, value_of, with_entry};
+ghost use Rattle.ob_tables.specs.Table.{without_entry, with_flags};
 ghost use Rattle.ob_tables.specs.Inheritance.{inheritable, inherited};
 ghost use Rattle.ob_tables.specs.Spelling.{is_short};
 
@@ -118,7 +120,8 @@ impl Table {
         ensures value { IfOk result (λ value. value ≡ value_of (free_place self.old)) }
         ensures ok { OnOk result (self.new ≡ with_entry self.old entry) }
         ensures room { OnOk result (free_place self.old < limit) }
-        ensures refusal { IfErr result (λ fault. ((fault ≡ Limit) × (limit ≤ free_place self.old)) ⊎ ((fault ≡ Memory) × (free_place self.old < limit))) }
+        ensures refusal { IfErr result (λ fault. ((fault ≡ Limit) × (limit ≤ free_place self.old))
+            ⊎ ((fault ≡ Memory) × (free_place self.old < limit))) }
         ensures reuses { IfErr result (λ fault. fault ≡ Memory → is_packed self.old ≡ true) }
         ensures err { OnErr result (self.new ≡ self.old) }
     {
@@ -141,7 +144,8 @@ impl Table {
     #[inline(never)]
     fn push(&mut self, id: Id, rights: Rights, flags: HandleFlags) -> Result<(), AllocError>
         requires { length self.old < HANDLES_MAX }
-        ensures ok { OnOk result (self.new ≡ self.old ++ Some (record { id = id; rights = rights; flags = flags }) ∷ []) }
+        ensures ok { OnOk result (self.new ≡ self.old ++ Some (record { id = id; rights = rights; flags = flags })
+            ∷ []) }
         ensures err { OnErr result (self.new ≡ self.old) }
     {
         self.places.reserve(1)?;

@@ -6,7 +6,8 @@ ghost use Rattle.ob_rights.specs.declared.fault.Fault.TheVariants.{Limit, Memory
 ghost use Rattle.ob_tables.specs.Table.{entry_at, free_place, is_packed, value_of};
 ghost use Rattle.ob_tables.specs.Counts.{entries_in};
 ghost use Rattle.ob_tables.specs.Spelling.{TablesFit, is_short, tables_at, tables_text};
-ghost use Rattle.ob_tables.specs.Tables.{table_of, with_child, with_entry_of, with_flags_of, with_process, without_entries, without_entry_of, IsBounded};
+ghost use Rattle.ob_tables.specs.Tables.{table_of, with_child, with_entry_of, with_flags_of, with_process};
+ghost use Rattle.ob_tables.specs.Tables.{without_entries, without_entry_of, IsBounded};
 
 use crate::entry::Entry;
 use crate::table::{HANDLES_MAX, Table};
@@ -21,8 +22,8 @@ pub const PROCESSES_MAX: u32 = 65_536;
 
 /// The handle tables of all processes, by their numbers.
 ///
-/// Process numbers go from 1 and are never given again. Handle values are 4, 8, 12 and so on, and the lowest two bits of
-/// a value that is handed in are ignored ([Kernel objects]); values 0 to 3 name nothing.
+/// Process numbers go from 1 and are never given again. Handle values are 4, 8, 12 and so on, and the lowest two bits
+/// of a value that is handed in are ignored ([Kernel objects]); values 0 to 3 name nothing.
 ///
 /// [Kernel objects]: https://learn.microsoft.com/windows/win32/sysinfo/kernel-objects
 #[derive(Drop)]
@@ -63,7 +64,11 @@ impl Tables {
     pub fn new(alloc: Global, processes: u32, handles: u32) -> Result<Tables, Fault>
         requires few_processes { processes ≤ PROCESSES_MAX }
         requires few_handles { handles ≤ HANDLES_MAX }
-        ensures ok { IfOk result (λ t. t ≡ record { process_limit = processes; handle_limit = handles; tables = [] ∷ [] }) }
+        ensures ok { IfOk result (λ t. t ≡ record {
+          process_limit = processes;
+          handle_limit = handles;
+          tables = [] ∷ [];
+        }) }
         ensures err { IfErr result (λ fault. fault ≡ Memory) }
     {
         let mut tables = Vec::new(alloc);
@@ -122,7 +127,8 @@ impl Tables {
         Ok(number)
     }
 
-    /// Gives the next process number, with an empty table. 1450 where the numbers are used up, and 8 for want of memory.
+    /// Gives the next process number, with an empty table. 1450 where the numbers are used up, and 8 for want of
+    /// memory.
     pub fn add_process(&mut self) -> Result<u32, Fault>
         ensures number { IfOk result (λ process. process ≡ length self.old.tables) }
         ensures ok { OnOk result (self.new ≡ record self.old { tables = with_process self.old.tables }) }
@@ -135,9 +141,9 @@ impl Tables {
         Ok(number)
     }
 
-    /// Gives the next process number, with a table that has just the inheritable entries of `from`, with the same values,
-    /// rights and flags, so that they are inheritable in turn ([Handle inheritance]; that they stay inheritable is this
-    /// profile's choice). 1450 where the numbers are used up, and 8 for want of memory.
+    /// Gives the next process number, with a table that has just the inheritable entries of `from`, with the same
+    /// values, rights and flags, so that they are inheritable in turn ([Handle inheritance]; that they stay inheritable
+    /// is this profile's choice). 1450 where the numbers are used up, and 8 for want of memory.
     ///
     /// [Handle inheritance]: https://learn.microsoft.com/windows/win32/sysinfo/handle-inheritance
     pub fn copy_inheritable(&mut self, from: u32) -> Result<u32, Fault>

@@ -35,7 +35,10 @@ pub trait Bodies {
         requires signaled { is_signaled thread (objects self.old).bodies id ≡ true }
         requires room { slot_room RECURSION_MAX thread (body_of (objects self.old).bodies id) ≡ true }
         ensures was_abandoned { result ≡ is_abandoned (objects self.old).bodies id }
-        ensures objects { objects self.new ≡ record (objects self.old) { bodies = with_acquired thread (objects self.old).bodies id } }
+        ensures objects { objects self.new ≡ record (objects self.old) {
+          bodies = with_acquired thread
+              (objects self.old).bodies id;
+        } }
         ensures rest { rest self.new ≡ rest self.old }
     {
         let Some(mut body) = self.body(id) else {

@@ -1,4 +1,5 @@
-ghost use Rattle.std.specs.Prelude.{[], ◌≡◌, ◌<◌, ◌++◌, ◌∷◌, ℕ, IfSome, None, false, true, if◌then◌else◌, slice_index_or};
+ghost use Rattle.std.specs.Prelude.{[], ◌≡◌, ◌<◌, ◌++◌, ◌∷◌, ℕ, IfSome, None, false, true, if◌then◌else◌};
+ghost use Rattle.std.specs.Prelude.{slice_index_or};
 ghost use Rattle.least_free.specs.From.{IsAtMost};
 ghost use Rattle.ob_waits.specs.Answers.{is_answered, Drops};
 ghost use Rattle.ob_waits.specs.Rules.{IsRising, Within};
@@ -97,7 +98,8 @@ impl Fresh {
         requires { IsRising self.now }
         ensures answered { IfSome result (λ n. is_answered (slice_index_or waits.now n None) ≡ true) }
         ensures above { IfSome result (λ n. after < n) }
-        ensures least { (k : ℕ) → Within k self.now → after < k → is_answered (slice_index_or waits.now k None) ≡ true → IsAtMost result k }
+        ensures least { (k : ℕ) → Within k self.now → after < k → is_answered (slice_index_or waits.now k None) ≡ true
+            → IsAtMost result k }
     {
         let mut last = after;
         while let Some(number) = next_of(self.as_slice(), last) {

@@ -106,7 +106,8 @@ impl Index {
         requires ordered { AreOrdered number self.old }
         ensures ordered { AreOrdered number self.new }
         ensures keeps { Keeps self.old self.new }
-        ensures entered { OnOk result ((i : ℕ) → i < length ids.now → Within number (numbers_of self.new (slice_index_or ids.now i nowhere).slot)) }
+        ensures entered { OnOk result ((i : ℕ) → i < length ids.now
+            → Within number (numbers_of self.new (slice_index_or ids.now i nowhere).slot)) }
     {
         for id in ids {
             self.enter(id.slot, number)?;

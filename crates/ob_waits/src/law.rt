@@ -11,14 +11,18 @@ ghost use Rattle.ob_waits.specs.Waits.{Scene, settled, is_pending};
 /// a mutex has the owner that it had, or a thread that waits, or none. A state with nothing to settle stays.
 pub fn law_of_settling()
     ensures settled { (scene : Scene) → IsSettled scene.objects.bodies scene.waits → settled scene ≡ scene }
-    ensures threads { (scene : Scene) (n : ℕ) → thread_of (slice_index_or (settled scene).waits n None) ≡ thread_of (slice_index_or scene.waits n None) }
+    ensures threads { (scene : Scene) (n : ℕ) → thread_of (slice_index_or (settled scene).waits n None)
+        ≡ thread_of (slice_index_or scene.waits n None) }
     ensures pending { (scene : Scene) (n : ℕ) → is_pending (slice_index_or (settled scene).waits n None) ≡ true
         → slice_index_or (settled scene).waits n None ≡ slice_index_or scene.waits n None }
     ensures handles { (scene : Scene) → (settled scene).objects.handles ≡ scene.objects.handles }
     ensures blocks { (scene : Scene) → HasBlocks scene → HasBlocks (settled scene) }
-    ensures forms { (scene : Scene) (slot : ℕ) → is_some (slice_index_or (settled scene).objects.bodies slot None) ≡ true
-        → slot_form (slice_index_or (settled scene).objects.bodies slot None) ≡ slot_form (slice_index_or scene.objects.bodies slot None) }
-    ensures owners { (scene : Scene) (slot thread : ℕ) → slot_owner (slice_index_or (settled scene).objects.bodies slot None) ≡ Some thread
+    ensures forms { (scene : Scene) (slot : ℕ) → is_some (slice_index_or (settled scene).objects.bodies slot None)
+        ≡ true
+        → slot_form (slice_index_or (settled scene).objects.bodies slot None)
+        ≡ slot_form (slice_index_or scene.objects.bodies slot None) }
+    ensures owners { (scene : Scene) (slot thread : ℕ) → slot_owner
+        (slice_index_or (settled scene).objects.bodies slot None) ≡ Some thread
         → (slot_owner (slice_index_or scene.objects.bodies slot None) ≡ Some thread) ⊎ HasWait thread scene.waits }
 {}
 
@@ -29,5 +33,6 @@ pub fn law_of_settling()
 /// and ending every object to which nothing refers after that, leads to.
 pub fn law_of_ends()
     ensures bodies { (scene : Scene) → HasBodies scene.objects → HasBodies (settled scene).objects }
-    ensures last { (scene : Scene) → HasBodies scene.objects → HasBlocks scene → settled scene ≡ with_ends (settled_plainly scene) }
+    ensures last { (scene : Scene) → HasBodies scene.objects → HasBlocks scene
+        → settled scene ≡ with_ends (settled_plainly scene) }
 {}

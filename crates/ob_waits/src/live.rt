@@ -89,7 +89,8 @@ impl Live {
 
     /// The answer of the least number above one.
     pub(crate) fn next_answered(&self, after: u32) -> Option<Answer>
-        ensures least { IsLeastFrom (after + 1) (λ n. is_answered (slice_index_or self.now n None)) (option_map (λ a. a.wait) result) }
+        ensures least { IsLeastFrom (after + 1) (λ n. is_answered (slice_index_or self.now n None))
+            (option_map (λ a. a.wait) result) }
         ensures answer { IfSome result (λ a. answer_of a.wait (slice_index_or self.now a.wait None) ≡ Some a) }
     {
         let number = self.untaken.least_above(&self.waits, after)?;

@@ -39,7 +39,8 @@ pub(crate) fn lesser(first: Option<u32>, second: Option<u32>) -> Option<u32>
 fn next_open<B: Bodies>(live: &Live, bodies: &B, roster: &Roster, id: Id, last: u32) -> Option<u32>
     requires right { IsRight live.now roster.now }
     ensures above { IfSome result (λ n. last < n) }
-    ensures least { (k : ℕ) → Within k (numbers_of roster.now.index id.slot) → last < k → IsAtMost result k ⊎ IsSpent (B.objects bodies.now).bodies live.now id.slot }
+    ensures least { (k : ℕ) → Within k (numbers_of roster.now.index id.slot) → last < k
+        → IsAtMost result k ⊎ IsSpent (B.objects bodies.now).bodies live.now id.slot }
 {
     if !is_open(live, bodies, id) {
         return None;
@@ -56,7 +57,8 @@ pub(crate) fn next_number<B: Bodies>(
     last: u32,
 ) -> Option<u32>
     requires { IsRight live.now roster.now }
-    ensures { IsNextOf last roster.now.index (record { objects = B.objects bodies.now; waits = live.now }) ids.now result }
+    ensures { IsNextOf last roster.now.index
+        (record { objects = B.objects bodies.now; waits = live.now }) ids.now result }
 {
     let mut least = None;
     for id in ids {

@@ -1,4 +1,5 @@
-ghost use Rattle.std.specs.Prelude.{[], ◌≡◌, ◌≤◌, ◌<◌, ◌-◌, ◌++◌, ℕ, List, Option, None, drop, false, filter, length, slice_index_or, take, OnOk};
+ghost use Rattle.std.specs.Prelude.{[], ◌≡◌, ◌≤◌, ◌<◌, ◌-◌, ◌++◌, ℕ, List, Option, None, drop, false, filter, length};
+ghost use Rattle.std.specs.Prelude.{slice_index_or, take, OnOk};
 ghost use Rattle.ob_waits.specs.declared.wait.Wait.{Wait};
 ghost use Rattle.ob_waits.specs.Waits.{is_pending};
 ghost use Rattle.ob_waits.specs.Numbers.{IsOrdered, ends_with, has_pending, Thins};
@@ -43,7 +44,8 @@ fn sift(numbers: &mut Vec<u32>, live: &Live, start: usize, end: usize) -> usize
     requires within { end ≤ length numbers.old.items }
     ensures long { length numbers.new.items ≡ length numbers.old.items }
     ensures bound { result ≤ length numbers.old.items }
-    ensures sifted { drop result numbers.new.items ≡ filter (has_pending live.now) (take (end - start) (drop start numbers.old.items)) ++ drop end numbers.old.items }
+    ensures sifted { drop result numbers.new.items ≡ filter (has_pending live.now)
+        (take (end - start) (drop start numbers.old.items)) ++ drop end numbers.old.items }
 {
     let mut to = end;
     let mut at = end;
@@ -92,7 +94,8 @@ impl Numbers {
 
     /// Drops the number of a wait that is not pending, where it is the last, as of a wait that was short.
     pub(crate) fn forget(&mut self, number: u32)
-        ensures { (waits : List (Option Wait)) → is_pending (slice_index_or waits number None) ≡ false → Thins waits self.old self.new }
+        ensures { (waits : List (Option Wait)) → is_pending (slice_index_or waits number None) ≡ false
+            → Thins waits self.old self.new }
     {
         if !ends_with(self.as_slice(), number) {
             return;

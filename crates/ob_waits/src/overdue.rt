@@ -5,7 +5,8 @@ ghost use Rattle.ob_waits.specs.Deadlines.{AreListed, deadline_of, is_overdue};
 use crate::live::Live;
 use crate::per_thread::PerThread;
 
-/// A pending wait whose deadline isn't after a moment. The deadlines of waits that were answered before are dropped on the way.
+/// A pending wait whose deadline isn't after a moment. The deadlines of waits that were answered before are dropped on
+/// the way.
 pub(crate) fn next_overdue(live: &Live, deadlines: &mut PerThread, now: u64) -> Option<u32>
     requires { AreListed live.now deadlines.old }
     ensures listed { AreListed live.now deadlines.new }

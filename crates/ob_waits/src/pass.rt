@@ -30,7 +30,8 @@ pub fn leave_all<B: Bodies>(bodies: &mut B, ids: &[Id])
 fn take_effect<B: Bodies>(live: &mut Live, bodies: &mut B, number: u32)
     requires { Fits RECURSION_MAX (B.objects bodies.old).bodies live.old }
     ensures rest { B.rest bodies.new ≡ B.rest bodies.old }
-    ensures scene { record { objects = B.objects bodies.new; waits = live.new } ≡ passed (number ∷ []) (record { objects = B.objects bodies.old; waits = live.old }) }
+    ensures scene { record { objects = B.objects bodies.new; waits = live.new }
+        ≡ passed (number ∷ []) (record { objects = B.objects bodies.old; waits = live.old }) }
 {
     let Some(wait) = live.get(number) else {
         return;
@@ -52,7 +53,8 @@ pub(crate) fn pass<B: Bodies>(live: &mut Live, bodies: &mut B, numbers: &[u32])
     requires rising { IsRising numbers.now }
     requires covers { Covers numbers.now (record { objects = B.objects bodies.old; waits = live.old }) }
     ensures rest { B.rest bodies.new ≡ B.rest bodies.old }
-    ensures scene { record { objects = B.objects bodies.new; waits = live.new } ≡ settled (record { objects = B.objects bodies.old; waits = live.old }) }
+    ensures scene { record { objects = B.objects bodies.new; waits = live.new }
+        ≡ settled (record { objects = B.objects bodies.old; waits = live.old }) }
 {
     for number in numbers {
         take_effect(live, bodies, *number);
@@ -71,7 +73,8 @@ pub(crate) fn pass_slot<B: Bodies>(
     requires right { IsRight live.old roster.now }
     requires ready { IsReadyAt id.slot (B.objects bodies.old).bodies live.old }
     ensures rest { B.rest bodies.new ≡ B.rest bodies.old }
-    ensures scene { record { objects = B.objects bodies.new; waits = live.new } ≡ settled (record { objects = B.objects bodies.old; waits = live.old }) }
+    ensures scene { record { objects = B.objects bodies.new; waits = live.new }
+        ≡ settled (record { objects = B.objects bodies.old; waits = live.old }) }
     ensures bound { result ≤ length (numbers_of roster.now.index id.slot) }
 {
     let numbers = roster.numbers(id.slot);
@@ -100,7 +103,8 @@ fn pass_some<B: Bodies>(
     ensures rest { B.rest bodies.new ≡ B.rest bodies.old }
     ensures fits { Fits RECURSION_MAX (B.objects bodies.new).bodies live.new }
     ensures covers { Covers roster.now.order (record { objects = B.objects bodies.new; waits = live.new }) }
-    ensures same { settled (record { objects = B.objects bodies.new; waits = live.new }) ≡ settled (record { objects = B.objects bodies.old; waits = live.old }) }
+    ensures same { settled (record { objects = B.objects bodies.new; waits = live.new })
+        ≡ settled (record { objects = B.objects bodies.old; waits = live.old }) }
     ensures all { result ≡ true → IsSettled (B.objects bodies.new).bodies live.new }
 {
     let mut last = 0;
@@ -122,7 +126,8 @@ pub(crate) fn pass_each<B: Bodies>(live: &mut Live, bodies: &mut B, roster: &Ros
     requires zero { slice_index_or live.old 0 None ≡ None }
     requires ready { IsReadyAtOne ids.now (B.objects bodies.old).bodies live.old }
     ensures rest { B.rest bodies.new ≡ B.rest bodies.old }
-    ensures scene { record { objects = B.objects bodies.new; waits = live.new } ≡ settled (record { objects = B.objects bodies.old; waits = live.old }) }
+    ensures scene { record { objects = B.objects bodies.new; waits = live.new }
+        ≡ settled (record { objects = B.objects bodies.old; waits = live.old }) }
 {
     let order = roster.order();
     if !pass_some(live, bodies, roster, ids, order.len() / ids.len().max(1)) {

@@ -1,4 +1,5 @@
-ghost use Rattle.std.specs.Prelude.{◌≡◌, ◌<◌, ◌≤◌, ℕ, IfNone, IfSome, None, [], false, true, length, slice_index_or, slice_set, OnOk};
+ghost use Rattle.std.specs.Prelude.{◌≡◌, ◌<◌, ◌≤◌, ℕ, IfNone, IfSome, None, [], false, true, length, slice_index_or};
+ghost use Rattle.std.specs.Prelude.{slice_set, OnOk};
 ghost use Rattle.least_due.specs.Dues.{IsLeast, IsLeastSince};
 ghost use Rattle.ob_body.specs.Timer.{is_due};
 

@@ -79,7 +79,8 @@ impl Roster {
 
     /// Drops the number of a wait that is not pending, where it is the last.
     pub(crate) fn forget(&mut self, number: u32)
-        ensures { (waits : List (Option Wait)) → is_pending (slice_index_or waits number None) ≡ false → Leaves waits self.old self.new }
+        ensures { (waits : List (Option Wait)) → is_pending (slice_index_or waits number None) ≡ false
+            → Leaves waits self.old self.new }
     {
         self.order.forget(number);
     }

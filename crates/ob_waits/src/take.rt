@@ -2,7 +2,8 @@ ghost use Rattle.std.specs.Prelude.{[], ◌∷◌, ◌≡◌, ◌<◌, ◌≤◌
 ghost use Rattle.std.specs.List.{list_any, list_all};
 ghost use Rattle.std.specs.Option.{IfNone};
 ghost use Rattle.ob_waits.specs.Objects.{slot_room};
-ghost use Rattle.ob_waits.specs.Waits.{nowhere, is_signaled, is_abandoned, first_signaled, list_ready, with_acquired, with_all_acquired, bodies_after, code_of, code_now, objects_now};
+ghost use Rattle.ob_waits.specs.Waits.{nowhere, is_signaled, is_abandoned, first_signaled, list_ready, with_acquired};
+ghost use Rattle.ob_waits.specs.Waits.{with_all_acquired, bodies_after, code_of, code_now, objects_now};
 ghost use Rattle.ob_waits.specs.Rules.{HasRoom, IsDistinct, IsWaitable};
 
 use crate::bodies::Bodies;
@@ -50,7 +51,10 @@ fn take_all<B: Bodies>(bodies: &mut B, thread: u32, ids: &[Id]) -> bool
     requires room { HasRoom RECURSION_MAX thread (B.objects bodies.old).bodies ids.now }
     requires once { IsDistinct ids.now }
     ensures was_abandoned { result ≡ list_any (is_abandoned (B.objects bodies.old).bodies) ids.now }
-    ensures objects { B.objects bodies.new ≡ record (B.objects bodies.old) { bodies = with_all_acquired thread (B.objects bodies.old).bodies ids.now } }
+    ensures objects { B.objects bodies.new ≡ record (B.objects bodies.old) {
+      bodies = with_all_acquired thread
+          (B.objects bodies.old).bodies ids.now;
+    } }
     ensures rest { B.rest bodies.new ≡ B.rest bodies.old }
 {
     let mut was_abandoned = false;

@@ -1,4 +1,5 @@
-ghost use Rattle.std.specs.Prelude.{[], ◌≡◌, ◌<◌, ◌≤◌, ◌+◌, ℕ, IfSome, List, None, Option, Some, OnOk, false, true, length, slice_index_or, slice_set};
+ghost use Rattle.std.specs.Prelude.{[], ◌≡◌, ◌<◌, ◌≤◌, ◌+◌, ℕ, IfSome, List, None, Option, Some, OnOk, false, true};
+ghost use Rattle.std.specs.Prelude.{length, slice_index_or, slice_set};
 ghost use Rattle.least_free.specs.From.{IsAtMost, IsLeastFrom};
 ghost use Rattle.ob_waits.specs.declared.wait.Wait.{Wait};
 ghost use Rattle.ob_waits.specs.Answers.{is_answered, AreTold, AreToldBut};
@@ -77,7 +78,8 @@ impl Untaken {
 
     /// A thread's wait is over.
     pub(crate) fn forget(&mut self, thread: u32, number: u32)
-        ensures { (waits : List (Option Wait)) → thread_of (slice_index_or waits number None) ≡ Some thread → AreTold waits self.old → AreTold (slice_set waits number None) self.new }
+        ensures { (waits : List (Option Wait)) → thread_of (slice_index_or waits number None) ≡ Some thread
+            → AreTold waits self.old → AreTold (slice_set waits number None) self.new }
     {
         if self.late.get(thread) == Some(u64::from(number)) {
             self.late.clear(thread);

@@ -146,11 +146,12 @@ impl Waits {
     /// The answer of the least wait number above one, of the waits that are answered and not over: so, from 0 on, one
     /// after another.
     ///
-    /// Its cost does not grow with the waits that are pending. It is found in constant time where waits were answered in
-    /// the order of their numbers, or each answer was taken before the next came; else by halving. Answers that came out
-    /// of that order are looked for thread by thread where one of them has a number up to `after`.
+    /// Its cost does not grow with the waits that are pending. It is found in constant time where waits were answered
+    /// in the order of their numbers, or each answer was taken before the next came; else by halving. Answers that came
+    /// out of that order are looked for thread by thread where one of them has a number up to `after`.
     pub fn next_answered(&self, after: u32) -> Option<Answer>
-        ensures least { IsLeastFrom (after + 1) (λ n. is_answered (slice_index_or self.now.waits n None)) (option_map (λ a. a.wait) result) }
+        ensures least { IsLeastFrom (after + 1) (λ n. is_answered (slice_index_or self.now.waits n None))
+            (option_map (λ a. a.wait) result) }
         ensures answer { IfSome result (λ a. answer_of a.wait (slice_index_or self.now.waits a.wait None) ≡ Some a) }
     {
         self.live.next_answered(after)
@@ -221,13 +222,15 @@ impl Waits {
     /// block leaves so, and which has no handle, ends.
     pub fn settle<B: Bodies>(&mut self, bodies: &mut B)
         requires { WaitsHaveRoom RECURSION_MAX (B.objects bodies.old).bodies self.old.waits }
-        ensures value { record { objects = B.objects bodies.new; waits = self.new.waits } ≡ settled (record { objects = B.objects bodies.old; waits = self.old.waits }) }
+        ensures value { record { objects = B.objects bodies.new; waits = self.new.waits }
+            ≡ settled (record { objects = B.objects bodies.old; waits = self.old.waits }) }
         ensures limit { self.new.limit ≡ self.old.limit }
         ensures clock { self.new.clock ≡ self.old.clock }
         ensures rest { B.rest bodies.new ≡ B.rest bodies.old }
         // Nothing is left to settle, and no pending wait lost its room, below any limit.
         ensures settled { IsSettled (B.objects bodies.new).bodies self.new.waits }
-        ensures room { (limit : ℕ) → WaitsHaveRoom limit (B.objects bodies.old).bodies self.old.waits → WaitsHaveRoom limit (B.objects bodies.new).bodies self.new.waits }
+        ensures room { (limit : ℕ) → WaitsHaveRoom limit (B.objects bodies.old).bodies self.old.waits
+            → WaitsHaveRoom limit (B.objects bodies.new).bodies self.new.waits }
     {
         pass(&mut self.live, bodies, self.roster.order());
         self.roster.thin(&self.live);
@@ -240,12 +243,14 @@ impl Waits {
     pub fn settle_after<B: Bodies>(&mut self, bodies: &mut B, id: Id)
         requires room { WaitsHaveRoom RECURSION_MAX (B.objects bodies.old).bodies self.old.waits }
         requires ready { IsReadyAt id.slot (B.objects bodies.old).bodies self.old.waits }
-        ensures value { record { objects = B.objects bodies.new; waits = self.new.waits } ≡ settled (record { objects = B.objects bodies.old; waits = self.old.waits }) }
+        ensures value { record { objects = B.objects bodies.new; waits = self.new.waits }
+            ≡ settled (record { objects = B.objects bodies.old; waits = self.old.waits }) }
         ensures limit { self.new.limit ≡ self.old.limit }
         ensures clock { self.new.clock ≡ self.old.clock }
         ensures rest { B.rest bodies.new ≡ B.rest bodies.old }
         ensures settled { IsSettled (B.objects bodies.new).bodies self.new.waits }
-        ensures room { (limit : ℕ) → WaitsHaveRoom limit (B.objects bodies.old).bodies self.old.waits → WaitsHaveRoom limit (B.objects bodies.new).bodies self.new.waits }
+        ensures room { (limit : ℕ) → WaitsHaveRoom limit (B.objects bodies.old).bodies self.old.waits
+            → WaitsHaveRoom limit (B.objects bodies.new).bodies self.new.waits }
     {
         let looked = pass_slot(&mut self.live, bodies, &self.roster, id);
         self.roster.thin_slot(&self.live, id.slot, looked);
@@ -261,12 +266,14 @@ impl Waits {
     pub fn settle_after_each<B: Bodies>(&mut self, bodies: &mut B, ids: &[Id])
         requires room { WaitsHaveRoom RECURSION_MAX (B.objects bodies.old).bodies self.old.waits }
         requires ready { IsReadyAtOne ids.now (B.objects bodies.old).bodies self.old.waits }
-        ensures value { record { objects = B.objects bodies.new; waits = self.new.waits } ≡ settled (record { objects = B.objects bodies.old; waits = self.old.waits }) }
+        ensures value { record { objects = B.objects bodies.new; waits = self.new.waits }
+            ≡ settled (record { objects = B.objects bodies.old; waits = self.old.waits }) }
         ensures limit { self.new.limit ≡ self.old.limit }
         ensures clock { self.new.clock ≡ self.old.clock }
         ensures rest { B.rest bodies.new ≡ B.rest bodies.old }
         ensures settled { IsSettled (B.objects bodies.new).bodies self.new.waits }
-        ensures room { (limit : ℕ) → WaitsHaveRoom limit (B.objects bodies.old).bodies self.old.waits → WaitsHaveRoom limit (B.objects bodies.new).bodies self.new.waits }
+        ensures room { (limit : ℕ) → WaitsHaveRoom limit (B.objects bodies.old).bodies self.old.waits
+            → WaitsHaveRoom limit (B.objects bodies.new).bodies self.new.waits }
     {
         pass_each(&mut self.live, bodies, &self.roster, ids);
         self.roster.thin_slots(&self.live, ids);
@@ -288,8 +295,8 @@ impl Waits {
         self.live.answer(thread, wait, WAIT_TIMEOUT);
     }
 
-    /// A pending wait whose deadline isn't after a moment. Where there is none, and none was answered before its time, that is
-    /// known at once.
+    /// A pending wait whose deadline isn't after a moment. Where there is none, and none was answered before its time,
+    /// that is known at once.
     pub fn overdue(&mut self, now: u64) -> Option<u32>
         ensures some { IfSome result (λ wait. is_overdue now (slice_index_or self.old.waits wait None) ≡ true) }
         ensures none { IfNone result ((n : ℕ) → is_overdue now (slice_index_or self.old.waits n None) ≡ false) }
@@ -298,8 +305,8 @@ impl Waits {
         next_overdue(&self.live, &mut self.deadlines, now)
     }
 
-    /// The least deadline of the pending waits. That of a wait that was answered before is dropped here, once, in a time
-    /// that grows with the logarithm of the threads; else it is known at once.
+    /// The least deadline of the pending waits. That of a wait that was answered before is dropped here, once, in a
+    /// time that grows with the logarithm of the threads; else it is known at once.
     pub fn next_due(&mut self) -> Option<u64>
         ensures least { IsLeast (map deadline_of self.old.waits) result }
         ensures same { self.new ≡ self.old }

@@ -33,9 +33,10 @@ pub fn law_of_codes()
 /// the world that a running table shows, of whose events no list is kept.
 ///
 /// The opening world is safe; so is one that begins with given slots, which nobody holds, and it is the opening world
-/// where nothing was ever asked of the slots. Each possible event keeps a world safe. While a hold stays in the set, its
-/// slot is neither stored to, nor published, nor reclaimed. A slot's generation and phase never go back. A slot is published
-/// only where nobody holds it. A descriptor that is read under a pin is the one that was published with the Id.
+/// where nothing was ever asked of the slots. Each possible event keeps a world safe. While a hold stays in the set,
+/// its slot is neither stored to, nor published, nor reclaimed. A slot's generation and phase never go back. A slot is
+/// published only where nobody holds it. A descriptor that is read under a pin is the one that was published with the
+/// Id.
 pub fn law_of_worlds()
     ensures opening { (k : Shape) → 1 ≤ k.max_gen → IsSafe (opening_of k) }
     ensures opened { (k : Shape) (slots : List Slot) → Opens k slots → IsSafe (opened_with k slots) }

@@ -77,7 +77,12 @@ impl Model for World {
 
     ghost Value = { WorldState };
 
-    ghost view = { λ w. record { shape = w.shape; slots = w.slots.items; published = w.published.items; holders = w.holders.all } };
+    ghost view = { λ w. record {
+      shape = w.shape;
+      slots = w.slots.items;
+      published = w.published.items;
+      holders = w.holders.all;
+    } };
 
     ghost invariant = { λ w. (length w.slots.items ≡ w.shape.slots) × (w.holders.slots ≡ w.shape.slots) };
 }
@@ -85,7 +90,8 @@ impl Model for World {
 impl World {
     ghost use Rattle.std.specs.Prelude.{◌≡◌, ◌<◌, nat_lt, None, IfOk, OnOk, OnErr};
     ghost use Rattle.pin_core.specs.Worlds.{opening_of, at, pins, copies, word_at};
-    ghost use Rattle.pin_core.specs.Events.{same_word, phase_refusal, held_refusal, pin_refusal, refusal, with_slot, held_more, held_less, after};
+    ghost use Rattle.pin_core.specs.Events.{same_word, phase_refusal, held_refusal, pin_refusal, refusal, with_slot};
+    ghost use Rattle.pin_core.specs.Events.{held_more, held_less, after};
     ghost use Rattle.pin_core.specs.declared.event.Event.TheVariants.{Publish};
 
     /// The opening world: each slot is free at generation 1 with the descriptor of an event that is reset by

@@ -39,7 +39,10 @@ impl Model for Keeper {
 
     ghost Value = { KeeperSeat };
 
-    ghost view = { λ k. record { table = record { id = k.seat.table_id; shape = k.shape }; view = keeper_of k.seat.me.0 } };
+    ghost view = { λ k. record {
+      table = record { id = k.seat.table_id; shape = k.shape };
+      view = keeper_of k.seat.me.0;
+    } };
 }
 
 impl Keeper {
@@ -52,7 +55,8 @@ impl Keeper {
     ghost use Rattle.pin_core.specs.Worlds.{slot_of};
     ghost use Rattle.pin_core.specs.Safety.{may_be_held};
     ghost use Rattle.pin_words.specs.Places.{words_a_slot};
-    ghost use Rattle.pin_words.specs.Views.{IsKeepers, id_of, keeper_of, keeper_stored, keeper_published, keeper_closed, keeper_gave, reader_given};
+    ghost use Rattle.pin_words.specs.Views.{IsKeepers, id_of, keeper_of, keeper_stored, keeper_published};
+    ghost use Rattle.pin_words.specs.Views.{keeper_closed, keeper_gave, reader_given};
     ghost use Rattle.pin_words.specs.Plays.{Show};
     ghost use Rattle.pin_words.specs.Tries.{Reclaims, Met};
 

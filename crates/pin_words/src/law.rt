@@ -1,4 +1,7 @@
-ghost use Rattle.pin_words.specs.Laws.{ShowsOneWorld, ShowsSafeWorld, LoadSteps, PinSteps, ReleaseSteps, PublishSteps, CloseSteps, ReclaimSteps, FailedReclaimSteps, StoreSteps, ReadSteps, GivesReader, GivesBlank, JoinsSeats, PartsSeats, CopiesStay, NotesArePublished, LostIsOnward, StaleStays};
+ghost use Rattle.pin_words.specs.Laws.{ShowsOneWorld, ShowsSafeWorld, LoadSteps, PinSteps, ReleaseSteps, PublishSteps};
+ghost use Rattle.pin_words.specs.Laws.{CloseSteps, ReclaimSteps, FailedReclaimSteps, StoreSteps, ReadSteps};
+ghost use Rattle.pin_words.specs.Laws.{GivesReader, GivesBlank, JoinsSeats, PartsSeats, CopiesStay, NotesArePublished};
+ghost use Rattle.pin_words.specs.Laws.{LostIsOnward, StaleStays};
 
 /// The world that the seats make, and what each atomic step does to it.
 ///

@@ -71,7 +71,8 @@ fn shown(slots: &[Slot]) -> Published
 }
 
 impl LockedPins {
-    ghost use Rattle.std.specs.Prelude.{◌≡◌, ◌<◌, ◌≤◌, ◌↔◌, [], ◌∷◌, ◌++◌, length, replicate, slice_set, false, IsTrue, OnOk, IfOk, IfErr};
+    ghost use Rattle.std.specs.Prelude.{◌≡◌, ◌<◌, ◌≤◌, ◌↔◌, [], ◌∷◌, ◌++◌, length, replicate, slice_set, false, IsTrue};
+    ghost use Rattle.std.specs.Prelude.{OnOk, IfOk, IfErr};
     ghost use Rattle.ob_rights.specs.declared.fault.Fault.TheVariants.{Memory};
     ghost use Rattle.pin_core.specs.declared.word.Phase.TheVariants.{Free, Live, Closing};
     ghost use Rattle.pin_core.specs.Shapes.{IsWithinLimits};
@@ -80,7 +81,8 @@ impl LockedPins {
     ghost use Rattle.pin_core.specs.Opened.{shown_from};
     ghost use Rattle.pin_core.specs.Worlds.{opening_slot, slot_of};
     ghost use Rattle.pin_words.specs.Views.{sits};
-    ghost use Rattle.pin_words.specs.Keepers.{locked, with_slots, with_published, with_held, word_of, stored, published, closed, released, Tries, ReclaimsLocked};
+    ghost use Rattle.pin_words.specs.Keepers.{locked, with_slots, with_published, with_held, word_of, stored};
+    ghost use Rattle.pin_words.specs.Keepers.{published, closed, released, Tries, ReclaimsLocked};
 
     /// New pins: each slot is free at generation 1 with the descriptor of an event that is reset by itself, and
     /// nothing is held. [`Fault::Memory`] (8) where memory ran out.

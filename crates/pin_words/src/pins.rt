@@ -76,7 +76,8 @@ impl Pins {
     ghost use Rattle.pin_core.specs.Opened.{Opens};
     ghost use Rattle.pin_core.specs.Shapes.{IsWithinLimits};
 
-    /// New pins: each slot is free at generation 1 with the descriptor of an event that is reset by itself. A slot takes 64 bytes.
+    /// New pins: each slot is free at generation 1 with the descriptor of an event that is reset by itself. A slot
+    /// takes 64 bytes.
     ///
     /// [`Fault::Memory`] (8) where memory ran out.
     #[tactic(auto, using(crate::proofs::Reseated::fresh_opens))]

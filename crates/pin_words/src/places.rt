@@ -1,5 +1,5 @@
-//! Where the words of a slot lie: in a line of the processor's cache of their own, so that whoever pins a slot doesn't delay those
-//! who pin its neighbours.
+//! Where the words of a slot lie: in a line of the processor's cache of their own, so that whoever pins a slot doesn't
+//! delay those who pin its neighbours.
 ghost use Rattle.std.specs.Prelude.{◌≡◌, ◌*◌, ◌<◌, ℕ, length};
 ghost use Rattle.pin_core.specs.Descrs.{IsGiven};
 ghost use Rattle.pin_core.specs.Worlds.{slot_of};

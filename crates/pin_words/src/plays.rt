@@ -1,6 +1,7 @@
 ghost use Rattle.pin_words.specs.Shown.{Shown};
 ghost use Rattle.pin_words.specs.Views.{view_with_slots};
-ghost use Rattle.pin_words.specs.Plays.{looked, pinned, released, noted, stored, published, closed, reclaiming, gave, given, keeper_part, reader_part, spent, joined};
+ghost use Rattle.pin_words.specs.Plays.{looked, pinned, released, noted, stored, published, closed, reclaiming, gave};
+ghost use Rattle.pin_words.specs.Plays.{given, keeper_part, reader_part, spent, joined};
 
 use crate::view::{Ground, View};
 use atomic_table::{Join, Play, Split, TableRule};

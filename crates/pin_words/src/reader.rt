@@ -62,8 +62,8 @@ fn take_from_between(held: &mut ArrayVec<Id, 16>, place: usize)
     held.remove(place);
 }
 
-// Before the next try, after so many lost ones besides the first. It is for callers that may wait, so that a C library, which
-// may not, has no part of it.
+// Before the next try, after so many lost ones besides the first. It is for callers that may wait, so that a C library,
+// which may not, has no part of it.
 #[cold]
 fn pause<R: Wait>(_rt: &R, lost: u32) {
     for _ in 1..1u32 << lost.min(6) {
@@ -93,7 +93,10 @@ impl Model for Reader {
 
     ghost Value = { ReaderState };
 
-    ghost view = { λ r. record { table = record { id = r.seat.table_id; shape = r.shape }; view = reader_of r.seat.me.0 } };
+    ghost view = { λ r. record {
+      table = record { id = r.seat.table_id; shape = r.shape };
+      view = reader_of r.seat.me.0;
+    } };
 }
 
 impl Reader {
@@ -206,9 +209,9 @@ impl Reader {
         }
     }
 
-    /// Pins as [`try_pin`](Reader::try_pin) does, again and again while it answers [`PinFault::Busy`]: the second try follows
-    /// at once, and before each further one there is a pause, longer each time, of at most 63 turns. Its answer is that of
-    /// its last try, before which nothing changed but that it looked.
+    /// Pins as [`try_pin`](Reader::try_pin) does, again and again while it answers [`PinFault::Busy`]: the second try
+    /// follows at once, and before each further one there is a pause, longer each time, of at most 63 turns. Its answer
+    /// is that of its last try, before which nothing changed but that it looked.
     pub fn pin<R: Wait>(&mut self, rt: &R, id: Id) -> Result<(), PinFault>
         ensures tries { TriesUntilSettled self.old.view id result self.new.view }
         ensures last { (r : ReaderView) × HasOnlyLooked self.old.view r
