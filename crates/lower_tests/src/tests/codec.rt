@@ -1,5 +1,14 @@
+ghost use Rattle.std.specs.Prelude.{◌≤◌, length};
+
 use crate::tests::{holds, same};
-use ob_codec::{Cursor, ReadFault, TextFault, read_list, seal, unseal, write_list, write_string};
+use ob_body::Body;
+use ob_codec::{
+    Cursor, ReadFault, Spelled, TextFault, read_list, seal, unseal, write_list, write_string,
+};
+use ob_name::{Name, parse};
+use ob_rights::{HandleFlags, Rights};
+use ob_tables::{Entry, Tables};
+use pin_core::Id;
 use std::alloc::{AllocError, Global};
 use std::process::Abort;
 use std::test::Fail;
@@ -36,6 +45,16 @@ fn read_once(alloc: Global, text: &[u8]) -> Result<bool, ReadFault> {
 
 fn loaded(alloc: Global, bytes: &[u8]) -> Result<bool, ReadFault> {
     read(alloc, unseal(bytes)?)
+}
+
+/// The first bytes of a text, or all where there are fewer.
+fn front(text: &[u8], len: usize) -> &[u8] {
+    if len < text.len() { &text[..len] } else { text }
+}
+
+/// The bytes of a text behind the first ones.
+fn back(text: &[u8], len: usize) -> &[u8] {
+    if len < text.len() { &text[len..] } else { &[] }
 }
 
 fn wrong(fault: TextFault) -> Result<bool, ReadFault> {
@@ -91,17 +110,29 @@ fn faults(rt: &impl Abort, alloc: Global, text: &mut Vec<u8>) {
     same(rt, text.len(), 27);
     holds(rt, text.len() == 27);
     same(rt, read(alloc, text.as_slice()), wrong(TextFault::Trailing));
-    same(rt, read(alloc, &text[..26]), Ok(true));
+    same(rt, read(alloc, front(text.as_slice(), 26)), Ok(true));
     for len in 0..26 {
-        same(rt, read(alloc, &text[..len]), wrong(TextFault::Short));
+        same(
+            rt,
+            read(alloc, front(text.as_slice(), len)),
+            wrong(TextFault::Short),
+        );
     }
     // a flag that is neither 0 nor 1
     text[5] = 2;
-    same(rt, read(alloc, &text[..26]), wrong(TextFault::Tag));
+    same(
+        rt,
+        read(alloc, front(text.as_slice(), 26)),
+        wrong(TextFault::Tag),
+    );
     text[5] = 1;
     // a string that is longer than the text, and a list
     text[19] = 255;
-    same(rt, read(alloc, &text[..26]), wrong(TextFault::Short));
+    same(
+        rt,
+        read(alloc, front(text.as_slice(), 26)),
+        wrong(TextFault::Short),
+    );
     same(rt, read(alloc, &[255; 4]), wrong(TextFault::Short));
 }
 
@@ -113,14 +144,73 @@ fn a_spliced_text_is_refused(rt: HostRuntime) -> Result<(), Fail> {
     other.push(0)?;
     seal(&mut one)?;
     seal(&mut other)?;
-    let spliced = one.len() == 26 + DIGEST && other.len() == 27 + DIGEST;
-    holds(&rt, spliced);
-    let mut bytes = Vec::from_slice(rt.alloc(), &one[..26])?;
-    bytes.extend_from_slice(&other[27..])?;
+    let mut bytes = Vec::from_slice(rt.alloc(), front(one.as_slice(), 26))?;
+    bytes.extend_from_slice(back(other.as_slice(), 27))?;
     same(
         &rt,
         loaded(rt.alloc(), bytes.as_slice()),
         wrong(TextFault::Digest),
     );
+    Ok(())
+}
+
+const ENTRY: Entry = Entry {
+    id: Id {
+        slot: 2,
+        generation: 3,
+    },
+    rights: Rights::SYNCHRONIZE,
+    flags: HandleFlags::INHERIT,
+};
+
+fn bodies() -> [Body; 4] {
+    [
+        Body::new_event(true, false),
+        Body::new_mutex(Some(3)),
+        Body::new_semaphore(1, 2),
+        Body::new_timer(false),
+    ]
+}
+
+/// Bodies, a name and handle tables behind one another.
+fn leaves(
+    alloc: Global,
+    bodies: &[Body],
+    name: &Name,
+    tables: &Tables,
+) -> Result<Vec<u8>, AllocError>
+    requires { length bodies.now ≤ 4 }
+{
+    let mut out = Vec::new(alloc);
+    write_list(&mut out, bodies)?;
+    name.write(&mut out)?;
+    tables.write(&mut out)?;
+    Ok(out)
+}
+
+/// What is read of a text is written, for tables of at most one process with two handles.
+fn rewritten(alloc: Global, text: &[u8]) -> Result<Vec<u8>, ReadFault> {
+    let mut from = Cursor::new(text);
+    let bodies = read_list::<Body>(alloc, &mut from)?;
+    let name = Name::read(alloc, &mut from)?;
+    let tables = Tables::read(alloc, 1, 2, &mut from)?;
+    from.end()?;
+    if bodies.len() > 4 {
+        return Err(ReadFault::Text(TextFault::Value));
+    }
+    Ok(leaves(alloc, bodies.as_slice(), &name, &tables)?)
+}
+
+#[test]
+fn bodies_names_and_tables_go_round(rt: HostRuntime) -> Result<(), Fail> {
+    let name = Name::new(rt.alloc(), &parse(b"A", 7)?)?;
+    let mut tables = Tables::new(rt.alloc(), 1, 2)?;
+    let process = tables.add_process()?;
+    tables.place(process, ENTRY)?;
+    tables.place(process, ENTRY)?;
+    let _ = tables.remove(process, 4);
+    let text = leaves(rt.alloc(), &bodies(), &name, &tables)?;
+    let again = rewritten(rt.alloc(), text.as_slice())?;
+    holds(&rt, again.as_slice() == text.as_slice());
     Ok(())
 }

@@ -1,12 +1,14 @@
-ghost use Rattle.std.specs.Prelude.{◌≡◌, ◌<◌, true, IsTrue, IfOk, IfSome};
+ghost use Rattle.std.specs.Prelude.{◌≡◌, ◌<◌, ◌≤◌, true, IsTrue, IfOk, IfSome};
 ghost use Rattle.pin_core.specs.Shapes.{IsWithinLimits};
 ghost use Rattle.pin_core.specs.Worlds.{slot_of};
 ghost use Rattle.pin_words.specs.Keepers.{IsFresh};
 
 use crate::tests::{holds, marked, next, same};
 use ob_rights::{Fault, Kind};
-use pin_core::{Descr, Id, Phase, Shape};
-use pin_words::{Keeper, LockedPins, Opening, PinFault, PinKeeper, Pins, Reader, Reclaim};
+use pin_core::{Descr, Id, Phase, Shape, Slot};
+use pin_words::{
+    Keeper, LockedPins, Opening, PinFault, PinKeeper, Pins, Reader, Reclaim, Reopening,
+};
 use std::alloc::Global;
 use std::process::Abort;
 use std::sync::{Mutex, Wait};
@@ -516,4 +518,65 @@ fn calls_under_a_lock_take_no_memory(rt: HostRuntime) -> Result<(), Fail> {
     drop(mark);
     holds(&rt, is_done);
     Ok(())
+}
+
+/// A slot that is live at its third generation.
+const LIVE: Slot = Slot {
+    generation: 3,
+    phase: Phase::Live,
+    descr: SEMAPHORE,
+};
+
+/// Words that begin with such slots.
+#[tactic(auto, using(crate::proofs::GivenSlots::live_slots_open))]
+fn begun(alloc: Global, shape: Shape) -> Result<(Pins, Reopening), Fault>
+    requires within { IsWithinLimits shape }
+    requires aged { 3 ≤ shape.max_gen }
+    ensures { IfOk result (λ r. r.1.table ≡ r.0) }
+{
+    let Ok(slots) = vec![in alloc; LIVE; shape.slots as usize] else {
+        return Err(Fault::Memory);
+    };
+    Pins::with_slots(alloc, shape, slots)
+}
+
+#[test]
+fn pins_begin_with_given_slots(rt: HostRuntime) -> Result<(), Fail> {
+    let Some(shape) = Shape::checked(2, 1, 9) else {
+        panic!(rt; "no shape")
+    };
+    let (pins, opening) = begun(rt.alloc(), shape)?;
+    let Ok((mut keeper, mut reader)) = opening.start(&pins) else {
+        panic!(rt; "no memory")
+    };
+    pin_given(&rt, &mut keeper, &mut reader);
+    Ok(())
+}
+
+fn pin_given(rt: &impl Abort, keeper: &mut Keeper, reader: &mut Reader) {
+    same(rt, reader.try_pin(SECOND), Err(PinFault::Stale));
+    holds(rt, reader.try_pin(THIRD).is_ok());
+    same(rt, descr(reader, THIRD), Some(SEMAPHORE));
+    holds(rt, close(keeper, 0));
+    same(rt, reclaim(keeper, 0), Some(Reclaim::Held { pins: 1 }));
+    holds(rt, release(reader, THIRD));
+    same(rt, reclaim(keeper, 0), Some(Reclaim::Freed));
+    holds(rt, is_at(keeper, 0, 4));
+}
+
+#[test]
+fn pins_under_a_lock_begin_with_given_slots(rt: HostRuntime) -> Result<(), Fail> {
+    let Some(shape) = Shape::checked(2, 1, 9) else {
+        panic!(rt; "no shape")
+    };
+    let slots = vec![in rt.alloc(); LIVE; shape.slots as usize]?;
+    lock_given(&rt, &mut LockedPins::with_slots(shape, slots));
+    Ok(())
+}
+
+fn lock_given(rt: &impl Abort, pins: &mut LockedPins) {
+    same(rt, pins.try_pin(SECOND), Err(PinFault::Stale));
+    holds(rt, pins.try_pin(THIRD).is_ok());
+    holds(rt, close(pins, 0));
+    same(rt, reclaim(pins, 0), Some(Reclaim::Held { pins: 1 }));
 }
