@@ -1,5 +1,6 @@
--- A list that is told place by place: the chain of its first places grows at the end, and its rest stays.
-use Rattle.std.proofs.Common.{◌≡◌, ◌+◌, ◌<◌, ◌∙◌, ℕ, List, [], ◌∷◌, ◌++◌, refl, subst, sym, take, drop, length, arith}
+-- A list that is told place by place: the chain of its first places grows at the end, and its rest stays; or it begins with what is
+-- told of each item of another.
+use Rattle.std.proofs.Common.{◌≡◌, ◌+◌, ◌<◌, ◌≤◌, ◌∙◌, ℕ, zero, suc, List, [], ◌∷◌, ◌++◌, ap, refl, subst, sym, map, take, drop, length, get_or, arith}
 use Rattle.std.specs.Prelude.{slice_set}
 use Rattle.std.proofs.lemmas.List.{drop-set-lt, take_more_set}
 use Rattle.std.proofs.lemmas.Grind.{drop_more_same}
@@ -18,3 +19,17 @@ chain_set {X = X} Next s m t x n xs within chain step =
 
 pub rest_set : {X : Type 0} → (xs ys : List X) → (x : X) → (n : ℕ) → drop n xs ≡ drop n ys → drop (n + 1) (slice_set xs n x) ≡ drop (n + 1) ys
 rest_set xs ys x n same = drop-set-lt (n + 1) xs n x (omega arith) ∙ drop_more_same xs ys n same
+
+-- the items one after another
+put_one : {X Y : Type 0} → (f : X → Y) → (xs : List X) → (ys : List Y) → (i : ℕ) → (d : X) → i < length xs → length xs ≤ length ys
+    → slice_set (map f (take i xs) ++ drop i ys) i (f (get_or xs i d)) ≡ map f (take (suc i) xs) ++ drop (suc i) ys
+put_one f [] ys i d lt le = absurd (omega (arith, lt))
+put_one f (x ∷ xs) [] i d lt le = absurd (omega (arith, le))
+put_one f (x ∷ xs) (y ∷ ys) zero d lt le = refl
+put_one f (x ∷ xs) (y ∷ ys) (suc i) d lt le = ap (λ zs. f x ∷ zs) (put_one f xs ys i d (omega (arith, lt)) (omega (arith, le)))
+
+pub put_more : {X Y : Type 0} → (f : X → Y) → (xs : List X) → (ys zs : List Y) → (i : ℕ) → (d : X) → i < length xs → length xs ≤ length ys → zs ≡ map f (take i xs) ++ drop i ys
+    → slice_set zs i (f (get_or xs i d)) ≡ map f (take (i + 1) xs) ++ drop (i + 1) ys
+put_more {Y = Y} f xs ys zs i d lt le is =
+    let next : suc i ≡ i + 1 = omega arith in
+    subst (λ (n : ℕ). slice_set zs i (f (get_or xs i d)) ≡ map f (take n xs) ++ drop n ys) next (ap (λ (ws : List Y). slice_set ws i (f (get_or xs i d))) is ∙ put_one f xs ys i d lt le)

@@ -1,5 +1,5 @@
 -- What a walk found, as C is told of it.
-use Rattle.std.proofs.Common.{◌≡◌, ◌+◌, ◌≤◌, ℕ, zero, suc, Bool, Option, Some, None, IfSome, ap, ◌∙◌, refl, subst, sym, arith}
+use Rattle.std.proofs.Common.{◌≡◌, ◌+◌, ◌≤◌, ℕ, zero, suc, Bool, false, List, length, Option, Some, None, IfSome, ap, ◌∙◌, refl, subst, sym, arith}
 use Rattle.std.specs.Option.{option_map}
 use Rattle.least_due.specs.Dues.{IsLeast}
 use Rattle.least_free.specs.From.{IsLeastFrom}
@@ -7,6 +7,11 @@ use Rattle.pin_core.specs.declared.id.Id.{Id}
 use Rattle.ob_tables.specs.declared.entry.Entry.{Entry}
 use Rattle.ob_tables.specs.Table.{entry_at}
 use Rattle.ob_tables.specs.Tables.{table_of}
+use Rattle.ob_waits.specs.declared.wait.Mode.{Mode}
+use Rattle.ob_waits.specs.declared.wait.State.{State as WaitsState}
+use Rattle.ob_waits.specs.declared.wait.State.TheVariants.{Pending, Answered}
+use Rattle.ob_waits.specs.declared.wait.Wait.{Wait}
+use Rattle.ob_waits.specs.Waits.{is_pending, new_wait, state_pending}
 use Rattle.ob_store.specs.Dues.{dues_of}
 use Rattle.ob_store.specs.Kept.{IsThere}
 use Rattle.ob_store.specs.State.{State}
@@ -14,7 +19,7 @@ use Rattle.ob_store.specs.Walking.{is_object_at, is_value_of}
 use Rattle.obman_c.specs.declared.looking.HandleEntry.{HandleEntry}
 use Rattle.obman_c.specs.declared.values.Object.{Object}
 use Rattle.obman_c.specs.Asking.{number_at}
-use Rattle.obman_c.specs.Looking.{NextDue, NextHandle, NextObject, Walks, handle_entry, or_zero}
+use Rattle.obman_c.specs.Looking.{IdsTell, NextDue, NextHandle, NextObject, StateTells, WaitPlaces, WaitTells, Walks, handle_entry, or_zero, pending_wait}
 use Rattle.obman_c.specs.Telling.{object_of}
 
 pub object_next : {s : State} {from status : ℕ} {before after : Object} (found : Option Id) → IsLeastFrom from (is_object_at s) (option_map (λ (id : Id). id.slot) found)
@@ -45,3 +50,18 @@ pub numbered : (from : ℕ) {number : ℕ} {test : ℕ → Bool} (found : Option
     → IsLeastFrom (from + 1) test (number_at number)
 numbered from {number} {test} found told least =
     subst (λ (o : Option ℕ). IsLeastFrom (from + 1) test o) (sym (ap number_at told ∙ at_or_zero found (above_zero from found least.above))) least
+
+-- a wait that is pending is told with its objects
+pub waited : {wait : Option Wait} {status thread : ℕ} {mode : Mode} {ids : List Id} {deadline : Option ℕ} (before : WaitPlaces) {after : WaitPlaces} → wait ≡ Some (new_wait thread mode ids deadline)
+    → after.pending ≡ pending_wait thread mode deadline → after.count ≡ length ids → IdsTell ids status before.objects after.objects → WaitTells wait status before after
+waited {status = status} before {after = after} is value many told = subst (λ (w : Option Wait). WaitTells w status before after) (sym is) (value, many, told)
+
+state_unwaited : (thread : ℕ) (deadline : Option ℕ) (state : WaitsState) {status : ℕ} {before after : WaitPlaces} → state_pending state ≡ false → status ≡ 87 → after ≡ before
+    → StateTells thread deadline state status before after
+state_unwaited thread deadline (Pending mode ids) none told same = cc
+state_unwaited thread deadline (Answered code) none told same = (told, same)
+
+-- no other is told
+pub unwaited : (wait : Option Wait) {status : ℕ} {before after : WaitPlaces} → is_pending wait ≡ false → status ≡ 87 → after ≡ before → WaitTells wait status before after
+unwaited None none told same = (told, same)
+unwaited (Some wait) none told same = state_unwaited wait.thread wait.deadline wait.state none told same

@@ -1,5 +1,5 @@
 -- What C is told of what there is.
-use Rattle.std.specs.Prelude.{◌≡◌, ◌+◌, ℕ, nat_lt, IfSome, false, is_none, is_some, Option, Some, None, Result, Ok, Err}
+use Rattle.std.specs.Prelude.{◌≡◌, ◌+◌, ◌<◌, ◌≤◌, ℕ, nat_lt, IfSome, Bool, true, false, is_none, is_some, List, ◌++◌, ◌⊎◌, Option, Some, None, Result, Ok, Err, drop, length, map}
 use Rattle.std.specs.Option.{option_map}
 use Rattle.least_due.specs.Dues.{IsLeast}
 use Rattle.least_free.specs.From.{IsLeastFrom}
@@ -9,6 +9,11 @@ use Rattle.pin_core.specs.declared.id.Id.{Id}
 use Rattle.ob_tables.specs.declared.entry.Entry.{Entry}
 use Rattle.ob_tables.specs.Table.{entry_at}
 use Rattle.ob_tables.specs.Tables.{table_of}
+use Rattle.ob_waits.specs.declared.wait.Mode.{Mode}
+use Rattle.ob_waits.specs.declared.wait.Mode.TheVariants.{Any, All}
+use Rattle.ob_waits.specs.declared.wait.State.{State as WaitsState}
+use Rattle.ob_waits.specs.declared.wait.State.TheVariants.{Pending, Answered}
+use Rattle.ob_waits.specs.declared.wait.Wait.{Wait}
 use Rattle.ob_store.specs.Dues.{dues_of}
 use Rattle.ob_store.specs.Kept.{IsThere}
 use Rattle.ob_store.specs.State.{State}
@@ -16,6 +21,7 @@ use Rattle.ob_store.specs.Walking.{is_object_at, is_value_of}
 use Rattle.ob_manager.specs.declared.object_state.ObjectState.{ObjectState}
 use Rattle.ob_manager.specs.declared.object_state.ObjectState.TheVariants.{Event, Mutex, Semaphore, Timer, Ended}
 use Rattle.obman_c.specs.declared.looking.HandleEntry.{HandleEntry}
+use Rattle.obman_c.specs.declared.looking.PendingWait.{PendingWait}
 use Rattle.obman_c.specs.declared.looking.Standing.{Standing}
 use Rattle.obman_c.specs.declared.values.Object.{Object}
 use Rattle.obman_c.specs.Telling.{object_of}
@@ -80,3 +86,36 @@ pub record NextDue (s : State) (status before after : ℕ) : Type 0 where
 abbrev pub SessionTold : Option ℕ → ℕ → ℕ → ℕ → Type 0
 SessionTold (Some session) status before after = (status ≡ 0) × (after ≡ session)
 SessionTold None status before after = (status ≡ 87) × (after ≡ before)
+
+-- whether all objects together satisfy a wait
+abbrev pub is_for_all : Mode → Bool
+is_for_all Any = false
+is_for_all All = true
+
+-- what a wait is for, but for its objects
+abbrev pub pending_wait : ℕ → Mode → Option ℕ → PendingWait
+pending_wait thread mode deadline = record { deadline = or_zero deadline; thread = thread; all = is_for_all mode; has_deadline = is_some deadline }
+
+-- the objects stand at the front of the places in the order of the wait and 0 is told; or they don't fit, and 122 is told
+abbrev pub IdsTell : List Id → ℕ → List Object → List Object → Type 0
+IdsTell ids status before after = ((length ids ≤ length before) × (status ≡ 0) × (after ≡ map object_of ids ++ drop (length ids) before))
+    ⊎ ((length before < length ids) × (status ≡ 122) × (after ≡ before))
+
+-- what C is told of a wait: the wait itself, its objects, and how many these are
+pub record WaitPlaces : Type 0 where
+  pub pending : PendingWait
+  pub objects : List Object
+  pub count : ℕ
+
+-- a pending wait, whose objects may not fit; one that is answered is for nothing, and 87 is told
+abbrev pub StateTells : ℕ → Option ℕ → WaitsState → ℕ → WaitPlaces → WaitPlaces → Type 0
+StateTells thread deadline (Pending mode ids) status before after =
+    (after.pending ≡ pending_wait thread mode deadline) × (after.count ≡ length ids) × IdsTell ids status before.objects after.objects
+StateTells thread deadline (Answered code) status before after = (status ≡ 87) × (after ≡ before)
+
+abbrev pub WaitTells : Option Wait → ℕ → WaitPlaces → WaitPlaces → Type 0
+WaitTells (Some wait) status before after = StateTells wait.thread wait.deadline wait.state status before after
+WaitTells None status before after = (status ≡ 87) × (after ≡ before)
+
+abbrev pub places : PendingWait → List Object → ℕ → WaitPlaces
+places pending objects count = record { pending = pending; objects = objects; count = count }

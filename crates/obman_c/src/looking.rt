@@ -1,5 +1,5 @@
 //! What there is, and what state it is in, for debuggers and monitors and for whoever runs the guests. Nothing is changed.
-ghost use Rattle.std.specs.Prelude.{◌≡◌, ◌+◌, ◌≤◌, IfSome, None, slice_index_or};
+ghost use Rattle.std.specs.Prelude.{◌≡◌, ◌+◌, ◌++◌, ◌≤◌, IfSome, None, drop, length, map, slice_index_or};
 ghost use Rattle.std.specs.Option.{option_map};
 ghost use Rattle.least_free.specs.From.{IsLeastFrom};
 ghost use Rattle.ob_waits.specs.Waits.{number_of};
@@ -7,17 +7,20 @@ ghost use Rattle.ob_store.specs.Walking.{is_object_at, is_process, is_thread_of,
 ghost use Rattle.ob_manager.specs.Handles.{entry_of};
 ghost use Rattle.ob_manager.specs.States.{state_of};
 ghost use Rattle.obman_c.specs.Asking.{number_at};
-ghost use Rattle.obman_c.specs.Looking.{FindsEntry, NextHandle, NextObject, SessionTold, Stands, handle_entry, or_zero, standing_of};
+ghost use Rattle.obman_c.specs.Looking.{FindsEntry, IdsTell, NextHandle, NextObject, SessionTold, Stands, WaitTells};
+ghost use Rattle.obman_c.specs.Looking.{handle_entry, or_zero, pending_wait, places, standing_of};
 ghost use Rattle.obman_c.specs.Pinning.{id_at};
+ghost use Rattle.obman_c.specs.Telling.{object_of};
 
 use crate::owner::Owner;
 use crate::pinning::id_at;
 use crate::status::NO_MORE;
 use crate::values::{Object, object_of};
-use ob_manager::ObjectState;
+use ob_manager::{Mode, ObjectState};
 use ob_rights::{Fault, code_of};
 use ob_tables::Entry;
-use obman_c_base::SUCCESS;
+use obman_c_base::{SUCCESS, TOO_SMALL};
+use pin_core::Id;
 
 /// What state an object is in (`om_object_state`). What its kind hasn't is 0.
 #[repr(C)]
@@ -53,6 +56,20 @@ pub struct HandleEntry {
     pub access: u32,
     /// Its flags.
     pub flags: u32,
+}
+
+/// What a pending wait is for, but for its objects (`om_pending`).
+#[repr(C)]
+#[derive(Clone, Copy)]
+pub struct PendingWait {
+    /// The moment at which its time is up, in units of 100 ns.
+    pub deadline: u64,
+    /// The thread that waits.
+    pub thread: u32,
+    /// Whether all objects together satisfy it, and not one of them.
+    pub all: bool,
+    /// Whether its time is ever up.
+    pub has_deadline: bool,
 }
 
 /// The state of an object that has ended.
@@ -266,4 +283,62 @@ pub extern "C" fn om_now(owner: &mut Owner) -> u64
     ensures same { owner.new.value ≡ owner.old.value }
 {
     owner.lend().manager.now()
+}
+
+/// A pending wait as C is told of it, but for its objects.
+fn pending_wait(thread: u32, mode: Mode, deadline: Option<u64>) -> PendingWait
+    ensures { result ≡ pending_wait thread mode deadline }
+{
+    PendingWait {
+        deadline: deadline.unwrap_or(0),
+        thread,
+        all: matches!(mode, Mode::All),
+        has_deadline: deadline.is_some(),
+    }
+}
+
+/// Writes objects at the front of places that are enough for them.
+fn put_objects(ids: &[Id], objects: &mut [Object])
+    requires { length ids.now ≤ length objects.old }
+    ensures { objects.new ≡ map object_of ids.now ++ drop (length ids.now) objects.old }
+{
+    for at in 0..ids.len() {
+        objects[at] = object_of(ids[at]);
+    }
+}
+
+/// Tells of a wait's objects: 0, or 122 where they don't fit.
+fn tell_ids(ids: &[Id], objects: &mut [Object]) -> u32
+    ensures { IdsTell ids.now result objects.old objects.new }
+{
+    if ids.len() > objects.len() {
+        return TOO_SMALL;
+    }
+    put_objects(ids, objects);
+    SUCCESS
+}
+
+/// [`Manager::objects_waited_for`](ob_manager::Manager::objects_waited_for): 0, or 87 where no such wait is pending, or
+/// 122 where the objects don't fit; `count` then says how many there are.
+#[tactic(auto, using(crate::proofs::Looked::waited, crate::proofs::Looked::unwaited))]
+#[unsafe(no_mangle)]
+pub extern "C" fn om_objects_waited_for(
+    owner: &mut Owner,
+    wait: u32,
+    pending: &mut PendingWait,
+    objects: &mut [Object],
+    count: &mut usize,
+) -> u32
+    ensures told { WaitTells (slice_index_or owner.old.value.manager.state.waits wait None) result
+        (places pending.old objects.old count.old) (places pending.new objects.new count.new) }
+    ensures same { owner.new.value ≡ owner.old.value }
+{
+    match owner.lend().manager.objects_waited_for(wait) {
+        Some(found) => {
+            *pending = pending_wait(found.thread, found.mode, found.deadline);
+            *count = found.ids.len();
+            tell_ids(found.ids, objects)
+        }
+        None => code_of(Fault::Parameter),
+    }
 }
