@@ -266,6 +266,14 @@ typedef struct om_answer {
     uint32_t code;     /* OM_WAIT_OBJECT_0 and an index, OM_WAIT_ABANDONED_0 and an index, or OM_WAIT_TIMEOUT */
 } om_answer;
 
+/* What a pending wait is for, but for its objects. */
+typedef struct om_pending {
+    uint64_t deadline; /* the moment at which its time is up, in units of 100 ns, with has_deadline */
+    uint32_t thread;   /* the thread that waits */
+    bool all;          /* all objects together satisfy it, else each of them */
+    bool has_deadline; /* else it lasts until it is satisfied */
+} om_pending;
+
 /* A row of the directory of names. */
 typedef struct om_row {
     om_object object;
@@ -475,6 +483,13 @@ uint32_t om_next_handle(om_manager *m, uint32_t process, uint32_t after, om_entr
 /* The session of a process.
  * OM_ERROR_INVALID_PARAMETER where no such process lives. */
 uint32_t om_session_of(om_manager *m, uint32_t process, uint32_t *session);
+
+/* What a pending wait is for: its thread, whether all objects together satisfy it, its deadline, and the objects in the order of the
+ * handles, so that the code of a wait for any counts in them. `capacity` places stand at `objects`, and *count says how many the wait
+ * has, 1 to 64: OM_MAXIMUM_WAIT_OBJECTS places are always enough. Nothing is changed.
+ * OM_ERROR_INVALID_PARAMETER where no such wait is pending; OM_ERROR_INSUFFICIENT_BUFFER where the objects don't fit: then *pending
+ * and *count are written, and no object. */
+uint32_t om_objects_waited_for(om_manager *m, uint32_t wait, om_pending *pending, om_object *objects, size_t capacity, size_t *count);
 
 /* What refers to an object.
  * OM_ERROR_INVALID_PARAMETER where there is no such slot; OM_ERROR_INVALID_HANDLE where it has no such object. */

@@ -83,6 +83,17 @@ private:
     T value_;
 };
 
+// What a pending wait is for: its thread, mode and deadline, and its objects in the order of its handles, for a range too.
+struct waited_for : om_pending {
+    std::size_t size() const noexcept { return count; }
+    const om_object *begin() const noexcept { return objects; }
+    const om_object *end() const noexcept { return objects + count; }
+    const om_object &operator[](std::size_t at) const noexcept { return objects[at]; }
+
+    om_object objects[OM_MAXIMUM_WAIT_OBJECTS];
+    std::size_t count;
+};
+
 // So many items at a place: what a vector, an array or a list in braces of lasting life gives.
 template <class T> class span {
 public:
@@ -283,6 +294,11 @@ public:
     std::uint32_t process_of(std::uint32_t thread) noexcept { return om_process_of(&m_, thread); }
     std::uint32_t wait_of(std::uint32_t thread) noexcept { return om_wait_of(&m_, thread); }
     result<std::uint32_t> session_of(std::uint32_t process) noexcept { return with<std::uint32_t>(om_session_of, process); }
+    result<waited_for> objects_waited_for(std::uint32_t wait) noexcept {
+        waited_for found{};
+        std::uint32_t status = om_objects_waited_for(&m_, wait, &found, found.objects, OM_MAXIMUM_WAIT_OBJECTS, &found.count);
+        return {status, found};
+    }
 
     // Slots and names.
     result<om_description> card(om_object o) noexcept { return with<om_description>(om_card, o.slot, o.generation); }

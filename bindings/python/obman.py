@@ -103,11 +103,14 @@ Entry = _struct("om_entry", object=Object, handle=c_uint32, access=c_uint32, fla
 Reaping = _struct("om_reaping", object=Object, outcome=c_uint32, pins=c_uint32)
 References = _struct("om_references", waits=c_uint64, handles=c_uint32, hold=c_uint32)
 Answer = _struct("om_answer", wait=c_uint32, thread=c_uint32, code=c_uint32)
+_Pending = _struct("om_pending", deadline=c_uint64, thread=c_uint32, all=c_bool, has_deadline=c_bool)
 _Row = _struct("om_row", object=Object, session=c_uint32, length=c_uint32)
 
 # How a wait stands: its code, or its number while it is pending.
 Over = namedtuple("Over", "code")
 Pending = namedtuple("Pending", "wait")
+# What a pending wait is for: the moment at which its time is up is None where it lasts until it is satisfied.
+WaitedFor = namedtuple("WaitedFor", "thread all deadline objects")
 # A row of the directory of names: session 0 is the global namespace.
 Name = namedtuple("Name", "object session base")
 
@@ -175,6 +178,7 @@ FUNCTIONS = {
     "om_next_object": (_U, [_M, _U, POINTER(Object)]),
     "om_next_handle": (_U, [_M, _U, _U, POINTER(Entry)]),
     "om_session_of": (_U, [_M, _U, POINTER(_U)]),
+    "om_objects_waited_for": (_U, [_M, _U, POINTER(_Pending), POINTER(Object), _Z, POINTER(_Z)]),
     "om_counts": (_U, [_M, _U, _U, POINTER(References)]),
     "om_reap": (_U, [_M, _U, POINTER(Reaping)]),
     "om_take_ended": (_U, [_M, POINTER(Reaping), _Z, POINTER(_Z)]),
@@ -497,6 +501,14 @@ class Manager(_Owner):
     def wait_of(self, thread):
         """A thread's wait that is pending, or whose answer wasn't taken, or None."""
         return _c.om_wait_of(self._at, thread) or None
+
+    def objects_waited_for(self, wait):
+        """What a pending wait is for, with its objects in the order of the handles, or None."""
+        pending, objects, count = _Pending(), (Object * MAXIMUM_WAIT_OBJECTS)(), c_size_t()
+        if _c.om_objects_waited_for(self._at, wait, pending, objects, MAXIMUM_WAIT_OBJECTS, count) != SUCCESS:
+            return None
+        deadline = pending.deadline if pending.has_deadline else None
+        return WaitedFor(pending.thread, pending.all, deadline, [Object.from_buffer_copy(o) for o in objects[: count.value]])
 
     def processes(self):
         """All live processes, by rising number."""

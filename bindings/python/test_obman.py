@@ -39,6 +39,22 @@ class Calls(unittest.TestCase):
             m.tick(m.next_due())
             self.assertEqual((m.now(), [answer.code for answer in m.answers()]), (20_000, [obman.WAIT_TIMEOUT]))
 
+    def test_who_waits_for_whom(self):
+        with obman.Manager() as m:
+            first, second = m.spawn(1), m.spawn(1)
+            mutex = m.create_mutex(first.thread, name="m", owned=True)
+            again = m.open_mutex(second.thread, obman.SYNCHRONIZE, False, "m")
+            event = m.create_event(second.thread, manual=True, set=True)
+            wait = m.wait(second.thread, [event.handle, again.handle], all=True, milliseconds=3).wait
+            self.assertEqual(m.objects_waited_for(m.wait_of(second.thread)), (second.thread, True, 30_000, [event.object, mutex.object]))
+            m.expire(wait)
+            self.assertIsNone(m.objects_waited_for(wait))
+            self.assertEqual(len(list(m.answers())), 1)
+            wait = m.wait(second.thread, [again.handle]).wait
+            waited = m.objects_waited_for(wait)
+            self.assertEqual((waited.all, waited.deadline), (False, None))
+            self.assertEqual([m.state(o).owner for o in waited.objects], [first.thread])
+
     def test_walks_and_ends(self):
         with obman.Manager(obman.default_limits(slots=2)) as m:
             member = m.spawn(7)

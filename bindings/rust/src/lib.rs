@@ -296,6 +296,19 @@ pub struct Answer {
     pub outcome: Outcome,
 }
 
+/// What a pending wait is for.
+#[derive(Clone, Debug, PartialEq, Eq, Hash)]
+pub struct WaitedFor {
+    /// The thread that waits.
+    pub thread: u32,
+    /// All objects together satisfy it, else each of them.
+    pub all: bool,
+    /// The moment at which its time is up, in units of 100 ns, if it ever is.
+    pub deadline: Option<u64>,
+    /// The objects, in the order of the handles.
+    pub objects: Vec<Object>,
+}
+
 /// What became of a slot whose object ended.
 #[derive(Clone, Copy, Debug, PartialEq, Eq, Hash)]
 pub enum Slot {
@@ -735,6 +748,17 @@ impl Manager {
     /// A thread's wait that is pending, or whose answer wasn't taken.
     pub fn wait_of(&mut self, thread: u32) -> Option<u32> {
         some(unsafe { sys::om_wait_of(&mut self.m, thread) })
+    }
+
+    /// What a wait is for, where it is pending.
+    pub fn objects_waited_for(&mut self, wait: u32) -> Option<WaitedFor> {
+        let (mut objects, mut count) = (vec![Object::default(); 64], 0);
+        let sys::om_pending { deadline, thread, all, has_deadline } = told(|p| unsafe {
+            sys::om_objects_waited_for(&mut self.m, wait, p, objects.as_mut_ptr(), objects.len(), &mut count)
+        })
+        .ok()?;
+        objects.truncate(count);
+        Some(WaitedFor { thread, all, deadline: has_deadline.then_some(deadline), objects })
     }
 
     /// All live processes, by rising number.

@@ -44,6 +44,7 @@ structs! {
     om_reaping { object: om_object, outcome: u32, pins: u32, }
     om_references { waits: u64, handles: u32, hold: u32, }
     om_answer { wait: u32, thread: u32, code: u32, }
+    om_pending { deadline: u64, thread: u32, all: bool, has_deadline: bool, }
     om_row { object: om_object, session: u32, length: u32, }
 }
 
@@ -181,6 +182,14 @@ extern "C" {
     pub fn om_next_object(m: *mut om_manager, from: u32, object: *mut om_object) -> u32;
     pub fn om_next_handle(m: *mut om_manager, process: u32, after: u32, entry: *mut om_entry) -> u32;
     pub fn om_session_of(m: *mut om_manager, process: u32, session: *mut u32) -> u32;
+    pub fn om_objects_waited_for(
+        m: *mut om_manager,
+        wait: u32,
+        pending: *mut om_pending,
+        objects: *mut om_object,
+        capacity: usize,
+        count: *mut usize,
+    ) -> u32;
     pub fn om_counts(m: *mut om_manager, slot: u32, generation: u32, references: *mut om_references) -> u32;
     pub fn om_reap(m: *mut om_manager, slot: u32, reaping: *mut om_reaping) -> u32;
     pub fn om_take_ended(

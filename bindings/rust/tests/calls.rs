@@ -1,6 +1,6 @@
 //! The binding against the library: what is refused, what waits, what a host is told.
 
-use obman::{script, Answer, Create, Created, Error, Kind, Limits, Manager, Outcome, Slot, State, Waited, INFINITE};
+use obman::{script, Answer, Create, Created, Error, Kind, Limits, Manager, Outcome, Slot, State, Waited, WaitedFor, INFINITE};
 use std::sync::{Arc, Mutex};
 
 fn pending(waited: Waited) -> u32 {
@@ -24,6 +24,27 @@ fn a_child_inherits_and_sets_what_its_parent_waits_for() -> Result<(), Error> {
     let answers: Vec<Answer> = m.answers().collect();
     assert_eq!(answers, [Answer { wait, thread: parent.thread, outcome: Outcome::Signaled(0) }]);
     assert_eq!(m.wait_result(wait), Err(Error::InvalidParameter));
+    Ok(())
+}
+
+#[test]
+fn who_waits_for_whom_is_told() -> Result<(), Error> {
+    let mut m = Manager::new(&Limits::default())?;
+    let (first, second) = (m.spawn(1)?, m.spawn(1)?);
+    let mutex = m.create_mutex(first.thread, &Create::named("m"), true)?.opening();
+    let again = m.open_mutex(second.thread, obman::SYNCHRONIZE, false, "m")?;
+    let event = m.create_event(second.thread, &Create::default(), true, true)?.opening();
+    let wait = pending(m.wait(second.thread, true, 3, &[event.handle, again.handle])?);
+    assert_eq!(m.wait_of(second.thread), Some(wait));
+    let objects = vec![event.object, mutex.object];
+    assert_eq!(m.objects_waited_for(wait), Some(WaitedFor { thread: second.thread, all: true, deadline: Some(30_000), objects }));
+    m.expire(wait)?;
+    assert_eq!(m.objects_waited_for(wait), None);
+    assert_eq!(m.answers().count(), 1);
+    let wait = pending(m.wait(second.thread, false, INFINITE, &[again.handle])?);
+    let waited = m.objects_waited_for(wait).expect("a pending wait");
+    assert_eq!((waited.all, waited.deadline, waited.objects.len()), (false, None, 1));
+    assert!(matches!(m.state(waited.objects[0])?, State::Mutex { owner: Some(owner), .. } if owner == first.thread));
     Ok(())
 }
 
