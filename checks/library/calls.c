@@ -357,6 +357,34 @@ static void waited(calls *c, uint32_t status, uint32_t code) {
     }
 }
 
+static bool is_same(om_object one, om_object other) { return one.slot == other.slot && one.generation == other.generation; }
+
+/* What a pending wait is for is what it was asked for, also where a place is missing, and then no object is written. */
+static void told_as_asked(calls *c, uint32_t wait, uint32_t thread, bool all, uint32_t milliseconds, const uint32_t *handles, uint32_t count) {
+    om_object objects[OM_MAXIMUM_WAIT_OBJECTS] = {{0, 0}}, object, untouched = {UNTOUCHED, UNTOUCHED};
+    om_pending p = {0, UNTOUCHED, false, false};
+    uint64_t deadline = milliseconds == OM_INFINITE ? 0 : c->now + 10000 * (uint64_t)milliseconds;
+    size_t listed = 0;
+    objects[0] = untouched;
+    must(om_objects_waited_for(&c->m, wait, &p, objects, count - 1, &listed) == OM_ERROR_INSUFFICIENT_BUFFER && listed == count, "objects fit into less");
+    must(p.thread == thread && is_same(objects[0], untouched), "objects that don't fit are written, or no wait");
+    p = (om_pending){UNTOUCHED, UNTOUCHED, !all, false};
+    must(om_objects_waited_for(&c->m, wait, &p, objects, OM_MAXIMUM_WAIT_OBJECTS, &listed) == OM_SUCCESS && listed == count, "a pending wait isn't told");
+    must(p.thread == thread && p.all == all && p.has_deadline == (milliseconds != OM_INFINITE) && p.deadline == deadline, "a wait is told as another");
+    for (uint32_t i = 0; i < count; i++) {
+        must(om_resolve(&c->m, om_process_of(&c->m, thread), handles[i], &object) == OM_SUCCESS && is_same(objects[i], object), "a wait for another object");
+    }
+}
+
+/* Nothing is told of a wait that isn't pending. */
+static void told_nothing(calls *c, uint32_t wait) {
+    om_object object = {UNTOUCHED, UNTOUCHED};
+    om_pending p = {0, UNTOUCHED, false, false};
+    size_t listed = UNTOUCHED;
+    must(om_objects_waited_for(&c->m, wait, &p, &object, 1, &listed) == OM_ERROR_INVALID_PARAMETER, "a wait that isn't pending is for something");
+    must(p.thread == UNTOUCHED && object.slot == UNTOUCHED && listed == UNTOUCHED, "a refusal wrote a wait");
+}
+
 static void wait_for(calls *c) {
     uint32_t thread = thread_number(c), handles[66], code = UNTOUCHED;
     uint32_t count = once_in(c, 60) ? below(c, 67) : 1 + below(c, 3);
@@ -378,6 +406,7 @@ static void wait_for(calls *c) {
     if (status == OM_ERROR_IO_PENDING) {
         must(code == c->waits + 1, "a wait has another number");
         must(om_is_pending(&c->m, code), "a pending wait isn't pending");
+        told_as_asked(c, code, thread, all, milliseconds, handles, count);
         c->waits = code;
     }
 }
@@ -385,6 +414,9 @@ static void wait_for(calls *c) {
 static void result(calls *c) {
     uint32_t wait = wait_number(c), code = UNTOUCHED;
     bool is_pending = om_is_pending(&c->m, wait);
+    if (!is_pending) {
+        told_nothing(c, wait);
+    }
     fprintf(c->script, "result w%u\n", wait);
     uint32_t status = om_wait_result(&c->m, wait, &code);
     must(is_pending == (status == OM_ERROR_IO_PENDING), "pending and not pending");

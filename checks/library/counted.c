@@ -59,6 +59,8 @@ void *__wrap_realloc(void *block, size_t size) {
     CALL(uint32_t, om_next_object, (om_manager *m, uint32_t f, om_object *o), (m, f, o), status == OM_SUCCESS)                      \
     CALL(uint32_t, om_next_handle, (om_manager *m, uint32_t p, uint32_t a, om_entry *e), (m, p, a, e), status == OM_SUCCESS)        \
     CALL(uint32_t, om_session_of, (om_manager *m, uint32_t p, uint32_t *s), (m, p, s), status == OM_SUCCESS)                        \
+    CALL(uint32_t, om_objects_waited_for, (om_manager *m, uint32_t w, om_pending *p, om_object *o, size_t c, size_t *n), (m, w, p, o, c, n), \
+         status == OM_SUCCESS)                                                                                                      \
     CALL(uint32_t, om_next_process, (om_manager *m, uint32_t a), (m, a), status != 0)                                               \
     CALL(uint32_t, om_next_thread, (om_manager *m, uint32_t p, uint32_t a), (m, p, a), status != 0)                                 \
     CALL(uint32_t, om_process_of, (om_manager *m, uint32_t t), (m, t), status != 0)                                                 \
@@ -120,7 +122,8 @@ static void ask(calls *c) {
     om_answer answers[2];
     om_reaping ended[2];
     om_object_state state;
-    om_object object;
+    om_object object, objects[OM_MAXIMUM_WAIT_OBJECTS];
+    om_pending pending;
     om_entry entry;
     uint64_t moment;
     uint32_t session, process = om_next_process(&c->m, below(c, 2));
@@ -138,7 +141,7 @@ static void ask(calls *c) {
     }
     om_session_of(&c->m, process, &session);
     om_process_of(&c->m, om_next_thread(&c->m, process, 0));
-    om_wait_of(&c->m, om_next_thread(&c->m, process, 0));
+    om_objects_waited_for(&c->m, om_wait_of(&c->m, om_next_thread(&c->m, process, 0)), &pending, objects, OM_MAXIMUM_WAIT_OBJECTS, &count);
     om_now(&c->m);
     om_version();
 }

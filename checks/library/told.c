@@ -1,5 +1,5 @@
 /* told CALLS SEED: makes so many random calls of new managers as a host that never asks: behind each it takes the answers and what
- * ended, and reads what is due next. The picture that it has of what it was told (who waits, who was answered, what is due, what ended)
+ * ended, and reads what is due next. The picture that it has of what it was told (who waits for what, who was answered, what is due, what ended)
  * is compared with the one that asking for everything gives. Linked with --wrap of the calls by which threads come, go and wait. */
 #include "calls.h"
 
@@ -12,16 +12,18 @@ enum { CALLS_OF_A_MANAGER = 1000, TAKEN = 3, PINS = 16, NONE = 0 };
 typedef struct guest {
     uint32_t process, wait;
     uint64_t deadline;
-    bool has_deadline;
+    bool has_deadline, all;
+    size_t count; /* of the objects that it waits for */
+    om_object objects[OM_MAXIMUM_WAIT_OBJECTS];
 } guest;
 
 static guest guests[CALLS_OF_A_MANAGER + 2];
 static uint32_t threads;
 static uint64_t moment;
-static unsigned long answers_told, ends_told, moments_told;
+static unsigned long answers_told, ends_told, moments_told, waits_told;
 
 static void begins(uint32_t thread, uint32_t process) {
-    guests[thread] = (guest){process, NONE, 0, false};
+    guests[thread] = (guest){.process = process, .wait = NONE};
     threads = thread;
 }
 
@@ -89,6 +91,11 @@ uint32_t __wrap_om_wait(om_manager *m, uint32_t thread, bool all, uint32_t milli
         guests[thread].wait = *answer;
         guests[thread].has_deadline = milliseconds != OM_INFINITE;
         guests[thread].deadline = moment + 10000 * (uint64_t)milliseconds;
+        guests[thread].all = all;
+        guests[thread].count = count;
+        for (size_t i = 0; i < count; i++) {
+            must(om_resolve(m, guests[thread].process, handles[i], &guests[thread].objects[i]) == OM_SUCCESS, "a wait for no object");
+        }
     }
     return status;
 }
@@ -110,12 +117,27 @@ static void take_answers(calls *c) {
     } while (count == TAKEN);
 }
 
+/* What a wait is for is what the host knows that its guest waits for. */
+static void ask_for_objects(calls *c, uint32_t thread) {
+    om_object objects[OM_MAXIMUM_WAIT_OBJECTS];
+    const guest *g = &guests[thread];
+    om_pending p;
+    size_t count;
+    must(om_objects_waited_for(&c->m, g->wait, &p, objects, OM_MAXIMUM_WAIT_OBJECTS, &count) == OM_SUCCESS, "a wait for nothing");
+    must(p.thread == thread && p.all == g->all && p.has_deadline == g->has_deadline && (!p.has_deadline || p.deadline == g->deadline), "another wait");
+    must(count == g->count && memcmp(objects, g->objects, count * sizeof *objects) == 0, "a wait for other objects");
+    waits_told++;
+}
+
 /* Everything that is asked for of waits says the same: who waits is pending, and no other wait is there any more. */
 static void ask_for_waits(calls *c) {
     uint32_t pending = 0, among = 0, answer;
     for (uint32_t t = 1; t <= threads; t++) {
         must(guests[t].wait == NONE || om_is_pending(&c->m, guests[t].wait), "a thread waits for nothing");
-        pending += guests[t].wait != NONE;
+        if (guests[t].wait != NONE) {
+            ask_for_objects(c, t);
+            pending++;
+        }
     }
     for (uint32_t w = 1; w <= c->waits; w++) {
         uint32_t status = om_wait_result(&c->m, w, &answer);
@@ -197,6 +219,6 @@ int main(int count, char **words) {
         end_manager(&c);
     }
     must(fclose(c.script) == 0, "nowhere was written");
-    printf("%lu answers, %lu ends and %lu moments were told\n", answers_told, ends_told, moments_told);
-    return answers_told == 0 || ends_told == 0 || moments_told == 0;
+    printf("%lu answers, %lu ends, %lu moments and %lu waits were told\n", answers_told, ends_told, moments_told, waits_told);
+    return answers_told == 0 || ends_told == 0 || moments_told == 0 || waits_told == 0;
 }
