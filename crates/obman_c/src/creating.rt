@@ -10,14 +10,15 @@ use crate::values::{Opening, tell_opening};
 use ob_manager::Make;
 use ob_rights::{Kind, Rights};
 
-/// What a create asks for (`om_making`), beside the name's bytes and the object's own state. All zeros ask for no name, no
-/// inheritance and all rights.
+/// What a create asks for (`om_making`), beside the name's bytes and the object's own state. All zeros ask for no name,
+/// no inheritance and all rights.
 #[repr(C)]
 #[derive(Clone, Copy)]
 pub struct Asking {
     /// The rights that the handle is to have, where `has_access` says so; else all rights of the kind.
     pub access: u32,
-    /// The rights that opens of a new object may get, where `has_grant` says so; else all rights of the kind (*profile*).
+    /// The rights that opens of a new object may get, where `has_grant` says so; else all rights of the kind
+    /// (*profile*).
     pub grant: u32,
     /// Whether the bytes that come with it are a name. An empty name is one too, and is refused.
     pub named: bool,
@@ -104,7 +105,9 @@ pub extern "C" fn om_create_semaphore(
     max: i32,
     opening: &mut Opening,
 ) -> u32
-    ensures { TellsAs opening_in owner.old.value.manager (Call.MakeSemaphore thread (asked_for asking.now name.now) initial max) result owner.new.value.manager opening.old opening.new }
+    ensures { TellsAs opening_in owner.old.value.manager
+        (Call.MakeSemaphore thread
+        (asked_for asking.now name.now) initial max) result owner.new.value.manager opening.old opening.new }
 {
     let make = make_of(asking, name);
     tell_opening(
@@ -147,7 +150,9 @@ pub extern "C" fn om_open_event(
     name: &[u8],
     opening: &mut Opening,
 ) -> u32
-    ensures { TellsAs opening_in owner.old.value.manager (Call.OpenNamed thread Kind.Event (mask_of access) inherit name.now) result owner.new.value.manager opening.old opening.new }
+    ensures { TellsAs opening_in owner.old.value.manager
+        (Call.OpenNamed thread Kind.Event
+        (mask_of access) inherit name.now) result owner.new.value.manager opening.old opening.new }
 {
     tell_opening(
         owner
@@ -169,7 +174,9 @@ pub extern "C" fn om_open_mutex(
     name: &[u8],
     opening: &mut Opening,
 ) -> u32
-    ensures { TellsAs opening_in owner.old.value.manager (Call.OpenNamed thread Kind.Mutex (mask_of access) inherit name.now) result owner.new.value.manager opening.old opening.new }
+    ensures { TellsAs opening_in owner.old.value.manager
+        (Call.OpenNamed thread Kind.Mutex
+        (mask_of access) inherit name.now) result owner.new.value.manager opening.old opening.new }
 {
     tell_opening(
         owner
@@ -191,7 +198,9 @@ pub extern "C" fn om_open_semaphore(
     name: &[u8],
     opening: &mut Opening,
 ) -> u32
-    ensures { TellsAs opening_in owner.old.value.manager (Call.OpenNamed thread Kind.Semaphore (mask_of access) inherit name.now) result owner.new.value.manager opening.old opening.new }
+    ensures { TellsAs opening_in owner.old.value.manager
+        (Call.OpenNamed thread Kind.Semaphore
+        (mask_of access) inherit name.now) result owner.new.value.manager opening.old opening.new }
 {
     tell_opening(
         owner
@@ -213,7 +222,9 @@ pub extern "C" fn om_open_timer(
     name: &[u8],
     opening: &mut Opening,
 ) -> u32
-    ensures { TellsAs opening_in owner.old.value.manager (Call.OpenNamed thread Kind.Timer (mask_of access) inherit name.now) result owner.new.value.manager opening.old opening.new }
+    ensures { TellsAs opening_in owner.old.value.manager
+        (Call.OpenNamed thread Kind.Timer
+        (mask_of access) inherit name.now) result owner.new.value.manager opening.old opening.new }
 {
     tell_opening(
         owner

@@ -26,7 +26,9 @@ pub extern "C" fn om_duplicate(
     options: u32,
     opening: &mut Opening,
 ) -> u32
-    ensures { TellsAs opening_in owner.old.value.manager (Call.Duplicate thread source handle (number_at target) (mask_of access) inherit options) result owner.new.value.manager opening.old opening.new }
+    ensures { TellsAs opening_in owner.old.value.manager
+        (Call.Duplicate thread source handle (number_at target)
+        (mask_of access) inherit options) result owner.new.value.manager opening.old opening.new }
 {
     let target = number_at(target);
     let reply = owner.lend().manager.duplicate(
@@ -66,7 +68,8 @@ pub extern "C" fn om_handle_flags(
     handle: u32,
     flags: &mut u32,
 ) -> u32
-    ensures step { TellsAs flags_in owner.old.value.manager (Call.GetFlags thread handle) result owner.new.value.manager flags.old flags.new }
+    ensures step { TellsAs flags_in owner.old.value.manager
+        (Call.GetFlags thread handle) result owner.new.value.manager flags.old flags.new }
     ensures same { owner.new.value ≡ owner.old.value }
 {
     tell_flags(owner.lend().manager.handle_flags(thread, handle), flags)

@@ -1,4 +1,5 @@
-//! What there is, and what state it is in, for debuggers and monitors and for whoever runs the guests. Nothing is changed.
+//! What there is, and what state it is in, for debuggers and monitors and for whoever runs the guests. Nothing is
+//! changed.
 ghost use Rattle.std.specs.Prelude.{◌≡◌, ◌+◌, ◌++◌, ◌≤◌, IfSome, None, drop, length, map, slice_index_or};
 ghost use Rattle.std.specs.Option.{option_map};
 ghost use Rattle.least_free.specs.From.{IsLeastFrom};
@@ -36,7 +37,8 @@ pub struct Standing {
     pub max: u32,
     /// The thread that owns a mutex, or 0.
     pub owner: u32,
-    /// Whether it is signaled: an event is set, a mutex isn't owned, a semaphore has a count, a timer's moment has come.
+    /// Whether it is signaled: an event is set, a mutex isn't owned, a semaphore has a count, a timer's moment has
+    /// come.
     pub signaled: bool,
     /// Whether the last owner of a mutex ended.
     pub abandoned: bool,
@@ -154,7 +156,8 @@ pub extern "C" fn om_state(
     generation: u32,
     state: &mut Standing,
 ) -> u32
-    ensures stands { Stands (state_of owner.old.value.manager.state (id_at slot generation)) result state.old state.new }
+    ensures stands { Stands (state_of owner.old.value.manager.state
+        (id_at slot generation)) result state.old state.new }
     ensures same { owner.new.value ≡ owner.old.value }
 {
     match owner.lend().manager.state_of(id_at(slot, generation)) {

@@ -1,5 +1,5 @@
-//! What C holds: a pointer to a manager on the heap, which is hidden behind a pointer to bytes, since C may be passed no type
-//! that leads to memory of Rust's. In proofs each has the manager as its value.
+//! What C holds: a pointer to a manager on the heap, which is hidden behind a pointer to bytes, since C may be passed
+//! no type that leads to memory of Rust's. In proofs each has the manager as its value.
 ghost use Rattle.std.specs.Prelude.{◌≡◌, Option, Some};
 ghost use Rattle.std.specs.Borrow.{sem};
 ghost use Rattle.std.specs.Option.{option_map};
@@ -25,7 +25,8 @@ impl Model for Owner {
     ghost also_owns = { λ owner. owner_owns owner.alloc owner.at owner.value };
 }
 
-/// Where C wants a manager to be: the same bytes, which own a manager once it is there, and what C had there before is nobody's.
+/// Where C wants a manager to be: the same bytes, which own a manager once it is there, and what C had there before is
+/// nobody's.
 #[repr(C)]
 #[derive(Drop)]
 pub struct Place {

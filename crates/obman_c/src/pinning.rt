@@ -33,8 +33,8 @@ pub(crate) fn id_at(slot: u32, generation: u32) -> Id
     Id { slot, generation }
 }
 
-/// The number of a refused pin: 87 for no such slot, 1168 where the object isn't there yet, 6 where it has ended, 1450 where the
-/// slot has all its pins, 1816 where the reader has 16 copies, and 170 where the word changed in between.
+/// The number of a refused pin: 87 for no such slot, 1168 where the object isn't there yet, 6 where it has ended, 1450
+/// where the slot has all its pins, 1816 where the reader has 16 copies, and 170 where the word changed in between.
 pub(crate) fn number_of(fault: PinFault) -> u32
     ensures { result ≡ pin_status fault }
 {
@@ -80,7 +80,8 @@ pub extern "C" fn om_card(
     generation: u32,
     description: &mut Description,
 ) -> u32
-    ensures describes { Describes (card owner.old.value.manager.state (id_at slot generation)) result description.old description.new }
+    ensures describes { Describes (card owner.old.value.manager.state
+        (id_at slot generation)) result description.old description.new }
     ensures same { owner.new.value ≡ owner.old.value }
 {
     match owner.lend().manager.card(id_at(slot, generation)) {

@@ -10,7 +10,8 @@ use crate::values::{Member, tell_member, tell_thread};
 #[tactic(auto, using(crate::proofs::Told::tells_as))]
 #[unsafe(no_mangle)]
 pub extern "C" fn om_spawn(owner: &mut Owner, session: u32, member: &mut Member) -> u32
-    ensures { TellsAs member_in owner.old.value.manager (Call.Spawn session) result owner.new.value.manager member.old member.new }
+    ensures { TellsAs member_in owner.old.value.manager
+        (Call.Spawn session) result owner.new.value.manager member.old member.new }
 {
     tell_member(owner.lend().manager.spawn(session), member)
 }
@@ -24,7 +25,8 @@ pub extern "C" fn om_child(
     inherit: bool,
     member: &mut Member,
 ) -> u32
-    ensures { TellsAs member_in owner.old.value.manager (Call.Child thread inherit) result owner.new.value.manager member.old member.new }
+    ensures { TellsAs member_in owner.old.value.manager
+        (Call.Child thread inherit) result owner.new.value.manager member.old member.new }
 {
     tell_member(owner.lend().manager.child(thread, inherit), member)
 }
@@ -33,7 +35,8 @@ pub extern "C" fn om_child(
 #[tactic(auto, using(crate::proofs::Told::tells_as))]
 #[unsafe(no_mangle)]
 pub extern "C" fn om_thread(owner: &mut Owner, process: u32, thread: &mut u32) -> u32
-    ensures { TellsAs thread_in owner.old.value.manager (Call.StartThread process) result owner.new.value.manager thread.old thread.new }
+    ensures { TellsAs thread_in owner.old.value.manager
+        (Call.StartThread process) result owner.new.value.manager thread.old thread.new }
 {
     tell_thread(owner.lend().manager.thread(process), thread)
 }

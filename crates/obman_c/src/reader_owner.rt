@@ -1,5 +1,5 @@
-//! What C holds: a pointer to a reader on the heap, which is hidden behind a pointer to bytes, since C may be passed no type
-//! that leads to memory of Rust's. In proofs each has the reader as its value.
+//! What C holds: a pointer to a reader on the heap, which is hidden behind a pointer to bytes, since C may be passed no
+//! type that leads to memory of Rust's. In proofs each has the reader as its value.
 ghost use Rattle.std.specs.Prelude.{◌≡◌, Option, Some};
 ghost use Rattle.std.specs.Borrow.{sem};
 ghost use Rattle.std.specs.Option.{option_map};
@@ -26,7 +26,8 @@ impl Model for ReaderOwner {
     ghost also_owns = { λ owner. reader_owns owner.alloc owner.at owner.value };
 }
 
-/// Where C wants a reader to be: the same bytes, which own a reader once it is there, and what C had there before is nobody's.
+/// Where C wants a reader to be: the same bytes, which own a reader once it is there, and what C had there before is
+/// nobody's.
 #[repr(C)]
 #[derive(Drop)]
 pub struct ReaderPlace {

@@ -7,7 +7,8 @@ ghost use Rattle.ob_manager.specs.Steps.{Step};
 ghost use Rattle.ob_manager.specs.Calls.{Call};
 ghost use Rattle.ob_manager.specs.declared.reply.Reply.{Reply};
 ghost use Rattle.obman_c.specs.Pinning.{id_at};
-ghost use Rattle.obman_c.specs.Reading.{AreOfOne, DescribeTold, InspectTold, IsHeld, PinTold, ReaderOpens, UnpinTold, descriptor_of};
+ghost use Rattle.obman_c.specs.Reading.{AreOfOne, DescribeTold, InspectTold, IsHeld, PinTold, ReaderOpens, UnpinTold};
+ghost use Rattle.obman_c.specs.Reading.{descriptor_of};
 
 use crate::owned::OwnedReader;
 use crate::owner::Owner;
@@ -81,8 +82,8 @@ fn one_of(held: &[Id]) -> Option<Id>
     Some(held[0])
 }
 
-/// [`Reader::try_pin`], one try: 0, 87, 1816, 1168, 6, 1450, or 170 where another reader or the manager changed the slot's word in
-/// between.
+/// [`Reader::try_pin`], one try: 0, 87, 1816, 1168, 6, 1450, or 170 where another reader or the manager changed the
+/// slot's word in between.
 #[tactic(auto, using(crate::proofs::Read::pinned, crate::proofs::Read::refused))]
 #[unsafe(no_mangle)]
 pub extern "C" fn om_reader_pin(owner: &mut ReaderOwner, slot: u32, generation: u32) -> u32
@@ -160,7 +161,8 @@ pub extern "C" fn om_inspect(
     description: &mut Description,
 ) -> u32
     requires same { AreOfOne owner.old.value.manager reader.old.value.reader }
-    ensures told { InspectTold owner.old.value.manager (id_at slot generation) reader.old.value.reader result reader.new.value.reader description.old description.new }
+    ensures told { InspectTold owner.old.value.manager
+        (id_at slot generation) reader.old.value.reader result reader.new.value.reader description.old description.new }
     ensures manager { owner.new.value ≡ owner.old.value }
     ensures table { reader.new.value.reader.table ≡ reader.old.value.reader.table }
 {
@@ -176,5 +178,6 @@ pub extern "C" fn om_inspect(
 /// A reader of a manager's words stays one, whatever call is made.
 #[tactic(auto, using(crate::proofs::Homes::stays))]
 fn law_of_readers()
-    ensures { (old new : Whole) (call : Call) (reply : Reply) (r : ReaderState) → Step old call reply new → AreOfOne old r → AreOfOne new r }
+    ensures { (old new : Whole) (call : Call) (reply : Reply) (r : ReaderState) → Step old call reply new
+        → AreOfOne old r → AreOfOne new r }
 {}

@@ -32,8 +32,8 @@ pub extern "C" fn om_directory_len(owner: &mut Owner) -> usize
     owner.lend().manager.directory_len()
 }
 
-/// [`Manager::directory_at`](ob_manager::Manager::directory_at): 0, 259 behind the last row, or 122 where the name doesn't fit; the
-/// row then says how long it is.
+/// [`Manager::directory_at`](ob_manager::Manager::directory_at): 0, 259 behind the last row, or 122 where the name
+/// doesn't fit; the row then says how long it is.
 #[unsafe(no_mangle)]
 pub extern "C" fn om_directory_at(
     owner: &mut Owner,

@@ -21,8 +21,8 @@ pub extern "C" fn om_reap(owner: &mut Owner, slot: u32, reaping: &mut Reaping) -
     tell_reaping(owner.lend().manager.reap(slot), reaping)
 }
 
-/// Slots of ended objects by rising number, each taken back by [`Manager::reap`], as far as there are any and places for them. How
-/// many.
+/// Slots of ended objects by rising number, each taken back by [`Manager::reap`], as far as there are any and places
+/// for them. How many.
 fn take_ended(manager: &mut Manager<Keeper>, reapings: &mut [Reaping]) -> usize
     ensures { ReapsAll manager.old reapings.old result manager.new reapings.new }
 {
@@ -39,7 +39,8 @@ fn take_ended(manager: &mut Manager<Keeper>, reapings: &mut [Reaping]) -> usize
     reapings.len()
 }
 
-/// As many steps [`Manager::reap`] as there are slots whose objects have ended, by rising slot, or as there are places: always 0.
+/// As many steps [`Manager::reap`] as there are slots whose objects have ended, by rising slot, or as there are places:
+/// always 0.
 #[unsafe(no_mangle)]
 pub extern "C" fn om_take_ended(
     owner: &mut Owner,
@@ -62,7 +63,8 @@ pub extern "C" fn om_counts(
     generation: u32,
     references: &mut References,
 ) -> u32
-    ensures step { TellsAs references_in owner.old.value.manager (Call.Counts (id_at slot generation)) result owner.new.value.manager references.old references.new }
+    ensures step { TellsAs references_in owner.old.value.manager
+        (Call.Counts (id_at slot generation)) result owner.new.value.manager references.old references.new }
     ensures same { owner.new.value ≡ owner.old.value }
 {
     let id = Id { slot, generation };

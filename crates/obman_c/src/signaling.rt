@@ -34,7 +34,8 @@ pub extern "C" fn om_release_semaphore(
     count: i32,
     previous: &mut u32,
 ) -> u32
-    ensures { TellsAs count_in owner.old.value.manager (Call.ReleaseSemaphore thread handle count) result owner.new.value.manager previous.old previous.new }
+    ensures { TellsAs count_in owner.old.value.manager
+        (Call.ReleaseSemaphore thread handle count) result owner.new.value.manager previous.old previous.new }
 {
     tell_count(
         owner

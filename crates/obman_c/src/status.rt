@@ -9,8 +9,8 @@ use obman_c_base::SUCCESS;
 /// `ERROR_NO_MORE_ITEMS`.
 pub(crate) const NO_MORE: u32 = 259;
 
-/// 0, or a Win32 error code ([System Error Codes]): `ERROR_ALREADY_EXISTS` (183) where a name was there and its object was
-/// opened, `ERROR_IO_PENDING` (997) for a wait that is pending, and for a refusal its own.
+/// 0, or a Win32 error code ([System Error Codes]): `ERROR_ALREADY_EXISTS` (183) where a name was there and its object
+/// was opened, `ERROR_IO_PENDING` (997) for a wait that is pending, and for a refusal its own.
 ///
 /// [System Error Codes]: https://learn.microsoft.com/windows/win32/debug/system-error-codes
 #[inline(always)]

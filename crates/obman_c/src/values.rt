@@ -1,6 +1,7 @@
 //! What C is told of a reply beside its number.
 ghost use Rattle.std.specs.Prelude.{◌≡◌};
-ghost use Rattle.obman_c.specs.Telling.{answer_in, count_in, flags_in, member_in, object_of, opening_in, outcome_of, pins_of, reaping_in, references_in, status_of, thread_in};
+ghost use Rattle.obman_c.specs.Telling.{answer_in, count_in, flags_in, member_in, object_of, opening_in, outcome_of};
+ghost use Rattle.obman_c.specs.Telling.{pins_of, reaping_in, references_in, status_of, thread_in};
 
 use crate::status::told;
 use ob_manager::Reply;

@@ -32,8 +32,8 @@ fn mode_of(all: bool) -> Mode
     if all { Mode::All } else { Mode::Any }
 }
 
-/// [`Manager::wait`](ob_manager::Manager::wait), for so many milliseconds. 0 with the wait's code, 997 with its number, or 87, 170,
-/// 6, 5, 1450 or 8.
+/// [`Manager::wait`](ob_manager::Manager::wait), for so many milliseconds. 0 with the wait's code, 997 with its number,
+/// or 87, 170, 6, 5, 1450 or 8.
 #[tactic(auto, using(crate::proofs::Told::tells_as))]
 #[unsafe(no_mangle)]
 pub extern "C" fn om_wait(
@@ -44,7 +44,9 @@ pub extern "C" fn om_wait(
     handles: &[u32],
     answer: &mut u32,
 ) -> u32
-    ensures { TellsAs answer_in owner.old.value.manager (Call.WaitFor thread (mode_of all) (Timeout.Millis milliseconds) handles.now) result owner.new.value.manager answer.old answer.new }
+    ensures { TellsAs answer_in owner.old.value.manager
+        (Call.WaitFor thread (mode_of all)
+        (Timeout.Millis milliseconds) handles.now) result owner.new.value.manager answer.old answer.new }
 {
     tell_answer(
         owner.lend().manager.wait(thread, mode_of(all), Timeout::Millis(milliseconds), handles),
@@ -56,12 +58,14 @@ pub extern "C" fn om_wait(
 #[tactic(auto, using(crate::proofs::Told::tells_as))]
 #[unsafe(no_mangle)]
 pub extern "C" fn om_wait_result(owner: &mut Owner, wait: u32, answer: &mut u32) -> u32
-    ensures { TellsAs answer_in owner.old.value.manager (Call.WaitResult wait) result owner.new.value.manager answer.old answer.new }
+    ensures { TellsAs answer_in owner.old.value.manager
+        (Call.WaitResult wait) result owner.new.value.manager answer.old answer.new }
 {
     tell_answer(owner.lend().manager.wait_result(wait), answer)
 }
 
-/// The answers of waits by rising number, each taken by [`Manager::wait_result`], as far as there are any and places for them. How many.
+/// The answers of waits by rising number, each taken by [`Manager::wait_result`], as far as there are any and places
+/// for them. How many.
 fn take_answers(manager: &mut Manager<Keeper>, answers: &mut [Answered]) -> usize
     ensures { TakesAll manager.old answers.old result manager.new answers.new }
 {

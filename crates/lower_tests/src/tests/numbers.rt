@@ -68,8 +68,8 @@ fn scanned(frees: &Vec<bool>, from: usize, free: bool) -> Option<usize> {
     None
 }
 
-/// Takes a number if it is free, and gives it back if it isn't, `times` times. Each time the next free number and the next that is
-/// taken are asked for.
+/// Takes a number if it is free, and gives it back if it isn't, `times` times. Each time the next free number and the
+/// next that is taken are asked for.
 #[tactic(auto, using(least_free::proofs::TakenLemmas::found_free, least_free::proofs::TakenLemmas::found_taken))]
 fn turns(rt: &impl Abort, free: &mut LeastFree, frees: &mut Vec<bool>, times: u32, seed: u32)
     requires same { length free.old ≡ length frees.old.items }

@@ -65,7 +65,8 @@ impl Counted for LockedPins {
 }
 
 fn is_in<K: Counted>(keeper: &K, slot: u32, phase: Phase) -> bool
-    ensures { IsTrue result → (slot < (K.kept keeper.now).shape.slots) × ((slot_of (K.kept keeper.now).slots slot).phase ≡ phase) }
+    ensures { IsTrue result → (slot < (K.kept keeper.now).shape.slots)
+        × ((slot_of (K.kept keeper.now).slots slot).phase ≡ phase) }
 {
     slot < keeper.count() && keeper.phase(slot) == phase
 }

@@ -37,8 +37,8 @@ fn add_one(rt: &impl Abort, waits: &mut Waits)
     same(rt, waits.blocks_of(FAR), 1);
 }
 
-/// Adds the wait of a thread that has none, which gets a number. Where memory fails nothing has changed, and the call is
-/// made again.
+/// Adds the wait of a thread that has none, which gets a number. Where memory fails nothing has changed, and the call
+/// is made again.
 fn added(rt: &impl Abort, waits: &mut Waits, thread: u32, number: u32) {
     holds(rt, waits.wait_of(thread).is_none());
     let blocks = waits.blocks_of(D);
