@@ -97,6 +97,11 @@ fn release(home: &mut Home, herd: Herd, at: usize, owner: u32) -> Result<(), Fau
     }
 }
 
+/// What stands at a place of a list.
+fn at_place(list: &[u32], at: usize) -> u32 {
+    list.get(at).map_or(0, |number| *number)
+}
+
 /// All threads wait, and each is released and takes its result; then the object is as before. The sum of the codes.
 fn round(home: &mut Home, herd: Herd) -> Result<u64, Fault> {
     wait_all(home, herd)?;
@@ -104,9 +109,9 @@ fn round(home: &mut Home, herd: Herd) -> Result<u64, Fault> {
     let mut owner = home.thread;
     for at in 0..home.threads.len() {
         release(home, herd, at, owner)?;
-        let code = code_of(home.manager.wait_result(home.waits[at]))?;
+        let code = code_of(home.manager.wait_result(at_place(&home.waits, at)))?;
         sum = sum.wrapping_add(u64::from(code)).wrapping_add(1);
-        owner = home.threads[at];
+        owner = at_place(&home.threads, at);
     }
     end(home, herd, owner)?;
     Ok(sum)
