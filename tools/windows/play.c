@@ -1,0 +1,827 @@
+/* Plays a script (docs/FORMATS.md) by real Win32 calls, and prints the answers as obman does.
+
+       play [--settle MS] < SCRIPT > ANSWERS
+
+   It is built by `x86_64-w64-mingw32-gcc -O1 -o play.exe play.c worker.c script.c` or by `cl /O1 play.c worker.c script.c advapi32.lib`.
+   Each process of the script is a process, each thread a thread, each handle a handle; tools/windows/compare sets the answers beside
+   those of obman. A wait that doesn't end at once is pending; what has to come about by itself is given MS milliseconds, 50 if no
+   number is given.
+
+   What it can't show:
+   - Handle values, slots, generations and the numbers of processes, threads and waits are the script's: this program keeps a table
+     that gives the least free ones. Nor does it show the limits on them; its own are 64 times as high or so, and end the run.
+   - `?` stands where Windows has no answer: for `pin`, `unpin`, `card` and `dir`, the calls of a thread that waits or has ended, waits
+     that are over, and in `count` for waits and the hold. `reap` is answered by the table, but with `?` once the script has pinned.
+   - Time is the script's. Timers and waits are kept from their end until a `tick` reaches it; then the timers that are due are set
+     to be due at once, one after another in the order in which they are due, and after them the waits whose time is up end. A timer
+     whose handles are all closed can't be set so, and never comes due.
+   - A wait that expires is ended by an asynchronous procedure call, so it was alertable.
+   - All processes are in the user's one session. Names in the session of the first `spawn` are passed on as they are. In another
+     session one that isn't global has `#` and the session's number behind it, and in session 0 `Global\` before it.
+   - A grant is an access list for everyone, with the same rights for the owner.
+   - A worker has a thread of its own beside the script's, and ends when the last of those does. */
+#include "play.h"
+
+#include <fcntl.h>
+#include <inttypes.h>
+#include <io.h>
+#include <stdio.h>
+#include <stdlib.h>
+#include <string.h>
+
+#define ENTRIES 2048
+#define SLOTS 4096
+#define LEAST_SLOTS 64 /* of obman, if nothing else is asked for */
+#define UNKNOWN UINT32_MAX
+#define GRACE 20000 /* milliseconds, after which a call that can't block has gone wrong */
+#define NOWHERE 0x7ffffff0u /* a value that no handle has */
+
+typedef struct {
+    HANDLE real;
+    uint32_t slot; /* of its object */
+    bool is_used;
+} entry;
+
+typedef struct {
+    HANDLE real;
+    seat clerk;
+    bool is_live;
+    uint32_t session, threads;
+    entry entries[ENTRIES];
+} process;
+
+typedef struct {
+    seat seat;
+    bool is_live;
+    uint32_t process;
+    uint32_t wait; /* the number of its wait, pending or answered, or 0 */
+    bool is_pending, has_deadline;
+    uint64_t deadline;
+    uint32_t count, slots[MAXIMUM_WAIT_OBJECTS];
+} thread;
+
+typedef struct {
+    bool is_there, is_due;
+    uint32_t generation, handles;
+    uint64_t path; /* 0 without a name */
+    uint64_t due;
+} object;
+
+static struct {
+    char name[64];
+    desk *desks;
+    DWORD settle;
+    uint64_t now;
+    bool has_pinned;
+    uint32_t processes_given, threads_given, waits_given;
+    process processes[PROCESSES];
+    thread threads[THREADS];
+    object objects[SLOTS];
+} all;
+
+static void stop(const char *why)
+{
+    uint32_t at;
+
+    for (at = 0; at < all.processes_given; at++)
+        TerminateProcess(all.processes[at].real, 0);
+    fflush(stdout);
+    if (!why)
+        exit(0);
+    fprintf(stderr, "play: %s\n", why);
+    exit(1);
+}
+
+static process *process_of(uint32_t number)
+{
+    return number - 1 < all.processes_given ? &all.processes[number - 1] : NULL;
+}
+
+static thread *thread_of(uint32_t number)
+{
+    return number - 1 < all.threads_given ? &all.threads[number - 1] : NULL;
+}
+
+static process *home_of(const thread *of)
+{
+    return &all.processes[of->process - 1];
+}
+
+/* A thread that may make a call: a live one that has no wait. */
+static thread *caller(uint32_t number)
+{
+    thread *of = thread_of(number);
+
+    return of && of->is_live && of->wait == 0 ? of : NULL;
+}
+
+/* The table of handles. */
+
+static entry *entry_of(process *of, uint32_t handle)
+{
+    uint32_t at = handle / 4 - 1;
+
+    return handle >= 4 && at < ENTRIES && of->entries[at].is_used ? &of->entries[at] : NULL;
+}
+
+/* The real handle for one of the script, with the same two lowest bits. */
+static HANDLE real_of(process *of, uint32_t handle)
+{
+    entry *found = of ? entry_of(of, handle) : NULL;
+    uintptr_t value = found ? (uintptr_t)found->real : handle < 4 ? 0 : NOWHERE;
+
+    return (HANDLE)(value | (handle & 3));
+}
+
+static uint32_t place(process *in, HANDLE real, uint32_t slot)
+{
+    uint32_t at = 0;
+
+    while (at < ENTRIES && in->entries[at].is_used)
+        at++;
+    if (at == ENTRIES)
+        stop("too many handles");
+    in->entries[at] = (entry){real, slot, true};
+    if (slot != UNKNOWN)
+        all.objects[slot].handles++;
+    return 4 * at + 4;
+}
+
+static void displace(entry *of)
+{
+    if (of->is_used && of->slot != UNKNOWN)
+        all.objects[of->slot].handles--;
+    of->is_used = false;
+}
+
+/* The table of objects. */
+
+static uint32_t new_slot(uint64_t path)
+{
+    uint32_t at = 0;
+
+    while (at < SLOTS && all.objects[at].is_there)
+        at++;
+    if (at == SLOTS)
+        stop("too many objects");
+    all.objects[at].is_there = true;
+    all.objects[at].is_due = false;
+    all.objects[at].generation++;
+    all.objects[at].path = path;
+    return at;
+}
+
+/* The object that has a name, and then no earlier one has it any more. */
+static uint32_t slot_named(uint64_t path)
+{
+    uint32_t at;
+
+    for (at = 0; at < SLOTS; at++)
+        if (path != 0 && all.objects[at].is_there && all.objects[at].path == path)
+            return at;
+    return UNKNOWN;
+}
+
+static void forget_name(uint64_t path)
+{
+    uint32_t at = slot_named(path);
+
+    if (at != UNKNOWN)
+        all.objects[at].path = 0;
+}
+
+static uint32_t waits_for(uint32_t slot)
+{
+    uint32_t of, at, places = 0;
+
+    for (of = 0; of < all.threads_given; of++)
+        for (at = 0; all.threads[of].is_pending && at < all.threads[of].count; at++)
+            places += all.threads[of].slots[at] == slot;
+    return places;
+}
+
+/* A live process that has a handle to an object, and the handle. */
+static process *holder_of(uint32_t slot, HANDLE *real)
+{
+    uint32_t of, at;
+
+    for (of = 0; of < all.processes_given; of++)
+        for (at = 0; all.processes[of].is_live && at < ENTRIES; at++)
+            if (all.processes[of].entries[at].is_used && all.processes[of].entries[at].slot == slot) {
+                *real = all.processes[of].entries[at].real;
+                return &all.processes[of];
+            }
+    return NULL;
+}
+
+/* Answers. */
+
+static void print_made(uint32_t handle, const char *how, uint32_t slot)
+{
+    if (slot == UNKNOWN)
+        printf("h%" PRIu32 " %s ?\n", handle, how);
+    else
+        printf("h%" PRIu32 " %s s%" PRIu32 ".%" PRIu32 "\n", handle, how, slot, all.objects[slot].generation);
+}
+
+static void print_done(const desk *at, const char *done)
+{
+    if (at->error)
+        printf("error %lu\n", at->error);
+    else
+        puts(done);
+}
+
+static void print_number(const desk *at, const char *what)
+{
+    if (at->error)
+        printf("error %lu\n", at->error);
+    else
+        printf("%s %lu\n", what, at->value);
+}
+
+/* Asking. */
+
+static bool is_answered(const seat *by, const process *in, DWORD time)
+{
+    HANDLE either[2];
+
+    either[0] = by->done;
+    either[1] = in->real;
+    switch (WaitForMultipleObjects(2, either, FALSE, time)) {
+    case WAIT_OBJECT_0: return true;
+    case WAIT_TIMEOUT: return false;
+    default: stop("a worker has ended"); return false;
+    }
+}
+
+static desk *ask(const seat *whom, const process *in)
+{
+    whom->at->pending = false;
+    SetEvent(whom->go);
+    if (!is_answered(whom, in, GRACE))
+        stop("a worker doesn't answer");
+    return whom->at;
+}
+
+static desk *ask_clerk(process *of, enum verb verb, uint32_t number, HANDLE real)
+{
+    desk *at = of->clerk.at;
+
+    at->asked.verb = verb;
+    at->asked.thread = number;
+    at->real[0] = real;
+    return ask(&of->clerk, of);
+}
+
+/* Lays a call before its thread, with the real handles. */
+static desk *ask_thread(thread *of, const line *call)
+{
+    desk *at = of->seat.at;
+    uint32_t place;
+
+    at->asked = *call;
+    at->asked.count = call->count < WAITED ? call->count : WAITED;
+    for (place = 0; call->verb != VERB_DUP && place < at->asked.count; place++)
+        at->real[place] = real_of(home_of(of), call->handles[place]);
+    return ask(&of->seat, home_of(of));
+}
+
+/* Whether a process has a handle. */
+static bool is_handle(process *of, HANDLE real)
+{
+    return of->is_live && ask_clerk(of, VERB_FLAGS, 0, real)->error == 0;
+}
+
+/* Takes notice of a wait that is answered. */
+static bool is_over(thread *of, DWORD time)
+{
+    if (of->is_pending && is_answered(&of->seat, home_of(of), time))
+        of->is_pending = false;
+    return !of->is_pending;
+}
+
+static void look_at_waits(DWORD time)
+{
+    uint32_t at;
+
+    for (at = 0; at < all.threads_given; at++)
+        is_over(&all.threads[at], time);
+}
+
+static bool expire(thread *of)
+{
+    ask_clerk(home_of(of), VERB_EXPIRE, (uint32_t)(of - all.threads) + 1, NULL);
+    if (!is_over(of, GRACE))
+        stop("a wait doesn't expire");
+    return of->seat.at->error == 0 && of->seat.at->value == WAIT_TIMEOUT;
+}
+
+/* Processes and threads. */
+
+static void add_thread(uint32_t of)
+{
+    process *in = &all.processes[of - 1];
+    thread *made = &all.threads[all.threads_given++];
+
+    made->seat = take_seat(all.desks, all.name, PROCESSES + all.threads_given - 1);
+    made->is_live = true;
+    made->process = of;
+    in->threads++;
+    if (ask_clerk(in, VERB_THREAD, all.threads_given, NULL)->error)
+        stop("no thread can be made");
+}
+
+static process *next_process(uint32_t session)
+{
+    process *made = &all.processes[all.processes_given];
+
+    if (all.processes_given == PROCESSES || all.threads_given == THREADS)
+        stop("too many processes or threads");
+    made->clerk = take_seat(all.desks, all.name, all.processes_given);
+    made->session = session;
+    made->is_live = true;
+    return made;
+}
+
+static void begin(process *made)
+{
+    all.processes_given++;
+    if (!made->real || !is_answered(&made->clerk, made, GRACE))
+        stop("no process can be made");
+    add_thread(all.processes_given);
+    printf("p%" PRIu32 " t%" PRIu32 "\n", all.processes_given, all.threads_given);
+}
+
+static void spawn(const line *call)
+{
+    process *made = next_process(call->session);
+    PROCESS_INFORMATION started = {0};
+
+    if (start_worker(all.name, GetCurrentProcessId(), all.processes_given + 1, FALSE, &started))
+        CloseHandle(started.hThread);
+    made->real = started.hProcess;
+    begin(made);
+}
+
+static bool is_inherited(process *of, const entry *one)
+{
+    desk *at = one->is_used ? ask_clerk(of, VERB_FLAGS, 0, one->real) : NULL;
+
+    return at && at->error == 0 && (at->value & HANDLE_FLAG_INHERIT);
+}
+
+static void child(const line *call)
+{
+    thread *by = caller(call->thread);
+    process *made, *parent;
+    uint32_t at;
+
+    if (!by) {
+        puts("?");
+        return;
+    }
+    parent = home_of(by);
+    made = next_process(parent->session);
+    for (at = 0; call->inherit && at < ENTRIES; at++)
+        if (is_inherited(parent, &parent->entries[at])) {
+            made->entries[at] = parent->entries[at];
+            if (made->entries[at].slot != UNKNOWN)
+                all.objects[made->entries[at].slot].handles++;
+        }
+    parent->clerk.at->asked.process = all.processes_given + 1;
+    parent->clerk.at->asked.inherit = call->inherit;
+    ask_clerk(parent, VERB_CHILD, 0, NULL);
+    made->real = OpenProcess(PROCESS_ALL_ACCESS, FALSE, parent->clerk.at->value);
+    begin(made);
+}
+
+static void start_thread(const line *call)
+{
+    process *in = process_of(call->process);
+
+    if (!in || !in->is_live) {
+        puts("?");
+        return;
+    }
+    if (all.threads_given == THREADS)
+        stop("too many threads");
+    add_thread(call->process);
+    printf("t%" PRIu32 "\n", all.threads_given);
+}
+
+static void end_thread(thread *of)
+{
+    process *in = home_of(of);
+    bool is_waiting = !is_over(of, 0);
+
+    if (!is_waiting) {
+        of->seat.at->asked.verb = VERB_ENDTHREAD;
+        SetEvent(of->seat.go);
+    }
+    in->clerk.at->by_force = is_waiting;
+    ask_clerk(in, VERB_ENDTHREAD, (uint32_t)(of - all.threads) + 1, NULL);
+    of->is_live = of->is_pending = false;
+    of->wait = 0;
+    in->threads--;
+}
+
+static void end_process(process *of)
+{
+    uint32_t at;
+
+    TerminateProcess(of->real, 0);
+    WaitForSingleObject(of->real, GRACE);
+    of->is_live = false;
+    for (at = 0; at < ENTRIES; at++)
+        displace(&of->entries[at]);
+    for (at = 0; at < all.threads_given; at++)
+        if (home_of(&all.threads[at]) == of) {
+            all.threads[at].is_live = all.threads[at].is_pending = false;
+            all.threads[at].wait = 0;
+        }
+}
+
+static void play_endthread(const line *call)
+{
+    thread *of = thread_of(call->thread);
+
+    if (!of || !of->is_live) {
+        puts("?");
+        return;
+    }
+    end_thread(of);
+    if (home_of(of)->threads == 0)
+        end_process(home_of(of));
+    printf("ended t%" PRIu32 "\n", call->thread);
+}
+
+static void play_exit(const line *call)
+{
+    process *of = process_of(call->process);
+
+    if (!of || !of->is_live) {
+        puts("?");
+        return;
+    }
+    end_process(of);
+    printf("exited p%" PRIu32 "\n", call->process);
+}
+
+/* Calls of threads. */
+
+/* Says in the name that is asked for which session is meant. */
+static void say_session(line *call, uint32_t session)
+{
+    const uint32_t first = all.processes[0].session;
+    const bool is_global = strncmp(call->name, "Global\\", 7) == 0, is_local = strncmp(call->name, "Local\\", 6) == 0;
+    char old[MOST_BYTES + 1];
+
+    if (is_global || session == first || !call->has_name || strlen(call->name) + 16 > MOST_BYTES)
+        return;
+    strcpy(old, call->name);
+    if (session == 0)
+        sprintf(call->name, "Global\\%s", old + (is_local ? 6 : 0));
+    else
+        sprintf(call->name, "%s#%" PRIu32, old, session);
+}
+
+static void print_opened(const desk *at, process *in, const char *how)
+{
+    uint32_t slot;
+
+    if (at->error) {
+        printf("error %lu\n", at->error);
+        return;
+    }
+    if (strcmp(how, "new") == 0) {
+        forget_name(at->path);
+        slot = new_slot(at->path);
+    } else {
+        slot = slot_named(at->path);
+    }
+    print_made(place(in, at->made, slot), how, slot);
+}
+
+static void open_or_create(thread *by, line *call)
+{
+    desk *at;
+
+    say_session(call, home_of(by)->session);
+    at = ask_thread(by, call);
+    print_opened(at, home_of(by), call->verb == VERB_OPEN ? "opened" : at->existed ? "exists" : "new");
+}
+
+/* Gives a worker a handle to a process for a while. */
+static HANDLE lend(const process *of, const process *to)
+{
+    HANDLE lent;
+
+    if (!of || !DuplicateHandle(GetCurrentProcess(), of->real, to->real, &lent, 0, FALSE, DUPLICATE_SAME_ACCESS))
+        return (HANDLE)(uintptr_t)NOWHERE;
+    return lent;
+}
+
+static void take_back(HANDLE lent, const process *from)
+{
+    HANDLE back;
+
+    if (lent && lent != (HANDLE)(uintptr_t)NOWHERE && DuplicateHandle(from->real, lent, GetCurrentProcess(), &back, 0, FALSE, DUPLICATE_SAME_ACCESS | DUPLICATE_CLOSE_SOURCE))
+        CloseHandle(back);
+}
+
+static void print_duplicate(const desk *at, const line *call, process *to, uint32_t slot)
+{
+    if (at->error)
+        printf("error %lu\n", at->error);
+    else if (!call->has_target)
+        puts("closed");
+    else
+        print_made(place(to, at->made, slot), "dup", slot);
+}
+
+static void duplicate(thread *by, const line *call)
+{
+    process *home = home_of(by), *from = process_of(call->source), *to = call->has_target ? process_of(call->target) : NULL;
+    entry *source = from ? entry_of(from, call->handles[0]) : NULL;
+    desk *at = by->seat.at;
+
+    at->source = lend(from, home);
+    at->target = call->has_target ? lend(to, home) : NULL;
+    at->real[0] = real_of(from, call->handles[0]);
+    ask_thread(by, call);
+    take_back(at->source, home);
+    take_back(at->target, home);
+    print_duplicate(at, call, to, source ? source->slot : UNKNOWN);
+    /* where the copy has the source's value it has taken its place */
+    if (source && call->close_source && ((from == to && at->error == 0 && at->made == source->real) || !is_handle(from, source->real)))
+        displace(source);
+}
+
+static void close_handle(thread *by, const line *call)
+{
+    entry *closed = entry_of(home_of(by), call->handles[0]);
+    desk *at = ask_thread(by, call);
+
+    if (closed && at->error == 0)
+        displace(closed);
+    print_done(at, "closed");
+}
+
+/* The moment that a timer is set to: below 0 it is from now. */
+static uint64_t moment_of(int64_t due)
+{
+    return due < 0 ? all.now + (0 - (uint64_t)due) : (uint64_t)due;
+}
+
+static void set_timer(thread *by, line *call)
+{
+    uint64_t due = moment_of(call->moment);
+    entry *timer = entry_of(home_of(by), call->handles[0]);
+    desk *at;
+
+    call->initial = due <= all.now;
+    at = ask_thread(by, call);
+    if (at->error == 0 && timer && timer->slot != UNKNOWN) {
+        all.objects[timer->slot].is_due = due > all.now;
+        all.objects[timer->slot].due = due;
+    }
+    if (call->initial)
+        Sleep(all.settle);
+    print_done(at, "done");
+}
+
+static void cancel_timer(thread *by, const line *call)
+{
+    entry *timer = entry_of(home_of(by), call->handles[0]);
+    desk *at = ask_thread(by, call);
+
+    if (at->error == 0 && timer && timer->slot != UNKNOWN)
+        all.objects[timer->slot].is_due = false;
+    print_done(at, "done");
+}
+
+static void wait_for(thread *by, const line *call)
+{
+    desk *at = ask_thread(by, call);
+    entry *waited;
+
+    if (!at->pending) {
+        print_number(at, "code");
+        return;
+    }
+    Sleep(all.settle / 2);
+    by->wait = ++all.waits_given;
+    by->is_pending = true;
+    by->has_deadline = call->timeout != INFINITE;
+    by->deadline = all.now + (uint64_t)call->timeout * 10000;
+    for (by->count = 0; by->count < call->count; by->count++) {
+        waited = entry_of(home_of(by), call->handles[by->count]);
+        by->slots[by->count] = waited ? waited->slot : UNKNOWN;
+    }
+    printf("pending w%" PRIu32 "\n", by->wait);
+}
+
+static void play_call(line *call)
+{
+    thread *by = caller(call->thread);
+
+    if (!by) {
+        puts("?");
+        return;
+    }
+    switch (call->verb) {
+    case VERB_CREATE:
+    case VERB_OPEN: open_or_create(by, call); break;
+    case VERB_DUP: duplicate(by, call); break;
+    case VERB_CLOSE: close_handle(by, call); break;
+    case VERB_FLAGS: print_number(ask_thread(by, call), "flags"); break;
+    case VERB_RELEASE: print_number(ask_thread(by, call), "previous"); break;
+    case VERB_SETTIMER: set_timer(by, call); break;
+    case VERB_CANCEL: cancel_timer(by, call); break;
+    case VERB_WAIT: wait_for(by, call); break;
+    default: print_done(ask_thread(by, call), "done"); break;
+    }
+}
+
+/* Waits and time. */
+
+static thread *waiter(uint32_t wait)
+{
+    uint32_t at;
+
+    for (at = 0; wait != 0 && at < all.threads_given; at++)
+        if (all.threads[at].wait == wait)
+            return &all.threads[at];
+    return NULL;
+}
+
+static void result(const line *call)
+{
+    thread *of = waiter(call->wait);
+
+    if (!of) {
+        puts("?");
+    } else if (!is_over(of, all.settle)) {
+        printf("pending w%" PRIu32 "\n", call->wait);
+    } else {
+        print_number(of->seat.at, "code");
+        of->wait = 0;
+    }
+}
+
+static void play_expire(const line *call)
+{
+    thread *of = waiter(call->wait);
+
+    if (!of)
+        puts("?");
+    else if (is_over(of, all.settle) || !expire(of))
+        puts("error 87");
+    else
+        printf("expired w%" PRIu32 "\n", call->wait);
+}
+
+/* The timer that is due first, at the moment that it is or before it. */
+static uint32_t first_due(void)
+{
+    uint32_t at, first = UNKNOWN;
+
+    for (at = 0; at < SLOTS; at++)
+        if (all.objects[at].is_there && all.objects[at].is_due && all.objects[at].due <= all.now && (first == UNKNOWN || all.objects[at].due < all.objects[first].due))
+            first = at;
+    return first;
+}
+
+static void tick(const line *call)
+{
+    uint32_t at;
+    HANDLE real;
+    process *by;
+
+    if ((uint64_t)call->moment < all.now) {
+        puts("?");
+        return;
+    }
+    all.now = (uint64_t)call->moment;
+    while ((at = first_due()) != UNKNOWN) {
+        all.objects[at].is_due = false;
+        by = holder_of(at, &real);
+        if (by) {
+            ask_clerk(by, VERB_TICK, 0, real);
+            Sleep(all.settle);
+        }
+    }
+    for (at = 0; at < all.threads_given; at++)
+        if (all.threads[at].is_pending && all.threads[at].has_deadline && all.threads[at].deadline <= all.now && !is_over(&all.threads[at], all.settle))
+            expire(&all.threads[at]);
+    printf("now %" PRIu64 "\n", all.now);
+}
+
+/* What Windows has no name for. */
+
+static void count(const line *call)
+{
+    object *of = call->slot < SLOTS ? &all.objects[call->slot] : NULL;
+    HANDLE real;
+    process *by;
+    desk *at;
+
+    if (!of || !of->is_there || of->generation != call->generation) {
+        puts("?");
+        return;
+    }
+    by = holder_of(call->slot, &real);
+    at = by ? ask_clerk(by, VERB_COUNT, 0, real) : NULL;
+    if (at && at->error == 0)
+        printf("handles %lu waits ? hold ?\n", at->value);
+    else
+        puts("?");
+}
+
+static void reap(const line *call)
+{
+    object *of = call->slot < LEAST_SLOTS ? &all.objects[call->slot] : NULL;
+
+    if (!of || !of->is_there) {
+        puts("?");
+        return;
+    }
+    if (of->handles == 0 && waits_for(call->slot) > 0)
+        look_at_waits(all.settle);
+    if (of->handles > 0 || waits_for(call->slot) > 0) {
+        puts("error 6");
+        return;
+    }
+    of->is_there = false;
+    if (all.has_pinned)
+        puts("?");
+    else
+        printf("s%" PRIu32 ".%" PRIu32 " freed\n", call->slot, of->generation);
+}
+
+static void play(line *call)
+{
+    switch (call->verb) {
+    case VERB_SPAWN: spawn(call); break;
+    case VERB_CHILD: child(call); break;
+    case VERB_THREAD: start_thread(call); break;
+    case VERB_TICK: tick(call); break;
+    case VERB_RESULT: result(call); break;
+    case VERB_EXPIRE: play_expire(call); break;
+    case VERB_ENDTHREAD: play_endthread(call); break;
+    case VERB_EXIT: play_exit(call); break;
+    case VERB_COUNT: count(call); break;
+    case VERB_REAP: reap(call); break;
+    case VERB_PIN:
+    case VERB_UNPIN:
+        all.has_pinned = true;
+        puts("?");
+        break;
+    case VERB_CARD:
+    case VERB_DIR: puts("?"); break;
+    default: play_call(call); break;
+    }
+    fflush(stdout);
+}
+
+/* Reads a line of any length and keeps what a call may have of it. False at the end. */
+static bool next_line(char *text, size_t *length)
+{
+    int byte = getchar(), before = 0;
+    bool is_there = byte != EOF;
+
+    for (*length = 0; byte != EOF && byte != '\n'; byte = getchar()) {
+        if (*length < MOST_BYTES + 2)
+            text[(*length)++] = (char)byte;
+        before = byte;
+    }
+    if (before == '\r' && *length <= MOST_BYTES + 1)
+        --*length;
+    return is_there;
+}
+
+int main(int count_of_words, char **words)
+{
+    static char text[MOST_BYTES + 2];
+    static line call;
+    size_t length;
+    uint32_t number;
+
+    if (count_of_words == 5 && strcmp(words[1], "--worker") == 0)
+        return work(words[2], (unsigned)atoi(words[3]), (unsigned)atoi(words[4]));
+    all.settle = count_of_words == 3 && strcmp(words[1], "--settle") == 0 ? (DWORD)atoi(words[2]) : 50;
+    sprintf(all.name, "obman-play-%lu", GetCurrentProcessId());
+    all.desks = open_desks(all.name);
+    if (!all.desks)
+        stop("no memory");
+    _setmode(_fileno(stdin), _O_BINARY);
+    _setmode(_fileno(stdout), _O_BINARY);
+    for (number = 1; next_line(text, &length); number++)
+        switch (read_line(text, length, &call)) {
+        case FORM_CALL: play(&call); break;
+        case FORM_NOTHING: break;
+        default: printf("bad line %" PRIu32 "\n", number); break;
+        }
+    stop(NULL);
+}
