@@ -550,6 +550,7 @@ static void duplicate(thread *by, const line *call)
     at->target = call->has_target ? lend(to, home) : NULL;
     at->real[0] = real_of(from, call->handles[0]);
     ask_thread(by, call);
+    at->made = (HANDLE)((uintptr_t)at->made & ~(uintptr_t)3);
     take_back(at->source, home);
     take_back(at->target, home);
     print_duplicate(at, call, to, source ? source->slot : UNKNOWN);

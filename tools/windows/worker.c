@@ -59,7 +59,7 @@ BOOL start_worker(const char *name, unsigned player, unsigned process, BOOL inhe
     how.cb = sizeof how;
     GetModuleFileNameA(NULL, program, sizeof program);
     snprintf(words, sizeof words, "\"%s\" --worker %s %u %u", program, name, player, process);
-    return CreateProcessA(program, words, NULL, NULL, inherit, CREATE_NO_WINDOW, NULL, NULL, &how, started);
+    return CreateProcessA(program, words, NULL, NULL, inherit, DETACHED_PROCESS, NULL, NULL, &how, started);
 }
 
 /* A hash of an object's name with its whole path, so that two handles can be told to be of one object. */
