@@ -9,15 +9,17 @@
 
    What it can't show:
    - Handle values, slots, generations and the numbers of processes, threads and waits are the script's: this program keeps a table
-     that gives the least free ones. Nor does it show the limits on them; its own are 64 times as high or so, and end the run.
-   - `?` stands where Windows has no answer: for `pin`, `unpin`, `card` and `dir`, the calls of a thread that waits or has ended, waits
-     that are over, and in `count` for waits and the hold. `reap` is answered by the table, but with `?` once the script has pinned.
+     that gives the least free ones. Nor does it show limits: its own are 128 processes, 512 threads, 4,096 objects and 2,048 handles
+     of a process, and end the run.
+   - `?` stands where Windows has no answer: for `pin`, `unpin`, `card` and `dir`, for calls of a thread that waits or is no more, for
+     processes and waits that are no more, in `count` for waits and the hold, and for an object that isn't the script's own. `reap` is
+     answered by the table, with `?` where it can't be, and always once the script has pinned.
    - Time is the script's. Timers and waits are kept from their end until a `tick` reaches it; then the timers that are due are set
      to be due at once, one after another in the order in which they are due, and after them the waits whose time is up end. A timer
      whose handles are all closed can't be set so, and never comes due.
    - A wait that expires is ended by an asynchronous procedure call, so it was alertable.
-   - All processes are in the user's one session. Names in the session of the first `spawn` are passed on as they are. In another
-     session one that isn't global has `#` and the session's number behind it, and in session 0 `Global\` before it.
+   - All processes are in the user's one session, which stands for the first session of the script other than 0. In another session
+     a name that isn't global has `#` and the session's number behind it; in session 0 it has `Global\` before it.
    - A grant is an access list for everyone, with the same rights for the owner.
    - A worker has a thread of its own beside the script's, and ends when the last of those does. */
 #include "play.h"
@@ -328,7 +330,7 @@ static void add_thread(uint32_t of)
     made->is_live = true;
     made->process = of;
     in->threads++;
-    if (ask_clerk(in, VERB_THREAD, all.threads_given, NULL)->error)
+    if (ask_clerk(in, VERB_THREAD, all.threads_given, NULL)->error || !is_answered(&made->seat, in, GRACE))
         stop("no thread can be made");
 }
 
@@ -470,14 +472,22 @@ static void play_exit(const line *call)
 
 /* Calls of threads. */
 
-/* Says in the name that is asked for which session is meant. */
+static uint32_t first_session(void)
+{
+    uint32_t at = 0;
+
+    while (at < all.processes_given && all.processes[at].session == 0)
+        at++;
+    return all.processes[at].session;
+}
+
+/* Says in a name which session is meant. */
 static void say_session(line *call, uint32_t session)
 {
-    const uint32_t first = all.processes[0].session;
     const bool is_global = strncmp(call->name, "Global\\", 7) == 0, is_local = strncmp(call->name, "Local\\", 6) == 0;
     char old[MOST_BYTES + 1];
 
-    if (is_global || session == first || !call->has_name || strlen(call->name) + 16 > MOST_BYTES)
+    if (!call->has_name || !*call->name || is_global || session == first_session() || strlen(call->name) + 16 > MOST_BYTES)
         return;
     strcpy(old, call->name);
     if (session == 0)

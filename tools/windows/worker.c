@@ -234,7 +234,7 @@ static DWORD WINAPI script_thread(void *number)
 {
     seat here = take_seat(this.desks, this.name, PROCESSES + (unsigned)(uintptr_t)number - 1);
 
-    for (;;) {
+    for (SetEvent(here.done);;) {
         WaitForSingleObject(here.go, INFINITE);
         if (here.at->asked.verb == VERB_ENDTHREAD)
             return 0;
