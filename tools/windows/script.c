@@ -101,7 +101,7 @@ static bool numbered(rest *of, char letter, uint32_t *number)
 }
 
 /* A number with a minus before it if wanted. */
-static bool is_signed(rest *of, int most_digits, uint64_t most, int64_t *number)
+static bool signed_number(rest *of, int most_digits, uint64_t most, int64_t *number)
 {
     uint64_t value;
     const char *at = of->at;
@@ -163,7 +163,7 @@ static bool handles(rest *of, line *read)
 static bool count(rest *of, line *read)
 {
     int64_t number;
-    bool is_good = is_signed(of, 10, INT32_MAX, &number);
+    bool is_good = signed_number(of, 10, INT32_MAX, &number);
 
     read->integers[0] = read->integers[1];
     read->integers[1] = (int32_t)number;
@@ -247,8 +247,8 @@ static bool part(char letter, rest *of, line *read)
     case 'g': return numbered(of, 0, &read->mask);
     case 'f': return numbered(of, 0, &read->flags);
     case 'i': return count(of, read);
-    case 'V': return of->more && *of->at != '-' && is_signed(of, 19, INT64_MAX, &read->moment);
-    case 'D': return is_signed(of, 19, INT64_MAX, &read->moment);
+    case 'V': return of->more && *of->at != '-' && signed_number(of, 19, INT64_MAX, &read->moment);
+    case 'D': return signed_number(of, 19, INT64_MAX, &read->moment);
     case 'M': return rights(of, &read->access);
     case 'a': return either(of, "auto", "manual", &read->manual);
     case 'e': return either(of, "clear", "set", &read->initial);

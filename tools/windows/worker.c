@@ -234,7 +234,8 @@ static DWORD WINAPI script_thread(void *number)
 {
     seat here = take_seat(this.desks, this.name, PROCESSES + (unsigned)(uintptr_t)number - 1);
 
-    for (SetEvent(here.done);;) {
+    SetEvent(here.done);
+    for (;;) {
         WaitForSingleObject(here.go, INFINITE);
         if (here.at->asked.verb == VERB_ENDTHREAD)
             return 0;
