@@ -2,10 +2,9 @@
 
        play [--settle MS] < SCRIPT > ANSWERS
 
-   It is built by `x86_64-w64-mingw32-gcc -O1 -o play.exe play.c worker.c script.c` or by `cl /O1 play.c worker.c script.c advapi32.lib`.
-   Each process of the script is a process, each thread a thread, each handle a handle; tools/windows/compare sets the answers beside
-   those of obman. A wait that doesn't end at once is pending; what has to come about by itself is given MS milliseconds, 50 if no
-   number is given.
+   It is built by `x86_64-w64-mingw32-gcc -O1 -o play.exe *.c`, or by `cl /O1 /Feplay.exe *.c advapi32.lib`. Each process of the script
+   is a process, each thread a thread, each handle a handle; tools/windows/compare sets the answers beside those of obman. A wait that
+   doesn't end at once is pending; what has to come about by itself is given MS milliseconds, 50 if no number is given.
 
    What it can't show:
    - Handle values, slots, generations and the numbers of processes, threads and waits are the script's: this program keeps a table
@@ -22,7 +21,7 @@
      a name that isn't global has `#` and the session's number behind it; in session 0 it has `Global\` before it.
    - A grant is an access list for everyone, with the same rights for the owner.
    - A worker has a thread of its own beside the script's, and ends when the last of those does. */
-#include "play.h"
+#include "ask.h"
 
 #include <fcntl.h>
 #include <inttypes.h>
@@ -31,57 +30,7 @@
 #include <stdlib.h>
 #include <string.h>
 
-#define ENTRIES 2048
-#define SLOTS 4096
-#define LEAST_SLOTS 64 /* of obman, if nothing else is asked for */
-#define UNKNOWN UINT32_MAX
-#define GRACE 20000 /* milliseconds, after which a call that can't block has gone wrong */
-#define NOWHERE 0x7ffffff0u /* a value that no handle has */
-
-typedef struct {
-    HANDLE real;
-    uint32_t slot; /* of its object */
-    bool is_used;
-} entry;
-
-typedef struct {
-    HANDLE real;
-    seat clerk;
-    bool is_live;
-    uint32_t session, threads;
-    entry entries[ENTRIES];
-} process;
-
-typedef struct {
-    seat seat;
-    bool is_live;
-    uint32_t process;
-    uint32_t wait; /* the number of its wait, pending or answered, or 0 */
-    bool is_pending, has_deadline;
-    uint64_t deadline;
-    uint32_t count, slots[MAXIMUM_WAIT_OBJECTS];
-} thread;
-
-typedef struct {
-    bool is_there, is_due;
-    uint32_t generation, handles;
-    uint64_t path; /* 0 without a name */
-    uint64_t due;
-} object;
-
-static struct {
-    char name[64];
-    desk *desks;
-    DWORD settle;
-    uint64_t now;
-    bool has_pinned;
-    uint32_t processes_given, threads_given, waits_given;
-    process processes[PROCESSES];
-    thread threads[THREADS];
-    object objects[SLOTS];
-} all;
-
-static void stop(const char *why)
+void stop(const char *why)
 {
     uint32_t at;
 
@@ -92,128 +41,6 @@ static void stop(const char *why)
         exit(0);
     fprintf(stderr, "play: %s\n", why);
     exit(1);
-}
-
-static process *process_of(uint32_t number)
-{
-    return number - 1 < all.processes_given ? &all.processes[number - 1] : NULL;
-}
-
-static thread *thread_of(uint32_t number)
-{
-    return number - 1 < all.threads_given ? &all.threads[number - 1] : NULL;
-}
-
-static process *home_of(const thread *of)
-{
-    return &all.processes[of->process - 1];
-}
-
-/* A thread that may make a call: a live one that has no wait. */
-static thread *caller(uint32_t number)
-{
-    thread *of = thread_of(number);
-
-    return of && of->is_live && of->wait == 0 ? of : NULL;
-}
-
-/* The table of handles. */
-
-static entry *entry_of(process *of, uint32_t handle)
-{
-    uint32_t at = handle / 4 - 1;
-
-    return handle >= 4 && at < ENTRIES && of->entries[at].is_used ? &of->entries[at] : NULL;
-}
-
-/* The real handle for one of the script, with the same two lowest bits. */
-static HANDLE real_of(process *of, uint32_t handle)
-{
-    entry *found = of ? entry_of(of, handle) : NULL;
-    uintptr_t value = found ? (uintptr_t)found->real : handle < 4 ? 0 : NOWHERE;
-
-    return (HANDLE)(value | (handle & 3));
-}
-
-static uint32_t place(process *in, HANDLE real, uint32_t slot)
-{
-    uint32_t at = 0;
-
-    while (at < ENTRIES && in->entries[at].is_used)
-        at++;
-    if (at == ENTRIES)
-        stop("too many handles");
-    in->entries[at] = (entry){real, slot, true};
-    if (slot != UNKNOWN)
-        all.objects[slot].handles++;
-    return 4 * at + 4;
-}
-
-static void displace(entry *of)
-{
-    if (of->is_used && of->slot != UNKNOWN)
-        all.objects[of->slot].handles--;
-    of->is_used = false;
-}
-
-/* The table of objects. */
-
-static uint32_t new_slot(uint64_t path)
-{
-    uint32_t at = 0;
-
-    while (at < SLOTS && all.objects[at].is_there)
-        at++;
-    if (at == SLOTS)
-        stop("too many objects");
-    all.objects[at].is_there = true;
-    all.objects[at].is_due = false;
-    all.objects[at].generation++;
-    all.objects[at].path = path;
-    return at;
-}
-
-/* The object that has a name, and then no earlier one has it any more. */
-static uint32_t slot_named(uint64_t path)
-{
-    uint32_t at;
-
-    for (at = 0; at < SLOTS; at++)
-        if (path != 0 && all.objects[at].is_there && all.objects[at].path == path)
-            return at;
-    return UNKNOWN;
-}
-
-static void forget_name(uint64_t path)
-{
-    uint32_t at = slot_named(path);
-
-    if (at != UNKNOWN)
-        all.objects[at].path = 0;
-}
-
-static uint32_t waits_for(uint32_t slot)
-{
-    uint32_t of, at, places = 0;
-
-    for (of = 0; of < all.threads_given; of++)
-        for (at = 0; all.threads[of].is_pending && at < all.threads[of].count; at++)
-            places += all.threads[of].slots[at] == slot;
-    return places;
-}
-
-/* A live process that has a handle to an object, and the handle. */
-static process *holder_of(uint32_t slot, HANDLE *real)
-{
-    uint32_t of, at;
-
-    for (of = 0; of < all.processes_given; of++)
-        for (at = 0; all.processes[of].is_live && at < ENTRIES; at++)
-            if (all.processes[of].entries[at].is_used && all.processes[of].entries[at].slot == slot) {
-                *real = all.processes[of].entries[at].real;
-                return &all.processes[of];
-            }
-    return NULL;
 }
 
 /* Answers. */
@@ -240,83 +67,6 @@ static void print_number(const desk *at, const char *what)
         printf("error %lu\n", at->error);
     else
         printf("%s %lu\n", what, at->value);
-}
-
-/* Asking. */
-
-static bool is_answered(const seat *by, const process *in, DWORD time)
-{
-    HANDLE either[2];
-
-    either[0] = by->done;
-    either[1] = in->real;
-    switch (WaitForMultipleObjects(2, either, FALSE, time)) {
-    case WAIT_OBJECT_0: return true;
-    case WAIT_TIMEOUT: return false;
-    default: stop("a worker has ended"); return false;
-    }
-}
-
-static desk *ask(const seat *whom, const process *in)
-{
-    whom->at->pending = false;
-    SetEvent(whom->go);
-    if (!is_answered(whom, in, GRACE))
-        stop("a worker doesn't answer");
-    return whom->at;
-}
-
-static desk *ask_clerk(process *of, enum verb verb, uint32_t number, HANDLE real)
-{
-    desk *at = of->clerk.at;
-
-    at->asked.verb = verb;
-    at->asked.thread = number;
-    at->real[0] = real;
-    return ask(&of->clerk, of);
-}
-
-/* Lays a call before its thread, with the real handles. */
-static desk *ask_thread(thread *of, const line *call)
-{
-    desk *at = of->seat.at;
-    uint32_t place;
-
-    at->asked = *call;
-    at->asked.count = call->count < WAITED ? call->count : WAITED;
-    for (place = 0; call->verb != VERB_DUP && place < at->asked.count; place++)
-        at->real[place] = real_of(home_of(of), call->handles[place]);
-    return ask(&of->seat, home_of(of));
-}
-
-/* Whether a process has a handle. */
-static bool is_handle(process *of, HANDLE real)
-{
-    return of->is_live && ask_clerk(of, VERB_FLAGS, 0, real)->error == 0;
-}
-
-/* Takes notice of a wait that is answered. */
-static bool is_over(thread *of, DWORD time)
-{
-    if (of->is_pending && is_answered(&of->seat, home_of(of), time))
-        of->is_pending = false;
-    return !of->is_pending;
-}
-
-static void look_at_waits(DWORD time)
-{
-    uint32_t at;
-
-    for (at = 0; at < all.threads_given; at++)
-        is_over(&all.threads[at], time);
-}
-
-static bool expire(thread *of)
-{
-    ask_clerk(home_of(of), VERB_EXPIRE, (uint32_t)(of - all.threads) + 1, NULL);
-    if (!is_over(of, GRACE))
-        stop("a wait doesn't expire");
-    return of->seat.at->error == 0 && of->seat.at->value == WAIT_TIMEOUT;
 }
 
 /* Processes and threads. */
@@ -504,12 +254,10 @@ static void print_opened(const desk *at, process *in, const char *how)
         printf("error %lu\n", at->error);
         return;
     }
-    if (strcmp(how, "new") == 0) {
-        forget_name(at->path);
+    if (strcmp(how, "new") == 0)
         slot = new_slot(at->path);
-    } else {
+    else
         slot = slot_named(at->path);
-    }
     print_made(place(in, at->made, slot), how, slot);
 }
 
