@@ -1,7 +1,6 @@
 #include "ask.h"
 
-bool is_answered(const seat *by, const process *in, DWORD time)
-{
+bool is_answered(const seat *by, const process *in, DWORD time) {
     HANDLE either[2];
 
     either[0] = by->done;
@@ -13,8 +12,7 @@ bool is_answered(const seat *by, const process *in, DWORD time)
     }
 }
 
-static desk *ask(const seat *whom, const process *in)
-{
+static desk *ask(const seat *whom, const process *in) {
     whom->at->pending = false;
     SetEvent(whom->go);
     if (!is_answered(whom, in, GRACE))
@@ -22,8 +20,7 @@ static desk *ask(const seat *whom, const process *in)
     return whom->at;
 }
 
-desk *ask_clerk(process *of, enum verb verb, uint32_t number, HANDLE real)
-{
+desk *ask_clerk(process *of, enum verb verb, uint32_t number, HANDLE real) {
     desk *at = of->clerk.at;
 
     at->asked.verb = verb;
@@ -32,8 +29,7 @@ desk *ask_clerk(process *of, enum verb verb, uint32_t number, HANDLE real)
     return ask(&of->clerk, of);
 }
 
-desk *ask_thread(thread *of, const line *call)
-{
+desk *ask_thread(thread *of, const line *call) {
     desk *at = of->seat.at;
     uint32_t place;
 
@@ -44,28 +40,22 @@ desk *ask_thread(thread *of, const line *call)
     return ask(&of->seat, home_of(of));
 }
 
-bool is_handle(process *of, HANDLE real)
-{
-    return of->is_live && ask_clerk(of, VERB_FLAGS, 0, real)->error == 0;
-}
+bool is_handle(process *of, HANDLE real) { return of->is_live && ask_clerk(of, VERB_FLAGS, 0, real)->error == 0; }
 
-bool is_over(thread *of, DWORD time)
-{
+bool is_over(thread *of, DWORD time) {
     if (of->is_pending && is_answered(&of->seat, home_of(of), time))
         of->is_pending = false;
     return !of->is_pending;
 }
 
-void look_at_waits(DWORD time)
-{
+void look_at_waits(DWORD time) {
     uint32_t at;
 
     for (at = 0; at < all.threads_given; at++)
         is_over(&all.threads[at], time);
 }
 
-bool expire(thread *of)
-{
+bool expire(thread *of) {
     ask_clerk(home_of(of), VERB_EXPIRE, (uint32_t)(of - all.threads) + 1, NULL);
     if (!is_over(of, GRACE))
         stop("a wait doesn't expire");

@@ -2,23 +2,25 @@
 
        play [--settle MS] < SCRIPT > ANSWERS
 
-   It is built by `x86_64-w64-mingw32-gcc -O1 -o play.exe *.c`, or by `cl /O1 /Feplay.exe *.c advapi32.lib`. Each process of the script
-   is a process, each thread a thread, each handle a handle; tools/windows/compare sets the answers beside those of obman. A wait that
-   doesn't end at once is pending; what has to come about by itself is given MS milliseconds, 50 if no number is given.
+   It is built by `x86_64-w64-mingw32-gcc -O1 -o play.exe *.c`, or by `cl /O1 /Feplay.exe *.c advapi32.lib`. Each
+   process of the script is a process, each thread a thread, each handle a handle; tools/windows/compare sets the
+   answers beside those of obman. A wait that doesn't end at once is pending; what has to come about by itself is given
+   MS milliseconds, 50 if no number is given.
 
    What it can't show:
-   - Handle values, slots, generations and the numbers of processes, threads and waits are the script's: this program keeps a table
-     that gives the least free ones. Nor does it show limits: its own are 128 processes, 512 threads, 4,096 objects and 2,048 handles
-     of a process, and end the run.
-   - `?` stands where Windows has no answer: for `pin`, `unpin`, `card` and `dir`, for calls of a thread that waits or is no more, for
-     processes and waits that are no more, in `count` for waits and the hold, and for an object that isn't the script's own. `reap` is
-     answered by the table, with `?` where it can't be, and always once the script has pinned.
-   - Time is the script's. Timers and waits are kept from their end until a `tick` reaches it; then the timers that are due are set
-     to be due at once, one after another in the order in which they are due, and after them the waits whose time is up end. A timer
-     whose handles are all closed can't be set so, and never comes due.
+   - Handle values, slots, generations and the numbers of processes, threads and waits are the script's: this program
+     keeps a table that gives the least free ones. Nor does it show limits: its own are 128 processes, 512 threads,
+     4,096 objects and 2,048 handles of a process, and end the run.
+   - `?` stands where Windows has no answer: for `pin`, `unpin`, `card` and `dir`, for calls of a thread that waits or
+     is no more, for processes and waits that are no more, in `count` for waits and the hold, and for an object that
+     isn't the script's own. `reap` is answered by the table, with `?` where it can't be and once the script has pinned.
+   - Time is the script's. Timers and waits are kept from their end until a `tick` reaches it; then the timers that are
+     due are set to be due at once, one after another in the order in which they are due, and after them the waits whose
+     time is up end. A timer whose handles are all closed can't be set so, and never comes due.
    - A wait that expires is ended by an asynchronous procedure call, so it was alertable.
-   - All processes are in the user's one session, which stands for the first session of the script other than 0. In another session
-     a name that isn't global has `#` and the session's number behind it; in session 0 it has `Global\` before it.
+   - All processes are in the user's one session, which stands for the first session of the script other than 0. In
+     another session a name that isn't global has `#` and the session's number behind it; in session 0 it has `Global\`
+     before it.
    - A grant is an access list for everyone, with the same rights for the owner.
    - A worker has a thread of its own beside the script's, and ends when the last of those does. */
 #include "ask.h"
@@ -30,8 +32,8 @@
 #include <stdlib.h>
 #include <string.h>
 
-void stop(const char *why)
-{
+void stop(const char *why) {
+    DWORD error = GetLastError();
     uint32_t at;
 
     for (at = 0; at < all.processes_given; at++)
@@ -39,30 +41,27 @@ void stop(const char *why)
     fflush(stdout);
     if (!why)
         exit(0);
-    fprintf(stderr, "play: %s\n", why);
+    fprintf(stderr, "play: %s (the last error was %lu)\n", why, error);
     exit(1);
 }
 
 /* Answers. */
 
-static void print_made(uint32_t handle, const char *how, uint32_t slot)
-{
+static void print_made(uint32_t handle, const char *how, uint32_t slot) {
     if (slot == UNKNOWN)
         printf("h%" PRIu32 " %s ?\n", handle, how);
     else
         printf("h%" PRIu32 " %s s%" PRIu32 ".%" PRIu32 "\n", handle, how, slot, all.objects[slot].generation);
 }
 
-static void print_done(const desk *at, const char *done)
-{
+static void print_done(const desk *at, const char *done) {
     if (at->error)
         printf("error %lu\n", at->error);
     else
         puts(done);
 }
 
-static void print_number(const desk *at, const char *what)
-{
+static void print_number(const desk *at, const char *what) {
     if (at->error)
         printf("error %lu\n", at->error);
     else
@@ -71,8 +70,7 @@ static void print_number(const desk *at, const char *what)
 
 /* Processes and threads. */
 
-static void add_thread(uint32_t of)
-{
+static void add_thread(uint32_t of) {
     process *in = &all.processes[of - 1];
     thread *made = &all.threads[all.threads_given++];
 
@@ -84,8 +82,7 @@ static void add_thread(uint32_t of)
         stop("no thread can be made");
 }
 
-static process *next_process(uint32_t session)
-{
+static process *next_process(uint32_t session) {
     process *made = &all.processes[all.processes_given];
 
     if (all.processes_given == PROCESSES || all.threads_given == THREADS)
@@ -96,8 +93,7 @@ static process *next_process(uint32_t session)
     return made;
 }
 
-static void begin(process *made)
-{
+static void begin(process *made) {
     all.processes_given++;
     if (!made->real || !is_answered(&made->clerk, made, GRACE))
         stop("no process can be made");
@@ -105,8 +101,7 @@ static void begin(process *made)
     printf("p%" PRIu32 " t%" PRIu32 "\n", all.processes_given, all.threads_given);
 }
 
-static void spawn(const line *call)
-{
+static void spawn(const line *call) {
     process *made = next_process(call->session);
     PROCESS_INFORMATION started = {0};
 
@@ -116,15 +111,13 @@ static void spawn(const line *call)
     begin(made);
 }
 
-static bool is_inherited(process *of, const entry *one)
-{
+static bool is_inherited(process *of, const entry *one) {
     desk *at = one->is_used ? ask_clerk(of, VERB_FLAGS, 0, one->real) : NULL;
 
     return at && at->error == 0 && (at->value & HANDLE_FLAG_INHERIT);
 }
 
-static void child(const line *call)
-{
+static void child(const line *call) {
     thread *by = caller(call->thread);
     process *made, *parent;
     uint32_t at;
@@ -148,8 +141,7 @@ static void child(const line *call)
     begin(made);
 }
 
-static void start_thread(const line *call)
-{
+static void start_thread(const line *call) {
     process *in = process_of(call->process);
 
     if (!in || !in->is_live) {
@@ -162,8 +154,7 @@ static void start_thread(const line *call)
     printf("t%" PRIu32 "\n", all.threads_given);
 }
 
-static void end_thread(thread *of)
-{
+static void end_thread(thread *of) {
     process *in = home_of(of);
     bool is_waiting = !is_over(of, 0);
 
@@ -178,8 +169,7 @@ static void end_thread(thread *of)
     in->threads--;
 }
 
-static void end_process(process *of)
-{
+static void end_process(process *of) {
     uint32_t at;
 
     TerminateProcess(of->real, 0);
@@ -194,8 +184,7 @@ static void end_process(process *of)
         }
 }
 
-static void play_endthread(const line *call)
-{
+static void play_endthread(const line *call) {
     thread *of = thread_of(call->thread);
 
     if (!of || !of->is_live) {
@@ -208,8 +197,7 @@ static void play_endthread(const line *call)
     printf("ended t%" PRIu32 "\n", call->thread);
 }
 
-static void play_exit(const line *call)
-{
+static void play_exit(const line *call) {
     process *of = process_of(call->process);
 
     if (!of || !of->is_live) {
@@ -222,8 +210,7 @@ static void play_exit(const line *call)
 
 /* Calls of threads. */
 
-static uint32_t first_session(void)
-{
+static uint32_t first_session(void) {
     uint32_t at = 0;
 
     while (at < all.processes_given && all.processes[at].session == 0)
@@ -232,12 +219,14 @@ static uint32_t first_session(void)
 }
 
 /* Says in a name which session is meant. */
-static void say_session(line *call, uint32_t session)
-{
-    const bool is_global = strncmp(call->name, "Global\\", 7) == 0, is_local = strncmp(call->name, "Local\\", 6) == 0;
+static void say_session(line *call, uint32_t session) {
+    const bool is_global = strncmp(call->name, "Global\\", 7) == 0;
+    const bool is_local = strncmp(call->name, "Local\\", 6) == 0;
     char old[MOST_BYTES + 1];
 
-    if (!call->has_name || !*call->name || is_global || session == first_session() || strlen(call->name) + 16 > MOST_BYTES)
+    if (!call->has_name || !*call->name || is_global || session == first_session())
+        return;
+    if (strlen(call->name) + 16 > MOST_BYTES)
         return;
     strcpy(old, call->name);
     if (session == 0)
@@ -246,8 +235,7 @@ static void say_session(line *call, uint32_t session)
         sprintf(call->name, "%s#%" PRIu32, old, session);
 }
 
-static void print_opened(const desk *at, process *in, const char *how)
-{
+static void print_opened(const desk *at, process *in, const char *how) {
     uint32_t slot;
 
     if (at->error) {
@@ -261,8 +249,7 @@ static void print_opened(const desk *at, process *in, const char *how)
     print_made(place(in, at->made, slot), how, slot);
 }
 
-static void open_or_create(thread *by, line *call)
-{
+static void open_or_create(thread *by, line *call) {
     desk *at;
 
     say_session(call, home_of(by)->session);
@@ -271,8 +258,7 @@ static void open_or_create(thread *by, line *call)
 }
 
 /* Gives a worker a handle to a process for a while. */
-static HANDLE lend(const process *of, const process *to)
-{
+static HANDLE lend(const process *of, const process *to) {
     HANDLE lent;
 
     if (!of || !DuplicateHandle(GetCurrentProcess(), of->real, to->real, &lent, 0, FALSE, DUPLICATE_SAME_ACCESS))
@@ -280,16 +266,16 @@ static HANDLE lend(const process *of, const process *to)
     return lent;
 }
 
-static void take_back(HANDLE lent, const process *from)
-{
-    HANDLE back;
+static void take_back(HANDLE lent, const process *from) {
+    HANDLE self = GetCurrentProcess(), back;
 
-    if (lent && lent != (HANDLE)(uintptr_t)NOWHERE && DuplicateHandle(from->real, lent, GetCurrentProcess(), &back, 0, FALSE, DUPLICATE_SAME_ACCESS | DUPLICATE_CLOSE_SOURCE))
+    if (!lent || lent == (HANDLE)(uintptr_t)NOWHERE)
+        return;
+    if (DuplicateHandle(from->real, lent, self, &back, 0, FALSE, DUPLICATE_SAME_ACCESS | DUPLICATE_CLOSE_SOURCE))
         CloseHandle(back);
 }
 
-static void print_duplicate(const desk *at, const line *call, process *to, uint32_t slot)
-{
+static void print_duplicate(const desk *at, const line *call, process *to, uint32_t slot) {
     if (at->error)
         printf("error %lu\n", at->error);
     else if (!call->has_target)
@@ -298,9 +284,14 @@ static void print_duplicate(const desk *at, const line *call, process *to, uint3
         print_made(place(to, at->made, slot), "dup", slot);
 }
 
-static void duplicate(thread *by, const line *call)
-{
-    process *home = home_of(by), *from = process_of(call->source), *to = call->has_target ? process_of(call->target) : NULL;
+/* Whether a copy has its source's value and so has taken its place, as it may where the source is closed. */
+static bool is_replaced(const desk *at, const entry *source, bool is_within) {
+    return is_within && at->error == 0 && at->made == source->real;
+}
+
+static void duplicate(thread *by, const line *call) {
+    process *home = home_of(by), *from = process_of(call->source);
+    process *to = call->has_target ? process_of(call->target) : NULL;
     entry *source = from ? entry_of(from, call->handles[0]) : NULL;
     desk *at = by->seat.at;
 
@@ -312,13 +303,11 @@ static void duplicate(thread *by, const line *call)
     take_back(at->source, home);
     take_back(at->target, home);
     print_duplicate(at, call, to, source ? source->slot : UNKNOWN);
-    /* where the copy has the source's value it has taken its place */
-    if (source && call->close_source && ((from == to && at->error == 0 && at->made == source->real) || !is_handle(from, source->real)))
+    if (source && call->close_source && (is_replaced(at, source, from == to) || !is_handle(from, source->real)))
         displace(source);
 }
 
-static void close_handle(thread *by, const line *call)
-{
+static void close_handle(thread *by, const line *call) {
     entry *closed = entry_of(home_of(by), call->handles[0]);
     desk *at = ask_thread(by, call);
 
@@ -328,13 +317,9 @@ static void close_handle(thread *by, const line *call)
 }
 
 /* The moment that a timer is set to: below 0 it is from now. */
-static uint64_t moment_of(int64_t due)
-{
-    return due < 0 ? all.now + (0 - (uint64_t)due) : (uint64_t)due;
-}
+static uint64_t moment_of(int64_t due) { return due < 0 ? all.now + (0 - (uint64_t)due) : (uint64_t)due; }
 
-static void set_timer(thread *by, line *call)
-{
+static void set_timer(thread *by, line *call) {
     uint64_t due = moment_of(call->moment);
     entry *timer = entry_of(home_of(by), call->handles[0]);
     desk *at;
@@ -350,8 +335,7 @@ static void set_timer(thread *by, line *call)
     print_done(at, "done");
 }
 
-static void cancel_timer(thread *by, const line *call)
-{
+static void cancel_timer(thread *by, const line *call) {
     entry *timer = entry_of(home_of(by), call->handles[0]);
     desk *at = ask_thread(by, call);
 
@@ -360,8 +344,7 @@ static void cancel_timer(thread *by, const line *call)
     print_done(at, "done");
 }
 
-static void wait_for(thread *by, const line *call)
-{
+static void wait_for(thread *by, const line *call) {
     desk *at = ask_thread(by, call);
     entry *waited;
 
@@ -381,8 +364,7 @@ static void wait_for(thread *by, const line *call)
     printf("pending w%" PRIu32 "\n", by->wait);
 }
 
-static void play_call(line *call)
-{
+static void play_call(line *call) {
     thread *by = caller(call->thread);
 
     if (!by) {
@@ -405,8 +387,7 @@ static void play_call(line *call)
 
 /* Waits and time. */
 
-static thread *waiter(uint32_t wait)
-{
+static thread *waiter(uint32_t wait) {
     uint32_t at;
 
     for (at = 0; wait != 0 && at < all.threads_given; at++)
@@ -415,8 +396,7 @@ static thread *waiter(uint32_t wait)
     return NULL;
 }
 
-static void result(const line *call)
-{
+static void result(const line *call) {
     thread *of = waiter(call->wait);
 
     if (!of) {
@@ -429,8 +409,7 @@ static void result(const line *call)
     }
 }
 
-static void play_expire(const line *call)
-{
+static void play_expire(const line *call) {
     thread *of = waiter(call->wait);
 
     if (!of)
@@ -441,19 +420,21 @@ static void play_expire(const line *call)
         printf("expired w%" PRIu32 "\n", call->wait);
 }
 
+static bool is_due(const object *of) { return of->is_there && of->is_due && of->due <= all.now; }
+
 /* The timer that is due first, at the moment that it is or before it. */
-static uint32_t first_due(void)
-{
+static uint32_t first_due(void) {
     uint32_t at, first = UNKNOWN;
 
     for (at = 0; at < SLOTS; at++)
-        if (all.objects[at].is_there && all.objects[at].is_due && all.objects[at].due <= all.now && (first == UNKNOWN || all.objects[at].due < all.objects[first].due))
+        if (is_due(&all.objects[at]) && (first == UNKNOWN || all.objects[at].due < all.objects[first].due))
             first = at;
     return first;
 }
 
-static void tick(const line *call)
-{
+static bool is_out_of_time(const thread *of) { return of->is_pending && of->has_deadline && of->deadline <= all.now; }
+
+static void tick(const line *call) {
     uint32_t at;
     HANDLE real;
     process *by;
@@ -472,15 +453,14 @@ static void tick(const line *call)
         }
     }
     for (at = 0; at < all.threads_given; at++)
-        if (all.threads[at].is_pending && all.threads[at].has_deadline && all.threads[at].deadline <= all.now && !is_over(&all.threads[at], all.settle))
+        if (is_out_of_time(&all.threads[at]) && !is_over(&all.threads[at], all.settle))
             expire(&all.threads[at]);
     printf("now %" PRIu64 "\n", all.now);
 }
 
 /* What Windows has no name for. */
 
-static void count(const line *call)
-{
+static void count(const line *call) {
     object *of = call->slot < SLOTS ? &all.objects[call->slot] : NULL;
     HANDLE real;
     process *by;
@@ -498,8 +478,7 @@ static void count(const line *call)
         puts("?");
 }
 
-static void reap(const line *call)
-{
+static void reap(const line *call) {
     object *of = call->slot < LEAST_SLOTS ? &all.objects[call->slot] : NULL;
 
     if (!of || !of->is_there) {
@@ -519,8 +498,7 @@ static void reap(const line *call)
         printf("s%" PRIu32 ".%" PRIu32 " freed\n", call->slot, of->generation);
 }
 
-static void play(line *call)
-{
+static void play(line *call) {
     switch (call->verb) {
     case VERB_SPAWN: spawn(call); break;
     case VERB_CHILD: child(call); break;
@@ -545,8 +523,7 @@ static void play(line *call)
 }
 
 /* Reads a line of any length and keeps what a call may have of it. False at the end. */
-static bool next_line(char *text, size_t *length)
-{
+static bool next_line(char *text, size_t *length) {
     int byte = getchar(), before = 0;
     bool is_there = byte != EOF;
 
@@ -560,8 +537,7 @@ static bool next_line(char *text, size_t *length)
     return is_there;
 }
 
-int main(int count_of_words, char **words)
-{
+int main(int count_of_words, char **words) {
     static char text[MOST_BYTES + 2];
     static line call;
     size_t length;

@@ -19,14 +19,14 @@
 typedef struct {
     line asked;
     HANDLE real[WAITED];
-    HANDLE source, target;  /* the processes of a duplicate */
-    bool by_force;          /* a thread that waits is terminated */
-    DWORD error;            /* Win32's number, or 0 */
-    DWORD value;            /* a wait's code, a count, flags, the number of a process */
+    HANDLE source, target; /* the processes of a duplicate */
+    bool by_force; /* a thread that waits is terminated */
+    DWORD error; /* Win32's number, or 0 */
+    DWORD value; /* a wait's code, a count, flags, the number of a process */
     HANDLE made;
     bool existed;
-    uint64_t path;          /* a hash of the whole name of a named object */
-    volatile bool pending;  /* the call is a wait, and blocks */
+    uint64_t path; /* a hash of the whole name of a named object */
+    volatile bool pending; /* the call is a wait, and blocks */
 } desk;
 
 /* The handles to a desk and to its two auto-reset events. */
@@ -42,7 +42,7 @@ seat take_seat(desk *desks, const char *name, unsigned number);
 /* Starts this program once more, as the worker that is a process of the script. */
 BOOL start_worker(const char *name, unsigned player, unsigned process, BOOL inherit, PROCESS_INFORMATION *started);
 
-/* What a worker does until its process ends: its first thread is the clerk, which does what none of the script's threads can. */
+/* What a worker does until its process ends: its first thread is the clerk, who does what no script's thread can. */
 int work(const char *name, unsigned player, unsigned process);
 
 #endif

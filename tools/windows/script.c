@@ -9,10 +9,10 @@ typedef struct {
     bool more;
 } rest;
 
-/* The letters: t, p, w a thread, a process and a wait; s and S a slot and an Id; h and H one handle and any number; n, g, f a session,
-   the mask of flags and the flags; i a count; V and D a moment and a due time; M rights; a, e, o, c the words for a reset, for an
-   event's and a mutex's first state, and for what a child inherits; k a kind; O the options of a create; N those of an open; X what
-   a duplicate has behind its thread; W a wait's mode and timeout. */
+/* The letters: t, p, w a thread, a process and a wait; s and S a slot and an Id; h and H one handle and any number;
+   n, g, f a session, the mask of flags and the flags; i a count; V and D a moment and a due time; M rights; a, e, o, c
+   the words for a reset, for an event's and a mutex's first state, and for what a child inherits; k a kind; O the
+   options of a create; N those of an open; X what a duplicate has behind its thread; W a wait's mode and timeout. */
 static const struct {
     const char *word;
     enum verb verb;
@@ -52,8 +52,7 @@ static const struct {
 };
 
 /* Steps behind a word that ends here. */
-static bool step(rest *of, const char *to)
-{
+static bool step(rest *of, const char *to) {
     if (to < of->end && *to != ' ')
         return false;
     of->more = to < of->end;
@@ -61,8 +60,7 @@ static bool step(rest *of, const char *to)
     return true;
 }
 
-static bool take(rest *of, const char *word)
-{
+static bool take(rest *of, const char *word) {
     size_t length = strlen(word);
 
     if (!of->more || (size_t)(of->end - of->at) < length || memcmp(of->at, word, length) != 0)
@@ -71,15 +69,13 @@ static bool take(rest *of, const char *word)
 }
 
 /* Takes one of two words, and says whether it was the second. */
-static bool either(rest *of, const char *first, const char *second, bool *is_second)
-{
+static bool either(rest *of, const char *first, const char *second, bool *is_second) {
     *is_second = take(of, second);
     return *is_second || take(of, first);
 }
 
 /* The digits at a place, at most so many and with at most this value; where they end, or NULL. */
-static const char *digits(const char *at, const char *end, int most_digits, uint64_t most, uint64_t *number)
-{
+static const char *digits(const char *at, const char *end, int most_digits, uint64_t most, uint64_t *number) {
     const char *start = at;
 
     for (*number = 0; at < end && *at >= '0' && *at <= '9' && at - start < most_digits; at++)
@@ -88,8 +84,7 @@ static const char *digits(const char *at, const char *end, int most_digits, uint
 }
 
 /* A number behind a letter, or behind nothing where the letter is 0. */
-static bool numbered(rest *of, char letter, uint32_t *number)
-{
+static bool numbered(rest *of, char letter, uint32_t *number) {
     uint64_t value;
     const char *at = of->at;
 
@@ -101,8 +96,7 @@ static bool numbered(rest *of, char letter, uint32_t *number)
 }
 
 /* A number with a minus before it if wanted. */
-static bool signed_number(rest *of, int most_digits, uint64_t most, int64_t *number)
-{
+static bool signed_number(rest *of, int most_digits, uint64_t most, int64_t *number) {
     uint64_t value;
     const char *at = of->at;
     bool is_below = of->more && at < of->end && *at == '-';
@@ -114,8 +108,7 @@ static bool signed_number(rest *of, int most_digits, uint64_t most, int64_t *num
     return at && step(of, at);
 }
 
-static bool rights(rest *of, uint32_t *mask)
-{
+static bool rights(rest *of, uint32_t *mask) {
     const char *at = of->at + 2;
     const char *hex;
     static const char all[] = "0123456789abcdef";
@@ -131,8 +124,7 @@ static bool rights(rest *of, uint32_t *mask)
     return at > of->at + 2 && step(of, at);
 }
 
-static bool id(rest *of, line *read)
-{
+static bool id(rest *of, line *read) {
     uint64_t slot, generation;
     const char *at = of->at;
 
@@ -147,21 +139,18 @@ static bool id(rest *of, line *read)
     return at && step(of, at);
 }
 
-static bool handle(rest *of, line *read)
-{
+static bool handle(rest *of, line *read) {
     return read->count < MOST_HANDLES && numbered(of, 'h', &read->handles[read->count++]);
 }
 
-static bool handles(rest *of, line *read)
-{
+static bool handles(rest *of, line *read) {
     while (of->more)
         if (!handle(of, read))
             return false;
     return true;
 }
 
-static bool count(rest *of, line *read)
-{
+static bool count(rest *of, line *read) {
     int64_t number;
     bool is_good = signed_number(of, 10, INT32_MAX, &number);
 
@@ -171,8 +160,7 @@ static bool count(rest *of, line *read)
 }
 
 /* The word 'name' and TEXT, which is all the rest. */
-static bool name(rest *of, line *read)
-{
+static bool name(rest *of, line *read) {
     size_t length;
 
     if (!take(of, "name") || !of->more)
@@ -185,8 +173,7 @@ static bool name(rest *of, line *read)
     return true;
 }
 
-static bool options(rest *of, line *read)
-{
+static bool options(rest *of, line *read) {
     read->inherit = take(of, "inherit");
     read->has_access = take(of, "access");
     if (read->has_access && !rights(of, &read->access))
@@ -197,8 +184,7 @@ static bool options(rest *of, line *read)
     return !of->more || name(of, read);
 }
 
-static bool duplicate(rest *of, line *read)
-{
+static bool duplicate(rest *of, line *read) {
     if (!numbered(of, 'p', &read->source) || !handle(of, read))
         return false;
     read->has_target = !take(of, "-");
@@ -212,8 +198,7 @@ static bool duplicate(rest *of, line *read)
     return true;
 }
 
-static bool mode(rest *of, line *read)
-{
+static bool mode(rest *of, line *read) {
     if (!either(of, "any", "all", &read->all))
         return false;
     if (!take(of, "inf"))
@@ -222,8 +207,7 @@ static bool mode(rest *of, line *read)
     return true;
 }
 
-static bool kind(rest *of, line *read)
-{
+static bool kind(rest *of, line *read) {
     static const char *const words[] = {"event", "mutex", "semaphore", "timer"};
     int at = 0;
 
@@ -233,8 +217,7 @@ static bool kind(rest *of, line *read)
     return at < 4;
 }
 
-static bool part(char letter, rest *of, line *read)
-{
+static bool part(char letter, rest *of, line *read) {
     switch (letter) {
     case 't': return numbered(of, 't', &read->thread);
     case 'p': return numbered(of, 'p', &read->process);
@@ -262,8 +245,7 @@ static bool part(char letter, rest *of, line *read)
     }
 }
 
-static bool call(rest *of, size_t verb, line *read)
-{
+static bool call(rest *of, size_t verb, line *read) {
     const char *letter;
 
     read->verb = verbs[verb].verb;
@@ -274,8 +256,7 @@ static bool call(rest *of, size_t verb, line *read)
     return !of->more;
 }
 
-enum form read_line(const char *text, size_t length, line *read)
-{
+enum form read_line(const char *text, size_t length, line *read) {
     rest of = {text, text + length, true};
     size_t verb;
 

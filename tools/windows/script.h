@@ -46,20 +46,20 @@ typedef struct {
     enum kind kind;
     uint32_t thread, process, wait, slot, generation;
     uint32_t session;
-    bool inherit;             /* the option, and that a child inherits */
-    bool manual;              /* a manual reset */
-    bool initial;             /* set or owned from the first */
-    int32_t integers[2];      /* a semaphore's counts; a release's */
+    bool inherit; /* the option, and that a child inherits */
+    bool manual; /* a manual reset */
+    bool initial; /* set or owned from the first */
+    int32_t integers[2]; /* a semaphore's counts; a release's */
     bool has_access, has_grant, has_name;
     uint32_t access, grant;
     char name[MOST_BYTES + 1];
     bool has_target, same, close_source;
-    uint32_t source, target;  /* the processes of a duplicate */
+    uint32_t source, target; /* the processes of a duplicate */
     uint32_t mask, flags;
-    int64_t moment;           /* of a tick; of a timer, below 0 from now */
+    int64_t moment; /* of a tick; of a timer, below 0 from now */
     bool all;
     uint32_t timeout;
-    uint32_t count;           /* of handles */
+    uint32_t count; /* of handles */
     uint32_t handles[MOST_HANDLES];
 } line;
 

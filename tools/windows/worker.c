@@ -32,15 +32,13 @@ static struct {
     HANDLE threads[THREADS + 1];
 } this;
 
-desk *open_desks(const char *name)
-{
+desk *open_desks(const char *name) {
     HANDLE map = CreateFileMappingA(INVALID_HANDLE_VALUE, NULL, PAGE_READWRITE, 0, DESKS * (DWORD)sizeof(desk), name);
 
     return map ? MapViewOfFile(map, FILE_MAP_ALL_ACCESS, 0, 0, 0) : NULL;
 }
 
-seat take_seat(desk *desks, const char *name, unsigned number)
-{
+seat take_seat(desk *desks, const char *name, unsigned number) {
     char event[128];
     seat taken = {&desks[number], NULL, NULL};
 
@@ -51,8 +49,7 @@ seat take_seat(desk *desks, const char *name, unsigned number)
     return taken;
 }
 
-BOOL start_worker(const char *name, unsigned player, unsigned process, BOOL inherit, PROCESS_INFORMATION *started)
-{
+BOOL start_worker(const char *name, unsigned player, unsigned process, BOOL inherit, PROCESS_INFORMATION *started) {
     char program[MAX_PATH], words[MAX_PATH + 256];
     STARTUPINFOA how = {0};
 
@@ -63,8 +60,7 @@ BOOL start_worker(const char *name, unsigned player, unsigned process, BOOL inhe
 }
 
 /* A hash of an object's name with its whole path, so that two handles can be told to be of one object. */
-static uint64_t path_of(HANDLE handle)
-{
+static uint64_t path_of(HANDLE handle) {
     static const ULONG most = 65536 + sizeof(object_name);
     object_name *found = malloc(most);
     uint64_t hash = 14695981039346656037u;
@@ -81,8 +77,8 @@ static uint64_t path_of(HANDLE handle)
     return hash;
 }
 
-/* A grant: an access list by which everyone has these rights. Owners have no more, by the entry for OWNER RIGHTS; since Wine doesn't
-   know that entry the object has there an owner who is nobody. */
+/* A grant: an access list by which everyone has these rights. Owners have no more, by the entry for OWNER RIGHTS; since
+   Wine doesn't know that entry the object has there an owner who is nobody. */
 typedef struct {
     SECURITY_ATTRIBUTES attributes;
     SECURITY_DESCRIPTOR descriptor;
@@ -90,32 +86,33 @@ typedef struct {
     DWORD list[64];
 } security;
 
-static bool make_security(security *made, DWORD grant)
-{
-    SID_IDENTIFIER_AUTHORITY world = {SECURITY_WORLD_SID_AUTHORITY}, creator = {SECURITY_CREATOR_SID_AUTHORITY}, null = {SECURITY_NULL_SID_AUTHORITY};
+static bool make_security(security *made, DWORD grant) {
+    SID_IDENTIFIER_AUTHORITY world = {SECURITY_WORLD_SID_AUTHORITY};
+    SID_IDENTIFIER_AUTHORITY creator = {SECURITY_CREATOR_SID_AUTHORITY};
+    SID_IDENTIFIER_AUTHORITY null = {SECURITY_NULL_SID_AUTHORITY};
     ACL *list = (ACL *)made->list;
 
     return AllocateAndInitializeSid(&world, 1, SECURITY_WORLD_RID, 0, 0, 0, 0, 0, 0, 0, &made->everyone) &&
            AllocateAndInitializeSid(&creator, 1, 4, 0, 0, 0, 0, 0, 0, 0, &made->owner) &&
            AllocateAndInitializeSid(&null, 1, SECURITY_NULL_RID, 0, 0, 0, 0, 0, 0, 0, &made->nobody) &&
-           InitializeAcl(list, sizeof made->list, ACL_REVISION) && AddAccessAllowedAce(list, ACL_REVISION, grant, made->everyone) &&
+           InitializeAcl(list, sizeof made->list, ACL_REVISION) &&
+           AddAccessAllowedAce(list, ACL_REVISION, grant, made->everyone) &&
            AddAccessAllowedAce(list, ACL_REVISION, grant, made->owner) &&
            InitializeSecurityDescriptor(&made->descriptor, SECURITY_DESCRIPTOR_REVISION) &&
            SetSecurityDescriptorDacl(&made->descriptor, TRUE, list, FALSE) &&
            (!this.is_wine || SetSecurityDescriptorOwner(&made->descriptor, made->nobody, FALSE));
 }
 
-static void drop_security(security *made)
-{
+static void drop_security(security *made) {
     FreeSid(made->everyone);
     FreeSid(made->owner);
     FreeSid(made->nobody);
 }
 
-static HANDLE create_object(const line *asked, SECURITY_ATTRIBUTES *how)
-{
+static HANDLE create_object(const line *asked, SECURITY_ATTRIBUTES *how) {
     const char *name = asked->has_name ? asked->name : NULL;
-    DWORD all = asked->kind == KIND_MUTEX ? MUTEX_ALL_ACCESS : EVENT_ALL_ACCESS, access = asked->has_access ? asked->access : all;
+    DWORD all = asked->kind == KIND_MUTEX ? MUTEX_ALL_ACCESS : EVENT_ALL_ACCESS; /* of the other kinds it is the same */
+    DWORD access = asked->has_access ? asked->access : all;
     DWORD reset = asked->manual ? CREATE_EVENT_MANUAL_RESET : 0;
 
     switch (asked->kind) {
@@ -126,8 +123,7 @@ static HANDLE create_object(const line *asked, SECURITY_ATTRIBUTES *how)
     }
 }
 
-static HANDLE open_object(const line *asked)
-{
+static HANDLE open_object(const line *asked) {
     switch (asked->kind) {
     case KIND_EVENT: return OpenEventA(asked->access, asked->inherit, asked->name);
     case KIND_MUTEX: return OpenMutexA(asked->access, asked->inherit, asked->name);
@@ -136,16 +132,14 @@ static HANDLE open_object(const line *asked)
     }
 }
 
-static void keep_made(desk *at, HANDLE made)
-{
+static void keep_made(desk *at, HANDLE made) {
     at->error = made ? 0 : GetLastError();
     at->existed = made && GetLastError() == ERROR_ALREADY_EXISTS;
     at->made = made;
     at->path = made && at->asked.has_name ? path_of(made) : 0;
 }
 
-static void create(desk *at)
-{
+static void create(desk *at) {
     security how = {{sizeof how.attributes, NULL, at->asked.inherit}, {0}, NULL, NULL, NULL, {0}};
 
     if (at->asked.has_grant) {
@@ -161,16 +155,17 @@ static void create(desk *at)
         drop_security(&how);
 }
 
-static BOOL duplicate(desk *at)
-{
-    DWORD options = (at->asked.same ? DUPLICATE_SAME_ACCESS : 0u) | (at->asked.close_source ? DUPLICATE_CLOSE_SOURCE : 0u);
+static BOOL duplicate(desk *at) {
+    DWORD options = at->asked.same ? DUPLICATE_SAME_ACCESS : 0;
 
+    if (at->asked.close_source)
+        options |= DUPLICATE_CLOSE_SOURCE;
     at->made = NULL;
-    return DuplicateHandle(at->source, at->real[0], at->target, &at->made, at->asked.access, at->asked.inherit, options);
+    return DuplicateHandle(at->source, at->real[0], at->target, &at->made, at->asked.access, at->asked.inherit,
+                           options);
 }
 
-static BOOL release(desk *at)
-{
+static BOOL release(desk *at) {
     LONG before = 0;
     BOOL is_done = ReleaseSemaphore(at->real[0], at->asked.integers[1], &before);
 
@@ -178,18 +173,16 @@ static BOOL release(desk *at)
     return is_done;
 }
 
-static BOOL set_timer(HANDLE timer, bool is_due)
-{
+static BOOL set_timer(HANDLE timer, bool is_due) {
     LARGE_INTEGER due;
 
     due.QuadPart = is_due ? 0 : FAR_FROM_NOW;
     return SetWaitableTimer(timer, &due, 0, NULL, NULL, FALSE);
 }
 
-/* A wait is tried once without waiting, so that it is known whether it blocks, and only then does it: nobody else makes a call between
-   the two. It ends by a call of its thread's own where it expires. */
-static void wait_for(const seat *here)
-{
+/* A wait is tried once without waiting, so that it is known whether it blocks, and only then does it: nobody else makes
+   a call between the two. Where it expires it ends by a procedure call. */
+static void wait_for(const seat *here) {
     desk *at = here->at;
     DWORD code;
 
@@ -204,13 +197,9 @@ static void wait_for(const seat *here)
     at->value = code == WAIT_IO_COMPLETION ? WAIT_TIMEOUT : code;
 }
 
-static void told(desk *at, BOOL is_done)
-{
-    at->error = is_done ? 0 : GetLastError();
-}
+static void told(desk *at, BOOL is_done) { at->error = is_done ? 0 : GetLastError(); }
 
-static void make_call(const seat *here)
-{
+static void make_call(const seat *here) {
     desk *at = here->at;
 
     switch (at->asked.verb) {
@@ -230,8 +219,7 @@ static void make_call(const seat *here)
     }
 }
 
-static DWORD WINAPI script_thread(void *number)
-{
+static DWORD WINAPI script_thread(void *number) {
     seat here = take_seat(this.desks, this.name, PROCESSES + (unsigned)(uintptr_t)number - 1);
 
     SetEvent(here.done);
@@ -244,16 +232,14 @@ static DWORD WINAPI script_thread(void *number)
     }
 }
 
-static void start_thread(desk *at)
-{
+static void start_thread(desk *at) {
     unsigned number = at->asked.thread;
 
     this.threads[number] = CreateThread(NULL, 0, script_thread, (void *)(uintptr_t)number, 0, NULL);
     told(at, this.threads[number] != NULL);
 }
 
-static void end_thread(desk *at)
-{
+static void end_thread(desk *at) {
     HANDLE thread = this.threads[at->asked.thread];
 
     if (at->by_force)
@@ -263,8 +249,7 @@ static void end_thread(desk *at)
     at->error = 0;
 }
 
-static void start_child(desk *at)
-{
+static void start_child(desk *at) {
     PROCESS_INFORMATION started;
     BOOL is_started = start_worker(this.name, this.player, at->asked.process, at->asked.inherit, &started);
 
@@ -276,13 +261,9 @@ static void start_child(desk *at)
     CloseHandle(started.hProcess);
 }
 
-static void WINAPI end_wait(ULONG_PTR unused)
-{
-    (void)unused;
-}
+static void WINAPI end_wait(ULONG_PTR unused) { (void)unused; }
 
-static void count_handles(desk *at)
-{
+static void count_handles(desk *at) {
     basic found;
 
     at->error = this.query(at->real[0], OBJECT_BASIC, &found, sizeof found, NULL) == 0 ? 0 : ERROR_INVALID_HANDLE;
@@ -290,19 +271,19 @@ static void count_handles(desk *at)
 }
 
 /* Lets a timer come due, though the handle may not have the right to. */
-static void fire(desk *at)
-{
+static void fire(desk *at) {
     HANDLE self = GetCurrentProcess(), other;
 
     told(at, set_timer(at->real[0], true));
-    if (at->error != ERROR_ACCESS_DENIED || !DuplicateHandle(self, at->real[0], self, &other, TIMER_MODIFY_STATE, FALSE, 0))
+    if (at->error != ERROR_ACCESS_DENIED)
+        return;
+    if (!DuplicateHandle(self, at->real[0], self, &other, TIMER_MODIFY_STATE, FALSE, 0))
         return;
     told(at, set_timer(other, true));
     CloseHandle(other);
 }
 
-static void serve(desk *at)
-{
+static void serve(desk *at) {
     switch (at->asked.verb) {
     case VERB_THREAD: start_thread(at); break;
     case VERB_ENDTHREAD: end_thread(at); break;
@@ -314,8 +295,7 @@ static void serve(desk *at)
     }
 }
 
-int work(const char *name, unsigned player, unsigned process)
-{
+int work(const char *name, unsigned player, unsigned process) {
     HMODULE native = GetModuleHandleA("ntdll.dll");
     HANDLE either[2];
     seat here;
