@@ -210,6 +210,7 @@ static void play_exit(const line *call) {
 
 /* Calls of threads. */
 
+/* The first session other than 0, where there is one. */
 static uint32_t first_session(void) {
     uint32_t at = 0;
 
@@ -224,14 +225,12 @@ static void say_session(line *call, uint32_t session) {
     const bool is_local = strncmp(call->name, "Local\\", 6) == 0;
     char old[MOST_BYTES + 1];
 
-    if (!call->has_name || !*call->name || is_global || session == first_session())
-        return;
-    if (strlen(call->name) + 16 > MOST_BYTES)
+    if (!call->has_name || !*call->name || is_global || strlen(call->name) + 16 > MOST_BYTES)
         return;
     strcpy(old, call->name);
     if (session == 0)
         sprintf(call->name, "Global\\%s", old + (is_local ? 6 : 0));
-    else
+    else if (session != first_session())
         sprintf(call->name, "%s#%" PRIu32, old, session);
 }
 
@@ -545,7 +544,11 @@ int main(int count_of_words, char **words) {
 
     if (count_of_words == 5 && strcmp(words[1], "--worker") == 0)
         return work(words[2], (unsigned)atoi(words[3]), (unsigned)atoi(words[4]));
-    all.settle = count_of_words == 3 && strcmp(words[1], "--settle") == 0 ? (DWORD)atoi(words[2]) : 50;
+    if (count_of_words != 1 && (count_of_words != 3 || strcmp(words[1], "--settle") != 0)) {
+        fprintf(stderr, "usage: play [--settle MS] < SCRIPT > ANSWERS\n");
+        return 2;
+    }
+    all.settle = count_of_words == 3 ? (DWORD)atoi(words[2]) : 50;
     sprintf(all.name, "obman-play-%lu", GetCurrentProcessId());
     all.desks = open_desks(all.name);
     if (!all.desks)

@@ -26,7 +26,7 @@ typedef struct {
 static struct {
     desk *desks;
     const char *name;
-    unsigned player, process;
+    unsigned player;
     query_object query;
     bool is_wine;
     HANDLE threads[THREADS + 1];
@@ -302,7 +302,6 @@ int work(const char *name, unsigned player, unsigned process) {
 
     this.name = name;
     this.player = player;
-    this.process = process;
     this.desks = open_desks(name);
     this.query = (query_object)(void (*)(void))GetProcAddress(native, "NtQueryObject");
     this.is_wine = GetProcAddress(native, "wine_get_version") != NULL;
