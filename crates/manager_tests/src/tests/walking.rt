@@ -41,6 +41,8 @@ enum Ask {
     Member(u32, Option<u32>, Option<u32>),
     /// The session of a process.
     Session(u32, Option<u32>),
+    /// What a wait is for: its thread, its mode, its deadline and its objects.
+    WaitedFor(u32, Option<(u32, Mode, Option<u64>, &'static [Id])>),
     /// The moment that it is.
     Now(u64),
 }
@@ -60,6 +62,23 @@ fn has_handle<K: PinKeeper>(
     }
 }
 
+fn is_for<K: PinKeeper>(
+    manager: &Manager<K>,
+    wait: u32,
+    due: Option<(u32, Mode, Option<u64>, &[Id])>,
+) -> bool {
+    match (manager.objects_waited_for(wait), due) {
+        (Some(pending), Some((thread, mode, deadline, ids))) => {
+            pending.thread == thread
+                && pending.mode == mode
+                && pending.deadline == deadline
+                && pending.ids == ids
+        }
+        (None, None) => true,
+        _ => false,
+    }
+}
+
 /// Whether a manager says what is due.
 fn says<K: PinKeeper>(manager: &Manager<K>, ask: Ask) -> bool {
     match ask {
@@ -73,6 +92,7 @@ fn says<K: PinKeeper>(manager: &Manager<K>, ask: Ask) -> bool {
             manager.process_of(thread) == process && manager.wait_of(thread) == wait
         }
         Ask::Session(process, due) => manager.session_of(process) == due,
+        Ask::WaitedFor(wait, due) => is_for(manager, wait, due),
         Ask::Now(due) => manager.now() == due,
     }
 }
@@ -196,6 +216,7 @@ const WALKS: &[Scene<'static>] = &[
         Ask::Thread(1, 0, Some(1)), Ask::Thread(1, 1, Some(3)), Ask::Thread(1, 2, Some(3)), Ask::Thread(1, 3, Some(4)),
         Ask::Thread(1, 4, None),
         Ask::Thread(2, 0, Some(2)), Ask::Thread(2, 2, None), Ask::Thread(3, u32::MAX, None),
+        Ask::WaitedFor(0, None), Ask::WaitedFor(1, Some((3, Mode::Any, None, &[FIRST]))), Ask::WaitedFor(2, None),
         Ask::Member(3, Some(1), Some(1)), Ask::Member(2, Some(2), None), Ask::Member(6, None, None),
         Ask::Handle(1, 0, Some((4, FIRST, 0))), Ask::Handle(1, 4, Some((8, SECOND, 0))),
         Ask::Handle(1, 9, Some((12, THIRD, 1))),
@@ -203,12 +224,17 @@ const WALKS: &[Scene<'static>] = &[
         Ask::Handle(3, 0, Some((12, THIRD, 1))),
      ]),
     (&[
+        (WaitFor { thread: 4, mode: Mode::All, timeout: Timeout::Millis(2), handles: &[12, 4] }, Pending { wait: 2 }),
+     ], &[Ask::WaitedFor(2, Some((4, Mode::All, Some(20_000), &[THIRD, FIRST])))]),
+    (&[
+        (SetEvent { thread: 1, handle: 4 }, Done),
         (CloseHandle { thread: 1, handle: 8 }, Closed),
         (EndThread { thread: 3 }, Ended { thread: 3 }),
         (Exit { process: 2 }, Exited { process: 2 }),
      ], &[
         Ask::Process(1, Some(3)), Ask::Thread(1, 1, Some(4)), Ask::Thread(2, 0, None),
         Ask::Handle(1, 4, Some((12, THIRD, 1))),
+        Ask::WaitedFor(1, None), Ask::WaitedFor(2, Some((4, Mode::All, Some(20_000), &[THIRD, FIRST]))),
         Ask::Member(3, None, None), Ask::Session(2, None), Ask::Object(0, Some(FIRST)), Ask::Closing(0, Some(SECOND)),
      ]),
 ];
