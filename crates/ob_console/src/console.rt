@@ -1,9 +1,9 @@
-ghost use Rattle.std.specs.Prelude.{◌≡◌, ◌+◌, ◌<◌, ◌≤◌, ◌^◌, ◌++◌, ◌⊎◌, ◌≢◌, All, [], None, Some, List, ℕ, OnOk, OnErr};
+ghost use Rattle.std.specs.Prelude.{◌≡◌, ◌+◌, ◌<◌, ◌≤◌, ◌^◌, ◌++◌, [], Some, List, ℕ, OnOk, OnErr};
 ghost use Rattle.std.specs.Prelude.{length};
-ghost use Rattle.ob_console.specs.Runs.{IsWithin, AnswersAll, point};
-ghost use Rattle.ob_output.specs.Pending.{IsWritten};
+ghost use Rattle.ob_console.specs.Runs.{IsWithin, point};
+ghost use Rattle.ob_output.specs.Pending.{IsWritten, UsesSink};
 ghost use Rattle.ob_output.specs.Printed.{line_end};
-ghost use Rattle.ob_console.specs.Sessions.{Advances, Session, Finishes, IsFed, IsCutShort};
+ghost use Rattle.ob_console.specs.Sessions.{Advances, Finishes, IsFed, IsCutShort};
 
 use crate::evaluator::Evaluator;
 use ob_manager::Manager;
@@ -57,10 +57,7 @@ impl Console {
             × IsWritten result (W.taken sink.old) (W.taken sink.new) (self.old.pending.bytes
             ++ printed) self.new.pending.bytes }
         ensures lines { self.new.lines ≡ self.old.lines + 1 }
-        ensures calls { W.calls sink.new + self.new.pending.writes_left
-            ≡ W.calls sink.old + self.old.pending.writes_left }
-        ensures faults { W.faults sink.old ≤ W.faults sink.new }
-        ensures cause { OnErr result ((W.faults sink.old < W.faults sink.new) ⊎ (self.new.pending.writes_left ≡ 0)) }
+        ensures sink { UsesSink W.calls W.faults result sink.old sink.new self.old.pending self.new.pending }
     {
         if self.held.is_empty() {
             return self.evaluator.answer(sink, end);
@@ -78,10 +75,7 @@ impl Console {
         ensures ok { OnOk result (IsFed self.old self.new block.now [] (W.taken sink.old) (W.taken sink.new)) }
         ensures err { OnErr result (IsCutShort self.old self.new block.now (W.taken sink.old) (W.taken sink.new)) }
         ensures lines { self.new.lines ≤ self.old.lines + length block.now }
-        ensures calls { W.calls sink.new + self.new.pending.writes_left
-            ≡ W.calls sink.old + self.old.pending.writes_left }
-        ensures faults { W.faults sink.old ≤ W.faults sink.new }
-        ensures cause { OnErr result ((W.faults sink.old < W.faults sink.new) ⊎ (self.new.pending.writes_left ≡ 0)) }
+        ensures sink { UsesSink W.calls W.faults result sink.old sink.new self.old.pending self.new.pending }
     {
         let mut rest = block;
         while let Some((end, behind)) = ScriptLine::first_of(rest) {
@@ -101,10 +95,7 @@ impl Console {
         ensures written { OnOk result (self.new.pending.bytes ≡ []) }
         ensures err { OnErr result (IsCutShort self.old self.new block.now (W.taken sink.old) (W.taken sink.new)) }
         ensures lines { self.new.lines ≤ self.old.lines + length block.now }
-        ensures calls { W.calls sink.new + self.new.pending.writes_left
-            ≡ W.calls sink.old + self.old.pending.writes_left }
-        ensures faults { W.faults sink.old ≤ W.faults sink.new }
-        ensures cause { OnErr result ((W.faults sink.old < W.faults sink.new) ⊎ (self.new.pending.writes_left ≡ 0)) }
+        ensures sink { UsesSink W.calls W.faults result sink.old sink.new self.old.pending self.new.pending }
     {
         match self.feed(sink, block) {
             Ok(()) => self.evaluator.flush(sink),
@@ -118,10 +109,7 @@ impl Console {
         ensures finishes { (printed : List ℕ) × Finishes self.old printed
             × IsWritten result (W.taken sink.old) (W.taken sink.new) (self.old.pending.bytes
             ++ printed) self.new.pending.bytes }
-        ensures calls { W.calls sink.new + self.new.pending.writes_left
-            ≡ W.calls sink.old + self.old.pending.writes_left }
-        ensures faults { W.faults sink.old ≤ W.faults sink.new }
-        ensures cause { OnErr result ((W.faults sink.old < W.faults sink.new) ⊎ (self.new.pending.writes_left ≡ 0)) }
+        ensures sink { UsesSink W.calls W.faults result sink.old sink.new self.old.pending self.new.pending }
     {
         if self.held.is_empty() {
             return Ok(());
@@ -134,10 +122,7 @@ impl Console {
         requires { self.old.lines < 2 ^ 127 }
         ensures finishes { (printed : List ℕ) × Finishes self.old printed
             × IsWritten result (W.taken sink.old) (W.taken sink.new) (self.old.pending.bytes ++ printed) [] }
-        ensures calls { W.calls sink.new + self.new.pending.writes_left
-            ≡ W.calls sink.old + self.old.pending.writes_left }
-        ensures faults { W.faults sink.old ≤ W.faults sink.new }
-        ensures cause { OnErr result ((W.faults sink.old < W.faults sink.new) ⊎ (self.new.pending.writes_left ≡ 0)) }
+        ensures sink { UsesSink W.calls W.faults result sink.old sink.new self.old.pending self.new.pending }
     {
         match self.last_line(sink) {
             Ok(()) => self.evaluator.flush(sink),

@@ -1,4 +1,4 @@
-ghost use Rattle.std.specs.Prelude.{◌≡◌, ◌+◌, ◌<◌, ◌≤◌, ◌^◌, ◌++◌, ◌⊎◌, List, ℕ, OnErr, OnOk, Some, []};
+ghost use Rattle.std.specs.Prelude.{◌≡◌, ◌+◌, ◌<◌, ◌^◌, ◌++◌, OnErr, OnOk, Some, []};
 ghost use Rattle.ob_store.specs.Directory.{directory_of};
 ghost use Rattle.ob_script.specs.Acts.{Bad, Pin, Unpin, ShowCard, act_in};
 ghost use Rattle.ob_script.specs.Grammar.{act_of};
@@ -6,7 +6,7 @@ ghost use Rattle.ob_script.specs.Held.{act_of_held};
 ghost use Rattle.ob_output.specs.Printed.{printed_names};
 ghost use Rattle.ob_console.specs.Runs.{point};
 ghost use Rattle.ob_console.specs.Sessions.{Enacts};
-ghost use Rattle.ob_output.specs.Pending.{IsWritten};
+ghost use Rattle.ob_output.specs.Pending.{IsWritten, UsesSink};
 ghost use Rattle.ob_output.specs.Devices.{Begins};
 
 use crate::asking::reply_to;
@@ -67,10 +67,7 @@ impl Evaluator {
         ensures prints { Enacts self.old (self.old.lines + 1) (act_of line.now) result (W.taken sink.old)
             (W.taken sink.new) self.new }
         ensures lines { self.new.lines ≡ self.old.lines + 1 }
-        ensures calls { W.calls sink.new + self.new.pending.writes_left
-            ≡ W.calls sink.old + self.old.pending.writes_left }
-        ensures faults { W.faults sink.old ≤ W.faults sink.new }
-        ensures cause { OnErr result ((W.faults sink.old < W.faults sink.new) ⊎ (self.new.pending.writes_left ≡ 0)) }
+        ensures sink { UsesSink W.calls W.faults result sink.old sink.new self.old.pending self.new.pending }
     {
         self.lines += 1;
         self.enact(sink, &act_of::<0>(line))
@@ -82,10 +79,7 @@ impl Evaluator {
         ensures prints { Enacts self.old (self.old.lines + 1) (act_of_held held.now) result (W.taken sink.old)
             (W.taken sink.new) self.new }
         ensures lines { self.new.lines ≡ self.old.lines + 1 }
-        ensures calls { W.calls sink.new + self.new.pending.writes_left
-            ≡ W.calls sink.old + self.old.pending.writes_left }
-        ensures faults { W.faults sink.old ≤ W.faults sink.new }
-        ensures cause { OnErr result ((W.faults sink.old < W.faults sink.new) ⊎ (self.new.pending.writes_left ≡ 0)) }
+        ensures sink { UsesSink W.calls W.faults result sink.old sink.new self.old.pending self.new.pending }
     {
         match held.line() {
             Some(line) => self.answer(sink, &ScriptLine::of(line)),
@@ -104,10 +98,7 @@ impl Evaluator {
         ensures prints { Enacts self.old self.old.lines (act_in act.now) result (W.taken sink.old)
             (W.taken sink.new) self.new }
         ensures lines { self.new.lines ≡ self.old.lines }
-        ensures calls { W.calls sink.new + self.new.pending.writes_left
-            ≡ W.calls sink.old + self.old.pending.writes_left }
-        ensures faults { W.faults sink.old ≤ W.faults sink.new }
-        ensures cause { OnErr result ((W.faults sink.old < W.faults sink.new) ⊎ (self.new.pending.writes_left ≡ 0)) }
+        ensures sink { UsesSink W.calls W.faults result sink.old sink.new self.old.pending self.new.pending }
     {
         match act {
             Act::Nothing => Ok(()),
@@ -129,10 +120,7 @@ impl Evaluator {
     fn refuse<W: Sink>(&mut self, sink: &mut W) -> Result<(), NotWritten>
         ensures prints { Enacts self.old self.old.lines Bad result (W.taken sink.old) (W.taken sink.new) self.new }
         ensures lines { self.new.lines ≡ self.old.lines }
-        ensures calls { W.calls sink.new + self.new.pending.writes_left
-            ≡ W.calls sink.old + self.old.pending.writes_left }
-        ensures faults { W.faults sink.old ≤ W.faults sink.new }
-        ensures cause { OnErr result ((W.faults sink.old < W.faults sink.new) ⊎ (self.new.pending.writes_left ≡ 0)) }
+        ensures sink { UsesSink W.calls W.faults result sink.old sink.new self.old.pending self.new.pending }
     {
         self.output.put(sink, &Answer::BadLine(self.lines))
     }
@@ -143,10 +131,7 @@ impl Evaluator {
     fn pin<W: Sink>(&mut self, sink: &mut W, id: Id) -> Result<(), NotWritten>
         ensures prints { Enacts self.old self.old.lines (Pin id) result (W.taken sink.old) (W.taken sink.new) self.new }
         ensures lines { self.new.lines ≡ self.old.lines }
-        ensures calls { W.calls sink.new + self.new.pending.writes_left
-            ≡ W.calls sink.old + self.old.pending.writes_left }
-        ensures faults { W.faults sink.old ≤ W.faults sink.new }
-        ensures cause { OnErr result ((W.faults sink.old < W.faults sink.new) ⊎ (self.new.pending.writes_left ≡ 0)) }
+        ensures sink { UsesSink W.calls W.faults result sink.old sink.new self.old.pending self.new.pending }
     {
         let answer = pin(&mut self.manager, &mut self.reader, id);
         self.output.put(sink, &Answer::Pinned(id, answer))
@@ -159,10 +144,7 @@ impl Evaluator {
         ensures prints { Enacts self.old self.old.lines (Unpin id) result (W.taken sink.old)
             (W.taken sink.new) self.new }
         ensures lines { self.new.lines ≡ self.old.lines }
-        ensures calls { W.calls sink.new + self.new.pending.writes_left
-            ≡ W.calls sink.old + self.old.pending.writes_left }
-        ensures faults { W.faults sink.old ≤ W.faults sink.new }
-        ensures cause { OnErr result ((W.faults sink.old < W.faults sink.new) ⊎ (self.new.pending.writes_left ≡ 0)) }
+        ensures sink { UsesSink W.calls W.faults result sink.old sink.new self.old.pending self.new.pending }
     {
         let done = unpin(&mut self.reader, id);
         self.output.put(sink, &Answer::Unpinned(id, done))
@@ -175,10 +157,7 @@ impl Evaluator {
         ensures prints { Enacts self.old self.old.lines (ShowCard id) result (W.taken sink.old)
             (W.taken sink.new) self.new }
         ensures lines { self.new.lines ≡ self.old.lines }
-        ensures calls { W.calls sink.new + self.new.pending.writes_left
-            ≡ W.calls sink.old + self.old.pending.writes_left }
-        ensures faults { W.faults sink.old ≤ W.faults sink.new }
-        ensures cause { OnErr result ((W.faults sink.old < W.faults sink.new) ⊎ (self.new.pending.writes_left ≡ 0)) }
+        ensures sink { UsesSink W.calls W.faults result sink.old sink.new self.old.pending self.new.pending }
     {
         let shown = card(&mut self.manager, &mut self.reader, id);
         self.output.put(sink, &Answer::Shown(shown))
@@ -191,10 +170,7 @@ impl Evaluator {
         ensures ok { OnOk result (W.taken sink.new ≡ W.taken sink.old ++ self.old.pending.bytes) }
         ensures empty { OnOk result (self.new.pending.bytes ≡ []) }
         ensures err { OnErr result (Begins (W.taken sink.old) (W.taken sink.new) self.old.pending.bytes) }
-        ensures calls { W.calls sink.new + self.new.pending.writes_left
-            ≡ W.calls sink.old + self.old.pending.writes_left }
-        ensures faults { W.faults sink.old ≤ W.faults sink.new }
-        ensures cause { OnErr result ((W.faults sink.old < W.faults sink.new) ⊎ (self.new.pending.writes_left ≡ 0)) }
+        ensures sink { UsesSink W.calls W.faults result sink.old sink.new self.old.pending self.new.pending }
     {
         self.output.flush(sink)
     }
@@ -208,9 +184,7 @@ fn list<W: Sink>(
 ) -> Result<(), NotWritten>
     ensures written { IsWritten result (W.taken sink.old) (W.taken sink.new)
         (output.old.bytes ++ printed_names (directory_of manager.now.state)) output.new.bytes }
-    ensures calls { W.calls sink.new + output.new.writes_left ≡ W.calls sink.old + output.old.writes_left }
-    ensures faults { W.faults sink.old ≤ W.faults sink.new }
-    ensures cause { OnErr result ((W.faults sink.old < W.faults sink.new) ⊎ (output.new.writes_left ≡ 0)) }
+    ensures sink { UsesSink W.calls W.faults result sink.old sink.new output.old output.new }
 {
     match output.put(sink, &Answer::NameCount(manager.directory_len())) {
         Ok(()) => {}

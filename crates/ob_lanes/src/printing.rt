@@ -1,5 +1,6 @@
-ghost use Rattle.std.specs.Prelude.{◌≡◌, ◌+◌, ◌<◌, ◌≤◌, ◌⊎◌, OnErr};
+ghost use Rattle.std.specs.Prelude.{◌≡◌};
 ghost use Rattle.ob_lanes.specs.Answers.{answer_of};
+ghost use Rattle.ob_output.specs.Pending.{UsesSink};
 
 use ob_output::{Answer, NotWritten, Output, Sink};
 use ob_shared::{Act, Member, Seen};
@@ -26,9 +27,7 @@ fn print_answer<W: Sink>(
     act: Option<&Act>,
     seen: Seen,
 ) -> Result<(), NotWritten>
-    ensures calls { W.calls sink.new + output.new.writes_left ≡ W.calls sink.old + output.old.writes_left }
-    ensures faults { W.faults sink.old ≤ W.faults sink.new }
-    ensures cause { OnErr result ((W.faults sink.old < W.faults sink.new) ⊎ (output.new.writes_left ≡ 0)) }
+    ensures sink { UsesSink W.calls W.faults result sink.old sink.new output.old output.new }
 {
     let Some(act) = act else {
         return Ok(());
@@ -46,9 +45,7 @@ fn print_answers<W: Sink>(
     script: &[Act],
     seen: &[Seen],
 ) -> Result<(), NotWritten>
-    ensures calls { W.calls sink.new + output.new.writes_left ≡ W.calls sink.old + output.old.writes_left }
-    ensures faults { W.faults sink.old ≤ W.faults sink.new }
-    ensures cause { OnErr result ((W.faults sink.old < W.faults sink.new) ⊎ (output.new.writes_left ≡ 0)) }
+    ensures sink { UsesSink W.calls W.faults result sink.old sink.new output.old output.new }
 {
     for (place, answer) in seen.iter().enumerate() {
         print_answer(output, sink, script.get(place), *answer)?;
@@ -62,9 +59,7 @@ pub fn print_members<W: Sink>(
     sink: &mut W,
     members: &[Member],
 ) -> Result<(), NotWritten>
-    ensures calls { W.calls sink.new + output.new.writes_left ≡ W.calls sink.old + output.old.writes_left }
-    ensures faults { W.faults sink.old ≤ W.faults sink.new }
-    ensures cause { OnErr result ((W.faults sink.old < W.faults sink.new) ⊎ (output.new.writes_left ≡ 0)) }
+    ensures sink { UsesSink W.calls W.faults result sink.old sink.new output.old output.new }
 {
     for member in members {
         output.put(sink, &Answer::Lane(member.lane.number()))?;

@@ -1,4 +1,5 @@
 ghost use Rattle.std.specs.Prelude.{◌≡◌, ◌+◌, ◌<◌, ◌≤◌, ◌^◌, ◌⊎◌, IfOk, IsErrOf, OnOk, length};
+ghost use Rattle.ob_output.specs.Pending.{Spends};
 
 use crate::fault::LanesFault;
 use crate::line::is_marked;
@@ -52,9 +53,7 @@ impl Intake {
         requires { self.old.lines < 2 ^ 127 }
         ensures lanes { self.new.scripts.lanes ≡ self.old.scripts.lanes }
         ensures lines { self.new.lines ≡ self.old.lines + 1 }
-        ensures calls { W.calls sink.new + self.new.output.writes_left
-            ≡ W.calls sink.old + self.old.output.writes_left }
-        ensures faults { W.faults sink.old ≤ W.faults sink.new }
+        ensures spends { Spends W.calls W.faults sink.old sink.new self.old.output self.new.output }
         ensures read { IsErrOf result LanesFault.Read → ⊥ }
         ensures write { IsErrOf result LanesFault.Write → (W.faults sink.old < W.faults sink.new)
             ⊎ (self.new.output.writes_left ≡ 0) }
@@ -71,9 +70,7 @@ impl Intake {
         requires { self.old.lines < 2 ^ 127 }
         ensures lanes { self.new.scripts.lanes ≡ self.old.scripts.lanes }
         ensures lines { self.new.lines ≡ self.old.lines + 1 }
-        ensures calls { W.calls sink.new + self.new.output.writes_left
-            ≡ W.calls sink.old + self.old.output.writes_left }
-        ensures faults { W.faults sink.old ≤ W.faults sink.new }
+        ensures spends { Spends W.calls W.faults sink.old sink.new self.old.output self.new.output }
         ensures read { IsErrOf result LanesFault.Read → ⊥ }
         ensures write { IsErrOf result LanesFault.Write → (W.faults sink.old < W.faults sink.new)
             ⊎ (self.new.output.writes_left ≡ 0) }
@@ -89,9 +86,7 @@ impl Intake {
     fn print_bad<W: Sink>(&mut self, sink: &mut W) -> Result<(), LanesFault>
         ensures scripts { self.new.scripts ≡ self.old.scripts }
         ensures lines { self.new.lines ≡ self.old.lines }
-        ensures calls { W.calls sink.new + self.new.output.writes_left
-            ≡ W.calls sink.old + self.old.output.writes_left }
-        ensures faults { W.faults sink.old ≤ W.faults sink.new }
+        ensures spends { Spends W.calls W.faults sink.old sink.new self.old.output self.new.output }
         ensures read { IsErrOf result LanesFault.Read → ⊥ }
         ensures write { IsErrOf result LanesFault.Write → (W.faults sink.old < W.faults sink.new)
             ⊎ (self.new.output.writes_left ≡ 0) }
@@ -130,9 +125,7 @@ impl Reading {
         requires { self.old.intake.lines < 2 ^ 127 }
         ensures lanes { self.new.intake.scripts.lanes ≡ self.old.intake.scripts.lanes }
         ensures lines { self.new.intake.lines ≡ self.old.intake.lines + 1 }
-        ensures calls { W.calls sink.new + self.new.intake.output.writes_left
-            ≡ W.calls sink.old + self.old.intake.output.writes_left }
-        ensures faults { W.faults sink.old ≤ W.faults sink.new }
+        ensures spends { Spends W.calls W.faults sink.old sink.new self.old.intake.output self.new.intake.output }
         ensures read { IsErrOf result LanesFault.Read → ⊥ }
         ensures write { IsErrOf result LanesFault.Write → (W.faults sink.old < W.faults sink.new)
             ⊎ (self.new.intake.output.writes_left ≡ 0) }
@@ -150,9 +143,7 @@ impl Reading {
         requires { self.old.intake.lines < 2 ^ 127 }
         ensures lanes { self.new.intake.scripts.lanes ≡ self.old.intake.scripts.lanes }
         ensures lines { self.new.intake.lines ≡ self.old.intake.lines + 1 }
-        ensures calls { W.calls sink.new + self.new.intake.output.writes_left
-            ≡ W.calls sink.old + self.old.intake.output.writes_left }
-        ensures faults { W.faults sink.old ≤ W.faults sink.new }
+        ensures spends { Spends W.calls W.faults sink.old sink.new self.old.intake.output self.new.intake.output }
         ensures read { IsErrOf result LanesFault.Read → ⊥ }
         ensures write { IsErrOf result LanesFault.Write → (W.faults sink.old < W.faults sink.new)
             ⊎ (self.new.intake.output.writes_left ≡ 0) }
@@ -169,9 +160,7 @@ impl Reading {
         requires { self.old.intake.lines + length block.now < 2 ^ 127 }
         ensures lanes { self.new.intake.scripts.lanes ≡ self.old.intake.scripts.lanes }
         ensures lines { self.new.intake.lines ≤ self.old.intake.lines + length block.now }
-        ensures calls { W.calls sink.new + self.new.intake.output.writes_left
-            ≡ W.calls sink.old + self.old.intake.output.writes_left }
-        ensures faults { W.faults sink.old ≤ W.faults sink.new }
+        ensures spends { Spends W.calls W.faults sink.old sink.new self.old.intake.output self.new.intake.output }
         ensures read { IsErrOf result LanesFault.Read → ⊥ }
         ensures write { IsErrOf result LanesFault.Write → (W.faults sink.old < W.faults sink.new)
             ⊎ (self.new.intake.output.writes_left ≡ 0) }
@@ -192,9 +181,7 @@ impl Reading {
         requires { self.old.intake.lines + length block.now < 2 ^ 127 }
         ensures lanes { self.new.intake.scripts.lanes ≡ self.old.intake.scripts.lanes }
         ensures lines { self.new.intake.lines ≤ self.old.intake.lines + length block.now }
-        ensures calls { W.calls sink.new + self.new.intake.output.writes_left
-            ≡ W.calls sink.old + self.old.intake.output.writes_left }
-        ensures faults { W.faults sink.old ≤ W.faults sink.new }
+        ensures spends { Spends W.calls W.faults sink.old sink.new self.old.intake.output self.new.intake.output }
         ensures read { IsErrOf result LanesFault.Read → ⊥ }
         ensures write { IsErrOf result LanesFault.Write → (W.faults sink.old < W.faults sink.new)
             ⊎ (self.new.intake.output.writes_left ≡ 0) }
@@ -208,9 +195,7 @@ impl Reading {
     fn finish<W: Sink>(&mut self, sink: &mut W) -> Result<(), LanesFault>
         requires { self.old.intake.lines < 2 ^ 127 }
         ensures lanes { self.new.intake.scripts.lanes ≡ self.old.intake.scripts.lanes }
-        ensures calls { W.calls sink.new + self.new.intake.output.writes_left
-            ≡ W.calls sink.old + self.old.intake.output.writes_left }
-        ensures faults { W.faults sink.old ≤ W.faults sink.new }
+        ensures spends { Spends W.calls W.faults sink.old sink.new self.old.intake.output self.new.intake.output }
         ensures read { IsErrOf result LanesFault.Read → ⊥ }
         ensures write { IsErrOf result LanesFault.Write → (W.faults sink.old < W.faults sink.new)
             ⊎ (self.new.intake.output.writes_left ≡ 0) }
@@ -240,9 +225,7 @@ impl Reading {
         ensures write { IsErrOf result LanesFault.Write → (W.faults writer.old < W.faults writer.new)
             ⊎ (self.new.intake.output.writes_left ≡ 0) }
         ensures reads { R.calls reader.new ≤ R.calls reader.old + reads }
-        ensures calls { W.calls writer.new + self.new.intake.output.writes_left
-            ≡ W.calls writer.old + self.old.intake.output.writes_left }
-        ensures faults { W.faults writer.old ≤ W.faults writer.new }
+        ensures spends { Spends W.calls W.faults writer.old writer.new self.old.intake.output self.new.intake.output }
     {
         for i in 0..reads {
             let _turn = i;

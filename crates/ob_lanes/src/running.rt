@@ -1,4 +1,5 @@
-ghost use Rattle.std.specs.Prelude.{◌≡◌, ◌+◌, ◌<◌, ◌≤◌, ◌⊎◌, IfOk, IsErrOf, OnOk, length, vec_len};
+ghost use Rattle.std.specs.Prelude.{◌≡◌, ◌+◌, ◌<◌, ◌≤◌, ◌⊎◌, IfOk, IsErrOf, OnOk, vec_len};
+ghost use Rattle.ob_output.specs.Pending.{Spends};
 
 use crate::fault::LanesFault;
 use crate::members::{drive_all, lanes_of, members_of, room_for, started};
@@ -104,8 +105,7 @@ fn answer_scripts<R: Threads + Wait + Sync, O: Sink>(
     ensures read { IsErrOf result LanesFault.Read → ⊥ }
     ensures write { IsErrOf result LanesFault.Write → (O.faults writer.old < O.faults writer.new)
         ⊎ (output.new.writes_left ≡ 0) }
-    ensures calls { O.calls writer.new + output.new.writes_left ≡ O.calls writer.old + output.old.writes_left }
-    ensures faults { O.faults writer.old ≤ O.faults writer.new }
+    ensures spends { Spends O.calls O.faults writer.old writer.new output.old output.new }
 {
     let mut members = members_of(alloc, shared, readers, scripts)?;
     let lanes = room_for(alloc, members.len())?;
@@ -125,8 +125,7 @@ fn close<O: Sink>(
     ensures read { IsErrOf result LanesFault.Read → ⊥ }
     ensures write { IsErrOf result LanesFault.Write → (O.faults writer.old < O.faults writer.new)
         ⊎ (output.new.writes_left ≡ 0) }
-    ensures calls { O.calls writer.new + output.new.writes_left ≡ O.calls writer.old + output.old.writes_left }
-    ensures faults { O.faults writer.old ≤ O.faults writer.new }
+    ensures spends { Spends O.calls O.faults writer.old writer.new output.old output.new }
 {
     let Some(count) = calls_of(shared, lanes) else {
         output.flush(writer)?;

@@ -1,5 +1,6 @@
 ghost use Rattle.std.specs.Prelude.{◌≡◌, ◌+◌, ◌<◌, ◌≤◌, ◌++◌, ◌⊎◌, [], IfOk, OnOk, OnErr};
 ghost use Rattle.ob_output.specs.Devices.{Begins, Writes};
+ghost use Rattle.ob_output.specs.Pending.{UsesSink};
 ghost use Rattle.ob_output.specs.Printed.{printed, printed_answer};
 
 use crate::answer::Answer;
@@ -47,9 +48,7 @@ impl Output {
             (self.old.bytes ++ printed_answer answer.now) self.new.bytes) }
         ensures err { OnErr result (Begins (W.taken sink.old) (W.taken sink.new)
             (self.old.bytes ++ printed_answer answer.now)) }
-        ensures calls { W.calls sink.new + self.new.writes_left ≡ W.calls sink.old + self.old.writes_left }
-        ensures faults { W.faults sink.old ≤ W.faults sink.new }
-        ensures cause { OnErr result ((W.faults sink.old < W.faults sink.new) ⊎ (self.new.writes_left ≡ 0)) }
+        ensures sink { UsesSink W.calls W.faults result sink.old sink.new self.old self.new }
     {
         if !self.block.has_room() {
             self.flush(sink)?;
@@ -66,9 +65,7 @@ impl Output {
             (self.old.bytes ++ printed reply.now) self.new.bytes) }
         ensures err { OnErr result (Begins (W.taken sink.old) (W.taken sink.new)
             (self.old.bytes ++ printed reply.now)) }
-        ensures calls { W.calls sink.new + self.new.writes_left ≡ W.calls sink.old + self.old.writes_left }
-        ensures faults { W.faults sink.old ≤ W.faults sink.new }
-        ensures cause { OnErr result ((W.faults sink.old < W.faults sink.new) ⊎ (self.new.writes_left ≡ 0)) }
+        ensures sink { UsesSink W.calls W.faults result sink.old sink.new self.old self.new }
     {
         if !self.block.has_room() {
             self.flush(sink)?;
@@ -82,9 +79,7 @@ impl Output {
         ensures ok { OnOk result (W.taken sink.new ≡ W.taken sink.old ++ self.old.bytes) }
         ensures empty { OnOk result (self.new.bytes ≡ []) }
         ensures err { OnErr result (Begins (W.taken sink.old) (W.taken sink.new) self.old.bytes) }
-        ensures calls { W.calls sink.new + self.new.writes_left ≡ W.calls sink.old + self.old.writes_left }
-        ensures faults { W.faults sink.old ≤ W.faults sink.new }
-        ensures cause { OnErr result ((W.faults sink.old < W.faults sink.new) ⊎ (self.new.writes_left ≡ 0)) }
+        ensures sink { UsesSink W.calls W.faults result sink.old sink.new self.old self.new }
     {
         write_all(sink, self.block.as_slice(), &mut self.writes_left)?;
         self.block.clear();

@@ -24,6 +24,8 @@ loop-name-preserved g c = record {
       (g.W.Sink.taken c.args.sink.now) (g.W.Sink.taken c.loop-name.sink) (g.W.Sink.taken c.put-in-loop-name.new.sink) c.args.output.now.bytes c.loop-name.output.bytes c.put-in-loop-name.new.self.bytes
       (subst (λ (left : Rows). IsListed (directory_of c.args.manager.now.state) left (g.W.Sink.taken c.args.sink.now) (g.W.Sink.taken c.loop-name.sink) c.args.output.now.bytes c.loop-name.output.bytes) c.in-Some.ensures.steps c.loop-name.invariant.written)
       c.in-Ok-put.ensures.ok;
-  calls = omega (arith, c.loop-name.invariant.calls, c.in-Ok-put.ensures.calls);
-  faults = omega (arith, c.loop-name.invariant.faults, c.in-Ok-put.ensures.faults);
+  spends = record {
+    made = omega (arith, c.loop-name.invariant.spends.made, c.in-Ok-put.ensures.sink.spends.made);
+    known = omega (arith, c.loop-name.invariant.spends.known, c.in-Ok-put.ensures.sink.spends.known);
+  };
 }

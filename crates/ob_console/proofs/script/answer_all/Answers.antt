@@ -46,8 +46,10 @@ loop-i-preserved g c = elim c.match-read.branch [
         lines = omega (arith, taken.lines, c.loop-i.invariant.lines, c.loop-i.invariant.block, c.read.auto.block, length-take-le w.in-Ok.count c.read.new.block w.in-Ok.ensures.bound, w.in-Ok.ensures.bound);
         reads = omega (arith, w.in-Ok.ensures.calls, c.loop-i.invariant.reads);
         read_faults = omega (arith, w.in-Ok.ensures.faults, c.loop-i.invariant.read_faults);
-        writes = omega (arith, taken.calls, c.loop-i.invariant.writes);
-        write_faults = omega (arith, taken.faults, c.loop-i.invariant.write_faults);
+        spends = record {
+          made = omega (arith, taken.sink.spends.made, c.loop-i.invariant.spends.made);
+          known = omega (arith, taken.sink.spends.known, c.loop-i.invariant.spends.known);
+        };
       })
   | in-Err-Interrupted w ↦
       rw (w.writer-is, w.console-is) (record {
@@ -58,8 +60,7 @@ loop-i-preserved g c = elim c.match-read.branch [
         lines = omega (arith, c.loop-i.invariant.lines);
         reads = omega (arith, w.in-Err-Interrupted.ensures.calls, c.loop-i.invariant.reads);
         read_faults = omega (arith, w.in-Err-Interrupted.ensures.faults, ap (λ (trouble : Trouble). read_faults (Err trouble)) w.in-Err-Interrupted.field-0-is, c.loop-i.invariant.read_faults);
-        writes = c.loop-i.invariant.writes;
-        write_faults = c.loop-i.invariant.write_faults;
+        spends = c.loop-i.invariant.spends;
       })
 ]
 

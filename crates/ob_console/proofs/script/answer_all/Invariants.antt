@@ -1,5 +1,6 @@
 use Rattle.std.proofs.Common.{◌≡◌, ◌+◌, ◌*◌, ◌≤◌, [], length}
 use Rattle.ob_store.specs.declared.limits.Limits.{Limits}
+use Rattle.ob_output.specs.Pending.{Spends}
 use Rattle.ob_console.specs.Sessions.{Session}
 use Rattle.ob_console.proofs.Reading.{IsReading}
 use Rattle.ob_console.proofs.script.answer_all.Given as goal
@@ -12,6 +13,5 @@ invariant-loop-i g l = record {
   lines : l.console.lines ≤ 65536 * l.i;
   reads : g.R.Source.calls l.reader ≡ g.R.Source.calls l.fn.reader + l.i;
   read_faults : g.R.Source.faults l.reader ≡ g.R.Source.faults l.fn.reader;
-  writes : g.W.Sink.calls l.writer + l.console.pending.writes_left ≡ g.W.Sink.calls l.fn.writer + l.fn.console.pending.writes_left;
-  write_faults : g.W.Sink.faults l.fn.writer ≤ g.W.Sink.faults l.writer;
+  spends : Spends g.W.Sink.calls g.W.Sink.faults l.fn.writer l.writer l.fn.console.pending l.console.pending;
 }

@@ -21,8 +21,10 @@ loop-end-preserved g c =
           c.loop-end.invariant.fed c.in-Some.ensures.within
           (subst (λ (end : List ℕ). Advances c.loop-end.self (end ++ line_end) one.0 c.line.new.self) c.in-Some.ensures.before one.1) one.2);
       lines = rw c.in-Some.ensures.behind (omega (arith, c.loop-end.invariant.lines, c.in-Ok.ensures.lines, behind_shorter c.loop-end.rest.now c.in-Some.ensures.within));
-      calls = omega (arith, c.loop-end.invariant.calls, c.in-Ok.ensures.calls);
-      faults = omega (arith, c.loop-end.invariant.faults, c.in-Ok.ensures.faults);
+      spends = record {
+        made = omega (arith, c.loop-end.invariant.spends.made, c.in-Ok.ensures.sink.spends.made);
+        known = omega (arith, c.loop-end.invariant.spends.known, c.in-Ok.ensures.sink.spends.known);
+      };
     }
 
 pub returns-clause-ok : goal.returns-clause-ok

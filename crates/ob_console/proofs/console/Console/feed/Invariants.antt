@@ -1,4 +1,5 @@
-use Rattle.std.proofs.Common.{◌≡◌, ◌+◌, ◌≤◌, length}
+use Rattle.std.proofs.Common.{◌+◌, ◌≤◌, length}
+use Rattle.ob_output.specs.Pending.{Spends}
 use Rattle.ob_console.specs.Sessions.{IsFed}
 use Rattle.ob_console.proofs.console.Console.feed.Given as goal
 
@@ -6,8 +7,7 @@ abbrev pub invariant-loop-end : goal.invariant-loop-end
 invariant-loop-end g l = record {
   fed : IsFed l.fn.self l.self l.block l.rest (g.W.Sink.taken l.fn.sink) (g.W.Sink.taken l.sink);
   lines : l.self.lines + length l.rest ≤ l.fn.self.lines + length l.block;
-  calls : g.W.Sink.calls l.sink + l.self.pending.writes_left ≡ g.W.Sink.calls l.fn.sink + l.fn.self.pending.writes_left;
-  faults : g.W.Sink.faults l.fn.sink ≤ g.W.Sink.faults l.sink;
+  spends : Spends g.W.Sink.calls g.W.Sink.faults l.fn.sink l.sink l.fn.self.pending l.self.pending;
 }
 
 abbrev pub decreases-loop-end : goal.decreases-loop-end

@@ -1,4 +1,5 @@
 use Rattle.std.proofs.Common.{◌≡◌, ◌+◌, ◌*◌, ◌≤◌, length}
+use Rattle.ob_output.specs.Pending.{Spends}
 use Rattle.ob_lanes.proofs.reading.Reading.read_all.Given as goal
 
 abbrev pub invariant-loop-i : goal.invariant-loop-i
@@ -8,6 +9,5 @@ invariant-loop-i g l = record {
   lines : l.self.intake.lines ≤ 65536 * l.i;
   reads : g.R.Source.calls l.reader ≡ g.R.Source.calls l.fn.reader + l.i;
   read_faults : g.R.Source.faults l.reader ≡ g.R.Source.faults l.fn.reader;
-  writes : g.W.Sink.calls l.writer + l.self.intake.output.writes_left ≡ g.W.Sink.calls l.fn.writer + l.fn.self.intake.output.writes_left;
-  write_faults : g.W.Sink.faults l.fn.writer ≤ g.W.Sink.faults l.writer;
+  spends : Spends g.W.Sink.calls g.W.Sink.faults l.fn.writer l.writer l.fn.self.intake.output l.self.intake.output;
 }
