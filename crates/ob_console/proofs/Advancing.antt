@@ -17,25 +17,34 @@ use Rattle.ob_console.proofs.Lines.{has_lines, splits_more, splits_nothing, spli
 use Rattle.ob_console.proofs.Going.{run-append, run_shape, runs_some}
 
 -- what is held and these bytes are one line
-held_act : (rest bytes : List ℕ) (held : Option (List ℕ)) → held ≡ capped rest → act_of_held (more_held held bytes) ≡ act_of (rest ++ bytes)
-held_act rest bytes held is = ap (λ kept. act_of_held (more_held kept bytes)) is ∙ ap act_of_held (more_capped rest bytes) ∙ act_of_capped (rest ++ bytes)
+held_act : (rest bytes : List ℕ) (held : Option (List ℕ)) → held ≡ capped rest
+    → act_of_held (more_held held bytes) ≡ act_of (rest ++ bytes)
+held_act rest bytes held is = ap (λ kept. act_of_held (more_held kept bytes)) is
+    ∙ ap act_of_held (more_capped rest bytes) ∙ act_of_capped (rest ++ bytes)
 
 -- what has a byte is kept as more than nothing, if at all
 not_empty : (byte : ℕ) (rest : List ℕ) → capped (byte ∷ rest) ≡ Some [] → ⊥
-not_empty byte rest is = elim (nat_le (length (byte ∷ rest)) 4097) as (λ test. cond test (Some (byte ∷ rest)) None ≡ Some [] → ⊥) [ true ↦ (λ same. absurd (cc)) | false ↦ (λ same. absurd (cc)) ] is
+not_empty byte rest is = elim (nat_le (length (byte ∷ rest)) 4097) as
+    (λ test. cond test (Some (byte ∷ rest)) None ≡ Some []
+    → ⊥) [ true ↦ (λ same. absurd (cc)) | false ↦ (λ same. absurd (cc)) ] is
 
 -- one more line of output
 concat-push : (outputs : List (List ℕ)) (output : List ℕ) → concat (outputs ++ output ∷ []) ≡ concat outputs ++ output
-concat-push outputs output = concat-append outputs (output ∷ []) ∙ ap (λ back. concat outputs ++ back) (append-nil output)
+concat-push outputs output = concat-append outputs (output ∷ [])
+    ∙ ap (λ back. concat outputs ++ back) (append-nil output)
 
 -- a line ends
-pub line_advances : (old new : ConsoleState) (act : Act) (bytes output : List ℕ) → IsWithin bytes → act ≡ act_of_held (more_held old.held bytes) → Prints old.point (old.lines + 1) act output new.point → new.lines ≡ old.lines + 1 → new.held ≡ Some [] → Advances old (bytes ++ line_end) output new
+pub line_advances : (old new : ConsoleState) (act : Act) (bytes output : List ℕ) → IsWithin bytes
+    → act ≡ act_of_held (more_held old.held bytes) → Prints old.point (old.lines + 1) act output new.point
+    → new.lines ≡ old.lines + 1 → new.held ≡ Some [] → Advances old (bytes ++ line_end) output new
 line_advances old new act bytes output within is prints counted held limits input before session =
     let line = session.rest ++ bytes in
     let of_line : Prints old.point (1 + length session.lines) (act_of line) output new.point =
-    subst (λ a. Prints old.point (1 + length session.lines) a output new.point) (is ∙ held_act session.rest bytes old.held session.held)
+    subst (λ a. Prints old.point (1 + length session.lines) a output new.point) (is
+    ∙ held_act session.rest bytes old.held session.held)
     (subst (λ n. Prints old.point n act output new.point) (omega (arith, session.counted)) prints) in
-    let one : Splits (session.rest ++ (bytes ++ line_end)) (line ∷ []) [] = splits_one session.rest bytes session.splits.open_ended within in
+    let one : Splits (session.rest ++ (bytes ++ line_end)) (line ∷ []) [] =
+    splits_one session.rest bytes session.splits.open_ended within in
     record {
       lines = session.lines ++ line ∷ [];
       rest = [];
@@ -43,14 +52,16 @@ line_advances old new act bytes output within is prints counted held limits inpu
       opens = session.opens;
       outputs = session.outputs ++ output ∷ [];
       splits = splits_on input session.lines session.rest (bytes ++ line_end) (line ∷ []) [] session.splits one;
-      run = run-append session.first 1 session.lines session.outputs old.point (line ∷ []) (output ∷ []) new.point session.run (new.point, of_line, refl);
+      run = run-append session.first 1 session.lines session.outputs old.point (line ∷ [])
+          (output ∷ []) new.point session.run (new.point, of_line, refl);
       whole = ap (λ front. front ++ output) session.whole ∙ sym (concat-push session.outputs output);
       counted = omega (arith, counted, session.counted, length-append session.lines (line ∷ []));
       held = held;
     }
 
 -- a part of a line comes
-pub part_advances : (old new : ConsoleState) (bytes : List ℕ) → IsWithin bytes → new.point ≡ old.point → new.lines ≡ old.lines → new.held ≡ more_held old.held bytes → Advances old bytes [] new
+pub part_advances : (old new : ConsoleState) (bytes : List ℕ) → IsWithin bytes → new.point ≡ old.point
+    → new.lines ≡ old.lines → new.held ≡ more_held old.held bytes → Advances old bytes [] new
 part_advances old new bytes within state_is lines_is held_is limits input before session = record {
   lines = session.lines;
   rest = session.rest ++ bytes;
@@ -65,7 +76,8 @@ part_advances old new bytes within state_is lines_is held_is limits input before
 }
 
 -- one advance after another
-pub advances_on : (a b c : ConsoleState) (first second output more : List ℕ) → Advances a first output b → Advances b second more c → Advances a (first ++ second) (output ++ more) c
+pub advances_on : (a b c : ConsoleState) (first second output more : List ℕ) → Advances a first output b
+    → Advances b second more c → Advances a (first ++ second) (output ++ more) c
 advances_on a b c first second output more one two limits input before session =
     subst (λ bytes. Session limits bytes (before ++ (output ++ more)) c) (append_assoc input first second)
     (subst (λ written. Session limits (input ++ first ++ second) written c) (append_assoc before output more)
@@ -74,10 +86,12 @@ advances_on a b c first second output more one two limits input before session =
 -- nothing comes
 pub advances_none : (a : ConsoleState) → Advances a [] [] a
 advances_none a limits input before session =
-    subst (λ bytes. Session limits bytes (before ++ []) a) (sym (append-nil input)) (subst (λ written. Session limits input written a) (sym (append-nil before)) session)
+    subst (λ bytes. Session limits bytes (before ++ []) a) (sym (append-nil input))
+    (subst (λ written. Session limits input written a) (sym (append-nil before)) session)
 
 -- the opening console
-pub opens : (limits : Limits) (console : ConsoleState) → IsOpening limits console.point → console.lines ≡ 0 → console.held ≡ Some [] → Session limits [] [] console
+pub opens : (limits : Limits) (console : ConsoleState) → IsOpening limits console.point → console.lines ≡ 0
+    → console.held ≡ Some [] → Session limits [] [] console
 opens limits console opening lines_is held_is = record {
   lines = [];
   rest = [];
@@ -92,16 +106,25 @@ opens limits console opening lines_is held_is = record {
 }
 
 -- the complete lines are answered
-pub answers_lines : (limits : Limits) (input output : List ℕ) (console : ConsoleState) → Session limits input output console → AnswersLines limits input output
+pub answers_lines : (limits : Limits) (input output : List ℕ) (console : ConsoleState)
+    → Session limits input output console → AnswersLines limits input output
 answers_lines limits input output console session = record {
   lines = session.lines;
   rest = session.rest;
   splits = session.splits;
-  answers = record { first = session.first; opens = session.opens; outputs = session.outputs; last = console.point; run = session.run; whole = session.whole };
+  answers = record {
+    first = session.first;
+    opens = session.opens;
+    outputs = session.outputs;
+    last = console.point;
+    run = session.run;
+    whole = session.whole;
+  };
 }
 
 -- where nothing is held, the whole input is answered
-pub answers_all : (limits : Limits) (input output : List ℕ) (console : ConsoleState) → console.held ≡ Some [] → Session limits input output console → AnswersAll limits input output
+pub answers_all : (limits : Limits) (input output : List ℕ) (console : ConsoleState) → console.held ≡ Some []
+    → Session limits input output console → AnswersAll limits input output
 answers_all limits input output console held session = record {
   lines = session.lines;
   rest = session.rest;
@@ -111,7 +134,8 @@ answers_all limits input output console held session = record {
     opens = session.opens;
     outputs = session.outputs;
     last = console.point;
-    run = subst (λ lines. Run session.first 1 lines session.outputs console.point) (sym (no_last session.rest (sym session.held ∙ held))) session.run;
+    run = subst (λ lines. Run session.first 1 lines session.outputs console.point)
+        (sym (no_last session.rest (sym session.held ∙ held))) session.run;
     whole = session.whole;
   };
 }
@@ -121,10 +145,13 @@ answers_all limits input output console held session = record {
     no_last (byte ∷ rest) is = absurd (not_empty byte rest is)
 
 -- a last line without a line feed
-pub last_answered : (limits : Limits) (input before output : List ℕ) (old new : ConsoleState) → (old.held ≡ Some [] → ⊥) → Prints old.point (old.lines + 1) (act_of_held old.held) output new.point → Session limits input before old → AnswersAll limits input (before ++ output)
+pub last_answered : (limits : Limits) (input before output : List ℕ) (old new : ConsoleState) → (old.held ≡ Some [] → ⊥)
+    → Prints old.point (old.lines + 1) (act_of_held old.held) output new.point → Session limits input before old
+    → AnswersAll limits input (before ++ output)
 last_answered limits input before output old new some prints session =
     let of_line : Prints old.point (1 + length session.lines) (act_of session.rest) output new.point =
-    subst (λ a. Prints old.point (1 + length session.lines) a output new.point) (ap act_of_held session.held ∙ act_of_capped session.rest)
+    subst (λ a. Prints old.point (1 + length session.lines) a output new.point) (ap act_of_held session.held
+    ∙ act_of_capped session.rest)
     (subst (λ n. Prints old.point n (act_of_held old.held) output new.point) (omega (arith, session.counted)) prints) in
     record {
       lines = session.lines;
@@ -135,8 +162,10 @@ last_answered limits input before output old new some prints session =
         opens = session.opens;
         outputs = session.outputs ++ output ∷ [];
         last = new.point;
-        run = subst (λ last. Run session.first 1 (session.lines ++ last) (session.outputs ++ output ∷ []) new.point) (is_last session.rest session.held)
-            (run-append session.first 1 session.lines session.outputs old.point (session.rest ∷ []) (output ∷ []) new.point session.run (new.point, of_line, refl));
+        run = subst (λ last. Run session.first 1 (session.lines ++ last) (session.outputs ++ output ∷ []) new.point)
+            (is_last session.rest session.held)
+            (run-append session.first 1 session.lines session.outputs old.point (session.rest ∷ [])
+            (output ∷ []) new.point session.run (new.point, of_line, refl));
         whole = ap (λ front. front ++ output) session.whole ∙ sym (concat-push session.outputs output);
       };
     }
@@ -146,12 +175,15 @@ last_answered limits input before output old new some prints session =
     is_last (byte ∷ rest) is = refl
 
 -- whatever comes, the output is the beginning of an answer
-pub answers_part : (limits : Limits) (input output done missing more : List ℕ) (console : ConsoleState) → done ++ missing ≡ output → Session limits input output console → AnswersPart limits (input ++ more) done
+pub answers_part : (limits : Limits) (input output done missing more : List ℕ) (console : ConsoleState)
+    → done ++ missing ≡ output → Session limits input output console → AnswersPart limits (input ++ more) done
 answers_part limits input output done missing more console part session =
     let behind = has_lines (session.rest ++ more) in
     let later = behind.lines ++ last_line behind.rest in
     let pins : 0 < console.point.whole.keeper.shape.max_pins =
-    subst (λ (shape : Shape). 0 < shape.max_pins) (sym (run_shape session.first 1 session.lines session.outputs console.point session.run ∙ session.opens.keeper.shape_is)) limits.in_range.max_pins_in_range.0 in
+    subst (λ (shape : Shape). 0 < shape.max_pins) (sym
+    (run_shape session.first 1 session.lines session.outputs console.point session.run
+    ∙ session.opens.keeper.shape_is)) limits.in_range.max_pins_in_range.0 in
     let on = runs_some console.point (1 + length session.lines) later pins in
     record {
       missing = missing ++ concat on.outputs;
@@ -164,22 +196,31 @@ answers_part limits input output done missing more console part session =
           opens = session.opens;
           outputs = session.outputs ++ on.outputs;
           last = on.last;
-          run = subst (λ lines. Run session.first 1 lines (session.outputs ++ on.outputs) on.last) (sym (append_assoc session.lines behind.lines (last_line behind.rest)))
-              (run-append session.first 1 session.lines session.outputs console.point later on.outputs on.last session.run on.run);
-          whole = sym (append_assoc done missing (concat on.outputs)) ∙ ap (λ front. front ++ concat on.outputs) (part ∙ session.whole) ∙ sym (concat-append session.outputs on.outputs);
+          run = subst (λ lines. Run session.first 1 lines (session.outputs ++ on.outputs) on.last)
+              (sym (append_assoc session.lines behind.lines (last_line behind.rest)))
+              (run-append session.first 1 session.lines session.outputs console.point later on.outputs on.last
+              session.run on.run);
+          whole = sym (append_assoc done missing (concat on.outputs))
+              ∙ ap (λ front. front ++ concat on.outputs) (part ∙ session.whole)
+              ∙ sym (concat-append session.outputs on.outputs);
         };
       };
     }
 
 -- the same, as what a console finishes with
 pub finishes_empty : (console : ConsoleState) → console.held ≡ Some [] → Finishes console []
-finishes_empty console held limits input before session = subst (λ written. AnswersAll limits input written) (sym (append-nil before)) (answers_all limits input before console held session)
+finishes_empty console held limits input before session =
+    subst (λ written. AnswersAll limits input written) (sym (append-nil before))
+    (answers_all limits input before console held session)
 
-pub finishes_line : (old new : ConsoleState) (output : List ℕ) → (old.held ≡ Some [] → ⊥) → Prints old.point (old.lines + 1) (act_of_held old.held) output new.point → Finishes old output
-finishes_line old new output some prints limits input before session = last_answered limits input before output old new some prints session
+pub finishes_line : (old new : ConsoleState) (output : List ℕ) → (old.held ≡ Some [] → ⊥)
+    → Prints old.point (old.lines + 1) (act_of_held old.held) output new.point → Finishes old output
+finishes_line old new output some prints limits input before session =
+    last_answered limits input before output old new some prints session
 
 -- what is pending is apart from what was answered
-pub advances_apart : (old mid new : ConsoleState) (bytes output : List ℕ) → new.point ≡ mid.point → new.held ≡ mid.held → new.lines ≡ mid.lines → Advances old bytes output mid → Advances old bytes output new
+pub advances_apart : (old mid new : ConsoleState) (bytes output : List ℕ) → new.point ≡ mid.point → new.held ≡ mid.held
+    → new.lines ≡ mid.lines → Advances old bytes output mid → Advances old bytes output new
 advances_apart old mid new bytes output state_is held_is lines_is advances limits input before session =
     let after = advances limits input before session in
     record {

@@ -58,27 +58,63 @@ abbrev Rests : Result Outcome Fault → KeeperState → Type 0
 Rests (Ok outcome) k = Keeps outcome.reply outcome.state k k
 Rests (Err fault) k = Unit {0}
 
-rests_behind : {A : Type 0} (k : KeeperState) (r : Result A Fault) (f : A → Result Outcome Fault) → ((x : A) → Rests (f x) k) → Rests (r >>= f) k
+rests_behind : {A : Type 0} (k : KeeperState) (r : Result A Fault) (f : A → Result Outcome Fault)
+    → ((x : A) → Rests (f x) k) → Rests (r >>= f) k
 rests_behind k (Ok x) f rests = rests x
 rests_behind k (Err fault) f rests = tt
 
 -- a call whose outcome is determined
-answered : (w : Whole) (call : Call) (outcome : Result Outcome Fault) → SparesAll call → ((reply : Reply) → outcome_of w.state call reply ≡ outcome) → Rests outcome w.keeper → CanAnswer w call
-answered w call (Ok outcome) spares is rests = record { reply = outcome.reply; next = record { state = outcome.state; keeper = w.keeper }; step = does (ap (final w.state) (is outcome.reply)) rests; spares = λ held. spares held outcome.reply }
-answered w call (Err fault) spares is rests = record { reply = Refused fault; next = w; step = does (ap (final w.state) (is (Refused fault))) refl; spares = λ held. spares held (Refused fault) }
+answered : (w : Whole) (call : Call) (outcome : Result Outcome Fault) → SparesAll call
+    → ((reply : Reply) → outcome_of w.state call reply ≡ outcome) → Rests outcome w.keeper → CanAnswer w call
+answered w call (Ok outcome) spares is rests = record {
+  reply = outcome.reply;
+  next = record { state = outcome.state; keeper = w.keeper };
+  step = does (ap (final w.state) (is outcome.reply)) rests;
+  spares = λ held. spares held outcome.reply;
+}
+answered w call (Err fault) spares is rests = record {
+  reply = Refused fault;
+  next = w;
+  step = does (ap (final w.state) (is (Refused fault))) refl;
+  spares = λ held. spares held (Refused fault);
+}
 
 -- a call that takes memory, where it is wanting
-refused : (w : Whole) (call : Call) (outcome : Result Outcome Fault) → SparesAll call → takes_memory w.state call ≡ true → ((reply : Reply) → outcome_of w.state call reply ≡ outcome) → CanAnswer w call
-refused w call (Ok outcome) spares takes is = record { reply = Refused fault.Memory; next = w; step = lacks takes (ap is_ok (is (Refused fault.Memory))) refl refl; spares = λ held. spares held (Refused fault.Memory) }
-refused w call (Err fault) spares takes is = record { reply = Refused fault; next = w; step = does (ap (final w.state) (is (Refused fault))) refl; spares = λ held. spares held (Refused fault) }
+refused : (w : Whole) (call : Call) (outcome : Result Outcome Fault) → SparesAll call → takes_memory w.state call ≡ true
+    → ((reply : Reply) → outcome_of w.state call reply ≡ outcome) → CanAnswer w call
+refused w call (Ok outcome) spares takes is = record {
+  reply = Refused fault.Memory;
+  next = w;
+  step = lacks takes (ap is_ok (is (Refused fault.Memory))) refl refl;
+  spares = λ held. spares held (Refused fault.Memory);
+}
+refused w call (Err fault) spares takes is = record {
+  reply = Refused fault;
+  next = w;
+  step = does (ap (final w.state) (is (Refused fault))) refl;
+  spares = λ held. spares held (Refused fault);
+}
 
 -- a slot that is reaped may be pinned
 abbrev reaped_as : State → ℕ → Reclaim → Result (Unit {0}) Fault → Result Id Fault → Result Outcome Fault
-reaped_as s slot outcome there ended = there >>= (λ _. ended >>= (λ id. Ok (record { reply = Reaped id outcome; state = settled (after_reclaim s slot outcome) })))
+reaped_as s slot outcome there ended = there >>= (λ _. ended >>=
+    (λ id. Ok (record { reply = Reaped id outcome; state = settled (after_reclaim s slot outcome) })))
 
-held_back : (w : Whole) (slot : ℕ) (there : Result (Unit {0}) Fault) (ended : Result Id Fault) → 0 < w.keeper.shape.max_pins → ((outcome : Reclaim) → reap w.state slot outcome ≡ reaped_as w.state slot outcome there ended) → CanAnswer w (calls.Reap slot)
-held_back w slot (Err fault) ended pins is = record { reply = Refused fault; next = w; step = does (ap (final w.state) (is reclaim.Freed)) refl; spares = λ held. tt }
-held_back w slot (Ok unit) (Err fault) pins is = record { reply = Refused fault; next = w; step = does (ap (final w.state) (is reclaim.Freed)) refl; spares = λ held. tt }
+held_back : (w : Whole) (slot : ℕ) (there : Result (Unit {0}) Fault) (ended : Result Id Fault)
+    → 0 < w.keeper.shape.max_pins → ((outcome : Reclaim)
+    → reap w.state slot outcome ≡ reaped_as w.state slot outcome there ended) → CanAnswer w (calls.Reap slot)
+held_back w slot (Err fault) ended pins is = record {
+  reply = Refused fault;
+  next = w;
+  step = does (ap (final w.state) (is reclaim.Freed)) refl;
+  spares = λ held. tt;
+}
+held_back w slot (Ok unit) (Err fault) pins is = record {
+  reply = Refused fault;
+  next = w;
+  step = does (ap (final w.state) (is reclaim.Freed)) refl;
+  spares = λ held. tt;
+}
 held_back w slot (Ok unit) (Ok id) pins is = record {
   reply = Reaped id (reclaim.Held 1);
   next = record { state = settled (after_reclaim w.state slot (reclaim.Held 1)); keeper = w.keeper };
@@ -87,17 +123,21 @@ held_back w slot (Ok unit) (Ok id) pins is = record {
 }
 
 -- a wait, satisfied or not
-unsatisfied_rests : (s : State) (thread : ℕ) (mode : Mode) (timeout : Timeout) (ids : List Id) (k : KeeperState) → Rests (unsatisfied s thread mode timeout ids) k
+unsatisfied_rests : (s : State) (thread : ℕ) (mode : Mode) (timeout : Timeout) (ids : List Id) (k : KeeperState)
+    → Rests (unsatisfied s thread mode timeout ids) k
 unsatisfied_rests s thread mode timeout ids k = by (is_zero timeout)
   where
-    by : (zero : Bool) → Rests (cond zero (Ok (record { reply = Code 258; state = s })) (pending s thread mode (deadline_in s.clock timeout) ids)) k
+    by : (zero : Bool) → Rests (cond zero (Ok (record { reply = Code 258; state = s }))
+        (pending s thread mode (deadline_in s.clock timeout) ids)) k
     by true = refl
     by false = rests_behind k (refuse_if (are_waits_given s) fault.Limit) _ (λ given. refl)
 
-wait_rests : (s : State) (thread : ℕ) (mode : Mode) (timeout : Timeout) (ids : List Id) (k : KeeperState) → Rests (wait_on s thread mode timeout ids) k
+wait_rests : (s : State) (thread : ℕ) (mode : Mode) (timeout : Timeout) (ids : List Id) (k : KeeperState)
+    → Rests (wait_on s thread mode timeout ids) k
 wait_rests s thread mode timeout ids k =
     rests_behind k (refuse_if (is_for_one_twice mode ids) fault.Parameter) _ (λ once.
-    rests_behind k (refuse_if (not (have_room s thread ids)) fault.Limit) _ (λ room. by (list_ready mode thread s.bodies ids)))
+    rests_behind k (refuse_if (not (have_room s thread ids)) fault.Limit) _
+    (λ room. by (list_ready mode thread s.bodies ids)))
   where
     by : (ready : Bool) → Rests (cond ready (satisfied s thread mode ids) (unsatisfied s thread mode timeout ids)) k
     by true = refl
@@ -108,16 +148,23 @@ shown_rests s number stands.Pending k = refl
 shown_rests s number (stands.Answered code) k = refl
 
 -- a duplicate, which may close its source
-copy_rests : (s : State) (entry : Entry) (source handle : ℕ) (target : Option ℕ) (mask : Rights) (inherit : Bool) (options : ℕ) (k : KeeperState) (closing : Bool) →
-    Rests (cond closing (Ok (without_source s source handle (copied_to s entry target mask inherit options))) (with_source (copied_to s entry target mask inherit options))) k
+copy_rests : (s : State) (entry : Entry) (source handle : ℕ) (target : Option ℕ) (mask : Rights) (inherit : Bool)
+    (options : ℕ) (k : KeeperState) (closing : Bool) →
+    Rests (cond closing (Ok (without_source s source handle (copied_to s entry target mask inherit options)))
+    (with_source (copied_to s entry target mask inherit options))) k
 copy_rests s entry source handle None mask inherit options k true = refl
 copy_rests s entry source handle None mask inherit options k false = refl
-copy_rests s entry source handle (Some target) mask inherit options k closing = by closing (admitted s entry target mask options)
+copy_rests s entry source handle (Some target) mask inherit options k closing =
+    by closing (admitted s entry target mask options)
   where
     copy : Rights → Result Outcome Fault
-    copy rights = Ok (record { reply = Duplicated (next_handle s target) entry.id; state = with_entry s target (entry_of entry.id rights inherit) })
+    copy rights = Ok (record {
+      reply = Duplicated (next_handle s target) entry.id;
+      state = with_entry s target (entry_of entry.id rights inherit);
+    })
 
-    by : (closing : Bool) (rights : Result Rights Fault) → Rests (cond closing (Ok (without_source s source handle (rights >>= copy))) (with_source (rights >>= copy))) k
+    by : (closing : Bool) (rights : Result Rights Fault)
+        → Rests (cond closing (Ok (without_source s source handle (rights >>= copy))) (with_source (rights >>= copy))) k
     by true (Ok rights) = refl
     by true (Err e) = refl
     by false (Ok rights) = refl
@@ -125,57 +172,120 @@ copy_rests s entry source handle (Some target) mask inherit options k closing = 
 
 pub can_answer : (w : Whole) (call : Call) → 0 < w.keeper.shape.max_pins → CanAnswer w call
 can_answer w (calls.Spawn session) pins = refused w (calls.Spawn session) _ (λ held reply. tt) refl (λ reply. refl)
-can_answer w (calls.Child thread inherit) pins = refused w (calls.Child thread inherit) _ (λ held reply. tt) refl (λ reply. refl)
-can_answer w (calls.StartThread process) pins = refused w (calls.StartThread process) _ (λ held reply. tt) refl (λ reply. refl)
-can_answer w (calls.MakeEvent thread make manual set) pins = refused w (calls.MakeEvent thread make manual set) _ (λ held reply. tt) refl (λ reply. refl)
-can_answer w (calls.MakeMutex thread make owned) pins = refused w (calls.MakeMutex thread make owned) _ (λ held reply. tt) refl (λ reply. refl)
-can_answer w (calls.MakeSemaphore thread make initial max) pins = refused w (calls.MakeSemaphore thread make initial max) _ (λ held reply. tt) refl (λ reply. refl)
-can_answer w (calls.MakeTimer thread make manual) pins = refused w (calls.MakeTimer thread make manual) _ (λ held reply. tt) refl (λ reply. refl)
-can_answer w (calls.OpenNamed thread kind mask inherit text) pins = answered w (calls.OpenNamed thread kind mask inherit text) (open_named w.state thread kind mask inherit text) (λ held reply. tt) (λ reply. refl)
-    (rests_behind w.keeper (caller w.state thread) _ (λ process. rests_behind w.keeper (name_in w.state process text) _ (λ name. rests_behind w.keeper (or_refuse (find_name name (directory_of w.state)) fault.NotFound) _ (λ id.
+can_answer w (calls.Child thread inherit) pins = refused w (calls.Child thread inherit) _ (λ held reply. tt) refl
+    (λ reply. refl)
+can_answer w (calls.StartThread process) pins = refused w (calls.StartThread process) _ (λ held reply. tt) refl
+    (λ reply. refl)
+can_answer w (calls.MakeEvent thread make manual set) pins =
+    refused w (calls.MakeEvent thread make manual set) _ (λ held reply. tt) refl (λ reply. refl)
+can_answer w (calls.MakeMutex thread make owned) pins =
+    refused w (calls.MakeMutex thread make owned) _ (λ held reply. tt) refl (λ reply. refl)
+can_answer w (calls.MakeSemaphore thread make initial max) pins =
+    refused w (calls.MakeSemaphore thread make initial max) _ (λ held reply. tt) refl (λ reply. refl)
+can_answer w (calls.MakeTimer thread make manual) pins =
+    refused w (calls.MakeTimer thread make manual) _ (λ held reply. tt) refl (λ reply. refl)
+can_answer w (calls.OpenNamed thread kind mask inherit text) pins =
+    answered w (calls.OpenNamed thread kind mask inherit text) (open_named w.state thread kind mask inherit text)
+    (λ held reply. tt) (λ reply. refl)
+    (rests_behind w.keeper (caller w.state thread) _
+    (λ process. rests_behind w.keeper (name_in w.state process text) _
+    (λ name. rests_behind w.keeper (or_refuse (find_name name (directory_of w.state)) fault.NotFound) _ (λ id.
     rests_behind w.keeper (new_handle w.state process id kind mask inherit) _ (λ after. refl)))))
 can_answer w (calls.Duplicate thread source handle target mask inherit options) pins =
-    answered w (calls.Duplicate thread source handle target mask inherit options) (duplicate w.state thread source handle target mask inherit options) (λ held reply. tt) (λ reply. refl)
-    (rests_behind w.keeper (caller w.state thread) _ (λ process. rests_behind w.keeper (or_refuse (slice_index_or w.state.processes source None) fault.Parameter) _ (λ session.
-    rests_behind w.keeper (refuse_if (is_wrong options target) fault.Parameter) _ (λ right. rests_behind w.keeper (found w.state source handle) _ (λ entry. rests_behind w.keeper (refuse_if (is_stuck target entry) fault.Handle) _ (λ free.
+    answered w (calls.Duplicate thread source handle target mask inherit options)
+    (duplicate w.state thread source handle target mask inherit options) (λ held reply. tt) (λ reply. refl)
+    (rests_behind w.keeper (caller w.state thread) _
+    (λ process. rests_behind w.keeper (or_refuse (slice_index_or w.state.processes source None) fault.Parameter) _
+    (λ session.
+    rests_behind w.keeper (refuse_if (is_wrong options target) fault.Parameter) _
+    (λ right. rests_behind w.keeper (found w.state source handle) _
+    (λ entry. rests_behind w.keeper (refuse_if (is_stuck target entry) fault.Handle) _ (λ free.
     copy_rests w.state entry source handle target mask inherit options w.keeper (leaves options entry)))))))
-can_answer w (calls.CloseHandle thread handle) pins = answered w (calls.CloseHandle thread handle) (close w.state thread handle) (λ held reply. tt) (λ reply. refl)
-    (rests_behind w.keeper (caller w.state thread) _ (λ process. rests_behind w.keeper (found w.state process handle) _ (λ entry. rests_behind w.keeper (refuse_if (is_protected entry.flags) fault.Handle) _ (λ free. refl))))
-can_answer w (calls.GetFlags thread handle) pins = answered w (calls.GetFlags thread handle) (handle_flags w.state thread handle) (λ held reply. tt) (λ reply. refl)
-    (rests_behind w.keeper (caller w.state thread) _ (λ process. rests_behind w.keeper (found w.state process handle) _ (λ entry. refl)))
-can_answer w (calls.SetFlags thread handle mask flags) pins = answered w (calls.SetFlags thread handle mask flags) (set_handle_flags w.state thread handle mask flags) (λ held reply. tt) (λ reply. refl)
-    (rests_behind w.keeper (caller w.state thread) _ (λ process. rests_behind w.keeper (refuse_if (nat_lt 3 mask) fault.Parameter) _ (λ known. rests_behind w.keeper (found w.state process handle) _ (λ entry. refl))))
-can_answer w (calls.SetEvent thread handle) pins = answered w (calls.SetEvent thread handle) (set_event w.state thread handle) (λ held reply. tt) (λ reply. refl)
-    (rests_behind w.keeper (caller w.state thread) _ (λ process. rests_behind w.keeper (found w.state process handle) _ (λ entry.
-    rests_behind w.keeper (body_of w.state entry.id kind.Event) _ (λ event. rests_behind w.keeper (granted modify_state entry) _ (λ granted. refl)))))
-can_answer w (calls.ResetEvent thread handle) pins = answered w (calls.ResetEvent thread handle) (reset_event w.state thread handle) (λ held reply. tt) (λ reply. refl)
-    (rests_behind w.keeper (caller w.state thread) _ (λ process. rests_behind w.keeper (found w.state process handle) _ (λ entry.
-    rests_behind w.keeper (body_of w.state entry.id kind.Event) _ (λ event. rests_behind w.keeper (granted modify_state entry) _ (λ granted. refl)))))
-can_answer w (calls.ReleaseSemaphore thread handle count) pins = answered w (calls.ReleaseSemaphore thread handle count) (release_semaphore w.state thread handle count) (λ held reply. tt) (λ reply. refl)
-    (rests_behind w.keeper (caller w.state thread) _ (λ process. rests_behind w.keeper (or_refuse (positive count) fault.Parameter) _ (λ more. rests_behind w.keeper (found w.state process handle) _ (λ entry.
-    rests_behind w.keeper (body_of w.state entry.id kind.Semaphore) _ (λ semaphore. rests_behind w.keeper (granted modify_state entry) _ (λ granted. rests_behind w.keeper (post_answer more semaphore) _ (λ previous. refl)))))))
-can_answer w (calls.ReleaseMutex thread handle) pins = answered w (calls.ReleaseMutex thread handle) (release_mutex w.state thread handle) (λ held reply. tt) (λ reply. refl)
-    (rests_behind w.keeper (caller w.state thread) _ (λ process. rests_behind w.keeper (found w.state process handle) _ (λ entry.
-    rests_behind w.keeper (body_of w.state entry.id kind.Mutex) _ (λ mutex. rests_behind w.keeper (unlock_answer thread mutex) _ (λ released. refl)))))
-can_answer w (calls.SetTimer thread handle due) pins = answered w (calls.SetTimer thread handle due) (set_timer w.state thread handle due) (λ held reply. tt) (λ reply. refl)
-    (rests_behind w.keeper (caller w.state thread) _ (λ process. rests_behind w.keeper (found w.state process handle) _ (λ entry.
-    rests_behind w.keeper (body_of w.state entry.id kind.Timer) _ (λ timer. rests_behind w.keeper (granted modify_state entry) _ (λ granted. refl)))))
-can_answer w (calls.CancelTimer thread handle) pins = answered w (calls.CancelTimer thread handle) (cancel_timer w.state thread handle) (λ held reply. tt) (λ reply. refl)
-    (rests_behind w.keeper (caller w.state thread) _ (λ process. rests_behind w.keeper (found w.state process handle) _ (λ entry.
-    rests_behind w.keeper (body_of w.state entry.id kind.Timer) _ (λ timer. rests_behind w.keeper (granted modify_state entry) _ (λ granted. refl)))))
+can_answer w (calls.CloseHandle thread handle) pins =
+    answered w (calls.CloseHandle thread handle) (close w.state thread handle) (λ held reply. tt) (λ reply. refl)
+    (rests_behind w.keeper (caller w.state thread) _
+    (λ process. rests_behind w.keeper (found w.state process handle) _
+    (λ entry. rests_behind w.keeper (refuse_if (is_protected entry.flags) fault.Handle) _ (λ free. refl))))
+can_answer w (calls.GetFlags thread handle) pins =
+    answered w (calls.GetFlags thread handle) (handle_flags w.state thread handle) (λ held reply. tt) (λ reply. refl)
+    (rests_behind w.keeper (caller w.state thread) _
+    (λ process. rests_behind w.keeper (found w.state process handle) _ (λ entry. refl)))
+can_answer w (calls.SetFlags thread handle mask flags) pins =
+    answered w (calls.SetFlags thread handle mask flags) (set_handle_flags w.state thread handle mask flags)
+    (λ held reply. tt) (λ reply. refl)
+    (rests_behind w.keeper (caller w.state thread) _
+    (λ process. rests_behind w.keeper (refuse_if (nat_lt 3 mask) fault.Parameter) _
+    (λ known. rests_behind w.keeper (found w.state process handle) _ (λ entry. refl))))
+can_answer w (calls.SetEvent thread handle) pins =
+    answered w (calls.SetEvent thread handle) (set_event w.state thread handle) (λ held reply. tt) (λ reply. refl)
+    (rests_behind w.keeper (caller w.state thread) _
+    (λ process. rests_behind w.keeper (found w.state process handle) _ (λ entry.
+    rests_behind w.keeper (body_of w.state entry.id kind.Event) _
+    (λ event. rests_behind w.keeper (granted modify_state entry) _ (λ granted. refl)))))
+can_answer w (calls.ResetEvent thread handle) pins =
+    answered w (calls.ResetEvent thread handle) (reset_event w.state thread handle) (λ held reply. tt) (λ reply. refl)
+    (rests_behind w.keeper (caller w.state thread) _
+    (λ process. rests_behind w.keeper (found w.state process handle) _ (λ entry.
+    rests_behind w.keeper (body_of w.state entry.id kind.Event) _
+    (λ event. rests_behind w.keeper (granted modify_state entry) _ (λ granted. refl)))))
+can_answer w (calls.ReleaseSemaphore thread handle count) pins =
+    answered w (calls.ReleaseSemaphore thread handle count) (release_semaphore w.state thread handle count)
+    (λ held reply. tt) (λ reply. refl)
+    (rests_behind w.keeper (caller w.state thread) _
+    (λ process. rests_behind w.keeper (or_refuse (positive count) fault.Parameter) _
+    (λ more. rests_behind w.keeper (found w.state process handle) _ (λ entry.
+    rests_behind w.keeper (body_of w.state entry.id kind.Semaphore) _
+    (λ semaphore. rests_behind w.keeper (granted modify_state entry) _
+    (λ granted. rests_behind w.keeper (post_answer more semaphore) _ (λ previous. refl)))))))
+can_answer w (calls.ReleaseMutex thread handle) pins =
+    answered w (calls.ReleaseMutex thread handle) (release_mutex w.state thread handle) (λ held reply. tt)
+    (λ reply. refl)
+    (rests_behind w.keeper (caller w.state thread) _
+    (λ process. rests_behind w.keeper (found w.state process handle) _ (λ entry.
+    rests_behind w.keeper (body_of w.state entry.id kind.Mutex) _
+    (λ mutex. rests_behind w.keeper (unlock_answer thread mutex) _ (λ released. refl)))))
+can_answer w (calls.SetTimer thread handle due) pins =
+    answered w (calls.SetTimer thread handle due) (set_timer w.state thread handle due) (λ held reply. tt)
+    (λ reply. refl)
+    (rests_behind w.keeper (caller w.state thread) _
+    (λ process. rests_behind w.keeper (found w.state process handle) _ (λ entry.
+    rests_behind w.keeper (body_of w.state entry.id kind.Timer) _
+    (λ timer. rests_behind w.keeper (granted modify_state entry) _ (λ granted. refl)))))
+can_answer w (calls.CancelTimer thread handle) pins =
+    answered w (calls.CancelTimer thread handle) (cancel_timer w.state thread handle) (λ held reply. tt) (λ reply. refl)
+    (rests_behind w.keeper (caller w.state thread) _
+    (λ process. rests_behind w.keeper (found w.state process handle) _ (λ entry.
+    rests_behind w.keeper (body_of w.state entry.id kind.Timer) _
+    (λ timer. rests_behind w.keeper (granted modify_state entry) _ (λ granted. refl)))))
 can_answer w (calls.Tick now) pins = answered w (calls.Tick now) (tick w.state now) (λ held reply. tt) (λ reply. refl)
-    (rests_behind w.keeper (refuse_if (nat_lt now w.state.clock || nat_lt last_moment now) fault.Parameter) _ (λ right. refl))
-can_answer w (calls.WaitFor thread mode timeout handles) pins = answered w (calls.WaitFor thread mode timeout handles) (wait w.state thread mode timeout handles) (λ held reply. tt) (λ reply. refl)
-    (rests_behind w.keeper (caller w.state thread) _ (λ process. rests_behind w.keeper (refuse_if (is_misshapen handles) fault.Parameter) _ (λ shaped.
-    rests_behind w.keeper (objects_of w.state process handles) _ (λ ids. wait_rests w.state thread mode timeout ids w.keeper))))
-can_answer w (calls.WaitResult number) pins = answered w (calls.WaitResult number) (wait_result w.state number) (λ held reply. tt) (λ reply. refl)
-    (rests_behind w.keeper (or_refuse (state_at (slice_index_or w.state.waits number None)) fault.Parameter) _ (λ x. shown_rests w.state number x w.keeper))
-can_answer w (calls.Expire number) pins = answered w (calls.Expire number) (waiting.expire w.state number) (λ held reply. tt) (λ reply. refl)
-    (rests_behind w.keeper (refuse_if (not (is_pending (slice_index_or w.state.waits number None))) fault.Parameter) _ (λ pending. refl))
-can_answer w (calls.EndThread thread) pins = answered w (calls.EndThread thread) (end_thread w.state thread) (λ held reply. tt) (λ reply. refl)
+    (rests_behind w.keeper (refuse_if (nat_lt now w.state.clock || nat_lt last_moment now) fault.Parameter) _
+    (λ right. refl))
+can_answer w (calls.WaitFor thread mode timeout handles) pins =
+    answered w (calls.WaitFor thread mode timeout handles) (wait w.state thread mode timeout handles) (λ held reply. tt)
+    (λ reply. refl)
+    (rests_behind w.keeper (caller w.state thread) _
+    (λ process. rests_behind w.keeper (refuse_if (is_misshapen handles) fault.Parameter) _ (λ shaped.
+    rests_behind w.keeper (objects_of w.state process handles) _
+    (λ ids. wait_rests w.state thread mode timeout ids w.keeper))))
+can_answer w (calls.WaitResult number) pins = answered w (calls.WaitResult number) (wait_result w.state number)
+    (λ held reply. tt) (λ reply. refl)
+    (rests_behind w.keeper (or_refuse (state_at (slice_index_or w.state.waits number None)) fault.Parameter) _
+    (λ x. shown_rests w.state number x w.keeper))
+can_answer w (calls.Expire number) pins = answered w (calls.Expire number) (waiting.expire w.state number)
+    (λ held reply. tt) (λ reply. refl)
+    (rests_behind w.keeper (refuse_if (not (is_pending (slice_index_or w.state.waits number None))) fault.Parameter) _
+    (λ pending. refl))
+can_answer w (calls.EndThread thread) pins = answered w (calls.EndThread thread) (end_thread w.state thread)
+    (λ held reply. tt) (λ reply. refl)
     (rests_behind w.keeper (or_refuse (slice_index_or w.state.threads thread None) fault.Parameter) _ (λ process. refl))
-can_answer w (calls.Exit process) pins = answered w (calls.Exit process) (exit w.state process) (λ held reply. tt) (λ reply. refl)
-    (rests_behind w.keeper (or_refuse (slice_index_or w.state.processes process None) fault.Parameter) _ (λ session. refl))
-can_answer w (calls.Reap slot) pins = held_back w slot (refuse_if (nat_le w.state.limits.slots slot) fault.Parameter) (if_ended (slice_index_or w.state.objects slot None) (slice_index_or w.state.bodies slot None)) pins (λ outcome. refl)
-can_answer w (calls.Counts id) pins = answered w (calls.Counts id) (counts w.state id) (λ held reply. tt) (λ reply. refl)
-    (rests_behind w.keeper (refuse_if (nat_le w.state.limits.slots id.slot) fault.Parameter) _ (λ there. rests_behind w.keeper (or_refuse (object_of w.state id) fault.Handle) _ (λ found. refl)))
+can_answer w (calls.Exit process) pins = answered w (calls.Exit process) (exit w.state process) (λ held reply. tt)
+    (λ reply. refl)
+    (rests_behind w.keeper (or_refuse (slice_index_or w.state.processes process None) fault.Parameter) _
+    (λ session. refl))
+can_answer w (calls.Reap slot) pins = held_back w slot (refuse_if (nat_le w.state.limits.slots slot) fault.Parameter)
+    (if_ended (slice_index_or w.state.objects slot None) (slice_index_or w.state.bodies slot None)) pins
+    (λ outcome. refl)
+can_answer w (calls.Counts id) pins = answered w (calls.Counts id) (counts w.state id) (λ held reply. tt)
+    (λ reply. refl)
+    (rests_behind w.keeper (refuse_if (nat_le w.state.limits.slots id.slot) fault.Parameter) _
+    (λ there. rests_behind w.keeper (or_refuse (object_of w.state id) fault.Handle) _ (λ found. refl)))

@@ -35,28 +35,38 @@ use Rattle.ob_console.specs.Pinning.{IsWord, IsPinned, IsBusy, Judged, Pins, pha
 use Rattle.ob_console.proofs.Found.{card_found, met_found, within}
 
 -- there is no such slot
-pub no_slot : (s : State) (held : List Id) (id : Id) → s.limits.slots ≤ id.slot → Pins s held id (Err fault.NoSuchSlot) held
-no_slot s held id out = record { no_slot = λ _. (refl, refl); full = λ inside _. absurd (let c : ⊥ = omega arith in c); tried = λ inside _. absurd (let c : ⊥ = omega arith in c) }
+pub no_slot : (s : State) (held : List Id) (id : Id) → s.limits.slots ≤ id.slot
+    → Pins s held id (Err fault.NoSuchSlot) held
+no_slot s held id out = record {
+  no_slot = λ _. (refl, refl);
+  full = λ inside _. absurd (let c : ⊥ = omega arith in c);
+  tried = λ inside _. absurd (let c : ⊥ = omega arith in c);
+}
 
 -- what the reading of the descriptor leaves as it is
-told_looks : (tried : Result (Unit {0}) PinFault) (m r : ReaderView) (id : Id) (res : Result Descr PinFault) → Told tried m id res r → r.looks ≡ m.looks
+told_looks : (tried : Result (Unit {0}) PinFault) (m r : ReaderView) (id : Id) (res : Result Descr PinFault)
+    → Told tried m id res r → r.looks ≡ m.looks
 told_looks (Ok u) m r id res told = ap (λ (z : ReaderView). z.looks) told.2
 told_looks (Err e) m r id res told = ap (λ (z : ReaderView). z.looks) told.1
 
-told_held : (tried : Result (Unit {0}) PinFault) (m r : ReaderView) (id : Id) (res : Result Descr PinFault) → Told tried m id res r → r.held ≡ m.held
+told_held : (tried : Result (Unit {0}) PinFault) (m r : ReaderView) (id : Id) (res : Result Descr PinFault)
+    → Told tried m id res r → r.held ≡ m.held
 told_held (Ok u) m r id res told = ap (λ (z : ReaderView). z.held) told.2
 told_held (Err e) m r id res told = ap (λ (z : ReaderView). z.held) told.1
 
 -- the first look of a try is no later than a word before which the try's looks are
-looked_before : (vd : Verdict) (r : ReaderView) (id : Id) (n k : ℕ) (tried : Result (Unit {0}) PinFault) (m : ReaderView) → Answers vd r id n tried m → Behind m.looks id.slot k → NoLater n k
+looked_before : (vd : Verdict) (r : ReaderView) (id : Id) (n k : ℕ) (tried : Result (Unit {0}) PinFault)
+    (m : ReaderView) → Answers vd r id n tried m → Behind m.looks id.slot k → NoLater n k
 looked_before Unborn r id n k tried m a b = (subst (λ (z : ReaderView). Behind z.looks id.slot k) a.1 b).0 refl
 looked_before Stale r id n k tried m a b = (subst (λ (z : ReaderView). Behind z.looks id.slot k) a.1 b).0 refl
 looked_before PinsFull r id n k tried m a b = (subst (λ (z : ReaderView). Behind z.looks id.slot k) a.1 b).0 refl
 looked_before Go r id n k tried m a b = cases (a.0 == n) refl
   where
     cases : (e : Bool) → (a.0 == n) ≡ e → NoLater n k
-    cases true e = (subst (λ (z : ReaderView). Behind z.looks id.slot k) (a.2 (grind (arith, common_steps))).1 b).1.0 refl
-    cases false e = (subst (λ (z : ReaderView). Behind z.looks id.slot k) (a.3 (grind (arith, common_steps))).1 b).1.0 refl
+    cases true e = (subst (λ (z : ReaderView). Behind z.looks id.slot k) (a.2 (grind (arith, common_steps))).1 b).1.0
+        refl
+    cases false e = (subst (λ (z : ReaderView). Behind z.looks id.slot k) (a.3 (grind (arith, common_steps))).1 b).1.0
+        refl
 
 -- a word between two of one generation and phase has these too
 same_rank : (p q : Phase) → rank_of p ≡ rank_of q → p ≡ q
@@ -65,7 +75,8 @@ same_rank p q e = grind arith
 small_rank : (p : Phase) → rank_of p < 4
 small_rank p = grind arith
 
-between : (a n b g : ℕ) (p : Phase) → (decoded a).generation ≡ g → (decoded a).phase ≡ p → (decoded b).generation ≡ g → (decoded b).phase ≡ p → word_age a ≤ word_age n → word_age n ≤ word_age b
+between : (a n b g : ℕ) (p : Phase) → (decoded a).generation ≡ g → (decoded a).phase ≡ p → (decoded b).generation ≡ g
+    → (decoded b).phase ≡ p → word_age a ≤ word_age n → word_age n ≤ word_age b
     → ((decoded n).generation ≡ g) × ((decoded n).phase ≡ p)
 between a n b g p ga pa gb pb low high =
     let ra = ap rank_of pa in
@@ -77,19 +88,25 @@ between a n b g p ga pa gb pb low high =
     (generation, same_rank (decoded n).phase p same)
 
 -- the generation and the phase that the state has for a slot are those that the keeper has
-phase_is : (slot : ℕ) (x : Option Object) (body : Option Body) (retired : Bool) (y : Slot) → Agrees slot x body retired y → phase_in x body retired ≡ y.phase
+phase_is : (slot : ℕ) (x : Option Object) (body : Option Body) (retired : Bool) (y : Slot)
+    → Agrees slot x body retired y → phase_in x body retired ≡ y.phase
 phase_is slot None body retired y agrees = sym agrees.1
 phase_is slot (Some o) body retired y agrees = sym agrees.2
 
-generation_is : (w : Whole) (slot : ℕ) → IsConsistent w → slice_index_or w.state.generations slot 1 ≡ (slot_of w.keeper.slots slot).generation
-generation_is w slot consistent = ap (λ (xs : List ℕ). slice_index_or xs slot 1) consistent.generations ∙ get_or-map generation_of w.keeper.slots slot opening_slot
+generation_is : (w : Whole) (slot : ℕ) → IsConsistent w
+    → slice_index_or w.state.generations slot 1 ≡ (slot_of w.keeper.slots slot).generation
+generation_is w slot consistent = ap (λ (xs : List ℕ). slice_index_or xs slot 1) consistent.generations
+    ∙ get_or-map generation_of w.keeper.slots slot opening_slot
 
 -- the descriptor that was read is the object's
-noted : (id : Id) (m r3 : ReaderView) (d : Descr) (x : Option Object) (found : IsFound id r3 x) → r3 ≡ reader_noted m id d → d ≡ found.object.descr
+noted : (id : Id) (m r3 : ReaderView) (d : Descr) (x : Option Object) (found : IsFound id r3 x)
+    → r3 ≡ reader_noted m id d → d ≡ found.object.descr
 noted id m r3 d x found is = (subst (λ (r : ReaderView). Show id found.object.descr r.notes) is found.shown).0 refl
 
-judged : (vd : Verdict) (w : Whole) (r m r3 r4 : ReaderView) (id : Id) (n : ℕ) (tried : Result (Unit {0}) PinFault) (res : Result Descr PinFault)
-    → IsConsistent w → id.slot < w.state.limits.slots → Answers vd r id n tried m → Told tried m id res r3 → IsMet w.keeper r3 id.slot r4 → Judged vd w.state r.held id res r3.held
+judged : (vd : Verdict) (w : Whole) (r m r3 r4 : ReaderView) (id : Id) (n : ℕ) (tried : Result (Unit {0}) PinFault)
+    (res : Result Descr PinFault)
+    → IsConsistent w → id.slot < w.state.limits.slots → Answers vd r id n tried m → Told tried m id res r3
+    → IsMet w.keeper r3 id.slot r4 → Judged vd w.state r.held id res r3.held
 judged Unborn w r m r3 r4 id n tried res consistent inside a told met =
     let t : Told (Err fault.Unborn) m id res r3 = subst (λ z. Told z m id res r3) a.0 told in
     (t.0, told_held tried m r3 id res told ∙ ap (λ (z : ReaderView). z.held) a.1)
@@ -104,28 +121,44 @@ judged Go w r m r3 r4 id n tried res consistent inside a told met = cases (a.0 =
     won : (tried ≡ Ok tt) → (m ≡ reader_got (reader_looked r id.slot n) id a.0) → IsPinned w.state r.held id res r3.held
     won ok got =
         let t : Told (Ok tt) m id res r3 = subst (λ z. Told z m id res r3) ok told in
-        let holds : 0 < tally (same_id id) r3.held = subst (λ (z : List Id). 0 < tally (same_id id) z) (sym (told_held tried m r3 id res told)) t.3 in
-        let found : IsFound id r3 (slice_index_or w.state.objects id.slot None) = met_found w r3 r4 id consistent inside holds met in
+        let holds : 0 < tally (same_id id) r3.held =
+        subst (λ (z : List Id). 0 < tally (same_id id) z) (sym (told_held tried m r3 id res told)) t.3 in
+        let found : IsFound id r3 (slice_index_or w.state.objects id.slot None) =
+        met_found w r3 r4 id consistent inside holds met in
         record {
           made = record { id = found.object.id; descr = found.object.descr; grant = found.object.grant };
           there = card_found w.state r3 id found;
-          told = t.1 ∙ ap (λ (d : Descr). let z : Result Descr PinFault = Ok d in z) (noted id m r3 t.0 (slice_index_or w.state.objects id.slot None) found t.2);
+          told = t.1 ∙ ap (λ (d : Descr). let z : Result Descr PinFault = Ok d in
+              z) (noted id m r3 t.0 (slice_index_or w.state.objects id.slot None) found t.2);
           more = told_held tried m r3 id res told ∙ ap (λ (z : ReaderView). z.held) got;
         }
 
-    lost : (tried ≡ Err (fault.Busy (decoded a.0))) → (m ≡ reader_looked (reader_looked r id.slot n) id.slot a.0) → IsBusy r.held res r3.held
+    lost : (tried ≡ Err (fault.Busy (decoded a.0))) → (m ≡ reader_looked (reader_looked r id.slot n) id.slot a.0)
+        → IsBusy r.held res r3.held
     lost err same =
         let t : Told (Err (fault.Busy (decoded a.0))) m id res r3 = subst (λ z. Told z m id res r3) err told in
-        record { seen = decoded a.0; told = t.0; same = told_held tried m r3 id res told ∙ ap (λ (z : ReaderView). z.held) same }
+        record {
+          seen = decoded a.0;
+          told = t.0;
+          same =
+              told_held tried m r3 id res told ∙ ap (λ (z : ReaderView). z.held) same;
+        }
 
     cases : (e : Bool) → (a.0 == n) ≡ e → Judged Go w.state r.held id res r3.held
     cases true e = let b = a.2 (grind (arith, common_steps)) in inl (won b.0 b.1)
     cases false e = let b = a.3 (grind (arith, common_steps)) in inr (lost b.0 b.1)
 
-pub pins : (w : Whole) (r r1 r3 r4 : ReaderView) (id : Id) (res : Result Descr PinFault) → IsConsistent w → r.shape ≡ shape_of w.state.limits → id.slot < w.state.limits.slots
-    → IsMet w.keeper r id.slot r1 → Attempts r1 id res r3 → IsMet w.keeper r3 id.slot r4 → Pins w.state r.held id res r4.held
-pins w r r1 r3 r4 id res consistent shape inside met1 attempts met2 = subst (λ (z : List Id). Pins w.state r.held id res z) (sym (ap (λ (z : ReaderView). z.held) met2.2.1))
-    (record { no_slot = λ out. absurd (let c : ⊥ = omega arith in c); full = λ _ many. full many; tried = λ _ few. tried few })
+pub pins : (w : Whole) (r r1 r3 r4 : ReaderView) (id : Id) (res : Result Descr PinFault) → IsConsistent w
+    → r.shape ≡ shape_of w.state.limits → id.slot < w.state.limits.slots
+    → IsMet w.keeper r id.slot r1 → Attempts r1 id res r3 → IsMet w.keeper r3 id.slot r4
+    → Pins w.state r.held id res r4.held
+pins w r r1 r3 r4 id res consistent shape inside met1 attempts met2 =
+    subst (λ (z : List Id). Pins w.state r.held id res z) (sym (ap (λ (z : ReaderView). z.held) met2.2.1))
+    (record {
+      no_slot = λ out. absurd (let c : ⊥ = omega arith in c);
+      full = λ _ many. full many;
+      tried = λ _ few. tried few;
+    })
   where
     s : State
     s = w.state
@@ -145,13 +178,18 @@ pins w r r1 r3 r4 id res consistent shape inside met1 attempts met2 = subst (λ 
     full : 16 ≤ length r.held → (res ≡ Err fault.HeldFull) × (r3.held ≡ r.held)
     full many =
         let f = attempts.tries.full inside1 (subst (λ (z : List Id). 16 ≤ length z) (sym held1) many) in
-        let t : Told (Err fault.HeldFull) attempts.middle id res r3 = subst (λ z. Told z attempts.middle id res r3) f.0 attempts.told in
-        (t.0, told_held attempts.tried attempts.middle r3 id res attempts.told ∙ ap (λ (z : ReaderView). z.held) f.1 ∙ held1)
+        let t : Told (Err fault.HeldFull) attempts.middle id res r3 =
+        subst (λ z. Told z attempts.middle id res r3) f.0 attempts.told in (
+          t.0,
+          told_held attempts.tried attempts.middle r3 id res attempts.told ∙ ap (λ (z : ReaderView). z.held) f.1
+              ∙ held1,
+        )
 
     phase : phase_at s id.slot ≡ here.phase
     phase = phase_is id.slot _ _ _ here (consistent.slots id.slot (within w id.slot consistent inside))
 
-    tried : length r.held < 16 → (x : Word) × IsWord s r.held id.slot x × Judged (verdict_of s.limits.max_pins id x) s r.held id res r3.held
+    tried : length r.held < 16 → (x : Word) × IsWord s r.held id.slot x
+        × Judged (verdict_of s.limits.max_pins id x) s r.held id res r3.held
     tried few =
         let t = attempts.tries.tried inside1 (subst (λ (z : List Id). length z < 16) (sym held1) few) in
         let n : ℕ = t.0 in
@@ -160,15 +198,21 @@ pins w r r1 r3 r4 id res consistent shape inside met1 attempts met2 = subst (λ 
         let n1 : ℕ = met1.2.0 in
         let n2 : ℕ = met2.2.0 in
         let low : NoLater n1 n = (subst (λ (z : ReaderView). Behind z.looks id.slot n) met1.2.1 tells.looks).0 refl in
-        let behind : Behind attempts.middle.looks id.slot n2 = subst (λ (z : List Look). Behind z id.slot n2) (told_looks attempts.tried attempts.middle r3 id res attempts.told) met2.2.2.looks in
-        let high : NoLater n n2 = looked_before (verdict_of r1.shape.max_pins id (decoded n)) r1 id n n2 attempts.tried attempts.middle a behind in
+        let behind : Behind attempts.middle.looks id.slot n2 =
+        subst (λ (z : List Look). Behind z id.slot n2)
+        (told_looks attempts.tried attempts.middle r3 id res attempts.told) met2.2.2.looks in
+        let high : NoLater n n2 = looked_before (verdict_of r1.shape.max_pins id (decoded n)) r1 id n n2 attempts.tried
+        attempts.middle a behind in
         let at1 : slot_of met1.0.slots id.slot ≡ here = ap (λ (z : List Slot). slot_of z id.slot) met1.1.slots in
         let at2 : slot_of met2.0.slots id.slot ≡ here = ap (λ (z : List Slot). slot_of z id.slot) met2.1.slots in
-        let both : ((decoded n).generation ≡ here.generation) × ((decoded n).phase ≡ here.phase) = between n1 n n2 here.generation here.phase
+        let both : ((decoded n).generation ≡ here.generation) × ((decoded n).phase ≡ here.phase) =
+        between n1 n n2 here.generation here.phase
         (met1.2.3.generation ∙ ap (λ (z : Slot). z.generation) at1) (met1.2.3.phase ∙ ap (λ (z : Slot). z.phase) at1)
-        (met2.2.3.generation ∙ ap (λ (z : Slot). z.generation) at2) (met2.2.3.phase ∙ ap (λ (z : Slot). z.phase) at2) low.0 high.0 in
+        (met2.2.3.generation ∙ ap (λ (z : Slot). z.generation) at2) (met2.2.3.phase
+        ∙ ap (λ (z : Slot). z.phase) at2) low.0 high.0 in
         let j : Judged (verdict_of r1.shape.max_pins id (decoded n)) s r1.held id res r3.held =
-        judged (verdict_of r1.shape.max_pins id (decoded n)) w r1 attempts.middle r3 r4 id n attempts.tried res consistent inside a attempts.told met2 in (
+        judged (verdict_of r1.shape.max_pins id (decoded n)) w r1 attempts.middle r3 r4 id n attempts.tried res
+        consistent inside a attempts.told met2 in (
           decoded n,
           record {
             generation = both.0 ∙ sym (generation_is w id.slot consistent);
@@ -177,5 +221,6 @@ pins w r r1 r3 r4 id res consistent shape inside met1 attempts met2 = subst (λ 
             room = λ _. subst (λ (z : Shape). (decoded n).pins ≤ z.max_pins) shape1 tells.room;
           },
           subst (λ (z : Shape). Judged (verdict_of z.max_pins id (decoded n)) s r.held id res r3.held) shape1
-              (subst (λ (z : List Id). Judged (verdict_of r1.shape.max_pins id (decoded n)) s z id res r3.held) held1 j),
+              (subst (λ (z : List Id). Judged (verdict_of r1.shape.max_pins id (decoded n)) s z id res r3.held) held1
+              j),
         )

@@ -23,20 +23,29 @@ within w slot consistent inside = subst (λ (shape : Shape). slot < shape.slots)
 
 -- the slot as the keeper says it
 abbrev Shows : List Slot → Id → ReaderView → Type 0
-Shows slots id r = (id ≡ id_of slots id.slot) × (may_be_held (slot_of slots id.slot).phase ≡ true) × Show id (slot_of slots id.slot).descr r.notes
+Shows slots id r = (id ≡ id_of slots id.slot) × (may_be_held (slot_of slots id.slot).phase ≡ true)
+    × Show id (slot_of slots id.slot).descr r.notes
 
-pub met_found : (w : Whole) (r r' : ReaderView) (id : Id) → IsConsistent w → id.slot < w.state.limits.slots → 0 < tally (same_id id) r.held → IsMet w.keeper r id.slot r'
+pub met_found : (w : Whole) (r r' : ReaderView) (id : Id) → IsConsistent w → id.slot < w.state.limits.slots
+    → 0 < tally (same_id id) r.held → IsMet w.keeper r id.slot r'
     → IsFound id r (slice_index_or w.state.objects id.slot None)
 met_found w r r' id consistent inside held met =
     let there = met.2.3.held id held refl in
-    let shown : Show id (slot_of met.0.slots id.slot).descr r.notes = subst (λ (x : Id). Show x (slot_of met.0.slots id.slot).descr r.notes) (sym there.0) (met.2.3.shown there.1) in
-    let shows : Shows w.keeper.slots id r = subst (λ (slots : List Slot). Shows slots id r) met.1.slots (there.0, there.1, shown) in
-    found_in id r _ _ _ (slot_of w.keeper.slots id.slot) (consistent.slots id.slot (within w id.slot consistent inside)) shows.0 shows.1 shows.2
+    let shown : Show id (slot_of met.0.slots id.slot).descr r.notes =
+    subst (λ (x : Id). Show x (slot_of met.0.slots id.slot).descr r.notes) (sym there.0) (met.2.3.shown there.1) in
+    let shows : Shows w.keeper.slots id r = subst (λ (slots : List Slot). Shows slots id r) met.1.slots (
+      there.0,
+      there.1,
+      shown,
+    ) in
+    found_in id r _ _ _ (slot_of w.keeper.slots id.slot)
+    (consistent.slots id.slot (within w id.slot consistent inside)) shows.0 shows.1 shows.2
 
 abbrev card_of : Object → Card
 card_of o = record { id = o.id; descr = o.descr; grant = o.grant }
 
-pub card_found : (s : State) (r : ReaderView) (id : Id) (found : IsFound id r (slice_index_or s.objects id.slot None)) → card s id ≡ Some (card_of found.object)
+pub card_found : (s : State) (r : ReaderView) (id : Id) (found : IsFound id r (slice_index_or s.objects id.slot None))
+    → card s id ≡ Some (card_of found.object)
 card_found s r id found = ap (λ (x : Option Object). carded (if_id id x)) found.is ∙ this
   where
     same : (x : Id) → same_id x x ≡ true

@@ -14,16 +14,24 @@ use Rattle.ob_console.proofs.Answerable.{can_answer}
 use Rattle.ob_console.proofs.Pinnable.{can_pin}
 
 -- one run after another
-pub run-append : (s : Point) (n : ℕ) (lines : List (List ℕ)) (outputs : List (List ℕ)) (t : Point) (later : List (List ℕ)) (more : List (List ℕ)) (u : Point) → Run s n lines outputs t → Run t (n + length lines) later more u → Run s n (lines ++ later) (outputs ++ more) u
-run-append s n [] [] t later more u first second = let at_n : n + 0 ≡ n = omega arith in subst (λ m. Run s m later more u) at_n (subst (λ from. Run from (n + 0) later more u) first second)
+pub run-append : (s : Point) (n : ℕ) (lines : List (List ℕ)) (outputs : List (List ℕ)) (t : Point)
+    (later : List (List ℕ)) (more : List (List ℕ)) (u : Point) → Run s n lines outputs t
+    → Run t (n + length lines) later more u → Run s n (lines ++ later) (outputs ++ more) u
+run-append s n [] [] t later more u first second = let at_n : n + 0 ≡ n = omega arith in
+    subst (λ m. Run s m later more u) at_n (subst (λ from. Run from (n + 0) later more u) first second)
 run-append s n [] (output ∷ outputs) t later more u first second = absurd first
 run-append s n (line ∷ lines) [] t later more u first second = absurd first
 run-append s n (line ∷ lines) (output ∷ outputs) t later more u first second =
-    let next_number : n + length (line ∷ lines) ≡ n + 1 + length lines = omega arith in
-    (first.0, first.1, run-append first.0 (n + 1) lines outputs t later more u first.2 (subst (λ m. Run t m later more u) next_number second))
+    let next_number : n + length (line ∷ lines) ≡ n + 1 + length lines = omega arith in (
+      first.0,
+      first.1,
+      run-append first.0 (n + 1) lines outputs t later more u first.2
+          (subst (λ m. Run t m later more u) next_number second),
+    )
 
 -- no line changes the shape of the slots, and no run does
-prints_shape : (s : Point) (n : ℕ) (act : Act) (output : List ℕ) (t : Point) → Prints s n act output t → t.whole.keeper.shape ≡ s.whole.keeper.shape
+prints_shape : (s : Point) (n : ℕ) (act : Act) (output : List ℕ) (t : Point) → Prints s n act output t
+    → t.whole.keeper.shape ≡ s.whole.keeper.shape
 prints_shape s n Nothing output t prints = ap (λ (p : Point). p.whole.keeper.shape) prints.1
 prints_shape s n Bad output t prints = ap (λ (p : Point). p.whole.keeper.shape) prints.1
 prints_shape s n ListNames output t prints = ap (λ (p : Point). p.whole.keeper.shape) prints.1
@@ -32,11 +40,13 @@ prints_shape s n (Pin id) output t prints = ap (λ (whole : Whole). whole.keeper
 prints_shape s n (Unpin id) output t prints = ap (λ (whole : Whole). whole.keeper.shape) prints.2
 prints_shape s n (ShowCard id) output t prints = ap (λ (p : Point). p.whole.keeper.shape) prints.1
 
-pub run_shape : (s : Point) (n : ℕ) (lines : List (List ℕ)) (outputs : List (List ℕ)) (t : Point) → Run s n lines outputs t → t.whole.keeper.shape ≡ s.whole.keeper.shape
+pub run_shape : (s : Point) (n : ℕ) (lines : List (List ℕ)) (outputs : List (List ℕ)) (t : Point)
+    → Run s n lines outputs t → t.whole.keeper.shape ≡ s.whole.keeper.shape
 run_shape s n [] [] t run = ap (λ (p : Point). p.whole.keeper.shape) run
 run_shape s n [] (output ∷ outputs) t run = absurd run
 run_shape s n (line ∷ lines) [] t run = absurd run
-run_shape s n (line ∷ lines) (output ∷ outputs) t run = run_shape run.0 (n + 1) lines outputs t run.2 ∙ prints_shape s n (act_of line) output run.0 run.1
+run_shape s n (line ∷ lines) (output ∷ outputs) t run = run_shape run.0 (n + 1) lines outputs t run.2
+    ∙ prints_shape s n (act_of line) output run.0 run.1
 
 -- what an act may print
 pub record PrintsSome (s : Point) (n : ℕ) (act : Act) : Type 0 where
@@ -47,19 +57,35 @@ pub record PrintsSome (s : Point) (n : ℕ) (act : Act) : Type 0 where
 pub prints_some : (s : Point) (n : ℕ) (act : Act) → 0 < s.whole.keeper.shape.max_pins → PrintsSome s n act
 prints_some s n Nothing pins = record { output = []; next = s; prints = (refl, refl) }
 prints_some s n Bad pins = record { output = bad_line n; next = s; prints = (refl, refl) }
-prints_some s n ListNames pins = record { output = printed_names (directory_of s.whole.state); next = s; prints = (refl, refl) }
+prints_some s n ListNames pins = record {
+  output = printed_names (directory_of s.whole.state);
+  next = s;
+  prints = (refl, refl);
+}
 prints_some s n (Asks call) pins =
     let answer = can_answer s.whole call pins in
-    record { output = printed answer.reply; next = point answer.next s.held; prints = (answer.reply, answer.step, answer.spares s.held, refl, refl) }
+    record {
+      output = printed answer.reply;
+      next = point answer.next s.held;
+      prints = (answer.reply, answer.step, answer.spares s.held, refl, refl);
+    }
 prints_some s n (Pin id) pins =
     let pin = can_pin s.whole.state s.held id in
-    record { output = printed_pin id pin.answer ++ line_end; next = point s.whole pin.next; prints = (pin.answer, pin.pins, refl, refl) }
+    record {
+      output = printed_pin id pin.answer ++ line_end;
+      next = point s.whole pin.next;
+      prints = (pin.answer, pin.pins, refl, refl);
+    }
 prints_some s n (Unpin id) pins = record {
   output = printed_unpin id (is_held id s.held) ++ line_end;
   next = point s.whole (if is_held id s.held then drop_first (same_id id) s.held else s.held);
   prints = (is_held id s.held, (refl, refl), refl, refl);
 }
-prints_some s n (ShowCard id) pins = record { output = printed_card (shown_of s.whole.state s.held id) ++ line_end; next = s; prints = (refl, refl) }
+prints_some s n (ShowCard id) pins = record {
+  output = printed_card (shown_of s.whole.state s.held id) ++ line_end;
+  next = s;
+  prints = (refl, refl);
+}
 
 -- lines that come may always be answered
 pub record RunsSome (s : Point) (n : ℕ) (lines : List (List ℕ)) : Type 0 where
@@ -71,6 +97,8 @@ pub runs_some : (s : Point) (n : ℕ) (lines : List (List ℕ)) → 0 < s.whole.
 runs_some s n [] pins = record { outputs = []; last = s; run = refl }
 runs_some s n (line ∷ lines) pins =
     let first = prints_some s n (act_of line) pins in
-    let still : 0 < first.next.whole.keeper.shape.max_pins = subst (λ (shape : Shape). 0 < shape.max_pins) (sym (prints_shape s n (act_of line) first.output first.next first.prints)) pins in
+    let still : 0 < first.next.whole.keeper.shape.max_pins =
+    subst (λ (shape : Shape). 0 < shape.max_pins)
+    (sym (prints_shape s n (act_of line) first.output first.next first.prints)) pins in
     let later = runs_some first.next (n + 1) lines still in
     record { outputs = first.output ∷ later.outputs; last = later.last; run = (first.next, first.prints, later.run) }

@@ -18,36 +18,58 @@ abbrev IsNoEnd : ℕ → Type 0
 IsNoEnd byte = byte ≢ 10
 
 -- a byte before what has lines
-line_before : (byte : ℕ) (bytes : List ℕ) → byte ≡ 10 → (lines : List (List ℕ)) (rest : List ℕ) → Splits bytes lines rest → Splits (byte ∷ bytes) ([] ∷ lines) rest
+line_before : (byte : ℕ) (bytes : List ℕ) → byte ≡ 10 → (lines : List (List ℕ)) (rest : List ℕ)
+    → Splits bytes lines rest → Splits (byte ∷ bytes) ([] ∷ lines) rest
 line_before byte bytes is lines rest splits = record {
   whole = ap (λ first. first ∷ bytes) is ∙ ap (λ more. 10 ∷ more) splits.whole;
   each = All-cons IsWithin [] lines (All-nil IsNoEnd) splits.each;
   open_ended = splits.open_ended;
 }
 
-byte_before : (byte : ℕ) (bytes : List ℕ) → byte ≢ 10 → (lines : List (List ℕ)) (rest : List ℕ) → Splits bytes lines rest → HasLines (byte ∷ bytes)
+byte_before : (byte : ℕ) (bytes : List ℕ) → byte ≢ 10 → (lines : List (List ℕ)) (rest : List ℕ)
+    → Splits bytes lines rest → HasLines (byte ∷ bytes)
 byte_before byte bytes other [] rest splits = record {
   lines = [];
   rest = byte ∷ rest;
-  splits = record { whole = ap (λ more. byte ∷ more) splits.whole; each = All-nil IsWithin; open_ended = All-cons IsNoEnd byte rest other splits.open_ended };
+  splits = record {
+    whole = ap (λ more. byte ∷ more) splits.whole;
+    each = All-nil IsWithin;
+    open_ended = All-cons IsNoEnd byte rest other splits.open_ended;
+  };
 }
 byte_before byte bytes other (line ∷ lines) rest splits = record {
   lines = (byte ∷ line) ∷ lines;
   rest = rest;
-  splits = record { whole = ap (λ more. byte ∷ more) splits.whole; each = All-cons IsWithin (byte ∷ line) lines (All-cons IsNoEnd byte line other (All-head IsWithin line lines splits.each)) (All-tail IsWithin line lines splits.each); open_ended = splits.open_ended };
+  splits = record {
+    whole = ap (λ more. byte ∷ more) splits.whole;
+    each = All-cons IsWithin (byte ∷ line) lines
+        (All-cons IsNoEnd byte line other (All-head IsWithin line lines splits.each))
+        (All-tail IsWithin line lines splits.each);
+    open_ended = splits.open_ended;
+  };
 }
 
 pub has_lines : (input : List ℕ) → HasLines input
-has_lines [] = record { lines = []; rest = []; splits = record { whole = refl; each = All-nil IsWithin; open_ended = All-nil IsNoEnd } }
+has_lines [] = record {
+  lines = [];
+  rest = [];
+  splits =
+      record { whole = refl; each = All-nil IsWithin; open_ended = All-nil IsNoEnd };
+}
 has_lines (byte ∷ bytes) =
     let more = has_lines bytes in
     elim (cases_eq byte 10) [
-      | inl is ↦ record { lines = [] ∷ more.lines; rest = more.rest; splits = line_before byte bytes is more.lines more.rest more.splits }
+      | inl is ↦ record {
+        lines = [] ∷ more.lines;
+        rest = more.rest;
+        splits = line_before byte bytes is more.lines more.rest more.splits;
+      }
       | inr other ↦ byte_before byte bytes other more.lines more.rest more.splits
     ]
 
 -- more of the open line
-pub splits_more : (input : List ℕ) (lines : List (List ℕ)) (rest bytes : List ℕ) → IsWithin bytes → Splits input lines rest → Splits (input ++ bytes) lines (rest ++ bytes)
+pub splits_more : (input : List ℕ) (lines : List (List ℕ)) (rest bytes : List ℕ) → IsWithin bytes
+    → Splits input lines rest → Splits (input ++ bytes) lines (rest ++ bytes)
 splits_more input lines rest bytes within splits = record {
   whole = ap (λ front. front ++ bytes) splits.whole ∙ append_assoc (with_ends lines) rest bytes;
   each = splits.each;
@@ -55,17 +77,21 @@ splits_more input lines rest bytes within splits = record {
 }
 
 -- the lines of what comes behind, where the open line goes on
-pub splits_on : (input : List ℕ) (lines : List (List ℕ)) (rest bytes : List ℕ) (later : List (List ℕ)) (last : List ℕ) → Splits input lines rest → Splits (rest ++ bytes) later last → Splits (input ++ bytes) (lines ++ later) last
+pub splits_on : (input : List ℕ) (lines : List (List ℕ)) (rest bytes : List ℕ) (later : List (List ℕ)) (last : List ℕ)
+    → Splits input lines rest → Splits (rest ++ bytes) later last → Splits (input ++ bytes) (lines ++ later) last
 splits_on input lines rest bytes later last splits more = record {
   whole =
-      ap (λ front. front ++ bytes) splits.whole ∙ append_assoc (with_ends lines) rest bytes ∙ ap (λ back. with_ends lines ++ back) more.whole
-      ∙ sym (append_assoc (with_ends lines) (with_ends later) last) ∙ ap (λ front. front ++ last) (sym (flat_map-append (λ line. line ++ line_end) lines later));
+      ap (λ front. front ++ bytes) splits.whole ∙ append_assoc (with_ends lines) rest bytes
+      ∙ ap (λ back. with_ends lines ++ back) more.whole
+      ∙ sym (append_assoc (with_ends lines) (with_ends later) last)
+      ∙ ap (λ front. front ++ last) (sym (flat_map-append (λ line. line ++ line_end) lines later));
   each = All-append IsWithin lines later splits.each more.each;
   open_ended = more.open_ended;
 }
 
 -- one line is complete
-pub splits_one : (rest bytes : List ℕ) → IsWithin rest → IsWithin bytes → Splits (rest ++ (bytes ++ line_end)) ((rest ++ bytes) ∷ []) []
+pub splits_one : (rest bytes : List ℕ) → IsWithin rest → IsWithin bytes
+    → Splits (rest ++ (bytes ++ line_end)) ((rest ++ bytes) ∷ []) []
 splits_one rest bytes within_rest within = record {
   whole = sym (append-nil _ ∙ append-nil _ ∙ append_assoc rest bytes line_end);
   each = All-cons IsWithin (rest ++ bytes) [] (All-append IsNoEnd rest bytes within_rest within) (All-nil IsWithin);

@@ -20,42 +20,54 @@ pub record IsListed (rows left : Rows) (before after first pending : List ℕ) :
   pub whole : done ++ left ≡ rows
   pub written : Writes before after (first ++ printed_first rows done) pending
 
-printed_next : (rows done : Rows) (row : ObjectName × Id) → printed_first rows (done ++ row ∷ []) ≡ printed_first rows done ++ printed_row row
+printed_next : (rows done : Rows) (row : ObjectName × Id)
+    → printed_first rows (done ++ row ∷ []) ≡ printed_first rows done ++ printed_row row
 printed_next rows done row =
-    ap (λ back. printed_count (length rows) ++ back) (flat_map-append printed_row done (row ∷ []) ∙ ap (λ back. flat_map printed_row done ++ back) (append-nil (printed_row row)))
+    ap (λ back. printed_count (length rows) ++ back) (flat_map-append printed_row done (row ∷ [])
+    ∙ ap (λ back. flat_map printed_row done ++ back) (append-nil (printed_row row)))
     ∙ sym (append_assoc (printed_count (length rows)) (flat_map printed_row done) (printed_row row))
 
 -- what is behind some rows
-printed_rest : (rows done left : Rows) → done ++ left ≡ rows → printed_first rows done ++ flat_map printed_row left ≡ printed_names rows
+printed_rest : (rows done left : Rows) → done ++ left ≡ rows
+    → printed_first rows done ++ flat_map printed_row left ≡ printed_names rows
 printed_rest rows done left whole =
     append_assoc (printed_count (length rows)) (flat_map printed_row done) (flat_map printed_row left)
-    ∙ ap (λ back. printed_count (length rows) ++ back) (sym (flat_map-append printed_row done left) ∙ ap (λ all. flat_map printed_row all) whole)
+    ∙ ap (λ back. printed_count (length rows) ++ back) (sym (flat_map-append printed_row done left)
+    ∙ ap (λ all. flat_map printed_row all) whole)
 
 -- the row is written or pending
 pub row_written : (rows : Rows) (row : ObjectName × Id) (left : Rows) (a b c first pending rest : List ℕ) →
-    IsListed rows (row ∷ left) a b first pending → Writes b c (pending ++ printed_row row) rest → IsListed rows left a c first rest
+    IsListed rows (row ∷ left) a b first pending → Writes b c (pending ++ printed_row row) rest
+    → IsListed rows left a c first rest
 row_written rows row left a b c first pending rest one two = record {
   done = one.done ++ row ∷ [];
   whole = append_assoc one.done (row ∷ []) left ∙ one.whole;
-  written = subst (λ back. Writes a c (first ++ back) rest) (sym (printed_next rows one.done row)) (writes_on a b c first (printed_first rows one.done) pending (printed_row row) rest one.written two);
+  written = subst (λ back. Writes a c (first ++ back) rest) (sym (printed_next rows one.done row))
+      (writes_on a b c first (printed_first rows one.done) pending (printed_row row) rest one.written two);
 }
 
 -- the sink fails at a row
 pub row_begun : (rows : Rows) (row : ObjectName × Id) (left : Rows) (a b c first pending : List ℕ) →
-    IsListed rows (row ∷ left) a b first pending → Begins b c (pending ++ printed_row row) → Begins a c (first ++ printed_names rows)
+    IsListed rows (row ∷ left) a b first pending → Begins b c (pending ++ printed_row row)
+    → Begins a c (first ++ printed_names rows)
 row_begun rows row left a b c first pending one two =
     let done = one.done ++ row ∷ [] in
-    subst (λ back. Begins a c back) (append_assoc first (printed_first rows done) (flat_map printed_row left) ∙ ap (λ back. first ++ back) (printed_rest rows done left (append_assoc one.done (row ∷ []) left ∙ one.whole)))
+    subst (λ back. Begins a c back) (append_assoc first (printed_first rows done) (flat_map printed_row left)
+    ∙ ap (λ back. first ++ back) (printed_rest rows done left (append_assoc one.done (row ∷ []) left ∙ one.whole)))
     (begins_more a c (first ++ printed_first rows done) (flat_map printed_row left)
-    (subst (λ back. Begins a c (first ++ back)) (sym (printed_next rows one.done row)) (begins_on a b c first (printed_first rows one.done) pending (printed_row row) one.written two)))
+    (subst (λ back. Begins a c (first ++ back)) (sym (printed_next rows one.done row))
+    (begins_on a b c first (printed_first rows one.done) pending (printed_row row) one.written two)))
 
 -- the sink fails at the first line
-pub head_begun : (rows : Rows) (a c first : List ℕ) → Begins a c (first ++ printed_count (length rows)) → Begins a c (first ++ printed_names rows)
+pub head_begun : (rows : Rows) (a c first : List ℕ) → Begins a c (first ++ printed_count (length rows))
+    → Begins a c (first ++ printed_names rows)
 head_begun rows a c first begins =
-    subst (λ back. Begins a c back) (append_assoc first (printed_count (length rows)) (flat_map printed_row rows)) (begins_more a c (first ++ printed_count (length rows)) (flat_map printed_row rows) begins)
+    subst (λ back. Begins a c back) (append_assoc first (printed_count (length rows)) (flat_map printed_row rows))
+    (begins_more a c (first ++ printed_count (length rows)) (flat_map printed_row rows) begins)
 
 -- the first line is written or pending
-pub head_written : (rows : Rows) (a c first rest : List ℕ) → Writes a c (first ++ printed_count (length rows)) rest → IsListed rows rows a c first rest
+pub head_written : (rows : Rows) (a c first rest : List ℕ) → Writes a c (first ++ printed_count (length rows)) rest
+    → IsListed rows rows a c first rest
 head_written rows a c first rest writes = record {
   done = [];
   whole = refl;
@@ -63,6 +75,8 @@ head_written rows a c first rest writes = record {
 }
 
 -- no row is left
-pub all_written : (rows : Rows) (a c first rest : List ℕ) → IsListed rows [] a c first rest → Writes a c (first ++ printed_names rows) rest
+pub all_written : (rows : Rows) (a c first rest : List ℕ) → IsListed rows [] a c first rest
+    → Writes a c (first ++ printed_names rows) rest
 all_written rows a c first rest one =
-    subst (λ done. Writes a c (first ++ printed_first rows done) rest) (sym (append-nil one.done) ∙ one.whole) one.written
+    subst (λ done. Writes a c (first ++ printed_first rows done) rest) (sym (append-nil one.done)
+    ∙ one.whole) one.written

@@ -22,7 +22,11 @@ pub record CanPin (s : State) (held : List Id) (id : Id) : Type 0 where
 
 -- a word that the slot may have: nobody else pins it
 abbrev some_word : State → List Id → ℕ → Word
-some_word s held slot = record { generation = slice_index_or s.generations slot 1; phase = phase_at s slot; pins = tally (sits slot) held }
+some_word s held slot = record {
+  generation = slice_index_or s.generations slot 1;
+  phase = phase_at s slot;
+  pins = tally (sits slot) held;
+}
 
 record CanJudge (verdict : Verdict) (s : State) (held : List Id) (id : Id) : Type 0 where
   pub answer : Result Descr PinFault
@@ -36,7 +40,11 @@ can_judge Stale s held id = record { answer = Err fault.Stale; next = held; judg
 can_judge PinsFull s held id = record { answer = Err fault.PinsFull; next = held; judged = (refl, refl) }
 can_judge Go s held id =
     let word : Word = some_word s held id.slot in
-    record { answer = Err (fault.Busy word); next = held; judged = inr (record { seen = word; told = refl; same = refl }) }
+    record {
+      answer = Err (fault.Busy word);
+      next = held;
+      judged = inr (record { seen = word; told = refl; same = refl });
+    }
 
 pub can_pin : (s : State) (held : List Id) (id : Id) → CanPin s held id
 can_pin s held id = by_slot (nat_lt id.slot s.limits.slots) refl
@@ -52,15 +60,40 @@ can_pin s held id = by_slot (nat_lt id.slot s.limits.slots) refl
           pins = record {
             no_slot = λ out. absurd (let c : ⊥ = omega arith in c);
             full = λ _ many. absurd (let c : ⊥ = omega arith in c);
-            tried = λ _ _. (word, record { generation = refl; phase = refl; pins = (let c : tally (sits id.slot) held ≤ tally (sits id.slot) held = omega arith in c); room = λ few. few }, j.judged);
+            tried = λ _ _. (
+              word,
+              record {
+                generation = refl;
+                phase = refl;
+                pins = (let c : tally (sits id.slot) held ≤ tally (sits id.slot) held = omega arith in c);
+                room = λ few. few;
+              },
+              j.judged,
+            );
           };
         }
     by_room inside false e =
         let many : 16 ≤ length held = grind (arith, common_steps) in
-        record { answer = Err fault.HeldFull; next = held; pins = record { no_slot = λ out. absurd (let c : ⊥ = omega arith in c); full = λ _ _. (refl, refl); tried = λ _ few. absurd (let c : ⊥ = omega arith in c) } }
+        record {
+          answer = Err fault.HeldFull;
+          next = held;
+          pins = record {
+            no_slot = λ out. absurd (let c : ⊥ = omega arith in c);
+            full = λ _ _. (refl, refl);
+            tried = λ _ few. absurd (let c : ⊥ = omega arith in c);
+          };
+        }
 
     by_slot : (b : Bool) → nat_lt id.slot s.limits.slots ≡ b → CanPin s held id
     by_slot true e = by_room (grind (arith, common_steps)) (nat_lt (length held) 16) refl
     by_slot false e =
         let out : s.limits.slots ≤ id.slot = grind (arith, common_steps) in
-        record { answer = Err fault.NoSuchSlot; next = held; pins = record { no_slot = λ _. (refl, refl); full = λ inside _. absurd (let c : ⊥ = omega arith in c); tried = λ inside _. absurd (let c : ⊥ = omega arith in c) } }
+        record {
+          answer = Err fault.NoSuchSlot;
+          next = held;
+          pins = record {
+            no_slot = λ _. (refl, refl);
+            full = λ inside _. absurd (let c : ⊥ = omega arith in c);
+            tried = λ inside _. absurd (let c : ⊥ = omega arith in c);
+          };
+        }

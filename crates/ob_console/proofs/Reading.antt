@@ -9,7 +9,8 @@ use Rattle.ob_console.specs.Sessions.{ConsoleState, Session, IsFed, IsCutShort, 
 use Rattle.ob_console.proofs.Advancing.{answers_lines, answers_part}
 
 -- what was read is answered line by line, and the answers are written
-pub record IsReading (limits : Limits) (console : ConsoleState) (given_before given taken_before taken : List ℕ) : Type 0 where
+pub record IsReading (limits : Limits) (console : ConsoleState)
+    (given_before given taken_before taken : List ℕ) : Type 0 where
   pub input : List ℕ
   pub output : List ℕ
   pub read : given ≡ given_before ++ input
@@ -24,33 +25,53 @@ pub record HasRun (P : List ℕ → List ℕ → Type 0) (given_before given tak
   pub wrote : taken ≡ taken_before ++ output
   pub answers : P input output
 
-pub reading_begins : (limits : Limits) (console : ConsoleState) (given taken : List ℕ) → Session limits [] [] console → IsReading limits console given given taken taken
-reading_begins limits console given taken session = record { input = []; output = []; read = sym (append-nil given); wrote = sym (append-nil taken); session = session }
+pub reading_begins : (limits : Limits) (console : ConsoleState) (given taken : List ℕ) → Session limits [] [] console
+    → IsReading limits console given given taken taken
+reading_begins limits console given taken session =
+    record { input = []; output = []; read = sym (append-nil given); wrote = sym (append-nil taken); session = session }
 
 -- more was read
-read_more : (given_before given more input block : List ℕ) → given ≡ given_before ++ input → more ≡ given ++ block → more ≡ given_before ++ (input ++ block)
-read_more given_before given more input block before now = now ∙ ap (λ front. front ++ block) before ∙ append_assoc given_before input block
+read_more : (given_before given more input block : List ℕ) → given ≡ given_before ++ input → more ≡ given ++ block
+    → more ≡ given_before ++ (input ++ block)
+read_more given_before given more input block before now = now ∙ ap (λ front. front ++ block) before
+    ∙ append_assoc given_before input block
 
 -- a read gave a block, which is answered
-pub reading_on : (limits : Limits) (old new : ConsoleState) (given_before given more block taken_before taken later : List ℕ) → IsReading limits old given_before given taken_before taken → more ≡ given ++ block →
-    old.pending.bytes ≡ [] → new.pending.bytes ≡ [] → IsFed old new block [] taken later → IsReading limits new given_before more taken_before later
+pub reading_on : (limits : Limits) (old new : ConsoleState)
+    (given_before given more block taken_before taken later : List ℕ)
+    → IsReading limits old given_before given taken_before taken → more ≡ given ++ block →
+    old.pending.bytes ≡ [] → new.pending.bytes ≡ [] → IsFed old new block [] taken later
+    → IsReading limits new given_before more taken_before later
 reading_on limits old new given_before given more block taken_before taken later reading read empty done fed = record {
   input = reading.input ++ block;
   output = reading.output ++ fed.printed;
   read = read_more given_before given more reading.input block reading.read read;
   wrote = read_more taken_before taken later reading.output fed.printed reading.wrote
-      (fed.written.grown ∙ ap (λ back. taken ++ back) (sym (append-nil fed.written.done) ∙ ap (λ pending. fed.written.done ++ pending) (sym done) ∙ fed.written.part ∙ ap (λ pending. pending ++ fed.printed) empty));
-  session = subst (λ bytes. Session limits bytes (reading.output ++ fed.printed) new) (ap (λ front. reading.input ++ front) (sym (append-nil fed.front) ∙ fed.whole))
+      (fed.written.grown ∙ ap (λ back. taken ++ back) (sym (append-nil fed.written.done)
+      ∙ ap (λ pending. fed.written.done ++ pending) (sym done) ∙ fed.written.part
+      ∙ ap (λ pending. pending ++ fed.printed) empty));
+  session = subst (λ bytes. Session limits bytes (reading.output ++ fed.printed) new)
+      (ap (λ front. reading.input ++ front) (sym (append-nil fed.front) ∙ fed.whole))
       (fed.advances limits reading.input reading.output reading.session);
 }
 
 -- a read gave nothing
-pub reading_same : (limits : Limits) (console : ConsoleState) (given_before given more taken_before taken : List ℕ) → IsReading limits console given_before given taken_before taken → more ≡ given ++ [] → IsReading limits console given_before more taken_before taken
+pub reading_same : (limits : Limits) (console : ConsoleState) (given_before given more taken_before taken : List ℕ)
+    → IsReading limits console given_before given taken_before taken → more ≡ given ++ []
+    → IsReading limits console given_before more taken_before taken
 reading_same limits console given_before given more taken_before taken reading read =
-    record { input = reading.input; output = reading.output; read = read ∙ append-nil given ∙ reading.read; wrote = reading.wrote; session = reading.session }
+    record {
+      input = reading.input;
+      output = reading.output;
+      read = read ∙ append-nil given ∙ reading.read;
+      wrote = reading.wrote;
+      session = reading.session;
+    }
 
 -- reading ends by a fault
-pub reading_fails : (limits : Limits) (console : ConsoleState) (given_before given taken_before taken : List ℕ) → IsReading limits console given_before given taken_before taken → HasRun (AnswersLines limits) given_before given taken_before taken
+pub reading_fails : (limits : Limits) (console : ConsoleState) (given_before given taken_before taken : List ℕ)
+    → IsReading limits console given_before given taken_before taken
+    → HasRun (AnswersLines limits) given_before given taken_before taken
 reading_fails limits console given_before given taken_before taken reading = record {
   input = reading.input;
   output = reading.output;
@@ -60,57 +81,80 @@ reading_fails limits console given_before given taken_before taken reading = rec
 }
 
 -- writing fails in a block
-pub writing_fails : (limits : Limits) (old new : ConsoleState) (given_before given more block taken_before taken later : List ℕ) → IsReading limits old given_before given taken_before taken → more ≡ given ++ block →
-    old.pending.bytes ≡ [] → IsCutShort old new block taken later → HasRun (AnswersPart limits) given_before more taken_before later
+pub writing_fails : (limits : Limits) (old new : ConsoleState)
+    (given_before given more block taken_before taken later : List ℕ)
+    → IsReading limits old given_before given taken_before taken → more ≡ given ++ block →
+    old.pending.bytes ≡ [] → IsCutShort old new block taken later
+    → HasRun (AnswersPart limits) given_before more taken_before later
 writing_fails limits old new given_before given more block taken_before taken later reading read empty short =
     let begins = short.written in
     let session = short.advances limits reading.input reading.output reading.session in
     let part : (reading.output ++ begins.1.done) ++ begins.0 ≡ reading.output ++ short.printed =
-    append_assoc reading.output begins.1.done begins.0 ∙ ap (λ back. reading.output ++ back) (begins.1.part ∙ ap (λ pending. pending ++ short.printed) empty) in
+    append_assoc reading.output begins.1.done begins.0
+    ∙ ap (λ back. reading.output ++ back) (begins.1.part ∙ ap (λ pending. pending ++ short.printed) empty) in
     record {
       input = (reading.input ++ short.front) ++ short.rest;
       output = reading.output ++ begins.1.done;
-      read = read_more given_before given more reading.input block reading.read read ∙ ap (λ back. given_before ++ back) (ap (λ back. reading.input ++ back) (sym short.whole) ∙ sym (append_assoc reading.input short.front short.rest));
+      read = read_more given_before given more reading.input block reading.read read
+          ∙ ap (λ back. given_before ++ back) (ap (λ back. reading.input ++ back) (sym short.whole)
+          ∙ sym (append_assoc reading.input short.front short.rest));
       wrote = read_more taken_before taken later reading.output begins.1.done reading.wrote begins.1.grown;
-      answers = answers_part limits (reading.input ++ short.front) (reading.output ++ short.printed) (reading.output ++ begins.1.done) begins.0 short.rest new part session;
+      answers = answers_part limits (reading.input ++ short.front) (reading.output ++ short.printed) (reading.output
+          ++ begins.1.done) begins.0 short.rest new part session;
     }
 
 -- the input ends
-pub reading_ends : (limits : Limits) (console : ConsoleState) (given_before given more taken_before taken later printed : List ℕ) → IsReading limits console given_before given taken_before taken → more ≡ given ++ [] →
-    console.pending.bytes ≡ [] → Finishes console printed → Writes taken later (console.pending.bytes ++ printed) [] → HasRun (AnswersAll limits) given_before more taken_before later
-reading_ends limits console given_before given more taken_before taken later printed reading read empty finishes writes = record {
-  input = reading.input;
-  output = reading.output ++ printed;
-  read = read ∙ append-nil given ∙ reading.read;
-  wrote = read_more taken_before taken later reading.output printed reading.wrote
-      (writes.grown ∙ ap (λ back. taken ++ back) (sym (append-nil writes.done) ∙ writes.part ∙ ap (λ pending. pending ++ printed) empty));
-  answers = finishes limits reading.input reading.output reading.session;
-}
+pub reading_ends : (limits : Limits) (console : ConsoleState)
+    (given_before given more taken_before taken later printed : List ℕ)
+    → IsReading limits console given_before given taken_before taken → more ≡ given ++ [] →
+    console.pending.bytes ≡ [] → Finishes console printed → Writes taken later (console.pending.bytes ++ printed) []
+    → HasRun (AnswersAll limits) given_before more taken_before later
+reading_ends limits console given_before given more taken_before taken later printed reading read empty finishes
+    writes = record {
+      input = reading.input;
+      output = reading.output ++ printed;
+      read = read ∙ append-nil given ∙ reading.read;
+      wrote = read_more taken_before taken later reading.output printed reading.wrote
+          (writes.grown ∙ ap (λ back. taken ++ back) (sym (append-nil writes.done) ∙ writes.part
+          ∙ ap (λ pending. pending ++ printed) empty));
+      answers = finishes limits reading.input reading.output reading.session;
+    }
 
 -- writing fails at the end
-pub ending_fails : (limits : Limits) (console : ConsoleState) (given_before given more taken_before taken later printed : List ℕ) → IsReading limits console given_before given taken_before taken → more ≡ given ++ [] →
-    console.pending.bytes ≡ [] → Finishes console printed → Begins taken later (console.pending.bytes ++ printed) → HasRun (AnswersPart limits) given_before more taken_before later
-ending_fails limits console given_before given more taken_before taken later printed reading read empty finishes begins = record {
-  input = reading.input;
-  output = reading.output ++ begins.1.done;
-  read = read ∙ append-nil given ∙ reading.read;
-  wrote = read_more taken_before taken later reading.output begins.1.done reading.wrote begins.1.grown;
-  answers = record {
-    missing = begins.0;
-    answers = subst (λ written. AnswersAll limits reading.input written)
-        (sym (append_assoc reading.output begins.1.done begins.0 ∙ ap (λ back. reading.output ++ back) (begins.1.part ∙ ap (λ pending. pending ++ printed) empty)))
-        (finishes limits reading.input reading.output reading.session);
-  };
-}
+pub ending_fails : (limits : Limits) (console : ConsoleState)
+    (given_before given more taken_before taken later printed : List ℕ)
+    → IsReading limits console given_before given taken_before taken → more ≡ given ++ [] →
+    console.pending.bytes ≡ [] → Finishes console printed → Begins taken later (console.pending.bytes ++ printed)
+    → HasRun (AnswersPart limits) given_before more taken_before later
+ending_fails limits console given_before given more taken_before taken later printed reading read empty finishes
+    begins = record {
+      input = reading.input;
+      output = reading.output ++ begins.1.done;
+      read = read ∙ append-nil given ∙ reading.read;
+      wrote = read_more taken_before taken later reading.output begins.1.done reading.wrote begins.1.grown;
+      answers = record {
+        missing = begins.0;
+        answers = subst (λ written. AnswersAll limits reading.input written)
+            (sym (append_assoc reading.output begins.1.done begins.0
+            ∙ ap (λ back. reading.output ++ back) (begins.1.part ∙ ap (λ pending. pending ++ printed) empty)))
+            (finishes limits reading.input reading.output reading.session);
+      };
+    }
 
 -- the front of a block, seen again behind the reader
-pub read_front : (block items : List ℕ) (len count : ℕ) → count ≤ length block → length block ≡ len → take count (take len (block ++ drop (length block) items)) ≡ take count block
+pub read_front : (block items : List ℕ) (len count : ℕ) → count ≤ length block → length block ≡ len
+    → take count (take len (block ++ drop (length block) items)) ≡ take count block
 read_front block items len count within whole =
-    ap (take count) (ap (λ n. take n (block ++ drop (length block) items)) (sym whole) ∙ take-append_seam block (drop (length block) items))
+    ap (take count) (ap (λ n. take n (block ++ drop (length block) items)) (sym whole)
+    ∙ take-append_seam block (drop (length block) items))
 
 -- a whole script came as one block
-pub reading_whole : (limits : Limits) (old new : ConsoleState) (script taken later : List ℕ) → Session limits [] [] old → old.pending.bytes ≡ [] → new.pending.bytes ≡ [] → IsFed old new script [] taken later → IsReading limits new [] script taken later
-reading_whole limits old new script taken later session empty done fed = reading_on limits old new [] [] script script taken taken later (reading_begins limits old [] taken session) refl empty done fed
+pub reading_whole : (limits : Limits) (old new : ConsoleState) (script taken later : List ℕ) → Session limits [] [] old
+    → old.pending.bytes ≡ [] → new.pending.bytes ≡ [] → IsFed old new script [] taken later
+    → IsReading limits new [] script taken later
+reading_whole limits old new script taken later session empty done fed =
+    reading_on limits old new [] [] script script taken taken later
+    (reading_begins limits old [] taken session) refl empty done fed
 
 -- it is answered, or the beginning of its answers is written
 pub record HasAnswered (P : List ℕ → List ℕ → Type 0) (script taken_before taken : List ℕ) : Type 0 where
@@ -118,5 +162,10 @@ pub record HasAnswered (P : List ℕ → List ℕ → Type 0) (script taken_befo
   pub wrote : taken ≡ taken_before ++ output
   pub answers : P script output
 
-pub answered : (P : List ℕ → List ℕ → Type 0) (script taken_before taken : List ℕ) → HasRun P [] script taken_before taken → HasAnswered P script taken_before taken
-answered P script taken_before taken run = record { output = run.output; wrote = run.wrote; answers = subst (λ input. P input run.output) (sym run.read) run.answers }
+pub answered : (P : List ℕ → List ℕ → Type 0) (script taken_before taken : List ℕ)
+    → HasRun P [] script taken_before taken → HasAnswered P script taken_before taken
+answered P script taken_before taken run = record {
+  output = run.output;
+  wrote = run.wrote;
+  answers = subst (λ input. P input run.output) (sym run.read) run.answers;
+}

@@ -33,23 +33,34 @@ counted [] at d inside = absurd (let c : ⊥ = omega arith in c)
 counted (x ∷ held) zero d inside = let one : weight (same_id x x) ≡ 1 = ap weight (same x) in omega arith
 counted (x ∷ held) (suc at) d inside = let more = counted held at d (omega arith) in omega arith
 
-pub there : (slot : ℕ) (held : List Id) (at : ℕ) (d : Id) → position (sits slot) held ≡ Some at → ((get_or held at d).slot ≡ slot) × (0 < tally (same_id (get_or held at d)) held)
-there slot held at d found = let found = position-Some (sits slot) held at d found in (grind (arith, common_steps), counted held at d found.0)
+pub there : (slot : ℕ) (held : List Id) (at : ℕ) (d : Id) → position (sits slot) held ≡ Some at
+    → ((get_or held at d).slot ≡ slot) × (0 < tally (same_id (get_or held at d)) held)
+there slot held at d found = let found = position-Some (sits slot) held at d found in
+    (grind (arith, common_steps), counted held at d found.0)
 
 pub nowhere : (slot : ℕ) (held : List Id) → position (sits slot) held ≡ None → tally (sits slot) held ≡ 0
 nowhere slot held none = none-found (sits slot) held none
 
 -- a slot that was taken back has no object
 abbrev reaped_as : State → ℕ → Reclaim → Result (Unit {0}) Fault → Result Id Fault → Result Outcome Fault
-reaped_as s slot outcome there ended = there >>= (λ _. ended >>= (λ id. Ok (record { reply = Reaped id outcome; state = settled (after_reclaim s slot outcome) })))
+reaped_as s slot outcome there ended = there >>= (λ _. ended >>=
+    (λ id. Ok (record { reply = Reaped id outcome; state = settled (after_reclaim s slot outcome) })))
 
-became : (s t : State) (slot : ℕ) (id : Id) (outcome : Reclaim) (there : Result (Unit {0}) Fault) (ended : Result Id Fault) → final s (reaped_as s slot outcome there ended) ≡ record { reply = Reaped id outcome; state = t } → t ≡ settled (after_reclaim s slot outcome)
-became s t slot id outcome (Err fault) ended is = let reply : Refused fault ≡ Reaped id outcome = ap (λ (o : Outcome). o.reply) is in cc
-became s t slot id outcome (Ok unit) (Err fault) is = let reply : Refused fault ≡ Reaped id outcome = ap (λ (o : Outcome). o.reply) is in cc
+became : (s t : State) (slot : ℕ) (id : Id) (outcome : Reclaim) (there : Result (Unit {0}) Fault)
+    (ended : Result Id Fault) → final s (reaped_as s slot outcome there ended) ≡ record {
+      reply = Reaped id outcome;
+      state = t;
+    } → t ≡ settled (after_reclaim s slot outcome)
+became s t slot id outcome (Err fault) ended is = let reply : Refused fault ≡ Reaped id outcome =
+    ap (λ (o : Outcome). o.reply) is in cc
+became s t slot id outcome (Ok unit) (Err fault) is = let reply : Refused fault ≡ Reaped id outcome =
+    ap (λ (o : Outcome). o.reply) is in cc
 became s t slot id outcome (Ok unit) (Ok ended) is = ap (λ (o : Outcome). o.state) (sym is)
 
-after : (w v : Whole) (slot : ℕ) (id : Id) (outcome : Reclaim) → Step w (calls.Reap slot) (Reaped id outcome) v → v.state ≡ settled (after_reclaim w.state slot outcome)
-after w v slot id outcome (does comes keeps) = became w.state v.state slot id outcome _ (if_ended (slice_index_or w.state.objects slot None) (slice_index_or w.state.bodies slot None)) comes
+after : (w v : Whole) (slot : ℕ) (id : Id) (outcome : Reclaim) → Step w (calls.Reap slot) (Reaped id outcome) v
+    → v.state ≡ settled (after_reclaim w.state slot outcome)
+after w v slot id outcome (does comes keeps) = became w.state v.state slot id outcome _
+    (if_ended (slice_index_or w.state.objects slot None) (slice_index_or w.state.bodies slot None)) comes
 after w v slot id outcome (closes is comes keeps) = cc
 after w v slot id outcome (lacks takes there fault same) = cc
 
@@ -62,21 +73,32 @@ is_not_none : (o : Object) → Some o ≡ None → ⊥
 is_not_none o is = cc
 
 -- so who meets the keeper there holds nothing of it
-vacant : (v : Whole) (r r' : ReaderView) (id : Id) → IsConsistent v → id.slot < v.state.limits.slots → 0 < tally (same_id id) r.held → IsMet v.keeper r id.slot r' → slice_index_or v.state.objects id.slot None ≡ None → ⊥
-vacant v r r' id consistent inside held met none = let found = met_found v r r' id consistent inside held met in is_not_none found.object (sym found.is ∙ none)
+vacant : (v : Whole) (r r' : ReaderView) (id : Id) → IsConsistent v → id.slot < v.state.limits.slots
+    → 0 < tally (same_id id) r.held → IsMet v.keeper r id.slot r' → slice_index_or v.state.objects id.slot None ≡ None
+    → ⊥
+vacant v r r' id consistent inside held met none = let found = met_found v r r' id consistent inside held met in
+    is_not_none found.object (sym found.is ∙ none)
 
-spared : (w v : Whole) (r r' : ReaderView) (id named : Id) (outcome : Reclaim) → Step w (calls.Reap id.slot) (Reaped named outcome) v → IsConsistent v → id.slot < v.state.limits.slots → 0 < tally (same_id id) r.held → IsMet v.keeper r id.slot r'
+spared : (w v : Whole) (r r' : ReaderView) (id named : Id) (outcome : Reclaim)
+    → Step w (calls.Reap id.slot) (Reaped named outcome) v → IsConsistent v → id.slot < v.state.limits.slots
+    → 0 < tally (same_id id) r.held → IsMet v.keeper r id.slot r'
     → SparesHeld r.held id.slot outcome
 spared w v r r' id named Freed step consistent inside held met =
-    absurd (vacant v r r' id consistent inside held met (subst (λ (s : State). slice_index_or s.objects id.slot None ≡ None) (sym (after w v id.slot named Freed step)) (emptied w.state.objects id.slot)))
+    absurd (vacant v r r' id consistent inside held met
+    (subst (λ (s : State). slice_index_or s.objects id.slot None ≡ None) (sym (after w v id.slot named Freed step))
+    (emptied w.state.objects id.slot)))
 spared w v r r' id named Retired step consistent inside held met =
-    absurd (vacant v r r' id consistent inside held met (subst (λ (s : State). slice_index_or s.objects id.slot None ≡ None) (sym (after w v id.slot named Retired step)) (emptied w.state.objects id.slot)))
+    absurd (vacant v r r' id consistent inside held met
+    (subst (λ (s : State). slice_index_or s.objects id.slot None ≡ None)
+    (sym (after w v id.slot named Retired step)) (emptied w.state.objects id.slot)))
 spared w v r r' id named (Held pins) step consistent inside held met = tt
 
 -- the same of each reply
-pub spares : (w v : Whole) (r r' : ReaderView) (id : Id) (reply : Reply) → Step w (calls.Reap id.slot) reply v → IsConsistent v → id.slot < v.state.limits.slots → 0 < tally (same_id id) r.held → IsMet v.keeper r id.slot r'
+pub spares : (w v : Whole) (r r' : ReaderView) (id : Id) (reply : Reply) → Step w (calls.Reap id.slot) reply v
+    → IsConsistent v → id.slot < v.state.limits.slots → 0 < tally (same_id id) r.held → IsMet v.keeper r id.slot r'
     → IfReaped reply (SparesHeld r.held id.slot)
-spares w v r r' id (Reaped named outcome) step consistent inside held met = spared w v r r' id named outcome step consistent inside held met
+spares w v r r' id (Reaped named outcome) step consistent inside held met =
+    spared w v r r' id named outcome step consistent inside held met
 spares w v r r' id (Spawned process thread) step consistent inside held met = tt
 spares w v r r' id (Started thread) step consistent inside held met = tt
 spares w v r r' id (Made handle made) step consistent inside held met = tt
@@ -102,7 +124,8 @@ unheld held slot Freed none = none
 unheld held slot Retired none = none
 unheld held slot (Held pins) none = tt
 
-pub spares_none : (held : List Id) (slot : ℕ) (reply : Reply) → tally (sits slot) held ≡ 0 → IfReaped reply (SparesHeld held slot)
+pub spares_none : (held : List Id) (slot : ℕ) (reply : Reply) → tally (sits slot) held ≡ 0
+    → IfReaped reply (SparesHeld held slot)
 spares_none held slot (Reaped named outcome) none = unheld held slot outcome none
 spares_none held slot (Spawned process thread) none = tt
 spares_none held slot (Started thread) none = tt

@@ -25,7 +25,8 @@ published_home : (o : Option Object) (slot : ℕ) (k k' : KeeperState) → Publi
 published_home None slot k k' keeps = absurd keeps
 published_home (Some o) slot k k' keeps = ap home keeps
 
-reclaimed_home : (k : KeeperState) (slot : ℕ) (outcome : Reclaim) (k' : KeeperState) → Reclaims k slot outcome k' → home k' ≡ home k
+reclaimed_home : (k : KeeperState) (slot : ℕ) (outcome : Reclaim) (k' : KeeperState) → Reclaims k slot outcome k'
+    → home k' ≡ home k
 reclaimed_home k slot reclaim.Freed k' keeps = ap home keeps.0
 reclaimed_home k slot reclaim.Retired k' keeps = ap home keeps.0
 reclaimed_home k slot (reclaim.Held pins) k' keeps = ap home keeps.0
@@ -59,5 +60,6 @@ step_home w v call reply (lacks takes there fault same) = ap (λ (whole : Whole)
 pub step_shape : (w v : Whole) (call : Call) (reply : Reply) → Step w call reply v → v.keeper.shape ≡ w.keeper.shape
 step_shape w v call reply step = ap (λ (h : Home). h.shape) (step_home w v call reply step)
 
-pub step_table : (w v : Whole) (call : Call) (reply : Reply) (t : TableState) → Step w call reply v → w.keeper.table ≡ Some t → v.keeper.table ≡ Some t
+pub step_table : (w v : Whole) (call : Call) (reply : Reply) (t : TableState) → Step w call reply v
+    → w.keeper.table ≡ Some t → v.keeper.table ≡ Some t
 step_table w v call reply t step is = ap (λ (h : Home). h.table) (step_home w v call reply step) ∙ is

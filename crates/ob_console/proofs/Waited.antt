@@ -17,24 +17,33 @@ use Rattle.ob_manager.specs.Steps.{Step, does, closes, lacks, final}
 misshapen : (handles : List ℕ) → 64 < length handles → is_misshapen handles ≡ true
 misshapen handles long = grind (arith, nat_tests, long)
 
-refused : (s : State) (thread : ℕ) (mode : Mode) (timeout : Timeout) (handles : List ℕ) → 64 < length handles → wait s thread mode timeout handles ≡ (caller s thread >>= (λ process. Err fault.Parameter))
+refused : (s : State) (thread : ℕ) (mode : Mode) (timeout : Timeout) (handles : List ℕ) → 64 < length handles
+    → wait s thread mode timeout handles ≡ (caller s thread >>= (λ process. Err fault.Parameter))
 refused s thread mode timeout handles long =
-    ap (λ test. caller s thread >>= (λ process. refuse_if test fault.Parameter >>= (λ shaped. objects_of s process handles >>= (λ ids. wait_on s thread mode timeout ids)))) (misshapen handles long)
+    ap (λ test. caller s thread >>= (λ process. refuse_if test fault.Parameter >>=
+    (λ shaped. objects_of s process handles >>= (λ ids. wait_on s thread mode timeout ids))))
+    (misshapen handles long)
 
-beginning_waits : (s : State) (thread : ℕ) (mode : Mode) (timeout : Timeout) (handles : List ℕ) → wait s thread mode timeout (take 65 handles) ≡ wait s thread mode timeout handles
+beginning_waits : (s : State) (thread : ℕ) (mode : Mode) (timeout : Timeout) (handles : List ℕ)
+    → wait s thread mode timeout (take 65 handles) ≡ wait s thread mode timeout handles
 beginning_waits s thread mode timeout handles = by (ltb 64 (length handles)) refl
   where
-    by : (long : Bool) → ltb 64 (length handles) ≡ long → wait s thread mode timeout (take 65 handles) ≡ wait s thread mode timeout handles
+    by : (long : Bool) → ltb 64 (length handles) ≡ long
+        → wait s thread mode timeout (take 65 handles) ≡ wait s thread mode timeout handles
     by true is =
         let long : 64 < length handles = grind (arith, nat_tests, is) in
         let part : 64 < length (take 65 handles) = omega (arith, length-take-le 65 handles (omega (arith, long))) in
         refused s thread mode timeout (take 65 handles) part ∙ sym (refused s thread mode timeout handles long)
     by false is = ap (wait s thread mode timeout) (take_all 65 handles (grind (arith, nat_tests, is)))
 
-pub step_of_beginning : (w : Whole) (thread : ℕ) (mode : Mode) (timeout : Timeout) (handles : List ℕ) (reply : Reply) (v : Whole) →
-    Step w (calls.WaitFor thread mode timeout (take 65 handles)) reply v → Step w (calls.WaitFor thread mode timeout handles) reply v
-step_of_beginning w thread mode timeout handles reply v (does comes keeps) = does (ap (final w.state) (sym (beginning_waits w.state thread mode timeout handles)) ∙ comes) keeps
-step_of_beginning w thread mode timeout handles reply v (closes is comes keeps) = closes is (sym (beginning_waits w.state thread mode timeout handles) ∙ comes) keeps
+pub step_of_beginning : (w : Whole) (thread : ℕ) (mode : Mode) (timeout : Timeout) (handles : List ℕ) (reply : Reply)
+    (v : Whole) →
+    Step w (calls.WaitFor thread mode timeout (take 65 handles)) reply v
+    → Step w (calls.WaitFor thread mode timeout handles) reply v
+step_of_beginning w thread mode timeout handles reply v (does comes keeps) =
+    does (ap (final w.state) (sym (beginning_waits w.state thread mode timeout handles)) ∙ comes) keeps
+step_of_beginning w thread mode timeout handles reply v (closes is comes keeps) =
+    closes is (sym (beginning_waits w.state thread mode timeout handles) ∙ comes) keeps
 step_of_beginning w thread mode timeout handles reply v (lacks takes there lack same) =
     let is = beginning_waits w.state thread mode timeout handles in
     lacks (ap becomes_pending (sym is) ∙ takes) (ap is_ok (sym is) ∙ there) lack same

@@ -1,4 +1,5 @@
--- What one thread is answered that has a manager and a reader of the same pins, over the manager's state and the copies that the
+-- What one thread is answered that has a manager and a reader of the same pins, over the manager's state and the copies
+-- that the
 -- reader holds.
 use Rattle.std.specs.Prelude.{◌≡◌, ◌⊎◌, ℕ, ◌<◌, ◌≤◌, nat_lt, Bool, false, if◌then◌else◌, List, [], ◌∷◌, ◌++◌, length, Option, Some, None, Result, Ok, Err, slice_index_or}
 use Rattle.pin_core.specs.declared.id.Id.{Id}
@@ -24,15 +25,18 @@ use Rattle.ob_manager.specs.Counting.{card}
 abbrev pub is_held : Id → List Id → Bool
 is_held id held = nat_lt 0 (tally (same_id id) held)
 
--- the phase of a slot: live while its object has a body and closing once it ended; without an object free, or retired for good
+-- the phase of a slot: live while its object has a body and closing once it ended; without an object free, or retired
+-- for good
 abbrev pub phase_in : Option Object → Option Body → Bool → Phase
 phase_in (Some object) body retired = phase_of body
 phase_in None body retired = vacant_phase retired
 
 abbrev pub phase_at : State → ℕ → Phase
-phase_at s slot = phase_in (slice_index_or s.objects slot None) (slice_index_or s.bodies slot None) (slice_index_or s.retired slot false)
+phase_at s slot = phase_in (slice_index_or s.objects slot None) (slice_index_or s.bodies slot None)
+    (slice_index_or s.retired slot false)
 
--- a word that the slot may have: its generation, its phase, and among its pins the copies that the reader holds there. It
+-- a word that the slot may have: its generation, its phase, and among its pins the copies that the reader holds there.
+-- It
 -- has no more pins than there may be, as the reader has no more copies
 pub record IsWord (s : State) (held : List Id) (slot : ℕ) (w : Word) : Type 0 where
   pub generation : w.generation ≡ slice_index_or s.generations slot 1
@@ -41,7 +45,8 @@ pub record IsWord (s : State) (held : List Id) (slot : ℕ) (w : Word) : Type 0 
   pub room : tally (sits slot) held ≤ s.limits.max_pins → w.pins ≤ s.limits.max_pins
 
 -- one copy more is held, and the answer is the object's descriptor
-pub record IsPinned (s : State) (held : List Id) (id : Id) (res : Result Descr PinFault) (held' : List Id) : Type 0 where
+pub record IsPinned (s : State) (held : List Id) (id : Id) (res : Result Descr PinFault)
+    (held' : List Id) : Type 0 where
   pub made : Card
   pub there : card s id ≡ Some made
   pub told : res ≡ Ok made.descr
@@ -64,11 +69,13 @@ Judged Go s held id res held' = IsPinned s held id res held' ⊎ IsBusy held res
 pub record Pins (s : State) (held : List Id) (id : Id) (res : Result Descr PinFault) (held' : List Id) : Type 0 where
   pub no_slot : s.limits.slots ≤ id.slot → (res ≡ Err fault.NoSuchSlot) × (held' ≡ held)
   pub full : id.slot < s.limits.slots → 16 ≤ length held → (res ≡ Err fault.HeldFull) × (held' ≡ held)
-  pub tried : id.slot < s.limits.slots → length held < 16 → (w : Word) × IsWord s held id.slot w × Judged (verdict_of s.limits.max_pins id w) s held id res held'
+  pub tried : id.slot < s.limits.slots → length held < 16
+      → (w : Word) × IsWord s held id.slot w × Judged (verdict_of s.limits.max_pins id w) s held id res held'
 
 -- an unpin: whether the Id is held, and then one copy less
 abbrev pub Unpins : List Id → Id → Bool → List Id → Type 0
-Unpins held id done held' = (done ≡ is_held id held) × (held' ≡ (if is_held id held then drop_first (same_id id) held else held))
+Unpins held id done held' = (done ≡ is_held id held)
+    × (held' ≡ (if is_held id held then drop_first (same_id id) held else held))
 
 -- the card of an Id that is held
 abbrev pub shown_of : State → List Id → Id → Option Card

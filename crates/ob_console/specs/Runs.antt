@@ -37,21 +37,27 @@ pub record IsOpening (limits : Limits) (p : Point) : Type 0 where
 abbrev pub Spares : List Id → Call → Reply → Type 0
 Spares held call reply = IfReap call (λ slot. IfReaped reply (SparesHeld held slot))
 
--- From a point, the line of this number may print this and go on: nothing, that the line is bad, the names of objects, the reply
+-- From a point, the line of this number may print this and go on: nothing, that the line is bad, the names of objects,
+-- the reply
 -- of a step, or what the reader is answered.
 abbrev pub Prints : Point → ℕ → Act → List ℕ → Point → Type 0
 Prints p number Nothing output q = (output ≡ []) × (q ≡ p)
 Prints p number Bad output q = (output ≡ bad_line number) × (q ≡ p)
 Prints p number ListNames output q = (output ≡ printed_names (directory_of p.whole.state)) × (q ≡ p)
-Prints p number (Asks call) output q = (reply : Reply) × Step p.whole call reply q.whole × Spares p.held call reply × (q.held ≡ p.held) × (output ≡ printed reply)
-Prints p number (Pin id) output q = (answer : Result Descr PinFault) × Pins p.whole.state p.held id answer q.held × (q.whole ≡ p.whole) × (output ≡ printed_pin id answer ++ line_end)
-Prints p number (Unpin id) output q = (done : Bool) × Unpins p.held id done q.held × (q.whole ≡ p.whole) × (output ≡ printed_unpin id done ++ line_end)
-Prints p number (ShowCard id) output q = (output ≡ printed_card (shown_of p.whole.state p.held id) ++ line_end) × (q ≡ p)
+Prints p number (Asks call) output q = (reply : Reply) × Step p.whole call reply q.whole × Spares p.held call reply
+    × (q.held ≡ p.held) × (output ≡ printed reply)
+Prints p number (Pin id) output q = (answer : Result Descr PinFault) × Pins p.whole.state p.held id answer q.held
+    × (q.whole ≡ p.whole) × (output ≡ printed_pin id answer ++ line_end)
+Prints p number (Unpin id) output q = (done : Bool) × Unpins p.held id done q.held × (q.whole ≡ p.whole)
+    × (output ≡ printed_unpin id done ++ line_end)
+Prints p number (ShowCard id) output q = (output ≡ printed_card (shown_of p.whole.state p.held id) ++ line_end)
+    × (q ≡ p)
 
 -- From there, the lines from this number on may print these, one after another, and end with the last.
 abbrev pub Run : Point → ℕ → List (List ℕ) → List (List ℕ) → Point → Type 0
 Run s number [] [] t = t ≡ s
-Run s number (line ∷ lines) (output ∷ outputs) t = (next : Point) × Prints s number (act_of line) output next × Run next (number + 1) lines outputs t
+Run s number (line ∷ lines) (output ∷ outputs) t = (next : Point) × Prints s number (act_of line) output next
+    × Run next (number + 1) lines outputs t
 Run s number [] (output ∷ outputs) t = ⊥
 Run s number (line ∷ lines) [] t = ⊥
 
@@ -102,7 +108,8 @@ pub record AnswersPart (limits : Limits) (input output : List ℕ) : Type 0 wher
   pub missing : List ℕ
   pub answers : AnswersAll limits input (output ++ missing)
 
--- how a run ended: the whole input is answered; after a read fault its complete lines are; after a write fault the answer to it
+-- how a run ended: the whole input is answered; after a read fault its complete lines are; after a write fault the
+-- answer to it
 -- is begun; and where memory was wanting nothing was read or written
 abbrev pub IsEnded : Result (Unit {0}) RunFault → Limits → List ℕ → List ℕ → Type 0
 IsEnded (Ok unit) limits input output = AnswersAll limits input output

@@ -15,10 +15,12 @@ pub record Evaluation : Type 0 where
   pub pending : Pending  -- answers that are not yet written
   pub lines : ℕ  -- how many lines have ended
 
--- what the line of this number is was done, and what that prints is written or pending, or its beginning is written where the sink failed
+-- what the line of this number is was done, and what that prints is written or pending, or its beginning is written
+-- where the sink failed
 abbrev pub Enacts : Evaluation → ℕ → Act → Result (Unit {0}) NotWritten → List ℕ → List ℕ → Evaluation → Type 0
 Enacts old number act result taken_before taken new =
-    (printed : List ℕ) × Prints old.point number act printed new.point × IsWritten result taken_before taken (old.pending.bytes ++ printed) new.pending.bytes
+    (printed : List ℕ) × Prints old.point number act printed new.point
+    × IsWritten result taken_before taken (old.pending.bytes ++ printed) new.pending.bytes
 
 pub record ConsoleState : Type 0 where
   pub point : Point  -- the manager's state, and what the reader holds
@@ -41,7 +43,8 @@ pub record Session (limits : Limits) (input output : List ℕ) (console : Consol
 
 -- from the one console to the other these bytes came, and these were printed
 abbrev pub Advances : ConsoleState → List ℕ → List ℕ → ConsoleState → Type 0
-Advances old bytes printed new = (limits : Limits) (input output : List ℕ) → Session limits input output old → Session limits (input ++ bytes) (output ++ printed) new
+Advances old bytes printed new = (limits : Limits) (input output : List ℕ) → Session limits input output old
+    → Session limits (input ++ bytes) (output ++ printed) new
 
 -- the console took the front of a block, up to this rest, and what it printed is written or pending
 pub record IsFed (old new : ConsoleState) (block rest taken_before taken : List ℕ) : Type 0 where
@@ -51,7 +54,8 @@ pub record IsFed (old new : ConsoleState) (block rest taken_before taken : List 
   pub advances : Advances old front printed new
   pub written : Writes taken_before taken (old.pending.bytes ++ printed) new.pending.bytes
 
--- the sink failed while the console took a block: the beginning of what it printed for the front of the block is written
+-- the sink failed while the console took a block: the beginning of what it printed for the front of the block is
+-- written
 pub record IsCutShort (old new : ConsoleState) (block taken_before taken : List ℕ) : Type 0 where
   pub front : List ℕ
   pub rest : List ℕ
@@ -62,4 +66,5 @@ pub record IsCutShort (old new : ConsoleState) (block taken_before taken : List 
 
 -- where the input ends here, these bytes are what is still printed
 abbrev pub Finishes : ConsoleState → List ℕ → Type 0
-Finishes console printed = (limits : Limits) (input output : List ℕ) → Session limits input output console → AnswersAll limits input (output ++ printed)
+Finishes console printed = (limits : Limits) (input output : List ℕ) → Session limits input output console
+    → AnswersAll limits input (output ++ printed)

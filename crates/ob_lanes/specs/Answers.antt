@@ -7,7 +7,8 @@ use Rattle.ob_shared.specs.declared.act.Seen.TheVariants as sees
 use Rattle.ob_output.specs.declared.answer.Answer.{Answer}
 use Rattle.ob_output.specs.declared.answer.Answer.TheVariants.{Replied, NoWait, Pinned, Unpinned, Shown}
 
--- what an act is answered with is printed as a line of a script without lanes prints it; a member that was stopped prints nothing
+-- what an act is answered with is printed as a line of a script without lanes prints it; a member that was stopped
+-- prints nothing
 abbrev pub answer_of : Act → Seen → Option Answer
 answer_of act (sees.Reply reply) = Some (Replied reply)
 answer_of act (sees.Blocked (Some reply)) = Some (Replied reply)

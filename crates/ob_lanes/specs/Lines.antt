@@ -46,7 +46,8 @@ in_prefixed number read.Nothing = Bad
 in_prefixed number act = in_lane number act
 
 abbrev pub behind_prefix : ℕ → List ℕ → Line
-behind_prefix number line = if bytes_eq (text_of line) (codes "block") then Acts number Block else in_prefixed number (act_of line)
+behind_prefix number line = if bytes_eq (text_of line) (codes "block") then Acts number Block else in_prefixed number
+    (act_of line)
 
 -- a line that begins with an @: the prefix ends at the first space
 abbrev pub prefixed : Option ℕ → List ℕ → Line
@@ -60,7 +61,8 @@ with_prefix lanes line = prefixed (lane_of lanes (before_first (is_byte 32) line
 abbrev pub is_marked : List ℕ → Bool
 is_marked line = nat_le 1 (length line) && (slice_index line 0 == 64)
 
--- a line of a script with so many lanes beside the prologue, and whether the prologue goes on; a text of more than 4,096 bytes is bad
+-- a line of a script with so many lanes beside the prologue, and whether the prologue goes on; a text of more than
+-- 4,096 bytes is bad
 abbrev pub line_of : ℕ → Bool → List ℕ → Line
 line_of lanes is_prologue line =
     if nat_lt 4096 (length (text_of line)) then Bad

@@ -26,36 +26,46 @@ onto_append (suc k) n acc = by (eqb (n / 16) 0) (onto_append k (n / 16) (g ∷ a
     front : List ℕ
     front = digits_onto k 16 false (n / 16) []
 
-    by : (b : Bool) → digits_onto k 16 false (n / 16) (g ∷ acc) ≡ front ++ g ∷ acc → digits_onto k 16 false (n / 16) (g ∷ []) ≡ front ++ g ∷ []
-        → cond b (g ∷ acc) (digits_onto k 16 false (n / 16) (g ∷ acc)) ≡ cond b (g ∷ []) (digits_onto k 16 false (n / 16) (g ∷ [])) ++ acc
+    by : (b : Bool) → digits_onto k 16 false (n / 16) (g ∷ acc) ≡ front ++ g ∷ acc
+        → digits_onto k 16 false (n / 16) (g ∷ []) ≡ front ++ g ∷ []
+        → cond b (g ∷ acc) (digits_onto k 16 false (n / 16) (g ∷ acc))
+        ≡ cond b (g ∷ []) (digits_onto k 16 false (n / 16) (g ∷ [])) ++ acc
     by true all one = refl
     by false all one = all ∙ sym (append_assoc front (g ∷ []) acc) ∙ ap (λ xs. xs ++ acc) (sym one)
 
 -- room for more digits than there are changes nothing
-more_room : (k n : ℕ) (acc : List ℕ) → n < 16 ^ suc k → digits_onto (suc (suc k)) 16 false n acc ≡ digits_onto (suc k) 16 false n acc
+more_room : (k n : ℕ) (acc : List ℕ) → n < 16 ^ suc k
+    → digits_onto (suc (suc k)) 16 false n acc ≡ digits_onto (suc k) 16 false n acc
 more_room zero n acc small = by (eqb (n / 16) 0) refl
   where
     g : ℕ
     g = digit_glyph false (n % 16)
 
-    by : (b : Bool) → eqb (n / 16) 0 ≡ b → cond b (g ∷ acc) (digits_onto 1 16 false (n / 16) (g ∷ acc)) ≡ cond b (g ∷ acc) (digits_onto 0 16 false (n / 16) (g ∷ acc))
+    by : (b : Bool) → eqb (n / 16) 0 ≡ b → cond b (g ∷ acc) (digits_onto 1 16 false (n / 16) (g ∷ acc))
+        ≡ cond b (g ∷ acc) (digits_onto 0 16 false (n / 16) (g ∷ acc))
     by true is = refl
-    by false is = let one : n / 16 ≡ 0 = omega (arith, pow-suc 16 0) in let same : eqb (n / 16) 0 ≡ true = ap (λ m. eqb m 0) one in absurd (cc)
-more_room (suc k) n acc small = by (eqb (n / 16) 0) (more_room k (n / 16) (g ∷ acc) (let more = pow-suc 16 (suc k) in omega arith))
+    by false is = let one : n / 16 ≡ 0 = omega (arith, pow-suc 16 0) in
+        let same : eqb (n / 16) 0 ≡ true = ap (λ m. eqb m 0) one in absurd (cc)
+more_room (suc k) n acc small = by (eqb (n / 16) 0) (more_room k (n / 16) (g ∷ acc) (let more = pow-suc 16 (suc k) in
+    omega arith))
   where
     g : ℕ
     g = digit_glyph false (n % 16)
 
-    by : (b : Bool) → digits_onto (suc (suc k)) 16 false (n / 16) (g ∷ acc) ≡ digits_onto (suc k) 16 false (n / 16) (g ∷ acc)
-        → cond b (g ∷ acc) (digits_onto (suc (suc k)) 16 false (n / 16) (g ∷ acc)) ≡ cond b (g ∷ acc) (digits_onto (suc k) 16 false (n / 16) (g ∷ acc))
+    by : (b : Bool) → digits_onto (suc (suc k)) 16 false (n / 16) (g ∷ acc)
+        ≡ digits_onto (suc k) 16 false (n / 16) (g ∷ acc)
+        → cond b (g ∷ acc) (digits_onto (suc (suc k)) 16 false (n / 16) (g ∷ acc))
+        ≡ cond b (g ∷ acc) (digits_onto (suc k) 16 false (n / 16) (g ∷ acc))
     by true same = refl
     by false same = same
 
 not_zero : (n : ℕ) → 0 < n → eqb n 0 ≡ false
 not_zero n some = grind (arith, nat_tests)
 
-onto_step : (k n : ℕ) → 0 < n / 16 → digits_onto (suc k) 16 false n [] ≡ digits_onto k 16 false (n / 16) (digit_glyph false (n % 16) ∷ [])
-onto_step k n large = ap (λ (b : Bool). cond b (digit_glyph false (n % 16) ∷ []) (digits_onto k 16 false (n / 16) (digit_glyph false (n % 16) ∷ []))) (not_zero (n / 16) large)
+onto_step : (k n : ℕ) → 0 < n / 16 → digits_onto (suc k) 16 false n []
+    ≡ digits_onto k 16 false (n / 16) (digit_glyph false (n % 16) ∷ [])
+onto_step k n large = ap (λ (b : Bool). cond b (digit_glyph false (n % 16) ∷ [])
+    (digits_onto k 16 false (n / 16) (digit_glyph false (n % 16) ∷ []))) (not_zero (n / 16) large)
 
 digits_are : (n : ℕ) → digits_onto 64 16 false n [] ≡ digits 16 false n
 unfolding digits
@@ -64,7 +74,9 @@ digits_are n = refl
 pub one_digit : (n : ℕ) → n < 16 → digits 16 false n ≡ digit_glyph false n ∷ []
 one_digit n small = hex_one_digit false n small
 
-pub step : (n : ℕ) → 16 ≤ n → n < 2 ^ 32 → digits 16 false n ≡ digits 16 false (n / 16) ++ digit_glyph false (n % 16) ∷ []
+pub step : (n : ℕ) → 16 ≤ n → n < 2 ^ 32 → digits 16 false n ≡ digits 16 false (n / 16)
+    ++ digit_glyph false (n % 16) ∷ []
 step n large small =
     sym (digits_are n) ∙ onto_step 63 n (omega arith) ∙ onto_append 63 (n / 16) (digit_glyph false (n % 16) ∷ [])
-    ∙ ap (λ front. front ++ digit_glyph false (n % 16) ∷ []) (sym (more_room 62 (n / 16) [] (omega arith)) ∙ digits_are (n / 16))
+    ∙ ap (λ front. front ++ digit_glyph false (n % 16) ∷ []) (sym (more_room 62 (n / 16) [] (omega arith))
+    ∙ digits_are (n / 16))

@@ -9,7 +9,8 @@ pub record Pending : Type 0 where
 
 -- What was to be written is written or pending, or its beginning is written where the sink failed.
 abbrev pub IsWritten : Result (Unit {0}) NotWritten → List ℕ → List ℕ → List ℕ → List ℕ → Type 0
-IsWritten result before after whole pending = MatchResult result (λ _. Writes before after whole pending) (λ _. Begins before after whole)
+IsWritten result before after whole pending = MatchResult result (λ _. Writes before after whole pending)
+    (λ _. Begins before after whole)
 
 -- Each write that was made to a sink is one less that may still be made, and no fault of it is forgotten.
 pub record Spends {S : Type 0} (calls faults : S → ℕ) (sink sink' : S) (pending pending' : Pending) : Type 0 where
@@ -17,6 +18,7 @@ pub record Spends {S : Type 0} (calls faults : S → ℕ) (sink sink' : S) (pend
   pub known : faults sink ≤ faults sink'
 
 -- The same, and what failed has a cause: the sink failed, or no write was left.
-pub record UsesSink {S : Type 0} (calls faults : S → ℕ) (result : Result (Unit {0}) NotWritten) (sink sink' : S) (pending pending' : Pending) : Type 0 where
+pub record UsesSink {S : Type 0} (calls faults : S
+    → ℕ) (result : Result (Unit {0}) NotWritten) (sink sink' : S) (pending pending' : Pending) : Type 0 where
   pub spends : Spends calls faults sink sink' pending pending'
   pub cause : OnErr result ((faults sink < faults sink') ⊎ (pending'.writes_left ≡ 0))

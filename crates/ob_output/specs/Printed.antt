@@ -55,7 +55,8 @@ printed_reply (Ticked now) = codes "now " ++ decimal now
 printed_reply (Ended thread) = codes "ended t" ++ decimal thread
 printed_reply (Exited process) = codes "exited p" ++ decimal process
 printed_reply (Reaped id outcome) = printed_id id ++ printed_reclaim outcome
-printed_reply (CountsAre handles waits hold) = codes "handles " ++ decimal handles ++ codes " waits " ++ decimal waits ++ codes " hold " ++ decimal hold
+printed_reply (CountsAre handles waits hold) = codes "handles " ++ decimal handles ++ codes " waits " ++ decimal waits
+    ++ codes " hold " ++ decimal hold
 printed_reply (Refused fault) = codes "error " ++ decimal (code_of fault)
 
 -- a reply, as one line
@@ -120,7 +121,8 @@ printed_unpin id true = codes "unpinned " ++ printed_id id
 printed_unpin id false = not_held
 
 abbrev pub printed_card : Option Card → List ℕ
-printed_card (Some card) = codes "card " ++ printed_id card.id ++ codes " " ++ printed_descr card.descr ++ codes " grant 0x" ++ digits 16 false card.grant.0
+printed_card (Some card) = codes "card " ++ printed_id card.id ++ codes " " ++ printed_descr card.descr
+    ++ codes " grant 0x" ++ digits 16 false card.grant.0
 printed_card None = not_held
 
 -- a line of the output

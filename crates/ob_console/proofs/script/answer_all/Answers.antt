@@ -9,28 +9,41 @@ use Rattle.ob_console.proofs.script.answer_all.Goals.{in-Ok+in-Ok-take, in-Err-I
 pub returns-in-Ok-finish-clause-answers : goal.returns-in-Ok-finish-clause-answers
 returns-in-Ok-finish-clause-answers g c limits session =
     let ends = c.in-Ok-finish.ensures.finishes in
-    let run = reading_ends limits c.loop-i.console (g.R.Source.given c.args.reader.now) (g.R.Source.given c.loop-i.reader) (g.R.Source.given c.read.new.self) (g.W.Sink.taken c.args.writer.now) (g.W.Sink.taken c.loop-i.writer) (g.W.Sink.taken c.finish.new.sink) ends.0
-    (c.loop-i.invariant.reading limits session) (c.in-Ok-eq0.ensures.given ∙ ap (λ count. g.R.Source.given c.loop-i.reader ++ take count c.read.new.block) c.in-Ok-eq0.field-0-test) c.loop-i.invariant.written ends.1 ends.2 in
+    let run = reading_ends limits c.loop-i.console (g.R.Source.given c.args.reader.now)
+    (g.R.Source.given c.loop-i.reader) (g.R.Source.given c.read.new.self) (g.W.Sink.taken c.args.writer.now)
+    (g.W.Sink.taken c.loop-i.writer) (g.W.Sink.taken c.finish.new.sink) ends.0
+    (c.loop-i.invariant.reading limits session) (c.in-Ok-eq0.ensures.given
+    ∙ ap (λ count. g.R.Source.given c.loop-i.reader ++ take count c.read.new.block) c.in-Ok-eq0.field-0-test)
+    c.loop-i.invariant.written ends.1 ends.2 in
     (run.input, run.output, run.read, run.wrote, run.answers)
 
 pub returns-in-Err-clause-answers : goal.returns-in-Err-clause-answers
 returns-in-Err-clause-answers g c limits session =
     let ends = c.in-Err.ensures.finishes in
-    let run = ending_fails limits c.loop-i.console (g.R.Source.given c.args.reader.now) (g.R.Source.given c.loop-i.reader) (g.R.Source.given c.read.new.self) (g.W.Sink.taken c.args.writer.now) (g.W.Sink.taken c.loop-i.writer) (g.W.Sink.taken c.finish.new.sink) ends.0
-    (c.loop-i.invariant.reading limits session) (c.in-Ok-eq0.ensures.given ∙ ap (λ count. g.R.Source.given c.loop-i.reader ++ take count c.read.new.block) c.in-Ok-eq0.field-0-test) c.loop-i.invariant.written ends.1 ends.2 in
+    let run = ending_fails limits c.loop-i.console (g.R.Source.given c.args.reader.now)
+    (g.R.Source.given c.loop-i.reader) (g.R.Source.given c.read.new.self) (g.W.Sink.taken c.args.writer.now)
+    (g.W.Sink.taken c.loop-i.writer) (g.W.Sink.taken c.finish.new.sink) ends.0
+    (c.loop-i.invariant.reading limits session) (c.in-Ok-eq0.ensures.given
+    ∙ ap (λ count. g.R.Source.given c.loop-i.reader ++ take count c.read.new.block) c.in-Ok-eq0.field-0-test)
+    c.loop-i.invariant.written ends.1 ends.2 in
     (run.input, run.output, run.read, run.wrote, run.answers)
 
 pub returns-in-Err-take-clause-answers : goal.returns-in-Err-take-clause-answers
 returns-in-Err-take-clause-answers g c limits session =
-    let run = writing_fails limits c.loop-i.console c.take.new.self (g.R.Source.given c.args.reader.now) (g.R.Source.given c.loop-i.reader) (g.R.Source.given c.read.new.self) (take c.in-Ok.count c.read.new.block)
+    let run = writing_fails limits c.loop-i.console c.take.new.self (g.R.Source.given c.args.reader.now)
+    (g.R.Source.given c.loop-i.reader) (g.R.Source.given c.read.new.self) (take c.in-Ok.count c.read.new.block)
     (g.W.Sink.taken c.args.writer.now) (g.W.Sink.taken c.loop-i.writer) (g.W.Sink.taken c.take.new.sink)
-    (c.loop-i.invariant.reading limits session) c.in-Ok.ensures.given c.loop-i.invariant.written c.in-Err-take.ensures.err in
+    (c.loop-i.invariant.reading limits session) c.in-Ok.ensures.given c.loop-i.invariant.written
+    c.in-Err-take.ensures.err in
     (run.input, run.output, run.read, run.wrote, run.answers)
 
 pub returns-in-Err-Failed-clause-answers : goal.returns-in-Err-Failed-clause-answers
 returns-in-Err-Failed-clause-answers g c limits session =
-    let run = reading_fails limits c.loop-i.console (g.R.Source.given c.args.reader.now) (g.R.Source.given c.read.new.self) (g.W.Sink.taken c.args.writer.now) (g.W.Sink.taken c.loop-i.writer)
-    (reading_same limits c.loop-i.console (g.R.Source.given c.args.reader.now) (g.R.Source.given c.loop-i.reader) (g.R.Source.given c.read.new.self) (g.W.Sink.taken c.args.writer.now) (g.W.Sink.taken c.loop-i.writer) (c.loop-i.invariant.reading limits session) c.in-Err-Failed.ensures.given) in
+    let run = reading_fails limits c.loop-i.console (g.R.Source.given c.args.reader.now)
+    (g.R.Source.given c.read.new.self) (g.W.Sink.taken c.args.writer.now) (g.W.Sink.taken c.loop-i.writer)
+    (reading_same limits c.loop-i.console (g.R.Source.given c.args.reader.now) (g.R.Source.given c.loop-i.reader)
+    (g.R.Source.given c.read.new.self) (g.W.Sink.taken c.args.writer.now) (g.W.Sink.taken c.loop-i.writer)
+    (c.loop-i.invariant.reading limits session) c.in-Err-Failed.ensures.given) in
     (run.input, run.output, run.read, run.wrote, run.answers)
 
 pub loop-i-preserved : goal.loop-i-preserved
@@ -38,12 +51,23 @@ loop-i-preserved g c = elim c.match-read.branch [
   | in-Ok+in-Ok-take w ↦
       let taken = w.in-Ok-take.ensures in
       rw (w.writer-is, w.console-is) (record {
-        reading = λ limits session. reading_on limits c.loop-i.console w.take.new.self (g.R.Source.given c.args.reader.now) (g.R.Source.given c.loop-i.reader) (g.R.Source.given c.read.new.self) (take w.in-Ok.count c.read.new.block)
+        reading = λ limits session. reading_on limits c.loop-i.console w.take.new.self
+            (g.R.Source.given c.args.reader.now) (g.R.Source.given c.loop-i.reader) (g.R.Source.given c.read.new.self)
+            (take w.in-Ok.count c.read.new.block)
             (g.W.Sink.taken c.args.writer.now) (g.W.Sink.taken c.loop-i.writer) (g.W.Sink.taken w.take.new.sink)
-            (c.loop-i.invariant.reading limits session) w.in-Ok.ensures.given c.loop-i.invariant.written taken.written taken.ok;
+            (c.loop-i.invariant.reading limits session) w.in-Ok.ensures.given c.loop-i.invariant.written taken.written
+            taken.ok;
         block = c.read.auto.block ∙ c.loop-i.invariant.block;
         written = taken.written;
-        lines = omega (arith, taken.lines, c.loop-i.invariant.lines, c.loop-i.invariant.block, c.read.auto.block, length-take-le w.in-Ok.count c.read.new.block w.in-Ok.ensures.bound, w.in-Ok.ensures.bound);
+        lines = omega (
+          arith,
+          taken.lines,
+          c.loop-i.invariant.lines,
+          c.loop-i.invariant.block,
+          c.read.auto.block,
+          length-take-le w.in-Ok.count c.read.new.block w.in-Ok.ensures.bound,
+          w.in-Ok.ensures.bound,
+        );
         reads = omega (arith, w.in-Ok.ensures.calls, c.loop-i.invariant.reads);
         read_faults = omega (arith, w.in-Ok.ensures.faults, c.loop-i.invariant.read_faults);
         spends = record {
@@ -53,18 +77,27 @@ loop-i-preserved g c = elim c.match-read.branch [
       })
   | in-Err-Interrupted w ↦
       rw (w.writer-is, w.console-is) (record {
-        reading = λ limits session. reading_same limits c.loop-i.console (g.R.Source.given c.args.reader.now) (g.R.Source.given c.loop-i.reader) (g.R.Source.given c.read.new.self) (g.W.Sink.taken c.args.writer.now) (g.W.Sink.taken c.loop-i.writer)
+        reading = λ limits session. reading_same limits c.loop-i.console (g.R.Source.given c.args.reader.now)
+            (g.R.Source.given c.loop-i.reader) (g.R.Source.given c.read.new.self) (g.W.Sink.taken c.args.writer.now)
+            (g.W.Sink.taken c.loop-i.writer)
             (c.loop-i.invariant.reading limits session) w.in-Err-Interrupted.ensures.given;
         block = c.read.auto.block ∙ c.loop-i.invariant.block;
         written = c.loop-i.invariant.written;
         lines = omega (arith, c.loop-i.invariant.lines);
         reads = omega (arith, w.in-Err-Interrupted.ensures.calls, c.loop-i.invariant.reads);
-        read_faults = omega (arith, w.in-Err-Interrupted.ensures.faults, ap (λ (trouble : Trouble). read_faults (Err trouble)) w.in-Err-Interrupted.field-0-is, c.loop-i.invariant.read_faults);
+        read_faults = omega (
+          arith,
+          w.in-Err-Interrupted.ensures.faults,
+          ap (λ (trouble : Trouble). read_faults (Err trouble)) w.in-Err-Interrupted.field-0-is,
+          c.loop-i.invariant.read_faults,
+        );
         spends = c.loop-i.invariant.spends;
       })
 ]
 
 pub returns-clause-answers : goal.returns-clause-answers
 returns-clause-answers g c limits session =
-    let run = reading_fails limits c.loop-i.console (g.R.Source.given c.args.reader.now) (g.R.Source.given c.loop-i.reader) (g.W.Sink.taken c.args.writer.now) (g.W.Sink.taken c.loop-i.writer) (c.loop-i.invariant.reading limits session) in
+    let run = reading_fails limits c.loop-i.console (g.R.Source.given c.args.reader.now)
+    (g.R.Source.given c.loop-i.reader) (g.W.Sink.taken c.args.writer.now) (g.W.Sink.taken c.loop-i.writer)
+    (c.loop-i.invariant.reading limits session) in
     (run.input, run.output, run.read, run.wrote, run.answers)

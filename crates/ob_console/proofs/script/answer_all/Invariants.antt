@@ -7,7 +7,9 @@ use Rattle.ob_console.proofs.script.answer_all.Given as goal
 
 abbrev pub invariant-loop-i : goal.invariant-loop-i
 invariant-loop-i g l = record {
-  reading : (limits : Limits) → Session limits [] [] l.fn.console → IsReading limits l.console (g.R.Source.given l.fn.reader) (g.R.Source.given l.reader) (g.W.Sink.taken l.fn.writer) (g.W.Sink.taken l.writer);
+  reading : (limits : Limits) → Session limits [] [] l.fn.console
+      → IsReading limits l.console (g.R.Source.given l.fn.reader) (g.R.Source.given l.reader)
+      (g.W.Sink.taken l.fn.writer) (g.W.Sink.taken l.writer);
   block : length l.block ≡ 65536;
   written : l.console.pending.bytes ≡ [];
   lines : l.console.lines ≤ 65536 * l.i;

@@ -8,19 +8,29 @@ use Rattle.ob_console.proofs.console.Console.feed.Goals as goal
 pub returns-in-Err-clause-err : goal.returns-in-Err-clause-err
 returns-in-Err-clause-err g c =
     let one = c.in-Err.ensures.advances in
-    cut_short c.args.self.now c.loop-end.self c.line.new.self c.args.block.now c.loop-end.rest.now (g.W.Sink.taken c.args.sink.now) (g.W.Sink.taken c.loop-end.sink) (g.W.Sink.taken c.line.new.sink) one.0
+    cut_short c.args.self.now c.loop-end.self c.line.new.self c.args.block.now c.loop-end.rest.now
+    (g.W.Sink.taken c.args.sink.now) (g.W.Sink.taken c.loop-end.sink) (g.W.Sink.taken c.line.new.sink) one.0
     c.loop-end.invariant.fed c.in-Some.ensures.within
-    (subst (λ (end : List ℕ). Advances c.loop-end.self (end ++ line_end) one.0 c.line.new.self) c.in-Some.ensures.before one.1) one.2
+    (subst (λ (end : List ℕ). Advances c.loop-end.self (end ++ line_end) one.0 c.line.new.self) c.in-Some.ensures.before
+    one.1) one.2
 
 pub loop-end-preserved : goal.loop-end-preserved
 loop-end-preserved g c =
     let one = c.in-Ok.ensures.advances in
     record {
-      fed = subst (λ (rest : List ℕ). IsFed c.args.self.now c.line.new.self c.args.block.now rest (g.W.Sink.taken c.args.sink.now) (g.W.Sink.taken c.line.new.sink)) (sym c.in-Some.ensures.behind)
-          (fed_line c.args.self.now c.loop-end.self c.line.new.self c.args.block.now c.loop-end.rest.now (g.W.Sink.taken c.args.sink.now) (g.W.Sink.taken c.loop-end.sink) (g.W.Sink.taken c.line.new.sink) one.0
+      fed = subst (λ (rest : List ℕ). IsFed c.args.self.now c.line.new.self c.args.block.now rest
+          (g.W.Sink.taken c.args.sink.now) (g.W.Sink.taken c.line.new.sink)) (sym c.in-Some.ensures.behind)
+          (fed_line c.args.self.now c.loop-end.self c.line.new.self c.args.block.now c.loop-end.rest.now
+          (g.W.Sink.taken c.args.sink.now) (g.W.Sink.taken c.loop-end.sink) (g.W.Sink.taken c.line.new.sink) one.0
           c.loop-end.invariant.fed c.in-Some.ensures.within
-          (subst (λ (end : List ℕ). Advances c.loop-end.self (end ++ line_end) one.0 c.line.new.self) c.in-Some.ensures.before one.1) one.2);
-      lines = rw c.in-Some.ensures.behind (omega (arith, c.loop-end.invariant.lines, c.in-Ok.ensures.lines, behind_shorter c.loop-end.rest.now c.in-Some.ensures.within));
+          (subst (λ (end : List ℕ). Advances c.loop-end.self (end ++ line_end) one.0 c.line.new.self)
+          c.in-Some.ensures.before one.1) one.2);
+      lines = rw c.in-Some.ensures.behind (omega (
+        arith,
+        c.loop-end.invariant.lines,
+        c.in-Ok.ensures.lines,
+        behind_shorter c.loop-end.rest.now c.in-Some.ensures.within,
+      ));
       spends = record {
         made = omega (arith, c.loop-end.invariant.spends.made, c.in-Ok.ensures.sink.spends.made);
         known = omega (arith, c.loop-end.invariant.spends.known, c.in-Ok.ensures.sink.spends.known);
@@ -29,8 +39,17 @@ loop-end-preserved g c =
 
 pub returns-clause-ok : goal.returns-clause-ok
 returns-clause-ok g c =
-    let now : ConsoleState = record { point = c.self.inside.evaluator.point; pending = c.self.inside.evaluator.pending; held = c.self.inside.held; lines = c.self.inside.evaluator.lines } in
+    let now : ConsoleState = record {
+      point = c.self.inside.evaluator.point;
+      pending = c.self.inside.evaluator.pending;
+      held = c.self.inside.held;
+      lines = c.self.inside.evaluator.lines;
+    } in
     let new : ConsoleState = record now { held = c.extend.new.self } in
-    fed_rest c.args.self.now now new c.args.block.now c.loop-end.rest.now (g.W.Sink.taken c.args.sink.now) (g.W.Sink.taken c.loop-end.sink)
-    (subst (λ (console : ConsoleState). IsFed c.args.self.now console c.args.block.now c.loop-end.rest.now (g.W.Sink.taken c.args.sink.now) (g.W.Sink.taken c.loop-end.sink)) (sym c.self.view_is) c.loop-end.invariant.fed)
-    (part_advances now new c.loop-end.rest.now (rest_within c.loop-end.rest.now c.in_default.ensures.none) refl refl c.extend.ensures) refl
+    fed_rest c.args.self.now now new c.args.block.now c.loop-end.rest.now (g.W.Sink.taken c.args.sink.now)
+    (g.W.Sink.taken c.loop-end.sink)
+    (subst (λ (console : ConsoleState). IsFed c.args.self.now console c.args.block.now c.loop-end.rest.now
+    (g.W.Sink.taken c.args.sink.now) (g.W.Sink.taken c.loop-end.sink))
+    (sym c.self.view_is) c.loop-end.invariant.fed)
+    (part_advances now new c.loop-end.rest.now (rest_within c.loop-end.rest.now c.in_default.ensures.none) refl refl
+    c.extend.ensures) refl

@@ -9,7 +9,11 @@ returns-in-Ok-clause-finishes g c =
     let finishes = c.in-Ok.ensures.finishes in (
       finishes.0,
       finishes.1,
-      flush_writes c.flush.result (g.W.Sink.taken c.args.sink.now) (g.W.Sink.taken c.last_line.new.sink) (g.W.Sink.taken c.flush.new.sink) (c.args.self.now.pending.bytes ++ finishes.0) c.self.inside.evaluator.pending.bytes
-          (subst (λ (console : ConsoleState). Writes (g.W.Sink.taken c.args.sink.now) (g.W.Sink.taken c.last_line.new.sink) (c.args.self.now.pending.bytes ++ finishes.0) console.pending.bytes) (sym c.self.view_is) finishes.2)
+      flush_writes c.flush.result (g.W.Sink.taken c.args.sink.now) (g.W.Sink.taken c.last_line.new.sink)
+          (g.W.Sink.taken c.flush.new.sink) (c.args.self.now.pending.bytes
+          ++ finishes.0) c.self.inside.evaluator.pending.bytes
+          (subst (λ (console : ConsoleState). Writes (g.W.Sink.taken c.args.sink.now)
+          (g.W.Sink.taken c.last_line.new.sink) (c.args.self.now.pending.bytes ++ finishes.0) console.pending.bytes)
+          (sym c.self.view_is) finishes.2)
           c.flush.ensures.ok c.flush.ensures.err,
     )
