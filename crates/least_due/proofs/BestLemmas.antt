@@ -30,38 +30,50 @@ sooner_either (Some x) None = inl refl
 sooner_either (Some x) (Some y) = elim (min_either x y) [ inl e ↦ inl (ap Some e) | inr e ↦ inr (ap Some e) ]
 
 -- what is at a place is passed on to the place above
-above : (dues best : List (Option ℕ)) (n k m : ℕ) → IsBest dues best → (k ≡ 2 * n + 1) ⊎ (k ≡ 2 * n + 2) → NotAfter (due_at best k) m → NotAfter (due_at best n) m
-above dues best n k m all which h = subst (λ x. NotAfter x m) (sym (all n)) (sooner_second (due_at dues n) _ m (elim which [
-  | inl e ↦ sooner_first (due_at best (2 * n + 1)) (due_at best (2 * n + 2)) m (subst (λ i. NotAfter (due_at best i) m) e h)
-  | inr e ↦ sooner_second (due_at best (2 * n + 1)) (due_at best (2 * n + 2)) m (subst (λ i. NotAfter (due_at best i) m) e h)
-]))
+above : (dues best : List (Option ℕ)) (n k m : ℕ) → IsBest dues best → (k ≡ 2 * n + 1) ⊎ (k ≡ 2 * n + 2)
+    → NotAfter (due_at best k) m → NotAfter (due_at best n) m
+above dues best n k m all which h = subst (λ x. NotAfter x m) (sym (all n))
+    (sooner_second (due_at dues n) _ m (elim which [
+      | inl e ↦ sooner_first (due_at best (2 * n + 1)) (due_at best (2 * n + 2)) m
+          (subst (λ i. NotAfter (due_at best i) m) e h)
+      | inr e ↦ sooner_second (due_at best (2 * n + 1)) (due_at best (2 * n + 2)) m
+          (subst (λ i. NotAfter (due_at best i) m) e h)
+    ]))
 
 child_of : (k : ℕ) → 0 < k → (k ≡ 2 * ((k - 1) / 2) + 1) ⊎ (k ≡ 2 * ((k - 1) / 2) + 2)
 child_of k lt = elim (cases_eq k (2 * ((k - 1) / 2) + 1)) [ inl e ↦ inl e | inr ne ↦ inr (omega (arith, ne, lt)) ]
 
-at_root : (dues best : List (Option ℕ)) (m fuel k : ℕ) → k ≤ fuel → IsBest dues best → NotAfter (due_at best k) m → NotAfter (due_at best 0) m
+at_root : (dues best : List (Option ℕ)) (m fuel k : ℕ) → k ≤ fuel → IsBest dues best → NotAfter (due_at best k) m
+    → NotAfter (due_at best 0) m
 at_root dues best m zero k le all h = let e : k ≡ 0 = omega (arith, le) in subst (λ i. NotAfter (due_at best i) m) e h
 at_root dues best m (suc fuel) k le all h = elim (cases_lt 0 k) [
-  | inl lt ↦ at_root dues best m fuel ((k - 1) / 2) (omega (arith, le, lt)) all (above dues best ((k - 1) / 2) k m all (child_of k lt) h)
+  | inl lt ↦ at_root dues best m fuel ((k - 1) / 2) (omega (arith, le, lt)) all
+      (above dues best ((k - 1) / 2) k m all (child_of k lt) h)
   | inr none ↦ (let e : k ≡ 0 = omega (arith, none) in subst (λ i. NotAfter (due_at best i) m) e h)
 ]
 
 -- and comes from a place
-from_place : (dues best : List (Option ℕ)) (m fuel n : ℕ) → length best ≤ n + fuel → IsBest dues best → due_at best n ≡ Some m → (place : ℕ) × (due_at dues place ≡ Some m)
+from_place : (dues best : List (Option ℕ)) (m fuel n : ℕ) → length best ≤ n + fuel → IsBest dues best
+    → due_at best n ≡ Some m → (place : ℕ) × (due_at dues place ≡ Some m)
 from_place dues best m zero n le all is = absurd (none-some m (sym (get_or_past best n None (omega (arith, le))) ∙ is))
-from_place dues best m (suc fuel) n le all is = elim (sooner_either (due_at dues n) (sooner (due_at best (2 * n + 1)) (due_at best (2 * n + 2)))) [
-  | inl own ↦ (n, sym own ∙ sym (all n) ∙ is)
-  | inr below ↦ elim (sooner_either (due_at best (2 * n + 1)) (due_at best (2 * n + 2))) [
-    | inl left ↦ from_place dues best m fuel (2 * n + 1) (omega (arith, le)) all (sym left ∙ sym below ∙ sym (all n) ∙ is)
-    | inr right ↦ from_place dues best m fuel (2 * n + 2) (omega (arith, le)) all (sym right ∙ sym below ∙ sym (all n) ∙ is)
-  ]
-]
+from_place dues best m (suc fuel) n le all is = elim (sooner_either (due_at dues n)
+    (sooner (due_at best (2 * n + 1)) (due_at best (2 * n + 2)))) [
+      | inl own ↦ (n, sym own ∙ sym (all n) ∙ is)
+      | inr below ↦ elim (sooner_either (due_at best (2 * n + 1)) (due_at best (2 * n + 2))) [
+        | inl left ↦ from_place dues best m fuel (2 * n + 1) (omega (arith, le)) all (sym left ∙ sym below ∙ sym (all n)
+            ∙ is)
+        | inr right ↦ from_place dues best m fuel (2 * n + 2) (omega (arith, le)) all (sym right ∙ sym below
+            ∙ sym (all n)
+            ∙ is)
+      ]
+    ]
 
 pub least_at_root : (dues best : List (Option ℕ)) → IsBest dues best → IsLeast dues (due_at best 0)
 least_at_root dues best all = record {
   stands = by (due_at best 0) refl;
   first = λ place moment is. at_root dues best moment place place (omega arith) all
-      (subst (λ x. NotAfter x moment) (sym (all place)) (sooner_first (due_at dues place) _ moment (subst (λ x. NotAfter x moment) (sym is) (omega arith))));
+      (subst (λ x. NotAfter x moment) (sym (all place))
+      (sooner_first (due_at dues place) _ moment (subst (λ x. NotAfter x moment) (sym is) (omega arith))));
 }
   where
     by : (x : Option ℕ) → due_at best 0 ≡ x → IfSome x (λ moment. (place : ℕ) × (due_at dues place ≡ Some moment))
@@ -69,8 +81,10 @@ least_at_root dues best all = record {
     by (Some m) e = from_place dues best m (length best) 0 (omega arith) all e
 
 -- one place is written, as it has to be
-pub written : (dues best : List (Option ℕ)) (place : ℕ) (due : Option ℕ) → place < length best → due ≡ best_below dues best place → IsBestBut place dues best
-    → (n : ℕ) → (0 < place → n ≢ (place - 1) / 2) → due_at (set best place due) n ≡ best_below dues (set best place due) n
+pub written : (dues best : List (Option ℕ)) (place : ℕ) (due : Option ℕ) → place < length best
+    → due ≡ best_below dues best place → IsBestBut place dues best
+    → (n : ℕ) → (0 < place → n ≢ (place - 1) / 2) →
+    due_at (set best place due) n ≡ best_below dues (set best place due) n
 written dues best place due lt is but n apart = elim (cases_eq n place) [
   | inl e ↦ subst (λ k. due_at (set best place due) k ≡ best_below dues (set best place due) k) (sym e)
       (get_or-set_same best place due None lt ∙ is ∙ sym (below place (omega arith) (omega arith)))
@@ -78,19 +92,26 @@ written dues best place due lt is but n apart = elim (cases_eq n place) [
       (λ e. apart (omega (arith, e)) (omega (arith, e))) (λ e. apart (omega (arith, e)) (omega (arith, e))))
 ]
   where
-    below : (k : ℕ) → 2 * k + 1 ≢ place → 2 * k + 2 ≢ place → best_below dues (set best place due) k ≡ best_below dues best k
-    below k left right = ap (λ x. sooner (due_at dues k) (sooner x (due_at (set best place due) (2 * k + 2)))) (get_or-set_other best place (2 * k + 1) due None left)
-        ∙ ap (λ x. sooner (due_at dues k) (sooner (due_at best (2 * k + 1)) x)) (get_or-set_other best place (2 * k + 2) due None right)
+    below : (k : ℕ) → 2 * k + 1 ≢ place → 2 * k + 2 ≢ place
+        → best_below dues (set best place due) k ≡ best_below dues best k
+    below k left right = ap (λ x. sooner (due_at dues k) (sooner x (due_at (set best place due) (2 * k + 2))))
+        (get_or-set_other best place (2 * k + 1) due None left)
+        ∙ ap (λ x. sooner (due_at dues k) (sooner (due_at best (2 * k + 1)) x))
+        (get_or-set_other best place (2 * k + 2) due None right)
 
-pub unwritten : (dues best : List (Option ℕ)) (place : ℕ) → due_at best place ≡ best_below dues best place → IsBestBut place dues best → IsBest dues best
+pub unwritten : (dues best : List (Option ℕ)) (place : ℕ) → due_at best place ≡ best_below dues best place
+    → IsBestBut place dues best → IsBest dues best
 unwritten dues best place is but n = elim (cases_eq n place) [
   | inl e ↦ subst (λ k. due_at best k ≡ best_below dues best k) (sym e) is
   | inr ne ↦ but n ne
 ]
 
 -- a moment is written at a place
-pub due_written : (dues best : List (Option ℕ)) (place : ℕ) (due : Option ℕ) → IsBest dues best → IsBestBut place (set dues place due) best
-due_written dues best place due all n ne = all n ∙ ap (λ x. sooner x (sooner (due_at best (2 * n + 1)) (due_at best (2 * n + 2)))) (sym (get_or-set_other dues place n due None ne))
+pub due_written : (dues best : List (Option ℕ)) (place : ℕ) (due : Option ℕ) → IsBest dues best
+    → IsBestBut place (set dues place due) best
+due_written dues best place due all n ne = all n ∙ ap
+    (λ x. sooner x (sooner (due_at best (2 * n + 1)) (due_at best (2 * n + 2))))
+    (sym (get_or-set_other dues place n due None ne))
 
 -- a place with no moment more
 pub no_more : (xs : List (Option ℕ)) (k : ℕ) → due_at (xs ++ None ∷ []) k ≡ due_at xs k
@@ -99,7 +120,8 @@ no_more [] (suc k) = refl
 no_more (x ∷ xs) zero = refl
 no_more (x ∷ xs) (suc k) = no_more xs k
 
-pub same_best : (dues best dues' best' : List (Option ℕ)) → ((k : ℕ) → due_at dues' k ≡ due_at dues k) → ((k : ℕ) → due_at best' k ≡ due_at best k) → IsBest dues best → IsBest dues' best'
+pub same_best : (dues best dues' best' : List (Option ℕ)) → ((k : ℕ) → due_at dues' k ≡ due_at dues k)
+    → ((k : ℕ) → due_at best' k ≡ due_at best k) → IsBest dues best → IsBest dues' best'
 same_best dues best dues' best' ds bs all n = bs n ∙ all n
     ∙ sym (ap (λ x. sooner x (sooner (due_at best' (2 * n + 1)) (due_at best' (2 * n + 2)))) (ds n)
     ∙ ap (λ x. sooner (due_at dues n) (sooner x (due_at best' (2 * n + 2)))) (bs (2 * n + 1))
@@ -116,7 +138,8 @@ is_there xs k some = elim (cases_lt k (length xs)) [
     no_some h = cc
 
 -- the least of two lists
-pub least_joined : (xs ys : List (Option ℕ)) (x y : Option ℕ) → IsLeast xs x → IsLeast ys y → IsLeast (xs ++ ys) (sooner x y)
+pub least_joined : (xs ys : List (Option ℕ)) (x y : Option ℕ) → IsLeast xs x → IsLeast ys y
+    → IsLeast (xs ++ ys) (sooner x y)
 least_joined xs ys x y a b = record {
   stands = elim (sooner_either x y) [
     | inl e ↦ subst (λ z. Stands (xs ++ ys) z) (sym e) (left x a.stands)
@@ -126,13 +149,18 @@ least_joined xs ys x y a b = record {
     | inl lt ↦ sooner_first x y moment (a.first place moment (sym (get_or_append_left xs ys None place lt) ∙ is))
     | inr past ↦
         let at : length xs + (place - length xs) ≡ place = omega (arith, past) in
-        sooner_second x y moment (b.first (place - length xs) moment (sym (get_or-append-add xs ys (place - length xs) None) ∙ ap (λ i. due_at (xs ++ ys) i) at ∙ is))
+        sooner_second x y moment (b.first (place - length xs) moment
+        (sym (get_or-append-add xs ys (place - length xs) None) ∙ ap (λ i. due_at (xs ++ ys) i) at ∙ is))
   ];
 }
   where
     left : (z : Option ℕ) → Stands xs z → Stands (xs ++ ys) z
     left None h = tt
-    left (Some m) h = (h.0, get_or_append_left xs ys None h.0 (is_there xs h.0 (subst (λ o. IsSome o) (sym h.1) refl)) ∙ h.1)
+    left (Some m) h = (
+      h.0,
+      get_or_append_left xs ys None h.0 (is_there xs h.0 (subst (λ o. IsSome o) (sym h.1) refl))
+          ∙ h.1,
+    )
 
     right : (z : Option ℕ) → Stands ys z → Stands (xs ++ ys) z
     right None h = tt
@@ -142,48 +170,71 @@ least_joined xs ys x y a b = record {
 pub record IsLeastAmong (from count : ℕ) (dues : List (Option ℕ)) (least : Option ℕ) : Type 0 where
   pub stands : Stands dues least
   pub from_on : IfSome least (λ moment. from ≤ moment)
-  pub first : (place moment : ℕ) → place < count → due_at dues place ≡ Some moment → from ≤ moment → NotAfter least moment
+  pub first : (place moment : ℕ) → place < count → due_at dues place ≡ Some moment → from ≤ moment
+      → NotAfter least moment
 
 pub among_none : (from : ℕ) (dues : List (Option ℕ)) → IsLeastAmong from 0 dues None
 among_none from dues = record { stands = tt; from_on = tt; first = λ place moment lt is le. absurd (omega (arith, lt)) }
 
-since_stands : (from place : ℕ) (dues : List (Option ℕ)) (x : Option ℕ) → due_at dues place ≡ x → Stands dues (since from x) × IfSome (since from x) (λ moment. from ≤ moment)
+since_stands : (from place : ℕ) (dues : List (Option ℕ)) (x : Option ℕ) → due_at dues place ≡ x
+    → Stands dues (since from x) × IfSome (since from x) (λ moment. from ≤ moment)
 since_stands from place dues None is = (tt, tt)
 since_stands from place dues (Some m) is = by (leb from m) refl
   where
-    by : (b : Bool) → leb from m ≡ b → Stands dues (cond b (Some m) None) × IfSome (cond b (Some m) None) (λ moment. from ≤ moment)
+    by : (b : Bool) → leb from m ≡ b → Stands dues (cond b (Some m) None)
+        × IfSome (cond b (Some m) None) (λ moment. from ≤ moment)
     by true le = ((place, is), leb-true from m le)
     by false le = (tt, tt)
 
 since_first : (from moment : ℕ) (x : Option ℕ) → x ≡ Some moment → from ≤ moment → NotAfter (since from x) moment
 since_first from moment x is le = rw (is, le-leb from moment le) (omega arith)
 
-pub among_more : (from count : ℕ) (dues : List (Option ℕ)) (least : Option ℕ) → IsLeastAmong from count dues least → IsLeastAmong from (count + 1) dues (sooner least (since from (due_at dues count)))
+pub among_more : (from count : ℕ) (dues : List (Option ℕ)) (least : Option ℕ) → IsLeastAmong from count dues least
+    → IsLeastAmong from (count + 1) dues (sooner least (since from (due_at dues count)))
 among_more from count dues least among = record {
-  stands = elim (sooner_either least own) [ inl e ↦ subst (λ z. Stands dues z) (sym e) among.stands | inr e ↦ subst (λ z. Stands dues z) (sym e) here.0 ];
-  from_on = elim (sooner_either least own) [ inl e ↦ subst (λ z. IfSome z (λ moment. from ≤ moment)) (sym e) among.from_on | inr e ↦ subst (λ z. IfSome z (λ moment. from ≤ moment)) (sym e) here.1 ];
+  stands = elim (sooner_either least own) [
+    | inl e ↦ subst (λ z. Stands dues z) (sym e) among.stands
+    | inr e ↦
+        subst (λ z. Stands dues z) (sym e) here.0
+  ];
+  from_on = elim (sooner_either least own) [
+    | inl e ↦
+        subst (λ z. IfSome z (λ moment. from ≤ moment)) (sym e) among.from_on
+    | inr e ↦
+        subst (λ z. IfSome z (λ moment. from ≤ moment)) (sym e) here.1
+  ];
   first = λ place moment lt is le. elim (cases_lt place count) [
     | inl below ↦ sooner_first least own moment (among.first place moment below is le)
-    | inr past ↦ (let same : place ≡ count = omega (arith, lt, past) in sooner_second least own moment (since_first from moment (due_at dues count) (ap (λ i. due_at dues i) (sym same) ∙ is) le))
+    | inr past ↦ (let same : place ≡ count = omega (arith, lt, past) in
+        sooner_second least own moment (since_first from moment (due_at dues count) (ap (λ i. due_at dues i) (sym same)
+        ∙ is) le))
   ];
 }
   where
     own : Option ℕ
     own = since from (due_at dues count)
 
-    here : Stands dues (since from (due_at dues count)) × IfSome (since from (due_at dues count)) (λ moment. from ≤ moment)
+    here : Stands dues (since from (due_at dues count))
+        × IfSome (since from (due_at dues count)) (λ moment. from ≤ moment)
     here = since_stands from count dues (due_at dues count) refl
 
-pub among_all : (from count : ℕ) (dues : List (Option ℕ)) (least : Option ℕ) → length dues ≤ count → IsLeastAmong from count dues least → IsLeastSince from dues least
+pub among_all : (from count : ℕ) (dues : List (Option ℕ)) (least : Option ℕ) → length dues ≤ count
+    → IsLeastAmong from count dues least → IsLeastSince from dues least
 among_all from count dues least all among = record {
   stands = among.stands;
   from_on = among.from_on;
-  first = λ place moment is le. among.first place moment (let there = is_there dues place (subst (λ o. IsSome o) (sym is) refl) in omega (arith, there, all)) is le;
+  first = λ place moment is le. among.first place moment (let there =
+      is_there dues place (subst (λ o. IsSome o) (sym is) refl) in omega (arith, there, all)) is le;
 }
 
 -- where the least of all isn't before a moment, it is the least from there on; and where there is none, there is none
-pub from_least : (from : ℕ) (dues : List (Option ℕ)) (least : ℕ) → IsLeast dues (Some least) → from ≤ least → IsLeastSince from dues (Some least)
-from_least from dues least is le = record { stands = is.stands; from_on = le; first = λ place moment at after. is.first place moment at }
+pub from_least : (from : ℕ) (dues : List (Option ℕ)) (least : ℕ) → IsLeast dues (Some least) → from ≤ least
+    → IsLeastSince from dues (Some least)
+from_least from dues least is le = record {
+  stands = is.stands;
+  from_on = le;
+  first = λ place moment at after. is.first place moment at;
+}
 
 pub from_none : (from : ℕ) (dues : List (Option ℕ)) → IsLeast dues None → IsLeastSince from dues None
 from_none from dues is = record { stands = tt; from_on = tt; first = λ place moment at after. is.first place moment at }

@@ -1,4 +1,5 @@
--- A tree over the places, in which places 2 * n + 1 and 2 * n + 2 stand below place n: the least moment at or below each.
+-- A tree over the places, in which places 2 * n + 1 and 2 * n + 2 stand below place n: the least moment at or below
+-- each.
 use Rattle.std.specs.Prelude.{◌≡◌, ◌≢◌, ℕ, ◌+◌, ◌*◌, ◌≤◌, List, Option, Some, None, length, min}
 use Rattle.least_due.specs.Dues.{due_at}
 
@@ -10,7 +11,8 @@ sooner (Some x) (Some y) = Some (min x y)
 
 -- the least of the place's own moment and what the two places below it have
 abbrev pub best_below : List (Option ℕ) → List (Option ℕ) → ℕ → Option ℕ
-best_below dues best place = sooner (due_at dues place) (sooner (due_at best (2 * place + 1)) (due_at best (2 * place + 2)))
+best_below dues best place = sooner (due_at dues place)
+    (sooner (due_at best (2 * place + 1)) (due_at best (2 * place + 2)))
 
 -- each place has that
 abbrev pub IsBest : List (Option ℕ) → List (Option ℕ) → Type 0

@@ -38,7 +38,8 @@ pub leads_back : (bits : ℕ → ℕ) (lo : List ℕ) (n : ℕ) → SumsUp bits 
 leads_back bits lo n sums e = let h = sums (n / 64) in let f = some_of_bit lo n e in omega arith
 
 pub inside : (ws : List ℕ) (w : ℕ) → 0 < slice_index ws w → w < length ws
-inside ws w h = ⊎_elim (λ lt. lt) (λ (ge : length ws ≤ w). let e = get_or_past ws w 0 ge in absurd (omega arith)) (cases_lt w (length ws))
+inside ws w h = ⊎_elim (λ lt. lt) (λ (ge : length ws ≤ w). let e = get_or_past ws w 0 ge in
+    absurd (omega arith)) (cases_lt w (length ws))
 
 -- one word changes, and the bit above it
 pub sums_changed : (bits bits' : ℕ → ℕ) (lo lo' : List ℕ) (w : ℕ) → SumsUp bits lo
@@ -71,9 +72,11 @@ get_or-taken_in ws n k d lt = get_or-map-range_with_len (λ j. bit ws j == 0) 0 
 
 -- the same bits below n show the same set
 pub taken_same : (ws ws' : List ℕ) (n : ℕ) → ((k : ℕ) → k < n → bit ws' k ≡ bit ws k) → taken_in ws' n ≡ taken_in ws n
-taken_same ws ws' n same = ext_get_or true (taken_in ws' n) (taken_in ws n) (length-taken_in ws' n ∙ sym (length-taken_in ws n))
+taken_same ws ws' n same = ext_get_or true (taken_in ws' n) (taken_in ws n) (length-taken_in ws' n
+    ∙ sym (length-taken_in ws n))
     (λ k lt. let in' : k < n = simp length-taken_in at lt in
-    get_or-taken_in ws' n k true in' ∙ ap {B = Bool} (λ (x : ℕ). x == 0) (same k in') ∙ sym (get_or-taken_in ws n k true in'))
+    get_or-taken_in ws' n k true in' ∙ ap {B = Bool} (λ (x : ℕ). x == 0) (same k in')
+    ∙ sym (get_or-taken_in ws n k true in'))
 
 -- one bit changes
 pub taken_set : (ws ws' : List ℕ) (n k : ℕ) (b : Bool) → k < n → (bit ws' k == 0) ≡ b
@@ -82,8 +85,11 @@ taken_set ws ws' n k b lt here others = ext_get_or true (taken_in ws' n) (set (t
     (length-taken_in ws' n ∙ sym (simp (length-set, length-taken_in)))
     (λ j below. let in' : j < n = simp length-taken_in at below in let at' = get_or-taken_in ws' n j true in' in
     ⊎_elim
-    (λ (e : j ≡ k). at' ∙ ap {B = Bool} (λ (x : ℕ). bit ws' x == 0) e ∙ here ∙ sym (ap (λ (x : ℕ). get_or (set (taken_in ws n) k b) x true) e ∙ get_or-set_same (taken_in ws n) k b true (simp length-taken_in lt)))
-    (λ (ne : j ≢ k). at' ∙ ap {B = Bool} (λ (x : ℕ). x == 0) (others j ne) ∙ sym (get_or-set_other (taken_in ws n) k j b true ne ∙ get_or-taken_in ws n j true in'))
+    (λ (e : j ≡ k). at' ∙ ap {B = Bool} (λ (x : ℕ). bit ws' x == 0) e ∙ here
+    ∙ sym (ap (λ (x : ℕ). get_or (set (taken_in ws n) k b) x true) e
+    ∙ get_or-set_same (taken_in ws n) k b true (simp length-taken_in lt)))
+    (λ (ne : j ≢ k). at' ∙ ap {B = Bool} (λ (x : ℕ). x == 0) (others j ne)
+    ∙ sym (get_or-set_other (taken_in ws n) k j b true ne ∙ get_or-taken_in ws n j true in'))
     (cases_eq j k))
 
 pub taken_cleared : (ws ws' : List ℕ) (n k : ℕ) → k < n → bit ws' k ≡ 0 → ((j : ℕ) → j ≢ k → bit ws' j ≡ bit ws j)
@@ -100,15 +106,18 @@ taken_more ws n none = map-range_with_len_more (λ k. bit ws k == 0) 0 n n (omeg
     ∙ ap (λ b. taken_in ws n ++ b ∷ []) (ap {B = Bool} (λ (x : ℕ). x == 0) none)
 
 -- a free number has a bit
-pub free_bit : (ws : List ℕ) (n k : ℕ) (taken : List Bool) → taken_in ws n ≡ taken → slice_get taken k ≡ Some false → (k < n) × (bit ws k ≡ 1)
+pub free_bit : (ws : List ℕ) (n k : ℕ) (taken : List Bool) → taken_in ws n ≡ taken → slice_get taken k ≡ Some false
+    → (k < n) × (bit ws k ≡ 1)
 free_bit ws n k taken shown is =
     let free : slice_get (taken_in ws n) k ≡ Some false = ap (λ (s : List Bool). slice_get s k) shown ∙ is in
     let lt : k < n = omega (arith, slice_get_within (taken_in ws n) k false free, length-taken_in ws n) in
-    let e : (bit ws k == 0) ≡ false = sym (get_or-taken_in ws n k true lt) ∙ get_or_from_slice_get (taken_in ws n) k false true free in
+    let e : (bit ws k == 0) ≡ false = sym (get_or-taken_in ws n k true lt)
+    ∙ get_or_from_slice_get (taken_in ws n) k false true free in
     (lt, grind (arith, nat_tests))
 
 -- the lowest bit is the least free number
-pub least_at : (ws : List ℕ) (n k : ℕ) → k < n → bit ws k ≡ 1 → ((j : ℕ) → j < k → bit ws j ≡ 0) → least_free (taken_in ws n) ≡ k
+pub least_at : (ws : List ℕ) (n k : ℕ) → k < n → bit ws k ≡ 1 → ((j : ℕ) → j < k → bit ws j ≡ 0)
+    → least_free (taken_in ws n) ≡ k
 least_at ws n k lt here below = position_or_len_is not (taken_in ws n) k true (simp length-taken_in (omega arith))
     (λ j less. ap not (get_or-taken_in ws n j true (omega arith) ∙ ap {B = Bool} (λ (x : ℕ). x == 0) (below j less)))
     (λ _. ap not (get_or-taken_in ws n k true lt ∙ ap {B = Bool} (λ (x : ℕ). x == 0) here))
@@ -121,7 +130,8 @@ least_none ws n none = position_or_len_is not (taken_in ws n) n true (simp lengt
 
 -- a bit is set for numbers below the length alone
 pub within_length : (ws : List ℕ) (n k : ℕ) → ((j : ℕ) → n ≤ j → bit ws j ≡ 0) → bit ws k ≡ 1 → k < n
-within_length ws n k none_past here = ⊎_elim (λ lt. lt) (λ (past : n ≤ k). let e = none_past k past in absurd (omega arith)) (cases_lt k n)
+within_length ws n k none_past here = ⊎_elim (λ lt. lt) (λ (past : n ≤ k). let e = none_past k past in
+    absurd (omega arith)) (cases_lt k n)
 
 -- an empty word at the end has no bit
 pub pushed_bit : (ws : List ℕ) (k : ℕ) → bit (ws ++ 0 ∷ []) k ≡ bit ws k
@@ -146,6 +156,8 @@ no_bit w k = bit_of_empty (replicate w 0) k (no_word w (k / 64))
 
 -- without a bit every number is taken
 pub all_taken : (ws : List ℕ) (n : ℕ) → ((k : ℕ) → bit ws k ≡ 0) → taken_in ws n ≡ replicate n true
-all_taken ws n none = ext_get_or true (taken_in ws n) (replicate n true) (length-taken_in ws n ∙ sym (length-replicate n true))
+all_taken ws n none = ext_get_or true (taken_in ws n) (replicate n true) (length-taken_in ws n
+    ∙ sym (length-replicate n true))
     (λ k lt. let in' : k < n = simp length-taken_in at lt in
-    get_or-taken_in ws n k true in' ∙ ap {B = Bool} (λ (x : ℕ). x == 0) (none k) ∙ sym (get_or-replicate n k true true in'))
+    get_or-taken_in ws n k true in' ∙ ap {B = Bool} (λ (x : ℕ). x == 0) (none k)
+    ∙ sym (get_or-replicate n k true true in'))

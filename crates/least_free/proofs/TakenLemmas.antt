@@ -16,8 +16,10 @@ not_taken true h = sym h
 not_taken false h = refl
 
 -- the least free number that is below the length can be taken
-pub slice_get_least_free : (taken : List Bool) → least_free taken < length taken → slice_get taken (least_free taken) ≡ Some false
-slice_get_least_free taken lt = slice_get-get_or taken (least_free taken) true lt ∙ ap Some (not_taken (get_or taken (least_free taken) true) (passes_at_first not taken true lt))
+pub slice_get_least_free : (taken : List Bool) → least_free taken < length taken
+    → slice_get taken (least_free taken) ≡ Some false
+slice_get_least_free taken lt = slice_get-get_or taken (least_free taken) true lt
+    ∙ ap Some (not_taken (get_or taken (least_free taken) true) (passes_at_first not taken true lt))
 
 -- all numbers below n are taken
 pub record AreTaken (taken : List Bool) (n : ℕ) : Type 0 where
@@ -26,34 +28,43 @@ pub record AreTaken (taken : List Bool) (n : ℕ) : Type 0 where
 pub none_taken : (taken : List Bool) → AreTaken taken 0
 none_taken taken = record { each = λ k lt. absurd (omega arith) }
 
-pub one_more_taken : (taken : List Bool) (n : ℕ) → n < length taken → AreTaken taken n → AreTaken (set taken n true) (n + 1)
+pub one_more_taken : (taken : List Bool) (n : ℕ) → n < length taken → AreTaken taken n
+    → AreTaken (set taken n true) (n + 1)
 one_more_taken taken n within all = record {
   each = λ k lt. ⊎_elim
-      (λ (e : k ≡ n). subst (λ (j : ℕ). slice_get (set taken n true) j ≡ Some true) (sym e) (get-set_same taken n true within))
+      (λ (e : k ≡ n). subst (λ (j : ℕ). slice_get (set taken n true) j ≡ Some true) (sym e)
+      (get-set_same taken n true within))
       (λ (ne : k ≢ n). get-set_other taken n k true (λ e. ne (sym e)) ∙ all.each k (omega arith))
       (cases_eq k n);
 }
 
-pub one_fewer_taken : (taken : List Bool) (n : ℕ) → 0 < n → AreTaken taken n → AreTaken (set taken (n - 1) false) (n - 1)
+pub one_fewer_taken : (taken : List Bool) (n : ℕ) → 0 < n → AreTaken taken n
+    → AreTaken (set taken (n - 1) false) (n - 1)
 one_fewer_taken taken n some all = record {
   each = λ k lt. get-set_other taken (n - 1) k false (omega arith) ∙ all.each k (omega arith);
 }
 
 -- a number that is found to be free, and one that isn't
-pub found_free : (taken : List Bool) (n : ℕ) (r : Option ℕ) → IsLeastFrom n (is_free_within taken) r → option_eq eqb r (Some n) ≡ true → slice_get taken n ≡ Some false
+pub found_free : (taken : List Bool) (n : ℕ) (r : Option ℕ) → IsLeastFrom n (is_free_within taken) r
+    → option_eq eqb r (Some n) ≡ true → slice_get taken n ≡ Some false
 found_free taken n None is same = cc
 found_free taken n (Some m) is same =
     let e : m ≡ n = grind (arith, nat_tests, same) in
     let free : is_free_within taken n ≡ true = subst (λ (k : ℕ). is_free_within taken k ≡ true) e is.passes in
     let clear : get_or taken n true ≡ false = not_taken (get_or taken n true) free in
-    ⊎_elim (λ (lt : n < length taken). slice_get-get_or taken n true lt ∙ ap Some clear) (λ (le : length taken ≤ n). let past : get_or taken n true ≡ true = get_or_past taken n true le in cc) (cases_lt n (length taken))
+    ⊎_elim (λ (lt : n < length taken). slice_get-get_or taken n true lt
+    ∙ ap Some clear) (λ (le : length taken ≤ n). let past : get_or taken n true ≡ true =
+    get_or_past taken n true le in cc) (cases_lt n (length taken))
 
-pub found_taken : (taken : List Bool) (n : ℕ) (r : Option ℕ) → IsLeastFrom n (is_free_within taken) r → option_eq eqb r (Some n) ≡ false → n < length taken → slice_get taken n ≡ Some true
+pub found_taken : (taken : List Bool) (n : ℕ) (r : Option ℕ) → IsLeastFrom n (is_free_within taken) r
+    → option_eq eqb r (Some n) ≡ false → n < length taken → slice_get taken n ≡ Some true
 found_taken taken n r is other lt = slice_get-get_or taken n true lt ∙ ap Some (by (get_or taken n true) refl)
   where
-    first : (r : Option ℕ) → IsLeastFrom n (is_free_within taken) r → option_eq eqb r (Some n) ≡ false → is_free_within taken n ≡ true → ⊥
+    first : (r : Option ℕ) → IsLeastFrom n (is_free_within taken) r → option_eq eqb r (Some n) ≡ false
+        → is_free_within taken n ≡ true → ⊥
     first None is other free = is.least n (omega arith) free
-    first (Some m) is other free = let a : n ≤ m = is.above in let b : m ≤ n = is.least n (omega arith) free in let e : eqb m n ≡ true = grind (arith, nat_tests, a, b) in cc
+    first (Some m) is other free = let a : n ≤ m = is.above in let b : m ≤ n = is.least n (omega arith) free in
+        let e : eqb m n ≡ true = grind (arith, nat_tests, a, b) in cc
 
     by : (b : Bool) → get_or taken n true ≡ b → b ≡ true
     by true is-2 = refl

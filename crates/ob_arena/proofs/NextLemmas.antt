@@ -20,7 +20,9 @@ module _ (ps : List Phase) (taken : List Bool) (used : taken ≡ map is_in_use p
 
   -- a slot that is in use is one of them
   pub taken_within : (k : ℕ) → is_taken taken k ≡ true → k < length ps
-  taken_within k is = ⊎_elim (λ (lt : k < length ps). lt) (λ (le : length ps ≤ k). absurd (differ (sym is ∙ taken_at k ∙ ap is_in_use (get_or_past ps k Vacant le)))) (cases_lt k (length ps))
+  taken_within k is = ⊎_elim (λ (lt : k < length ps). lt)
+      (λ (le : length ps ≤ k). absurd (differ (sym is ∙ taken_at k ∙ ap is_in_use (get_or_past ps k Vacant le))))
+      (cases_lt k (length ps))
 
   module _ (at : ℕ) (r : Option ℕ) (is : IsLeastFrom at (is_taken taken) r) where
     -- before the next one that is in use there is no body
@@ -32,24 +34,31 @@ module _ (ps : List Phase) (taken : List Bool) (used : taken ≡ map is_in_use p
         by Retired same = refl
         by Occupied same = absurd (before (is.least k above (taken_at k ∙ ap is_in_use same)))
 
-  module _ (from at slot : ℕ) (above : from ≤ at) (none : (k : ℕ) → from ≤ k → k < at → is_occupied (get_or ps k Vacant) ≡ false) (is : IsLeastFrom at (is_taken taken) (Some slot)) where
+  module _ (from at slot : ℕ) (above : from ≤ at) (none : (k : ℕ) → from ≤ k → k < at
+      → is_occupied (get_or ps k Vacant) ≡ false) (is : IsLeastFrom at (is_taken taken) (Some slot)) where
     before_it : (k : ℕ) → from ≤ k → k < slot → is_occupied (get_or ps k Vacant) ≡ false
-    before_it k after lt = ⊎_elim (λ (low : k < at). none k after low) (λ (high : at ≤ k). idle at (Some slot) is k high (λ (le : slot ≤ k). omega (arith, le, lt))) (cases_lt k at)
+    before_it k after lt = ⊎_elim (λ (low : k < at). none k after low)
+        (λ (high : at ≤ k). idle at (Some slot) is k high (λ (le : slot ≤ k). omega (arith, le, lt))) (cases_lt k at)
 
     phase_is : (p : Phase) → p ≡ get_or ps slot p → is_occupied (get_or ps slot Vacant) ≡ is_occupied p
     phase_is p read = ap is_occupied (sym (read ∙ same_default ps slot p Vacant (taken_within slot is.passes)))
 
-    pub body_found : (p : Phase) → p ≡ get_or ps slot p → is_occupied p ≡ true → IsLeastFrom from (λ k. is_occupied (get_or ps k Vacant)) (Some slot)
+    pub body_found : (p : Phase) → p ≡ get_or ps slot p → is_occupied p ≡ true
+        → IsLeastFrom from (λ k. is_occupied (get_or ps k Vacant)) (Some slot)
     body_found p read occupied =
         let over : at ≤ slot = is.above in
-        first_found (λ k. is_occupied (get_or ps k Vacant)) from slot (omega (arith, above, over)) (phase_is p read ∙ occupied) before_it
+        first_found (λ k. is_occupied (get_or ps k Vacant)) from slot (omega (arith, above, over)) (phase_is p read
+        ∙ occupied) before_it
 
-    pub none_up_to : (p : Phase) → p ≡ get_or ps slot p → is_occupied p ≡ false → (k : ℕ) → from ≤ k → k < slot + 1 → is_occupied (get_or ps k Vacant) ≡ false
+    pub none_up_to : (p : Phase) → p ≡ get_or ps slot p → is_occupied p ≡ false → (k : ℕ) → from ≤ k → k < slot + 1
+        → is_occupied (get_or ps k Vacant) ≡ false
     none_up_to p read idle_here k after lt = ⊎_elim
         (λ (e : k ≡ slot). ap (λ (j : ℕ). is_occupied (get_or ps j Vacant)) e ∙ phase_is p read ∙ idle_here)
         (λ other. before_it k after (omega (arith, lt, other)))
         (cases_eq k slot)
 
-  pub no_body : (from at : ℕ) → ((k : ℕ) → from ≤ k → k < at → is_occupied (get_or ps k Vacant) ≡ false) → IsLeastFrom at (is_taken taken) None → IsLeastFrom from (λ k. is_occupied (get_or ps k Vacant)) None
+  pub no_body : (from at : ℕ) → ((k : ℕ) → from ≤ k → k < at → is_occupied (get_or ps k Vacant) ≡ false)
+      → IsLeastFrom at (is_taken taken) None → IsLeastFrom from (λ k. is_occupied (get_or ps k Vacant)) None
   no_body from at none is = none_found (λ k. is_occupied (get_or ps k Vacant)) from
-      (λ k after. ⊎_elim (λ (low : k < at). none k after low) (λ (high : at ≤ k). idle at None is k high (λ no_bound. no_bound)) (cases_lt k at))
+      (λ k after. ⊎_elim (λ (low : k < at). none k after low)
+      (λ (high : at ≤ k). idle at None is k high (λ no_bound. no_bound)) (cases_lt k at))

@@ -35,7 +35,8 @@ module _ {B : Type 0} (ss : List (Option B)) (ps : List Phase) (taken : List Boo
   length-taken = ap length tied.in_use ∙ length-map ps is_in_use ∙ length-phases
 
   pub occupied_at : (k : ℕ) → is_occupied (get_or ps k Vacant) ≡ is_some (get_or ss k None)
-  occupied_at k = sym (get_or-map is_occupied ps k Vacant) ∙ ap (λ (l : List Bool). get_or l k false) tied.occupied ∙ get_or-map is_some ss k None
+  occupied_at k = sym (get_or-map is_occupied ps k Vacant) ∙ ap (λ (l : List Bool). get_or l k false) tied.occupied
+      ∙ get_or-map is_some ss k None
 
   by_phase : (p : Phase) (s : Option B) → is_occupied p ≡ is_some s → (is_none s && not (is_retired p)) ≡ is_vacant p
   by_phase Vacant None h = refl
@@ -46,15 +47,20 @@ module _ {B : Type 0} (ss : List (Option B)) (ps : List Phase) (taken : List Boo
   by_phase Retired (Some x) h = cc
 
   -- a slot is vacant where its phase is
-  pub vacant_phase : (k : ℕ) → is_vacant_at (slots_shown ss ps) k ≡ (ltb k (length ss) && is_vacant (get_or ps k Vacant))
+  pub vacant_phase : (k : ℕ) → is_vacant_at (slots_shown ss ps) k
+      ≡ (ltb k (length ss) && is_vacant (get_or ps k Vacant))
   vacant_phase k = ap (λ (b : Bool). ltb k (length ss) && b)
-      (ap (λ (r : Bool). is_none (get_or ss k None) && not r) (get_or-map is_retired ps k Vacant) ∙ by_phase (get_or ps k Vacant) (get_or ss k None) (occupied_at k))
+      (ap (λ (r : Bool). is_none (get_or ss k None) && not r) (get_or-map is_retired ps k Vacant)
+      ∙ by_phase (get_or ps k Vacant) (get_or ss k None) (occupied_at k))
 
-  pub vacant_within : (k : ℕ) (p : Phase) → k < length ps → p ≡ get_or ps k p → is_vacant p ≡ is_vacant_at (slots_shown ss ps) k
+  pub vacant_within : (k : ℕ) (p : Phase) → k < length ps → p ≡ get_or ps k p
+      → is_vacant p ≡ is_vacant_at (slots_shown ss ps) k
   vacant_within k p lt read = ap is_vacant (read ∙ same_default ps k p Vacant lt)
-      ∙ sym (vacant_phase k ∙ ap (λ (b : Bool). b && is_vacant (get_or ps k Vacant)) (lt-ltb k (length ss) (let n = length-phases in omega arith)))
+      ∙ sym (vacant_phase k ∙ ap (λ (b : Bool). b && is_vacant (get_or ps k Vacant))
+      (lt-ltb k (length ss) (let n = length-phases in omega arith)))
 
-  pub occupied_within : (k : ℕ) (p : Phase) → k < length ps → p ≡ get_or ps k p → is_occupied p ≡ is_some (get_or ss k None)
+  pub occupied_within : (k : ℕ) (p : Phase) → k < length ps → p ≡ get_or ps k p
+      → is_occupied p ≡ is_some (get_or ss k None)
   occupied_within k p lt read = ap is_occupied (read ∙ same_default ps k p Vacant lt) ∙ occupied_at k
 
   -- what is known of a vacant slot
@@ -109,7 +115,11 @@ module _ {B : Type 0} (ss : List (Option B)) (ps : List Phase) (taken : List Boo
   some_of (Some x) h = (x, refl)
 
   within_of : (k : ℕ) (x : B) → get_or ss k None ≡ Some x → k < length ss
-  within_of k x e = elim (cases_lt k (length ss)) [ inl lt ↦ lt | inr ge ↦ absurd (never (sym (get_or_past ss k None ge) ∙ e)) ]
+  within_of k x e = elim (cases_lt k (length ss)) [
+    | inl lt ↦ lt
+    | inr ge ↦
+        absurd (never (sym (get_or_past ss k None ge) ∙ e))
+  ]
     where
       never : None ≡ Some x → ⊥
       never h = cc
@@ -131,12 +141,15 @@ module _ {B : Type 0} (ss : List (Option B)) (ps : List Phase) (taken : List Boo
   pub tied_put : (k : ℕ) (x : B) → IsFree k → IsTied (set ss k (Some x)) (set ps k Occupied) (set taken k true)
   tied_put k x free = record {
     few = omega (arith, length-set ss k (Some x), tied.few);
-    occupied = map-set is_occupied ps k Occupied ∙ ap (λ (l : List Bool). set l k true) tied.occupied ∙ sym (map-set is_some ss k (Some x));
+    occupied = map-set is_occupied ps k Occupied ∙ ap (λ (l : List Bool). set l k true) tied.occupied
+        ∙ sym (map-set is_some ss k (Some x));
     in_use = ap (λ (l : List Bool). set l k true) tied.in_use ∙ sym (map-set is_in_use ps k Occupied);
   }
 
-  pub shown_put : (k : ℕ) (x : B) → IsFree k → slots_shown (set ss k (Some x)) (set ps k Occupied) ≡ with_body (slots_shown ss ps) k x
-  shown_put k x free = ap (slots_shown' (set ss k (Some x))) (map-set_same is_retired ps k Occupied Vacant (sym (ap is_retired free.phase)))
+  pub shown_put : (k : ℕ) (x : B) → IsFree k → slots_shown (set ss k (Some x)) (set ps k Occupied)
+      ≡ with_body (slots_shown ss ps) k x
+  shown_put k x free = ap (slots_shown' (set ss k (Some x)))
+      (map-set_same is_retired ps k Occupied Vacant (sym (ap is_retired free.phase)))
     where
       slots_shown' : List (Option B) → List Bool → Slots B
       slots_shown' bodies retired = record { bodies = bodies; retired = retired }
@@ -145,16 +158,21 @@ module _ {B : Type 0} (ss : List (Option B)) (ps : List Phase) (taken : List Boo
   pub tied_take : (k : ℕ) → IsHeld k → IsTied (set ss k None) (set ps k Vacant) (set taken k false)
   tied_take k held = record {
     few = omega (arith, length-set ss k None, tied.few);
-    occupied = map-set is_occupied ps k Vacant ∙ ap (λ (l : List Bool). set l k false) tied.occupied ∙ sym (map-set is_some ss k None);
+    occupied = map-set is_occupied ps k Vacant ∙ ap (λ (l : List Bool). set l k false) tied.occupied
+        ∙ sym (map-set is_some ss k None);
     in_use = ap (λ (l : List Bool). set l k false) tied.in_use ∙ sym (map-set is_in_use ps k Vacant);
   }
 
-  pub shown_take : (k : ℕ) → IsHeld k → slots_shown (set ss k None) (set ps k Vacant) ≡ without_body (slots_shown ss ps) k
-  shown_take k held = ap (λ (retired : List Bool). record { bodies = set ss k None; retired = retired }) (map-set_same is_retired ps k Vacant Vacant (sym (ap is_retired held.phase)))
+  pub shown_take : (k : ℕ) → IsHeld k → slots_shown (set ss k None) (set ps k Vacant)
+      ≡ without_body (slots_shown ss ps) k
+  shown_take k held = ap (λ (retired : List Bool). record { bodies = set ss k None; retired = retired })
+      (map-set_same is_retired ps k Vacant Vacant (sym (ap is_retired held.phase)))
 
-  pub vacant_take : (k : ℕ) → IsHeld k → (ltb k (length (set ss k None)) && is_vacant (get_or (set ps k Vacant) k Vacant)) ≡ true
+  pub vacant_take : (k : ℕ) → IsHeld k → (ltb k (length (set ss k None))
+      && is_vacant (get_or (set ps k Vacant) k Vacant)) ≡ true
   vacant_take k held =
-      ap (λ (b : Bool). b && is_vacant (get_or (set ps k Vacant) k Vacant)) (lt-ltb k (length (set ss k None)) (let lt = held.within in omega (arith, length-set ss k None)))
+      ap (λ (b : Bool). b && is_vacant (get_or (set ps k Vacant) k Vacant)) (lt-ltb k (length (set ss k None)) (let lt =
+      held.within in omega (arith, length-set ss k None)))
       ∙ ap is_vacant (get_or-set_same ps k Vacant Vacant (let lt = held.within in let n = length-phases in omega arith))
 
   -- a body changes in its slot
@@ -174,7 +192,8 @@ module _ {B : Type 0} (ss : List (Option B)) (ps : List Phase) (taken : List Boo
   }
 
   pub shown_retire : (k : ℕ) → slots_shown ss (set ps k Retired) ≡ with_retired (slots_shown ss ps) k
-  shown_retire k = ap (λ (retired : List Bool). record { bodies = ss; retired = retired }) (map-set is_retired ps k Retired)
+  shown_retire k = ap (λ (retired : List Bool). record { bodies = ss; retired = retired })
+      (map-set is_retired ps k Retired)
 
   -- the least number that isn't taken is the least vacant slot
   free_is_vacant : (p : Phase) → not (is_in_use p) ≡ is_vacant p
@@ -184,28 +203,36 @@ module _ {B : Type 0} (ss : List (Option B)) (ps : List Phase) (taken : List Boo
 
   vacant_taken : (k : ℕ) → k < length ss → is_vacant_at (slots_shown ss ps) k ≡ not (get_or taken k false)
   vacant_taken k lt = vacant_phase k ∙ ap (λ (b : Bool). b && is_vacant (get_or ps k Vacant)) (lt-ltb k (length ss) lt)
-      ∙ sym (free_is_vacant (get_or ps k Vacant)) ∙ ap not (sym (ap (λ (l : List Bool). get_or l k false) tied.in_use ∙ get_or-map is_in_use ps k Vacant))
+      ∙ sym (free_is_vacant (get_or ps k Vacant)) ∙ ap not
+      (sym (ap (λ (l : List Bool). get_or l k false) tied.in_use ∙ get_or-map is_in_use ps k Vacant))
 
   first_vacant : position_or_len (is_vacant_at (slots_shown ss ps)) (range_with_len 0 (length ss)) ≡ least_free taken
   first_vacant =
       let n = length-range_with_len 0 (length ss) in
       let bound : least_free taken ≤ length taken = prefix_len-le-length (λ b. not (not b)) taken in
-      position_or_len_is (is_vacant_at (slots_shown ss ps)) (range_with_len 0 (length ss)) (least_free taken) 0 (let m = length-taken in omega arith)
+      position_or_len_is (is_vacant_at (slots_shown ss ps)) (range_with_len 0 (length ss)) (least_free taken) 0 (let m =
+      length-taken in omega arith)
       (λ k below. let lt : k < length ss = (let m = length-taken in omega arith) in
-      ap (is_vacant_at (slots_shown ss ps)) (get_or-range_with_len 0 (length ss) k 0 lt ∙ zero-add k) ∙ vacant_taken k lt ∙ fails_before_first not taken k false below)
+      ap (is_vacant_at (slots_shown ss ps)) (get_or-range_with_len 0 (length ss) k 0 lt ∙ zero-add k)
+      ∙ vacant_taken k lt ∙ fails_before_first not taken k false below)
       (λ below. let lt : least_free taken < length ss = omega arith in
-      ap (is_vacant_at (slots_shown ss ps)) (get_or-range_with_len 0 (length ss) (least_free taken) 0 lt ∙ zero-add (least_free taken))
+      ap (is_vacant_at (slots_shown ss ps)) (get_or-range_with_len 0 (length ss) (least_free taken) 0 lt
+      ∙ zero-add (least_free taken))
       ∙ vacant_taken (least_free taken) lt ∙ passes_at_first not taken false (let m = length-taken in omega arith))
 
   -- and it is found, unless it is past the slots
   pub least_found : least_free taken < length ss → least_vacant (slots_shown ss ps) ≡ Some (least_free taken)
-  least_found lt = find_at (is_vacant_at (slots_shown ss ps)) (range_with_len 0 (length ss)) ∙ ap (slice_get (range_with_len 0 (length ss))) first_vacant
-      ∙ slice_get-get_or (range_with_len 0 (length ss)) (least_free taken) 0 (let n = length-range_with_len 0 (length ss) in omega arith)
+  least_found lt = find_at (is_vacant_at (slots_shown ss ps)) (range_with_len 0 (length ss))
+      ∙ ap (slice_get (range_with_len 0 (length ss))) first_vacant
+      ∙ slice_get-get_or (range_with_len 0 (length ss)) (least_free taken) 0 (let n =
+      length-range_with_len 0 (length ss) in omega arith)
       ∙ ap Some (get_or-range_with_len 0 (length ss) (least_free taken) 0 lt ∙ zero-add (least_free taken))
 
   pub none_found : length ss ≤ least_free taken → least_vacant (slots_shown ss ps) ≡ None
-  none_found past = find_at (is_vacant_at (slots_shown ss ps)) (range_with_len 0 (length ss)) ∙ ap (slice_get (range_with_len 0 (length ss))) first_vacant
-      ∙ slice_get_past (range_with_len 0 (length ss)) (least_free taken) (let n = length-range_with_len 0 (length ss) in omega arith)
+  none_found past = find_at (is_vacant_at (slots_shown ss ps)) (range_with_len 0 (length ss))
+      ∙ ap (slice_get (range_with_len 0 (length ss))) first_vacant
+      ∙ slice_get_past (range_with_len 0 (length ss)) (least_free taken) (let n = length-range_with_len 0 (length ss) in
+      omega arith)
 
 map-replicate : {X Y : Type 0} (f : X → Y) (n : ℕ) (x : X) → map f (replicate n x) ≡ replicate n (f x)
 map-replicate f zero x = refl
@@ -213,9 +240,12 @@ map-replicate f (suc n) x = ap (λ l. f x ∷ l) (map-replicate f n x)
 
 -- a new arena, and what is equal to the parts of one
 module _ {B : Type 0} where
-  pub retied : (ss ss' : List (Option B)) (ps ps' : List Phase) (taken taken' : List Bool) → ss' ≡ ss → ps' ≡ ps → taken' ≡ taken → IsTied ss ps taken → IsTied ss' ps' taken'
+  pub retied : (ss ss' : List (Option B)) (ps ps' : List Phase) (taken taken' : List Bool) → ss' ≡ ss → ps' ≡ ps
+      → taken' ≡ taken → IsTied ss ps taken → IsTied ss' ps' taken'
   retied ss ss' ps ps' taken taken' es ep et tied =
-      subst (λ (l : List (Option B)). IsTied l ps' taken') (sym es) (subst (λ (l : List Phase). IsTied ss l taken') (sym ep) (subst (λ (l : List Bool). IsTied ss ps l) (sym et) tied))
+      subst (λ (l : List (Option B)). IsTied l ps' taken') (sym es)
+      (subst (λ (l : List Phase). IsTied ss l taken') (sym ep)
+      (subst (λ (l : List Bool). IsTied ss ps l) (sym et) tied))
 
   pub tied_new : (n : ℕ) → n ≤ 65536 → IsTied {B = B} (replicate n None) (replicate n Vacant) (replicate n false)
   tied_new n few = record {
@@ -225,15 +255,19 @@ module _ {B : Type 0} where
   }
 
   pub shown_new : (n : ℕ) → slots_shown {B = B} (replicate n None) (replicate n Vacant) ≡ vacant_slots n
-  shown_new n = ap (λ (retired : List Bool). record { bodies = replicate n None; retired = retired }) (map-replicate is_retired n Vacant)
+  shown_new n = ap (λ (retired : List Bool). record { bodies = replicate n None; retired = retired })
+      (map-replicate is_retired n Vacant)
 
 -- slots that have no body
-pub all_none : {B : Type 0} (ss : List (Option B)) (n : ℕ) → length ss ≡ n → ((k : ℕ) → k < n → get_or ss k None ≡ None) → ss ≡ replicate n None
+pub all_none : {B : Type 0} (ss : List (Option B)) (n : ℕ) → length ss ≡ n → ((k : ℕ) → k < n → get_or ss k None ≡ None)
+    → ss ≡ replicate n None
 all_none ss n long none = ext_get_or None ss (replicate n None) (long ∙ sym (length-replicate n None))
     (λ k lt. none k (omega arith) ∙ sym (get_or-replicate n k None None (omega arith)))
 
 -- a slot whose body was taken is vacant
-pub vacant_taken_from : {B : Type 0} (ss : List (Option B)) (ps : List Phase) (taken : List Bool) (tied : IsTied ss ps taken) (k : ℕ) → IsHeld ss ps taken tied k
+pub vacant_taken_from : {B : Type 0} (ss : List (Option B)) (ps : List Phase) (taken : List Bool)
+    (tied : IsTied ss ps taken) (k : ℕ) → IsHeld ss ps taken tied k
     → is_vacant_at (slots_shown (set ss k None) (set ps k Vacant)) k ≡ true
 vacant_taken_from ss ps taken tied k held =
-    vacant_phase (set ss k None) (set ps k Vacant) (set taken k false) (tied_take ss ps taken tied k held) k ∙ vacant_take ss ps taken tied k held
+    vacant_phase (set ss k None) (set ps k Vacant) (set taken k false) (tied_take ss ps taken tied k held) k
+    ∙ vacant_take ss ps taken tied k held

@@ -35,8 +35,11 @@ vacant_within s slot h = ltb-true slot (length s.bodies) (both (ltb slot (length
 
 -- has no body
 pub vacant_empty : {B : Type 0} (s : Slots B) (slot : ℕ) → is_vacant_at s slot ≡ true → body_at s slot ≡ None
-vacant_empty s slot h = none_is (body_at s slot) (both (is_none (body_at s slot)) _ (both (ltb slot (length s.bodies)) _ h).1).0
+vacant_empty s slot h = none_is (body_at s slot) (both (is_none (body_at s slot)) _
+    (both (ltb slot (length s.bodies)) _ h).1).0
 
 -- and isn't retired
-pub vacant_unretired : {B : Type 0} (s : Slots B) (slot : ℕ) → is_vacant_at s slot ≡ true → get_or s.retired slot false ≡ false
-vacant_unretired s slot h = not_true (get_or s.retired slot false) (both (is_none (body_at s slot)) _ (both (ltb slot (length s.bodies)) _ h).1).1
+pub vacant_unretired : {B : Type 0} (s : Slots B) (slot : ℕ) → is_vacant_at s slot ≡ true
+    → get_or s.retired slot false ≡ false
+vacant_unretired s slot h = not_true (get_or s.retired slot false)
+    (both (is_none (body_at s slot)) _ (both (ltb slot (length s.bodies)) _ h).1).1

@@ -23,8 +23,10 @@ module _ {M : Type 1} {𝓤 : Ura M} (𝓛 : Logic 𝓤) (l : Lft) (B : RattleTy
   slots_lend : (b o : ℕ) (ss : List (Option B.Denot)) → Lends 𝓛 (slots B b o ss) (slots_lent B b o ss) l
   slots_lend b o [] = Lends-nothing 𝓛 ftrue l
   slots_lend b o (s ∷ ss) =
-      Lends-both 𝓛 (slot B b o s) (slots B b (o + type_size B) ss) (slot_lent B b o s) (slots_lent B b (o + type_size B) ss) l (slot_lends b o s) (slots_lend b (o + type_size B) ss)
+      Lends-both 𝓛 (slot B b o s) (slots B b (o + type_size B) ss) (slot_lent B b o s)
+      (slots_lent B b (o + type_size B) ss) l (slot_lends b o s) (slots_lend b (o + type_size B) ss)
 
   pub storage_shares : (p : Ptr) (ss : List (Option B.Denot)) → Lends 𝓛 (storage_owns B p ss) (storage_lends B p ss) l
-  storage_shares (block_ptr b o) ss = Lends-both 𝓛 (fit B ss) (slots B b o ss) (said (fit B ss)) (slots_lent B b o ss) l (Lends-said 𝓛 (fit B ss) tt l) (slots_lend b o ss)
+  storage_shares (block_ptr b o) ss = Lends-both 𝓛 (fit B ss) (slots B b o ss) (said (fit B ss)) (slots_lent B b o ss) l
+      (Lends-said 𝓛 (fit B ss) tt l) (slots_lend b o ss)
   storage_shares null_ptr ss = Lends-false 𝓛 (said ffalse) l

@@ -37,16 +37,25 @@ module _ (B : RattleType) where
   pub storage_send : IsSend B → IsSend (StorageType.the_row B)
   storage_send s =
       let O = StorageType.the_type B in let all : AllSend (fields O) = (search sendable, tt) in
-      owning_send O all (λ d. storage_keyless s d.front d.slots) (λ k. quiet_fields (to O) (exits_of k (fields O)) ((struct_send (shape O) all).leaving k))
+      owning_send O all (λ d. storage_keyless s d.front d.slots)
+      (λ k. quiet_fields (to O) (exits_of k (fields O)) ((struct_send (shape O) all).leaving k))
 
   pub storage_sync : IsSync B → IsSync (StorageType.the_row B)
-  storage_sync y = let O = StorageType.the_type B in record { shared = λ d b o κ. ((struct_sync (shape O) (search sendable, tt)).shared (to O d) b o κ, storage_common y d.front d.slots κ) }
+  storage_sync y = let O = StorageType.the_type B in
+      record {
+        shared = λ d b o κ. (
+          (struct_sync (shape O) (search sendable, tt)).shared (to O d) b o κ,
+          storage_common y d.front d.slots κ,
+        );
+      }
 
   module _ (A : RattleType) (g : Ghosts A.Denot) where
     pub title_send : Frees g g.dealloc_token → IsSend (TitleType.the_row B A g)
     title_send f =
         let O = TitleType.the_type B A g in let all : AllSend (fields O) = (search sendable, tt) in
-        owning_send O all (λ d. f.frees d.alloc _ d.front) (λ k. quiet_fields (to O) (exits_of k (fields O)) ((struct_send (shape O) all).leaving k))
+        owning_send O all (λ d. f.frees d.alloc _ d.front)
+        (λ k. quiet_fields (to O) (exits_of k (fields O)) ((struct_send (shape O) all).leaving k))
 
     pub title_sync : IsSync (TitleType.the_row B A g)
-    title_sync = let O = TitleType.the_type B A g in record { shared = λ d b o κ. ((struct_sync (shape O) (search sendable, tt)).shared (to O d) b o κ, tt) }
+    title_sync = let O = TitleType.the_type B A g in
+        record { shared = λ d b o κ. ((struct_sync (shape O) (search sendable, tt)).shared (to O d) b o κ, tt) }

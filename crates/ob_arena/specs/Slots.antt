@@ -16,7 +16,8 @@ pub record Slots (B : Type 0) : Type 0 where
 
 abbrev pub slots_code : {B : Type 0} → Coded B → Coded (Slots B)
 slots_code {B} code =
-    code_by (List (Option B) × List Bool) (coded× (coded_list (coded_option code)) (coded_list coded_bool)) (λ s. (s.bodies, s.retired)) (λ p. record { bodies = p.0; retired = p.1 }) (λ _. refl)
+    code_by (List (Option B) × List Bool) (coded× (coded_list (coded_option code)) (coded_list coded_bool))
+    (λ s. (s.bodies, s.retired)) (λ p. record { bodies = p.0; retired = p.1 }) (λ _. refl)
 
 module _ {B : Type 0} where
   -- the body of a slot
@@ -25,7 +26,8 @@ module _ {B : Type 0} where
 
   -- a slot that has no body and is not retired
   abbrev pub is_vacant_at : Slots B → ℕ → Bool
-  is_vacant_at s slot = nat_lt slot (length s.bodies) && (is_none (body_at s slot) && not (slice_index_or s.retired slot false))
+  is_vacant_at s slot = nat_lt slot (length s.bodies)
+      && (is_none (body_at s slot) && not (slice_index_or s.retired slot false))
 
   -- the least such slot
   abbrev pub least_vacant : Slots B → Option ℕ

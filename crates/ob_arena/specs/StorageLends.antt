@@ -9,4 +9,5 @@ with_slots storage ss = record { mark = storage.mark; front = storage.front; slo
 
 -- the slot has the body that was written last
 abbrev pub lends_slot : (B : RattleType) → MutBor (Storage B.Denot) → ℕ → MutBor B.Denot → Fml
-lends_slot B storage at r = Lends (the_row B) B storage r (λ body. with_slots storage.now (slice_set storage.now.slots at (Some body)))
+lends_slot B storage at r = Lends (the_row B) B storage r
+    (λ body. with_slots storage.now (slice_set storage.now.slots at (Some body)))

@@ -1,4 +1,5 @@
--- What a change of a body does to the other threads: nothing becomes signaled by taking, and no room is lost but the taker's.
+-- What a change of a body does to the other threads: nothing becomes signaled by taking, and no room is lost but the
+-- taker's.
 use Rattle.std.proofs.Common.{◌≡◌, ℕ, ◌≤◌, Option, Some, None, refl, arith, Bool, true, false, ◌&&◌}
 use Rattle.std.proofs.lemmas.Bool.Decides.{nat_tests}
 use Rattle.ob_body.specs.declared.body.Body.{Body}
@@ -15,7 +16,16 @@ signaled_before u t (Event e) h = by e.set e.manual h
     by false manual h = h
 signaled_before u t (Mutex m) h = by m.owner m.recursion m.abandoned h
   where
-    by : (owner : Option ℕ) (recursion : ℕ) (abandoned : Bool) → mutex.is_signaled t (mutex.after_acquire u (record { owner = owner; recursion = recursion; abandoned = abandoned })) ≡ true → mutex.is_signaled t (record { owner = owner; recursion = recursion; abandoned = abandoned }) ≡ true
+    by : (owner : Option ℕ) (recursion : ℕ) (abandoned : Bool)
+        → mutex.is_signaled t (mutex.after_acquire u (record {
+          owner = owner;
+          recursion = recursion;
+          abandoned = abandoned;
+        })) ≡ true → mutex.is_signaled t (record {
+          owner = owner;
+          recursion = recursion;
+          abandoned = abandoned;
+        }) ≡ true
     by None recursion abandoned h = refl
     by (Some owner) recursion abandoned h = grind (arith, nat_tests)
 signaled_before u t (Semaphore s) h = grind (arith, nat_tests)
@@ -26,11 +36,18 @@ signaled_before u t (Timer m) h = by m.signaled m.manual h
     by false manual h = h
 
 -- taking by a thread leaves the room of every other
-pub room_after_acquire : (limit u t : ℕ) (b : Body) → (t ≡ u → ⊥) → has_room limit t b ≡ true → has_room limit t (after_acquire u b) ≡ true
+pub room_after_acquire : (limit u t : ℕ) (b : Body) → (t ≡ u → ⊥) → has_room limit t b ≡ true
+    → has_room limit t (after_acquire u b) ≡ true
 room_after_acquire limit u t (Event e) other h = refl
 room_after_acquire limit u t (Mutex m) other h = by m.owner m.recursion m.abandoned h
   where
-    by : (owner : Option ℕ) (recursion : ℕ) (abandoned : Bool) → mutex.has_room limit t (record { owner = owner; recursion = recursion; abandoned = abandoned }) ≡ true → mutex.has_room limit t (mutex.after_acquire u (record { owner = owner; recursion = recursion; abandoned = abandoned })) ≡ true
+    by : (owner : Option ℕ) (recursion : ℕ) (abandoned : Bool)
+        → mutex.has_room limit t (record { owner = owner; recursion = recursion; abandoned = abandoned }) ≡ true
+        → mutex.has_room limit t (mutex.after_acquire u (record {
+          owner = owner;
+          recursion = recursion;
+          abandoned = abandoned;
+        })) ≡ true
     by None recursion abandoned h = grind (arith, nat_tests)
     by (Some owner) recursion abandoned h = grind (arith, nat_tests)
 room_after_acquire limit u t (Semaphore s) other h = refl
@@ -49,33 +66,49 @@ room_after_reset limit t (Mutex m) h = h
 room_after_reset limit t (Semaphore s) h = h
 room_after_reset limit t (Timer m) h = h
 
-pub room_after_post : (limit t count : ℕ) (b : Body) → has_room limit t b ≡ true → has_room limit t (after_post count b) ≡ true
+pub room_after_post : (limit t count : ℕ) (b : Body) → has_room limit t b ≡ true
+    → has_room limit t (after_post count b) ≡ true
 room_after_post limit t count (Event e) h = h
 room_after_post limit t count (Mutex m) h = h
 room_after_post limit t count (Semaphore s) h = h
 room_after_post limit t count (Timer m) h = h
 
-pub room_after_unlock : (limit u t : ℕ) (b : Body) → has_room limit t b ≡ true → has_room limit t (after_unlock u b) ≡ true
+pub room_after_unlock : (limit u t : ℕ) (b : Body) → has_room limit t b ≡ true
+    → has_room limit t (after_unlock u b) ≡ true
 room_after_unlock limit u t (Event e) h = h
 room_after_unlock limit u t (Mutex m) h = by m.owner m.recursion m.abandoned h
   where
-    by : (owner : Option ℕ) (recursion : ℕ) (abandoned : Bool) → mutex.has_room limit t (record { owner = owner; recursion = recursion; abandoned = abandoned }) ≡ true → mutex.has_room limit t (mutex.after_unlock u (record { owner = owner; recursion = recursion; abandoned = abandoned })) ≡ true
+    by : (owner : Option ℕ) (recursion : ℕ) (abandoned : Bool)
+        → mutex.has_room limit t (record { owner = owner; recursion = recursion; abandoned = abandoned }) ≡ true
+        → mutex.has_room limit t (mutex.after_unlock u (record {
+          owner = owner;
+          recursion = recursion;
+          abandoned = abandoned;
+        })) ≡ true
     by None recursion abandoned h = refl
     by (Some owner) recursion abandoned h = grind (arith, nat_tests)
 room_after_unlock limit u t (Semaphore s) h = h
 room_after_unlock limit u t (Timer m) h = h
 
-pub room_after_abandon : (limit u t : ℕ) (b : Body) → has_room limit t b ≡ true → has_room limit t (after_abandon u b) ≡ true
+pub room_after_abandon : (limit u t : ℕ) (b : Body) → has_room limit t b ≡ true
+    → has_room limit t (after_abandon u b) ≡ true
 room_after_abandon limit u t (Event e) h = h
 room_after_abandon limit u t (Mutex m) h = by m.owner m.recursion m.abandoned h
   where
-    by : (owner : Option ℕ) (recursion : ℕ) (abandoned : Bool) → mutex.has_room limit t (record { owner = owner; recursion = recursion; abandoned = abandoned }) ≡ true → mutex.has_room limit t (mutex.after_abandon u (record { owner = owner; recursion = recursion; abandoned = abandoned })) ≡ true
+    by : (owner : Option ℕ) (recursion : ℕ) (abandoned : Bool)
+        → mutex.has_room limit t (record { owner = owner; recursion = recursion; abandoned = abandoned }) ≡ true
+        → mutex.has_room limit t (mutex.after_abandon u (record {
+          owner = owner;
+          recursion = recursion;
+          abandoned = abandoned;
+        })) ≡ true
     by None recursion abandoned h = refl
     by (Some owner) recursion abandoned h = grind (arith, nat_tests)
 room_after_abandon limit u t (Semaphore s) h = h
 room_after_abandon limit u t (Timer m) h = h
 
-pub room_after_clear_owner : (limit t : ℕ) (b : Body) → has_room limit t b ≡ true → has_room limit t (after_clear_owner b) ≡ true
+pub room_after_clear_owner : (limit t : ℕ) (b : Body) → has_room limit t b ≡ true
+    → has_room limit t (after_clear_owner b) ≡ true
 room_after_clear_owner limit t (Event e) h = h
 room_after_clear_owner limit t (Mutex m) h = refl
 room_after_clear_owner limit t (Semaphore s) h = h
@@ -86,14 +119,23 @@ pub room_at_more : (limit more t : ℕ) (b : Body) → limit ≤ more → has_ro
 room_at_more limit more t (Event e) le h = h
 room_at_more limit more t (Mutex m) le h = by m.owner m.recursion h
   where
-    by : (owner : Option ℕ) (recursion : ℕ) → mutex.has_room limit t (record { owner = owner; recursion = recursion; abandoned = m.abandoned }) ≡ true → mutex.has_room more t (record { owner = owner; recursion = recursion; abandoned = m.abandoned }) ≡ true
+    by : (owner : Option ℕ) (recursion : ℕ) → mutex.has_room limit t (record {
+      owner = owner;
+      recursion = recursion;
+      abandoned = m.abandoned;
+    }) ≡ true → mutex.has_room more t (record {
+      owner = owner;
+      recursion = recursion;
+      abandoned = m.abandoned;
+    }) ≡ true
     by None recursion h = refl
     by (Some owner) recursion h = grind (arith, nat_tests)
 room_at_more limit more t (Semaphore s) le h = h
 room_at_more limit more t (Timer m) le h = h
 
 -- time leaves the room of all threads
-pub room_after_arm : (limit t due now : ℕ) (b : Body) → has_room limit t b ≡ true → has_room limit t (after_arm due now b) ≡ true
+pub room_after_arm : (limit t due now : ℕ) (b : Body) → has_room limit t b ≡ true
+    → has_room limit t (after_arm due now b) ≡ true
 room_after_arm limit t due now (Event e) h = h
 room_after_arm limit t due now (Mutex m) h = h
 room_after_arm limit t due now (Semaphore s) h = h
@@ -105,7 +147,8 @@ room_after_disarm limit t (Mutex m) h = h
 room_after_disarm limit t (Semaphore s) h = h
 room_after_disarm limit t (Timer m) h = refl
 
-pub room_after_fire : (limit t now : ℕ) (b : Body) → has_room limit t b ≡ true → has_room limit t (after_fire now b) ≡ true
+pub room_after_fire : (limit t now : ℕ) (b : Body) → has_room limit t b ≡ true
+    → has_room limit t (after_fire now b) ≡ true
 room_after_fire limit t now (Event e) h = h
 room_after_fire limit t now (Mutex m) h = h
 room_after_fire limit t now (Semaphore s) h = h

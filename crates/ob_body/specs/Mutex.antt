@@ -34,7 +34,8 @@ has_room limit thread m = not (is_owner thread m.owner) || nat_lt m.recursion li
 -- the thread owns it once more, and it is no longer abandoned; another's mutex stays
 abbrev pub after_acquire : ℕ → MutexState → MutexState
 after_acquire thread m =
-    if is_free m.owner then owned_mutex thread 1 else (if is_owner thread m.owner then owned_mutex thread (m.recursion + 1) else m)
+    if is_free m.owner then owned_mutex thread 1 else
+    (if is_owner thread m.owner then owned_mutex thread (m.recursion + 1) else m)
 
 -- only the owner may release it
 abbrev pub unlock_answer : ℕ → MutexState → Result (Unit {0}) Fault

@@ -73,7 +73,11 @@ may_own None recursion abandoned = recursion == 0
 may_own (Some owner) recursion abandoned = nat_lt 0 recursion && (nat_le recursion 2147483647 && not abandoned)
 
 abbrev pub mutex_of : Option ℕ × (ℕ × Bool) → Option MutexState
-mutex_of p = if may_own p.0 p.1.0 p.1.1 then Some (record { owner = p.0; recursion = p.1.0; abandoned = p.1.1 }) else None
+mutex_of p = if may_own p.0 p.1.0 p.1.1 then Some (record {
+  owner = p.0;
+  recursion = p.1.0;
+  abandoned = p.1.1;
+}) else None
 
 abbrev pub mutex_parts : MutexState → Option ℕ × (ℕ × Bool)
 mutex_parts m = (m.owner, (m.recursion, m.abandoned))

@@ -17,42 +17,61 @@ pub event_codec : IsCodec event_text event_at EventFits
 event_codec = as_codec event_of event_parts (λ _. refl) (λ _. refl) (both_codec flag_codec flag_codec)
 
 pub timer_codec : IsCodec timer_text timer_at TimerFits
-timer_codec = as_codec timer_of timer_parts (λ _. refl) (λ _. refl) (both_codec flag_codec (both_codec flag_codec (option_codec u64_codec)))
+timer_codec = as_codec timer_of timer_parts (λ _. refl) (λ _. refl)
+    (both_codec flag_codec (both_codec flag_codec (option_codec u64_codec)))
 
-semaphore-there : (s : SemaphoreState) → SemaphoreFits s → (semaphore_of (semaphore_parts s) ≡ Some s) × BothFit is_four is_four (semaphore_parts s)
+semaphore-there : (s : SemaphoreState) → SemaphoreFits s
+    → (semaphore_of (semaphore_parts s) ≡ Some s) × BothFit is_four is_four (semaphore_parts s)
 semaphore-there s fits =
-    let can : may_count s.count s.maximum ≡ true = true-both (ltb 0 s.maximum) (leb s.count s.maximum && leb s.maximum 2147483647) (lt-ltb _ _ fits.some) (true-both (leb s.count s.maximum) (leb s.maximum 2147483647) (le-leb _ _ fits.within) (le-leb _ _ fits.countable)) in
+    let can : may_count s.count s.maximum ≡ true =
+    true-both (ltb 0 s.maximum) (leb s.count s.maximum && leb s.maximum 2147483647) (lt-ltb _ _ fits.some)
+    (true-both (leb s.count s.maximum) (leb s.maximum 2147483647) (le-leb _ _ fits.within)
+    (le-leb _ _ fits.countable)) in
     let below = fits.countable in let within = fits.within in
     (ap (λ (b : Bool). cond b (Some s) None) can, (omega arith, omega arith))
 
-semaphore-back : (p : ℕ × ℕ) (s : SemaphoreState) → BothFit is_four is_four p → semaphore_of p ≡ Some s → (semaphore_parts s ≡ p) × SemaphoreFits s
+semaphore-back : (p : ℕ × ℕ) (s : SemaphoreState) → BothFit is_four is_four p → semaphore_of p ≡ Some s
+    → (semaphore_parts s ≡ p) × SemaphoreFits s
 semaphore-back p s fits e =
     let made : SemaphoreState = record { count = p.0; maximum = p.1 } in
     let g = guard-some (may_count p.0 p.1) made s e in
     let a = both-true (ltb 0 p.1) (leb p.0 p.1 && leb p.1 2147483647) g.0 in
     let b = both-true (leb p.0 p.1) (leb p.1 2147483647) a.1 in
-    subst (λ (z : SemaphoreState). (semaphore_parts z ≡ p) × SemaphoreFits z) g.1 (refl, record { some = ltb-true _ _ a.0; within = leb-true _ _ b.0; countable = leb-true _ _ b.1 })
+    subst (λ (z : SemaphoreState). (semaphore_parts z ≡ p)
+    × SemaphoreFits z) g.1 (
+      refl,
+      record {
+        some = ltb-true _ _ a.0;
+        within = leb-true _ _ b.0;
+        countable = leb-true _ _ b.1;
+      },
+    )
 
 pub semaphore_codec : IsCodec semaphore_text semaphore_at SemaphoreFits
-semaphore_codec = some_codec semaphore_of semaphore_parts SemaphoreFits semaphore-there semaphore-back (both_codec u32_codec u32_codec)
+semaphore_codec = some_codec semaphore_of semaphore_parts SemaphoreFits semaphore-there semaphore-back
+    (both_codec u32_codec u32_codec)
 
-own-true : (owner : Option ℕ) (recursion : ℕ) (abandoned : Bool) → mutex.IsPossible owner recursion abandoned → may_own owner recursion abandoned ≡ true
+own-true : (owner : Option ℕ) (recursion : ℕ) (abandoned : Bool) → mutex.IsPossible owner recursion abandoned
+    → may_own owner recursion abandoned ≡ true
 own-true None recursion abandoned can = eq-eqb recursion 0 can
 own-true (Some owner) recursion abandoned can =
-    true-both (ltb 0 recursion) (leb recursion 2147483647 && not abandoned) (lt-ltb _ _ can.0) (true-both (leb recursion 2147483647) (not abandoned) (le-leb _ _ can.1) (ap not can.2))
+    true-both (ltb 0 recursion) (leb recursion 2147483647 && not abandoned) (lt-ltb _ _ can.0)
+    (true-both (leb recursion 2147483647) (not abandoned) (le-leb _ _ can.1) (ap not can.2))
 
 not-false : (b : Bool) → not b ≡ true → b ≡ false
 not-false true e = absurd cc
 not-false false e = refl
 
-own-possible : (owner : Option ℕ) (recursion : ℕ) (abandoned : Bool) → may_own owner recursion abandoned ≡ true → mutex.IsPossible owner recursion abandoned
+own-possible : (owner : Option ℕ) (recursion : ℕ) (abandoned : Bool) → may_own owner recursion abandoned ≡ true
+    → mutex.IsPossible owner recursion abandoned
 own-possible None recursion abandoned e = eqb-true recursion 0 e
 own-possible (Some owner) recursion abandoned e =
     let a = both-true (ltb 0 recursion) (leb recursion 2147483647 && not abandoned) e in
     let b = both-true (leb recursion 2147483647) (not abandoned) a.1 in
     (ltb-true _ _ a.0, leb-true _ _ b.0, not-false abandoned b.1)
 
-own-small : (owner : Option ℕ) (recursion : ℕ) (abandoned : Bool) → mutex.IsPossible owner recursion abandoned → recursion < 2 ^ 32
+own-small : (owner : Option ℕ) (recursion : ℕ) (abandoned : Bool) → mutex.IsPossible owner recursion abandoned
+    → recursion < 2 ^ 32
 own-small None recursion abandoned can = omega arith
 own-small (Some owner) recursion abandoned can = let most = can.1 in omega arith
 
@@ -60,36 +79,49 @@ abbrev PartsFit : Option ℕ × (ℕ × Bool) → Type 0
 PartsFit = BothFit (OptionFits is_four) (BothFit is_four Any)
 
 mutex-there : (m : MutexState) → MutexFits m → (mutex_of (mutex_parts m) ≡ Some m) × PartsFit (mutex_parts m)
-mutex-there m fits =
-    (ap (λ (b : Bool). cond b (Some m) None) (own-true m.owner m.recursion m.abandoned fits.1), (fits.0, (own-small m.owner m.recursion m.abandoned fits.1, tt)))
+mutex-there m fits = (
+  ap (λ (b : Bool). cond b (Some m) None) (own-true m.owner m.recursion m.abandoned fits.1),
+  (fits.0, (own-small m.owner m.recursion m.abandoned fits.1, tt)),
+)
 
-mutex-back : (p : Option ℕ × (ℕ × Bool)) (m : MutexState) → PartsFit p → mutex_of p ≡ Some m → (mutex_parts m ≡ p) × MutexFits m
+mutex-back : (p : Option ℕ × (ℕ × Bool)) (m : MutexState) → PartsFit p → mutex_of p ≡ Some m
+    → (mutex_parts m ≡ p) × MutexFits m
 mutex-back p m fits e =
     let made : MutexState = record { owner = p.0; recursion = p.1.0; abandoned = p.1.1 } in
     let g = guard-some (may_own p.0 p.1.0 p.1.1) made m e in
     subst (λ (z : MutexState). (mutex_parts z ≡ p) × MutexFits z) g.1 (refl, (fits.0, own-possible p.0 p.1.0 p.1.1 g.0))
 
 pub mutex_codec : IsCodec mutex_text mutex_at MutexFits
-mutex_codec = some_codec mutex_of mutex_parts MutexFits mutex-there mutex-back (both_codec (option_codec u32_codec) (both_codec u32_codec flag_codec))
+mutex_codec = some_codec mutex_of mutex_parts MutexFits mutex-there mutex-back
+    (both_codec (option_codec u32_codec) (both_codec u32_codec flag_codec))
 
 -- what is read of one kind
-takes-one : {A : Type 0} {spell : A → List ℕ} {read : List ℕ → Read A} {Fits : A → Type 0} → IsCodec spell read Fits → (t : ℕ) (to : A → Body)
+takes-one : {A : Type 0} {spell : A → List ℕ} {read : List ℕ → Read A} {Fits : A → Type 0} → IsCodec spell read Fits
+    → (t : ℕ) (to : A → Body)
     → ((a : A) → parts_text (to a) ≡ spell a) → ((a : A) → Fits a → BodyFits (to a)) → ((a : A) → tag_of (to a) ≡ t)
-    → (bytes : List ℕ) (x : Body) (rest : List ℕ) → AreBytes bytes → as_at to read bytes ≡ Ok (x, rest) → Takes bytes (parts_text x) rest × BodyFits x × (tag_of x ≡ t)
+    → (bytes : List ℕ) (x : Body) (rest : List ℕ) → AreBytes bytes → as_at to read bytes ≡ Ok (x, rest)
+    → Takes bytes (parts_text x) rest × BodyFits x × (tag_of x ≡ t)
 takes-one {A = A} {read = read} is t to text can tag bytes x rest fits e =
     let b = bind_ok (read bytes) (λ (y : A × List ℕ). Ok (to y.0, y.1)) (x, rest) e in
     let k = is.takes bytes b.0.0 b.0.1 fits b.1 in
-    subst (λ (z : Body × List ℕ). Takes bytes (parts_text z.0) z.1 × BodyFits z.0 × (tag_of z.0 ≡ t)) (ok_is (to b.0.0, b.0.1) (x, rest) b.2)
+    subst (λ (z : Body × List ℕ). Takes bytes (parts_text z.0) z.1 × BodyFits z.0
+    × (tag_of z.0 ≡ t)) (ok_is (to b.0.0, b.0.1) (x, rest) b.2)
     (subst (λ (w : List ℕ). Takes bytes w b.0.1) (sym (text b.0.0)) k.0, can b.0.0 k.1, tag b.0.0)
 
-one-again : (t : ℕ) (x : Body) (rest : List ℕ) → tag_of x ≡ t → BodyFits x → body_in t (parts_text x ++ rest) ≡ Ok (x, rest)
+one-again : (t : ℕ) (x : Body) (rest : List ℕ) → tag_of x ≡ t → BodyFits x
+    → body_in t (parts_text x ++ rest) ≡ Ok (x, rest)
 unfolding body_in
-one-again t (Event e) rest is fits = subst (λ (n : ℕ). body_in n (event_text e ++ rest) ≡ Ok (Event e, rest)) is (rw (event_codec.again e rest fits) refl)
-one-again t (Mutex m) rest is fits = subst (λ (n : ℕ). body_in n (mutex_text m ++ rest) ≡ Ok (Mutex m, rest)) is (rw (mutex_codec.again m rest fits) refl)
-one-again t (Semaphore s) rest is fits = subst (λ (n : ℕ). body_in n (semaphore_text s ++ rest) ≡ Ok (Semaphore s, rest)) is (rw (semaphore_codec.again s rest fits) refl)
-one-again t (Timer d) rest is fits = subst (λ (n : ℕ). body_in n (timer_text d ++ rest) ≡ Ok (Timer d, rest)) is (rw (timer_codec.again d rest fits) refl)
+one-again t (Event e) rest is fits = subst (λ (n : ℕ). body_in n (event_text e ++ rest) ≡ Ok (Event e, rest)) is
+    (rw (event_codec.again e rest fits) refl)
+one-again t (Mutex m) rest is fits = subst (λ (n : ℕ). body_in n (mutex_text m ++ rest) ≡ Ok (Mutex m, rest)) is
+    (rw (mutex_codec.again m rest fits) refl)
+one-again t (Semaphore s) rest is fits = subst (λ (n : ℕ). body_in n (semaphore_text s ++ rest)
+    ≡ Ok (Semaphore s, rest)) is (rw (semaphore_codec.again s rest fits) refl)
+one-again t (Timer d) rest is fits = subst (λ (n : ℕ). body_in n (timer_text d ++ rest) ≡ Ok (Timer d, rest)) is
+    (rw (timer_codec.again d rest fits) refl)
 
-one-takes : (t : ℕ) (bytes : List ℕ) (x : Body) (rest : List ℕ) → AreBytes bytes → body_in t bytes ≡ Ok (x, rest) → Takes bytes (parts_text x) rest × BodyFits x × (tag_of x ≡ t)
+one-takes : (t : ℕ) (bytes : List ℕ) (x : Body) (rest : List ℕ) → AreBytes bytes → body_in t bytes ≡ Ok (x, rest)
+    → Takes bytes (parts_text x) rest × BodyFits x × (tag_of x ≡ t)
 unfolding body_in
 one-takes zero = takes-one event_codec 0 Event (λ _. refl) (λ _ fits. fits) (λ _. refl)
 one-takes (suc zero) = takes-one mutex_codec 1 Mutex (λ _. refl) (λ _ fits. fits) (λ _. refl)

@@ -16,11 +16,14 @@ use Rattle.ob_codec.specs.Steps.{bind_ok, bytes-take, guard_passed}
 
 unsealed_again : (text : List ℕ) → unsealed (sealed text) ≡ Ok text
 unsealed_again text =
-    let long : length (sealed text) ≡ length text + 32 = length-append text (sha256 text) ∙ ap (λ (n : ℕ). length text + n) (length-sha256 text) in
+    let long : length (sealed text) ≡ length text + 32 =
+    length-append text (sha256 text) ∙ ap (λ (n : ℕ). length text + n) (length-sha256 text) in
     let enough : ltb (length (sealed text)) 32 ≡ false = le-ltb _ _ (omega arith) in
     let at : length text ≡ length (sealed text) - 32 = omega arith in
-    let front : take (length (sealed text) - 32) (sealed text) ≡ text = take_at text (sha256 text) (length (sealed text) - 32) at in
-    let back : drop (length (sealed text) - 32) (sealed text) ≡ sha256 text = drop_at text (sha256 text) (length (sealed text) - 32) at in
+    let front : take (length (sealed text) - 32) (sealed text) ≡ text =
+    take_at text (sha256 text) (length (sealed text) - 32) at in
+    let back : drop (length (sealed text) - 32) (sealed text) ≡ sha256 text =
+    drop_at text (sha256 text) (length (sealed text) - 32) at in
     rw (enough, front, back, (bytes_eq-Decides (sha256 text) (sha256 text)).1 refl) refl
 
 unsealed_takes : (bytes text : List ℕ) → unsealed bytes ≡ Ok text → bytes ≡ sealed text
@@ -36,18 +39,22 @@ unsealed_takes bytes text e = by (ltb (length bytes) 32) e
     by true f = absurd cc
     by false f =
         let g = guard_passed (bytes_eq (sha256 front) back) Digest front text f in
-        sym (take-append-drop (length bytes - 32) bytes) ∙ (ap (λ (d : List ℕ). front ++ d) (sym ((bytes_eq-Decides (sha256 front) back).0 g.0)) ∙ ap sealed g.1)
+        sym (take-append-drop (length bytes - 32) bytes)
+        ∙ (ap (λ (d : List ℕ). front ++ d) (sym ((bytes_eq-Decides (sha256 front) back).0 g.0)) ∙ ap sealed g.1)
 
 -- what stands before a text's digest is bytes
 front-fits : (bytes text : List ℕ) → AreBytes bytes → bytes ≡ sealed text → AreBytes text
 front-fits bytes text fits is =
-    subst AreBytes (ap (take (length text)) is ∙ take_at text (sha256 text) (length text) refl) (bytes-take (length text) bytes fits)
+    subst AreBytes (ap (take (length text)) is ∙ take_at text (sha256 text) (length text) refl)
+    (bytes-take (length text) bytes fits)
 
-module _ {A : Type 0} {spell : A → List ℕ} {read : List ℕ → Read A} {Fits : A → Type 0} (is : IsCodec spell read Fits) where
+module _ {A : Type 0} {spell : A → List ℕ} {read : List ℕ → Read A} {Fits : A
+    → Type 0} (is : IsCodec spell read Fits) where
   pub loaded_again : (x : A) → Fits x → loaded read (sealed (spell x)) ≡ Ok x
   loaded_again x fits = rw (unsealed_again (spell x)) (whole_again is x fits)
 
-  pub loaded_takes : (bytes : List ℕ) (x : A) → AreBytes bytes → loaded read bytes ≡ Ok x → (bytes ≡ sealed (spell x)) × Fits x
+  pub loaded_takes : (bytes : List ℕ) (x : A) → AreBytes bytes → loaded read bytes ≡ Ok x
+      → (bytes ≡ sealed (spell x)) × Fits x
   loaded_takes bytes x fits e =
       let t = bind_ok (unsealed bytes) (λ (text : List ℕ). whole_at read text) x e in
       let here : bytes ≡ sealed t.0 = unsealed_takes bytes t.0 t.1 in

@@ -16,7 +16,8 @@ use Rattle.ob_codec.specs.Steps.{bytes-drop, bytes-take, bytes-rest, bind_ok, gu
 
 record IsWide (w : Width) (limit : ℕ) : Type 0 where
   pub len : (n : ℕ) → length (to_le_bytes w n) ≡ byte_len w
-  pub back : (bytes : List ℕ) → length bytes ≡ byte_len w → AreBytes bytes → to_le_bytes w (from_le_bytes w bytes) ≡ bytes
+  pub back : (bytes : List ℕ) → length bytes ≡ byte_len w → AreBytes bytes
+      → to_le_bytes w (from_le_bytes w bytes) ≡ bytes
   pub again : (n : ℕ) → n < limit → from_le_bytes w (to_le_bytes w n) ≡ n
   pub below : (bytes : List ℕ) → AreBytes bytes → from_le_bytes w bytes < limit
 
@@ -39,21 +40,35 @@ wide64 = record {
 module _ (w : Width) (limit : ℕ) (wide : IsWide w limit) where
   number_takes : TakesSpelled (to_le_bytes w) (number_at w) (λ n. n < limit)
   number_takes bytes n rest fits e =
-      let g = guard_ok (ltb (length bytes) (byte_len w)) Short (from_le_bytes w (take (byte_len w) bytes), drop (byte_len w) bytes) (n, rest) e in
+      let g = guard_ok (ltb (length bytes) (byte_len w)) Short (
+        from_le_bytes w (take (byte_len w) bytes),
+        drop (byte_len w) bytes,
+      ) (n, rest) e in
       let long : byte_len w ≤ length bytes = ltb-false _ _ g.0 in
       let front-fits = bytes-take (byte_len w) bytes fits in
       let n-is : from_le_bytes w (take (byte_len w) bytes) ≡ n = ap (λ (p : ℕ × List ℕ). p.0) g.1 in
       let rest-is : drop (byte_len w) bytes ≡ rest = ap (λ (p : ℕ × List ℕ). p.1) g.1 in
-      let front : to_le_bytes w n ≡ take (byte_len w) bytes = rw (← n-is) (wide.back (take (byte_len w) bytes) (omega (arith, length-take (byte_len w) bytes)) front-fits) in (
-        record { parts = rw (front, ← rest-is) (sym (take-append-drop (byte_len w) bytes)); rest_fits = rw (← rest-is) (bytes-drop (byte_len w) bytes fits) },
+      let front : to_le_bytes w n ≡ take (byte_len w) bytes =
+      rw (← n-is) (wide.back (take (byte_len w) bytes) (omega (arith, length-take (byte_len w) bytes)) front-fits)
+      in (
+        record {
+          parts = rw (front, ← rest-is) (sym (take-append-drop (byte_len w) bytes));
+          rest_fits = rw (← rest-is) (bytes-drop (byte_len w) bytes fits);
+        },
         rw (← n-is) (wide.below (take (byte_len w) bytes) front-fits),
       )
 
   number_again : ReadsAgain (to_le_bytes w) (number_at w) (λ n. n < limit)
   number_again n rest lt =
       let len = wide.len n in
-      let long : ltb (length (to_le_bytes w n ++ rest)) (byte_len w) ≡ false = le-ltb _ _ (omega (arith, length-append (to_le_bytes w n) rest)) in
-      rw (long, take_at (to_le_bytes w n) rest (byte_len w) len, drop_at (to_le_bytes w n) rest (byte_len w) len, wide.again n lt) refl
+      let long : ltb (length (to_le_bytes w n ++ rest)) (byte_len w) ≡ false =
+      le-ltb _ _ (omega (arith, length-append (to_le_bytes w n) rest)) in
+      rw (
+        long,
+        take_at (to_le_bytes w n) rest (byte_len w) len,
+        drop_at (to_le_bytes w n) rest (byte_len w) len,
+        wide.again n lt,
+      ) refl
 
   number_codec : IsCodec (to_le_bytes w) (number_at w) (λ n. n < limit)
   number_codec = record { again = number_again; takes = number_takes }
@@ -75,9 +90,14 @@ flag_takes : TakesSpelled flag flag_at Any
 unfolding flag_at
 flag_takes [] x rest fits e = absurd cc
 flag_takes (zero ∷ bytes) x rest fits e =
-    subst (λ (y : Bool × List ℕ). Takes (0 ∷ bytes) (flag y.0) y.1 × Unit {0}) (ok_is (false, bytes) (x, rest) e) (record { parts = refl; rest_fits = bytes-rest 0 bytes fits }, tt)
+    subst (λ (y : Bool × List ℕ). Takes (0 ∷ bytes) (flag y.0) y.1
+    × Unit {0}) (ok_is (false, bytes) (x, rest) e) (
+      record { parts = refl; rest_fits = bytes-rest 0 bytes fits },
+      tt,
+    )
 flag_takes (suc zero ∷ bytes) x rest fits e =
-    subst (λ (y : Bool × List ℕ). Takes (1 ∷ bytes) (flag y.0) y.1 × Unit {0}) (ok_is (true, bytes) (x, rest) e) (record { parts = refl; rest_fits = bytes-rest 1 bytes fits }, tt)
+    subst (λ (y : Bool × List ℕ). Takes (1 ∷ bytes) (flag y.0) y.1
+    × Unit {0}) (ok_is (true, bytes) (x, rest) e) (record { parts = refl; rest_fits = bytes-rest 1 bytes fits }, tt)
 flag_takes (suc (suc b) ∷ bytes) x rest fits e = absurd cc
 
 pub flag_codec : IsCodec flag flag_at Any
@@ -88,9 +108,16 @@ flag_codec = record { again = flag_again; takes = flag_takes }
 string_again : ReadsAgain string string_at StringFits
 unfolding string_at
 string_again text rest fits =
-    let regrouped : string text ++ rest ≡ to_le_bytes w32 (length text) ++ (text ++ rest) = append_assoc (to_le_bytes w32 (length text)) text rest in
-    let long : ltb (length (text ++ rest)) (length text) ≡ false = le-ltb _ _ (omega (arith, length-append text rest)) in
-    ap string_at regrouped ∙ rw (u32_codec.again (length text) (text ++ rest) fits, long, take_at text rest (length text) refl, drop_at text rest (length text) refl) refl
+    let regrouped : string text ++ rest ≡ to_le_bytes w32 (length text) ++ (text ++ rest) =
+    append_assoc (to_le_bytes w32 (length text)) text rest in
+    let long : ltb (length (text ++ rest)) (length text) ≡ false = le-ltb _ _ (omega (arith, length-append text rest))
+    in
+    ap string_at regrouped ∙ rw (
+      u32_codec.again (length text) (text ++ rest) fits,
+      long,
+      take_at text rest (length text) refl,
+      drop_at text rest (length text) refl,
+    ) refl
 
 string_takes : TakesSpelled string string_at StringFits
 unfolding string_at
@@ -101,9 +128,11 @@ string_takes bytes text rest fits e =
     let g = guard_ok (ltb (length n.1) n.0) Short (take n.0 n.1, drop n.0 n.1) (text, rest) b.2 in
     let long : n.0 ≤ length n.1 = ltb-false _ _ g.0 in
     let len : length (take n.0 n.1) ≡ n.0 = omega (arith, length-take n.0 n.1) in
-    let second : Takes n.1 (take n.0 n.1) (drop n.0 n.1) = record { parts = sym (take-append-drop n.0 n.1); rest_fits = bytes-drop n.0 n.1 t.0.rest_fits } in
+    let second : Takes n.1 (take n.0 n.1) (drop n.0 n.1) =
+    record { parts = sym (take-append-drop n.0 n.1); rest_fits = bytes-drop n.0 n.1 t.0.rest_fits } in
     let joined = takes-then bytes (to_le_bytes w32 n.0) n.1 (take n.0 n.1) (drop n.0 n.1) t.0 second in
-    let whole : Takes bytes (string (take n.0 n.1)) (drop n.0 n.1) = subst (λ (k : ℕ). Takes bytes (to_le_bytes w32 k ++ take n.0 n.1) (drop n.0 n.1)) (sym len) joined in
+    let whole : Takes bytes (string (take n.0 n.1)) (drop n.0 n.1) =
+    subst (λ (k : ℕ). Takes bytes (to_le_bytes w32 k ++ take n.0 n.1) (drop n.0 n.1)) (sym len) joined in
     subst (λ (p : List ℕ × List ℕ). Takes bytes (string p.0) p.1 × StringFits p.0) g.1 (whole, omega (arith, t.1))
 
 pub string_codec : IsCodec string string_at StringFits
@@ -111,7 +140,8 @@ string_codec = record { again = string_again; takes = string_takes }
 
 -- ---- codecs over a codec
 
-module _ {A : Type 0} {spell : A → List ℕ} {read : List ℕ → Read A} {Fits : A → Type 0} (is : IsCodec spell read Fits) where
+module _ {A : Type 0} {spell : A → List ℕ} {read : List ℕ → Read A} {Fits : A
+    → Type 0} (is : IsCodec spell read Fits) where
   option_again : ReadsAgain (option spell) (option_at read) (OptionFits Fits)
   unfolding option_at
   option_again None rest fits = refl
@@ -121,42 +151,71 @@ module _ {A : Type 0} {spell : A → List ℕ} {read : List ℕ → Read A} {Fit
   unfolding option_at
   option_takes [] x rest fits e = absurd cc
   option_takes (zero ∷ bytes) x rest fits e =
-      subst (λ (y : Option A × List ℕ). Takes (0 ∷ bytes) (option spell y.0) y.1 × OptionFits Fits y.0) (ok_is (None, bytes) (x, rest) e) (record { parts = refl; rest_fits = bytes-rest 0 bytes fits }, tt)
+      subst (λ (y : Option A × List ℕ). Takes (0 ∷ bytes) (option spell y.0) y.1
+      × OptionFits Fits y.0) (ok_is (None, bytes) (x, rest) e) (
+        record {
+          parts = refl;
+          rest_fits = bytes-rest 0 bytes fits;
+        },
+        tt,
+      )
   option_takes (suc zero ∷ bytes) x rest fits e =
       let b = bind_ok (read bytes) (λ (y : A × List ℕ). Ok (Some y.0, y.1)) (x, rest) e in
       let t = is.takes bytes b.0.0 b.0.1 (bytes-rest 1 bytes fits) b.1 in
-      subst (λ (y : Option A × List ℕ). Takes (1 ∷ bytes) (option spell y.0) y.1 × OptionFits Fits y.0) (ok_is (Some b.0.0, b.0.1) (x, rest) b.2) (record { parts = ap (λ (w : List ℕ). 1 ∷ w) t.0.parts; rest_fits = t.0.rest_fits }, t.1)
+      subst (λ (y : Option A × List ℕ). Takes (1 ∷ bytes) (option spell y.0) y.1
+      × OptionFits Fits y.0) (ok_is (Some b.0.0, b.0.1) (x, rest) b.2)
+      (record { parts = ap (λ (w : List ℕ). 1 ∷ w) t.0.parts; rest_fits = t.0.rest_fits }, t.1)
   option_takes (suc (suc b) ∷ bytes) x rest fits e = absurd cc
 
   pub option_codec : IsCodec (option spell) (option_at read) (OptionFits Fits)
   option_codec = record { again = option_again; takes = option_takes }
 
-  items_again : (xs : List A) (rest : List ℕ) → AllByRecursion Fits xs → items_at read (length xs) (flat_map spell xs ++ rest) ≡ Ok (xs, rest)
+  items_again : (xs : List A) (rest : List ℕ) → AllByRecursion Fits xs
+      → items_at read (length xs) (flat_map spell xs ++ rest) ≡ Ok (xs, rest)
   unfolding items_at
   items_again [] rest fits = refl
   items_again (x ∷ xs) rest fits =
-      let regrouped : flat_map spell (x ∷ xs) ++ rest ≡ spell x ++ (flat_map spell xs ++ rest) = ap (λ (t : List ℕ). t ++ rest) (flat_map-cons spell x xs) ∙ append_assoc (spell x) (flat_map spell xs) rest in
-      ap (items_at read (suc (length xs))) regrouped ∙ rw (is.again x (flat_map spell xs ++ rest) fits.0, items_again xs rest fits.1) refl
+      let regrouped : flat_map spell (x ∷ xs) ++ rest ≡ spell x ++ (flat_map spell xs ++ rest) =
+      ap (λ (t : List ℕ). t ++ rest) (flat_map-cons spell x xs) ∙ append_assoc (spell x) (flat_map spell xs) rest in
+      ap (items_at read (suc (length xs))) regrouped
+      ∙ rw (is.again x (flat_map spell xs ++ rest) fits.0, items_again xs rest fits.1) refl
 
-  items_take : (n : ℕ) (bytes : List ℕ) (xs : List A) (rest : List ℕ) → AreBytes bytes → items_at read n bytes ≡ Ok (xs, rest)
+  items_take : (n : ℕ) (bytes : List ℕ) (xs : List A) (rest : List ℕ) → AreBytes bytes
+      → items_at read n bytes ≡ Ok (xs, rest)
       → Takes bytes (flat_map spell xs) rest × (length xs ≡ n) × AllByRecursion Fits xs
   unfolding items_at
   items_take zero bytes xs rest fits e =
-      subst (λ (y : List A × List ℕ). Takes bytes (flat_map spell y.0) y.1 × (length y.0 ≡ 0) × AllByRecursion Fits y.0) (ok_is ([], bytes) (xs, rest) e) (record { parts = refl; rest_fits = fits }, refl, tt)
+      subst (λ (y : List A × List ℕ). Takes bytes (flat_map spell y.0) y.1 × (length y.0 ≡ 0)
+      × AllByRecursion Fits y.0) (ok_is ([], bytes) (xs, rest) e) (
+        record { parts = refl; rest_fits = fits },
+        refl,
+        tt,
+      )
   items_take (suc n) bytes xs rest fits e =
-      let a = bind_ok (read bytes) (λ (first : A × List ℕ). items_at read n first.1 >>= λ (others : List A × List ℕ). Ok (first.0 ∷ others.0, others.1)) (xs, rest) e in
-      let b = bind_ok (items_at read n a.0.1) (λ (others : List A × List ℕ). Ok (a.0.0 ∷ others.0, others.1)) (xs, rest) a.2 in
+      let a = bind_ok (read bytes) (λ (first : A × List ℕ). items_at read n first.1 >>= λ (others : List A
+      × List ℕ). Ok (first.0 ∷ others.0, others.1)) (xs, rest) e in
+      let b = bind_ok (items_at read n a.0.1) (λ (others : List A × List ℕ). Ok (a.0.0 ∷ others.0, others.1)) (
+        xs,
+        rest,
+      ) a.2 in
       let first = is.takes bytes a.0.0 a.0.1 fits a.1 in
       let second = items_take n a.0.1 b.0.0 b.0.1 first.0.rest_fits b.1 in
       let joined = takes-then bytes (spell a.0.0) a.0.1 (flat_map spell b.0.0) b.0.1 first.0 second.0 in
       let made : List A × List ℕ = (a.0.0 ∷ b.0.0, b.0.1) in
-      subst (λ (y : List A × List ℕ). Takes bytes (flat_map spell y.0) y.1 × (length y.0 ≡ suc n) × AllByRecursion Fits y.0) (ok_is made (xs, rest) b.2) (rw flat_map-cons joined, ap suc second.1, (first.1, second.2))
+      subst (λ (y : List A × List ℕ). Takes bytes (flat_map spell y.0) y.1 × (length y.0 ≡ suc n)
+      × AllByRecursion Fits y.0) (ok_is made (xs, rest) b.2) (
+        rw flat_map-cons joined,
+        ap suc second.1,
+        (first.1, second.2),
+      )
 
   list_again : ReadsAgain (list spell) (list_at read) (ListFits Fits)
   unfolding list_at
   list_again xs rest fits =
-      let regrouped : list spell xs ++ rest ≡ to_le_bytes w32 (length xs) ++ (flat_map spell xs ++ rest) = append_assoc (to_le_bytes w32 (length xs)) (flat_map spell xs) rest in
-      ap (list_at read) regrouped ∙ rw (u32_codec.again (length xs) (flat_map spell xs ++ rest) fits.0) (items_again xs rest fits.1)
+      let regrouped : list spell xs ++ rest ≡ to_le_bytes w32 (length xs) ++ (flat_map spell xs ++ rest) =
+      append_assoc (to_le_bytes w32 (length xs)) (flat_map spell xs) rest in
+      ap (list_at read) regrouped ∙ rw (u32_codec.again (length xs) (flat_map spell xs ++ rest) fits.0)
+      (items_again xs rest fits.1)
 
   list_takes : TakesSpelled (list spell) (list_at read) (ListFits Fits)
   unfolding list_at
@@ -164,8 +223,10 @@ module _ {A : Type 0} {spell : A → List ℕ} {read : List ℕ → Read A} {Fit
       let a = bind_ok (number_at w32 bytes) (λ (n : ℕ × List ℕ). items_at read n.0 n.1) (xs, rest) e in
       let first = u32_codec.takes bytes a.0.0 a.0.1 fits a.1 in
       let second = items_take a.0.0 a.0.1 xs rest first.0.rest_fits a.2 in
-      let joined = takes-then bytes (to_le_bytes w32 a.0.0) a.0.1 (flat_map spell xs) rest first.0 second.0 in
-      (subst (λ (k : ℕ). Takes bytes (to_le_bytes w32 k ++ flat_map spell xs) rest) (sym second.1) joined, (omega (arith, first.1, second.1), second.2))
+      let joined = takes-then bytes (to_le_bytes w32 a.0.0) a.0.1 (flat_map spell xs) rest first.0 second.0 in (
+        subst (λ (k : ℕ). Takes bytes (to_le_bytes w32 k ++ flat_map spell xs) rest) (sym second.1) joined,
+        (omega (arith, first.1, second.1), second.2),
+      )
 
   pub list_codec : IsCodec (list spell) (list_at read) (ListFits Fits)
   list_codec = record { again = list_again; takes = list_takes }
@@ -179,9 +240,13 @@ module _ {A : Type 0} {spell : A → List ℕ} {read : List ℕ → Read A} {Fit
 
   -- values that pass a test
   pub where_codec : (test : A → Bool) → IsCodec spell (where_at test read) (λ x. Fits x × (test x ≡ true))
-  where_codec test = record { again = λ x rest fits. rw (is.again x rest fits.0, fits.1) refl; takes = where_takes test }
+  where_codec test = record {
+    again = λ x rest fits. rw (is.again x rest fits.0, fits.1) refl;
+    takes = where_takes test;
+  }
 
-  whole_end : (x : A) (rest : List ℕ) (y : A) → (end_of rest >>= λ (nothing : Unit {0}). Ok x) ≡ Ok y → (rest ≡ []) × (x ≡ y)
+  whole_end : (x : A) (rest : List ℕ) (y : A) → (end_of rest >>= λ (nothing : Unit {0}). Ok x) ≡ Ok y
+      → (rest ≡ []) × (x ≡ y)
   whole_end x [] y e = (refl, ok_is x y e)
   whole_end x (b ∷ rest) y e = absurd cc
 
@@ -194,24 +259,29 @@ module _ {A : Type 0} {spell : A → List ℕ} {read : List ℕ → Read A} {Fit
       let a = bind_ok (read bytes) (λ (a : A × List ℕ). end_of a.1 >>= λ (nothing : Unit {0}). Ok a.0) x e in
       let g = whole_end a.0.0 a.0.1 x a.2 in
       let t = is.takes bytes a.0.0 a.0.1 fits a.1 in
-      let whole : bytes ≡ spell a.0.0 = t.0.parts ∙ ap (λ (r : List ℕ). spell a.0.0 ++ r) g.0 ∙ append-nil (spell a.0.0) in
+      let whole : bytes ≡ spell a.0.0 = t.0.parts ∙ ap (λ (r : List ℕ). spell a.0.0 ++ r) g.0 ∙ append-nil (spell a.0.0)
+      in
       subst (λ (z : A). (bytes ≡ spell z) × Fits z) g.1 (whole, t.1)
 
 -- ---- values of another type
 
-given-ok : {B : Type 0} (o : Option B) (rest : List ℕ) (x : B × List ℕ) → given_at o rest ≡ Ok x → (o ≡ Some x.0) × (rest ≡ x.1)
+given-ok : {B : Type 0} (o : Option B) (rest : List ℕ) (x : B × List ℕ) → given_at o rest ≡ Ok x
+    → (o ≡ Some x.0) × (rest ≡ x.1)
 given-ok None rest x e = absurd cc
-given-ok {B = B} (Some b) rest x e = let is : (b, rest) ≡ x = ok_is (b, rest) x e in (ap (λ (z : B × List ℕ). Some z.0) is, ap (λ (z : B × List ℕ). z.1) is)
+given-ok {B = B} (Some b) rest x e = let is : (b, rest) ≡ x = ok_is (b, rest) x e in
+    (ap (λ (z : B × List ℕ). Some z.0) is, ap (λ (z : B × List ℕ). z.1) is)
 
 module _ {A B : Type 0} {spell : A → List ℕ} {read : List ℕ → Read A} {Fits : A → Type 0} where
   -- some values stand for one of another type
   pub some_codec : (to : A → Option B) (from : B → A) (FitsB : B → Type 0)
-      → ((b : B) → FitsB b → (to (from b) ≡ Some b) × Fits (from b)) → ((a : A) (b : B) → Fits a → to a ≡ Some b → (from b ≡ a) × FitsB b)
+      → ((b : B) → FitsB b → (to (from b) ≡ Some b) × Fits (from b))
+      → ((a : A) (b : B) → Fits a → to a ≡ Some b → (from b ≡ a) × FitsB b)
       → IsCodec spell read Fits → IsCodec (λ (b : B). spell (from b)) (some_at to read) FitsB
   some_codec to from FitsB there back is = record { again = again; takes = takes }
     where
       again : ReadsAgain (λ (b : B). spell (from b)) (some_at to read) FitsB
-      again b rest fits = let t = there b fits in rw (is.again (from b) rest t.1) (ap (λ (z : Option B). given_at z rest) t.0)
+      again b rest fits = let t = there b fits in rw (is.again (from b) rest t.1)
+          (ap (λ (z : Option B). given_at z rest) t.0)
 
       takes : TakesSpelled (λ (b : B). spell (from b)) (some_at to read) FitsB
       takes bytes b rest fits e =
@@ -222,7 +292,8 @@ module _ {A B : Type 0} {spell : A → List ℕ} {read : List ℕ → Read A} {F
           (subst (λ (z : A × List ℕ). Takes bytes (spell z.0) z.1) (λ i. (sym here.0 i, g.1 i)) t.0, here.1)
 
   -- each value stands for one of another type
-  pub as_codec : (to : A → B) (from : B → A) → ((b : B) → to (from b) ≡ b) → ((a : A) → from (to a) ≡ a) → IsCodec spell read Fits
+  pub as_codec : (to : A → B) (from : B → A) → ((b : B) → to (from b) ≡ b) → ((a : A) → from (to a) ≡ a)
+      → IsCodec spell read Fits
       → IsCodec (λ (b : B). spell (from b)) (as_at to read) (λ b. Fits (from b))
   as_codec to from there back is = record { again = again; takes = takes }
     where
@@ -233,35 +304,50 @@ module _ {A B : Type 0} {spell : A → List ℕ} {read : List ℕ → Read A} {F
       takes bytes b rest fits e =
           let x = bind_ok (read bytes) (λ (x : A × List ℕ). Ok (to x.0, x.1)) (b, rest) e in
           let t = is.takes bytes x.0.0 x.0.1 fits x.1 in
-          let here : Takes bytes (spell (from (to x.0.0))) x.0.1 × Fits (from (to x.0.0)) = subst (λ (z : A). Takes bytes (spell z) x.0.1 × Fits z) (sym (back x.0.0)) t in
-          subst (λ (z : B × List ℕ). Takes bytes (spell (from z.0)) z.1 × Fits (from z.0)) (ok_is (to x.0.0, x.0.1) (b, rest) x.2) here
+          let here : Takes bytes (spell (from (to x.0.0))) x.0.1 × Fits (from (to x.0.0)) =
+          subst (λ (z : A). Takes bytes (spell z) x.0.1 × Fits z) (sym (back x.0.0)) t in
+          subst (λ (z : B × List ℕ). Takes bytes (spell (from z.0)) z.1
+          × Fits (from z.0)) (ok_is (to x.0.0, x.0.1) (b, rest) x.2) here
 
 -- ---- one value behind another
 
-module _ {A B : Type 0} {sa : A → List ℕ} {ra : List ℕ → Read A} {FA : A → Type 0} {sb : B → List ℕ} {rb : List ℕ → Read B} {FB : B → Type 0} where
+module _ {A B : Type 0} {sa : A → List ℕ} {ra : List ℕ → Read A} {FA : A → Type 0} {sb : B → List ℕ} {rb : List ℕ
+    → Read B} {FB : B → Type 0} where
   pub both_codec : IsCodec sa ra FA → IsCodec sb rb FB → IsCodec (both sa sb) (both_at ra rb) (BothFit FA FB)
   both_codec a b = record { again = again; takes = takes }
     where
       again : ReadsAgain (both sa sb) (both_at ra rb) (BothFit FA FB)
-      again p rest fits = ap (both_at ra rb) (append_assoc (sa p.0) (sb p.1) rest) ∙ rw (a.again p.0 (sb p.1 ++ rest) fits.0, b.again p.1 rest fits.1) refl
+      again p rest fits = ap (both_at ra rb) (append_assoc (sa p.0) (sb p.1) rest)
+          ∙ rw (a.again p.0 (sb p.1 ++ rest) fits.0, b.again p.1 rest fits.1) refl
 
       takes : TakesSpelled (both sa sb) (both_at ra rb) (BothFit FA FB)
       takes bytes p rest fits e =
-          let x = bind_ok (ra bytes) (λ (x : A × List ℕ). rb x.1 >>= λ (y : B × List ℕ). Ok ((x.0, y.0), y.1)) (p, rest) e in
+          let x = bind_ok (ra bytes) (λ (x : A × List ℕ). rb x.1 >>= λ (y : B × List ℕ). Ok ((x.0, y.0), y.1)) (
+            p,
+            rest,
+          ) e in
           let y = bind_ok (rb x.0.1) (λ (y : B × List ℕ). Ok ((x.0.0, y.0), y.1)) (p, rest) x.2 in
           let first = a.takes bytes x.0.0 x.0.1 fits x.1 in
           let second = b.takes x.0.1 y.0.0 y.0.1 first.0.rest_fits y.1 in
           let made : (A × B) × List ℕ = ((x.0.0, y.0.0), y.0.1) in
-          subst (λ (z : (A × B) × List ℕ). Takes bytes (both sa sb z.0) z.1 × BothFit FA FB z.0) (ok_is made (p, rest) y.2) (takes-then bytes (sa x.0.0) x.0.1 (sb y.0.0) y.0.1 first.0 second.0, (first.1, second.1))
+          subst (λ (z : (A × B) × List ℕ). Takes bytes (both sa sb z.0) z.1
+          × BothFit FA FB z.0) (ok_is made (p, rest) y.2)
+          (takes-then bytes (sa x.0.0) x.0.1 (sb y.0.0) y.0.1 first.0 second.0, (first.1, second.1))
 
 -- ---- a value behind the byte that says which form it has
 
-module _ {A : Type 0} (tag : A → ℕ) (body : A → List ℕ) (pick : ℕ → List ℕ → Read A) (Fits : A → Type 0) (each : (t : ℕ) → IsVariant t tag body (pick t) Fits) where
+module _ {A : Type 0} (tag : A → ℕ) (body : A → List ℕ) (pick : ℕ → List ℕ → Read A) (Fits : A → Type 0) (each : (t : ℕ)
+    → IsVariant t tag body (pick t) Fits) where
   tagged_takes : TakesSpelled (λ (x : A). tag x ∷ body x) (tagged_at pick) Fits
   tagged_takes [] x rest fits e = absurd cc
   tagged_takes (t ∷ bytes) x rest fits e =
-      let v = (each t).takes bytes x rest (bytes-rest t bytes fits) e in
-      (record { parts = ap (λ (w : List ℕ). t ∷ w) v.0.parts ∙ ap (λ (n : ℕ). n ∷ (body x ++ rest)) (sym v.2); rest_fits = v.0.rest_fits }, v.1)
+      let v = (each t).takes bytes x rest (bytes-rest t bytes fits) e in (
+        record {
+          parts = ap (λ (w : List ℕ). t ∷ w) v.0.parts ∙ ap (λ (n : ℕ). n ∷ (body x ++ rest)) (sym v.2);
+          rest_fits = v.0.rest_fits;
+        },
+        v.1,
+      )
 
   pub tagged_codec : IsCodec (λ (x : A). tag x ∷ body x) (tagged_at pick) Fits
   tagged_codec = record { again = λ x rest fits. (each (tag x)).again x rest refl fits; takes = tagged_takes }

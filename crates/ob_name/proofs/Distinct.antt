@@ -9,12 +9,16 @@ use Rattle.ob_name.specs.Order.{Row}
 use Rattle.ob_name.specs.Same.{same_name-Decides, same_name_equiv}
 use Rattle.ob_name.proofs.Ordered.{some_is}
 
-apart_at : (first : ObjectName) (rows : Rows) (at : ℕ) (row : Row) → AllByRecursion (λ (other : ObjectName). same_name first other ≡ false) (keys_of rows) → slice_get rows at ≡ Some row → same_name first row.0 ≡ false
+apart_at : (first : ObjectName) (rows : Rows) (at : ℕ) (row : Row)
+    → AllByRecursion (λ (other : ObjectName). same_name first other ≡ false) (keys_of rows)
+    → slice_get rows at ≡ Some row → same_name first row.0 ≡ false
 apart_at first [] at row apart is = absurd cc
-apart_at first (other ∷ rows) zero row apart is = ap (λ (r : Row). same_name first r.0) (sym (some_is other row is)) ∙ apart.0
+apart_at first (other ∷ rows) zero row apart is = ap (λ (r : Row). same_name first r.0) (sym (some_is other row is))
+    ∙ apart.0
 apart_at first (other ∷ rows) (suc at) row apart is = apart_at first rows at row apart.1 is
 
-pub row_found : (rows : Rows) (at : ℕ) (name : ObjectName) (id : Id) → AreDistinct rows → slice_get rows at ≡ Some (name, id) → find_name name rows ≡ Some id
+pub row_found : (rows : Rows) (at : ℕ) (name : ObjectName) (id : Id) → AreDistinct rows
+    → slice_get rows at ≡ Some (name, id) → find_name name rows ≡ Some id
 unfolding IsDistinct
 row_found [] at name id distinct is = absurd cc
 row_found (row ∷ rows) zero name id distinct is =
@@ -22,5 +26,6 @@ row_found (row ∷ rows) zero name id distinct is =
     let passing : same_name name row.0 ≡ true = (same_name-Decides name row.0).1 (ap (λ (r : Row). r.0) (sym same)) in
     rw passing (ap (λ (r : Row). Some r.1) same)
 row_found (row ∷ rows) (suc at) name id distinct is =
-    let other : same_name name row.0 ≡ false = same_name_equiv.symm name row.0 ∙ apart_at row.0 rows at (name, id) distinct.0 is in
+    let other : same_name name row.0 ≡ false = same_name_equiv.symm name row.0
+    ∙ apart_at row.0 rows at (name, id) distinct.0 is in
     rw other (row_found rows at name id distinct.1 is)

@@ -9,12 +9,14 @@ left_same : (k : ℕ) (x y : List ℕ) → bytes_eq x y ≡ true → bytes_eq (d
 left_same k x y is = (bytes_eq-Decides (drop k x) (drop k y)).1 (ap (drop k) ((bytes_eq-Decides x y).0 is))
 
 -- where the parts before a place are the same, a part from that place or before it up to the end decides
-pub last_decides : (x y : List ℕ) (m n : ℕ) (l : Bool) → length x ≡ length y → n ≤ m → n + 8 ≡ length x → bytes_eq x y ≡ bytes_eq (drop m x) (drop m y)
+pub last_decides : (x y : List ℕ) (m n : ℕ) (l : Bool) → length x ≡ length y → n ≤ m → n + 8 ≡ length x
+    → bytes_eq x y ≡ bytes_eq (drop m x) (drop m y)
     → bytes_eq (drop n x) (drop n y) ≡ (l && bytes_eq (drop (n + 8) x) (drop (n + 8) y)) → l ≡ bytes_eq x y
 last_decides x y m n l same low all whole last = by l last
   where
     ends : bytes_eq (drop (n + 8) x) (drop (n + 8) y) ≡ true
-    ends = ap (λ (z : List ℕ). bytes_eq z (drop (n + 8) y)) (drop_all (n + 8) x (omega (arith, all))) ∙ ap (λ (z : List ℕ). bytes_eq [] z) (drop_all (n + 8) y (omega (arith, all, same)))
+    ends = ap (λ (z : List ℕ). bytes_eq z (drop (n + 8) y)) (drop_all (n + 8) x (omega (arith, all)))
+        ∙ ap (λ (z : List ℕ). bytes_eq [] z) (drop_all (n + 8) y (omega (arith, all, same)))
 
     not_both : (b : Bool) → b ≡ true → b ≡ false → ⊥
     not_both true yes' no' = cc
@@ -24,9 +26,12 @@ last_decides x y m n l same low all whole last = by l last
     other true is fails = absurd (not_both (bytes_eq (drop n x) (drop n y)) (left_same n x y is) fails)
     other false is fails = refl
 
-    by : (l : Bool) → bytes_eq (drop n x) (drop n y) ≡ (l && bytes_eq (drop (n + 8) x) (drop (n + 8) y)) → l ≡ bytes_eq x y
+    by : (l : Bool) → bytes_eq (drop n x) (drop n y) ≡ (l && bytes_eq (drop (n + 8) x) (drop (n + 8) y))
+        → l ≡ bytes_eq x y
     by true is = sym (whole ∙ ap (λ (k : ℕ). bytes_eq (drop k x) (drop k y)) (omega (arith, low)) ∙ rest)
       where
         rest : bytes_eq (drop (n + (m - n)) x) (drop (n + (m - n)) y) ≡ true
-        rest = ap (λ (z : List ℕ). bytes_eq z (drop (n + (m - n)) y)) (sym (drop-drop (m - n) n x)) ∙ ap (λ (z : List ℕ). bytes_eq (drop (m - n) (drop n x)) z) (sym (drop-drop (m - n) n y)) ∙ left_same (m - n) (drop n x) (drop n y) (is ∙ ends)
+        rest = ap (λ (z : List ℕ). bytes_eq z (drop (n + (m - n)) y)) (sym (drop-drop (m - n) n x))
+            ∙ ap (λ (z : List ℕ). bytes_eq (drop (m - n) (drop n x)) z) (sym (drop-drop (m - n) n y))
+            ∙ left_same (m - n) (drop n x) (drop n y) (is ∙ ends)
     by false is = other (bytes_eq x y) refl is

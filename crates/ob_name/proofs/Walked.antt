@@ -6,8 +6,10 @@ use Rattle.std.proofs.lemmas.Option.{slice_get_past}
 use Rattle.ob_name.proofs.Counted.{few_rows}
 use Rattle.ob_name.specs.Order.{Entry, Row, row_in, row_on, rows_between, rows_of}
 
-onward : (f : ℕ → Option Row) (place n : ℕ) → place < n → rows_between f place (n - place) ≡ option_to_list (f place) ++ rows_between f (place + 1) (n - (place + 1))
-onward f place n low = ap (rows_between f place) (step place n low) ∙ ap (λ (p : ℕ). option_to_list (f place) ++ rows_between f p (n - (place + 1))) (next place)
+onward : (f : ℕ → Option Row) (place n : ℕ) → place < n
+    → rows_between f place (n - place) ≡ option_to_list (f place) ++ rows_between f (place + 1) (n - (place + 1))
+onward f place n low = ap (rows_between f place) (step place n low)
+    ∙ ap (λ (p : ℕ). option_to_list (f place) ++ rows_between f p (n - (place + 1))) (next place)
   where
     step : (p m : ℕ) → p < m → m - p ≡ suc (m - (p + 1))
     step p m low' = omega (arith, low')
@@ -16,29 +18,41 @@ onward f place n low = ap (rows_between f place) (step place n low) ∙ ap (λ (
     next p = omega arith
 
 -- a place without a row is passed by
-pub passed_by : (f : ℕ → Option Row) (place n : ℕ) → place < n → None ≡ f place → rows_between f place (n - place) ≡ rows_between f (place + 1) (n - (place + 1))
-passed_by f place n low none = onward f place n low ∙ ap (λ (o : Option Row). option_to_list o ++ rows_between f (place + 1) (n - (place + 1))) (sym none)
+pub passed_by : (f : ℕ → Option Row) (place n : ℕ) → place < n → None ≡ f place
+    → rows_between f place (n - place) ≡ rows_between f (place + 1) (n - (place + 1))
+passed_by f place n low none = onward f place n low
+    ∙ ap (λ (o : Option Row). option_to_list o ++ rows_between f (place + 1) (n - (place + 1))) (sym none)
 
 -- where there are as many rows as places, each place has its row
-full : (f : ℕ → Option Row) (first n at k : ℕ) → length (rows_between f first n) ≡ n → at < n → k ≡ first + at → slice_get (rows_between f first n) at ≡ f k
+full : (f : ℕ → Option Row) (first n at k : ℕ) → length (rows_between f first n) ≡ n → at < n → k ≡ first + at
+    → slice_get (rows_between f first n) at ≡ f k
 full f first zero at k is low eq = absurd (omega (arith, low))
-full f first (suc n) at k is low eq = by (λ m len less same. full f (suc first) n m k len less same) (f first) refl at low eq
+full f first (suc n) at k is low eq = by (λ m len less same. full f (suc first) n m k len less same)
+    (f first) refl at low eq
   where
-    by : ((m : ℕ) → length (rows_between f (suc first) n) ≡ n → m < n → k ≡ suc first + m → slice_get (rows_between f (suc first) n) m ≡ f k)
-        → (o : Option Row) → f first ≡ o → (m : ℕ) → m < suc n → k ≡ first + m → slice_get (rows_between f first (suc n)) m ≡ f k
+    by : ((m : ℕ) → length (rows_between f (suc first) n) ≡ n → m < n → k ≡ suc first + m
+        → slice_get (rows_between f (suc first) n) m ≡ f k)
+        → (o : Option Row) → f first ≡ o → (m : ℕ) → m < suc n → k ≡ first + m
+        → slice_get (rows_between f first (suc n)) m ≡ f k
     by later None none m less same =
-        let long : length (rows_between f (suc first) n) ≡ suc n = sym (ap (λ (o : Option Row). length (option_to_list o ++ rows_between f (suc first) n)) none) ∙ is in
+        let long : length (rows_between f (suc first) n) ≡ suc n =
+        sym (ap (λ (o : Option Row). length (option_to_list o ++ rows_between f (suc first) n)) none) ∙ is in
         absurd (omega (arith, long, few_rows f (suc first) n))
     by later (Some row) some zero less same =
-        ap (λ (o : Option Row). slice_get (option_to_list o ++ rows_between f (suc first) n) 0) some ∙ sym some ∙ ap f (omega (arith, same))
+        ap (λ (o : Option Row). slice_get (option_to_list o ++ rows_between f (suc first) n) 0) some ∙ sym some
+        ∙ ap f (omega (arith, same))
     by later (Some row) some (suc m) less same =
-        let long : suc (length (rows_between f (suc first) n)) ≡ suc n = sym (ap (λ (o : Option Row). length (option_to_list o ++ rows_between f (suc first) n)) some) ∙ is in
-        ap (λ (o : Option Row). slice_get (option_to_list o ++ rows_between f (suc first) n) (suc m)) some ∙ later m (omega (arith, long)) (omega (arith, less)) (omega (arith, same))
+        let long : suc (length (rows_between f (suc first) n)) ≡ suc n =
+        sym (ap (λ (o : Option Row). length (option_to_list o ++ rows_between f (suc first) n)) some) ∙ is in
+        ap (λ (o : Option Row). slice_get (option_to_list o ++ rows_between f (suc first) n) (suc m)) some
+        ∙ later m (omega (arith, long)) (omega (arith, less)) (omega (arith, same))
 
-pub direct : (entries : List Entry) (order : List ℕ) (at : ℕ) → length (rows_of entries order) ≡ length order → row_on entries order at ≡ slice_get (rows_of entries order) at
+pub direct : (entries : List Entry) (order : List ℕ) (at : ℕ) → length (rows_of entries order) ≡ length order
+    → row_on entries order at ≡ slice_get (rows_of entries order) at
 direct entries order at is = elim (cases_lt at (length order)) [
   | inl less ↦ sym (full (row_on entries order) 0 (length order) at at is less (omega arith))
   | inr past ↦
-      ap (λ (o : Option ℕ). option_and_then (λ index. row_in at (slice_get entries index)) o) (slice_get_past order at past)
+      ap (λ (o : Option ℕ). option_and_then (λ index. row_in at (slice_get entries index)) o)
+      (slice_get_past order at past)
       ∙ sym (slice_get_past (rows_of entries order) at (omega (arith, is, past)))
 ]

@@ -18,7 +18,10 @@ same_space-Decides : (a b : Namespace) → Decides (same_space a b) (a ≡ b)
 same_space-Decides Global Global = (λ _. refl, λ _. refl)
 same_space-Decides Global (Session n) = (λ is. cc, λ is. cc)
 same_space-Decides (Session n) Global = (λ is. cc, λ is. cc)
-same_space-Decides (Session m) (Session n) = (λ is. ap (λ (k : ℕ). Session k) ((Decides-eqb m n).0 is), λ is. (Decides-eqb m n).1 (session_is m n is))
+same_space-Decides (Session m) (Session n) = (
+  λ is. ap (λ (k : ℕ). Session k) ((Decides-eqb m n).0 is),
+  λ is. (Decides-eqb m n).1 (session_is m n is),
+)
   where
     session_is : (m n : ℕ) → ◌≡◌ {A = Namespace} (Session m) (Session n) → m ≡ n
     session_is m n is = cc
@@ -31,15 +34,19 @@ same_name-Decides a b = (
       let base : a.base ≡ b.base = (bytes_eq-Decides a.base b.base).0 parts.1 in
       λ i. record { space = space i; base = base i },
   λ is.
-      let space : same_space a.space b.space ≡ true = (same_space-Decides a.space b.space).1 (ap (λ (n : ObjectName). n.space) is) in
-      let base : bytes_eq a.base b.base ≡ true = (bytes_eq-Decides a.base b.base).1 (ap (λ (n : ObjectName). n.base) is) in
+      let space : same_space a.space b.space ≡ true =
+      (same_space-Decides a.space b.space).1 (ap (λ (n : ObjectName). n.space) is) in
+      let base : bytes_eq a.base b.base ≡ true = (bytes_eq-Decides a.base b.base).1 (ap (λ (n : ObjectName). n.base) is)
+      in
       rw (space, base) refl,
 )
 
 pub same_name_equiv : IsEquivalence same_name
 same_name_equiv = record {
   refl = λ x. (same_name-Decides x x).1 refl;
-  symm = λ x y. both_ways (same_name x y) (same_name y x) (λ is. (same_name-Decides y x).1 (sym ((same_name-Decides x y).0 is))) (λ is. (same_name-Decides x y).1 (sym ((same_name-Decides y x).0 is)));
+  symm = λ x y. both_ways (same_name x y) (same_name y x)
+      (λ is. (same_name-Decides y x).1 (sym ((same_name-Decides x y).0 is)))
+      (λ is. (same_name-Decides x y).1 (sym ((same_name-Decides y x).0 is)));
   congr = λ x y z is. ap (λ (n : ObjectName). same_name n z) ((same_name-Decides x y).0 is);
 }
 

@@ -24,7 +24,8 @@ there name fits =
       (fits.number, omega arith),
     )
 
-back : (p : ℕ × List ℕ) (name : ObjectName) → PartsFit p → short_name p ≡ Some name → (name_parts name ≡ p) × NameFits name
+back : (p : ℕ × List ℕ) (name : ObjectName) → PartsFit p → short_name p ≡ Some name
+    → (name_parts name ≡ p) × NameFits name
 back p name fits e =
     let g = guard-some (leb (length p.1) 260) (name_in_session p) name e in
     subst (λ (z : ObjectName). (name_parts z ≡ p) × NameFits z) g.1 (

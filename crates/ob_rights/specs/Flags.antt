@@ -14,4 +14,5 @@ changed_flags flags mask given = record { 0 = bit_or (bit_and flags.0 (bit_not w
 
 -- the same bit by bit: each bit of the mask is the one that is given, and each other bit stays
 abbrev pub IsChanged : ℕ → ℕ → ℕ → ℕ → Type 0
-IsChanged flags mask given after = (bit : ℕ) → bit < 32 → bit_at after bit ≡ (if bit_at mask bit == 1 then bit_at given bit else bit_at flags bit)
+IsChanged flags mask given after = (bit : ℕ) → bit < 32
+    → bit_at after bit ≡ (if bit_at mask bit == 1 then bit_at given bit else bit_at flags bit)

@@ -7,13 +7,17 @@ use Rattle.ob_tables.specs.declared.entry.Entry.{Entry}
 use Rattle.ob_tables.specs.Spelling.{are_bounded, is_short}
 use Rattle.ob_tables.specs.Tables.{IsBounded, table_of}
 
-all-short : (handles : ℕ) (tables : List (List (Option Entry))) → ((process : ℕ) → length (table_of tables process) ≤ handles) → list_all (is_short handles) tables ≡ true
+all-short : (handles : ℕ) (tables : List (List (Option Entry)))
+    → ((process : ℕ) → length (table_of tables process) ≤ handles) → list_all (is_short handles) tables ≡ true
 all-short handles [] short = refl
 all-short handles (table ∷ tables) short =
-    true-both (leb (length table) handles) (list_all (is_short handles) tables) (le-leb _ _ (short 0)) (all-short handles tables (λ process. short (suc process)))
+    true-both (leb (length table) handles) (list_all (is_short handles) tables) (le-leb _ _ (short 0))
+    (all-short handles tables (λ process. short (suc process)))
 
-pub bounded : (processes handles : ℕ) (tables : List (List (Option Entry))) → IsBounded processes handles tables → are_bounded processes handles tables ≡ true
+pub bounded : (processes handles : ℕ) (tables : List (List (Option Entry))) → IsBounded processes handles tables
+    → are_bounded processes handles tables ≡ true
 bounded processes handles tables is =
     true-both (leb 1 (length tables) && leb (length tables) (processes + 1)) (list_all (is_short handles) tables)
-    (true-both (leb 1 (length tables)) (leb (length tables) (processes + 1)) (le-leb _ _ is.first) (le-leb _ _ is.within))
+    (true-both (leb 1 (length tables)) (leb (length tables) (processes + 1)) (le-leb _ _ is.first)
+    (le-leb _ _ is.within))
     (all-short handles tables is.short)

@@ -8,7 +8,8 @@ use Rattle.std.proofs.Math.ListN.{get_or-map}
 use Rattle.ob_tables.specs.Table.{at, place_of, entry_at}
 use Rattle.ob_tables.specs.Inheritance.{before, trimmed, inheritable, inherited}
 
-before_some : (x : Option Entry) (t : List (Option Entry)) (e : Entry) → before x (t ++ Some e ∷ []) ≡ x ∷ (t ++ Some e ∷ [])
+before_some : (x : Option Entry) (t : List (Option Entry)) (e : Entry)
+    → before x (t ++ Some e ∷ []) ≡ x ∷ (t ++ Some e ∷ [])
 before_some None [] e = refl
 before_some None (y ∷ t) e = refl
 before_some (Some a) t e = refl
@@ -22,7 +23,8 @@ pub trimmed_some : (t : List (Option Entry)) (e : Entry) → trimmed (t ++ Some 
 trimmed_some [] e = refl
 trimmed_some (x ∷ t) e = ap (before x) (trimmed_some t e) ∙ before_some x t e
 
-before_take : (x : Option Entry) (r t : List (Option Entry)) → r ≡ take (length r) t → before x r ≡ take (length (before x r)) (x ∷ t)
+before_take : (x : Option Entry) (r t : List (Option Entry)) → r ≡ take (length r) t
+    → before x r ≡ take (length (before x r)) (x ∷ t)
 before_take None [] t h = refl
 before_take None (y ∷ r) t h = ap (λ s. None ∷ s) h
 before_take (Some e) r t h = ap (λ s. Some e ∷ s) h
@@ -58,13 +60,18 @@ at-trimmed (x ∷ t) zero = before_first x (trimmed t)
 at-trimmed (x ∷ t) (suc k) = before_rest x (trimmed t) k ∙ at-trimmed t k
 
 -- how much is inherited of one more place
-pub inherited_none : (t : List (Option Entry)) (x : Option Entry) → inheritable x ≡ None → inherited (t ++ x ∷ []) ≡ inherited t
-inherited_none t x is = ap trimmed (map-append inheritable t (x ∷ []) ∙ ap (λ (y : Option Entry). map inheritable t ++ y ∷ []) is) ∙ trimmed_none (map inheritable t)
+pub inherited_none : (t : List (Option Entry)) (x : Option Entry) → inheritable x ≡ None
+    → inherited (t ++ x ∷ []) ≡ inherited t
+inherited_none t x is = ap trimmed (map-append inheritable t (x ∷ [])
+    ∙ ap (λ (y : Option Entry). map inheritable t ++ y ∷ []) is) ∙ trimmed_none (map inheritable t)
 
-pub inherited_some : (t : List (Option Entry)) (x : Option Entry) (e : Entry) → inheritable x ≡ Some e → length (inherited (t ++ x ∷ [])) ≡ length t + 1
+pub inherited_some : (t : List (Option Entry)) (x : Option Entry) (e : Entry) → inheritable x ≡ Some e
+    → length (inherited (t ++ x ∷ [])) ≡ length t + 1
 inherited_some t x e is =
-    ap (λ (y : List (Option Entry)). length (trimmed y)) (map-append inheritable t (x ∷ []) ∙ ap (λ (y : Option Entry). map inheritable t ++ y ∷ []) is)
-    ∙ ap length (trimmed_some (map inheritable t) e) ∙ length-append (map inheritable t) (Some e ∷ []) ∙ ap (λ (n : ℕ). n + 1) (length-map t inheritable)
+    ap (λ (y : List (Option Entry)). length (trimmed y)) (map-append inheritable t (x ∷ [])
+    ∙ ap (λ (y : Option Entry). map inheritable t ++ y ∷ []) is)
+    ∙ ap length (trimmed_some (map inheritable t) e) ∙ length-append (map inheritable t) (Some e ∷ [])
+    ∙ ap (λ (n : ℕ). n + 1) (length-map t inheritable)
 
 pub length-inherited : (t : List (Option Entry)) → length (inherited t) ≤ length t
 length-inherited t = omega (arith, length-trimmed (map inheritable t), length-map t inheritable)
@@ -81,10 +88,13 @@ some_of None h = cc
 some_of (Some a) h = (a, refl)
 
 -- going back over the places, one that isn't inherited is left out, and one that is ends what is inherited
-pub inherited_back : (t : List (Option Entry)) (j : ℕ) → j < length t → is_some (inheritable (get_or t j None)) ≡ false → inherited (take j t) ≡ inherited (take (j + 1) t)
-inherited_back t j lt none = sym (ap inherited (take_more t j None lt) ∙ inherited_none (take j t) (get_or t j None) (none_of (inheritable (get_or t j None)) none))
+pub inherited_back : (t : List (Option Entry)) (j : ℕ) → j < length t → is_some (inheritable (get_or t j None)) ≡ false
+    → inherited (take j t) ≡ inherited (take (j + 1) t)
+inherited_back t j lt none = sym (ap inherited (take_more t j None lt)
+    ∙ inherited_none (take j t) (get_or t j None) (none_of (inheritable (get_or t j None)) none))
 
-pub inherited_end : (t : List (Option Entry)) (j : ℕ) → j < length t → is_some (inheritable (get_or t j None)) ≡ true → length (inherited (take (j + 1) t)) ≡ j + 1
+pub inherited_end : (t : List (Option Entry)) (j : ℕ) → j < length t → is_some (inheritable (get_or t j None)) ≡ true
+    → length (inherited (take (j + 1) t)) ≡ j + 1
 inherited_end t j lt some =
     let found = some_of (inheritable (get_or t j None)) some in
     ap (λ (s : List (Option Entry)). length (inherited s)) (take_more t j None lt)
@@ -92,22 +102,33 @@ inherited_end t j lt some =
     ∙ ap (λ (n : ℕ). n + 1) (length-take-le j t (omega arith))
 
 -- a child's handle has the entry of its parent's, where that is inheritable, and none else
-pub entry_at-inherited : (t : List (Option Entry)) (value : ℕ) → entry_at (inherited t) value ≡ inheritable (entry_at t value)
-entry_at-inherited t value = elim (ltb value 4) as (λ b. cond b None (at (inherited t) (place_of value)) ≡ inheritable (cond b None (at t (place_of value))))
-    [ true ↦ refl | false ↦ at-trimmed (map inheritable t) (place_of value) ∙ get_or-map inheritable t (place_of value) None ]
+pub entry_at-inherited : (t : List (Option Entry)) (value : ℕ)
+    → entry_at (inherited t) value ≡ inheritable (entry_at t value)
+entry_at-inherited t value = elim (ltb value 4) as
+    (λ b. cond b None (at (inherited t) (place_of value)) ≡ inheritable (cond b None (at t (place_of value)))) [
+      | true ↦ refl
+      | false ↦ at-trimmed (map inheritable t) (place_of value)
+          ∙ get_or-map inheritable t (place_of value) None
+    ]
 
 -- one more place of a copy has only what is inherited
 copied_suc : (base : List (Option Entry)) (i : ℕ) → i < length base
-    → set (map inheritable (take i base) ++ drop i base) i (inheritable (at (map inheritable (take i base) ++ drop i base) i)) ≡ map inheritable (take (suc i) base) ++ drop (suc i) base
+    → set (map inheritable (take i base) ++ drop i base) i
+    (inheritable (at (map inheritable (take i base) ++ drop i base) i)) ≡ map inheritable (take (suc i) base)
+    ++ drop (suc i) base
 copied_suc [] i lt = absurd (omega arith)
 copied_suc (x ∷ base) zero lt = refl
 copied_suc (x ∷ base) (suc i) lt = ap (λ (r : List (Option Entry)). inheritable x ∷ r) (copied_suc base i (omega arith))
 
 pub copied_more : (base : List (Option Entry)) (i : ℕ) → i < length base
-    → set (map inheritable (take i base) ++ drop i base) i (inheritable (at (map inheritable (take i base) ++ drop i base) i)) ≡ map inheritable (take (i + 1) base) ++ drop (i + 1) base
-copied_more base i lt = copied_suc base i lt ∙ ap (λ (n : ℕ). map inheritable (take n base) ++ drop n base) (sym (add-one i))
+    → set (map inheritable (take i base) ++ drop i base) i
+    (inheritable (at (map inheritable (take i base) ++ drop i base) i)) ≡ map inheritable (take (i + 1) base)
+    ++ drop (i + 1) base
+copied_more base i lt = copied_suc base i lt ∙ ap (λ (n : ℕ). map inheritable (take n base) ++ drop n base)
+    (sym (add-one i))
 
-pub copied_all : (t : List (Option Entry)) (i n : ℕ) → length (inherited t) ≡ n → n ≤ i → map inheritable (take i (take n t)) ++ drop i (take n t) ≡ inherited t
+pub copied_all : (t : List (Option Entry)) (i n : ℕ) → length (inherited t) ≡ n → n ≤ i
+    → map inheritable (take i (take n t)) ++ drop i (take n t) ≡ inherited t
 copied_all t i n is past =
     let short : length (take n t) ≤ i = omega (arith, length-take n t) in
     ap (λ (s : List (Option Entry)). map inheritable s ++ drop i (take n t)) (take_all i (take n t) short)

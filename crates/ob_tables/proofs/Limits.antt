@@ -45,7 +45,8 @@ same_default [] i d e lt = absurd (omega arith)
 same_default (x ∷ xs) zero d e lt = refl
 same_default (x ∷ xs) (suc i) d e lt = same_default xs i d e (omega arith)
 
-pub table_is : (ts : List (List (Option Entry))) (p : ℕ) (t : List (Option Entry)) → p < length ts → t ≡ get_or ts p t → t ≡ table_of ts p
+pub table_is : (ts : List (List (Option Entry))) (p : ℕ) (t : List (Option Entry)) → p < length ts → t ≡ get_or ts p t
+    → t ≡ table_of ts p
 table_is ts p t lt is = is ∙ same_default ts p t [] lt
 
 -- each table of the list is within the limit
@@ -53,17 +54,25 @@ pub record AreShort (ts : List (List (Option Entry))) (m : ℕ) : Type 0 where
   pub each : (p : ℕ) → length (table_of ts p) ≤ m
 
 -- a table whose least free place is at the limit is full, and one with a lower one has room
-pub is_full : (ts : List (List (Option Entry))) (p m : ℕ) → AreShort ts m → m ≤ free_place (table_of ts p) → entries_in (table_of ts p) ≡ m
-is_full ts p m short at = let e = short.each p in let f = free_place-le (table_of ts p) in omega (arith, full_entries (table_of ts p) (omega arith))
+pub is_full : (ts : List (List (Option Entry))) (p m : ℕ) → AreShort ts m → m ≤ free_place (table_of ts p)
+    → entries_in (table_of ts p) ≡ m
+is_full ts p m short at = let e = short.each p in let f = free_place-le (table_of ts p) in
+    omega (arith, full_entries (table_of ts p) (omega arith))
 
-pub has_room : (ts : List (List (Option Entry))) (p m : ℕ) → AreShort ts m → free_place (table_of ts p) < m → entries_in (table_of ts p) < m
+pub has_room : (ts : List (List (Option Entry))) (p m : ℕ) → AreShort ts m → free_place (table_of ts p) < m
+    → entries_in (table_of ts p) < m
 has_room ts p m short below = let e = short.each p in ⊎_elim
     (λ (lt : free_place (table_of ts p) < length (table_of ts p)). omega (arith, short_entries (table_of ts p) lt))
-    (λ (ge : length (table_of ts p) ≤ free_place (table_of ts p)). omega (arith, full_entries (table_of ts p) ge, free_place-le (table_of ts p)))
+    (λ (ge : length (table_of ts p) ≤ free_place (table_of ts p)). omega (
+      arith,
+      full_entries (table_of ts p) ge,
+      free_place-le (table_of ts p),
+    ))
     (cases_lt (free_place (table_of ts p)) (length (table_of ts p)))
 
 -- the test of the least free place tells whether a table is full
-pub full_test : (ts : List (List (Option Entry))) (p m : ℕ) → AreShort ts m → (leb m (free_place (table_of ts p)) ≡ true) ↔ (entries_in (table_of ts p) ≡ m)
+pub full_test : (ts : List (List (Option Entry))) (p m : ℕ) → AreShort ts m
+    → (leb m (free_place (table_of ts p)) ≡ true) ↔ (entries_in (table_of ts p) ≡ m)
 full_test ts p m short = (
   λ tells. is_full ts p m short (leb-true m (free_place (table_of ts p)) tells),
   λ full. ⊎_elim
@@ -73,28 +82,39 @@ full_test ts p m short = (
 )
 
 -- the same where `t` was read at `p`, and `n` is its least free place
-pub full_at : (ts : List (List (Option Entry))) (p m : ℕ) (t : List (Option Entry)) (n : ℕ) → AreShort ts m → p < length ts → t ≡ get_or ts p t → n ≡ free_place t → m ≤ n → entries_in (table_of ts p) ≡ m
-full_at ts p m t n short lt read is at = let same = ap free_place (table_is ts p t lt read) in is_full ts p m short (omega (arith, same))
+pub full_at : (ts : List (List (Option Entry))) (p m : ℕ) (t : List (Option Entry)) (n : ℕ) → AreShort ts m
+    → p < length ts → t ≡ get_or ts p t → n ≡ free_place t → m ≤ n → entries_in (table_of ts p) ≡ m
+full_at ts p m t n short lt read is at = let same = ap free_place (table_is ts p t lt read) in
+    is_full ts p m short (omega (arith, same))
 
-pub room_at : (ts : List (List (Option Entry))) (p m : ℕ) (t : List (Option Entry)) (n : ℕ) → AreShort ts m → p < length ts → t ≡ get_or ts p t → n ≡ free_place t → n < m → entries_in (table_of ts p) < m
-room_at ts p m t n short lt read is below = let same = ap free_place (table_is ts p t lt read) in has_room ts p m short (omega (arith, same))
+pub room_at : (ts : List (List (Option Entry))) (p m : ℕ) (t : List (Option Entry)) (n : ℕ) → AreShort ts m
+    → p < length ts → t ≡ get_or ts p t → n ≡ free_place t → n < m → entries_in (table_of ts p) < m
+room_at ts p m t n short lt read is below = let same = ap free_place (table_is ts p t lt read) in
+    has_room ts p m short (omega (arith, same))
 
 -- an entry below the limit keeps a table within it
-pub length-with_entry : (t : List (Option Entry)) (e : Entry) (m : ℕ) → length t ≤ m → free_place t < m → length (with_entry t e) ≤ m
+pub length-with_entry : (t : List (Option Entry)) (e : Entry) (m : ℕ) → length t ≤ m → free_place t < m
+    → length (with_entry t e) ≤ m
 length-with_entry t e m short below = ⊎_elim
-    (λ (lt : free_place t < length t). omega (arith, ap length (with_entry_at t e lt), length-set t (free_place t) (Some e)))
+    (λ (lt : free_place t < length t). omega (
+      arith,
+      ap length (with_entry_at t e lt),
+      length-set t (free_place t) (Some e),
+    ))
     (λ (ge : length t ≤ free_place t). let end : free_place t ≡ length t = omega (arith, free_place-le t) in
     omega (arith, ap length (with_entry_end t e end), length-append t (Some e ∷ [])))
     (cases_lt (free_place t) (length t))
 
 -- a table comes, or changes
-pub short_pushed : (ts : List (List (Option Entry))) (t : List (Option Entry)) (m : ℕ) → ((p : ℕ) → length (table_of ts p) ≤ m) → length t ≤ m → (p : ℕ) → length (table_of (ts ++ t ∷ []) p) ≤ m
+pub short_pushed : (ts : List (List (Option Entry))) (t : List (Option Entry)) (m : ℕ)
+    → ((p : ℕ) → length (table_of ts p) ≤ m) → length t ≤ m → (p : ℕ) → length (table_of (ts ++ t ∷ []) p) ≤ m
 short_pushed [] t m each short zero = short
 short_pushed [] t m each short (suc p) = omega arith
 short_pushed (x ∷ ts) t m each short zero = each zero
 short_pushed (x ∷ ts) t m each short (suc p) = short_pushed ts t m (λ q. each (suc q)) short p
 
-pub short_set : (ts : List (List (Option Entry))) (k : ℕ) (t : List (Option Entry)) (m : ℕ) → ((p : ℕ) → length (table_of ts p) ≤ m) → length t ≤ m → (p : ℕ) → length (table_of (set ts k t) p) ≤ m
+pub short_set : (ts : List (List (Option Entry))) (k : ℕ) (t : List (Option Entry)) (m : ℕ)
+    → ((p : ℕ) → length (table_of ts p) ≤ m) → length t ≤ m → (p : ℕ) → length (table_of (set ts k t) p) ≤ m
 short_set [] k t m each short p = each p
 short_set (x ∷ ts) zero t m each short zero = short
 short_set (x ∷ ts) zero t m each short (suc p) = each (suc p)

@@ -15,7 +15,8 @@ use Rattle.ob_tables.proofs.Counting.{found_place}
 pub least_free_places : {A : Type 0} (t : List (Option A)) → least_free (map is_some t) ≡ free_place t
 least_free_places [] = refl
 least_free_places (None ∷ t) = refl
-least_free_places (Some x ∷ t) = let e : least_free (map is_some t) ≡ free_place t = least_free_places t in omega (arith, e)
+least_free_places (Some x ∷ t) = let e : least_free (map is_some t) ≡ free_place t = least_free_places t in
+    omega (arith, e)
 
 -- a table that is free at its end alone gets the entry there
 pub with_entry_end : (t : List (Option Entry)) (e : Entry) → free_place t ≡ length t → with_entry t e ≡ t ++ Some e ∷ []
@@ -24,7 +25,8 @@ with_entry_end (None ∷ t) e h = cc
 with_entry_end (Some x ∷ t) e h = ap (λ r. Some x ∷ r) (with_entry_end t e (omega arith))
 
 -- otherwise the entry is written at the free place
-pub with_entry_at : (t : List (Option Entry)) (e : Entry) → free_place t < length t → with_entry t e ≡ set t (free_place t) (Some e)
+pub with_entry_at : (t : List (Option Entry)) (e : Entry) → free_place t < length t
+    → with_entry t e ≡ set t (free_place t) (Some e)
 with_entry_at [] e h = absurd (omega arith)
 with_entry_at (None ∷ t) e h = refl
 with_entry_at (Some x ∷ t) e h = ap (λ r. Some x ∷ r) (with_entry_at t e (omega arith))
@@ -33,40 +35,47 @@ with_entry_at (Some x ∷ t) e h = ap (λ r. Some x ∷ r) (with_entry_at t e (o
 pub least_place : (taken : List Bool) (t : List (Option Entry)) → IsKept taken t → least_free taken ≡ free_place t
 least_place taken t kept = ap least_free kept.same ∙ least_free_places t
 
-pub place_is_free : (taken : List Bool) (t : List (Option Entry)) (k : ℕ) → IsKept taken t → k ≡ least_free taken → k < length t → slice_get taken k ≡ Some false
+pub place_is_free : (taken : List Bool) (t : List (Option Entry)) (k : ℕ) → IsKept taken t → k ≡ least_free taken
+    → k < length t → slice_get taken k ≡ Some false
 place_is_free taken t k kept is lt =
     let long : length taken ≡ length t = ap length kept.same ∙ length-map t is_some in
     subst (λ (n : ℕ). slice_get taken n ≡ Some false) (sym is) (slice_get_least_free taken (omega arith))
 
-pub placed_at : (taken : List Bool) (t : List (Option Entry)) (k : ℕ) (e : Entry) → IsKept taken t → k ≡ least_free taken → k < length t → set t k (Some e) ≡ with_entry t e
+pub placed_at : (taken : List Bool) (t : List (Option Entry)) (k : ℕ) (e : Entry) → IsKept taken t
+    → k ≡ least_free taken → k < length t → set t k (Some e) ≡ with_entry t e
 placed_at taken t k e kept is lt =
     let at' : free_place t ≡ k = sym (is ∙ least_place taken t kept) in
     ap (λ (n : ℕ). set t n (Some e)) (sym at') ∙ sym (with_entry_at t e (omega arith))
 
-pub placed_last : (taken : List Bool) (t : List (Option Entry)) (k : ℕ) (e : Entry) → IsKept taken t → k ≡ least_free taken → length t ≤ k → k ≤ length taken → t ++ Some e ∷ [] ≡ with_entry t e
+pub placed_last : (taken : List Bool) (t : List (Option Entry)) (k : ℕ) (e : Entry) → IsKept taken t
+    → k ≡ least_free taken → length t ≤ k → k ≤ length taken → t ++ Some e ∷ [] ≡ with_entry t e
 placed_last taken t k e kept is past bound =
     let long : length taken ≡ length t = ap length kept.same ∙ length-map t is_some in
     sym (with_entry_end t e (let at' = least_place taken t kept in omega arith))
 
 -- a place changes, and the set with it
-pub kept_set : (taken taken' : List Bool) (t : List (Option Entry)) (k : ℕ) (x : Option Entry) → IsKept taken t → taken' ≡ set taken k (is_some x) → IsKept taken' (set t k x)
+pub kept_set : (taken taken' : List Bool) (t : List (Option Entry)) (k : ℕ) (x : Option Entry) → IsKept taken t
+    → taken' ≡ set taken k (is_some x) → IsKept taken' (set t k x)
 kept_set taken taken' t k x kept is = record {
   few = omega (arith, length-set t k x, kept.few);
   same = is ∙ ap (λ (s : List Bool). set s k (is_some x)) kept.same ∙ sym (map-set is_some t k x);
 }
 
 -- an entry changes, and the set stays
-pub kept_changed : (taken : List Bool) (t : List (Option Entry)) (k : ℕ) (x : Option Entry) → IsKept taken t → is_some x ≡ is_some (get_or t k None) → IsKept taken (set t k x)
+pub kept_changed : (taken : List Bool) (t : List (Option Entry)) (k : ℕ) (x : Option Entry) → IsKept taken t
+    → is_some x ≡ is_some (get_or t k None) → IsKept taken (set t k x)
 kept_changed taken t k x kept is = record {
   few = omega (arith, length-set t k x, kept.few);
   same = kept.same ∙ sym (map-set_same is_some t k x None is);
 }
 
 -- an entry comes at the end
-pub kept_pushed : (taken taken' : List Bool) (t t' : List (Option Entry)) (e : Entry) → IsKept taken t → length t < 16384 → taken' ≡ taken ++ true ∷ [] → t' ≡ t ++ Some e ∷ [] → IsKept taken' t'
+pub kept_pushed : (taken taken' : List Bool) (t t' : List (Option Entry)) (e : Entry) → IsKept taken t
+    → length t < 16384 → taken' ≡ taken ++ true ∷ [] → t' ≡ t ++ Some e ∷ [] → IsKept taken' t'
 kept_pushed taken taken' t t' e kept short is is' = record {
   few = let n = ap length is' ∙ length-append t (Some e ∷ []) in omega arith;
-  same = is ∙ ap (λ (s : List Bool). s ++ true ∷ []) kept.same ∙ sym (ap (map is_some) is' ∙ map-append is_some t (Some e ∷ []));
+  same = is ∙ ap (λ (s : List Bool). s ++ true ∷ []) kept.same
+      ∙ sym (ap (map is_some) is' ∙ map-append is_some t (Some e ∷ []));
 }
 
 is_some_of : {A : Type 0} (x : Option A) → IsSome x → is_some x ≡ true
@@ -75,11 +84,13 @@ is_some_of (Some a) h = refl
 
 -- a value with an entry has it at its place
 pub present : (t : List (Option Entry)) (value : ℕ) → IsSome (entry_at t value) → is_some (at t (place_of value)) ≡ true
-present t value some = elim (ltb value 4) as (λ b. IsSome (cond {A = Option Entry} b None (at t (place_of value))) → is_some (at t (place_of value)) ≡ true)
+present t value some = elim (ltb value 4) as (λ b. IsSome (cond {A = Option Entry} b None (at t (place_of value)))
+    → is_some (at t (place_of value)) ≡ true)
     [ true ↦ (λ h. cc) | false ↦ is_some_of (at t (place_of value)) ] some
 
 -- the number of a place with an entry is taken
-pub held_number : (taken : List Bool) (t : List (Option Entry)) (value : ℕ) (e : Entry) → IsKept taken t → entry_at t value ≡ Some e → slice_get taken (place_of value) ≡ Some true
+pub held_number : (taken : List Bool) (t : List (Option Entry)) (value : ℕ) (e : Entry) → IsKept taken t
+    → entry_at t value ≡ Some e → slice_get taken (place_of value) ≡ Some true
 held_number taken t value e kept is =
     let found = found_place t value e is in
     let within : place_of value < length t = found.within in
@@ -95,7 +106,8 @@ read_at (y ∷ t) (suc k) x lt is = read_at t k x (omega arith) is
 
 -- a number that stays as it is
 pub stays_taken : (taken : List Bool) (k : ℕ) → slice_get taken k ≡ Some true → taken ≡ set taken k true
-stays_taken taken k is = sym (ap (set taken k) (sym (get_or_from_slice_get taken k true true is)) ∙ set-get_or taken k true)
+stays_taken taken k is = sym (ap (set taken k) (sym (get_or_from_slice_get taken k true true is))
+    ∙ set-get_or taken k true)
 
 -- places that come one by one, while the numbers of all that are still to come are taken
 first_past : (xs : List Bool) (i : ℕ) (y : Bool) (ys : List Bool) → length xs ≡ i → slice_get (xs ++ y ∷ ys) i ≡ Some y
@@ -110,18 +122,27 @@ numbers_left i len lt = let e : len - i ≡ suc (len - (i + 1)) = omega arith in
 length-is_some : (t : List (Option Entry)) (i : ℕ) → length t ≡ i → length (map is_some t) ≡ i
 length-is_some t i long = length-map t is_some ∙ long
 
-pub next_taken : (taken : List Bool) (t : List (Option Entry)) (i len : ℕ) → i < len → length t ≡ i → taken ≡ map is_some t ++ replicate (len - i) true → slice_get taken i ≡ Some true
+pub next_taken : (taken : List Bool) (t : List (Option Entry)) (i len : ℕ) → i < len → length t ≡ i
+    → taken ≡ map is_some t ++ replicate (len - i) true → slice_get taken i ≡ Some true
 next_taken taken t i len lt long is =
-    let same : taken ≡ map is_some t ++ true ∷ replicate (len - (i + 1)) true = is ∙ ap (λ (r : List Bool). map is_some t ++ r) (numbers_left i len lt) in
-    ap (λ (s : List Bool). slice_get s i) same ∙ first_past (map is_some t) i true (replicate (len - (i + 1)) true) (length-is_some t i long)
+    let same : taken ≡ map is_some t ++ true ∷ replicate (len - (i + 1)) true =
+    is ∙ ap (λ (r : List Bool). map is_some t ++ r) (numbers_left i len lt) in
+    ap (λ (s : List Bool). slice_get s i) same ∙ first_past (map is_some t) i true (replicate (len - (i + 1)) true)
+    (length-is_some t i long)
 
-pub one_more_place : (taken taken' : List Bool) (t : List (Option Entry)) (x : Option Entry) (i len : ℕ) → i < len → length t ≡ i → taken ≡ map is_some t ++ replicate (len - i) true
+pub one_more_place : (taken taken' : List Bool) (t : List (Option Entry)) (x : Option Entry) (i len : ℕ) → i < len
+    → length t ≡ i → taken ≡ map is_some t ++ replicate (len - i) true
     → taken' ≡ set taken i (is_some x) → taken' ≡ map is_some (t ++ x ∷ []) ++ replicate (len - (i + 1)) true
 one_more_place taken taken' t x i len lt long is is' =
     let rest : List Bool = replicate (len - (i + 1)) true in
-    let same : taken ≡ map is_some t ++ true ∷ rest = is ∙ ap (λ (r : List Bool). map is_some t ++ r) (numbers_left i len lt) in
-    is' ∙ ap (λ (s : List Bool). set s i (is_some x)) same ∙ set_at (map is_some t) true rest (is_some x) i (length-is_some t i long)
-    ∙ sym (append_assoc (map is_some t) (is_some x ∷ []) rest) ∙ ap (λ (s : List Bool). s ++ rest) (sym (map-append is_some t (x ∷ [])))
+    let same : taken ≡ map is_some t ++ true ∷ rest =
+    is ∙ ap (λ (r : List Bool). map is_some t ++ r) (numbers_left i len lt) in
+    is' ∙ ap (λ (s : List Bool). set s i (is_some x)) same
+    ∙ set_at (map is_some t) true rest (is_some x) i (length-is_some t i long)
+    ∙ sym (append_assoc (map is_some t) (is_some x ∷ []) rest)
+    ∙ ap (λ (s : List Bool). s ++ rest) (sym (map-append is_some t (x ∷ [])))
 
-pub all_placed : (taken : List Bool) (t : List (Option Entry)) (i len : ℕ) → len ≤ i → taken ≡ map is_some t ++ replicate (len - i) true → taken ≡ map is_some t
-all_placed taken t i len past is = let e : len - i ≡ 0 = omega arith in is ∙ ap (λ (n : ℕ). map is_some t ++ replicate n true) e ∙ append-nil (map is_some t)
+pub all_placed : (taken : List Bool) (t : List (Option Entry)) (i len : ℕ) → len ≤ i
+    → taken ≡ map is_some t ++ replicate (len - i) true → taken ≡ map is_some t
+all_placed taken t i len past is = let e : len - i ≡ 0 = omega arith in
+    is ∙ ap (λ (n : ℕ). map is_some t ++ replicate n true) e ∙ append-nil (map is_some t)

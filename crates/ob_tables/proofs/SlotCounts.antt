@@ -18,44 +18,78 @@ abbrev pub one_in : ℕ → Entry → ℕ
 one_in slot e = cond (eqb e.id.slot slot) 1 0
 
 pub one_in-same : (e : Entry) → one_in e.id.slot e ≡ 1
-one_in-same e = let same : eqb e.id.slot e.id.slot ≡ true = grind (arith, nat_tests) in ap {B = ℕ} (λ b. cond b 1 0) same
+one_in-same e = let same : eqb e.id.slot e.id.slot ≡ true = grind (arith, nat_tests) in
+    ap {B = ℕ} (λ b. cond b 1 0) same
 
 pub one_in-other : (e : Entry) (slot : ℕ) → slot ≢ e.id.slot → one_in slot e ≡ 0
-one_in-other e slot other = let apart : eqb e.id.slot slot ≡ false = by (eqb e.id.slot slot) refl in ap {B = ℕ} (λ b. cond b 1 0) apart
+one_in-other e slot other = let apart : eqb e.id.slot slot ≡ false = by (eqb e.id.slot slot) refl in
+    ap {B = ℕ} (λ b. cond b 1 0) apart
   where
     by : (b : Bool) → eqb e.id.slot slot ≡ b → eqb e.id.slot slot ≡ false
     by true is = absurd (let same : e.id.slot ≡ slot = grind (arith, nat_tests, is) in other (sym same))
     by false is = is
 
-pub slot_handles-with_entry : (slot : ℕ) (ts : List (List (Option Entry))) (p : ℕ) (e : Entry) → p < length ts → slot_handles slot (with_entry_of ts p e) ≡ slot_handles slot ts + one_in slot e
-slot_handles-with_entry slot ts p e h = omega (arith, sum_by-set (slot_handles_in slot) ts p (with_entry (table_of ts p) e) [] h, count_by-with_entry (names_slot slot) refl (table_of ts p) e)
+pub slot_handles-with_entry : (slot : ℕ) (ts : List (List (Option Entry))) (p : ℕ) (e : Entry) → p < length ts
+    → slot_handles slot (with_entry_of ts p e) ≡ slot_handles slot ts + one_in slot e
+slot_handles-with_entry slot ts p e h = omega (
+  arith,
+  sum_by-set (slot_handles_in slot) ts p (with_entry (table_of ts p) e) [] h,
+  count_by-with_entry (names_slot slot) refl (table_of ts p) e,
+)
 
-pub slot_handles-without_entry : (slot : ℕ) (ts : List (List (Option Entry))) (p value : ℕ) (e : Entry) → entry_at (table_of ts p) value ≡ Some e → slot_handles slot (without_entry_of ts p value) + one_in slot e ≡ slot_handles slot ts
+pub slot_handles-without_entry : (slot : ℕ) (ts : List (List (Option Entry))) (p value : ℕ) (e : Entry)
+    → entry_at (table_of ts p) value ≡ Some e → slot_handles slot (without_entry_of ts p value) + one_in slot e
+    ≡ slot_handles slot ts
 slot_handles-without_entry slot ts p value e is =
-    omega (arith, sum_by-set (slot_handles_in slot) ts p (without_entry (table_of ts p) value) [] (found_table ts p value e is), count_by-without_entry (names_slot slot) refl (table_of ts p) value e is)
+    omega (
+      arith,
+      sum_by-set (slot_handles_in slot) ts p (without_entry (table_of ts p) value) []
+          (found_table ts p value e is),
+      count_by-without_entry (names_slot slot) refl (table_of ts p) value e is,
+    )
 
-pub slot_handles-with_flags : (slot : ℕ) (ts : List (List (Option Entry))) (p value : ℕ) (e : Entry) (flags : HandleFlags) → entry_at (table_of ts p) value ≡ Some e → slot_handles slot (with_flags_of ts p value flags) ≡ slot_handles slot ts
+pub slot_handles-with_flags : (slot : ℕ) (ts : List (List (Option Entry))) (p value : ℕ) (e : Entry)
+    (flags : HandleFlags) → entry_at (table_of ts p) value ≡ Some e
+    → slot_handles slot (with_flags_of ts p value flags) ≡ slot_handles slot ts
 slot_handles-with_flags slot ts p value e flags is =
-    omega (arith, sum_by-set (slot_handles_in slot) ts p (with_flags (table_of ts p) value flags) [] (found_table ts p value e is), count_by-with_flags (names_slot slot) (λ _ _. refl) (table_of ts p) value e flags is)
+    omega (
+      arith,
+      sum_by-set (slot_handles_in slot) ts p (with_flags (table_of ts p) value flags) []
+          (found_table ts p value e is),
+      count_by-with_flags (names_slot slot) (λ _ _. refl)
+          (table_of ts p) value e flags is,
+    )
 
-pub slot_handles-with_process : (slot : ℕ) (ts : List (List (Option Entry))) → slot_handles slot (with_process ts) ≡ slot_handles slot ts
+pub slot_handles-with_process : (slot : ℕ) (ts : List (List (Option Entry)))
+    → slot_handles slot (with_process ts) ≡ slot_handles slot ts
 slot_handles-with_process slot ts = sum_by-append (slot_handles_in slot) ts ([] ∷ []) ∙ omega arith
 
-pub slot_handles-with_child : (slot : ℕ) (ts : List (List (Option Entry))) (from : ℕ) → slot_handles slot (with_child ts from) ≡ slot_handles slot ts + slot_handles_in slot (inherited (table_of ts from))
-slot_handles-with_child slot ts from = sum_by-append (slot_handles_in slot) ts (inherited (table_of ts from) ∷ []) ∙ omega (arith, sum_by-cons (slot_handles_in slot) (inherited (table_of ts from)) [])
+pub slot_handles-with_child : (slot : ℕ) (ts : List (List (Option Entry))) (from : ℕ)
+    → slot_handles slot (with_child ts from) ≡ slot_handles slot ts
+    + slot_handles_in slot (inherited (table_of ts from))
+slot_handles-with_child slot ts from = sum_by-append (slot_handles_in slot) ts (inherited (table_of ts from) ∷ [])
+    ∙ omega (arith, sum_by-cons (slot_handles_in slot) (inherited (table_of ts from)) [])
 
-pub slot_handles-without_entries : (slot : ℕ) (ts : List (List (Option Entry))) (p : ℕ) → p < length ts → slot_handles slot (without_entries ts p) + slot_handles_in slot (table_of ts p) ≡ slot_handles slot ts
+pub slot_handles-without_entries : (slot : ℕ) (ts : List (List (Option Entry))) (p : ℕ) → p < length ts
+    → slot_handles slot (without_entries ts p) + slot_handles_in slot (table_of ts p) ≡ slot_handles slot ts
 slot_handles-without_entries slot ts p h = omega (arith, sum_by-set (slot_handles_in slot) ts p [] [] h)
 
 -- a child's handles of a slot are among its parent's
-pub slot_handles_in-inherited : (slot : ℕ) (t : List (Option Entry)) → slot_handles_in slot (inherited t) ≤ slot_handles_in slot t
-slot_handles_in-inherited slot t = omega (arith, count_by-trimmed (names_slot slot) refl (map inheritable t), count_by-inheritable (names_slot slot) (inheritable_falls (names_slot slot) refl) t)
+pub slot_handles_in-inherited : (slot : ℕ) (t : List (Option Entry))
+    → slot_handles_in slot (inherited t) ≤ slot_handles_in slot t
+slot_handles_in-inherited slot t = omega (
+  arith,
+  count_by-trimmed (names_slot slot) refl (map inheritable t),
+  count_by-inheritable (names_slot slot) (inheritable_falls (names_slot slot) refl) t,
+)
 
 -- no slot has more handles than the tables have places
-pub slot_handles-few : (slot processes handles : ℕ) (ts : List (List (Option Entry))) → IsBounded processes handles ts → slot_handles slot ts ≤ 65537 * 16384
+pub slot_handles-few : (slot processes handles : ℕ) (ts : List (List (Option Entry))) → IsBounded processes handles ts
+    → slot_handles slot ts ≤ 65537 * 16384
 slot_handles-few slot processes handles ts b =
     let each : slot_handles slot ts ≤ length ts * 16384 = sum_by-le (slot_handles_in slot) 16384 ts
-    (All-from_get_or (λ (t : List (Option Entry)). slot_handles_in slot t ≤ 16384) ts [] (λ i lt. let s = b.short i in let f = b.few_handles in omega (arith, s, f, count_by-le-length (names_slot slot) (table_of ts i)))) in
+    (All-from_get_or (λ (t : List (Option Entry)). slot_handles_in slot t ≤ 16384) ts [] (λ i lt. let s = b.short i in
+    let f = b.few_handles in omega (arith, s, f, count_by-le-length (names_slot slot) (table_of ts i)))) in
     let w = b.within in let f = b.few_processes in omega (arith, each, w, f)
 
 -- an entry that names an object names its slot
@@ -69,31 +103,50 @@ names_le id (Some e) = by (same_id e.id id) (eqb e.id.slot id.slot) refl refl
     by false b p q = omega arith
 
 pub slot_handles-le : (id : Id) (ts : List (List (Option Entry))) → handles_among id ts ≤ slot_handles id.slot ts
-slot_handles-le id ts = sum_by-le-sum_by (handles_in id) (slot_handles_in id.slot) ts (λ t. sum_by-le-sum_by (λ x. cond (names id x) 1 0) (λ x. cond (names_slot id.slot x) 1 0) t (names_le id))
+slot_handles-le id ts = sum_by-le-sum_by (handles_in id) (slot_handles_in id.slot) ts
+    (λ t. sum_by-le-sum_by (λ x. cond (names id x) 1 0) (λ x. cond (names_slot id.slot x) 1 0) t (names_le id))
 
 -- each entry of the Id's slot has the Id
 abbrev pub AreOne : Id → List (List (Option Entry)) → Type 0
 AreOne id ts = (p i : ℕ) (e : Entry) → at (table_of ts p) i ≡ Some e → e.id.slot ≡ id.slot → e.id ≡ id
 
 -- then the handles of the slot are those of the object
-slot_handles_in-one : (id : Id) (t : List (Option Entry)) → ((i : ℕ) (e : Entry) → at t i ≡ Some e → e.id.slot ≡ id.slot → e.id ≡ id) → slot_handles_in id.slot t ≡ handles_in id t
+slot_handles_in-one : (id : Id) (t : List (Option Entry))
+    → ((i : ℕ) (e : Entry) → at t i ≡ Some e → e.id.slot ≡ id.slot → e.id ≡ id)
+    → slot_handles_in id.slot t ≡ handles_in id t
 slot_handles_in-one id [] one = refl
 slot_handles_in-one id (x ∷ t) one =
-    omega (arith, sum_by-cons (λ y. cond (names_slot id.slot y) 1 0) x t, sum_by-cons (λ y. cond (names id y) 1 0) x t, here x (λ e is. one zero e is), slot_handles_in-one id t (λ i. one (suc i)))
+    omega (
+      arith,
+      sum_by-cons (λ y. cond (names_slot id.slot y) 1 0) x t,
+      sum_by-cons (λ y. cond (names id y) 1 0) x t,
+      here x (λ e is. one zero e is),
+      slot_handles_in-one id t (λ i. one (suc i)),
+    )
   where
-    by : (e : Entry) (a b : Bool) → (e.id.slot ≡ id.slot → e.id ≡ id) → same_id e.id id ≡ a → eqb e.id.slot id.slot ≡ b → cond {A = ℕ} b 1 0 ≡ cond {A = ℕ} a 1 0
+    by : (e : Entry) (a b : Bool) → (e.id.slot ≡ id.slot → e.id ≡ id) → same_id e.id id ≡ a → eqb e.id.slot id.slot ≡ b
+        → cond {A = ℕ} b 1 0 ≡ cond {A = ℕ} a 1 0
     by e true true own p q = refl
     by e true false own p q = absurd (grind (arith, nat_tests, p, q))
     by e false true own p q =
         let same : e.id ≡ id = own (grind (arith, nat_tests, q)) in
-        let again : same_id e.id id ≡ true = ap (λ (j : Id). same_id j id) same ∙ same_id-same id in absurd (cc (p, again))
+        let again : same_id e.id id ≡ true = ap (λ (j : Id). same_id j id) same ∙ same_id-same id in
+        absurd (cc (p, again))
     by e false false own p q = refl
 
-    here : (y : Option Entry) → ((e : Entry) → y ≡ Some e → e.id.slot ≡ id.slot → e.id ≡ id) → cond {A = ℕ} (names_slot id.slot y) 1 0 ≡ cond {A = ℕ} (names id y) 1 0
+    here : (y : Option Entry) → ((e : Entry) → y ≡ Some e → e.id.slot ≡ id.slot → e.id ≡ id)
+        → cond {A = ℕ} (names_slot id.slot y) 1 0 ≡ cond {A = ℕ} (names id y) 1 0
     here None own = refl
     here (Some e) own = by e (same_id e.id id) (eqb e.id.slot id.slot) (own e refl) refl refl
 
-pub slot_handles-one : (id : Id) (ts : List (List (Option Entry))) → AreOne id ts → slot_handles id.slot ts ≡ handles_among id ts
+pub slot_handles-one : (id : Id) (ts : List (List (Option Entry))) → AreOne id ts
+    → slot_handles id.slot ts ≡ handles_among id ts
 slot_handles-one id [] one = refl
 slot_handles-one id (t ∷ ts) one =
-    omega (arith, sum_by-cons (slot_handles_in id.slot) t ts, sum_by-cons (handles_in id) t ts, slot_handles_in-one id t (one zero), slot_handles-one id ts (λ p. one (suc p)))
+    omega (
+      arith,
+      sum_by-cons (slot_handles_in id.slot) t ts,
+      sum_by-cons (handles_in id) t ts,
+      slot_handles_in-one id t (one zero),
+      slot_handles-one id ts (λ p. one (suc p)),
+    )

@@ -50,13 +50,15 @@ tables_text = list table_text
 
 -- whether there are no more tables than numbers, and none is longer than its limit
 abbrev pub are_bounded : ℕ → ℕ → List (List (Option Entry)) → Bool
-are_bounded processes handles tables = (nat_le 1 (length tables) && nat_le (length tables) (processes + 1)) && list_all (is_short handles) tables
+are_bounded processes handles tables = (nat_le 1 (length tables) && nat_le (length tables) (processes + 1))
+    && list_all (is_short handles) tables
 
 abbrev pub with_limits : ℕ → ℕ → List (List (Option Entry)) → HandleTables
 with_limits processes handles tables = record { process_limit = processes; handle_limit = handles; tables = tables }
 
 abbrev pub tables_at : ℕ → ℕ → List ℕ → Read HandleTables
-tables_at processes handles = as_at (with_limits processes handles) (where_at (are_bounded processes handles) (list_at table_at))
+tables_at processes handles = as_at (with_limits processes handles)
+    (where_at (are_bounded processes handles) (list_at table_at))
 
 -- tables that have a spelling, within their limits
 abbrev pub TablesFit : HandleTables → Type 0

@@ -12,20 +12,26 @@ use Rattle.ob_tables.specs.Tables.{HandleTables}
 use Rattle.ob_tables.specs.Spelling.{EntryFits, TableFits, TablesFit, are_bounded, entry_at, entry_of, entry_text, is_short, parts_of, table_at, table_text, tables_at, tables_text, with_limits}
 
 pub entry_codec : IsCodec entry_text entry_at EntryFits
-entry_codec = as_codec entry_of parts_of (λ _. refl) (λ _. refl) (both_codec id_codec (both_codec rights_codec flags_codec))
+entry_codec = as_codec entry_of parts_of (λ _. refl) (λ _. refl)
+    (both_codec id_codec (both_codec rights_codec flags_codec))
 
 pub table_codec : IsCodec table_text table_at TableFits
 table_codec = where_codec (list_codec (option_codec entry_codec)) (is_short 16384)
 
-lists_codec : (p h : ℕ) → IsCodec tables_text (where_at (are_bounded p h) (list_at table_at)) (λ ts. ListFits TableFits ts × (are_bounded p h ts ≡ true))
+lists_codec : (p h : ℕ) → IsCodec tables_text (where_at (are_bounded p h) (list_at table_at))
+    (λ ts. ListFits TableFits ts × (are_bounded p h ts ≡ true))
 lists_codec p h = where_codec (list_codec table_codec) (are_bounded p h)
 
-pub tables_again : (t : HandleTables) (rest : List ℕ) → TablesFit t → tables_at t.process_limit t.handle_limit (tables_text t.tables ++ rest) ≡ Ok (t, rest)
+pub tables_again : (t : HandleTables) (rest : List ℕ) → TablesFit t
+    → tables_at t.process_limit t.handle_limit (tables_text t.tables ++ rest) ≡ Ok (t, rest)
 tables_again t rest fits = rw ((lists_codec t.process_limit t.handle_limit).again t.tables rest fits) refl
 
-pub tables_take : (p h : ℕ) (bytes : List ℕ) (t : HandleTables) (rest : List ℕ) → AreBytes bytes → tables_at p h bytes ≡ Ok (t, rest)
+pub tables_take : (p h : ℕ) (bytes : List ℕ) (t : HandleTables) (rest : List ℕ) → AreBytes bytes
+    → tables_at p h bytes ≡ Ok (t, rest)
     → Takes bytes (tables_text t.tables) rest × TablesFit t
 tables_take p h bytes t rest fits e =
-    let x = bind_ok (where_at (are_bounded p h) (list_at table_at) bytes) (λ (x : List (List (Option Entry)) × List ℕ). Ok (with_limits p h x.0, x.1)) (t, rest) e in
+    let x = bind_ok (where_at (are_bounded p h) (list_at table_at) bytes)
+    (λ (x : List (List (Option Entry)) × List ℕ). Ok (with_limits p h x.0, x.1)) (t, rest) e in
     let w = (lists_codec p h).takes bytes x.0.0 x.0.1 fits x.1 in
-    subst (λ (z : HandleTables × List ℕ). Takes bytes (tables_text z.0.tables) z.1 × TablesFit z.0) (ok_is (with_limits p h x.0.0, x.0.1) (t, rest) x.2) w
+    subst (λ (z : HandleTables × List ℕ). Takes bytes (tables_text z.0.tables) z.1
+    × TablesFit z.0) (ok_is (with_limits p h x.0.0, x.0.1) (t, rest) x.2) w

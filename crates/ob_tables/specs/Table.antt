@@ -35,7 +35,8 @@ with_entry [] entry = Some entry ∷ []
 with_entry (None ∷ table) entry = Some entry ∷ table
 with_entry (Some other ∷ table) entry = Some other ∷ with_entry table entry
 
--- the table without the entry of a handle value. It stays as long as it ever was: a place past its end is one without an entry
+-- the table without the entry of a handle value. It stays as long as it ever was: a place past its end is one without
+-- an entry
 abbrev pub without_entry : List (Option Entry) → ℕ → List (Option Entry)
 without_entry table value = if nat_lt value 4 then table else slice_set table (place_of value) None
 

@@ -22,7 +22,8 @@ module _ {X : Type 0} where
   count-le p q [] h = omega arith
   count-le p q (x ∷ xs) h = let ih = count-le p q xs h in let here = weight-le (p x) (q x) (h x) in omega arith
 
-  drop-le-cases : (p q : X → Bool) (x : X) (xs : List X) (b : Bool) → tally p (drop_first q xs) ≤ tally p xs → tally p (cond b xs (x ∷ drop_first q xs)) ≤ tally p (x ∷ xs)
+  drop-le-cases : (p q : X → Bool) (x : X) (xs : List X) (b : Bool) → tally p (drop_first q xs) ≤ tally p xs
+      → tally p (cond b xs (x ∷ drop_first q xs)) ≤ tally p (x ∷ xs)
   drop-le-cases p q x xs true ih = omega arith
   drop-le-cases p q x xs false ih = omega arith
 
@@ -30,13 +31,16 @@ module _ {X : Type 0} where
   count-drop-le p q [] = omega arith
   count-drop-le p q (x ∷ xs) = drop-le-cases p q x xs (q x) (count-drop-le p q xs)
 
-  drop-cases : (p q : X → Bool) (b : Bool) (x : X) (xs : List X) (t : Bool) → q x ≡ t → ((x : X) → q x ≡ true → p x ≡ b) → (0 < tally q xs → tally p (drop_first q xs) + weight b ≡ tally p xs)
+  drop-cases : (p q : X → Bool) (b : Bool) (x : X) (xs : List X) (t : Bool) → q x ≡ t → ((x : X) → q x ≡ true → p x ≡ b)
+      → (0 < tally q xs → tally p (drop_first q xs) + weight b ≡ tally p xs)
       → 0 < weight t + tally q xs → tally p (cond t xs (x ∷ drop_first q xs)) + weight b ≡ tally p (x ∷ xs)
   drop-cases p q b x xs true e h ih some = let here : weight (p x) ≡ weight b = ap (weight) (h x e) in omega arith
-  drop-cases p q b x xs false e h ih some = let back : tally p (drop_first q xs) + weight b ≡ tally p xs = ih (omega arith) in omega arith
+  drop-cases p q b x xs false e h ih some = let back : tally p (drop_first q xs) + weight b ≡ tally p xs =
+      ih (omega arith) in omega arith
 
   -- where what goes is counted as b
-  pub count-drop : (p q : X → Bool) (b : Bool) (xs : List X) → ((x : X) → q x ≡ true → p x ≡ b) → 0 < tally q xs → tally p (drop_first q xs) + weight b ≡ tally p xs
+  pub count-drop : (p q : X → Bool) (b : Bool) (xs : List X) → ((x : X) → q x ≡ true → p x ≡ b) → 0 < tally q xs
+      → tally p (drop_first q xs) + weight b ≡ tally p xs
   count-drop p q b [] h some = absurd (omega arith)
   count-drop p q b (x ∷ xs) h some = drop-cases p q b x xs (q x) refl h (count-drop p q b xs h) some
 
@@ -48,7 +52,8 @@ module _ {X : Type 0} where
   drop-absent p [] e = refl
   drop-absent p (x ∷ xs) e = cases (p x) e (drop-absent p xs)
     where
-      cases : (b : Bool) → weight b + tally p xs ≡ 0 → (tally p xs ≡ 0 → drop_first p xs ≡ xs) → cond b xs (x ∷ drop_first p xs) ≡ x ∷ xs
+      cases : (b : Bool) → weight b + tally p xs ≡ 0 → (tally p xs ≡ 0 → drop_first p xs ≡ xs)
+          → cond b xs (x ∷ drop_first p xs) ≡ x ∷ xs
       cases true e ih = absurd (omega arith)
       cases false e ih = ap (λ (z : List X). x ∷ z) (ih (omega arith))
 
@@ -56,7 +61,9 @@ module _ {X : Type 0} where
   drop-in-first p [] ys some-here = absurd (omega arith)
   drop-in-first p (x ∷ xs) ys some-here = cases (p x) some-here (drop-in-first p xs ys)
     where
-      cases : (b : Bool) → 0 < weight b + tally p xs → (0 < tally p xs → drop_first p (xs ++ ys) ≡ drop_first p xs ++ ys) → cond b (xs ++ ys) (x ∷ drop_first p (xs ++ ys)) ≡ cond b xs (x ∷ drop_first p xs) ++ ys
+      cases : (b : Bool) → 0 < weight b + tally p xs
+          → (0 < tally p xs → drop_first p (xs ++ ys) ≡ drop_first p xs ++ ys)
+          → cond b (xs ++ ys) (x ∷ drop_first p (xs ++ ys)) ≡ cond b xs (x ∷ drop_first p xs) ++ ys
       cases true h ih = refl
       cases false h ih = ap (λ (z : List X). x ∷ z) (ih (omega arith))
 
@@ -64,7 +71,9 @@ module _ {X : Type 0} where
   drop-in-later p [] ys e = refl
   drop-in-later p (x ∷ xs) ys e = cases (p x) e (drop-in-later p xs ys)
     where
-      cases : (b : Bool) → weight b + tally p xs ≡ 0 → (tally p xs ≡ 0 → drop_first p (xs ++ ys) ≡ xs ++ drop_first p ys) → cond b (xs ++ ys) (x ∷ drop_first p (xs ++ ys)) ≡ x ∷ (xs ++ drop_first p ys)
+      cases : (b : Bool) → weight b + tally p xs ≡ 0
+          → (tally p xs ≡ 0 → drop_first p (xs ++ ys) ≡ xs ++ drop_first p ys)
+          → cond b (xs ++ ys) (x ∷ drop_first p (xs ++ ys)) ≡ x ∷ (xs ++ drop_first p ys)
       cases true e ih = absurd (omega arith)
       cases false e ih = ap (λ (z : List X). x ∷ z) (ih (omega arith))
 
@@ -79,48 +88,60 @@ module _ {X : Type 0} where
 pos-here : {X : Type 0} (p : X → Bool) (x : X) (xs : List X) → p x ≡ true → position_or_len p (x ∷ xs) ≡ 0
 pos-here p x xs e = grind (arith, common_steps)
 
-pos-later : {X : Type 0} (p : X → Bool) (x : X) (xs : List X) → p x ≡ false → position_or_len p (x ∷ xs) ≡ suc (position_or_len p xs)
+pos-later : {X : Type 0} (p : X → Bool) (x : X) (xs : List X) → p x ≡ false
+    → position_or_len p (x ∷ xs) ≡ suc (position_or_len p xs)
 pos-later p x xs e = grind (arith, common_steps)
 
 -- what `position` and `remove` leave
-pub remove-first : {X : Type 0} (p : X → Bool) (xs : List X) → position_or_len p xs < length xs → remove xs (position_or_len p xs) ≡ drop_first p xs
+pub remove-first : {X : Type 0} (p : X → Bool) (xs : List X) → position_or_len p xs < length xs
+    → remove xs (position_or_len p xs) ≡ drop_first p xs
 remove-first p [] h = absurd (omega arith)
 remove-first {X = X} p (x ∷ xs) h = cases (p x) refl (remove-first p xs)
   where
-    cases : (b : Bool) → p x ≡ b → (position_or_len p xs < length xs → remove xs (position_or_len p xs) ≡ drop_first p xs) → remove (x ∷ xs) (position_or_len p (x ∷ xs)) ≡ cond b xs (x ∷ drop_first p xs)
+    cases : (b : Bool) → p x ≡ b → (position_or_len p xs < length xs
+        → remove xs (position_or_len p xs) ≡ drop_first p xs)
+        → remove (x ∷ xs) (position_or_len p (x ∷ xs)) ≡ cond b xs (x ∷ drop_first p xs)
     cases true e ih = ap (remove (x ∷ xs)) (pos-here p x xs e)
-    cases false e ih = let at = pos-later p x xs e in ap (remove (x ∷ xs)) at ∙ ap (λ (z : List X). x ∷ z) (ih (omega arith))
+    cases false e ih = let at = pos-later p x xs e in
+        ap (remove (x ∷ xs)) at ∙ ap (λ (z : List X). x ∷ z) (ih (omega arith))
 
 -- where an element passes, there is a first
 pub some-first : {X : Type 0} (p : X → Bool) (xs : List X) → 0 < tally p xs → position_or_len p xs < length xs
 some-first p [] h = absurd (omega arith)
 some-first p (x ∷ xs) h = cases (p x) refl h (some-first p xs)
   where
-    cases : (b : Bool) → p x ≡ b → 0 < weight b + tally p xs → (0 < tally p xs → position_or_len p xs < length xs) → position_or_len p (x ∷ xs) < length (x ∷ xs)
+    cases : (b : Bool) → p x ≡ b → 0 < weight b + tally p xs → (0 < tally p xs → position_or_len p xs < length xs)
+        → position_or_len p (x ∷ xs) < length (x ∷ xs)
     cases true e h ih = let at = pos-here p x xs e in omega arith
     cases false e h ih = let at = pos-later p x xs e in let l = ih (omega arith) in omega arith
 
-pub first-found : {X : Type 0} (p : X → Bool) (xs : List X) → 0 < tally p xs → position p xs ≡ Some (position_or_len p xs)
+pub first-found : {X : Type 0} (p : X → Bool) (xs : List X) → 0 < tally p xs
+    → position p xs ≡ Some (position_or_len p xs)
 first-found p xs have = let l = some-first p xs have in grind (arith, common_steps)
 
 pub none-found : {X : Type 0} (p : X → Bool) (xs : List X) → position p xs ≡ None → tally p xs ≡ 0
 none-found p xs e = let absent : ¬ (0 < tally p xs) = λ have. let f = first-found p xs have in cc in omega arith
 
 -- a triple more is counted by what it is
-pub count-with_hold : (p : Hold → Bool) (t : Hold) (hs : List Hold) → tally p (with_hold t hs) ≡ tally p hs + weight (p t)
+pub count-with_hold : (p : Hold → Bool) (t : Hold) (hs : List Hold)
+    → tally p (with_hold t hs) ≡ tally p hs + weight (p t)
 count-with_hold p t [] = omega arith
 count-with_hold p t (h ∷ hs) = cases (nat_lt t.id.slot h.id.slot) (count-with_hold p t hs)
   where
-    cases : (b : Bool) → tally p (with_hold t hs) ≡ tally p hs + weight (p t) → tally p (cond b (t ∷ h ∷ hs) (h ∷ with_hold t hs)) ≡ tally p (h ∷ hs) + weight (p t)
+    cases : (b : Bool) → tally p (with_hold t hs) ≡ tally p hs + weight (p t)
+        → tally p (cond b (t ∷ h ∷ hs) (h ∷ with_hold t hs)) ≡ tally p (h ∷ hs) + weight (p t)
     cases true ih = omega arith
     cases false ih = omega arith
 
-some-at : {X : Type 0} (p : X → Bool) (xs : List X) (i : ℕ) (d : X) → i < length xs → p (get_or xs i d) ≡ true → 0 < tally p xs
+some-at : {X : Type 0} (p : X → Bool) (xs : List X) (i : ℕ) (d : X) → i < length xs → p (get_or xs i d) ≡ true
+    → 0 < tally p xs
 some-at p [] i d h e = absurd (omega arith)
 some-at p (x ∷ xs) zero d h e = let one : weight (p x) ≡ 1 = ap weight e in omega arith
 some-at p (x ∷ xs) (suc i) d h e = let ih = some-at p xs i d (omega arith) e in omega arith
 
 -- what is removed where `position` found it
-pub found-some : {X : Type 0} (p : X → Bool) (xs : List X) (n : ℕ) (d : X) → position p xs ≡ Some n → remove xs n ≡ drop_first p xs
-found-some p xs n d e = let at = position-Some p xs n d e in let have = some-at p xs n d at.0 at.1 in let f = first-found p xs have in let same : position_or_len p xs ≡ n = cc in
+pub found-some : {X : Type 0} (p : X → Bool) (xs : List X) (n : ℕ) (d : X) → position p xs ≡ Some n
+    → remove xs n ≡ drop_first p xs
+found-some p xs n d e = let at = position-Some p xs n d e in let have = some-at p xs n d at.0 at.1 in
+    let f = first-found p xs have in let same : position_or_len p xs ≡ n = cc in
     ap (remove xs) (sym same) ∙ remove-first p xs (some-first p xs have)

@@ -24,15 +24,22 @@ use Rattle.pin_core.proofs.Holding.{pin-safe, release-safe}
 
 pub safe_kept : (w : WorldState) (e : Event) → IsSafe w → refusal w e ≡ None → IsSafe (after w e)
 safe_kept w (Load r s) safe can = safe
-safe_kept w (Pin r s e) safe can = let a = passed _ _ _ can in let b = passed _ _ _ a.1 in let c = passed _ _ _ b.1 in let d = passed _ _ _ c.1 in
-    pin-safe w r s e safe (below_of s w.shape.slots a.0) (phase_of_test (at w s).phase Live c.0) (below_of (pins w s) w.shape.max_pins d.0)
-safe_kept w (Release r id) safe can = let a = passed _ _ _ can in let b = passed _ _ _ a.1 in release-safe w r id safe (below_of 0 (copies w r id) b.0)
+safe_kept w (Pin r s e) safe can = let a = passed _ _ _ can in let b = passed _ _ _ a.1 in let c = passed _ _ _ b.1 in
+    let d = passed _ _ _ c.1 in
+    pin-safe w r s e safe (below_of s w.shape.slots a.0) (phase_of_test (at w s).phase Live c.0)
+    (below_of (pins w s) w.shape.max_pins d.0)
+safe_kept w (Release r id) safe can = let a = passed _ _ _ can in let b = passed _ _ _ a.1 in
+    release-safe w r id safe (below_of 0 (copies w r id) b.0)
 safe_kept w (ReadDescr r id d) safe can = safe
-safe_kept w (StoreDescr s d) safe can = let a = passed _ _ _ can in let b = passed _ _ _ a.1 in store-safe w s d safe (below_of s w.shape.slots a.0) (phase_of_test (at w s).phase Free b.0)
-safe_kept w (Publish s) safe can = let a = passed _ _ _ can in let b = passed _ _ _ a.1 in publish-safe w s safe (below_of s w.shape.slots a.0) (phase_of_test (at w s).phase Free b.0)
-safe_kept w (CloseSlot s) safe can = let a = passed _ _ _ can in let b = passed _ _ _ a.1 in close-safe w s safe (below_of s w.shape.slots a.0) (phase_of_test (at w s).phase Live b.0)
+safe_kept w (StoreDescr s d) safe can = let a = passed _ _ _ can in let b = passed _ _ _ a.1 in
+    store-safe w s d safe (below_of s w.shape.slots a.0) (phase_of_test (at w s).phase Free b.0)
+safe_kept w (Publish s) safe can = let a = passed _ _ _ can in let b = passed _ _ _ a.1 in
+    publish-safe w s safe (below_of s w.shape.slots a.0) (phase_of_test (at w s).phase Free b.0)
+safe_kept w (CloseSlot s) safe can = let a = passed _ _ _ can in let b = passed _ _ _ a.1 in
+    close-safe w s safe (below_of s w.shape.slots a.0) (phase_of_test (at w s).phase Live b.0)
 safe_kept w (Reclaim s) safe can = let a = passed _ _ _ can in let b = passed _ _ _ a.1 in let c = passed _ _ _ b.1 in
-    reclaim-safe w s safe (below_of s w.shape.slots a.0) (phase_of_test (at w s).phase Closing b.0) (zero_of (pins w s) c.0) (nat_lt (at w s).generation w.shape.max_gen) refl
+    reclaim-safe w s safe (below_of s w.shape.slots a.0) (phase_of_test (at w s).phase Closing b.0)
+    (zero_of (pins w s) c.0) (nat_lt (at w s).generation w.shape.max_gen) refl
 
 all_kept : (w : WorldState) (es : List Event) → IsSafe w → IsSchedule w es → IsSafe (after_all w es)
 all_kept w [] safe can = safe
@@ -52,7 +59,8 @@ opening-safe k h = record {
   held = λ r id some. absurd (omega arith);
   numbered = λ r id k. none_numbered k;
   room = λ s. omega arith;
-  slots = λ s inside. let f = opening_at k.slots s in record { bounded = rw f h; last = rw f (λ e. cc); shown = rw f (λ e. cc); unshown = λ _. refl };
+  slots = λ s inside. let f = opening_at k.slots s in
+      record { bounded = rw f h; last = rw f (λ e. cc); shown = rw f (λ e. cc); unshown = λ _. refl };
   once = λ id. omega arith;
   below = λ id some. absurd (omega arith);
 }
@@ -60,17 +68,22 @@ opening-safe k h = record {
 pub reached-safe : (k : Shape) (es : List Event) → AreEvents k es → IsSafe (reached k es)
 reached-safe k es h = all_kept (opening_of k) es (opening-safe k h.0) h.1
 
-pub reclaim_needs : (w : WorldState) (s : ℕ) → refusal w (Reclaim s) ≡ None → (s < w.shape.slots) × ((at w s).phase ≡ Closing) × (pins w s ≡ 0)
-reclaim_needs w s can = let a = passed _ _ _ can in let b = passed _ _ _ a.1 in let c = passed _ _ _ b.1 in (below_of s w.shape.slots a.0, phase_of_test (at w s).phase Closing b.0, zero_of (pins w s) c.0)
+pub reclaim_needs : (w : WorldState) (s : ℕ) → refusal w (Reclaim s) ≡ None
+    → (s < w.shape.slots) × ((at w s).phase ≡ Closing) × (pins w s ≡ 0)
+reclaim_needs w s can = let a = passed _ _ _ can in let b = passed _ _ _ a.1 in let c = passed _ _ _ b.1 in
+    (below_of s w.shape.slots a.0, phase_of_test (at w s).phase Closing b.0, zero_of (pins w s) c.0)
 
 pub times-le-copies : (w : WorldState) (t : Hold) → times w t ≤ copies w t.reader t.id
 times-le-copies w t = count-le (is_hold t) (is_copy t.reader t.id) w.holders (λ h e. grind (arith, common_steps))
 
 pub kept_while_held : (w : WorldState) → IsSafe w → (t : Hold) → 0 < times w t → StaysGiven w t.id.slot
 kept_while_held w safe t some = let le = times-le-copies w t in let h = safe.held t.reader t.id (omega arith) in (
-  (λ d can. let a = passed _ _ _ can in let b = passed _ _ _ a.1 in not_free _ (phase_of_test (at w t.id.slot).phase Free b.0) h.2),
-  (λ can. let a = passed _ _ _ can in let b = passed _ _ _ a.1 in not_free _ (phase_of_test (at w t.id.slot).phase Free b.0) h.2),
-  (λ can. let z : pins w t.id.slot ≡ 0 = (reclaim_needs w t.id.slot can).2 in let more = copies-le-pins w t.reader t.id in omega arith),
+  (λ d can. let a = passed _ _ _ can in let b = passed _ _ _ a.1 in
+      not_free _ (phase_of_test (at w t.id.slot).phase Free b.0) h.2),
+  (λ can. let a = passed _ _ _ can in let b = passed _ _ _ a.1 in
+      not_free _ (phase_of_test (at w t.id.slot).phase Free b.0) h.2),
+  (λ can. let z : pins w t.id.slot ≡ 0 = (reclaim_needs w t.id.slot can).2 in
+      let more = copies-le-pins w t.reader t.id in omega arith),
 )
   where
     not_free : (p : Phase) → p ≡ Free → may_be_held p ≡ true → ⊥
@@ -80,26 +93,39 @@ is_own_copy : (x : Hold) → is_copy x.reader x.id x ≡ true
 is_own_copy x = grind (arith, common_steps)
 
 -- what counts at a slot is some reader's copy
-pub some_hold : (s : ℕ) (hs : List Hold) → 0 < tally (sits_at s) hs → (h : Hold) × (h.id.slot ≡ s) × (0 < tally (is_copy h.reader h.id) hs)
+pub some_hold : (s : ℕ) (hs : List Hold) → 0 < tally (sits_at s) hs
+    → (h : Hold) × (h.id.slot ≡ s) × (0 < tally (is_copy h.reader h.id) hs)
 some_hold s [] some = absurd (omega arith)
 some_hold s (x ∷ xs) some = here (sits_at s x) refl some (some_hold s xs)
   where
-    here : (b : Bool) → sits_at s x ≡ b → 0 < weight b + tally (sits_at s) xs → (0 < tally (sits_at s) xs → (h : Hold) × (h.id.slot ≡ s) × (0 < tally (is_copy h.reader h.id) xs))
+    here : (b : Bool) → sits_at s x ≡ b → 0 < weight b + tally (sits_at s) xs
+        → (0 < tally (sits_at s) xs → (h : Hold) × (h.id.slot ≡ s) × (0 < tally (is_copy h.reader h.id) xs))
         → (h : Hold) × (h.id.slot ≡ s) × (0 < tally (is_copy h.reader h.id) (x ∷ xs))
-    here true e some ih = (x, eq_of x.id.slot s e, let one : weight (is_copy x.reader x.id x) ≡ 1 = ap weight (is_own_copy x) in omega arith)
+    here true e some ih = (
+      x,
+      eq_of x.id.slot s e,
+      let one : weight (is_copy x.reader x.id x) ≡ 1 =
+          ap weight (is_own_copy x) in omega arith,
+    )
     here false e some ih = let t = ih (omega arith) in (t.0, t.1, let u = t.2 in omega arith)
 
-pub nobody_at : (w : WorldState) → IsSafe w → (s : ℕ) → s < w.shape.slots → may_be_held (at w s).phase ≡ false → pins w s ≡ 0
-nobody_at w safe s inside off = let no : ¬ (0 < pins w s) = λ some. let t = some_hold s w.holders some in let h = safe.held t.0.reader t.0.id t.2 in
-    let on : may_be_held (at w s).phase ≡ true = subst (λ (z : ℕ). may_be_held (at w z).phase ≡ true) t.1 h.2 in cc in omega arith
+pub nobody_at : (w : WorldState) → IsSafe w → (s : ℕ) → s < w.shape.slots → may_be_held (at w s).phase ≡ false
+    → pins w s ≡ 0
+nobody_at w safe s inside off = let no : ¬ (0 < pins w s) = λ some. let t = some_hold s w.holders some in
+    let h = safe.held t.0.reader t.0.id t.2 in
+    let on : may_be_held (at w s).phase ≡ true = subst (λ (z : ℕ). may_be_held (at w z).phase ≡ true) t.1 h.2 in cc in
+    omega arith
 
 pub publish_alone : (w : WorldState) → IsSafe w → (s : ℕ) → refusal w (Publish s) ≡ None → pins w s ≡ 0
-publish_alone w safe s can = let a = passed _ _ _ can in let b = passed _ _ _ a.1 in nobody_at w safe s (below_of s w.shape.slots a.0) (ap may_be_held (phase_of_test (at w s).phase Free b.0))
+publish_alone w safe s can = let a = passed _ _ _ can in let b = passed _ _ _ a.1 in
+    nobody_at w safe s (below_of s w.shape.slots a.0) (ap may_be_held (phase_of_test (at w s).phase Free b.0))
 
-pub read_shown : (w : WorldState) → IsSafe w → (r : ℕ) (id : Id) (d : Descr) → refusal w (ReadDescr r id d) ≡ None → given_as w id d ≡ 1
+pub read_shown : (w : WorldState) → IsSafe w → (r : ℕ) (id : Id) (d : Descr) → refusal w (ReadDescr r id d) ≡ None
+    → given_as w id d ≡ 1
 read_shown w safe r id d can = let a = passed _ _ _ can in let b = passed _ _ _ a.1 in let c = passed _ _ _ b.1 in
     let h = safe.held r id (below_of 0 (copies w r id) b.0) in let one = (safe.slots id.slot h.0).shown h.2 in
-    subst (λ (z : ℕ × Descr). given_as w record { slot = id.slot; generation = z.0 } z.1 ≡ 1) (λ k. (h.1 k, same_of_descr (at w id.slot).descr d c.0 k)) one
+    subst (λ (z : ℕ × Descr). given_as w record { slot = id.slot; generation = z.0 } z.1 ≡ 1)
+    (λ k. (h.1 k, same_of_descr (at w id.slot).descr d c.0 k)) one
 
 pub onward : (w : WorldState) (e : Event) (s : ℕ) → refusal w e ≡ None → age (at w s) ≤ age (at (after w e) s)
 onward w e s can = grind (arith, common_steps)
@@ -117,8 +143,11 @@ eq_test a b h = grind (arith, common_steps)
 word_is_itself : (x : Word) → same_word x x ≡ true
 word_is_itself x = grind (arith, common_steps)
 
-pub may_pin : (w : WorldState) (r s : ℕ) → s < w.shape.slots → (at w s).phase ≡ Live → pins w s < w.shape.max_pins → refusal w (Pin r s (word_at w s)) ≡ None
-may_pin w r s a b c = may _ _ _ (lt_test s w.shape.slots a) (may _ _ _ (word_is_itself (word_at w s)) (may _ _ _ (ap (λ (p : Phase). is_phase p Live) b) (may _ _ _ (lt_test (pins w s) w.shape.max_pins c) refl)))
+pub may_pin : (w : WorldState) (r s : ℕ) → s < w.shape.slots → (at w s).phase ≡ Live → pins w s < w.shape.max_pins
+    → refusal w (Pin r s (word_at w s)) ≡ None
+may_pin w r s a b c = may _ _ _ (lt_test s w.shape.slots a)
+    (may _ _ _ (word_is_itself (word_at w s)) (may _ _ _ (ap (λ (p : Phase). is_phase p Live) b)
+    (may _ _ _ (lt_test (pins w s) w.shape.max_pins c) refl)))
 
 descr_is_itself : (d : Descr) → same_descr d d ≡ true
 descr_is_itself d = grind (arith, common_steps)
@@ -126,10 +155,13 @@ descr_is_itself d = grind (arith, common_steps)
 pub may_load : (w : WorldState) (r s : ℕ) → s < w.shape.slots → refusal w (Load r s) ≡ None
 may_load w r s a = may _ _ _ (lt_test s w.shape.slots a) refl
 
-pub may_read : (w : WorldState) (r : ℕ) (id : Id) → id.slot < w.shape.slots → 0 < copies w r id → refusal w (ReadDescr r id (at w id.slot).descr) ≡ None
-may_read w r id a b = may _ _ _ (lt_test id.slot w.shape.slots a) (may _ _ _ (lt_test 0 (copies w r id) b) (may _ _ _ (descr_is_itself (at w id.slot).descr) refl))
+pub may_read : (w : WorldState) (r : ℕ) (id : Id) → id.slot < w.shape.slots → 0 < copies w r id
+    → refusal w (ReadDescr r id (at w id.slot).descr) ≡ None
+may_read w r id a b = may _ _ _ (lt_test id.slot w.shape.slots a)
+    (may _ _ _ (lt_test 0 (copies w r id) b) (may _ _ _ (descr_is_itself (at w id.slot).descr) refl))
 
-pub may_release : (w : WorldState) (r : ℕ) (id : Id) → id.slot < w.shape.slots → 0 < copies w r id → refusal w (Release r id) ≡ None
+pub may_release : (w : WorldState) (r : ℕ) (id : Id) → id.slot < w.shape.slots → 0 < copies w r id
+    → refusal w (Release r id) ≡ None
 may_release w r id a b = may _ _ _ (lt_test id.slot w.shape.slots a) (may _ _ _ (lt_test 0 (copies w r id) b) refl)
 
 pub may_publish : (w : WorldState) (s : ℕ) → s < w.shape.slots → (at w s).phase ≡ Free → refusal w (Publish s) ≡ None
@@ -138,63 +170,83 @@ may_publish w s a b = may _ _ _ (lt_test s w.shape.slots a) (may _ _ _ (ap (λ (
 pub may_close : (w : WorldState) (s : ℕ) → s < w.shape.slots → (at w s).phase ≡ Live → refusal w (CloseSlot s) ≡ None
 may_close w s a b = may _ _ _ (lt_test s w.shape.slots a) (may _ _ _ (ap (λ (p : Phase). is_phase p Live) b) refl)
 
-pub may_reclaim : (w : WorldState) (s : ℕ) → s < w.shape.slots → (at w s).phase ≡ Closing → pins w s ≡ 0 → refusal w (Reclaim s) ≡ None
-may_reclaim w s a b c = may _ _ _ (lt_test s w.shape.slots a) (may _ _ _ (ap (λ (p : Phase). is_phase p Closing) b) (may _ _ _ (eq_test (pins w s) 0 c) refl))
+pub may_reclaim : (w : WorldState) (s : ℕ) → s < w.shape.slots → (at w s).phase ≡ Closing → pins w s ≡ 0
+    → refusal w (Reclaim s) ≡ None
+may_reclaim w s a b c = may _ _ _ (lt_test s w.shape.slots a)
+    (may _ _ _ (ap (λ (p : Phase). is_phase p Closing) b) (may _ _ _ (eq_test (pins w s) 0 c) refl))
 
-pub may_store : (w : WorldState) (s : ℕ) (d : Descr) → s < w.shape.slots → (at w s).phase ≡ Free → refusal w (StoreDescr s d) ≡ None
+pub may_store : (w : WorldState) (s : ℕ) (d : Descr) → s < w.shape.slots → (at w s).phase ≡ Free
+    → refusal w (StoreDescr s d) ≡ None
 may_store w s d a b = may _ _ _ (lt_test s w.shape.slots a) (may _ _ _ (ap (λ (p : Phase). is_phase p Free) b) refl)
 
-pub schedule-snoc : (w : WorldState) (es : List Event) (e : Event) → IsSchedule w es → refusal (after_all w es) e ≡ None → IsSchedule w (es ++ e ∷ [])
+pub schedule-snoc : (w : WorldState) (es : List Event) (e : Event) → IsSchedule w es → refusal (after_all w es) e ≡ None
+    → IsSchedule w (es ++ e ∷ [])
 schedule-snoc w [] e h can = (can, tt)
 schedule-snoc w (x ∷ xs) e h can = (h.0, schedule-snoc (after w x) xs e h.1 can)
 
-pub after_all-snoc : (w : WorldState) (es : List Event) (e : Event) → after_all w (es ++ e ∷ []) ≡ after (after_all w es) e
+pub after_all-snoc : (w : WorldState) (es : List Event) (e : Event)
+    → after_all w (es ++ e ∷ []) ≡ after (after_all w es) e
 after_all-snoc w [] e = refl
 after_all-snoc w (x ∷ xs) e = after_all-snoc (after w x) xs e
 
 -- one event more
-pub one-more : (w v v' : WorldState) (es : List Event) (i : ℕ) (d : Event) → i < length es → IsSchedule w (take i es) × (v ≡ after_all w (take i es)) → refusal v (get_or es i d) ≡ None → v' ≡ after v (get_or es i d)
+pub one-more : (w v v' : WorldState) (es : List Event) (i : ℕ) (d : Event) → i < length es
+    → IsSchedule w (take i es) × (v ≡ after_all w (take i es)) → refusal v (get_or es i d) ≡ None
+    → v' ≡ after v (get_or es i d)
     → IsSchedule w (take (i + 1) es) × (v' ≡ after_all w (take (i + 1) es))
-one-more w v v' es i d inside h can now = let e = get_or es i d in let more : take (i + 1) es ≡ take i es ++ e ∷ [] = take_more es i d inside in (
-  subst (IsSchedule w) (sym more) (schedule-snoc w (take i es) e h.0 (subst (λ (z : WorldState). refusal z e ≡ None) h.1 can)),
-  now ∙ (ap (λ (z : WorldState). after z e) h.1 ∙ (sym (after_all-snoc w (take i es) e) ∙ ap (after_all w) (sym more))),
-)
+one-more w v v' es i d inside h can now = let e = get_or es i d in let more : take (i + 1) es ≡ take i es ++ e ∷ [] =
+    take_more es i d inside in (
+      subst (IsSchedule w) (sym more) (schedule-snoc w (take i es) e h.0
+          (subst (λ (z : WorldState). refusal z e ≡ None) h.1 can)),
+      now ∙ (ap (λ (z : WorldState). after z e) h.1
+          ∙ (sym (after_all-snoc w (take i es) e) ∙ ap (after_all w) (sym more))),
+    )
 
 there : (es : List Event) (i : ℕ) (d : Event) → i < length es → slice_get es i ≡ Some (get_or es i d)
 there [] i d h = absurd (omega arith)
 there (x ∷ xs) zero d h = refl
 there (x ∷ xs) (suc i) d h = there xs i d (omega arith)
 
-pub first-refused : (w v : WorldState) (es : List Event) (i : ℕ) (d : Event) (r : Reason) → i < length es → IsSchedule w (take i es) × (v ≡ after_all w (take i es)) → refusal v (get_or es i d) ≡ Some r → IsFirstRefused w es (i + 1) r
+pub first-refused : (w v : WorldState) (es : List Event) (i : ℕ) (d : Event) (r : Reason) → i < length es
+    → IsSchedule w (take i es) × (v ≡ after_all w (take i es)) → refusal v (get_or es i d) ≡ Some r
+    → IsFirstRefused w es (i + 1) r
 first-refused w v es i d r inside h no-way = let back : i ≡ i + 1 - 1 = omega arith in (
   get_or es i d,
   omega arith,
   subst (λ (z : ℕ). IsSchedule w (take z es)) back h.0,
   subst (λ (z : ℕ). slice_get es z ≡ Some (get_or es i d)) back (there es i d inside),
-  subst (λ (z : ℕ). refusal (after_all w (take z es)) (get_or es i d) ≡ Some r) back (subst (λ (z : WorldState). refusal z (get_or es i d) ≡ Some r) h.1 no-way),
+  subst (λ (z : ℕ). refusal (after_all w (take z es)) (get_or es i d) ≡ Some r) back
+      (subst (λ (z : WorldState). refusal z (get_or es i d) ≡ Some r) h.1 no-way),
 )
 
-pub as-refused : (w : WorldState) (es : List Event) (a n : ℕ) (p r : Reason) → a ≡ n → p ≡ r → IsFirstRefused w es a p → IsFirstRefused w es n r
+pub as-refused : (w : WorldState) (es : List Event) (a n : ℕ) (p r : Reason) → a ≡ n → p ≡ r → IsFirstRefused w es a p
+    → IsFirstRefused w es n r
 as-refused w es a n p r e f h = subst (λ (z : ℕ × Reason). IsFirstRefused w es z.0 z.1) (λ k. (e k, f k)) h
 
 -- the event at place i is the first that isn't possible
 abbrev Stops : WorldState → List Event → ℕ → Reason → Type 0
-Stops w es i r = (e : Event) × IsSchedule w (take i es) × (slice_get es i ≡ Some e) × (refusal (after_all w (take i es)) e ≡ Some r)
+Stops w es i r = (e : Event) × IsSchedule w (take i es) × (slice_get es i ≡ Some e)
+    × (refusal (after_all w (take i es)) e ≡ Some r)
 
-stops-once : (w : WorldState) (es : List Event) (i j : ℕ) (r q : Reason) → Stops w es i r → Stops w es j q → (i ≡ j) × (r ≡ q)
+stops-once : (w : WorldState) (es : List Event) (i j : ℕ) (r q : Reason) → Stops w es i r → Stops w es j q
+    → (i ≡ j) × (r ≡ q)
 stops-once w [] i j r q a b = let e = a.2 in cc
 stops-once w (x ∷ xs) zero zero r q a b = let e = a.2 in let e' = a.3 in let f = b.2 in let f' = b.3 in (refl, cc)
 stops-once w (x ∷ xs) zero (suc j) r q a b = let e = a.2 in let e' = a.3 in let f = b.1.0 in cc
 stops-once w (x ∷ xs) (suc i) zero r q a b = let e = b.2 in let e' = b.3 in let f = a.1.0 in cc
-stops-once w (x ∷ xs) (suc i) (suc j) r q a b = let ih = stops-once (after w x) xs i j r q (a.0, a.1.1, a.2, a.3) (b.0, b.1.1, b.2, b.3) in (ap suc ih.0, ih.1)
+stops-once w (x ∷ xs) (suc i) (suc j) r q a b = let ih =
+    stops-once (after w x) xs i j r q (a.0, a.1.1, a.2, a.3) (b.0, b.1.1, b.2, b.3) in (ap suc ih.0, ih.1)
 
 never-stops : (w : WorldState) (es : List Event) (i : ℕ) (r : Reason) → IsSchedule w es → Stops w es i r → ⊥
 never-stops w [] i r h a = let e = a.2 in cc
 never-stops w (x ∷ xs) zero r h a = let e = a.2 in let e' = a.3 in let f = h.0 in cc
 never-stops w (x ∷ xs) (suc i) r h a = never-stops (after w x) xs i r h.1 (a.0, a.1.1, a.2, a.3)
 
-pub refused-once : (w : WorldState) (es : List Event) (n m : ℕ) (r q : Reason) → IsFirstRefused w es n r → IsFirstRefused w es m q → (n ≡ m) × (r ≡ q)
-refused-once w es n m r q a b = let same = stops-once w es (n - 1) (m - 1) r q (a.0, a.2, a.3, a.4) (b.0, b.2, b.3, b.4) in ((let one = a.1 in let one' = b.1 in let p = same.0 in omega arith), same.1)
+pub refused-once : (w : WorldState) (es : List Event) (n m : ℕ) (r q : Reason) → IsFirstRefused w es n r
+    → IsFirstRefused w es m q → (n ≡ m) × (r ≡ q)
+refused-once w es n m r q a b = let same = stops-once w es (n - 1) (m - 1) r q (a.0, a.2, a.3, a.4) (b.0, b.2, b.3, b.4)
+    in ((let one = a.1 in let one' = b.1 in let p = same.0 in omega arith), same.1)
 
-pub never-refused : (w : WorldState) (es : List Event) (n : ℕ) (r : Reason) → IsSchedule w es → IsFirstRefused w es n r → ⊥
+pub never-refused : (w : WorldState) (es : List Event) (n : ℕ) (r : Reason) → IsSchedule w es → IsFirstRefused w es n r
+    → ⊥
 never-refused w es n r h a = never-stops w es (n - 1) r h (a.0, a.2, a.3, a.4)

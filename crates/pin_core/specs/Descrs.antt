@@ -11,7 +11,8 @@ kind_code Semaphore = 2
 kind_code Timer = 3
 
 abbrev pub kind_of : ℕ → Option Kind
-kind_of n = if n == 0 then Some Event else (if n == 1 then Some Mutex else (if n == 2 then Some Semaphore else (if n == 3 then Some Timer else None)))
+kind_of n = if n == 0 then Some Event else (if n == 1 then Some Mutex else
+    (if n == 2 then Some Semaphore else (if n == 3 then Some Timer else None)))
 
 abbrev pub flag : Bool → ℕ
 flag true = 4

@@ -36,7 +36,8 @@ held_refusal w r id = check (nat_lt id.slot w.shape.slots) NoSlot (check (nat_lt
 
 abbrev pub pin_refusal : WorldState → ℕ → Word → Option Reason
 pin_refusal w s e =
-    check (nat_lt s w.shape.slots) NoSlot (check (same_word (word_at w s) e) WordDiffers (check (is_phase (at w s).phase Live) WrongPhase (check (nat_lt (pins w s) w.shape.max_pins) PinsFull None)))
+    check (nat_lt s w.shape.slots) NoSlot (check (same_word (word_at w s) e) WordDiffers
+    (check (is_phase (at w s).phase Live) WrongPhase (check (nat_lt (pins w s) w.shape.max_pins) PinsFull None)))
 
 -- why an event isn't possible: the tests in their order, and none where it is
 abbrev pub refusal : WorldState → Event → Option Reason
@@ -44,14 +45,21 @@ refusal w (Load r s) = check (nat_lt s w.shape.slots) NoSlot None
 refusal w (Pin r s e) = pin_refusal w s e
 refusal w (Release r id) = held_refusal w r id
 refusal w (ReadDescr r id d) =
-    check (nat_lt id.slot w.shape.slots) NoSlot (check (nat_lt 0 (copies w r id)) NotHeld (check (same_descr (at w id.slot).descr d) DescrDiffers None))
+    check (nat_lt id.slot w.shape.slots) NoSlot (check (nat_lt 0 (copies w r id)) NotHeld
+    (check (same_descr (at w id.slot).descr d) DescrDiffers None))
 refusal w (StoreDescr s d) = phase_refusal w s Free
 refusal w (Publish s) = phase_refusal w s Free
 refusal w (CloseSlot s) = phase_refusal w s Live
-refusal w (Reclaim s) = check (nat_lt s w.shape.slots) NoSlot (check (is_phase (at w s).phase Closing) WrongPhase (check (pins w s == 0) Pinned None))
+refusal w (Reclaim s) = check (nat_lt s w.shape.slots) NoSlot
+    (check (is_phase (at w s).phase Closing) WrongPhase (check (pins w s == 0) Pinned None))
 
 abbrev pub with_slot : WorldState → ℕ → Slot → WorldState
-with_slot w s x = record { shape = w.shape; slots = slice_set w.slots s x; published = w.published; holders = w.holders }
+with_slot w s x = record {
+  shape = w.shape;
+  slots = slice_set w.slots s x;
+  published = w.published;
+  holders = w.holders;
+}
 
 abbrev pub with_holders : WorldState → List Hold → WorldState
 with_holders w hs = record { shape = w.shape; slots = w.slots; published = w.published; holders = hs }
@@ -71,7 +79,11 @@ with_descr x d = record { generation = x.generation; phase = x.phase; descr = d 
 
 -- free at the next generation, or retired at the last
 abbrev pub reclaimed : ℕ → Slot → Slot
-reclaimed max_gen x = if nat_lt x.generation max_gen then record { generation = x.generation + 1; phase = Free; descr = x.descr } else in_phase x Retired
+reclaimed max_gen x = if nat_lt x.generation max_gen then record {
+  generation = x.generation + 1;
+  phase = Free;
+  descr = x.descr;
+} else in_phase x Retired
 
 -- the world after an event that is possible
 abbrev pub after : WorldState → Event → WorldState
@@ -80,7 +92,12 @@ after w (Pin r s e) = held_more w r s
 after w (Release r id) = held_less w r id
 after w (ReadDescr r id d) = w
 after w (StoreDescr s d) = with_slot w s (with_descr (at w s) d)
-after w (Publish s) = record { shape = w.shape; slots = slice_set w.slots s (in_phase (at w s) Live); published = w.published ++ (id_at w s, (at w s).descr) ∷ []; holders = w.holders }
+after w (Publish s) = record {
+  shape = w.shape;
+  slots = slice_set w.slots s (in_phase (at w s) Live);
+  published = w.published ++ (id_at w s, (at w s).descr) ∷ [];
+  holders = w.holders;
+}
 after w (CloseSlot s) = with_slot w s (in_phase (at w s) Closing)
 after w (Reclaim s) = with_slot w s (reclaimed w.shape.max_gen (at w s))
 
@@ -99,4 +116,5 @@ after_all w (e ∷ es) = after_all (after w e) es
 
 -- event n, counted from 1, is the first that isn't possible, for the reason r
 abbrev pub IsFirstRefused : WorldState → List Event → ℕ → Reason → Type 0
-IsFirstRefused w es n r = (e : Event) × (1 ≤ n) × IsSchedule w (take (n - 1) es) × (slice_get es (n - 1) ≡ Some e) × (refusal (after_all w (take (n - 1) es)) e ≡ Some r)
+IsFirstRefused w es n r = (e : Event) × (1 ≤ n) × IsSchedule w (take (n - 1) es) × (slice_get es (n - 1) ≡ Some e)
+    × (refusal (after_all w (take (n - 1) es)) e ≡ Some r)

@@ -31,7 +31,9 @@ pub record SlotIsSafe (w : WorldState) (s : ℕ) : Type 0 where
 -- each once; no slot has too many pins; no Id is published twice, nor ahead of its slot
 pub record IsSafe (w : WorldState) : Type 0 where
   pub wide : length w.slots ≡ w.shape.slots
-  pub held : (r : ℕ) (id : Id) → 0 < copies w r id → (id.slot < w.shape.slots) × ((at w id.slot).generation ≡ id.generation) × (may_be_held (at w id.slot).phase ≡ true)
+  pub held : (r : ℕ) (id : Id) → 0 < copies w r id
+      → (id.slot < w.shape.slots) × ((at w id.slot).generation ≡ id.generation)
+      × (may_be_held (at w id.slot).phase ≡ true)
   pub numbered : (r : ℕ) (id : Id) (k : ℕ) → times w (hold_of r id k) ≡ weight (nat_lt 0 k && nat_le k (copies w r id))
   pub room : (s : ℕ) → pins w s ≤ w.shape.max_pins
   pub slots : (s : ℕ) → s < w.shape.slots → SlotIsSafe w s
@@ -59,4 +61,5 @@ AreEvents k es = (1 ≤ k.max_gen) × IsSchedule (opening_of k) es
 
 -- no event can take the slot from who holds it
 abbrev pub StaysGiven : WorldState → ℕ → Type 0
-StaysGiven w s = ((d : Descr) → refusal w (StoreDescr s d) ≢ None) × (refusal w (Publish s) ≢ None) × (refusal w (Reclaim s) ≢ None)
+StaysGiven w s = ((d : Descr) → refusal w (StoreDescr s d) ≢ None) × (refusal w (Publish s) ≢ None)
+    × (refusal w (Reclaim s) ≢ None)

@@ -5,5 +5,7 @@ use Rattle.least_due.proofs.Dues.least.Goals as goal
 
 pub returns : goal.returns
 returns c =
-    let at : IsLeast c.self.inside.dues.items c.moment_at.result = subst (λ (x : Option ℕ). IsLeast c.self.inside.dues.items x) (sym c.moment_at.ensures) (least_at_root c.self.inside.dues.items c.self.inside.best.items c.self.invariant.each) in
+    let at : IsLeast c.self.inside.dues.items c.moment_at.result =
+    subst (λ (x : Option ℕ). IsLeast c.self.inside.dues.items x) (sym c.moment_at.ensures)
+    (least_at_root c.self.inside.dues.items c.self.inside.best.items c.self.invariant.each) in
     subst (λ (s : List (Option ℕ)). IsLeast s c.moment_at.result) c.self.view_is at

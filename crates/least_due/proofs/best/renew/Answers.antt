@@ -6,8 +6,13 @@ use Rattle.least_due.proofs.best.renew.Goals as goal
 
 pub returns-then-is_same-clause-done : goal.returns-then-is_same-clause-done
 returns-then-is_same-clause-done c _ = unwritten c.args.dues.now.items c.args.best.now.items c.args.place
-    (get_or_default c.args.best.now.items c.args.place None c.index.result.now c.requires.within ∙ sym c.index.ensures ∙ c.is_same.ensures.yes c.if-is_same.true ∙ c.best_below-due.ensures)
+    (get_or_default c.args.best.now.items c.args.place None c.index.result.now c.requires.within ∙ sym c.index.ensures
+    ∙ c.is_same.ensures.yes c.if-is_same.true ∙ c.best_below-due.ensures)
     c.requires.others
 
 pub returns-clause-more : goal.returns-clause-more
-returns-clause-more c some = (grind (arith, nat_tests, some), λ n ne. written c.args.dues.now.items c.args.best.now.items c.args.place c.best_below-due.result c.requires.within c.best_below-due.ensures c.requires.others n (λ _. ne))
+returns-clause-more c some = (
+  grind (arith, nat_tests, some),
+  λ n ne. written c.args.dues.now.items c.args.best.now.items c.args.place c.best_below-due.result c.requires.within
+      c.best_below-due.ensures c.requires.others n (λ _. ne),
+)

@@ -5,8 +5,20 @@ use Rattle.least_free.proofs.LeastFree.least.Goals as goal
 
 pub returns-in-Some-clause-value : goal.returns-in-Some-clause-value
 returns-in-Some-clause-value c =
-    omega (arith, ap least_free c.self.view_is, least-with_spare c.self.inside.levels c.self.inside.spare c.in-Some.spare c.self.invariant c.in-Some.is, c.least-least.ensures.value)
+    omega (
+      arith,
+      ap least_free c.self.view_is,
+      least-with_spare c.self.inside.levels c.self.inside.spare
+          c.in-Some.spare c.self.invariant c.in-Some.is,
+      c.least-least.ensures.value,
+    )
 
 pub returns-in_default-clause-value : goal.returns-in_default-clause-value
 returns-in_default-clause-value c =
-    omega (arith, ap least_free c.self.view_is, least-with_spare c.self.inside.levels c.self.inside.spare c.in-Some.spare c.self.invariant c.in-Some.is, c.least-least.ensures.value)
+    omega (
+      arith,
+      ap least_free c.self.view_is,
+      least-with_spare c.self.inside.levels c.self.inside.spare
+          c.in-Some.spare c.self.invariant c.in-Some.is,
+      c.least-least.ensures.value,
+    )

@@ -12,5 +12,6 @@ returns-clause-here c = bit_at_clear_same w64 c.args.word c.args.k c.requires
 pub returns-clause-others : goal.returns-clause-others
 returns-clause-others c = λ i ne. ⊎_elim
     (λ (below : i < 64). bit_at_clear_other w64 c.args.word c.args.k c.requires i below ne)
-    (λ (past : 64 ≤ i). let none = bit_at_above c.args.word 64 i (search rules) past in let and = bit_at_and c.args.word (bit_not w64 (1 * 2 ^ c.args.k % 2 ^ bits w64)) i in grind (arith, and))
+    (λ (past : 64 ≤ i). let none = bit_at_above c.args.word 64 i (search rules) past in
+    let and = bit_at_and c.args.word (bit_not w64 (1 * 2 ^ c.args.k % 2 ^ bits w64)) i in grind (arith, and))
     (cases_lt i 64)

@@ -8,5 +8,8 @@ use Rattle.ob_tables.proofs.table.inherit_at.Goals as goal
 
 pub returns-then-is_some-clause-number : goal.returns-then-is_some-clause-number
 returns-then-is_some-clause-number c =
-    let some : is_some (inheritable (at c.args.copies.now.items c.args.place)) ≡ true = ap (λ (x : Option Entry). is_some (inheritable x)) (sym (read_at c.args.copies.now.items c.args.place c.index.result.now c.requires.within c.index.ensures)) ∙ ap is_some (sym c.inheritable.ensures) ∙ sym c.is_some.ensures ∙ c.if-is_some.true in
+    let some : is_some (inheritable (at c.args.copies.now.items c.args.place)) ≡ true =
+    ap (λ (x : Option Entry). is_some (inheritable x))
+    (sym (read_at c.args.copies.now.items c.args.place c.index.result.now c.requires.within c.index.ensures))
+    ∙ ap is_some (sym c.inheritable.ensures) ∙ sym c.is_some.ensures ∙ c.if-is_some.true in
     stays_taken c.args.free.now c.args.place c.requires.held ∙ ap (set c.args.free.now c.args.place) (sym some)

@@ -18,8 +18,10 @@ invariant_of-self c =
       room = search rules;
       room_above = search rules;
       none_past = λ k past. c.set.ensures.others k (omega arith) ∙ c.self.invariant.none_past k past;
-      leaves_summed = sums_changed (bit i.middle.items) (bit i.middle.items) _ _ (n / 64) c.self.invariant.leaves_summed c.set.ensures.words (λ _ _. refl)
-          (let had = c.set.ensures.had c.if-not-set.true in let some = c.set.ensures.some in let was = c.self.invariant.leaves_summed (n / 64) in omega arith);
+      leaves_summed = sums_changed (bit i.middle.items) (bit i.middle.items) _ _
+          (n / 64) c.self.invariant.leaves_summed c.set.ensures.words (λ _ _. refl)
+          (let had = c.set.ensures.had c.if-not-set.true in let some = c.set.ensures.some in
+          let was = c.self.invariant.leaves_summed (n / 64) in omega arith);
       middle_summed = c.self.invariant.middle_summed;
     }
 
@@ -27,7 +29,8 @@ pub returns-then-not-set : goal.returns-then-not-set
 returns-then-not-set c =
     let i = c.self.inside in
     let lt : c.args.n < i.len = omega (arith, ap length c.self.view_is, length-taken_in i.leaves.items i.len) in
-    taken_freed _ _ i.len c.args.n lt c.set.ensures.here c.set.ensures.others ∙ ap (λ (s : List Bool). set s c.args.n false) c.self.view_is
+    taken_freed _ _ i.len c.args.n lt c.set.ensures.here c.set.ensures.others
+    ∙ ap (λ (s : List Bool). set s c.args.n false) c.self.view_is
 
 pub invariant_of-self-2 : goal.invariant_of-self-2
 invariant_of-self-2 c =
@@ -41,7 +44,8 @@ invariant_of-self-2 c =
       room = search rules;
       room_above = search rules;
       none_past = λ k past. c.set.ensures.others k (omega arith) ∙ c.self.invariant.none_past k past;
-      leaves_summed = sums_changed (bit i.middle.items) (bit c.raised-self-inside.new.middle.items) _ _ (n / 64) c.self.invariant.leaves_summed c.set.ensures.words c.raised-self-inside.ensures.others
+      leaves_summed = sums_changed (bit i.middle.items) (bit c.raised-self-inside.new.middle.items) _ _
+          (n / 64) c.self.invariant.leaves_summed c.set.ensures.words c.raised-self-inside.ensures.others
           (let some = c.set.ensures.some in let here = c.raised-self-inside.ensures.here in omega arith);
       middle_summed = c.raised-self-inside.ensures.above c.self.invariant.middle_summed;
     }
@@ -50,4 +54,5 @@ pub returns : goal.returns
 returns c =
     let i = c.self.inside in
     let lt : c.args.n < i.len = omega (arith, ap length c.self.view_is, length-taken_in i.leaves.items i.len) in
-    taken_freed _ _ i.len c.args.n lt c.set.ensures.here c.set.ensures.others ∙ ap (λ (s : List Bool). set s c.args.n false) c.self.view_is
+    taken_freed _ _ i.len c.args.n lt c.set.ensures.here c.set.ensures.others
+    ∙ ap (λ (s : List Bool). set s c.args.n false) c.self.view_is

@@ -8,6 +8,7 @@ use Rattle.least_free.proofs.levels.Levels.next_taken.Goals as goal
 pub returns-clause-least : goal.returns-clause-least
 returns-clause-least c =
     let i = c.self.inside in
-    same_test (λ (k : ℕ). ltb k i.len && (bit i.leaves.items k == 0)) (is_taken c.args.self.now) c.args.from c.next_clear.result
+    same_test (λ (k : ℕ). ltb k i.len && (bit i.leaves.items k == 0))
+    (is_taken c.args.self.now) c.args.from c.next_clear.result
     (λ k. taken_test i.leaves.items i.len k ∙ ap (λ (s : List Bool). is_taken s k) c.self.view_is)
     c.next_clear.ensures.least

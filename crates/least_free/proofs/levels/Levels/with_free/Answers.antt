@@ -6,5 +6,6 @@ pub loop-k-preserved : goal.loop-k-preserved
 loop-k-preserved c =
     let k = c.loop-k.k in
     c.give_back.ensures
-    ∙ ap (λ (s : List Bool). set s k false) (c.in_ok-grow.ensures.ok ∙ ap (λ (s : List Bool). s ++ true ∷ []) c.loop-k.invariant)
+    ∙ ap (λ (s : List Bool). set s k false) (c.in_ok-grow.ensures.ok
+    ∙ ap (λ (s : List Bool). s ++ true ∷ []) c.loop-k.invariant)
     ∙ one_more_free k ∙ ap (λ (n : ℕ). replicate n false) (sym (add-one k))

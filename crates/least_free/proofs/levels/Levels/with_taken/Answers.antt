@@ -7,12 +7,20 @@ use Rattle.least_free.proofs.levels.Levels.with_taken.Goals as goal
 
 pub invariant_of-result : goal.invariant_of-result
 invariant_of-result c =
-    let leaves : c.in_ok-leaves.leaves.items ≡ replicate c.div_ceil.result 0 = c.in_ok-leaves.ensures.items_if_clones_equal (λ y h. search rules) in
-    let middle : c.in_ok-middle.middle.items ≡ replicate c.div_ceil-2.result 0 = c.in_ok-middle.ensures.items_if_clones_equal (λ y h. search rules) in
-    let long : length c.in_ok-leaves.leaves.items ≡ c.div_ceil.result = ap length leaves ∙ length-replicate c.div_ceil.result 0 in
-    let long_above : length c.in_ok-middle.middle.items ≡ c.div_ceil-2.result = ap length middle ∙ length-replicate c.div_ceil-2.result 0 in
-    let none : (w : ℕ) → min 1 (slice_index c.in_ok-leaves.leaves.items w) ≡ 0 = λ w. ap (λ (ws : List ℕ). min 1 (slice_index ws w)) leaves ∙ ap (λ (x : ℕ). min 1 x) (no_word c.div_ceil.result w) in
-    let none_above : (w : ℕ) → min 1 (slice_index c.in_ok-middle.middle.items w) ≡ 0 = λ w. ap (λ (ws : List ℕ). min 1 (slice_index ws w)) middle ∙ ap (λ (x : ℕ). min 1 x) (no_word c.div_ceil-2.result w) in
+    let leaves : c.in_ok-leaves.leaves.items ≡ replicate c.div_ceil.result 0 =
+    c.in_ok-leaves.ensures.items_if_clones_equal (λ y h. search rules) in
+    let middle : c.in_ok-middle.middle.items ≡ replicate c.div_ceil-2.result 0 =
+    c.in_ok-middle.ensures.items_if_clones_equal (λ y h. search rules) in
+    let long : length c.in_ok-leaves.leaves.items ≡ c.div_ceil.result =
+    ap length leaves ∙ length-replicate c.div_ceil.result 0 in
+    let long_above : length c.in_ok-middle.middle.items ≡ c.div_ceil-2.result =
+    ap length middle ∙ length-replicate c.div_ceil-2.result 0 in
+    let none : (w : ℕ) → min 1 (slice_index c.in_ok-leaves.leaves.items w) ≡ 0 =
+    λ w. ap (λ (ws : List ℕ). min 1 (slice_index ws w)) leaves
+    ∙ ap (λ (x : ℕ). min 1 x) (no_word c.div_ceil.result w) in
+    let none_above : (w : ℕ) → min 1 (slice_index c.in_ok-middle.middle.items w) ≡ 0 =
+    λ w. ap (λ (ws : List ℕ). min 1 (slice_index ws w)) middle
+    ∙ ap (λ (x : ℕ). min 1 x) (no_word c.div_ceil-2.result w) in
     record {
       few = c.requires;
       few_leaves = omega arith;
@@ -26,5 +34,7 @@ invariant_of-result c =
 
 pub returns : goal.returns
 returns c =
-    let leaves : c.in_ok-leaves.leaves.items ≡ replicate c.div_ceil.result 0 = c.in_ok-leaves.ensures.items_if_clones_equal (λ y h. search rules) in
-    all_taken c.in_ok-leaves.leaves.items c.args.n (λ k. ap (λ (ws : List ℕ). bit ws k) leaves ∙ no_bit c.div_ceil.result k)
+    let leaves : c.in_ok-leaves.leaves.items ≡ replicate c.div_ceil.result 0 =
+    c.in_ok-leaves.ensures.items_if_clones_equal (λ y h. search rules) in
+    all_taken c.in_ok-leaves.leaves.items c.args.n (λ k. ap (λ (ws : List ℕ). bit ws k) leaves
+    ∙ no_bit c.div_ceil.result k)

@@ -7,8 +7,11 @@ use Rattle.ob_arena.proofs.arena.Arena.get_mut.Goals as goal
 pub lend-requires : goal.lend-requires
 lend-requires g c =
     let i = c.self.inside in
-    let some = subst (λ (s : Slots g.row.B.Denot). IsSome (body_at s c.args.slot)) (sym c.self.view_is) c.requires in
-    (c.self.invariant.front, (held_slot i.storage.slots i.phases.items i.free c.self.invariant.tied c.args.slot some).filled)
+    let some = subst (λ (s : Slots g.row.B.Denot). IsSome (body_at s c.args.slot)) (sym c.self.view_is) c.requires in (
+      c.self.invariant.front,
+      (held_slot i.storage.slots i.phases.items i.free c.self.invariant.tied c.args.slot
+          some).filled,
+    )
 
 pub invariant_of-self-lent : goal.invariant_of-self-lent
 invariant_of-self-lent g c = λ body.

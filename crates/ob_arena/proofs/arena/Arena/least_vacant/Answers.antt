@@ -8,10 +8,12 @@ pub returns-then-at-len : goal.returns-then-at-len
 returns-then-at-len g c =
     let i = c.self.inside in
     let n = length-phases i.storage.slots i.phases.items i.free c.self.invariant.tied in
-    ap Some c.least-at.ensures.value ∙ sym (least_found i.storage.slots i.phases.items i.free c.self.invariant.tied (omega (arith, c.least-at.ensures.value))) ∙ ap least_vacant c.self.view_is
+    ap Some c.least-at.ensures.value ∙ sym (least_found i.storage.slots i.phases.items i.free c.self.invariant.tied
+    (omega (arith, c.least-at.ensures.value))) ∙ ap least_vacant c.self.view_is
 
 pub returns : goal.returns
 returns g c =
     let i = c.self.inside in
     let n = length-phases i.storage.slots i.phases.items i.free c.self.invariant.tied in
-    sym (none_found i.storage.slots i.phases.items i.free c.self.invariant.tied (omega (arith, c.least-at.ensures.value))) ∙ ap least_vacant c.self.view_is
+    sym (none_found i.storage.slots i.phases.items i.free c.self.invariant.tied
+    (omega (arith, c.least-at.ensures.value))) ∙ ap least_vacant c.self.view_is

@@ -20,9 +20,11 @@ invariant_of-self g c =
     record {
       front = c.self.invariant.front ∙ sym c.fill.ensures.0;
       title_front = c.self.invariant.title_front;
-      title_len = c.self.invariant.title_len ∙ sym (ap length c.fill.ensures.1 ∙ length-set i.storage.slots c.args.slot _);
+      title_len = c.self.invariant.title_len ∙ sym (ap length c.fill.ensures.1
+          ∙ length-set i.storage.slots c.args.slot _);
       title_alloc = c.self.invariant.title_alloc;
-      tied = retied _ c.fill.new.self.slots _ _ _ c.take.new.self c.fill.ensures.1 refl c.take.ensures (tied_put i.storage.slots i.phases.items i.free c.self.invariant.tied c.args.slot c.args.body free);
+      tied = retied _ c.fill.new.self.slots _ _ _ c.take.new.self c.fill.ensures.1 refl c.take.ensures
+          (tied_put i.storage.slots i.phases.items i.free c.self.invariant.tied c.args.slot c.args.body free);
     }
 
 pub returns : goal.returns

@@ -19,10 +19,12 @@ invariant_of-self g c =
       title_front = c.self.invariant.title_front;
       title_len = c.self.invariant.title_len;
       title_alloc = c.self.invariant.title_alloc;
-      tied = retied _ _ _ _ _ c.take.new.self refl refl c.take.ensures (tied_retire i.storage.slots i.phases.items i.free c.self.invariant.tied c.args.slot free);
+      tied = retied _ _ _ _ _ c.take.new.self refl refl c.take.ensures
+          (tied_retire i.storage.slots i.phases.items i.free c.self.invariant.tied c.args.slot free);
     }
 
 pub returns : goal.returns
 returns g c =
     let i = c.self.inside in
-    shown_retire i.storage.slots i.phases.items i.free c.self.invariant.tied c.args.slot ∙ ap (λ (s : Slots g.row.B.Denot). with_retired s c.args.slot) c.self.view_is
+    shown_retire i.storage.slots i.phases.items i.free c.self.invariant.tied c.args.slot
+    ∙ ap (λ (s : Slots g.row.B.Denot). with_retired s c.args.slot) c.self.view_is

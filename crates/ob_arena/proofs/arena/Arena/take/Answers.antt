@@ -9,8 +9,11 @@ use Rattle.ob_arena.proofs.arena.Arena.take.Goals as goal
 pub empty-body-requires : goal.empty-body-requires
 empty-body-requires g c =
     let i = c.self.inside in
-    let some = subst (λ (s : Slots g.row.B.Denot). IsSome (body_at s c.args.slot)) (sym c.self.view_is) c.requires in
-    (c.self.invariant.front, (held_slot i.storage.slots i.phases.items i.free c.self.invariant.tied c.args.slot some).filled)
+    let some = subst (λ (s : Slots g.row.B.Denot). IsSome (body_at s c.args.slot)) (sym c.self.view_is) c.requires in (
+      c.self.invariant.front,
+      (held_slot i.storage.slots i.phases.items i.free c.self.invariant.tied c.args.slot
+          some).filled,
+    )
 
 pub give_back-requires : goal.give_back-requires
 give_back-requires g c =
@@ -30,7 +33,8 @@ invariant_of-self g c =
       title_front = c.self.invariant.title_front;
       title_len = c.self.invariant.title_len ∙ sym (ap length left.1 ∙ length-set i.storage.slots c.args.slot _);
       title_alloc = c.self.invariant.title_alloc;
-      tied = retied _ c.empty-body.new.self.slots _ _ _ c.give_back.new.self left.1 refl c.give_back.ensures (tied_take i.storage.slots i.phases.items i.free c.self.invariant.tied c.args.slot held);
+      tied = retied _ c.empty-body.new.self.slots _ _ _ c.give_back.new.self left.1 refl c.give_back.ensures
+          (tied_take i.storage.slots i.phases.items i.free c.self.invariant.tied c.args.slot held);
     }
 
 pub returns-clause-after : goal.returns-clause-after
@@ -38,7 +42,8 @@ returns-clause-after g c =
     let i = c.self.inside in
     let some = subst (λ (s : Slots g.row.B.Denot). IsSome (body_at s c.args.slot)) (sym c.self.view_is) c.requires in
     let held = held_slot i.storage.slots i.phases.items i.free c.self.invariant.tied c.args.slot some in
-    ap (λ (l : List (Option g.row.B.Denot)). slots_shown l (set i.phases.items c.args.slot Vacant)) c.empty-body.ensures.slots.1
+    ap (λ (l : List (Option g.row.B.Denot)). slots_shown l (set i.phases.items c.args.slot Vacant))
+    c.empty-body.ensures.slots.1
     ∙ shown_take i.storage.slots i.phases.items i.free c.self.invariant.tied c.args.slot held
     ∙ ap (λ (s : Slots g.row.B.Denot). without_body s c.args.slot) c.self.view_is
 
@@ -47,5 +52,6 @@ returns-clause-vacant g c =
     let i = c.self.inside in
     let some = subst (λ (s : Slots g.row.B.Denot). IsSome (body_at s c.args.slot)) (sym c.self.view_is) c.requires in
     let held = held_slot i.storage.slots i.phases.items i.free c.self.invariant.tied c.args.slot some in
-    ap (λ (l : List (Option g.row.B.Denot)). is_vacant_at (slots_shown l (set i.phases.items c.args.slot Vacant)) c.args.slot) c.empty-body.ensures.slots.1
+    ap (λ (l : List (Option g.row.B.Denot)). is_vacant_at
+    (slots_shown l (set i.phases.items c.args.slot Vacant)) c.args.slot) c.empty-body.ensures.slots.1
     ∙ vacant_taken_from i.storage.slots i.phases.items i.free c.self.invariant.tied c.args.slot held

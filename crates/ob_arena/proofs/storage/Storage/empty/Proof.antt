@@ -13,12 +13,21 @@ module _ (E : El) where
 
   abbrev ended : Ended
   ended = record {
-    signature = record { lifetimes = 1; outlives = []; params = RefMutOf (0 ∷ []) tt (plain (λ _. StorageOf E)) (λ _. tt) ∷ plain (λ _. FrontOf E) ∷ plain (λ _. usize) ∷ []; result = plain (λ _. R E) };
+    signature = record {
+      lifetimes = 1;
+      outlives = [];
+      params = RefMutOf (0 ∷ []) tt (plain (λ _. StorageOf E)) (λ _. tt) ∷ plain (λ _. FrontOf E) ∷ plain (λ _. usize)
+          ∷ [];
+      result = plain (λ _. R E);
+    };
     kept = (yes, (no, (no, tt)));
   }
 
   abbrev stayed : Stays ended.signature.params ended.kept
-  stayed = (stay_ref (0 ∷ []) tt (plain (λ _. StorageOf E)), (stay_dropped (plain (λ _. FrontOf E)) no, (stay_dropped (plain (λ _. usize)) no, tt)))
+  stayed = (
+    stay_ref (0 ∷ []) tt (plain (λ _. StorageOf E)),
+    (stay_dropped (plain (λ _. FrontOf E)) no, (stay_dropped (plain (λ _. usize)) no, tt)),
+  )
 
   abbrev Asks : (StorageOf E).Denot → (FrontOf E).Denot → ℕ → Type 0
   Asks storage front at = (front.first ≡ storage.front) × IsFilled storage.slots at
@@ -30,9 +39,15 @@ module _ (E : El) where
   Left storage at new = (new.front ≡ storage.front) × (new.slots ≡ set storage.slots at None)
 
   abbrev spec : {M : Type 1} {𝓤 : Ura M} (𝓛 : Logic 𝓤) → Clauses 𝓤 ended
-  spec {𝓤 = 𝓤} 𝓛 κs a = record { ghost = Unit {0}; requires = λ _. fact 𝓤 (Asks a.0.now a.1.0 a.1.1.0); ensures = λ _ r w. sep 𝓤 (fact 𝓤 (Body a.0.now a.1.1.0 r)) (fact 𝓤 (Left a.0.now a.1.1.0 w.0.now)) }
+  spec {𝓤 = 𝓤} 𝓛 κs a = record {
+    ghost = Unit {0};
+    requires = λ _. fact 𝓤 (Asks a.0.now a.1.0 a.1.1.0);
+    ensures = λ _ r w. sep 𝓤 (fact 𝓤 (Body a.0.now a.1.1.0 r)) (fact 𝓤 (Left a.0.now a.1.1.0 w.0.now));
+  }
 
-module _ (E : El) {M : Type 1} {𝓤 : Ura M} (𝓛 : Logic 𝓤) (C : Calls 𝓤 𝓛.H) (Λ : Loops 𝓤 𝓛.H) (κ : Lft) (q : Share) (rb ro : ℕ) (γ : GName) (storage : (StorageOf E).Denot) (front : (FrontOf E).Denot) (at : ℕ) (us0 us1 us2 : List Val) where
+module _ (E : El) {M : Type 1} {𝓤 : Ura M} (𝓛 : Logic 𝓤) (C : Calls 𝓤 𝓛.H) (Λ : Loops 𝓤 𝓛.H) (κ : Lft) (q : Share)
+    (rb ro : ℕ) (γ : GName) (storage : (StorageOf E).Denot) (front : (FrontOf E).Denot) (at : ℕ)
+    (us0 us1 us2 : List Val) where
   open 𝓛 use {H, A}
 
   abbrev self : MutBor (StorageOf E).Denot
@@ -44,56 +59,101 @@ module _ (E : El) {M : Type 1} {𝓤 : Ura M} (𝓛 : Logic 𝓤) (C : Calls �
   abbrev Post : Val → SProp 𝓤
   Post = (walk_of 𝓛 (ended E) (stayed E) (spec E 𝓛)).post bound
 
-  exits : us0 ≡ vptr rb ro ∷ [] → (r : (R E).Denot) (v : Val) (new : (StorageOf E).Denot) → Body E storage at r → Left E storage at new
-      → ent 𝓤 (⋆ 𝓛 (‵ (fobs γ ((StorageOf E).coded.code new)) ∷ ‵ (fbor κ (Borrowed (mem (StorageOf E)) rb ro γ)) ∷ ‵ (flft κ q) ∷ ‵ ((R E).own_val r (v ∷ [])) ∷ [])) (Post v)
+  exits : us0 ≡ vptr rb ro ∷ [] → (r : (R E).Denot) (v : Val) (new : (StorageOf E).Denot) → Body E storage at r
+      → Left E storage at new
+      → ent 𝓤 (⋆ 𝓛 (‵ (fobs γ ((StorageOf E).coded.code new)) ∷ ‵ (fbor κ (Borrowed (mem (StorageOf E)) rb ro γ))
+      ∷ ‵ (flft κ q) ∷ ‵ ((R E).own_val r (v ∷ [])) ∷ [])) (Post v)
   exits passed r v new body left =
-      qed 𝓛 (‵ (fobs γ ((StorageOf E).coded.code new)) ∷ ‵ (fbor κ (Borrowed (mem (StorageOf E)) rb ro γ)) ∷ ‵ (flft κ q) ∷ ‵ ((R E).own_val r (v ∷ [])) ∷ []) ∵
-      suffices ! _ (ends_at 𝓛 (ended E) (stayed E) (spec E 𝓛) bound v r (new, (tt, (tt, tt))) (tt, (tt, (tt, tt)))) $ says_both ! body left $
-      nothing ! $ move ! (3 ∷ 0 ∷ []) $ join ! $ frame ! $ feq_i ! (List Val) us0 (vptr rb ro ∷ []) passed $ fjoin3 ! $ nothing ! $ nothing ! $ fjoin ! $ nothing ! $ fjoin ! $ move ! (1 ∷ 0 ∷ []) $ fjoin ! $ done !
+      qed 𝓛 (‵ (fobs γ ((StorageOf E).coded.code new)) ∷ ‵ (fbor κ (Borrowed (mem (StorageOf E)) rb ro γ))
+      ∷ ‵ (flft κ q) ∷ ‵ ((R E).own_val r (v ∷ [])) ∷ []) ∵
+      suffices ! _ (ends_at 𝓛 (ended E) (stayed E) (spec E 𝓛) bound v r (new, (tt, (tt, tt))) (tt, (tt, (tt, tt)))) $
+      says_both ! body left $
+      nothing ! $ move ! (3 ∷ 0 ∷ []) $ join ! $ frame ! $ feq_i ! (List Val) us0 (vptr rb ro ∷ []) passed $ fjoin3 ! $
+      nothing ! $ nothing ! $ fjoin ! $ nothing ! $ fjoin ! $ move ! (1 ∷ 0 ∷ []) $ fjoin ! $ done !
 
   abbrev Had : List (Item 𝓤)
-  Had = ‵ (fobs γ ((StorageOf E).coded.code storage)) ∷ ‵ (fbor κ (Borrowed (mem (StorageOf E)) rb ro γ)) ∷ ‵ (flft κ q) ∷ []
+  Had = ‵ (fobs γ ((StorageOf E).coded.code storage)) ∷ ‵ (fbor κ (Borrowed (mem (StorageOf E)) rb ro γ)) ∷ ‵ (flft κ q)
+      ∷ []
 
-  walk : us0 ≡ vptr rb ro ∷ [] → Asks E storage front at → at < 2 ^ 64 → ent 𝓤 (⋆ 𝓛 Had) (WpFn 𝓤 H C Λ (function E) (vptr rb ro ∷ word front.first ∷ vint w64 at ∷ []) Post)
+  walk : us0 ≡ vptr rb ro ∷ [] → Asks E storage front at → at < 2 ^ 64
+      → ent 𝓤 (⋆ 𝓛 Had) (WpFn 𝓤 H C Λ (function E) (vptr rb ro ∷ word front.first ∷ vint w64 at ∷ []) Post)
   walk passed asked fits =
       let x = asked.1.0 in let within = filled_within storage.slots at x asked.1.1 in
-      let new : (StorageOf E).Denot = record { mark = storage.mark; front = storage.front; slots = set storage.slots at None } in
-      qed 𝓛 Had ∵ enter ! C Λ (function E) (vptr rb ro ∷ word front.first ∷ vint w64 at ∷ []) _ $ alloc_all ! (λ l. pass_all ! refl ((tt, tt), (word-Good [] front.first, ((tt, record { fits = fits }), tt))) $
+      let new : (StorageOf E).Denot = record {
+        mark = storage.mark;
+        front = storage.front;
+        slots = set storage.slots at None;
+      } in
+      qed 𝓛 Had ∵ enter ! C Λ (function E) (vptr rb ro ∷ word front.first ∷ vint w64 at ∷ []) _ $ alloc_all !
+      (λ l. pass_all ! refl ((tt, tt), (word-Good [] front.first, ((tt, record { fits = fits }), tt))) $
       let En : Env 𝓤 H = env (function E).locals l in
       opens ! tt (StorageOf E) {h = storage} rb ro (λ vs. move ! (1 ∷ []) $ fsplit ! $ move ! (1 ∷ []) $
-      in_a_block ! storage.front (λ p. storage_owns (R E) p storage.slots) (id⊢ 𝓤 (never 𝓤)) (λ b o e. fsplit ! $ flt_l ! (λ small.
-      let s = sz E in let tiny : s < 2 ^ 64 = omega (arith, one_below (length storage.slots) s (2 ^ 63) (omega arith) small) in
+      in_a_block ! storage.front (λ p. storage_owns (R E) p storage.slots) (id⊢ 𝓤 (never 𝓤)) (λ b o e. fsplit ! $
+      flt_l ! (λ small.
+      let s = sz E in let tiny : s < 2 ^ 64 = omega (
+        arith,
+        one_below (length storage.slots) s (2 ^ 63) (omega arith) small,
+      ) in
       let far : at * s < 2 ^ 64 = omega (arith, times_below at (length storage.slots) s (2 ^ 63) (omega arith) small) in
       -- the pointer, at the slot
-      take_at ! 2 $ rewrite ! 0 (λ (p : Ptr). ‵ (fat full_share (layout (FrontOf E)) (l 2) 0 (word p))) (asked.0 ∙ e) refl $ give_at ! 2 $ first ! $ blocks ! $
-      sets ! (bin ! (get ! refl) (size_lit ! (record { fits = tiny })) (record { fits = far })) refl (tt, record { fits = far }) $
+      take_at ! 2 $ rewrite ! 0 (λ (p : Ptr). ‵ (fat full_share (layout (FrontOf E)) (l 2) 0 (word p))) (asked.0
+      ∙ e) refl $ give_at ! 2 $ first ! $ blocks ! $
+      sets ! (bin ! (get ! refl) (size_lit ! (record { fits = tiny })) (record { fits = far })) refl (
+        tt,
+        record { fits = far },
+      ) $
       sets ! (bin ! (get_in ! (fld ! refl (stop !)) (sub ! 0 refl (whole !))) (get ! refl) tt) refl (tt, tt) $
       -- the body of the slot, and the read
-      use1 𝓛 (‵ (slot (R E) b (at * s + o) (get_or storage.slots at None)) ⊛ ‵ (Others E 𝓛 b o storage.slots at)) (slot_out E 𝓛 b o storage.slots at within) $ split ! $
+      use1 𝓛 (‵ (slot (R E) b (at * s + o) (get_or storage.slots at None)) ⊛ ‵ (Others E 𝓛 b o storage.slots at))
+      (slot_out E 𝓛 b o storage.slots at within) $ split ! $
       rewrite ! 0 (λ (y : Slot E). ‵ (slot (R E) b (at * s + o) y)) asked.1.1 refl $
-      use1 𝓛 (some (λ (v : Val). given (Good (elτ E) v) (‵ (fat full_share (elτ E) b (at * s + o) v) ⊛ ‵ (E.row.own_val x (v ∷ []))))) (body_out 0 E.row E.laws 𝓛 x b (at * s + o)) $
-      pick ! (λ v. learn ! (λ good. split ! $ sets_last ! (of_opd ! (load ! (through ! refl (stop !)) (look ! 0 refl))) refl good $
+      use1 𝓛 (some (λ (v : Val). given (Good (elτ E) v) (‵ (fat full_share (elτ E) b (at * s + o) v)
+      ⊛ ‵ (E.row.own_val x (v ∷ []))))) (body_out 0 E.row E.laws 𝓛 x b (at * s + o)) $
+      pick ! (λ v. learn ! (λ good. split ! $ sets_last !
+      (of_opd ! (load ! (through ! refl (stop !)) (look ! 0 refl))) refl good $
       exec ! C Λ En (after 1 (function E).body) (at_ret En Post) $ sets ! (of_opd ! (get ! refl)) refl good $
       -- the storage with the room
-      use1 𝓛 (‵ (froom (elτ E) b (at * s + o))) (𝓛.laws.at_room (elτ E) b (at * s + o) v) $ as_raw ! (elτ E) b (at * s + o) $ move ! (0 ∷ 2 ∷ 3 ∷ 4 ∷ 5 ∷ 6 ∷ 7 ∷ []) $
+      use1 𝓛 (‵ (froom (elτ E) b (at * s + o))) (𝓛.laws.at_room (elτ E) b (at * s + o) v) $ as_raw !
+      (elτ E) b (at * s + o) $ move ! (0 ∷ 2 ∷ 3 ∷ 4 ∷ 5 ∷ 6 ∷ 7 ∷ []) $
       use2 𝓛 (‵ (slots (R E) b o new.slots)) (slot_in E 𝓛 b o storage.slots at within None) $
-      flt_i ! (length new.slots * s) (2 ^ 63) (subst (λ k. k * s < 2 ^ 63) (sym (length-set storage.slots at None)) small) $ fjoin ! $
-      rewrite ! 0 (λ (p : Ptr). ‵ (storage_owns (R E) p new.slots)) (sym e) refl $ move ! (1 ∷ 0 ∷ []) $ fjoin ! $ move ! (1 ∷ 0 ∷ []) $ closes ! tt (StorageOf E) new vs rb ro $
-      returns ! (look_at ! 0 refl) $ free_all ! refl $ keep ! (0 ∷ 1 ∷ 2 ∷ 3 ∷ []) $ by ! (exits passed x v new asked.1.1 (refl, refl))))))))
+      flt_i ! (length new.slots * s) (2 ^ 63) (subst (λ k. k * s < 2 ^ 63)
+      (sym (length-set storage.slots at None)) small) $ fjoin ! $
+      rewrite ! 0 (λ (p : Ptr). ‵ (storage_owns (R E) p new.slots)) (sym e) refl $ move ! (1 ∷ 0 ∷ []) $ fjoin ! $
+      move ! (1 ∷ 0 ∷ []) $ closes ! tt (StorageOf E) new vs rb ro $
+      returns ! (look_at ! 0 refl) $ free_all ! refl $ keep ! (0 ∷ 1 ∷ 2 ∷ 3 ∷ []) $ by !
+      (exits passed x v new asked.1.1 (refl, refl))))))))
 
-  entry : Asks E storage front at → ent 𝓤 (on_entry 𝓛 (ended E).signature (κ, tt) (q, tt) (self, (front, (at, tt))) (us0, (us1, (us2, tt)))) (WpFn 𝓤 H C Λ (function E) (us0 ++ (us1 ++ (us2 ++ []))) Post)
+  entry : Asks E storage front at → ent 𝓤 (on_entry 𝓛 (ended E).signature (κ, tt) (q, tt) (
+    self,
+    (front, (at, tt)),
+  ) (us0, (us1, (us2, tt)))) (WpFn 𝓤 H C Λ (function E) (us0 ++ (us1 ++ (us2 ++ []))) Post)
   entry asked =
-      qed 𝓛 ((‵ (flft κ q) ⊛ ‵ ftrue) ∷ ‵ (owns (MutRef (named 0) κ (StorageOf E) ∷ FrontOf E ∷ usize ∷ []) (self, (front, (at, tt))) (us0, (us1, (us2, tt)))) ∷ []) ∵
-      split ! $ move ! (2 ∷ []) $ fsplit ! $ fsplit3 ! $ feq_l ! (λ e0. move ! (2 ∷ []) $ fsplit ! $ pointer_had ! front.first us1 (λ e1. fsplit ! $ fsplit ! $ feq_l ! (λ e2. flt_l ! (λ fits.
+      qed 𝓛 ((‵ (flft κ q) ⊛ ‵ ftrue) ∷ ‵ (owns (MutRef (named 0) κ (StorageOf E) ∷ FrontOf E ∷ usize ∷ []) (
+        self,
+        (front, (at, tt)),
+      ) (us0, (us1, (us2, tt)))) ∷ []) ∵
+      split ! $ move ! (2 ∷ []) $ fsplit ! $ fsplit3 ! $ feq_l !
+      (λ e0. move ! (2 ∷ []) $ fsplit ! $ pointer_had !
+      front.first us1 (λ e1. fsplit ! $ fsplit ! $ feq_l ! (λ e2. flt_l ! (λ fits.
       keep ! (1 ∷ 2 ∷ 3 ∷ []) $
-      by ! (subst (λ (ws : List Val × List Val × List Val). ent 𝓤 (⋆ 𝓛 Had) (WpFn 𝓤 H C Λ (function E) (ws.0 ++ (ws.1 ++ (ws.2 ++ []))) Post)) (λ j. (sym e0 j, sym e1 j, sym e2 j)) (walk e0 asked fits))))))
+      by ! (subst (λ (ws : List Val × List Val × List Val). ent 𝓤 (⋆ 𝓛 Had)
+      (WpFn 𝓤 H C Λ (function E) (ws.0 ++ (ws.1 ++ (ws.2 ++ []))) Post)) (λ j. (sym e0 j, sym e1 j, sym e2 j))
+      (walk e0 asked fits))))))
 
-meets : (E : El) {M : Type 1} {𝓤 : Ura M} (𝓛 : Logic 𝓤) (𝓣 : Tables 𝓤 𝓛.H) → Meets 𝓛 (ended E).signature (WpFn 𝓤 𝓛.H 𝓣.C 𝓣.Λ (function E)) (closing 𝓛 (ended E) (spec E 𝓛))
+meets : (E : El) {M : Type 1} {𝓤 : Ura M} (𝓛 : Logic 𝓤) (𝓣 : Tables 𝓤 𝓛.H)
+    → Meets 𝓛 (ended E).signature (WpFn 𝓤 𝓛.H 𝓣.C 𝓣.Λ (function E)) (closing 𝓛 (ended E) (spec E 𝓛))
 meets E {𝓤 = 𝓤} 𝓛 𝓣 =
-    walk_Meets 𝓛 (ended E) (stayed E) (Goes-ref 𝓛 1 0 tt (plain (λ _. StorageOf E)), (Goes-dropped 𝓛 1 (plain (λ _. FrontOf E)) no (λ κs x f. refl), (Goes-dropped 𝓛 1 (plain (λ _. usize)) no (λ κs x f. refl), tt)))
+    walk_Meets 𝓛 (ended E) (stayed E) (
+      Goes-ref 𝓛 1 0 tt (plain (λ _. StorageOf E)),
+      (
+        Goes-dropped 𝓛 1 (plain (λ _. FrontOf E)) no (λ κs x f. refl),
+        (Goes-dropped 𝓛 1 (plain (λ _. usize)) no (λ κs x f. refl), tt),
+      ),
+    )
     (spec E 𝓛) (WpFn 𝓤 𝓛.H 𝓣.C 𝓣.Λ (function E)) (WpFn-mono 𝓤 𝓛.H 𝓛.laws 𝓣 (function E))
     (λ z. let a = z.0.3 in let vss = z.0.4 in needs 𝓤 (Asks E a.0.now a.1.0 a.1.1.0) _
-    (entry E 𝓛 𝓣.C 𝓣.Λ z.0.0.0 z.0.1.0 a.0.ref_ptr.0 a.0.ref_ptr.1 a.0.ghost_name a.0.now a.1.0 a.1.1.0 vss.0 vss.1.0 vss.1.1.0))
+    (entry E 𝓛 𝓣.C 𝓣.Λ z.0.0.0 z.0.1.0 a.0.ref_ptr.0 a.0.ref_ptr.1 a.0.ghost_name a.0.now a.1.0 a.1.1.0 vss.0 vss.1.0
+    vss.1.1.0))
 
 pub empty_spec : {M : Type 1} → stated.statement M
 unfolding tables_of
@@ -101,6 +161,10 @@ empty_spec 𝓤 𝓛 𝓜 𝓡 wired B L y =
     let E : El = record { row = B; laws = L } in
     let 𝓣 : Tables 𝓤 𝓛.H = tables_of 𝓤 𝓛.H 𝓜 (tables 𝓤 𝓛.H 𝓜 𝓡 𝓡.env) in
     let k = #self (args E) in
-    spared 𝓛 (ended E).signature (𝓡.run (𝓡.env k)) (run_framed 𝓤 𝓛.H 𝓜 𝓡 (𝓡.env k)) 1 (B.lives, tt) (closing 𝓛 (ended E) (spec E 𝓛))
-    (entered 𝓤 𝓛.H (triple_of 𝓛 (ended E).signature (closing 𝓛 (ended E) (spec E 𝓛))) 𝓣.C 𝓣.Λ k (function E) (code.unfolded 𝓤 𝓛.H 𝓜 𝓡 wired (B, tt)) (meets E 𝓛 𝓣))
+    spared 𝓛 (ended E).signature (𝓡.run (𝓡.env k)) (run_framed 𝓤 𝓛.H 𝓜 𝓡 (𝓡.env k)) 1 (
+      B.lives,
+      tt,
+    ) (closing 𝓛 (ended E) (spec E 𝓛))
+    (entered 𝓤 𝓛.H (triple_of 𝓛 (ended E).signature (closing 𝓛 (ended E) (spec E 𝓛))) 𝓣.C 𝓣.Λ k (function E)
+    (code.unfolded 𝓤 𝓛.H 𝓜 𝓡 wired (B, tt)) (meets E 𝓛 𝓣))
     ((y.0.0, y.0.1, tt, y.0.3, y.0.4), y.1)

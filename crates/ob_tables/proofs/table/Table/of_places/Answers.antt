@@ -12,6 +12,9 @@ loop-i-preserved c =
     let places = c.args.places.items in
     let lt : i < c.len-len.result = omega arith in
     let within : i < length places = omega arith in
-    one_more_place c.loop-i.free c.free_at.new.free (take i places) (at places i) i c.len-len.result lt (length-take-le i places (omega arith)) c.loop-i.invariant
-    (c.free_at.ensures ∙ ap (λ (s : List (Option Entry)). set c.loop-i.free i (is_some (at s i))) c.as_slice.ensures.value)
-    ∙ ap (λ (t : List (Option Entry)). map is_some t ++ replicate (c.len-len.result - (i + 1)) true) (sym (take_more places i None within))
+    one_more_place c.loop-i.free c.free_at.new.free (take i places) (at places i) i c.len-len.result lt
+    (length-take-le i places (omega arith)) c.loop-i.invariant
+    (c.free_at.ensures ∙ ap (λ (s : List (Option Entry)). set c.loop-i.free i (is_some (at s i)))
+    c.as_slice.ensures.value)
+    ∙ ap (λ (t : List (Option Entry)). map is_some t ++ replicate (c.len-len.result - (i + 1)) true)
+    (sym (take_more places i None within))

@@ -10,10 +10,14 @@ pub invariant_of-self : goal.invariant_of-self
 invariant_of-self c =
     let i = c.self.inside in
     let t = c.index_mut.result.now in
-    let lt : c.args.process < length i.tables.items = subst (λ (s : HandleTables). c.args.process < length s.tables) (sym c.self.view_is) c.requires in
-    let here : t ≡ table_of i.tables.items c.args.process = table_is i.tables.items c.args.process t lt c.index_mut.ensures.value in
+    let lt : c.args.process < length i.tables.items =
+    subst (λ (s : HandleTables). c.args.process < length s.tables) (sym c.self.view_is) c.requires in
+    let here : t ≡ table_of i.tables.items c.args.process =
+    table_is i.tables.items c.args.process t lt c.index_mut.ensures.value in
     let was : length t ≤ i.handles = omega (arith, ap length here, c.self.invariant.short c.args.process) in
-    let short : length c.place.new.self ≤ i.handles = omega (arith, ap length c.in-Ok.ensures.ok, length-with_entry t c.args.entry i.handles was c.in-Ok.ensures.room) in
+    let short : length c.place.new.self ≤ i.handles =
+    omega (arith, ap length c.in-Ok.ensures.ok, length-with_entry t c.args.entry i.handles was c.in-Ok.ensures.room)
+    in
     record {
       few_processes = c.self.invariant.few_processes;
       few_handles = c.self.invariant.few_handles;
@@ -26,9 +30,11 @@ pub returns-in-Ok-clause-room : goal.returns-in-Ok-clause-room
 returns-in-Ok-clause-room c =
     let i = c.self.inside in
     let t = c.index_mut.result.now in
-    let lt : c.args.process < length i.tables.items = subst (λ (s : HandleTables). c.args.process < length s.tables) (sym c.self.view_is) c.requires in
+    let lt : c.args.process < length i.tables.items =
+    subst (λ (s : HandleTables). c.args.process < length s.tables) (sym c.self.view_is) c.requires in
     subst (λ (s : HandleTables). entries_in (table_of s.tables c.args.process) < s.handle_limit) c.self.view_is
-    (room_at i.tables.items c.args.process i.handles t (free_place t) (record { each = c.self.invariant.short }) lt c.index_mut.ensures.value refl c.in-Ok.ensures.room)
+    (room_at i.tables.items c.args.process i.handles t (free_place t)
+    (record { each = c.self.invariant.short }) lt c.index_mut.ensures.value refl c.in-Ok.ensures.room)
 
 pub returns-in-Ok-clause-limit : goal.returns-in-Ok-clause-limit
 returns-in-Ok-clause-limit c =
@@ -39,20 +45,31 @@ pub returns-in-Err-clause-limit : goal.returns-in-Err-clause-limit
 returns-in-Err-clause-limit c =
     let i = c.self.inside in
     let t = c.index_mut.result.now in
-    let lt : c.args.process < length i.tables.items = subst (λ (s : HandleTables). c.args.process < length s.tables) (sym c.self.view_is) c.requires in
+    let lt : c.args.process < length i.tables.items =
+    subst (λ (s : HandleTables). c.args.process < length s.tables) (sym c.self.view_is) c.requires in
     elim c.in-Err.ensures.refusal [
       | inl limit ↦
-          let full : entries_in (table_of i.tables.items c.args.process) ≡ i.handles = full_at i.tables.items c.args.process i.handles t (free_place t) (record { each = c.self.invariant.short }) lt c.index_mut.ensures.value refl limit.1 in
-          (λ _. subst (λ (s : HandleTables). entries_in (table_of s.tables c.args.process) ≡ s.handle_limit) c.self.view_is full, λ _. ap Err limit.0)
+          let full : entries_in (table_of i.tables.items c.args.process) ≡ i.handles =
+          full_at i.tables.items c.args.process i.handles t (free_place t)
+          (record { each = c.self.invariant.short }) lt c.index_mut.ensures.value refl limit.1 in (
+            λ _. subst (λ (s : HandleTables). entries_in (table_of s.tables c.args.process)
+                ≡ s.handle_limit) c.self.view_is full,
+            λ _. ap Err limit.0,
+          )
       | inr memory ↦
-          let below : entries_in (table_of i.tables.items c.args.process) < i.handles = room_at i.tables.items c.args.process i.handles t (free_place t) (record { each = c.self.invariant.short }) lt c.index_mut.ensures.value refl memory.1 in
-          let room = subst (λ (s : HandleTables). entries_in (table_of s.tables c.args.process) < s.handle_limit) c.self.view_is below in
+          let below : entries_in (table_of i.tables.items c.args.process) < i.handles =
+          room_at i.tables.items c.args.process i.handles t (free_place t)
+          (record { each = c.self.invariant.short }) lt c.index_mut.ensures.value refl memory.1 in
+          let room = subst (λ (s : HandleTables). entries_in (table_of s.tables c.args.process)
+          < s.handle_limit) c.self.view_is below in
           let is_memory : c.in-Err.fault ≡ Memory = memory.0 in
           (λ same. cc, λ full. absurd (omega arith))
     ]
 
 pub returns-in-Ok-clause-bounded : goal.returns-in-Ok-clause-bounded
-returns-in-Ok-clause-bounded c = subst (λ (s : HandleTables). IsBounded s.process_limit s.handle_limit s.tables) c.self.view_is c.self.invariant
+returns-in-Ok-clause-bounded c = subst (λ (s : HandleTables). IsBounded s.process_limit s.handle_limit s.tables)
+    c.self.view_is c.self.invariant
 
 pub returns-in-Err-clause-bounded : goal.returns-in-Err-clause-bounded
-returns-in-Err-clause-bounded c = subst (λ (s : HandleTables). IsBounded s.process_limit s.handle_limit s.tables) c.self.view_is c.self.invariant
+returns-in-Err-clause-bounded c = subst (λ (s : HandleTables). IsBounded s.process_limit s.handle_limit s.tables)
+    c.self.view_is c.self.invariant

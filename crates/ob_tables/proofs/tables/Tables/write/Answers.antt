@@ -11,4 +11,8 @@ pub returns-clause-fits : goal.returns-clause-fits
 returns-clause-fits c =
     let i = c.self.inside in
     subst (λ (t : HandleTables). OnOk c.write_list.result (TablesFit t)) c.self.view_is
-    (on_ok_weaker c.write_list.result (λ fits. (subst (λ (ts : List (List (Option Entry))). ListFits TableFits ts) c.as_slice.ensures.value fits, bounded i.processes i.handles i.tables.items c.self.invariant)) c.write_list.ensures.fits)
+    (on_ok_weaker c.write_list.result (λ fits. (
+      subst
+          (λ (ts : List (List (Option Entry))). ListFits TableFits ts) c.as_slice.ensures.value fits,
+      bounded i.processes i.handles i.tables.items c.self.invariant,
+    )) c.write_list.ensures.fits)

@@ -6,4 +6,5 @@ use Rattle.pin_core.proofs.holders.Holders.copies.Goals as goal
 
 pub returns : goal.returns
 returns c = c.copies_in.ensures ∙ (ap (count_by (is_copy c.args.reader c.args.id)) c.as_slice.ensures.value
-    ∙ copies-held c.args.self.now c.args.reader c.args.id _ c.index.result.now c.self.view_is (inside_of _ _ _ c.self.view_is c.requires) c.self.invariant c.index.ensures)
+    ∙ copies-held c.args.self.now c.args.reader c.args.id _ c.index.result.now c.self.view_is
+    (inside_of _ _ _ c.self.view_is c.requires) c.self.invariant c.index.ensures)
