@@ -43,15 +43,18 @@ abbrev KeepsState : Limits → Result State Fault → Type 0
 KeepsState l (Ok s) = s.limits ≡ l
 KeepsState l (Err e) = Unit {0}
 
-then_keeps : {A : Type 0} (l : Limits) (r : Result A Fault) (f : A → Result Outcome Fault) → ((x : A) → Keeps l (f x)) → Keeps l (r >>= f)
+then_keeps : {A : Type 0} (l : Limits) (r : Result A Fault) (f : A → Result Outcome Fault) → ((x : A) → Keeps l (f x))
+    → Keeps l (r >>= f)
 then_keeps l (Ok x) f h = h x
 then_keeps l (Err e) f h = tt
 
-state_then : (l : Limits) (r : Result State Fault) (f : State → Result Outcome Fault) → KeepsState l r → ((s : State) → s.limits ≡ l → Keeps l (f s)) → Keeps l (r >>= f)
+state_then : (l : Limits) (r : Result State Fault) (f : State → Result Outcome Fault) → KeepsState l r
+    → ((s : State) → s.limits ≡ l → Keeps l (f s)) → Keeps l (r >>= f)
 state_then l (Ok s) f k h = h s k
 state_then l (Err e) f k h = tt
 
-then_state : {A : Type 0} (l : Limits) (r : Result A Fault) (f : A → Result State Fault) → ((x : A) → KeepsState l (f x)) → KeepsState l (r >>= f)
+then_state : {A : Type 0} (l : Limits) (r : Result A Fault) (f : A → Result State Fault)
+    → ((x : A) → KeepsState l (f x)) → KeepsState l (r >>= f)
 then_state l (Ok x) f h = h x
 then_state l (Err e) f h = tt
 
@@ -66,39 +69,48 @@ cond_limits false s t l h k = k
 -- threads that end
 threads_limits : (s : State) (p n : ℕ) → (threads_ended s p n).limits ≡ s.limits
 threads_limits s p zero = refl
-threads_limits s p (suc n) = cond_limits (is_of p (get_or (threads_ended s p n).threads n None)) (thread_ended (threads_ended s p n) n) (threads_ended s p n) s.limits (threads_limits s p n) (threads_limits s p n)
+threads_limits s p (suc n) = cond_limits (is_of p (get_or (threads_ended s p n).threads n None))
+    (thread_ended (threads_ended s p n) n) (threads_ended s p n) s.limits (threads_limits s p n) (threads_limits s p n)
 
 left_limits : (s : State) (p t : ℕ) → (left s p t).limits ≡ s.limits
-left_limits s p t = cond_limits (list_any (is_of p) (thread_ended s t).threads) (thread_ended s t) (process_ended (thread_ended s t) p) s.limits refl refl
+left_limits s p t = cond_limits (list_any (is_of p) (thread_ended s t).threads) (thread_ended s t)
+    (process_ended (thread_ended s t) p) s.limits refl refl
 
-object_keeps : (s : State) (p : ℕ) (m : Making) (new : New) (name : Option ObjectName) → Keeps s.limits (new_object s p m new name)
+object_keeps : (s : State) (p : ℕ) (m : Making) (new : New) (name : Option ObjectName)
+    → Keeps s.limits (new_object s p m new name)
 object_keeps s p m new name = search (then_keeps)
 
-handle_keeps : (s : State) (p : ℕ) (id : Id) (k : Kind) (asked : Rights) (inherit : Bool) → KeepsState s.limits (new_handle s p id k asked inherit)
+handle_keeps : (s : State) (p : ℕ) (id : Id) (k : Kind) (asked : Rights) (inherit : Bool)
+    → KeepsState s.limits (new_handle s p id k asked inherit)
 handle_keeps s p id k asked inherit = search (then_state)
 
-named_keeps : (s : State) (p : ℕ) (m : Making) (new : New) (name : ObjectName) (id : Option Id) → Keeps s.limits (named_object s p m new name id)
+named_keeps : (s : State) (p : ℕ) (m : Making) (new : New) (name : ObjectName) (id : Option Id)
+    → Keeps s.limits (named_object s p m new name id)
 named_keeps s p m new name None = object_keeps s p m new (Some name)
 named_keeps s p m new name (Some id) = state_then s.limits _ _ (handle_keeps s p id _ _ _) (λ after kept. kept)
 
-created_keeps : (s : State) (p : ℕ) (m : Making) (new : New) (name : Option ObjectName) → Keeps s.limits (created s p m new name)
+created_keeps : (s : State) (p : ℕ) (m : Making) (new : New) (name : Option ObjectName)
+    → Keeps s.limits (created s p m new name)
 created_keeps s p m new None = object_keeps s p m new None
 created_keeps s p m new (Some name) = named_keeps s p m new name (find_name name (directory_of s))
 
 create_keeps : (s : State) (t : ℕ) (m : Making) (what : Result New Fault) → Keeps s.limits (create s t m what)
 create_keeps s t m what = search (then_keeps, created_keeps)
 
-unsatisfied_keeps : (s : State) (t : ℕ) (mode : Mode) (timeout : Timeout) (ids : List Id) → Keeps s.limits (unsatisfied s t mode timeout ids)
+unsatisfied_keeps : (s : State) (t : ℕ) (mode : Mode) (timeout : Timeout) (ids : List Id)
+    → Keeps s.limits (unsatisfied s t mode timeout ids)
 unsatisfied_keeps s t mode timeout ids = by (is_zero timeout)
   where
     becomes : Keeps s.limits (pending s t mode (deadline_in s.clock timeout) ids)
     becomes = search (then_keeps)
 
-    by : (c : Bool) → Keeps s.limits (cond c (Ok (record { reply = reply.Code 258; state = s })) (pending s t mode (deadline_in s.clock timeout) ids))
+    by : (c : Bool) → Keeps s.limits (cond c (Ok (record { reply = reply.Code 258; state = s }))
+        (pending s t mode (deadline_in s.clock timeout) ids))
     by true = refl
     by false = becomes
 
-wait_keeps : (s : State) (t : ℕ) (mode : Mode) (timeout : Timeout) (ids : List Id) → Keeps s.limits (wait_on s t mode timeout ids)
+wait_keeps : (s : State) (t : ℕ) (mode : Mode) (timeout : Timeout) (ids : List Id)
+    → Keeps s.limits (wait_on s t mode timeout ids)
 wait_keeps s t mode timeout ids = search (then_keeps, either_keeps)
   where
     either_keeps : (b : Bool) → Keeps s.limits (cond b (satisfied s t mode ids) (unsatisfied s t mode timeout ids))
@@ -109,11 +121,13 @@ shown_limits : (s : State) (n : ℕ) (stands : WaitState) → (shown s n stands)
 shown_limits s n Pending = refl
 shown_limits s n (Answered code) = refl
 
-copied_keeps : (s : State) (e : Entry) (target : Option ℕ) (mask : Rights) (inherit : Bool) (options : ℕ) → Keeps s.limits (copied_to s e target mask inherit options)
+copied_keeps : (s : State) (e : Entry) (target : Option ℕ) (mask : Rights) (inherit : Bool) (options : ℕ)
+    → Keeps s.limits (copied_to s e target mask inherit options)
 copied_keeps s e None mask inherit options = refl
 copied_keeps s e (Some target) mask inherit options = search (then_keeps)
 
-closed_keeps : (c : Bool) (s : State) (source handle : ℕ) (r : Result Outcome Fault) → Keeps s.limits r → Keeps s.limits (cond c (Ok (without_source s source handle r)) (with_source r))
+closed_keeps : (c : Bool) (s : State) (source handle : ℕ) (r : Result Outcome Fault) → Keeps s.limits r
+    → Keeps s.limits (cond c (Ok (without_source s source handle r)) (with_source r))
 closed_keeps true s source handle (Ok o) h = h
 closed_keeps true s source handle (Err e) h = refl
 closed_keeps false s source handle (Ok o) h = h
@@ -124,7 +138,8 @@ reap_keeps s slot reclaim.Freed = search (then_keeps)
 reap_keeps s slot reclaim.Retired = search (then_keeps)
 reap_keeps s slot (reclaim.Held n) = search (then_keeps)
 
-child_limits : (s : State) (p session : ℕ) (inherit : Bool) → (cond inherit (with_child s p session) (with_process s session)).limits ≡ s.limits
+child_limits : (s : State) (p session : ℕ) (inherit : Bool)
+    → (cond inherit (with_child s p session) (with_process s session)).limits ≡ s.limits
 child_limits s p session true = refl
 child_limits s p session false = refl
 
@@ -138,8 +153,12 @@ outcome_keeps s (calls.MakeSemaphore t m initial max) reply = create_keeps s t m
 outcome_keeps s (calls.MakeTimer t m manual) reply = create_keeps s t m (Ok (new_timer manual))
 outcome_keeps s (calls.OpenNamed t k mask inherit text) reply = search (then_keeps, state_then, handle_keeps)
 outcome_keeps s (calls.Duplicate t source h target mask inherit options) reply =
-    then_keeps s.limits (caller s t) _ (λ p. then_keeps s.limits (or_refuse (get_or s.processes source None) fault.Parameter) _ (λ session. then_keeps s.limits (refuse_if (is_wrong options target) fault.Parameter) _ (λ tested.
-    then_keeps s.limits (found s source h) _ (λ e. then_keeps s.limits (refuse_if (is_stuck target e) fault.Handle) _ (λ free. closed_keeps (leaves options e) s source h (copied_to s e target mask inherit options) (copied_keeps s e target mask inherit options))))))
+    then_keeps s.limits (caller s t) _ (λ p. then_keeps s.limits
+    (or_refuse (get_or s.processes source None) fault.Parameter) _
+    (λ session. then_keeps s.limits (refuse_if (is_wrong options target) fault.Parameter) _ (λ tested.
+    then_keeps s.limits (found s source h) _ (λ e. then_keeps s.limits (refuse_if (is_stuck target e) fault.Handle) _
+    (λ free. closed_keeps (leaves options e) s source h (copied_to s e target mask inherit options)
+    (copied_keeps s e target mask inherit options))))))
 outcome_keeps s (calls.CloseHandle t h) reply = search (then_keeps)
 outcome_keeps s (calls.GetFlags t h) reply = search (then_keeps)
 outcome_keeps s (calls.SetFlags t h mask flags) reply = search (then_keeps)
@@ -162,8 +181,11 @@ final_limits : (s : State) (r : Result Outcome Fault) → Keeps s.limits r → (
 final_limits s (Ok o) h = h
 final_limits s (Err e) h = refl
 
-said_limits : (w v : Whole) (call : Call) (reply : Reply) → final w.state (outcome_of w.state call reply) ≡ record { reply = reply; state = v.state } → v.state.limits ≡ w.state.limits
-said_limits w v call reply is = sym (ap (λ (o : Outcome). o.state.limits) is) ∙ final_limits w.state (outcome_of w.state call reply) (outcome_keeps w.state call reply)
+said_limits : (w v : Whole) (call : Call) (reply : Reply)
+    → final w.state (outcome_of w.state call reply) ≡ record { reply = reply; state = v.state }
+    → v.state.limits ≡ w.state.limits
+said_limits w v call reply is = sym (ap (λ (o : Outcome). o.state.limits) is)
+    ∙ final_limits w.state (outcome_of w.state call reply) (outcome_keeps w.state call reply)
 
 pub step_limits : (w v : Whole) (call : Call) (reply : Reply) → Step w call reply v → v.state.limits ≡ w.state.limits
 step_limits w v call reply (does is keeps) = said_limits w v call reply is

@@ -35,11 +35,13 @@ base_known name e = by (eqb (length name.base) 0) (list_any is_backslash name.ba
 text_known : (text : List ℕ) (session : ℕ) (e : Fault) → Err e ≡ name_of text session → e ≢ fault.Memory
 text_known text session e = by (ltb 260 (length text)) (list_all is_printable text)
   where
-    by : (a b : Bool) → Err e ≡ cond a (Err fault.NameLong) (cond (not b) (Err fault.Parameter) (checked_base (split_name text session))) → e ≢ fault.Memory
+    by : (a b : Bool) → Err e ≡ cond a (Err fault.NameLong)
+        (cond (not b) (Err fault.Parameter) (checked_base (split_name text session))) → e ≢ fault.Memory
     by true b h same = absurd (cc)
     by false true h same = base_known (split_name text session) e h same
     by false false h same = absurd (cc)
 
-pub name_known : (r : Result NameRef Fault) (text : List ℕ) (session : ℕ) → parsed_name r ≡ name_of text session → IfErr r (λ e. e ≢ fault.Memory)
+pub name_known : (r : Result NameRef Fault) (text : List ℕ) (session : ℕ) → parsed_name r ≡ name_of text session
+    → IfErr r (λ e. e ≢ fault.Memory)
 name_known (Ok name) text session is = tt
 name_known (Err e) text session is = text_known text session e is

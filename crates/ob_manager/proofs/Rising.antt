@@ -13,7 +13,8 @@ both : (a b : Bool) → a && b ≡ true → (a ≡ true) × (b ≡ true)
 both true b h = (refl, h)
 both false b h = absurd (cc h)
 
-module _ {A : Type 0} (same : A → A → Bool) (place : A → ℕ) (one : (x y : A) → same x y ≡ true → place x ≡ place y) where
+module _ {A : Type 0} (same : A → A → Bool) (place : A → ℕ) (one : (x y : A) → same x y ≡ true
+    → place x ≡ place y) where
   -- what is below a list that rises isn't in it
   not_in : (x : A) (xs : List A) (last : ℕ) → place x ≤ last → rise place last xs ≡ true → list_any (same x) xs ≡ false
   not_in x [] last low up = refl
@@ -22,7 +23,8 @@ module _ {A : Type 0} (same : A → A → Bool) (place : A → ℕ) (one : (x y 
       let above : last < place y = grind (arith, nat_tests, is.0) in
       by (same x y) refl above (not_in x ys (place y) (omega (arith, low, above)) is.1)
     where
-      by : (b : Bool) → same x y ≡ b → last < place y → list_any (same x) ys ≡ false → list_any (same x) (y ∷ ys) ≡ false
+      by : (b : Bool) → same x y ≡ b → last < place y → list_any (same x) ys ≡ false
+          → list_any (same x) (y ∷ ys) ≡ false
       by true is above rest = absurd (let e = one x y is in omega (arith, e, above, low))
       by false is above rest = grind (arith, is, rest)
 

@@ -47,11 +47,13 @@ abbrev answers : Result Outcome Fault → Bool
 answers (Ok outcome) = is_lack outcome.reply
 answers (Err e) = is_memory e
 
-then_wants : {A B : Type 0} (r : Result A Fault) (f : A → Result B Fault) → wants r ≡ false → ((x : A) → wants (f x) ≡ false) → wants (r >>= f) ≡ false
+then_wants : {A B : Type 0} (r : Result A Fault) (f : A → Result B Fault) → wants r ≡ false
+    → ((x : A) → wants (f x) ≡ false) → wants (r >>= f) ≡ false
 then_wants (Ok x) f h k = k x
 then_wants (Err e) f h k = h
 
-andThen : {A : Type 0} (r : Result A Fault) (f : A → Result Outcome Fault) → wants r ≡ false → ((x : A) → answers (f x) ≡ false) → answers (r >>= f) ≡ false
+andThen : {A : Type 0} (r : Result A Fault) (f : A → Result Outcome Fault) → wants r ≡ false
+    → ((x : A) → answers (f x) ≡ false) → answers (r >>= f) ≡ false
 andThen (Ok x) f h k = k x
 andThen (Err e) f h k = h
 
@@ -108,7 +110,8 @@ base_wants name = by (eqb (length name.base) 0) (list_any is_backslash name.base
 text_wants : (text : List ℕ) (session : ℕ) → wants (name_of text session) ≡ false
 text_wants text session = by (ltb 260 (length text)) (list_all is_printable text)
   where
-    by : (a b : Bool) → wants (cond a (Err fault.NameLong) (cond (not b) (Err fault.Parameter) (checked_base (split_name text session)))) ≡ false
+    by : (a b : Bool) → wants (cond a (Err fault.NameLong)
+        (cond (not b) (Err fault.Parameter) (checked_base (split_name text session)))) ≡ false
     by true b = refl
     by false true = base_wants (split_name text session)
     by false false = refl
@@ -120,24 +123,29 @@ own_wants : (s : State) (p : ℕ) (name : Option (List ℕ)) → wants (own_name
 own_wants s p None = refl
 own_wants s p (Some text) = then_wants (name_in s p text) _ (name_wants s p text) (λ n. refl)
 
-handle_wants : (s : State) (p : ℕ) (id : Id) (k : Kind) (asked : Rights) (inherit : Bool) → wants (new_handle s p id k asked inherit) ≡ false
+handle_wants : (s : State) (p : ℕ) (id : Id) (k : Kind) (asked : Rights) (inherit : Bool)
+    → wants (new_handle s p id k asked inherit) ≡ false
 handle_wants s p id k asked inherit = search (then_wants, or_wants, refuse_wants)
 
 room_wants : (s : State) (p : ℕ) (m : Making) (k : Kind) → wants (room_for s p m k) ≡ false
 room_wants s p m k = search (then_wants, or_wants, refuse_wants)
 
-object_answers : (s : State) (p : ℕ) (m : Making) (new : New) (name : Option ObjectName) → answers (new_object s p m new name) ≡ false
+object_answers : (s : State) (p : ℕ) (m : Making) (new : New) (name : Option ObjectName)
+    → answers (new_object s p m new name) ≡ false
 object_answers s p m new name = search (andThen, room_wants)
 
-named_answers : (s : State) (p : ℕ) (m : Making) (new : New) (name : ObjectName) (id : Option Id) → answers (named_object s p m new name id) ≡ false
+named_answers : (s : State) (p : ℕ) (m : Making) (new : New) (name : ObjectName) (id : Option Id)
+    → answers (named_object s p m new name id) ≡ false
 named_answers s p m new name None = object_answers s p m new (Some name)
 named_answers s p m new name (Some id) = andThen (new_handle s p id _ _ _) _ (handle_wants s p id _ _ _) (λ after. refl)
 
-created_answers : (s : State) (p : ℕ) (m : Making) (new : New) (name : Option ObjectName) → answers (created s p m new name) ≡ false
+created_answers : (s : State) (p : ℕ) (m : Making) (new : New) (name : Option ObjectName)
+    → answers (created s p m new name) ≡ false
 created_answers s p m new None = object_answers s p m new None
 created_answers s p m new (Some name) = named_answers s p m new name (find_name name (directory_of s))
 
-create_answers : (s : State) (t : ℕ) (m : Making) (what : Result New Fault) → wants what ≡ false → answers (create s t m what) ≡ false
+create_answers : (s : State) (t : ℕ) (m : Making) (what : Result New Fault) → wants what ≡ false
+    → answers (create s t m what) ≡ false
 create_answers s t m what h = search (andThen, caller_wants, refuse_wants, own_wants, created_answers)
 
 counts_wants : (initial most : ℕ) → wants (semaphore_of initial most) ≡ false
@@ -157,22 +165,26 @@ ended_wants (Some o) (Some b) = refl
 
 all_wants : (s : State) (p : ℕ) (handles : List ℕ) → wants (all_found s p handles) ≡ false
 all_wants s p [] = refl
-all_wants s p (h ∷ hs) = then_wants (found s p h) _ (found_wants s p h) (λ e. then_wants (all_found s p hs) _ (all_wants s p hs) (λ es. refl))
+all_wants s p (h ∷ hs) = then_wants (found s p h) _ (found_wants s p h)
+    (λ e. then_wants (all_found s p hs) _ (all_wants s p hs) (λ es. refl))
 
 objects_wants : (s : State) (p : ℕ) (handles : List ℕ) → wants (objects_of s p handles) ≡ false
 objects_wants s p handles = search (then_wants, all_wants, refuse_wants)
 
-unsatisfied_answers : (s : State) (t : ℕ) (mode : Mode) (timeout : Timeout) (ids : List Id) → answers (unsatisfied s t mode timeout ids) ≡ false
+unsatisfied_answers : (s : State) (t : ℕ) (mode : Mode) (timeout : Timeout) (ids : List Id)
+    → answers (unsatisfied s t mode timeout ids) ≡ false
 unsatisfied_answers s t mode timeout ids = by (is_zero timeout)
   where
     becomes : answers (pending s t mode (deadline_in s.clock timeout) ids) ≡ false
     becomes = search (andThen, refuse_wants)
 
-    by : (c : Bool) → answers (cond c (Ok (record { reply = reply.Code 258; state = s })) (pending s t mode (deadline_in s.clock timeout) ids)) ≡ false
+    by : (c : Bool) → answers (cond c (Ok (record { reply = reply.Code 258; state = s }))
+        (pending s t mode (deadline_in s.clock timeout) ids)) ≡ false
     by true = refl
     by false = becomes
 
-wait_answers : (s : State) (t : ℕ) (mode : Mode) (timeout : Timeout) (ids : List Id) → answers (wait_on s t mode timeout ids) ≡ false
+wait_answers : (s : State) (t : ℕ) (mode : Mode) (timeout : Timeout) (ids : List Id)
+    → answers (wait_on s t mode timeout ids) ≡ false
 wait_answers s t mode timeout ids = search (andThen, refuse_wants, ready_answers)
   where
     ready_answers : (b : Bool) → answers (cond b (satisfied s t mode ids) (unsatisfied s t mode timeout ids)) ≡ false
@@ -198,14 +210,18 @@ rights_wants s e mask options = by (keeps_rights options)
     by true = refl
     by false = asked_wants e mask (get_or s.objects e.id.slot None)
 
-admitted_wants : (s : State) (e : Entry) (target : ℕ) (mask : Rights) (options : ℕ) → wants (admitted s e target mask options) ≡ false
+admitted_wants : (s : State) (e : Entry) (target : ℕ) (mask : Rights) (options : ℕ)
+    → wants (admitted s e target mask options) ≡ false
 admitted_wants s e target mask options = search (then_wants, or_wants, rights_wants, refuse_wants)
 
-copied_answers : (s : State) (e : Entry) (target : Option ℕ) (mask : Rights) (inherit : Bool) (options : ℕ) → answers (copied_to s e target mask inherit options) ≡ false
+copied_answers : (s : State) (e : Entry) (target : Option ℕ) (mask : Rights) (inherit : Bool) (options : ℕ)
+    → answers (copied_to s e target mask inherit options) ≡ false
 copied_answers s e None mask inherit options = refl
-copied_answers s e (Some target) mask inherit options = andThen (admitted s e target mask options) _ (admitted_wants s e target mask options) (λ rights. refl)
+copied_answers s e (Some target) mask inherit options =
+    andThen (admitted s e target mask options) _ (admitted_wants s e target mask options) (λ rights. refl)
 
-closed_answers : (c : Bool) (s : State) (source handle : ℕ) (r : Result Outcome Fault) → answers r ≡ false → answers (cond c (Ok (without_source s source handle r)) (with_source r)) ≡ false
+closed_answers : (c : Bool) (s : State) (source handle : ℕ) (r : Result Outcome Fault) → answers r ≡ false
+    → answers (cond c (Ok (without_source s source handle r)) (with_source r)) ≡ false
 closed_answers true s source handle (Ok o) h = h
 closed_answers true s source handle (Err e) h = h
 closed_answers false s source handle (Ok o) h = h
@@ -217,24 +233,32 @@ outcome_answers s (calls.Child t inherit) reply = search (andThen, caller_wants,
 outcome_answers s (calls.StartThread process) reply = search (andThen, or_wants, refuse_wants)
 outcome_answers s (calls.MakeEvent t m manual set) reply = create_answers s t m (Ok (new_event manual set)) refl
 outcome_answers s (calls.MakeMutex t m owned) reply = create_answers s t m (Ok (new_mutex t owned)) refl
-outcome_answers s (calls.MakeSemaphore t m initial max) reply = create_answers s t m (new_semaphore initial max) (semaphore_wants initial max)
+outcome_answers s (calls.MakeSemaphore t m initial max) reply =
+    create_answers s t m (new_semaphore initial max) (semaphore_wants initial max)
 outcome_answers s (calls.MakeTimer t m manual) reply = create_answers s t m (Ok (new_timer manual)) refl
-outcome_answers s (calls.OpenNamed t k mask inherit text) reply = search (andThen, caller_wants, name_wants, or_wants, handle_wants)
+outcome_answers s (calls.OpenNamed t k mask inherit text) reply =
+    search (andThen, caller_wants, name_wants, or_wants, handle_wants)
 outcome_answers s (calls.Duplicate t source h target mask inherit options) reply =
-    andThen (caller s t) _ (caller_wants s t) (λ p. andThen (or_refuse (get_or s.processes source None) fault.Parameter) _ (or_wants _ fault.Parameter refl) (λ session.
-    andThen (refuse_if (is_wrong options target) fault.Parameter) _ (refuse_wants _ fault.Parameter refl) (λ tested. andThen (found s source h) _ (found_wants s source h) (λ e.
-    andThen (refuse_if (is_stuck target e) fault.Handle) _ (refuse_wants _ fault.Handle refl) (λ free. closed_answers (leaves options e) s source h (copied_to s e target mask inherit options) (copied_answers s e target mask inherit options))))))
+    andThen (caller s t) _ (caller_wants s t) (λ p. andThen
+    (or_refuse (get_or s.processes source None) fault.Parameter) _ (or_wants _ fault.Parameter refl) (λ session.
+    andThen (refuse_if (is_wrong options target) fault.Parameter) _ (refuse_wants _ fault.Parameter refl)
+    (λ tested. andThen (found s source h) _ (found_wants s source h) (λ e.
+    andThen (refuse_if (is_stuck target e) fault.Handle) _ (refuse_wants _ fault.Handle refl)
+    (λ free. closed_answers (leaves options e) s source h (copied_to s e target mask inherit options)
+    (copied_answers s e target mask inherit options))))))
 outcome_answers s (calls.CloseHandle t h) reply = search (andThen, caller_wants, found_wants, refuse_wants)
 outcome_answers s (calls.GetFlags t h) reply = search (andThen, caller_wants, found_wants)
 outcome_answers s (calls.SetFlags t h mask flags) reply = search (andThen, caller_wants, refuse_wants, found_wants)
 outcome_answers s (calls.SetEvent t h) reply = search (andThen, caller_wants, found_wants, kind_wants, refuse_wants)
 outcome_answers s (calls.ResetEvent t h) reply = search (andThen, caller_wants, found_wants, kind_wants, refuse_wants)
-outcome_answers s (calls.ReleaseSemaphore t h count) reply = search (andThen, caller_wants, or_wants, found_wants, kind_wants, refuse_wants, post_wants) depth 8
+outcome_answers s (calls.ReleaseSemaphore t h count) reply =
+    search (andThen, caller_wants, or_wants, found_wants, kind_wants, refuse_wants, post_wants) depth 8
 outcome_answers s (calls.ReleaseMutex t h) reply = search (andThen, caller_wants, found_wants, kind_wants, unlock_wants)
 outcome_answers s (calls.SetTimer t h due) reply = search (andThen, caller_wants, found_wants, kind_wants, refuse_wants)
 outcome_answers s (calls.CancelTimer t h) reply = search (andThen, caller_wants, found_wants, kind_wants, refuse_wants)
 outcome_answers s (calls.Tick now) reply = search (andThen, refuse_wants)
-outcome_answers s (calls.WaitFor t mode timeout handles) reply = search (andThen, caller_wants, refuse_wants, objects_wants, wait_answers)
+outcome_answers s (calls.WaitFor t mode timeout handles) reply =
+    search (andThen, caller_wants, refuse_wants, objects_wants, wait_answers)
 outcome_answers s (calls.WaitResult n) reply = search (andThen, or_wants, shown_answers)
 outcome_answers s (calls.Expire n) reply = search (andThen, refuse_wants)
 outcome_answers s (calls.EndThread t) reply = search (andThen, or_wants)
@@ -247,13 +271,18 @@ final_answers s (Ok o) = refl
 final_answers s (Err e) = refl
 
 -- the state that a call comes to
-said_next : (w v : Whole) (call : Call) (reply : Reply) → final w.state (outcome_of w.state call reply) ≡ record { reply = reply; state = v.state } → v.state ≡ next w.state call reply
+said_next : (w v : Whole) (call : Call) (reply : Reply)
+    → final w.state (outcome_of w.state call reply) ≡ record { reply = reply; state = v.state }
+    → v.state ≡ next w.state call reply
 said_next w v call reply is =
-    let silent : is_lack reply ≡ false = sym (ap (λ (o : Outcome). is_lack o.reply) is) ∙ final_answers w.state (outcome_of w.state call reply) ∙ outcome_answers w.state call reply in
-    sym (ap (λ (o : Outcome). o.state) is) ∙ ap (λ b. cond b w.state (final w.state (outcome_of w.state call reply)).state) (sym silent)
+    let silent : is_lack reply ≡ false = sym (ap (λ (o : Outcome). is_lack o.reply) is)
+    ∙ final_answers w.state (outcome_of w.state call reply) ∙ outcome_answers w.state call reply in
+    sym (ap (λ (o : Outcome). o.state) is) ∙ ap (λ b. cond b w.state
+    (final w.state (outcome_of w.state call reply)).state) (sym silent)
 
 pub step_next : (w v : Whole) (call : Call) (reply : Reply) → Step w call reply v → v.state ≡ next w.state call reply
 step_next w v call reply (does is keeps) = said_next w v call reply is
 step_next w v call reply (closes duplicates is keeps) = said_next w v call reply (ap (final w.state) is)
 step_next w v call reply (lacks takes ok refused same) =
-    ap (λ (x : Whole). x.state) same ∙ ap (λ (r : Reply). cond (is_lack r) w.state (final w.state (outcome_of w.state call reply)).state) (sym refused)
+    ap (λ (x : Whole). x.state) same ∙ ap (λ (r : Reply). cond (is_lack r) w.state
+    (final w.state (outcome_of w.state call reply)).state) (sym refused)

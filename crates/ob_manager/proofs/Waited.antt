@@ -26,30 +26,40 @@ use Rattle.ob_manager.specs.Waiting.{all_found, has_twice, id_of, is_for_one_twi
 -- the objects of handles one by one, after those that were collected
 abbrev pub objects_from : State → ℕ → List Id → Bool → List ℕ → Result (List Id) Fault
 objects_from s p ids lacks [] = cond lacks (Err fault.Access) (Ok ids)
-objects_from s p ids lacks (h ∷ hs) = found s p h >>= λ e. objects_from s p (ids ++ e.id ∷ []) (lacks || lacks_synchronize e) hs
+objects_from s p ids lacks (h ∷ hs) = found s p h >>= λ e. objects_from s p (ids ++ e.id ∷ []) (lacks
+    || lacks_synchronize e) hs
 
 module _ (s : State) (p : ℕ) where
   -- the rest of a collection, where the entries that are left are known
   abbrev pub rest_of : List Id → Bool → Result (List Entry) Fault → Result (List Id) Fault
   rest_of ids lacks (Err e) = Err e
-  rest_of ids lacks (Ok es) = cond (lacks || list_any lacks_synchronize es) (Err fault.Access) (Ok (ids ++ map id_of es))
+  rest_of ids lacks (Ok es) = cond (lacks || list_any lacks_synchronize es) (Err fault.Access)
+      (Ok (ids ++ map id_of es))
 
-  rest_more : (ids : List Id) (lacks : Bool) (e : Entry) (r : Result (List Entry) Fault) → rest_of (ids ++ e.id ∷ []) (lacks || lacks_synchronize e) r ≡ rest_of ids lacks (r >>= λ es. Ok (e ∷ es))
+  rest_more : (ids : List Id) (lacks : Bool) (e : Entry) (r : Result (List Entry) Fault)
+      → rest_of (ids ++ e.id ∷ []) (lacks || lacks_synchronize e) r ≡ rest_of ids lacks (r >>= λ es. Ok (e ∷ es))
   rest_more ids lacks e (Err x) = refl
   rest_more ids lacks e (Ok es) =
-      let tests : (lacks || lacks_synchronize e) || list_any lacks_synchronize es ≡ lacks || list_any lacks_synchronize (e ∷ es) = or_assoc lacks (lacks_synchronize e) (list_any lacks_synchronize es) in
+      let tests : (lacks || lacks_synchronize e) || list_any lacks_synchronize es ≡ lacks
+      || list_any lacks_synchronize (e ∷ es) = or_assoc lacks (lacks_synchronize e) (list_any lacks_synchronize es)
+      in
       λ i. cond (tests i) (Err fault.Access) (Ok (append_assoc ids (e.id ∷ []) (map id_of es) i))
     where
       or_assoc : (a b c : Bool) → (a || b) || c ≡ a || (b || c)
       or_assoc true b c = refl
       or_assoc false b c = refl
 
-  from_rest : (hs : List ℕ) (ids : List Id) (lacks : Bool) → objects_from s p ids lacks hs ≡ rest_of ids lacks (all_found s p hs)
+  from_rest : (hs : List ℕ) (ids : List Id) (lacks : Bool)
+      → objects_from s p ids lacks hs ≡ rest_of ids lacks (all_found s p hs)
   from_rest [] ids true = refl
   from_rest [] ids false = ap Ok (sym (append-nil ids))
   from_rest (h ∷ hs) ids lacks = by (found s p h) (λ e. from_rest hs (ids ++ e.id ∷ []) (lacks || lacks_synchronize e))
     where
-      by : (r : Result Entry Fault) → ((e : Entry) → objects_from s p (ids ++ e.id ∷ []) (lacks || lacks_synchronize e) hs ≡ rest_of (ids ++ e.id ∷ []) (lacks || lacks_synchronize e) (all_found s p hs)) → (r >>= λ e. objects_from s p (ids ++ e.id ∷ []) (lacks || lacks_synchronize e) hs) ≡ rest_of ids lacks (r >>= λ e. all_found s p hs >>= λ es. Ok (e ∷ es))
+      by : (r : Result Entry Fault) → ((e : Entry)
+          → objects_from s p (ids ++ e.id ∷ []) (lacks || lacks_synchronize e) hs
+          ≡ rest_of (ids ++ e.id ∷ []) (lacks || lacks_synchronize e) (all_found s p hs))
+          → (r >>= λ e. objects_from s p (ids ++ e.id ∷ []) (lacks || lacks_synchronize e) hs)
+          ≡ rest_of ids lacks (r >>= λ e. all_found s p hs >>= λ es. Ok (e ∷ es))
       by (Err x) more = refl
       by (Ok e) more = more e ∙ rest_more ids lacks e (all_found s p hs)
 
@@ -57,11 +67,13 @@ module _ (s : State) (p : ℕ) where
   pub from_start : (hs : List ℕ) → objects_from s p [] false hs ≡ objects_of s p hs
   from_start hs = from_rest hs [] false ∙ by (all_found s p hs)
     where
-      tested : (b : Bool) (ids : List Id) → cond b (Err fault.Access) (Ok ids) ≡ (refuse_if b fault.Access >>= λ _. Ok ids)
+      tested : (b : Bool) (ids : List Id) → cond b (Err fault.Access) (Ok ids)
+          ≡ (refuse_if b fault.Access >>= λ _. Ok ids)
       tested true ids = refl
       tested false ids = refl
 
-      by : (r : Result (List Entry) Fault) → rest_of [] false r ≡ (r >>= λ es. refuse_if (list_any lacks_synchronize es) fault.Access >>= λ _. Ok (map id_of es))
+      by : (r : Result (List Entry) Fault) → rest_of [] false r
+          ≡ (r >>= λ es. refuse_if (list_any lacks_synchronize es) fault.Access >>= λ _. Ok (map id_of es))
       by (Err x) = refl
       by (Ok es) = tested (list_any lacks_synchronize es) (map id_of es)
 
@@ -70,10 +82,17 @@ module _ (s : State) (p : ℕ) where
     pub many : length ids ≡ length hs
     pub there : (i : ℕ) → i < length ids → 0 < handles_of s (get_or ids i nowhere)
 
-  entered_one : (h : ℕ) (hs : List ℕ) (e : Entry) (ids : List Id) → found s p h ≡ Ok e → AreEntered hs ids → AreEntered (h ∷ hs) (e.id ∷ ids)
+  entered_one : (h : ℕ) (hs : List ℕ) (e : Entry) (ids : List Id) → found s p h ≡ Ok e → AreEntered hs ids
+      → AreEntered (h ∷ hs) (e.id ∷ ids)
   entered_one h hs e ids is more = record {
     many = (let x = more.many in omega (arith, x));
-    there = λ i. elim i as (λ i. i < length (e.id ∷ ids) → 0 < handles_of s (get_or (e.id ∷ ids) i nowhere)) [ zero ↦ λ lt. found_counts s.tables p h e (entry (entry_at (table_of s.tables p) h) is) | suc i ↦ λ lt. more.there i (omega arith) ];
+    there = λ i. elim i as (λ i. i < length (e.id ∷ ids)
+        → 0 < handles_of s (get_or (e.id ∷ ids) i nowhere)) [
+          | zero ↦
+              λ lt. found_counts s.tables p h e (entry (entry_at (table_of s.tables p) h) is)
+          | suc i ↦
+              λ lt. more.there i (omega arith)
+        ];
   }
     where
       entry : (x : Option Entry) → or_refuse x fault.Handle ≡ Ok e → x ≡ Some e
@@ -81,18 +100,24 @@ module _ (s : State) (p : ℕ) where
       entry (Some y) is = cc
 
   all_entered : (hs : List ℕ) (es : List Entry) → all_found s p hs ≡ Ok es → AreEntered hs (map id_of es)
-  all_entered [] es is = subst (λ (xs : List Entry). AreEntered [] (map id_of xs)) (same is) (record { many = refl; there = λ i lt. absurd (omega (arith, lt)) })
+  all_entered [] es is = subst (λ (xs : List Entry). AreEntered [] (map id_of xs)) (same is) (record {
+    many = refl;
+    there = λ i lt. absurd (omega (arith, lt));
+  })
     where
       same : ◌≡◌ {A = Result (List Entry) Fault} (Ok []) (Ok es) → [] ≡ es
       same h = cc
   all_entered (h ∷ hs) es is = by (found s p h) refl (all_found s p hs) (λ xs rest. all_entered hs xs rest) refl is
     where
-      by : (r : Result Entry Fault) → found s p h ≡ r → (q : Result (List Entry) Fault) → ((xs : List Entry) → all_found s p hs ≡ Ok xs → AreEntered hs (map id_of xs)) → all_found s p hs ≡ q → (r >>= λ e. q >>= λ xs. Ok (e ∷ xs)) ≡ Ok es → AreEntered (h ∷ hs) (map id_of es)
+      by : (r : Result Entry Fault) → found s p h ≡ r → (q : Result (List Entry) Fault)
+          → ((xs : List Entry) → all_found s p hs ≡ Ok xs → AreEntered hs (map id_of xs)) → all_found s p hs ≡ q
+          → (r >>= λ e. q >>= λ xs. Ok (e ∷ xs)) ≡ Ok es → AreEntered (h ∷ hs) (map id_of es)
       by (Err x) one q more rest is = absurd (cc)
       by (Ok e) one (Err x) more rest is = absurd (cc)
       by (Ok e) one (Ok xs) more rest is =
           let same : e ∷ xs ≡ es = cc in
-          subst (λ (ys : List Entry). AreEntered (h ∷ hs) (map id_of ys)) same (entered_one h hs e (map id_of xs) one (more xs rest))
+          subst (λ (ys : List Entry). AreEntered (h ∷ hs) (map id_of ys)) same
+          (entered_one h hs e (map id_of xs) one (more xs rest))
 
   pub entered : (hs : List ℕ) (ids : List Id) → Ok ids ≡ objects_of s p hs → AreEntered hs ids
   entered hs ids is = by (all_found s p hs) refl is
@@ -101,21 +126,33 @@ module _ (s : State) (p : ℕ) where
       tested true xs is = absurd (cc)
       tested false xs is = cc
 
-      by : (r : Result (List Entry) Fault) → all_found s p hs ≡ r → Ok ids ≡ (r >>= λ es. refuse_if (list_any lacks_synchronize es) fault.Access >>= λ _. Ok (map id_of es)) → AreEntered hs ids
+      by : (r : Result (List Entry) Fault) → all_found s p hs ≡ r
+          → Ok ids ≡ (r >>= λ es. refuse_if (list_any lacks_synchronize es) fault.Access >>= λ _. Ok (map id_of es))
+          → AreEntered hs ids
       by (Err x) one is = absurd (cc)
-      by (Ok es) one is = subst (AreEntered hs) (tested (list_any lacks_synchronize es) (map id_of es) is) (all_entered hs es one)
+      by (Ok es) one is = subst (AreEntered hs) (tested (list_any lacks_synchronize es) (map id_of es) is)
+          (all_entered hs es one)
 
   -- as once all handles have been gone over
-  pub all_collected : (hs : List ℕ) (ids : List Id) (lacks : Bool) (i : ℕ) → length hs ≤ i → lacks ≡ false → objects_from s p ids lacks (drop i hs) ≡ objects_of s p hs → AreEntered hs ids
+  pub all_collected : (hs : List ℕ) (ids : List Id) (lacks : Bool) (i : ℕ) → length hs ≤ i → lacks ≡ false
+      → objects_from s p ids lacks (drop i hs) ≡ objects_of s p hs → AreEntered hs ids
   all_collected hs ids lacks i all none is =
-      entered hs ids (ap (λ (b : Bool). objects_from s p ids b []) (sym none) ∙ ap (objects_from s p ids lacks) (sym (drop_all i hs all)) ∙ is)
+      entered hs ids (ap (λ (b : Bool). objects_from s p ids b []) (sym none)
+      ∙ ap (objects_from s p ids lacks) (sym (drop_all i hs all)) ∙ is)
 
 -- the object of one handle
-pub single_there : (s : State) (p h : ℕ) (e : Entry) → entry_at (table_of s.tables p) h ≡ Some e → (i : ℕ) → i < length (e.id ∷ []) → 0 < handles_of s (get_or (e.id ∷ []) i nowhere)
-single_there s p h e is i lt = elim i as (λ i. i < length (e.id ∷ []) → 0 < handles_of s (get_or (e.id ∷ []) i nowhere)) [ zero ↦ λ lt. found_counts s.tables p h e is | suc i ↦ λ lt. absurd (omega (arith, lt)) ] lt
+pub single_there : (s : State) (p h : ℕ) (e : Entry) → entry_at (table_of s.tables p) h ≡ Some e → (i : ℕ)
+    → i < length (e.id ∷ []) → 0 < handles_of s (get_or (e.id ∷ []) i nowhere)
+single_there s p h e is i lt = elim i as (λ i. i < length (e.id ∷ [])
+    → 0 < handles_of s (get_or (e.id ∷ []) i nowhere)) [
+      | zero ↦ λ lt. found_counts s.tables p h e is
+      | suc i ↦
+          λ lt. absurd (omega (arith, lt))
+    ] lt
 
 -- objects of which none stands twice
-twice_not : (x : Id) (xs : List Id) → list_any (same_id x) xs ≡ false → (i : ℕ) → i < length xs → same_id x (get_or xs i nowhere) ≡ false
+twice_not : (x : Id) (xs : List Id) → list_any (same_id x) xs ≡ false → (i : ℕ) → i < length xs
+    → same_id x (get_or xs i nowhere) ≡ false
 twice_not x xs none i lt = by (same_id x (get_or xs i nowhere)) refl
   where
     by : (b : Bool) → same_id x (get_or xs i nowhere) ≡ b → same_id x (get_or xs i nowhere) ≡ false
@@ -126,25 +163,37 @@ or_none : (a b : Bool) → a || b ≡ false → (a ≡ false) × (b ≡ false)
 or_none true b h = absurd (cc)
 or_none false b h = (refl, h)
 
-apart : (ids : List Id) → has_twice same_id ids ≡ false → (i j : ℕ) → i < j → j < length ids → same_id (get_or ids i nowhere) (get_or ids j nowhere) ≡ false
+apart : (ids : List Id) → has_twice same_id ids ≡ false → (i j : ℕ) → i < j → j < length ids
+    → same_id (get_or ids i nowhere) (get_or ids j nowhere) ≡ false
 apart [] none i j lt in' = absurd (omega (arith, in'))
 apart (x ∷ xs) none zero zero lt in' = absurd (omega (arith, lt))
-apart (x ∷ xs) none zero (suc j) lt in' = twice_not x xs (or_none (list_any (same_id x) xs) (has_twice same_id xs) none).0 j (omega (arith, in'))
+apart (x ∷ xs) none zero (suc j) lt in' = twice_not x xs
+    (or_none (list_any (same_id x) xs) (has_twice same_id xs) none).0 j (omega (arith, in'))
 apart (x ∷ xs) none (suc i) zero lt in' = absurd (omega (arith, lt))
-apart (x ∷ xs) none (suc i) (suc j) lt in' = apart xs (or_none (list_any (same_id x) xs) (has_twice same_id xs) none).1 i j (omega (arith, lt)) (omega (arith, in'))
+apart (x ∷ xs) none (suc i) (suc j) lt in' = apart xs
+    (or_none (list_any (same_id x) xs) (has_twice same_id xs) none).1 i j (omega (arith, lt)) (omega (arith, in'))
 
 -- are in slots of their own
-slots_apart : (s : State) (ids : List Id) → IsNamed s.objects s.tables s.waits → ((i : ℕ) → i < length ids → 0 < handles_of s (get_or ids i nowhere)) → has_twice same_id ids ≡ false → IsDistinct ids
+slots_apart : (s : State) (ids : List Id) → IsNamed s.objects s.tables s.waits
+    → ((i : ℕ) → i < length ids → 0 < handles_of s (get_or ids i nowhere)) → has_twice same_id ids ≡ false
+    → IsDistinct ids
 slots_apart s ids named there none = record {
   apart = λ i j lt in' same.
       let a = get_or ids i nowhere in
       let b = get_or ids j nowhere in
-      let one : a ≡ b = one_there s.objects a b (named.entries a (there i (omega (arith, lt, in')))) (named.entries b (there j in')) same in
+      let one : a ≡ b = one_there s.objects a b (named.entries a (there i (omega (arith, lt, in'))))
+      (named.entries b (there j in')) same in
       let no = apart ids none i j lt in' in
       let yes : same_id a b ≡ true = subst (λ (x : Id). same_id a x ≡ true) one (same_id-same a) in
       cc (no, yes);
 }
 
-pub waitable : (s : State) (mode : Mode) (ids : List Id) → IsNamed s.objects s.tables s.waits → ((i : ℕ) → i < length ids → 0 < handles_of s (get_or ids i nowhere)) → 0 < length ids → length ids ≤ 64 → is_for_one_twice mode ids ≡ false → IsWaitable mode ids
+pub waitable : (s : State) (mode : Mode) (ids : List Id) → IsNamed s.objects s.tables s.waits
+    → ((i : ℕ) → i < length ids → 0 < handles_of s (get_or ids i nowhere)) → 0 < length ids → length ids ≤ 64
+    → is_for_one_twice mode ids ≡ false → IsWaitable mode ids
 waitable s Any ids named there some few none = record { some = some; few = few; once = λ e. absurd (cc) }
-waitable s All ids named there some few none = record { some = some; few = few; once = λ e. slots_apart s ids named there none }
+waitable s All ids named there some few none = record {
+  some = some;
+  few = few;
+  once = λ e. slots_apart s ids named there none;
+}

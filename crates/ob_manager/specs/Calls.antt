@@ -31,7 +31,8 @@ with_parts f g h (calls.MakeMutex thread make owned) = calls.MakeMutex thread (f
 with_parts f g h (calls.MakeSemaphore thread make initial max) = calls.MakeSemaphore thread (f make) initial max
 with_parts f g h (calls.MakeTimer thread make manual) = calls.MakeTimer thread (f make) manual
 with_parts f g h (calls.OpenNamed thread kind mask inherit text) = calls.OpenNamed thread kind mask inherit (g text)
-with_parts f g h (calls.Duplicate thread source handle target mask inherit options) = calls.Duplicate thread source handle target mask inherit options
+with_parts f g h (calls.Duplicate thread source handle target mask inherit options) =
+    calls.Duplicate thread source handle target mask inherit options
 with_parts f g h (calls.CloseHandle thread handle) = calls.CloseHandle thread handle
 with_parts f g h (calls.GetFlags thread handle) = calls.GetFlags thread handle
 with_parts f g h (calls.SetFlags thread handle mask flags) = calls.SetFlags thread handle mask flags

@@ -33,7 +33,8 @@ asked_rights entry mask None = Err fault.Handle
 asked_rights entry mask (Some o) = if within mask.0 (bit_or entry.rights.0 o.grant.0) then Ok mask else Err fault.Access
 
 abbrev pub copy_rights : State → Entry → Rights → ℕ → Result Rights Fault
-copy_rights s entry mask options = if keeps_rights options then Ok entry.rights else asked_rights entry mask (slice_index_or s.objects entry.id.slot None)
+copy_rights s entry mask options = if keeps_rights options then Ok entry.rights else asked_rights entry mask
+    (slice_index_or s.objects entry.id.slot None)
 
 -- the rights of a copy in a target: 87 where that isn't live, 5 by the rights, 1450 where it has all its handles
 abbrev pub admitted : State → Entry → ℕ → Rights → ℕ → Result Rights Fault
@@ -46,7 +47,10 @@ admitted s entry target mask options = do
 abbrev pub copied : State → Entry → ℕ → Rights → Bool → ℕ → Result Outcome Fault
 copied s entry target mask inherit options = do
   rights ← admitted s entry target mask options
-  Ok (record { reply = Duplicated (next_handle s target) entry.id; state = with_entry s target (entry_of entry.id rights inherit) })
+  Ok (record {
+    reply = Duplicated (next_handle s target) entry.id;
+    state = with_entry s target (entry_of entry.id rights inherit);
+  })
 
 -- without a target there is none
 abbrev pub copied_to : State → Entry → Option ℕ → Rights → Bool → ℕ → Result Outcome Fault
@@ -55,7 +59,10 @@ copied_to s entry (Some target) mask inherit options = copied s entry target mas
 
 -- the source leaves after the copy came, and also where the copy was refused
 abbrev pub without_source : State → ℕ → ℕ → Result Outcome Fault → Outcome
-without_source s source handle (Ok o) = record { reply = o.reply; state = settled (without_entry o.state source handle) }
+without_source s source handle (Ok o) = record {
+  reply = o.reply;
+  state = settled (without_entry o.state source handle);
+}
 without_source s source handle (Err e) = record { reply = Refused e; state = settled (without_entry s source handle) }
 
 abbrev pub with_source : Result Outcome Fault → Result Outcome Fault
@@ -79,7 +86,8 @@ duplicate s thread source handle target mask inherit options = do
   _ ← refuse_if (is_wrong options target) fault.Parameter
   entry ← found s source handle
   _ ← refuse_if (is_stuck target entry) fault.Handle
-  if leaves options entry then Ok (without_source s source handle (copied_to s entry target mask inherit options)) else with_source (copied_to s entry target mask inherit options)
+  if leaves options entry then Ok (without_source s source handle (copied_to s entry target mask inherit options)) else
+      with_source (copied_to s entry target mask inherit options)
 
 -- whether it comes to a copy
 abbrev pub is_duplicated : Reply → Bool

@@ -43,7 +43,8 @@ entry_of id rights inherit = record { id = id; rights = rights; flags = flags_of
 abbrev pub next_handle : State → ℕ → ℕ
 next_handle s process = value_of (free_place (table_of s.tables process))
 
--- whether one more handle of a process takes a new place of its table: where a value was given back, that one is given again
+-- whether one more handle of a process takes a new place of its table: where a value was given back, that one is given
+-- again
 abbrev pub takes_place : State → Option ℕ → Bool
 takes_place s None = false
 takes_place s (Some process) = is_packed (table_of s.tables process)
@@ -60,7 +61,8 @@ own_name s process (Some text) = do
   name ← name_in s process text
   Ok (Some name)
 
--- the slot of a new object, the least that may have one: 5 for a right outside all rights of its kind, 1450 where the process
+-- the slot of a new object, the least that may have one: 5 for a right outside all rights of its kind, 1450 where the
+-- process
 -- has all its handles or no slot is vacant
 abbrev pub room_for : State → ℕ → Making → Kind → Result ℕ Fault
 room_for s process making kind = do
@@ -74,7 +76,10 @@ new_object s process making new name = do
   slot ← room_for s process making new.descr.kind
   let head : Head = record { descr = new.descr; grant = or_all new.descr.kind making.grant; name = name } in
       let entry : Entry = entry_of (id_at s slot) (or_all new.descr.kind making.access) making.inherit in
-      Ok (record { reply = Made (next_handle s process) (id_at s slot); state = settled (with_entry (with_object s slot head new.body) process entry) })
+      Ok (record {
+        reply = Made (next_handle s process) (id_at s slot);
+        state = settled (with_entry (with_object s slot head new.body) process entry);
+      })
 
 -- a handle to an object that is there: 6 where it is of another kind, 5 where its grant doesn't allow the rights
 abbrev pub new_handle : State → ℕ → Id → Kind → Rights → Bool → Result State Fault
@@ -122,7 +127,10 @@ new_event manual set = record { descr = event_descr manual; body = body.Event (r
 
 -- a mutex that its creator owns once, or nobody
 abbrev pub new_mutex : ℕ → Bool → New
-new_mutex thread owned = record { descr = mutex_descr; body = body.Mutex (mutex.opening (if owned then Some thread else None)) }
+new_mutex thread owned = record {
+  descr = mutex_descr;
+  body = body.Mutex (mutex.opening (if owned then Some thread else None));
+}
 
 -- 87 for a maximum that isn't above 0, and for a count below 0 or above the maximum
 abbrev pub semaphore_of : ℕ → ℕ → Result New Fault
@@ -138,7 +146,10 @@ new_semaphore initial max = do
 
 -- a timer that isn't signaled and isn't set
 abbrev pub new_timer : Bool → New
-new_timer manual = record { descr = timer_descr manual; body = body.Timer (record { manual = manual; signaled = false; due = None }) }
+new_timer manual = record {
+  descr = timer_descr manual;
+  body = body.Timer (record { manual = manual; signaled = false; due = None });
+}
 
 abbrev pub create_event : State → ℕ → Making → Bool → Bool → Result Outcome Fault
 create_event s thread making manual set = create s thread making (Ok (new_event manual set))

@@ -4,7 +4,8 @@ use Rattle.std.specs.Option.{option_map}
 use Rattle.ob_rights.specs.declared.rights.Rights.{Rights}
 use Rattle.ob_manager.specs.declared.making.Make.{Make}
 
--- what a create asks for beside the object's own state: a name, whether the handle has the flag INHERIT, the rights that the
+-- what a create asks for beside the object's own state: a name, whether the handle has the flag INHERIT, the rights
+-- that the
 -- handle is to have, and the rights that opens of a new object may get
 pub record Making : Type 0 where
   pub name : Option (List ℕ)
@@ -18,4 +19,9 @@ given_name true text = Some text
 given_name false text = None
 
 abbrev pub making_of : Make → Making
-making_of make = record { name = option_map (λ text. text.now) make.name; inherit = make.inherit; access = make.access; grant = make.grant }
+making_of make = record {
+  name = option_map (λ text. text.now) make.name;
+  inherit = make.inherit;
+  access = make.access;
+  grant = make.grant;
+}

@@ -1,4 +1,5 @@
--- What a call comes to: a reply and the state after it, or a refusal. Each call has one definition: a line for each refusal in the
+-- What a call comes to: a reply and the state after it, or a refusal. Each call has one definition: a line for each
+-- refusal in the
 -- order of the tests, then the reply and the settled state.
 use Rattle.std.specs.Prelude.{◌≡◌, Bool, true, false, Option, Some, None, Result, Ok, Err, is_ok}
 use Rattle.ob_rights.specs.declared.fault.Fault.{Fault}
@@ -27,7 +28,8 @@ abbrev pub refuse_if : Bool → Fault → Result (Unit {0}) Fault
 refuse_if true e = Err e
 refuse_if false e = Ok tt
 
--- what a refusal says of what the model has: want of memory, that it refuses nothing; any other, that it refuses just so
+-- what a refusal says of what the model has: want of memory, that it refuses nothing; any other, that it refuses just
+-- so
 abbrev pub Refuses : {A : Type 0} → Fault → Result A Fault → Type 0
 Refuses fault.Memory r = is_ok r ≡ true
 Refuses fault.Parameter r = r ≡ Err fault.Parameter

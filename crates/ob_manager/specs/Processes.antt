@@ -13,14 +13,18 @@ spawn s session = do
   _ ← refuse_if (nat_lt s.limits.threads (length s.threads)) fault.Limit
   Ok (record { reply = Spawned (length s.processes) (length s.threads); state = settled (with_process s session) })
 
--- a new process of the session of the thread's, with the entries of the thread's process that are inheritable, or with none
+-- a new process of the session of the thread's, with the entries of the thread's process that are inheritable, or with
+-- none
 abbrev pub child : State → ℕ → Bool → Result Outcome Fault
 child s thread inherit = do
   process ← caller s thread
   session ← or_refuse (slice_index_or s.processes process None) fault.Parameter
   _ ← refuse_if (nat_lt s.limits.processes (length s.processes)) fault.Limit
   _ ← refuse_if (nat_lt s.limits.threads (length s.threads)) fault.Limit
-  Ok (record { reply = Spawned (length s.processes) (length s.threads); state = settled (if inherit then with_child s process session else with_process s session) })
+  Ok (record {
+    reply = Spawned (length s.processes) (length s.threads);
+    state = settled (if inherit then with_child s process session else with_process s session);
+  })
 
 abbrev pub thread : State → ℕ → Result Outcome Fault
 thread s process = do

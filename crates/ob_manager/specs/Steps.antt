@@ -29,7 +29,8 @@ abbrev pub reclaim_in : Reply → Reclaim
 reclaim_in (Reaped id outcome) = outcome
 reclaim_in reply = reclaim.Freed
 
--- what each call comes to. It is determined but for one free choice, what becomes of a slot that is reaped, which the reply says
+-- what each call comes to. It is determined but for one free choice, what becomes of a slot that is reaped, which the
+-- reply says
 abbrev pub outcome_of : State → Call → Reply → Result Outcome Fault
 outcome_of s (calls.Spawn session) reply = spawn s session
 outcome_of s (calls.Child thread inherit) reply = child s thread inherit
@@ -39,7 +40,8 @@ outcome_of s (calls.MakeMutex thread making owned) reply = create_mutex s thread
 outcome_of s (calls.MakeSemaphore thread making initial max) reply = create_semaphore s thread making initial max
 outcome_of s (calls.MakeTimer thread making manual) reply = create_timer s thread making manual
 outcome_of s (calls.OpenNamed thread kind mask inherit text) reply = open_named s thread kind mask inherit text
-outcome_of s (calls.Duplicate thread source handle target mask inherit options) reply = duplicate s thread source handle target mask inherit options
+outcome_of s (calls.Duplicate thread source handle target mask inherit options) reply =
+    duplicate s thread source handle target mask inherit options
 outcome_of s (calls.CloseHandle thread handle) reply = close s thread handle
 outcome_of s (calls.GetFlags thread handle) reply = handle_flags s thread handle
 outcome_of s (calls.SetFlags thread handle mask flags) reply = set_handle_flags s thread handle mask flags
@@ -58,7 +60,8 @@ outcome_of s (calls.Exit process) reply = exit s process
 outcome_of s (calls.Reap slot) reply = reap s slot (reclaim_in reply)
 outcome_of s (calls.Counts id) reply = counts s id
 
--- whether a call takes memory, which may be wanting: a wait only where it becomes pending, and a handle to an object that is
+-- whether a call takes memory, which may be wanting: a wait only where it becomes pending, and a handle to an object
+-- that is
 -- there only where no value was given back
 abbrev pub takes_memory : State → Call → Bool
 takes_memory s (calls.Spawn session) = true
@@ -69,7 +72,8 @@ takes_memory s (calls.MakeMutex thread making owned) = true
 takes_memory s (calls.MakeSemaphore thread making initial max) = true
 takes_memory s (calls.MakeTimer thread making manual) = true
 takes_memory s (calls.OpenNamed thread kind mask inherit text) = takes_place s (slice_index_or s.threads thread None)
-takes_memory s (calls.Duplicate thread source handle target mask inherit options) = is_copy (duplicate s thread source handle target mask inherit options) && takes_place s target
+takes_memory s (calls.Duplicate thread source handle target mask inherit options) =
+    is_copy (duplicate s thread source handle target mask inherit options) && takes_place s target
 takes_memory s (calls.CloseHandle thread handle) = false
 takes_memory s (calls.GetFlags thread handle) = false
 takes_memory s (calls.SetFlags thread handle mask flags) = false
@@ -93,7 +97,8 @@ abbrev pub final : State → Result Outcome Fault → Outcome
 final s (Ok outcome) = outcome
 final s (Err fault) = record { reply = Refused fault; state = s }
 
--- what a call does to the keeper, by its reply: a new object is published with its descriptor, a reap asks for the slot, and
+-- what a call does to the keeper, by its reply: a new object is published with its descriptor, a reap asks for the
+-- slot, and
 -- otherwise slots close at most
 abbrev pub Publishes : Option Object → ℕ → KeeperState → KeeperState → Type 0
 Publishes None slot k k' = ⊥
@@ -124,13 +129,17 @@ abbrev pub is_duplicate : Call → Bool
 is_duplicate (calls.Duplicate thread source handle target mask inherit options) = true
 is_duplicate call = false
 
--- From a state and what the keeper says a call gives this reply and goes on: as the model says, or for want of memory, which
+-- From a state and what the keeper says a call gives this reply and goes on: as the model says, or for want of memory,
+-- which
 -- is answered only by a call that takes memory, and only where nothing else refuses it; it changes nothing.
 pub data Step (w : Whole) (call : Call) (reply : Reply) (v : Whole) : Type 0 where
-  does : final w.state (outcome_of w.state call reply) ≡ record { reply = reply; state = v.state } → Keeps reply v.state w.keeper v.keeper → Step w call reply v
+  does : final w.state (outcome_of w.state call reply) ≡ record { reply = reply; state = v.state }
+      → Keeps reply v.state w.keeper v.keeper → Step w call reply v
   -- a duplicate may close its source, also where it is refused after that was found
-  closes : is_duplicate call ≡ true → outcome_of w.state call reply ≡ Ok (record { reply = reply; state = v.state }) → OnlyCloses w.keeper v.keeper → Step w call reply v
-  lacks : takes_memory w.state call ≡ true → is_ok (outcome_of w.state call reply) ≡ true → reply ≡ Refused fault.Memory → v ≡ w → Step w call reply v
+  closes : is_duplicate call ≡ true → outcome_of w.state call reply ≡ Ok (record { reply = reply; state = v.state })
+      → OnlyCloses w.keeper v.keeper → Step w call reply v
+  lacks : takes_memory w.state call ≡ true → is_ok (outcome_of w.state call reply) ≡ true → reply ≡ Refused fault.Memory
+      → v ≡ w → Step w call reply v
 
 -- the state after a call with this reply: want of memory leaves it, and otherwise the call comes to it
 abbrev pub is_memory : Fault → Bool
@@ -155,7 +164,8 @@ next s call reply = if is_lack reply then s else (final s (outcome_of s call rep
 
 -- what a body answers, against the outcome that it has to have
 abbrev pub Gives : Result Reply Fault → Whole → Whole → Result Outcome Fault → Type 0
-Gives (Ok reply) old new outcome = (outcome ≡ Ok (record { reply = reply; state = new.state })) × Keeps reply new.state old.keeper new.keeper
+Gives (Ok reply) old new outcome = (outcome ≡ Ok (record { reply = reply; state = new.state }))
+    × Keeps reply new.state old.keeper new.keeper
 Gives (Err e) old new outcome = (outcome ≡ Err e) × (new ≡ old)
 
 -- the same of a body that takes memory
@@ -165,11 +175,13 @@ GivesOrLacks (Err e) old new outcome = Refuses e outcome × (new ≡ old)
 
 -- the same of a duplicate, and of the copy that it makes
 abbrev pub Duplicates : Result Reply Fault → Whole → Whole → Result Outcome Fault → Type 0
-Duplicates (Ok reply) old new outcome = (outcome ≡ Ok (record { reply = reply; state = new.state })) × OnlyCloses old.keeper new.keeper
+Duplicates (Ok reply) old new outcome = (outcome ≡ Ok (record { reply = reply; state = new.state }))
+    × OnlyCloses old.keeper new.keeper
 Duplicates (Err e) old new outcome = Refuses e outcome × (new ≡ old)
 
 abbrev pub Copies : Result Reply Fault → Whole → Whole → Result Outcome Fault → Type 0
-Copies (Ok reply) old new outcome = (outcome ≡ Ok (record { reply = reply; state = new.state })) × (new.keeper ≡ old.keeper)
+Copies (Ok reply) old new outcome = (outcome ≡ Ok (record { reply = reply; state = new.state }))
+    × (new.keeper ≡ old.keeper)
 Copies (Err e) old new outcome = (outcome ≡ Err e) × (new ≡ old)
 
 -- the reply of a body's answer

@@ -73,7 +73,8 @@ is_for_one_twice All ids = has_twice same_id ids
 
 -- whether no object is a mutex that the thread owns as often as the limit lets
 abbrev pub have_room : State → ℕ → List Id → Bool
-have_room s thread ids = list_all (λ (id : Id). slot_room s.limits.max_recursion thread (slice_index_or s.bodies id.slot None)) ids
+have_room s thread ids = list_all (λ (id : Id). slot_room s.limits.max_recursion thread
+    (slice_index_or s.bodies id.slot None)) ids
 
 -- whether a wait never becomes pending
 abbrev pub is_zero : Timeout → Bool
@@ -96,10 +97,14 @@ pending s thread mode deadline ids = do
 -- what a wait comes to that isn't satisfied now
 abbrev pub unsatisfied : State → ℕ → Mode → Timeout → List Id → Result Outcome Fault
 unsatisfied s thread mode timeout ids =
-    if is_zero timeout then Ok (record { reply = reply.Code 258; state = s }) else pending s thread mode (deadline_in s.clock timeout) ids
+    if is_zero timeout then Ok (record { reply = reply.Code 258; state = s }) else pending s thread mode
+    (deadline_in s.clock timeout) ids
 
 abbrev pub satisfied : State → ℕ → Mode → List Id → Result Outcome Fault
-satisfied s thread mode ids = Ok (record { reply = reply.Code (code_of mode thread s.bodies ids); state = settled (with_taken s thread mode ids) })
+satisfied s thread mode ids = Ok (record {
+  reply = reply.Code (code_of mode thread s.bodies ids);
+  state = settled (with_taken s thread mode ids);
+})
 
 -- a wait for objects: no object twice in a wait for all, and room for each mutex; then what is ready is satisfied
 abbrev pub wait_on : State → ℕ → Mode → Timeout → List Id → Result Outcome Fault

@@ -2,4 +2,5 @@ use Rattle.ob_manager.proofs.Waited.{single_there}
 use Rattle.ob_manager.proofs.waiting.wait_for_one.Goals as goal
 
 pub wait_on-requires-clause-there : goal.wait_on-requires-clause-there
-wait_on-requires-clause-there g c = single_there c.args.store.now.state c.args.process c.args.handle _ c.in_ok-entry.ensures.there
+wait_on-requires-clause-there g c = single_there c.args.store.now.state c.args.process c.args.handle _
+    c.in_ok-entry.ensures.there

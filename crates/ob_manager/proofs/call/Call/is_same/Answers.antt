@@ -18,7 +18,8 @@ use Rattle.ob_manager.specs.contracts.call.CallOfPartialEq.TheImpl.{ghosts}
 use Rattle.ob_manager.proofs.call.Call.is_same.Goals as goal
 
 abbrev equal : Call → Call → Bool
-equal = (ghosts making.the_row text.the_row handles.the_row of_making.ghosts of_making.dict of_text.ghosts of_text.dict of_handles.ghosts of_handles.dict).eq
+equal = (ghosts making.the_row text.the_row handles.the_row of_making.ghosts of_making.dict of_text.ghosts of_text.dict
+    of_handles.ghosts of_handles.dict).eq
 
 not_true : false ≡ true → ⊥
 not_true e = cc
@@ -42,10 +43,14 @@ making_is a b e =
 making_itself : (a : Making) → (of_making.ghosts).eq a a ≡ true
 making_itself a = grind (arith, nat_tests, text_itself)
 
-apart : (before behind : Bool) (a b : Making) → (before && ((of_making.ghosts).eq a b && behind)) ≡ true → (before ≡ true) × (a ≡ b) × (behind ≡ true)
+apart : (before behind : Bool) (a b : Making) → (before && ((of_making.ghosts).eq a b && behind)) ≡ true
+    → (before ≡ true) × (a ≡ b) × (behind ≡ true)
 apart before behind a b e =
-    let rest = second_so before ((of_making.ghosts).eq a b && behind) e in
-    (first_so before ((of_making.ghosts).eq a b && behind) e, making_is a b (first_so ((of_making.ghosts).eq a b) behind rest), second_so ((of_making.ghosts).eq a b) behind rest)
+    let rest = second_so before ((of_making.ghosts).eq a b && behind) e in (
+      first_so before ((of_making.ghosts).eq a b && behind) e,
+      making_is a b (first_so ((of_making.ghosts).eq a b) behind rest),
+      second_so ((of_making.ghosts).eq a b) behind rest,
+    )
 
 same : (call other : Call) → equal call other ≡ true → call ≡ other
 same (calls.Spawn session) (calls.Spawn session') e = grind (arith, nat_tests, e)
@@ -63,19 +68,26 @@ same (calls.MakeSemaphore thread make initial max) (calls.MakeSemaphore thread' 
 same (calls.MakeTimer thread make manual) (calls.MakeTimer thread' make' manual') e =
     let parts = apart (thread == thread') (beq manual manual') make make' e in
     grind (arith, nat_tests, parts.0, parts.1, parts.2)
-same (calls.OpenNamed thread kind mask inherit text) (calls.OpenNamed thread' kind' mask' inherit' text') e = let same_text : text ≡ text' = text_is text text' (grind (arith, nat_tests, e)) in grind (arith, nat_tests, e, same_text)
-same (calls.Duplicate thread source handle target mask inherit options) (calls.Duplicate thread' source' handle' target' mask' inherit' options') e = grind (arith, nat_tests, e)
+same (calls.OpenNamed thread kind mask inherit text) (calls.OpenNamed thread' kind' mask' inherit' text') e =
+    let same_text : text ≡ text' = text_is text text' (grind (arith, nat_tests, e)) in
+    grind (arith, nat_tests, e, same_text)
+same (calls.Duplicate thread source handle target mask inherit options)
+    (calls.Duplicate thread' source' handle' target' mask' inherit' options') e = grind (arith, nat_tests, e)
 same (calls.CloseHandle thread handle) (calls.CloseHandle thread' handle') e = grind (arith, nat_tests, e)
 same (calls.GetFlags thread handle) (calls.GetFlags thread' handle') e = grind (arith, nat_tests, e)
-same (calls.SetFlags thread handle mask flags) (calls.SetFlags thread' handle' mask' flags') e = grind (arith, nat_tests, e)
+same (calls.SetFlags thread handle mask flags) (calls.SetFlags thread' handle' mask' flags') e =
+    grind (arith, nat_tests, e)
 same (calls.SetEvent thread handle) (calls.SetEvent thread' handle') e = grind (arith, nat_tests, e)
 same (calls.ResetEvent thread handle) (calls.ResetEvent thread' handle') e = grind (arith, nat_tests, e)
-same (calls.ReleaseSemaphore thread handle count) (calls.ReleaseSemaphore thread' handle' count') e = grind (arith, nat_tests, e)
+same (calls.ReleaseSemaphore thread handle count) (calls.ReleaseSemaphore thread' handle' count') e =
+    grind (arith, nat_tests, e)
 same (calls.ReleaseMutex thread handle) (calls.ReleaseMutex thread' handle') e = grind (arith, nat_tests, e)
 same (calls.SetTimer thread handle due) (calls.SetTimer thread' handle' due') e = grind (arith, nat_tests, e)
 same (calls.CancelTimer thread handle) (calls.CancelTimer thread' handle') e = grind (arith, nat_tests, e)
 same (calls.Tick now) (calls.Tick now') e = grind (arith, nat_tests, e)
-same (calls.WaitFor thread mode timeout handles) (calls.WaitFor thread' mode' timeout' handles') e = let same_handles : handles ≡ handles' = text_is handles handles' (grind (arith, nat_tests, e)) in grind (arith, nat_tests, e, same_handles)
+same (calls.WaitFor thread mode timeout handles) (calls.WaitFor thread' mode' timeout' handles') e =
+    let same_handles : handles ≡ handles' = text_is handles handles' (grind (arith, nat_tests, e)) in
+    grind (arith, nat_tests, e, same_handles)
 same (calls.WaitResult number) (calls.WaitResult number') e = grind (arith, nat_tests, e)
 same (calls.Expire number) (calls.Expire number') e = grind (arith, nat_tests, e)
 same (calls.EndThread thread) (calls.EndThread thread') e = grind (arith, nat_tests, e)
@@ -89,4 +101,8 @@ itself (calls.Spawn session) = grind (arith, nat_tests)
 itself call = grind (arith, nat_tests, making_itself, text_itself)
 
 pub returns : goal.returns
-returns c = (λ is. same _ _ (sym c.eq.ensures ∙ is), λ is. c.eq.ensures ∙ subst (λ (x : Call). equal c.args.self.now x ≡ true) is (itself c.args.self.now))
+returns c = (
+  λ is. same _ _ (sym c.eq.ensures ∙ is),
+  λ is. c.eq.ensures
+      ∙ subst (λ (x : Call). equal c.args.self.now x ≡ true) is (itself c.args.self.now),
+)

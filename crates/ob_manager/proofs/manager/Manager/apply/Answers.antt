@@ -6,6 +6,7 @@ use Rattle.ob_manager.proofs.manager.Manager.apply.Goals as goal
 
 pub returns-in_default : goal.returns-in_default
 returns-in_default g c = record {
-  step = subst (λ (call : Call). Step c.args.self.now call c.ask.result c.ask.new.self) (own_parts c.args.call.now) (c.ask.ensures.step (λ handles. handles));
+  step = subst (λ (call : Call). Step c.args.self.now call c.ask.result c.ask.new.self) (own_parts c.args.call.now)
+      (c.ask.ensures.step (λ handles. handles));
   exact = c.ask.ensures.exact;
 }
