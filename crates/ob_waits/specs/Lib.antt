@@ -9,3 +9,5 @@ pub mod Ends
 pub mod Form
 pub mod Deadlines
 pub mod Answers
+pub mod Spelling
+pub mod SpellingLaws

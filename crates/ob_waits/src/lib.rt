@@ -26,6 +26,7 @@ mod pending;
 mod per_thread;
 mod roster;
 mod seats;
+mod spelling;
 mod take;
 mod untaken;
 mod wait;

@@ -1,0 +1,147 @@
+-- Waits as bytes: the last number given, and each wait that isn't over with its number, by rising number.
+use Rattle.std.specs.Prelude.{◌≡◌, ℕ, zero, suc, ◌+◌, ◌<◌, ◌^◌, nat_lt, nat_le, ◌&&◌, ◌||◌, not, Bool, true, false, List, [], ◌∷◌, length, map, Option, Some, None, Result, Ok, Err, if◌then◌else◌, is_some, slice_index_or}
+use Rattle.std.specs.List.{list_all, list_any}
+use Rattle.std.specs.Int.{w32, w64, to_le_bytes}
+use Rattle.ob_codec.specs.declared.fault.TextFault.{TextFault}
+use Rattle.ob_codec.specs.declared.fault.TextFault.TheVariants.{Tag, Value}
+use Rattle.ob_codec.specs.Reading.{Read, as_at, both_at, list_at, number_at, option_at, tagged_at, where_at}
+use Rattle.ob_codec.specs.Sparse.{SparseFits, sparse, sparse_at}
+use Rattle.ob_codec.specs.Spelling.{BothFit, ListFits, OptionFits, both, list, option}
+use Rattle.pin_core.specs.Spelling.{IdFits, id_at, id_text}
+use Rattle.pin_core.specs.declared.id.Id.{Id}
+use Rattle.ob_waits.specs.Deadlines.{is_overdue}
+use Rattle.ob_waits.specs.Waits.{WaitList, has_slot, is_waits_of}
+use Rattle.ob_waits.specs.declared.held.Held.{Held}
+use Rattle.ob_waits.specs.declared.wait.Mode.{Mode}
+use Rattle.ob_waits.specs.declared.wait.Mode.TheVariants.{Any, All}
+use Rattle.ob_waits.specs.declared.wait.State.{State}
+use Rattle.ob_waits.specs.declared.wait.State.TheVariants.{Pending, Answered}
+use Rattle.ob_waits.specs.declared.wait.Wait.{Wait}
+
+abbrev pub is_four : ℕ → Type 0
+is_four n = n < 2 ^ 32
+
+-- the objects of a wait, at most 64
+abbrev pub are_few : List Id → Bool
+are_few ids = nat_le (length ids) 64
+
+abbrev pub ids_text : List Id → List ℕ
+ids_text = list id_text
+
+abbrev pub ids_at : List ℕ → Read (List Id)
+ids_at = where_at are_few (list_at id_at)
+
+abbrev pub IdsFit : List Id → Type 0
+IdsFit ids = ListFits IdFits ids × (are_few ids ≡ true)
+
+-- where a wait stands: the tag says whether it is pending for any or for all of its objects, or answered with a code
+abbrev pub tag_of : State → ℕ
+tag_of (Pending Any ids) = 0
+tag_of (Pending All ids) = 1
+tag_of (Answered code) = 2
+
+abbrev pub parts_text : State → List ℕ
+parts_text (Pending mode ids) = ids_text ids
+parts_text (Answered code) = to_le_bytes w32 code
+
+abbrev pub state_text : State → List ℕ
+state_text state = tag_of state ∷ parts_text state
+
+unfoldable pub state_in : ℕ → List ℕ → Read State
+state_in zero rest = as_at (Pending Any) ids_at rest
+state_in (suc zero) rest = as_at (Pending All) ids_at rest
+state_in (suc (suc zero)) rest = as_at Answered (number_at w32) rest
+state_in (suc (suc (suc t))) rest = Err Tag
+
+abbrev pub state_at : List ℕ → Read State
+state_at = tagged_at state_in
+
+abbrev pub StateFits : State → Type 0
+StateFits (Pending mode ids) = IdsFit ids
+StateFits (Answered code) = is_four code
+
+-- a wait: its thread, its deadline, and where it stands
+abbrev pub wait_of : ℕ × (Option ℕ × State) → Wait
+wait_of p = record { thread = p.0; deadline = p.1.0; state = p.1.1 }
+
+abbrev pub wait_parts : Wait → ℕ × (Option ℕ × State)
+wait_parts wait = (wait.thread, (wait.deadline, wait.state))
+
+abbrev pub wait_text : Wait → List ℕ
+wait_text wait = both (to_le_bytes w32) (both (option (to_le_bytes w64)) state_text) (wait_parts wait)
+
+abbrev pub wait_at : List ℕ → Read Wait
+wait_at = as_at wait_of (both_at (number_at w32) (both_at (option_at (number_at w64)) state_at))
+
+abbrev pub WaitFits : Wait → Type 0
+WaitFits wait = BothFit is_four (BothFit (OptionFits (λ n. n < 2 ^ 64)) StateFits) (wait_parts wait)
+
+-- a wait behind its number
+abbrev pub held_of : ℕ × Wait → Held
+held_of p = record { number = p.0; wait = p.1 }
+
+abbrev pub held_parts : Held → ℕ × Wait
+held_parts held = (held.number, held.wait)
+
+abbrev pub row_text : ℕ × Wait → List ℕ
+row_text = both (to_le_bytes w32) wait_text
+
+abbrev pub row_at : List ℕ → Read (ℕ × Wait)
+row_at = both_at (number_at w32) wait_at
+
+abbrev pub RowFits : ℕ × Wait → Type 0
+RowFits = BothFit is_four WaitFits
+
+abbrev pub held_text : Held → List ℕ
+held_text held = row_text (held_parts held)
+
+abbrev pub held_at : List ℕ → Read Held
+held_at = as_at held_of row_at
+
+abbrev pub HeldFits : Held → Type 0
+HeldFits held = RowFits (held_parts held)
+
+-- whether two places of a list name one slot
+abbrev pub names_twice : List Id → Bool
+names_twice [] = false
+names_twice (id ∷ ids) = has_slot ids id.slot || names_twice ids
+
+-- whether there is an object to wait for, and a wait for all is for none twice
+abbrev pub may_list : Mode → List Id → Bool
+may_list Any ids = nat_lt 0 (length ids)
+may_list All ids = nat_lt 0 (length ids) && not (names_twice ids)
+
+abbrev pub state_may : State → Bool
+state_may (Pending mode ids) = may_list mode ids
+state_may (Answered code) = true
+
+-- whether a wait can be there at a moment: one that is pending may wait for its objects, and its time isn't up
+abbrev pub may_stand : ℕ → Option Wait → Bool
+may_stand clock None = true
+may_stand clock (Some wait) = state_may wait.state && not (is_overdue clock (Some wait))
+
+-- whether each wait is another thread's
+abbrev pub one_each : List (Option Wait) → Bool
+one_each [] = true
+one_each (None ∷ waits) = one_each waits
+one_each (Some wait ∷ waits) = not (list_any (is_waits_of wait.thread) waits) && one_each waits
+
+-- whether waits can be there at a moment: no number is above the limit, 0 is nobody's, and a thread has one wait
+abbrev pub can_be : ℕ → ℕ → List (Option Wait) → Bool
+can_be limit clock waits =
+    (nat_le (length waits) (limit + 1) && not (is_some (slice_index_or waits 0 None)))
+    && (list_all (may_stand clock) waits && one_each waits)
+
+-- the waits; their limit and the moment stand elsewhere
+abbrev pub waits_text : List (Option Wait) → List ℕ
+waits_text = sparse wait_text
+
+abbrev pub with_rest : ℕ → ℕ → List (Option Wait) → WaitList
+with_rest limit clock waits = record { limit = limit; waits = waits; clock = clock }
+
+abbrev pub waits_at : ℕ → ℕ → List ℕ → Read WaitList
+waits_at limit clock = as_at (with_rest limit clock) (where_at (can_be limit clock) (sparse_at wait_at))
+
+-- waits that have a spelling
+abbrev pub WaitsFit : WaitList → Type 0
+WaitsFit list = SparseFits WaitFits list.waits × (can_be list.limit list.clock list.waits ≡ true)

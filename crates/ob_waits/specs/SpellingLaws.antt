@@ -1,0 +1,64 @@
+-- Waits are read as they were spelled.
+use Rattle.std.proofs.Common.{◌≡◌, ℕ, zero, suc, true, List, ◌++◌, Option, Ok, refl, subst, sym}
+use Rattle.ob_codec.specs.Codecs.{as_codec, both_codec, list_codec, option_codec, tagged_codec, u32_codec, u64_codec, where_codec}
+use Rattle.ob_codec.specs.Laws.{IsCodec, Takes}
+use Rattle.ob_codec.specs.Reading.{Read, as_at, where_at}
+use Rattle.ob_codec.specs.Sparse.{SparseFits, sparse_at}
+use Rattle.ob_codec.specs.SparseLaws.{sparse_codec}
+use Rattle.ob_codec.specs.Spelling.{AreBytes}
+use Rattle.ob_codec.specs.Steps.{bind_ok, ok_is}
+use Rattle.pin_core.specs.SpellingLaws.{id_codec}
+use Rattle.ob_waits.specs.Spelling.{HeldFits, IdsFit, RowFits, StateFits, WaitFits, WaitsFit, are_few, can_be, held_at, held_of, held_parts, held_text, ids_at, ids_text, is_four, parts_text, row_at, row_text, state_at, state_in, state_text, tag_of, wait_at, wait_of, wait_parts, wait_text, waits_at, waits_text, with_rest}
+use Rattle.ob_waits.specs.Waits.{WaitList}
+use Rattle.ob_waits.specs.declared.wait.Mode.TheVariants.{Any, All}
+use Rattle.ob_waits.specs.declared.wait.State.{State}
+use Rattle.ob_waits.specs.declared.wait.State.TheVariants.{Pending, Answered}
+use Rattle.ob_waits.specs.declared.wait.Wait.{Wait}
+
+pub ids_codec : IsCodec ids_text ids_at IdsFit
+ids_codec = where_codec (list_codec id_codec) are_few
+
+-- what is read of one form
+takes-one : {A : Type 0} {spell : A → List ℕ} {read : List ℕ → Read A} {Fits : A → Type 0} → IsCodec spell read Fits → (t : ℕ) (to : A → State)
+    → ((a : A) → parts_text (to a) ≡ spell a) → ((a : A) → Fits a → StateFits (to a)) → ((a : A) → tag_of (to a) ≡ t)
+    → (bytes : List ℕ) (x : State) (rest : List ℕ) → AreBytes bytes → as_at to read bytes ≡ Ok (x, rest) → Takes bytes (parts_text x) rest × StateFits x × (tag_of x ≡ t)
+takes-one {A = A} {read = read} is t to text can tag bytes x rest fits e =
+    let b = bind_ok (read bytes) (λ (y : A × List ℕ). Ok (to y.0, y.1)) (x, rest) e in
+    let k = is.takes bytes b.0.0 b.0.1 fits b.1 in
+    subst (λ (z : State × List ℕ). Takes bytes (parts_text z.0) z.1 × StateFits z.0 × (tag_of z.0 ≡ t)) (ok_is (to b.0.0, b.0.1) (x, rest) b.2)
+    (subst (λ (w : List ℕ). Takes bytes w b.0.1) (sym (text b.0.0)) k.0, can b.0.0 k.1, tag b.0.0)
+
+one-again : (t : ℕ) (x : State) (rest : List ℕ) → tag_of x ≡ t → StateFits x → state_in t (parts_text x ++ rest) ≡ Ok (x, rest)
+unfolding state_in
+one-again t (Pending Any ids) rest is fits = subst (λ (n : ℕ). state_in n (ids_text ids ++ rest) ≡ Ok (Pending Any ids, rest)) is (rw (ids_codec.again ids rest fits) refl)
+one-again t (Pending All ids) rest is fits = subst (λ (n : ℕ). state_in n (ids_text ids ++ rest) ≡ Ok (Pending All ids, rest)) is (rw (ids_codec.again ids rest fits) refl)
+one-again t (Answered code) rest is fits = subst (λ (n : ℕ). state_in n (parts_text (Answered code) ++ rest) ≡ Ok (Answered code, rest)) is (rw (u32_codec.again code rest fits) refl)
+
+one-takes : (t : ℕ) (bytes : List ℕ) (x : State) (rest : List ℕ) → AreBytes bytes → state_in t bytes ≡ Ok (x, rest) → Takes bytes (parts_text x) rest × StateFits x × (tag_of x ≡ t)
+unfolding state_in
+one-takes zero = takes-one ids_codec 0 (Pending Any) (λ _. refl) (λ _ fits. fits) (λ _. refl)
+one-takes (suc zero) = takes-one ids_codec 1 (Pending All) (λ _. refl) (λ _ fits. fits) (λ _. refl)
+one-takes (suc (suc zero)) = takes-one u32_codec 2 Answered (λ _. refl) (λ _ fits. fits) (λ _. refl)
+one-takes (suc (suc (suc t))) = λ bytes x rest fits e. absurd cc
+
+pub state_codec : IsCodec state_text state_at StateFits
+state_codec = tagged_codec tag_of parts_text state_in StateFits (λ t. record { again = one-again t; takes = one-takes t })
+
+pub wait_codec : IsCodec wait_text wait_at WaitFits
+wait_codec = as_codec wait_of wait_parts (λ _. refl) (λ _. refl) (both_codec u32_codec (both_codec (option_codec u64_codec) state_codec))
+
+pub held_codec : IsCodec held_text held_at HeldFits
+held_codec = as_codec held_of held_parts (λ _. refl) (λ _. refl) (both_codec u32_codec wait_codec)
+
+pub lists_codec : (limit clock : ℕ) → IsCodec waits_text (where_at (can_be limit clock) (sparse_at wait_at)) (λ ws. SparseFits WaitFits ws × (can_be limit clock ws ≡ true))
+lists_codec limit clock = where_codec (sparse_codec wait_codec) (can_be limit clock)
+
+pub waits_again : (list : WaitList) (rest : List ℕ) → WaitsFit list → waits_at list.limit list.clock (waits_text list.waits ++ rest) ≡ Ok (list, rest)
+waits_again list rest fits = rw ((lists_codec list.limit list.clock).again list.waits rest fits) refl
+
+pub waits_take : (limit clock : ℕ) (bytes : List ℕ) (list : WaitList) (rest : List ℕ) → AreBytes bytes → waits_at limit clock bytes ≡ Ok (list, rest)
+    → Takes bytes (waits_text list.waits) rest × WaitsFit list
+waits_take limit clock bytes list rest fits e =
+    let x = bind_ok (where_at (can_be limit clock) (sparse_at wait_at) bytes) (λ (x : List (Option Wait) × List ℕ). Ok (with_rest limit clock x.0, x.1)) (list, rest) e in
+    let w = (lists_codec limit clock).takes bytes x.0.0 x.0.1 fits x.1 in
+    subst (λ (z : WaitList × List ℕ). Takes bytes (waits_text z.0.waits) z.1 × WaitsFit z.0) (ok_is (with_rest limit clock x.0.0, x.0.1) (list, rest) x.2) w
