@@ -8,6 +8,7 @@ use Rattle.std.proofs.lemmas.Bool.Decides.{nat_tests}
 use Rattle.pin_core.specs.declared.id.Id.{Id}
 use Rattle.ob_waits.specs.declared.wait.Mode.{Mode}
 use Rattle.ob_waits.specs.declared.wait.Wait.{Wait}
+use Rattle.ob_waits.specs.declared.wait.State.TheVariants.{Answered}
 use Rattle.ob_waits.specs.Rules.{thread_of, IsWaitable, WaitWaitable, Within}
 use Rattle.ob_waits.specs.Numbers.{IsOrdered, numbers_of}
 use Rattle.ob_waits.specs.Waits.{new_wait, nowhere, is_pending, names_slot, number_of}
@@ -34,10 +35,11 @@ module _ (ws : List (Option Wait)) (w : Wait) where
     ]
   ]
 
--- The theorem: a wait of a thread that had none, for which the roster has a place, is tracked.
-pub tracked_added : (limit : ℕ) (ws : List (Option Wait)) (r r' : Roster) (n t : ℕ) (mode : Mode) (ids : List Id) (d : Option ℕ) → length ws ≡ n → 0 < n → n ≤ limit → IsWaitable mode ids → number_of t ws ≡ None →
-    IsTracked limit ws r → IsRight ws r' → HasPlace r' ids n → IsTracked limit (ws ++ Some (new_wait t mode ids d) ∷ []) r'
-tracked_added limit ws r r' n t mode ids d len some below waitable alone k right place = record {
+-- The theorem: a wait of a thread that had none is tracked, where the lists have its number as they must.
+pub tracked_came : (limit : ℕ) (ws : List (Option Wait)) (r r' : Roster) (w : Wait) → 0 < length ws → length ws ≤ limit → WaitWaitable (Some w) → number_of w.thread ws ≡ None
+    → IsTracked limit ws r → IsRight ws r' → (is_pending (Some w) ≡ true → Within (length ws) r'.order) → ((s : ℕ) → names_slot s (Some w) ≡ true → Within (length ws) (numbers_of r'.index s))
+    → IsTracked limit (ws ++ Some w ∷ []) r'
+tracked_came limit ws r r' w some below waitable alone k right ordered named = record {
   limit_fits = k.limit_fits;
   few = omega (arith, length_push ws (Some w));
   zero_has_none = get_or_append_left ws (Some w ∷ []) None 0 (omega arith) ∙ k.zero_has_none;
@@ -47,20 +49,17 @@ tracked_added limit ws r r' n t mode ids d len some below waitable alone k right
   };
   right = record {
     order_rises = ordered_more r'.order right.order_rises;
-    order_all = record { each = λ m h. by_number ws w (λ i x. is_pending x ≡ true → Within i r'.order) (λ i lt g. right.order_all.each i g) (λ g. subst (λ i. Within i r'.order) (sym len) place.order_place) (λ i past g. absurd (cc)) m h };
+    order_all = record { each = λ m h. by_number ws w (λ i x. is_pending x ≡ true → Within i r'.order) (λ i lt g. right.order_all.each i g) ordered (λ i past g. absurd (cc)) m h };
     index_rises = record { each = λ s. ordered_more (numbers_of r'.index s) (right.index_rises.each s) };
-    index_all = λ s. record { each = λ m h. by_number ws w (λ i x. names_slot s x ≡ true → Within i (numbers_of r'.index s)) (λ i lt g. (right.index_all s).each i g) (λ g. named s g) (λ i past g. absurd (cc)) m h };
+    index_all = λ s. record { each = λ m h. by_number ws w (λ i x. names_slot s x ≡ true → Within i (numbers_of r'.index s)) (λ i lt g. (right.index_all s).each i g) (named s) (λ i past g. absurd (cc)) m h };
   };
 }
   where
-    w : Wait
-    w = new_wait t mode ids d
+    ours : (m u : ℕ) → thread_of (get_or (ws ++ Some w ∷ []) m None) ≡ Some u → (thread_of (get_or ws m None) ≡ Some u × (m < length ws)) ⊎ ((m ≡ length ws) × (u ≡ w.thread))
+    ours m u = by_number ws w (λ i x. thread_of x ≡ Some u → (thread_of (get_or ws i None) ≡ Some u × (i < length ws)) ⊎ ((i ≡ length ws) × (u ≡ w.thread))) (λ i lt g. inl (g, lt)) (λ g. inr (refl, (let e : Some w.thread ≡ Some u = g in cc))) (λ i past g. absurd (cc)) m
 
-    ours : (m u : ℕ) → thread_of (get_or (ws ++ Some w ∷ []) m None) ≡ Some u → (thread_of (get_or ws m None) ≡ Some u × (m < length ws)) ⊎ ((m ≡ length ws) × (u ≡ t))
-    ours m u = by_number ws w (λ i x. thread_of x ≡ Some u → (thread_of (get_or ws i None) ≡ Some u × (i < length ws)) ⊎ ((i ≡ length ws) × (u ≡ t))) (λ i lt g. inl (g, lt)) (λ g. inr (refl, (let e : Some t ≡ Some u = g in cc))) (λ i past g. absurd (cc)) m
-
-    alone_here : (m u : ℕ) → thread_of (get_or ws m None) ≡ Some u → u ≡ t → ⊥
-    alone_here m u own same = no_number t ws m alone (own ∙ ap Some same)
+    alone_here : (m u : ℕ) → thread_of (get_or ws m None) ≡ Some u → u ≡ w.thread → ⊥
+    alone_here m u own same = no_number w.thread ws m alone (own ∙ ap Some same)
 
     one_each : (i j u : ℕ) → thread_of (get_or (ws ++ Some w ∷ []) i None) ≡ Some u → thread_of (get_or (ws ++ Some w ∷ []) j None) ≡ Some u → i ≡ j
     one_each i j u p q = elim (ours i u p) [
@@ -71,8 +70,20 @@ tracked_added limit ws r r' n t mode ids d len some below waitable alone k right
     ordered_more : (numbers : List ℕ) → IsOrdered (length ws) numbers → IsOrdered (length (ws ++ Some w ∷ [])) numbers
     ordered_more numbers h = record { rising = h.rising; below = λ i in'. let le = h.below i in' in omega (arith, length_push ws (Some w)) }
 
-    named : (s : ℕ) → names_slot s (Some w) ≡ true → Within (length ws) (numbers_of r'.index s)
+-- one that is pending, for which the roster has a place
+pub tracked_added : (limit : ℕ) (ws : List (Option Wait)) (r r' : Roster) (n t : ℕ) (mode : Mode) (ids : List Id) (d : Option ℕ) → length ws ≡ n → 0 < n → n ≤ limit → IsWaitable mode ids → number_of t ws ≡ None →
+    IsTracked limit ws r → IsRight ws r' → HasPlace r' ids n → IsTracked limit (ws ++ Some (new_wait t mode ids d) ∷ []) r'
+tracked_added limit ws r r' n t mode ids d len some below waitable alone k right place =
+    tracked_came limit ws r r' (new_wait t mode ids d) (omega (arith, len, some)) (omega (arith, len, below)) waitable alone k right (λ g. subst (λ i. Within i r'.order) (sym len) place.order_place) named
+  where
+    named : (s : ℕ) → names_slot s (Some (new_wait t mode ids d)) ≡ true → Within (length ws) (numbers_of r'.index s)
     named s g =
         let found = any_at (λ (id : Id). id.slot == s) nowhere ids g in
         let same : (get_or ids found.0 nowhere).slot ≡ s = grind (arith, nat_tests, found.2) in
         subst (λ i. Within i (numbers_of r'.index s)) (sym len) (subst (λ x. Within n (numbers_of r'.index x)) same (place.index_place found.0 found.1))
+
+-- one that is answered needs none
+pub tracked_answered : (limit : ℕ) (ws : List (Option Wait)) (r : Roster) (t code : ℕ) (d : Option ℕ) → 0 < length ws → length ws ≤ limit → number_of t ws ≡ None
+    → IsTracked limit ws r → IsTracked limit (ws ++ Some (record { thread = t; deadline = d; state = Answered code }) ∷ []) r
+tracked_answered limit ws r t code d some below alone k =
+    tracked_came limit ws r r (record { thread = t; deadline = d; state = Answered code }) some below tt alone k k.right (λ g. absurd (cc)) (λ s g. absurd (cc))

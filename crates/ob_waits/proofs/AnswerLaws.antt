@@ -1,7 +1,7 @@
 -- The answered waits are known in order while waits come, are answered and go.
 use Rattle.std.proofs.Common.{◌≡◌, ◌≢◌, ◌⊎◌, ℕ, ◌+◌, ◌<◌, ◌≤◌, List, [], ◌∷◌, ◌++◌, ◌-◌, length, Option, Some, None, refl, ap, ◌∙◌, sym, subst, arith, get_or, set, true, false, inl, inr, drop}
 use Rattle.std.specs.Prelude.{IfSome}
-use Rattle.std.proofs.lemmas.List.{drop_more, length-set, get_or_past, get_or-set_same, get_or-set_other}
+use Rattle.std.proofs.lemmas.List.{drop_more, length-set, get_or_past, get_or_push, get_or-set_same, get_or-set_other}
 use Rattle.std.proofs.lemmas.Bool.{cases_eq, cases_lt}
 use Rattle.least_free.specs.From.{IsAtMost, IsLeastFrom}
 use Rattle.ob_waits.specs.declared.wait.Wait.{Wait}
@@ -33,7 +33,6 @@ told_room ws u u' fresh late longer told = record {
   placed = λ t n own. let lt = told.placed t n own in omega (arith, lt, longer);
 }
 
--- a pending wait comes, of a thread that had none
 unanswered : (w : Option Wait) → is_pending w ≡ true → is_answered w ≡ false
 unanswered None h = absurd (cc (h))
 unanswered (Some w) h = by w.state h
@@ -42,21 +41,38 @@ unanswered (Some w) h = by w.state h
     by (Pending mode ids) h = refl
     by (Answered code) h = absurd (cc (h))
 
-pub told_added : (ws : List (Option Wait)) (w : Wait) (u : Untaken) → is_pending (Some w) ≡ true → w.thread < length u.late → AreTold ws u → AreTold (ws ++ Some w ∷ []) u
-told_added ws w u pending place told = record {
+-- a wait comes, of a thread that had none; one that is answered still has to be told
+pub told_came : (ws : List (Option Wait)) (w : Wait) (u : Untaken) → w.thread < length u.late → AreTold ws u → AreToldBut (Some (length ws)) (ws ++ Some w ∷ []) u
+told_came ws w u place told = record {
   rising = told.rising;
   late = λ t n h.
       let old = told.late t n h in
       by_number ws w (λ m x. m ≡ n → IsAnswered t x) (λ m lt e. subst (λ i. IsAnswered t (get_or ws i None)) (sym e) old)
       (λ e. absurd (let none = get_or_past ws n None (omega (arith, e)) in let o : thread_of (get_or ws n None) ≡ Some t = old.0 in let z = ap thread_of none in cc (z, o)))
       (λ m past e. absurd (let none = get_or_past ws n None (omega (arith, e, past)) in let o : thread_of (get_or ws n None) ≡ Some t = old.0 in let z = ap thread_of none in cc (z, o))) n refl;
-  each = λ t n apart. by_number ws w (λ m x. IsAnswered t x → Within m u.fresh ⊎ (get_or u.late t None ≡ Some m)) (λ m lt own. told.each t m (λ e. cc (e)) own)
-      (λ own. absurd (let a = own.1 in let b = unanswered (Some w) pending in cc (a, b))) (λ m past own. absurd (let o = own.0 in cc (o))) n;
+  each = λ t n. by_number ws w (λ m x. Some m ≢ Some (length ws) → IsAnswered t x → Within m u.fresh ⊎ (get_or u.late t None ≡ Some m)) (λ m lt apart own. told.each t m (λ e. cc (e)) own)
+      (λ apart own. absurd (apart refl)) (λ m past apart own. absurd (let o = own.0 in cc (o))) n;
   placed = λ t n own. elim (ours n t own) [ inl a ↦ told.placed t n a | inr a ↦ let e = a.1 in omega (arith, e, place) ];
 }
   where
     ours : (n t : ℕ) → thread_of (get_or (ws ++ Some w ∷ []) n None) ≡ Some t → (thread_of (get_or ws n None) ≡ Some t) ⊎ ((n ≡ length ws) × (t ≡ w.thread))
     ours n t = by_number ws w (λ m x. thread_of x ≡ Some t → (thread_of (get_or ws m None) ≡ Some t) ⊎ ((m ≡ length ws) × (t ≡ w.thread))) (λ m lt g. inl g) (λ g. inr (refl, (let e : Some w.thread ≡ Some t = g in cc (e)))) (λ m past g. absurd (cc (g))) n
+
+-- one that is pending hasn't
+pub told_added : (ws : List (Option Wait)) (w : Wait) (u : Untaken) → is_pending (Some w) ≡ true → w.thread < length u.late → AreTold ws u → AreTold (ws ++ Some w ∷ []) u
+told_added ws w u pending place told = record {
+  rising = came.rising;
+  late = came.late;
+  each = λ t n apart own. elim (cases_eq n (length ws)) [
+    | inl same ↦ absurd (
+        let a : is_answered (Some w) ≡ true = ap is_answered (sym (get_or_push ws (Some w) None n (sym same))) ∙ own.1 in let b = unanswered (Some w) pending in cc (a, b))
+    | inr other ↦ came.each t n (λ e. other (let same : n ≡ length ws = cc (e) in same)) own
+  ];
+  placed = came.placed;
+}
+  where
+    came : AreToldBut (Some (length ws)) (ws ++ Some w ∷ []) u
+    came = told_came ws w u place told
 
 -- a pending wait is answered
 pub told_answered : (ws : List (Option Wait)) (n code : ℕ) (u : Untaken) → is_pending (get_or ws n None) ≡ true → AreTold ws u → AreToldBut (Some n) (set ws n (answered (get_or ws n None) code)) u

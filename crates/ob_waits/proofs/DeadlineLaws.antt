@@ -88,33 +88,36 @@ timely_none = record {
     none : (n : ℕ) → get_or {A = Option Wait} (None ∷ []) n None ≡ None
     none n = elim n as (λ n. get_or {A = Option Wait} (None ∷ []) n None ≡ None) [ zero ↦ refl | suc n ↦ refl ]
 
--- a wait comes, of a thread that had none
-module _ (clock : ℕ) (ws : List (Option Wait)) (t : ℕ) (mode : Mode) (ids : List Id) (d : Option ℕ) (dues room : List (Option ℕ))
-    (alone : number_of t ws ≡ None)
-    (ahead : IsAfter clock d)
-    (place : t < length room)
-    (same : (u : ℕ) → get_or room u None ≡ get_or dues u None)
-    (timely : AreTimely clock ws dues) where
-  w : Wait
-  w = new_wait t mode ids d
+-- a wait comes, of a thread that had none, whose deadline is listed where it is pending
+pub timely_came : (clock : ℕ) (ws : List (Option Wait)) (w : Wait) (dues dues' : List (Option ℕ)) → number_of w.thread ws ≡ None → IsAfter clock (deadline_of (Some w))
+    → ((u : ℕ) → (u ≡ w.thread → ⊥) → get_or dues' u None ≡ get_or dues u None) → ((e : ℕ) → deadline_of (Some w) ≡ Some e → get_or dues' w.thread None ≡ Some e)
+    → AreTimely clock ws dues → AreTimely clock (ws ++ Some w ∷ []) dues'
+timely_came clock ws w dues dues' alone ahead others here timely = record {
+  moment = timely.moment;
+  ahead = record { each = λ n. by_number ws w (λ n x. IsAfter clock (deadline_of x)) (λ n lt. timely.ahead.each n) ahead (λ n past. tt) n };
+  listed = record {
+    each = λ n u e own due. by_number ws w (λ n x. thread_of x ≡ Some u → deadline_of x ≡ Some e → get_or dues' u None ≡ Some e)
+        (λ n lt own due. old n u e own due)
+        (λ own due. let same_thread : w.thread ≡ u = cc in ap (λ v. get_or dues' v None) (sym same_thread) ∙ here e due)
+        (λ n past own due. absurd (cc)) n own due;
+  };
+}
+  where
+    old : (n u e : ℕ) → thread_of (get_or ws n None) ≡ Some u → deadline_of (get_or ws n None) ≡ Some e → get_or dues' u None ≡ Some e
+    old n u e own due = elim (cases_eq u w.thread) [
+      | inl ours ↦ absurd (no_number w.thread ws n alone (own ∙ ap Some ours))
+      | inr other ↦ others u other ∙ timely.listed.each n u e own due
+    ]
 
-  pub timely_added : AreTimely clock (ws ++ Some (new_wait t mode ids d) ∷ []) (set room t d)
-  timely_added = record {
-    moment = timely.moment;
-    ahead = record { each = λ n. by_number ws (new_wait t mode ids d) (λ n x. IsAfter clock (deadline_of x)) (λ n lt. timely.ahead.each n) ahead (λ n past. tt) n };
-    listed = record {
-      each = λ n u e own due. by_number ws (new_wait t mode ids d) (λ n x. thread_of x ≡ Some u → deadline_of x ≡ Some e → get_or (set room t d) u None ≡ Some e)
-          (λ n lt own due. old n u e own due)
-          (λ own due. let same_thread : t ≡ u = cc in ap (λ v. get_or (set room t d) v None) (sym same_thread) ∙ get_or-set_same room t d None place ∙ due)
-          (λ n past own due. absurd (cc)) n own due;
-    };
-  }
-    where
-      old : (n u e : ℕ) → thread_of (get_or ws n None) ≡ Some u → deadline_of (get_or ws n None) ≡ Some e → get_or (set room t d) u None ≡ Some e
-      old n u e own due = elim (cases_eq u t) [
-        | inl ours ↦ absurd (no_number t ws n alone (own ∙ ap Some ours))
-        | inr other ↦ get_or-set_other room t u d None other ∙ same u ∙ timely.listed.each n u e own due
-      ]
+pub timely_added : (clock : ℕ) (ws : List (Option Wait)) (t : ℕ) (mode : Mode) (ids : List Id) (d : Option ℕ) (dues room : List (Option ℕ)) → number_of t ws ≡ None → IsAfter clock d → t < length room
+    → ((u : ℕ) → get_or room u None ≡ get_or dues u None) → AreTimely clock ws dues → AreTimely clock (ws ++ Some (new_wait t mode ids d) ∷ []) (set room t d)
+timely_added clock ws t mode ids d dues room alone ahead place same timely =
+    timely_came clock ws (new_wait t mode ids d) dues (set room t d) alone ahead (λ u other. get_or-set_other room t u d None other ∙ same u) (λ e due. get_or-set_same room t d None place ∙ due) timely
+
+pub timely_answered : (clock : ℕ) (ws : List (Option Wait)) (t code : ℕ) (d : Option ℕ) (dues : List (Option ℕ)) → number_of t ws ≡ None
+    → AreTimely clock ws dues → AreTimely clock (ws ++ Some (record { thread = t; deadline = d; state = Answered code }) ∷ []) dues
+timely_answered clock ws t code d dues alone timely =
+    timely_came clock ws (record { thread = t; deadline = d; state = Answered code }) dues dues alone tt (λ u other. refl) (λ e due. absurd (cc)) timely
 
 -- the clock goes on, where no wait's time is up
 undue_after : (now : ℕ) (d : Option ℕ) → is_due now d ≡ false → IsAfter now d

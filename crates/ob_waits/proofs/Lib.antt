@@ -24,3 +24,4 @@ pub mod SettleLaws
 pub mod DeadlineLaws
 pub mod LapseLaws
 pub mod AnswerLaws
+pub mod SkipLaws

@@ -47,7 +47,7 @@ module _ (given : ℕ) (seats : List (Option Held)) (threads : ℕ → Option �
       by None e = refl
       by (Some w) e = let at = found_seat n w e in absurd (out at.0 at.1)
 
-  seated_sparse : IsSparse given (found seats threads)
+  pub seated_sparse : IsSparse given (found seats threads)
   seated_sparse = record {
     zero_has_none = none 0 (λ some le. omega (arith, some));
     past_has_none = λ n past. none n (λ some le. omega (arith, past, le));

@@ -1,5 +1,5 @@
 -- Waits for any and for all of some objects: when one is ready, what it takes, and how they settle.
-use Rattle.std.specs.Prelude.{ℕ, zero, suc, ◌+◌, ◌==◌, nat_lt, Bool, true, false, List, [], ◌∷◌, ◌++◌, Option, Some, None, if◌then◌else◌, slice_index_or, slice_set, length, map, sum_by, count_by, position}
+use Rattle.std.specs.Prelude.{ℕ, zero, suc, ◌+◌, ◌-◌, ◌==◌, nat_lt, Bool, true, false, List, [], ◌∷◌, ◌++◌, Option, Some, None, if◌then◌else◌, slice_index_or, slice_set, length, map, sum_by, count_by, position, replicate}
 use Rattle.std.specs.List.{position_or_len, list_any, list_all}
 use Rattle.pin_core.specs.Holds.{same_id}
 use Rattle.pin_core.specs.declared.id.Id.{Id}
@@ -188,6 +188,14 @@ new_wait thread mode ids deadline = record { thread = thread; deadline = deadlin
 -- the waits with one more, which has the next number
 abbrev pub with_wait : WaitList → ℕ → Mode → List Id → Option ℕ → WaitList
 with_wait list thread mode ids deadline = record list { waits = list.waits ++ Some (new_wait thread mode ids deadline) ∷ [] }
+
+-- the waits where the next numbers, up to this one, are given to nobody
+abbrev pub skipped : ℕ → List (Option Wait) → List (Option Wait)
+skipped last waits = waits ++ replicate (last + 1 - length waits) None
+
+-- the waits with one more, which is answered
+abbrev pub with_answered : WaitList → ℕ → Option ℕ → ℕ → WaitList
+with_answered list thread deadline code = record list { waits = list.waits ++ Some (record { thread = thread; deadline = deadline; state = Answered code }) ∷ [] }
 
 -- the wait of a number, answered
 abbrev pub answered : Option Wait → ℕ → Option Wait

@@ -5,7 +5,7 @@ ghost use Rattle.least_free.specs.From.{IsLeastFrom};
 ghost use Rattle.ob_waits.specs.Answers.{answer_of, is_answered};
 ghost use Rattle.ob_waits.specs.Deadlines.{is_overdue};
 ghost use Rattle.ob_waits.specs.Rules.{thread_of};
-ghost use Rattle.ob_waits.specs.Waits.{answered, is_pending, number_of};
+ghost use Rattle.ob_waits.specs.Waits.{answered, is_pending, number_of, skipped};
 
 use crate::answer::Answer;
 use crate::numbered::Numbered;
@@ -108,6 +108,29 @@ impl Live {
         self.untaken.make_room(wait.thread)?;
         self.waits.push(wait)?;
         Ok(())
+    }
+
+    /// Gives the next number to a wait that is answered, of a thread that has none.
+    pub(crate) fn push_answered(&mut self, wait: Wait) -> Result<(), AllocError>
+        requires few { length self.old < 4294967296 }
+        requires alone { number_of wait.thread self.old ≡ None }
+        requires answered { is_answered (Some wait) ≡ true }
+        ensures ok { OnOk result (self.new ≡ self.old ++ Some wait ∷ []) }
+        ensures err { OnErr result (self.new ≡ self.old) }
+    {
+        self.untaken.make_room(wait.thread)?;
+        self.waits.push(wait)?;
+        let number = self.waits.given();
+        self.untaken.came(&self.waits, number);
+        Ok(())
+    }
+
+    /// Gives the next numbers, up to this one, to nobody.
+    pub(crate) fn skip_to(&mut self, last: u32)
+        requires { length self.old ≤ last + 1 }
+        ensures { self.new ≡ skipped last self.old }
+    {
+        self.waits.skip_to(last);
     }
 
     /// Answers a thread's wait, of this number.

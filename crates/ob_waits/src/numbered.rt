@@ -4,7 +4,7 @@ ghost use Rattle.std.specs.Option.{option_copied};
 ghost use Rattle.ob_waits.specs.Answers.{answer_of, is_answered};
 ghost use Rattle.ob_waits.specs.Deadlines.{is_overdue};
 ghost use Rattle.ob_waits.specs.Rules.{thread_of};
-ghost use Rattle.ob_waits.specs.Waits.{answered, is_pending, number_of};
+ghost use Rattle.ob_waits.specs.Waits.{answered, is_pending, number_of, skipped};
 
 use crate::answer::Answer;
 use crate::finder::{Entry, Finder};
@@ -139,6 +139,14 @@ impl Numbered {
         self.seats[thread as usize] = Some(Held { number, wait });
         self.given = number;
         Ok(())
+    }
+
+    /// Gives the next numbers, up to this one, to nobody.
+    pub(crate) fn skip_to(&mut self, last: u32)
+        requires { length self.old ≤ last + 1 }
+        ensures { self.new ≡ skipped last self.old }
+    {
+        self.given = last;
     }
 
     /// Answers a thread's wait.

@@ -3,7 +3,7 @@ ghost use Rattle.std.specs.Prelude.{length, map, slice_index_or, OnOk, OnErr, If
 ghost use Rattle.std.specs.Option.{option_map};
 ghost use Rattle.ob_waits.specs.Waits.{settled, passed, blocks_among, number_of, with_wait, with_answer};
 ghost use Rattle.ob_waits.specs.Waits.{without_wait, without_thread, is_pending, code_at, state_at, ids_of, is_full};
-ghost use Rattle.ob_waits.specs.Waits.{new_wait};
+ghost use Rattle.ob_waits.specs.Waits.{new_wait, skipped, with_answered};
 ghost use Rattle.least_due.specs.Dues.{IsLeast};
 ghost use Rattle.least_free.specs.From.{IsLeastFrom};
 ghost use Rattle.ob_waits.specs.Answers.{answer_of, is_answered};
@@ -183,6 +183,37 @@ impl Waits {
         })?;
         self.deadlines.set(thread, deadline);
         Ok(number)
+    }
+
+    /// Gives the next number to a wait of a thread that is answered with a code.
+    pub(crate) fn add_answered(
+        &mut self,
+        thread: u32,
+        deadline: Option<u64>,
+        code: u32,
+    ) -> Result<u32, AllocError>
+        requires alone { number_of thread self.old.waits ≡ None }
+        requires below_limit { is_full self.old ≡ false }
+        ensures number { IfOk result (λ number. number ≡ length self.old.waits) }
+        ensures added { OnOk result (self.new ≡ with_answered self.old thread deadline code) }
+        ensures err { OnErr result (self.new ≡ self.old) }
+    {
+        let number = self.live.given() + 1;
+        self.live.push_answered(Wait {
+            thread,
+            deadline,
+            state: State::Answered(code),
+        })?;
+        Ok(number)
+    }
+
+    /// Gives the next numbers, up to this one, to nobody.
+    pub(crate) fn skip_to(&mut self, last: u32)
+        requires next { length self.old.waits ≤ last + 1 }
+        requires most { last ≤ self.old.limit }
+        ensures { self.new ≡ record self.old { waits = skipped last self.old.waits } }
+    {
+        self.live.skip_to(last);
     }
 
     /// Gives the next number to a pending wait of a thread for 1 to 64 objects, until a moment or for good.

@@ -1,0 +1,8 @@
+use Rattle.std.proofs.Common.{List, Option, subst, sym}
+use Rattle.ob_waits.specs.declared.wait.Wait.{Wait}
+use Rattle.ob_waits.specs.Answers.{AreTold}
+use Rattle.ob_waits.proofs.SkipLaws.{told_skipped}
+use Rattle.ob_waits.proofs.live.Live.skip_to.Goals as goal
+
+pub invariant_of-self : goal.invariant_of-self
+invariant_of-self c = subst (λ (ws : List (Option Wait)). AreTold ws c.self.inside.untaken) (sym c.skip_to.ensures) (told_skipped c.args.last c.self.inside.waits c.self.inside.untaken c.self.invariant)
