@@ -25,3 +25,6 @@ pub mod DeadlineLaws
 pub mod LapseLaws
 pub mod AnswerLaws
 pub mod SkipLaws
+pub mod RowLaws
+pub mod StandingLaws
+pub mod ReadLaws

@@ -1,5 +1,5 @@
 -- Numbers that are given to nobody.
-use Rattle.std.proofs.Common.{◌≡◌, ℕ, zero, suc, ◌+◌, ◌-◌, ◌≤◌, List, [], ◌∷◌, ◌++◌, length, replicate, Option, None, Bool, true, refl, ap, ◌∙◌, sym, subst, arith, get_or}
+use Rattle.std.proofs.Common.{◌≡◌, ℕ, zero, suc, ◌+◌, ◌-◌, ◌≤◌, List, [], ◌∷◌, ◌++◌, length, replicate, Option, None, Bool, refl, ap, ◌∙◌, sym, subst, arith, get_or}
 use Rattle.std.proofs.lemmas.List.{length-append, length-replicate, ext_get_or}
 use Rattle.ob_waits.specs.declared.wait.Wait.{Wait}
 use Rattle.ob_waits.specs.Answers.{AreTold, IsAnswered, Untaken}

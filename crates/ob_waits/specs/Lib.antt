@@ -11,3 +11,4 @@ pub mod Deadlines
 pub mod Answers
 pub mod Spelling
 pub mod SpellingLaws
+pub mod Rows

@@ -1,9 +1,8 @@
 -- Waits as bytes: the last number given, and each wait that isn't over with its number, by rising number.
-use Rattle.std.specs.Prelude.{◌≡◌, ℕ, zero, suc, ◌+◌, ◌<◌, ◌^◌, nat_lt, nat_le, ◌&&◌, ◌||◌, not, Bool, true, false, List, [], ◌∷◌, length, map, Option, Some, None, Result, Ok, Err, if◌then◌else◌, is_some, slice_index_or}
+use Rattle.std.specs.Prelude.{◌≡◌, ℕ, zero, suc, ◌+◌, ◌<◌, ◌^◌, nat_lt, nat_le, ◌&&◌, ◌||◌, not, Bool, true, false, List, [], ◌∷◌, length, Option, Some, None, Err, is_some, slice_index_or}
 use Rattle.std.specs.List.{list_all, list_any}
 use Rattle.std.specs.Int.{w32, w64, to_le_bytes}
-use Rattle.ob_codec.specs.declared.fault.TextFault.{TextFault}
-use Rattle.ob_codec.specs.declared.fault.TextFault.TheVariants.{Tag, Value}
+use Rattle.ob_codec.specs.declared.fault.TextFault.TheVariants.{Tag}
 use Rattle.ob_codec.specs.Reading.{Read, as_at, both_at, list_at, number_at, option_at, tagged_at, where_at}
 use Rattle.ob_codec.specs.Sparse.{SparseFits, sparse, sparse_at}
 use Rattle.ob_codec.specs.Spelling.{BothFit, ListFits, OptionFits, both, list, option}

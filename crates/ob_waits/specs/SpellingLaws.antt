@@ -8,7 +8,7 @@ use Rattle.ob_codec.specs.SparseLaws.{sparse_codec}
 use Rattle.ob_codec.specs.Spelling.{AreBytes}
 use Rattle.ob_codec.specs.Steps.{bind_ok, ok_is}
 use Rattle.pin_core.specs.SpellingLaws.{id_codec}
-use Rattle.ob_waits.specs.Spelling.{HeldFits, IdsFit, RowFits, StateFits, WaitFits, WaitsFit, are_few, can_be, held_at, held_of, held_parts, held_text, ids_at, ids_text, is_four, parts_text, row_at, row_text, state_at, state_in, state_text, tag_of, wait_at, wait_of, wait_parts, wait_text, waits_at, waits_text, with_rest}
+use Rattle.ob_waits.specs.Spelling.{HeldFits, IdsFit, StateFits, WaitFits, WaitsFit, are_few, can_be, held_at, held_of, held_parts, held_text, ids_at, ids_text, parts_text, state_at, state_in, state_text, tag_of, wait_at, wait_of, wait_parts, wait_text, waits_at, waits_text, with_rest}
 use Rattle.ob_waits.specs.Waits.{WaitList}
 use Rattle.ob_waits.specs.declared.wait.Mode.TheVariants.{Any, All}
 use Rattle.ob_waits.specs.declared.wait.State.{State}

@@ -24,6 +24,7 @@ mod overdue;
 mod pass;
 mod pending;
 mod per_thread;
+mod reading;
 mod roster;
 mod seats;
 mod spelling;

@@ -3,6 +3,8 @@ ghost use Rattle.std.specs.Prelude.{length, map, slice_index_or, OnOk, OnErr, If
 ghost use Rattle.std.specs.Option.{option_map};
 ghost use Rattle.ob_waits.specs.Waits.{settled, passed, blocks_among, number_of, with_wait, with_answer};
 ghost use Rattle.ob_waits.specs.Waits.{without_wait, without_thread, is_pending, code_at, state_at, ids_of, is_full};
+ghost use Rattle.ob_codec.specs.Reading.{Gives};
+ghost use Rattle.ob_waits.specs.Spelling.{can_be, waits_at};
 ghost use Rattle.ob_waits.specs.Waits.{new_wait, skipped, with_answered};
 ghost use Rattle.least_due.specs.Dues.{IsLeast};
 ghost use Rattle.least_free.specs.From.{IsLeastFrom};
@@ -21,9 +23,11 @@ use crate::overdue::{next_due, next_overdue};
 use crate::pass::{pass, pass_each, pass_slot};
 use crate::pending::Pending;
 use crate::per_thread::PerThread;
+use crate::reading::{put_all, read_rows};
 use crate::roster::Roster;
 use crate::wait::{Mode, State, Wait, WaitState};
 use ob_body::RECURSION_MAX;
+use ob_codec::{Cursor, ReadFault, TextFault};
 use ob_rights::Fault;
 use pin_core::Id;
 use std::alloc::{AllocError, Global};
@@ -82,6 +86,30 @@ impl Waits {
         }
     }
 
+    /// Reads waits of which at most `waits` numbers may be given, as they are at a moment, from the front of what is
+    /// left. [`TextFault::Value`] where a number is above that, or above the last one given, or doesn't rise; where a
+    /// thread has two waits; and where a pending one lists no object, more than 64 or, to wait for all, one slot twice,
+    /// or its time is up.
+    pub fn read(
+        alloc: Global,
+        waits: u32,
+        clock: u64,
+        from: &mut Cursor<'_>,
+    ) -> Result<Waits, ReadFault>
+        requires { clock ≤ LAST_MOMENT }
+        ensures { Gives (λ read. read) result (waits_at waits clock from.old) from.new }
+    {
+        let last = from.four()?;
+        let rows = read_rows(alloc, from)?;
+        if last > waits {
+            return Err(ReadFault::Text(TextFault::Value));
+        }
+        let mut read = Waits::new(alloc, waits);
+        read.pass_to(clock);
+        put_all(&mut read, rows.as_slice(), last)?;
+        Ok(read)
+    }
+
     /// The moment that it is, in units of 100 ns.
     pub fn clock(&self) -> u64
         ensures moment { result ≡ self.now.clock }
@@ -90,6 +118,13 @@ impl Waits {
         ensures ahead { AreAhead self.now.clock self.now.waits }
     {
         self.clock
+    }
+
+    /// The last number given, or 0.
+    pub(crate) fn given(&self) -> u32
+        ensures { length self.now.waits ≡ result + 1 }
+    {
+        self.live.given()
     }
 
     /// The number of the thread's wait, pending or answered.
@@ -157,7 +192,8 @@ impl Waits {
         self.live.next_answered(after)
     }
 
-    fn admit(
+    /// Gives the next number to a pending wait, where one is left.
+    pub(crate) fn admit(
         &mut self,
         thread: u32,
         mode: Mode,
@@ -211,7 +247,9 @@ impl Waits {
     pub(crate) fn skip_to(&mut self, last: u32)
         requires next { length self.old.waits ≤ last + 1 }
         requires most { last ≤ self.old.limit }
-        ensures { self.new ≡ record self.old { waits = skipped last self.old.waits } }
+        ensures value { self.new ≡ record self.old { waits = skipped last self.old.waits } }
+        // Whatever the waits are.
+        ensures can_be { can_be self.new.limit self.new.clock self.new.waits ≡ true }
     {
         self.live.skip_to(last);
     }

@@ -1,0 +1,6 @@
+use Rattle.std.proofs.Common.{◌≡◌, drop}
+use Rattle.ob_waits.specs.Spelling.{names_twice}
+use Rattle.ob_waits.proofs.reading.names_twice.Given as goal
+
+abbrev pub invariant-loop-i : goal.invariant-loop-i
+invariant-loop-i l = names_twice (drop l.i l.ids) ≡ names_twice l.ids

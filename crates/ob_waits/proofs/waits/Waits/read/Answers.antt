@@ -1,0 +1,40 @@
+use Rattle.std.proofs.Common.{◌≡◌, ◌∷◌, ◌∙◌, [], List, None, Ok, ap, map, subst}
+use Rattle.std.proofs.lemmas.Result.{err_from_is_err_and}
+use Rattle.ob_codec.specs.Reading.{Fails}
+use Rattle.ob_waits.specs.Rows.{built}
+use Rattle.ob_waits.specs.Spelling.{held_parts}
+use Rattle.ob_waits.specs.Waits.{WaitList}
+use Rattle.ob_waits.specs.declared.held.Held.{Held}
+use Rattle.ob_waits.proofs.ReadLaws.{behind, read_fails, read_is}
+use Rattle.ob_waits.proofs.RowLaws.{too_many}
+use Rattle.ob_waits.proofs.waits.Waits.read.Goals as goal
+
+pub returns-then-last-waits : goal.returns-then-last-waits
+returns-then-last-waits c =
+    let a = c.args in
+    let ps = map held_parts c.in_ok-rows.rows.items in
+    read_is a.waits a.clock c.in_ok-last.last a.from.now c.four.new.self c.read_rows.new.from ps c.in_ok-last.ensures c.in_ok-rows.ensures
+    ∙ ap (behind c.read_rows.new.from) (too_many a.waits a.clock c.in_ok-last.last ps c.if-last-waits.true)
+
+pub returns-in_err-put_all : goal.returns-in_err-put_all
+returns-in_err-put_all c =
+    let a = c.args in
+    let last = c.in_ok-last.last in
+    let rows = c.in_ok-rows.rows.items in
+    let fault = c.in_err-put_all.field-0.0 in
+    let begun : c.pass_to.new.self ≡ record { limit = a.waits; waits = None ∷ []; clock = a.clock } = c.pass_to.ensures ∙ ap (λ (l : WaitList). record l { clock = a.clock }) c.new-read.ensures in
+    let fails : Fails fault (built a.waits a.clock last rows) = subst (λ (l : WaitList). Fails fault (built l.limit l.clock last rows)) begun
+    (subst (λ (rs : List Held). Fails fault (built c.pass_to.new.self.limit c.pass_to.new.self.clock last rs)) c.as_slice.ensures.value c.in_err-put_all.ensures) in
+    let p = err_from_is_err_and c.from_residual-in_err-put_all.result c.from_residual-in_err-put_all.ensures.1 in
+    rw (p.1, p.2) (read_fails fault a.waits a.clock last a.from.now c.four.new.self c.read_rows.new.from (map held_parts rows) c.in_ok-last.ensures c.in_ok-rows.ensures fails)
+
+pub returns : goal.returns
+returns c =
+    let a = c.args in
+    let last = c.in_ok-last.last in
+    let rows = c.in_ok-rows.rows.items in
+    let begun : c.pass_to.new.self ≡ record { limit = a.waits; waits = None ∷ []; clock = a.clock } = c.pass_to.ensures ∙ ap (λ (l : WaitList). record l { clock = a.clock }) c.new-read.ensures in
+    let is : built a.waits a.clock last rows ≡ Ok c.put_all.new.waits = subst (λ (l : WaitList). built l.limit l.clock last rows ≡ Ok c.put_all.new.waits) begun
+    (subst (λ (rs : List Held). built c.pass_to.new.self.limit c.pass_to.new.self.clock last rs ≡ Ok c.put_all.new.waits) c.as_slice.ensures.value c.in_ok-put_all.ensures) in
+    read_is a.waits a.clock last a.from.now c.four.new.self c.read_rows.new.from (map held_parts rows) c.in_ok-last.ensures c.in_ok-rows.ensures
+    ∙ ap (behind c.read_rows.new.from) is

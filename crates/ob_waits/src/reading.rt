@@ -1,0 +1,117 @@
+// Waits are built of what was read: one after another, by rising number.
+ghost use Rattle.std.specs.Prelude.{◌≡◌, ◌≤◌, ◌<◌, ◌∷◌, [], ◌++◌, None, Some, OnOk, map, true, false};
+ghost use Rattle.ob_codec.specs.Reading.{Gives, GivesAll, list_at};
+ghost use Rattle.ob_waits.specs.Rows.{built, come, may_come};
+ghost use Rattle.ob_waits.specs.Spelling.{held_parts, may_list, may_stand, names_twice, row_at};
+ghost use Rattle.ob_waits.specs.Waits.{has_slot, is_full, number_of};
+
+use crate::held::Held;
+use crate::wait::{Mode, State, Wait};
+use crate::waits::Waits;
+use ob_codec::{Cursor, ReadFault, TextFault, read_list};
+use pin_core::Id;
+use std::alloc::{AllocError, Global};
+
+/// Reads waits with their numbers.
+pub(crate) fn read_rows(alloc: Global, from: &mut Cursor<'_>) -> Result<Vec<Held>, ReadFault>
+    ensures { Gives (λ rows. map held_parts rows.items) result (list_at row_at from.old) from.new }
+{
+    read_list::<Held>(alloc, from)
+}
+
+/// Whether one of some objects is in a slot.
+fn has_slot(ids: &[Id], slot: u32) -> bool
+    ensures { result ≡ has_slot ids.now slot }
+{
+    ids.iter().any(|id| id.slot == slot)
+}
+
+/// Whether two places of a list name one slot.
+fn names_twice(ids: &[Id]) -> bool
+    ensures { result ≡ names_twice ids.now }
+{
+    for (i, id) in ids.iter().enumerate() {
+        if has_slot(&ids[i + 1..], id.slot) {
+            return true;
+        }
+    }
+    false
+}
+
+/// Whether there is an object to wait for, and a wait for all is for none twice.
+fn may_list(mode: Mode, ids: &[Id]) -> bool
+    ensures { result ≡ may_list mode ids.now }
+{
+    match mode {
+        Mode::Any => !ids.is_empty(),
+        Mode::All => !ids.is_empty() && !names_twice(ids),
+    }
+}
+
+/// Whether a wait can be there at a moment.
+fn may_stand(wait: &Wait, clock: u64) -> bool
+    ensures { result ≡ may_stand clock (Some wait.now) }
+{
+    match &wait.state {
+        State::Pending(mode, ids) => match wait.deadline {
+            Some(deadline) if deadline <= clock => false,
+            _ => may_list(*mode, ids.as_slice()),
+        },
+        State::Answered(_) => true,
+    }
+}
+
+/// Whether a wait can come next with its number, up to the last one.
+fn may_come(waits: &Waits, held: &Held, last: u32) -> bool
+    ensures value { result ≡ may_come last waits.now held.now }
+    ensures some { result ≡ true → 0 < held.now.number }
+{
+    waits.given() < held.number
+        && held.number <= last
+        && may_stand(&held.wait, waits.clock())
+        && waits.wait_of(held.wait.thread).is_none()
+}
+
+/// Gives the next number to a wait, of a thread that has none.
+fn put_wait(waits: &mut Waits, wait: &Wait) -> Result<(), AllocError>
+    requires stands { may_stand waits.old.clock (Some wait.now) ≡ true }
+    requires alone { number_of wait.now.thread waits.old.waits ≡ None }
+    requires below_limit { is_full waits.old ≡ false }
+    ensures { OnOk result (waits.new ≡ record waits.old { waits = waits.old.waits ++ Some wait.now ∷ [] }) }
+{
+    match &wait.state {
+        State::Pending(mode, ids) => {
+            waits.admit(wait.thread, *mode, ids.as_slice(), wait.deadline)?;
+        }
+        State::Answered(code) => {
+            waits.add_answered(wait.thread, wait.deadline, *code)?;
+        }
+    }
+    Ok(())
+}
+
+/// Puts a wait in with its number, where it can come next.
+fn put_back(waits: &mut Waits, held: &Held, last: u32) -> Result<(), ReadFault>
+    requires { last ≤ waits.old.limit }
+    ensures { GivesAll (λ nothing. waits.new) result (come last waits.old held.now) }
+{
+    if !may_come(waits, held, last) {
+        return Err(ReadFault::Text(TextFault::Value));
+    }
+    waits.skip_to(held.number - 1);
+    put_wait(waits, &held.wait)?;
+    Ok(())
+}
+
+/// Puts all in, and gives the numbers that are left, up to the last one, to nobody.
+pub(crate) fn put_all(waits: &mut Waits, rows: &[Held], last: u32) -> Result<(), ReadFault>
+    requires none { waits.old.waits ≡ None ∷ [] }
+    requires most { last ≤ waits.old.limit }
+    ensures { GivesAll (λ nothing. waits.new) result (built waits.old.limit waits.old.clock last rows.now) }
+{
+    for held in rows {
+        put_back(waits, held, last)?;
+    }
+    waits.skip_to(last);
+    Ok(())
+}
