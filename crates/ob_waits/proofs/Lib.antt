@@ -28,3 +28,4 @@ pub mod SkipLaws
 pub mod RowLaws
 pub mod StandingLaws
 pub mod ReadLaws
+pub mod WriteLaws

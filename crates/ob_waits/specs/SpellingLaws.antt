@@ -50,7 +50,7 @@ wait_codec = as_codec wait_of wait_parts (λ _. refl) (λ _. refl) (both_codec u
 pub held_codec : IsCodec held_text held_at HeldFits
 held_codec = as_codec held_of held_parts (λ _. refl) (λ _. refl) (both_codec u32_codec wait_codec)
 
-pub lists_codec : (limit clock : ℕ) → IsCodec waits_text (where_at (can_be limit clock) (sparse_at wait_at)) (λ ws. SparseFits WaitFits ws × (can_be limit clock ws ≡ true))
+lists_codec : (limit clock : ℕ) → IsCodec waits_text (where_at (can_be limit clock) (sparse_at wait_at)) (λ ws. SparseFits WaitFits ws × (can_be limit clock ws ≡ true))
 lists_codec limit clock = where_codec (sparse_codec wait_codec) (can_be limit clock)
 
 pub waits_again : (list : WaitList) (rest : List ℕ) → WaitsFit list → waits_at list.limit list.clock (waits_text list.waits ++ rest) ≡ Ok (list, rest)

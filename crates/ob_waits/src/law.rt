@@ -1,8 +1,11 @@
-ghost use Rattle.std.specs.Prelude.{◌≡◌, ◌⊎◌, ℕ, true, None, Some, is_some, slice_index_or};
+ghost use Rattle.std.specs.Prelude.{◌≡◌, ◌++◌, ◌⊎◌, ℕ, List, Ok, true, None, Some, is_some, slice_index_or};
+ghost use Rattle.ob_codec.specs.Laws.{Takes};
+ghost use Rattle.ob_codec.specs.Spelling.{AreBytes};
 ghost use Rattle.ob_waits.specs.Ends.{HasBlocks, settled_plainly, with_ends};
 ghost use Rattle.ob_waits.specs.Form.{slot_form, slot_owner, HasWait};
 ghost use Rattle.ob_waits.specs.Rules.{HasBodies, IsSettled, thread_of};
-ghost use Rattle.ob_waits.specs.Waits.{Scene, settled, is_pending};
+ghost use Rattle.ob_waits.specs.Spelling.{WaitsFit, waits_at, waits_text};
+ghost use Rattle.ob_waits.specs.Waits.{Scene, WaitList, settled, is_pending};
 
 /// What settling keeps, whatever the objects and the waits are.
 ///
@@ -35,4 +38,12 @@ pub fn law_of_ends()
     ensures bodies { (scene : Scene) → HasBodies scene.objects → HasBodies (settled scene).objects }
     ensures last { (scene : Scene) → HasBodies scene.objects → HasBlocks scene
         → settled scene ≡ with_ends (settled_plainly scene) }
+{}
+
+/// Waits that were written are read again, whatever stands behind them, and what is read was written so.
+pub fn law_of_spelled_waits()
+    ensures again { (list : WaitList) (rest : List ℕ) → WaitsFit list
+        → waits_at list.limit list.clock (waits_text list.waits ++ rest) ≡ Ok (list, rest) }
+    ensures takes { (limit clock : ℕ) (bytes : List ℕ) (list : WaitList) (rest : List ℕ) → AreBytes bytes
+        → waits_at limit clock bytes ≡ Ok (list, rest) → Takes bytes (waits_text list.waits) rest × WaitsFit list }
 {}

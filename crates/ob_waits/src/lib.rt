@@ -2,7 +2,8 @@
 //!
 //! [`try_now`] is a wait that may be satisfied at once. [`Waits`] has those that are pending, and settles them
 //! after bodies changed. The objects stand behind [`Bodies`], which the layer above implements.
-//! [`law_of_settling`] says what settling leaves as it is, and [`law_of_ends`] when objects end.
+//! [`law_of_settling`] says what settling leaves as it is, [`law_of_ends`] when objects end, and
+//! [`law_of_spelled_waits`] that waits are read as they were written.
 #![tactic(auto)]
 
 mod answer;
@@ -32,11 +33,12 @@ mod take;
 mod untaken;
 mod wait;
 mod waits;
+mod writing;
 
 pub use answer::Answer;
 pub use bodies::Bodies;
 pub use codes::{LAST_MOMENT, MAXIMUM_WAIT_OBJECTS, WAIT_ABANDONED_0, WAIT_TIMEOUT};
-pub use law::{law_of_ends, law_of_settling};
+pub use law::{law_of_ends, law_of_settling, law_of_spelled_waits};
 pub use pass::leave_all;
 pub use pending::Pending;
 pub use take::try_now;

@@ -1,10 +1,10 @@
-ghost use Rattle.std.specs.Prelude.{[], ◌∷◌, ◌≡◌, false, Err, IfNone, ◌≢◌, ◌+◌, ◌<◌, ◌≤◌, ◌↔◌, ℕ, true, None, Some};
+ghost use Rattle.std.specs.Prelude.{[], ◌∷◌, ◌++◌, ◌≡◌, false, Err, IfNone, ◌≢◌, ◌+◌, ◌<◌, ◌≤◌, ◌↔◌, ℕ, true, None, Some};
 ghost use Rattle.std.specs.Prelude.{length, map, slice_index_or, OnOk, OnErr, IfOk, IfErr, IfSome, IsSome, is_some};
 ghost use Rattle.std.specs.Option.{option_map};
 ghost use Rattle.ob_waits.specs.Waits.{settled, passed, blocks_among, number_of, with_wait, with_answer};
 ghost use Rattle.ob_waits.specs.Waits.{without_wait, without_thread, is_pending, code_at, state_at, ids_of, is_full};
 ghost use Rattle.ob_codec.specs.Reading.{Gives};
-ghost use Rattle.ob_waits.specs.Spelling.{can_be, waits_at};
+ghost use Rattle.ob_waits.specs.Spelling.{WaitsFit, can_be, waits_at, waits_text};
 ghost use Rattle.ob_waits.specs.Waits.{new_wait, skipped, with_answered};
 ghost use Rattle.least_due.specs.Dues.{IsLeast};
 ghost use Rattle.least_free.specs.From.{IsLeastFrom};
@@ -26,8 +26,9 @@ use crate::per_thread::PerThread;
 use crate::reading::{put_all, read_rows};
 use crate::roster::Roster;
 use crate::wait::{Mode, State, Wait, WaitState};
+use crate::writing::write_rows;
 use ob_body::RECURSION_MAX;
-use ob_codec::{Cursor, ReadFault, TextFault};
+use ob_codec::{Cursor, ReadFault, Spelled, TextFault};
 use ob_rights::Fault;
 use pin_core::Id;
 use std::alloc::{AllocError, Global};
@@ -84,6 +85,22 @@ impl Waits {
             roster: Roster::new(alloc),
             deadlines: PerThread::new(alloc),
         }
+    }
+
+    /// Writes the waits behind some bytes: the last number given, and each wait that isn't over, by rising number, but
+    /// neither how many numbers may be given nor the moment. It takes as much memory beside as the waits have bytes.
+    ///
+    /// Its cost grows with the waits, and for each that is answered with the threads where answers came out of the
+    /// order of the waits' numbers, as that of [`next_answered`](Waits::next_answered).
+    pub fn write(&self, out: &mut Vec<u8>) -> Result<(), AllocError>
+        ensures text { OnOk result (out.new.items ≡ out.old.items ++ waits_text self.now.waits) }
+        ensures fits { OnOk result (WaitsFit self.now) }
+    {
+        let mut rows = Vec::new(self.alloc);
+        let count = write_rows(&self.live, self.roster.order(), &mut rows)?;
+        self.live.given().write(out)?;
+        count.write(out)?;
+        out.extend_from_slice(rows.as_slice())
     }
 
     /// Reads waits of which at most `waits` numbers may be given, as they are at a moment, from the front of what is
