@@ -1,14 +1,17 @@
 -- What is read is what the last number and the rows come to.
-use Rattle.std.proofs.Common.{◌≡◌, Global, Vec, ℕ, zero, suc, Bool, true, false, cond, List, ◌∷◌, map, Option, Some, None, Result, Ok, Err, refl, ap, ◌∙◌, sym}
+use Rattle.std.proofs.Common.{◌≡◌, Global, Vec, ℕ, zero, suc, Bool, true, false, cond, ◌&&◌, eqb, leb, ltb, eq-eqb, arith, ◌+◌, List, [], ◌∷◌, map, Option, Some, None, Result, Ok, Err, refl, ap, ◌∙◌, subst, sym}
 use Rattle.std.specs.Int.{w32}
+use Rattle.std.specs.List.{list_all}
+use Rattle.std.proofs.lemmas.Bool.{eqb-true, le-leb, leb-true, ltb-true}
 use Rattle.ob_codec.specs.declared.fault.ReadFault.{ReadFault}
 use Rattle.ob_codec.specs.declared.fault.ReadFault.TheVariants.{Memory, Text}
 use Rattle.ob_codec.specs.declared.fault.TextFault.{TextFault}
 use Rattle.ob_codec.specs.declared.fault.TextFault.TheVariants.{Value}
 use Rattle.ob_codec.specs.Reading.{◌>>=◌, Fails, Gives, Read, given_at, items_at, list_at, number_at}
-use Rattle.ob_codec.specs.Sparse.{spread}
-use Rattle.ob_waits.specs.Rows.{tested}
-use Rattle.ob_waits.specs.Spelling.{can_be, held_at, held_of, held_parts, row_at, waits_at, with_rest}
+use Rattle.ob_codec.specs.Sparse.{fits_from, spread, spread_from}
+use Rattle.ob_codec.specs.Steps.{both-true, true-both}
+use Rattle.ob_waits.specs.Rows.{built, rows_within, tested}
+use Rattle.ob_waits.specs.Spelling.{are_within, can_be, held_at, held_of, held_parts, is_within, none_or, row_at, waits_at, with_rest}
 use Rattle.ob_waits.specs.Waits.{WaitList}
 use Rattle.ob_waits.specs.declared.held.Held.{Held}
 use Rattle.ob_waits.specs.declared.wait.Wait.{Wait}
@@ -45,29 +48,95 @@ rows_in_parts (Ok rows) bytes rest is = sym (list_in_parts bytes) ∙ ap in_part
 rows_in_parts (Err Memory) bytes rest fails = tt
 rows_in_parts (Err (Text f)) bytes rest fails = sym (list_in_parts bytes) ∙ ap in_parts fails
 
--- what all comes to, and the bytes behind it
+-- what all comes to, where threads and slots are below some, and the bytes behind it
+abbrev pub within : ℕ → ℕ → Result WaitList TextFault → Result WaitList TextFault
+within threads slots r = r >>= λ (l : WaitList). cond (are_within threads slots l.waits) (Ok l) (Err Value)
+
 abbrev pub behind : List ℕ → Result WaitList TextFault → Read WaitList
 behind rest r = r >>= λ (l : WaitList). Ok (l, rest)
 
 abbrev as_waits : ℕ → ℕ → Read (List (Option Wait)) → Read WaitList
 as_waits limit clock r = r >>= λ (a : List (Option Wait) × List ℕ). Ok (with_rest limit clock a.0, a.1)
 
-abbrev where_they_can : ℕ → ℕ → Read (List (Option Wait)) → Read (List (Option Wait))
-where_they_can limit clock r = r >>= λ (a : List (Option Wait) × List ℕ). cond (can_be limit clock a.0) (Ok a) (Err Value)
+abbrev where_they : (List (Option Wait) → Bool) → Read (List (Option Wait)) → Read (List (Option Wait))
+where_they can r = r >>= λ (a : List (Option Wait) × List ℕ). cond (can a.0) (Ok a) (Err Value)
 
-pub read_is : (limit clock last : ℕ) (bytes between rest : List ℕ) (ps : List (ℕ × Wait)) → number_at w32 bytes ≡ Ok (last, between) → list_at row_at between ≡ Ok (ps, rest)
-    → waits_at limit clock bytes ≡ behind rest (tested limit clock (spread (last, ps)))
-read_is limit clock last bytes between rest ps first second = rw (first, second) (by (spread (last, ps)))
+read_is : (limit clock threads slots last : ℕ) (bytes between rest : List ℕ) (ps : List (ℕ × Wait)) → number_at w32 bytes ≡ Ok (last, between) → list_at row_at between ≡ Ok (ps, rest)
+    → waits_at limit clock threads slots bytes ≡ behind rest (within threads slots (tested limit clock (spread (last, ps))))
+read_is limit clock threads slots last bytes between rest ps first second = rw (first, second) (by (spread (last, ps)))
   where
-    to : (ws : List (Option Wait)) (b : Bool) → as_waits limit clock (cond b (Ok (ws, rest)) (Err Value)) ≡ behind rest (cond b (Ok (with_rest limit clock ws)) (Err Value))
-    to ws true = refl
+    ends : (ws : List (Option Wait)) (c : Bool) → as_waits limit clock (cond c (Ok (ws, rest)) (Err Value)) ≡ behind rest (cond c (Ok (with_rest limit clock ws)) (Err Value))
+    ends ws true = refl
+    ends ws false = refl
+
+    to : (ws : List (Option Wait)) (b : Bool) → as_waits limit clock (where_they (are_within threads slots) (cond b (Ok (ws, rest)) (Err Value))) ≡ behind rest (within threads slots (cond b (Ok (with_rest limit clock ws)) (Err Value)))
+    to ws true = ends ws (are_within threads slots ws)
     to ws false = refl
 
-    by : (o : Option (List (Option Wait))) → as_waits limit clock (where_they_can limit clock (given_at o rest)) ≡ behind rest (tested limit clock o)
+    by : (o : Option (List (Option Wait))) → as_waits limit clock (where_they (are_within threads slots) (where_they (can_be limit clock) (given_at o rest))) ≡ behind rest (within threads slots (tested limit clock o))
     by None = refl
     by (Some ws) = to ws (can_be limit clock ws)
 
-pub read_fails : (e : ReadFault) (limit clock last : ℕ) (bytes between rest : List ℕ) (ps : List (ℕ × Wait)) → number_at w32 bytes ≡ Ok (last, between) → list_at row_at between ≡ Ok (ps, rest)
-    → Fails e (tested limit clock (spread (last, ps))) → Fails e (waits_at limit clock bytes)
-read_fails Memory limit clock last bytes between rest ps first second fails = tt
-read_fails (Text f) limit clock last bytes between rest ps first second fails = read_is limit clock last bytes between rest ps first second ∙ ap (behind rest) fails
+-- whether the places of a list pass is whether its rows do
+places_pass : (test : Wait → Bool) (k n end : ℕ) (ps : List (ℕ × Wait)) → end ≡ k + n → fits_from k end ps ≡ true → list_all (none_or test) (spread_from k n ps) ≡ list_all (λ (p : ℕ × Wait). test p.1) ps
+places_pass test k zero end [] is fits = refl
+places_pass test k zero end (p ∷ ps) is fits =
+    let b = both-true (leb k p.0) (ltb p.0 end && fits_from (suc p.0) end ps) fits in
+    let low = leb-true k p.0 b.0 in
+    let high = ltb-true p.0 end (both-true (ltb p.0 end) (fits_from (suc p.0) end ps) b.1).0 in
+    absurd (omega (arith, is, low, high))
+places_pass test k (suc n) end [] is fits = places_pass test (suc k) n end [] (omega (arith, is)) refl
+places_pass test k (suc n) end (p ∷ ps) is fits = by (eqb p.0 k) refl (λ later. places_pass test (suc k) n end ps (omega (arith, is)) later) (λ later. places_pass test (suc k) n end (p ∷ ps) (omega (arith, is)) later)
+  where
+    b : (leb k p.0 ≡ true) × ((ltb p.0 end && fits_from (suc p.0) end ps) ≡ true)
+    b = both-true (leb k p.0) (ltb p.0 end && fits_from (suc p.0) end ps) fits
+
+    by : (t : Bool) → eqb p.0 k ≡ t → (fits_from (suc k) end ps ≡ true → list_all (none_or test) (spread_from (suc k) n ps) ≡ list_all (λ (p : ℕ × Wait). test p.1) ps)
+        → (fits_from (suc k) end (p ∷ ps) ≡ true → list_all (none_or test) (spread_from (suc k) n (p ∷ ps)) ≡ list_all (λ (p : ℕ × Wait). test p.1) (p ∷ ps))
+        → list_all (none_or test) (cond t (Some p.1 ∷ spread_from (suc k) n ps) (None ∷ spread_from (suc k) n (p ∷ ps))) ≡ list_all (λ (p : ℕ × Wait). test p.1) (p ∷ ps)
+    by true same one more =
+        let later : fits_from (suc k) end ps ≡ true = subst (λ (z : ℕ). fits_from (suc z) end ps ≡ true) (eqb-true p.0 k same) (both-true (ltb p.0 end) (fits_from (suc p.0) end ps) b.1).1 in
+        ap (λ (z : Bool). test p.1 && z) (one later)
+    by false apart one more =
+        let low = leb-true k p.0 b.0 in
+        let other : p.0 ≡ k → ⊥ = λ q. (let t = sym (eq-eqb p.0 k q) ∙ apart in absurd cc) in
+        more (true-both (leb (suc k) p.0) (ltb p.0 end && fits_from (suc p.0) end ps) (le-leb (suc k) p.0 (omega (arith, low, other))) b.1)
+
+pass_in_parts : (test : Wait → Bool) (rows : List Held) → list_all (λ (p : ℕ × Wait). test p.1) (map held_parts rows) ≡ list_all (λ (h : Held). test h.wait) rows
+pass_in_parts test [] = refl
+pass_in_parts test (h ∷ rows) = ap (λ (z : Bool). test h.wait && z) (pass_in_parts test rows)
+
+-- what comes of rows of which all threads and slots are below, or not
+within_is : (limit clock threads slots last : ℕ) (rows : List Held) → within threads slots (built limit clock last rows) ≡ cond (rows_within threads slots rows) (built limit clock last rows) (Err Value)
+within_is limit clock threads slots last rows = by (fits_from 0 (suc last) (map held_parts rows)) refl
+  where
+    none : (c : Bool) → Err Value ≡ cond {A = Result WaitList TextFault} c (Err Value) (Err Value)
+    none true = refl
+    none false = refl
+
+    to : (ws : List (Option Wait)) (b c : Bool) → are_within threads slots ws ≡ c → within threads slots (cond b (Ok (with_rest limit clock ws)) (Err Value)) ≡ cond c (cond b (Ok (with_rest limit clock ws)) (Err Value)) (Err Value)
+    to ws true c is = ap (λ (z : Bool). cond {A = Result WaitList TextFault} z (Ok (with_rest limit clock ws)) (Err Value)) is
+    to ws false c is = none c
+
+    by : (b : Bool) → fits_from 0 (suc last) (map held_parts rows) ≡ b → within threads slots (tested limit clock (cond b (Some (spread_from 0 (suc last) (map held_parts rows))) None))
+        ≡ cond (rows_within threads slots rows) (tested limit clock (cond b (Some (spread_from 0 (suc last) (map held_parts rows))) None)) (Err Value)
+    by false is = none (rows_within threads slots rows)
+    by true is =
+        let ws = spread_from 0 (suc last) (map held_parts rows) in
+        to ws (can_be limit clock ws) (rows_within threads slots rows)
+        (places_pass (is_within threads slots) 0 (suc last) (suc last) (map held_parts rows) (omega arith) is ∙ pass_in_parts (is_within threads slots) rows)
+
+-- what is read, so
+pub rows_read : (limit clock threads slots last : ℕ) (bytes between rest : List ℕ) (rows : List Held) → number_at w32 bytes ≡ Ok (last, between) → list_at row_at between ≡ Ok (map held_parts rows, rest)
+    → waits_at limit clock threads slots bytes ≡ behind rest (cond (rows_within threads slots rows) (built limit clock last rows) (Err Value))
+rows_read limit clock threads slots last bytes between rest rows first second =
+    read_is limit clock threads slots last bytes between rest (map held_parts rows) first second ∙ ap (behind rest) (within_is limit clock threads slots last rows)
+
+-- or why nothing is
+pub read_fails : (e : ReadFault) (total : Read WaitList) (rest : List ℕ) (r : Result WaitList TextFault) → total ≡ behind rest r → Fails e r → Fails e total
+read_fails Memory total rest r is fails = tt
+read_fails (Text f) total rest r is fails = is ∙ ap (behind rest) fails
+
+pub none_read : (c : Bool) (r : Result WaitList TextFault) → r ≡ Err Value → cond c r (Err Value) ≡ Err Value
+none_read true r is = is
+none_read false r is = refl

@@ -1,9 +1,10 @@
 -- How the code goes over waits with their numbers: they are built one after another, by rising number, and written so.
 use Rattle.std.specs.Prelude.{ℕ, ◌-◌, nat_le, ◌&&◌, not, Bool, List, [], ◌∷◌, ◌++◌, length, map, Option, Some, None, Result, Ok, Err, if◌then◌else◌, is_some}
+use Rattle.std.specs.List.{list_all}
 use Rattle.ob_codec.specs.declared.fault.TextFault.{TextFault}
 use Rattle.ob_codec.specs.declared.fault.TextFault.TheVariants.{Value}
 use Rattle.ob_codec.specs.Sparse.{spread}
-use Rattle.ob_waits.specs.Spelling.{can_be, held_parts, may_stand, with_rest}
+use Rattle.ob_waits.specs.Spelling.{can_be, held_parts, is_within, may_stand, with_rest}
 use Rattle.ob_waits.specs.Waits.{WaitList, number_of, skipped}
 use Rattle.ob_waits.specs.declared.held.Held.{Held}
 use Rattle.ob_waits.specs.declared.wait.Wait.{Wait}
@@ -16,6 +17,10 @@ tested limit clock (Some waits) = if can_be limit clock waits then Ok (with_rest
 -- those that the last number and some waits with their numbers stand for
 abbrev pub built : ℕ → ℕ → ℕ → List Held → Result WaitList TextFault
 built limit clock last rows = tested limit clock (spread (last, map held_parts rows))
+
+-- whether their threads and slots are below some
+abbrev pub rows_within : ℕ → ℕ → List Held → Bool
+rows_within threads slots rows = list_all (λ (held : Held). is_within threads slots held.wait) rows
 
 -- whether a wait can come next with its number, up to the last one
 abbrev pub may_come : ℕ → WaitList → Held → Bool

@@ -9,7 +9,7 @@ use Rattle.ob_codec.specs.Spelling.{BothFit, ListFits, OptionFits, both, list, o
 use Rattle.pin_core.specs.Spelling.{IdFits, id_at, id_text}
 use Rattle.pin_core.specs.declared.id.Id.{Id}
 use Rattle.ob_waits.specs.Deadlines.{is_overdue}
-use Rattle.ob_waits.specs.Waits.{WaitList, has_slot, is_waits_of}
+use Rattle.ob_waits.specs.Waits.{WaitList, has_slot, is_waits_of, state_ids}
 use Rattle.ob_waits.specs.declared.held.Held.{Held}
 use Rattle.ob_waits.specs.declared.wait.Mode.{Mode}
 use Rattle.ob_waits.specs.declared.wait.Mode.TheVariants.{Any, All}
@@ -131,6 +131,20 @@ can_be limit clock waits =
     (nat_le (length waits) (limit + 1) && not (is_some (slice_index_or waits 0 None)))
     && (list_all (may_stand clock) waits && one_each waits)
 
+-- whether the thread of a wait, and the slots of its objects, are below some
+abbrev pub are_below : ℕ → List Id → Bool
+are_below slots ids = list_all (λ (id : Id). nat_lt id.slot slots) ids
+
+abbrev pub is_within : ℕ → ℕ → Wait → Bool
+is_within threads slots wait = nat_lt wait.thread threads && are_below slots (state_ids wait.state)
+
+abbrev pub none_or : (Wait → Bool) → Option Wait → Bool
+none_or test None = true
+none_or test (Some wait) = test wait
+
+abbrev pub are_within : ℕ → ℕ → List (Option Wait) → Bool
+are_within threads slots waits = list_all (none_or (is_within threads slots)) waits
+
 -- the waits; their limit and the moment stand elsewhere
 abbrev pub waits_text : List (Option Wait) → List ℕ
 waits_text = sparse wait_text
@@ -138,8 +152,10 @@ waits_text = sparse wait_text
 abbrev pub with_rest : ℕ → ℕ → List (Option Wait) → WaitList
 with_rest limit clock waits = record { limit = limit; waits = waits; clock = clock }
 
-abbrev pub waits_at : ℕ → ℕ → List ℕ → Read WaitList
-waits_at limit clock = as_at (with_rest limit clock) (where_at (can_be limit clock) (sparse_at wait_at))
+-- so do how many threads and slots there are, which bound the memory that is asked for
+abbrev pub waits_at : ℕ → ℕ → ℕ → ℕ → List ℕ → Read WaitList
+waits_at limit clock threads slots =
+    as_at (with_rest limit clock) (where_at (are_within threads slots) (where_at (can_be limit clock) (sparse_at wait_at)))
 
 -- waits that have a spelling
 abbrev pub WaitsFit : WaitList → Type 0

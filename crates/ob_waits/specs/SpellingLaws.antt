@@ -8,7 +8,7 @@ use Rattle.ob_codec.specs.SparseLaws.{sparse_codec}
 use Rattle.ob_codec.specs.Spelling.{AreBytes}
 use Rattle.ob_codec.specs.Steps.{bind_ok, ok_is}
 use Rattle.pin_core.specs.SpellingLaws.{id_codec}
-use Rattle.ob_waits.specs.Spelling.{HeldFits, IdsFit, StateFits, WaitFits, WaitsFit, are_few, can_be, held_at, held_of, held_parts, held_text, ids_at, ids_text, parts_text, state_at, state_in, state_text, tag_of, wait_at, wait_of, wait_parts, wait_text, waits_at, waits_text, with_rest}
+use Rattle.ob_waits.specs.Spelling.{HeldFits, IdsFit, StateFits, WaitFits, WaitsFit, are_few, are_within, can_be, held_at, held_of, held_parts, held_text, ids_at, ids_text, parts_text, state_at, state_in, state_text, tag_of, wait_at, wait_of, wait_parts, wait_text, waits_at, waits_text, with_rest}
 use Rattle.ob_waits.specs.Waits.{WaitList}
 use Rattle.ob_waits.specs.declared.wait.Mode.TheVariants.{Any, All}
 use Rattle.ob_waits.specs.declared.wait.State.{State}
@@ -50,15 +50,22 @@ wait_codec = as_codec wait_of wait_parts (λ _. refl) (λ _. refl) (both_codec u
 pub held_codec : IsCodec held_text held_at HeldFits
 held_codec = as_codec held_of held_parts (λ _. refl) (λ _. refl) (both_codec u32_codec wait_codec)
 
-lists_codec : (limit clock : ℕ) → IsCodec waits_text (where_at (can_be limit clock) (sparse_at wait_at)) (λ ws. SparseFits WaitFits ws × (can_be limit clock ws ≡ true))
-lists_codec limit clock = where_codec (sparse_codec wait_codec) (can_be limit clock)
+abbrev ListsFit : ℕ → ℕ → ℕ → ℕ → List (Option Wait) → Type 0
+ListsFit limit clock threads slots waits = (SparseFits WaitFits waits × (can_be limit clock waits ≡ true)) × (are_within threads slots waits ≡ true)
 
-pub waits_again : (list : WaitList) (rest : List ℕ) → WaitsFit list → waits_at list.limit list.clock (waits_text list.waits ++ rest) ≡ Ok (list, rest)
-waits_again list rest fits = rw ((lists_codec list.limit list.clock).again list.waits rest fits) refl
+abbrev lists_at : ℕ → ℕ → ℕ → ℕ → List ℕ → Read (List (Option Wait))
+lists_at limit clock threads slots = where_at (are_within threads slots) (where_at (can_be limit clock) (sparse_at wait_at))
 
-pub waits_take : (limit clock : ℕ) (bytes : List ℕ) (list : WaitList) (rest : List ℕ) → AreBytes bytes → waits_at limit clock bytes ≡ Ok (list, rest)
-    → Takes bytes (waits_text list.waits) rest × WaitsFit list
-waits_take limit clock bytes list rest fits e =
-    let x = bind_ok (where_at (can_be limit clock) (sparse_at wait_at) bytes) (λ (x : List (Option Wait) × List ℕ). Ok (with_rest limit clock x.0, x.1)) (list, rest) e in
-    let w = (lists_codec limit clock).takes bytes x.0.0 x.0.1 fits x.1 in
-    subst (λ (z : WaitList × List ℕ). Takes bytes (waits_text z.0.waits) z.1 × WaitsFit z.0) (ok_is (with_rest limit clock x.0.0, x.0.1) (list, rest) x.2) w
+lists_codec : (limit clock threads slots : ℕ) → IsCodec waits_text (lists_at limit clock threads slots) (ListsFit limit clock threads slots)
+lists_codec limit clock threads slots = where_codec (where_codec (sparse_codec wait_codec) (can_be limit clock)) (are_within threads slots)
+
+pub waits_again : (threads slots : ℕ) (list : WaitList) (rest : List ℕ) → WaitsFit list → are_within threads slots list.waits ≡ true
+    → waits_at list.limit list.clock threads slots (waits_text list.waits ++ rest) ≡ Ok (list, rest)
+waits_again threads slots list rest fits within = rw ((lists_codec list.limit list.clock threads slots).again list.waits rest (fits, within)) refl
+
+pub waits_take : (limit clock threads slots : ℕ) (bytes : List ℕ) (list : WaitList) (rest : List ℕ) → AreBytes bytes → waits_at limit clock threads slots bytes ≡ Ok (list, rest)
+    → Takes bytes (waits_text list.waits) rest × WaitsFit list × (are_within threads slots list.waits ≡ true)
+waits_take limit clock threads slots bytes list rest fits e =
+    let x = bind_ok (lists_at limit clock threads slots bytes) (λ (x : List (Option Wait) × List ℕ). Ok (with_rest limit clock x.0, x.1)) (list, rest) e in
+    let w = (lists_codec limit clock threads slots).takes bytes x.0.0 x.0.1 fits x.1 in
+    subst (λ (z : WaitList × List ℕ). Takes bytes (waits_text z.0.waits) z.1 × WaitsFit z.0 × (are_within threads slots z.0.waits ≡ true)) (ok_is (with_rest limit clock x.0.0, x.0.1) (list, rest) x.2) (w.0, w.1.0, w.1.1)

@@ -4,7 +4,7 @@ ghost use Rattle.ob_codec.specs.Spelling.{AreBytes};
 ghost use Rattle.ob_waits.specs.Ends.{HasBlocks, settled_plainly, with_ends};
 ghost use Rattle.ob_waits.specs.Form.{slot_form, slot_owner, HasWait};
 ghost use Rattle.ob_waits.specs.Rules.{HasBodies, IsSettled, thread_of};
-ghost use Rattle.ob_waits.specs.Spelling.{WaitsFit, waits_at, waits_text};
+ghost use Rattle.ob_waits.specs.Spelling.{WaitsFit, are_within, waits_at, waits_text};
 ghost use Rattle.ob_waits.specs.Waits.{Scene, WaitList, settled, is_pending};
 
 /// What settling keeps, whatever the objects and the waits are.
@@ -42,8 +42,10 @@ pub fn law_of_ends()
 
 /// Waits that were written are read again, whatever stands behind them, and what is read was written so.
 pub fn law_of_spelled_waits()
-    ensures again { (list : WaitList) (rest : List ℕ) → WaitsFit list
-        → waits_at list.limit list.clock (waits_text list.waits ++ rest) ≡ Ok (list, rest) }
-    ensures takes { (limit clock : ℕ) (bytes : List ℕ) (list : WaitList) (rest : List ℕ) → AreBytes bytes
-        → waits_at limit clock bytes ≡ Ok (list, rest) → Takes bytes (waits_text list.waits) rest × WaitsFit list }
+    ensures again { (threads slots : ℕ) (list : WaitList) (rest : List ℕ) → WaitsFit list
+        → are_within threads slots list.waits ≡ true
+        → waits_at list.limit list.clock threads slots (waits_text list.waits ++ rest) ≡ Ok (list, rest) }
+    ensures takes { (limit clock threads slots : ℕ) (bytes : List ℕ) (list : WaitList) (rest : List ℕ) → AreBytes bytes
+        → waits_at limit clock threads slots bytes ≡ Ok (list, rest)
+        → Takes bytes (waits_text list.waits) rest × WaitsFit list × (are_within threads slots list.waits ≡ true) }
 {}

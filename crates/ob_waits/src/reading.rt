@@ -1,8 +1,8 @@
 // Waits are built of what was read: one after another, by rising number.
 ghost use Rattle.std.specs.Prelude.{◌≡◌, ◌≤◌, ◌<◌, ◌∷◌, [], ◌++◌, None, Some, OnOk, map, true, false};
 ghost use Rattle.ob_codec.specs.Reading.{Gives, GivesAll, list_at};
-ghost use Rattle.ob_waits.specs.Rows.{built, come, may_come};
-ghost use Rattle.ob_waits.specs.Spelling.{held_parts, may_list, may_stand, names_twice, row_at};
+ghost use Rattle.ob_waits.specs.Rows.{built, come, may_come, rows_within};
+ghost use Rattle.ob_waits.specs.Spelling.{are_below, held_parts, is_within, may_list, may_stand, names_twice, row_at};
 ghost use Rattle.ob_waits.specs.Waits.{has_slot, is_full, number_of};
 
 use crate::held::Held;
@@ -17,6 +17,31 @@ pub(crate) fn read_rows(alloc: Global, from: &mut Cursor<'_>) -> Result<Vec<Held
     ensures { Gives (λ rows. map held_parts rows.items) result (list_at row_at from.old) from.new }
 {
     read_list::<Held>(alloc, from)
+}
+
+/// Whether the slots of some objects are below one.
+fn are_below(ids: &[Id], slots: u32) -> bool
+    ensures { result ≡ are_below slots ids.now }
+{
+    ids.iter().all(|id| id.slot < slots)
+}
+
+/// Whether the thread of a wait, and the slots of its objects, are below some.
+fn is_within(wait: &Wait, threads: u32, slots: u32) -> bool
+    ensures { result ≡ is_within threads slots wait.now }
+{
+    match &wait.state {
+        State::Pending(_, ids) => wait.thread < threads && are_below(ids.as_slice(), slots),
+        State::Answered(_) => wait.thread < threads,
+    }
+}
+
+/// Whether those of all are.
+pub(crate) fn rows_within(rows: &[Held], threads: u32, slots: u32) -> bool
+    ensures { result ≡ rows_within threads slots rows.now }
+{
+    rows.iter()
+        .all(|held| is_within(&held.wait, threads, slots))
 }
 
 /// Whether one of some objects is in a slot.

@@ -23,7 +23,7 @@ use crate::overdue::{next_due, next_overdue};
 use crate::pass::{pass, pass_each, pass_slot};
 use crate::pending::Pending;
 use crate::per_thread::PerThread;
-use crate::reading::{put_all, read_rows};
+use crate::reading::{put_all, read_rows, rows_within};
 use crate::roster::Roster;
 use crate::wait::{Mode, State, Wait, WaitState};
 use crate::writing::write_rows;
@@ -106,19 +106,25 @@ impl Waits {
     /// Reads waits of which at most `waits` numbers may be given, as they are at a moment, from the front of what is
     /// left. [`TextFault::Value`] where a number is above that, or above the last one given, or doesn't rise; where a
     /// thread has two waits; and where a pending one lists no object, more than 64 or, to wait for all, one slot twice,
-    /// or its time is up.
+    /// or its time is up. So where a thread isn't below `threads`, or an object's slot below `slots`: no more memory
+    /// is asked for than these and the text account for.
     pub fn read(
         alloc: Global,
         waits: u32,
         clock: u64,
+        threads: u32,
+        slots: u32,
         from: &mut Cursor<'_>,
     ) -> Result<Waits, ReadFault>
         requires { clock ≤ LAST_MOMENT }
-        ensures { Gives (λ read. read) result (waits_at waits clock from.old) from.new }
+        ensures { Gives (λ read. read) result (waits_at waits clock threads slots from.old) from.new }
     {
         let last = from.four()?;
         let rows = read_rows(alloc, from)?;
         if last > waits {
+            return Err(ReadFault::Text(TextFault::Value));
+        }
+        if !rows_within(rows.as_slice(), threads, slots) {
             return Err(ReadFault::Text(TextFault::Value));
         }
         let mut read = Waits::new(alloc, waits);
