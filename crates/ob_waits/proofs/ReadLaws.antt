@@ -25,25 +25,33 @@ unfolding items_at
 items_in_parts zero bytes = refl
 items_in_parts (suc n) bytes = by (row_at bytes) (λ (rest : List ℕ). items_in_parts n rest)
   where
-    one : (a : ℕ × Wait) (r : Read (List Held)) → in_parts (r >>= λ (o : List Held × List ℕ). Ok (held_of a ∷ o.0, o.1)) ≡ (in_parts r >>= λ (o : List (ℕ × Wait) × List ℕ). Ok (a ∷ o.0, o.1))
+    one : (a : ℕ × Wait) (r : Read (List Held))
+        → in_parts (r >>= λ (o : List Held × List ℕ). Ok (held_of a ∷ o.0, o.1))
+        ≡ (in_parts r >>= λ (o : List (ℕ × Wait) × List ℕ). Ok (a ∷ o.0, o.1))
     one a (Ok o) = refl
     one a (Err f) = refl
 
     by : (r : Read (ℕ × Wait)) → ((rest : List ℕ) → in_parts (items_at held_at n rest) ≡ items_at row_at n rest)
-        → in_parts ((r >>= λ (a : (ℕ × Wait) × List ℕ). Ok (held_of a.0, a.1)) >>= λ (first : Held × List ℕ). items_at held_at n first.1 >>= λ (o : List Held × List ℕ). Ok (first.0 ∷ o.0, o.1))
-        ≡ (r >>= λ (first : (ℕ × Wait) × List ℕ). items_at row_at n first.1 >>= λ (o : List (ℕ × Wait) × List ℕ). Ok (first.0 ∷ o.0, o.1))
+        → in_parts ((r >>= λ (a : (ℕ × Wait) × List ℕ). Ok (held_of a.0, a.1)) >>= λ
+        (first : Held × List ℕ). items_at held_at n first.1 >>= λ (o : List Held × List ℕ). Ok (first.0 ∷ o.0, o.1))
+        ≡ (r >>= λ (first : (ℕ × Wait) × List ℕ). items_at row_at n first.1 >>= λ (o : List (ℕ × Wait) × List ℕ). Ok
+        (first.0 ∷ o.0, o.1))
     by (Err f) later = refl
-    by (Ok a) later = one a.0 (items_at held_at n a.1) ∙ ap (λ (r : Read (List (ℕ × Wait))). r >>= λ (o : List (ℕ × Wait) × List ℕ). Ok (a.0 ∷ o.0, o.1)) (later a.1)
+    by (Ok a) later = one a.0 (items_at held_at n a.1)
+        ∙ ap (λ (r : Read (List (ℕ × Wait))). r >>= λ (o : List (ℕ × Wait) × List ℕ). Ok (a.0 ∷ o.0, o.1)) (later a.1)
 
 pub list_in_parts : (bytes : List ℕ) → in_parts (list_at held_at bytes) ≡ list_at row_at bytes
 unfolding list_at
 list_in_parts bytes = by (number_at w32 bytes)
   where
-    by : (r : Read ℕ) → in_parts (r >>= λ (n : ℕ × List ℕ). items_at held_at n.0 n.1) ≡ (r >>= λ (n : ℕ × List ℕ). items_at row_at n.0 n.1)
+    by : (r : Read ℕ) → in_parts (r >>= λ (n : ℕ × List ℕ). items_at held_at n.0 n.1)
+        ≡ (r >>= λ (n : ℕ × List ℕ). items_at row_at n.0 n.1)
     by (Err f) = refl
     by (Ok n) = items_in_parts n.0 n.1
 
-pub rows_in_parts : (r : Result (Vec Held Global) ReadFault) (bytes rest : List ℕ) → Gives (λ rows. rows.items) r (list_at held_at bytes) rest → Gives (λ rows. map held_parts rows.items) r (list_at row_at bytes) rest
+pub rows_in_parts : (r : Result (Vec Held Global) ReadFault) (bytes rest : List ℕ)
+    → Gives (λ rows. rows.items) r (list_at held_at bytes) rest
+    → Gives (λ rows. map held_parts rows.items) r (list_at row_at bytes) rest
 rows_in_parts (Ok rows) bytes rest is = sym (list_in_parts bytes) ∙ ap in_parts is
 rows_in_parts (Err Memory) bytes rest fails = tt
 rows_in_parts (Err (Text f)) bytes rest fails = sym (list_in_parts bytes) ∙ ap in_parts fails
@@ -61,24 +69,33 @@ as_waits limit clock r = r >>= λ (a : List (Option Wait) × List ℕ). Ok (with
 abbrev where_they : (List (Option Wait) → Bool) → Read (List (Option Wait)) → Read (List (Option Wait))
 where_they can r = r >>= λ (a : List (Option Wait) × List ℕ). cond (can a.0) (Ok a) (Err Value)
 
-read_is : (limit clock threads slots last : ℕ) (bytes between rest : List ℕ) (ps : List (ℕ × Wait)) → number_at w32 bytes ≡ Ok (last, between) → list_at row_at between ≡ Ok (ps, rest)
-    → waits_at limit clock threads slots bytes ≡ behind rest (within threads slots (tested limit clock (spread (last, ps))))
+read_is : (limit clock threads slots last : ℕ) (bytes between rest : List ℕ) (ps : List (ℕ × Wait))
+    → number_at w32 bytes ≡ Ok (last, between) → list_at row_at between ≡ Ok (ps, rest)
+    → waits_at limit clock threads slots bytes ≡ behind rest
+    (within threads slots (tested limit clock (spread (last, ps))))
 read_is limit clock threads slots last bytes between rest ps first second = rw (first, second) (by (spread (last, ps)))
   where
-    ends : (ws : List (Option Wait)) (c : Bool) → as_waits limit clock (cond c (Ok (ws, rest)) (Err Value)) ≡ behind rest (cond c (Ok (with_rest limit clock ws)) (Err Value))
+    ends : (ws : List (Option Wait)) (c : Bool)
+        → as_waits limit clock (cond c (Ok (ws, rest)) (Err Value)) ≡ behind rest
+        (cond c (Ok (with_rest limit clock ws)) (Err Value))
     ends ws true = refl
     ends ws false = refl
 
-    to : (ws : List (Option Wait)) (b : Bool) → as_waits limit clock (where_they (are_within threads slots) (cond b (Ok (ws, rest)) (Err Value))) ≡ behind rest (within threads slots (cond b (Ok (with_rest limit clock ws)) (Err Value)))
+    to : (ws : List (Option Wait)) (b : Bool)
+        → as_waits limit clock (where_they (are_within threads slots) (cond b (Ok (ws, rest)) (Err Value)))
+        ≡ behind rest (within threads slots (cond b (Ok (with_rest limit clock ws)) (Err Value)))
     to ws true = ends ws (are_within threads slots ws)
     to ws false = refl
 
-    by : (o : Option (List (Option Wait))) → as_waits limit clock (where_they (are_within threads slots) (where_they (can_be limit clock) (given_at o rest))) ≡ behind rest (within threads slots (tested limit clock o))
+    by : (o : Option (List (Option Wait))) → as_waits limit clock
+        (where_they (are_within threads slots) (where_they (can_be limit clock) (given_at o rest))) ≡ behind rest
+        (within threads slots (tested limit clock o))
     by None = refl
     by (Some ws) = to ws (can_be limit clock ws)
 
 -- whether the places of a list pass is whether its rows do
-places_pass : (test : Wait → Bool) (k n end : ℕ) (ps : List (ℕ × Wait)) → end ≡ k + n → fits_from k end ps ≡ true → list_all (none_or test) (spread_from k n ps) ≡ list_all (λ (p : ℕ × Wait). test p.1) ps
+places_pass : (test : Wait → Bool) (k n end : ℕ) (ps : List (ℕ × Wait)) → end ≡ k + n → fits_from k end ps ≡ true
+    → list_all (none_or test) (spread_from k n ps) ≡ list_all (λ (p : ℕ × Wait). test p.1) ps
 places_pass test k zero end [] is fits = refl
 places_pass test k zero end (p ∷ ps) is fits =
     let b = both-true (leb k p.0) (ltb p.0 end && fits_from (suc p.0) end ps) fits in
@@ -86,54 +103,77 @@ places_pass test k zero end (p ∷ ps) is fits =
     let high = ltb-true p.0 end (both-true (ltb p.0 end) (fits_from (suc p.0) end ps) b.1).0 in
     absurd (omega (arith, is, low, high))
 places_pass test k (suc n) end [] is fits = places_pass test (suc k) n end [] (omega (arith, is)) refl
-places_pass test k (suc n) end (p ∷ ps) is fits = by (eqb p.0 k) refl (λ later. places_pass test (suc k) n end ps (omega (arith, is)) later) (λ later. places_pass test (suc k) n end (p ∷ ps) (omega (arith, is)) later)
+places_pass test k (suc n) end (p ∷ ps) is fits = by (eqb p.0 k) refl
+    (λ later. places_pass test (suc k) n end ps (omega (arith, is)) later)
+    (λ later. places_pass test (suc k) n end (p ∷ ps) (omega (arith, is)) later)
   where
     b : (leb k p.0 ≡ true) × ((ltb p.0 end && fits_from (suc p.0) end ps) ≡ true)
     b = both-true (leb k p.0) (ltb p.0 end && fits_from (suc p.0) end ps) fits
 
-    by : (t : Bool) → eqb p.0 k ≡ t → (fits_from (suc k) end ps ≡ true → list_all (none_or test) (spread_from (suc k) n ps) ≡ list_all (λ (p : ℕ × Wait). test p.1) ps)
-        → (fits_from (suc k) end (p ∷ ps) ≡ true → list_all (none_or test) (spread_from (suc k) n (p ∷ ps)) ≡ list_all (λ (p : ℕ × Wait). test p.1) (p ∷ ps))
-        → list_all (none_or test) (cond t (Some p.1 ∷ spread_from (suc k) n ps) (None ∷ spread_from (suc k) n (p ∷ ps))) ≡ list_all (λ (p : ℕ × Wait). test p.1) (p ∷ ps)
+    by : (t : Bool) → eqb p.0 k ≡ t
+        → (fits_from (suc k) end ps ≡ true → list_all (none_or test) (spread_from (suc k) n ps) ≡ list_all
+        (λ (p : ℕ × Wait). test p.1) ps)
+        → (fits_from (suc k) end (p ∷ ps) ≡ true
+        → list_all (none_or test) (spread_from (suc k) n (p ∷ ps)) ≡ list_all (λ (p : ℕ × Wait). test p.1) (p ∷ ps))
+        → list_all (none_or test)
+        (cond t (Some p.1 ∷ spread_from (suc k) n ps) (None ∷ spread_from (suc k) n (p ∷ ps))) ≡ list_all
+        (λ (p : ℕ × Wait). test p.1) (p ∷ ps)
     by true same one more =
-        let later : fits_from (suc k) end ps ≡ true = subst (λ (z : ℕ). fits_from (suc z) end ps ≡ true) (eqb-true p.0 k same) (both-true (ltb p.0 end) (fits_from (suc p.0) end ps) b.1).1 in
+        let later : fits_from (suc k) end ps ≡ true = subst (λ (z : ℕ). fits_from (suc z) end ps ≡ true)
+        (eqb-true p.0 k same) (both-true (ltb p.0 end) (fits_from (suc p.0) end ps) b.1).1 in
         ap (λ (z : Bool). test p.1 && z) (one later)
     by false apart one more =
         let low = leb-true k p.0 b.0 in
         let other : p.0 ≡ k → ⊥ = λ q. (let t = sym (eq-eqb p.0 k q) ∙ apart in absurd cc) in
-        more (true-both (leb (suc k) p.0) (ltb p.0 end && fits_from (suc p.0) end ps) (le-leb (suc k) p.0 (omega (arith, low, other))) b.1)
+        more (true-both (leb (suc k) p.0) (ltb p.0 end && fits_from (suc p.0) end ps)
+        (le-leb (suc k) p.0 (omega (arith, low, other))) b.1)
 
-pass_in_parts : (test : Wait → Bool) (rows : List Held) → list_all (λ (p : ℕ × Wait). test p.1) (map held_parts rows) ≡ list_all (λ (h : Held). test h.wait) rows
+pass_in_parts : (test : Wait → Bool) (rows : List Held)
+    → list_all (λ (p : ℕ × Wait). test p.1) (map held_parts rows) ≡ list_all (λ (h : Held). test h.wait) rows
 pass_in_parts test [] = refl
 pass_in_parts test (h ∷ rows) = ap (λ (z : Bool). test h.wait && z) (pass_in_parts test rows)
 
 -- what comes of rows of which all threads and slots are below, or not
-within_is : (limit clock threads slots last : ℕ) (rows : List Held) → within threads slots (built limit clock last rows) ≡ cond (rows_within threads slots rows) (built limit clock last rows) (Err Value)
+within_is : (limit clock threads slots last : ℕ) (rows : List Held)
+    → within threads slots (built limit clock last rows) ≡ cond (rows_within threads slots rows)
+    (built limit clock last rows) (Err Value)
 within_is limit clock threads slots last rows = by (fits_from 0 (suc last) (map held_parts rows)) refl
   where
     none : (c : Bool) → Err Value ≡ cond {A = Result WaitList TextFault} c (Err Value) (Err Value)
     none true = refl
     none false = refl
 
-    to : (ws : List (Option Wait)) (b c : Bool) → are_within threads slots ws ≡ c → within threads slots (cond b (Ok (with_rest limit clock ws)) (Err Value)) ≡ cond c (cond b (Ok (with_rest limit clock ws)) (Err Value)) (Err Value)
-    to ws true c is = ap (λ (z : Bool). cond {A = Result WaitList TextFault} z (Ok (with_rest limit clock ws)) (Err Value)) is
+    to : (ws : List (Option Wait)) (b c : Bool) → are_within threads slots ws ≡ c
+        → within threads slots (cond b (Ok (with_rest limit clock ws)) (Err Value)) ≡ cond c
+        (cond b (Ok (with_rest limit clock ws)) (Err Value)) (Err Value)
+    to ws true c is = ap (λ (z : Bool). cond {A = Result WaitList TextFault} z (Ok (with_rest limit clock ws))
+        (Err Value)) is
     to ws false c is = none c
 
-    by : (b : Bool) → fits_from 0 (suc last) (map held_parts rows) ≡ b → within threads slots (tested limit clock (cond b (Some (spread_from 0 (suc last) (map held_parts rows))) None))
-        ≡ cond (rows_within threads slots rows) (tested limit clock (cond b (Some (spread_from 0 (suc last) (map held_parts rows))) None)) (Err Value)
+    by : (b : Bool) → fits_from 0 (suc last) (map held_parts rows) ≡ b
+        → within threads slots
+        (tested limit clock (cond b (Some (spread_from 0 (suc last) (map held_parts rows))) None))
+        ≡ cond (rows_within threads slots rows)
+        (tested limit clock (cond b (Some (spread_from 0 (suc last) (map held_parts rows))) None)) (Err Value)
     by false is = none (rows_within threads slots rows)
     by true is =
         let ws = spread_from 0 (suc last) (map held_parts rows) in
         to ws (can_be limit clock ws) (rows_within threads slots rows)
-        (places_pass (is_within threads slots) 0 (suc last) (suc last) (map held_parts rows) (omega arith) is ∙ pass_in_parts (is_within threads slots) rows)
+        (places_pass (is_within threads slots) 0 (suc last) (suc last) (map held_parts rows) (omega arith) is
+        ∙ pass_in_parts (is_within threads slots) rows)
 
 -- what is read, so
-pub rows_read : (limit clock threads slots last : ℕ) (bytes between rest : List ℕ) (rows : List Held) → number_at w32 bytes ≡ Ok (last, between) → list_at row_at between ≡ Ok (map held_parts rows, rest)
-    → waits_at limit clock threads slots bytes ≡ behind rest (cond (rows_within threads slots rows) (built limit clock last rows) (Err Value))
+pub rows_read : (limit clock threads slots last : ℕ) (bytes between rest : List ℕ) (rows : List Held)
+    → number_at w32 bytes ≡ Ok (last, between) → list_at row_at between ≡ Ok (map held_parts rows, rest)
+    → waits_at limit clock threads slots bytes ≡ behind rest
+    (cond (rows_within threads slots rows) (built limit clock last rows) (Err Value))
 rows_read limit clock threads slots last bytes between rest rows first second =
-    read_is limit clock threads slots last bytes between rest (map held_parts rows) first second ∙ ap (behind rest) (within_is limit clock threads slots last rows)
+    read_is limit clock threads slots last bytes between rest (map held_parts rows) first second
+    ∙ ap (behind rest) (within_is limit clock threads slots last rows)
 
 -- or why nothing is
-pub read_fails : (e : ReadFault) (total : Read WaitList) (rest : List ℕ) (r : Result WaitList TextFault) → total ≡ behind rest r → Fails e r → Fails e total
+pub read_fails : (e : ReadFault) (total : Read WaitList) (rest : List ℕ) (r : Result WaitList TextFault)
+    → total ≡ behind rest r → Fails e r → Fails e total
 read_fails Memory total rest r is fails = tt
 read_fails (Text f) total rest r is fails = is ∙ ap (behind rest) fails
 

@@ -24,22 +24,27 @@ use Rattle.ob_waits.proofs.TrackedLaws.{no_number, number_none, number_own}
 
 -- what some rows come to behind waits that are there
 abbrev pub left : ℕ → List (Option Wait) → List (ℕ × Wait) → Option (List (Option Wait))
-left last ws ps = cond (fits_from (length ws) (suc last) ps) (Some (ws ++ spread_from (length ws) (suc last - length ws) ps)) None
+left last ws ps = cond (fits_from (length ws) (suc last) ps)
+    (Some (ws ++ spread_from (length ws) (suc last - length ws) ps)) None
 
 -- the numbers up to the next row are nobody's
-gap : (d k m n t : ℕ) (w : Wait) (ps : List (ℕ × Wait)) → n ≡ k + d → t ≡ d + suc m → spread_from k t ((n, w) ∷ ps) ≡ replicate d None ++ Some w ∷ spread_from (suc n) m ps
+gap : (d k m n t : ℕ) (w : Wait) (ps : List (ℕ × Wait)) → n ≡ k + d → t ≡ d + suc m
+    → spread_from k t ((n, w) ∷ ps) ≡ replicate d None ++ Some w ∷ spread_from (suc n) m ps
 gap zero k m n t w ps is total =
     let e : n ≡ k = omega (arith, is) in
     let e' : t ≡ suc m = omega (arith, total) in
     ap (λ (j : ℕ). spread_from k j ((n, w) ∷ ps)) e'
-    ∙ ap (λ (b : Bool). cond b (Some w ∷ spread_from (suc k) m ps) (None ∷ spread_from (suc k) m ((n, w) ∷ ps))) (eq-eqb n k e) ∙ ap (λ (j : ℕ). Some w ∷ spread_from (suc j) m ps) (sym e)
+    ∙ ap (λ (b : Bool). cond b (Some w ∷ spread_from (suc k) m ps) (None ∷ spread_from (suc k) m ((n, w) ∷ ps)))
+    (eq-eqb n k e) ∙ ap (λ (j : ℕ). Some w ∷ spread_from (suc j) m ps) (sym e)
 gap (suc d) k m n t w ps is total =
     let e : t ≡ suc (d + suc m) = omega (arith, total) in
     ap (λ (j : ℕ). spread_from k j ((n, w) ∷ ps)) e
-    ∙ ap (λ (b : Bool). cond b (Some w ∷ spread_from (suc k) (d + suc m) ps) (None ∷ spread_from (suc k) (d + suc m) ((n, w) ∷ ps))) (ne_eqb n k (λ q. omega (arith, is, q)))
+    ∙ ap (λ (b : Bool). cond b (Some w ∷ spread_from (suc k) (d + suc m) ps)
+    (None ∷ spread_from (suc k) (d + suc m) ((n, w) ∷ ps))) (ne_eqb n k (λ q. omega (arith, is, q)))
     ∙ ap (λ (r : List (Option Wait)). None ∷ r) (gap d (suc k) m n (d + suc m) w ps (omega (arith, is)) refl)
 
-fits_next : (k n last : ℕ) (w : Wait) (ps : List (ℕ × Wait)) → k ≤ n → n ≤ last → fits_from k (suc last) ((n, w) ∷ ps) ≡ fits_from (suc n) (suc last) ps
+fits_next : (k n last : ℕ) (w : Wait) (ps : List (ℕ × Wait)) → k ≤ n → n ≤ last
+    → fits_from k (suc last) ((n, w) ∷ ps) ≡ fits_from (suc n) (suc last) ps
 fits_next k n last w ps le most = rw (le-leb k n le, lt-ltb n (suc last) (omega (arith, most))) refl
 
 -- a row comes next
@@ -48,9 +53,12 @@ module _ (last n : ℕ) (ws : List (Option Wait)) (w : Wait) (ps : List (ℕ × 
   more = skipped (n - 1) ws ++ Some w ∷ []
 
   length-more : length (skipped (n - 1) ws ++ Some w ∷ []) ≡ suc n
-  length-more = length_push (skipped (n - 1) ws) (Some w) ∙ (let l = length-skipped (n - 1) ws (omega (arith, le, some)) in omega (arith, l, some))
+  length-more = length_push (skipped (n - 1) ws) (Some w)
+      ∙ (let l = length-skipped (n - 1) ws (omega (arith, le, some)) in omega (arith, l, some))
 
-  places : ws ++ spread_from (length ws) (suc last - length ws) ((n, w) ∷ ps) ≡ (skipped (n - 1) ws ++ Some w ∷ []) ++ spread_from (length (skipped (n - 1) ws ++ Some w ∷ [])) (suc last - length (skipped (n - 1) ws ++ Some w ∷ [])) ps
+  places : ws ++ spread_from (length ws) (suc last - length ws) ((n, w) ∷ ps)
+      ≡ (skipped (n - 1) ws ++ Some w ∷ [])
+      ++ spread_from (length (skipped (n - 1) ws ++ Some w ∷ [])) (suc last - length (skipped (n - 1) ws ++ Some w ∷ [])) ps
   places =
       let k = length ws in
       let d = n - k in
@@ -63,12 +71,15 @@ module _ (last n : ℕ) (ws : List (Option Wait)) (w : Wait) (ps : List (ℕ × 
       ∙ ap (λ (j : ℕ). (ws ++ replicate j None) ++ Some w ∷ spread_from (suc n) m ps) free
       ∙ sym (append_assoc (skipped (n - 1) ws) (Some w ∷ []) (spread_from (suc n) m ps))
       ∙ ap (λ (j : ℕ). (skipped (n - 1) ws ++ Some w ∷ []) ++ spread_from j m ps) (sym length-more)
-      ∙ ap (λ (j : ℕ). (skipped (n - 1) ws ++ Some w ∷ []) ++ spread_from (length (skipped (n - 1) ws ++ Some w ∷ [])) j ps) after
+      ∙ ap (λ (j : ℕ). (skipped (n - 1) ws ++ Some w ∷ []) ++ spread_from
+      (length (skipped (n - 1) ws ++ Some w ∷ [])) j ps) after
 
   pub left_next : left last ws ((n, w) ∷ ps) ≡ left last (skipped (n - 1) ws ++ Some w ∷ []) ps
   left_next =
-      ap (λ (b : Bool). cond b (Some (ws ++ spread_from (length ws) (suc last - length ws) ((n, w) ∷ ps))) None) (fits_next (length ws) n last w ps le most ∙ ap (λ (j : ℕ). fits_from j (suc last) ps) (sym length-more))
-      ∙ ap (λ (xs : List (Option Wait)). cond (fits_from (length (skipped (n - 1) ws ++ Some w ∷ [])) (suc last) ps) (Some xs) None) places
+      ap (λ (b : Bool). cond b (Some (ws ++ spread_from (length ws) (suc last - length ws) ((n, w) ∷ ps))) None)
+      (fits_next (length ws) n last w ps le most ∙ ap (λ (j : ℕ). fits_from j (suc last) ps) (sym length-more))
+      ∙ ap (λ (xs : List (Option Wait)). cond (fits_from (length (skipped (n - 1) ws ++ Some w ∷ [])) (suc last) ps)
+      (Some xs) None) places
 
 -- no row is left
 spread_nothing : (k n : ℕ) → spread_from {A = Wait} k n [] ≡ replicate n None
@@ -78,7 +89,8 @@ spread_nothing k (suc n) = ap (λ (r : List (Option Wait)). None ∷ r) (spread_
 pub left_none : (last : ℕ) (ws : List (Option Wait)) → left last ws [] ≡ Some (skipped last ws)
 left_none last ws =
     let e : suc last - length ws ≡ last + 1 - length ws = omega arith in
-    ap (λ (r : List (Option Wait)). Some (ws ++ r)) (spread_nothing (length ws) (suc last - length ws)) ∙ ap (λ (j : ℕ). Some (ws ++ replicate j None)) e
+    ap (λ (r : List (Option Wait)). Some (ws ++ r)) (spread_nothing (length ws) (suc last - length ws))
+    ∙ ap (λ (j : ℕ). Some (ws ++ replicate j None)) e
 
 -- waits of which number 0 has one
 not_first : (limit clock : ℕ) (w : Wait) (ws : List (Option Wait)) → can_be limit clock (Some w ∷ ws) ≡ false
@@ -89,84 +101,120 @@ not_first limit clock w ws = by (leb (length (Some w ∷ ws)) (limit + 1))
     by false = refl
 
 -- at first no number has been given
-pub left_all : (limit clock last : ℕ) (ps : List (ℕ × Wait)) → tested limit clock (left last (None ∷ []) ps) ≡ tested limit clock (spread (last, ps))
-left_all limit clock last ps = ap (λ (j : ℕ). tested limit clock (cond (fits_from 1 (suc last) ps) (Some (None ∷ spread_from 1 j ps)) None)) (let e : suc last - 1 ≡ last = omega arith in e) ∙ by ps
+pub left_all : (limit clock last : ℕ) (ps : List (ℕ × Wait))
+    → tested limit clock (left last (None ∷ []) ps) ≡ tested limit clock (spread (last, ps))
+left_all limit clock last ps = ap
+    (λ (j : ℕ). tested limit clock (cond (fits_from 1 (suc last) ps) (Some (None ∷ spread_from 1 j ps)) None))
+    (let e : suc last - 1 ≡ last = omega arith in e) ∙ by ps
   where
-    by : (ps : List (ℕ × Wait)) → tested limit clock (cond (fits_from 1 (suc last) ps) (Some (None ∷ spread_from 1 last ps)) None) ≡ tested limit clock (spread (last, ps))
+    by : (ps : List (ℕ × Wait)) → tested limit clock
+        (cond (fits_from 1 (suc last) ps) (Some (None ∷ spread_from 1 last ps)) None) ≡ tested limit clock
+        (spread (last, ps))
     by [] = refl
     by ((zero, w) ∷ ps) =
         to (fits_from 1 (suc last) ps)
         ∙ sym (ap (λ (z : Bool). tested limit clock (cond (z && fits_from 1 (suc last) ps) (Some (Some w ∷ spread_from 1 last ps)) None)) (lt-ltb 0 (suc last) (omega arith)))
       where
-        to : (b : Bool) → tested limit clock None ≡ tested limit clock (cond b (Some (Some w ∷ spread_from 1 last ps)) None)
+        to : (b : Bool) → tested limit clock None ≡ tested limit clock
+            (cond b (Some (Some w ∷ spread_from 1 last ps)) None)
         to true = sym (ap (λ (c : Bool). cond c (Ok (record { limit = limit; waits = Some w ∷ spread_from 1 last ps; clock = clock })) (Err Value)) (not_first limit clock w (spread_from 1 last ps)))
         to false = refl
     by ((suc n, w) ∷ ps) =
-        ap (λ (z : Bool). tested limit clock (cond (z && (ltb (suc n) (suc last) && fits_from (suc (suc n)) (suc last) ps)) (Some (None ∷ spread_from 1 last ((suc n, w) ∷ ps))) None)) (le-leb 1 (suc n) (omega arith) ∙ sym (le-leb 0 (suc n) (omega arith)))
+        ap (λ (z : Bool). tested limit clock
+        (cond (z && (ltb (suc n) (suc last) && fits_from (suc (suc n)) (suc last) ps))
+        (Some (None ∷ spread_from 1 last ((suc n, w) ∷ ps))) None))
+        (le-leb 1 (suc n) (omega arith) ∙ sym (le-leb 0 (suc n) (omega arith)))
         ∙ sym (ap (λ (z : Bool). tested limit clock (cond (fits_from 0 (suc last) ((suc n, w) ∷ ps)) (Some (cond z (Some w ∷ spread_from 1 last ps) (None ∷ spread_from 1 last ((suc n, w) ∷ ps)))) None)) (ne_eqb (suc n) 0 (λ q. omega (arith, q))))
 
 -- a row that can't come is refused with all that stands behind it
-stands : (clock : ℕ) (w : Wait) (front back : List (Option Wait)) → list_all (may_stand clock) (front ++ Some w ∷ back) ≡ true → may_stand clock (Some w) ≡ true
+stands : (clock : ℕ) (w : Wait) (front back : List (Option Wait))
+    → list_all (may_stand clock) (front ++ Some w ∷ back) ≡ true → may_stand clock (Some w) ≡ true
 stands clock w front back all =
-    let parts = both-true (list_all (may_stand clock) front) (list_all (may_stand clock) (Some w ∷ back)) (sym (list_all-append (may_stand clock) front (Some w ∷ back)) ∙ all) in
+    let parts = both-true (list_all (may_stand clock) front) (list_all (may_stand clock) (Some w ∷ back))
+    (sym (list_all-append (may_stand clock) front (Some w ∷ back)) ∙ all) in
     (both-true (may_stand clock (Some w)) (list_all (may_stand clock) back) parts.1).0
 
-has_one : (t : ℕ) (w : Wait) (front back : List (Option Wait)) → t ≡ w.thread → list_any (is_waits_of t) (front ++ Some w ∷ back) ≡ true
+has_one : (t : ℕ) (w : Wait) (front back : List (Option Wait)) → t ≡ w.thread
+    → list_any (is_waits_of t) (front ++ Some w ∷ back) ≡ true
 has_one t w [] back same = ap (λ (b : Bool). b || list_any (is_waits_of t) back) (eq-eqb w.thread t (sym same))
 has_one t w (x ∷ front) back same = by (is_waits_of t x) (has_one t w front back same)
   where
-    by : (b : Bool) → list_any (is_waits_of t) (front ++ Some w ∷ back) ≡ true → (b || list_any (is_waits_of t) (front ++ Some w ∷ back)) ≡ true
+    by : (b : Bool) → list_any (is_waits_of t) (front ++ Some w ∷ back) ≡ true
+        → (b || list_any (is_waits_of t) (front ++ Some w ∷ back)) ≡ true
     by true later = refl
     by false later = later
 
-alone : (w : Wait) (front back : List (Option Wait)) → one_each (front ++ Some w ∷ back) ≡ true → (m : ℕ) → thread_of (get_or front m None) ≡ Some w.thread → ⊥
+alone : (w : Wait) (front back : List (Option Wait)) → one_each (front ++ Some w ∷ back) ≡ true → (m : ℕ)
+    → thread_of (get_or front m None) ≡ Some w.thread → ⊥
 alone w [] back one m own = cc (own)
 alone w (None ∷ front) back one zero own = cc (own)
 alone w (None ∷ front) back one (suc m) own = alone w front back one m own
 alone w (Some a ∷ front) back one zero own =
-    let parts = both-true (not (list_any (is_waits_of a.thread) (front ++ Some w ∷ back))) (one_each (front ++ Some w ∷ back)) one in
+    let parts = both-true (not (list_any (is_waits_of a.thread) (front ++ Some w ∷ back)))
+    (one_each (front ++ Some w ∷ back)) one in
     let same : a.thread ≡ w.thread = cc (own) in
     let has = has_one a.thread w front back same in
     let none = parts.0 in
     cc (has, none)
 alone w (Some a ∷ front) back one (suc m) own =
-    alone w front back (both-true (not (list_any (is_waits_of a.thread) (front ++ Some w ∷ back))) (one_each (front ++ Some w ∷ back)) one).1 m own
+    alone w front back (both-true (not (list_any (is_waits_of a.thread) (front ++ Some w ∷ back)))
+    (one_each (front ++ Some w ∷ back)) one).1 m own
 
 -- a wait among waits that can be
-there : (limit clock n : ℕ) (ws : List (Option Wait)) (w : Wait) (back : List (Option Wait)) → can_be limit clock (skipped n ws ++ Some w ∷ back) ≡ true → (may_stand clock (Some w) && not (is_some (number_of w.thread ws))) ≡ true
+there : (limit clock n : ℕ) (ws : List (Option Wait)) (w : Wait) (back : List (Option Wait))
+    → can_be limit clock (skipped n ws ++ Some w ∷ back) ≡ true
+    → (may_stand clock (Some w) && not (is_some (number_of w.thread ws))) ≡ true
 there limit clock n ws w back can = by (number_of w.thread ws) refl
   where
     all : List (Option Wait)
     all = skipped n ws ++ Some w ∷ back
 
-    parts : (list_all (may_stand clock) (skipped n ws ++ Some w ∷ back) ≡ true) × (one_each (skipped n ws ++ Some w ∷ back) ≡ true)
-    parts = both-true (list_all (may_stand clock) all) (one_each all) (both-true (leb (length all) (limit + 1) && not (is_some (get_or all 0 None))) (list_all (may_stand clock) all && one_each all) can).1
+    parts : (list_all (may_stand clock) (skipped n ws ++ Some w ∷ back) ≡ true)
+        × (one_each (skipped n ws ++ Some w ∷ back) ≡ true)
+    parts = both-true (list_all (may_stand clock) all) (one_each all)
+        (both-true (leb (length all) (limit + 1) && not (is_some (get_or all 0 None)))
+        (list_all (may_stand clock) all && one_each all) can).1
 
     by : (o : Option ℕ) → number_of w.thread ws ≡ o → (may_stand clock (Some w) && not (is_some o)) ≡ true
     by None is = ap (λ (b : Bool). b && true) (stands clock w (skipped n ws) back parts.0)
-    by (Some m) is = absurd (alone w (skipped n ws) back parts.1 m (ap thread_of (get_skipped n ws m) ∙ number_own ws w.thread m is))
+    by (Some m) is = absurd
+        (alone w (skipped n ws) back parts.1 m (ap thread_of (get_skipped n ws m) ∙ number_own ws w.thread m is))
 
 pub left_refused : (limit clock last n : ℕ) (ws : List (Option Wait)) (w : Wait) (ps : List (ℕ × Wait)) → 0 < length ws
-    → ((leb (length ws) n && leb n last) && (may_stand clock (Some w) && not (is_some (number_of w.thread ws)))) ≡ false → tested limit clock (left last ws ((n, w) ∷ ps)) ≡ Err Value
+    → ((leb (length ws) n && leb n last) && (may_stand clock (Some w) && not (is_some (number_of w.thread ws))))
+    ≡ false → tested limit clock (left last ws ((n, w) ∷ ps)) ≡ Err Value
 left_refused limit clock last n ws w ps some not_so = by (leb (length ws) n) (leb n last) refl refl not_so
   where
     good : Bool
     good = may_stand clock (Some w) && not (is_some (number_of w.thread ws))
 
-    refused : (b : Bool) (xs : List (Option Wait)) → (can_be limit clock xs ≡ true → ⊥) → tested limit clock (cond b (Some xs) None) ≡ Err Value
+    refused : (b : Bool) (xs : List (Option Wait)) → (can_be limit clock xs ≡ true → ⊥)
+        → tested limit clock (cond b (Some xs) None) ≡ Err Value
     refused false xs never = refl
     refused true xs never = to (can_be limit clock xs) refl
       where
-        to : (c : Bool) → can_be limit clock xs ≡ c → cond {A = Result WaitList TextFault} c (Ok (record { limit = limit; waits = xs; clock = clock })) (Err Value) ≡ Err Value
+        to : (c : Bool) → can_be limit clock xs ≡ c
+            → cond {A = Result WaitList TextFault} c (Ok (record { limit = limit; waits = xs; clock = clock }))
+            (Err Value) ≡ Err Value
         to true is = absurd (never is)
         to false is = refl
 
-    by : (a b : Bool) → leb (length ws) n ≡ a → leb n last ≡ b → ((a && b) && (may_stand clock (Some w) && not (is_some (number_of w.thread ws)))) ≡ false → tested limit clock (left last ws ((n, w) ∷ ps)) ≡ Err Value
-    by false b is is' e = ap (λ (z : Bool). tested limit clock (cond (z && (ltb n (suc last) && fits_from (suc n) (suc last) ps)) (Some (ws ++ spread_from (length ws) (suc last - length ws) ((n, w) ∷ ps))) None)) is
+    by : (a b : Bool) → leb (length ws) n ≡ a → leb n last ≡ b
+        → ((a && b) && (may_stand clock (Some w) && not (is_some (number_of w.thread ws)))) ≡ false
+        → tested limit clock (left last ws ((n, w) ∷ ps)) ≡ Err Value
+    by false b is is' e = ap
+        (λ (z : Bool). tested limit clock
+        (cond (z && (ltb n (suc last) && fits_from (suc n) (suc last) ps))
+        (Some (ws ++ spread_from (length ws) (suc last - length ws) ((n, w) ∷ ps))) None)) is
     by true false is is' e =
-        let past : ltb n (suc last) ≡ false = le-ltb n (suc last) (let lt = leb-false n last is' in omega (arith, lt)) in
-        ap (λ (z : Bool). tested limit clock (cond (z && (ltb n (suc last) && fits_from (suc n) (suc last) ps)) (Some (ws ++ spread_from (length ws) (suc last - length ws) ((n, w) ∷ ps))) None)) is
-        ∙ ap (λ (z : Bool). tested limit clock (cond (z && fits_from (suc n) (suc last) ps) (Some (ws ++ spread_from (length ws) (suc last - length ws) ((n, w) ∷ ps))) None)) past
+        let past : ltb n (suc last) ≡ false = le-ltb n (suc last)
+        (let lt = leb-false n last is' in omega (arith, lt)) in
+        ap (λ (z : Bool). tested limit clock
+        (cond (z && (ltb n (suc last) && fits_from (suc n) (suc last) ps))
+        (Some (ws ++ spread_from (length ws) (suc last - length ws) ((n, w) ∷ ps))) None)) is
+        ∙ ap (λ (z : Bool). tested limit clock
+        (cond (z && fits_from (suc n) (suc last) ps)
+        (Some (ws ++ spread_from (length ws) (suc last - length ws) ((n, w) ∷ ps))) None)) past
     by true true is is' e =
         let le : length ws ≤ n = grind (arith, nat_tests, is) in
         let most : n ≤ last = grind (arith, nat_tests, is') in
@@ -174,7 +222,9 @@ left_refused limit clock last n ws w ps some not_so = by (leb (length ws) n) (le
         let back = spread_from (length next) (suc last - length next) ps in
         ap (tested limit clock) (left_next last n ws w ps (omega (arith, some, le)) le most)
         ∙ refused (fits_from (length next) (suc last) ps) (next ++ back) (λ can.
-        let can' : can_be limit clock (skipped (n - 1) ws ++ Some w ∷ back) ≡ true = subst (λ (xs : List (Option Wait)). can_be limit clock xs ≡ true) (append_assoc (skipped (n - 1) ws) (Some w ∷ []) back) can in
+        let can' : can_be limit clock (skipped (n - 1) ws ++ Some w ∷ back) ≡ true = subst
+        (λ (xs : List (Option Wait)). can_be limit clock xs ≡ true)
+        (append_assoc (skipped (n - 1) ws) (Some w ∷ []) back) can in
         let so = there limit clock (n - 1) ws w back can' in
         cc (so, e))
 
@@ -185,26 +235,36 @@ pub record Comes (last : ℕ) (list : WaitList) (held : Held) : Type 0 where
   pub alone : number_of held.wait.thread list.waits ≡ None
 
 pub comes : (last : ℕ) (list : WaitList) (held : Held) → may_come last list held ≡ true → Comes last list held
-comes last list held may = record { above = leb-true (length list.waits) held.number bounds.0; most = leb-true held.number last bounds.1; alone = by (number_of held.wait.thread list.waits) free }
+comes last list held may = record {
+  above = leb-true (length list.waits) held.number bounds.0;
+  most = leb-true held.number last bounds.1;
+  alone = by (number_of held.wait.thread list.waits) free;
+}
   where
-    parts : ((leb (length list.waits) held.number && leb held.number last) ≡ true) × ((may_stand list.clock (Some held.wait) && not (is_some (number_of held.wait.thread list.waits))) ≡ true)
-    parts = both-true (leb (length list.waits) held.number && leb held.number last) (may_stand list.clock (Some held.wait) && not (is_some (number_of held.wait.thread list.waits))) may
+    parts : ((leb (length list.waits) held.number && leb held.number last) ≡ true)
+        × ((may_stand list.clock (Some held.wait) && not (is_some (number_of held.wait.thread list.waits))) ≡ true)
+    parts = both-true (leb (length list.waits) held.number && leb held.number last)
+        (may_stand list.clock (Some held.wait) && not (is_some (number_of held.wait.thread list.waits))) may
 
     bounds : (leb (length list.waits) held.number ≡ true) × (leb held.number last ≡ true)
     bounds = both-true (leb (length list.waits) held.number) (leb held.number last) parts.0
 
     free : not (is_some (number_of held.wait.thread list.waits)) ≡ true
-    free = (both-true (may_stand list.clock (Some held.wait)) (not (is_some (number_of held.wait.thread list.waits))) parts.1).1
+    free = (both-true (may_stand list.clock (Some held.wait))
+        (not (is_some (number_of held.wait.thread list.waits))) parts.1).1
 
     by : (o : Option ℕ) → not (is_some o) ≡ true → o ≡ None
     by None e = refl
     by (Some n) e = absurd cc
 
-pub alone_skipped : (last t : ℕ) (ws : List (Option Wait)) → number_of t ws ≡ None → number_of t (skipped last ws) ≡ None
-alone_skipped last t ws none = number_none (skipped last ws) t (λ m own. no_number t ws m none (ap thread_of (sym (get_skipped last ws m)) ∙ own))
+pub alone_skipped : (last t : ℕ) (ws : List (Option Wait)) → number_of t ws ≡ None
+    → number_of t (skipped last ws) ≡ None
+alone_skipped last t ws none = number_none (skipped last ws) t
+    (λ m own. no_number t ws m none (ap thread_of (sym (get_skipped last ws m)) ∙ own))
 
 -- a number is left for it
-pub not_full : (last : ℕ) (list : WaitList) (held : Held) → 0 < held.number → last ≤ list.limit → Comes last list held → is_full (record list { waits = skipped (held.number - 1) list.waits }) ≡ false
+pub not_full : (last : ℕ) (list : WaitList) (held : Held) → 0 < held.number → last ≤ list.limit → Comes last list held
+    → is_full (record list { waits = skipped (held.number - 1) list.waits }) ≡ false
 not_full last list held some most c =
     let above = c.above in
     let below = c.most in
@@ -218,12 +278,15 @@ pub record Goes (last : ℕ) (list : WaitList) (ps : List (ℕ × Wait)) (total 
   pub most : last ≤ list.limit
   pub rest : tested list.limit list.clock (left last list.waits ps) ≡ total
 
-pub goes_on : (last : ℕ) (list list' : WaitList) (held : Held) (ps : List (ℕ × Wait)) (total : Result WaitList TextFault) → come last list held ≡ Ok list' → Goes last list (held_parts held ∷ ps) total → Goes last list' ps total
+pub goes_on : (last : ℕ) (list list' : WaitList) (held : Held) (ps : List (ℕ × Wait))
+    (total : Result WaitList TextFault) → come last list held ≡ Ok list' → Goes last list (held_parts held ∷ ps) total
+    → Goes last list' ps total
 goes_on last list list' held ps total e goes = subst (λ (l : WaitList). Goes last l ps total) g.1 (record {
   some = omega (arith, longer);
   few = omega (arith, longer, most);
   most = goes.most;
-  rest = ap (tested list.limit list.clock) (sym (left_next last held.number list.waits held.wait ps some c.above c.most)) ∙ goes.rest;
+  rest = ap (tested list.limit list.clock)
+      (sym (left_next last held.number list.waits held.wait ps some c.above c.most)) ∙ goes.rest;
 })
   where
     g : (may_come last list held ≡ true) × (with_row list held ≡ list')
@@ -241,13 +304,16 @@ goes_on last list list' held ps total e goes = subst (λ (l : WaitList). Goes la
     longer : length (with_row list held).waits ≡ suc held.number
     longer = length-more last held.number list.waits held.wait ps some c.above c.most
 
-pub ends : (e : ReadFault) (last : ℕ) (list : WaitList) (held : Held) (ps : List (ℕ × Wait)) (total : Result WaitList TextFault) → Fails e (come last list held) → Goes last list (held_parts held ∷ ps) total → Fails e total
+pub ends : (e : ReadFault) (last : ℕ) (list : WaitList) (held : Held) (ps : List (ℕ × Wait))
+    (total : Result WaitList TextFault) → Fails e (come last list held) → Goes last list (held_parts held ∷ ps) total
+    → Fails e total
 ends Memory last list held ps total fails goes = tt
 ends (Text f) last list held ps total fails goes = by (may_come last list held) refl fails
   where
     by : (b : Bool) → may_come last list held ≡ b → cond b (Ok (with_row list held)) (Err Value) ≡ Err f → total ≡ Err f
     by true is e = absurd (cc (e))
-    by false is e = sym goes.rest ∙ left_refused list.limit list.clock last held.number list.waits held.wait ps goes.some is ∙ e
+    by false is e = sym goes.rest
+        ∙ left_refused list.limit list.clock last held.number list.waits held.wait ps goes.some is ∙ e
 
 -- so are all, where the last number is above the limit
 length-spread : (k n : ℕ) (ps : List (ℕ × Wait)) → length (spread_from k n ps) ≡ n
@@ -255,11 +321,13 @@ length-spread k zero ps = refl
 length-spread k (suc n) [] = ap suc (length-spread (suc k) n [])
 length-spread k (suc n) (p ∷ ps) = by (eqb p.0 k) (length-spread (suc k) n ps) (length-spread (suc k) n (p ∷ ps))
   where
-    by : (b : Bool) → length (spread_from (suc k) n ps) ≡ n → length (spread_from (suc k) n (p ∷ ps)) ≡ n → length (cond b (Some p.1 ∷ spread_from (suc k) n ps) (None ∷ spread_from (suc k) n (p ∷ ps))) ≡ suc n
+    by : (b : Bool) → length (spread_from (suc k) n ps) ≡ n → length (spread_from (suc k) n (p ∷ ps)) ≡ n
+        → length (cond b (Some p.1 ∷ spread_from (suc k) n ps) (None ∷ spread_from (suc k) n (p ∷ ps))) ≡ suc n
     by true x y = ap suc x
     by false x y = ap suc y
 
-pub too_many : (limit clock last : ℕ) (ps : List (ℕ × Wait)) → limit < last → tested limit clock (spread (last, ps)) ≡ Err Value
+pub too_many : (limit clock last : ℕ) (ps : List (ℕ × Wait)) → limit < last
+    → tested limit clock (spread (last, ps)) ≡ Err Value
 too_many limit clock last ps lt = by (fits_from 0 (suc last) ps)
   where
     xs : List (Option Wait)
@@ -270,5 +338,7 @@ too_many limit clock last ps lt = by (fits_from 0 (suc last) ps)
 
     by : (b : Bool) → tested limit clock (cond b (Some (spread_from 0 (suc last) ps)) None) ≡ Err Value
     by false = refl
-    by true = ap (λ (z : Bool). cond ((z && not (is_some (get_or (spread_from 0 (suc last) ps) 0 None))) && (list_all (may_stand clock) (spread_from 0 (suc last) ps) && one_each (spread_from 0 (suc last) ps)))
+    by true = ap (λ (z : Bool). cond
+        ((z && not (is_some (get_or (spread_from 0 (suc last) ps) 0 None)))
+        && (list_all (may_stand clock) (spread_from 0 (suc last) ps) && one_each (spread_from 0 (suc last) ps)))
         (Ok (record { limit = limit; waits = spread_from 0 (suc last) ps; clock = clock })) (Err Value)) long

@@ -24,19 +24,24 @@ past_end (w ∷ ws) n zero = refl
 past_end (w ∷ ws) n (suc k) = past_end ws n k
 
 pub length-skipped : (last : ℕ) (ws : List (Option Wait)) → length ws ≤ last + 1 → length (skipped last ws) ≡ last + 1
-length-skipped last ws le = let n = last + 1 - length ws in length-append ws (replicate n None) ∙ ap (λ (k : ℕ). length ws + k) (length-replicate {A = Option Wait} n None) ∙ omega (arith, le)
+length-skipped last ws le = let n = last + 1 - length ws in length-append ws (replicate n None)
+    ∙ ap (λ (k : ℕ). length ws + k) (length-replicate {A = Option Wait} n None) ∙ omega (arith, le)
 
 -- each number has the wait that it had
 pub get_skipped : (last : ℕ) (ws : List (Option Wait)) (k : ℕ) → get_or (skipped last ws) k None ≡ get_or ws k None
 get_skipped last ws k = past_end ws (last + 1 - length ws) k
 
-pub listed_skipped : (given last : ℕ) (f : ℕ → Option Wait) → given ≤ last → IsSparse given f → listed (suc last) f ≡ skipped last (listed (suc given) f)
+pub listed_skipped : (given last : ℕ) (f : ℕ → Option Wait) → given ≤ last → IsSparse given f
+    → listed (suc last) f ≡ skipped last (listed (suc given) f)
 listed_skipped given last f le s = ext_get_or None (listed (suc last) f) (skipped last (listed (suc given) f))
-    (let a = length-listed (suc last) f in let b = length-listed (suc given) f in let c = length-skipped last (listed (suc given) f) (omega (arith, b, le)) in omega (arith, a, c))
-    (λ k lt. value_at last f k (record { zero_has_none = s.zero_has_none; past_has_none = λ n past. s.past_has_none n (omega (arith, le, past)) })
+    (let a = length-listed (suc last) f in let b = length-listed (suc given) f in let c = length-skipped last
+    (listed (suc given) f) (omega (arith, b, le)) in omega (arith, a, c))
+    (λ k lt. value_at last f k
+    (record { zero_has_none = s.zero_has_none; past_has_none = λ n past. s.past_has_none n (omega (arith, le, past)) })
     ∙ sym (get_skipped last (listed (suc given) f) k ∙ value_at given f k s))
 
-pub seated_skipped : (given last : ℕ) (seats : _) (threads : ℕ → Option ℕ) → given ≤ last → AreSeated given seats threads → AreSeated last seats threads
+pub seated_skipped : (given last : ℕ) (seats : _) (threads : ℕ → Option ℕ) → given ≤ last
+    → AreSeated given seats threads → AreSeated last seats threads
 seated_skipped given last seats threads le s = record {
   each = λ t held is. let old = s.each t held is in record { own = old.own; some = old.some; fits = let fits = old.fits in omega (arith, fits, le); known = old.known };
   there = s.there;
@@ -46,13 +51,16 @@ module _ (last : ℕ) (ws : List (Option Wait)) where
   at : (k : ℕ) → get_or (skipped last ws) k None ≡ get_or ws k None
   at = get_skipped last ws
 
-  ordered : length ws ≤ last + 1 → (numbers : List ℕ) → IsOrdered (length ws) numbers → IsOrdered (length (skipped last ws)) numbers
+  ordered : length ws ≤ last + 1 → (numbers : List ℕ) → IsOrdered (length ws) numbers
+      → IsOrdered (length (skipped last ws)) numbers
   ordered le numbers o = record { rising = o.rising; below = λ k h. let b = o.below k h in let l = length-skipped last ws le in omega (arith, b, l, le) }
 
-  has_all : (test : Option Wait → Bool) (numbers : List ℕ) → HasAll test numbers ws → HasAll test numbers (skipped last ws)
+  has_all : (test : Option Wait → Bool) (numbers : List ℕ) → HasAll test numbers ws
+      → HasAll test numbers (skipped last ws)
   has_all test numbers h = record { each = λ k e. h.each k (ap test (sym (at k)) ∙ e) }
 
-  pub tracked_skipped : (limit : ℕ) (roster : Roster) → length ws ≤ last + 1 → last ≤ limit → IsTracked limit ws roster → IsTracked limit (skipped last ws) roster
+  pub tracked_skipped : (limit : ℕ) (roster : Roster) → length ws ≤ last + 1 → last ≤ limit → IsTracked limit ws roster
+      → IsTracked limit (skipped last ws) roster
   tracked_skipped limit roster le most t = record {
     limit_fits = t.limit_fits;
     few = let l = length-skipped last ws le in omega (arith, l, most);
@@ -69,11 +77,18 @@ module _ (last : ℕ) (ws : List (Option Wait)) where
     };
   }
 
-  pub timely_skipped : (clock : ℕ) (dues : List (Option ℕ)) → AreTimely clock ws dues → AreTimely clock (skipped last ws) dues
+  pub timely_skipped : (clock : ℕ) (dues : List (Option ℕ)) → AreTimely clock ws dues
+      → AreTimely clock (skipped last ws) dues
   timely_skipped clock dues a = record {
     moment = a.moment;
-    ahead = record { each = λ i. subst (λ (w : Option Wait). IsAfter clock (deadline_of w)) (sym (at i)) (a.ahead.each i) };
-    listed = record { each = λ i t d h e. a.listed.each i t d (ap thread_of (sym (at i)) ∙ h) (ap deadline_of (sym (at i)) ∙ e) };
+    ahead = record {
+      each = λ i. subst (λ (w : Option Wait). IsAfter clock (deadline_of w)) (sym (at i))
+          (a.ahead.each i);
+    };
+    listed = record {
+      each = λ i t d h e. a.listed.each i t d (ap thread_of (sym (at i)) ∙ h)
+          (ap deadline_of (sym (at i)) ∙ e);
+    };
   }
 
   pub told_skipped : (u : Untaken) → AreTold ws u → AreTold (skipped last ws) u

@@ -28,18 +28,23 @@ or-false true b e = absurd cc
 or-false false b e = (refl, e)
 
 -- lists in which no slot is named twice
-pub distinct-test : (ids : List Id) → names_twice ids ≡ false → (i j : ℕ) → i < j → j < length ids → (get_or ids i nowhere).slot ≡ (get_or ids j nowhere).slot → ⊥
+pub distinct-test : (ids : List Id) → names_twice ids ≡ false → (i j : ℕ) → i < j → j < length ids
+    → (get_or ids i nowhere).slot ≡ (get_or ids j nowhere).slot → ⊥
 distinct-test [] none i j lt in' same = omega (arith, in')
 distinct-test (id ∷ ids) none i zero lt in' same = omega (arith, lt)
 distinct-test (id ∷ ids) none zero (suc j) lt in' same =
     let first : has_slot ids id.slot ≡ false = (or-false (has_slot ids id.slot) (names_twice ids) none).0 in
     let here : ((get_or ids j nowhere).slot == id.slot) ≡ true = grind (arith, nat_tests, same) in
-    let has : has_slot ids id.slot ≡ true = list_any_at (λ (x : Id). x.slot == id.slot) ids j nowhere (omega (arith, in')) here in
+    let has : has_slot ids id.slot ≡ true = list_any_at (λ (x : Id). x.slot == id.slot) ids j nowhere
+    (omega (arith, in')) here in
     cc (first, has)
 distinct-test (id ∷ ids) none (suc i) (suc j) lt in' same =
-    distinct-test ids (or-false (has_slot ids id.slot) (names_twice ids) none).1 i j (omega (arith, lt)) (omega (arith, in')) same
+    distinct-test ids (or-false (has_slot ids id.slot) (names_twice ids) none).1 i j (omega (arith, lt))
+    (omega (arith, in')) same
 
-test-distinct : (ids : List Id) → ((i j : ℕ) → i < j → j < length ids → (get_or ids i nowhere).slot ≡ (get_or ids j nowhere).slot → ⊥) → names_twice ids ≡ false
+test-distinct : (ids : List Id)
+    → ((i j : ℕ) → i < j → j < length ids → (get_or ids i nowhere).slot ≡ (get_or ids j nowhere).slot → ⊥)
+    → names_twice ids ≡ false
 test-distinct [] apart = refl
 test-distinct (id ∷ ids) apart =
     ap (λ (b : Bool). b || names_twice ids) (not_true (has_slot ids id.slot) (λ has.
@@ -54,7 +59,12 @@ pub waitable : (mode : Mode) (ids : List Id) → may_list mode ids ≡ true → 
 waitable Any ids may few = record { some = ltb-true 0 (length ids) may; few = few; once = λ e. absurd (cc (e)) }
 waitable All ids may few =
     let b = both-true (ltb 0 (length ids)) (not (names_twice ids)) may in
-    record { some = ltb-true 0 (length ids) b.0; few = few; once = λ e. record { apart = distinct-test ids (by (names_twice ids) b.1) } }
+    record {
+      some = ltb-true 0
+          (length ids) b.0;
+      few = few;
+      once = λ e. record { apart = distinct-test ids (by (names_twice ids) b.1) };
+    }
   where
     by : (t : Bool) → not t ≡ true → t ≡ false
     by true e = absurd cc
@@ -62,7 +72,8 @@ waitable All ids may few =
 
 may-wait : (mode : Mode) (ids : List Id) → IsWaitable mode ids → may_list mode ids ≡ true
 may-wait Any ids w = lt-ltb 0 (length ids) w.some
-may-wait All ids w = true-both (ltb 0 (length ids)) (not (names_twice ids)) (lt-ltb 0 (length ids) w.some) (ap not (test-distinct ids (w.once refl).apart))
+may-wait All ids w = true-both (ltb 0 (length ids)) (not (names_twice ids)) (lt-ltb 0 (length ids) w.some)
+    (ap not (test-distinct ids (w.once refl).apart))
 
 -- a deadline that is ahead
 undue : (clock : ℕ) (d : Option ℕ) → IsAfter clock d → is_due clock d ≡ false
@@ -74,15 +85,21 @@ standing : (clock : ℕ) (w : Option Wait) → WaitWaitable w → IsAfter clock 
 standing clock None can ahead = refl
 standing clock (Some w) can ahead = by w.state can ahead
   where
-    by : (s : State) → WaitWaitable (Some (record w { state = s })) → IsAfter clock (state_deadline w.deadline s) → may_stand clock (Some (record w { state = s })) ≡ true
-    by (Pending mode ids) can ahead = true-both (may_list mode ids) (not (is_due clock w.deadline)) (may-wait mode ids can) (ap not (undue clock w.deadline ahead))
+    by : (s : State) → WaitWaitable (Some (record w { state = s })) → IsAfter clock (state_deadline w.deadline s)
+        → may_stand clock (Some (record w { state = s })) ≡ true
+    by (Pending mode ids) can ahead = true-both (may_list mode ids) (not (is_due clock w.deadline))
+        (may-wait mode ids can) (ap not (undue clock w.deadline ahead))
     by (Answered code) can ahead = refl
 
-all-stand : (clock : ℕ) (ws : List (Option Wait)) → ((n : ℕ) → may_stand clock (get_or ws n None) ≡ true) → list_all (may_stand clock) ws ≡ true
+all-stand : (clock : ℕ) (ws : List (Option Wait)) → ((n : ℕ) → may_stand clock (get_or ws n None) ≡ true)
+    → list_all (may_stand clock) ws ≡ true
 all-stand clock [] each = refl
-all-stand clock (w ∷ ws) each = true-both (may_stand clock w) (list_all (may_stand clock) ws) (each 0) (all-stand clock ws (λ n. each (suc n)))
+all-stand clock (w ∷ ws) each = true-both (may_stand clock w) (list_all (may_stand clock) ws) (each 0)
+    (all-stand clock ws (λ n. each (suc n)))
 
-ones : (ws : List (Option Wait)) → ((n m t : ℕ) → thread_of (get_or ws n None) ≡ Some t → thread_of (get_or ws m None) ≡ Some t → n ≡ m) → one_each ws ≡ true
+ones : (ws : List (Option Wait))
+    → ((n m t : ℕ) → thread_of (get_or ws n None) ≡ Some t → thread_of (get_or ws m None) ≡ Some t → n ≡ m)
+    → one_each ws ≡ true
 ones [] alone = refl
 ones (None ∷ ws) alone = ones ws (λ n m t p q. let e = alone (suc n) (suc m) t p q in omega (arith, e))
 ones (Some w ∷ ws) alone = true-both (not (list_any (is_waits_of w.thread) ws)) (one_each ws)
@@ -94,8 +111,13 @@ ones (Some w ∷ ws) alone = true-both (not (list_any (is_waits_of w.thread) ws)
     (ones ws (λ n m t p q. let e = alone (suc n) (suc m) t p q in omega (arith, e)))
 
 -- The theorem: the waits that are kept from call to call can be.
-pub kept_can_be : (limit clock : ℕ) (ws : List (Option Wait)) (roster : Roster) (dues : List (Option ℕ)) → IsTracked limit ws roster → AreTimely clock ws dues → can_be limit clock ws ≡ true
+pub kept_can_be : (limit clock : ℕ) (ws : List (Option Wait)) (roster : Roster) (dues : List (Option ℕ))
+    → IsTracked limit ws roster → AreTimely clock ws dues → can_be limit clock ws ≡ true
 kept_can_be limit clock ws roster dues tracked timely =
-    true-both (leb (length ws) (limit + 1) && not (is_some (get_or ws 0 None))) (list_all (may_stand clock) ws && one_each ws)
-    (true-both (leb (length ws) (limit + 1)) (not (is_some (get_or ws 0 None))) (le-leb _ _ tracked.few) (ap (λ (w : Option Wait). not (is_some w)) tracked.zero_has_none))
-    (true-both (list_all (may_stand clock) ws) (one_each ws) (all-stand clock ws (λ n. standing clock (get_or ws n None) (tracked.kept.each n) (timely.ahead.each n))) (ones ws tracked.kept.one_each))
+    true-both (leb (length ws) (limit + 1) && not (is_some (get_or ws 0 None)))
+    (list_all (may_stand clock) ws && one_each ws)
+    (true-both (leb (length ws) (limit + 1)) (not (is_some (get_or ws 0 None))) (le-leb _ _ tracked.few)
+    (ap (λ (w : Option Wait). not (is_some w)) tracked.zero_has_none))
+    (true-both (list_all (may_stand clock) ws) (one_each ws)
+    (all-stand clock ws (λ n. standing clock (get_or ws n None) (tracked.kept.each n) (timely.ahead.each n)))
+    (ones ws tracked.kept.one_each))

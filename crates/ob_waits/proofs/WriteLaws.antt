@@ -13,17 +13,20 @@ use Rattle.ob_waits.specs.declared.wait.Wait.{Wait}
 abbrev pub rows_behind : ℕ → List (Option Wait) → List (ℕ × Wait)
 rows_behind last ws = entries_from (suc last) (drop (suc last) ws)
 
-one_row : (j k : ℕ) (ws : List (Option Wait)) → entries_from j (drop k ws) ≡ row_of j (get_or ws k None) ++ entries_from (suc j) (drop (suc k) ws)
+one_row : (j k : ℕ) (ws : List (Option Wait))
+    → entries_from j (drop k ws) ≡ row_of j (get_or ws k None) ++ entries_from (suc j) (drop (suc k) ws)
 one_row j zero [] = refl
 one_row j (suc k) [] = refl
 one_row j zero (None ∷ ws) = refl
 one_row j zero (Some w ∷ ws) = refl
 one_row j (suc k) (x ∷ ws) = one_row j k ws
 
-no_rows : (d k : ℕ) (ws : List (Option Wait)) → ((i : ℕ) → k ≤ i → i < k + d → get_or ws i None ≡ None) → entries_from k (drop k ws) ≡ entries_from (k + d) (drop (k + d) ws)
+no_rows : (d k : ℕ) (ws : List (Option Wait)) → ((i : ℕ) → k ≤ i → i < k + d → get_or ws i None ≡ None)
+    → entries_from k (drop k ws) ≡ entries_from (k + d) (drop (k + d) ws)
 no_rows zero k ws none = ap (λ (j : ℕ). entries_from j (drop j ws)) (let e : k ≡ k + 0 = omega arith in e)
 no_rows (suc d) k ws none =
-    one_row k k ws ∙ ap (λ (w : Option Wait). row_of k w ++ entries_from (suc k) (drop (suc k) ws)) (none k (omega arith) (omega arith))
+    one_row k k ws ∙ ap (λ (w : Option Wait). row_of k w ++ entries_from (suc k) (drop (suc k) ws))
+    (none k (omega arith) (omega arith))
     ∙ no_rows d (suc k) ws (λ i le lt. none i (omega (arith, le)) (omega (arith, lt)))
     ∙ ap (λ (j : ℕ). entries_from j (drop j ws)) (let e : suc k + d ≡ k + suc d = omega arith in e)
 
@@ -32,14 +35,19 @@ without None h = refl
 without (Some w) h = absurd (h refl)
 
 -- the next number has the next row, if it has one
-pub row_next : (last n : ℕ) (ws : List (Option Wait)) → last < n → ((k : ℕ) → is_some (get_or ws k None) ≡ true → last < k → n ≤ k) → rows_behind last ws ≡ row_of n (get_or ws n None) ++ rows_behind n ws
+pub row_next : (last n : ℕ) (ws : List (Option Wait)) → last < n
+    → ((k : ℕ) → is_some (get_or ws k None) ≡ true → last < k → n ≤ k)
+    → rows_behind last ws ≡ row_of n (get_or ws n None) ++ rows_behind n ws
 row_next last n ws above least =
     let d = n - suc last in
     let e : suc last + d ≡ n = omega (arith, above) in
-    no_rows d (suc last) ws (λ i le lt. without (get_or ws i None) (λ has. let at = least i has (omega (arith, le)) in omega (arith, at, lt, e)))
+    no_rows d (suc last) ws
+    (λ i le lt. without (get_or ws i None)
+    (λ has. let at = least i has (omega (arith, le)) in omega (arith, at, lt, e)))
     ∙ ap (λ (j : ℕ). entries_from j (drop j ws)) e ∙ one_row n n ws
 
-pub row_none : (last : ℕ) (ws : List (Option Wait)) → ((k : ℕ) → is_some (get_or ws k None) ≡ true → last < k → ⊥) → rows_behind last ws ≡ []
+pub row_none : (last : ℕ) (ws : List (Option Wait)) → ((k : ℕ) → is_some (get_or ws k None) ≡ true → last < k → ⊥)
+    → rows_behind last ws ≡ []
 row_none last ws none =
     no_rows (length ws) (suc last) ws (λ i le lt. without (get_or ws i None) (λ has. none i has (omega (arith, le))))
     ∙ ap (entries_from (suc last + length ws)) (drop_all (suc last + length ws) ws (omega arith))
@@ -55,9 +63,11 @@ few_rows k (None ∷ ws) = omega (arith, few_rows (suc k) ws)
 few_rows k (Some w ∷ ws) = omega (arith, few_rows (suc k) ws)
 
 pub all_rows_few : (ws : List (Option Wait)) → get_or ws 0 None ≡ None → length (entries_from 0 ws) ≤ length ws - 1
-all_rows_few ws none = let e = ap length (rows_all ws none) in let f = few_rows 1 (drop 1 ws) in omega (arith, e, f, length-drop 1 ws)
+all_rows_few ws none = let e = ap length (rows_all ws none) in let f = few_rows 1 (drop 1 ws) in omega
+    (arith, e, f, length-drop 1 ws)
 
-all_fit : (xs ys : List (ℕ × Wait)) → AllByRecursion RowFits xs → AllByRecursion RowFits ys → AllByRecursion RowFits (xs ++ ys)
+all_fit : (xs ys : List (ℕ × Wait)) → AllByRecursion RowFits xs → AllByRecursion RowFits ys
+    → AllByRecursion RowFits (xs ++ ys)
 all_fit [] ys a b = b
 all_fit (x ∷ xs) ys a b = (a.0, all_fit xs ys a.1 b)
 
@@ -74,20 +84,35 @@ written_none out ws none = record {
   fits = λ all. subst (λ (rows : List (ℕ × Wait)). AllByRecursion RowFits rows) (sym (rows_all ws none)) all;
 }
 
-pub written_next : (last n count more : ℕ) (out out' before : List ℕ) (ws : List (Option Wait)) → last < n → ((k : ℕ) → is_some (get_or ws k None) ≡ true → last < k → n ≤ k)
-    → out' ≡ out ++ flat_map row_text (row_of n (get_or ws n None)) → more ≡ length (row_of n (get_or ws n None)) → AllByRecursion RowFits (row_of n (get_or ws n None))
+pub written_next : (last n count more : ℕ) (out out' before : List ℕ) (ws : List (Option Wait)) → last < n
+    → ((k : ℕ) → is_some (get_or ws k None) ≡ true → last < k → n ≤ k)
+    → out' ≡ out ++ flat_map row_text (row_of n (get_or ws n None)) → more ≡ length (row_of n (get_or ws n None))
+    → AllByRecursion RowFits (row_of n (get_or ws n None))
     → Written last count out before ws → Written n (count + more) out' before ws
 written_next last n count more out out' before ws above least text is fit w = record {
-  text = ap (λ (t : List ℕ). t ++ flat_map row_text (rows_behind n ws)) text ∙ append_assoc out (flat_map row_text (row_of n (get_or ws n None))) (flat_map row_text (rows_behind n ws))
-      ∙ ap (λ (t : List ℕ). out ++ t) (sym (ap (flat_map row_text) next ∙ flat_map-append row_text (row_of n (get_or ws n None)) (rows_behind n ws))) ∙ w.text;
-  many = let e = ap length next in let l = length-append (row_of n (get_or ws n None)) (rows_behind n ws) in let c = w.many in omega (arith, e, l, c, is);
-  fits = λ all. w.fits (subst (λ (rows : List (ℕ × Wait)). AllByRecursion RowFits rows) (sym next) (all_fit (row_of n (get_or ws n None)) (rows_behind n ws) fit all));
+  text = ap (λ (t : List ℕ). t ++ flat_map row_text (rows_behind n ws)) text
+      ∙ append_assoc out (flat_map row_text (row_of n (get_or ws n None))) (flat_map row_text (rows_behind n ws))
+      ∙ ap (λ (t : List ℕ). out ++ t)
+      (sym (ap (flat_map row_text) next ∙ flat_map-append row_text (row_of n (get_or ws n None)) (rows_behind n ws))) ∙ w.text;
+  many = let e = ap length next in let l = length-append (row_of n (get_or ws n None))
+      (rows_behind n ws) in let c = w.many in omega (arith, e, l, c, is);
+  fits = λ all. w.fits (subst (λ (rows : List (ℕ × Wait)). AllByRecursion RowFits rows) (sym next)
+      (all_fit (row_of n (get_or ws n None)) (rows_behind n ws) fit all));
 }
   where
     next : rows_behind last ws ≡ row_of n (get_or ws n None) ++ rows_behind n ws
     next = row_next last n ws above least
 
 -- waits of which each row fits have a spelling
-pub rows_fit : (ws : List (Option Wait)) (given : ℕ) → get_or ws 0 None ≡ None → length ws ≡ given + 1 → given < 2 ^ 32 → AllByRecursion RowFits (entries_from 0 ws) → SparseFits WaitFits ws
+pub rows_fit : (ws : List (Option Wait)) (given : ℕ) → get_or ws 0 None ≡ None → length ws ≡ given + 1 → given < 2 ^ 32
+    → AllByRecursion RowFits (entries_from 0 ws) → SparseFits WaitFits ws
 rows_fit ws given none len range fits =
-    record { some = omega (arith, len); each = (omega (arith, len, range), (let few = all_rows_few ws none in omega (arith, few, len, range), fits)) }
+    record {
+      some = omega
+          (arith, len);
+      each = (
+        omega
+            (arith, len, range),
+        (let few = all_rows_few ws none in omega (arith, few, len, range), fits),
+      );
+    }

@@ -155,7 +155,8 @@ with_rest limit clock waits = record { limit = limit; waits = waits; clock = clo
 -- so do how many threads and slots there are, which bound the memory that is asked for
 abbrev pub waits_at : ℕ → ℕ → ℕ → ℕ → List ℕ → Read WaitList
 waits_at limit clock threads slots =
-    as_at (with_rest limit clock) (where_at (are_within threads slots) (where_at (can_be limit clock) (sparse_at wait_at)))
+    as_at (with_rest limit clock)
+    (where_at (are_within threads slots) (where_at (can_be limit clock) (sparse_at wait_at)))
 
 -- waits that have a spelling
 abbrev pub WaitsFit : WaitList → Type 0

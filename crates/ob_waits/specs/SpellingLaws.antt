@@ -19,22 +19,33 @@ pub ids_codec : IsCodec ids_text ids_at IdsFit
 ids_codec = where_codec (list_codec id_codec) are_few
 
 -- what is read of one form
-takes-one : {A : Type 0} {spell : A → List ℕ} {read : List ℕ → Read A} {Fits : A → Type 0} → IsCodec spell read Fits → (t : ℕ) (to : A → State)
+takes-one : {A : Type 0} {spell : A → List ℕ} {read : List ℕ → Read A} {Fits : A → Type 0} → IsCodec spell read Fits
+    → (t : ℕ) (to : A → State)
     → ((a : A) → parts_text (to a) ≡ spell a) → ((a : A) → Fits a → StateFits (to a)) → ((a : A) → tag_of (to a) ≡ t)
-    → (bytes : List ℕ) (x : State) (rest : List ℕ) → AreBytes bytes → as_at to read bytes ≡ Ok (x, rest) → Takes bytes (parts_text x) rest × StateFits x × (tag_of x ≡ t)
+    → (bytes : List ℕ) (x : State) (rest : List ℕ) → AreBytes bytes → as_at to read bytes ≡ Ok (x, rest)
+    → Takes bytes (parts_text x) rest × StateFits x × (tag_of x ≡ t)
 takes-one {A = A} {read = read} is t to text can tag bytes x rest fits e =
     let b = bind_ok (read bytes) (λ (y : A × List ℕ). Ok (to y.0, y.1)) (x, rest) e in
     let k = is.takes bytes b.0.0 b.0.1 fits b.1 in
-    subst (λ (z : State × List ℕ). Takes bytes (parts_text z.0) z.1 × StateFits z.0 × (tag_of z.0 ≡ t)) (ok_is (to b.0.0, b.0.1) (x, rest) b.2)
+    subst (λ (z : State × List ℕ). Takes bytes (parts_text z.0) z.1 × StateFits z.0 × (tag_of z.0 ≡ t))
+    (ok_is (to b.0.0, b.0.1) (x, rest) b.2)
     (subst (λ (w : List ℕ). Takes bytes w b.0.1) (sym (text b.0.0)) k.0, can b.0.0 k.1, tag b.0.0)
 
-one-again : (t : ℕ) (x : State) (rest : List ℕ) → tag_of x ≡ t → StateFits x → state_in t (parts_text x ++ rest) ≡ Ok (x, rest)
+one-again : (t : ℕ) (x : State) (rest : List ℕ) → tag_of x ≡ t → StateFits x
+    → state_in t (parts_text x ++ rest) ≡ Ok (x, rest)
 unfolding state_in
-one-again t (Pending Any ids) rest is fits = subst (λ (n : ℕ). state_in n (ids_text ids ++ rest) ≡ Ok (Pending Any ids, rest)) is (rw (ids_codec.again ids rest fits) refl)
-one-again t (Pending All ids) rest is fits = subst (λ (n : ℕ). state_in n (ids_text ids ++ rest) ≡ Ok (Pending All ids, rest)) is (rw (ids_codec.again ids rest fits) refl)
-one-again t (Answered code) rest is fits = subst (λ (n : ℕ). state_in n (parts_text (Answered code) ++ rest) ≡ Ok (Answered code, rest)) is (rw (u32_codec.again code rest fits) refl)
+one-again t (Pending Any ids) rest is fits = subst
+    (λ (n : ℕ). state_in n (ids_text ids ++ rest) ≡ Ok (Pending Any ids, rest)) is
+    (rw (ids_codec.again ids rest fits) refl)
+one-again t (Pending All ids) rest is fits = subst
+    (λ (n : ℕ). state_in n (ids_text ids ++ rest) ≡ Ok (Pending All ids, rest)) is
+    (rw (ids_codec.again ids rest fits) refl)
+one-again t (Answered code) rest is fits = subst
+    (λ (n : ℕ). state_in n (parts_text (Answered code) ++ rest) ≡ Ok (Answered code, rest)) is
+    (rw (u32_codec.again code rest fits) refl)
 
-one-takes : (t : ℕ) (bytes : List ℕ) (x : State) (rest : List ℕ) → AreBytes bytes → state_in t bytes ≡ Ok (x, rest) → Takes bytes (parts_text x) rest × StateFits x × (tag_of x ≡ t)
+one-takes : (t : ℕ) (bytes : List ℕ) (x : State) (rest : List ℕ) → AreBytes bytes → state_in t bytes ≡ Ok (x, rest)
+    → Takes bytes (parts_text x) rest × StateFits x × (tag_of x ≡ t)
 unfolding state_in
 one-takes zero = takes-one ids_codec 0 (Pending Any) (λ _. refl) (λ _ fits. fits) (λ _. refl)
 one-takes (suc zero) = takes-one ids_codec 1 (Pending All) (λ _. refl) (λ _ fits. fits) (λ _. refl)
@@ -42,30 +53,42 @@ one-takes (suc (suc zero)) = takes-one u32_codec 2 Answered (λ _. refl) (λ _ f
 one-takes (suc (suc (suc t))) = λ bytes x rest fits e. absurd cc
 
 pub state_codec : IsCodec state_text state_at StateFits
-state_codec = tagged_codec tag_of parts_text state_in StateFits (λ t. record { again = one-again t; takes = one-takes t })
+state_codec = tagged_codec tag_of parts_text state_in StateFits
+    (λ t. record { again = one-again t; takes = one-takes t })
 
 pub wait_codec : IsCodec wait_text wait_at WaitFits
-wait_codec = as_codec wait_of wait_parts (λ _. refl) (λ _. refl) (both_codec u32_codec (both_codec (option_codec u64_codec) state_codec))
+wait_codec = as_codec wait_of wait_parts (λ _. refl) (λ _. refl)
+    (both_codec u32_codec (both_codec (option_codec u64_codec) state_codec))
 
 pub held_codec : IsCodec held_text held_at HeldFits
 held_codec = as_codec held_of held_parts (λ _. refl) (λ _. refl) (both_codec u32_codec wait_codec)
 
 abbrev ListsFit : ℕ → ℕ → ℕ → ℕ → List (Option Wait) → Type 0
-ListsFit limit clock threads slots waits = (SparseFits WaitFits waits × (can_be limit clock waits ≡ true)) × (are_within threads slots waits ≡ true)
+ListsFit limit clock threads slots waits = (SparseFits WaitFits waits × (can_be limit clock waits ≡ true))
+    × (are_within threads slots waits ≡ true)
 
 abbrev lists_at : ℕ → ℕ → ℕ → ℕ → List ℕ → Read (List (Option Wait))
-lists_at limit clock threads slots = where_at (are_within threads slots) (where_at (can_be limit clock) (sparse_at wait_at))
+lists_at limit clock threads slots = where_at (are_within threads slots)
+    (where_at (can_be limit clock) (sparse_at wait_at))
 
-lists_codec : (limit clock threads slots : ℕ) → IsCodec waits_text (lists_at limit clock threads slots) (ListsFit limit clock threads slots)
-lists_codec limit clock threads slots = where_codec (where_codec (sparse_codec wait_codec) (can_be limit clock)) (are_within threads slots)
+lists_codec : (limit clock threads slots : ℕ)
+    → IsCodec waits_text (lists_at limit clock threads slots) (ListsFit limit clock threads slots)
+lists_codec limit clock threads slots = where_codec (where_codec (sparse_codec wait_codec) (can_be limit clock))
+    (are_within threads slots)
 
-pub waits_again : (threads slots : ℕ) (list : WaitList) (rest : List ℕ) → WaitsFit list → are_within threads slots list.waits ≡ true
+pub waits_again : (threads slots : ℕ) (list : WaitList) (rest : List ℕ) → WaitsFit list
+    → are_within threads slots list.waits ≡ true
     → waits_at list.limit list.clock threads slots (waits_text list.waits ++ rest) ≡ Ok (list, rest)
-waits_again threads slots list rest fits within = rw ((lists_codec list.limit list.clock threads slots).again list.waits rest (fits, within)) refl
+waits_again threads slots list rest fits within = rw
+    ((lists_codec list.limit list.clock threads slots).again list.waits rest (fits, within)) refl
 
-pub waits_take : (limit clock threads slots : ℕ) (bytes : List ℕ) (list : WaitList) (rest : List ℕ) → AreBytes bytes → waits_at limit clock threads slots bytes ≡ Ok (list, rest)
+pub waits_take : (limit clock threads slots : ℕ) (bytes : List ℕ) (list : WaitList) (rest : List ℕ) → AreBytes bytes
+    → waits_at limit clock threads slots bytes ≡ Ok (list, rest)
     → Takes bytes (waits_text list.waits) rest × WaitsFit list × (are_within threads slots list.waits ≡ true)
 waits_take limit clock threads slots bytes list rest fits e =
-    let x = bind_ok (lists_at limit clock threads slots bytes) (λ (x : List (Option Wait) × List ℕ). Ok (with_rest limit clock x.0, x.1)) (list, rest) e in
+    let x = bind_ok (lists_at limit clock threads slots bytes)
+    (λ (x : List (Option Wait) × List ℕ). Ok (with_rest limit clock x.0, x.1)) (list, rest) e in
     let w = (lists_codec limit clock threads slots).takes bytes x.0.0 x.0.1 fits x.1 in
-    subst (λ (z : WaitList × List ℕ). Takes bytes (waits_text z.0.waits) z.1 × WaitsFit z.0 × (are_within threads slots z.0.waits ≡ true)) (ok_is (with_rest limit clock x.0.0, x.0.1) (list, rest) x.2) (w.0, w.1.0, w.1.1)
+    subst (λ (z : WaitList × List ℕ). Takes bytes (waits_text z.0.waits) z.1 × WaitsFit z.0
+    × (are_within threads slots z.0.waits ≡ true)) (ok_is (with_rest limit clock x.0.0, x.0.1) (list, rest) x.2)
+    (w.0, w.1.0, w.1.1)

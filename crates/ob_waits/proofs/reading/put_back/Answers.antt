@@ -8,12 +8,15 @@ overflow_sub-held c = let some = c.may_come.ensures.some c.if-not-may_come.false
 
 pub put_wait-requires-clause-alone : goal.put_wait-requires-clause-alone
 put_wait-requires-clause-alone c =
-    let row = comes c.args.last c.args.waits.now c.args.held.now (sym c.may_come.ensures.value ∙ c.if-not-may_come.false) in
+    let row = comes c.args.last c.args.waits.now c.args.held.now
+    (sym c.may_come.ensures.value ∙ c.if-not-may_come.false) in
     subst (λ (l : WaitList). number_of c.args.held.now.wait.thread l.waits ≡ None) (sym c.skip_to.ensures.value)
     (alone_skipped (c.args.held.now.number - 1) c.args.held.now.wait.thread c.args.waits.now.waits row.alone)
 
 pub put_wait-requires-clause-below_limit : goal.put_wait-requires-clause-below_limit
 put_wait-requires-clause-below_limit c =
-    let row = comes c.args.last c.args.waits.now c.args.held.now (sym c.may_come.ensures.value ∙ c.if-not-may_come.false) in
+    let row = comes c.args.last c.args.waits.now c.args.held.now
+    (sym c.may_come.ensures.value ∙ c.if-not-may_come.false) in
     subst (λ (l : WaitList). is_full l ≡ false) (sym c.skip_to.ensures.value)
-    (not_full c.args.last c.args.waits.now c.args.held.now (c.may_come.ensures.some c.if-not-may_come.false) c.requires row)
+    (not_full c.args.last c.args.waits.now c.args.held.now
+    (c.may_come.ensures.some c.if-not-may_come.false) c.requires row)

@@ -10,6 +10,8 @@ use Rattle.ob_waits.proofs.reading.put_wait.Goals as goal
 pub admit-requires-clause-waitable : goal.admit-requires-clause-waitable
 admit-requires-clause-waitable c =
     let wait = c.args.wait.now in
-    let may = both-true (state_may wait.state) (not (is_overdue c.args.waits.now.clock (Some wait))) c.requires.stands in
+    let may = both-true (state_may wait.state)
+    (not (is_overdue c.args.waits.now.clock (Some wait))) c.requires.stands in
     waitable c.in-Pending.mode c.as_slice.result.now
-    (subst (λ (ids : List Id). state_may (Pending c.in-Pending.mode ids) ≡ true) (sym c.as_slice.ensures.value) (sym (ap state_may c.in-Pending.is) ∙ may.0)) c.as_slice.ensures.few
+    (subst (λ (ids : List Id). state_may (Pending c.in-Pending.mode ids) ≡ true) (sym c.as_slice.ensures.value)
+    (sym (ap state_may c.in-Pending.is) ∙ may.0)) c.as_slice.ensures.few

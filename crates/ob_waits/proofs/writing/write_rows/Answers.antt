@@ -24,7 +24,9 @@ overflow_add-count c =
 pub returns-clause-text : goal.returns-clause-text
 returns-clause-text c =
     let none = row_none c.loop-number.last c.args.live.now c.in_default.ensures.least in
-    sym (append-nil c.loop-number.out.items) ∙ ap (λ (rows : List (ℕ × Wait)). c.loop-number.out.items ++ flat_map row_text rows) (sym none) ∙ c.loop-number.invariant.text
+    sym (append-nil c.loop-number.out.items)
+    ∙ ap (λ (rows : List (ℕ × Wait)). c.loop-number.out.items ++ flat_map row_text rows) (sym none)
+    ∙ c.loop-number.invariant.text
 
 pub returns-clause-count : goal.returns-clause-count
 returns-clause-count c =
@@ -34,4 +36,6 @@ returns-clause-count c =
 
 pub returns-clause-fits : goal.returns-clause-fits
 returns-clause-fits c =
-    c.loop-number.invariant.fits (subst (λ (rows : List (ℕ × Wait)). AllByRecursion RowFits rows) (sym (row_none c.loop-number.last c.args.live.now c.in_default.ensures.least)) tt)
+    c.loop-number.invariant.fits
+    (subst (λ (rows : List (ℕ × Wait)). AllByRecursion RowFits rows)
+    (sym (row_none c.loop-number.last c.args.live.now c.in_default.ensures.least)) tt)

@@ -18,6 +18,8 @@ came-requires-clause-told c =
     let ws = c.self.inside.waits in
     let told = told_room ws c.self.inside.untaken c.make_room.new.self c.make_room.ensures.fresh c.make_room.ensures.late c.make_room.ensures.longer c.self.invariant in
     let more : c.push.new.self ≡ ws ++ Some c.args.wait ∷ [] = c.in_ok-push.ensures.ok in
-    let number : length ws ≡ c.given-number.result = let g = c.given-number.ensures in let l = ap length more in omega (arith, g, l, length_push ws (Some c.args.wait)) in
+    let number : length ws ≡ c.given-number.result = let g = c.given-number.ensures in let l = ap length more in omega
+    (arith, g, l, length_push ws (Some c.args.wait)) in
     subst (λ i. AreToldBut (Some i) c.push.new.self c.make_room.new.self) number
-    (subst (λ (l : List (Option Wait)). AreToldBut (Some (length ws)) l c.make_room.new.self) (sym more) (told_came ws c.args.wait c.make_room.new.self c.in_ok-make_room.ensures.room told))
+    (subst (λ (l : List (Option Wait)). AreToldBut (Some (length ws)) l c.make_room.new.self) (sym more)
+    (told_came ws c.args.wait c.make_room.new.self c.in_ok-make_room.ensures.room told))

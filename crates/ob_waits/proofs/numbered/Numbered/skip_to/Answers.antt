@@ -10,12 +10,25 @@ use Rattle.ob_waits.proofs.numbered.Numbered.skip_to.Goals as goal
 pub invariant_of-self : goal.invariant_of-self
 invariant_of-self c =
     let s = c.self.inside in
-    let le : s.given ≤ c.args.last = let next = c.requires in omega (arith, next, ap length c.self.view_is, length-listed (suc s.given) (found s.seats.items (thread_at s.finder))) in
+    let le : s.given ≤ c.args.last = let next = c.requires in omega (
+      arith,
+      next,
+      ap length c.self.view_is,
+      length-listed (suc s.given)
+          (found s.seats.items (thread_at s.finder)),
+    ) in
     (seated_skipped s.given c.args.last s.seats.items (thread_at s.finder) le c.self.invariant.0, c.self.invariant.1)
 
 pub returns : goal.returns
 returns c =
     let s = c.self.inside in
-    let le : s.given ≤ c.args.last = let next = c.requires in omega (arith, next, ap length c.self.view_is, length-listed (suc s.given) (found s.seats.items (thread_at s.finder))) in
-    listed_skipped s.given c.args.last (found s.seats.items (thread_at s.finder)) le (seated_sparse s.given s.seats.items (thread_at s.finder) c.self.invariant.0)
+    let le : s.given ≤ c.args.last = let next = c.requires in omega (
+      arith,
+      next,
+      ap length c.self.view_is,
+      length-listed (suc s.given)
+          (found s.seats.items (thread_at s.finder)),
+    ) in
+    listed_skipped s.given c.args.last (found s.seats.items (thread_at s.finder)) le
+    (seated_sparse s.given s.seats.items (thread_at s.finder) c.self.invariant.0)
     ∙ ap (λ (ws : List (Option Wait)). skipped c.args.last ws) c.self.view_is
