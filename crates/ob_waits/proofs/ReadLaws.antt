@@ -11,7 +11,7 @@ use Rattle.ob_codec.specs.Reading.{◌>>=◌, Fails, Gives, Read, given_at, item
 use Rattle.ob_codec.specs.Sparse.{fits_from, spread, spread_from}
 use Rattle.ob_codec.specs.Steps.{both-true, true-both}
 use Rattle.ob_waits.specs.Rows.{built, rows_within, tested}
-use Rattle.ob_waits.specs.Spelling.{are_within, can_be, held_at, held_of, held_parts, is_within, none_or, row_at, waits_at, with_rest}
+use Rattle.ob_waits.specs.Spelling.{are_within, can_be, held_at, held_of, held_parts, is_within, row_at, waits_at, with_rest}
 use Rattle.ob_waits.specs.Waits.{WaitList}
 use Rattle.ob_waits.specs.declared.held.Held.{Held}
 use Rattle.ob_waits.specs.declared.wait.Wait.{Wait}
@@ -94,44 +94,47 @@ read_is limit clock threads slots last bytes between rest ps first second = rw (
     by (Some ws) = to ws (can_be limit clock ws)
 
 -- whether the places of a list pass is whether its rows do
-places_pass : (test : Wait → Bool) (k n end : ℕ) (ps : List (ℕ × Wait)) → end ≡ k + n → fits_from k end ps ≡ true
-    → list_all (none_or test) (spread_from k n ps) ≡ list_all (λ (p : ℕ × Wait). test p.1) ps
-places_pass test k zero end [] is fits = refl
-places_pass test k zero end (p ∷ ps) is fits =
-    let b = both-true (leb k p.0) (ltb p.0 end && fits_from (suc p.0) end ps) fits in
-    let low = leb-true k p.0 b.0 in
-    let high = ltb-true p.0 end (both-true (ltb p.0 end) (fits_from (suc p.0) end ps) b.1).0 in
-    absurd (omega (arith, is, low, high))
-places_pass test k (suc n) end [] is fits = places_pass test (suc k) n end [] (omega (arith, is)) refl
-places_pass test k (suc n) end (p ∷ ps) is fits = by (eqb p.0 k) refl
-    (λ later. places_pass test (suc k) n end ps (omega (arith, is)) later)
-    (λ later. places_pass test (suc k) n end (p ∷ ps) (omega (arith, is)) later)
-  where
-    b : (leb k p.0 ≡ true) × ((ltb p.0 end && fits_from (suc p.0) end ps) ≡ true)
-    b = both-true (leb k p.0) (ltb p.0 end && fits_from (suc p.0) end ps) fits
+abbrev row_within : ℕ → ℕ → ℕ × Wait → Bool
+row_within threads slots p = is_within threads slots (Some p.1)
 
-    by : (t : Bool) → eqb p.0 k ≡ t
-        → (fits_from (suc k) end ps ≡ true → list_all (none_or test) (spread_from (suc k) n ps) ≡ list_all
-        (λ (p : ℕ × Wait). test p.1) ps)
-        → (fits_from (suc k) end (p ∷ ps) ≡ true
-        → list_all (none_or test) (spread_from (suc k) n (p ∷ ps)) ≡ list_all (λ (p : ℕ × Wait). test p.1) (p ∷ ps))
-        → list_all (none_or test)
-        (cond t (Some p.1 ∷ spread_from (suc k) n ps) (None ∷ spread_from (suc k) n (p ∷ ps))) ≡ list_all
-        (λ (p : ℕ × Wait). test p.1) (p ∷ ps)
-    by true same one more =
-        let later : fits_from (suc k) end ps ≡ true = subst (λ (z : ℕ). fits_from (suc z) end ps ≡ true)
-        (eqb-true p.0 k same) (both-true (ltb p.0 end) (fits_from (suc p.0) end ps) b.1).1 in
-        ap (λ (z : Bool). test p.1 && z) (one later)
-    by false apart one more =
-        let low = leb-true k p.0 b.0 in
-        let other : p.0 ≡ k → ⊥ = λ q. (let t = sym (eq-eqb p.0 k q) ∙ apart in absurd cc) in
-        more (true-both (leb (suc k) p.0) (ltb p.0 end && fits_from (suc p.0) end ps)
-        (le-leb (suc k) p.0 (omega (arith, low, other))) b.1)
+module _ (threads slots : ℕ) where
+  places_pass : (k n end : ℕ) (ps : List (ℕ × Wait)) → end ≡ k + n → fits_from k end ps ≡ true
+      → are_within threads slots (spread_from k n ps) ≡ list_all (row_within threads slots) ps
+  places_pass k zero end [] is fits = refl
+  places_pass k zero end (p ∷ ps) is fits =
+      let b = both-true (leb k p.0) (ltb p.0 end && fits_from (suc p.0) end ps) fits in
+      let low = leb-true k p.0 b.0 in
+      let high = ltb-true p.0 end (both-true (ltb p.0 end) (fits_from (suc p.0) end ps) b.1).0 in
+      absurd (omega (arith, is, low, high))
+  places_pass k (suc n) end [] is fits = places_pass (suc k) n end [] (omega (arith, is)) refl
+  places_pass k (suc n) end (p ∷ ps) is fits =
+      by (eqb p.0 k) refl
+      (λ later. places_pass (suc k) n end ps (omega (arith, is)) later)
+      (λ later. places_pass (suc k) n end (p ∷ ps) (omega (arith, is)) later)
+    where
+      b : (leb k p.0 ≡ true) × ((ltb p.0 end && fits_from (suc p.0) end ps) ≡ true)
+      b = both-true (leb k p.0) (ltb p.0 end && fits_from (suc p.0) end ps) fits
 
-pass_in_parts : (test : Wait → Bool) (rows : List Held)
-    → list_all (λ (p : ℕ × Wait). test p.1) (map held_parts rows) ≡ list_all (λ (h : Held). test h.wait) rows
-pass_in_parts test [] = refl
-pass_in_parts test (h ∷ rows) = ap (λ (z : Bool). test h.wait && z) (pass_in_parts test rows)
+      by : (t : Bool) → eqb p.0 k ≡ t
+          → (fits_from (suc k) end ps ≡ true
+          → are_within threads slots (spread_from (suc k) n ps) ≡ list_all (row_within threads slots) ps)
+          → (fits_from (suc k) end (p ∷ ps) ≡ true
+          → are_within threads slots (spread_from (suc k) n (p ∷ ps)) ≡ list_all (row_within threads slots) (p ∷ ps))
+          → are_within threads slots (cond t (Some p.1 ∷ spread_from (suc k) n ps) (None ∷ spread_from (suc k) n (p ∷ ps)))
+          ≡ list_all (row_within threads slots) (p ∷ ps)
+      by true same one more =
+          let all : fits_from (suc p.0) end ps ≡ true = (both-true (ltb p.0 end) (fits_from (suc p.0) end ps) b.1).1 in
+          let later = subst (λ (z : ℕ). fits_from (suc z) end ps ≡ true) (eqb-true p.0 k same) all in
+          ap (λ (z : Bool). row_within threads slots p && z) (one later)
+      by false apart one more =
+          let low = leb-true k p.0 b.0 in
+          let other : p.0 ≡ k → ⊥ = λ q. (let t = sym (eq-eqb p.0 k q) ∙ apart in absurd cc) in
+          let above = le-leb (suc k) p.0 (omega (arith, low, other)) in
+          more (true-both (leb (suc k) p.0) (ltb p.0 end && fits_from (suc p.0) end ps) above b.1)
+
+  pass_in_parts : (rows : List Held) → list_all (row_within threads slots) (map held_parts rows) ≡ rows_within threads slots rows
+  pass_in_parts [] = refl
+  pass_in_parts (h ∷ rows) = ap (λ (z : Bool). is_within threads slots (Some h.wait) && z) (pass_in_parts rows)
 
 -- what comes of rows of which all threads and slots are below, or not
 within_is : (limit clock threads slots last : ℕ) (rows : List Held)
@@ -159,8 +162,8 @@ within_is limit clock threads slots last rows = by (fits_from 0 (suc last) (map 
     by true is =
         let ws = spread_from 0 (suc last) (map held_parts rows) in
         to ws (can_be limit clock ws) (rows_within threads slots rows)
-        (places_pass (is_within threads slots) 0 (suc last) (suc last) (map held_parts rows) (omega arith) is
-        ∙ pass_in_parts (is_within threads slots) rows)
+        (places_pass threads slots 0 (suc last) (suc last) (map held_parts rows) (omega arith) is
+        ∙ pass_in_parts threads slots rows)
 
 -- what is read, so
 pub rows_read : (limit clock threads slots last : ℕ) (bytes between rest : List ℕ) (rows : List Held)

@@ -20,7 +20,7 @@ built limit clock last rows = tested limit clock (spread (last, map held_parts r
 
 -- whether their threads and slots are below some
 abbrev pub rows_within : ℕ → ℕ → List Held → Bool
-rows_within threads slots rows = list_all (λ (held : Held). is_within threads slots held.wait) rows
+rows_within threads slots rows = list_all (λ (held : Held). is_within threads slots (Some held.wait)) rows
 
 -- whether a wait can come next with its number, up to the last one
 abbrev pub may_come : ℕ → WaitList → Held → Bool

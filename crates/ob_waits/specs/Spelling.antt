@@ -135,15 +135,12 @@ can_be limit clock waits =
 abbrev pub are_below : ℕ → List Id → Bool
 are_below slots ids = list_all (λ (id : Id). nat_lt id.slot slots) ids
 
-abbrev pub is_within : ℕ → ℕ → Wait → Bool
-is_within threads slots wait = nat_lt wait.thread threads && are_below slots (state_ids wait.state)
-
-abbrev pub none_or : (Wait → Bool) → Option Wait → Bool
-none_or test None = true
-none_or test (Some wait) = test wait
+abbrev pub is_within : ℕ → ℕ → Option Wait → Bool
+is_within threads slots None = true
+is_within threads slots (Some wait) = nat_lt wait.thread threads && are_below slots (state_ids wait.state)
 
 abbrev pub are_within : ℕ → ℕ → List (Option Wait) → Bool
-are_within threads slots waits = list_all (none_or (is_within threads slots)) waits
+are_within threads slots waits = list_all (is_within threads slots) waits
 
 -- the waits; their limit and the moment stand elsewhere
 abbrev pub waits_text : List (Option Wait) → List ℕ

@@ -28,7 +28,7 @@ fn are_below(ids: &[Id], slots: u32) -> bool
 
 /// Whether the thread of a wait, and the slots of its objects, are below some.
 fn is_within(wait: &Wait, threads: u32, slots: u32) -> bool
-    ensures { result ≡ is_within threads slots wait.now }
+    ensures { result ≡ is_within threads slots (Some wait.now) }
 {
     match &wait.state {
         State::Pending(_, ids) => wait.thread < threads && are_below(ids.as_slice(), slots),

@@ -106,8 +106,8 @@ impl Waits {
     /// Reads waits of which at most `waits` numbers may be given, as they are at a moment, from the front of what is
     /// left. [`TextFault::Value`] where a number is above that, or above the last one given, or doesn't rise; where a
     /// thread has two waits; and where a pending one lists no object, more than 64 or, to wait for all, one slot twice,
-    /// or its time is up. So where a thread isn't below `threads`, or an object's slot below `slots`: no more memory
-    /// is asked for than these and the text account for.
+    /// or its time is up. The same where a thread isn't below `threads`, or an object's slot below `slots`, so that no
+    /// more memory is asked for than these and the text account for.
     pub fn read(
         alloc: Global,
         waits: u32,
