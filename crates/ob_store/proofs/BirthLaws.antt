@@ -8,6 +8,8 @@ use Rattle.std.proofs.lemmas.Bool.{cases_eq, cases_lt}
 use Rattle.pin_core.specs.declared.word.Phase.{Phase}
 use Rattle.pin_core.specs.declared.word.Phase.TheVariants.{Free, Live, Closing, Retired}
 use Rattle.pin_core.specs.declared.world.Slot.{Slot}
+use Rattle.pin_core.specs.declared.shape.Shape.{Shape}
+use Rattle.pin_core.specs.Opened.{Opens, SlotOpens}
 use Rattle.pin_core.specs.Worlds.{slot_of, opening_slot}
 use Rattle.ob_store.specs.Objects.{Object}
 use Rattle.ob_store.specs.Agreement.{made_by, made_in, AreBorn}
@@ -21,6 +23,19 @@ aged_set n last slots i y within first most aged k lt = elim (cases_eq k i) [
   | inl same ↦ subst (λ (x : Slot). (1 ≤ x.generation) × (x.generation ≤ last)) (sym (ap (slot_of (set slots i y)) same ∙ get_or-set_same slots i y opening_slot within)) (first, most)
   | inr other ↦ subst (λ (x : Slot). (1 ≤ x.generation) × (x.generation ≤ last)) (sym (get_or-set_other slots i k y opening_slot other)) (aged k lt)
 ]
+
+-- each slot is one that a keeper may begin with
+pub opens_set : (shape : Shape) (slots : List Slot) (i : ℕ) (y : Slot) → SlotOpens shape.max_gen y → Opens shape slots →
+    Opens shape (set slots i y)
+opens_set shape slots i y new old = record {
+  wide = length-set slots i y ∙ old.wide;
+  each = λ k lt. elim (cases_eq k i) [
+    | inl same ↦ (let within : i < length slots = omega (arith, lt, same, old.wide) in
+        let is : slot_of (set slots i y) k ≡ y = ap (slot_of (set slots i y)) same ∙ get_or-set_same slots i y opening_slot within in
+        subst (SlotOpens shape.max_gen) (sym is) new)
+    | inr other ↦ subst (SlotOpens shape.max_gen) (sym (get_or-set_other slots i k y opening_slot other)) (old.each k lt)
+  ];
+}
 
 -- a slot that changes and had as many objects as before
 pub made_set : (slots : List Slot) (i : ℕ) (y : Slot) → i < length slots → made_in y ≡ made_in (slot_of slots i) → sum_by made_in (set slots i y) ≡ sum_by made_in slots

@@ -5,6 +5,7 @@ use Rattle.std.proofs.lemmas.List.{length-replicate, get_or_past, get_or-replica
 use Rattle.std.proofs.lemmas.List.Sums.{sum_by-cons}
 use Rattle.std.proofs.lemmas.Bool.{cases_lt}
 use Rattle.pin_core.specs.declared.world.Slot.{Slot}
+use Rattle.pin_core.specs.Opened.{SlotOpens}
 use Rattle.pin_core.specs.Worlds.{opening_slot, slot_of}
 use Rattle.pin_words.specs.Keepers.{KeeperState, IsFresh}
 use Rattle.ob_body.specs.declared.body.Body.{Body}
@@ -119,6 +120,10 @@ tied_opening n k fresh same few first last = record {
     each = λ j lt. rw (none_at Object n j, none_at Body n j, false_at n j, slot_opening k.slots k.shape.slots j fresh.slots_are) (refl, refl);
   };
   listed = record { each = λ j. rw (none_at Object n j) tt };
+  opens = record {
+    wide = ap length fresh.slots_are ∙ length-replicate k.shape.slots opening_slot;
+    each = λ j lt. subst (SlotOpens k.shape.max_gen) (sym (slot_opening k.slots k.shape.slots j fresh.slots_are)) (record { given = (omega arith, refl); bounded = first; last = λ e. absurd cc });
+  };
   bodied = record { each = λ j. rw (none_at Body n j, zero_at n j) refl };
   born = record {
     below = λ j o is. absurd (let none = none_at Object n j in cc (none, is));

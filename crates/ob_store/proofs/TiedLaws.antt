@@ -7,6 +7,8 @@ use Rattle.pin_core.specs.declared.id.Id.{Id}
 use Rattle.pin_core.specs.declared.word.Phase.{Phase}
 use Rattle.pin_core.specs.declared.word.Phase.TheVariants as phase
 use Rattle.pin_core.specs.declared.world.Slot.{Slot}
+use Rattle.pin_core.specs.Descrs.{IsGiven}
+use Rattle.pin_core.specs.Opened.{SlotOpens}
 use Rattle.pin_core.specs.Worlds.{slot_of, opening_slot}
 use Rattle.pin_core.specs.Events.{in_phase, with_descr, reclaimed}
 use Rattle.pin_words.specs.declared.view.Look.{Look}
@@ -23,13 +25,14 @@ use Rattle.ob_store.specs.Agreement.{Agrees, IsAgreed, IsTied, made_by, made_in,
 use Rattle.ob_store.proofs.AgreeLaws.{object_at, body_at, retired_at, slot_at, vacated, agreed_stays, agreed_ended, agreed_added, agreed_vacated, live_at, free_at, object_within, body_within}
 use Rattle.ob_store.proofs.ListLaws.{listed_added, listed_gone}
 use Rattle.ob_store.proofs.EndLaws.{bodied_handle_left, bodied_added, bodied_removed}
-use Rattle.ob_store.proofs.BirthLaws.{AreAged, aged_set, made_set, made_more, made_bound, born_added, born_gone}
+use Rattle.ob_store.proofs.BirthLaws.{AreAged, aged_set, opens_set, made_set, made_more, made_bound, born_added, born_gone}
 
 -- counts change, and all bodies stay
 pub tied_stays : (s : ObjectsState) (seen : waits.Objects) → seen.bodies ≡ s.seen.bodies → HasBodies seen → IsTied s → IsTied (record s { seen = seen })
 tied_stays s seen bodies has h = record {
   agreed = agreed_stays s seen bodies h.agreed;
   listed = h.listed;
+  opens = h.opens;
   bodied = has;
   born = h.born;
   aged = h.aged;
@@ -44,9 +47,12 @@ tied_ended s seen k bodies there has h =
     let within : k < length s.keeper.slots = omega (arith, inside, h.agreed.wide) in
     let y : Slot = in_phase (slot_at s k) phase.Closing in
     let same : made_in y ≡ made_in (slot_at s k) = ap (λ (p : Phase). made_by p (slot_at s k).generation) (sym (live_at s k there h.agreed inside)) in
+    let old = h.opens.each k inside in
     record {
       agreed = agreed_ended s seen k bodies there h.agreed;
       listed = h.listed;
+      opens = opens_set s.keeper.shape s.keeper.slots k y
+          (record { given = old.given; bounded = old.bounded; last = λ e. absurd cc }) h.opens;
       bodied = has;
       born = h.born;
       aged = aged_set s.keeper.shape.slots s.keeper.shape.max_gen s.keeper.slots k y within (h.aged k inside).0 (h.aged k inside).1 h.aged;
@@ -98,8 +104,8 @@ module _ (s : ObjectsState) (q : Places) (id : Id) (seen : q.seen ≡ without_bl
       (tied_stays s (without_block s.seen id) (stays (body_at s id.slot) (is_last_block (places_in s) id.slot) ends refl) (ends_left id s.seen h.bodied) h)
 
 -- a new object in a vacant slot
-pub tied_added : (s t : ObjectsState) (k : ℕ) (head : Head) (body : Body) → t ≡ with_object s k head body → is_vacant_at (vacancy (places_in s)) k ≡ true → get_or (with_seat (places_in s) k (object_in s k head) body).seen.handles k 0 ≡ 1 → IsTied s → IsTied t
-tied_added s t k head body is vacant one h =
+pub tied_added : (s t : ObjectsState) (k : ℕ) (head : Head) (body : Body) → t ≡ with_object s k head body → is_vacant_at (vacancy (places_in s)) k ≡ true → get_or (with_seat (places_in s) k (object_in s k head) body).seen.handles k 0 ≡ 1 → IsGiven head.descr → IsTied s → IsTied t
+tied_added s t k head body is vacant one given h =
     let none : get_or s.objects k None ≡ None = vacant_empty (vacancy (places_in s)) k vacant in
     let room : k < length s.objects = vacant_within (vacancy (places_in s)) k vacant in
     let unretired : get_or s.retired k false ≡ false = vacant_unretired (vacancy (places_in s)) k vacant in
@@ -122,6 +128,12 @@ tied_added s t k head body is vacant one h =
     subst IsTied (sym is) (record {
       agreed = agreed_added s (with_object s k head body) k head body refl none unretired room seats a;
       listed = listed_added s k head within h.listed;
+      opens = opens_set s.keeper.shape slots k z (record {
+        given = subst (λ (x : Slot). IsGiven x.descr) (sym stored) given;
+        bounded = omega (arith, age, old.1);
+        last = λ e. absurd cc;
+      }) (opens_set s.keeper.shape s.keeper.slots k y
+          (record { given = given; bounded = old.1; last = (h.opens.each k inside).last }) h.opens);
       bodied = bodied_added (places_in s) k (object_in s k head) body seats one h.bodied;
       born = born_added s.objects s.births k (object_in s k head) refl room h.born;
       aged = aged_set s.keeper.shape.slots s.keeper.shape.max_gen slots k z long (omega (arith, age, old.0)) (omega (arith, age, old.1))
@@ -132,12 +144,13 @@ tied_added s t k head body is vacant one h =
 
 -- an object leaves its slot, which is then y
 tied_vacated : (s : ObjectsState) (k : ℕ) (retired : List Bool) (y : Slot) (looks : List Look) → k < s.keeper.shape.slots → length retired ≡ length s.retired → ((j : ℕ) → j ≢ k → get_or retired j false ≡ retired_at s j)
-    → y.phase ≡ vacant_phase (get_or retired k false) → 1 ≤ y.generation → y.generation ≤ s.keeper.shape.max_gen → made_in y ≡ made_in (slot_at s k) → IsTied s → IsTied (vacated s k retired y looks)
-tied_vacated s k retired y looks inside marked others here first most same h =
+    → y.phase ≡ vacant_phase (get_or retired k false) → 1 ≤ y.generation → y.generation ≤ s.keeper.shape.max_gen → made_in y ≡ made_in (slot_at s k) → SlotOpens s.keeper.shape.max_gen y → IsTied s → IsTied (vacated s k retired y looks)
+tied_vacated s k retired y looks inside marked others here first most same opens h =
     let within : k < length s.keeper.slots = omega (arith, inside, h.agreed.wide) in
     record {
       agreed = agreed_vacated s k retired y looks marked others here h.agreed;
       listed = listed_gone s.keeper.published s.objects k h.listed;
+      opens = opens_set s.keeper.shape s.keeper.slots k y opens h.opens;
       bodied = bodied_removed (places_in s) k h.bodied;
       born = born_gone s.objects s.births k h.born;
       aged = aged_set s.keeper.shape.slots s.keeper.shape.max_gen s.keeper.slots k y within first most h.aged;
@@ -165,7 +178,8 @@ tied_freed s k looks there ended below h =
     let is : reclaimed s.keeper.shape.max_gen (slot_at s k) ≡ y = ap (λ b. cond b y (in_phase (slot_at s k) phase.Retired)) test in
     let before : made_in (slot_at s k) ≡ (slot_at s k).generation = ap (λ (p : Phase). made_by p (slot_at s k).generation) closing.0 in
     subst (λ (x : Slot). IsTied (vacated s k s.retired x looks)) (sym is)
-    (tied_vacated s k s.retired y looks inside refl (λ j other. refl) (sym (ap vacant_phase closing.1)) (omega arith) (omega (arith, below)) (omega (arith, before)) h)
+    (tied_vacated s k s.retired y looks inside refl (λ j other. refl) (sym (ap vacant_phase closing.1)) (omega arith) (omega (arith, below)) (omega (arith, before))
+    (record { given = (h.opens.each k inside).given; bounded = omega (arith, below); last = λ e. absurd cc }) h)
 
 -- or at the last generation it is given up for good
 pub tied_retired : (s : ObjectsState) (k : ℕ) (looks : List Look) → is_some (object_at s k) ≡ true → body_at s k ≡ None → s.keeper.shape.max_gen ≤ (slot_at s k).generation → IsTied s
@@ -180,4 +194,5 @@ tied_retired s k looks there ended last h =
     let age = h.aged k inside in
     let at : get_or (set s.retired k true) k false ≡ true = get_or-set_same s.retired k true false (omega (arith, inside, h.agreed.marked)) in
     subst (λ (x : Slot). IsTied (vacated s k (set s.retired k true) x looks)) (sym is)
-    (tied_vacated s k (set s.retired k true) y looks inside (length-set s.retired k true) (λ j other. get_or-set_other s.retired k j true false other) (sym (ap vacant_phase at)) age.0 age.1 (sym before) h)
+    (tied_vacated s k (set s.retired k true) y looks inside (length-set s.retired k true) (λ j other. get_or-set_other s.retired k j true false other) (sym (ap vacant_phase at)) age.0 age.1 (sym before)
+    (record { given = (h.opens.each k inside).given; bounded = age.1; last = λ e. omega (arith, age.1, last) }) h)

@@ -6,6 +6,7 @@ use Rattle.pin_core.specs.declared.word.Phase.{Phase}
 use Rattle.pin_core.specs.declared.word.Phase.TheVariants.{Free, Live, Closing, Retired}
 use Rattle.pin_core.specs.declared.world.Slot.{Slot}
 use Rattle.pin_core.specs.Holds.{tally}
+use Rattle.pin_core.specs.Opened.{Opens}
 use Rattle.pin_core.specs.Worlds.{slot_of, is_with}
 use Rattle.pin_words.specs.declared.pin_keeper.Reclaim.{Reclaim}
 use Rattle.pin_words.specs.declared.pin_keeper.Reclaim.TheVariants as outcome
@@ -63,6 +64,8 @@ pub record AreBorn (objects : List (Option Object)) (births : ℕ) : Type 0 wher
 pub record IsTied (s : ObjectsState) : Type 0 where
   pub agreed : IsAgreed s
   pub listed : IsListed s.keeper.published s.objects
+  -- a further keeper may begin with the slots, so a word can have each object's descriptor
+  pub opens : Opens s.keeper.shape s.keeper.slots
   pub bodied : HasBodies s.seen
   pub born : AreBorn s.objects s.births
   pub aged : (k : ℕ) → k < s.keeper.shape.slots → (1 ≤ (slot_of s.keeper.slots k).generation) × ((slot_of s.keeper.slots k).generation ≤ s.keeper.shape.max_gen)
