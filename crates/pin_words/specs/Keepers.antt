@@ -8,6 +8,7 @@ use Rattle.pin_core.specs.declared.shape.Shape.{Shape}
 use Rattle.pin_core.specs.declared.world.Slot.{Slot}
 use Rattle.pin_core.specs.Words.{decoded}
 use Rattle.pin_core.specs.Holds.{tally, drop_first, same_id}
+use Rattle.pin_core.specs.Opened.{shown_from}
 use Rattle.pin_core.specs.Worlds.{opening_slot, slot_of}
 use Rattle.pin_core.specs.Events.{in_phase, with_descr, reclaimed}
 use Rattle.pin_words.specs.declared.fault.Verdict.{Verdict}
@@ -47,6 +48,13 @@ pub record IsFresh (k : KeeperState) (shape : Shape) : Type 0 where
   pub shape_is : k.shape ≡ shape
   pub slots_are : k.slots ≡ replicate shape.slots opening_slot
   pub published_is : k.published ≡ []
+  pub held_is : k.held ≡ []
+
+-- the same over given slots: each live or closing one is published, with its descriptor
+pub record IsFreshWith (k : KeeperState) (shape : Shape) (slots : List Slot) : Type 0 where
+  pub shape_is : k.shape ≡ shape
+  pub slots_are : k.slots ≡ slots
+  pub published_is : k.published ≡ shown_from 0 slots
   pub held_is : k.held ≡ []
 
 abbrev pub with_slots : KeeperState → List Slot → KeeperState

@@ -125,6 +125,13 @@ impl LockedPins {
         self.shape.slots
     }
 
+    /// The slots, for another keeper to begin with.
+    pub fn as_slots(&self) -> &[Slot]
+        ensures { result.now ≡ self.now.slots }
+    {
+        self.slots.as_slice()
+    }
+
     /// The phase of a slot.
     pub fn phase(&self, slot: u32) -> Phase
         requires { slot < self.now.shape.slots }

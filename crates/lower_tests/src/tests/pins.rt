@@ -1,7 +1,7 @@
 ghost use Rattle.std.specs.Prelude.{◌≡◌, ◌<◌, ◌≤◌, true, IsTrue, IfOk, IfSome};
 ghost use Rattle.pin_core.specs.Shapes.{IsWithinLimits};
 ghost use Rattle.pin_core.specs.Worlds.{slot_of};
-ghost use Rattle.pin_words.specs.Keepers.{IsFresh};
+ghost use Rattle.pin_words.specs.Keepers.{IsFresh, IsFreshWith};
 
 use crate::tests::{holds, marked, next, same};
 use ob_rights::{Fault, Kind};
@@ -109,6 +109,14 @@ fn reclaim<K: Counted>(keeper: &mut K, slot: u32) -> Option<Reclaim>
 
 fn is_fresh<K: Counted>(keeper: &K, shape: Shape) -> bool
     requires { IsFresh (K.kept keeper.now) shape }
+    ensures { result ≡ true }
+{
+    keeper.count() == shape.slots
+}
+
+// What it published is just its live and closing slots.
+fn is_fresh_with<K: Counted>(keeper: &K, shape: Shape) -> bool
+    requires { IsFreshWith (K.kept keeper.now) shape (K.kept keeper.now).slots }
     ensures { result ≡ true }
 {
     keeper.count() == shape.slots
@@ -533,7 +541,7 @@ const LIVE: Slot = Slot {
 fn begun(alloc: Global, shape: Shape) -> Result<(Pins, Reopening), Fault>
     requires within { IsWithinLimits shape }
     requires aged { 3 ≤ shape.max_gen }
-    ensures { IfOk result (λ r. r.1.table ≡ r.0) }
+    ensures { IfOk result (λ r. (r.0.shape ≡ shape) × (r.1.table ≡ r.0)) }
 {
     let Ok(slots) = vec![in alloc; LIVE; shape.slots as usize] else {
         return Err(Fault::Memory);
@@ -550,6 +558,7 @@ fn pins_begin_with_given_slots(rt: HostRuntime) -> Result<(), Fail> {
     let Ok((mut keeper, mut reader)) = opening.start(&pins) else {
         panic!(rt; "no memory")
     };
+    holds(&rt, is_fresh_with(&keeper, shape));
     pin_given(&rt, &mut keeper, &mut reader);
     Ok(())
 }
@@ -571,7 +580,9 @@ fn pins_under_a_lock_begin_with_given_slots(rt: HostRuntime) -> Result<(), Fail>
         panic!(rt; "no shape")
     };
     let slots = vec![in rt.alloc(); LIVE; shape.slots as usize]?;
-    lock_given(&rt, &mut LockedPins::with_slots(shape, slots));
+    let mut pins = LockedPins::with_slots(shape, slots);
+    holds(&rt, is_fresh_with(&pins, shape));
+    lock_given(&rt, &mut pins);
     Ok(())
 }
 
