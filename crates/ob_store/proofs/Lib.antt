@@ -28,6 +28,7 @@ pub mod LeavingLaws
 pub mod EndingLaws
 pub mod EmptiedLaws
 pub mod PassedLaws
+pub mod KeeperLaws
 pub mod TickLaws
 pub mod Yielding
 pub mod OpeningLaws

@@ -24,6 +24,7 @@ mod ending;
 mod entries;
 mod finding;
 mod found;
+mod keepers;
 mod label;
 mod limits;
 mod links;

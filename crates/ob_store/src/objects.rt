@@ -35,7 +35,7 @@ use std::marker::Model;
 #[derive(Drop)]
 pub struct Objects<K: PinKeeper> {
     pub(crate) seats: Seats,
-    births: u64,
+    pub(crate) births: u64,
     pub(crate) keeper: K,
 }
 
