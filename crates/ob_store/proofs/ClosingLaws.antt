@@ -63,6 +63,30 @@ gone_was_there xs opens k x false o opened there went some = absurd (differ (sym
     differ : true ≡ false → ⊥
     differ h = cc
 
+-- an object comes to a vacant slot, ended or not
+pub vacant_open : (xs : List (Option Seat)) (opens : List Bool) (k : ℕ) → opens ≡ map is_open xs → k < length xs →
+    get_or xs k None ≡ None → slice_get opens k ≡ Some true
+vacant_open xs opens k opened within none =
+    let long : k < length opens = omega (arith, within, ap (λ (z : List Bool). length z) opened, length-map xs is_open) in
+    slice_get-get_or opens k true long ∙ ap (λ (z : List Bool). Some (get_or z k true)) opened
+    ∙ ap Some (read is_open xs k ∙ ap is_open none)
+
+pub opened_back : (xs : List (Option Seat)) (opens : List Bool) (k : ℕ) (y : Seat) (ended : Bool) → opens ≡ map is_open xs →
+    get_or xs k None ≡ None → is_some y.body ≡ not ended → cond ended (set opens k false) opens ≡ map is_open (set xs k (Some y))
+opened_back xs opens k y ended opened none is = by y.body refl
+  where
+    gone : (e : Bool) (b : Option Body) → is_some b ≡ not e → e ≡ is_none b
+    gone true None h = refl
+    gone false None h = absurd cc
+    gone true (Some body) h = absurd cc
+    gone false (Some body) h = refl
+
+    by : (b : Option Body) → y.body ≡ b → cond ended (set opens k false) opens ≡ map is_open (set xs k (Some y))
+    by None none = ap (λ (e : Bool). cond e (set opens k false) opens) (gone ended y.body is ∙ ap is_none none)
+        ∙ opened_set xs opens k (Some y) false opened (sym (ap is_some none))
+    by (Some body) some = ap (λ (e : Bool). cond e (set opens k false) opens) (gone ended y.body is ∙ ap is_none some)
+        ∙ opened_same xs opens k (Some y) opened (ap is_some some ∙ sym (ap is_open none))
+
 pub opened_none : (slots : ℕ) → replicate slots true ≡ map is_open (replicate slots None)
 opened_none zero = refl
 opened_none (suc n) = ap (λ (z : List Bool). true ∷ z) (opened_none n)

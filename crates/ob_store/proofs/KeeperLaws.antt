@@ -30,7 +30,7 @@ shown_one slots k (Some o) body retired agrees =
     (λ i. tally (is_with (agrees.0 i) (agrees.1 i)) (shown_from 0 slots)) ∙ once in
     omega (arith, one)
 
-all_shown : (s : ObjectsState) → IsAgreed s → IsListed (shown_from 0 s.keeper.slots) s.objects
+pub all_shown : (s : ObjectsState) → IsAgreed s → IsListed (shown_from 0 s.keeper.slots) s.objects
 all_shown s a = record {
   each = λ k. elim (cases_lt k (length s.objects)) [
     | inl lt ↦ (let here = a.each k (omega (arith, lt, a.long)) in

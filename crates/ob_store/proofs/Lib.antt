@@ -29,6 +29,11 @@ pub mod EndingLaws
 pub mod EmptiedLaws
 pub mod PassedLaws
 pub mod KeeperLaws
+pub mod SavedLaws
+pub mod CountingLaws
+pub mod SavedSlotLaws
+pub mod SavedBirthLaws
+pub mod SavedObjectLaws
 pub mod TickLaws
 pub mod Yielding
 pub mod OpeningLaws

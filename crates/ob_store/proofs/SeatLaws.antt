@@ -11,7 +11,7 @@ use Rattle.ob_arena.specs.Slots.{Slots, is_vacant_at, least_vacant}
 use Rattle.ob_arena.proofs.SlotLemmas.{vacant_least, vacant_within}
 use Rattle.ob_waits.specs.Objects.{slot_acquired, without_block}
 use Rattle.ob_store.specs.declared.seat.Seat.{Seat}
-use Rattle.ob_store.specs.Objects.{Object, Places, places_of, rest_of, seen_in, Tag, object_at, object_of, objects_in, no_tag, seat_body, seat_handles, seat_blocks, seat_handle_left, seat_block_left, vacancy, vacant_places, with_seat, with_handle, without_handle, with_block, without_seat, is_last_handle}
+use Rattle.ob_store.specs.Objects.{Object, Places, places_of, rest_of, seen_in, Tag, object_at, object_of, objects_in, no_tag, seat_body, seat_handles, seat_blocks, seat_handle_left, seat_block_left, vacancy, vacant_places, with_seated, with_handle, without_handle, with_block, without_seat, is_last_handle}
 use Rattle.ob_store.proofs.LabelLaws.{none_object, object_read, objects_kept, objects_length, objects_none, objects_out, objects_put}
 
 -- what a list that is read off another has at a place
@@ -124,14 +124,14 @@ pub least_is : (s : Slots Object) (r : Option ℕ) → r ≡ least_vacant s → 
 least_is s None is = tt
 least_is s (Some slot) is = vacant_least s slot (sym is)
 
--- a new object in a vacant slot
-pub places_added : (s : Slots Seat) (ls : List Tag) (k : ℕ) (y : Seat) (m : Tag) (body : Body) → k < length ls → y.body ≡ Some body → y.handles ≡ 1 → y.blocks ≡ 0
-    → places_of (record s { bodies = set s.bodies k (Some y) }) (set ls k m) ≡ with_seat (places_of s ls) k (object_of y m) body
-places_added s ls k y m body within has one none = λ i. record {
+-- an object that comes to a vacant slot
+pub places_added : (s : Slots Seat) (ls : List Tag) (k : ℕ) (y : Seat) (m : Tag) (body : Option Body) (handles : ℕ) → k < length ls → y.body ≡ body → y.handles ≡ handles → y.blocks ≡ 0
+    → places_of (record s { bodies = set s.bodies k (Some y) }) (set ls k m) ≡ with_seated (places_of s ls) k (object_of y m) body handles
+places_added s ls k y m body handles within has counts none = λ i. record {
   objects = objects_put s.bodies ls k y m within i;
   seen = record {
     bodies = (map-set seat_body s.bodies k (Some y) ∙ ap (set (map seat_body s.bodies) k) has) i;
-    handles = (map-set seat_handles s.bodies k (Some y) ∙ ap (set (map seat_handles s.bodies) k) one) i;
+    handles = (map-set seat_handles s.bodies k (Some y) ∙ ap (set (map seat_handles s.bodies) k) counts) i;
     blocks = (map-set seat_blocks s.bodies k (Some y) ∙ ap (set (map seat_blocks s.bodies) k) none) i;
   };
   retired = s.retired;

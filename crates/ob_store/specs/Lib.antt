@@ -21,4 +21,7 @@ pub mod Meetings
 pub mod Signaled
 pub mod Consistent
 pub mod Stored
+pub mod SavedSlots
+pub mod Counting
+pub mod SavedObjects
 pub mod Giving

@@ -121,16 +121,20 @@ vacant_places n = record {
   retired = replicate n false;
 }
 
--- a new object in a slot, with one handle
-abbrev pub with_seat : Places → ℕ → Object → Body → Places
-with_seat p slot object body = record p {
+-- an object in a slot, with so many handles and no block
+abbrev pub with_seated : Places → ℕ → Object → Option Body → ℕ → Places
+with_seated p slot object body handles = record p {
   objects = slice_set p.objects slot (Some object);
   seen = record {
-    bodies = slice_set p.seen.bodies slot (Some body);
-    handles = slice_set p.seen.handles slot 1;
+    bodies = slice_set p.seen.bodies slot body;
+    handles = slice_set p.seen.handles slot handles;
     blocks = slice_set p.seen.blocks slot 0;
   };
 }
+
+-- a new object in a slot, with one handle
+abbrev pub with_seat : Places → ℕ → Object → Body → Places
+with_seat p slot object body = with_seated p slot object (Some body) 1
 
 abbrev pub with_handle : Places → ℕ → Places
 with_handle p slot = record p { seen = record p.seen { handles = slice_set p.seen.handles slot (slice_index_or p.seen.handles slot 0 + 1) } }

@@ -17,7 +17,9 @@
 #![tactic(auto)]
 
 mod answers;
+mod births;
 mod closing;
+mod counting;
 mod creation;
 mod dues;
 mod ending;
@@ -37,6 +39,8 @@ mod pinning;
 mod pins;
 mod processes;
 mod reclaiming;
+mod saved;
+mod saved_slot;
 mod seat;
 mod seats;
 mod settling;

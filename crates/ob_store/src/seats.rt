@@ -1,4 +1,4 @@
-ghost use Rattle.std.specs.Prelude.{◌≡◌, ◌<◌, ◌≤◌, ◌&&◌, ℕ, false, true, IfNone, IfOk, IfSome, IsSome, IsTrue, None};
+ghost use Rattle.std.specs.Prelude.{◌≡◌, ◌<◌, ◌≤◌, ◌&&◌, ℕ, false, true, IfNone, IfOk, IfSome, IsSome, IsTrue, None, Err, Ok};
 ghost use Rattle.std.specs.Prelude.{Some, is_some, length, slice_index_or, slice_set};
 ghost use Rattle.std.specs.Option.{option_map};
 ghost use Rattle.least_free.specs.From.{IsLeastFrom};
@@ -11,19 +11,24 @@ ghost use Rattle.ob_store.specs.Owners.{owns_at};
 ghost use Rattle.ob_store.specs.Ticks.{slot_is_due};
 ghost use Rattle.ob_store.specs.Objects.{object_of, tag_of, tags_in, rest_of, vacant_places, vacancy, with_seat};
 ghost use Rattle.ob_store.specs.Objects.{with_handle, without_handle, is_last_handle, with_block, is_last_block};
-ghost use Rattle.ob_store.specs.Objects.{without_seat, with_retired};
+ghost use Rattle.ob_store.specs.Objects.{without_seat, with_retired, with_seated};
+ghost use Rattle.ob_store.specs.SavedSlots.{stored_object};
+ghost use Rattle.ob_store.specs.Counting.{counting_one, may_count};
+ghost use Rattle.ob_store.specs.SavedObjects.{are_bodied, is_bodied};
+ghost use Rattle.ob_codec.specs.declared.fault.TextFault.TheVariants.{Value};
 
 use crate::closing::ClosingSlots;
 use crate::found::Found;
 use crate::label::Label;
 use crate::owners::Owners;
+use crate::saved_slot::SavedObject;
 use crate::seat::Seat;
 use crate::timers::Timers;
 use ob_arena::{Arena, SLOTS_MAX};
 use ob_body::{Body, RECURSION_MAX};
 use ob_name::Name;
 use ob_rights::Rights;
-use pin_core::{Descr, Id};
+use pin_core::{Descr, Id, same_id};
 use std::alloc::{AllocError, Global};
 use std::marker::Model;
 
@@ -243,6 +248,39 @@ impl Seats {
         self.timers.moved(id.slot, None, body.due());
     }
 
+    /// Puts what a save says of an object into the vacant slot of its Id. Nothing that refers to it is counted yet.
+    pub(crate) fn put_back(&mut self, id: Id, object: SavedObject)
+        requires { is_vacant_at (vacancy self.old) id.slot ≡ true }
+        ensures { self.new ≡ with_seated self.old id.slot (stored_object id object) object.body 0 }
+    {
+        let SavedObject {
+            birth,
+            descr,
+            grant,
+            body,
+            name,
+        } = object;
+        let seat = Seat {
+            id,
+            handles: 0,
+            grant,
+            blocks: 0,
+            body,
+        };
+        self.arena.put(id.slot, seat);
+        relabel(
+            &mut self.labels,
+            &mut self.names,
+            id.slot,
+            birth,
+            descr,
+            name,
+        );
+        self.owners.came(id.slot, owner_of(body));
+        self.timers.moved(id.slot, None, due_of(body));
+        self.closing.came(id.slot, body.is_none());
+    }
+
     /// One handle more.
     pub(crate) fn handle_came(&mut self, slot: u32)
         requires object { IsSome (slice_index_or self.old.objects slot None) }
@@ -250,6 +288,54 @@ impl Seats {
         ensures { self.new ≡ with_handle self.old slot }
     {
         self.arena.get_mut(slot).handles += 1;
+    }
+
+    // Whether the object of an Id is there, and its count has room.
+    fn may_count(&self, id: Id) -> bool
+        ensures { result ≡ may_count self.now id }
+    {
+        match self.look(id.slot) {
+            Some(found) => same_id(found.seat.id, id) && found.seat.handles < u32::MAX,
+            None => false,
+        }
+    }
+
+    /// One handle more of the object of an Id; whether it is there, and its count had room.
+    pub(crate) fn count_handle(&mut self, id: Id) -> bool
+        ensures counted { IsTrue result → counting_one self.old id ≡ Ok self.new }
+        ensures refused { result ≡ false → counting_one self.old id ≡ Err Value }
+    {
+        if !self.may_count(id) {
+            return false;
+        }
+        self.handle_came(id.slot);
+        true
+    }
+
+    // Whether a slot has a body exactly where something refers to its object.
+    fn is_bodied(&self, slot: u32) -> bool
+        ensures { result ≡ is_bodied self.now.seen slot }
+    {
+        if !self.arena.is_occupied(slot) {
+            return true;
+        }
+        let seat = self.arena.get(slot);
+        if seat.handles > 0 || seat.blocks > 0 {
+            return seat.body.is_some();
+        }
+        seat.body.is_none()
+    }
+
+    /// Whether each slot has a body exactly where something refers to its object.
+    pub(crate) fn are_bodied(&self) -> bool
+        ensures { result ≡ are_bodied self.now.seen (length self.now.objects) }
+    {
+        for slot in 0..self.len() {
+            if !self.is_bodied(slot) {
+                return false;
+            }
+        }
+        true
     }
 
     /// One handle fewer; whether the object ended.

@@ -184,6 +184,13 @@ impl Tables {
         }
     }
 
+    /// How many tables there are, that of number 0 among them.
+    pub fn given(&self) -> u32
+        ensures { result ≡ length self.now.tables }
+    {
+        self.tables.len() as u32
+    }
+
     /// Whether a process number is given.
     #[inline]
     pub fn is_given(&self, process: u32) -> bool

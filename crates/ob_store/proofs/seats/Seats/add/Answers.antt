@@ -36,7 +36,7 @@ returns-clause-value c =
     let arena : c.put.new.self ≡ record c.self.inside.arena { bodies = set c.self.inside.arena.bodies c.args.id.slot (Some seat) } =
     c.put.ensures ∙ ap (λ (x : Seat). record c.self.inside.arena { bodies = set c.self.inside.arena.bodies c.args.id.slot (Some x) }) c.new.ensures in
     (λ i. places_of (arena i) (c.relabel.ensures.value i))
-    ∙ places_added c.self.inside.arena (tags_in c.self.inside.labels.items c.self.inside.names.items) c.args.id.slot seat tag c.args.body within refl refl refl
+    ∙ places_added c.self.inside.arena (tags_in c.self.inside.labels.items c.self.inside.names.items) c.args.id.slot seat tag (Some c.args.body) 1 within refl refl refl
     ∙ ap (λ (p : Places). with_seat p c.args.id.slot object c.args.body) c.self.view_is
 
 pub returns-clause-handle : goal.returns-clause-handle

@@ -1,0 +1,248 @@
+-- Objects that were read are tied to a keeper that begins with their slots.
+use Rattle.std.proofs.Common.{◌≡◌, ℕ, zero, suc, ◌+◌, ◌<◌, ◌&&◌, Bool, true, false, cond, ltb, List, [], ◌∷◌, length, get_or, map, Option, Some, None, Ok, refl, sym, ap, ◌∙◌, subst, arith, inl, inr}
+use Rattle.std.specs.Prelude.{is_none, is_some, sum_by}
+use Rattle.std.proofs.lemmas.Bool.{cases_eq, cases_lt}
+use Rattle.std.proofs.lemmas.List.{get_or-map, get_or-replicate, get_or_past, length-map, length-replicate}
+use Rattle.ob_codec.specs.Reading.{items_at}
+use Rattle.ob_codec.specs.Steps.{bind_ok, ok_is}
+use Rattle.pin_core.specs.declared.id.Id.{Id}
+use Rattle.pin_core.specs.declared.world.Slot.{Slot}
+use Rattle.pin_core.specs.Opened.{SlotOpens}
+use Rattle.pin_core.specs.Worlds.{opening_slot, slot_of}
+use Rattle.ob_body.specs.declared.body.Body.{Body}
+use Rattle.ob_tables.specs.declared.entry.Entry.{Entry}
+use Rattle.ob_tables.specs.Counts.{handles_among, slot_handles}
+use Rattle.ob_waits.specs.Form.{IsAfter, slot_due}
+use Rattle.ob_waits.specs.Objects as waits
+use Rattle.ob_waits.specs.Rules.{HasBodies}
+use Rattle.ob_store.specs.declared.limits.Limits.{Limits}
+use Rattle.ob_store.specs.declared.saved_slot.SavedSlot.{SavedSlot}
+use Rattle.ob_store.specs.Agreement.{Agrees, IsAgreed, IsTied, made_in}
+use Rattle.ob_store.specs.Counting.{counting_all}
+use Rattle.ob_store.specs.Kept.{AreFormed}
+use Rattle.ob_store.specs.Objects.{Object, Places}
+use Rattle.ob_store.specs.SavedObjects.{Births, are_bodied, births_from, is_bodied, with_slots}
+use Rattle.ob_store.specs.SavedSlots.{body_from, is_retired, keeper_slot, object_from, objects_from, places_from, slot_at, slots_at, slots_from}
+use Rattle.ob_store.proofs.CountingLaws.{Counts, IsWide, tables_count}
+use Rattle.ob_store.proofs.KeeperLaws.{all_shown}
+use Rattle.ob_store.proofs.SavedBirthLaws.{ordered_born}
+use Rattle.ob_store.proofs.SavedLaws.{objects-long}
+use Rattle.ob_store.proofs.SavedSlotLaws.{IsSound, items_all, slot_aged, slot_agrees, slot_formed, slot_generation, slot_later, slot_opens, slot_sound}
+
+-- a slot that isn't bodied is one of those that aren't
+pub not_bodied : (o : waits.Objects) (n k : ℕ) → k < n → is_bodied o k ≡ false → are_bodied o n ≡ false
+not_bodied o zero k lt e = absurd (omega arith)
+not_bodied o (suc n) k lt e = elim (cases_eq k n) [
+  | inl here ↦ ap (λ (b : Bool). are_bodied o n && b) (ap (is_bodied o) (sym here) ∙ e) ∙ last (are_bodied o n)
+  | inr other ↦ ap (λ (b : Bool). b && is_bodied o n) (not_bodied o n k (omega (arith, lt, other)) e)
+]
+  where
+    last : (b : Bool) → b && false ≡ false
+    last true = refl
+    last false = refl
+
+bodied_here : (o : waits.Objects) (n k : ℕ) → are_bodied o n ≡ true → k < n → is_bodied o k ≡ true
+bodied_here o n k all lt = by (is_bodied o k) refl
+  where
+    by : (b : Bool) → is_bodied o k ≡ b → is_bodied o k ≡ true
+    by true is = is
+    by false is = absurd (let f = not_bodied o n k lt is in let e = sym all ∙ f in cc e)
+
+-- then each slot has a body exactly where something refers to its object
+all_bodied : (o : waits.Objects) (n : ℕ) → length o.bodies ≡ n → length o.handles ≡ n → length o.blocks ≡ n →
+    are_bodied o n ≡ true → HasBodies o
+all_bodied o n bodies handles blocks all = record {
+  each = λ k. elim (cases_lt k n) [
+    | inl lt ↦ by (ltb 0 (get_or o.handles k 0 + get_or o.blocks k 0)) (get_or o.bodies k None) (bodied_here o n k all lt)
+    | inr le ↦ (let none = get_or_past o.bodies k None (omega (arith, bodies, le)) in
+        let a = get_or_past o.handles k 0 (omega (arith, handles, le)) in
+        let b = get_or_past o.blocks k 0 (omega (arith, blocks, le)) in
+        let no : get_or o.handles k 0 + get_or o.blocks k 0 ≡ 0 = omega (arith, a, b) in
+        ap is_some none ∙ sym (ap (λ (z : ℕ). ltb 0 z) no))
+  ];
+}
+  where
+    by : (referred : Bool) (body : Option Body) → cond referred (is_some body) (is_none body) ≡ true → is_some body ≡
+        referred
+    by true body e = e
+    by false None e = refl
+    by false (Some b) e = absurd (cc e)
+
+abbrev none_saved : SavedSlot
+none_saved = record { generation = 0; retired = false; object = None }
+
+object-at : (j k : ℕ) (xs : List SavedSlot) → k < length xs → get_or (objects_from j xs) k None ≡
+    object_from (j + k) (get_or xs k none_saved)
+object-at j k [] lt = absurd (omega arith)
+object-at j zero (x ∷ xs) lt = ap (λ (n : ℕ). object_from n x) (let e : j ≡ j + 0 = omega arith in e)
+object-at j (suc k) (x ∷ xs) lt =
+    object-at (suc j) k xs (omega arith) ∙ ap (λ (n : ℕ). object_from n (get_or xs k none_saved)) (let e : suc j + k ≡
+    j + suc k = omega arith in e)
+
+-- the slots that were read, and what is counted of them
+pub record AreRead (n max_gen clock : ℕ) (p : Places) (slots : List Slot) : Type 0 where
+  pub xs : List SavedSlot
+  pub long : length xs ≡ n
+  pub sound : (k : ℕ) → k < n → IsSound max_gen clock (get_or xs k none_saved)
+  pub places : p ≡ places_from xs
+  pub slots_are : slots ≡ map keeper_slot xs
+
+slots-are-read : (n max_gen clock : ℕ) (bytes : List ℕ) (p : Places) (slots : List Slot) (rest : List ℕ) →
+    slots_at n max_gen clock bytes ≡ Ok ((p, slots), rest) →
+    AreRead n max_gen clock p slots
+slots-are-read n max_gen clock bytes p slots rest e =
+    let b = bind_ok (items_at (slot_at max_gen clock) n bytes) (λ (xs : List SavedSlot × List ℕ). Ok (
+      slots_from xs.0,
+      xs.1,
+    )) ((p, slots), rest) e in
+    let all = items_all (slot_at max_gen clock) (IsSound max_gen clock) (slot_sound max_gen clock) none_saved n bytes b.0.0 b.0.1 b.1 in
+    let q = ok_is (slots_from b.0.0, b.0.1) ((p, slots), rest) b.2 in
+    record {
+      xs = b.0.0;
+      long = all.0;
+      sound = all.1;
+      places = sym (ap (λ (z : (Places × List Slot) × List ℕ). z.0.0) q);
+      slots_are = sym (ap (λ (z : (Places × List Slot) × List ℕ). z.0.1) q);
+    }
+
+module _ (n max_gen clock : ℕ) (p : Places) (slots : List Slot) (r : AreRead n max_gen clock p slots) (q : Places)
+    (more : ℕ → ℕ) (Named : Id → Type 0) (counts : Counts p q more Named) where
+  abbrev at : ℕ → SavedSlot
+  at k = get_or r.xs k none_saved
+
+  objects-are : q.objects ≡ objects_from 0 r.xs
+  objects-are = ap (λ (z : Places). z.objects) (counts.same ∙
+      (λ i. record (r.places i) { seen = record (r.places i).seen { handles = q.seen.handles } }))
+
+  bodies-are : q.seen.bodies ≡ map body_from r.xs
+  bodies-are = ap (λ (z : Places). z.seen.bodies) counts.same ∙ ap (λ (z : Places). z.seen.bodies) r.places
+
+  retired-are : q.retired ≡ map is_retired r.xs
+  retired-are = ap (λ (z : Places). z.retired) counts.same ∙ ap (λ (z : Places). z.retired) r.places
+
+  pub objects-long-here : length q.objects ≡ n
+  objects-long-here = ap (λ (z : List (Option Object)). length z) objects-are ∙ objects-long 0 r.xs ∙ r.long
+
+  bodies-long : length q.seen.bodies ≡ n
+  bodies-long = ap (λ (z : List (Option Body)). length z) bodies-are ∙ length-map r.xs body_from ∙ r.long
+
+  retired-long : length q.retired ≡ n
+  retired-long = ap (λ (z : List Bool). length z) retired-are ∙ length-map r.xs is_retired ∙ r.long
+
+  slots-long : length slots ≡ n
+  slots-long = ap (λ (z : List Slot). length z) r.slots_are ∙ length-map r.xs keeper_slot ∙ r.long
+
+  handles-long : length q.seen.handles ≡ n
+  handles-long = counts.long ∙ ap (λ (z : Places). length z.seen.handles) r.places ∙
+      length-replicate {A = ℕ} (length r.xs) 0 ∙ r.long
+
+  blocks-long : length q.seen.blocks ≡ n
+  blocks-long = ap (λ (z : Places). length z.seen.blocks) counts.same ∙
+      ap (λ (z : Places). length z.seen.blocks) r.places ∙ length-replicate {A = ℕ} (length r.xs) 0 ∙ r.long
+
+  object-here : (k : ℕ) → k < n → get_or q.objects k None ≡ object_from k (at k)
+  object-here k lt = ap (λ (z : List (Option Object)). get_or z k None) objects-are
+      ∙ object-at 0 k r.xs (omega (arith, lt, r.long)) ∙ ap (λ (j : ℕ). object_from j (at k)) (let e : 0 + k ≡ k =
+      omega arith in e)
+
+  body-here : (k : ℕ) → k < n → get_or q.seen.bodies k None ≡ body_from (at k)
+  body-here k lt = ap (λ (z : List (Option Body)). get_or z k None) bodies-are ∙
+      get_or-map body_from r.xs k none_saved None (omega (arith, lt, r.long))
+
+  retired-here : (k : ℕ) → k < n → get_or q.retired k false ≡ (at k).retired
+  retired-here k lt = ap (λ (z : List Bool). get_or z k false) retired-are ∙
+      get_or-map is_retired r.xs k none_saved false (omega (arith, lt, r.long))
+
+  slot-here : (k : ℕ) → k < n → slot_of slots k ≡ keeper_slot (at k)
+  slot-here k lt = ap (λ (z : List Slot). slot_of z k) r.slots_are ∙
+      get_or-map keeper_slot r.xs k none_saved opening_slot (omega (arith, lt, r.long))
+
+  agrees-here : (k : ℕ) → k < n →
+      Agrees k (get_or q.objects k None) (get_or q.seen.bodies k None) (get_or q.retired k false) (slot_of slots k)
+  agrees-here k lt =
+      subst (λ (z : Option Object × (Option Body × (Bool × Slot))). Agrees k z.0 z.1.0 z.1.1.0 z.1.1.1)
+      (λ i. (sym (object-here k lt) i, (sym (body-here k lt) i, (sym (retired-here k lt) i, sym (slot-here k lt) i))))
+      (slot_agrees max_gen clock (at k) (r.sound k lt) k)
+
+  -- bodies are what the descriptors say, and no timer is due
+  pub read_formed : AreFormed clock q.objects q.seen.bodies
+  read_formed = record {
+    each = λ k o b is has. elim (cases_lt k n) [
+      | inl lt ↦ slot_formed max_gen clock (at k) (r.sound k lt) k o b (sym (object-here k lt) ∙
+          is) (sym (body-here k lt) ∙ has)
+      | inr le ↦ absurd (let none = get_or_past q.objects k None (omega (arith, objects-long-here, le)) in let e =
+          sym none ∙ is in cc e)
+    ];
+    later = λ k. elim (cases_lt k n) [
+      | inl lt ↦ subst (λ (b : Option Body). IsAfter clock (slot_due b)) (sym (body-here k lt)) (slot_later max_gen clock (at k) (r.sound k lt))
+      | inr le ↦ subst (λ (b : Option Body). IsAfter clock (slot_due b)) (sym (get_or_past q.seen.bodies k None (omega (arith, bodies-long, le)))) tt
+    ];
+  }
+
+  module _ (limits : Limits) (wide : n ≡ limits.slots) (last : max_gen ≡ limits.max_gen) (order : Births)
+      (ordered : births_from (sum_by made_in slots) [] 0 q.objects ≡
+      Ok order) (bodied : are_bodied q.seen (length q.objects) ≡ true) where
+    read_agreed : IsAgreed (with_slots q limits slots)
+    read_agreed = record {
+      few = limits.in_range.slots_in_range.1;
+      wide = slots-long ∙ wide;
+      long = objects-long-here ∙ wide;
+      bodied = bodies-long ∙ wide;
+      marked = retired-long ∙ wide;
+      each = λ k lt. agrees-here k (omega (arith, lt, wide));
+    }
+
+    pub read_tied : IsTied (with_slots q limits slots)
+    read_tied = record {
+      agreed = read_agreed;
+      listed = all_shown (with_slots q limits slots) read_agreed;
+      opens = record {
+        wide = slots-long ∙ wide;
+        each = λ k lt. (let within : k < n = omega (arith, lt, wide) in
+            subst (λ (m : ℕ). SlotOpens m (slot_of slots k)) last
+            (subst (SlotOpens max_gen) (sym (slot-here k within)) (slot_opens max_gen clock (at k) (r.sound k within))));
+      };
+      bodied = all_bodied q.seen n bodies-long handles-long blocks-long (subst (λ (m : ℕ). are_bodied q.seen m ≡
+          true) objects-long-here bodied);
+      born = ordered_born (sum_by made_in slots) order q.objects ordered;
+      aged = λ k lt. (let within : k < n = omega (arith, lt, wide) in
+          let age = slot_aged max_gen clock (at k) (r.sound k within) in
+          let is : (slot_of slots k).generation ≡ (at k).generation =
+          ap (λ (x : Slot). x.generation) (slot-here k within) ∙
+          slot_generation max_gen clock (at k) (r.sound k within) in
+          (omega (arith, age.0, is), omega (arith, age.1, is, last)));
+      last = limits.in_range.max_gen_in_range.1;
+      made = refl;
+    }
+
+  -- the stored counts are the numbers of entries
+  pub read_handles : ((k : ℕ) → k < n → get_or q.seen.handles k 0 ≡ more k) × (length q.seen.handles ≡ n)
+  read_handles = (
+    λ k lt. (let c = counts.handles k in
+        let z : get_or p.seen.handles k 0 ≡ 0 = ap (λ (y : Places). get_or y.seen.handles k 0) r.places ∙
+        get_or-replicate {A = ℕ} (length r.xs) k 0 0 (omega (arith, lt, r.long)) in
+        omega (arith, c, z)),
+    handles-long,
+  )
+
+pub slots_read : (n max_gen clock : ℕ) (bytes : List ℕ) (p : Places) (slots : List Slot) (rest : List ℕ) →
+    slots_at n max_gen clock bytes ≡ Ok ((p, slots), rest) → length slots ≡ n
+slots_read n max_gen clock bytes p slots rest e =
+    let r = slots-are-read n max_gen clock bytes p slots rest e in
+    ap (λ (z : List Slot). length z) r.slots_are ∙ length-map r.xs keeper_slot ∙ r.long
+
+module _ (limits : Limits) (clock : ℕ) (tables : List (List (Option Entry))) (bytes : List ℕ) (p q : Places) (slots : List Slot) (rest : List ℕ)
+    (read : slots_at limits.slots limits.max_gen clock bytes ≡ Ok ((p, slots), rest)) (counted : counting_all p tables ≡
+    Ok q) where
+  are : AreRead limits.slots limits.max_gen clock p slots
+  are = slots-are-read limits.slots limits.max_gen clock bytes p slots rest read
+
+  counts : Counts p q (λ k. slot_handles k tables) (λ id. 0 < handles_among id tables)
+  counts = tables_count p q tables
+      (subst IsWide (sym are.places) (objects-long 0 are.xs ∙ sym (length-replicate {A = ℕ} (length are.xs) 0))) counted
+
+  pub tied_read : (order : Births) → births_from (sum_by made_in slots) [] 0 q.objects ≡ Ok order →
+      are_bodied q.seen (length q.objects) ≡ true →
+      IsTied (with_slots q limits slots)
+  tied_read order ordered bodied =
+      read_tied limits.slots limits.max_gen clock p slots are q _ _ counts limits refl refl order ordered bodied

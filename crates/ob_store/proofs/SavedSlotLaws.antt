@@ -1,0 +1,250 @@
+-- What is known of slots that were read.
+use Rattle.std.proofs.Common.{◌≡◌, ℕ, zero, suc, ◌<◌, ◌≤◌, ◌&&◌, Bool, true, false, eqb, leb, List, [], ◌∷◌, length, get_or, Option, Some, None, Ok, refl, sym, ap, ◌∙◌, subst, arith}
+use Rattle.std.specs.Prelude.{is_none}
+use Rattle.std.proofs.lemmas.Bool.{eqb-true, leb-true, ltb-true}
+use Rattle.std.proofs.lemmas.Grind.{common_steps}
+use Rattle.ob_codec.specs.declared.fault.TextFault.TheVariants.{Value}
+use Rattle.ob_codec.specs.Reading.{◌>>=◌, Read, as_at, both_at, given_at, items_at, number_at, option_at, some_at}
+use Rattle.ob_codec.specs.Reading as reading
+use Rattle.ob_codec.specs.Steps.{bind_ok, both-true, guard_passed, ok_is}
+use Rattle.std.specs.Int.{w32, w64}
+use Rattle.ob_name.specs.Names.{ObjectName}
+use Rattle.ob_name.specs.Spelling.{name_text_at}
+use Rattle.ob_body.specs.Spelling.{body_at}
+use Rattle.ob_rights.specs.declared.rights.Rights.{Rights}
+use Rattle.ob_rights.specs.Spelling.{rights_at}
+use Rattle.pin_core.specs.declared.descr.Descr.{Descr}
+use Rattle.pin_core.specs.declared.word.Phase.TheVariants.{Retired}
+use Rattle.pin_core.specs.Descrs.{IsGiven, decoded, same_descr}
+use Rattle.pin_core.specs.Opened.{SlotOpens}
+use Rattle.pin_core.specs.Spelling.{descr_at}
+use Rattle.pin_core.proofs.Moves.{same_of_descr}
+use Rattle.ob_body.specs.declared.body.Body.{Body}
+use Rattle.ob_body.specs.Body.{due_of}
+use Rattle.ob_waits.specs.Form.{IsAfter, form_of, slot_due}
+use Rattle.ob_store.specs.declared.saved_slot.SavedObject.{SavedObject}
+use Rattle.ob_store.specs.declared.saved_slot.SavedSlot.{SavedSlot}
+use Rattle.ob_store.specs.Agreement.{Agrees, phase_of}
+use Rattle.ob_store.specs.Kept.{form_in, unset}
+use Rattle.ob_store.specs.Objects.{Object}
+use Rattle.ob_store.specs.SavedSlots.{any_slot_at, body_from, body_in, body_stands, descr_of, is_after, keeper_slot, keeper_slot_with, may_retire, object_at, object_from, object_in_slot, object_of, object_stands, slot_at, slot_of, slot_stands, stored_object}
+
+-- what was read in parts
+module _ {A B : Type 0} where
+  as-split : (to : A → B) (read : List ℕ → Read A) (bytes : List ℕ) (x : B) (rest : List ℕ) → as_at to read bytes ≡
+      Ok (x, rest) →
+      (a : A) × (read bytes ≡ Ok (a, rest)) × (to a ≡ x)
+  as-split to read bytes x rest e =
+      let b = bind_ok (read bytes) (λ (a : A × List ℕ). Ok (to a.0, a.1)) (x, rest) e in
+      let q = ok_is (to b.0.0, b.0.1) (x, rest) b.2 in
+      (b.0.0, b.1 ∙ ap (λ (z : B × List ℕ). Ok (b.0.0, z.1)) q, ap (λ (z : B × List ℕ). z.0) q)
+
+  some-split : (to : A → Option B) (read : List ℕ → Read A) (bytes : List ℕ) (x : B) (rest : List ℕ) →
+      some_at to read bytes ≡ Ok (x, rest) →
+      (a : A) × (to a ≡ Some x)
+  some-split to read bytes x rest e =
+      let b = bind_ok (read bytes) (λ (a : A × List ℕ). given_at (to a.0) a.1) (x, rest) e in
+      (b.0.0, by (to b.0.0) b.0.1 b.2)
+    where
+      by : (o : Option B) (after : List ℕ) → given_at o after ≡ Ok (x, rest) → o ≡ Some x
+      by None after e = absurd cc
+      by (Some y) after e = ap (λ (z : B × List ℕ). Some z.0) (ok_is (y, after) (x, rest) e)
+
+  both-split : (read_a : List ℕ → Read A) (read_b : List ℕ → Read B) (bytes : List ℕ) (x : A × B) (rest : List ℕ) →
+      both_at read_a read_b bytes ≡ Ok (x, rest) →
+      (mid : List ℕ) × (read_a bytes ≡ Ok (x.0, mid)) × (read_b mid ≡ Ok (x.1, rest))
+  both-split read_a read_b bytes x rest e =
+      let a = bind_ok (read_a bytes) (λ (a : A × List ℕ). read_b a.1 >>= λ (b : B × List ℕ). Ok ((a.0, b.0), b.1)) (
+        x,
+        rest,
+      ) e in
+      let b = bind_ok (read_b a.0.1) (λ (b : B × List ℕ). Ok ((a.0.0, b.0), b.1)) (x, rest) a.2 in
+      let q = ok_is ((a.0.0, b.0.0), b.0.1) (x, rest) b.2 in (
+        a.0.1,
+        a.1 ∙ ap (λ (z : (A × B) × List ℕ). Ok (z.0.0, a.0.1)) q,
+        b.1 ∙
+            ap (λ (z : (A × B) × List ℕ). Ok (z.0.1, z.1)) q,
+      )
+
+-- a word has the descriptor of an object that was read
+decoded-given : (n : ℕ) (d : Descr) → decoded n ≡ Some d → IsGiven d
+decoded-given n d e = grind (arith, common_steps)
+
+abbrev behind_descr : List ℕ → Read (Rights × (Option Body × Option ObjectName))
+behind_descr = both_at rights_at (both_at (option_at body_at) (option_at name_text_at))
+
+object-given : (bytes : List ℕ) (o : SavedObject) (rest : List ℕ) → object_at bytes ≡ Ok (o, rest) → IsGiven o.descr
+object-given bytes o rest e =
+    let a = as-split object_of (both_at (number_at w64) (both_at descr_at behind_descr)) bytes o rest e in
+    let b = both-split (number_at w64) (both_at descr_at behind_descr) bytes a.0 rest a.1 in
+    let c = both-split descr_at behind_descr b.0 a.0.1 rest b.2 in
+    let d = some-split decoded (number_at w64) b.0 a.0.1.0 c.0 c.1 in
+    subst (λ (z : SavedObject). IsGiven z.descr) a.2 (decoded-given d.0 a.0.1.0 d.1)
+
+abbrev pub Given : Option SavedObject → Type 0
+Given None = Unit {0}
+Given (Some o) = IsGiven o.descr
+
+option-given : (bytes : List ℕ) (x : Option SavedObject) (rest : List ℕ) → option_at object_at bytes ≡ Ok (x, rest) →
+    Given x
+unfolding option_at
+option-given [] x rest e = absurd cc
+option-given (zero ∷ bytes) x rest e = subst (λ (z : Option SavedObject × List ℕ). Given z.0) (ok_is (None, bytes) (
+  x,
+  rest,
+) e) tt
+option-given (suc zero ∷ bytes) x rest e =
+    let b = bind_ok (object_at bytes) (λ (o : SavedObject × List ℕ). Ok (Some o.0, o.1)) (x, rest) e in
+    subst (λ (z : Option SavedObject × List ℕ). Given z.0) (ok_is (Some b.0.0, b.0.1) (
+      x,
+      rest,
+    ) b.2) (object-given bytes b.0.0 b.0.1 b.1)
+option-given (suc (suc n) ∷ bytes) x rest e = absurd cc
+
+-- what is known of a slot that was read
+pub record IsSound (max_gen clock : ℕ) (x : SavedSlot) : Type 0 where
+  pub stands : slot_stands max_gen clock x ≡ true
+  pub given : Given x.object
+
+pub slot_sound : (max_gen clock : ℕ) (bytes rest : List ℕ) (x : SavedSlot) → slot_at max_gen clock bytes ≡
+    Ok (x, rest) → IsSound max_gen clock x
+slot_sound max_gen clock bytes rest x e =
+    let b = bind_ok (any_slot_at bytes) _ (x, rest) e in
+    let g = guard_passed (slot_stands max_gen clock b.0.0) Value b.0 (x, rest) b.2 in
+    let a = as-split slot_of (both_at (number_at w32) (both_at reading.flag_at (option_at object_at))) bytes b.0.0 b.0.1 b.1 in
+    let c = both-split (number_at w32) (both_at reading.flag_at (option_at object_at)) bytes a.0 b.0.1 a.1 in
+    let d = both-split reading.flag_at (option_at object_at) c.0 a.0.1 b.0.1 c.2 in
+    subst (λ (z : SavedSlot × List ℕ). IsSound max_gen clock z.0) g.1
+    (record {
+      stands = g.0;
+      given =
+          subst (λ (z : SavedSlot). Given z.object) a.2 (option-given d.0 a.0.1.1 b.0.1 d.2);
+    })
+
+-- so many items, each of which is so
+pub items_all : {A : Type 0} (at : List ℕ → Read A) (P : A → Type 0) → ((bytes rest : List ℕ) (x : A) → at bytes ≡
+    Ok (x, rest) → P x) → (d : A)
+    (n : ℕ) (bytes : List ℕ) (xs : List A) (rest : List ℕ) → items_at at n bytes ≡ Ok (xs, rest) → (length xs ≡ n) ×
+    ((k : ℕ) → k < n → P (get_or xs k d))
+unfolding items_at
+items_all {A = A} at P pass d zero bytes xs rest e =
+    (ap (λ (z : List A × List ℕ). length z.0) (sym (ok_is ([], bytes) (xs, rest) e)), λ k lt. absurd (omega arith))
+items_all {A = A} at P pass d (suc n) bytes xs rest e =
+    let a = bind_ok (at bytes) (λ (x : A × List ℕ). items_at at n x.1 >>= λ (ys : List A × List ℕ). Ok (
+      x.0 ∷ ys.0,
+      ys.1,
+    )) (xs, rest) e in
+    let b = bind_ok (items_at at n a.0.1) (λ (ys : List A × List ℕ). Ok (a.0.0 ∷ ys.0, ys.1)) (xs, rest) a.2 in
+    let ih = items_all at P pass d n a.0.1 b.0.0 b.0.1 b.1 in
+    subst (λ (z : List A × List ℕ). (length z.0 ≡ suc n) ×
+    ((k : ℕ) → k < suc n → P (get_or z.0 k d))) (ok_is (a.0.0 ∷ b.0.0, b.0.1) (xs, rest) b.2)
+    (ap suc ih.0, here a.0.0 b.0.0 (pass bytes a.0.1 a.0.0 a.1) ih.1)
+  where
+    here : (x : A) (ys : List A) → P x → ((k : ℕ) → k < n → P (get_or ys k d)) → (k : ℕ) → k < suc n →
+        P (get_or (x ∷ ys) k d)
+    here x ys first others zero lt = first
+    here x ys first others (suc k) lt = others k (omega arith)
+
+-- one slot
+
+retired-bare : (max_gen : ℕ) (x : SavedSlot) → may_retire max_gen x ≡ true → x.retired ≡ true →
+    (x.generation ≡ max_gen) × (is_none x.object ≡ true)
+retired-bare max_gen x e is = by x.retired is e
+  where
+    by : (b : Bool) → b ≡ true → may_retire max_gen (record x { retired = b }) ≡ true → (x.generation ≡ max_gen) ×
+        (is_none x.object ≡ true)
+    by true is e = let t = both-true (eqb x.generation max_gen) (is_none x.object) e in
+        (eqb-true x.generation max_gen t.0, t.1)
+    by false is e = absurd (cc is)
+
+module _ (max_gen clock : ℕ) (x : SavedSlot) (sound : IsSound max_gen clock x) where
+  abbrev rest : Bool
+  rest = may_retire max_gen x && object_stands clock x.object
+
+  parts : ((leb 1 x.generation && leb x.generation max_gen) ≡ true) × (rest ≡ true)
+  parts = both-true (leb 1 x.generation && leb x.generation max_gen) rest sound.stands
+
+  pub slot_aged : (1 ≤ x.generation) × (x.generation ≤ max_gen)
+  slot_aged = let a = both-true (leb 1 x.generation) (leb x.generation max_gen) parts.0 in
+      (leb-true 1 x.generation a.0, leb-true x.generation max_gen a.1)
+
+  pub slot_retires : x.retired ≡ true → (x.generation ≡ max_gen) × (is_none x.object ≡ true)
+  slot_retires = retired-bare max_gen x (both-true (may_retire max_gen x) (object_stands clock x.object) parts.1).0
+
+  stands : object_stands clock x.object ≡ true
+  stands = (both-true (may_retire max_gen x) (object_stands clock x.object) parts.1).1
+
+  pub slot_agrees : (k : ℕ) → Agrees k (object_from k x) (body_from x) x.retired (keeper_slot x)
+  slot_agrees k = by x.object x.retired (λ r. (slot_retires r).1)
+    where
+      by : (o : Option SavedObject) (r : Bool) → (r ≡ true → is_none o ≡ true) →
+          Agrees k (object_in_slot (record {
+            slot = k;
+            generation =
+                x.generation;
+          }) o) (body_in o) r (keeper_slot_with x.generation r o)
+      by None r bare = (refl, refl)
+      by (Some o) true bare = absurd (let e = bare refl in cc e)
+      by (Some o) false bare = (refl, refl, refl, refl)
+
+  pub slot_generation : (keeper_slot x).generation ≡ x.generation
+  slot_generation = by x.object
+    where
+      by : (o : Option SavedObject) → (keeper_slot_with x.generation x.retired o).generation ≡ x.generation
+      by None = refl
+      by (Some o) = refl
+
+  pub slot_opens : SlotOpens max_gen (keeper_slot x)
+  slot_opens = by x.object x.retired sound.given (λ r. (slot_retires r).0)
+    where
+      apart : (b : Option Body) → phase_of b ≡ Retired → ⊥
+      apart None e = cc
+      apart (Some b) e = cc
+
+      by : (o : Option SavedObject) (r : Bool) → Given o → (r ≡ true → x.generation ≡ max_gen) →
+          SlotOpens max_gen (keeper_slot_with x.generation r o)
+      by None true given last = record { given = (omega arith, refl); bounded = slot_aged.1; last = λ e. last refl }
+      by None false given last = record { given = (omega arith, refl); bounded = slot_aged.1; last = λ e. absurd cc }
+      by (Some o) r given last = record { given = given; bounded = slot_aged.1; last = λ e. absurd (apart o.body e) }
+
+  body-formed : (d : Descr) (b : Body) → body_stands clock d (Some b) ≡ true → (unset (form_of b) ≡ form_in d) ×
+      IsAfter clock (due_of b)
+  body-formed d b e =
+      let t = both-true (same_descr (descr_of b) d) (is_after clock (due_of b)) e in
+      (ap form_in (same_of_descr (descr_of b) d t.0), later (due_of b) t.1)
+    where
+      later : (due : Option ℕ) → is_after clock due ≡ true → IsAfter clock due
+      later None e = tt
+      later (Some due) e = ltb-true clock due e
+
+  -- a body is what the object's descriptor says
+  pub slot_formed : (k : ℕ) (o : Object) (b : Body) → object_from k x ≡ Some o → body_from x ≡ Some b →
+      unset (form_of b) ≡ form_in o.descr
+  slot_formed k o b is has = by x.object stands is has
+    where
+      some-is : {A : Type 0} (a b : A) → Some a ≡ Some b → a ≡ b
+      some-is a b e = cc
+
+      by : (s : Option SavedObject) → object_stands clock s ≡ true →
+          object_in_slot (record { slot = k; generation = x.generation }) s ≡ Some o → body_in s ≡ Some b →
+          unset (form_of b) ≡ form_in o.descr
+      by None stands is has = absurd cc
+      by (Some s) stands is has =
+          let same : s.descr ≡ o.descr =
+          ap (λ (z : Object). z.descr) (some-is (stored_object (record {
+            slot = k;
+            generation =
+                x.generation;
+          }) s) o is) in
+          (body-formed s.descr b (ap (body_stands clock s.descr) (sym has) ∙ stands)).0 ∙ ap form_in same
+
+  pub slot_later : IsAfter clock (slot_due (body_from x))
+  slot_later = by x.object stands
+    where
+      of : (d : Descr) (b : Option Body) → body_stands clock d b ≡ true → IsAfter clock (slot_due b)
+      of d None e = tt
+      of d (Some b) e = (body-formed d b e).1
+
+      by : (s : Option SavedObject) → object_stands clock s ≡ true → IsAfter clock (slot_due (body_in s))
+      by None e = tt
+      by (Some s) e = of s.descr s.body e

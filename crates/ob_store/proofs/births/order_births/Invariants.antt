@@ -1,0 +1,7 @@
+use Rattle.std.proofs.Common.{◌≡◌, [], drop}
+use Rattle.ob_store.specs.SavedObjects.{births_from}
+use Rattle.ob_store.proofs.births.order_births.Given as goal
+
+abbrev pub invariant-loop-slot : goal.invariant-loop-slot
+invariant-loop-slot l = births_from l.births l.order.entries l.slot (drop l.slot l.seats.objects) ≡
+    births_from l.births [] 0 l.seats.objects

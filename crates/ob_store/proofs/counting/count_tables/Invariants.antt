@@ -1,0 +1,7 @@
+use Rattle.std.proofs.Common.{◌≡◌, drop}
+use Rattle.ob_store.specs.Counting.{counting_all}
+use Rattle.ob_store.proofs.counting.count_tables.Given as goal
+
+abbrev pub invariant-loop-process : goal.invariant-loop-process
+invariant-loop-process l = counting_all l.seats (drop l.process l.tables.tables) ≡
+    counting_all l.fn.seats l.tables.tables

@@ -1,0 +1,73 @@
+-- What a save says of the objects, once the handles of the tables are counted: bodies, births, and what their keeper says.
+use Rattle.std.specs.Prelude.{ℕ, zero, suc, ◌+◌, nat_lt, ◌&&◌, Bool, true, if◌then◌else◌, List, [], ◌∷◌, length, Option, Some, None, Result, Ok, Err, is_none, is_some, slice_index_or, sum_by}
+use Rattle.std.specs.BTreeMap.{insert_entry, is_at}
+use Rattle.std.specs.Map.{lookup}
+use Rattle.std.specs.Ordering.{nat_cmp}
+use Rattle.ob_codec.specs.declared.fault.TextFault.{TextFault}
+use Rattle.ob_codec.specs.declared.fault.TextFault.TheVariants.{Value}
+use Rattle.ob_codec.specs.Reading.{◌>>=◌, Read}
+use Rattle.pin_core.specs.declared.shape.Shape.{Shape}
+use Rattle.pin_core.specs.declared.world.Slot.{Slot}
+use Rattle.pin_core.specs.Opened.{shown_from}
+use Rattle.pin_words.specs.Keepers.{KeeperState, locked}
+use Rattle.ob_tables.specs.declared.entry.Entry.{Entry}
+use Rattle.ob_waits.specs.Objects as waits
+use Rattle.ob_store.specs.declared.limits.Limits.{Limits}
+use Rattle.ob_store.specs.Agreement.{made_in}
+use Rattle.ob_store.specs.Counting.{counting_all}
+use Rattle.ob_store.specs.Objects.{Object, ObjectsState, Places, with_keeper}
+use Rattle.ob_store.specs.SavedSlots.{slots_at}
+use Rattle.ob_store.specs.State.{shape_of}
+
+-- whether a slot has a body exactly where something refers to its object
+abbrev pub is_bodied : waits.Objects → ℕ → Bool
+is_bodied o k =
+    if nat_lt 0 (slice_index_or o.handles k 0 + slice_index_or o.blocks k 0) then is_some (slice_index_or o.bodies k None)
+    else is_none (slice_index_or o.bodies k None)
+
+-- the same of the first slots
+abbrev pub are_bodied : waits.Objects → ℕ → Bool
+are_bodied o zero = true
+are_bodied o (suc n) = are_bodied o n && is_bodied o n
+
+-- slots by the births of their objects
+abbrev pub Births : Type 0
+Births = List (ℕ × ℕ)
+
+-- the slot of an object of this birth comes, unless the birth isn't below the count, or another object has it
+abbrev pub with_birth : ℕ → Births → ℕ → ℕ → Result Births TextFault
+with_birth births so_far birth slot =
+    if nat_lt birth births && is_none (lookup (is_at (nat_cmp birth)) so_far) then Ok (insert_entry nat_cmp so_far birth slot)
+    else Err Value
+
+abbrev pub with_birth_of : ℕ → Births → ℕ → Option Object → Result Births TextFault
+with_birth_of births so_far slot None = Ok so_far
+with_birth_of births so_far slot (Some o) = with_birth births so_far o.birth slot
+
+-- the slots of all objects from a slot on
+abbrev pub births_from : ℕ → Births → ℕ → List (Option Object) → Result Births TextFault
+births_from births so_far slot [] = Ok so_far
+births_from births so_far slot (object ∷ objects) = do
+  more ← with_birth_of births so_far slot object
+  births_from births more (suc slot) objects
+
+-- what a keeper under a lock says that begins with these slots
+abbrev pub begun_over : Shape → List Slot → KeeperState
+begun_over shape slots = locked shape slots (shown_from 0 slots) []
+
+abbrev pub with_slots : Places → Limits → List Slot → ObjectsState
+with_slots p limits slots = with_keeper p (sum_by made_in slots) (begun_over (shape_of limits) slots)
+
+-- objects that have bodies just where something refers to them, and distinct births
+abbrev pub whole_objects : Limits → List Slot → Places → Result ObjectsState TextFault
+whole_objects limits slots p = do
+  order ← births_from (sum_by made_in slots) [] 0 p.objects
+  if are_bodied p.seen (length p.objects) then Ok (with_slots p limits slots) else Err Value
+
+-- the objects of a save, of which just the entries of these tables are handles
+abbrev pub objects_at : Limits → ℕ → List (List (Option Entry)) → List ℕ → Read ObjectsState
+objects_at limits clock tables bytes = do
+  read ← slots_at limits.slots limits.max_gen clock bytes
+  counted ← counting_all read.0.0 tables
+  objects ← whole_objects limits read.0.1 counted
+  Ok (objects, read.1)

@@ -1,0 +1,162 @@
+-- What a save says of the slots: how it is spelled, which slots may be so, and what they are in a store.
+use Rattle.std.specs.Prelude.{◌≡◌, ℕ, suc, ◌==◌, ◌<◌, ◌^◌, nat_le, nat_lt, Bool, true, not, ◌&&◌, ◌||◌, if◌then◌else◌, List, [], ◌∷◌, length, map, replicate, Option, Some, None, is_none}
+use Rattle.std.specs.Int.{w32, w64, to_le_bytes}
+use Rattle.ob_codec.specs.Reading.{Read, as_at, both_at, flag_at, items_at, number_at, option_at, where_at}
+use Rattle.ob_codec.specs.Spelling.{Any, BothFit, OptionFits, both, flag, option}
+use Rattle.ob_rights.specs.declared.rights.Rights.{Rights}
+use Rattle.ob_rights.specs.Spelling.{RightsFit, rights_at, rights_text}
+use Rattle.pin_core.specs.declared.id.Id.{Id}
+use Rattle.pin_core.specs.declared.descr.Descr.{Descr}
+use Rattle.pin_core.specs.declared.world.Slot.{Slot}
+use Rattle.pin_core.specs.Descrs.{IsGiven, same_descr}
+use Rattle.pin_core.specs.Spelling.{descr_at, descr_text}
+use Rattle.pin_core.specs.Worlds.{auto_event}
+use Rattle.ob_name.specs.Names.{ObjectName}
+use Rattle.ob_name.specs.Spelling.{NameFits, name_text, name_text_at}
+use Rattle.ob_body.specs.declared.body.Body.{Body}
+use Rattle.ob_body.specs.Body.{due_of}
+use Rattle.ob_body.specs.Spelling.{BodyFits, body_at, body_text}
+use Rattle.ob_waits.specs.Form.{form_of}
+use Rattle.ob_store.specs.declared.saved_slot.SavedObject.{SavedObject}
+use Rattle.ob_store.specs.declared.saved_slot.SavedSlot.{SavedSlot}
+use Rattle.ob_store.specs.Objects.{Object, Places, with_retired, with_seated}
+use Rattle.ob_store.specs.Agreement.{phase_of, vacant_phase}
+
+-- an object: its number, its descriptor, its grant, its body, its name
+abbrev pub ObjectParts : Type 0
+ObjectParts = ℕ × (Descr × (Rights × (Option Body × Option ObjectName)))
+
+abbrev pub object_of : ObjectParts → SavedObject
+object_of p = record { birth = p.0; descr = p.1.0; grant = p.1.1.0; body = p.1.1.1.0; name = p.1.1.1.1 }
+
+abbrev pub object_parts : SavedObject → ObjectParts
+object_parts o = (o.birth, (o.descr, (o.grant, (o.body, o.name))))
+
+abbrev pub object_text : SavedObject → List ℕ
+object_text o =
+    both (to_le_bytes w64) (both descr_text (both rights_text (both (option body_text) (option name_text)))) (object_parts o)
+
+abbrev pub object_at : List ℕ → Read SavedObject
+object_at =
+    as_at object_of
+    (both_at (number_at w64) (both_at descr_at (both_at rights_at (both_at (option_at body_at) (option_at name_text_at)))))
+
+abbrev pub ObjectFits : SavedObject → Type 0
+ObjectFits o =
+    BothFit (λ n. n < 2 ^ 64) (BothFit IsGiven (BothFit RightsFit (BothFit (OptionFits BodyFits) (OptionFits NameFits))))
+    (object_parts o)
+
+-- a slot: its generation, whether it is never given again, its object
+abbrev pub SlotParts : Type 0
+SlotParts = ℕ × (Bool × Option SavedObject)
+
+abbrev pub slot_of : SlotParts → SavedSlot
+slot_of p = record { generation = p.0; retired = p.1.0; object = p.1.1 }
+
+abbrev pub slot_parts : SavedSlot → SlotParts
+slot_parts x = (x.generation, (x.retired, x.object))
+
+abbrev pub slot_text : SavedSlot → List ℕ
+slot_text x = both (to_le_bytes w32) (both flag (option object_text)) (slot_parts x)
+
+abbrev pub any_slot_at : List ℕ → Read SavedSlot
+any_slot_at = as_at slot_of (both_at (number_at w32) (both_at flag_at (option_at object_at)))
+
+-- the descriptor that says what a body is
+abbrev pub descr_of : Body → Descr
+descr_of b = record { kind = (form_of b).kind; manual = (form_of b).manual; max = (form_of b).maximum }
+
+abbrev pub is_after : ℕ → Option ℕ → Bool
+is_after clock None = true
+is_after clock (Some due) = nat_lt clock due
+
+-- a body is what its object's descriptor says, and no timer is due yet
+abbrev pub body_stands : ℕ → Descr → Option Body → Bool
+body_stands clock d None = true
+body_stands clock d (Some b) = same_descr (descr_of b) d && is_after clock (due_of b)
+
+abbrev pub object_stands : ℕ → Option SavedObject → Bool
+object_stands clock None = true
+object_stands clock (Some o) = body_stands clock o.descr o.body
+
+-- a slot is retired at the last generation alone, and without an object
+abbrev pub may_retire : ℕ → SavedSlot → Bool
+may_retire max_gen x = not x.retired || ((x.generation == max_gen) && is_none x.object)
+
+-- whether a slot may be so
+abbrev pub slot_stands : ℕ → ℕ → SavedSlot → Bool
+slot_stands max_gen clock x =
+    (nat_le 1 x.generation && nat_le x.generation max_gen) && (may_retire max_gen x && object_stands clock x.object)
+
+abbrev pub slot_at : ℕ → ℕ → List ℕ → Read SavedSlot
+slot_at max_gen clock = where_at (slot_stands max_gen clock) any_slot_at
+
+abbrev pub SlotFits : ℕ → ℕ → SavedSlot → Type 0
+SlotFits max_gen clock x =
+    BothFit (λ n. n < 2 ^ 32) (BothFit Any (OptionFits ObjectFits)) (slot_parts x) × (slot_stands max_gen clock x ≡
+    true)
+
+-- what it is in a store: the object
+abbrev pub stored_object : Id → SavedObject → Object
+stored_object id o = record { id = id; birth = o.birth; descr = o.descr; grant = o.grant; name = o.name }
+
+abbrev pub object_in_slot : Id → Option SavedObject → Option Object
+object_in_slot id None = None
+object_in_slot id (Some o) = Some (stored_object id o)
+
+abbrev pub object_from : ℕ → SavedSlot → Option Object
+object_from slot x = object_in_slot (record { slot = slot; generation = x.generation }) x.object
+
+abbrev pub objects_from : ℕ → List SavedSlot → List (Option Object)
+objects_from slot [] = []
+objects_from slot (x ∷ xs) = object_from slot x ∷ objects_from (suc slot) xs
+
+-- its body
+abbrev pub body_in : Option SavedObject → Option Body
+body_in None = None
+body_in (Some o) = o.body
+
+abbrev pub body_from : SavedSlot → Option Body
+body_from x = body_in x.object
+
+abbrev pub is_retired : SavedSlot → Bool
+is_retired x = x.retired
+
+-- and the slot with which its keeper begins
+abbrev pub keeper_slot_with : ℕ → Bool → Option SavedObject → Slot
+keeper_slot_with generation retired None = record {
+  generation = generation;
+  phase = vacant_phase retired;
+  descr =
+      auto_event;
+}
+keeper_slot_with generation retired (Some o) = record {
+  generation = generation;
+  phase = phase_of o.body;
+  descr =
+      o.descr;
+}
+
+abbrev pub keeper_slot : SavedSlot → Slot
+keeper_slot x = keeper_slot_with x.generation x.retired x.object
+
+-- all slots, before anything that refers to their objects is counted
+abbrev pub places_from : List SavedSlot → Places
+places_from xs = record {
+  objects = objects_from 0 xs;
+  seen = record { bodies = map body_from xs; handles = replicate (length xs) 0; blocks = replicate (length xs) 0 };
+  retired = map is_retired xs;
+}
+
+abbrev pub slots_from : List SavedSlot → Places × List Slot
+slots_from xs = (places_from xs, map keeper_slot xs)
+
+-- so many slots, from the first on
+abbrev pub slots_at : ℕ → ℕ → ℕ → List ℕ → Read (Places × List Slot)
+slots_at n max_gen clock = as_at slots_from (items_at (slot_at max_gen clock) n)
+
+-- one more slot: its object comes back to it, or it is never given again, or it stays as it was
+abbrev pub with_saved : Places → ℕ → ℕ → Bool → Option SavedObject → Places
+with_saved p slot generation retired None = if retired then with_retired p slot else p
+with_saved p slot generation retired (Some o) =
+    with_seated p slot (stored_object (record { slot = slot; generation = generation }) o) o.body 0

@@ -1,0 +1,83 @@
+ghost use Rattle.std.specs.Prelude.{◌≡◌, ◌≤◌, [], length, sum_by};
+ghost use Rattle.ob_codec.specs.Reading.{GivesAll};
+ghost use Rattle.ob_store.specs.Agreement.{made_in};
+ghost use Rattle.ob_store.specs.SavedObjects.{births_from, with_birth, with_birth_of};
+ghost use Rattle.std.specs.Prelude.{None, slice_index_or};
+
+use crate::seats::Seats;
+use ob_codec::{ReadFault, TextFault};
+use pin_core::{Phase, Slot};
+use std::alloc::Global;
+use std::collections::BTreeMap;
+
+/// How many objects a slot had.
+fn made_in(slot: Slot) -> u32
+    ensures { result ≡ made_in slot }
+{
+    match slot.phase {
+        Phase::Free => slot.generation.saturating_sub(1),
+        Phase::Live | Phase::Closing | Phase::Retired => slot.generation,
+    }
+}
+
+/// How many objects all slots had.
+pub(crate) fn count_births(slots: &[Slot]) -> u64
+    requires { length slots.now ≤ 65536 }
+    ensures { result ≡ sum_by made_in slots.now }
+{
+    let mut births = 0;
+    for slot in slots {
+        births += u64::from(made_in(*slot));
+    }
+    births
+}
+
+/// Notes the slot of an object of this birth. [`TextFault::Value`] where the birth isn't below the count, or another
+/// object has it.
+fn note_birth(
+    order: &mut BTreeMap<u64, u32>,
+    births: u64,
+    birth: u64,
+    slot: u32,
+) -> Result<(), ReadFault>
+    ensures { GivesAll (λ _. order.new.entries) result (with_birth births order.old.entries birth slot) }
+{
+    if birth >= births {
+        return Err(ReadFault::Text(TextFault::Value));
+    }
+    match order.insert(birth, slot)? {
+        Some(_) => Err(ReadFault::Text(TextFault::Value)),
+        None => Ok(()),
+    }
+}
+
+/// The same of the object in a slot, if there is one.
+fn note_slot(
+    order: &mut BTreeMap<u64, u32>,
+    births: u64,
+    seats: &Seats,
+    slot: u32,
+) -> Result<(), ReadFault>
+    ensures { GivesAll (λ _. order.new.entries) result (with_birth_of births order.old.entries slot
+        (slice_index_or seats.now.objects slot None)) }
+{
+    match seats.look(slot) {
+        Some(found) => note_birth(order, births, found.label.birth, slot),
+        None => Ok(()),
+    }
+}
+
+/// The slots of all objects by their births, which are distinct and below their count.
+pub(crate) fn order_births(
+    alloc: Global,
+    births: u64,
+    seats: &Seats,
+) -> Result<BTreeMap<u64, u32>, ReadFault>
+    ensures { GivesAll (λ order. order.entries) result (births_from births [] 0 seats.now.objects) }
+{
+    let mut order = BTreeMap::new(alloc);
+    for slot in 0..seats.len() {
+        note_slot(&mut order, births, seats, slot)?;
+    }
+    Ok(order)
+}

@@ -1,0 +1,101 @@
+ghost use Rattle.std.specs.Prelude.{◌≡◌, ◌≤◌, true};
+ghost use Rattle.ob_arena.specs.Slots.{is_vacant_at};
+ghost use Rattle.ob_codec.specs.Reading.{Gives};
+ghost use Rattle.ob_store.specs.Objects.{vacancy};
+ghost use Rattle.ob_store.specs.SavedSlots.{slots_at, with_saved};
+ghost use Rattle.ob_store.specs.SavedObjects.{objects_at};
+
+use crate::births::{count_births, order_births};
+use crate::counting::count_tables;
+use crate::limits::Limits;
+use crate::objects::Objects;
+use crate::saved_slot::SavedSlot;
+use crate::seats::Seats;
+use ob_arena::SLOTS_MAX;
+use ob_codec::{Cursor, ReadFault, TextFault};
+use ob_tables::Tables;
+use pin_core::{Id, Slot};
+use pin_words::LockedPins;
+use std::alloc::Global;
+
+/// What a save says of a vacant slot.
+fn restore(seats: &mut Seats, slot: u32, saved: SavedSlot)
+    requires { is_vacant_at (vacancy seats.old) slot ≡ true }
+    ensures { seats.new ≡ with_saved seats.old slot saved.generation saved.retired saved.object }
+{
+    let SavedSlot {
+        generation,
+        retired,
+        object,
+    } = saved;
+    match object {
+        Some(object) => seats.put_back(Id { slot, generation }, object),
+        None => {
+            if retired {
+                seats.retire(slot);
+            }
+        }
+    }
+}
+
+/// Reads so many slots, with the objects in them and the slots with which their keeper begins. Nothing that refers to
+/// the objects is counted yet.
+pub(crate) fn read_slots(
+    alloc: Global,
+    slots: u32,
+    threads: u32,
+    max_gen: u32,
+    clock: u64,
+    from: &mut Cursor<'_>,
+) -> Result<(Seats, Vec<Slot>), ReadFault>
+    requires { slots ≤ SLOTS_MAX }
+    ensures { Gives (λ read. (read.0, read.1.items)) result (slots_at slots max_gen clock from.old) from.new }
+{
+    let mut seats = Seats::new(alloc, slots, threads)?;
+    let mut begun = Vec::new(alloc);
+    for slot in 0..slots {
+        let saved = SavedSlot::read(alloc, max_gen, clock, from)?;
+        begun.push(saved.keeper_slot())?;
+        restore(&mut seats, slot, saved);
+    }
+    Ok((seats, begun))
+}
+
+impl Objects<LockedPins> {
+    /// Reads the objects of a save at a moment, over a keeper that begins with their slots. The handles of each are
+    /// the entries of the tables that name it. [`TextFault::Value`] where a slot can't be so, an entry names an object
+    /// that isn't there, two objects have one birth, or an object has a body but nothing refers to it, or the other
+    /// way round.
+    pub fn read(
+        alloc: Global,
+        limits: Limits,
+        clock: u64,
+        tables: &Tables,
+        from: &mut Cursor<'_>,
+    ) -> Result<Objects<LockedPins>, ReadFault>
+        ensures { Gives (λ objects. objects) result (objects_at limits clock tables.now.tables from.old) from.new }
+    {
+        let (mut seats, slots) = read_slots(
+            alloc,
+            limits.slots,
+            limits.threads + 1,
+            limits.max_gen,
+            clock,
+            from,
+        )?;
+        if !count_tables(&mut seats, tables) {
+            return Err(ReadFault::Text(TextFault::Value));
+        }
+        let births = count_births(slots.as_slice());
+        let _order = order_births(alloc, births, &seats)?;
+        if !seats.are_bodied() {
+            return Err(ReadFault::Text(TextFault::Value));
+        }
+        let keeper = LockedPins::with_slots(limits.shape(), slots);
+        Ok(Objects {
+            seats,
+            births,
+            keeper,
+        })
+    }
+}
