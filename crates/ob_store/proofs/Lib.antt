@@ -34,6 +34,7 @@ pub mod CountingLaws
 pub mod SavedSlotLaws
 pub mod SavedBirthLaws
 pub mod SavedObjectLaws
+pub mod SavingLaws
 pub mod TickLaws
 pub mod Yielding
 pub mod OpeningLaws

@@ -1,5 +1,6 @@
 -- What a save says of the objects, once the handles of the tables are counted: bodies, births, and what their keeper says.
-use Rattle.std.specs.Prelude.{ℕ, zero, suc, ◌+◌, nat_lt, ◌&&◌, Bool, true, if◌then◌else◌, List, [], ◌∷◌, length, Option, Some, None, Result, Ok, Err, is_none, is_some, slice_index_or, sum_by}
+use Rattle.std.specs.Prelude.{ℕ, zero, suc, ◌+◌, nat_lt, ◌&&◌, Bool, true, false, if◌then◌else◌, List, [], ◌∷◌, length, Option, Some, None, Result, Ok, Err, is_none, is_some, map, slice_index_or, sum_by}
+use Rattle.std.specs.List.{flat_map, range_with_len}
 use Rattle.std.specs.BTreeMap.{insert_entry, is_at}
 use Rattle.std.specs.Map.{lookup}
 use Rattle.std.specs.Ordering.{nat_cmp}
@@ -9,14 +10,18 @@ use Rattle.ob_codec.specs.Reading.{◌>>=◌, Read}
 use Rattle.pin_core.specs.declared.shape.Shape.{Shape}
 use Rattle.pin_core.specs.declared.world.Slot.{Slot}
 use Rattle.pin_core.specs.Opened.{shown_from}
+use Rattle.pin_core.specs.Worlds.{slot_of}
 use Rattle.pin_words.specs.Keepers.{KeeperState, locked}
+use Rattle.ob_body.specs.declared.body.Body.{Body}
 use Rattle.ob_tables.specs.declared.entry.Entry.{Entry}
 use Rattle.ob_waits.specs.Objects as waits
 use Rattle.ob_store.specs.declared.limits.Limits.{Limits}
+use Rattle.ob_store.specs.declared.saved_slot.SavedObject.{SavedObject}
+use Rattle.ob_store.specs.declared.saved_slot.SavedSlot.{SavedSlot}
 use Rattle.ob_store.specs.Agreement.{made_in}
 use Rattle.ob_store.specs.Counting.{counting_all}
 use Rattle.ob_store.specs.Objects.{Object, ObjectsState, Places, with_keeper}
-use Rattle.ob_store.specs.SavedSlots.{slots_at}
+use Rattle.ob_store.specs.SavedSlots.{slot_text, slots_at}
 use Rattle.ob_store.specs.State.{shape_of}
 
 -- whether a slot has a body exactly where something refers to its object
@@ -71,3 +76,24 @@ objects_at limits clock tables bytes = do
   counted ← counting_all read.0.0 tables
   objects ← whole_objects limits read.0.1 counted
   Ok (objects, read.1)
+
+-- what a save says of an object with its body, and of a slot
+abbrev pub saved_of : Object → Option Body → SavedObject
+saved_of o body = record { birth = o.birth; descr = o.descr; grant = o.grant; body = body; name = o.name }
+
+abbrev pub object_saved : Option Object → Option Body → Option SavedObject
+object_saved None body = None
+object_saved (Some o) body = Some (saved_of o body)
+
+abbrev pub slot_saved : ObjectsState → ℕ → SavedSlot
+slot_saved s k = record {
+  generation = (slot_of s.keeper.slots k).generation;
+  retired = slice_index_or s.retired k false;
+  object = object_saved (slice_index_or s.objects k None) (slice_index_or s.seen.bodies k None);
+}
+
+abbrev pub slots_saved : ObjectsState → List SavedSlot
+slots_saved s = map (slot_saved s) (range_with_len 0 s.keeper.shape.slots)
+
+abbrev pub objects_text : ObjectsState → List ℕ
+objects_text s = flat_map slot_text (slots_saved s)

@@ -41,6 +41,7 @@ mod processes;
 mod reclaiming;
 mod saved;
 mod saved_slot;
+mod saving;
 mod seat;
 mod seats;
 mod settling;

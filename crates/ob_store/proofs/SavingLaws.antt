@@ -1,0 +1,34 @@
+-- What is written one after the other.
+use Rattle.std.proofs.Common.{◌≡◌, ℕ, ◌++◌, List, Option, Some, None, append_assoc, sym, ap, ◌∙◌}
+use Rattle.std.specs.Prelude.{IfSome}
+use Rattle.std.specs.Option.{option_map}
+use Rattle.ob_body.specs.declared.body.Body.{Body}
+use Rattle.ob_store.specs.Objects.{Object}
+use Rattle.ob_store.specs.SavedObjects.{object_saved, saved_of}
+
+module _ (o a x y : List ℕ) (first : x ≡ o ++ a) where
+  pub two_behind : (b : List ℕ) → y ≡ x ++ b → y ≡ o ++ (a ++ b)
+  two_behind b second = second ∙ ap (λ (t : List ℕ). t ++ b) first ∙ append_assoc o a b
+
+pub three_behind : (o a b c x y z : List ℕ) → x ≡ o ++ a → y ≡ x ++ b → z ≡ y ++ c → z ≡ o ++ (a ++ (b ++ c))
+three_behind o a b c x y z p q r =
+    two_behind o (a ++ b) y z (two_behind o a x y p b q) c r ∙ ap (λ (t : List ℕ). o ++ t) (append_assoc a b c)
+
+pub five_behind : (o a b c d e v w x y z : List ℕ) → v ≡ o ++ a → w ≡ v ++ b → x ≡ w ++ c → y ≡ x ++ d → z ≡ y ++ e →
+    z ≡ o ++ (a ++ (b ++ (c ++ (d ++ e))))
+five_behind o a b c d e v w x y z p q r s t =
+    two_behind o (a ++ (b ++ (c ++ d))) y z
+    (two_behind o (a ++ (b ++ c)) x y (three_behind o a b c v w x p q r) d s ∙
+    ap (λ (l : List ℕ). o ++ l) (append_assoc a (b ++ c) d ∙ ap (λ (l : List ℕ). a ++ l) (append_assoc b c d))) e t
+    ∙ ap (λ (l : List ℕ). o ++ l) (append_assoc a (b ++ (c ++ d)) e ∙
+    ap (λ (l : List ℕ). a ++ l) (append_assoc b (c ++ d) e ∙ ap (λ (l : List ℕ). b ++ l) (append_assoc c d e)))
+
+-- an object that was looked up is what is saved
+pub looked_saved : {F : Type 0} (found : Option F) (object : Option Object) (body : Option Body) (to_object : F →
+    Object) (to_body : F → Option Body) →
+    object ≡ option_map to_object found → IfSome found (λ f. body ≡ to_body f) →
+    option_map (λ f. saved_of (to_object f) (to_body f)) found ≡ object_saved object body
+looked_saved None object body to_object to_body is has = sym (ap (λ (o : Option Object). object_saved o body) is)
+looked_saved (Some f) object body to_object to_body is has =
+    ap (λ (b : Option Body). Some (saved_of (to_object f) b)) (sym has) ∙
+    sym (ap (λ (o : Option Object). object_saved o body) is)

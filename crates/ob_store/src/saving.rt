@@ -1,0 +1,91 @@
+ghost use Rattle.std.specs.Prelude.{◌≡◌, ◌<◌, ◌++◌, IfSome, None, OnOk, if◌then◌else◌};
+ghost use Rattle.std.specs.Option.{option_map};
+ghost use Rattle.ob_codec.specs.Spelling.{option};
+ghost use Rattle.ob_name.specs.Spelling.{name_text};
+ghost use Rattle.pin_core.specs.Descrs.{IsGiven};
+ghost use Rattle.ob_store.specs.Objects.{object_of, tag_of};
+ghost use Rattle.ob_store.specs.SavedObjects.{objects_text, saved_of, slot_saved};
+ghost use Rattle.ob_store.specs.SavedSlots.{object_text, slot_text};
+
+use crate::found::Found;
+use crate::label::Label;
+use crate::objects::Objects;
+use crate::seat::Seat;
+use ob_codec::Spelled;
+use ob_name::Name;
+use pin_core::{Phase, write_descr};
+use pin_words::PinKeeper;
+use std::alloc::AllocError;
+
+/// Writes a name, if there is one.
+fn write_name(out: &mut Vec<u8>, is_named: bool, name: &Option<Name>) -> Result<(), AllocError>
+    ensures { OnOk result (out.new.items
+        ≡ out.old.items ++ option name_text (if is_named then name.now else None)) }
+{
+    if is_named {
+        return name.write(out);
+    }
+    out.push(0)?;
+    Ok(())
+}
+
+/// Writes an object with its body.
+fn write_object(
+    out: &mut Vec<u8>,
+    seat: &Seat,
+    label: &Label,
+    name: &Option<Name>,
+) -> Result<(), AllocError>
+    requires { IsGiven label.now.descr }
+    ensures { OnOk result (out.new.items ≡ out.old.items ++ object_text
+        (saved_of (object_of seat.now (tag_of label.now name.now)) seat.now.body)) }
+{
+    label.birth.write(out)?;
+    write_descr(out, label.descr)?;
+    seat.grant.write(out)?;
+    seat.body.write(out)?;
+    write_name(out, label.is_named, name)
+}
+
+/// Writes a flag, and an object where there is one.
+fn write_found(out: &mut Vec<u8>, found: Option<Found<'_>>) -> Result<(), AllocError>
+    requires { IfSome found (λ found. IsGiven found.label.now.descr) }
+    ensures { OnOk result (out.new.items ≡ out.old.items ++ option object_text
+        (option_map (λ found. saved_of (object_of found.seat.now (tag_of found.label.now found.name.now))
+        found.seat.now.body) found.entry)) }
+{
+    match found {
+        Some(found) => {
+            out.push(1)?;
+            write_object(out, found.seat, found.label, found.name)
+        }
+        None => {
+            out.push(0)?;
+            Ok(())
+        }
+    }
+}
+
+impl<K: PinKeeper> Objects<K> {
+    /// Writes a slot with its object.
+    fn write_slot(&self, out: &mut Vec<u8>, slot: u32) -> Result<(), AllocError>
+        requires { slot < self.now.keeper.shape.slots }
+        ensures { OnOk result (out.new.items ≡ out.old.items ++ slot_text (slot_saved self.now slot)) }
+    {
+        let retired = self.keeper.phase(slot) == Phase::Retired;
+        self.keeper.generation(slot).write(out)?;
+        retired.write(out)?;
+        write_found(out, self.seats.look(slot))
+    }
+
+    /// Writes the slots with their objects behind some bytes, as [`read`](Objects::read) reads them. Pins aren't
+    /// written. Where memory was wanting, part of it may stand there.
+    pub fn write(&self, out: &mut Vec<u8>) -> Result<(), AllocError>
+        ensures { OnOk result (out.new.items ≡ out.old.items ++ objects_text self.now) }
+    {
+        for slot in 0..self.slots() {
+            self.write_slot(out, slot)?;
+        }
+        Ok(())
+    }
+}
