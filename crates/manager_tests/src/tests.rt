@@ -9,6 +9,7 @@ mod flags;
 mod pinning;
 mod playing;
 mod refusing;
+mod saved;
 mod schedules;
 mod store;
 mod timing;
