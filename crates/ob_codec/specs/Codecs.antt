@@ -170,7 +170,7 @@ module _ {A : Type 0} {spell : A → List ℕ} {read : List ℕ → Read A} {Fit
   pub option_codec : IsCodec (option spell) (option_at read) (OptionFits Fits)
   option_codec = record { again = option_again; takes = option_takes }
 
-  items_again : (xs : List A) (rest : List ℕ) → AllByRecursion Fits xs
+  pub items_again : (xs : List A) (rest : List ℕ) → AllByRecursion Fits xs
       → items_at read (length xs) (flat_map spell xs ++ rest) ≡ Ok (xs, rest)
   unfolding items_at
   items_again [] rest fits = refl
@@ -180,7 +180,7 @@ module _ {A : Type 0} {spell : A → List ℕ} {read : List ℕ → Read A} {Fit
       ap (items_at read (suc (length xs))) regrouped
       ∙ rw (is.again x (flat_map spell xs ++ rest) fits.0, items_again xs rest fits.1) refl
 
-  items_take : (n : ℕ) (bytes : List ℕ) (xs : List A) (rest : List ℕ) → AreBytes bytes
+  pub items_take : (n : ℕ) (bytes : List ℕ) (xs : List A) (rest : List ℕ) → AreBytes bytes
       → items_at read n bytes ≡ Ok (xs, rest)
       → Takes bytes (flat_map spell xs) rest × (length xs ≡ n) × AllByRecursion Fits xs
   unfolding items_at

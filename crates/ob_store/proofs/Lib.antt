@@ -35,6 +35,7 @@ pub mod SavedSlotLaws
 pub mod SavedBirthLaws
 pub mod SavedObjectLaws
 pub mod SavingLaws
+pub mod SavedCodecs
 pub mod TickLaws
 pub mod Yielding
 pub mod OpeningLaws

@@ -68,7 +68,7 @@ all_bodied o n bodies handles blocks all = record {
     by false None e = refl
     by false (Some b) e = absurd (cc e)
 
-abbrev none_saved : SavedSlot
+abbrev pub none_saved : SavedSlot
 none_saved = record { generation = 0; retired = false; object = None }
 
 object-at : (j k : ℕ) (xs : List SavedSlot) → k < length xs → get_or (objects_from j xs) k None ≡
@@ -140,20 +140,20 @@ module _ (n max_gen clock : ℕ) (p : Places) (slots : List Slot) (r : AreRead n
   blocks-long = ap (λ (z : Places). length z.seen.blocks) counts.same ∙
       ap (λ (z : Places). length z.seen.blocks) r.places ∙ length-replicate {A = ℕ} (length r.xs) 0 ∙ r.long
 
-  object-here : (k : ℕ) → k < n → get_or q.objects k None ≡ object_from k (at k)
+  pub object-here : (k : ℕ) → k < n → get_or q.objects k None ≡ object_from k (at k)
   object-here k lt = ap (λ (z : List (Option Object)). get_or z k None) objects-are
       ∙ object-at 0 k r.xs (omega (arith, lt, r.long)) ∙ ap (λ (j : ℕ). object_from j (at k)) (let e : 0 + k ≡ k =
       omega arith in e)
 
-  body-here : (k : ℕ) → k < n → get_or q.seen.bodies k None ≡ body_from (at k)
+  pub body-here : (k : ℕ) → k < n → get_or q.seen.bodies k None ≡ body_from (at k)
   body-here k lt = ap (λ (z : List (Option Body)). get_or z k None) bodies-are ∙
       get_or-map body_from r.xs k none_saved None (omega (arith, lt, r.long))
 
-  retired-here : (k : ℕ) → k < n → get_or q.retired k false ≡ (at k).retired
+  pub retired-here : (k : ℕ) → k < n → get_or q.retired k false ≡ (at k).retired
   retired-here k lt = ap (λ (z : List Bool). get_or z k false) retired-are ∙
       get_or-map is_retired r.xs k none_saved false (omega (arith, lt, r.long))
 
-  slot-here : (k : ℕ) → k < n → slot_of slots k ≡ keeper_slot (at k)
+  pub slot-here : (k : ℕ) → k < n → slot_of slots k ≡ keeper_slot (at k)
   slot-here k lt = ap (λ (z : List Slot). slot_of z k) r.slots_are ∙
       get_or-map keeper_slot r.xs k none_saved opening_slot (omega (arith, lt, r.long))
 
@@ -237,7 +237,7 @@ module _ (limits : Limits) (clock : ℕ) (tables : List (List (Option Entry))) (
   are : AreRead limits.slots limits.max_gen clock p slots
   are = slots-are-read limits.slots limits.max_gen clock bytes p slots rest read
 
-  counts : Counts p q (λ k. slot_handles k tables) (λ id. 0 < handles_among id tables)
+  pub counts : Counts p q (λ k. slot_handles k tables) (λ id. 0 < handles_among id tables)
   counts = tables_count p q tables
       (subst IsWide (sym are.places) (objects-long 0 are.xs ∙ sym (length-replicate {A = ℕ} (length are.xs) 0))) counted
 

@@ -1,0 +1,107 @@
+-- Slots are read as they were spelled, and the objects that are read were spelled so.
+use Rattle.std.proofs.Common.{◌≡◌, ℕ, ◌<◌, false, cond, List, [], length, get_or, Option, Some, None, Ok, Err, refl, sym, ap, ◌∙◌, subst, arith}
+use Rattle.std.specs.Prelude.{sum_by}
+use Rattle.std.specs.List.{flat_map}
+use Rattle.std.proofs.lemmas.List.{ext_get_or}
+use Rattle.std.proofs.lemmas.List.FromFn.{get_or-map-range_with_len, length-map-range_with_len}
+use Rattle.ob_codec.specs.Codecs.{as_codec, both_codec, flag_codec, items_take, option_codec, u32_codec, u64_codec, where_codec}
+use Rattle.ob_codec.specs.Laws.{IsCodec, Takes}
+use Rattle.ob_codec.specs.Reading.{◌>>=◌, items_at}
+use Rattle.ob_codec.specs.Spelling.{AreBytes}
+use Rattle.ob_codec.specs.Steps.{bind_ok, guard_passed, ok_is}
+use Rattle.ob_codec.specs.declared.fault.TextFault.TheVariants.{Value}
+use Rattle.ob_name.specs.SpellingLaws.{name_codec}
+use Rattle.ob_rights.specs.SpellingLaws.{rights_codec}
+use Rattle.pin_core.specs.SpellingLaws.{descr_codec}
+use Rattle.pin_core.specs.declared.id.Id.{Id}
+use Rattle.pin_core.specs.declared.world.Slot.{Slot}
+use Rattle.pin_core.specs.Worlds.{slot_of}
+use Rattle.ob_body.specs.SpellingLaws.{body_codec}
+use Rattle.ob_tables.specs.declared.entry.Entry.{Entry}
+use Rattle.ob_store.proofs.CountingLaws.{Counts}
+use Rattle.ob_store.proofs.SavedObjectLaws.{AreRead, body-here, counts, none_saved, object-here, retired-here, slot-here}
+use Rattle.ob_store.proofs.SavedSlotLaws.{IsSound, items_all, slot_generation, slot_sound}
+use Rattle.ob_store.specs.declared.limits.Limits.{Limits}
+use Rattle.ob_store.specs.declared.saved_slot.SavedObject.{SavedObject}
+use Rattle.ob_store.specs.declared.saved_slot.SavedSlot.{SavedSlot}
+use Rattle.ob_store.specs.Agreement.{made_in}
+use Rattle.ob_store.specs.Counting.{counting_all}
+use Rattle.ob_store.specs.Objects.{ObjectsState, Places}
+use Rattle.ob_store.specs.SavedObjects.{Births, are_bodied, births_from, object_saved, objects_at, objects_text, slot_saved, slots_saved, whole_objects, with_slots}
+use Rattle.ob_store.specs.SavedSlots as saved
+use Rattle.ob_store.specs.SavedSlots.{ObjectFits, SlotFits, any_slot_at, object_at, object_parts, object_text, slot_at, slot_parts, slot_stands, slot_text, slots_at, slots_from}
+
+pub object_codec : IsCodec object_text object_at ObjectFits
+object_codec = as_codec saved.object_of object_parts (λ _. refl) (λ _. refl)
+    (both_codec u64_codec (both_codec descr_codec (both_codec rights_codec (both_codec (option_codec body_codec) (option_codec name_codec)))))
+
+pub slot_codec : (max_gen clock : ℕ) → IsCodec slot_text (slot_at max_gen clock) (SlotFits max_gen clock)
+slot_codec max_gen clock = where_codec
+    (as_codec saved.slot_of slot_parts (λ _. refl) (λ _. refl) (both_codec u32_codec (both_codec flag_codec (option_codec object_codec))))
+    (slot_stands max_gen clock)
+
+-- an object that was put into its slot is saved as it was
+saved-back : (id : Id) (o : Option SavedObject) → object_saved (saved.object_in_slot id o) (saved.body_in o) ≡ o
+saved-back id None = refl
+saved-back id (Some o) = refl
+
+module _ (n max_gen clock : ℕ) (p : Places) (slots : List Slot) (r : AreRead n max_gen clock p slots) (q : Places)
+    (more : ℕ → ℕ) (Named : Id → Type 0) (counts : Counts p q more Named) (limits : Limits) (wide : n ≡
+    limits.slots) where
+  slot-back : (k : ℕ) → k < n → slot_saved (with_slots q limits slots) k ≡ get_or r.xs k none_saved
+  slot-back k lt =
+      let x = get_or r.xs k none_saved in
+      let generation : (slot_of slots k).generation ≡ x.generation =
+      ap (λ (y : Slot). y.generation) (slot-here n max_gen clock p slots r q more Named counts k lt) ∙
+      slot_generation max_gen clock x (r.sound k lt) in
+      let retired : get_or q.retired k false ≡ x.retired =
+      retired-here n max_gen clock p slots r q more Named counts k lt in
+      let object : object_saved (get_or q.objects k None) (get_or q.seen.bodies k None) ≡ x.object =
+      (λ i. object_saved (object-here n max_gen clock p slots r q more Named counts k lt i) (body-here n max_gen clock p slots r q more Named counts k lt i))
+      ∙ saved-back (record { slot = k; generation = x.generation }) x.object in
+      λ i. record { generation = generation i; retired = retired i; object = object i }
+
+  -- the slots that were read are what is saved again
+  pub slots_back : slots_saved (with_slots q limits slots) ≡ r.xs
+  slots_back =
+      let long : length (slots_saved (with_slots q limits slots)) ≡ limits.slots =
+      length-map-range_with_len (slot_saved (with_slots q limits slots)) 0 limits.slots in
+      ext_get_or none_saved (slots_saved (with_slots q limits slots)) r.xs (long ∙ sym wide ∙ sym r.long)
+      (λ k lt. (let within : k < n = omega (arith, lt, long, wide) in
+      get_or-map-range_with_len (slot_saved (with_slots q limits slots)) 0 limits.slots k k none_saved (omega (
+        arith,
+        within,
+        wide,
+      )) (omega arith)
+      ∙ slot-back k within))
+
+-- what is read is the spelling of the objects that it gives
+pub objects_take : (limits : Limits) (clock : ℕ) (tables : List (List (Option Entry))) (bytes : List ℕ) (s : ObjectsState) (rest : List ℕ) → AreBytes bytes →
+    objects_at limits clock tables bytes ≡ Ok (s, rest) → Takes bytes (objects_text s) rest
+objects_take limits clock tables bytes s rest are e =
+    let a = bind_ok (slots_at limits.slots limits.max_gen clock bytes) _ (s, rest) e in
+    let b = bind_ok (counting_all a.0.0.0 tables) (λ (q : Places). whole_objects limits a.0.0.1 q >>= λ (o : ObjectsState). Ok (o, a.0.1)) (s, rest) a.2 in
+    let c = bind_ok (whole_objects limits a.0.0.1 b.0) (λ (o : ObjectsState). Ok (o, a.0.1)) (s, rest) b.2 in
+    let d = bind_ok (births_from (sum_by made_in a.0.0.1) [] 0 b.0.objects) (λ (order : Births). cond (are_bodied b.0.seen (length b.0.objects)) (Ok (with_slots b.0 limits a.0.0.1)) (Err Value)) c.0 c.1 in
+    let g = guard_passed (are_bodied b.0.seen (length b.0.objects)) Value (with_slots b.0 limits a.0.0.1) c.0 d.2 in
+    let q = ok_is (c.0, a.0.1) (s, rest) c.2 in
+    let i = bind_ok (items_at (slot_at limits.max_gen clock) limits.slots bytes) (λ (xs : List SavedSlot ×
+    List ℕ). Ok (slots_from xs.0, xs.1)) a.0 a.1 in
+    let back = ok_is (slots_from i.0.0, i.0.1) a.0 i.2 in
+    let all = items_all (slot_at limits.max_gen clock) (IsSound limits.max_gen clock) (slot_sound limits.max_gen clock) none_saved limits.slots bytes i.0.0 i.0.1 i.1 in
+    let r : AreRead limits.slots limits.max_gen clock a.0.0.0 a.0.0.1 = record {
+      xs = i.0.0;
+      long = all.0;
+      sound = all.1;
+      places = sym (ap (λ (z : (Places × List Slot) × List ℕ). z.0.0) back);
+      slots_are = sym (ap (λ (z : (Places × List Slot) × List ℕ). z.0.1) back);
+    } in
+    let taken = (items_take (slot_codec limits.max_gen clock) limits.slots bytes i.0.0 i.0.1 are i.1).0 in
+    subst (λ (z : ObjectsState × List ℕ). Takes bytes (objects_text z.0) z.1) (ap (λ (z : ObjectsState). (
+      z,
+      a.0.1,
+    )) g.1 ∙ q)
+    (subst (λ (xs : List SavedSlot). Takes bytes (flat_map slot_text xs) a.0.1)
+    (sym (slots_back limits.slots limits.max_gen clock a.0.0.0 a.0.0.1 r b.0 _ _ (counts limits clock tables bytes a.0.0.0 b.0 a.0.0.1 a.0.1 a.1 b.1) limits refl))
+    (subst (λ (t : List ℕ). Takes bytes (flat_map slot_text i.0.0) t) (ap (λ (z : (Places × List Slot) ×
+    List ℕ). z.1) back) taken))
