@@ -38,17 +38,21 @@ use Rattle.ob_store.proofs.PlacedLaws.{unreferenced}
 use Rattle.ob_store.proofs.KeptLaws.{processes_same}
 
 -- a slot without an object has no body
-pub bodiless : (s : ObjectsState) (k : ℕ) → object_at s k ≡ None → k < length s.objects → IsAgreed s → body_at s k ≡ None
+pub bodiless : (s : ObjectsState) (k : ℕ) → object_at s k ≡ None → k < length s.objects → IsAgreed s
+    → body_at s k ≡ None
 bodiless s k none room a =
     let long = a.long in
-    (subst (λ (o : Option Object). Agrees k o (body_at s k) (retired_at s k) (slot_at s k)) none (a.each k (omega (arith, room, long)))).0
+    (subst (λ (o : Option Object). Agrees k o (body_at s k) (retired_at s k) (slot_at s k)) none
+    (a.each k (omega (arith, room, long)))).0
 
 -- the Id that the state gives to the next object of a slot is that of the keeper
-pub next_id : (slots : List Slot) (k : ℕ) → ◌≡◌ {A = Id} (record { slot = k; generation = get_or (map generation_of slots) k 1 }) (id_of slots k)
+pub next_id : (slots : List Slot) (k : ℕ) → ◌≡◌ {A =
+    Id} (record { slot = k; generation = get_or (map generation_of slots) k 1 }) (id_of slots k)
 next_id slots k = λ i. record { slot = k; generation = (get_or-map generation_of slots k opening_slot) i }
 
 -- a new object leaves the generations
-ages_added : (o : ObjectsState) (slot : ℕ) (head : Head) (body : Body) → map generation_of (with_object o slot head body).keeper.slots ≡ map generation_of o.keeper.slots
+ages_added : (o : ObjectsState) (slot : ℕ) (head : Head) (body : Body)
+    → map generation_of (with_object o slot head body).keeper.slots ≡ map generation_of o.keeper.slots
 ages_added o slot head body =
     let slots : List Slot = set o.keeper.slots slot (with_descr (slot_at o slot) head.descr) in
     map-set_same generation_of slots slot (in_phase (slot_of slots slot) phase.Live) opening_slot refl
@@ -56,17 +60,36 @@ ages_added o slot head body =
 
 -- the state with a new object and an entry of it
 abbrev pub with_added : State → ℕ → ℕ → Rights → HandleFlags → Head → Body → State
-with_added s p slot rights flags head body = state.with_entry (state.with_object s slot head body) p (record { id = id_at s slot; rights = rights; flags = flags })
+with_added s p slot rights flags head body = state.with_entry (state.with_object s slot head body) p
+    (record { id = id_at s slot; rights = rights; flags = flags })
 
-pub added_state : (p : PartsState) (process slot : ℕ) (rights : Rights) (flags : HandleFlags) (head : Head) (body : Body) (rows : Rows)
-    → state_of (record p { tables = record p.tables { tables = with_entry_of p.tables.tables process (record { id = id_of p.objects.keeper.slots slot; rights = rights; flags = flags }) }; objects = with_object p.objects slot head body; rows = rows })
+pub added_state : (p : PartsState) (process slot : ℕ) (rights : Rights) (flags : HandleFlags) (head : Head)
+    (body : Body) (rows : Rows)
+    → state_of (record p {
+      tables = record p.tables {
+        tables =
+            with_entry_of p.tables.tables process (record {
+              id = id_of p.objects.keeper.slots slot;
+              rights = rights;
+              flags = flags;
+            });
+      };
+      objects = with_object p.objects slot head body;
+      rows = rows;
+    })
     ≡ with_added (state_of p) process slot rights flags head body
 added_state p process slot rights flags head body rows =
     let own = sym (next_id p.objects.keeper.slots slot) in
     let ages = ages_added p.objects slot head body in
     λ i. record (state_of p) {
       tables = with_entry_of p.tables.tables process (record { id = own i; rights = rights; flags = flags });
-      objects = set p.objects.objects slot (Some (record { id = own i; birth = p.objects.births; descr = head.descr; grant = head.grant; name = head.name }));
+      objects = set p.objects.objects slot (Some (record {
+        id = own i;
+        birth = p.objects.births;
+        descr = head.descr;
+        grant = head.grant;
+        name = head.name;
+      }));
       bodies = set p.objects.seen.bodies slot (Some body);
       generations = ages i;
       births = p.objects.births + 1;
@@ -82,7 +105,11 @@ module _ (p : PartsState) (kept : IsKept p) (tied : IsTied p.objects)
   entry = record { id = id_of p.objects.keeper.slots slot; rights = rights; flags = flags }
 
   abbrev pub added : Rows → PartsState
-  added rows = record p { tables = record p.tables { tables = with_entry_of p.tables.tables process entry }; objects = with_object p.objects slot head body; rows = rows }
+  added rows = record p {
+    tables = record p.tables { tables = with_entry_of p.tables.tables process entry };
+    objects = with_object p.objects slot head body;
+    rows = rows;
+  }
 
   abbrev o : ObjectsState
   o = p.objects
@@ -97,21 +124,31 @@ module _ (p : PartsState) (kept : IsKept p) (tied : IsTied p.objects)
   no_references = unreferenced o slot (bodiless o slot none within tied.agreed) tied
 
   unnamed : slot_blocks slot p.waits.waits ≡ 0
-  unnamed = sym (blocks_at o.seen (length o.objects) p.tables.tables p.waits.waits kept.sound.counted slot within) ∙ no_references.1
+  unnamed = sym (blocks_at o.seen (length o.objects) p.tables.tables p.waits.waits kept.sound.counted slot within)
+      ∙ no_references.1
 
   -- what is kept, whichever names are entered
-  pub kept_added : (rows : Rows) → IsListing rows (with_entry_of p.tables.tables process entry) (with_object p.objects slot head body).objects (p.objects.births + 1) → IsKept (added rows)
+  pub kept_added : (rows : Rows) → IsListing rows (with_entry_of p.tables.tables process entry)
+      (with_object p.objects slot head body).objects (p.objects.births + 1) → IsKept (added rows)
   kept_added rows listing =
-      let bodied : slot < length o.seen.bodies = (let a = tied.agreed.long in let b = tied.agreed.bodied in omega (arith, within, a, b)) in
+      let bodied : slot < length o.seen.bodies = (let a = tied.agreed.long in let b = tied.agreed.bodied in
+      omega (arith, within, a, b)) in
       let sound = kept.sound in
       record {
         sound = record {
           limited = sound.limited;
-          processes_kept = processes_same p.limits p.processes (length p.tables.tables) (length (with_entry_of p.tables.tables process entry)) (length-set p.tables.tables process _) sound.processes_kept;
-          counted = subst (λ (n : ℕ). IsCounted (with_object o slot head body).seen n (with_entry_of p.tables.tables process entry) p.waits.waits) (sym (length-set o.objects slot (Some (object_in o slot head))))
-              (counted_added o.seen (length o.objects) p.tables.tables p.waits.waits sound.counted (set o.seen.bodies slot (Some body)) process entry table within no_references.0 no_references.1);
-          named = named_added o.objects p.tables.tables p.waits.waits sound.named process entry (object_in o slot head) table refl none within;
-          formed = formed_added o.seen.bodies slot body p.waits.clock o.objects (object_in o slot head) within bodied formed sound.formed;
+          processes_kept = processes_same p.limits p.processes (length p.tables.tables)
+              (length (with_entry_of p.tables.tables process entry))
+              (length-set p.tables.tables process _) sound.processes_kept;
+          counted = subst (λ (n : ℕ). IsCounted (with_object o slot head body).seen n
+              (with_entry_of p.tables.tables process entry) p.waits.waits)
+              (sym (length-set o.objects slot (Some (object_in o slot head))))
+              (counted_added o.seen (length o.objects) p.tables.tables p.waits.waits sound.counted
+              (set o.seen.bodies slot (Some body)) process entry table within no_references.0 no_references.1);
+          named = named_added o.objects p.tables.tables p.waits.waits sound.named process entry
+              (object_in o slot head) table refl none within;
+          formed = formed_added o.seen.bodies slot body p.waits.clock o.objects
+              (object_in o slot head) within bodied formed sound.formed;
           of_live = of_live_added o.seen.bodies slot body p.processes.threads p.waits.waits owned sound.of_live;
           room = room_unnamed p.limits.max_recursion o.seen.bodies p.waits.waits slot (Some body) unnamed sound.room;
           listing = listing;
@@ -121,8 +158,13 @@ module _ (p : PartsState) (kept : IsKept p) (tied : IsTied p.objects)
 
   pub kept_nameless : head.name ≡ None → IsKept (added p.rows)
   kept_nameless nameless = kept_added p.rows
-      (listing_added p.rows p.tables.tables o.objects o.births kept.sound.listing (placed_agreed o tied.agreed) process entry (object_in o slot head) tied.born table refl refl nameless none within)
+      (listing_added p.rows p.tables.tables o.objects o.births kept.sound.listing
+      (placed_agreed o tied.agreed) process entry
+      (object_in o slot head) tied.born table refl refl nameless none within)
 
-  pub kept_name : (name : ObjectName) → head.name ≡ Some name → find_name name p.rows ≡ None → IsKept (added (p.rows ++ (name, id_of p.objects.keeper.slots slot) ∷ []))
+  pub kept_name : (name : ObjectName) → head.name ≡ Some name → find_name name p.rows ≡ None
+      → IsKept (added (p.rows ++ (name, id_of p.objects.keeper.slots slot) ∷ []))
   kept_name name named absent = kept_added (p.rows ++ (name, id_of o.keeper.slots slot) ∷ [])
-      (listing_name_added p.rows p.tables.tables o.objects o.births kept.sound.listing (placed_agreed o tied.agreed) process entry (object_in o slot head) name tied.born table refl refl named none within absent)
+      (listing_name_added p.rows p.tables.tables o.objects o.births kept.sound.listing
+      (placed_agreed o tied.agreed) process entry
+      (object_in o slot head) name tied.born table refl refl named none within absent)

@@ -18,10 +18,14 @@ use Rattle.ob_store.specs.Agreement.{made_by, made_in, AreBorn}
 abbrev pub AreAged : ℕ → ℕ → List Slot → Type 0
 AreAged n last slots = (k : ℕ) → k < n → (1 ≤ (slot_of slots k).generation) × ((slot_of slots k).generation ≤ last)
 
-pub aged_set : (n last : ℕ) (slots : List Slot) (i : ℕ) (y : Slot) → i < length slots → 1 ≤ y.generation → y.generation ≤ last → AreAged n last slots → AreAged n last (set slots i y)
+pub aged_set : (n last : ℕ) (slots : List Slot) (i : ℕ) (y : Slot) → i < length slots → 1 ≤ y.generation
+    → y.generation ≤ last → AreAged n last slots → AreAged n last (set slots i y)
 aged_set n last slots i y within first most aged k lt = elim (cases_eq k i) [
-  | inl same ↦ subst (λ (x : Slot). (1 ≤ x.generation) × (x.generation ≤ last)) (sym (ap (slot_of (set slots i y)) same ∙ get_or-set_same slots i y opening_slot within)) (first, most)
-  | inr other ↦ subst (λ (x : Slot). (1 ≤ x.generation) × (x.generation ≤ last)) (sym (get_or-set_other slots i k y opening_slot other)) (aged k lt)
+  | inl same ↦ subst (λ (x : Slot). (1 ≤ x.generation)
+      × (x.generation ≤ last)) (sym (ap (slot_of (set slots i y)) same ∙ get_or-set_same slots i y opening_slot within))
+      (first, most)
+  | inr other ↦ subst (λ (x : Slot). (1 ≤ x.generation)
+      × (x.generation ≤ last)) (sym (get_or-set_other slots i k y opening_slot other)) (aged k lt)
 ]
 
 -- each slot is one that a keeper may begin with
@@ -31,18 +35,22 @@ opens_set shape slots i y new old = record {
   wide = length-set slots i y ∙ old.wide;
   each = λ k lt. elim (cases_eq k i) [
     | inl same ↦ (let within : i < length slots = omega (arith, lt, same, old.wide) in
-        let is : slot_of (set slots i y) k ≡ y = ap (slot_of (set slots i y)) same ∙ get_or-set_same slots i y opening_slot within in
+        let is : slot_of (set slots i y) k ≡ y = ap (slot_of (set slots i y)) same
+        ∙ get_or-set_same slots i y opening_slot within in
         subst (SlotOpens shape.max_gen) (sym is) new)
-    | inr other ↦ subst (SlotOpens shape.max_gen) (sym (get_or-set_other slots i k y opening_slot other)) (old.each k lt)
+    | inr other ↦ subst (SlotOpens shape.max_gen) (sym (get_or-set_other slots i k y opening_slot other))
+        (old.each k lt)
   ];
 }
 
 -- a slot that changes and had as many objects as before
-pub made_set : (slots : List Slot) (i : ℕ) (y : Slot) → i < length slots → made_in y ≡ made_in (slot_of slots i) → sum_by made_in (set slots i y) ≡ sum_by made_in slots
+pub made_set : (slots : List Slot) (i : ℕ) (y : Slot) → i < length slots → made_in y ≡ made_in (slot_of slots i)
+    → sum_by made_in (set slots i y) ≡ sum_by made_in slots
 made_set slots i y within same = let sum = sum_by-set made_in slots i y opening_slot within in omega (arith, sum, same)
 
 -- or one more
-pub made_more : (slots : List Slot) (i : ℕ) (y : Slot) → i < length slots → made_in y ≡ made_in (slot_of slots i) + 1 → sum_by made_in (set slots i y) ≡ sum_by made_in slots + 1
+pub made_more : (slots : List Slot) (i : ℕ) (y : Slot) → i < length slots → made_in y ≡ made_in (slot_of slots i) + 1
+    → sum_by made_in (set slots i y) ≡ sum_by made_in slots + 1
 made_more slots i y within more = let sum = sum_by-set made_in slots i y opening_slot within in omega (arith, sum, more)
 
 made_few : (p : Phase) (generation : ℕ) → made_by p generation ≤ generation
@@ -52,15 +60,18 @@ made_few Closing generation = omega arith
 made_few Retired generation = omega arith
 
 -- a slot has no more objects than generations, so a count of 64 bits has room
-pub made_bound : (slots : List Slot) (last : ℕ) → length slots ≤ 65536 → last ≤ 4294967295 → AreAged (length slots) last slots → sum_by made_in slots ≤ 281474976645120
+pub made_bound : (slots : List Slot) (last : ℕ) → length slots ≤ 65536 → last ≤ 4294967295
+    → AreAged (length slots) last slots → sum_by made_in slots ≤ 281474976645120
 made_bound slots last few most aged =
     let all = All-from_get_or (λ (x : Slot). made_in x ≤ 4294967295) slots opening_slot
-    (λ i lt. let x : Slot = slot_of slots i in let y = made_few x.phase x.generation in let z : x.generation ≤ last = (aged i lt).1 in omega (arith, y, z, most)) in
+    (λ i lt. let x : Slot = slot_of slots i in let y = made_few x.phase x.generation in
+    let z : x.generation ≤ last = (aged i lt).1 in omega (arith, y, z, most)) in
     let sum = sum_by-le made_in 4294967295 slots all in
     omega (arith, sum, few)
 
 -- objects that stay, or leave
-pub born_gone : (objects : List (Option Object)) (births k : ℕ) → AreBorn objects births → AreBorn (set objects k None) births
+pub born_gone : (objects : List (Option Object)) (births k : ℕ) → AreBorn objects births
+    → AreBorn (set objects k None) births
 born_gone objects births k born = record {
   below = λ j o is. born.below j o (before j o is);
   apart = λ i j o p is it same. born.apart i j o p (before i o is) (before j p it) same;
@@ -69,14 +80,17 @@ born_gone objects births k born = record {
     before : (j : ℕ) (o : Object) → get_or (set objects k None) j None ≡ Some o → get_or objects j None ≡ Some o
     before j o is = elim (cases_eq j k) [
       | inl here ↦ elim (cases_lt k (length objects)) [
-        | inl lt ↦ absurd (let e = ap (λ i. get_or (set objects k None) i None) here ∙ get_or-set_same objects k None None lt in cc (e, is))
-        | inr le ↦ absurd (let e = get_or_past (set objects k None) j None (omega (arith, length-set objects k None, here)) in cc (e, is))
+        | inl lt ↦ absurd (let e = ap (λ i. get_or (set objects k None) i None) here
+            ∙ get_or-set_same objects k None None lt in cc (e, is))
+        | inr le ↦ absurd (let e = get_or_past (set objects k None) j None
+            (omega (arith, length-set objects k None, here)) in cc (e, is))
       ]
       | inr other ↦ sym (get_or-set_other objects k j None None other) ∙ is
     ]
 
 -- a new object, whose number is the count
-pub born_added : (objects : List (Option Object)) (births k : ℕ) (n : Object) → n.birth ≡ births → k < length objects → AreBorn objects births → AreBorn (set objects k (Some n)) (births + 1)
+pub born_added : (objects : List (Option Object)) (births k : ℕ) (n : Object) → n.birth ≡ births → k < length objects
+    → AreBorn objects births → AreBorn (set objects k (Some n)) (births + 1)
 born_added objects births k n first within born = record {
   below = λ j o is. elim (cases_eq j k) [
     | inl here ↦ (let e = new j o here is in omega (arith, e, first))
@@ -85,10 +99,12 @@ born_added objects births k n first within born = record {
   apart = λ i j o p is it same. elim (cases_eq i k) [
     | inl here ↦ elim (cases_eq j k) [
       | inl there ↦ here ∙ sym there
-      | inr other ↦ absurd (let e = new i o here is in let f = born.below j p (old j p other it) in omega (arith, e, f, same, first))
+      | inr other ↦ absurd (let e = new i o here is in let f = born.below j p (old j p other it) in
+          omega (arith, e, f, same, first))
     ]
     | inr other ↦ elim (cases_eq j k) [
-      | inl there ↦ absurd (let e = new j p there it in let f = born.below i o (old i o other is) in omega (arith, e, f, same, first))
+      | inl there ↦ absurd (let e = new j p there it in let f = born.below i o (old i o other is) in
+          omega (arith, e, f, same, first))
       | inr others ↦ born.apart i j o p (old i o other is) (old j p others it) same
     ]
   ];
@@ -99,7 +115,9 @@ born_added objects births k n first within born = record {
     number (Some o) = o.birth
 
     new : (j : ℕ) (o : Object) → j ≡ k → get_or (set objects k (Some n)) j None ≡ Some o → o.birth ≡ n.birth
-    new j o here is = let e : Some o ≡ Some n = sym is ∙ ap (λ i. get_or (set objects k (Some n)) i None) here ∙ get_or-set_same objects k (Some n) None within in ap number e
+    new j o here is = let e : Some o ≡ Some n = sym is ∙ ap (λ i. get_or (set objects k (Some n)) i None) here
+        ∙ get_or-set_same objects k (Some n) None within in ap number e
 
-    old : (j : ℕ) (o : Object) → j ≢ k → get_or (set objects k (Some n)) j None ≡ Some o → get_or objects j None ≡ Some o
+    old : (j : ℕ) (o : Object) → j ≢ k → get_or (set objects k (Some n)) j None ≡ Some o
+        → get_or objects j None ≡ Some o
     old j o other is = sym (get_or-set_other objects k j (Some n) None other) ∙ is

@@ -8,28 +8,34 @@ use Rattle.ob_waits.specs.Waits.{slot_places}
 use Rattle.ob_store.specs.Objects.{ObjectsState, with_block_of, with_blocks_of}
 
 -- all but the counts of blocks
-pub came_stays : (ids : List Id) (s : ObjectsState) → with_blocks_of s ids ≡ record s { seen = record s.seen { blocks = (with_blocks_of s ids).seen.blocks } }
+pub came_stays : (ids : List Id) (s : ObjectsState)
+    → with_blocks_of s ids ≡ record s { seen = record s.seen { blocks = (with_blocks_of s ids).seen.blocks } }
 came_stays [] s = refl
 came_stays (id ∷ ids) s = came_stays ids (with_block_of s id.slot)
 
 pub came_long : (ids : List Id) (s : ObjectsState) → length (with_blocks_of s ids).seen.blocks ≡ length s.seen.blocks
 came_long [] s = refl
-came_long (id ∷ ids) s = came_long ids (with_block_of s id.slot) ∙ length-set s.seen.blocks id.slot (get_or s.seen.blocks id.slot 0 + 1)
+came_long (id ∷ ids) s = came_long ids (with_block_of s id.slot)
+    ∙ length-set s.seen.blocks id.slot (get_or s.seen.blocks id.slot 0 + 1)
 
-pub came_one : (blocks : List ℕ) (i k : ℕ) → k < length blocks → (here : Bool) → eqb i k ≡ here → get_or (set blocks i (get_or blocks i 0 + 1)) k 0 ≡ get_or blocks k 0 + cond here 1 0
+pub came_one : (blocks : List ℕ) (i k : ℕ) → k < length blocks → (here : Bool) → eqb i k ≡ here
+    → get_or (set blocks i (get_or blocks i 0 + 1)) k 0 ≡ get_or blocks k 0 + cond here 1 0
 came_one blocks i k lt true is =
     let same : i ≡ k = grind (arith, nat_tests, is) in
-    ap (λ j. get_or (set blocks j (get_or blocks j 0 + 1)) k 0) same ∙ get_or-set_same blocks k (get_or blocks k 0 + 1) 0 lt
+    ap (λ j. get_or (set blocks j (get_or blocks j 0 + 1)) k 0) same
+    ∙ get_or-set_same blocks k (get_or blocks k 0 + 1) 0 lt
 came_one blocks i k lt false is =
     let other : k ≢ i = (λ e. absurd (grind (arith, nat_tests, is, e))) in
     let stays = get_or-set_other blocks i k (get_or blocks i 0 + 1) 0 other in
     omega (arith, stays)
 
 -- a slot counts as many more as the list has places of it
-pub came_counts : (ids : List Id) (s : ObjectsState) (k : ℕ) → k < length s.seen.blocks → get_or (with_blocks_of s ids).seen.blocks k 0 ≡ get_or s.seen.blocks k 0 + slot_places k ids
+pub came_counts : (ids : List Id) (s : ObjectsState) (k : ℕ) → k < length s.seen.blocks
+    → get_or (with_blocks_of s ids).seen.blocks k 0 ≡ get_or s.seen.blocks k 0 + slot_places k ids
 came_counts [] s k lt = omega arith
 came_counts (id ∷ ids) s k lt =
-    let rest = came_counts ids (with_block_of s id.slot) k (omega (arith, length-set s.seen.blocks id.slot (get_or s.seen.blocks id.slot 0 + 1), lt)) in
+    let rest = came_counts ids (with_block_of s id.slot) k
+    (omega (arith, length-set s.seen.blocks id.slot (get_or s.seen.blocks id.slot 0 + 1), lt)) in
     let first = came_one s.seen.blocks id.slot k lt (eqb id.slot k) refl in
     let places = sum_by-cons (λ (x : Id). cond (eqb x.slot k) 1 0) id ids in
     omega (arith, rest, first, places)

@@ -32,7 +32,8 @@ use Rattle.ob_store.proofs.KeptLaws.{whole_kept, handled, kept_process, processe
 inherited_at : (t : List (Option Entry)) (i : ℕ) → get_or (inherited t) i None ≡ inheritable (get_or t i None)
 inherited_at t i = at-trimmed (map inheritable t) i ∙ elim (cases_lt i (length t)) [
   | inl lt ↦ get_or-map inheritable t i None None lt
-  | inr le ↦ get_or_past (map inheritable t) i None (omega (arith, length-map t inheritable)) ∙ ap inheritable (sym (get_or_past t i None le))
+  | inr le ↦ get_or_past (map inheritable t) i None (omega (arith, length-map t inheritable))
+      ∙ ap inheritable (sym (get_or_past t i None le))
 ]
 
 inheritable_own : (x : Option Entry) (e : Entry) → inheritable x ≡ Some e → x ≡ Some e
@@ -44,31 +45,38 @@ inheritable_own (Some y) e is = by (within 1 y.flags.0) is
     by false same = absurd (cc)
 
 -- it comes last
-pub last_table : (ts : List (List (Option Entry))) (p : ℕ) → table_of (tables.with_child ts p) (length ts) ≡ inherited (table_of ts p)
+pub last_table : (ts : List (List (Option Entry))) (p : ℕ)
+    → table_of (tables.with_child ts p) (length ts) ≡ inherited (table_of ts p)
 last_table ts p = get_or-append_seam ts (inherited (table_of ts p)) [] []
 
 -- all but the counts of handles
-pub handles_stay : (places : List (Option Entry)) (s : ObjectsState) → with_handles_of s places ≡ record s { seen = record s.seen { handles = (with_handles_of s places).seen.handles } }
+pub handles_stay : (places : List (Option Entry)) (s : ObjectsState)
+    → with_handles_of s places ≡ record s { seen = record s.seen { handles = (with_handles_of s places).seen.handles } }
 handles_stay [] s = refl
 handles_stay (None ∷ places) s = handles_stay places s
 handles_stay (Some e ∷ places) s = handles_stay places (with_handle_at s (Some e))
 
-pub handles_long_after : (places : List (Option Entry)) (s : ObjectsState) → length (with_handles_of s places).seen.handles ≡ length s.seen.handles
+pub handles_long_after : (places : List (Option Entry)) (s : ObjectsState)
+    → length (with_handles_of s places).seen.handles ≡ length s.seen.handles
 handles_long_after [] s = refl
 handles_long_after (None ∷ places) s = handles_long_after places s
-handles_long_after (Some e ∷ places) s = handles_long_after places (with_handle_at s (Some e)) ∙ length-set s.seen.handles e.id.slot (get_or s.seen.handles e.id.slot 0 + 1)
+handles_long_after (Some e ∷ places) s = handles_long_after places (with_handle_at s (Some e))
+    ∙ length-set s.seen.handles e.id.slot (get_or s.seen.handles e.id.slot 0 + 1)
 
 -- a slot counts as many more as the table has entries of it
-pub handles_counted : (places : List (Option Entry)) (s : ObjectsState) (k : ℕ) → k < length s.seen.handles → get_or (with_handles_of s places).seen.handles k 0 ≡ get_or s.seen.handles k 0 + slot_handles_in k places
+pub handles_counted : (places : List (Option Entry)) (s : ObjectsState) (k : ℕ) → k < length s.seen.handles
+    → get_or (with_handles_of s places).seen.handles k 0 ≡ get_or s.seen.handles k 0 + slot_handles_in k places
 handles_counted [] s k lt = omega arith
 handles_counted (None ∷ places) s k lt =
     let rest = handles_counted places s k lt in
     let sum : slot_handles_in k (None ∷ places) ≡ 0 + slot_handles_in k places = sum_by-cons _ None places in
     omega (arith, rest, sum)
 handles_counted (Some e ∷ places) s k lt =
-    let rest = handles_counted places (with_handle_at s (Some e)) k (omega (arith, length-set s.seen.handles e.id.slot (get_or s.seen.handles e.id.slot 0 + 1), lt)) in
+    let rest = handles_counted places (with_handle_at s (Some e)) k
+    (omega (arith, length-set s.seen.handles e.id.slot (get_or s.seen.handles e.id.slot 0 + 1), lt)) in
     let first = came_one s.seen.handles e.id.slot k lt (eqb e.id.slot k) refl in
-    let sum : slot_handles_in k (Some e ∷ places) ≡ one_in k e + slot_handles_in k places = sum_by-cons _ (Some e) places in
+    let sum : slot_handles_in k (Some e ∷ places) ≡ one_in k e + slot_handles_in k places =
+    sum_by-cons _ (Some e) places in
     omega (arith, rest, first, sum)
 
 module _ (p : PartsState) (kept : IsKept p) (parent : ℕ) (table : parent < length p.tables.tables) where
@@ -79,24 +87,34 @@ module _ (p : PartsState) (kept : IsKept p) (parent : ℕ) (table : parent < len
   ts = p.tables.tables
 
   -- what a child inherits has a body
-  pub inherited_live : IsTied p.objects → (i : ℕ) → IfSome (get_or (inherited (table_of p.tables.tables parent)) i None) (λ e. IsSome (get_or p.objects.seen.bodies e.id.slot None))
+  pub inherited_live : IsTied p.objects → (i : ℕ) →
+      IfSome (get_or (inherited (table_of p.tables.tables parent)) i None)
+      (λ e. IsSome (get_or p.objects.seen.bodies e.id.slot None))
   inherited_live tied i = by (get_or child_table i None) refl
     where
-      by : (x : Option Entry) → get_or child_table i None ≡ x → IfSome x (λ e. IsSome (get_or p.objects.seen.bodies e.id.slot None))
+      by : (x : Option Entry) → get_or child_table i None ≡ x
+          → IfSome x (λ e. IsSome (get_or p.objects.seen.bodies e.id.slot None))
       by None is = tt
       by (Some e) is =
-          let own : get_or (table_of ts parent) i None ≡ Some e = inheritable_own (get_or (table_of ts parent) i None) e (sym (inherited_at (table_of ts parent) i) ∙ is) in
-          handled p e.id kept.sound tied (entry_counted p.objects.objects ts p.waits.waits kept.sound.named parent i e own)
+          let own : get_or (table_of ts parent) i None ≡ Some e =
+          inheritable_own (get_or (table_of ts parent) i None) e (sym (inherited_at (table_of ts parent) i) ∙ is) in
+          handled p e.id kept.sound tied (entry_counted p.objects.objects ts p.waits.waits kept.sound.named parent i e
+          own)
 
   -- and no slot counts too many handles for that
-  pub inherited_few : IsBounded p.tables.process_limit p.tables.handle_limit p.tables.tables → (k : ℕ) → get_or p.objects.seen.handles k 0 + 16384 ≤ 4294967295
+  pub inherited_few : IsBounded p.tables.process_limit p.tables.handle_limit p.tables.tables → (k : ℕ)
+      → get_or p.objects.seen.handles k 0 + 16384 ≤ 4294967295
   inherited_few b k =
-      let few = count_few p.objects.seen.handles (length p.objects.objects) (λ i. slot_handles i ts) k kept.sound.counted.handles in
+      let few = count_few p.objects.seen.handles (length p.objects.objects)
+      (λ i. slot_handles i ts) k kept.sound.counted.handles in
       let all = slot_handles-few k p.tables.process_limit p.tables.handle_limit ts b in
       omega (arith, few, all)
 
-  handles_after : (with_handles_of p.objects (inherited (table_of p.tables.tables parent))).seen.handles ≡ by_slot (length p.objects.objects) (λ k. slot_handles k (tables.with_child p.tables.tables parent))
-  handles_after = recounted p.objects.seen.handles (with_handles_of p.objects child_table).seen.handles (length p.objects.objects) (λ k. slot_handles k ts) (λ k. slot_handles k (tables.with_child ts parent)) kept.sound.counted.handles
+  handles_after : (with_handles_of p.objects (inherited (table_of p.tables.tables parent))).seen.handles
+      ≡ by_slot (length p.objects.objects) (λ k. slot_handles k (tables.with_child p.tables.tables parent))
+  handles_after = recounted p.objects.seen.handles (with_handles_of p.objects child_table).seen.handles
+      (length p.objects.objects) (λ k. slot_handles k ts)
+      (λ k. slot_handles k (tables.with_child ts parent)) kept.sound.counted.handles
       (handles_long_after child_table p.objects)
       (λ k lt.
       let long = handles_long p.objects.seen (length p.objects.objects) ts p.waits.waits kept.sound.counted in
@@ -116,20 +134,33 @@ module _ (p : PartsState) (kept : IsKept p) (parent : ℕ) (table : parent < len
   }
 
   abbrev pub with_child : ℕ → ObjectsState → PartsState
-  with_child session objects = record p { processes = spec.with_process p.processes session; tables = record p.tables { tables = tables.with_child p.tables.tables parent }; objects = objects }
+  with_child session objects = record p {
+    processes = spec.with_process p.processes session;
+    tables = record p.tables { tables = tables.with_child p.tables.tables parent };
+    objects = objects;
+  }
 
   -- all of the objects but their counts of handles stays
   abbrev counted : ObjectsState
-  counted = record p.objects { seen = record p.objects.seen { handles = (with_handles_of p.objects child_table).seen.handles } }
+  counted = record p.objects {
+    seen = record p.objects.seen {
+      handles =
+          (with_handles_of p.objects child_table).seen.handles;
+    };
+  }
 
-  pub kept_child : (session : ℕ) → length p.processes.processes ≤ p.limits.processes → length p.processes.threads ≤ p.limits.threads → IsKept (with_child session (with_handles_of p.objects (inherited (table_of p.tables.tables parent))))
+  pub kept_child : (session : ℕ) → length p.processes.processes ≤ p.limits.processes
+      → length p.processes.threads ≤ p.limits.threads
+      → IsKept (with_child session (with_handles_of p.objects (inherited (table_of p.tables.tables parent))))
   kept_child session processes threads =
       let plain = (kept_process p session kept processes threads).sound in
-      let long : length (tables.with_child ts parent) ≡ length (tables.with_process ts) = length-append ts (child_table ∷ []) ∙ sym (length-append ts ([] ∷ [])) in
+      let long : length (tables.with_child ts parent) ≡ length (tables.with_process ts) =
+      length-append ts (child_table ∷ []) ∙ sym (length-append ts ([] ∷ [])) in
       let is : IsKept (with_child session counted) = record {
         sound = record {
           limited = kept.sound.limited;
-          processes_kept = processes_same p.limits (spec.with_process p.processes session) (length (tables.with_process ts)) (length (tables.with_child ts parent)) long plain.processes_kept;
+          processes_kept = processes_same p.limits (spec.with_process p.processes session)
+              (length (tables.with_process ts)) (length (tables.with_child ts parent)) long plain.processes_kept;
           counted = record { handles = handles_after; blocks = kept.sound.counted.blocks };
           named = named_child;
           formed = kept.sound.formed;
@@ -141,9 +172,15 @@ module _ (p : PartsState) (kept : IsKept p) (parent : ℕ) (table : parent < len
       } in
       subst (λ (o : ObjectsState). IsKept (with_child session o)) (sym (handles_stay child_table p.objects)) is
 
-  pub whole_child : (session : ℕ) → IsKept (with_child session (with_handles_of p.objects (inherited (table_of p.tables.tables parent)))) → IsTied (with_handles_of p.objects (inherited (table_of p.tables.tables parent)))
-      → whole_of (with_child session (with_handles_of p.objects (inherited (table_of p.tables.tables parent)))) ≡ record (whole_of p) { state = settled (state.with_child (state_of p) parent session) }
+  pub whole_child : (session : ℕ) → IsKept (with_child session
+      (with_handles_of p.objects (inherited (table_of p.tables.tables parent))))
+      → IsTied (with_handles_of p.objects (inherited (table_of p.tables.tables parent)))
+      → whole_of (with_child session (with_handles_of p.objects (inherited (table_of p.tables.tables parent))))
+      ≡ record (whole_of p) { state = settled (state.with_child (state_of p) parent session) }
   whole_child session after tied =
       let stays = handles_stay child_table p.objects in
       whole_kept (with_child session (with_handles_of p.objects child_table)) after tied
-      ∙ ap {B = Whole} (λ (o : ObjectsState). record { state = settled (state_of (with_child session o)); keeper = o.keeper }) stays
+      ∙ ap {B = Whole} (λ (o : ObjectsState). record {
+        state = settled (state_of (with_child session o));
+        keeper = o.keeper;
+      }) stays

@@ -15,9 +15,11 @@ use Rattle.ob_store.proofs.OwnerLaws.{some_there}
 use Rattle.ob_store.proofs.SeatLaws.{read}
 
 -- the set of numbers has those slots that have an object without a body
-pub closing_read : (xs : List (Option Seat)) (ls : List Tag) (opens : List Bool) (k : ℕ) → opens ≡ map is_open xs → is_free_within opens k ≡ is_closing_in (objects_in xs ls) (map seat_body xs) k
+pub closing_read : (xs : List (Option Seat)) (ls : List Tag) (opens : List Bool) (k : ℕ) → opens ≡ map is_open xs
+    → is_free_within opens k ≡ is_closing_in (objects_in xs ls) (map seat_body xs) k
 closing_read xs ls opens k opened =
-    ap (λ (z : List Bool). not (get_or z k true)) opened ∙ ap not (read is_open xs k) ∙ by (get_or xs k None) (get_or ls k no_tag)
+    ap (λ (z : List Bool). not (get_or z k true)) opened ∙ ap not (read is_open xs k)
+    ∙ by (get_or xs k None) (get_or ls k no_tag)
     ∙ sym (λ i. is_closing (object_read xs ls k i) (read seat_body xs k i))
   where
     ended : (b : Option Body) → not (is_some b) ≡ is_none b
@@ -28,24 +30,35 @@ closing_read xs ls opens k opened =
     by None l = refl
     by (Some x) l = ended x.body
 
-pub opened_same : (xs : List (Option Seat)) (opens : List Bool) (k : ℕ) (y : Option Seat) → opens ≡ map is_open xs → is_open y ≡ is_open (get_or xs k None) → opens ≡ map is_open (set xs k y)
+pub opened_same : (xs : List (Option Seat)) (opens : List Bool) (k : ℕ) (y : Option Seat) → opens ≡ map is_open xs
+    → is_open y ≡ is_open (get_or xs k None) → opens ≡ map is_open (set xs k y)
 opened_same xs opens k y opened same = opened ∙ sym (map-set_same is_open xs k y None same)
 
 -- an object whose body is there, or isn't, as before
-pub opened_stays : (xs : List (Option Seat)) (opens : List Bool) (k : ℕ) (x y : Seat) → opens ≡ map is_open xs → get_or xs k None ≡ Some x → is_some y.body ≡ is_some x.body → opens ≡ map is_open (set xs k (Some y))
+pub opened_stays : (xs : List (Option Seat)) (opens : List Bool) (k : ℕ) (x y : Seat) → opens ≡ map is_open xs
+    → get_or xs k None ≡ Some x → is_some y.body ≡ is_some x.body → opens ≡ map is_open (set xs k (Some y))
 opened_stays xs opens k x y opened there same = opened_same xs opens k (Some y) opened (same ∙ sym (ap is_open there))
 
-pub opened_set : (xs : List (Option Seat)) (opens : List Bool) (k : ℕ) (y : Option Seat) (b : Bool) → opens ≡ map is_open xs → b ≡ is_open y → set opens k b ≡ map is_open (set xs k y)
+pub opened_set : (xs : List (Option Seat)) (opens : List Bool) (k : ℕ) (y : Option Seat) (b : Bool)
+    → opens ≡ map is_open xs → b ≡ is_open y → set opens k b ≡ map is_open (set xs k y)
 opened_set xs opens k y b opened is = (λ i. set (opened i) k (is i)) ∙ sym (map-set is_open xs k y)
 
 -- a slot with an object, by its body
-pub opened_at : (xs : List (Option Seat)) (opens : List Bool) (k : ℕ) (x : Seat) → opens ≡ map is_open xs → get_or xs k None ≡ Some x → slice_get opens k ≡ Some (is_some x.body)
+pub opened_at : (xs : List (Option Seat)) (opens : List Bool) (k : ℕ) (x : Seat) → opens ≡ map is_open xs
+    → get_or xs k None ≡ Some x → slice_get opens k ≡ Some (is_some x.body)
 opened_at xs opens k x opened there =
-    let within : k < length opens = omega (arith, ap (λ (z : List Bool). length z) opened, length-map xs is_open, some_there xs k x there) in
-    slice_get-get_or opens k true within ∙ ap (λ (z : List Bool). Some (get_or z k true)) opened ∙ ap Some (read is_open xs k ∙ ap is_open there)
+    let within : k < length opens = omega (
+      arith,
+      ap (λ (z : List Bool). length z) opened,
+      length-map xs is_open,
+      some_there xs k x there,
+    ) in
+    slice_get-get_or opens k true within ∙ ap (λ (z : List Bool). Some (get_or z k true)) opened
+    ∙ ap Some (read is_open xs k ∙ ap is_open there)
 
 -- a body goes, or stays
-pub opened_left_at : (xs : List (Option Seat)) (opens : List Bool) (k : ℕ) (x y : Seat) (b : Bool) (o : Option Body) → opens ≡ map is_open xs → get_or xs k None ≡ Some x → o ≡ cond b x.body None → y.body ≡ cond b None x.body
+pub opened_left_at : (xs : List (Option Seat)) (opens : List Bool) (k : ℕ) (x y : Seat) (b : Bool) (o : Option Body)
+    → opens ≡ map is_open xs → get_or xs k None ≡ Some x → o ≡ cond b x.body None → y.body ≡ cond b None x.body
     → cond (is_some o) (set opens k false) opens ≡ map is_open (set xs k (Some y))
 opened_left_at xs opens k x y true o opened there went none = by o went
   where
@@ -53,11 +66,15 @@ opened_left_at xs opens k x y true o opened there went none = by o went
     by None is = opened_stays xs opens k x y opened there (ap is_some none ∙ ap is_some is)
     by (Some body) is = opened_set xs opens k (Some y) false opened (sym (ap is_some none))
 opened_left_at xs opens k x y false o opened there went same =
-    ap (λ (z : Option Body). cond (is_some z) (set opens k false) opens) went ∙ opened_stays xs opens k x y opened there (ap is_some same)
+    ap (λ (z : Option Body). cond (is_some z) (set opens k false) opens) went
+    ∙ opened_stays xs opens k x y opened there (ap is_some same)
 
 -- a body that goes was there
-pub gone_was_there : (xs : List (Option Seat)) (opens : List Bool) (k : ℕ) (x : Seat) (b : Bool) (o : Option Body) → opens ≡ map is_open xs → get_or xs k None ≡ Some x → o ≡ cond b x.body None → is_some o ≡ true → slice_get opens k ≡ Some true
-gone_was_there xs opens k x true o opened there went some = opened_at xs opens k x opened there ∙ ap Some (ap is_some (sym went) ∙ some)
+pub gone_was_there : (xs : List (Option Seat)) (opens : List Bool) (k : ℕ) (x : Seat) (b : Bool) (o : Option Body)
+    → opens ≡ map is_open xs → get_or xs k None ≡ Some x → o ≡ cond b x.body None → is_some o ≡ true
+    → slice_get opens k ≡ Some true
+gone_was_there xs opens k x true o opened there went some =
+    opened_at xs opens k x opened there ∙ ap Some (ap is_some (sym went) ∙ some)
 gone_was_there xs opens k x false o opened there went some = absurd (differ (sym some ∙ ap is_some went))
   where
     differ : true ≡ false → ⊥
@@ -67,12 +84,15 @@ gone_was_there xs opens k x false o opened there went some = absurd (differ (sym
 pub vacant_open : (xs : List (Option Seat)) (opens : List Bool) (k : ℕ) → opens ≡ map is_open xs → k < length xs →
     get_or xs k None ≡ None → slice_get opens k ≡ Some true
 vacant_open xs opens k opened within none =
-    let long : k < length opens = omega (arith, within, ap (λ (z : List Bool). length z) opened, length-map xs is_open) in
+    let long : k < length opens = omega (arith, within, ap (λ (z : List Bool). length z) opened, length-map xs is_open)
+    in
     slice_get-get_or opens k true long ∙ ap (λ (z : List Bool). Some (get_or z k true)) opened
     ∙ ap Some (read is_open xs k ∙ ap is_open none)
 
-pub opened_back : (xs : List (Option Seat)) (opens : List Bool) (k : ℕ) (y : Seat) (ended : Bool) → opens ≡ map is_open xs →
-    get_or xs k None ≡ None → is_some y.body ≡ not ended → cond ended (set opens k false) opens ≡ map is_open (set xs k (Some y))
+pub opened_back : (xs : List (Option Seat)) (opens : List Bool) (k : ℕ) (y : Seat) (ended : Bool)
+    → opens ≡ map is_open xs →
+    get_or xs k None ≡ None → is_some y.body ≡ not ended
+    → cond ended (set opens k false) opens ≡ map is_open (set xs k (Some y))
 opened_back xs opens k y ended opened none is = by y.body refl
   where
     gone : (e : Bool) (b : Option Body) → is_some b ≡ not e → e ≡ is_none b
@@ -92,7 +112,8 @@ opened_none zero = refl
 opened_none (suc n) = ap (λ (z : List Bool). true ∷ z) (opened_none n)
 
 -- a seat with a body, by the bodies that are read off the seats
-pub bodied : (xs : List (Option Seat)) (k : ℕ) (x : Seat) → get_or xs k None ≡ Some x → IsSome (get_or (map seat_body xs) k None) → is_some x.body ≡ true
+pub bodied : (xs : List (Option Seat)) (k : ℕ) (x : Seat) → get_or xs k None ≡ Some x
+    → IsSome (get_or (map seat_body xs) k None) → is_some x.body ≡ true
 bodied xs k x there some = ap is_some (sym (read seat_body xs k ∙ ap seat_body there)) ∙ some
 
 -- a body that is acquired stays
@@ -101,7 +122,9 @@ body_stays thread None = refl
 body_stays thread (Some b) = refl
 
 -- an object without a body
-pub ended_here : (xs : List (Option Seat)) (ls : List Tag) (opens : List Bool) (k : ℕ) → opens ≡ map is_open xs → IsSome (get_or (objects_in xs ls) k None) → get_or (map seat_body xs) k None ≡ None → slice_get opens k ≡ Some false
+pub ended_here : (xs : List (Option Seat)) (ls : List Tag) (opens : List Bool) (k : ℕ) → opens ≡ map is_open xs
+    → IsSome (get_or (objects_in xs ls) k None) → get_or (map seat_body xs) k None ≡ None
+    → slice_get opens k ≡ Some false
 ended_here xs ls opens k opened there ended = by (get_or xs k None) refl (seat_there xs ls k there)
   where
     by : (x : Option Seat) → get_or xs k None ≡ x → IsSome (get_or xs k None) → slice_get opens k ≡ Some false
@@ -109,4 +132,5 @@ ended_here xs ls opens k opened there ended = by (get_or xs k None) refl (seat_t
       where
         differ : true ≡ false → ⊥
         differ h = cc
-    by (Some x) is some = opened_at xs opens k x opened is ∙ ap (λ (b : Option Body). Some (is_some b)) (sym (read seat_body xs k ∙ ap seat_body is) ∙ ended)
+    by (Some x) is some = opened_at xs opens k x opened is
+        ∙ ap (λ (b : Option Body). Some (is_some b)) (sym (read seat_body xs k ∙ ap seat_body is) ∙ ended)

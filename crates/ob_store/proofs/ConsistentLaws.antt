@@ -12,20 +12,24 @@ use Rattle.ob_store.proofs.CountedLaws.{handles_at, blocks_at}
 use Rattle.ob_store.proofs.NamedLaws.{there_within, handles_are, blocks_are}
 use Rattle.ob_store.proofs.KeptLaws.{settled_kept}
 
-pub consistent : (p : PartsState) → IsKept p → IsTied p.objects → rules.IsKept p.waits.waits → AreAhead p.waits.clock p.waits.waits → IsConsistent (whole_of p)
+pub consistent : (p : PartsState) → IsKept p → IsTied p.objects → rules.IsKept p.waits.waits
+    → AreAhead p.waits.clock p.waits.waits → IsConsistent (whole_of p)
 consistent p kept tied waits ahead = record {
   processes = kept.sound.processes_kept;
   slots = tied.agreed.each;
   shape = kept.sound.limited.shape_is;
   generations = refl;
-  sizes = (let is = ap (λ (x : Shape). x.slots) kept.sound.limited.shape_is in (tied.agreed.long ∙ is, tied.agreed.bodied ∙ is, tied.agreed.marked ∙ is, tied.agreed.wide ∙ is));
+  sizes = (let is = ap (λ (x : Shape). x.slots) kept.sound.limited.shape_is in
+      (tied.agreed.long ∙ is, tied.agreed.bodied ∙ is, tied.agreed.marked ∙ is, tied.agreed.wide ∙ is));
   published = tied.listed;
   born = tied.born;
   named = kept.sound.named;
   ended = λ id there.
       let within = there_within p.objects.objects id there in
-      let h = handles_at p.objects.seen (length p.objects.objects) p.tables.tables p.waits.waits kept.sound.counted id.slot within ∙ handles_are p.objects.objects p.tables.tables p.waits.waits kept.sound.named id there in
-      let b = blocks_at p.objects.seen (length p.objects.objects) p.tables.tables p.waits.waits kept.sound.counted id.slot within ∙ blocks_are p.objects.objects p.tables.tables p.waits.waits kept.sound.named id there in
+      let h = handles_at p.objects.seen (length p.objects.objects) p.tables.tables p.waits.waits kept.sound.counted
+      id.slot within ∙ handles_are p.objects.objects p.tables.tables p.waits.waits kept.sound.named id there in
+      let b = blocks_at p.objects.seen (length p.objects.objects) p.tables.tables p.waits.waits kept.sound.counted
+      id.slot within ∙ blocks_are p.objects.objects p.tables.tables p.waits.waits kept.sound.named id there in
       tied.bodied.each id.slot ∙ (λ i. ltb 0 (h i + b i));
   formed = kept.sound.formed;
   distinct = subst AreDistinct kept.sound.listing.same kept.sound.listing.distinct;

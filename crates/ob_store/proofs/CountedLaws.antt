@@ -17,7 +17,8 @@ use Rattle.ob_store.specs.State.{by_slot}
 use Rattle.ob_store.specs.Kept.{IsCounted}
 use Rattle.ob_store.proofs.BySlot.{count_at, count_few, counts_long, recounted, recounted_one, zero_counts}
 
-module _ (seen : Objects) (n : ℕ) (ts : List (List (Option Entry))) (ws : List (Option Wait)) (counted : IsCounted seen n ts ws) where
+module _ (seen : Objects) (n : ℕ) (ts : List (List (Option Entry))) (ws : List (Option Wait))
+    (counted : IsCounted seen n ts ws) where
   pub handles_at : (k : ℕ) → k < n → get_or seen.handles k 0 ≡ slot_handles k ts
   handles_at k lt = count_at seen.handles n (λ i. slot_handles i ts) k counted.handles lt
 
@@ -38,39 +39,63 @@ module _ (seen : Objects) (n : ℕ) (ts : List (List (Option Entry))) (ws : List
       omega (arith, few, all)
 
   -- an entry comes
-  pub counted_placed : (p : ℕ) (e : Entry) → p < length ts → IsCounted (record seen { handles = set seen.handles e.id.slot (get_or seen.handles e.id.slot 0 + 1) }) n (with_entry_of ts p e) ws
+  pub counted_placed : (p : ℕ) (e : Entry) → p < length ts
+      → IsCounted (record seen { handles = set seen.handles e.id.slot (get_or seen.handles e.id.slot 0 + 1) }) n
+      (with_entry_of ts p e) ws
   counted_placed p e table = record {
-    handles = recounted_one seen.handles n (λ k. slot_handles k ts) (λ k. slot_handles k (with_entry_of ts p e)) e.id.slot _ counted.handles
-        (λ k other. let x = slot_handles-with_entry k ts p e table in let y = one_in-other e k other in omega (arith, x, y))
-        (λ lt. let x = slot_handles-with_entry e.id.slot ts p e table in let y = one_in-same e in let z = handles_at e.id.slot lt in omega (arith, x, y, z));
+    handles = recounted_one seen.handles n (λ k. slot_handles k ts)
+        (λ k. slot_handles k (with_entry_of ts p e)) e.id.slot _ counted.handles
+        (λ k other. let x = slot_handles-with_entry k ts p e table in let y = one_in-other e k other in
+        omega (arith, x, y))
+        (λ lt. let x = slot_handles-with_entry e.id.slot ts p e table in let y = one_in-same e in
+        let z = handles_at e.id.slot lt in omega (arith, x, y, z));
     blocks = counted.blocks;
   }
 
   -- a new object comes with an entry, to a slot that counted nothing
-  pub counted_added : (bodies : List (Option Body)) (p : ℕ) (e : Entry) → p < length ts → e.id.slot < n → get_or seen.handles e.id.slot 0 ≡ 0 → get_or seen.blocks e.id.slot 0 ≡ 0
-      → IsCounted (record { bodies = bodies; handles = set seen.handles e.id.slot 1; blocks = set seen.blocks e.id.slot 0 }) n (with_entry_of ts p e) ws
+  pub counted_added : (bodies : List (Option Body)) (p : ℕ) (e : Entry) → p < length ts → e.id.slot < n
+      → get_or seen.handles e.id.slot 0 ≡ 0 → get_or seen.blocks e.id.slot 0 ≡ 0
+      → IsCounted (record {
+        bodies = bodies;
+        handles = set seen.handles e.id.slot 1;
+        blocks = set seen.blocks e.id.slot 0;
+      }) n (with_entry_of ts p e) ws
   counted_added bodies p e table within handles blocks = record {
-    handles = recounted_one seen.handles n (λ k. slot_handles k ts) (λ k. slot_handles k (with_entry_of ts p e)) e.id.slot 1 counted.handles
-        (λ k other. let x = slot_handles-with_entry k ts p e table in let y = one_in-other e k other in omega (arith, x, y))
-        (λ lt. let x = slot_handles-with_entry e.id.slot ts p e table in let y = one_in-same e in let z = handles_at e.id.slot lt in omega (arith, x, y, z, handles));
-    blocks = recounted_one seen.blocks n (λ k. slot_blocks k ws) (λ k. slot_blocks k ws) e.id.slot 0 counted.blocks (λ k other. refl) (λ lt. let z = blocks_at e.id.slot lt in omega (arith, z, blocks));
+    handles = recounted_one seen.handles n (λ k. slot_handles k ts)
+        (λ k. slot_handles k (with_entry_of ts p e)) e.id.slot 1 counted.handles
+        (λ k other. let x = slot_handles-with_entry k ts p e table in let y = one_in-other e k other in
+        omega (arith, x, y))
+        (λ lt. let x = slot_handles-with_entry e.id.slot ts p e table in let y = one_in-same e in
+        let z = handles_at e.id.slot lt in omega (arith, x, y, z, handles));
+    blocks = recounted_one seen.blocks n (λ k. slot_blocks k ws) (λ k. slot_blocks k ws) e.id.slot 0 counted.blocks
+        (λ k other. refl) (λ lt. let z = blocks_at e.id.slot lt in omega (arith, z, blocks));
   }
 
   -- an entry leaves
-  pub one_less : (p value : ℕ) (e : Entry) → entry_at (table_of ts p) value ≡ Some e → slot_handles e.id.slot (without_entry_of ts p value) + 1 ≡ slot_handles e.id.slot ts
-  one_less p value e found = let x = slot_handles-without_entry e.id.slot ts p value e found in let y = one_in-same e in omega (arith, x, y)
+  pub one_less : (p value : ℕ) (e : Entry) → entry_at (table_of ts p) value ≡ Some e
+      → slot_handles e.id.slot (without_entry_of ts p value) + 1 ≡ slot_handles e.id.slot ts
+  one_less p value e found = let x = slot_handles-without_entry e.id.slot ts p value e found in let y = one_in-same e in
+      omega (arith, x, y)
 
-  pub counted_removed : (bodies : List (Option Body)) (p value : ℕ) (e : Entry) → entry_at (table_of ts p) value ≡ Some e
-      → IsCounted (record { bodies = bodies; handles = set seen.handles e.id.slot (get_or seen.handles e.id.slot 0 - 1); blocks = seen.blocks }) n (without_entry_of ts p value) ws
+  pub counted_removed : (bodies : List (Option Body)) (p value : ℕ) (e : Entry)
+      → entry_at (table_of ts p) value ≡ Some e
+      → IsCounted (record {
+        bodies = bodies;
+        handles = set seen.handles e.id.slot (get_or seen.handles e.id.slot 0 - 1);
+        blocks = seen.blocks;
+      }) n (without_entry_of ts p value) ws
   counted_removed bodies p value e found = record {
-    handles = recounted_one seen.handles n (λ k. slot_handles k ts) (λ k. slot_handles k (without_entry_of ts p value)) e.id.slot _ counted.handles
-        (λ k other. let x = slot_handles-without_entry k ts p value e found in let y = one_in-other e k other in omega (arith, x, y))
+    handles = recounted_one seen.handles n (λ k. slot_handles k ts)
+        (λ k. slot_handles k (without_entry_of ts p value)) e.id.slot _ counted.handles
+        (λ k other. let x = slot_handles-without_entry k ts p value e found in let y = one_in-other e k other in
+        omega (arith, x, y))
         (λ lt. let x = one_less p value e found in let z = handles_at e.id.slot lt in omega (arith, x, z));
     blocks = counted.blocks;
   }
 
   -- an entry has other flags
-  pub counted_flags : (p value : ℕ) (e : Entry) (flags : HandleFlags) → entry_at (table_of ts p) value ≡ Some e → IsCounted seen n (with_flags_of ts p value flags) ws
+  pub counted_flags : (p value : ℕ) (e : Entry) (flags : HandleFlags) → entry_at (table_of ts p) value ≡ Some e
+      → IsCounted seen n (with_flags_of ts p value flags) ws
   counted_flags p value e flags found = record {
     handles = counted.handles ∙ ap (by_slot n) (λ i k. sym (slot_handles-with_flags k ts p value e flags found) i);
     blocks = counted.blocks;
@@ -87,13 +112,16 @@ module _ (seen : Objects) (n : ℕ) (ts : List (List (Option Entry))) (ws : List
   pub counted_left : (bodies : List (Option Body)) (k : ℕ) → get_or seen.handles k 0 ≡ 0 → get_or seen.blocks k 0 ≡ 0
       → IsCounted (record { bodies = bodies; handles = set seen.handles k 0; blocks = set seen.blocks k 0 }) n ts ws
   counted_left bodies k handles blocks = record {
-    handles = recounted_one seen.handles n (λ i. slot_handles i ts) (λ i. slot_handles i ts) k 0 counted.handles (λ i other. refl) (λ lt. let z = handles_at k lt in omega (arith, z, handles));
-    blocks = recounted_one seen.blocks n (λ i. slot_blocks i ws) (λ i. slot_blocks i ws) k 0 counted.blocks (λ i other. refl) (λ lt. let z = blocks_at k lt in omega (arith, z, blocks));
+    handles = recounted_one seen.handles n (λ i. slot_handles i ts) (λ i. slot_handles i ts) k 0 counted.handles
+        (λ i other. refl) (λ lt. let z = handles_at k lt in omega (arith, z, handles));
+    blocks = recounted_one seen.blocks n (λ i. slot_blocks i ws) (λ i. slot_blocks i ws) k 0 counted.blocks
+        (λ i other. refl) (λ lt. let z = blocks_at k lt in omega (arith, z, blocks));
   }
 
   -- the waits settle
   pub counted_settled : (bodies : List (Option Body)) (after : Objects) (ws' : List (Option Wait))
-      → ◌≡◌ {A = Scene} (record { objects = after; waits = ws' }) (settled (record { objects = record seen { bodies = bodies }; waits = ws }))
+      → ◌≡◌ {A = Scene} (record { objects = after; waits = ws' })
+      (settled (record { objects = record seen { bodies = bodies }; waits = ws }))
       → IsCounted after n ts ws'
   counted_settled bodies after ws' value =
       let first : Scene = record { objects = record seen { bodies = bodies }; waits = ws } in
@@ -104,13 +132,19 @@ module _ (seen : Objects) (n : ℕ) (ts : List (List (Option Entry))) (ws : List
             (λ k lt.
             let at = blocks_at k lt in
             let c = (settled_counts first).each k (omega (arith, at)) in
-            let x : get_or after.blocks k 0 ≡ get_or (settled first).objects.blocks k 0 = ap (λ (s : Scene). get_or s.objects.blocks k 0) value in
-            let y : slot_blocks k ws' ≡ slot_blocks k (settled first).waits = ap (λ (s : Scene). slot_blocks k s.waits) value in
+            let x : get_or after.blocks k 0 ≡ get_or (settled first).objects.blocks k 0 =
+            ap (λ (s : Scene). get_or s.objects.blocks k 0) value in
+            let y : slot_blocks k ws' ≡ slot_blocks k (settled first).waits =
+            ap (λ (s : Scene). slot_blocks k s.waits) value in
             omega (arith, at, c, x, y));
       }
 
 -- nothing refers to anything yet
-pub counted_opening : (n : ℕ) → IsCounted (record { bodies = replicate n None; handles = replicate n 0; blocks = replicate n 0 }) n ([] ∷ []) (None ∷ [])
+pub counted_opening : (n : ℕ) → IsCounted (record {
+  bodies = replicate n None;
+  handles = replicate n 0;
+  blocks = replicate n 0;
+}) n ([] ∷ []) (None ∷ [])
 counted_opening n = record {
   handles = zero_counts n (λ k. slot_handles k ([] ∷ [])) (λ k. refl);
   blocks = zero_counts n (λ k. slot_blocks k (None ∷ [])) (λ k. refl);

@@ -50,7 +50,8 @@ one_counts : (p : Places) (e : Entry) → IsWide p → may_count p e.id ≡ true
     Counts p (with_handle p e.id.slot) (λ k. cond (names_slot k (Some e)) 1 0) (λ id. names id (Some e) ≡ true)
 one_counts p e wide may =
     let there : IsThere p.objects e.id =
-    its_there (get_or p.objects e.id.slot None) e.id (both-true (is_its e.id (get_or p.objects e.id.slot None)) _ may).0 in
+    its_there (get_or p.objects e.id.slot None) e.id (both-true (is_its e.id (get_or p.objects e.id.slot None)) _ may).0
+    in
     let within : e.id.slot < length p.seen.handles = omega (arith, there_within p.objects e.id there, wide) in
     record {
       same = refl;
@@ -93,7 +94,8 @@ then_counts p q r more more' all Named Named' All c d sum either = record {
   same = d.same ∙ ap (λ (z : Places). record z { seen = record z.seen { handles = r.seen.handles } }) c.same;
   long = d.long ∙ c.long;
   handles = λ k. (let x = c.handles k in let y = d.handles k in let z = sum k in omega (arith, x, y, z));
-  named = λ id h. either id h (c.named id) (λ later. subst (λ (z : Places). IsThere z.objects id) c.same (d.named id later));
+  named = λ id h. either id h (c.named id) (λ later. subst (λ (z : Places). IsThere z.objects id) c.same
+      (d.named id later));
 }
 
 pub table_counts : (p q : Places) (places : List (Option Entry)) → IsWide p → counting_in p places ≡ Ok q →
@@ -104,11 +106,14 @@ table_counts p q [] wide e =
 table_counts p q (place ∷ places) wide e =
     let b = bind_ok (counting p place) (λ (z : Places). counting_in z places) q e in
     let c = place_counts p b.0 place wide b.1 in
-    then_counts p b.0 q (λ k. cond (names_slot k place) 1 0) (λ k. slot_handles_in k places) (λ k. slot_handles_in k (place ∷ places))
+    then_counts p b.0 q (λ k. cond (names_slot k place) 1 0) (λ k. slot_handles_in k places)
+    (λ k. slot_handles_in k (place ∷ places))
     (λ id. names id place ≡ true) (λ id. 0 < handles_in id places) (λ id. 0 < handles_in id (place ∷ places))
     c (table_counts b.0 q places (still_wide p b.0 _ _ c wide) b.2)
     (λ k. sum_by-cons (λ (y : Option Entry). cond (names_slot k y) 1 0) place places)
-    (λ id h first later. either id (names id place) refl (subst (λ (n : ℕ). 0 < n) (sum_by-cons (λ (y : Option Entry). cond (names id y) 1 0) place places) h) first later)
+    (λ id h first later. either id (names id place) refl
+    (subst (λ (n : ℕ). 0 < n) (sum_by-cons (λ (y : Option Entry). cond (names id y) 1 0) place places) h) first
+    later)
   where
     either : (id : Id) (t : Bool) → names id place ≡ t → 0 < cond t 1 0 + handles_in id places →
         (names id place ≡ true → IsThere p.objects id) → (0 < handles_in id places → IsThere p.objects id) →
@@ -124,11 +129,13 @@ tables_count p q [] wide e =
 tables_count p q (table ∷ tables) wide e =
     let b = bind_ok (counting_in p table) (λ (z : Places). counting_all z tables) q e in
     let c = table_counts p b.0 table wide b.1 in
-    then_counts p b.0 q (λ k. slot_handles_in k table) (λ k. slot_handles k tables) (λ k. slot_handles k (table ∷ tables))
+    then_counts p b.0 q (λ k. slot_handles_in k table) (λ k. slot_handles k tables)
+    (λ k. slot_handles k (table ∷ tables))
     (λ id. 0 < handles_in id table) (λ id. 0 < handles_among id tables) (λ id. 0 < handles_among id (table ∷ tables))
     c (tables_count b.0 q tables (still_wide p b.0 _ _ c wide) b.2)
     (λ k. sum_by-cons (slot_handles_in k) table tables)
-    (λ id h first later. either id (handles_in id table) refl (subst (λ (n : ℕ). 0 < n) (sum_by-cons (handles_in id) table tables) h) first later)
+    (λ id h first later. either id (handles_in id table) refl
+    (subst (λ (n : ℕ). 0 < n) (sum_by-cons (handles_in id) table tables) h) first later)
   where
     either : (id : Id) (n : ℕ) → handles_in id table ≡ n → 0 < n + handles_among id tables →
         (0 < handles_in id table → IsThere p.objects id) → (0 < handles_among id tables → IsThere p.objects id) →

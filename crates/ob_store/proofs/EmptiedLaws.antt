@@ -64,11 +64,14 @@ module _ (ts : List (List (Option Entry))) (p : ℕ) (places : List (Option Entr
   left_table within = get_or-set_same ts p (without_first n places) [] within
 
   -- the entry of the next place is that of its value
-  pub left_entry : p < length ts → entry_at (table_of (tables_left ts p places n) p) (4 * (n + 1)) ≡ get_or places n None
-  left_entry within = at_place (table_of now p) n ∙ ap (λ (t : List (Option Entry)). get_or t n None) (left_table within) ∙ left_here places n
+  pub left_entry : p < length ts → entry_at (table_of (tables_left ts p places n) p) (4 * (n + 1))
+      ≡ get_or places n None
+  left_entry within = at_place (table_of now p) n ∙ ap (λ (t : List (Option Entry)). get_or t n None)
+      (left_table within) ∙ left_here places n
 
   -- there is one, and it leaves
-  pub left_some : p < length ts → (e : Entry) → get_or places n None ≡ Some e → without_entry_of (tables_left ts p places n) p (4 * (n + 1)) ≡ tables_left ts p places (n + 1)
+  pub left_some : p < length ts → (e : Entry) → get_or places n None ≡ Some e
+      → without_entry_of (tables_left ts p places n) p (4 * (n + 1)) ≡ tables_left ts p places (n + 1)
   left_some within e is =
       set-set ts p (without_first n places) (without_entry (table_of now p) (4 * (n + 1)))
       ∙ ap (λ (t : List (Option Entry)). set ts p t)
@@ -80,7 +83,8 @@ module _ (ts : List (List (Option Entry))) (p : ℕ) (places : List (Option Entr
   -- there is none
   pub left_none : get_or places n None ≡ None → tables_left ts p places n ≡ tables_left ts p places (n + 1)
   left_none is = ap (λ (t : List (Option Entry)). set ts p t)
-      (sym (set-get_or (without_first n places) n None) ∙ ap (set (without_first n places) n) (left_here places n ∙ is) ∙ left_more places n)
+      (sym (set-get_or (without_first n places) n None) ∙ ap (set (without_first n places) n) (left_here places n ∙ is)
+      ∙ left_more places n)
 
 -- the entry of the next place leaves
 module _ (p : PartsState) (process : ℕ) (places : List (Option Entry)) (n : ℕ) (e : Entry)
@@ -109,27 +113,42 @@ module _ (p : PartsState) (process : ℕ) (places : List (Option Entry)) (n : �
     after tables = record p { tables = record p.tables { tables = tables }; objects = q; rows = rows }
 
     pub next_sound : IsSound (with_left (record p { objects = q; rows = rows }) process places (n + 1))
-    next_sound = subst (λ (t : List (List (Option Entry))). IsSound (after t)) (left_some p.tables.tables process places n within e here)
+    next_sound = subst (λ (t : List (List (Option Entry))). IsSound (after t))
+        (left_some p.tables.tables process places n within e here)
         (sound_left before process value e sound tied found seat handles_of object_of q rows is object handles names)
 
     pub next_ending : IsTied q → (first : KeeperState) (s : State) → IsEnding first (with_left p process places n) s
-        → IsEnding first (with_left (record p { objects = q; rows = rows }) process places (n + 1)) (record s { tables = tables_left p.tables.tables process places (n + 1) })
+        → IsEnding first (with_left (record p { objects = q; rows = rows }) process places (n + 1))
+        (record s { tables = tables_left p.tables.tables process places (n + 1) })
     next_ending done first s ending = record {
-      way = subst (λ (t : List (List (Option Entry))). IsUnderWay first (after t) (record s { tables = t })) (left_some p.tables.tables process places n within e here)
-          (way_left before process value e sound tied found seat handles_of object_of q rows is object handles names done first s ending.way);
-      enough = enough_left p.signaled p.objects.seen.bodies q.seen.bodies p.waits.waits (subst (λ (x : ObjectsState). AreLeft p.objects.seen.bodies x.seen.bodies) (sym is) (bodies_left before process value e sound tied found)) ending.enough;
+      way = subst (λ (t : List (List (Option Entry))). IsUnderWay first (after t) (record s { tables = t }))
+          (left_some p.tables.tables process places n within e here)
+          (way_left before process value e sound tied found seat handles_of object_of q rows is object handles names
+          done first s ending.way);
+      enough = enough_left p.signaled p.objects.seen.bodies q.seen.bodies p.waits.waits
+          (subst (λ (x : ObjectsState). AreLeft p.objects.seen.bodies x.seen.bodies) (sym is)
+          (bodies_left before process value e sound tied found)) ending.enough;
     }
 
 -- no entry left
-pub same_ending : (first : KeeperState) (p : PartsState) (s : State) (tables : List (List (Option Entry))) → p.tables.tables ≡ tables → IsEnding first p s → IsEnding first (record p { tables = record p.tables { tables = tables } }) (record s { tables = tables })
-same_ending first p s tables is ending = subst (λ (t : List (List (Option Entry))). IsEnding first (record p { tables = record p.tables { tables = t } }) (record s { tables = t })) is
-    (subst (λ (x : State). IsEnding first p x) (λ i. record s { tables = ap (λ (x : State). x.tables) (sym ending.way.rest) i }) ending)
+pub same_ending : (first : KeeperState) (p : PartsState) (s : State) (tables : List (List (Option Entry)))
+    → p.tables.tables ≡ tables → IsEnding first p s
+    → IsEnding first (record p { tables = record p.tables { tables = tables } }) (record s { tables = tables })
+same_ending first p s tables is ending = subst (λ (t : List (List (Option Entry))). IsEnding first
+    (record p { tables = record p.tables { tables = t } }) (record s { tables = t })) is
+    (subst (λ (x : State). IsEnding first p x) (λ i. record s {
+      tables =
+          ap (λ (x : State). x.tables) (sym ending.way.rest) i;
+    }) ending)
 
 -- the entries of a process are taken out: before the first of them leaves the tables are what they were
-pub taken_out : (ts new : HandleTables) (process : ℕ) (places : List (Option Entry)) → new ≡ record ts { tables = without_entries ts.tables process } → places ≡ table_of ts.tables process → record new { tables = tables_left new.tables process places 0 } ≡ ts
+pub taken_out : (ts new : HandleTables) (process : ℕ) (places : List (Option Entry))
+    → new ≡ record ts { tables = without_entries ts.tables process } → places ≡ table_of ts.tables process
+    → record new { tables = tables_left new.tables process places 0 } ≡ ts
 taken_out ts new process places is taken =
     (λ i. record (is i) { tables = tables_left (is i).tables process (taken i) 0 })
-    ∙ ap (λ (t : List (List (Option Entry))). record ts { tables = t }) (set-set ts.tables process [] (table_of ts.tables process) ∙ set-get_or ts.tables process [])
+    ∙ ap (λ (t : List (List (Option Entry))). record ts { tables = t })
+    (set-set ts.tables process [] (table_of ts.tables process) ∙ set-get_or ts.tables process [])
 
 -- once all have left the process ends
 module _ (first : KeeperState) (p : PartsState) (s : State) (process : ℕ) (places : List (Option Entry))
@@ -143,21 +162,53 @@ module _ (first : KeeperState) (p : PartsState) (s : State) (process : ℕ) (pla
   last = tables_left (without_entries p.tables.tables process) process places (length places)
 
   table : process < length (tables_left (without_entries p.tables.tables process) process places (length places))
-  table = omega (arith, length-set (without_entries p.tables.tables process) process (without_first (length places) places), length-set p.tables.tables process [], within)
+  table = omega (
+    arith,
+    length-set (without_entries p.tables.tables process) process
+        (without_first (length places) places),
+    length-set p.tables.tables process [],
+    within,
+  )
 
-  none : (k : ℕ) → get_or (table_of (tables_left (without_entries p.tables.tables process) process places (length places)) process) k None ≡ None
-  none k = ap (λ (t : List (Option Entry)). get_or t k None) (left_table out process places (length places) (omega (arith, length-set p.tables.tables process [], within))) ∙ none_left places k
+  none : (k : ℕ) → get_or (table_of (tables_left (without_entries p.tables.tables process) process places
+      (length places)) process) k None ≡ None
+  none k = ap (λ (t : List (Option Entry)). get_or t k None)
+      (left_table out process places (length places) (omega (arith, length-set p.tables.tables process [], within)))
+      ∙ none_left places k
 
-  gone : without_entries (tables_left (without_entries p.tables.tables process) process places (length places)) process ≡ without_entries p.tables.tables process
-  gone = set-set (without_entries p.tables.tables process) process (without_first (length places) places) [] ∙ set-set p.tables.tables process [] []
+  gone : without_entries (tables_left (without_entries p.tables.tables process) process places (length places)) process
+      ≡ without_entries p.tables.tables process
+  gone = set-set (without_entries p.tables.tables process) process (without_first (length places) places) []
+      ∙ set-set p.tables.tables process [] []
 
   pub ending_emptied : (new : HandleTables) → new ≡ record p.tables { tables = without_entries p.tables.tables process }
-      → IsEnding first (with_left (record p { tables = new }) process places (length places)) (record s { tables = tables_left new.tables process places (length places) })
-      → IsEnding first (record p { processes = record p.processes { processes = set p.processes.processes process None }; tables = new }) (process_ended s process)
+      → IsEnding first (with_left (record p { tables = new }) process places (length places))
+      (record s { tables = tables_left new.tables process places (length places) })
+      → IsEnding first (record p {
+        processes = record p.processes {
+          processes =
+              set p.processes.processes process None;
+        };
+        tables = new;
+      }) (process_ended s process)
   ending_emptied new is ending =
-      subst (λ (t : HandleTables). IsEnding first (record p { processes = record p.processes { processes = set p.processes.processes process None }; tables = t }) (process_ended s process)) (sym is)
-      (subst (λ (z : List (List (Option Entry)) × List (List (Option Entry))). IsEnding first (record p { processes = record p.processes { processes = set p.processes.processes process None }; tables = record p.tables { tables = z.0 } }) (record s { tables = z.1; processes = set s.processes process None }))
+      subst (λ (t : HandleTables). IsEnding first (record p {
+        processes =
+            record p.processes { processes = set p.processes.processes process None };
+        tables = t;
+      })
+      (process_ended s process)) (sym is)
+      (subst (λ (z : List (List (Option Entry)) × List (List (Option Entry))). IsEnding first
+      (record p {
+        processes = record p.processes { processes = set p.processes.processes process None };
+        tables = record p.tables { tables = z.0 };
+      }) (record s {
+        tables = z.1;
+        processes = set s.processes process None;
+      }))
       (λ i. (gone i, (gone ∙ ap (λ (t : List (List (Option Entry))). without_entries t process) same) i))
-      (ending_process first (record p { tables = record p.tables { tables = last } }) (record s { tables = last }) process
-      (subst (λ (t : HandleTables). IsEnding first (with_left (record p { tables = t }) process places (length places)) (record s { tables = tables_left t.tables process places (length places) })) is ending)
+      (ending_process first (record p { tables = record p.tables { tables = last } })
+      (record s { tables = last }) process
+      (subst (λ (t : HandleTables). IsEnding first (with_left (record p { tables = t }) process places (length places))
+      (record s { tables = tables_left t.tables process places (length places) })) is ending)
       table none alone))

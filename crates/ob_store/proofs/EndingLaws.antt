@@ -46,7 +46,8 @@ use Rattle.ob_store.proofs.ListingLaws.{listing_counts}
 use Rattle.ob_store.proofs.NamedLaws.{named_fewer, sum_none}
 use Rattle.ob_store.proofs.SeatLaws.{read}
 
-left_mapped : (t : ℕ) (bodies after : List (Option Body)) → AreLeft bodies after → AreLeft (map (slot_left_by t) bodies) (map (slot_left_by t) after)
+left_mapped : (t : ℕ) (bodies after : List (Option Body)) → AreLeft bodies after
+    → AreLeft (map (slot_left_by t) bodies) (map (slot_left_by t) after)
 left_mapped t bodies after l = record {
   long = length-map after (slot_left_by t) ∙ l.long ∙ sym (length-map bodies (slot_left_by t));
   each = λ k. elim (l.each k) [
@@ -69,16 +70,23 @@ some_left_by : (t : ℕ) (x : Option Body) → is_some (slot_left_by t x) ≡ is
 some_left_by t None = refl
 some_left_by t (Some b) = refl
 
-room_left_by : (limit u t : ℕ) (x : Option Body) → slot_room limit t x ≡ true → slot_room limit t (slot_left_by u x) ≡ true
+room_left_by : (limit u t : ℕ) (x : Option Body) → slot_room limit t x ≡ true
+    → slot_room limit t (slot_left_by u x) ≡ true
 room_left_by limit u t None h = refl
 room_left_by limit u t (Some b) h = room_after_abandon limit u t b h
 
 -- who owns a mutex still owned it before, and is another
-mutex_owner : (u t : ℕ) (owner : Option ℕ) (recursion : ℕ) (abandoned : Bool) → (mutex.after_abandon u (record { owner = owner; recursion = recursion; abandoned = abandoned })).owner ≡ Some t → (owner ≡ Some t) × (t ≢ u)
+mutex_owner : (u t : ℕ) (owner : Option ℕ) (recursion : ℕ) (abandoned : Bool)
+    → (mutex.after_abandon u (record { owner = owner; recursion = recursion; abandoned = abandoned })).owner ≡ Some t
+    → (owner ≡ Some t) × (t ≢ u)
 mutex_owner u t None recursion abandoned h = absurd (cc)
 mutex_owner u t (Some o) recursion abandoned h = by (eqb o u) refl h
   where
-    by : (c : Bool) → eqb o u ≡ c → (cond c (mutex.free_mutex true) (record { owner = Some o; recursion = recursion; abandoned = abandoned })).owner ≡ Some t → (Some o ≡ Some t) × (t ≢ u)
+    by : (c : Bool) → eqb o u ≡ c → (cond c (mutex.free_mutex true) (record {
+      owner = Some o;
+      recursion = recursion;
+      abandoned = abandoned;
+    })).owner ≡ Some t → (Some o ≡ Some t) × (t ≢ u)
     by true is h = absurd (cc)
     by false is h = (h, λ same. let own : o ≡ t = cc in absurd (grind (arith, nat_tests, is, own, same)))
 
@@ -98,16 +106,22 @@ waiter_left t u w h = by (is_waits_of t w) refl h
   where
     by : (c : Bool) → is_waits_of t w ≡ c → thread_of (cond c None w) ≡ Some u → (thread_of w ≡ Some u) × (u ≢ t)
     by true is h = absurd (cc)
-    by false is h = (h, λ same. absurd (let own : is_waits_of t w ≡ true = thread_waits t w (h ∙ ap Some same) in cc (own, is)))
+    by false is h = (
+      h,
+      λ same. absurd (let own : is_waits_of t w ≡ true = thread_waits t w (h ∙ ap Some same) in
+          cc (own, is)),
+    )
 
 live_still : (threads : List (Option ℕ)) (t u : ℕ) → u ≢ t → IsLive threads u → IsLive (set threads t None) u
 live_still threads t u other live = subst IsSome (sym (get_or-set_other threads t u None None other)) live
 
-live_before : (threads : List (Option ℕ)) (t u p : ℕ) → get_or (set threads t None) u None ≡ Some p → get_or threads u None ≡ Some p
+live_before : (threads : List (Option ℕ)) (t u p : ℕ) → get_or (set threads t None) u None ≡ Some p
+    → get_or threads u None ≡ Some p
 live_before threads t u p h = elim (cases_eq u t) [
   | inl same ↦ absurd (none h (elim (cases_lt t (length threads)) [
     | inl lt ↦ ap (λ i. get_or (set threads t None) i None) same ∙ get_or-set_same threads t None None lt
-    | inr le ↦ ap (λ i. get_or (set threads t None) i None) same ∙ get_or_past (set threads t None) t None (omega (arith, length-set threads t None))
+    | inr le ↦ ap (λ i. get_or (set threads t None) i None) same
+        ∙ get_or_past (set threads t None) t None (omega (arith, length-set threads t None))
   ]))
   | inr other ↦ sym (get_or-set_other threads t u None None other) ∙ h
 ]
@@ -132,7 +146,12 @@ module _ (p : PartsState) (q r : ObjectsState) (a : SignaledState) (t : ℕ)
   processes_left = record p.processes { threads = set p.processes.threads t None }
 
   abbrev pub without : PartsState
-  without = record p { processes = record p.processes { threads = set p.processes.threads t None }; objects = r; waits = without_thread p.waits t; signaled = a }
+  without = record p {
+    processes = record p.processes { threads = set p.processes.threads t None };
+    objects = r;
+    waits = without_thread p.waits t;
+    signaled = a;
+  }
 
   abbrev limit : ℕ
   limit = p.limits.max_recursion
@@ -149,13 +168,16 @@ module _ (p : PartsState) (q r : ObjectsState) (a : SignaledState) (t : ℕ)
   fewer : AreLeft p.objects.seen.bodies q.seen.bodies
   fewer = subst (λ (x : Objects). AreLeft p.objects.seen.bodies x.bodies) (sym blocks) (left_blocks ids p.objects.seen)
 
-  form_at : (k : ℕ) → is_some (get_or r.seen.bodies k None) ≡ true → slot_form (get_or r.seen.bodies k None) ≡ slot_form (get_or p.objects.seen.bodies k None)
+  form_at : (k : ℕ) → is_some (get_or r.seen.bodies k None) ≡ true
+      → slot_form (get_or r.seen.bodies k None) ≡ slot_form (get_or p.objects.seen.bodies k None)
   form_at k h = ap slot_form (body_is k) ∙ form_left_by t (get_or q.seen.bodies k None) ∙ elim (fewer.each k) [
     | inl same ↦ ap slot_form same
-    | inr none ↦ absurd (let a = ap is_some (body_is k) in let b = some_left_by t (get_or q.seen.bodies k None) in let c = ap is_some none in cc (a, b, c, h))
+    | inr none ↦ absurd (let a = ap is_some (body_is k) in let b = some_left_by t (get_or q.seen.bodies k None) in
+        let c = ap is_some none in cc (a, b, c, h))
   ]
 
-  owner_at : (k u : ℕ) → slot_owner (get_or r.seen.bodies k None) ≡ Some u → (slot_owner (get_or p.objects.seen.bodies k None) ≡ Some u) × (u ≢ t)
+  owner_at : (k u : ℕ) → slot_owner (get_or r.seen.bodies k None) ≡ Some u
+      → (slot_owner (get_or p.objects.seen.bodies k None) ≡ Some u) × (u ≢ t)
   owner_at k u h =
       let own = owner_left_by t u (get_or q.seen.bodies k None) (sym (ap slot_owner (body_is k)) ∙ h) in (
         elim (fewer.each k) [
@@ -165,52 +187,73 @@ module _ (p : PartsState) (q r : ObjectsState) (a : SignaledState) (t : ℕ)
         own.1,
       )
 
-  way_thread : IsTied r → (first : KeeperState) (s : State) → IsUnderWay first p s → IsUnderWay first without (thread_ended s t)
+  way_thread : IsTied r → (first : KeeperState) (s : State) → IsUnderWay first p s
+      → IsUnderWay first without (thread_ended s t)
   way_thread tied first s way = record {
     tied = tied;
     sound = sound_rested p processes_left r (without_thread p.waits t) a rests way.sound refl
         (record {
           few_processes = way.sound.processes_kept.few_processes;
-          few_threads = (let x = length-set p.processes.threads t None in let y = way.sound.processes_kept.few_threads in omega (arith, x, y));
+          few_threads = (let x = length-set p.processes.threads t None in
+              let y = way.sound.processes_kept.few_threads in omega (arith, x, y));
           tabled = way.sound.processes_kept.tabled;
           live = λ u n h. way.sound.processes_kept.live u n (live_before p.processes.threads t u n h);
         })
         counted
-        (named_fewer p.objects.objects p.tables.tables p.tables.tables p.waits.waits dropped (λ id. omega arith) (λ id. let x = blocks_dropped id t p.waits.waits alone in omega (arith, x)) way.sound.named)
+        (named_fewer p.objects.objects p.tables.tables p.tables.tables p.waits.waits dropped (λ id. omega arith)
+        (λ id. let x = blocks_dropped id t p.waits.waits alone in omega (arith, x)) way.sound.named)
         (formed_by p.waits.clock p.objects.objects p.objects.seen.bodies r.seen.bodies form_at way.sound.formed)
         (record {
-          owners = λ k u h. let own = owner_at k u h in live_still p.processes.threads t u own.1 (way.sound.of_live.owners k u own.0);
-          waiters = λ n u h. let own = waiter_left t u (get_or p.waits.waits n None) (sym (ap thread_of (read (unless_of t) p.waits.waits n)) ∙ h) in live_still p.processes.threads t u own.1 (way.sound.of_live.waiters n u own.0);
+          owners = λ k u h. let own = owner_at k u h in
+              live_still p.processes.threads t u own.1 (way.sound.of_live.owners k u own.0);
+          waiters = λ n u h. let own = waiter_left t u (get_or p.waits.waits n None)
+              (sym (ap thread_of (read (unless_of t) p.waits.waits n)) ∙ h) in
+              live_still p.processes.threads t u own.1 (way.sound.of_live.waiters n u own.0);
         })
-        (room_dropped limit r.seen.bodies p.waits.waits t (room_changed limit p.objects.seen.bodies r.seen.bodies p.waits.waits
-        (λ u k h. subst (λ (x : Option Body). slot_room limit u x ≡ true) (sym (body_is k)) (room_left_by limit t u (get_or q.seen.bodies k None) (room_left_at limit u p.objects.seen.bodies q.seen.bodies k fewer h))) way.sound.room));
+        (room_dropped limit r.seen.bodies p.waits.waits t
+        (room_changed limit p.objects.seen.bodies r.seen.bodies p.waits.waits
+        (λ u k h. subst (λ (x : Option Body). slot_room limit u x ≡ true) (sym (body_is k))
+        (room_left_by limit t u (get_or q.seen.bodies k None)
+        (room_left_at limit u p.objects.seen.bodies q.seen.bodies k fewer h))) way.sound.room));
     rest = state_rested p processes_left r (without_thread p.waits t) a rests
-        ∙ ap (λ (x : State). record x { threads = set x.threads t None; bodies = r.seen.bodies; waits = map (unless_of t) x.waits }) way.rest;
-    bodies = subst (λ (x : List (Option Body)). AreLeft (map (slot_left_by t) s.bodies) x) (sym bodies_are) (left_mapped t s.bodies q.seen.bodies (left_more s.bodies p.objects.seen.bodies q.seen.bodies way.bodies fewer));
+        ∙ ap (λ (x : State). record x {
+          threads = set x.threads t None;
+          bodies = r.seen.bodies;
+          waits = map (unless_of t) x.waits;
+        }) way.rest;
+    bodies = subst (λ (x : List (Option Body)). AreLeft (map (slot_left_by t) s.bodies) x) (sym bodies_are)
+        (left_mapped t s.bodies q.seen.bodies (left_more s.bodies p.objects.seen.bodies q.seen.bodies way.bodies
+        fewer));
     keeper = ap (λ (x : KeptRest). x.keeper) rests ∙ way.keeper;
   }
     where
       counted : IsCounted r.seen (length p.objects.objects) p.tables.tables dropped
       counted = record {
         handles = ap (λ (x : KeptRest). x.rest.handles) rests ∙ way.sound.counted.handles;
-        blocks = ap (λ (x : Objects). x.blocks) seen ∙ recounted p.objects.seen.blocks q.seen.blocks (length p.objects.objects) (λ k. slot_blocks k p.waits.waits) (λ k. slot_blocks k dropped) way.sound.counted.blocks
+        blocks = ap (λ (x : Objects). x.blocks) seen
+            ∙ recounted p.objects.seen.blocks q.seen.blocks (length p.objects.objects)
+            (λ k. slot_blocks k p.waits.waits) (λ k. slot_blocks k dropped) way.sound.counted.blocks
             (ap (λ (x : Objects). length x.blocks) blocks ∙ (sizes_left ids p.objects.seen).blocks)
             (λ k lt.
-            let at = blocks_at p.objects.seen (length p.objects.objects) p.tables.tables p.waits.waits way.sound.counted k lt in
-            let x : get_or q.seen.blocks k 0 ≡ get_or (without_blocks p.objects.seen ids).blocks k 0 = ap (λ (z : Objects). get_or z.blocks k 0) blocks in
+            let at = blocks_at p.objects.seen (length p.objects.objects) p.tables.tables p.waits.waits way.sound.counted
+            k lt in
+            let x : get_or q.seen.blocks k 0 ≡ get_or (without_blocks p.objects.seen ids).blocks k 0 =
+            ap (λ (z : Objects). get_or z.blocks k 0) blocks in
             let y = left_all ids p.objects.seen k in
             let z = slot_dropped k t p.waits.waits alone in
             omega (arith, at, x, y, z));
       }
 
-  pub ending_thread : IsTied r → KeepsEnough p.signaled q.seen.bodies a r.seen.bodies → (first : KeeperState) (s : State) → IsEnding first p s → IsEnding first without (thread_ended s t)
+  pub ending_thread : IsTied r → KeepsEnough p.signaled q.seen.bodies a r.seen.bodies
+      → (first : KeeperState) (s : State) → IsEnding first p s → IsEnding first without (thread_ended s t)
   ending_thread tied more first s ending = record {
     way = way_thread tied first s ending.way;
     enough = more dropped (enough_unwaited p.signaled p.objects.seen q.seen p.waits.waits t ids blocks ending.enough);
   }
 
 -- no entry of an empty table is counted
-none_counted : (f : Option Entry → ℕ) → f None ≡ 0 → (t : List (Option Entry)) → ((k : ℕ) → get_or t k None ≡ None) → sum_by f t ≡ 0
+none_counted : (f : Option Entry → ℕ) → f None ≡ 0 → (t : List (Option Entry)) → ((k : ℕ) → get_or t k None ≡ None)
+    → sum_by f t ≡ 0
 none_counted f nothing t none = sum_none f None t (λ k lt. ap f (none k) ∙ nothing)
 
 -- a process ends that has no thread and no entry
@@ -228,16 +271,22 @@ module _ (first : KeeperState) (p : PartsState) (s : State) (process : ℕ)
   slots_same : (k : ℕ) → slot_handles k (without_entries p.tables.tables process) ≡ slot_handles k p.tables.tables
   slots_same k =
       let x = slot_handles-without_entries k p.tables.tables process table in
-      let y : slot_handles_in k (table_of p.tables.tables process) ≡ 0 = none_counted (λ z. cond (names_slot k z) 1 0) refl (table_of p.tables.tables process) none in
+      let y : slot_handles_in k (table_of p.tables.tables process) ≡ 0 =
+      none_counted (λ z. cond (names_slot k z) 1 0) refl (table_of p.tables.tables process) none in
       omega (arith, x, y)
 
   ids_same : (id : Id) → handles_among id (without_entries p.tables.tables process) ≡ handles_among id p.tables.tables
   ids_same id =
       let x = handles_among-without_entries id p.tables.tables process table in
-      let y : handles_in id (table_of p.tables.tables process) ≡ 0 = none_counted (λ z. cond (names id z) 1 0) refl (table_of p.tables.tables process) none in
+      let y : handles_in id (table_of p.tables.tables process) ≡ 0 =
+      none_counted (λ z. cond (names id z) 1 0) refl (table_of p.tables.tables process) none in
       omega (arith, x, y)
 
-  pub ending_process : IsEnding first (record p { processes = record p.processes { processes = set p.processes.processes process None }; tables = record p.tables { tables = without_entries p.tables.tables process } })
+  pub ending_process : IsEnding first (record p {
+    processes =
+        record p.processes { processes = set p.processes.processes process None };
+    tables = record p.tables { tables = without_entries p.tables.tables process };
+  })
       (record s { tables = without_entries p.tables.tables process; processes = set s.processes process None })
   ending_process = record {
     way = record {
@@ -245,19 +294,32 @@ module _ (first : KeeperState) (p : PartsState) (s : State) (process : ℕ)
       sound = record {
         limited = way.sound.limited;
         processes_kept = record {
-          few_processes = (let a = length-set p.processes.processes process None in let b = way.sound.processes_kept.few_processes in omega (arith, a, b));
+          few_processes = (let a = length-set p.processes.processes process None in
+              let b = way.sound.processes_kept.few_processes in omega (arith, a, b));
           few_threads = way.sound.processes_kept.few_threads;
-          tabled = length-set p.tables.tables process [] ∙ way.sound.processes_kept.tabled ∙ sym (length-set p.processes.processes process None);
-          live = λ t r h. live_still p.processes.processes process r (λ same. alone t (h ∙ ap Some same)) (way.sound.processes_kept.live t r h);
+          tabled = length-set p.tables.tables process [] ∙ way.sound.processes_kept.tabled
+              ∙ sym (length-set p.processes.processes process None);
+          live = λ t r h. live_still p.processes.processes process r (λ same. alone t (h ∙ ap Some same))
+              (way.sound.processes_kept.live t r h);
         };
-        counted = record { handles = way.sound.counted.handles ∙ ap (by_slot (length p.objects.objects)) (λ i k. sym (slots_same k) i); blocks = way.sound.counted.blocks };
-        named = named_fewer p.objects.objects p.tables.tables cleared p.waits.waits p.waits.waits (λ id. let x = ids_same id in omega (arith, x)) (λ id. omega arith) way.sound.named;
+        counted = record {
+          handles = way.sound.counted.handles
+              ∙ ap (by_slot (length p.objects.objects)) (λ i k. sym (slots_same k) i);
+          blocks = way.sound.counted.blocks;
+        };
+        named = named_fewer p.objects.objects p.tables.tables cleared p.waits.waits p.waits.waits (λ id. let x =
+            ids_same id in omega (arith, x)) (λ id. omega arith) way.sound.named;
         formed = way.sound.formed;
         of_live = way.sound.of_live;
         room = way.sound.room;
-        listing = listing_counts p.rows p.tables.tables p.objects.objects p.objects.births way.sound.listing cleared ids_same;
+        listing = listing_counts p.rows p.tables.tables p.objects.objects p.objects.births way.sound.listing cleared
+            ids_same;
       };
-      rest = ap (λ (x : State). record x { tables = cleared; processes = set x.processes process None; bodies = p.objects.seen.bodies }) way.rest;
+      rest = ap (λ (x : State). record x {
+        tables = cleared;
+        processes = set x.processes process None;
+        bodies = p.objects.seen.bodies;
+      }) way.rest;
       bodies = way.bodies;
       keeper = way.keeper;
     };

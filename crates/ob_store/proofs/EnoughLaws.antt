@@ -14,46 +14,69 @@ use Rattle.ob_store.specs.UnderWay.{AreLeft}
 use Rattle.ob_store.proofs.LeftLaws.{left_blocks, less_gone}
 
 -- where no wait is ready any are enough
-pub enough_settled : (a : SignaledState) (bodies : List (Option Body)) (ws : List (Option Wait)) → IsSettled bodies ws → IsEnough a bodies ws
-enough_settled a bodies ws settled = record { each = λ whole. record { before = bodies; settled = settled; less = λ t k out signaled. signaled } }
+pub enough_settled : (a : SignaledState) (bodies : List (Option Body)) (ws : List (Option Wait)) → IsSettled bodies ws
+    → IsEnough a bodies ws
+enough_settled a bodies ws settled = record {
+  each =
+      λ whole. record { before = bodies; settled = settled; less = λ t k out signaled. signaled };
+}
 
 -- bodies that went signal nothing
-pub enough_left : (a : SignaledState) (bodies after : List (Option Body)) (ws : List (Option Wait)) → AreLeft bodies after → IsEnough a bodies ws → IsEnough a after ws
+pub enough_left : (a : SignaledState) (bodies after : List (Option Body)) (ws : List (Option Wait))
+    → AreLeft bodies after → IsEnough a bodies ws → IsEnough a after ws
 enough_left a bodies after ws left enough = record {
   each = λ whole. let e = enough.each whole in record {
     before = e.before;
     settled = e.settled;
-    less = λ t k out signaled. e.less t k out ((less_gone bodies after left).each t (record { slot = k; generation = 0 }) signaled);
+    less = λ t k out signaled. e.less t k out ((less_gone bodies after left).each t (record {
+      slot = k;
+      generation = 0;
+    }) signaled);
   };
 }
 
 -- a thread's wait leaves
-pub enough_dropped : (a : SignaledState) (bodies : List (Option Body)) (ws : List (Option Wait)) (t : ℕ) → IsEnough a bodies ws → IsEnough a bodies (map (unless_of t) ws)
-enough_dropped a bodies ws t enough = record { each = λ whole. let e = enough.each whole in record { before = e.before; settled = settled_dropped e.before ws t e.settled; less = e.less } }
+pub enough_dropped : (a : SignaledState) (bodies : List (Option Body)) (ws : List (Option Wait)) (t : ℕ)
+    → IsEnough a bodies ws → IsEnough a bodies (map (unless_of t) ws)
+enough_dropped a bodies ws t enough = record {
+  each = λ whole. let e = enough.each whole in
+      record { before = e.before; settled = settled_dropped e.before ws t e.settled; less = e.less };
+}
 
 -- a slot that isn't listed with one more
-not_listed : (ids : List Id) (id : Id) (k : ℕ) → has_slot (ids ++ id ∷ []) k ≡ false → (has_slot ids k ≡ false) × (k ≡ id.slot → ⊥)
-not_listed [] id k h = (refl, λ same. let own : eqb id.slot k ≡ true = grind (arith, nat_tests, same) in grind (arith, own, h))
+not_listed : (ids : List Id) (id : Id) (k : ℕ) → has_slot (ids ++ id ∷ []) k ≡ false
+    → (has_slot ids k ≡ false) × (k ≡ id.slot → ⊥)
+not_listed [] id k h = (
+  refl,
+  λ same. let own : eqb id.slot k ≡ true = grind (arith, nat_tests, same) in
+      grind (arith, own, h),
+)
 not_listed (x ∷ ids) id k h =
     let rest = not_listed ids id k (grind (arith, h)) in
     let none = rest.0 in (grind (arith, h, none), rest.1)
 
 -- a slot was noted, and its body changed
-pub enough_added : (a b : SignaledState) (p q : Objects) (slot : ℕ) (x : Option Body) → q ≡ record p { bodies = set p.bodies slot x }
-    → (b.whole ≡ true → b.ids ≡ a.ids ++ in_slot slot ∷ []) → (b.whole ≡ true → a.whole ≡ true) → KeepsEnough a p.bodies b q.bodies
+pub enough_added : (a b : SignaledState) (p q : Objects) (slot : ℕ) (x : Option Body)
+    → q ≡ record p { bodies = set p.bodies slot x }
+    → (b.whole ≡ true → b.ids ≡ a.ids ++ in_slot slot ∷ []) → (b.whole ≡ true → a.whole ≡ true)
+    → KeepsEnough a p.bodies b q.bodies
 enough_added a b p q slot x is added before ws enough = record {
   each = λ whole. let e = enough.each (before whole) in record {
     before = e.before;
     settled = e.settled;
     less = λ t k out signaled.
-        let apart = not_listed a.ids (in_slot slot) k (ap (λ (ids : List Id). has_slot ids k) (sym (added whole)) ∙ out) in
-        let stays : get_or q.bodies k None ≡ get_or p.bodies k None = ap (λ (o : Objects). get_or o.bodies k None) is ∙ get_or-set_other p.bodies slot k x None apart.1 in
+        let apart = not_listed a.ids (in_slot slot) k (ap (λ (ids : List Id). has_slot ids k) (sym (added whole)) ∙ out)
+        in
+        let stays : get_or q.bodies k None ≡ get_or p.bodies k None = ap (λ (o : Objects). get_or o.bodies k None) is
+        ∙ get_or-set_other p.bodies slot k x None apart.1 in
         e.less t k apart.0 (sym (ap (slot_signaled t) stays) ∙ signaled);
   };
 }
 
 -- a thread's blocks leave, and its wait
-pub enough_unwaited : (a : SignaledState) (o p : Objects) (ws : List (Option Wait)) (t : ℕ) (ids : List Id) → p ≡ without_blocks o ids → IsEnough a o.bodies ws → IsEnough a p.bodies (map (unless_of t) ws)
+pub enough_unwaited : (a : SignaledState) (o p : Objects) (ws : List (Option Wait)) (t : ℕ) (ids : List Id)
+    → p ≡ without_blocks o ids → IsEnough a o.bodies ws → IsEnough a p.bodies (map (unless_of t) ws)
 enough_unwaited a o p ws t ids blocks enough =
-    let fewer : AreLeft o.bodies p.bodies = subst (λ (x : Objects). AreLeft o.bodies x.bodies) (sym blocks) (left_blocks ids o) in
+    let fewer : AreLeft o.bodies p.bodies = subst (λ (x : Objects). AreLeft o.bodies x.bodies) (sym blocks)
+    (left_blocks ids o) in
     enough_dropped a p.bodies ws t (enough_left a o.bodies p.bodies ws fewer enough)

@@ -50,7 +50,14 @@ tied_over s k fresh h =
     let same : ◌≡◌ {A = Shape × List Slot} (s.keeper.shape, s.keeper.slots) (k.shape, k.slots) =
     λ i. (sym fresh.shape_is i, sym fresh.slots_are i) in
     subst (λ (z : Shape × List Slot). IsTied (record s { keeper = alike k z })) same (record {
-      agreed = record { few = a.few; wide = a.wide; long = a.long; bodied = a.bodied; marked = a.marked; each = a.each };
+      agreed = record {
+        few = a.few;
+        wide = a.wide;
+        long = a.long;
+        bodied = a.bodied;
+        marked = a.marked;
+        each = a.each;
+      };
       listed = subst (λ (ps : List (Id × Descr)). IsListed ps s.objects) (sym fresh.published_is) (all_shown s a);
       opens = h.opens;
       bodied = h.bodied;

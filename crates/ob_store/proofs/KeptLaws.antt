@@ -31,17 +31,22 @@ use Rattle.ob_store.proofs.ListingLaws.{listing_flags, listing_process, listing_
 use Rattle.ob_store.proofs.SettledLaws.{settled_still}
 
 -- as many tables as there are processes
-pub processes_same : (limits : Limits) (l : ProcessesState) (n m : ℕ) → m ≡ n → ProcessesKept limits l n → ProcessesKept limits l m
+pub processes_same : (limits : Limits) (l : ProcessesState) (n m : ℕ) → m ≡ n → ProcessesKept limits l n
+    → ProcessesKept limits l m
 processes_same limits l n m same k = subst (λ (i : ℕ). ProcessesKept limits l i) (sym same) k
 
 -- what stands at a place stays there where one more comes at the end
 pub live_pushed : (xs : List (Option ℕ)) (x : Option ℕ) (n : ℕ) → IsLive xs n → IsLive (xs ++ x ∷ []) n
 live_pushed [] x n h = absurd (cc)
-live_pushed (y ∷ xs) x n h = elim n as (λ n. IsLive (y ∷ xs) n → IsLive (y ∷ xs ++ x ∷ []) n) [ zero ↦ λ h. h | suc n ↦ λ h. live_pushed xs x n h ] h
+live_pushed (y ∷ xs) x n h = elim n as (λ n. IsLive (y ∷ xs) n
+    → IsLive (y ∷ xs ++ x ∷ []) n) [ zero ↦ λ h. h | suc n ↦ λ h. live_pushed xs x n h ] h
 
-pushed_at : (xs : List (Option ℕ)) (x n p : ℕ) → get_or (xs ++ Some x ∷ []) n None ≡ Some p → (get_or xs n None ≡ Some p) ⊎ (x ≡ p)
-pushed_at [] x n p h = elim n as (λ n. get_or (Some x ∷ []) n None ≡ Some p → (get_or {A = Option ℕ} [] n None ≡ Some p) ⊎ (x ≡ p)) [ zero ↦ λ h. inr cc | suc n ↦ λ h. absurd (cc) ] h
-pushed_at (y ∷ xs) x n p h = elim n as (λ n. get_or (y ∷ xs ++ Some x ∷ []) n None ≡ Some p → (get_or (y ∷ xs) n None ≡ Some p) ⊎ (x ≡ p)) [ zero ↦ λ h. inl h | suc n ↦ λ h. pushed_at xs x n p h ] h
+pushed_at : (xs : List (Option ℕ)) (x n p : ℕ) → get_or (xs ++ Some x ∷ []) n None ≡ Some p
+    → (get_or xs n None ≡ Some p) ⊎ (x ≡ p)
+pushed_at [] x n p h = elim n as (λ n. get_or (Some x ∷ []) n None ≡ Some p
+    → (get_or {A = Option ℕ} [] n None ≡ Some p) ⊎ (x ≡ p)) [ zero ↦ λ h. inr cc | suc n ↦ λ h. absurd (cc) ] h
+pushed_at (y ∷ xs) x n p h = elim n as (λ n. get_or (y ∷ xs ++ Some x ∷ []) n None ≡ Some p
+    → (get_or (y ∷ xs) n None ≡ Some p) ⊎ (x ≡ p)) [ zero ↦ λ h. inl h | suc n ↦ λ h. pushed_at xs x n p h ] h
 
 at_end : (xs : List (Option ℕ)) (x : ℕ) → IsLive (xs ++ Some x ∷ []) (length xs)
 at_end [] x = refl
@@ -49,13 +54,19 @@ at_end (y ∷ xs) x = at_end xs x
 
 -- what is stored is what the state counts
 pub objects_are : (p : PartsState) → IsSound p → p.objects.seen ≡ objects_of (state_of p)
-objects_are p sound = λ i. record { bodies = p.objects.seen.bodies; handles = sound.counted.handles i; blocks = sound.counted.blocks i }
+objects_are p sound = λ i. record {
+  bodies = p.objects.seen.bodies;
+  handles = sound.counted.handles i;
+  blocks = sound.counted.blocks i;
+}
 
 -- nothing is left to settle
 pub settled_kept : (p : PartsState) → IsKept p → IsTied p.objects → settled (state_of p) ≡ state_of p
-settled_kept p kept tied = settled_still (state_of p) kept.sound.named (subst HasBodies (objects_are p kept.sound) tied.bodied) kept.settled
+settled_kept p kept tied = settled_still (state_of p) kept.sound.named
+    (subst HasBodies (objects_are p kept.sound) tied.bodied) kept.settled
 
-pub whole_kept : (p : PartsState) → IsKept p → IsTied p.objects → ◌≡◌ {A = Whole} (whole_of p) (record { state = settled (state_of p); keeper = p.objects.keeper })
+pub whole_kept : (p : PartsState) → IsKept p → IsTied p.objects
+    → ◌≡◌ {A = Whole} (whole_of p) (record { state = settled (state_of p); keeper = p.objects.keeper })
 whole_kept p kept tied = λ i. record { state = sym (settled_kept p kept tied) i; keeper = p.objects.keeper }
 
 -- a keeper that only closed slots has its generations and its shape
@@ -64,13 +75,15 @@ generations_open [] = refl
 generations_open (x ∷ xs) = ap (λ (t : List ℕ). x.generation ∷ t) (generations_open xs)
 
 pub same_generations : (a b : KeeperState) → opened a ≡ opened b → map generation_of a.slots ≡ map generation_of b.slots
-same_generations a b same = sym (generations_open a.slots) ∙ ap (λ (k : KeeperState). map generation_of k.slots) same ∙ generations_open b.slots
+same_generations a b same = sym (generations_open a.slots) ∙ ap (λ (k : KeeperState). map generation_of k.slots) same
+    ∙ generations_open b.slots
 
 pub same_shape : (a b : KeeperState) → opened a ≡ opened b → a.shape ≡ b.shape
 same_shape a b same = ap (λ (k : KeeperState). k.shape) same
 
 -- threads, objects and waits changed, but for what waits leave of objects as it is
-module _ (p : PartsState) (l : ProcessesState) (q : ObjectsState) (ws : WaitList) (a : SignaledState) (rest : kept_rest q ≡ kept_rest p.objects) where
+module _ (p : PartsState) (l : ProcessesState) (q : ObjectsState) (ws : WaitList) (a : SignaledState)
+    (rest : kept_rest q ≡ kept_rest p.objects) where
   abbrev pub rested : PartsState
   rested = record p { processes = l; objects = q; waits = ws; signaled = a }
 
@@ -80,13 +93,27 @@ module _ (p : PartsState) (l : ProcessesState) (q : ObjectsState) (ws : WaitList
   births_same : q.births ≡ p.objects.births
   births_same = ap (λ (r : KeptRest). r.births) rest
 
-  pub state_rested : state_of rested ≡ record (state_of p) { processes = l.processes; threads = l.threads; bodies = q.seen.bodies; waits = ws.waits; clock = ws.clock }
+  pub state_rested : state_of rested ≡ record (state_of p) {
+    processes = l.processes;
+    threads = l.threads;
+    bodies = q.seen.bodies;
+    waits = ws.waits;
+    clock = ws.clock;
+  }
   state_rested =
       let generations = same_generations q.keeper p.objects.keeper (ap (λ (r : KeptRest). r.keeper) rest) in
-      λ i. record (state_of rested) { objects = objects_same i; generations = generations i; retired = (rest i).rest.retired; births = births_same i }
+      λ i. record (state_of rested) {
+        objects = objects_same i;
+        generations = generations i;
+        retired = (rest i).rest.retired;
+        births = births_same i;
+      }
 
-  pub sound_rested : IsSound p → ws.limit ≡ p.waits.limit → ProcessesKept p.limits l (length p.tables.tables) → IsCounted q.seen (length p.objects.objects) p.tables.tables ws.waits → IsNamed p.objects.objects p.tables.tables ws.waits
-      → AreFormed ws.clock p.objects.objects q.seen.bodies → AreOfLive l.threads q.seen.bodies ws.waits → WaitsHaveRoom p.limits.max_recursion q.seen.bodies ws.waits → IsSound rested
+  pub sound_rested : IsSound p → ws.limit ≡ p.waits.limit → ProcessesKept p.limits l (length p.tables.tables)
+      → IsCounted q.seen (length p.objects.objects) p.tables.tables ws.waits
+      → IsNamed p.objects.objects p.tables.tables ws.waits
+      → AreFormed ws.clock p.objects.objects q.seen.bodies → AreOfLive l.threads q.seen.bodies ws.waits
+      → WaitsHaveRoom p.limits.max_recursion q.seen.bodies ws.waits → IsSound rested
   sound_rested sound limit live counted named formed of_live room = record {
     limited = record {
       processes_are = sound.limited.processes_are;
@@ -95,39 +122,54 @@ module _ (p : PartsState) (l : ProcessesState) (q : ObjectsState) (ws : WaitList
       shape_is = same_shape q.keeper p.objects.keeper (ap (λ (r : KeptRest). r.keeper) rest) ∙ sound.limited.shape_is;
     };
     processes_kept = live;
-    counted = subst (λ (xs : List (Option Object)). IsCounted q.seen (length xs) p.tables.tables ws.waits) (sym objects_same) counted;
+    counted = subst (λ (xs : List (Option Object)). IsCounted q.seen (length xs) p.tables.tables ws.waits)
+        (sym objects_same) counted;
     named = subst (λ (xs : List (Option Object)). IsNamed xs p.tables.tables ws.waits) (sym objects_same) named;
     formed = subst (λ (xs : List (Option Object)). AreFormed ws.clock xs q.seen.bodies) (sym objects_same) formed;
     of_live = of_live;
     room = room;
-    listing = subst (λ (z : List (Option Object) × ℕ). IsListing p.rows p.tables.tables z.0 z.1) (λ i. (sym objects_same i, sym births_same i)) sound.listing;
+    listing = subst (λ (z : List (Option Object) × ℕ). IsListing p.rows p.tables.tables z.0 z.1)
+        (λ i. (sym objects_same i, sym births_same i)) sound.listing;
   }
 
 -- the object of a handle has a body
-pub handled : (p : PartsState) (id : Id) → IsSound p → IsTied p.objects → 0 < handles_among id p.tables.tables → IsSome (get_or p.objects.seen.bodies id.slot None)
+pub handled : (p : PartsState) (id : Id) → IsSound p → IsTied p.objects → 0 < handles_among id p.tables.tables
+    → IsSome (get_or p.objects.seen.bodies id.slot None)
 handled p id sound tied some =
     let within = there_within p.objects.objects id (sound.named.entries id some) in
-    let at = handles_at p.objects.seen (length p.objects.objects) p.tables.tables p.waits.waits sound.counted id.slot within in
+    let at = handles_at p.objects.seen (length p.objects.objects) p.tables.tables p.waits.waits sound.counted id.slot
+    within in
     let slot = slot_handles-le id p.tables.tables in
-    let yes : ltb 0 (get_or p.objects.seen.handles id.slot 0 + get_or p.objects.seen.blocks id.slot 0) ≡ true = grind (arith, nat_tests, at, slot, some) in
+    let yes : ltb 0 (get_or p.objects.seen.handles id.slot 0 + get_or p.objects.seen.blocks id.slot 0) ≡ true =
+    grind (arith, nat_tests, at, slot, some) in
     tied.bodied.each id.slot ∙ yes
 
-pub few_handles : (p : PartsState) (slot : ℕ) → IsSound p → IsBounded p.tables.process_limit p.tables.handle_limit p.tables.tables → get_or p.objects.seen.handles slot 0 < 4294967295
-few_handles p slot sound b = handles_few p.objects.seen (length p.objects.objects) p.tables.tables p.waits.waits sound.counted p.tables.process_limit p.tables.handle_limit slot b
+pub few_handles : (p : PartsState) (slot : ℕ) → IsSound p
+    → IsBounded p.tables.process_limit p.tables.handle_limit p.tables.tables
+    → get_or p.objects.seen.handles slot 0 < 4294967295
+few_handles p slot sound b = handles_few p.objects.seen
+    (length p.objects.objects) p.tables.tables p.waits.waits sound.counted p.tables.process_limit p.tables.handle_limit
+    slot b
 
 -- an entry comes, of an object that has one
 abbrev pub placed : PartsState → ℕ → Entry → PartsState
-placed p process e = record p { tables = record p.tables { tables = with_entry_of p.tables.tables process e }; objects = with_handle_of p.objects e.id.slot }
+placed p process e = record p {
+  tables = record p.tables { tables = with_entry_of p.tables.tables process e };
+  objects = with_handle_of p.objects e.id.slot;
+}
 
-pub kept_placed : (p : PartsState) (process : ℕ) (e : Entry) → IsKept p → process < length p.tables.tables → 0 < handles_among e.id p.tables.tables → IsKept (placed p process e)
+pub kept_placed : (p : PartsState) (process : ℕ) (e : Entry) → IsKept p → process < length p.tables.tables
+    → 0 < handles_among e.id p.tables.tables → IsKept (placed p process e)
 kept_placed p process e kept table some =
     let ts = p.tables.tables in
     let sound = kept.sound in
     record {
       sound = record {
         limited = sound.limited;
-        processes_kept = processes_same p.limits p.processes (length ts) (length (with_entry_of ts process e)) (length-set ts process _) sound.processes_kept;
-        counted = counted_placed p.objects.seen (length p.objects.objects) ts p.waits.waits sound.counted process e table;
+        processes_kept = processes_same p.limits p.processes (length ts) (length (with_entry_of ts process e))
+            (length-set ts process _) sound.processes_kept;
+        counted = counted_placed p.objects.seen (length p.objects.objects) ts p.waits.waits sound.counted process e
+            table;
         named = named_placed p.objects.objects ts p.waits.waits sound.named process e table some;
         formed = sound.formed;
         of_live = sound.of_live;
@@ -139,62 +181,84 @@ kept_placed p process e kept table some =
 
 -- an entry has other flags
 abbrev pub flagged : PartsState → ℕ → ℕ → HandleFlags → PartsState
-flagged p process value flags = record p { tables = record p.tables { tables = with_flags_of p.tables.tables process value flags } }
+flagged p process value flags = record p {
+  tables =
+      record p.tables { tables = with_flags_of p.tables.tables process value flags };
+}
 
-pub kept_flags : (p : PartsState) (process value : ℕ) (flags : HandleFlags) → IsKept p → IsSome (entry_at (table_of p.tables.tables process) value) → IsKept (flagged p process value flags)
+pub kept_flags : (p : PartsState) (process value : ℕ) (flags : HandleFlags) → IsKept p
+    → IsSome (entry_at (table_of p.tables.tables process) value) → IsKept (flagged p process value flags)
 kept_flags p process value flags kept some = by (entry_at (table_of p.tables.tables process) value) refl some
   where
-    by : (x : Option Entry) → entry_at (table_of p.tables.tables process) value ≡ x → IsSome x → IsKept (flagged p process value flags)
+    by : (x : Option Entry) → entry_at (table_of p.tables.tables process) value ≡ x → IsSome x
+        → IsKept (flagged p process value flags)
     by None found none = absurd (cc)
     by (Some e) found _ = record {
       sound = record {
         limited = kept.sound.limited;
-        processes_kept = processes_same p.limits p.processes (length p.tables.tables) (length (with_flags_of p.tables.tables process value flags)) (length-set p.tables.tables process _) kept.sound.processes_kept;
-        counted = counted_flags p.objects.seen (length p.objects.objects) p.tables.tables p.waits.waits kept.sound.counted process value e flags found;
-        named = named_flags p.objects.objects p.tables.tables p.waits.waits kept.sound.named process value e flags found;
+        processes_kept = processes_same p.limits p.processes (length p.tables.tables)
+            (length (with_flags_of p.tables.tables process value flags))
+            (length-set p.tables.tables process _) kept.sound.processes_kept;
+        counted = counted_flags p.objects.seen (length p.objects.objects) p.tables.tables p.waits.waits
+            kept.sound.counted process value e flags found;
+        named = named_flags p.objects.objects p.tables.tables p.waits.waits kept.sound.named process value e flags
+            found;
         formed = kept.sound.formed;
         of_live = kept.sound.of_live;
         room = kept.sound.room;
-        listing = listing_flags p.rows p.tables.tables p.objects.objects p.objects.births kept.sound.listing process value e flags found;
+        listing = listing_flags p.rows p.tables.tables p.objects.objects p.objects.births kept.sound.listing process
+            value e flags found;
       };
       settled = kept.settled;
     }
 
 -- a process comes
 abbrev pub with_process : PartsState → ℕ → PartsState
-with_process p session = record p { processes = spec.with_process p.processes session; tables = record p.tables { tables = tables.with_process p.tables.tables } }
+with_process p session = record p {
+  processes = spec.with_process p.processes session;
+  tables = record p.tables { tables = tables.with_process p.tables.tables };
+}
 
-pub kept_process : (p : PartsState) (session : ℕ) → IsKept p → length p.processes.processes ≤ p.limits.processes → length p.processes.threads ≤ p.limits.threads → IsKept (with_process p session)
+pub kept_process : (p : PartsState) (session : ℕ) → IsKept p → length p.processes.processes ≤ p.limits.processes
+    → length p.processes.threads ≤ p.limits.threads → IsKept (with_process p session)
 kept_process p session kept processes threads = record {
   sound = record {
     limited = kept.sound.limited;
     processes_kept = record {
       few_processes = simp length-append (omega arith);
       few_threads = simp length-append (omega arith);
-      tabled = (let a = length-append p.processes.processes (Some session ∷ []) in let b = length-append p.tables.tables ([] ∷ []) in let c = kept.sound.processes_kept.tabled in omega (arith, a, b, c));
+      tabled = (let a = length-append p.processes.processes (Some session ∷ []) in
+          let b = length-append p.tables.tables ([] ∷ []) in let c = kept.sound.processes_kept.tabled in
+          omega (arith, a, b, c));
       live = live_after;
     };
-    counted = counted_process p.objects.seen (length p.objects.objects) p.tables.tables p.waits.waits kept.sound.counted;
+    counted = counted_process p.objects.seen (length p.objects.objects) p.tables.tables p.waits.waits
+        kept.sound.counted;
     named = named_process p.objects.objects p.tables.tables p.waits.waits kept.sound.named;
     formed = kept.sound.formed;
-    of_live = of_live_more p.processes.threads (spec.with_process p.processes session).threads p.objects.seen.bodies p.waits.waits (λ t h. live_pushed p.processes.threads (Some (length p.processes.processes)) t h) kept.sound.of_live;
+    of_live = of_live_more p.processes.threads (spec.with_process p.processes session).threads p.objects.seen.bodies
+        p.waits.waits (λ t h. live_pushed p.processes.threads (Some (length p.processes.processes)) t h)
+        kept.sound.of_live;
     room = kept.sound.room;
     listing = listing_process p.rows p.tables.tables p.objects.objects p.objects.births kept.sound.listing;
   };
   settled = kept.settled;
 }
   where
-    live_after : (t q : ℕ) → get_or (p.processes.threads ++ Some (length p.processes.processes) ∷ []) t None ≡ Some q → IsLive (p.processes.processes ++ Some session ∷ []) q
+    live_after : (t q : ℕ) → get_or (p.processes.threads ++ Some (length p.processes.processes) ∷ []) t None ≡ Some q
+        → IsLive (p.processes.processes ++ Some session ∷ []) q
     live_after t q h = elim (pushed_at p.processes.threads (length p.processes.processes) t q h) [
       | inl old ↦ live_pushed p.processes.processes (Some session) q (kept.sound.processes_kept.live t q old)
-      | inr new ↦ subst (λ (r : ℕ). IsLive (p.processes.processes ++ Some session ∷ []) r) new (at_end p.processes.processes session)
+      | inr new ↦ subst (λ (r : ℕ). IsLive (p.processes.processes ++ Some session ∷ []) r) new
+          (at_end p.processes.processes session)
     ]
 
 -- a thread comes
 abbrev pub with_thread : PartsState → ℕ → PartsState
 with_thread p process = record p { processes = spec.with_thread p.processes process }
 
-pub kept_thread : (p : PartsState) (process : ℕ) → IsKept p → length p.processes.threads ≤ p.limits.threads → IsLive p.processes.processes process → IsKept (with_thread p process)
+pub kept_thread : (p : PartsState) (process : ℕ) → IsKept p → length p.processes.threads ≤ p.limits.threads
+    → IsLive p.processes.processes process → IsKept (with_thread p process)
 kept_thread p process kept threads live =
     let l = p.processes in
     let sound = kept.sound in
@@ -205,12 +269,17 @@ kept_thread p process kept threads live =
           few_processes = sound.processes_kept.few_processes;
           few_threads = simp length-append (omega arith);
           tabled = sound.processes_kept.tabled;
-          live = λ t q h. elim (pushed_at l.threads process t q h) [ inl old ↦ sound.processes_kept.live t q old | inr new ↦ subst (λ (r : ℕ). IsLive l.processes r) new live ];
+          live = λ t q h. elim (pushed_at l.threads process t q h) [
+            | inl old ↦
+                sound.processes_kept.live t q old
+            | inr new ↦ subst (λ (r : ℕ). IsLive l.processes r) new live
+          ];
         };
         counted = sound.counted;
         named = sound.named;
         formed = sound.formed;
-        of_live = of_live_more l.threads (spec.with_thread l process).threads p.objects.seen.bodies p.waits.waits (λ t h. live_pushed l.threads (Some process) t h) sound.of_live;
+        of_live = of_live_more l.threads (spec.with_thread l process).threads p.objects.seen.bodies p.waits.waits
+            (λ t h. live_pushed l.threads (Some process) t h) sound.of_live;
         room = sound.room;
         listing = sound.listing;
       };

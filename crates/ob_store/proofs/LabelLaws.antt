@@ -7,7 +7,8 @@ use Rattle.ob_store.specs.declared.label.Label.{Label}
 use Rattle.ob_store.specs.declared.seat.Seat.{Seat}
 use Rattle.ob_store.specs.Objects.{Object, Tag, object_at, object_of, objects_in, no_tag, tag_of, tags_in}
 
-pub object_read : (xs : List (Option Seat)) (ls : List Tag) (k : ℕ) → get_or (objects_in xs ls) k None ≡ object_at (get_or xs k None) (get_or ls k no_tag)
+pub object_read : (xs : List (Option Seat)) (ls : List Tag) (k : ℕ)
+    → get_or (objects_in xs ls) k None ≡ object_at (get_or xs k None) (get_or ls k no_tag)
 object_read [] ls k = refl
 object_read (x ∷ xs) [] zero = refl
 object_read (x ∷ xs) [] (suc k) = object_read xs [] k
@@ -20,7 +21,8 @@ objects_length (x ∷ xs) [] = ap suc (objects_length xs [])
 objects_length (x ∷ xs) (l ∷ ls) = ap suc (objects_length xs ls)
 
 -- a seat changes, and its object stays
-pub objects_kept : (xs : List (Option Seat)) (ls : List Tag) (k : ℕ) (y : Option Seat) → ((l : Tag) → object_at y l ≡ object_at (get_or xs k None) l) → objects_in (set xs k y) ls ≡ objects_in xs ls
+pub objects_kept : (xs : List (Option Seat)) (ls : List Tag) (k : ℕ) (y : Option Seat)
+    → ((l : Tag) → object_at y l ≡ object_at (get_or xs k None) l) → objects_in (set xs k y) ls ≡ objects_in xs ls
 objects_kept [] ls k y same = refl
 objects_kept (x ∷ xs) [] zero y same = ap (λ o. o ∷ objects_in xs []) (same no_tag)
 objects_kept (x ∷ xs) [] (suc k) y same = ap (λ t. object_at x no_tag ∷ t) (objects_kept xs [] k y same)
@@ -28,14 +30,16 @@ objects_kept (x ∷ xs) (l ∷ ls) zero y same = ap (λ o. o ∷ objects_in xs l
 objects_kept (x ∷ xs) (l ∷ ls) (suc k) y same = ap (λ t. object_at x l ∷ t) (objects_kept xs ls k y same)
 
 -- a seat and its label come
-pub objects_put : (xs : List (Option Seat)) (ls : List Tag) (k : ℕ) (y : Seat) (m : Tag) → k < length ls → objects_in (set xs k (Some y)) (set ls k m) ≡ set (objects_in xs ls) k (Some (object_of y m))
+pub objects_put : (xs : List (Option Seat)) (ls : List Tag) (k : ℕ) (y : Seat) (m : Tag) → k < length ls
+    → objects_in (set xs k (Some y)) (set ls k m) ≡ set (objects_in xs ls) k (Some (object_of y m))
 objects_put [] ls k y m lt = refl
 objects_put (x ∷ xs) [] k y m lt = absurd (omega (arith, lt))
 objects_put (x ∷ xs) (l ∷ ls) zero y m lt = refl
 objects_put (x ∷ xs) (l ∷ ls) (suc k) y m lt = ap (λ t. object_at x l ∷ t) (objects_put xs ls k y m (omega (arith, lt)))
 
 -- a seat leaves, and its tag stays
-pub objects_out : (xs : List (Option Seat)) (ls : List Tag) (k : ℕ) → objects_in (set xs k None) ls ≡ set (objects_in xs ls) k None
+pub objects_out : (xs : List (Option Seat)) (ls : List Tag) (k : ℕ)
+    → objects_in (set xs k None) ls ≡ set (objects_in xs ls) k None
 objects_out [] ls k = refl
 objects_out (x ∷ xs) [] zero = refl
 objects_out (x ∷ xs) [] (suc k) = ap (λ t. object_at x no_tag ∷ t) (objects_out xs [] k)
@@ -53,12 +57,16 @@ none_object None l = refl
 none_object (Some x) l = refl
 
 -- the object of a slot with a seat
-pub object_here : (xs : List (Option Seat)) (ls : List Tag) (k : ℕ) (x : Seat) (l : Tag) → get_or xs k None ≡ Some x → l ≡ get_or ls k l → k < length ls → get_or (objects_in xs ls) k None ≡ Some (object_of x l)
-object_here xs ls k x l seat label within = object_read xs ls k ∙ ap (λ z. object_at z (get_or ls k no_tag)) seat ∙ ap (λ z. Some (object_of x z)) (get_or_default ls k no_tag l within ∙ sym label)
+pub object_here : (xs : List (Option Seat)) (ls : List Tag) (k : ℕ) (x : Seat) (l : Tag) → get_or xs k None ≡ Some x
+    → l ≡ get_or ls k l → k < length ls → get_or (objects_in xs ls) k None ≡ Some (object_of x l)
+object_here xs ls k x l seat label within = object_read xs ls k ∙ ap (λ z. object_at z (get_or ls k no_tag)) seat
+    ∙ ap (λ z. Some (object_of x z)) (get_or_default ls k no_tag l within ∙ sym label)
 
 -- a slot with an object has a seat
-pub seat_there : (xs : List (Option Seat)) (ls : List Tag) (k : ℕ) → IsSome (get_or (objects_in xs ls) k None) → IsSome (get_or xs k None)
-seat_there xs ls k there = by (get_or xs k None) (get_or ls k no_tag) (subst (λ (z : Option Object). IsSome z) (object_read xs ls k) there)
+pub seat_there : (xs : List (Option Seat)) (ls : List Tag) (k : ℕ) → IsSome (get_or (objects_in xs ls) k None)
+    → IsSome (get_or xs k None)
+seat_there xs ls k there = by (get_or xs k None) (get_or ls k no_tag)
+    (subst (λ (z : Option Object). IsSome z) (object_read xs ls k) there)
   where
     by : (x : Option Seat) (l : Tag) → IsSome (object_at x l) → IsSome x
     by None l there = there
@@ -69,24 +77,30 @@ tags_length [] ns = refl
 tags_length (l ∷ ls) [] = ap suc (tags_length ls [])
 tags_length (l ∷ ls) (n ∷ ns) = ap suc (tags_length ls ns)
 
-pub tag_read : (ls : List Label) (ns : List (Option ObjectName)) (k : ℕ) (l : Label) (n : Option ObjectName) → l ≡ get_or ls k l → n ≡ get_or ns k n → k < length ls → k < length ns → tag_of l n ≡ get_or (tags_in ls ns) k (tag_of l n)
+pub tag_read : (ls : List Label) (ns : List (Option ObjectName)) (k : ℕ) (l : Label) (n : Option ObjectName)
+    → l ≡ get_or ls k l → n ≡ get_or ns k n → k < length ls → k < length ns
+    → tag_of l n ≡ get_or (tags_in ls ns) k (tag_of l n)
 tag_read [] ns k l n is named labelled within = absurd (omega (arith, labelled))
 tag_read (m ∷ ls) [] k l n is named labelled within = absurd (omega (arith, within))
 tag_read (m ∷ ls) (o ∷ ns) zero l n is named labelled within = λ i. tag_of (is i) (named i)
-tag_read (m ∷ ls) (o ∷ ns) (suc k) l n is named labelled within = tag_read ls ns k l n is named (omega (arith, labelled)) (omega (arith, within))
+tag_read (m ∷ ls) (o ∷ ns) (suc k) l n is named labelled within =
+    tag_read ls ns k l n is named (omega (arith, labelled)) (omega (arith, within))
 
 -- a label comes without a name, or with one
-pub tags_plain : (ls : List Label) (ns : List (Option ObjectName)) (k : ℕ) (l : Label) → l.is_named ≡ false → tags_in (set ls k l) ns ≡ set (tags_in ls ns) k (tag_of l None)
+pub tags_plain : (ls : List Label) (ns : List (Option ObjectName)) (k : ℕ) (l : Label) → l.is_named ≡ false
+    → tags_in (set ls k l) ns ≡ set (tags_in ls ns) k (tag_of l None)
 tags_plain [] ns k l plain = refl
 tags_plain (m ∷ ls) [] zero l plain = refl
 tags_plain (m ∷ ls) [] (suc k) l plain = ap (λ t. tag_of m None ∷ t) (tags_plain ls [] k l plain)
 tags_plain (m ∷ ls) (n ∷ ns) zero l plain = ap (λ t. t ∷ tags_in ls ns) (plain_tag l n plain)
   where
     plain_tag : (l : Label) (n : Option ObjectName) → l.is_named ≡ false → tag_of l n ≡ tag_of l None
-    plain_tag l n plain = ap (λ b. record { birth = l.birth; descr = l.descr; name = cond b n None }) plain ∙ ap (λ b. record { birth = l.birth; descr = l.descr; name = cond b None None }) (sym plain)
+    plain_tag l n plain = ap (λ b. record { birth = l.birth; descr = l.descr; name = cond b n None }) plain
+        ∙ ap (λ b. record { birth = l.birth; descr = l.descr; name = cond b None None }) (sym plain)
 tags_plain (m ∷ ls) (n ∷ ns) (suc k) l plain = ap (λ t. tag_of m n ∷ t) (tags_plain ls ns k l plain)
 
-pub tags_named : (ls : List Label) (ns : List (Option ObjectName)) (k : ℕ) (l : Label) (n : Option ObjectName) → k < length ns → tags_in (set ls k l) (set ns k n) ≡ set (tags_in ls ns) k (tag_of l n)
+pub tags_named : (ls : List Label) (ns : List (Option ObjectName)) (k : ℕ) (l : Label) (n : Option ObjectName)
+    → k < length ns → tags_in (set ls k l) (set ns k n) ≡ set (tags_in ls ns) k (tag_of l n)
 tags_named [] ns k l n lt = refl
 tags_named (m ∷ ls) [] k l n lt = absurd (omega (arith, lt))
 tags_named (m ∷ ls) (o ∷ ns) zero l n lt = refl

@@ -32,7 +32,8 @@ use Rattle.ob_store.proofs.ListingLaws.{placed_agreed, listing_removed, listing_
 use Rattle.ob_store.proofs.KeptLaws.{processes_same, same_generations, same_shape}
 
 -- the slot of an object that has a body is live
-live_slot : (k : ℕ) (x : Option Object) (b : Option Body) (r : Bool) (s : Slot) → IsSome x → is_some b ≡ true → Agrees k x b r s → s.phase ≡ phase.Live
+live_slot : (k : ℕ) (x : Option Object) (b : Option Body) (r : Bool) (s : Slot) → IsSome x → is_some b ≡ true
+    → Agrees k x b r s → s.phase ≡ phase.Live
 live_slot k None b r s there has a = absurd (cc)
 live_slot k (Some o) None r s there has a = absurd (cc)
 live_slot k (Some o) (Some b) r s there has a = a.2
@@ -76,7 +77,9 @@ module _ (p : PartsState) (process value : ℕ) (e : Entry)
   only_closes = by (is_last_handle (places_in o) e.id.slot)
     where
       live : (slot_of p.objects.keeper.slots e.id.slot).phase ≡ phase.Live
-      live = live_slot e.id.slot (get_or o.objects e.id.slot None) (get_or o.seen.bodies e.id.slot None) (get_or o.retired e.id.slot false) (slot_of o.keeper.slots e.id.slot) seated has_body (tied.agreed.each e.id.slot (omega (arith, within, tied.agreed.long)))
+      live = live_slot e.id.slot (get_or o.objects e.id.slot None) (get_or o.seen.bodies e.id.slot None)
+          (get_or o.retired e.id.slot false) (slot_of o.keeper.slots e.id.slot) seated has_body
+          (tied.agreed.each e.id.slot (omega (arith, within, tied.agreed.long)))
 
       by : (c : Bool) → opened (cond c (closed o.keeper e.id.slot) o.keeper) ≡ opened o.keeper
       by true = opened_closed o.keeper e.id.slot live
@@ -89,29 +92,53 @@ module _ (p : PartsState) (process value : ℕ) (e : Entry)
   pub bodies_left : AreLeft p.objects.seen.bodies (without_handle_of p.objects e.id.slot).seen.bodies
   bodies_left = left_gone (is_last_handle (places_in o) e.id.slot) o.seen.bodies e.id.slot
 
-  sound_removed : (rows : Rows) → IsListing rows (without_entry_of p.tables.tables process value) p.objects.objects p.objects.births
-      → IsSound (record p { tables = record p.tables { tables = without_entry_of p.tables.tables process value }; objects = without_handle_of p.objects e.id.slot; rows = rows })
+  sound_removed : (rows : Rows) → IsListing rows (without_entry_of p.tables.tables process value) p.objects.objects
+      p.objects.births
+      → IsSound (record p {
+        tables = record p.tables { tables = without_entry_of p.tables.tables process value };
+        objects = without_handle_of p.objects e.id.slot;
+        rows = rows;
+      })
   sound_removed rows listing = record {
-    limited = record { processes_are = sound.limited.processes_are; handles_are = sound.limited.handles_are; waits_are = sound.limited.waits_are; shape_is = same_shape handle_left.keeper o.keeper only_closes ∙ sound.limited.shape_is };
-    processes_kept = processes_same p.limits p.processes (length p.tables.tables) (length tables_after) (length-set p.tables.tables process _) sound.processes_kept;
-    counted = counted_removed o.seen (length o.objects) p.tables.tables p.waits.waits sound.counted handle_left.seen.bodies process value e found;
+    limited = record {
+      processes_are = sound.limited.processes_are;
+      handles_are = sound.limited.handles_are;
+      waits_are = sound.limited.waits_are;
+      shape_is = same_shape handle_left.keeper o.keeper only_closes
+          ∙ sound.limited.shape_is;
+    };
+    processes_kept = processes_same p.limits p.processes (length p.tables.tables) (length tables_after)
+        (length-set p.tables.tables process _) sound.processes_kept;
+    counted = counted_removed o.seen (length o.objects) p.tables.tables p.waits.waits sound.counted
+        handle_left.seen.bodies process value e found;
     named = named_after;
     formed = formed_left p.waits.clock o.objects o.seen.bodies handle_left.seen.bodies bodies_left sound.formed;
-    of_live = of_live_gone (is_last_handle (places_in o) e.id.slot) o.seen.bodies e.id.slot p.processes.threads p.waits.waits sound.of_live;
-    room = room_changed p.limits.max_recursion o.seen.bodies handle_left.seen.bodies p.waits.waits (λ t k h. room_left_at p.limits.max_recursion t o.seen.bodies handle_left.seen.bodies k bodies_left h) sound.room;
+    of_live = of_live_gone (is_last_handle (places_in o) e.id.slot) o.seen.bodies e.id.slot p.processes.threads
+        p.waits.waits sound.of_live;
+    room = room_changed p.limits.max_recursion o.seen.bodies handle_left.seen.bodies p.waits.waits
+        (λ t k h. room_left_at p.limits.max_recursion t o.seen.bodies handle_left.seen.bodies k bodies_left h)
+        sound.room;
     listing = listing;
   }
 
   -- the handles that are left
-  handles_left : get_or (without_handle_of p.objects e.id.slot).seen.handles e.id.slot 0 ≡ handles_among e.id (without_entry_of p.tables.tables process value)
+  handles_left : get_or (without_handle_of p.objects e.id.slot).seen.handles e.id.slot 0
+      ≡ handles_among e.id (without_entry_of p.tables.tables process value)
   handles_left =
-      handles_at handle_left.seen (length o.objects) tables_after p.waits.waits (counted_removed o.seen (length o.objects) p.tables.tables p.waits.waits sound.counted handle_left.seen.bodies process value e found) e.id.slot within
+      handles_at handle_left.seen (length o.objects) tables_after p.waits.waits
+      (counted_removed o.seen (length o.objects) p.tables.tables p.waits.waits sound.counted handle_left.seen.bodies
+      process value e found) e.id.slot within
       ∙ handles_are o.objects tables_after p.waits.waits named_after e.id there
 
-  listing_zero : (x : Object) → get_or p.objects.objects e.id.slot None ≡ Some x → x.id ≡ e.id → handles_among e.id (without_entry_of p.tables.tables process value) ≡ 0 → (name : Option ObjectName) → x.name ≡ name
-      → IsListing (rows_without p.rows name) (without_entry_of p.tables.tables process value) p.objects.objects p.objects.births
-  listing_zero x at own none None is = listing_removed_last p.rows p.tables.tables o.objects o.births sound.listing (placed_agreed o tied.agreed) process value e x found none at own is
-  listing_zero x at own none (Some name) is = listing_name_removed p.rows p.tables.tables o.objects o.births sound.listing (placed_agreed o tied.agreed) process value e x name tied.born found none at own is
+  listing_zero : (x : Object) → get_or p.objects.objects e.id.slot None ≡ Some x → x.id ≡ e.id
+      → handles_among e.id (without_entry_of p.tables.tables process value) ≡ 0 → (name : Option ObjectName)
+      → x.name ≡ name
+      → IsListing (rows_without p.rows name) (without_entry_of p.tables.tables process value) p.objects.objects
+      p.objects.births
+  listing_zero x at own none None is = listing_removed_last p.rows p.tables.tables o.objects o.births sound.listing
+      (placed_agreed o tied.agreed) process value e x found none at own is
+  listing_zero x at own none (Some name) is = listing_name_removed p.rows p.tables.tables o.objects o.births
+      sound.listing (placed_agreed o tied.agreed) process value e x name tied.born found none at own is
 
   -- the names that are left, by what is looked up of the object
   module _ {S : Type 0} (seat : Option S) (handles_of : S → ℕ) (object_of : S → Object) (q : ObjectsState) (rows : Rows)
@@ -123,32 +150,56 @@ module _ (p : PartsState) (process value : ℕ) (e : Entry)
     listing_looked = subst (λ (r : Rows). IsListing r tables_after o.objects o.births) (sym names)
         (by seat (sym (ap (λ (x : ObjectsState). get_or x.objects e.id.slot None) is) ∙ object) handles)
       where
-        left : (n : ℕ) (x : Object) → x.id ≡ e.id → get_or p.objects.objects e.id.slot None ≡ Some x → n ≡ handles_among e.id (without_entry_of p.tables.tables process value) → (b : Bool) → eqb n 0 ≡ b
-            → IsListing (cond b (rows_without p.rows x.name) p.rows) (without_entry_of p.tables.tables process value) p.objects.objects p.objects.births
-        left n x own at count true zero_is = listing_zero x at own (let z : n ≡ 0 = grind (arith, nat_tests, zero_is) in omega (arith, count, z)) x.name refl
-        left n x own at count false some_is = listing_removed p.rows p.tables.tables o.objects o.births sound.listing process value e found (let z : 0 < n = grind (arith, nat_tests, some_is) in omega (arith, count, z))
+        left : (n : ℕ) (x : Object) → x.id ≡ e.id → get_or p.objects.objects e.id.slot None ≡ Some x
+            → n ≡ handles_among e.id (without_entry_of p.tables.tables process value) → (b : Bool) → eqb n 0 ≡ b
+            → IsListing (cond b (rows_without p.rows x.name) p.rows)
+            (without_entry_of p.tables.tables process value) p.objects.objects p.objects.births
+        left n x own at count true zero_is = listing_zero x at own (let z : n ≡ 0 = grind (arith, nat_tests, zero_is) in
+            omega (arith, count, z)) x.name refl
+        left n x own at count false some_is = listing_removed p.rows p.tables.tables o.objects o.births sound.listing
+            process value e found (let z : 0 < n = grind (arith, nat_tests, some_is) in omega (arith, count, z))
 
-        by : (seat : Option S) → get_or p.objects.objects e.id.slot None ≡ option_map object_of seat → IfSome seat (λ s. get_or q.seen.handles e.id.slot 0 ≡ handles_of s)
-            → IsListing (rows_left p.rows (option_map handles_of seat) (option_map object_of seat)) (without_entry_of p.tables.tables process value) p.objects.objects p.objects.births
+        by : (seat : Option S) → get_or p.objects.objects e.id.slot None ≡ option_map object_of seat
+            → IfSome seat (λ s. get_or q.seen.handles e.id.slot 0 ≡ handles_of s)
+            → IsListing (rows_left p.rows (option_map handles_of seat) (option_map object_of seat))
+            (without_entry_of p.tables.tables process value) p.objects.objects p.objects.births
         by None at count = absurd (let none = ap is_some at in let some = seated in cc (none, some))
         by (Some s) at count =
             let x = there_some o.objects e.id there in
             let same : x.0 ≡ object_of s = some_same (sym x.1 ∙ at) in
-            left (handles_of s) (object_of s) (ap (λ (z : Object). z.id) (sym same) ∙ x.2) at (sym count ∙ ap (λ (z : ObjectsState). get_or z.seen.handles e.id.slot 0) is ∙ handles_left) (eqb (handles_of s) 0) refl
+            left (handles_of s) (object_of s) (ap (λ (z : Object). z.id) (sym same) ∙ x.2) at (sym count
+            ∙ ap (λ (z : ObjectsState). get_or z.seen.handles e.id.slot 0) is
+            ∙ handles_left) (eqb (handles_of s) 0) refl
 
     abbrev pub removed : PartsState
-    removed = record p { tables = record p.tables { tables = without_entry_of p.tables.tables process value }; objects = q; rows = rows }
+    removed = record p {
+      tables = record p.tables { tables = without_entry_of p.tables.tables process value };
+      objects = q;
+      rows = rows;
+    }
 
     pub sound_left : IsSound removed
-    sound_left = subst (λ (x : ObjectsState). IsSound (record p { tables = record p.tables { tables = tables_after }; objects = x; rows = rows })) (sym is) (sound_removed rows listing_looked)
+    sound_left = subst (λ (x : ObjectsState). IsSound (record p {
+      tables = record p.tables { tables = tables_after };
+      objects = x;
+      rows = rows;
+    })) (sym is) (sound_removed rows listing_looked)
 
-    pub way_left : IsTied q → (first : KeeperState) (s : State) → IsUnderWay first p s → IsUnderWay first removed (record s { tables = without_entry_of p.tables.tables process value })
+    pub way_left : IsTied q → (first : KeeperState) (s : State) → IsUnderWay first p s
+        → IsUnderWay first removed (record s { tables = without_entry_of p.tables.tables process value })
     way_left after first s way = record {
       tied = after;
       sound = sound_left;
-      rest = (let generations = same_generations q.keeper o.keeper closes in λ i. record (state_of removed) { objects = (is i).objects; generations = generations i; retired = (is i).retired; births = (is i).births })
+      rest = (let generations = same_generations q.keeper o.keeper closes in
+          λ i. record (state_of removed) {
+            objects = (is i).objects;
+            generations = generations i;
+            retired = (is i).retired;
+            births = (is i).births;
+          })
           ∙ ap (λ (x : State). record x { tables = tables_after; bodies = q.seen.bodies }) way.rest;
-      bodies = left_more s.bodies o.seen.bodies q.seen.bodies way.bodies (subst (λ (x : ObjectsState). AreLeft o.seen.bodies x.seen.bodies) (sym is) bodies_left);
+      bodies = left_more s.bodies o.seen.bodies q.seen.bodies way.bodies
+          (subst (λ (x : ObjectsState). AreLeft o.seen.bodies x.seen.bodies) (sym is) bodies_left);
       keeper = closes ∙ way.keeper;
     }
       where

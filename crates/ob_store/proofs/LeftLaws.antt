@@ -22,7 +22,14 @@ left_same bodies = record { long = refl; each = λ k. inl refl }
 pub left_more : (a b c : List (Option Body)) → AreLeft a b → AreLeft b c → AreLeft a c
 left_more a b c ab bc = record {
   long = bc.long ∙ ab.long;
-  each = λ k. elim (bc.each k) [ inl same ↦ elim (ab.each k) [ inl before ↦ inl (same ∙ before) | inr none ↦ inr (same ∙ none) ] | inr none ↦ inr none ];
+  each = λ k. elim (bc.each k) [
+    | inl same ↦ elim (ab.each k) [
+      | inl before ↦ inl (same ∙ before)
+      | inr none ↦
+          inr (same ∙ none)
+    ]
+    | inr none ↦ inr none
+  ];
 }
 
 pub left_gone : (c : Bool) (bodies : List (Option Body)) (i : ℕ) → AreLeft bodies (cond c (set bodies i None) bodies)
@@ -49,28 +56,42 @@ less_gone bodies after left = record {
 }
 
 -- the others are of their forms
-pub formed_left : (clock : ℕ) (objects : List (Option Object)) (bodies after : List (Option Body)) → AreLeft bodies after → AreFormed clock objects bodies → AreFormed clock objects after
-formed_left clock objects bodies after left = formed_by clock objects bodies after (λ k h. elim (left.each k) [ inl same ↦ ap slot_form same | inr none ↦ absurd (let e = ap is_some none in cc (e, h)) ])
+pub formed_left : (clock : ℕ) (objects : List (Option Object)) (bodies after : List (Option Body))
+    → AreLeft bodies after → AreFormed clock objects bodies → AreFormed clock objects after
+formed_left clock objects bodies after left = formed_by clock objects bodies after
+    (λ k h. elim (left.each k) [
+      | inl same ↦ ap slot_form same
+      | inr none ↦
+          absurd (let e = ap is_some none in cc (e, h))
+    ])
 
 -- and have the room that they had
-pub room_left_at : (limit t : ℕ) (bodies after : List (Option Body)) (k : ℕ) → AreLeft bodies after → slot_room limit t (get_or bodies k None) ≡ true → slot_room limit t (get_or after k None) ≡ true
+pub room_left_at : (limit t : ℕ) (bodies after : List (Option Body)) (k : ℕ) → AreLeft bodies after
+    → slot_room limit t (get_or bodies k None) ≡ true → slot_room limit t (get_or after k None) ≡ true
 room_left_at limit t bodies after k left h = elim (left.each k) [
   | inl same ↦ subst (λ (x : Option Body). slot_room limit t x ≡ true) (sym same) h
   | inr none ↦ subst (λ (x : Option Body). slot_room limit t x ≡ true) (sym none) refl
 ]
 
 -- where bodies went that were to go, all that was to end has ended
-gone_ended : (after : Objects) (bodies : List (Option Body)) (k : ℕ) → HasBodies after → (get_or after.bodies k None ≡ get_or bodies k None) ⊎ (get_or after.bodies k None ≡ None)
-    → get_or after.bodies k None ≡ slot_ended (get_or after.handles k 0) (get_or after.blocks k 0) (get_or bodies k None)
+gone_ended : (after : Objects) (bodies : List (Option Body)) (k : ℕ) → HasBodies after
+    → (get_or after.bodies k None ≡ get_or bodies k None) ⊎ (get_or after.bodies k None ≡ None)
+    → get_or after.bodies k None ≡ slot_ended (get_or after.handles k 0) (get_or after.blocks k 0)
+    (get_or bodies k None)
 gone_ended after bodies k has at = elim at [
-  | inl same ↦ unended (get_or after.handles k 0) (get_or after.blocks k 0) (get_or after.bodies k None) (has.each k) ∙ ap (slot_ended (get_or after.handles k 0) (get_or after.blocks k 0)) same
+  | inl same ↦ unended (get_or after.handles k 0) (get_or after.blocks k 0) (get_or after.bodies k None) (has.each k)
+      ∙ ap (slot_ended (get_or after.handles k 0) (get_or after.blocks k 0)) same
   | inr none ↦ none ∙ by (get_or after.handles k 0 + get_or after.blocks k 0) (sym (has.each k) ∙ ap is_some none)
 ]
   where
     by : (n : ℕ) → ltb 0 n ≡ false → None ≡ cond (eqb n 0) None (get_or bodies k None)
-    by n is = let yes : eqb n 0 ≡ true = grind (arith, nat_tests, is) in ap (λ b. cond b None (get_or bodies k None)) (sym yes)
+    by n is = let yes : eqb n 0 ≡ true = grind (arith, nat_tests, is) in
+        ap (λ b. cond b None (get_or bodies k None)) (sym yes)
 
-pub ended_gone : (after : Objects) (bodies : List (Option Body)) → HasBodies after → AreLeft bodies after.bodies → ended (record after { bodies = bodies }) ≡ after
+pub ended_gone : (after : Objects) (bodies : List (Option Body)) → HasBodies after → AreLeft bodies after.bodies
+    → ended (record after { bodies = bodies }) ≡ after
 ended_gone after bodies has left =
-    let is : after.bodies ≡ (ended (record after { bodies = bodies })).bodies = is_ended (record after { bodies = bodies }) after.bodies left.long (λ k. gone_ended after bodies k has (left.each k)) in
+    let is : after.bodies ≡ (ended (record after { bodies = bodies })).bodies =
+    is_ended (record after { bodies = bodies }) after.bodies left.long
+    (λ k. gone_ended after bodies k has (left.each k)) in
     λ i. record { bodies = sym is i; handles = after.handles; blocks = after.blocks }

@@ -15,18 +15,22 @@ use Rattle.ob_store.specs.Objects.{Object, ObjectsState, Head, object_in}
 use Rattle.ob_store.specs.Agreement.{Listed, IsListed}
 
 -- an object set at a slot, or one that leaves
-pub listed_set : (ps : List (Id × Descr)) (objects : List (Option Object)) (s : ℕ) (x : Option Object) → Listed ps x → IsListed ps objects → IsListed ps (set objects s x)
+pub listed_set : (ps : List (Id × Descr)) (objects : List (Option Object)) (s : ℕ) (x : Option Object) → Listed ps x
+    → IsListed ps objects → IsListed ps (set objects s x)
 listed_set ps objects s x new old = record {
   each = λ j. elim (cases_eq j s) [
-    | inl same ↦ subst (λ (k : ℕ). Listed ps (get_or (set objects s x) k None)) (sym same) (elim (cases_lt s (length objects)) [
-      | inl lt ↦ subst (Listed ps) (sym (get_or-set_same objects s x None lt)) new
-      | inr le ↦ subst (Listed ps) (sym (get_or_past (set objects s x) s None (omega (arith, length-set objects s x)))) tt
-    ])
+    | inl same ↦ subst (λ (k : ℕ). Listed ps (get_or (set objects s x) k None)) (sym same)
+        (elim (cases_lt s (length objects)) [
+          | inl lt ↦ subst (Listed ps) (sym (get_or-set_same objects s x None lt)) new
+          | inr le ↦ subst (Listed ps) (sym (get_or_past (set objects s x) s None (omega (arith, length-set objects s x))))
+              tt
+        ])
     | inr other ↦ subst (Listed ps) (sym (get_or-set_other objects s j x None other)) (old.each j)
   ];
 }
 
-pub listed_gone : (ps : List (Id × Descr)) (objects : List (Option Object)) (s : ℕ) → IsListed ps objects → IsListed ps (set objects s None)
+pub listed_gone : (ps : List (Id × Descr)) (objects : List (Option Object)) (s : ℕ) → IsListed ps objects
+    → IsListed ps (set objects s None)
 listed_gone ps objects s old = listed_set ps objects s None tt old
 
 more : (ps : List (Id × Descr)) (p : Id × Descr) (x : Option Object) → Listed ps x → Listed (ps ++ p ∷ []) x
@@ -37,15 +41,23 @@ is_with_self : (id : Id) (d : Descr) → is_with id d (id, d) ≡ true
 is_with_self id d = grind arith
 
 new_one : (ps : List (Id × Descr)) (p : Id × Descr) (o : Object) → p ≡ (o.id, o.descr) → Listed (ps ++ p ∷ []) (Some o)
-new_one ps p o is = let c = count-snoc (is_with o.id o.descr) ps p in let w : weight (is_with o.id o.descr p) ≡ 1 = ap (λ (z : Id × Descr). weight (is_with o.id o.descr z)) is ∙ ap weight (is_with_self o.id o.descr) in omega arith
+new_one ps p o is = let c = count-snoc (is_with o.id o.descr) ps p in let w : weight (is_with o.id o.descr p) ≡ 1 =
+    ap (λ (z : Id × Descr). weight (is_with o.id o.descr z)) is ∙ ap weight (is_with_self o.id o.descr) in omega arith
 
 -- a new object is published with its descriptor
-pub listed_added : (s : ObjectsState) (k : ℕ) (head : Head) → k < length s.keeper.slots → IsListed s.keeper.published s.objects
+pub listed_added : (s : ObjectsState) (k : ℕ) (head : Head) → k < length s.keeper.slots
+    → IsListed s.keeper.published s.objects
     → IsListed (published (stored s.keeper k head.descr) k).published (set s.objects k (Some (object_in s k head)))
 listed_added s k head inside old =
     let slots = set s.keeper.slots k (with_descr (slot_of s.keeper.slots k) head.descr) in
     let o : Object = object_in s k head in
-    let at : slot_of slots k ≡ with_descr (slot_of s.keeper.slots k) head.descr = get_or-set_same s.keeper.slots k (with_descr (slot_of s.keeper.slots k) head.descr) opening_slot inside in
-    let p : (id_of slots k, (slot_of slots k).descr) ≡ (o.id, o.descr) = λ i. ((ap (λ (x : Slot). let z : Id = record { slot = k; generation = x.generation } in z) at) i, (ap (λ (x : Slot). x.descr) at) i) in
-    listed_set (published (stored s.keeper k head.descr) k).published s.objects k (Some o) (new_one s.keeper.published _ o p)
+    let at : slot_of slots k ≡ with_descr (slot_of s.keeper.slots k) head.descr =
+    get_or-set_same s.keeper.slots k (with_descr (slot_of s.keeper.slots k) head.descr) opening_slot inside in
+    let p : (id_of slots k, (slot_of slots k).descr) ≡ (o.id, o.descr) =
+    λ i. (
+      (ap (λ (x : Slot). let z : Id = record { slot = k; generation = x.generation } in z) at) i,
+      (ap (λ (x : Slot). x.descr) at) i,
+    ) in
+    listed_set (published (stored s.keeper k head.descr) k).published s.objects k (Some o)
+    (new_one s.keeper.published _ o p)
     (record { each = λ j. more s.keeper.published _ (get_or s.objects j None) (old.each j) })

@@ -43,7 +43,8 @@ both_have m n up down = grind (arith, nat_tests)
 table_among : (id : Id) (ts : Tables) (p : ℕ) → handles_in id (table_of ts p) ≤ handles_among id ts
 table_among id ts p = elim (cases_lt p (length ts)) [
   | inl less ↦ handles_in-among id ts p less
-  | inr past ↦ let none : handles_in id (table_of ts p) ≡ 0 = ap (handles_in id) (get_or_past ts p [] past) in omega (arith, none)
+  | inr past ↦ let none : handles_in id (table_of ts p) ≡ 0 = ap (handles_in id) (get_or_past ts p [] past) in
+      omega (arith, none)
 ]
 
 child_has : (id : Id) (ts : Tables) (from : ℕ) → has_handles id (with_child ts from) ≡ has_handles id ts
@@ -51,35 +52,45 @@ child_has id ts from =
     let sum = handles_among-with_child id ts from in
     let among = table_among id ts from in
     let fewer = handles_in-inherited id (table_of ts from) in
-    both_have (handles_among id (with_child ts from)) (handles_among id ts) (λ some. omega (arith, sum, among, fewer, some)) (λ some. omega (arith, sum, some))
+    both_have (handles_among id (with_child ts from)) (handles_among id ts)
+    (λ some. omega (arith, sum, among, fewer, some)) (λ some. omega (arith, sum, some))
 
 -- an entry of another object counts nothing
 other_one : (id : Id) (e : Entry) → same_id id e.id ≡ false → one_of id e ≡ 0
-other_one id e other = ap {B = ℕ} (λ b. cond b 1 0) (false_from_ne_true (same_id e.id id) (λ is. let again : same_id id e.id ≡ true = ap (same_id id) (one_id e.id id is) ∙ same_id-same id in absurd (cc (again, other))))
+other_one id e other = ap {B = ℕ} (λ b. cond b 1 0)
+    (false_from_ne_true (same_id e.id id) (λ is. let again : same_id id e.id ≡ true =
+    ap (same_id id) (one_id e.id id is) ∙ same_id-same id in absurd (cc (again, other))))
 
 -- tables that differ by an entry: where its object has handles without it, the same objects have handles
-still_has : (more fewer : Tables) (e : Entry) (id : Id) (b : Bool) → same_id id e.id ≡ b → handles_among id fewer + one_of id e ≡ handles_among id more → 0 < handles_among e.id fewer
+still_has : (more fewer : Tables) (e : Entry) (id : Id) (b : Bool) → same_id id e.id ≡ b
+    → handles_among id fewer + one_of id e ≡ handles_among id more → 0 < handles_among e.id fewer
     → has_handles id fewer ≡ has_handles id more
 still_has more fewer e id true is sum some =
-    let same : handles_among id fewer ≡ handles_among e.id fewer = ap (λ (i : Id). handles_among i fewer) (one_id id e.id is) in
-    both_have (handles_among id fewer) (handles_among id more) (λ _. omega (arith, sum, same, some)) (λ _. omega (arith, same, some))
+    let same : handles_among id fewer ≡ handles_among e.id fewer =
+    ap (λ (i : Id). handles_among i fewer) (one_id id e.id is) in
+    both_have (handles_among id fewer) (handles_among id more) (λ _. omega (arith, sum, same, some))
+    (λ _. omega (arith, same, some))
 still_has more fewer e id false is sum some =
     let none = other_one id e is in
     let same : handles_among id fewer ≡ handles_among id more = omega (arith, sum, none) in
     ap (λ n. ltb 0 n) same
 
 -- else its object alone has none any more
-none_left : (more fewer : Tables) (e : Entry) (id : Id) (b : Bool) → same_id id e.id ≡ b → handles_among id fewer + one_of id e ≡ handles_among id more → handles_among e.id fewer ≡ 0
+none_left : (more fewer : Tables) (e : Entry) (id : Id) (b : Bool) → same_id id e.id ≡ b
+    → handles_among id fewer + one_of id e ≡ handles_among id more → handles_among e.id fewer ≡ 0
     → has_handles id fewer ≡ (not b && has_handles id more)
-none_left more fewer e id true is sum none = ap (λ (i : Id). has_handles i fewer) (one_id id e.id is) ∙ ap (λ n. ltb 0 n) none
+none_left more fewer e id true is sum none = ap (λ (i : Id). has_handles i fewer) (one_id id e.id is)
+    ∙ ap (λ n. ltb 0 n) none
 none_left more fewer e id false is sum none =
     let nothing = other_one id e is in
     let same : handles_among id fewer ≡ handles_among id more = omega (arith, sum, nothing) in
     ap (λ n. ltb 0 n) same
 
 -- an entry that comes for an object of an empty slot is none of the other objects'
-others_have : (ts : Tables) (objects : ObjectSlots) (p : ℕ) (e : Entry) (k : ℕ) (o : Object) (b : Bool) → ArePlaced objects → p < length ts
-    → get_or objects e.id.slot None ≡ None → get_or objects k None ≡ Some o → same_id o.id e.id ≡ b → has_handles o.id (with_entry_of ts p e) ≡ has_handles o.id ts
+others_have : (ts : Tables) (objects : ObjectSlots) (p : ℕ) (e : Entry) (k : ℕ) (o : Object) (b : Bool)
+    → ArePlaced objects → p < length ts
+    → get_or objects e.id.slot None ≡ None → get_or objects k None ≡ Some o → same_id o.id e.id ≡ b
+    → has_handles o.id (with_entry_of ts p e) ≡ has_handles o.id ts
 others_have ts objects p e k o true placed table empty at is =
     let slot : k ≡ e.id.slot = sym (placed k o at) ∙ ap (λ (i : Id). i.slot) (one_id o.id e.id is) in
     absurd (none_some o (sym empty ∙ ap (λ j. get_or objects j None) (sym slot) ∙ at))
@@ -90,62 +101,87 @@ others_have ts objects p e k o false placed table empty at is =
     ap (λ n. ltb 0 n) same
 
 -- the rows with a new object and its first entry
-rows_with : (ts : Tables) (objects : ObjectSlots) (births p : ℕ) (e : Entry) (o : Object) (name : Option ObjectName) → ArePlaced objects → AreBorn objects births → p < length ts
+rows_with : (ts : Tables) (objects : ObjectSlots) (births p : ℕ) (e : Entry) (o : Object) (name : Option ObjectName)
+    → ArePlaced objects → AreBorn objects births → p < length ts
     → o.id ≡ e.id → o.birth ≡ births → o.name ≡ name → get_or objects e.id.slot None ≡ None → e.id.slot < length objects
-    → rows_of (with_entry_of ts p e) (set objects e.id.slot (Some o)) (births + 1) ≡ rows_of ts objects births ++ cons_option (named_row o.id name) []
+    → rows_of (with_entry_of ts p e) (set objects e.id.slot (Some o)) (births + 1) ≡ rows_of ts objects births
+    ++ cons_option (named_row o.id name) []
 rows_with ts objects births p e o name placed born table own number named empty within =
     let after : Tables = with_entry_of ts p e in
-    let sum : handles_among e.id after ≡ handles_among e.id ts + one_of e.id e = handles_among-with_entry e.id ts p e table in
+    let sum : handles_among e.id after ≡ handles_among e.id ts + one_of e.id e =
+    handles_among-with_entry e.id ts p e table in
     let one = one_of-same e in
     let has : has_handles e.id after ≡ true = lt-ltb 0 (handles_among e.id after) (omega (arith, sum, one)) in
-    let others : rows_of after objects births ≡ rows_of ts objects births = rows_same ts after objects births (λ k q at. others_have ts objects p e k q (same_id q.id e.id) placed table empty at refl) in
+    let others : rows_of after objects births ≡ rows_of ts objects births =
+    rows_same ts after objects births (λ k q at. others_have ts objects p e k q
+    (same_id q.id e.id) placed table empty at refl) in
     ap (rows_of after (set objects e.id.slot (Some o))) (add-one births)
-    ∙ rows_added after objects e.id.slot o births within empty number (ap (λ (i : Id). has_handles i after) own ∙ has) born.below
+    ∙ rows_added after objects e.id.slot o births within empty number (ap (λ (i : Id). has_handles i after) own
+    ∙ has) born.below
     ∙ λ i. others i ++ cons_option (named_row o.id (named i)) []
 
 -- a name that isn't there comes last
-distinct_with : (rows : Rows) (name : ObjectName) (id : Id) → AreDistinct rows → find_name name rows ≡ None → AreDistinct (rows ++ (name, id) ∷ [])
+distinct_with : (rows : Rows) (name : ObjectName) (id : Id) → AreDistinct rows → find_name name rows ≡ None
+    → AreDistinct (rows ++ (name, id) ∷ [])
 distinct_with rows name id distinct absent =
-    subst (IsDistinct same_name) (sym (map-append (λ (row : Row). row.0) rows ((name, id) ∷ []))) (IsDistinct-push same_name_equiv (keys_of rows) name distinct (sym (is_some-lookup (same_name name) rows) ∙ ap is_some absent))
+    subst (IsDistinct same_name) (sym (map-append (λ (row : Row). row.0) rows ((name, id) ∷ [])))
+    (IsDistinct-push same_name_equiv (keys_of rows) name distinct (sym (is_some-lookup (same_name name) rows)
+    ∙ ap is_some absent))
 
 -- where rows have the Id just if they have the name, those without the name are those without the Id
-name_goes : (name : ObjectName) (id : Id) (rows : Rows) → AreDistinct rows → All (λ (row : Row). same_id row.1 id ≡ same_name name row.0) rows → without_name name rows ≡ filter (is_of_other id) rows
+name_goes : (name : ObjectName) (id : Id) (rows : Rows) → AreDistinct rows
+    → All (λ (row : Row). same_id row.1 id ≡ same_name name row.0) rows
+    → without_name name rows ≡ filter (is_of_other id) rows
 name_goes name id [] distinct alike = refl
 name_goes name id (row ∷ rows) distinct alike =
-    let later : All (λ (r : Row). same_id r.1 id ≡ same_name name r.0) rows = All-tail (λ (r : Row). same_id r.1 id ≡ same_name name r.0) row rows alike in
+    let later : All (λ (r : Row). same_id r.1 id ≡ same_name name r.0) rows =
+    All-tail (λ (r : Row). same_id r.1 id ≡ same_name name r.0) row rows alike in
     first_goes id row rows (without_name name rows) (same_name name row.0) (alike 0 row (omega arith))
-    (λ is. others_stay id rows (λ k d less. later k d less ∙ All-from_recursion (λ (r : Row). same_name name r.0 ≡ false) rows (none_past_head same_name_equiv name row rows distinct is) k d less))
+    (λ is. others_stay id rows (λ k d less. later k d less
+    ∙ All-from_recursion (λ (r : Row). same_name name r.0 ≡ false) rows
+    (none_past_head same_name_equiv name row rows distinct is) k d less))
     (name_goes name id rows (IsDistinct-tail same_name row.0 (keys_of rows) distinct) later)
 
 -- a row with an object's Id has its name
-row_names : (ts : Tables) (objects : ObjectSlots) (o : Object) (row : Row) → ArePlaced objects → get_or objects o.id.slot None ≡ Some o → IsRow ts objects row → row.1 ≡ o.id → o.name ≡ Some row.0
+row_names : (ts : Tables) (objects : ObjectSlots) (o : Object) (row : Row) → ArePlaced objects
+    → get_or objects o.id.slot None ≡ Some o → IsRow ts objects row → row.1 ≡ o.id → o.name ≡ Some row.0
 row_names ts objects o row placed at is one =
-    let slot : is.place ≡ o.id.slot = sym (placed is.place is.object is.there) ∙ ap (λ (i : Id). i.slot) (is.its_id ∙ one) in
+    let slot : is.place ≡ o.id.slot = sym (placed is.place is.object is.there)
+    ∙ ap (λ (i : Id). i.slot) (is.its_id ∙ one) in
     let object : is.object ≡ o = some_is is.object o (sym is.there ∙ ap (λ k. get_or objects k None) slot ∙ at) in
     ap (λ (q : Object). q.name) (sym object) ∙ is.its_name
 
 -- and where names are distinct, a row with its name has its Id
-row_alike : (ts : Tables) (objects : ObjectSlots) (rows : Rows) (o : Object) (name : ObjectName) (row : Row) → AreDistinct rows → ArePlaced objects → get_or objects o.id.slot None ≡ Some o → o.name ≡ Some name
+row_alike : (ts : Tables) (objects : ObjectSlots) (rows : Rows) (o : Object) (name : ObjectName) (row : Row)
+    → AreDistinct rows → ArePlaced objects → get_or objects o.id.slot None ≡ Some o → o.name ≡ Some name
     → Contains rows (name, o.id) → Contains rows row → IsRow ts objects row → same_id row.1 o.id ≡ same_name name row.0
-row_alike ts objects rows o name row distinct placed at named there also is = both_ways (same_id row.1 o.id) (same_name name row.0) up down
+row_alike ts objects rows o name row distinct placed at named there also is =
+    both_ways (same_id row.1 o.id) (same_name name row.0) up down
   where
     up : same_id row.1 o.id ≡ true → same_name name row.0 ≡ true
-    up one = (same_name-Decides name row.0).1 (some_is name row.0 (sym named ∙ row_names ts objects o row placed at is (one_id row.1 o.id one)))
+    up one = (same_name-Decides name row.0).1 (some_is name row.0 (sym named
+        ∙ row_names ts objects o row placed at is (one_id row.1 o.id one)))
 
     down : same_name name row.0 ≡ true → same_id row.1 o.id ≡ true
     down one =
-        let own : find_name name rows ≡ Some o.id = lookup-from_Contains same_name_equiv name o.id rows distinct there in
-        let other : find_name row.0 rows ≡ Some row.1 = lookup-from_Contains same_name_equiv row.0 row.1 rows distinct also in
-        let same : row.1 ≡ o.id = some_is row.1 o.id (sym other ∙ ap (λ (n : ObjectName). find_name n rows) (sym ((same_name-Decides name row.0).0 one)) ∙ own) in
+        let own : find_name name rows ≡ Some o.id = lookup-from_Contains same_name_equiv name o.id rows distinct there
+        in
+        let other : find_name row.0 rows ≡ Some row.1 =
+        lookup-from_Contains same_name_equiv row.0 row.1 rows distinct also in
+        let same : row.1 ≡ o.id = some_is row.1 o.id (sym other
+        ∙ ap (λ (n : ObjectName). find_name n rows) (sym ((same_name-Decides name row.0).0 one)) ∙ own) in
         ap (λ (i : Id). same_id i o.id) same ∙ same_id-same o.id
 
 -- the rows once the last entry of an object left
-rows_without : (ts : Tables) (objects : ObjectSlots) (births p value : ℕ) (e : Entry) → entry_at (table_of ts p) value ≡ Some e → handles_among e.id (without_entry_of ts p value) ≡ 0
+rows_without : (ts : Tables) (objects : ObjectSlots) (births p value : ℕ) (e : Entry)
+    → entry_at (table_of ts p) value ≡ Some e → handles_among e.id (without_entry_of ts p value) ≡ 0
     → rows_of (without_entry_of ts p value) objects births ≡ filter (is_of_other e.id) (rows_of ts objects births)
 rows_without ts objects births p value e found none = rows_gone ts (without_entry_of ts p value) e.id objects births
-    (λ o. none_left ts (without_entry_of ts p value) e o.id (same_id o.id e.id) refl (handles_among-without_entry o.id ts p value e found) none)
+    (λ o. none_left ts (without_entry_of ts p value) e o.id (same_id o.id e.id) refl
+    (handles_among-without_entry o.id ts p value e found) none)
 
-here : (objects : ObjectSlots) (e : Entry) (o : Object) → get_or objects e.id.slot None ≡ Some o → o.id ≡ e.id → get_or objects o.id.slot None ≡ Some o
+here : (objects : ObjectSlots) (e : Entry) (o : Object) → get_or objects e.id.slot None ≡ Some o → o.id ≡ e.id
+    → get_or objects o.id.slot None ≡ Some o
 here objects e o at own = ap (λ (i : Id). get_or objects i.slot None) own ∙ at
 
 -- what is found by its name: an object of that name, which has handles
@@ -156,22 +192,30 @@ pub record IsFound (ts : Tables) (objects : ObjectSlots) (name : ObjectName) (id
   pub its_name : object.name ≡ Some name
   pub has : 0 < handles_among id ts
 
-found_row : (ts : Tables) (objects : ObjectSlots) (name : ObjectName) (id : Id) → ArePlaced objects → IsRow ts objects (name, id) → IsFound ts objects name id
+found_row : (ts : Tables) (objects : ObjectSlots) (name : ObjectName) (id : Id) → ArePlaced objects
+    → IsRow ts objects (name, id) → IsFound ts objects name id
 found_row ts objects name id placed is = record {
   object = is.object;
-  there = ap (λ k. get_or objects k None) (ap (λ (i : Id). i.slot) (sym is.its_id) ∙ placed is.place is.object is.there) ∙ is.there;
+  there = ap (λ k. get_or objects k None) (ap (λ (i : Id). i.slot) (sym is.its_id) ∙ placed is.place is.object is.there)
+      ∙ is.there;
   its_id = is.its_id;
   its_name = is.its_name;
   has = ltb-true 0 (handles_among id ts) is.has;
 }
 
-module _ (rows : Rows) (ts : Tables) (objects : ObjectSlots) (births : ℕ) (listing : IsListing rows ts objects births) where
+module _ (rows : Rows) (ts : Tables) (objects : ObjectSlots) (births : ℕ)
+    (listing : IsListing rows ts objects births) where
   -- the same objects have handles
-  listing_alike : (ts' : Tables) → ((k : ℕ) (o : Object) → get_or objects k None ≡ Some o → has_handles o.id ts' ≡ has_handles o.id ts) → IsListing rows ts' objects births
-  listing_alike ts' same = record { same = listing.same ∙ sym (rows_same ts ts' objects births same); distinct = listing.distinct }
+  listing_alike : (ts' : Tables) → ((k : ℕ) (o : Object) → get_or objects k None ≡ Some o
+      → has_handles o.id ts' ≡ has_handles o.id ts) → IsListing rows ts' objects births
+  listing_alike ts' same = record {
+    same = listing.same ∙ sym (rows_same ts ts' objects births same);
+    distinct = listing.distinct;
+  }
 
   -- each Id has as many handles as before
-  pub listing_counts : (ts' : Tables) → ((id : Id) → handles_among id ts' ≡ handles_among id ts) → IsListing rows ts' objects births
+  pub listing_counts : (ts' : Tables) → ((id : Id) → handles_among id ts' ≡ handles_among id ts)
+      → IsListing rows ts' objects births
   listing_counts ts' same = listing_alike ts' (λ k o at. ap (λ n. ltb 0 n) (same o.id))
 
   -- a process comes, without entries or with those that it inherits
@@ -182,24 +226,35 @@ module _ (rows : Rows) (ts : Tables) (objects : ObjectSlots) (births : ℕ) (lis
   listing_child from = listing_alike (with_child ts from) (λ k o at. child_has o.id ts from)
 
   -- an entry has other flags
-  pub listing_flags : (p value : ℕ) (e : Entry) (flags : HandleFlags) → entry_at (table_of ts p) value ≡ Some e → IsListing rows (with_flags_of ts p value flags) objects births
-  listing_flags p value e flags found = listing_alike (with_flags_of ts p value flags) (λ k o at. ap (λ n. ltb 0 n) (handles_among-with_flags o.id ts p value e flags found))
+  pub listing_flags : (p value : ℕ) (e : Entry) (flags : HandleFlags) → entry_at (table_of ts p) value ≡ Some e
+      → IsListing rows (with_flags_of ts p value flags) objects births
+  listing_flags p value e flags found = listing_alike (with_flags_of ts p value flags)
+      (λ k o at. ap (λ n. ltb 0 n) (handles_among-with_flags o.id ts p value e flags found))
 
   -- an entry comes for an object that has one
-  pub listing_placed : (p : ℕ) (e : Entry) → 0 < handles_among e.id ts → IsListing rows (with_entry_of ts p e) objects births
+  pub listing_placed : (p : ℕ) (e : Entry) → 0 < handles_among e.id ts
+      → IsListing rows (with_entry_of ts p e) objects births
   listing_placed p e some = elim (cases_lt p (length ts)) [
-    | inl table ↦ listing_alike (with_entry_of ts p e) (λ k o at. sym (still_has (with_entry_of ts p e) ts e o.id (same_id o.id e.id) refl (sym (handles_among-with_entry o.id ts p e table)) some))
+    | inl table ↦ listing_alike (with_entry_of ts p e)
+        (λ k o at. sym (still_has (with_entry_of ts p e) ts e o.id (same_id o.id e.id) refl
+        (sym (handles_among-with_entry o.id ts p e table)) some))
     | inr past ↦ subst (λ (t : Tables). IsListing rows t objects births) (sym (set_past ts p _ past)) listing
   ]
 
   -- an entry leaves, and others of its object stay
-  pub listing_removed : (p value : ℕ) (e : Entry) → entry_at (table_of ts p) value ≡ Some e → 0 < handles_among e.id (without_entry_of ts p value) → IsListing rows (without_entry_of ts p value) objects births
-  listing_removed p value e found some = listing_alike (without_entry_of ts p value) (λ k o at. still_has ts (without_entry_of ts p value) e o.id (same_id o.id e.id) refl (handles_among-without_entry o.id ts p value e found) some)
+  pub listing_removed : (p value : ℕ) (e : Entry) → entry_at (table_of ts p) value ≡ Some e
+      → 0 < handles_among e.id (without_entry_of ts p value)
+      → IsListing rows (without_entry_of ts p value) objects births
+  listing_removed p value e found some = listing_alike (without_entry_of ts p value)
+      (λ k o at. still_has ts (without_entry_of ts p value) e o.id (same_id o.id e.id) refl
+      (handles_among-without_entry o.id ts p value e found) some)
 
   -- an object without handles leaves its slot
-  pub listing_left : (slot : ℕ) (o : Object) → get_or objects slot None ≡ Some o → handles_among o.id ts ≡ 0 → IsListing rows ts (set objects slot None) births
+  pub listing_left : (slot : ℕ) (o : Object) → get_or objects slot None ≡ Some o → handles_among o.id ts ≡ 0
+      → IsListing rows ts (set objects slot None) births
   listing_left slot o at none = record {
-    same = listing.same ∙ sym (rows_left ts objects slot o births (some_within objects slot o at) at (ap (λ n. ltb 0 n) none));
+    same = listing.same ∙ sym (rows_left ts objects slot o births (some_within objects slot o at) at
+        (ap (λ n. ltb 0 n) none));
     distinct = listing.distinct;
   }
 
@@ -207,28 +262,40 @@ module _ (rows : Rows) (ts : Tables) (objects : ObjectSlots) (births : ℕ) (lis
     -- what is found by its name is an object of that name, which has handles
     pub listing_found : (name : ObjectName) (id : Id) → find_name name rows ≡ Some id → IsFound ts objects name id
     listing_found name id is =
-        let there : Contains rows (name, id) = Contains-from_lookup (λ a b same. (same_name-Decides a b).0 same) name id rows is in
-        found_row ts objects name id placed (All-contains (IsRow ts objects) (rows_of ts objects births) (name, id) (rows_are ts objects births) (subst (λ (rs : Rows). Contains rs (name, id)) listing.same there))
+        let there : Contains rows (name, id) = Contains-from_lookup
+        (λ a b same. (same_name-Decides a b).0 same) name id rows is in
+        found_row ts objects name id placed (All-contains (IsRow ts objects) (rows_of ts objects births) (
+          name,
+          id,
+        ) (rows_are ts objects births) (subst (λ (rs : Rows). Contains rs (name, id)) listing.same there))
 
     -- the last entry of an object leaves: a name leaves with it
-    pub listing_removed_last : (p value : ℕ) (e : Entry) (o : Object) → entry_at (table_of ts p) value ≡ Some e → handles_among e.id (without_entry_of ts p value) ≡ 0
-        → get_or objects e.id.slot None ≡ Some o → o.id ≡ e.id → o.name ≡ None → IsListing rows (without_entry_of ts p value) objects births
+    pub listing_removed_last : (p value : ℕ) (e : Entry) (o : Object) → entry_at (table_of ts p) value ≡ Some e
+        → handles_among e.id (without_entry_of ts p value) ≡ 0
+        → get_or objects e.id.slot None ≡ Some o → o.id ≡ e.id → o.name ≡ None
+        → IsListing rows (without_entry_of ts p value) objects births
     listing_removed_last p value e o found none at own nameless = record {
-      same = listing.same ∙ sym (rows_without ts objects births p value e found none ∙ others_stay e.id (rows_of ts objects births) others);
+      same = listing.same ∙ sym (rows_without ts objects births p value e found none
+          ∙ others_stay e.id (rows_of ts objects births) others);
       distinct = listing.distinct;
     }
       where
         apart : (row : Row) → IsRow ts objects row → same_id row.1 e.id ≡ false
-        apart row is = false_from_ne_true (same_id row.1 e.id) (λ one. none_some row.0 (sym nameless ∙ row_names ts objects o row placed (here objects e o at own) is (one_id row.1 e.id one ∙ sym own)))
+        apart row is = false_from_ne_true (same_id row.1 e.id)
+            (λ one. none_some row.0 (sym nameless ∙ row_names ts objects o row placed (here objects e o at own) is
+            (one_id row.1 e.id one ∙ sym own)))
 
         others : All (λ (row : Row). same_id row.1 e.id ≡ false) (rows_of ts objects births)
         others k d less = apart (get_or (rows_of ts objects births) k d) (rows_are ts objects births k d less)
 
-    pub listing_name_removed : (p value : ℕ) (e : Entry) (o : Object) (name : ObjectName) → AreBorn objects births → entry_at (table_of ts p) value ≡ Some e → handles_among e.id (without_entry_of ts p value) ≡ 0
-        → get_or objects e.id.slot None ≡ Some o → o.id ≡ e.id → o.name ≡ Some name → IsListing (without_name name rows) (without_entry_of ts p value) objects births
+    pub listing_name_removed : (p value : ℕ) (e : Entry) (o : Object) (name : ObjectName) → AreBorn objects births
+        → entry_at (table_of ts p) value ≡ Some e → handles_among e.id (without_entry_of ts p value) ≡ 0
+        → get_or objects e.id.slot None ≡ Some o → o.id ≡ e.id → o.name ≡ Some name
+        → IsListing (without_name name rows) (without_entry_of ts p value) objects births
     listing_name_removed p value e o name born found none at own named = record {
       same = left ∙ sym (rows_without ts objects births p value e found none);
-      distinct = subst AreDistinct (sym left) (IsDistinct-keys_filter same_name (is_of_other e.id) (rows_of ts objects births) distinct);
+      distinct = subst AreDistinct (sym left) (IsDistinct-keys_filter same_name (is_of_other e.id)
+          (rows_of ts objects births) distinct);
     }
       where
         distinct : AreDistinct (rows_of ts objects births)
@@ -238,30 +305,38 @@ module _ (rows : Rows) (ts : Tables) (objects : ObjectSlots) (births : ℕ) (lis
         has = ap (λ (i : Id). has_handles i ts) own ∙ lt-ltb 0 (handles_among e.id ts) (found_counts ts p value e found)
 
         there : Contains (rows_of ts objects births) (name, o.id)
-        there = row_there ts objects o.id.slot o name births (here objects e o at own) (born.below o.id.slot o (here objects e o at own)) named has
+        there = row_there ts objects o.id.slot o name births (here objects e o at own)
+            (born.below o.id.slot o (here objects e o at own)) named has
 
         alike : All (λ (row : Row). same_id row.1 o.id ≡ same_name name row.0) (rows_of ts objects births)
         alike k d less =
             let also = Contains-get_or (rows_of ts objects births) k d less in
             let is = rows_are ts objects births k d less in
-            row_alike ts objects (rows_of ts objects births) o name (get_or (rows_of ts objects births) k d) distinct placed (here objects e o at own) named there also is
+            row_alike ts objects (rows_of ts objects births) o name
+            (get_or (rows_of ts objects births) k d) distinct placed (here objects e o at own) named there also is
 
         left : without_name name rows ≡ filter (is_of_other e.id) (rows_of ts objects births)
-        left = ap (without_name name) listing.same ∙ name_goes name o.id (rows_of ts objects births) distinct alike ∙ ap (λ (i : Id). filter (is_of_other i) (rows_of ts objects births)) own
+        left = ap (without_name name) listing.same ∙ name_goes name o.id (rows_of ts objects births) distinct alike
+            ∙ ap (λ (i : Id). filter (is_of_other i) (rows_of ts objects births)) own
 
     -- a new object comes to an empty slot, with its first entry: its name comes last
-    pub listing_added : (p : ℕ) (e : Entry) (o : Object) → AreBorn objects births → p < length ts → o.id ≡ e.id → o.birth ≡ births → o.name ≡ None
-        → get_or objects e.id.slot None ≡ None → e.id.slot < length objects → IsListing rows (with_entry_of ts p e) (set objects e.id.slot (Some o)) (births + 1)
+    pub listing_added : (p : ℕ) (e : Entry) (o : Object) → AreBorn objects births → p < length ts → o.id ≡ e.id
+        → o.birth ≡ births → o.name ≡ None
+        → get_or objects e.id.slot None ≡ None → e.id.slot < length objects
+        → IsListing rows (with_entry_of ts p e) (set objects e.id.slot (Some o)) (births + 1)
     listing_added p e o born table own number nameless empty within = record {
-      same = listing.same ∙ sym (rows_with ts objects births p e o None placed born table own number nameless empty within ∙ append-nil (rows_of ts objects births));
+      same = listing.same ∙ sym (rows_with ts objects births p e o None placed born table own number nameless empty
+          within ∙ append-nil (rows_of ts objects births));
       distinct = listing.distinct;
     }
 
-    pub listing_name_added : (p : ℕ) (e : Entry) (o : Object) (name : ObjectName) → AreBorn objects births → p < length ts → o.id ≡ e.id → o.birth ≡ births → o.name ≡ Some name
+    pub listing_name_added : (p : ℕ) (e : Entry) (o : Object) (name : ObjectName) → AreBorn objects births
+        → p < length ts → o.id ≡ e.id → o.birth ≡ births → o.name ≡ Some name
         → get_or objects e.id.slot None ≡ None → e.id.slot < length objects → find_name name rows ≡ None
         → IsListing (rows ++ (name, o.id) ∷ []) (with_entry_of ts p e) (set objects e.id.slot (Some o)) (births + 1)
     listing_name_added p e o name born table own number named empty within absent = record {
-      same = ap (λ (rs : Rows). rs ++ (name, o.id) ∷ []) listing.same ∙ sym (rows_with ts objects births p e o (Some name) placed born table own number named empty within);
+      same = ap (λ (rs : Rows). rs ++ (name, o.id) ∷ []) listing.same
+          ∙ sym (rows_with ts objects births p e o (Some name) placed born table own number named empty within);
       distinct = distinct_with rows name o.id listing.distinct absent;
     }
 
@@ -275,5 +350,6 @@ pub placed_agreed : (s : ObjectsState) → IsAgreed s → ArePlaced s.objects
 placed_agreed s agreed k o at =
     let within : k < length s.objects = some_within s.objects k o at in
     let long = agreed.long in
-    let own = subst (λ (x : Option Object). Agrees k x (get_or s.seen.bodies k None) (get_or s.retired k false) (slot_of s.keeper.slots k)) at (agreed.each k (omega (arith, within, long))) in
+    let own = subst (λ (x : Option Object). Agrees k x (get_or s.seen.bodies k None) (get_or s.retired k false)
+    (slot_of s.keeper.slots k)) at (agreed.each k (omega (arith, within, long))) in
     ap (λ (i : Id). i.slot) own.0

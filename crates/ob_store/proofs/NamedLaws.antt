@@ -21,10 +21,12 @@ use Rattle.ob_store.specs.Objects.{Object}
 use Rattle.ob_store.specs.Kept.{id_in, IsThere, IsNamed}
 
 -- the object of an Id is in its slot
-pub there_some : (objects : List (Option Object)) (id : Id) → IsThere objects id → (o : Object) × (get_or objects id.slot None ≡ Some o) × (o.id ≡ id)
+pub there_some : (objects : List (Option Object)) (id : Id) → IsThere objects id
+    → (o : Object) × (get_or objects id.slot None ≡ Some o) × (o.id ≡ id)
 there_some objects id h = by (get_or objects id.slot None) refl
   where
-    by : (x : Option Object) → get_or objects id.slot None ≡ x → (o : Object) × (get_or objects id.slot None ≡ Some o) × (o.id ≡ id)
+    by : (x : Option Object) → get_or objects id.slot None ≡ x
+        → (o : Object) × (get_or objects id.slot None ≡ Some o) × (o.id ≡ id)
     by None is = absurd (let e = ap id_in is in cc (e, h))
     by (Some o) is = (o, is, (let e = ap id_in is in cc (e, h)))
 
@@ -32,7 +34,8 @@ pub there_within : (objects : List (Option Object)) (id : Id) → IsThere object
 there_within objects id h = let o = there_some objects id h in some_within objects id.slot o.0 o.1
 
 -- a slot has one object
-pub one_there : (objects : List (Option Object)) (a b : Id) → IsThere objects a → IsThere objects b → a.slot ≡ b.slot → a ≡ b
+pub one_there : (objects : List (Option Object)) (a b : Id) → IsThere objects a → IsThere objects b → a.slot ≡ b.slot
+    → a ≡ b
 one_there objects a b ha hb same = let x = ap (λ k. id_in (get_or objects k None)) same in some_same (sym ha ∙ x ∙ hb)
   where
     some_same : Some a ≡ Some b → a ≡ b
@@ -42,74 +45,106 @@ one_there objects a b ha hb same = let x = ap (λ k. id_in (get_or objects k Non
 table_within : (ts : List (List (Option Entry))) (p i : ℕ) (e : Entry) → at (table_of ts p) i ≡ Some e → p < length ts
 table_within ts p i e is = elim (cases_lt p (length ts)) [
   | inl lt ↦ lt
-  | inr le ↦ absurd (let x : get_or (get_or ts p []) i None ≡ get_or {A = Option Entry} [] i None = ap (λ (t : List (Option Entry)). get_or t i None) (get_or_past ts p [] le) in cc (x, is))
+  | inr le ↦ absurd (let x : get_or (get_or ts p []) i None ≡ get_or {A = Option Entry} [] i None =
+      ap (λ (t : List (Option Entry)). get_or t i None) (get_or_past ts p [] le) in cc (x, is))
 ]
 
-sum_same : {X : Type 0} (f g : X → ℕ) (d : X) (xs : List X) → ((i : ℕ) → i < length xs → f (get_or xs i d) ≡ g (get_or xs i d)) → sum_by f xs ≡ sum_by g xs
+sum_same : {X : Type 0} (f g : X → ℕ) (d : X) (xs : List X)
+    → ((i : ℕ) → i < length xs → f (get_or xs i d) ≡ g (get_or xs i d)) → sum_by f xs ≡ sum_by g xs
 sum_same f g d [] each = refl
-sum_same f g d (x ∷ xs) each = omega (arith, sum_by-cons f x xs, sum_by-cons g x xs, each 0 (omega arith), sum_same f g d xs (λ i lt. each (suc i) (omega arith)))
+sum_same f g d (x ∷ xs) each = omega (
+  arith,
+  sum_by-cons f x xs,
+  sum_by-cons g x xs,
+  each 0 (omega arith),
+  sum_same f g d xs (λ i lt. each (suc i) (omega arith)),
+)
 
-pub sum_none : {X : Type 0} (f : X → ℕ) (d : X) (xs : List X) → ((i : ℕ) → i < length xs → f (get_or xs i d) ≡ 0) → sum_by f xs ≡ 0
+pub sum_none : {X : Type 0} (f : X → ℕ) (d : X) (xs : List X) → ((i : ℕ) → i < length xs → f (get_or xs i d) ≡ 0)
+    → sum_by f xs ≡ 0
 sum_none f d [] each = refl
-sum_none f d (x ∷ xs) each = omega (arith, sum_by-cons f x xs, each 0 (omega arith), sum_none f d xs (λ i lt. each (suc i) (omega arith)))
+sum_none f d (x ∷ xs) each = omega (
+  arith,
+  sum_by-cons f x xs,
+  each 0 (omega arith),
+  sum_none f d xs (λ i lt. each (suc i) (omega arith)),
+)
 
 -- no more is named than before
 pub named_fewer : (objects : List (Option Object)) (ts ts' : List (List (Option Entry))) (ws ws' : List (Option Wait))
-    → ((id : Id) → handles_among id ts' ≤ handles_among id ts) → ((id : Id) → blocks_among id ws' ≤ blocks_among id ws) → IsNamed objects ts ws → IsNamed objects ts' ws'
+    → ((id : Id) → handles_among id ts' ≤ handles_among id ts) → ((id : Id) → blocks_among id ws' ≤ blocks_among id ws)
+    → IsNamed objects ts ws → IsNamed objects ts' ws'
 named_fewer objects ts ts' ws ws' fewer less n = record {
   entries = λ id h. n.entries id (let e = fewer id in omega (arith, e, h));
   blocks = λ id h. n.blocks id (let e = less id in omega (arith, e, h));
 }
 
-module _ (objects : List (Option Object)) (ts : List (List (Option Entry))) (ws : List (Option Wait)) (named : IsNamed objects ts ws) where
+module _ (objects : List (Option Object)) (ts : List (List (Option Entry))) (ws : List (Option Wait))
+    (named : IsNamed objects ts ws) where
   -- the Id of an entry
   pub named_entry : (p value : ℕ) (e : Entry) → entry_at (table_of ts p) value ≡ Some e → IsThere objects e.id
   named_entry p value e found = named.entries e.id (found_counts ts p value e found)
 
   -- an entry comes, of an object that is there
-  placed_entry : (objects' : List (Option Object)) (p : ℕ) (e : Entry) → p < length ts → IsThere objects' e.id → ((id : Id) → IsThere objects id → IsThere objects' id)
+  placed_entry : (objects' : List (Option Object)) (p : ℕ) (e : Entry) → p < length ts → IsThere objects' e.id
+      → ((id : Id) → IsThere objects id → IsThere objects' id)
       → (id : Id) (c : Bool) → same_id e.id id ≡ c → 0 < handles_among id (with_entry_of ts p e) → IsThere objects' id
-  placed_entry objects' p e table there stays id true is h = subst (λ (i : Id). IsThere objects' i) (one_id e.id id is) there
+  placed_entry objects' p e table there stays id true is h =
+      subst (λ (i : Id). IsThere objects' i) (one_id e.id id is) there
   placed_entry objects' p e table there stays id false is h =
       let x = handles_among-with_entry id ts p e table in
       let none : one_of id e ≡ 0 = ap {B = ℕ} (λ c. cond c 1 0) is in
       stays id (named.entries id (omega (arith, x, none, h)))
 
-  pub named_placed : (p : ℕ) (e : Entry) → p < length ts → 0 < handles_among e.id ts → IsNamed objects (with_entry_of ts p e) ws
+  pub named_placed : (p : ℕ) (e : Entry) → p < length ts → 0 < handles_among e.id ts
+      → IsNamed objects (with_entry_of ts p e) ws
   named_placed p e table some = record {
-    entries = λ id h. placed_entry objects p e table (named.entries e.id some) (λ i there. there) id (same_id e.id id) refl h;
+    entries = λ id h. placed_entry objects p e table (named.entries e.id some) (λ i there. there) id
+        (same_id e.id id) refl h;
     blocks = named.blocks;
   }
 
   -- an object comes to an empty slot, with its entry
-  pub named_added : (p : ℕ) (e : Entry) (o : Object) → p < length ts → o.id ≡ e.id → get_or objects e.id.slot None ≡ None → e.id.slot < length objects
+  pub named_added : (p : ℕ) (e : Entry) (o : Object) → p < length ts → o.id ≡ e.id
+      → get_or objects e.id.slot None ≡ None → e.id.slot < length objects
       → IsNamed (set objects e.id.slot (Some o)) (with_entry_of ts p e) ws
   named_added p e o table own none within =
-      let here : IsThere (set objects e.id.slot (Some o)) e.id = ap id_in (get_or-set_same objects e.id.slot (Some o) None within) ∙ ap Some own in
+      let here : IsThere (set objects e.id.slot (Some o)) e.id =
+      ap id_in (get_or-set_same objects e.id.slot (Some o) None within) ∙ ap Some own in
       let stays : (id : Id) → IsThere objects id → IsThere (set objects e.id.slot (Some o)) id = (λ id there.
-      let apart : id.slot ≢ e.id.slot = (λ same. let x = ap (λ k. id_in (get_or objects k None)) same in let y = ap id_in none in absurd (cc (x, y, there))) in
+      let apart : id.slot ≢ e.id.slot = (λ same. let x = ap (λ k. id_in (get_or objects k None)) same in
+      let y = ap id_in none in absurd (cc (x, y, there))) in
       ap id_in (get_or-set_other objects e.id.slot id.slot (Some o) None apart) ∙ there) in
       record {
-        entries = λ id h. placed_entry (set objects e.id.slot (Some o)) p e table here stays id (same_id e.id id) refl h;
+        entries = λ id h. placed_entry (set objects e.id.slot (Some o)) p e table here stays id
+            (same_id e.id id) refl h;
         blocks = λ id h. stays id (named.blocks id h);
       }
 
   -- an entry leaves
-  pub named_removed : (p value : ℕ) (e : Entry) → entry_at (table_of ts p) value ≡ Some e → IsNamed objects (without_entry_of ts p value) ws
-  named_removed p value e found = named_fewer objects ts (without_entry_of ts p value) ws ws (λ id. let x = handles_among-without_entry id ts p value e found in omega (arith, x)) (λ id. omega arith) named
+  pub named_removed : (p value : ℕ) (e : Entry) → entry_at (table_of ts p) value ≡ Some e
+      → IsNamed objects (without_entry_of ts p value) ws
+  named_removed p value e found = named_fewer objects ts (without_entry_of ts p value) ws ws (λ id. let x =
+      handles_among-without_entry id ts p value e found in omega (arith, x)) (λ id. omega arith) named
 
   -- an entry has other flags
-  pub named_flags : (p value : ℕ) (e : Entry) (flags : HandleFlags) → entry_at (table_of ts p) value ≡ Some e → IsNamed objects (with_flags_of ts p value flags) ws
-  named_flags p value e flags found = named_fewer objects ts (with_flags_of ts p value flags) ws ws (λ id. let x = handles_among-with_flags id ts p value e flags found in omega (arith, x)) (λ id. omega arith) named
+  pub named_flags : (p value : ℕ) (e : Entry) (flags : HandleFlags) → entry_at (table_of ts p) value ≡ Some e
+      → IsNamed objects (with_flags_of ts p value flags) ws
+  named_flags p value e flags found = named_fewer objects ts (with_flags_of ts p value flags) ws ws (λ id. let x =
+      handles_among-with_flags id ts p value e flags found in omega (arith, x)) (λ id. omega arith) named
 
   -- a process comes
   pub named_process : IsNamed objects (with_process ts) ws
-  named_process = named_fewer objects ts (with_process ts) ws ws (λ id. let x = handles_among-with_process id ts in omega (arith, x)) (λ id. omega arith) named
+  named_process = named_fewer objects ts (with_process ts) ws ws (λ id. let x = handles_among-with_process id ts in
+      omega (arith, x)) (λ id. omega arith) named
 
   -- the waits settle
-  pub named_settled : (first : Scene) (ws' : List (Option Wait)) → first.waits ≡ ws → ws' ≡ (settled first).waits → IsNamed objects ts ws'
+  pub named_settled : (first : Scene) (ws' : List (Option Wait)) → first.waits ≡ ws → ws' ≡ (settled first).waits
+      → IsNamed objects ts ws'
   named_settled first ws' before after = named_fewer objects ts ts ws ws' (λ id. omega arith)
-      (λ id. let a = blocks_settled id first in let x : blocks_among id ws' ≡ blocks_among id (settled first).waits = ap (blocks_among id) after in let y : blocks_among id first.waits ≡ blocks_among id ws = ap (blocks_among id) before in omega (arith, a, x, y)) named
+      (λ id. let a = blocks_settled id first in let x : blocks_among id ws' ≡ blocks_among id (settled first).waits =
+      ap (blocks_among id) after in let y : blocks_among id first.waits ≡ blocks_among id ws =
+      ap (blocks_among id) before in omega (arith, a, x, y)) named
 
   -- whether a slot is an object's, and whether an Id is
   ids_agree : (x id : Id) → IsThere objects x → IsThere objects id → eqb x.slot id.slot ≡ same_id id x
@@ -128,16 +163,20 @@ module _ (objects : List (Option Object)) (ts : List (List (Option Entry))) (ws 
   entry_counted p i e is =
       let t = table_of ts p in
       let lt : p < length ts = table_within ts p i e is in
-      let one : cond (names e.id (get_or t i None)) 1 0 ≡ 1 = ap {B = ℕ} (λ (x : Option Entry). cond (names e.id x) 1 0) is ∙ ap {B = ℕ} (λ b. cond b 1 0) (same_id-same e.id) in
+      let one : cond (names e.id (get_or t i None)) 1 0 ≡ 1 =
+      ap {B = ℕ} (λ (x : Option Entry). cond (names e.id x) 1 0) is
+      ∙ ap {B = ℕ} (λ b. cond b 1 0) (same_id-same e.id) in
       let a = get_or-le-sum_by (λ (x : Option Entry). cond (names e.id x) 1 0) t i None (some_within t i e is) in
       let b = get_or-le-sum_by (handles_in e.id) ts p [] lt in
       omega (arith, one, a, b)
 
   -- the handles of an object's slot are its own
   pub handles_are : (id : Id) → IsThere objects id → slot_handles id.slot ts ≡ handles_among id ts
-  handles_are id there = slot_handles-one id ts (λ p i e is same. one_there objects e.id id (named.entries e.id (entry_counted p i e is)) there same)
+  handles_are id there = slot_handles-one id ts (λ p i e is same. one_there objects e.id id
+      (named.entries e.id (entry_counted p i e is)) there same)
 
-  place_counted : (n i : ℕ) → n < length ws → i < length (ids_of (get_or ws n None)) → 0 < blocks_among (get_or (ids_of (get_or ws n None)) i nowhere) ws
+  place_counted : (n i : ℕ) → n < length ws → i < length (ids_of (get_or ws n None))
+      → 0 < blocks_among (get_or (ids_of (get_or ws n None)) i nowhere) ws
   place_counted n i lt in' =
       let ids = ids_of (get_or ws n None) in
       let x = get_or ids i nowhere in
@@ -149,14 +188,17 @@ module _ (objects : List (Option Object)) (ts : List (List (Option Entry))) (ws 
   -- and so are the blocks
   pub blocks_are : (id : Id) → IsThere objects id → slot_blocks id.slot ws ≡ blocks_among id ws
   blocks_are id there = sum_same (λ (w : Option Wait). slot_places id.slot (ids_of w)) (blocks_in id) None ws
-      (λ n lt. sum_same (λ (x : Id). cond (eqb x.slot id.slot) 1 0) (λ (x : Id). cond (same_id id x) 1 0) nowhere (ids_of (get_or ws n None))
-      (λ i in'. let x = get_or (ids_of (get_or ws n None)) i nowhere in ap {B = ℕ} (λ b. cond b 1 0) (ids_agree x id (named.blocks x (place_counted n i lt in')) there)))
+      (λ n lt. sum_same (λ (x : Id). cond (eqb x.slot id.slot) 1 0) (λ (x : Id). cond (same_id id x) 1 0) nowhere
+      (ids_of (get_or ws n None))
+      (λ i in'. let x = get_or (ids_of (get_or ws n None)) i nowhere in
+      ap {B = ℕ} (λ b. cond b 1 0) (ids_agree x id (named.blocks x (place_counted n i lt in')) there)))
 
   -- no wait names a slot past the last
   pub blocks_past : (k : ℕ) → length objects ≤ k → slot_blocks k ws ≡ 0
   blocks_past k le = sum_none (λ (w : Option Wait). slot_places k (ids_of w)) None ws
       (λ n lt. sum_none (λ (x : Id). cond (eqb x.slot k) 1 0) nowhere (ids_of (get_or ws n None))
-      (λ i in'. let x = get_or (ids_of (get_or ws n None)) i nowhere in other x k le (there_within objects x (named.blocks x (place_counted n i lt in')))))
+      (λ i in'. let x = get_or (ids_of (get_or ws n None)) i nowhere in
+      other x k le (there_within objects x (named.blocks x (place_counted n i lt in')))))
     where
       other : (x : Id) (k : ℕ) → length objects ≤ k → x.slot < length objects → ◌≡◌ {A = ℕ} (cond (eqb x.slot k) 1 0) 0
       other x k le lt = by (eqb x.slot k) refl
@@ -167,15 +209,22 @@ module _ (objects : List (Option Object)) (ts : List (List (Option Entry))) (ws 
 
 -- an object to which nothing refers leaves its slot
 pub named_left : (objects : List (Option Object)) (ts : List (List (Option Entry))) (ws : List (Option Wait)) (id : Id)
-    → IsThere objects id → handles_among id ts ≡ 0 → blocks_among id ws ≡ 0 → IsNamed objects ts ws → IsNamed (set objects id.slot None) ts ws
+    → IsThere objects id → handles_among id ts ≡ 0 → blocks_among id ws ≡ 0 → IsNamed objects ts ws
+    → IsNamed (set objects id.slot None) ts ws
 named_left objects ts ws id there handles blocks n = record {
-  entries = λ x h. stays x (n.entries x h) (λ same. let e = ap (λ i. handles_among i ts) same in omega (arith, e, handles, h));
-  blocks = λ x h. stays x (n.blocks x h) (λ same. let e = ap (λ i. blocks_among i ws) same in omega (arith, e, blocks, h));
+  entries = λ x h. stays x (n.entries x h) (λ same. let e = ap (λ i. handles_among i ts) same in
+      omega (arith, e, handles, h));
+  blocks = λ x h. stays x (n.blocks x h) (λ same. let e = ap (λ i. blocks_among i ws) same in
+      omega (arith, e, blocks, h));
 }
   where
     stays : (x : Id) → IsThere objects x → (x ≡ id → ⊥) → IsThere (set objects id.slot None) x
-    stays x hx other = ap id_in (get_or-set_other objects id.slot x.slot None None (λ same. other (one_there objects x id hx there same))) ∙ hx
+    stays x hx other = ap id_in (get_or-set_other objects id.slot x.slot None None
+        (λ same. other (one_there objects x id hx there same))) ∙ hx
 
 -- nothing is named yet
 pub named_opening : (objects : List (Option Object)) → IsNamed objects ([] ∷ []) (None ∷ [])
-named_opening objects = record { entries = λ id h. absurd (omega (arith, h)); blocks = λ id h. absurd (omega (arith, h)) }
+named_opening objects = record {
+  entries = λ id h. absurd (omega (arith, h));
+  blocks = λ id h. absurd (omega (arith, h));
+}

@@ -11,11 +11,15 @@ module _ (f : Option Body → Option Body) where
   pub one_before : ((x : Option Body) → f (f x) ≡ f x) → (k : ℕ) (o p : Objects) → p ≡ changed_at o k f
       → record p { bodies = map f p.bodies } ≡ record o { bodies = map f o.bodies }
   one_before twice k o p is =
-      let bodies : map f (set o.bodies k (f (get_or o.bodies k None))) ≡ map f o.bodies = map-set_same f o.bodies k (f (get_or o.bodies k None)) None (twice (get_or o.bodies k None)) in
+      let bodies : map f (set o.bodies k (f (get_or o.bodies k None))) ≡ map f o.bodies =
+      map-set_same f o.bodies k (f (get_or o.bodies k None)) None (twice (get_or o.bodies k None)) in
       ap (λ (z : Objects). record z { bodies = map f z.bodies }) is ∙ (λ i. record o { bodies = bodies i })
 
   -- where none is left to change all have changed
-  pub all_done : (o p : Objects) → ((k : ℕ) → f (get_or p.bodies k None) ≡ get_or p.bodies k None) → record p { bodies = map f p.bodies } ≡ record o { bodies = map f o.bodies } → p ≡ record o { bodies = map f o.bodies }
+  pub all_done : (o p : Objects) → ((k : ℕ) → f (get_or p.bodies k None) ≡ get_or p.bodies k None)
+      → record p { bodies = map f p.bodies } ≡ record o { bodies = map f o.bodies }
+      → p ≡ record o { bodies = map f o.bodies }
   all_done o p none same =
-      let bodies : map f p.bodies ≡ p.bodies = ext_get_or None (map f p.bodies) p.bodies (length-map p.bodies f) (λ k lt. get_or-map f p.bodies k None None (omega (arith, lt, length-map p.bodies f)) ∙ none k) in
+      let bodies : map f p.bodies ≡ p.bodies = ext_get_or None (map f p.bodies) p.bodies (length-map p.bodies f)
+      (λ k lt. get_or-map f p.bodies k None None (omega (arith, lt, length-map p.bodies f)) ∙ none k) in
       (λ i. record p { bodies = sym bodies i }) ∙ same

@@ -30,7 +30,8 @@ use Rattle.ob_store.proofs.ListingLaws.{listing_opening}
 none_at : (A : Type 0) (n k : ℕ) → get_or {A = Option A} (replicate n None) k None ≡ None
 none_at A n k = elim (cases_lt k n) [
   | inl lt ↦ get_or-replicate {A = Option A} n k None None lt
-  | inr le ↦ (let long = length-replicate {A = Option A} n None in get_or_past (replicate {A = Option A} n None) k None (omega (arith, long, le)))
+  | inr le ↦ (let long = length-replicate {A = Option A} n None in
+      get_or_past (replicate {A = Option A} n None) k None (omega (arith, long, le)))
 ]
 
 -- nor has the one place of a list
@@ -52,7 +53,15 @@ module _ (limits : Limits) (keeper : KeeperState) (fresh : IsFresh keeper (shape
   no_objects = with_keeper (vacant_places limits.slots) 0 keeper
 
   abbrev pub no_parts : PartsState
-  no_parts = record { limits = limits; processes = no_processes; tables = no_tables limits; objects = no_objects; waits = no_waits limits; rows = []; signaled = none_signaled }
+  no_parts = record {
+    limits = limits;
+    processes = no_processes;
+    tables = no_tables limits;
+    objects = no_objects;
+    waits = no_waits limits;
+    rows = [];
+    signaled = none_signaled;
+  }
 
   pub kept_opening : IsKept no_parts
   kept_opening = record {
@@ -64,7 +73,8 @@ module _ (limits : Limits) (keeper : KeeperState) (fresh : IsFresh keeper (shape
         tabled = refl;
         live = λ t p h. absurd (let none = one_none ℕ t in cc (none, h));
       };
-      counted = subst (λ (n : ℕ). IsCounted no_objects.seen n ([] ∷ []) (None ∷ [])) (sym (length-replicate {A = Option Object} limits.slots None)) (counted_opening limits.slots);
+      counted = subst (λ (n : ℕ). IsCounted no_objects.seen n ([] ∷ []) (None ∷ []))
+          (sym (length-replicate {A = Option Object} limits.slots None)) (counted_opening limits.slots);
       named = named_opening no_objects.objects;
       formed = record {
         each = λ k o b there is. absurd (let none = none_at Object limits.slots k in cc (none, there));
@@ -74,7 +84,10 @@ module _ (limits : Limits) (keeper : KeeperState) (fresh : IsFresh keeper (shape
         owners = λ k t h. absurd (let none = ap slot_owner (none_at Body limits.slots k) in cc (none, h));
         waiters = λ n t h. absurd (let none = ap thread_of (one_none Wait n) in cc (none, h));
       };
-      room = record { each = λ n. subst (λ (w : Option Wait). WaitHasRoom limits.max_recursion no_objects.seen.bodies w) (sym (one_none Wait n)) tt };
+      room = record {
+        each = λ n. subst (λ (w : Option Wait). WaitHasRoom limits.max_recursion no_objects.seen.bodies w)
+            (sym (one_none Wait n)) tt;
+      };
       listing = listing_opening limits.slots;
     };
     settled = record { each = λ n. ap (is_ready no_objects.seen.bodies) (one_none Wait n) };
@@ -83,7 +96,8 @@ module _ (limits : Limits) (keeper : KeeperState) (fresh : IsFresh keeper (shape
   -- and is the opening one
   pub opening_is : ◌≡◌ {A = Whole} (whole_of no_parts) (record { state = opening limits; keeper = keeper })
   opening_is =
-      let ages : map generation_of keeper.slots ≡ replicate limits.slots 1 = ap (map generation_of) fresh.slots_are ∙ map_replicate generation_of limits.slots opening_slot in
+      let ages : map generation_of keeper.slots ≡ replicate limits.slots 1 =
+      ap (map generation_of) fresh.slots_are ∙ map_replicate generation_of limits.slots opening_slot in
       λ i. record { state = record (opening limits) { generations = ages i }; keeper = keeper }
 
 -- objects that no slot has yet, and their keeper
@@ -109,7 +123,8 @@ none_made : (n : ℕ) → sum_by made_in (replicate n opening_slot) ≡ 0
 none_made zero = refl
 none_made (suc n) = omega (arith, sum_by-cons made_in opening_slot (replicate n opening_slot), none_made n)
 
-pub tied_opening : (n : ℕ) (k : KeeperState) → IsFresh k k.shape → n ≡ k.shape.slots → n ≤ 65536 → 1 ≤ k.shape.max_gen → k.shape.max_gen ≤ 4294967295 → IsTied (with_keeper (vacant_places n) 0 k)
+pub tied_opening : (n : ℕ) (k : KeeperState) → IsFresh k k.shape → n ≡ k.shape.slots → n ≤ 65536 → 1 ≤ k.shape.max_gen
+    → k.shape.max_gen ≤ 4294967295 → IsTied (with_keeper (vacant_places n) 0 k)
 tied_opening n k fresh same few first last = record {
   agreed = record {
     few = omega (arith, same, few);
@@ -117,12 +132,18 @@ tied_opening n k fresh same few first last = record {
     long = length-replicate {A = Option Object} n None ∙ same;
     bodied = length-replicate {A = Option Body} n None ∙ same;
     marked = length-replicate n false ∙ same;
-    each = λ j lt. rw (none_at Object n j, none_at Body n j, false_at n j, slot_opening k.slots k.shape.slots j fresh.slots_are) (refl, refl);
+    each = λ j lt. rw (
+      none_at Object n j,
+      none_at Body n j,
+      false_at n j,
+      slot_opening k.slots k.shape.slots j fresh.slots_are,
+    ) (refl, refl);
   };
   listed = record { each = λ j. rw (none_at Object n j) tt };
   opens = record {
     wide = ap length fresh.slots_are ∙ length-replicate k.shape.slots opening_slot;
-    each = λ j lt. subst (SlotOpens k.shape.max_gen) (sym (slot_opening k.slots k.shape.slots j fresh.slots_are)) (record { given = (omega arith, refl); bounded = first; last = λ e. absurd cc });
+    each = λ j lt. subst (SlotOpens k.shape.max_gen) (sym (slot_opening k.slots k.shape.slots j fresh.slots_are))
+        (record { given = (omega arith, refl); bounded = first; last = λ e. absurd cc });
   };
   bodied = record { each = λ j. rw (none_at Body n j, zero_at n j) refl };
   born = record {

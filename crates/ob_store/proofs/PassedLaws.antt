@@ -18,44 +18,55 @@ is_of_none p (Some q) other = by (eqb q p) refl
     by false is = is
 
 -- nothing of the process is between
-pub passed : (s : State) (p a d : ℕ) → ((t : ℕ) → a ≤ t → t < a + d → get_or (threads_ended s p a).threads t None ≡ Some p → ⊥) → threads_ended s p (a + d) ≡ threads_ended s p a
+pub passed : (s : State) (p a d : ℕ) → ((t : ℕ) → a ≤ t → t < a + d
+    → get_or (threads_ended s p a).threads t None ≡ Some p → ⊥) → threads_ended s p (a + d) ≡ threads_ended s p a
 passed s p a zero none = let same : a + 0 ≡ a = omega arith in ap (threads_ended s p) same
 passed s p a (suc d) none =
-    let rest : threads_ended s p (a + d) ≡ threads_ended s p a = passed s p a d (λ t le lt. none t le (omega (arith, lt))) in
+    let rest : threads_ended s p (a + d) ≡ threads_ended s p a =
+    passed s p a d (λ t le lt. none t le (omega (arith, lt))) in
     let at = ap (λ (x : State). get_or x.threads (a + d) None) rest in
-    let other = is_of_none p (get_or (threads_ended s p (a + d)).threads (a + d) None) (λ h. none (a + d) (omega arith) (omega arith) (sym at ∙ h)) in
+    let other = is_of_none p (get_or (threads_ended s p (a + d)).threads (a + d) None)
+    (λ h. none (a + d) (omega arith) (omega arith) (sym at ∙ h)) in
     let more : a + suc d ≡ suc (a + d) = omega arith in
     ap (threads_ended s p) more
     ∙ ap (λ b. cond b (thread_ended (threads_ended s p (a + d)) (a + d)) (threads_ended s p (a + d))) other
     ∙ rest
 
-pub passed_to : (s : State) (p a b : ℕ) → a ≤ b → ((t : ℕ) → a ≤ t → t < b → get_or (threads_ended s p a).threads t None ≡ Some p → ⊥) → threads_ended s p b ≡ threads_ended s p a
+pub passed_to : (s : State) (p a b : ℕ) → a ≤ b → ((t : ℕ) → a ≤ t → t < b
+    → get_or (threads_ended s p a).threads t None ≡ Some p → ⊥) → threads_ended s p b ≡ threads_ended s p a
 passed_to s p a b le none =
     let is : a + (b - a) ≡ b = omega (arith, le) in
     ap (threads_ended s p) (sym is) ∙ passed s p a (b - a) (λ t above below. none t above (omega (arith, below, is)))
 
 -- what is under way says which threads are live
-pub way_threads : (first : KeeperState) (p : PartsState) (s : State) (t process : ℕ) → IsUnderWay first p s → get_or s.threads t None ≡ Some process → get_or p.processes.threads t None ≡ Some process
+pub way_threads : (first : KeeperState) (p : PartsState) (s : State) (t process : ℕ) → IsUnderWay first p s
+    → get_or s.threads t None ≡ Some process → get_or p.processes.threads t None ≡ Some process
 way_threads first p s t process way h = ap (λ (x : State). get_or x.threads t None) way.rest ∙ h
 
 -- the parts are on their way as well to where no thread between has ended
-pub ending_passed : (first : KeeperState) (p : PartsState) (s : State) (process a b : ℕ) → a ≤ b → ((t : ℕ) → a ≤ t → t < b → get_or p.processes.threads t None ≡ Some process → ⊥)
+pub ending_passed : (first : KeeperState) (p : PartsState) (s : State) (process a b : ℕ) → a ≤ b
+    → ((t : ℕ) → a ≤ t → t < b → get_or p.processes.threads t None ≡ Some process → ⊥)
     → IsEnding first p (threads_ended s process a) → IsEnding first p (threads_ended s process b)
 ending_passed first p s process a b le none ending =
     subst (λ (x : State). IsEnding first p x)
-    (sym (passed_to s process a b le (λ t above below h. none t above below (way_threads first p (threads_ended s process a) t process ending.way h)))) ending
+    (sym (passed_to s process a b le (λ t above below h. none t above below
+    (way_threads first p (threads_ended s process a) t process ending.way h)))) ending
 
 -- or on their way back
-pub ending_unpassed : (first : KeeperState) (p : PartsState) (s : State) (process a b : ℕ) → a ≤ b → length s.threads ≤ a → IsEnding first p (threads_ended s process b) → IsEnding first p (threads_ended s process a)
+pub ending_unpassed : (first : KeeperState) (p : PartsState) (s : State) (process a b : ℕ) → a ≤ b
+    → length s.threads ≤ a → IsEnding first p (threads_ended s process b) → IsEnding first p (threads_ended s process a)
 ending_unpassed first p s process a b le past ending =
     subst (λ (x : State). IsEnding first p x)
-    (passed_to s process a b le (λ t above below h. let e = get_or_past (threads_ended s process a).threads t None (let long = threads_long s process a in omega (arith, long, above, past)) in cc (e, h))) ending
+    (passed_to s process a b le (λ t above below h. let e =
+    get_or_past (threads_ended s process a).threads t None (let long = threads_long s process a in
+    omega (arith, long, above, past)) in cc (e, h))) ending
   where
     threads_long : (s : State) (p n : ℕ) → length (threads_ended s p n).threads ≡ length s.threads
     threads_long s p zero = refl
     threads_long s p (suc n) = by (is_of p (get_or (threads_ended s p n).threads n None)) (threads_long s p n)
       where
-        by : (b : Bool) → length (threads_ended s p n).threads ≡ length s.threads → length (cond b (thread_ended (threads_ended s p n) n) (threads_ended s p n)).threads ≡ length s.threads
+        by : (b : Bool) → length (threads_ended s p n).threads ≡ length s.threads
+            → length (cond b (thread_ended (threads_ended s p n) n) (threads_ended s p n)).threads ≡ length s.threads
         by true long = length-set (threads_ended s p n).threads n None ∙ long
         by false long = long
 
@@ -64,6 +75,7 @@ pub threads_tables : (s : State) (p n : ℕ) → (threads_ended s p n).tables �
 threads_tables s p zero = refl
 threads_tables s p (suc n) = by (is_of p (get_or (threads_ended s p n).threads n None)) (threads_tables s p n)
   where
-    by : (b : Bool) → (threads_ended s p n).tables ≡ s.tables → (cond b (thread_ended (threads_ended s p n) n) (threads_ended s p n)).tables ≡ s.tables
+    by : (b : Bool) → (threads_ended s p n).tables ≡ s.tables
+        → (cond b (thread_ended (threads_ended s p n) n) (threads_ended s p n)).tables ≡ s.tables
     by true same = same
     by false same = same

@@ -21,14 +21,18 @@ use Rattle.ob_store.proofs.NamedLaws.{there_within, handles_are, blocks_are}
 use Rattle.ob_store.proofs.ListingLaws.{placed_agreed}
 
 -- nothing refers to a slot without a body
-pub unreferenced : (s : ObjectsState) (k : ℕ) → body_at s k ≡ None → IsTied s → (get_or s.seen.handles k 0 ≡ 0) × (get_or s.seen.blocks k 0 ≡ 0)
+pub unreferenced : (s : ObjectsState) (k : ℕ) → body_at s k ≡ None → IsTied s
+    → (get_or s.seen.handles k 0 ≡ 0) × (get_or s.seen.blocks k 0 ≡ 0)
 unreferenced s k none tied =
-    let no : ltb 0 (get_or s.seen.handles k 0 + get_or s.seen.blocks k 0) ≡ false = sym (tied.bodied.each k) ∙ ap is_some none in
+    let no : ltb 0 (get_or s.seen.handles k 0 + get_or s.seen.blocks k 0) ≡ false =
+    sym (tied.bodied.each k) ∙ ap is_some none in
     (grind (arith, nat_tests, no), grind (arith, nat_tests, no))
 
 -- a slot's object has an Id of that slot
-pub placed_there : (s : ObjectsState) → IsTied s → (k : ℕ) (o : Object) → get_or s.objects k None ≡ Some o → IsThere s.objects o.id
-placed_there s tied k o at = ap (λ i. id_in (get_or s.objects i None)) (placed_agreed s tied.agreed k o at) ∙ ap id_in at
+pub placed_there : (s : ObjectsState) → IsTied s → (k : ℕ) (o : Object) → get_or s.objects k None ≡ Some o
+    → IsThere s.objects o.id
+placed_there s tied k o at = ap (λ i. id_in (get_or s.objects i None)) (placed_agreed s tied.agreed k o at)
+    ∙ ap id_in at
 
 module _ (p : PartsState) (sound : IsSound p) (tied : IsTied p.objects) (k : ℕ) where
   -- what the slot counts is what its object's Id counts
@@ -40,35 +44,60 @@ module _ (p : PartsState) (sound : IsSound p) (tied : IsTied p.objects) (k : ℕ
     there = placed_there p.objects tied k o at
 
     pub own_handles : get_or p.objects.seen.handles k 0 ≡ handles_among o.id p.tables.tables
-    own_handles = ap (λ i. get_or p.objects.seen.handles i 0) (sym own) ∙ handles_at p.objects.seen (length p.objects.objects) p.tables.tables p.waits.waits sound.counted o.id.slot (there_within p.objects.objects o.id there) ∙ handles_are p.objects.objects p.tables.tables p.waits.waits sound.named o.id there
+    own_handles = ap (λ i. get_or p.objects.seen.handles i 0) (sym own)
+        ∙ handles_at p.objects.seen (length p.objects.objects) p.tables.tables p.waits.waits sound.counted o.id.slot
+        (there_within p.objects.objects o.id there)
+        ∙ handles_are p.objects.objects p.tables.tables p.waits.waits sound.named o.id there
 
     pub own_blocks : get_or p.objects.seen.blocks k 0 ≡ blocks_among o.id p.waits.waits
-    own_blocks = ap (λ i. get_or p.objects.seen.blocks i 0) (sym own) ∙ blocks_at p.objects.seen (length p.objects.objects) p.tables.tables p.waits.waits sound.counted o.id.slot (there_within p.objects.objects o.id there) ∙ blocks_are p.objects.objects p.tables.tables p.waits.waits sound.named o.id there
+    own_blocks = ap (λ i. get_or p.objects.seen.blocks i 0) (sym own)
+        ∙ blocks_at p.objects.seen (length p.objects.objects) p.tables.tables p.waits.waits sound.counted o.id.slot
+        (there_within p.objects.objects o.id there)
+        ∙ blocks_are p.objects.objects p.tables.tables p.waits.waits sound.named o.id there
 
   -- and so does what is seen there
-  pub seen_handles : (x : Option Found) → get_or p.objects.objects k None ≡ option_map (λ (found : Found). object_of found.seat.now (tag_of found.label.now found.name.now)) x → IfSome x (λ (found : Found). get_or p.objects.seen.handles k 0 ≡ found.seat.now.handles) → IfSome x (λ (found : Found). found.seat.now.handles ≡ handles_among found.seat.now.id p.tables.tables)
+  pub seen_handles : (x : Option Found) → get_or p.objects.objects k None
+      ≡ option_map (λ (found : Found). object_of found.seat.now (tag_of found.label.now found.name.now)) x
+      → IfSome x (λ (found : Found). get_or p.objects.seen.handles k 0 ≡ found.seat.now.handles)
+      → IfSome x (λ (found : Found). found.seat.now.handles ≡ handles_among found.seat.now.id p.tables.tables)
   seen_handles None at is = tt
-  seen_handles (Some found) at is = sym is ∙ own_handles (object_of found.seat.now (tag_of found.label.now found.name.now)) at
+  seen_handles (Some found) at is = sym is ∙ own_handles
+      (object_of found.seat.now (tag_of found.label.now found.name.now)) at
 
-  pub seen_blocks : (x : Option Found) → get_or p.objects.objects k None ≡ option_map (λ (found : Found). object_of found.seat.now (tag_of found.label.now found.name.now)) x → IfSome x (λ (found : Found). get_or p.objects.seen.blocks k 0 ≡ found.seat.now.blocks) → IfSome x (λ (found : Found). found.seat.now.blocks ≡ blocks_among found.seat.now.id p.waits.waits)
+  pub seen_blocks : (x : Option Found) → get_or p.objects.objects k None
+      ≡ option_map (λ (found : Found). object_of found.seat.now (tag_of found.label.now found.name.now)) x
+      → IfSome x (λ (found : Found). get_or p.objects.seen.blocks k 0 ≡ found.seat.now.blocks)
+      → IfSome x (λ (found : Found). found.seat.now.blocks ≡ blocks_among found.seat.now.id p.waits.waits)
   seen_blocks None at is = tt
-  seen_blocks (Some found) at is = sym is ∙ own_blocks (object_of found.seat.now (tag_of found.label.now found.name.now)) at
+  seen_blocks (Some found) at is = sym is ∙ own_blocks
+      (object_of found.seat.now (tag_of found.label.now found.name.now)) at
 
   -- a slot in which something is seen is within the limit
-  pub seen_within : (x : Option Found) → get_or p.objects.objects k None ≡ option_map (λ (found : Found). object_of found.seat.now (tag_of found.label.now found.name.now)) x → IfSome x (λ (found : Found). k < p.limits.slots)
+  pub seen_within : (x : Option Found) → get_or p.objects.objects k None
+      ≡ option_map (λ (found : Found). object_of found.seat.now (tag_of found.label.now found.name.now)) x
+      → IfSome x (λ (found : Found). k < p.limits.slots)
   seen_within None at = tt
-  seen_within (Some found) at = subst (λ (shape : Shape). k < shape.slots) sound.limited.shape_is (object_within p.objects k (ap is_some at) tied.agreed)
+  seen_within (Some found) at = subst (λ (shape : Shape). k < shape.slots) sound.limited.shape_is
+      (object_within p.objects k (ap is_some at) tied.agreed)
 
 -- a live number is one of those given
 pub live_within : (numbers : List (Option ℕ)) (n : ℕ) → IsLive numbers n → n < length numbers
-live_within numbers n live = elim (cases_lt n (length numbers)) [ inl lt ↦ lt | inr le ↦ absurd (let none = ap is_some (get_or_past numbers n None le) in cc (none, live)) ]
+live_within numbers n live = elim (cases_lt n (length numbers)) [
+  | inl lt ↦ lt
+  | inr le ↦
+      absurd (let none = ap is_some (get_or_past numbers n None le) in cc (none, live))
+]
 
 -- a live process has its table
-pub process_tabled : (limits : Limits) (l : ProcessesState) (tables process : ℕ) (x : Option ℕ) → ProcessesKept limits l tables → x ≡ get_or l.processes process None → OnSome x (process < tables)
+pub process_tabled : (limits : Limits) (l : ProcessesState) (tables process : ℕ) (x : Option ℕ)
+    → ProcessesKept limits l tables → x ≡ get_or l.processes process None → OnSome x (process < tables)
 process_tabled limits l tables process None kept is = tt
-process_tabled limits l tables process (Some s) kept is = let lt = live_within l.processes process (ap is_some (sym is)) in let same = kept.tabled in omega (arith, lt, same)
+process_tabled limits l tables process (Some s) kept is = let lt = live_within l.processes process (ap is_some (sym is))
+    in let same = kept.tabled in omega (arith, lt, same)
 
 -- the process of a live thread has its table
-pub thread_tabled : (limits : Limits) (l : ProcessesState) (tables thread : ℕ) (x : Option ℕ) → ProcessesKept limits l tables → x ≡ get_or l.threads thread None → IfSome x (λ p. p < tables)
+pub thread_tabled : (limits : Limits) (l : ProcessesState) (tables thread : ℕ) (x : Option ℕ)
+    → ProcessesKept limits l tables → x ≡ get_or l.threads thread None → IfSome x (λ p. p < tables)
 thread_tabled limits l tables thread None kept is = tt
-thread_tabled limits l tables thread (Some p) kept is = let lt = live_within l.processes p (kept.live thread p (sym is)) in let same = kept.tabled in omega (arith, lt, same)
+thread_tabled limits l tables thread (Some p) kept is = let lt = live_within l.processes p (kept.live thread p (sym is))
+    in let same = kept.tabled in omega (arith, lt, same)

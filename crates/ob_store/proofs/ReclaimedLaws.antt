@@ -34,7 +34,8 @@ found : (x : Option Object) → is_some x ≡ true → (o : Object) × (x ≡ So
 found None there = absurd (cc there)
 found (Some o) there = (o, refl)
 
-some_set : (xs : List (Option Object)) (k j : ℕ) (o : Object) → get_or (set xs k None) j None ≡ Some o → get_or xs j None ≡ Some o
+some_set : (xs : List (Option Object)) (k j : ℕ) (o : Object) → get_or (set xs k None) j None ≡ Some o
+    → get_or xs j None ≡ Some o
 some_set xs k j o h = elim (cases_eq j k) [
   | inl same ↦ absurd (let gone = ap (λ i. get_or (set xs k None) i None) same ∙ gone_at xs k in cc (gone, h))
   | inr other ↦ sym (get_or-set_other xs k j None None other) ∙ h
@@ -42,14 +43,24 @@ some_set xs k j o h = elim (cases_eq j k) [
   where
     gone_at : (xs : List (Option Object)) (k : ℕ) → get_or (set xs k None) k None ≡ None
     gone_at [] k = refl
-    gone_at (x ∷ xs) k = elim k as (λ k. get_or (set (x ∷ xs) k None) k None ≡ None) [ zero ↦ refl | suc k ↦ gone_at xs k ]
+    gone_at (x ∷ xs) k = elim k as (λ k. get_or (set (x ∷ xs) k None) k None ≡ None) [
+      | zero ↦ refl
+      | suc k ↦
+          gone_at xs k
+    ]
 
 -- fewer objects have bodies of their forms
-formed_fewer : (clock : ℕ) (objects : List (Option Object)) (bodies : List (Option Body)) (k : ℕ) → AreFormed clock objects bodies → AreFormed clock (set objects k None) bodies
-formed_fewer clock objects bodies k f = record { each = λ j o b there is. f.each j o b (some_set objects k j o there) is; later = f.later }
+formed_fewer : (clock : ℕ) (objects : List (Option Object)) (bodies : List (Option Body)) (k : ℕ)
+    → AreFormed clock objects bodies → AreFormed clock (set objects k None) bodies
+formed_fewer clock objects bodies k f = record {
+  each =
+      λ j o b there is. f.each j o b (some_set objects k j o there) is;
+  later = f.later;
+}
 
 module _ (p : PartsState) (kept : IsKept p) (tied : IsTied p.objects)
-    (k : ℕ) (there : is_some (get_or p.objects.objects k None) ≡ true) (ended : get_or p.objects.seen.bodies k None ≡ None) where
+    (k : ℕ) (there : is_some (get_or p.objects.objects k None) ≡ true)
+    (ended : get_or p.objects.seen.bodies k None ≡ None) where
   abbrev o : ObjectsState
   o = p.objects
 
@@ -79,29 +90,55 @@ module _ (p : PartsState) (kept : IsKept p) (tied : IsTied p.objects)
     abbrev left : ObjectsState
     left = with_keeper (record (without_seat (places_in p.objects) k) { retired = retired }) p.objects.births keeper
 
-    kept_left : IsKept (record p { objects = with_keeper (record (without_seat (places_in p.objects) k) { retired = retired }) p.objects.births keeper })
+    kept_left : IsKept (record p {
+      objects = with_keeper (record (without_seat (places_in p.objects) k) {
+        retired =
+            retired;
+      }) p.objects.births keeper;
+    })
     kept_left = record {
       sound = record {
-        limited = record { processes_are = kept.sound.limited.processes_are; handles_are = kept.sound.limited.handles_are; waits_are = kept.sound.limited.waits_are; shape_is = shape ∙ kept.sound.limited.shape_is };
+        limited = record {
+          processes_are = kept.sound.limited.processes_are;
+          handles_are = kept.sound.limited.handles_are;
+          waits_are = kept.sound.limited.waits_are;
+          shape_is = shape ∙ kept.sound.limited.shape_is;
+        };
         processes_kept = kept.sound.processes_kept;
-        counted = subst (λ (n : ℕ). IsCounted left.seen n p.tables.tables p.waits.waits) (sym (length-set o.objects k None))
-            (counted_left o.seen (length o.objects) p.tables.tables p.waits.waits kept.sound.counted (set o.seen.bodies k None) k no_references.0 no_references.1);
-        named = subst (λ (i : ℕ). IsNamed (set o.objects i None) p.tables.tables p.waits.waits) own (named_left o.objects p.tables.tables p.waits.waits object.id (placed_there o tied k object is_object.1) no_handles no_blocks kept.sound.named);
-        formed = subst (λ (bs : List (Option Body)). AreFormed p.waits.clock (set o.objects k None) bs) (sym bodies_same) (formed_fewer p.waits.clock o.objects o.seen.bodies k kept.sound.formed);
-        of_live = subst (λ (bs : List (Option Body)). AreOfLive p.processes.threads bs p.waits.waits) (sym bodies_same) kept.sound.of_live;
-        room = subst (λ (bs : List (Option Body)). WaitsHaveRoom p.limits.max_recursion bs p.waits.waits) (sym bodies_same) kept.sound.room;
-        listing = listing_left p.rows p.tables.tables o.objects o.births kept.sound.listing k object is_object.1 no_handles;
+        counted = subst (λ (n : ℕ). IsCounted left.seen n p.tables.tables p.waits.waits)
+            (sym (length-set o.objects k None))
+            (counted_left o.seen (length o.objects) p.tables.tables p.waits.waits kept.sound.counted
+            (set o.seen.bodies k None) k no_references.0 no_references.1);
+        named = subst (λ (i : ℕ). IsNamed (set o.objects i None) p.tables.tables p.waits.waits) own
+            (named_left o.objects p.tables.tables p.waits.waits object.id
+            (placed_there o tied k object is_object.1) no_handles no_blocks kept.sound.named);
+        formed = subst (λ (bs : List (Option Body)). AreFormed p.waits.clock (set o.objects k None) bs)
+            (sym bodies_same) (formed_fewer p.waits.clock o.objects o.seen.bodies k kept.sound.formed);
+        of_live = subst (λ (bs : List (Option Body)). AreOfLive p.processes.threads bs p.waits.waits)
+            (sym bodies_same) kept.sound.of_live;
+        room = subst (λ (bs : List (Option Body)). WaitsHaveRoom p.limits.max_recursion bs p.waits.waits)
+            (sym bodies_same) kept.sound.room;
+        listing = listing_left p.rows p.tables.tables o.objects o.births kept.sound.listing k object is_object.1
+            no_handles;
       };
       settled = subst (λ (bs : List (Option Body)). IsSettled bs p.waits.waits) (sym bodies_same) kept.settled;
     }
 
   -- what is kept, whatever the answer is
-  pub kept_reclaimed : (answer : Reclaim) (q : ObjectsState) → Reclaimed p.objects k answer q → IsKept (record p { objects = q })
-  kept_reclaimed Freed q h = subst (λ (z : ObjectsState). IsKept (record p { objects = z })) (sym h.0) (kept_left o.retired q.keeper (ap (λ (z : KeeperState). z.shape) h.1.0))
-  kept_reclaimed Retired q h = subst (λ (z : ObjectsState). IsKept (record p { objects = z })) (sym h.0) (kept_left (set o.retired k true) q.keeper (ap (λ (z : KeeperState). z.shape) h.1.0))
+  pub kept_reclaimed : (answer : Reclaim) (q : ObjectsState) → Reclaimed p.objects k answer q
+      → IsKept (record p { objects = q })
+  kept_reclaimed Freed q h = subst (λ (z : ObjectsState). IsKept (record p { objects = z })) (sym h.0)
+      (kept_left o.retired q.keeper (ap (λ (z : KeeperState). z.shape) h.1.0))
+  kept_reclaimed Retired q h = subst (λ (z : ObjectsState). IsKept (record p { objects = z })) (sym h.0)
+      (kept_left (set o.retired k true) q.keeper (ap (λ (z : KeeperState). z.shape) h.1.0))
   kept_reclaimed (Held n) q h = subst (λ (z : ObjectsState). IsKept (record p { objects = z })) (sym h.0) (record {
     sound = record {
-      limited = record { processes_are = kept.sound.limited.processes_are; handles_are = kept.sound.limited.handles_are; waits_are = kept.sound.limited.waits_are; shape_is = ap (λ (z : KeeperState). z.shape) h.1.0 ∙ kept.sound.limited.shape_is };
+      limited = record {
+        processes_are = kept.sound.limited.processes_are;
+        handles_are = kept.sound.limited.handles_are;
+        waits_are = kept.sound.limited.waits_are;
+        shape_is = ap (λ (z : KeeperState). z.shape) h.1.0 ∙ kept.sound.limited.shape_is;
+      };
       processes_kept = kept.sound.processes_kept;
       counted = kept.sound.counted;
       named = kept.sound.named;
@@ -117,33 +154,46 @@ module _ (p : PartsState) (kept : IsKept p) (tied : IsTied p.objects)
   max_gen = o.keeper.shape.max_gen
 
   -- a slot that is freed has the next generation
-  aged : (slot_at p.objects k).generation < max_gen → map generation_of (opened_again p.objects.keeper k).slots ≡ set (map generation_of p.objects.keeper.slots) k (get_or (map generation_of p.objects.keeper.slots) k 1 + 1)
+  aged : (slot_at p.objects k).generation < max_gen
+      → map generation_of (opened_again p.objects.keeper k).slots
+      ≡ set (map generation_of p.objects.keeper.slots) k (get_or (map generation_of p.objects.keeper.slots) k 1 + 1)
   aged below =
       let x : Slot = slot_at o k in
       let test : ltb x.generation max_gen ≡ true = grind (arith, nat_tests, below) in
-      let next : generation_of (reclaimed max_gen x) ≡ x.generation + 1 = ap (λ b. generation_of (cond b (record x { generation = x.generation + 1; phase = phase.Free }) (in_phase x phase.Retired))) test in
+      let next : generation_of (reclaimed max_gen x) ≡ x.generation + 1 =
+      ap (λ b. generation_of (cond b (record x { generation = x.generation + 1; phase = phase.Free })
+      (in_phase x phase.Retired))) test in
       map-set generation_of o.keeper.slots k (reclaimed max_gen x)
-      ∙ ap (set (map generation_of o.keeper.slots) k) (next ∙ ap (λ (n : ℕ). n + 1) (sym (get_or-map generation_of o.keeper.slots k opening_slot)))
+      ∙ ap (set (map generation_of o.keeper.slots) k) (next
+      ∙ ap (λ (n : ℕ). n + 1) (sym (get_or-map generation_of o.keeper.slots k opening_slot)))
 
   -- and one that is given up keeps its own
-  unaged : max_gen ≤ (slot_at p.objects k).generation → map generation_of (opened_again p.objects.keeper k).slots ≡ map generation_of p.objects.keeper.slots
+  unaged : max_gen ≤ (slot_at p.objects k).generation
+      → map generation_of (opened_again p.objects.keeper k).slots ≡ map generation_of p.objects.keeper.slots
   unaged last =
       let x : Slot = slot_at o k in
       let test : ltb x.generation max_gen ≡ false = grind (arith, nat_tests, last) in
-      let same : generation_of (reclaimed max_gen x) ≡ x.generation = ap (λ b. generation_of (cond b (record x { generation = x.generation + 1; phase = phase.Free }) (in_phase x phase.Retired))) test in
+      let same : generation_of (reclaimed max_gen x) ≡ x.generation =
+      ap (λ b. generation_of (cond b (record x { generation = x.generation + 1; phase = phase.Free })
+      (in_phase x phase.Retired))) test in
       map-set_same generation_of o.keeper.slots k (reclaimed max_gen x) opening_slot same
 
   -- the state, whatever the answer is
-  pub reclaimed_state : (answer : Reclaim) (t : ObjectsState) → Reclaimed p.objects k answer t → state_of (record p { objects = t }) ≡ after_reclaim (state_of p) k answer
+  pub reclaimed_state : (answer : Reclaim) (t : ObjectsState) → Reclaimed p.objects k answer t
+      → state_of (record p { objects = t }) ≡ after_reclaim (state_of p) k answer
   reclaimed_state Freed t h =
-      let ages : map generation_of t.keeper.slots ≡ set (map generation_of o.keeper.slots) k (get_or (map generation_of o.keeper.slots) k 1 + 1) = ap (λ (z : KeeperState). map generation_of z.slots) h.1.0 ∙ aged h.1.1 in
+      let ages : map generation_of t.keeper.slots ≡ set (map generation_of o.keeper.slots) k
+      (get_or (map generation_of o.keeper.slots) k 1 + 1) =
+      ap (λ (z : KeeperState). map generation_of z.slots) h.1.0 ∙ aged h.1.1 in
       ap (λ (z : ObjectsState). state_of (record p { objects = z })) h.0
       ∙ λ i. record (freed (state_of p) k) { bodies = bodies_same i; generations = ages i }
   reclaimed_state Retired t h =
-      let ages : map generation_of t.keeper.slots ≡ map generation_of o.keeper.slots = ap (λ (z : KeeperState). map generation_of z.slots) h.1.0 ∙ unaged h.1.1 in
+      let ages : map generation_of t.keeper.slots ≡ map generation_of o.keeper.slots =
+      ap (λ (z : KeeperState). map generation_of z.slots) h.1.0 ∙ unaged h.1.1 in
       ap (λ (z : ObjectsState). state_of (record p { objects = z })) h.0
       ∙ λ i. record (given_up (state_of p) k) { bodies = bodies_same i; generations = ages i }
   reclaimed_state (Held n) t h =
-      let ages : map generation_of t.keeper.slots ≡ map generation_of o.keeper.slots = ap (λ (z : KeeperState). map generation_of z.slots) h.1.0 in
+      let ages : map generation_of t.keeper.slots ≡ map generation_of o.keeper.slots =
+      ap (λ (z : KeeperState). map generation_of z.slots) h.1.0 in
       ap (λ (z : ObjectsState). state_of (record p { objects = z })) h.0
       ∙ λ i. record (state_of p) { generations = ages i }

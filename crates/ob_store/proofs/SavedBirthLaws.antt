@@ -65,8 +65,10 @@ module _ (births : ℕ) (order : Births) where
       (x.birth < births) × (taken so_far x.birth ≡ None) ×
       (births_from births (insert_entry nat_cmp so_far x.birth slot) (suc slot) objects ≡ Ok order)
   step slot so_far x objects e =
-      let b = bind_ok (with_birth births so_far x.birth slot) (λ (more : Births). births_from births more (suc slot) objects) order e in
-      let g = guard_passed (ltb x.birth births && is_none (taken so_far x.birth)) Value (insert_entry nat_cmp so_far x.birth slot) b.0 b.1 in
+      let b = bind_ok (with_birth births so_far x.birth slot)
+      (λ (more : Births). births_from births more (suc slot) objects) order e in
+      let g = guard_passed (ltb x.birth births && is_none (taken so_far x.birth)) Value
+      (insert_entry nat_cmp so_far x.birth slot) b.0 b.1 in
       let new = both-true (ltb x.birth births) (is_none (taken so_far x.birth)) g.0 in (
         ltb-true x.birth births new.0,
         none-is (taken so_far x.birth) new.1,
@@ -84,7 +86,8 @@ module _ (births : ℕ) (order : Births) where
       let s = step slot so_far x objects e in
       subst (λ (z : Object). (z.birth < births) × (taken so_far z.birth ≡ None)) (some-is x o is) (s.0, s.1)
   each-new slot so_far (Some x ∷ objects) e (suc k) o is =
-      let later = each-new (suc slot) (insert_entry nat_cmp so_far x.birth slot) objects (step slot so_far x objects e).2 k o is in
+      let later = each-new (suc slot) (insert_entry nat_cmp so_far x.birth slot) objects
+      (step slot so_far x objects e).2 k o is in
       (later.0, (not_taken so_far x.birth slot o.birth later.1).1)
 
   -- a later object has another birth
@@ -92,7 +95,8 @@ module _ (births : ℕ) (order : Births) where
       births_from births so_far slot (Some x ∷ objects) ≡ Ok order →
       (k : ℕ) (o : Object) → get_or objects k None ≡ Some o → o.birth ≢ x.birth
   later-apart slot so_far x objects e k o is =
-      (not_taken so_far x.birth slot o.birth (each-new (suc slot) (insert_entry nat_cmp so_far x.birth slot) objects (step slot so_far x objects e).2 k o is).1).0
+      (not_taken so_far x.birth slot o.birth (each-new (suc slot) (insert_entry nat_cmp so_far x.birth slot) objects
+      (step slot so_far x objects e).2 k o is).1).0
 
   -- no two are the same
   none-twice : (slot : ℕ) (so_far : Births) (objects : List (Option Object)) → births_from births so_far slot objects ≡
@@ -111,7 +115,8 @@ module _ (births : ℕ) (order : Births) where
   none-twice slot so_far (Some x ∷ objects) e (suc j) zero o p is it same =
       absurd (later-apart slot so_far x objects e j o is (same ∙ ap (λ (z : Object). z.birth) (sym (some-is x p it))))
   none-twice slot so_far (Some x ∷ objects) e (suc j) (suc k) o p is it same =
-      ap suc (none-twice (suc slot) (insert_entry nat_cmp so_far x.birth slot) objects (step slot so_far x objects e).2 j k o p is it same)
+      ap suc (none-twice (suc slot) (insert_entry nat_cmp so_far x.birth slot) objects
+      (step slot so_far x objects e).2 j k o p is it same)
 
   pub ordered_born : (objects : List (Option Object)) → births_from births [] 0 objects ≡ Ok order →
       AreBorn objects births

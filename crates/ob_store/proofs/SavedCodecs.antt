@@ -33,11 +33,13 @@ use Rattle.ob_store.specs.SavedSlots.{ObjectFits, SlotFits, any_slot_at, object_
 
 pub object_codec : IsCodec object_text object_at ObjectFits
 object_codec = as_codec saved.object_of object_parts (λ _. refl) (λ _. refl)
-    (both_codec u64_codec (both_codec descr_codec (both_codec rights_codec (both_codec (option_codec body_codec) (option_codec name_codec)))))
+    (both_codec u64_codec (both_codec descr_codec (both_codec rights_codec
+    (both_codec (option_codec body_codec) (option_codec name_codec)))))
 
 pub slot_codec : (max_gen clock : ℕ) → IsCodec slot_text (slot_at max_gen clock) (SlotFits max_gen clock)
 slot_codec max_gen clock = where_codec
-    (as_codec saved.slot_of slot_parts (λ _. refl) (λ _. refl) (both_codec u32_codec (both_codec flag_codec (option_codec object_codec))))
+    (as_codec saved.slot_of slot_parts (λ _. refl) (λ _. refl)
+    (both_codec u32_codec (both_codec flag_codec (option_codec object_codec))))
     (slot_stands max_gen clock)
 
 -- an object that was put into its slot is saved as it was
@@ -57,7 +59,8 @@ module _ (n max_gen clock : ℕ) (p : Places) (slots : List Slot) (r : AreRead n
       let retired : get_or q.retired k false ≡ x.retired =
       retired-here n max_gen clock p slots r q more Named counts k lt in
       let object : object_saved (get_or q.objects k None) (get_or q.seen.bodies k None) ≡ x.object =
-      (λ i. object_saved (object-here n max_gen clock p slots r q more Named counts k lt i) (body-here n max_gen clock p slots r q more Named counts k lt i))
+      (λ i. object_saved (object-here n max_gen clock p slots r q more Named counts k lt i)
+      (body-here n max_gen clock p slots r q more Named counts k lt i))
       ∙ saved-back (record { slot = k; generation = x.generation }) x.object in
       λ i. record { generation = generation i; retired = retired i; object = object i }
 
@@ -76,19 +79,24 @@ module _ (n max_gen clock : ℕ) (p : Places) (slots : List Slot) (r : AreRead n
       ∙ slot-back k within))
 
 -- what is read is the spelling of the objects that it gives
-pub objects_take : (limits : Limits) (clock : ℕ) (tables : List (List (Option Entry))) (bytes : List ℕ) (s : ObjectsState) (rest : List ℕ) → AreBytes bytes →
+pub objects_take : (limits : Limits) (clock : ℕ) (tables : List (List (Option Entry))) (bytes : List ℕ)
+    (s : ObjectsState) (rest : List ℕ) → AreBytes bytes →
     objects_at limits clock tables bytes ≡ Ok (s, rest) → Takes bytes (objects_text s) rest
 objects_take limits clock tables bytes s rest are e =
     let a = bind_ok (slots_at limits.slots limits.max_gen clock bytes) _ (s, rest) e in
-    let b = bind_ok (counting_all a.0.0.0 tables) (λ (q : Places). whole_objects limits a.0.0.1 q >>= λ (o : ObjectsState). Ok (o, a.0.1)) (s, rest) a.2 in
+    let b = bind_ok (counting_all a.0.0.0 tables) (λ
+    (q : Places). whole_objects limits a.0.0.1 q >>= λ (o : ObjectsState). Ok (o, a.0.1)) (s, rest) a.2 in
     let c = bind_ok (whole_objects limits a.0.0.1 b.0) (λ (o : ObjectsState). Ok (o, a.0.1)) (s, rest) b.2 in
-    let d = bind_ok (births_from (sum_by made_in a.0.0.1) [] 0 b.0.objects) (λ (order : Births). cond (are_bodied b.0.seen (length b.0.objects)) (Ok (with_slots b.0 limits a.0.0.1)) (Err Value)) c.0 c.1 in
+    let d = bind_ok (births_from (sum_by made_in a.0.0.1) [] 0 b.0.objects)
+    (λ (order : Births). cond (are_bodied b.0.seen (length b.0.objects)) (Ok (with_slots b.0 limits a.0.0.1))
+    (Err Value)) c.0 c.1 in
     let g = guard_passed (are_bodied b.0.seen (length b.0.objects)) Value (with_slots b.0 limits a.0.0.1) c.0 d.2 in
     let q = ok_is (c.0, a.0.1) (s, rest) c.2 in
     let i = bind_ok (items_at (slot_at limits.max_gen clock) limits.slots bytes) (λ (xs : List SavedSlot ×
     List ℕ). Ok (slots_from xs.0, xs.1)) a.0 a.1 in
     let back = ok_is (slots_from i.0.0, i.0.1) a.0 i.2 in
-    let all = items_all (slot_at limits.max_gen clock) (IsSound limits.max_gen clock) (slot_sound limits.max_gen clock) none_saved limits.slots bytes i.0.0 i.0.1 i.1 in
+    let all = items_all (slot_at limits.max_gen clock) (IsSound limits.max_gen clock)
+    (slot_sound limits.max_gen clock) none_saved limits.slots bytes i.0.0 i.0.1 i.1 in
     let r : AreRead limits.slots limits.max_gen clock a.0.0.0 a.0.0.1 = record {
       xs = i.0.0;
       long = all.0;
@@ -102,6 +110,7 @@ objects_take limits clock tables bytes s rest are e =
       a.0.1,
     )) g.1 ∙ q)
     (subst (λ (xs : List SavedSlot). Takes bytes (flat_map slot_text xs) a.0.1)
-    (sym (slots_back limits.slots limits.max_gen clock a.0.0.0 a.0.0.1 r b.0 _ _ (counts limits clock tables bytes a.0.0.0 b.0 a.0.0.1 a.0.1 a.1 b.1) limits refl))
+    (sym (slots_back limits.slots limits.max_gen clock a.0.0.0 a.0.0.1 r b.0 _ _
+    (counts limits clock tables bytes a.0.0.0 b.0 a.0.0.1 a.0.1 a.1 b.1) limits refl))
     (subst (λ (t : List ℕ). Takes bytes (flat_map slot_text i.0.0) t) (ap (λ (z : (Places × List Slot) ×
     List ℕ). z.1) back) taken))

@@ -141,8 +141,10 @@ module _ (n i : ℕ) (xs : List SavedSlot) (long : length xs ≡ i) (lt : i < n)
       let objects = begun None n i (objects_from 0 xs) in
       let retired = begun false n i (map is_retired xs) in
       let wide : length objects ≡ n = length-begun None n i (objects_from 0 xs) objects-are (omega arith) in
-      true-both (ltb i (length objects)) (is_none (get_or objects i None) && not (get_or retired i false)) (lt-ltb i (length objects) (omega arith))
-      (true-both (is_none (get_or objects i None)) (not (get_or retired i false)) (ap is_none empty-at.object) (ap not empty-at.retired))
+      true-both (ltb i (length objects)) (is_none (get_or objects i None) && not (get_or retired i false))
+      (lt-ltb i (length objects) (omega arith))
+      (true-both (is_none (get_or objects i None)) (not (get_or retired i false)) (ap is_none empty-at.object)
+      (ap not empty-at.retired))
 
   pub written-next : (x : SavedSlot) → written (so_far n i xs) i x ≡ so_far n (i + 1) (xs ++ x ∷ [])
   written-next x = λ j. record {
@@ -206,18 +208,21 @@ read_begins n max_gen clock first p slots vacant none =
       begun_slots = none;
     }
 
-module _ (n max_gen clock i : ℕ) (first from : List ℕ) (p : Places) (slots : List Slot) (h : HasRead n max_gen clock i first from p slots) where
+module _ (n max_gen clock i : ℕ) (first from : List ℕ) (p : Places) (slots : List Slot)
+    (h : HasRead n max_gen clock i first from p slots) where
   pub vacant_here : i < n → is_vacant_at (vacancy p) i ≡ true
   vacant_here lt = ap (λ (z : Places). is_vacant_at (vacancy z) i) h.places ∙ vacant-next n i h.read h.long lt
 
   pub read_goes_on : (x : SavedSlot) (after : List ℕ) → i < n → slot_at max_gen clock from ≡ Ok (x, after) →
-      HasRead n max_gen clock (i + 1) first after (with_saved p i x.generation x.retired x.object) (slots ++ keeper_slot x ∷ [])
+      HasRead n max_gen clock (i + 1) first after (with_saved p i x.generation x.retired x.object) (slots
+      ++ keeper_slot x ∷ [])
   read_goes_on x after lt is =
       let apart = retired-apart max_gen clock x (slot-stands max_gen clock from after x is) in
       record {
         read = h.read ++ x ∷ [];
         long = length-append h.read (x ∷ []) ∙ (let l = h.long in omega (arith, l));
-        total = goes_on (slot_at max_gen clock) h.read n i from x after (items_at (slot_at max_gen clock) n first) lt is h.total;
+        total = goes_on (slot_at max_gen clock) h.read n i from x after
+            (items_at (slot_at max_gen clock) n first) lt is h.total;
         places = ap (λ (z : Places). with_saved z i x.generation x.retired x.object) h.places
             ∙ (saved-is (so_far n i h.read) i x.generation x.retired x.object (empty-at n i h.read h.long lt) apart ∙
             written-next n i h.read h.long lt x);
@@ -236,7 +241,8 @@ module _ (n max_gen clock i : ℕ) (first from : List ℕ) (p : Places) (slots :
 
   pub read_done : n ≤ i → i ≤ n → slots_at n max_gen clock first ≡ Ok ((p, slots), from)
   read_done le ge =
-      let done = is_done (slot_at max_gen clock) h.read n i from (items_at (slot_at max_gen clock) n first) le h.total in
+      let done = is_done (slot_at max_gen clock) h.read n i from (items_at (slot_at max_gen clock) n first) le h.total
+      in
       let none : n - i ≡ 0 = omega arith in
       let full : length h.read ≡ n = let l = h.long in omega (arith, l) in
       let objects : begun None n i (objects_from 0 h.read) ≡ objects_from 0 h.read =

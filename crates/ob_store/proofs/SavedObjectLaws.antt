@@ -53,7 +53,8 @@ all_bodied : (o : waits.Objects) (n : ℕ) → length o.bodies ≡ n → length 
     are_bodied o n ≡ true → HasBodies o
 all_bodied o n bodies handles blocks all = record {
   each = λ k. elim (cases_lt k n) [
-    | inl lt ↦ by (ltb 0 (get_or o.handles k 0 + get_or o.blocks k 0)) (get_or o.bodies k None) (bodied_here o n k all lt)
+    | inl lt ↦ by (ltb 0 (get_or o.handles k 0 + get_or o.blocks k 0)) (get_or o.bodies k None)
+        (bodied_here o n k all lt)
     | inr le ↦ (let none = get_or_past o.bodies k None (omega (arith, bodies, le)) in
         let a = get_or_past o.handles k 0 (omega (arith, handles, le)) in
         let b = get_or_past o.blocks k 0 (omega (arith, blocks, le)) in
@@ -95,7 +96,8 @@ slots-are-read n max_gen clock bytes p slots rest e =
       slots_from xs.0,
       xs.1,
     )) ((p, slots), rest) e in
-    let all = items_all (slot_at max_gen clock) (IsSound max_gen clock) (slot_sound max_gen clock) none_saved n bytes b.0.0 b.0.1 b.1 in
+    let all = items_all (slot_at max_gen clock) (IsSound max_gen clock)
+    (slot_sound max_gen clock) none_saved n bytes b.0.0 b.0.1 b.1 in
     let q = ok_is (slots_from b.0.0, b.0.1) ((p, slots), rest) b.2 in
     record {
       xs = b.0.0;
@@ -174,8 +176,10 @@ module _ (n max_gen clock : ℕ) (p : Places) (slots : List Slot) (r : AreRead n
           sym none ∙ is in cc e)
     ];
     later = λ k. elim (cases_lt k n) [
-      | inl lt ↦ subst (λ (b : Option Body). IsAfter clock (slot_due b)) (sym (body-here k lt)) (slot_later max_gen clock (at k) (r.sound k lt))
-      | inr le ↦ subst (λ (b : Option Body). IsAfter clock (slot_due b)) (sym (get_or_past q.seen.bodies k None (omega (arith, bodies-long, le)))) tt
+      | inl lt ↦ subst (λ (b : Option Body). IsAfter clock (slot_due b)) (sym (body-here k lt))
+          (slot_later max_gen clock (at k) (r.sound k lt))
+      | inr le ↦ subst (λ (b : Option Body). IsAfter clock (slot_due b))
+          (sym (get_or_past q.seen.bodies k None (omega (arith, bodies-long, le)))) tt
     ];
   }
 
@@ -200,7 +204,8 @@ module _ (n max_gen clock : ℕ) (p : Places) (slots : List Slot) (r : AreRead n
         wide = slots-long ∙ wide;
         each = λ k lt. (let within : k < n = omega (arith, lt, wide) in
             subst (λ (m : ℕ). SlotOpens m (slot_of slots k)) last
-            (subst (SlotOpens max_gen) (sym (slot-here k within)) (slot_opens max_gen clock (at k) (r.sound k within))));
+            (subst (SlotOpens max_gen) (sym (slot-here k within))
+            (slot_opens max_gen clock (at k) (r.sound k within))));
       };
       bodied = all_bodied q.seen n bodies-long handles-long blocks-long (subst (λ (m : ℕ). are_bodied q.seen m ≡
           true) objects-long-here bodied);
@@ -231,7 +236,8 @@ slots_read n max_gen clock bytes p slots rest e =
     let r = slots-are-read n max_gen clock bytes p slots rest e in
     ap (λ (z : List Slot). length z) r.slots_are ∙ length-map r.xs keeper_slot ∙ r.long
 
-module _ (limits : Limits) (clock : ℕ) (tables : List (List (Option Entry))) (bytes : List ℕ) (p q : Places) (slots : List Slot) (rest : List ℕ)
+module _ (limits : Limits) (clock : ℕ) (tables : List (List (Option Entry))) (bytes : List ℕ) (p q : Places)
+    (slots : List Slot) (rest : List ℕ)
     (read : slots_at limits.slots limits.max_gen clock bytes ≡ Ok ((p, slots), rest)) (counted : counting_all p tables ≡
     Ok q) where
   are : AreRead limits.slots limits.max_gen clock p slots

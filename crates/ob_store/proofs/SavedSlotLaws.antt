@@ -111,7 +111,8 @@ pub slot_sound : (max_gen clock : ℕ) (bytes rest : List ℕ) (x : SavedSlot) �
 slot_sound max_gen clock bytes rest x e =
     let b = bind_ok (any_slot_at bytes) _ (x, rest) e in
     let g = guard_passed (slot_stands max_gen clock b.0.0) Value b.0 (x, rest) b.2 in
-    let a = as-split slot_of (both_at (number_at w32) (both_at reading.flag_at (option_at object_at))) bytes b.0.0 b.0.1 b.1 in
+    let a = as-split slot_of (both_at (number_at w32) (both_at reading.flag_at (option_at object_at))) bytes b.0.0 b.0.1
+    b.1 in
     let c = both-split (number_at w32) (both_at reading.flag_at (option_at object_at)) bytes a.0 b.0.1 a.1 in
     let d = both-split reading.flag_at (option_at object_at) c.0 a.0.1 b.0.1 c.2 in
     subst (λ (z : SavedSlot × List ℕ). IsSound max_gen clock z.0) g.1

@@ -15,7 +15,8 @@ use Rattle.ob_store.specs.Objects.{Object, Places, places_of, rest_of, seen_in, 
 use Rattle.ob_store.proofs.LabelLaws.{none_object, object_read, objects_kept, objects_length, objects_none, objects_out, objects_put}
 
 -- what a list that is read off another has at a place
-pub read : {A B : Type 0} (f : Option A → B) (xs : List (Option A)) (k : ℕ) → get_or (map f xs) k (f None) ≡ f (get_or xs k None)
+pub read : {A B : Type 0} (f : Option A → B) (xs : List (Option A)) (k : ℕ)
+    → get_or (map f xs) k (f None) ≡ f (get_or xs k None)
 read f xs k = elim (cases_lt k (length xs)) [
   | inl lt ↦ get_or-map f xs k None (f None) lt
   | inr le ↦ get_or_past (map f xs) k (f None) (omega (arith, length-map xs f)) ∙ ap f (sym (get_or_past xs k None le))
@@ -30,7 +31,8 @@ module _ (xs : List (Option Seat)) (k : ℕ) (x : Seat) (is : get_or xs k None �
   blocks_at = read seat_blocks xs k ∙ ap seat_blocks is
 
   -- where the object stays
-  pub objects_same : (ls : List Tag) (y : Seat) → ((l : Tag) → object_of y l ≡ object_of x l) → objects_in (set xs k (Some y)) ls ≡ objects_in xs ls
+  pub objects_same : (ls : List Tag) (y : Seat) → ((l : Tag) → object_of y l ≡ object_of x l)
+      → objects_in (set xs k (Some y)) ls ≡ objects_in xs ls
   objects_same ls y same = objects_kept xs ls k (Some y) (λ l. ap Some (same l) ∙ ap (λ z. object_at z l) (sym is))
 
   pub handles_same : (y : Seat) → y.handles ≡ x.handles → map seat_handles (set xs k (Some y)) ≡ map seat_handles xs
@@ -43,7 +45,8 @@ module _ (xs : List (Option Seat)) (k : ℕ) (x : Seat) (is : get_or xs k None �
   bodies_same y same = map-set_same seat_body xs k (Some y) None (same ∙ ap seat_body (sym is))
 
   -- the body goes or stays
-  bodies_end : (b : Bool) (y : Seat) → y.body ≡ cond b None x.body → map seat_body (set xs k (Some y)) ≡ cond b (set (map seat_body xs) k None) (map seat_body xs)
+  bodies_end : (b : Bool) (y : Seat) → y.body ≡ cond b None x.body
+      → map seat_body (set xs k (Some y)) ≡ cond b (set (map seat_body xs) k None) (map seat_body xs)
   bodies_end true y gone = map-set seat_body xs k (Some y) ∙ ap (set (map seat_body xs) k) gone
   bodies_end false y stays = bodies_same y stays
 
@@ -51,20 +54,40 @@ module _ (xs : List (Option Seat)) (k : ℕ) (x : Seat) (is : get_or xs k None �
   body_here = read seat_body xs k ∙ ap seat_body is
 
   -- a thread acquires it
-  pub seen_acquired : (thread : ℕ) → seen_in (set xs k (Some (record x { body = slot_acquired thread x.body }))) ≡ record (seen_in xs) { bodies = set (map seat_body xs) k (slot_acquired thread (get_or (map seat_body xs) k None)) }
+  pub seen_acquired : (thread : ℕ) → seen_in (set xs k (Some (record x { body = slot_acquired thread x.body })))
+      ≡ record (seen_in xs) {
+        bodies = set (map seat_body xs) k
+            (slot_acquired thread (get_or (map seat_body xs) k None));
+      }
   seen_acquired thread =
       let y : Seat = record x { body = slot_acquired thread x.body } in
-      λ i. record { bodies = (map-set seat_body xs k (Some y) ∙ ap (λ b. set (map seat_body xs) k (slot_acquired thread b)) (sym body_here)) i; handles = handles_same y refl i; blocks = blocks_same y refl i }
+      λ i. record {
+        bodies = (map-set seat_body xs k (Some y)
+            ∙ ap (λ b. set (map seat_body xs) k (slot_acquired thread b)) (sym body_here)) i;
+        handles = handles_same y refl i;
+        blocks = blocks_same y refl i;
+      }
 
-  pub seen_put : (b : Body) → seen_in (set xs k (Some (record x { body = Some b }))) ≡ record (seen_in xs) { bodies = set (map seat_body xs) k (Some b) }
-  seen_put b = let y : Seat = record x { body = Some b } in λ i. record { bodies = map-set seat_body xs k (Some y) i; handles = handles_same y refl i; blocks = blocks_same y refl i }
+  pub seen_put : (b : Body) → seen_in (set xs k (Some (record x { body = Some b }))) ≡ record (seen_in xs) {
+    bodies =
+        set (map seat_body xs) k (Some b);
+  }
+  seen_put b = let y : Seat = record x { body = Some b } in
+      λ i. record {
+        bodies = map-set seat_body xs k (Some y) i;
+        handles = handles_same y refl i;
+        blocks = blocks_same y refl i;
+      }
 
-  pub seen_block_left : seen_in (set xs k (Some (seat_block_left x))) ≡ without_block (seen_in xs) (record { slot = k; generation = 0 })
+  pub seen_block_left : seen_in (set xs k (Some (seat_block_left x)))
+      ≡ without_block (seen_in xs) (record { slot = k; generation = 0 })
   seen_block_left =
       let y : Seat = seat_block_left x in
-      let counts : get_or (map seat_handles xs) k 0 + (get_or (map seat_blocks xs) k 0 - 1) ≡ x.handles + (x.blocks - 1) = omega (arith, handles_at, blocks_at) in
+      let counts : get_or (map seat_handles xs) k 0 + (get_or (map seat_blocks xs) k 0 - 1) ≡ x.handles
+      + (x.blocks - 1) = omega (arith, handles_at, blocks_at) in
       λ i. record {
-        bodies = (bodies_end (eqb (x.handles + (x.blocks - 1)) 0) y refl ∙ ap (λ n. cond (eqb n 0) (set (map seat_body xs) k None) (map seat_body xs)) (sym counts)) i;
+        bodies = (bodies_end (eqb (x.handles + (x.blocks - 1)) 0) y refl
+            ∙ ap (λ n. cond (eqb n 0) (set (map seat_body xs) k None) (map seat_body xs)) (sym counts)) i;
         handles = handles_same y refl i;
         blocks = (map-set seat_blocks xs k (Some y) ∙ ap (λ n. set (map seat_blocks xs) k (n - 1)) (sym blocks_at)) i;
       }
@@ -80,40 +103,61 @@ module _ (xs : List (Option Seat)) (k : ℕ) (x : Seat) (is : get_or xs k None �
     pub places_handle_came : after (record x { handles = x.handles + 1 }) ≡ with_handle before k
     places_handle_came = let y : Seat = record x { handles = x.handles + 1 } in λ i. record {
       objects = objects_same ls y (λ l. refl) i;
-      seen = record { bodies = bodies_same y refl i; handles = (map-set seat_handles xs k (Some y) ∙ ap (λ n. set (map seat_handles xs) k (n + 1)) (sym handles_at)) i; blocks = blocks_same y refl i };
+      seen = record {
+        bodies = bodies_same y refl i;
+        handles = (map-set seat_handles xs k (Some y)
+            ∙ ap (λ n. set (map seat_handles xs) k (n + 1)) (sym handles_at)) i;
+        blocks = blocks_same y refl i;
+      };
       retired = retired;
     }
 
     pub places_block_came : after (record x { blocks = x.blocks + 1 }) ≡ with_block before k
     places_block_came = let y : Seat = record x { blocks = x.blocks + 1 } in λ i. record {
       objects = objects_same ls y (λ l. refl) i;
-      seen = record { bodies = bodies_same y refl i; handles = handles_same y refl i; blocks = (map-set seat_blocks xs k (Some y) ∙ ap (λ n. set (map seat_blocks xs) k (n + 1)) (sym blocks_at)) i };
+      seen = record {
+        bodies = bodies_same y refl i;
+        handles = handles_same y refl i;
+        blocks = (map-set seat_blocks xs k (Some y)
+            ∙ ap (λ n. set (map seat_blocks xs) k (n + 1)) (sym blocks_at)) i;
+      };
       retired = retired;
     }
 
     pub last_is : is_last_handle before k ≡ eqb ((x.handles - 1) + x.blocks) 0
-    last_is = let counts : (get_or (map seat_handles xs) k 0 - 1) + get_or (map seat_blocks xs) k 0 ≡ (x.handles - 1) + x.blocks = omega (arith, handles_at, blocks_at) in ap (λ n. eqb n 0) counts
+    last_is = let counts : (get_or (map seat_handles xs) k 0 - 1) + get_or (map seat_blocks xs) k 0 ≡ (x.handles - 1)
+        + x.blocks = omega (arith, handles_at, blocks_at) in ap (λ n. eqb n 0) counts
 
     pub places_handle_left : after (seat_handle_left x) ≡ without_handle before k
     places_handle_left = let y : Seat = seat_handle_left x in λ i. record {
       objects = objects_same ls y (λ l. refl) i;
       seen = record {
-        bodies = (bodies_end (eqb ((x.handles - 1) + x.blocks) 0) y refl ∙ ap (λ b. cond b (set (map seat_body xs) k None) (map seat_body xs)) (sym last_is)) i;
-        handles = (map-set seat_handles xs k (Some y) ∙ ap (λ n. set (map seat_handles xs) k (n - 1)) (sym handles_at)) i;
+        bodies = (bodies_end (eqb ((x.handles - 1) + x.blocks) 0) y refl
+            ∙ ap (λ b. cond b (set (map seat_body xs) k None) (map seat_body xs)) (sym last_is)) i;
+        handles = (map-set seat_handles xs k (Some y)
+            ∙ ap (λ n. set (map seat_handles xs) k (n - 1)) (sym handles_at)) i;
         blocks = blocks_same y refl i;
       };
       retired = retired;
     }
 
     -- what waits leave as it is
-    pub rest_same : (y : Seat) → ((l : Tag) → object_of y l ≡ object_of x l) → y.handles ≡ x.handles → rest_of (after y) ≡ rest_of before
-    rest_same y object handles = λ i. record { objects = objects_same ls y object i; handles = handles_same y handles i; retired = retired }
+    pub rest_same : (y : Seat) → ((l : Tag) → object_of y l ≡ object_of x l) → y.handles ≡ x.handles
+        → rest_of (after y) ≡ rest_of before
+    rest_same y object handles = λ i. record {
+      objects = objects_same ls y object i;
+      handles = handles_same y handles i;
+      retired = retired;
+    }
 
 -- vacancy is that of the arena
-pub vacant_same : (s : Slots Seat) (ls : List Tag) (k : ℕ) → is_vacant_at (vacancy (places_of s ls)) k ≡ is_vacant_at s k
+pub vacant_same : (s : Slots Seat) (ls : List Tag) (k : ℕ)
+    → is_vacant_at (vacancy (places_of s ls)) k ≡ is_vacant_at s k
 vacant_same s ls k =
-    ap (λ n. ltb k n && (is_none (get_or (objects_in s.bodies ls) k None) && not (get_or s.retired k false))) (objects_length s.bodies ls)
-    ∙ ap (λ b. ltb k (length s.bodies) && (b && not (get_or s.retired k false))) (ap is_none (object_read s.bodies ls k) ∙ none_object (get_or s.bodies k None) (get_or ls k no_tag))
+    ap (λ n. ltb k n && (is_none (get_or (objects_in s.bodies ls) k None) && not (get_or s.retired k false)))
+    (objects_length s.bodies ls)
+    ∙ ap (λ b. ltb k (length s.bodies) && (b && not (get_or s.retired k false))) (ap is_none (object_read s.bodies ls k)
+    ∙ none_object (get_or s.bodies k None) (get_or ls k no_tag))
 
 pub least_same : (s : Slots Seat) (ls : List Tag) → least_vacant s ≡ least_vacant (vacancy (places_of s ls))
 least_same s ls =
@@ -125,8 +169,10 @@ least_is s None is = tt
 least_is s (Some slot) is = vacant_least s slot (sym is)
 
 -- an object that comes to a vacant slot
-pub places_added : (s : Slots Seat) (ls : List Tag) (k : ℕ) (y : Seat) (m : Tag) (body : Option Body) (handles : ℕ) → k < length ls → y.body ≡ body → y.handles ≡ handles → y.blocks ≡ 0
-    → places_of (record s { bodies = set s.bodies k (Some y) }) (set ls k m) ≡ with_seated (places_of s ls) k (object_of y m) body handles
+pub places_added : (s : Slots Seat) (ls : List Tag) (k : ℕ) (y : Seat) (m : Tag) (body : Option Body) (handles : ℕ)
+    → k < length ls → y.body ≡ body → y.handles ≡ handles → y.blocks ≡ 0
+    → places_of (record s { bodies = set s.bodies k (Some y) }) (set ls k m)
+    ≡ with_seated (places_of s ls) k (object_of y m) body handles
 places_added s ls k y m body handles within has counts none = λ i. record {
   objects = objects_put s.bodies ls k y m within i;
   seen = record {
@@ -138,16 +184,27 @@ places_added s ls k y m body handles within has counts none = λ i. record {
 }
 
 -- it has one handle
-pub added_handle : (s : Slots Seat) (ls : List Tag) (k : ℕ) (y : Seat) → y.handles ≡ 1 → is_vacant_at (vacancy (places_of s ls)) k ≡ true → get_or (map seat_handles (set s.bodies k (Some y))) k 0 ≡ 1
+pub added_handle : (s : Slots Seat) (ls : List Tag) (k : ℕ) (y : Seat) → y.handles ≡ 1
+    → is_vacant_at (vacancy (places_of s ls)) k ≡ true → get_or (map seat_handles (set s.bodies k (Some y))) k 0 ≡ 1
 added_handle s ls k y one vacant =
-    let within : k < length s.bodies = omega (arith, vacant_within (vacancy (places_of s ls)) k vacant, objects_length s.bodies ls) in
-    read seat_handles (set s.bodies k (Some y)) k ∙ ap seat_handles (get_or-set_same s.bodies k (Some y) None within) ∙ one
+    let within : k < length s.bodies = omega (
+      arith,
+      vacant_within (vacancy (places_of s ls)) k vacant,
+      objects_length s.bodies ls,
+    ) in
+    read seat_handles (set s.bodies k (Some y)) k ∙ ap seat_handles (get_or-set_same s.bodies k (Some y) None within)
+    ∙ one
 
 -- an object that leaves
-pub places_removed : (s : Slots Seat) (ls : List Tag) (k : ℕ) → places_of (record s { bodies = set s.bodies k None }) ls ≡ without_seat (places_of s ls) k
+pub places_removed : (s : Slots Seat) (ls : List Tag) (k : ℕ)
+    → places_of (record s { bodies = set s.bodies k None }) ls ≡ without_seat (places_of s ls) k
 places_removed s ls k = λ i. record {
   objects = objects_out s.bodies ls k i;
-  seen = record { bodies = map-set seat_body s.bodies k None i; handles = map-set seat_handles s.bodies k None i; blocks = map-set seat_blocks s.bodies k None i };
+  seen = record {
+    bodies = map-set seat_body s.bodies k None i;
+    handles = map-set seat_handles s.bodies k None i;
+    blocks = map-set seat_blocks s.bodies k None i;
+  };
   retired = s.retired;
 }
 
@@ -156,14 +213,19 @@ none_of None h = refl
 none_of (Some x) h = cc
 
 -- a slot without a seat has nothing to lose
-pub seen_absent : (xs : List (Option Seat)) (id : Id) → get_or xs id.slot None ≡ None → seen_in xs ≡ without_block (seen_in xs) id
+pub seen_absent : (xs : List (Option Seat)) (id : Id) → get_or xs id.slot None ≡ None
+    → seen_in xs ≡ without_block (seen_in xs) id
 seen_absent xs id none =
     let handles : get_or (map seat_handles xs) id.slot 0 ≡ 0 = read seat_handles xs id.slot ∙ ap seat_handles none in
     let blocks : get_or (map seat_blocks xs) id.slot 0 ≡ 0 = read seat_blocks xs id.slot ∙ ap seat_blocks none in
-    let less : get_or (map seat_blocks xs) id.slot 0 ≡ get_or (map seat_blocks xs) id.slot 0 - 1 = omega (arith, blocks) in
-    let counts : get_or (map seat_handles xs) id.slot 0 + (get_or (map seat_blocks xs) id.slot 0 - 1) ≡ 0 = omega (arith, handles, blocks) in
+    let less : get_or (map seat_blocks xs) id.slot 0 ≡ get_or (map seat_blocks xs) id.slot 0 - 1 =
+    omega (arith, blocks) in
+    let counts : get_or (map seat_handles xs) id.slot 0 + (get_or (map seat_blocks xs) id.slot 0 - 1) ≡ 0 =
+    omega (arith, handles, blocks) in
     λ i. record {
-      bodies = (sym (set-get_or (map seat_body xs) id.slot None) ∙ ap (set (map seat_body xs) id.slot) (read seat_body xs id.slot ∙ ap seat_body none) ∙ ap (λ n. cond (eqb n 0) (set (map seat_body xs) id.slot None) (map seat_body xs)) (sym counts)) i;
+      bodies = (sym (set-get_or (map seat_body xs) id.slot None)
+          ∙ ap (set (map seat_body xs) id.slot) (read seat_body xs id.slot ∙ ap seat_body none)
+          ∙ ap (λ n. cond (eqb n 0) (set (map seat_body xs) id.slot None) (map seat_body xs)) (sym counts)) i;
       handles = map seat_handles xs;
       blocks = (sym (set-get_or (map seat_blocks xs) id.slot 0) ∙ ap (set (map seat_blocks xs) id.slot) less) i;
     }
@@ -172,9 +234,16 @@ map-replicate : {A B : Type 0} (f : A → B) (x : A) (n : ℕ) → map f (replic
 map-replicate f x zero = refl
 map-replicate f x (suc n) = ap (λ t. f x ∷ t) (map-replicate f x n)
 
-pub places_vacant : (n : ℕ) (ls : List Tag) → places_of (record { bodies = replicate n None; retired = replicate n false }) ls ≡ vacant_places n
+pub places_vacant : (n : ℕ) (ls : List Tag) → places_of (record {
+  bodies = replicate n None;
+  retired = replicate n false;
+}) ls ≡ vacant_places n
 places_vacant n ls = λ i. record {
   objects = objects_none n ls i;
-  seen = record { bodies = map-replicate seat_body None n i; handles = map-replicate seat_handles None n i; blocks = map-replicate seat_blocks None n i };
+  seen = record {
+    bodies = map-replicate seat_body None n i;
+    handles = map-replicate seat_handles None n i;
+    blocks = map-replicate seat_blocks None n i;
+  };
   retired = replicate n false;
 }

@@ -19,25 +19,33 @@ pub has_blocks : (s : State) → IsNamed s.objects s.tables s.waits → HasBlock
 has_blocks s named = record {
   each = λ k. elim (cases_lt k (length s.objects)) [
     | inl lt ↦ get_by_slot (length s.objects) (λ i. slot_blocks i s.waits) k lt
-    | inr le ↦ get_or_past (by_slot (length s.objects) (λ i. slot_blocks i s.waits)) k 0 (omega (arith, length-by_slot (length s.objects) (λ i. slot_blocks i s.waits), le)) ∙ sym (blocks_past s.objects s.tables s.waits named k le)
+    | inr le ↦ get_or_past (by_slot (length s.objects) (λ i. slot_blocks i s.waits)) k 0
+        (omega (arith, length-by_slot (length s.objects) (λ i. slot_blocks i s.waits), le))
+        ∙ sym (blocks_past s.objects s.tables s.waits named k le)
   ];
 }
 
 -- what ends may end first
-pub ends_before : (s : State) → IsNamed s.objects s.tables s.waits → settled s ≡ with_scene s (waits.settled (with_ends (scene_of s)))
+pub ends_before : (s : State) → IsNamed s.objects s.tables s.waits
+    → settled s ≡ with_scene s (waits.settled (with_ends (scene_of s)))
 ends_before s named = ap (with_scene s) (sym (ends_first (scene_of s) (has_blocks s named)))
 
 -- where nothing is to end, the waits alone settle
-pub settled_waits : (s : State) → IsNamed s.objects s.tables s.waits → HasBodies (objects_of s) → settled s ≡ with_scene s (waits.settled (scene_of s))
-settled_waits s named bodied = ends_before s named ∙ ap (λ (o : Objects). with_scene s (waits.settled (record { objects = o; waits = s.waits }))) (sym (none_to_end (objects_of s) bodied))
+pub settled_waits : (s : State) → IsNamed s.objects s.tables s.waits → HasBodies (objects_of s)
+    → settled s ≡ with_scene s (waits.settled (scene_of s))
+settled_waits s named bodied = ends_before s named
+    ∙ ap (λ (o : Objects). with_scene s (waits.settled (record { objects = o; waits = s.waits })))
+    (sym (none_to_end (objects_of s) bodied))
 
 -- and where no wait is ready, what is to end alone ends
-pub settled_ends : (s : State) (after : Objects) → IsNamed s.objects s.tables s.waits → ended (objects_of s) ≡ after → IsSettled after.bodies s.waits → settled s ≡ record s { bodies = after.bodies }
+pub settled_ends : (s : State) (after : Objects) → IsNamed s.objects s.tables s.waits → ended (objects_of s) ≡ after
+    → IsSettled after.bodies s.waits → settled s ≡ record s { bodies = after.bodies }
 settled_ends s after named is quiet =
     ends_before s named
     ∙ ap (λ (o : Objects). with_scene s (waits.settled (record { objects = o; waits = s.waits }))) is
     ∙ ap (with_scene s) (settled_same (record { objects = after; waits = s.waits }) quiet)
 
 -- a state in which nothing is to end and no wait is ready is settled
-pub settled_still : (s : State) → IsNamed s.objects s.tables s.waits → HasBodies (objects_of s) → IsSettled s.bodies s.waits → settled s ≡ s
+pub settled_still : (s : State) → IsNamed s.objects s.tables s.waits → HasBodies (objects_of s)
+    → IsSettled s.bodies s.waits → settled s ≡ s
 settled_still s named bodied quiet = settled_waits s named bodied ∙ ap (with_scene s) (settled_same (scene_of s) quiet)

@@ -28,22 +28,27 @@ use Rattle.ob_store.proofs.PlacedLaws.{own_handles, own_blocks}
 -- an object has a body exactly where something refers to it
 hold_is : (b : Option Body) (n : ℕ) → is_some b ≡ ltb 0 n → hold_in b ≡ cond (eqb n 0) 1 0
 hold_is None n is = let none : eqb n 0 ≡ true = grind (arith, nat_tests, is) in sym (ap {B = ℕ} (λ c. cond c 1 0) none)
-hold_is (Some b) n is = let some : eqb n 0 ≡ false = grind (arith, nat_tests, is) in sym (ap {B = ℕ} (λ c. cond c 1 0) some)
+hold_is (Some b) n is = let some : eqb n 0 ≡ false = grind (arith, nat_tests, is) in
+    sym (ap {B = ℕ} (λ c. cond c 1 0) some)
 
 module _ (p : PartsState) (kept : IsKept p) (tied : IsTied p.objects) where
   abbrev o : ObjectsState
   o = p.objects
 
-  held : (k : ℕ) (x : Object) → get_or p.objects.objects k None ≡ Some x → hold_in (get_or p.objects.seen.bodies k None) ≡ hold_of (state_of p) x.id
+  held : (k : ℕ) (x : Object) → get_or p.objects.objects k None ≡ Some x
+      → hold_in (get_or p.objects.seen.bodies k None) ≡ hold_of (state_of p) x.id
   held k x at =
       let h = own_handles p kept.sound tied k x at in
       let b = own_blocks p kept.sound tied k x at in
-      hold_is (get_or o.seen.bodies k None) (get_or o.seen.handles k 0 + get_or o.seen.blocks k 0) (tied.bodied.each k) ∙ (λ i. cond (eqb (h i + b i) 0) 1 0)
+      hold_is (get_or o.seen.bodies k None) (get_or o.seen.handles k 0 + get_or o.seen.blocks k 0) (tied.bodied.each k)
+      ∙ (λ i. cond (eqb (h i + b i) 0) 1 0)
 
   -- each row is that of an object with a handle
-  row_open : (name : ObjectName) (id : Id) → IsRow p.tables.tables p.objects.objects (name, id) → IsOpenByName (state_of p) name id
+  row_open : (name : ObjectName) (id : Id) → IsRow p.tables.tables p.objects.objects (name, id)
+      → IsOpenByName (state_of p) name id
   row_open name id row =
-      let place : row.place ≡ id.slot = sym (placed_agreed o tied.agreed row.place row.object row.there) ∙ ap (λ (i : Id). i.slot) row.its_id in
+      let place : row.place ≡ id.slot = sym (placed_agreed o tied.agreed row.place row.object row.there)
+      ∙ ap (λ (i : Id). i.slot) row.its_id in
       let has : ltb 0 (handles_among id p.tables.tables) ≡ true = row.has in
       record {
         object = row.object;
@@ -54,32 +59,51 @@ module _ (p : PartsState) (kept : IsKept p) (tied : IsTied p.objects) where
       }
 
   -- and each such object has a row
-  open_row : (name : ObjectName) (id : Id) → IsOpenByName (state_of p) name id → Contains (rows_of p.tables.tables p.objects.objects p.objects.births) (name, id)
+  open_row : (name : ObjectName) (id : Id) → IsOpenByName (state_of p) name id
+      → Contains (rows_of p.tables.tables p.objects.objects p.objects.births) (name, id)
   open_row name id x =
       let some : 0 < handles_among id p.tables.tables = x.handled in
       let has : ltb 0 (handles_among id p.tables.tables) ≡ true = grind (arith, nat_tests, some) in
       subst (λ (i : Id). Contains (rows_of p.tables.tables o.objects o.births) (name, i)) x.its_id
-      (row_there p.tables.tables o.objects id.slot x.object name o.births x.there (tied.born.below id.slot x.object x.there) x.its_name (ap (λ (i : Id). has_handles i p.tables.tables) x.its_id ∙ has))
+      (row_there p.tables.tables o.objects id.slot x.object name o.births x.there
+      (tied.born.below id.slot x.object x.there) x.its_name (ap (λ (i : Id). has_handles i p.tables.tables) x.its_id
+      ∙ has))
 
-  listed : (name : ObjectName) (id : Id) → Contains (rows_of p.tables.tables p.objects.objects p.objects.births) (name, id) ↔ IsOpenByName (state_of p) name id
+  listed : (name : ObjectName) (id : Id) → Contains (rows_of p.tables.tables p.objects.objects p.objects.births) (
+    name,
+    id,
+  ) ↔ IsOpenByName (state_of p) name id
   listed name id = (
-    λ there. row_open name id (All-contains (IsRow p.tables.tables o.objects) (rows_of p.tables.tables o.objects o.births) (name, id) (rows_are p.tables.tables o.objects o.births) there),
+    λ there. row_open name id (All-contains (IsRow p.tables.tables o.objects)
+        (rows_of p.tables.tables o.objects o.births) (name, id) (rows_are p.tables.tables o.objects o.births) there),
     open_row name id,
   )
 
   -- a slot without an object has no body
   unbodied : (k : ℕ) → get_or p.objects.objects k None ≡ None → get_or p.objects.seen.bodies k None ≡ None
   unbodied k none = elim (cases_lt k o.keeper.shape.slots) [
-    | inl lt ↦ (subst (λ (x : Option Object). Agrees k x (get_or o.seen.bodies k None) (get_or o.retired k false) (slot_of o.keeper.slots k)) none (tied.agreed.each k lt)).0
+    | inl lt ↦ (subst (λ (x : Option Object). Agrees k x (get_or o.seen.bodies k None) (get_or o.retired k false)
+        (slot_of o.keeper.slots k)) none (tied.agreed.each k lt)).0
     | inr past ↦ get_or_past o.seen.bodies k None (omega (arith, past, tied.agreed.bodied))
   ]
 
-  pub matches_state : MatchesState (whole_of p) (record { objects = p.objects.objects; seen = p.objects.seen; rows = p.rows })
+  pub matches_state : MatchesState (whole_of p) (record {
+    objects = p.objects.objects;
+    seen = p.objects.seen;
+    rows = p.rows;
+  })
   matches_state =
       let is = ap (λ (x : Shape). x.slots) kept.sound.limited.shape_is in
       let long = tied.agreed.long ∙ is in
       record {
-        sizes = (long, tied.agreed.bodied ∙ is, handles_long o.seen (length o.objects) p.tables.tables p.waits.waits kept.sound.counted ∙ long, blocks_long o.seen (length o.objects) p.tables.tables p.waits.waits kept.sound.counted ∙ long);
+        sizes = (
+          long,
+          tied.agreed.bodied ∙ is,
+          handles_long o.seen
+              (length o.objects) p.tables.tables p.waits.waits kept.sound.counted
+              ∙ long,
+          blocks_long o.seen (length o.objects) p.tables.tables p.waits.waits kept.sound.counted ∙ long,
+        );
         slots = (refl, λ k x at. placed_agreed o tied.agreed k x at);
         bodies = (refl, unbodied);
         counts = λ k x at. own_handles p kept.sound tied k x at;
@@ -89,7 +113,8 @@ module _ (p : PartsState) (kept : IsKept p) (tied : IsTied p.objects) where
             let e = held k x at in
             (b, e, (λ i. h i + b i + e i));
         directory = (
-          subst (λ (rs : Rows). (name : ObjectName) (id : Id) → Contains rs (name, id) ↔ IsOpenByName (state_of p) name id) (sym kept.sound.listing.same) listed,
+          subst (λ (rs : Rows). (name : ObjectName) (id : Id)
+              → Contains rs (name, id) ↔ IsOpenByName (state_of p) name id) (sym kept.sound.listing.same) listed,
           kept.sound.listing.distinct,
         );
         published = tied.listed;

@@ -18,8 +18,12 @@ use Rattle.ob_store.specs.Processes.{ProcessesState, is_of, with_process}
 use Rattle.ob_store.specs.ThreadLists.{ThreadListsState, AreThreadLists, IsNewest, IsPopped, list_at, link_at, no_list, no_link, no_lists, with_list, with_link, without_live}
 
 -- a list that lost its last element
-pub popped : {A : Type 0} (none : A) (xs ys : List A) (r : Option A) → xs ≡ ys ++ option_to_list r → length xs ≡ length ys + 1 → IsPopped none xs ys
-popped none xs ys r is long = record { long = long; same = λ k lt. sym (get_or-append ys (option_to_list r) none k lt) ∙ ap (λ l. get_or l k none) (sym is) }
+pub popped : {A : Type 0} (none : A) (xs ys : List A) (r : Option A) → xs ≡ ys ++ option_to_list r
+    → length xs ≡ length ys + 1 → IsPopped none xs ys
+popped none xs ys r is long = record {
+  long = long;
+  same = λ k lt. sym (get_or-append ys (option_to_list r) none k lt) ∙ ap (λ l. get_or l k none) (sym is);
+}
 
 abbrev one_in : ℕ → Option ℕ → ℕ
 one_in p x = cond (is_of p x) 1 0
@@ -50,18 +54,25 @@ module _ (ts : List (Option ℕ)) (n : ℕ) where
       let b = sum_by-cons f (Some n) [] in
       omega (arith, a, b)
 
-  live_more : (t p : ℕ) → get_or (ts ++ Some n ∷ []) t None ≡ Some p → ((t < length ts) × (get_or ts t None ≡ Some p)) ⊎ ((t ≡ length ts) × (p ≡ n))
+  live_more : (t p : ℕ) → get_or (ts ++ Some n ∷ []) t None ≡ Some p
+      → ((t < length ts) × (get_or ts t None ≡ Some p)) ⊎ ((t ≡ length ts) × (p ≡ n))
   live_more t p h = elim (cases_lt t (length ts)) [
     | inl lt ↦ inl (lt, sym (get_or-append ts (Some n ∷ []) None t lt) ∙ h)
     | inr le ↦ elim (cases_eq t (length ts)) [
-      | inl same ↦ inr (same, let a : Some n ≡ Some p = sym (ap (λ i. get_or (ts ++ Some n ∷ []) i None) same ∙ get_or-append_seam ts (Some n) [] None) ∙ h in cc (a))
-      | inr other ↦ absurd (let a = get_or_past (ts ++ Some n ∷ []) t None (omega (arith, le, other, length-append ts (Some n ∷ []))) in cc (a, h))
+      | inl same ↦ inr (
+        same,
+        let a : Some n ≡ Some p =
+            sym (ap (λ i. get_or (ts ++ Some n ∷ []) i None) same ∙ get_or-append_seam ts (Some n) [] None) ∙ h in cc (a),
+      )
+      | inr other ↦ absurd (let a = get_or_past (ts ++ Some n ∷ []) t None
+          (omega (arith, le, other, length-append ts (Some n ∷ []))) in cc (a, h))
     ]
   ]
 
 no_live : (ts : List (Option ℕ)) (p : ℕ) → ((t : ℕ) → get_or ts t None ≡ Some p → ⊥) → count_by (is_of p) ts ≡ 0
 no_live [] p none = refl
-no_live (x ∷ ts) p none = let a = sum_by-cons (one_in p) x ts in let b = no_live ts p (λ t. none (suc t)) in let c = here x (none 0) in omega (arith, a, b, c)
+no_live (x ∷ ts) p none = let a = sum_by-cons (one_in p) x ts in let b = no_live ts p (λ t. none (suc t)) in
+    let c = here x (none 0) in omega (arith, a, b, c)
   where
     here : (x : Option ℕ) → (x ≡ Some p → ⊥) → one_in p x ≡ 0
     here None other = refl
@@ -73,10 +84,17 @@ threads_none = record {
   lists_long = refl;
   links_long = refl;
   few = omega arith;
-  counted = λ p lt. ap (λ (g : ThreadList). g.live) (at_list p) ∙ sym (no_live (None ∷ []) p (λ t h. let a = at_none t in cc (a, h)));
+  counted = λ p lt. ap (λ (g : ThreadList). g.live) (at_list p)
+      ∙ sym (no_live (None ∷ []) p (λ t h. let a = at_none t in cc (a, h)));
   given = λ t p h. absurd (let a = at_none t in cc (a, h));
   next = λ p t u below few mine same since less. absurd (omega (arith, few, less));
-  ending = λ p below. (let a = ap (λ (g : ThreadList). g.last) (at_list p) in omega (arith, a), ap (λ (x : ThreadLink). x.process) (at_link (list_at no_lists p).last) ∙ (omega (arith, below)), (let a = ap (λ (g : ThreadList). g.first) (at_list p) in omega (arith, a)));
+  ending = λ p below. (
+    let a = ap (λ (g : ThreadList). g.last) (at_list p) in
+        omega (arith, a),
+    ap (λ (x : ThreadLink). x.process) (at_link (list_at no_lists p).last)
+        ∙ (omega (arith, below)),
+    (let a = ap (λ (g : ThreadList). g.first) (at_list p) in omega (arith, a)),
+  );
   last = λ p t below few mine. omega (arith, few);
 }
   where
@@ -93,7 +111,8 @@ threads_none = record {
     at_link (suc t) = refl
 
 -- the next process, with the next thread
-module _ (n : ℕ) (ts : List (Option ℕ)) (m : ThreadListsState) (are : AreThreadLists n ts m) (few : length ts ≤ 65536) where
+module _ (n : ℕ) (ts : List (Option ℕ)) (m : ThreadListsState) (are : AreThreadLists n ts m)
+    (few : length ts ≤ 65536) where
   abbrev born : ThreadListsState
   born = with_list m
 
@@ -104,16 +123,24 @@ module _ (n : ℕ) (ts : List (Option ℕ)) (m : ThreadListsState) (are : AreThr
   long_started = length-append ts (Some n ∷ [])
 
   list_old : (p : ℕ) → p < n → list_at born p ≡ list_at m p
-  list_old p lt = get_or-append m.lists ((record { live = 1; first = length m.links; last = length m.links }) ∷ []) no_list p (let long = are.lists_long in omega (arith, lt, long))
+  list_old p lt = get_or-append m.lists ((record { live = 1; first = length m.links; last = length m.links })
+      ∷ []) no_list p (let long = are.lists_long in omega (arith, lt, long))
 
   list_new : (p : ℕ) → p ≡ n → list_at born p ≡ record { live = 1; first = length ts; last = length ts }
-  list_new p same = ap (list_at born) (same ∙ sym are.lists_long) ∙ get_or-append_seam m.lists (record { live = 1; first = length m.links; last = length m.links }) [] no_list ∙ λ i. record { live = 1; first = are.links_long i; last = are.links_long i }
+  list_new p same = ap (list_at born) (same ∙ sym are.lists_long)
+      ∙ get_or-append_seam m.lists (record { live = 1; first = length m.links; last = length m.links }) [] no_list
+      ∙ λ i. record { live = 1; first = are.links_long i; last = are.links_long i }
 
   link_old : (t : ℕ) → t < length ts → link_at born t ≡ link_at m t
-  link_old t lt = get_or-append m.links ((record { process = length m.lists; next = 0 }) ∷ []) no_link t (let long = are.links_long in omega (arith, lt, long))
+  link_old t lt = get_or-append m.links ((record { process = length m.lists; next = 0 }) ∷ []) no_link t (let long =
+      are.links_long in omega (arith, lt, long))
 
   link_new : (t : ℕ) → t ≡ length ts → (link_at born t).process ≡ n
-  link_new t same = ap (λ i. (link_at born i).process) (same ∙ sym are.links_long) ∙ ap (λ (x : ThreadLink). x.process) (get_or-append_seam m.links (record { process = length m.lists; next = 0 }) [] no_link) ∙ are.lists_long
+  link_new t same = ap (λ i. (link_at born i).process) (same ∙ sym are.links_long)
+      ∙ ap (λ (x : ThreadLink). x.process) (get_or-append_seam m.links (record {
+        process = length m.lists;
+        next = 0;
+      }) [] no_link) ∙ are.lists_long
 
   process_old : (t p : ℕ) → t < length ts → (link_at born t).process ≡ p → (link_at m t).process ≡ p
   process_old t p lt h = sym (ap (λ (x : ThreadLink). x.process) (link_old t lt)) ∙ h
@@ -126,17 +153,32 @@ module _ (n : ℕ) (ts : List (Option ℕ)) (m : ThreadListsState) (are : AreThr
 
   pub threads_born : AreThreadLists (n + 1) (ts ++ Some n ∷ []) (with_list m)
   threads_born = record {
-    lists_long = length-append m.lists ((record { live = 1; first = length m.links; last = length m.links }) ∷ []) ∙ ap (λ k. k + 1) are.lists_long;
-    links_long = length-append m.links ((record { process = length m.lists; next = 0 }) ∷ []) ∙ ap (λ k. k + 1) are.links_long ∙ sym long_started;
+    lists_long = length-append m.lists ((record { live = 1; first = length m.links; last = length m.links }) ∷ [])
+        ∙ ap (λ k. k + 1) are.lists_long;
+    links_long = length-append m.links ((record { process = length m.lists; next = 0 }) ∷ [])
+        ∙ ap (λ k. k + 1) are.links_long ∙ sym long_started;
     few = omega (arith, few, long_started);
     counted = λ p lt. elim (cases_lt p n) [
-      | inl old ↦ (let a = ap (λ (g : ThreadList). g.live) (list_old p old) in let b = are.counted p old in let c = counted_more ts n p in let d = one_other ts n p (omega (arith, old)) in omega (arith, a, b, c, d))
-      | inr le ↦ (let same = at_last p le lt in let a = ap (λ (g : ThreadList). g.live) (list_new p same) in let c = counted_more ts n n in let d = one_same ts n in let e = no_live ts n none_yet in
-          let f : (list_at born p).live ≡ count_by (is_of n) started = omega (arith, a, c, d, e) in f ∙ ap (λ q. count_by (is_of q) started) (sym same))
+      | inl old ↦ (let a = ap (λ (g : ThreadList). g.live) (list_old p old) in let b = are.counted p old in
+          let c = counted_more ts n p in let d = one_other ts n p (omega (arith, old)) in omega (arith, a, b, c, d))
+      | inr le ↦ (let same = at_last p le lt in let a = ap (λ (g : ThreadList). g.live) (list_new p same) in
+          let c = counted_more ts n n in let d = one_same ts n in let e = no_live ts n none_yet in
+          let f : (list_at born p).live ≡ count_by (is_of n) started = omega (arith, a, c, d, e) in
+          f ∙ ap (λ q. count_by (is_of q) started) (sym same))
     ];
     given = λ t p h. elim (live_more ts n t p h) [
-      | inl old ↦ (let was = are.given t p old.1 in (omega (arith, was.0), ap (λ (x : ThreadLink). x.process) (link_old t old.0) ∙ was.1, (let a = ap (λ (g : ThreadList). g.first) (list_old p was.0) in omega (arith, a, was.2))))
-      | inr new ↦ (omega (arith, new.1), link_new t new.0 ∙ sym new.1, (let a = ap (λ (g : ThreadList). g.first) (list_new p new.1) in omega (arith, a, new.0)))
+      | inl old ↦ (let was = are.given t p old.1 in (
+        omega (arith, was.0),
+        ap (λ (x : ThreadLink). x.process) (link_old t old.0)
+            ∙ was.1,
+        (let a = ap (λ (g : ThreadList). g.first) (list_old p was.0) in omega (arith, a, was.2)),
+      ))
+      | inr new ↦ (
+        omega (arith, new.1),
+        link_new t new.0
+            ∙ sym new.1,
+        (let a = ap (λ (g : ThreadList). g.first) (list_new p new.1) in omega (arith, a, new.0)),
+      )
     ];
     next = λ p t u below small mine same since less. elim (cases_lt p n) [
       | inl old ↦ elim (cases_eq u (length ts)) [
@@ -146,15 +188,23 @@ module _ (n : ℕ) (ts : List (Option ℕ)) (m : ThreadListsState) (are : AreThr
             let before : t < length ts = omega (arith, less, within) in
             let a = ap (λ (g : ThreadList). g.first) (list_old p old) in
             let b = ap (λ (x : ThreadLink). x.next) (link_old t before) in
-            let c = are.next p t u old within (process_old t p before mine) (process_old u p within same) (omega (arith, since, a)) less in
+            let c = are.next p t u old within (process_old t p before mine) (process_old u p within same)
+            (omega (arith, since, a)) less in
             (omega (arith, b, c.0), omega (arith, b, c.1))
       ]
-      | inr le ↦ absurd (let a = ap (λ (g : ThreadList). g.first) (list_new p (at_last p le below)) in omega (arith, a, since, less, small, long_started))
+      | inr le ↦ absurd (let a = ap (λ (g : ThreadList). g.first) (list_new p (at_last p le below)) in
+          omega (arith, a, since, less, small, long_started))
     ];
     ending = λ p below. elim (cases_lt p n) [
-      | inl old ↦ (let a = list_old p old in let b = ap (λ (g : ThreadList). g.last) a in let c = are.ending p old in let d = ap (λ (g : ThreadList). g.first) a in
-          (omega (arith, b, c.0, long_started), ap (λ i. (link_at born i).process) b ∙ ap (λ (x : ThreadLink). x.process) (link_old (list_at m p).last c.0) ∙ c.1, omega (arith, b, c.2, d)))
-      | inr le ↦ (let is = at_last p le below in let a = list_new p is in let b = ap (λ (g : ThreadList). g.last) a in let d = ap (λ (g : ThreadList). g.first) a in
+      | inl old ↦ (let a = list_old p old in let b = ap (λ (g : ThreadList). g.last) a in let c = are.ending p old in
+          let d = ap (λ (g : ThreadList). g.first) a in (
+            omega (arith, b, c.0, long_started),
+            ap (λ i. (link_at born i).process) b
+                ∙ ap (λ (x : ThreadLink). x.process) (link_old (list_at m p).last c.0) ∙ c.1,
+            omega (arith, b, c.2, d),
+          ))
+      | inr le ↦ (let is = at_last p le below in let a = list_new p is in let b = ap (λ (g : ThreadList). g.last) a in
+          let d = ap (λ (g : ThreadList). g.first) a in
           (omega (arith, b, long_started), link_new (list_at born p).last b ∙ sym is, omega (arith, b, d)))
     ];
     last = λ p t below small mine. elim (cases_lt p n) [
@@ -166,12 +216,14 @@ module _ (n : ℕ) (ts : List (Option ℕ)) (m : ThreadListsState) (are : AreThr
             let c = are.last p t old within (process_old t p within mine) in
             omega (arith, a, c)
       ]
-      | inr le ↦ (let a = ap (λ (g : ThreadList). g.last) (list_new p (at_last p le below)) in omega (arith, a, small, long_started))
+      | inr le ↦ (let a = ap (λ (g : ThreadList). g.last) (list_new p (at_last p le below)) in
+          omega (arith, a, small, long_started))
     ];
   }
 
 -- the next thread of a process
-module _ (n : ℕ) (ts : List (Option ℕ)) (m : ThreadListsState) (p0 : ℕ) (are : AreThreadLists n ts m) (known : p0 < n) (few : length ts ≤ 65536) where
+module _ (n : ℕ) (ts : List (Option ℕ)) (m : ThreadListsState) (p0 : ℕ) (are : AreThreadLists n ts m) (known : p0 < n)
+    (few : length ts ≤ 65536) where
   abbrev grown : ThreadListsState
   grown = with_link m p0
 
@@ -190,13 +242,22 @@ module _ (n : ℕ) (ts : List (Option ℕ)) (m : ThreadListsState) (p0 : ℕ) (a
   last_below : last0 < length ts
   last_below = (are.ending p0 known).0
 
-  list_grown : (p : ℕ) → p ≡ p0 → list_at grown p ≡ record (list_at m p0) { live = (list_at m p0).live + 1; last = length ts }
+  list_grown : (p : ℕ) → p ≡ p0 → list_at grown p ≡ record (list_at m p0) {
+    live = (list_at m p0).live + 1;
+    last = length ts;
+  }
   list_grown p same = ap (list_at grown) same
-      ∙ get_or-set_same m.lists p0 (record (list_at m p0) { live = (list_at m p0).live + 1; last = length m.links }) no_list (let long = are.lists_long in omega (arith, long, known))
+      ∙ get_or-set_same m.lists p0 (record (list_at m p0) {
+        live = (list_at m p0).live + 1;
+        last = length m.links;
+      }) no_list (let long = are.lists_long in omega (arith, long, known))
       ∙ λ i. record (list_at m p0) { live = (list_at m p0).live + 1; last = are.links_long i }
 
   list_stays : (p : ℕ) → p ≢ p0 → list_at grown p ≡ list_at m p
-  list_stays p other = get_or-set_other m.lists p0 p (record (list_at m p0) { live = (list_at m p0).live + 1; last = length m.links }) no_list other
+  list_stays p other = get_or-set_other m.lists p0 p (record (list_at m p0) {
+    live = (list_at m p0).live + 1;
+    last = length m.links;
+  }) no_list other
 
   first_stays : (p : ℕ) → (list_at grown p).first ≡ (list_at m p).first
   first_stays p = elim (cases_eq p p0) [
@@ -205,17 +266,23 @@ module _ (n : ℕ) (ts : List (Option ℕ)) (m : ThreadListsState) (p0 : ℕ) (a
   ]
 
   link_linked : (t : ℕ) → t ≡ last0 → link_at grown t ≡ record (get_or longer last0 no_link) { next = length m.links }
-  link_linked t same = ap (link_at grown) same ∙ get_or-set_same longer last0 (record (get_or longer last0 no_link) { next = length m.links }) no_link (omega (arith, last_below, long_longer))
+  link_linked t same = ap (link_at grown) same ∙ get_or-set_same longer last0
+      (record (get_or longer last0 no_link) { next = length m.links }) no_link (omega (arith, last_below, long_longer))
 
   link_stays : (t : ℕ) → t ≢ last0 → link_at grown t ≡ get_or longer t no_link
-  link_stays t other = get_or-set_other longer last0 t (record (get_or longer last0 no_link) { next = length m.links }) no_link other
+  link_stays t other = get_or-set_other longer last0 t (record (get_or longer last0 no_link) {
+    next =
+        length m.links;
+  }) no_link other
 
   longer_at : (t : ℕ) → t < length ts → get_or longer t no_link ≡ link_at m t
-  longer_at t lt = get_or-append m.links ((record { process = p0; next = 0 }) ∷ []) no_link t (let long = are.links_long in omega (arith, lt, long))
+  longer_at t lt = get_or-append m.links ((record { process = p0; next = 0 }) ∷ []) no_link t (let long =
+      are.links_long in omega (arith, lt, long))
 
   process_is : (t : ℕ) → (link_at grown t).process ≡ (get_or longer t no_link).process
   process_is t = elim (cases_eq t last0) [
-    | inl same ↦ ap (λ (x : ThreadLink). x.process) (link_linked t same) ∙ ap (λ i. (get_or longer i no_link).process) (sym same)
+    | inl same ↦ ap (λ (x : ThreadLink). x.process) (link_linked t same)
+        ∙ ap (λ i. (get_or longer i no_link).process) (sym same)
     | inr other ↦ ap (λ (x : ThreadLink). x.process) (link_stays t other)
   ]
 
@@ -226,26 +293,32 @@ module _ (n : ℕ) (ts : List (Option ℕ)) (m : ThreadListsState) (p0 : ℕ) (a
   still_of t p lt h = process_is t ∙ ap (λ (x : ThreadLink). x.process) (longer_at t lt) ∙ h
 
   newest_of : (t : ℕ) → t ≡ length ts → (link_at grown t).process ≡ p0
-  newest_of t same = process_is t ∙ ap (λ i. (get_or longer i no_link).process) (same ∙ sym are.links_long) ∙ ap (λ (x : ThreadLink). x.process) (get_or-append_seam m.links (record { process = p0; next = 0 }) [] no_link)
+  newest_of t same = process_is t ∙ ap (λ i. (get_or longer i no_link).process) (same ∙ sym are.links_long)
+      ∙ ap (λ (x : ThreadLink). x.process) (get_or-append_seam m.links (record { process = p0; next = 0 }) [] no_link)
 
   next_linked : (t : ℕ) → t ≡ last0 → (link_at grown t).next ≡ length ts
   next_linked t same = ap (λ (x : ThreadLink). x.next) (link_linked t same) ∙ are.links_long
 
   next_stays : (t : ℕ) → t ≢ last0 → t < length ts → (link_at grown t).next ≡ (link_at m t).next
-  next_stays t other lt = ap (λ (x : ThreadLink). x.next) (link_stays t other) ∙ ap (λ (x : ThreadLink). x.next) (longer_at t lt)
+  next_stays t other lt = ap (λ (x : ThreadLink). x.next) (link_stays t other)
+      ∙ ap (λ (x : ThreadLink). x.next) (longer_at t lt)
 
   -- a thread of another process was there before
   older : (t p : ℕ) → p ≢ p0 → t < length (ts ++ Some p0 ∷ []) → (link_at grown t).process ≡ p → t < length ts
   older t p other small mine = elim (cases_lt t (length ts)) [
     | inl lt ↦ lt
-    | inr le ↦ absurd (let is : t ≡ length ts = omega (arith, le, small, long_more) in other (sym mine ∙ newest_of t is))
+    | inr le ↦ absurd (let is : t ≡ length ts = omega (arith, le, small, long_more) in
+        other (sym mine ∙ newest_of t is))
   ]
 
   -- and is not the one that the new one comes behind
   apart : (t p : ℕ) → p ≢ p0 → t < length ts → (link_at grown t).process ≡ p → t ≢ last0
-  apart t p other lt mine same = other (sym (was_of t p lt mine) ∙ ap (λ i. (link_at m i).process) same ∙ (are.ending p0 known).1)
+  apart t p other lt mine same = other (sym (was_of t p lt mine) ∙ ap (λ i. (link_at m i).process) same
+      ∙ (are.ending p0 known).1)
 
-  next_own : (t u : ℕ) → u < length (ts ++ Some p0 ∷ []) → (link_at grown t).process ≡ p0 → (link_at grown u).process ≡ p0 → (list_at m p0).first ≤ t → t < u → (t < (link_at grown t).next) × ((link_at grown t).next ≤ u)
+  next_own : (t u : ℕ) → u < length (ts ++ Some p0 ∷ []) → (link_at grown t).process ≡ p0
+      → (link_at grown u).process ≡ p0 → (list_at m p0).first ≤ t → t < u
+      → (t < (link_at grown t).next) × ((link_at grown t).next ≤ u)
   next_own t u small mine same since less =
       let before : t < length ts = omega (arith, less, small, long_more) in
       let at_most = are.last p0 t known before (was_of t p0 before mine) in
@@ -255,47 +328,65 @@ module _ (n : ℕ) (ts : List (Option ℕ)) (m : ThreadListsState) (p0 : ℕ) (a
           | inr le ↦ (omega (arith, a, before), omega (arith, a, le))
         ])
         | inr other ↦ (let a = next_stays t other before in elim (cases_lt u (length ts)) [
-          | inl lt ↦ (let b = are.next p0 t u known lt (was_of t p0 before mine) (was_of u p0 lt same) since less in (omega (arith, a, b.0), omega (arith, a, b.1)))
-          | inr le ↦ (let b = are.next p0 t last0 known last_below (was_of t p0 before mine) (are.ending p0 known).1 since (omega (arith, at_most, other)) in (omega (arith, a, b.0), omega (arith, a, b.1, le, last_below)))
+          | inl lt ↦ (let b = are.next p0 t u known lt (was_of t p0 before mine) (was_of u p0 lt same) since less in
+              (omega (arith, a, b.0), omega (arith, a, b.1)))
+          | inr le ↦ (let b = are.next p0 t last0 known last_below (was_of t p0 before mine)
+              (are.ending p0 known).1 since (omega (arith, at_most, other)) in
+              (omega (arith, a, b.0), omega (arith, a, b.1, le, last_below)))
         ])
       ]
 
   pub threads_grown : AreThreadLists n (ts ++ Some p0 ∷ []) (with_link m p0)
   threads_grown = record {
-    lists_long = length-set m.lists p0 (record (list_at m p0) { live = (list_at m p0).live + 1; last = length m.links }) ∙ are.lists_long;
-    links_long = length-set longer last0 (record (get_or longer last0 no_link) { next = length m.links }) ∙ long_longer ∙ sym long_more;
+    lists_long = length-set m.lists p0 (record (list_at m p0) { live = (list_at m p0).live + 1; last = length m.links })
+        ∙ are.lists_long;
+    links_long = length-set longer last0 (record (get_or longer last0 no_link) { next = length m.links }) ∙ long_longer
+        ∙ sym long_more;
     few = omega (arith, few, long_more);
     counted = λ p below. (let c = counted_more ts p0 p in let b = are.counted p below in elim (cases_eq p p0) [
-      | inl same ↦ (let a = ap (λ (g : ThreadList). g.live) (list_grown p same) in let d = ap (one_of ts p0) same ∙ one_same ts p0 in let e = ap (λ i. (list_at m i).live) same in omega (arith, a, b, c, d, e))
-      | inr other ↦ (let a = ap (λ (g : ThreadList). g.live) (list_stays p other) in let d = one_other ts p0 p other in omega (arith, a, b, c, d))
+      | inl same ↦ (let a = ap (λ (g : ThreadList). g.live) (list_grown p same) in
+          let d = ap (one_of ts p0) same ∙ one_same ts p0 in let e = ap (λ i. (list_at m i).live) same in
+          omega (arith, a, b, c, d, e))
+      | inr other ↦ (let a = ap (λ (g : ThreadList). g.live) (list_stays p other) in let d = one_other ts p0 p other in
+          omega (arith, a, b, c, d))
     ]);
     given = λ t p h. (let f = first_stays p in elim (live_more ts p0 t p h) [
       | inl old ↦ (let was = are.given t p old.1 in (was.0, still_of t p old.0 was.1, omega (arith, f, was.2)))
-      | inr new ↦ (let e = are.ending p0 known in let a = ap (λ i. (list_at m i).first) new.1 in (omega (arith, new.1, known), newest_of t new.0 ∙ sym new.1, omega (arith, f, a, e.0, e.2, new.0)))
+      | inr new ↦ (let e = are.ending p0 known in let a = ap (λ i. (list_at m i).first) new.1 in
+          (omega (arith, new.1, known), newest_of t new.0 ∙ sym new.1, omega (arith, f, a, e.0, e.2, new.0)))
     ]);
     next = λ p t u below small mine same since less. (let f = first_stays p in elim (cases_eq p p0) [
-      | inl is ↦ next_own t u small (mine ∙ is) (same ∙ is) (let a = ap (λ i. (list_at m i).first) is in omega (arith, f, a, since)) less
+      | inl is ↦ next_own t u small (mine ∙ is) (same ∙ is) (let a = ap (λ i. (list_at m i).first) is in
+          omega (arith, f, a, since)) less
       | inr other ↦
           let later = older u p other small same in
           let before : t < length ts = omega (arith, less, later) in
           let a = next_stays t (apart t p other before mine) before in
-          let b = are.next p t u below later (was_of t p before mine) (was_of u p later same) (omega (arith, f, since)) less in
+          let b = are.next p t u below later (was_of t p before mine) (was_of u p later same)
+          (omega (arith, f, since)) less in
           (omega (arith, a, b.0), omega (arith, a, b.1))
     ]);
     ending = λ p below. (let f = first_stays p in let e = are.ending p below in elim (cases_eq p p0) [
       | inl same ↦ (let a = ap (λ (g : ThreadList). g.last) (list_grown p same) in
           (omega (arith, a, long_more), newest_of (list_at grown p).last a ∙ sym same, omega (arith, a, f, e.0, e.2)))
-      | inr other ↦ (let a = ap (λ (g : ThreadList). g.last) (list_stays p other) in
-          (omega (arith, a, e.0, long_more), ap (λ i. (link_at grown i).process) a ∙ still_of (list_at m p).last p e.0 e.1, omega (arith, a, f, e.2)))
+      | inr other ↦ (let a = ap (λ (g : ThreadList). g.last) (list_stays p other) in (
+        omega (arith, a, e.0, long_more),
+        ap (λ i. (link_at grown i).process) a
+            ∙ still_of (list_at m p).last p e.0 e.1,
+        omega (arith, a, f, e.2),
+      ))
     ]);
     last = λ p t below small mine. elim (cases_eq p p0) [
       | inl same ↦ (let a = ap (λ (g : ThreadList). g.last) (list_grown p same) in omega (arith, a, small, long_more))
-      | inr other ↦ (let before = older t p other small mine in let a = ap (λ (g : ThreadList). g.last) (list_stays p other) in let b = are.last p t below before (was_of t p before mine) in omega (arith, a, b))
+      | inr other ↦ (let before = older t p other small mine in
+          let a = ap (λ (g : ThreadList). g.last) (list_stays p other) in
+          let b = are.last p t below before (was_of t p before mine) in omega (arith, a, b))
     ];
   }
 
 -- a live thread of a process ends
-module _ (n : ℕ) (ts : List (Option ℕ)) (m : ThreadListsState) (t0 p0 : ℕ) (are : AreThreadLists n ts m) (live : get_or ts t0 None ≡ Some p0) where
+module _ (n : ℕ) (ts : List (Option ℕ)) (m : ThreadListsState) (t0 p0 : ℕ) (are : AreThreadLists n ts m)
+    (live : get_or ts t0 None ≡ Some p0) where
   abbrev less : ThreadListsState
   less = without_live m p0
 
@@ -303,10 +394,12 @@ module _ (n : ℕ) (ts : List (Option ℕ)) (m : ThreadListsState) (t0 p0 : ℕ)
   known_less = let long = are.lists_long in let a = (are.given t0 p0 live).0 in omega (arith, long, a)
 
   list_less : (p : ℕ) → p ≡ p0 → list_at less p ≡ record (list_at m p0) { live = (list_at m p0).live - 1 }
-  list_less p same = ap (list_at less) same ∙ get_or-set_same m.lists p0 (record (list_at m p0) { live = (list_at m p0).live - 1 }) no_list known_less
+  list_less p same = ap (list_at less) same ∙ get_or-set_same m.lists p0
+      (record (list_at m p0) { live = (list_at m p0).live - 1 }) no_list known_less
 
   list_kept : (p : ℕ) → p ≢ p0 → list_at less p ≡ list_at m p
-  list_kept p other = get_or-set_other m.lists p0 p (record (list_at m p0) { live = (list_at m p0).live - 1 }) no_list other
+  list_kept p other = get_or-set_other m.lists p0 p
+      (record (list_at m p0) { live = (list_at m p0).live - 1 }) no_list other
 
   first_kept : (p : ℕ) → (list_at less p).first ≡ (list_at m p).first
   first_kept p = elim (cases_eq p p0) [
@@ -324,16 +417,22 @@ module _ (n : ℕ) (ts : List (Option ℕ)) (m : ThreadListsState) (t0 p0 : ℕ)
   long_ended = length-set ts t0 None
 
   there : t0 < length ts
-  there = elim (cases_lt t0 (length ts)) [ inl lt ↦ lt | inr le ↦ absurd (let a = get_or_past ts t0 None le in cc (a, live)) ]
+  there = elim (cases_lt t0 (length ts)) [
+    | inl lt ↦ lt
+    | inr le ↦
+        absurd (let a = get_or_past ts t0 None le in cc (a, live))
+  ]
 
   live_then : (t p : ℕ) → get_or (set ts t0 None) t None ≡ Some p → get_or ts t None ≡ Some p
   live_then t p h = elim (cases_eq t t0) [
-    | inl same ↦ absurd (let a = ap (λ i. get_or (set ts t0 None) i None) same ∙ get_or-set_same ts t0 None None there in cc (a, h))
+    | inl same ↦ absurd (let a = ap (λ i. get_or (set ts t0 None) i None) same ∙ get_or-set_same ts t0 None None there
+        in cc (a, h))
     | inr other ↦ sym (get_or-set_other ts t0 t None None other) ∙ h
   ]
 
   counted_less : (p : ℕ) → count_by (is_of p) (set ts t0 None) + one_in p (Some p0) ≡ count_by (is_of p) ts
-  counted_less p = let a = sum_by-set (one_in p) ts t0 None None there in let b = ap (one_in p) live in omega (arith, a, b)
+  counted_less p = let a = sum_by-set (one_in p) ts t0 None None there in let b = ap (one_in p) live in
+      omega (arith, a, b)
 
   pub threads_less : AreThreadLists n (set ts t0 None) (without_live m p0)
   threads_less = record {
@@ -341,13 +440,20 @@ module _ (n : ℕ) (ts : List (Option ℕ)) (m : ThreadListsState) (t0 p0 : ℕ)
     links_long = are.links_long ∙ sym long_ended;
     few = (let f = are.few in omega (arith, f, long_ended));
     counted = λ p below. (let c = counted_less p in let b = are.counted p below in elim (cases_eq p p0) [
-      | inl same ↦ (let a = ap (λ (g : ThreadList). g.live) (list_less p same) in let d = ap (one_of ts p0) same ∙ one_same ts p0 in let e = ap (λ i. (list_at m i).live) same in omega (arith, a, b, c, d, e))
-      | inr other ↦ (let a = ap (λ (g : ThreadList). g.live) (list_kept p other) in let d = one_other ts p0 p other in omega (arith, a, b, c, d))
+      | inl same ↦ (let a = ap (λ (g : ThreadList). g.live) (list_less p same) in
+          let d = ap (one_of ts p0) same ∙ one_same ts p0 in let e = ap (λ i. (list_at m i).live) same in
+          omega (arith, a, b, c, d, e))
+      | inr other ↦ (let a = ap (λ (g : ThreadList). g.live) (list_kept p other) in let d = one_other ts p0 p other in
+          omega (arith, a, b, c, d))
     ]);
-    given = λ t p h. (let was = are.given t p (live_then t p h) in let f = first_kept p in (was.0, was.1, omega (arith, f, was.2)));
-    next = λ p t u below small mine same since before. are.next p t u below (omega (arith, small, long_ended)) mine same (let f = first_kept p in omega (arith, f, since)) before;
-    ending = λ p below. (let e = are.ending p below in let f = first_kept p in let l = last_kept p in (omega (arith, l, e.0, long_ended), ap (λ i. (link_at m i).process) l ∙ e.1, omega (arith, f, l, e.2)));
-    last = λ p t below small mine. (let a = are.last p t below (omega (arith, small, long_ended)) mine in let l = last_kept p in omega (arith, a, l));
+    given = λ t p h. (let was = are.given t p (live_then t p h) in let f = first_kept p in
+        (was.0, was.1, omega (arith, f, was.2)));
+    next = λ p t u below small mine same since before. are.next p t u below (omega (arith, small, long_ended)) mine same
+        (let f = first_kept p in omega (arith, f, since)) before;
+    ending = λ p below. (let e = are.ending p below in let f = first_kept p in let l = last_kept p in
+        (omega (arith, l, e.0, long_ended), ap (λ i. (link_at m i).process) l ∙ e.1, omega (arith, f, l, e.2)));
+    last = λ p t below small mine. (let a = are.last p t below (omega (arith, small, long_ended)) mine in
+        let l = last_kept p in omega (arith, a, l));
   }
 
 -- a number that is gone already
@@ -355,8 +461,10 @@ pub gone_same : (ts : List (Option ℕ)) (t : ℕ) → get_or ts t None ≡ None
 gone_same ts t none = ap (set ts t) (sym none) ∙ set-get_or ts t None
 
 -- the process that was added last is taken back, with its thread
-module _ (n n' : ℕ) (ts ts' : List (Option ℕ)) (m m' : ThreadListsState) (are : AreThreadLists n ts m) (one : n ≡ n' + 1) (is : ts ≡ ts' ++ Some n' ∷ [])
-    (alone : (t : ℕ) → get_or ts' t None ≡ Some n' → ⊥) (lists : IsPopped no_list m.lists m'.lists) (links : IsPopped no_link m.links m'.links) where
+module _ (n n' : ℕ) (ts ts' : List (Option ℕ)) (m m' : ThreadListsState) (are : AreThreadLists n ts m)
+    (one : n ≡ n' + 1) (is : ts ≡ ts' ++ Some n' ∷ [])
+    (alone : (t : ℕ) → get_or ts' t None ≡ Some n'
+    → ⊥) (lists : IsPopped no_list m.lists m'.lists) (links : IsPopped no_link m.links m'.links) where
   long_back : length ts ≡ length ts' + 1
   long_back = ap (length {A = Option ℕ}) is ∙ length-append ts' (Some n' ∷ [])
 
@@ -379,43 +487,68 @@ module _ (n n' : ℕ) (ts ts' : List (Option ℕ)) (m m' : ThreadListsState) (ar
   live_back t p lt h = ap (λ (l : List (Option ℕ)). get_or l t None) is ∙ get_or-append ts' (Some n' ∷ []) None t lt ∙ h
 
   within_back : (t p : ℕ) → get_or ts' t None ≡ Some p → t < length ts'
-  within_back t p h = elim (cases_lt t (length ts')) [ inl lt ↦ lt | inr le ↦ absurd (let a = get_or_past ts' t None le in cc (a, h)) ]
+  within_back t p h = elim (cases_lt t (length ts')) [
+    | inl lt ↦ lt
+    | inr le ↦
+        absurd (let a = get_or_past ts' t None le in cc (a, h))
+  ]
 
   newest_is : (link_at m (length ts')).process ≡ n'
-  newest_is = (are.given (length ts') n' (ap (λ (l : List (Option ℕ)). get_or l (length ts') None) is ∙ get_or-append_seam ts' (Some n') [] None)).1
+  newest_is = (are.given (length ts') n' (ap (λ (l : List (Option ℕ)). get_or l (length ts') None) is
+      ∙ get_or-append_seam ts' (Some n') [] None)).1
 
   last_back : (p : ℕ) → p < n' → (list_at m p).last < length ts'
-  last_back p below = let e = are.ending p (omega (arith, below, one)) in elim (cases_eq (list_at m p).last (length ts')) [
-    | inl same ↦ absurd (let a : p ≡ n' = sym e.1 ∙ ap (λ i. (link_at m i).process) same ∙ newest_is in omega (arith, a, below))
-    | inr other ↦ omega (arith, e.0, long_back, other)
-  ]
+  last_back p below = let e = are.ending p (omega (arith, below, one)) in
+      elim (cases_eq (list_at m p).last (length ts')) [
+        | inl same ↦ absurd (let a : p ≡ n' = sym e.1 ∙ ap (λ i. (link_at m i).process) same ∙ newest_is in
+            omega (arith, a, below))
+        | inr other ↦ omega (arith, e.0, long_back, other)
+      ]
 
   pub threads_taken : AreThreadLists n' ts' m'
   threads_taken = record {
     lists_long = lists_back;
     links_long = links_back;
     few = (let f = are.few in omega (arith, f, long_back));
-    counted = λ p below. (let a = ap (λ (g : ThreadList). g.live) (list_back p below) in let b = are.counted p (omega (arith, below, one)) in
-        let c = counted_more ts' n' p in let d = one_other ts' n' p (omega (arith, below)) in let e = ap (λ (l : List (Option ℕ)). count_by (is_of p) l) is in omega (arith, a, b, c, d, e));
+    counted = λ p below. (let a = ap (λ (g : ThreadList). g.live) (list_back p below) in
+        let b = are.counted p (omega (arith, below, one)) in
+        let c = counted_more ts' n' p in let d = one_other ts' n' p (omega (arith, below)) in
+        let e = ap (λ (l : List (Option ℕ)). count_by (is_of p) l) is in omega (arith, a, b, c, d, e));
     given = λ t p h. (let lt = within_back t p h in let was = are.given t p (live_back t p lt h) in
-        let below : p < n' = elim (cases_eq p n') [ inl same ↦ absurd (alone t (h ∙ ap Some same)) | inr other ↦ (let a = was.0 in omega (arith, a, one, other)) ] in
+        let below : p < n' = elim (cases_eq p n') [
+          | inl same ↦ absurd (alone t (h ∙ ap Some same))
+          | inr other ↦
+              (let a = was.0 in omega (arith, a, one, other))
+        ] in
         let f = ap (λ (g : ThreadList). g.first) (list_back p below) in
         (below, ap (λ (x : ThreadLink). x.process) (link_back t lt) ∙ was.1, omega (arith, f, was.2)));
     next = λ p t u below small mine same since less. (let before : t < length ts' = omega (arith, less, small) in
-        let f = ap (λ (g : ThreadList). g.first) (list_back p below) in let a = ap (λ (x : ThreadLink). x.next) (link_back t before) in
-        let b = are.next p t u (omega (arith, below, one)) (omega (arith, small, long_back)) (of_back t p before mine) (of_back u p small same) (omega (arith, f, since)) less in
+        let f = ap (λ (g : ThreadList). g.first) (list_back p below) in
+        let a = ap (λ (x : ThreadLink). x.next) (link_back t before) in
+        let b = are.next p t u (omega (arith, below, one)) (omega (arith, small, long_back)) (of_back t p before mine)
+        (of_back u p small same) (omega (arith, f, since)) less in
         (omega (arith, a, b.0), omega (arith, a, b.1)));
-    ending = λ p below. (let e = are.ending p (omega (arith, below, one)) in let f = ap (λ (g : ThreadList). g.first) (list_back p below) in let l = ap (λ (g : ThreadList). g.last) (list_back p below) in let lt = last_back p below in
-        (omega (arith, l, lt), ap (λ i. (link_at m' i).process) l ∙ ap (λ (x : ThreadLink). x.process) (link_back (list_at m p).last lt) ∙ e.1, omega (arith, f, l, e.2)));
-    last = λ p t below small mine. (let l = ap (λ (g : ThreadList). g.last) (list_back p below) in let a = are.last p t (omega (arith, below, one)) (omega (arith, small, long_back)) (of_back t p small mine) in omega (arith, l, a));
+    ending = λ p below. (let e = are.ending p (omega (arith, below, one)) in
+        let f = ap (λ (g : ThreadList). g.first) (list_back p below) in
+        let l = ap (λ (g : ThreadList). g.last) (list_back p below) in let lt = last_back p below in (
+          omega (arith, l, lt),
+          ap (λ i. (link_at m' i).process) l
+              ∙ ap (λ (x : ThreadLink). x.process) (link_back (list_at m p).last lt) ∙ e.1,
+          omega (arith, f, l, e.2),
+        ));
+    last = λ p t below small mine. (let l = ap (λ (g : ThreadList). g.last) (list_back p below) in
+        let a = are.last p t (omega (arith, below, one)) (omega (arith, small, long_back)) (of_back t p small mine) in
+        omega (arith, l, a));
   }
 
 -- an element passes where one is counted
 any_counted : (p : Option ℕ → Bool) (xs : List (Option ℕ)) → nat_lt 0 (count_by p xs) ≡ list_any p xs
 any_counted p [] = refl
-any_counted p (x ∷ xs) = let more : count_by p (x ∷ xs) ≡ cond (p x) 1 0 + count_by p xs = sum_by-cons (λ y. cond (p y) 1 0) x xs in ap (nat_lt 0) more ∙ by (p x) (any_counted p xs)
+any_counted p (x ∷ xs) = let more : count_by p (x ∷ xs) ≡ cond (p x) 1 0 + count_by p xs =
+    sum_by-cons (λ y. cond (p y) 1 0) x xs in ap (nat_lt 0) more ∙ by (p x) (any_counted p xs)
   where
-    by : (b : Bool) → nat_lt 0 (count_by p xs) ≡ list_any p xs → nat_lt 0 (cond b 1 0 + count_by p xs) ≡ (b || list_any p xs)
+    by : (b : Bool) → nat_lt 0 (count_by p xs) ≡ list_any p xs
+        → nat_lt 0 (cond b 1 0 + count_by p xs) ≡ (b || list_any p xs)
     by true rest = grind (arith, nat_tests)
     by false rest = let none : 0 + count_by p xs ≡ count_by p xs = omega arith in ap (nat_lt 0) none ∙ rest
 
@@ -424,7 +557,8 @@ module _ (n : ℕ) (ts : List (Option ℕ)) (m : ThreadListsState) (are : AreThr
   live_is : (p : ℕ) → (list_at m p).live ≡ count_by (is_of p) ts
   live_is p = elim (cases_lt p n) [
     | inl lt ↦ are.counted p lt
-    | inr le ↦ ap (λ (g : ThreadList). g.live) (get_or_past m.lists p no_list (let long = are.lists_long in omega (arith, long, le)))
+    | inr le ↦ ap (λ (g : ThreadList). g.live) (get_or_past m.lists p no_list (let long = are.lists_long in
+        omega (arith, long, le)))
         ∙ sym (no_live ts p (λ t h. let a = (are.given t p h).0 in omega (arith, a, le)))
   ]
 
@@ -434,16 +568,24 @@ module _ (n : ℕ) (ts : List (Option ℕ)) (m : ThreadListsState) (are : AreThr
   pub few_live : (p : ℕ) → (list_at m p).live ≤ 65537
   few_live p = let a = live_is p in let b = count_by-le-length (is_of p) ts in let c = are.few in omega (arith, a, b, c)
 
-  pub past_next : (p t u : ℕ) → (link_at m t).process ≡ p → (list_at m p).first ≤ t → get_or ts u None ≡ Some p → t < u → (t < (link_at m t).next) × ((link_at m t).next ≤ u)
+  pub past_next : (p t u : ℕ) → (link_at m t).process ≡ p → (list_at m p).first ≤ t → get_or ts u None ≡ Some p → t < u
+      → (t < (link_at m t).next) × ((link_at m t).next ≤ u)
   past_next p t u mine since h less =
       let was = are.given u p h in
-      are.next p t u was.0 (elim (cases_lt u (length ts)) [ inl lt ↦ lt | inr le ↦ absurd (let a = get_or_past ts u None le in cc (a, h)) ]) mine was.1 since less
+      are.next p t u was.0 (elim (cases_lt u (length ts)) [
+        | inl lt ↦ lt
+        | inr le ↦
+            absurd (let a = get_or_past ts u None le in cc (a, h))
+      ]) mine was.1 since less
 
 -- a new process is the newest
-pub newest : (limits : Limits) (l : ProcessesState) (tables session : ℕ) → ProcessesKept limits l tables → IsNewest (with_process l session)
+pub newest : (limits : Limits) (l : ProcessesState) (tables session : ℕ) → ProcessesKept limits l tables
+    → IsNewest (with_process l session)
 newest limits l tables session kept = record {
   before = l;
   session = session;
   is = refl;
-  alone = λ t h. let live = kept.live t (length l.processes) h in let past = get_or_past l.processes (length l.processes) None (omega arith) in let a = ap is_some past in cc (live, a);
+  alone = λ t h. let live = kept.live t (length l.processes) h in
+      let past = get_or_past l.processes (length l.processes) None (omega arith) in let a = ap is_some past in
+      cc (live, a);
 }

@@ -52,7 +52,8 @@ fired_another now (Timer t) other = absurd (other refl)
 timer_done : (now : ℕ) (t : TimerBody) → is_due now (timer.after_fire now t).due ≡ false
 timer_done now t = by (is_due now t.due) refl
   where
-    by : (b : Bool) → is_due now t.due ≡ b → is_due now (cond b (record t { signaled = true; due = None }) t).due ≡ false
+    by : (b : Bool) → is_due now t.due ≡ b → is_due now (cond b (record t { signaled = true; due = None }) t).due
+        ≡ false
     by true is = refl
     by false is = is
 
@@ -71,20 +72,24 @@ pub fired_twice : (now : ℕ) (x : Option Body) → slot_fired now (slot_fired n
 fired_twice now x = fired_other now (slot_fired now x) (fired_done now x)
 
 -- with each that fires one fewer is due
-due_within : (now : ℕ) (bodies : List (Option Body)) (k : ℕ) → slot_is_due now (get_or bodies k None) ≡ true → k < length bodies
+due_within : (now : ℕ) (bodies : List (Option Body)) (k : ℕ) → slot_is_due now (get_or bodies k None) ≡ true
+    → k < length bodies
 due_within now bodies k due = elim (cases_lt k (length bodies)) [
   | inl lt ↦ lt
   | inr past ↦ absurd (let none = ap (slot_is_due now) (get_or_past bodies k None past) in cc (none, due))
 ]
 
-pub fewer_due : (now k : ℕ) (o p : Objects) → p ≡ changed_at o k (slot_fired now) → slot_is_due now (get_or o.bodies k None) ≡ true → count_by (slot_is_due now) p.bodies < count_by (slot_is_due now) o.bodies
+pub fewer_due : (now k : ℕ) (o p : Objects) → p ≡ changed_at o k (slot_fired now)
+    → slot_is_due now (get_or o.bodies k None) ≡ true
+    → count_by (slot_is_due now) p.bodies < count_by (slot_is_due now) o.bodies
 fewer_due now k o p is due =
     let f : Option Body → ℕ = λ x. cond (slot_is_due now x) 1 0 in
     let y = slot_fired now (get_or o.bodies k None) in
     let a = sum_by-set f o.bodies k y None (due_within now o.bodies k due) in
     let one : f (get_or o.bodies k None) ≡ 1 = ap {B = ℕ} (λ b. cond b 1 0) due in
     let zero : f y ≡ 0 = ap {B = ℕ} (λ b. cond b 1 0) (fired_done now (get_or o.bodies k None)) in
-    let same : count_by (slot_is_due now) p.bodies ≡ count_by (slot_is_due now) (set o.bodies k y) = ap (λ (z : Objects). count_by (slot_is_due now) z.bodies) is in
+    let same : count_by (slot_is_due now) p.bodies ≡ count_by (slot_is_due now) (set o.bodies k y) =
+    ap (λ (z : Objects). count_by (slot_is_due now) z.bodies) is in
     omega (arith, a, one, zero, same)
 
 -- what holds of a body holds of it once it fired
@@ -94,7 +99,8 @@ unset_fired now (Mutex m) = refl
 unset_fired now (Semaphore s) = refl
 unset_fired now (Timer t) = by (is_due now t.due)
   where
-    by : (b : Bool) → unset (form_of (Timer (cond b (record t { signaled = true; due = None }) t))) ≡ unset (form_of (Timer t))
+    by : (b : Bool) → unset (form_of (Timer (cond b (record t { signaled = true; due = None }) t)))
+        ≡ unset (form_of (Timer t))
     by true = refl
     by false = refl
 
@@ -111,7 +117,8 @@ body_after clock now (Mutex m) h = tt
 body_after clock now (Semaphore s) h = tt
 body_after clock now (Timer t) h = timer_after clock now t h
 
-slot_after : (clock now : ℕ) (x : Option Body) → IsAfter clock (slot_due x) → IsAfter clock (slot_due (slot_fired now x))
+slot_after : (clock now : ℕ) (x : Option Body) → IsAfter clock (slot_due x)
+    → IsAfter clock (slot_due (slot_fired now x))
 slot_after clock now None h = tt
 slot_after clock now (Some b) h = body_after clock now b h
 
@@ -122,27 +129,37 @@ owner_fired now (Some (Mutex m)) = refl
 owner_fired now (Some (Semaphore s)) = refl
 owner_fired now (Some (Timer t)) = refl
 
-room_fired : (limit t now : ℕ) (x : Option Body) → slot_room limit t x ≡ true → slot_room limit t (slot_fired now x) ≡ true
+room_fired : (limit t now : ℕ) (x : Option Body) → slot_room limit t x ≡ true
+    → slot_room limit t (slot_fired now x) ≡ true
 room_fired limit t now None h = refl
 room_fired limit t now (Some b) h = room_after_fire limit t now b h
 
-formed_fired : (clock now : ℕ) (objects : List (Option Object)) (bodies : List (Option Body)) → AreFormed clock objects bodies → AreFormed clock objects (map (slot_fired now) bodies)
+formed_fired : (clock now : ℕ) (objects : List (Option Object)) (bodies : List (Option Body))
+    → AreFormed clock objects bodies → AreFormed clock objects (map (slot_fired now) bodies)
 formed_fired clock now objects bodies f = record {
   each = λ k o b there is. by k o b (get_or bodies k None) refl there (sym (read (slot_fired now) bodies k) ∙ is);
-  later = λ k. subst (λ (x : Option Body). IsAfter clock (slot_due x)) (sym (read (slot_fired now) bodies k)) (slot_after clock now (get_or bodies k None) (f.later k));
+  later = λ k. subst (λ (x : Option Body). IsAfter clock (slot_due x)) (sym (read (slot_fired now) bodies k))
+      (slot_after clock now (get_or bodies k None) (f.later k));
 }
   where
-    by : (k : ℕ) (o : Object) (b : Body) (x : Option Body) → get_or bodies k None ≡ x → get_or objects k None ≡ Some o → slot_fired now x ≡ Some b → unset (form_of b) ≡ form_in o.descr
+    by : (k : ℕ) (o : Object) (b : Body) (x : Option Body) → get_or bodies k None ≡ x → get_or objects k None ≡ Some o
+        → slot_fired now x ≡ Some b → unset (form_of b) ≡ form_in o.descr
     by k o b None at there is = absurd (cc)
-    by k o b (Some c) at there is = let same : after_fire now c ≡ b = cc in ap (λ (z : Body). unset (form_of z)) (sym same) ∙ unset_fired now c ∙ f.each k o c there at
+    by k o b (Some c) at there is = let same : after_fire now c ≡ b = cc in
+        ap (λ (z : Body). unset (form_of z)) (sym same) ∙ unset_fired now c ∙ f.each k o c there at
 
 -- none is due at a moment: all due moments are after it
 undue_after : (now : ℕ) (d : Option ℕ) → is_due now d ≡ false → IsAfter now d
 undue_after now None h = tt
 undue_after now (Some due) h = grind (arith, nat_tests, h)
 
-pub formed_now : (clock now : ℕ) (objects : List (Option Object)) (bodies : List (Option Body)) → ((k : ℕ) → slot_is_due now (get_or bodies k None) ≡ false) → AreFormed clock objects bodies → AreFormed now objects bodies
-formed_now clock now objects bodies none f = record { each = f.each; later = λ k. undue_after now (slot_due (get_or bodies k None)) (none k) }
+pub formed_now : (clock now : ℕ) (objects : List (Option Object)) (bodies : List (Option Body))
+    → ((k : ℕ) → slot_is_due now (get_or bodies k None) ≡ false) → AreFormed clock objects bodies
+    → AreFormed now objects bodies
+formed_now clock now objects bodies none f = record {
+  each = f.each;
+  later = λ k. undue_after now (slot_due (get_or bodies k None)) (none k);
+}
 
 -- a tick begins: the timers that are due have fired, which q tells
 module _ (p : PartsState) (q : ObjectsState) (a : SignaledState) (now : ℕ)
@@ -157,21 +174,29 @@ module _ (p : PartsState) (q : ObjectsState) (a : SignaledState) (now : ℕ)
   bodies_are = ap (λ (x : Objects). x.bodies) seen
 
   body_is : (k : ℕ) → get_or q.seen.bodies k None ≡ slot_fired now (get_or p.objects.seen.bodies k None)
-  body_is k = ap (λ (x : List (Option Body)). get_or x k None) bodies_are ∙ read (slot_fired now) p.objects.seen.bodies k
+  body_is k = ap (λ (x : List (Option Body)). get_or x k None) bodies_are
+      ∙ read (slot_fired now) p.objects.seen.bodies k
 
-  pub way_fired : IsUnderWay p.objects.keeper (record p { objects = q; signaled = a }) (record (state_of p) { bodies = map (slot_fired now) p.objects.seen.bodies })
+  pub way_fired : IsUnderWay p.objects.keeper (record p { objects = q; signaled = a })
+      (record (state_of p) { bodies = map (slot_fired now) p.objects.seen.bodies })
   way_fired = record {
     tied = tied;
     sound = sound_rested p p.processes q p.waits a rest kept.sound refl kept.sound.processes_kept
-        (record { handles = ap (λ (x : Objects). x.handles) seen ∙ kept.sound.counted.handles; blocks = ap (λ (x : Objects). x.blocks) seen ∙ kept.sound.counted.blocks })
-        kept.sound.named
-        (subst (λ (bs : List (Option Body)). AreFormed p.waits.clock p.objects.objects bs) (sym bodies_are) (formed_fired p.waits.clock now p.objects.objects p.objects.seen.bodies kept.sound.formed))
         (record {
-          owners = λ k t h. kept.sound.of_live.owners k t (sym (ap slot_owner (body_is k) ∙ owner_fired now (get_or p.objects.seen.bodies k None)) ∙ h);
+          handles = ap (λ (x : Objects). x.handles) seen ∙ kept.sound.counted.handles;
+          blocks = ap (λ (x : Objects). x.blocks) seen ∙ kept.sound.counted.blocks;
+        })
+        kept.sound.named
+        (subst (λ (bs : List (Option Body)). AreFormed p.waits.clock p.objects.objects bs) (sym bodies_are)
+        (formed_fired p.waits.clock now p.objects.objects p.objects.seen.bodies kept.sound.formed))
+        (record {
+          owners = λ k t h. kept.sound.of_live.owners k t
+              (sym (ap slot_owner (body_is k) ∙ owner_fired now (get_or p.objects.seen.bodies k None)) ∙ h);
           waiters = kept.sound.of_live.waiters;
         })
         (room_changed limit p.objects.seen.bodies q.seen.bodies p.waits.waits
-        (λ t k h. subst (λ (x : Option Body). slot_room limit t x ≡ true) (sym (body_is k)) (room_fired limit t now (get_or p.objects.seen.bodies k None) h)) kept.sound.room);
+        (λ t k h. subst (λ (x : Option Body). slot_room limit t x ≡ true) (sym (body_is k))
+        (room_fired limit t now (get_or p.objects.seen.bodies k None) h)) kept.sound.room);
     rest = state_rested p p.processes q p.waits a rest;
     bodies = subst (λ (x : List (Option Body)). AreLeft x q.seen.bodies) bodies_are (left_same q.seen.bodies);
     keeper = ap (λ (r : KeptRest). r.keeper) rest;

@@ -1,4 +1,5 @@
--- Waits whose time is up are answered one after another, and the state settles behind each: that is the same as all at once.
+-- Waits whose time is up are answered one after another, and the state settles behind each: that is the same as all at
+-- once.
 use Rattle.std.proofs.Common.{◌≡◌, ◌⊎◌, ℕ, ◌+◌, ◌<◌, ◌≤◌, List, length, Option, Some, None, refl, ap, ◌∙◌, sym, arith, get_or, map, Bool, true, false, cond, inl, inr, eqb}
 use Rattle.std.specs.Prelude.{count_by, is_some}
 use Rattle.std.proofs.lemmas.List.{get_or_past}
@@ -33,7 +34,8 @@ use Rattle.ob_store.proofs.SettledLaws.{settled_ends}
 use Rattle.ob_store.proofs.TickLaws.{formed_now}
 
 -- what ends is there as it was, or gone
-slot_left : (handles blocks : ℕ) (x : Option Body) → (slot_ended handles blocks x ≡ x) ⊎ (slot_ended handles blocks x ≡ None)
+slot_left : (handles blocks : ℕ) (x : Option Body)
+    → (slot_ended handles blocks x ≡ x) ⊎ (slot_ended handles blocks x ≡ None)
 slot_left handles blocks x = by (eqb (handles + blocks) 0)
   where
     by : (b : Bool) → (cond b None x ≡ x) ⊎ (cond b None x ≡ None)
@@ -43,15 +45,23 @@ slot_left handles blocks x = by (eqb (handles + blocks) 0)
 ended_left : (o : Objects) → AreLeft o.bodies (ended o).bodies
 ended_left o = record {
   long = length-ended o;
-  each = λ k. elim (slot_left (get_or o.handles k 0) (get_or o.blocks k 0) (get_or o.bodies k None)) [ inl same ↦ inl (ended_at o k ∙ same) | inr none ↦ inr (ended_at o k ∙ none) ];
+  each = λ k. elim (slot_left (get_or o.handles k 0) (get_or o.blocks k 0) (get_or o.bodies k None)) [
+    | inl same ↦
+        inl (ended_at o k ∙ same)
+    | inr none ↦ inr (ended_at o k ∙ none)
+  ];
 }
 
 -- where no wait is ready, what is to end alone ends
-by_ends : (s : State) → IsNamed s.objects s.tables s.waits → IsSettled s.bodies s.waits → settled s ≡ record s { bodies = (ended (objects_of s)).bodies }
-by_ends s named quiet = settled_ends s (ended (objects_of s)) named refl (settled_less s.bodies (ended (objects_of s)).bodies s.waits (less_gone s.bodies (ended (objects_of s)).bodies (ended_left (objects_of s))) quiet)
+by_ends : (s : State) → IsNamed s.objects s.tables s.waits → IsSettled s.bodies s.waits
+    → settled s ≡ record s { bodies = (ended (objects_of s)).bodies }
+by_ends s named quiet = settled_ends s (ended (objects_of s)) named refl
+    (settled_less s.bodies (ended (objects_of s)).bodies s.waits
+    (less_gone s.bodies (ended (objects_of s)).bodies (ended_left (objects_of s))) quiet)
 
 -- one wait is answered before the others
-module _ (s : State) (now n : ℕ) (named : IsNamed s.objects s.tables s.waits) (quiet : IsSettled s.bodies s.waits) (over : is_overdue now (get_or s.waits n None) ≡ true) where
+module _ (s : State) (now n : ℕ) (named : IsNamed s.objects s.tables s.waits) (quiet : IsSettled s.bodies s.waits)
+    (over : is_overdue now (get_or s.waits n None) ≡ true) where
   abbrev one : State
   one = with_answer s n 258
 
@@ -59,10 +69,12 @@ module _ (s : State) (now n : ℕ) (named : IsNamed s.objects s.tables s.waits) 
   all = timed_out now s
 
   one_named : IsNamed s.objects s.tables one.waits
-  one_named = named_fewer s.objects s.tables s.tables s.waits one.waits (λ id. omega arith) (λ id. let x = blocks_answered id s.waits n 258 in omega (arith, x)) named
+  one_named = named_fewer s.objects s.tables s.tables s.waits one.waits (λ id. omega arith) (λ id. let x =
+      blocks_answered id s.waits n 258 in omega (arith, x)) named
 
   all_named : IsNamed s.objects s.tables all.waits
-  all_named = named_fewer s.objects s.tables s.tables s.waits all.waits (λ id. omega arith) (λ id. blocks_lapsed id now s.waits) named
+  all_named = named_fewer s.objects s.tables s.tables s.waits all.waits (λ id. omega arith)
+      (λ id. blocks_lapsed id now s.waits) named
 
   one_quiet : IsSettled s.bodies one.waits
   one_quiet = settled_answered s.bodies s.waits n 258 quiet
@@ -91,9 +103,11 @@ module _ (s : State) (now n : ℕ) (named : IsNamed s.objects s.tables s.waits) 
   fewer_blocks k = elim (cases_lt k (length s.objects)) [
     | inl lt ↦ (let a = get_by_slot (length s.objects) (λ i. slot_blocks i all.waits) k lt in
         let b = get_by_slot (length s.objects) (λ i. slot_blocks i one.waits) k lt in
-        let c : slot_blocks k all.waits ≡ slot_blocks k (map (waits_time.lapsed now) one.waits) = ap (slot_blocks k) (sym same_waits) in
+        let c : slot_blocks k all.waits ≡ slot_blocks k (map (waits_time.lapsed now) one.waits) =
+        ap (slot_blocks k) (sym same_waits) in
         let d = slot_lapsed k now one.waits in omega (arith, a, b, c, d))
-    | inr le ↦ (let a = get_or_past (objects_of all).blocks k 0 (omega (arith, length-by_slot (length s.objects) (λ i. slot_blocks i all.waits), le)) in omega (arith, a))
+    | inr le ↦ (let a = get_or_past (objects_of all).blocks k 0
+        (omega (arith, length-by_slot (length s.objects) (λ i. slot_blocks i all.waits), le)) in omega (arith, a))
   ]
 
   others_quiet : IsSettled left all.waits
@@ -101,15 +115,19 @@ module _ (s : State) (now n : ℕ) (named : IsNamed s.objects s.tables s.waits) 
 
   pub time_out_step : settled (timed_out now (settled (with_answer s n 258))) ≡ settled (timed_out now s)
   time_out_step =
-      let bodies : ended (objects_of others) ≡ ended (objects_of all) = ended_twice (objects_of all) (objects_of one).blocks fewer_blocks in
-      ap settled others_are ∙ by_ends others all_named others_quiet ∙ ap (λ (o : Objects). record all { bodies = o.bodies }) bodies ∙ sym (by_ends all all_named all_quiet)
+      let bodies : ended (objects_of others) ≡ ended (objects_of all) =
+      ended_twice (objects_of all) (objects_of one).blocks fewer_blocks in
+      ap settled others_are ∙ by_ends others all_named others_quiet
+      ∙ ap (λ (o : Objects). record all { bodies = o.bodies }) bodies ∙ sym (by_ends all all_named all_quiet)
 
   -- no timer becomes due by it
-  pub undue_step : ((k : ℕ) → slot_is_due now (get_or s.bodies k None) ≡ false) → (k : ℕ) → slot_is_due now (get_or (settled (with_answer s n 258)).bodies k None) ≡ false
-  undue_step undue k = ap (λ (t : State). slot_is_due now (get_or t.bodies k None)) one_is ∙ elim ((ended_left (objects_of one)).each k) [
-    | inl same ↦ ap (slot_is_due now) same ∙ undue k
-    | inr none ↦ ap (slot_is_due now) none
-  ]
+  pub undue_step : ((k : ℕ) → slot_is_due now (get_or s.bodies k None) ≡ false) → (k : ℕ)
+      → slot_is_due now (get_or (settled (with_answer s n 258)).bodies k None) ≡ false
+  undue_step undue k = ap (λ (t : State). slot_is_due now (get_or t.bodies k None)) one_is
+      ∙ elim ((ended_left (objects_of one)).each k) [
+        | inl same ↦ ap (slot_is_due now) same ∙ undue k
+        | inr none ↦ ap (slot_is_due now) none
+      ]
 
   pub clock_step : (settled (with_answer s n 258)).clock ≡ s.clock
   clock_step = refl
@@ -117,17 +135,21 @@ module _ (s : State) (now n : ℕ) (named : IsNamed s.objects s.tables s.waits) 
   -- and one wait fewer is overdue
   pub fewer_step : count_by (is_overdue now) (settled (with_answer s n 258)).waits < count_by (is_overdue now) s.waits
   fewer_step =
-      let same : count_by (is_overdue now) (settled one).waits ≡ count_by (is_overdue now) one.waits = ap (λ (t : State). count_by (is_overdue now) t.waits) one_is in
+      let same : count_by (is_overdue now) (settled one).waits ≡ count_by (is_overdue now) one.waits =
+      ap (λ (t : State). count_by (is_overdue now) t.waits) one_is in
       let fewer = fewer_overdue now s.waits n over in omega (arith, same, fewer)
 
 -- where no time is up, the clock alone goes on
-pub time_out_last : (s : State) (now : ℕ) → settled s ≡ s → ((n : ℕ) → is_overdue now (get_or s.waits n None) ≡ false) → record s { clock = now } ≡ settled (timed_out now s)
+pub time_out_last : (s : State) (now : ℕ) → settled s ≡ s → ((n : ℕ) → is_overdue now (get_or s.waits n None) ≡ false)
+    → record s { clock = now } ≡ settled (timed_out now s)
 time_out_last s now still none =
     (λ i. record (sym still i) { clock = now })
-    ∙ ap (λ (ws : List (Option Wait)). settled (record s { clock = now; waits = ws })) (sym (none_lapsed now s.waits none))
+    ∙ ap (λ (ws : List (Option Wait)). settled (record s { clock = now; waits = ws }))
+    (sym (none_lapsed now s.waits none))
 
 -- what is kept is kept at a later moment, before which nothing is due
-pub kept_passed : (p : PartsState) (now : ℕ) → ((k : ℕ) → slot_is_due now (get_or p.objects.seen.bodies k None) ≡ false) → IsKept p → IsKept (record p { waits = record p.waits { clock = now } })
+pub kept_passed : (p : PartsState) (now : ℕ) → ((k : ℕ) → slot_is_due now (get_or p.objects.seen.bodies k None) ≡ false)
+    → IsKept p → IsKept (record p { waits = record p.waits { clock = now } })
 kept_passed p now undue kept = record {
   sound = record {
     limited = kept.sound.limited;
@@ -143,8 +165,10 @@ kept_passed p now undue kept = record {
 }
 
 -- settling makes no timer due
-pub undue_settled : (first : Scene) (after : Objects) (ws' : List (Option Wait)) (now : ℕ) → ◌≡◌ {A = Scene} (record { objects = after; waits = ws' }) (waits.settled first)
-    → ((k : ℕ) → slot_is_due now (get_or first.objects.bodies k None) ≡ false) → (k : ℕ) → slot_is_due now (get_or after.bodies k None) ≡ false
+pub undue_settled : (first : Scene) (after : Objects) (ws' : List (Option Wait)) (now : ℕ)
+    → ◌≡◌ {A = Scene} (record { objects = after; waits = ws' }) (waits.settled first)
+    → ((k : ℕ) → slot_is_due now (get_or first.objects.bodies k None) ≡ false) → (k : ℕ)
+    → slot_is_due now (get_or after.bodies k None) ≡ false
 undue_settled first after ws' now value undue k = by (get_or after.bodies k None) refl
   where
     body_is : get_or after.bodies k None ≡ get_or (waits.settled first).objects.bodies k None
@@ -153,6 +177,8 @@ undue_settled first after ws' now value undue k = by (get_or after.bodies k None
     by : (x : Option Body) → get_or after.bodies k None ≡ x → slot_is_due now x ≡ false
     by None is = refl
     by (Some b) is =
-        let some : is_some (get_or (waits.settled first).objects.bodies k None) ≡ true = sym (ap is_some body_is) ∙ ap is_some is in
-        let form : slot_form (Some b) ≡ slot_form (get_or first.objects.bodies k None) = ap slot_form (sym is ∙ body_is) ∙ settled_form first k some in
+        let some : is_some (get_or (waits.settled first).objects.bodies k None) ≡ true =
+        sym (ap is_some body_is) ∙ ap is_some is in
+        let form : slot_form (Some b) ≡ slot_form (get_or first.objects.bodies k None) =
+        ap slot_form (sym is ∙ body_is) ∙ settled_form first k some in
         ap (is_due now) (due_same (Some b) (get_or first.objects.bodies k None) form) ∙ undue k

@@ -18,21 +18,27 @@ use Rattle.ob_store.proofs.SeatLaws.{read}
 use Rattle.ob_store.proofs.OwnerLaws.{some_there}
 
 -- a moment after none is due where the least isn't
-undue : (now : ℕ) (least x : Option ℕ) → is_due now least ≡ false → ((moment : ℕ) → x ≡ Some moment → NotAfter least moment) → is_due now x ≡ false
+undue : (now : ℕ) (least x : Option ℕ) → is_due now least ≡ false
+    → ((moment : ℕ) → x ≡ Some moment → NotAfter least moment) → is_due now x ≡ false
 undue now least None none first = refl
 undue now None (Some moment) none first = absurd (first moment refl)
-undue now (Some least) (Some moment) none first = let before : least ≤ moment = first moment refl in grind (arith, nat_tests, none, before)
+undue now (Some least) (Some moment) none first = let before : least ≤ moment = first moment refl in
+    grind (arith, nat_tests, none, before)
 
-pub none_due : (now : ℕ) (dues : List (Option ℕ)) (least : Option ℕ) → IsLeast dues least → is_due now least ≡ false → (k : ℕ) → is_due now (get_or dues k None) ≡ false
+pub none_due : (now : ℕ) (dues : List (Option ℕ)) (least : Option ℕ) → IsLeast dues least → is_due now least ≡ false
+    → (k : ℕ) → is_due now (get_or dues k None) ≡ false
 none_due now dues least is none k = undue now least (get_or dues k None) none (λ moment at. is.first k moment at)
 
 -- what isn't after the least is due where the least is
-pub due_too : (now due : ℕ) (dues : List (Option ℕ)) (x : Option ℕ) → IsLeast dues (Some due) → due ≤ now → IsLeast dues x → is_due now x ≡ true
+pub due_too : (now due : ℕ) (dues : List (Option ℕ)) (x : Option ℕ) → IsLeast dues (Some due) → due ≤ now
+    → IsLeast dues x → is_due now x ≡ true
 due_too now due dues None is soon other = absurd (other.first is.stands.0 due is.stands.1)
-due_too now due dues (Some moment) is soon other = let before : moment ≤ due = other.first is.stands.0 due is.stands.1 in grind (arith, nat_tests, before, soon)
+due_too now due dues (Some moment) is soon other = let before : moment ≤ due =
+    other.first is.stands.0 due is.stands.1 in grind (arith, nat_tests, before, soon)
 
 -- the due moment of a slot
-pub due_read : (xs : List (Option Seat)) (k : ℕ) → get_or (map seat_due xs) k None ≡ slot_due (get_or (map seat_body xs) k None)
+pub due_read : (xs : List (Option Seat)) (k : ℕ) →
+    get_or (map seat_due xs) k None ≡ slot_due (get_or (map seat_body xs) k None)
 due_read xs k = read seat_due xs k ∙ ap slot_due (sym (read seat_body xs k))
 
 -- the least of the slots' is the least of the bodies'
@@ -40,30 +46,41 @@ dues_of_bodies : (xs : List (Option Seat)) → map seat_due xs ≡ map slot_due 
 dues_of_bodies [] = refl
 dues_of_bodies (x ∷ xs) = ap (λ (dues : List (Option ℕ)). seat_due x ∷ dues) (dues_of_bodies xs)
 
-pub least_of_bodies : (xs : List (Option Seat)) (dues : List (Option ℕ)) (least : Option ℕ) → dues ≡ map seat_due xs → IsLeast dues least → IsLeast (map slot_due (map seat_body xs)) least
-least_of_bodies xs dues least timed is = subst (λ (ds : List (Option ℕ)). IsLeast ds least) (timed ∙ dues_of_bodies xs) is
+pub least_of_bodies : (xs : List (Option Seat)) (dues : List (Option ℕ)) (least : Option ℕ) → dues ≡ map seat_due xs
+    → IsLeast dues least → IsLeast (map slot_due (map seat_body xs)) least
+least_of_bodies xs dues least timed is = subst (λ (ds : List (Option ℕ)). IsLeast ds least) (timed
+    ∙ dues_of_bodies xs) is
 
-pub timed_set : (xs : List (Option Seat)) (dues : List (Option ℕ)) (k : ℕ) (y : Option Seat) (due : Option ℕ) → dues ≡ map seat_due xs → due ≡ seat_due y → set dues k due ≡ map seat_due (set xs k y)
+pub timed_set : (xs : List (Option Seat)) (dues : List (Option ℕ)) (k : ℕ) (y : Option Seat) (due : Option ℕ)
+    → dues ≡ map seat_due xs → due ≡ seat_due y → set dues k due ≡ map seat_due (set xs k y)
 timed_set xs dues k y due timed is = (λ i. set (timed i) k (is i)) ∙ sym (map-set seat_due xs k y)
 
-pub timed_same : (xs : List (Option Seat)) (dues : List (Option ℕ)) (k : ℕ) (y : Option Seat) → dues ≡ map seat_due xs → seat_due y ≡ seat_due (get_or xs k None) → dues ≡ map seat_due (set xs k y)
+pub timed_same : (xs : List (Option Seat)) (dues : List (Option ℕ)) (k : ℕ) (y : Option Seat) → dues ≡ map seat_due xs
+    → seat_due y ≡ seat_due (get_or xs k None) → dues ≡ map seat_due (set xs k y)
 timed_same xs dues k y timed same = timed ∙ sym (map-set_same seat_due xs k y None same)
 
-pub timed_stays : (xs : List (Option Seat)) (dues : List (Option ℕ)) (k : ℕ) (x y : Seat) → dues ≡ map seat_due xs → get_or xs k None ≡ Some x → slot_due y.body ≡ slot_due x.body → dues ≡ map seat_due (set xs k (Some y))
+pub timed_stays : (xs : List (Option Seat)) (dues : List (Option ℕ)) (k : ℕ) (x y : Seat) → dues ≡ map seat_due xs
+    → get_or xs k None ≡ Some x → slot_due y.body ≡ slot_due x.body → dues ≡ map seat_due (set xs k (Some y))
 timed_stays xs dues k x y timed there same = timed_same xs dues k (Some y) timed (same ∙ sym (ap seat_due there))
 
 -- what a seat has, where it is
-pub timed_at : (xs : List (Option Seat)) (dues : List (Option ℕ)) (k : ℕ) (x : Seat) → dues ≡ map seat_due xs → get_or xs k None ≡ Some x → get_or dues k None ≡ slot_due x.body
-timed_at xs dues k x timed there = ap (λ (z : List (Option ℕ)). get_or z k None) timed ∙ read seat_due xs k ∙ ap seat_due there
+pub timed_at : (xs : List (Option Seat)) (dues : List (Option ℕ)) (k : ℕ) (x : Seat) → dues ≡ map seat_due xs
+    → get_or xs k None ≡ Some x → get_or dues k None ≡ slot_due x.body
+timed_at xs dues k x timed there = ap (λ (z : List (Option ℕ)). get_or z k None) timed ∙ read seat_due xs k
+    ∙ ap seat_due there
 
-pub timed_within : (xs : List (Option Seat)) (dues : List (Option ℕ)) (k : ℕ) → dues ≡ map seat_due xs → k < length xs → k < length dues
-timed_within xs dues k timed lt = let a : length dues ≡ length (map seat_due xs) = ap (λ (z : List (Option ℕ)). length z) timed in let b = length-map xs seat_due in omega (arith, a, b, lt)
+pub timed_within : (xs : List (Option Seat)) (dues : List (Option ℕ)) (k : ℕ) → dues ≡ map seat_due xs → k < length xs
+    → k < length dues
+timed_within xs dues k timed lt = let a : length dues ≡ length (map seat_due xs) =
+    ap (λ (z : List (Option ℕ)). length z) timed in let b = length-map xs seat_due in omega (arith, a, b, lt)
 
-pub seated_within : (xs : List (Option Seat)) (dues : List (Option ℕ)) (k : ℕ) (x : Seat) → dues ≡ map seat_due xs → get_or xs k None ≡ Some x → k < length dues
+pub seated_within : (xs : List (Option Seat)) (dues : List (Option ℕ)) (k : ℕ) (x : Seat) → dues ≡ map seat_due xs
+    → get_or xs k None ≡ Some x → k < length dues
 seated_within xs dues k x timed there = timed_within xs dues k timed (some_there xs k x there)
 
 -- a body goes, or stays
-pub timed_left_at : (xs : List (Option Seat)) (dues : List (Option ℕ)) (k : ℕ) (x y : Seat) (b : Bool) (o : Option Body) → dues ≡ map seat_due xs → get_or xs k None ≡ Some x → o ≡ cond b x.body None → y.body ≡ cond b None x.body
+pub timed_left_at : (xs : List (Option Seat)) (dues : List (Option ℕ)) (k : ℕ) (x y : Seat) (b : Bool) (o : Option Body)
+    → dues ≡ map seat_due xs → get_or xs k None ≡ Some x → o ≡ cond b x.body None → y.body ≡ cond b None x.body
     → due_left dues k (slot_due o) ≡ map seat_due (set xs k (Some y))
 timed_left_at xs dues k x y true o timed there went none = by (slot_due o) (ap slot_due went)
   where
@@ -71,7 +88,8 @@ timed_left_at xs dues k x y true o timed there went none = by (slot_due o) (ap s
     by None is = timed_stays xs dues k x y timed there (ap slot_due none ∙ is)
     by (Some due) is = timed_set xs dues k (Some y) None timed (sym (ap slot_due none))
 timed_left_at xs dues k x y false o timed there went same =
-    ap (λ (z : Option Body). due_left dues k (slot_due z)) went ∙ timed_stays xs dues k x y timed there (ap slot_due same)
+    ap (λ (z : Option Body). due_left dues k (slot_due z)) went
+    ∙ timed_stays xs dues k x y timed there (ap slot_due same)
 
 pub timed_none : (slots : ℕ) → replicate slots None ≡ map seat_due (replicate slots None)
 timed_none zero = refl
@@ -86,21 +104,29 @@ due_taken u (Some (Semaphore s)) = refl
 due_taken u (Some (Timer t)) = refl
 
 -- an object without a body leaves
-pub timed_removed : (xs : List (Option Seat)) (dues : List (Option ℕ)) (k : ℕ) → dues ≡ map seat_due xs → get_or (map seat_body xs) k None ≡ None → dues ≡ map seat_due (set xs k None)
+pub timed_removed : (xs : List (Option Seat)) (dues : List (Option ℕ)) (k : ℕ) → dues ≡ map seat_due xs
+    → get_or (map seat_body xs) k None ≡ None → dues ≡ map seat_due (set xs k None)
 timed_removed xs dues k timed ended = timed_same xs dues k None timed (ap slot_due (sym ended ∙ read seat_body xs k))
 
 -- a vacant slot has no timer
-pub timed_vacant : (xs : List (Option Seat)) (dues : List (Option ℕ)) (k : ℕ) → dues ≡ map seat_due xs → get_or xs k None ≡ None → get_or dues k None ≡ None
-timed_vacant xs dues k timed none = ap (λ (z : List (Option ℕ)). get_or z k None) timed ∙ read seat_due xs k ∙ ap seat_due none
+pub timed_vacant : (xs : List (Option Seat)) (dues : List (Option ℕ)) (k : ℕ) → dues ≡ map seat_due xs
+    → get_or xs k None ≡ None → get_or dues k None ≡ None
+timed_vacant xs dues k timed none = ap (λ (z : List (Option ℕ)). get_or z k None) timed ∙ read seat_due xs k
+    ∙ ap seat_due none
 
 -- what is known of due moments is known of the bodies
-due_of_slot : (xs : List (Option Seat)) (dues : List (Option ℕ)) (k : ℕ) → dues ≡ map seat_due xs → get_or dues k None ≡ slot_due (get_or (map seat_body xs) k None)
+due_of_slot : (xs : List (Option Seat)) (dues : List (Option ℕ)) (k : ℕ) → dues ≡ map seat_due xs
+    → get_or dues k None ≡ slot_due (get_or (map seat_body xs) k None)
 due_of_slot xs dues k timed = ap (λ (z : List (Option ℕ)). get_or z k None) timed ∙ due_read xs k
 
-pub some_due : (now : ℕ) (xs : List (Option Seat)) (dues : List (Option ℕ)) (r : Option ℕ) → dues ≡ map seat_due xs → IfSome r (λ slot. is_due now (get_or dues slot None) ≡ true) → IfSome r (λ slot. slot_is_due now (get_or (map seat_body xs) slot None) ≡ true)
+pub some_due : (now : ℕ) (xs : List (Option Seat)) (dues : List (Option ℕ)) (r : Option ℕ) → dues ≡ map seat_due xs
+    → IfSome r (λ slot. is_due now (get_or dues slot None) ≡ true)
+    → IfSome r (λ slot. slot_is_due now (get_or (map seat_body xs) slot None) ≡ true)
 some_due now xs dues None timed h = tt
 some_due now xs dues (Some slot) timed h = ap (is_due now) (sym (due_of_slot xs dues slot timed)) ∙ h
 
-pub none_due_slot : (now : ℕ) (xs : List (Option Seat)) (dues : List (Option ℕ)) (r : Option ℕ) → dues ≡ map seat_due xs → IfNone r ((k : ℕ) → is_due now (get_or dues k None) ≡ false) → IfNone r ((k : ℕ) → slot_is_due now (get_or (map seat_body xs) k None) ≡ false)
+pub none_due_slot : (now : ℕ) (xs : List (Option Seat)) (dues : List (Option ℕ)) (r : Option ℕ) → dues ≡ map seat_due xs
+    → IfNone r ((k : ℕ) → is_due now (get_or dues k None) ≡ false)
+    → IfNone r ((k : ℕ) → slot_is_due now (get_or (map seat_body xs) k None) ≡ false)
 none_due_slot now xs dues None timed h = λ k. ap (is_due now) (sym (due_of_slot xs dues k timed)) ∙ h k
 none_due_slot now xs dues (Some slot) timed h = tt

@@ -31,14 +31,22 @@ use Rattle.ob_store.proofs.SettledLaws.{ends_before}
 
 -- a call begins
 pub way_begins : (p : PartsState) → IsSound p → IsTied p.objects → IsUnderWay p.objects.keeper p (state_of p)
-way_begins p sound tied = record { tied = tied; sound = sound; rest = refl; bodies = left_same p.objects.seen.bodies; keeper = refl }
+way_begins p sound tied = record {
+  tied = tied;
+  sound = sound;
+  rest = refl;
+  bodies = left_same p.objects.seen.bodies;
+  keeper = refl;
+}
 
 -- whichever slots are noted, since no wait is ready
-pub ending_begins : (p : PartsState) (a : SignaledState) → IsKept p → IsTied p.objects → IsEnding p.objects.keeper (record p { signaled = a }) (state_of p)
+pub ending_begins : (p : PartsState) (a : SignaledState) → IsKept p → IsTied p.objects
+    → IsEnding p.objects.keeper (record p { signaled = a }) (state_of p)
 ending_begins p a kept tied = record {
   way = record {
     tied = tied;
-    sound = sound_rested p p.processes p.objects p.waits a refl kept.sound refl kept.sound.processes_kept kept.sound.counted kept.sound.named kept.sound.formed kept.sound.of_live kept.sound.room;
+    sound = sound_rested p p.processes p.objects p.waits a refl kept.sound refl kept.sound.processes_kept
+        kept.sound.counted kept.sound.named kept.sound.formed kept.sound.of_live kept.sound.room;
     rest = refl;
     bodies = left_same p.objects.seen.bodies;
     keeper = refl;
@@ -49,19 +57,24 @@ ending_begins p a kept tied = record {
 -- and its waits settle
 module _ (p : PartsState) (q : ObjectsState) (ws : WaitList)
     (sound : IsSound p)
-    (value : ◌≡◌ {A = Scene} (record { objects = q.seen; waits = ws.waits }) (waits.settled (record { objects = p.objects.seen; waits = p.waits.waits })))
+    (value : ◌≡◌ {A = Scene} (record { objects = q.seen; waits = ws.waits })
+    (waits.settled (record { objects = p.objects.seen; waits = p.waits.waits })))
     (limit : ws.limit ≡ p.waits.limit)
     (clock : ws.clock ≡ p.waits.clock)
     (rest : kept_rest q ≡ kept_rest p.objects) where
   abbrev scene : Scene
   scene = record { objects = p.objects.seen; waits = p.waits.waits }
 
-  pub way_kept : WaitsHaveRoom p.limits.max_recursion q.seen.bodies ws.waits → IsSettled q.seen.bodies ws.waits → IsKept (record p { objects = q; waits = ws })
+  pub way_kept : WaitsHaveRoom p.limits.max_recursion q.seen.bodies ws.waits → IsSettled q.seen.bodies ws.waits
+      → IsKept (record p { objects = q; waits = ws })
   way_kept room quiet = record {
     sound = sound_rested p p.processes q ws p.signaled rest sound limit sound.processes_kept
-        (counted_settled p.objects.seen (length p.objects.objects) p.tables.tables p.waits.waits sound.counted p.objects.seen.bodies q.seen ws.waits value)
-        (named_settled p.objects.objects p.tables.tables p.waits.waits sound.named scene ws.waits refl (ap (λ (x : Scene). x.waits) value))
-        (subst (λ n. AreFormed n p.objects.objects q.seen.bodies) (sym clock) (formed_settled scene q.seen ws.waits value p.waits.clock p.objects.objects sound.formed))
+        (counted_settled p.objects.seen (length p.objects.objects) p.tables.tables p.waits.waits sound.counted
+        p.objects.seen.bodies q.seen ws.waits value)
+        (named_settled p.objects.objects p.tables.tables p.waits.waits sound.named scene ws.waits refl
+        (ap (λ (x : Scene). x.waits) value))
+        (subst (λ n. AreFormed n p.objects.objects q.seen.bodies) (sym clock)
+        (formed_settled scene q.seen ws.waits value p.waits.clock p.objects.objects sound.formed))
         (of_live_settled scene q.seen ws.waits value p.processes.threads sound.of_live)
         room;
     settled = quiet;
@@ -71,8 +84,10 @@ module _ (p : PartsState) (q : ObjectsState) (ws : WaitList)
     -- what is to end has ended
     ends_are : ended (objects_of s) ≡ p.objects.seen
     ends_are =
-        let counted : p.objects.seen ≡ objects_of (record s { bodies = p.objects.seen.bodies }) = objects_are p sound ∙ ap objects_of way.rest in
-        let objects : objects_of s ≡ record p.objects.seen { bodies = s.bodies } = ap (λ (x : Objects). record x { bodies = s.bodies }) (sym counted) in
+        let counted : p.objects.seen ≡ objects_of (record s { bodies = p.objects.seen.bodies }) =
+        objects_are p sound ∙ ap objects_of way.rest in
+        let objects : objects_of s ≡ record p.objects.seen { bodies = s.bodies } =
+        ap (λ (x : Objects). record x { bodies = s.bodies }) (sym counted) in
         ap ended objects ∙ ended_gone p.objects.seen s.bodies way.tied.bodied way.bodies
 
     named_of : IsNamed s.objects s.tables s.waits
@@ -82,13 +97,16 @@ module _ (p : PartsState) (q : ObjectsState) (ws : WaitList)
     way_state =
         state_rested p p.processes q ws p.signaled rest
         ∙ (λ i. record (state_of p) { bodies = (value i).objects.bodies; waits = (value i).waits; clock = clock i })
-        ∙ ap (λ (x : State). with_scene x (waits.settled (record { objects = p.objects.seen; waits = x.waits }))) way.rest
+        ∙ ap (λ (x : State). with_scene x (waits.settled (record { objects = p.objects.seen; waits = x.waits })))
+        way.rest
         ∙ ap (λ (x : Objects). with_scene s (waits.settled (record { objects = x; waits = s.waits }))) (sym ends_are)
         ∙ sym (ends_before s named_of)
 
 -- where no wait is ready, the state is settled as it is
-pub way_still : (first : KeeperState) (p : PartsState) (s : State) → IsUnderWay first p s → IsSettled p.objects.seen.bodies p.waits.waits → state_of p ≡ settled s
-way_still first p s way quiet = way_state p p.objects p.waits way.sound (sym (settled_same (record { objects = p.objects.seen; waits = p.waits.waits }) quiet)) refl refl refl first s way
+pub way_still : (first : KeeperState) (p : PartsState) (s : State) → IsUnderWay first p s
+    → IsSettled p.objects.seen.bodies p.waits.waits → state_of p ≡ settled s
+way_still first p s way quiet = way_state p p.objects p.waits way.sound
+    (sym (settled_same (record { objects = p.objects.seen; waits = p.waits.waits }) quiet)) refl refl refl first s way
 
 -- a call changed a body
 module _ (p : PartsState) (q : ObjectsState) (id : Id) (old new : Body)
@@ -107,11 +125,20 @@ module _ (p : PartsState) (q : ObjectsState) (id : Id) (old new : Body)
   way_put tied = record {
     tied = tied;
     sound = sound_rested p p.processes q p.waits p.signaled rest kept.sound refl kept.sound.processes_kept
-        (record { handles = ap (λ (x : Objects). x.handles) put ∙ kept.sound.counted.handles; blocks = ap (λ (x : Objects). x.blocks) put ∙ kept.sound.counted.blocks })
+        (record {
+          handles = ap (λ (x : Objects). x.handles) put ∙ kept.sound.counted.handles;
+          blocks = ap (λ (x : Objects). x.blocks) put ∙ kept.sound.counted.blocks;
+        })
         kept.sound.named
-        (subst (λ (x : List (Option Body)). AreFormed p.waits.clock p.objects.objects x) (sym put_bodies) (formed_put p.objects.seen.bodies id.slot old new p.waits.clock there yields p.objects.objects kept.sound.formed))
-        (subst (λ (x : List (Option Body)). AreOfLive p.processes.threads x p.waits.waits) (sym put_bodies) (of_live_put p.objects.seen.bodies id.slot old new p.waits.clock there yields p.processes.threads p.waits.waits kept.sound.of_live))
-        (subst (λ (x : List (Option Body)). WaitsHaveRoom p.limits.max_recursion x p.waits.waits) (sym put_bodies) (room_put p.objects.seen.bodies id.slot old new p.waits.clock there yields p.limits.max_recursion p.waits.waits kept.sound.room));
+        (subst (λ (x : List (Option Body)). AreFormed p.waits.clock p.objects.objects x) (sym put_bodies)
+        (formed_put p.objects.seen.bodies id.slot old new p.waits.clock there yields p.objects.objects
+        kept.sound.formed))
+        (subst (λ (x : List (Option Body)). AreOfLive p.processes.threads x p.waits.waits) (sym put_bodies)
+        (of_live_put p.objects.seen.bodies id.slot old new p.waits.clock there yields p.processes.threads
+        p.waits.waits kept.sound.of_live))
+        (subst (λ (x : List (Option Body)). WaitsHaveRoom p.limits.max_recursion x p.waits.waits) (sym put_bodies)
+        (room_put p.objects.seen.bodies id.slot old new p.waits.clock there yields p.limits.max_recursion
+        p.waits.waits kept.sound.room));
     rest = state_rested p p.processes q p.waits p.signaled rest;
     bodies = subst (λ (x : List (Option Body)). AreLeft x q.seen.bodies) put_bodies (left_same q.seen.bodies);
     keeper = ap (λ (r : KeptRest). r.keeper) rest;
@@ -119,19 +146,26 @@ module _ (p : PartsState) (q : ObjectsState) (id : Id) (old new : Body)
 
   -- each wait that is ready then is for the object
   pub ready : IsReadyAt id.slot q.seen.bodies p.waits.waits
-  ready = subst (λ (x : List (Option Body)). IsReadyAt id.slot x p.waits.waits) (sym put_bodies) (ready_at_change p.objects.seen.bodies p.waits.waits id.slot (Some new) kept.settled)
+  ready = subst (λ (x : List (Option Body)). IsReadyAt id.slot x p.waits.waits) (sym put_bodies)
+      (ready_at_change p.objects.seen.bodies p.waits.waits id.slot (Some new) kept.settled)
 
   -- nothing is signaled by it that wasn't: so nothing settles
-  pub settled_put_less : ((t : ℕ) → is_signaled t new ≡ true → is_signaled t old ≡ true) → IsSettled q.seen.bodies p.waits.waits
+  pub settled_put_less : ((t : ℕ) → is_signaled t new ≡ true → is_signaled t old ≡ true)
+      → IsSettled q.seen.bodies p.waits.waits
   settled_put_less less = subst (λ (x : List (Option Body)). IsSettled x p.waits.waits) (sym put_bodies)
-      (settled_less p.objects.seen.bodies bodies p.waits.waits (less_put p.objects.seen.bodies id.slot old new p.waits.clock there yields less) kept.settled)
+      (settled_less p.objects.seen.bodies bodies p.waits.waits
+      (less_put p.objects.seen.bodies id.slot old new p.waits.clock there yields less) kept.settled)
 
   -- no pending wait is for it: so nothing settles
-  pub settled_unblocked : IsTied p.objects → get_or p.objects.seen.blocks id.slot 0 ≡ 0 → IsSettled q.seen.bodies p.waits.waits
-  settled_unblocked tied none = subst (λ (x : List (Option Body)). IsSettled x p.waits.waits) (sym put_bodies) (settled_unnamed p.objects.seen.bodies p.waits.waits id.slot (Some new) unnamed kept.settled)
+  pub settled_unblocked : IsTied p.objects → get_or p.objects.seen.blocks id.slot 0 ≡ 0
+      → IsSettled q.seen.bodies p.waits.waits
+  settled_unblocked tied none = subst (λ (x : List (Option Body)). IsSettled x p.waits.waits) (sym put_bodies)
+      (settled_unnamed p.objects.seen.bodies p.waits.waits id.slot (Some new) unnamed kept.settled)
     where
       within : id.slot < length p.objects.objects
-      within = let lt = body_within p.objects id.slot (ap is_some there) tied.agreed in let long = tied.agreed.long in omega (arith, lt, long)
+      within = let lt = body_within p.objects id.slot (ap is_some there) tied.agreed in let long = tied.agreed.long in
+          omega (arith, lt, long)
 
       unnamed : slot_blocks id.slot p.waits.waits ≡ 0
-      unnamed = sym (blocks_at p.objects.seen (length p.objects.objects) p.tables.tables p.waits.waits kept.sound.counted id.slot within) ∙ none
+      unnamed = sym (blocks_at p.objects.seen (length p.objects.objects) p.tables.tables p.waits.waits
+          kept.sound.counted id.slot within) ∙ none

@@ -42,21 +42,29 @@ use Rattle.ob_store.proofs.NamedLaws.{named_fewer}
 use Rattle.ob_store.proofs.LeftLaws.{formed_left, left_blocks, less_gone, room_left_at}
 
 -- what of each thread's waits stays live when one goes
-set_waiters : (threads : List (Option ℕ)) (ws : List (Option Wait)) (n : ℕ) (x : Option Wait) → ((t : ℕ) → thread_of x ≡ Some t → thread_of (get_or ws n None) ≡ Some t)
-    → ((m t : ℕ) → thread_of (get_or ws m None) ≡ Some t → IsLive threads t) → (m t : ℕ) → thread_of (get_or (set ws n x) m None) ≡ Some t → IsLive threads t
+set_waiters : (threads : List (Option ℕ)) (ws : List (Option Wait)) (n : ℕ) (x : Option Wait)
+    → ((t : ℕ) → thread_of x ≡ Some t → thread_of (get_or ws n None) ≡ Some t)
+    → ((m t : ℕ) → thread_of (get_or ws m None) ≡ Some t → IsLive threads t) → (m t : ℕ)
+    → thread_of (get_or (set ws n x) m None) ≡ Some t → IsLive threads t
 set_waiters threads ws n x own live m t h = elim (cases_eq m n) [
   | inl same ↦ elim (cases_lt n (length ws)) [
-    | inl lt ↦ live n t (own t (sym (ap thread_of (ap (λ i. get_or (set ws n x) i None) same ∙ get_or-set_same ws n x None lt)) ∙ h))
-    | inr past ↦ absurd (let e = ap thread_of (get_or_past (set ws n x) m None (omega (arith, length-set ws n x))) in cc (e, h))
+    | inl lt ↦ live n t (own t (sym (ap thread_of (ap (λ i. get_or (set ws n x) i None) same
+        ∙ get_or-set_same ws n x None lt)) ∙ h))
+    | inr past ↦ absurd (let e = ap thread_of (get_or_past (set ws n x) m None (omega (arith, length-set ws n x))) in
+        cc (e, h))
   ]
   | inr other ↦ live m t (sym (ap thread_of (get_or-set_other ws n m x None other)) ∙ h)
 ]
 
 -- a new wait, of a live thread
-of_live_waiting : (threads : List (Option ℕ)) (bodies : List (Option Body)) (ws : List (Option Wait)) (t : ℕ) (mode : Mode) (ids : List Id) (d : Option ℕ) → IsLive threads t → AreOfLive threads bodies ws → AreOfLive threads bodies (ws ++ Some (new_wait t mode ids d) ∷ [])
+of_live_waiting : (threads : List (Option ℕ)) (bodies : List (Option Body)) (ws : List (Option Wait)) (t : ℕ)
+    (mode : Mode) (ids : List Id) (d : Option ℕ) → IsLive threads t → AreOfLive threads bodies ws
+    → AreOfLive threads bodies (ws ++ Some (new_wait t mode ids d) ∷ [])
 of_live_waiting threads bodies ws t mode ids d live l = record {
   owners = l.owners;
-  waiters = λ n u h. by_number ws (new_wait t mode ids d) (λ n x. thread_of x ≡ Some u → IsLive threads u) (λ n lt. l.waiters n u) (λ same. let e : t ≡ u = cc in subst (λ v. IsLive threads v) e live) (λ n past none. absurd (cc)) n h;
+  waiters = λ n u h. by_number ws (new_wait t mode ids d) (λ n x. thread_of x ≡ Some u
+      → IsLive threads u) (λ n lt. l.waiters n u) (λ same. let e : t ≡ u = cc in
+      subst (λ v. IsLive threads v) e live) (λ n past none. absurd (cc)) n h;
 }
 
 has_new : (ws : List (Option Wait)) (w : Wait) → HasWait w.thread (ws ++ Some w ∷ [])
@@ -67,19 +75,24 @@ has_new ws w = (length ws, by ws)
     by (x ∷ xs) = by xs
 
 -- a live thread takes at once what it waits for
-of_live_taken : (threads : List (Option ℕ)) (bodies : List (Option Body)) (ws : List (Option Wait)) (t : ℕ) (mode : Mode) (ids : List Id) → IsLive threads t → AreOfLive threads bodies ws → AreOfLive threads (bodies_after mode t bodies ids) ws
+of_live_taken : (threads : List (Option ℕ)) (bodies : List (Option Body)) (ws : List (Option Wait)) (t : ℕ)
+    (mode : Mode) (ids : List Id) → IsLive threads t → AreOfLive threads bodies ws
+    → AreOfLive threads (bodies_after mode t bodies ids) ws
 of_live_taken threads bodies ws t mode ids live l =
     let more = ws ++ Some (new_wait t mode ids None) ∷ [] in
     let waiting = of_live_waiting threads bodies ws t mode ids None live l in
     record {
-      owners = λ k u h. elim ((taken more t (has_new ws (new_wait t mode ids None)) mode ids bodies k).owner u h) [ inl old ↦ l.owners k u old | inr waits ↦ waiting.waiters waits.0 u waits.1 ];
+      owners = λ k u h. elim ((taken more t (has_new ws (new_wait t mode ids None)) mode ids bodies k).owner u h)
+          [ inl old ↦ l.owners k u old | inr waits ↦ waiting.waiters waits.0 u waits.1 ];
       waiters = l.waiters;
     }
 
-formed_taken : (clock : ℕ) (objects : List (Option Object)) (bodies : List (Option Body)) (t : ℕ) (mode : Mode) (ids : List Id) → AreFormed clock objects bodies → AreFormed clock objects (bodies_after mode t bodies ids)
+formed_taken : (clock : ℕ) (objects : List (Option Object)) (bodies : List (Option Body)) (t : ℕ) (mode : Mode)
+    (ids : List Id) → AreFormed clock objects bodies → AreFormed clock objects (bodies_after mode t bodies ids)
 formed_taken clock objects bodies t mode ids f =
     let w = new_wait t mode ids None in
-    formed_by clock objects bodies (bodies_after mode t bodies ids) (λ k h. (taken (Some w ∷ []) t (has_new [] w) mode ids bodies k).form h) f
+    formed_by clock objects bodies (bodies_after mode t bodies ids)
+    (λ k h. (taken (Some w ∷ []) t (has_new [] w) mode ids bodies k).form h) f
 
 -- a thread took at once what it waits for
 module _ (p : PartsState) (q : ObjectsState) (t : ℕ) (mode : Mode) (ids : List Id)
@@ -94,16 +107,25 @@ module _ (p : PartsState) (q : ObjectsState) (t : ℕ) (mode : Mode) (ids : List
   kept_taken : IsKept (record p { objects = q })
   kept_taken = record {
     sound = sound_rested p p.processes q p.waits p.signaled rest kept.sound refl kept.sound.processes_kept
-        (record { handles = ap (λ (x : Objects). x.handles) seen ∙ kept.sound.counted.handles; blocks = ap (λ (x : Objects). x.blocks) seen ∙ kept.sound.counted.blocks })
+        (record {
+          handles = ap (λ (x : Objects). x.handles) seen ∙ kept.sound.counted.handles;
+          blocks = ap (λ (x : Objects). x.blocks) seen ∙ kept.sound.counted.blocks;
+        })
         kept.sound.named
-        (subst (λ (bs : List (Option Body)). AreFormed p.waits.clock p.objects.objects bs) (sym bodies_are) (formed_taken p.waits.clock p.objects.objects p.objects.seen.bodies t mode ids kept.sound.formed))
-        (subst (λ (bs : List (Option Body)). AreOfLive p.processes.threads bs p.waits.waits) (sym bodies_are) (of_live_taken p.processes.threads p.objects.seen.bodies p.waits.waits t mode ids live kept.sound.of_live))
-        (subst (λ (bs : List (Option Body)). WaitsHaveRoom p.limits.max_recursion bs p.waits.waits) (sym bodies_are) (room_now p.limits.max_recursion mode t p.objects.seen.bodies ids p.waits.waits alone kept.sound.room));
-    settled = subst (λ (bs : List (Option Body)). IsSettled bs p.waits.waits) (sym bodies_are) (settled_now mode t p.objects.seen.bodies ids p.waits.waits kept.settled);
+        (subst (λ (bs : List (Option Body)). AreFormed p.waits.clock p.objects.objects bs) (sym bodies_are)
+        (formed_taken p.waits.clock p.objects.objects p.objects.seen.bodies t mode ids kept.sound.formed))
+        (subst (λ (bs : List (Option Body)). AreOfLive p.processes.threads bs p.waits.waits) (sym bodies_are)
+        (of_live_taken p.processes.threads p.objects.seen.bodies p.waits.waits t mode ids live kept.sound.of_live))
+        (subst (λ (bs : List (Option Body)). WaitsHaveRoom p.limits.max_recursion bs p.waits.waits) (sym bodies_are)
+        (room_now p.limits.max_recursion mode t p.objects.seen.bodies ids p.waits.waits alone kept.sound.room));
+    settled = subst (λ (bs : List (Option Body)). IsSettled bs p.waits.waits) (sym bodies_are)
+        (settled_now mode t p.objects.seen.bodies ids p.waits.waits kept.settled);
   }
 
   taken_state : IsTied q → state_of (record p { objects = q }) ≡ settled (with_taken (state_of p) t mode ids)
-  taken_state tied = sym (settled_kept (record p { objects = q }) kept_taken tied) ∙ ap settled (state_rested p p.processes q p.waits p.signaled rest ∙ ap (λ (bs : List (Option Body)). record (state_of p) { bodies = bs }) bodies_are)
+  taken_state tied = sym (settled_kept (record p { objects = q }) kept_taken tied)
+      ∙ ap settled (state_rested p p.processes q p.waits p.signaled rest
+      ∙ ap (λ (bs : List (Option Body)). record (state_of p) { bodies = bs }) bodies_are)
 
 -- where a thread's wait was satisfied it took, and else nothing changed
 module _ (p : PartsState) (q : ObjectsState) (t : ℕ) (mode : Mode) (ids : List Id)
@@ -112,39 +134,47 @@ module _ (p : PartsState) (q : ObjectsState) (t : ℕ) (mode : Mode) (ids : List
     (alone : number_of t p.waits.waits ≡ None)
     (live : IsLive p.processes.threads t)
     (seen : q.seen ≡ objects_now mode t p.objects.seen ids) where
-  took : (code : ℕ) → Some code ≡ code_now mode t p.objects.seen.bodies ids → q.seen ≡ record p.objects.seen { bodies = bodies_after mode t p.objects.seen.bodies ids }
+  took : (code : ℕ) → Some code ≡ code_now mode t p.objects.seen.bodies ids
+      → q.seen ≡ record p.objects.seen { bodies = bodies_after mode t p.objects.seen.bodies ids }
   took code is = seen ∙ taken_now mode t p.objects.seen ids (ready_now mode t p.objects.seen.bodies ids code is)
 
-  pub kept_now : (code : Option ℕ) → code ≡ code_now mode t p.objects.seen.bodies ids → IfNone code (q ≡ p.objects) → IsKept (record p { objects = q })
+  pub kept_now : (code : Option ℕ) → code ≡ code_now mode t p.objects.seen.bodies ids → IfNone code (q ≡ p.objects)
+      → IsKept (record p { objects = q })
   kept_now None is same = subst (λ (z : ObjectsState). IsKept (record p { objects = z })) (sym same) kept
   kept_now (Some code) is same = kept_taken p q t mode ids kept rest alone live (took code is)
 
-  pub state_now : (code : Option ℕ) → code ≡ code_now mode t p.objects.seen.bodies ids → IsTied q → OnSome code (state_of (record p { objects = q }) ≡ settled (with_taken (state_of p) t mode ids))
+  pub state_now : (code : Option ℕ) → code ≡ code_now mode t p.objects.seen.bodies ids → IsTied q
+      → OnSome code (state_of (record p { objects = q }) ≡ settled (with_taken (state_of p) t mode ids))
   state_now None is tied = tt
   state_now (Some code) is tied = taken_state p q t mode ids kept rest alone live (took code is) tied
 
 -- what holds of each of some Ids holds of one that is among them
-among : (P : Id → Type 0) (ids : List Id) → ((i : ℕ) → i < length ids → P (get_or ids i nowhere)) → (id : Id) → 0 < count_by (same_id id) ids → P id
+among : (P : Id → Type 0) (ids : List Id) → ((i : ℕ) → i < length ids → P (get_or ids i nowhere)) → (id : Id)
+    → 0 < count_by (same_id id) ids → P id
 among P [] each id h = absurd (omega (arith, h))
 among P (x ∷ ids) each id h = by (same_id id x) refl (among P ids (λ i lt. each (suc i) (omega arith)) id)
   where
     by : (b : Bool) → same_id id x ≡ b → (0 < count_by (same_id id) ids → P id) → P id
     by true is rest = subst (λ (y : Id). P y) (sym (one_id id x is)) (each 0 (omega arith))
-    by false is rest = let zero_one : cond (same_id id x) 1 0 ≡ 0 = ap {B = ℕ} (λ b. cond b 1 0) is in rest (omega (arith, sum_by-cons (λ y. cond (same_id id y) 1 0) x ids, zero_one, h))
+    by false is rest = let zero_one : cond (same_id id x) 1 0 ≡ 0 = ap {B = ℕ} (λ b. cond b 1 0) is in
+        rest (omega (arith, sum_by-cons (λ y. cond (same_id id y) 1 0) x ids, zero_one, h))
 
 -- a wait that isn't satisfied now became pending
 module _ (p : PartsState) (t : ℕ) (mode : Mode) (ids : List Id) (d : Option ℕ)
     (kept : IsKept p)
     (there : (i : ℕ) → i < length ids → 0 < handles_among (get_or ids i nowhere) p.tables.tables) where
   -- its objects have bodies
-  pub listed_bodies : IsTied p.objects → (i : ℕ) → i < length ids → IsSome (get_or p.objects.seen.bodies (get_or ids i nowhere).slot None)
+  pub listed_bodies : IsTied p.objects → (i : ℕ) → i < length ids
+      → IsSome (get_or p.objects.seen.bodies (get_or ids i nowhere).slot None)
   listed_bodies tied i lt = handled p (get_or ids i nowhere) kept.sound tied (there i lt)
 
   -- and the counts of blocks have room
-  pub few_blocks : rules.IsKept p.waits.waits → length p.waits.waits ≤ 4294967296 → (k : ℕ) → get_or p.objects.seen.blocks k 0 + 64 ≤ 18446744073709551615
+  pub few_blocks : rules.IsKept p.waits.waits → length p.waits.waits ≤ 4294967296 → (k : ℕ)
+      → get_or p.objects.seen.blocks k 0 + 64 ≤ 18446744073709551615
   few_blocks each few k =
       let all = slot_blocks-few k p.waits.waits each in
-      let most = count_few p.objects.seen.blocks (length p.objects.objects) (λ i. slot_blocks i p.waits.waits) k kept.sound.counted.blocks in
+      let most = count_few p.objects.seen.blocks (length p.objects.objects)
+      (λ i. slot_blocks i p.waits.waits) k kept.sound.counted.blocks in
       omega (arith, few, most, all)
 
   abbrev more : WaitList
@@ -153,16 +183,24 @@ module _ (p : PartsState) (t : ℕ) (mode : Mode) (ids : List Id) (d : Option �
   abbrev pub waiting : PartsState
   waiting = record p { objects = with_blocks_of p.objects ids; waits = waits.with_wait p.waits t mode ids d }
 
-  came : with_blocks_of p.objects ids ≡ record p.objects { seen = record p.objects.seen { blocks = (with_blocks_of p.objects ids).seen.blocks } }
+  came : with_blocks_of p.objects ids ≡ record p.objects {
+    seen =
+        record p.objects.seen { blocks = (with_blocks_of p.objects ids).seen.blocks };
+  }
   came = came_stays ids p.objects
 
-  counted_after : IsCounted (record p.objects.seen { blocks = (with_blocks_of p.objects ids).seen.blocks }) (length p.objects.objects) p.tables.tables (waits.with_wait p.waits t mode ids d).waits
+  counted_after : IsCounted (record p.objects.seen { blocks = (with_blocks_of p.objects ids).seen.blocks })
+      (length p.objects.objects) p.tables.tables (waits.with_wait p.waits t mode ids d).waits
   counted_after = record {
     handles = kept.sound.counted.handles;
-    blocks = recounted p.objects.seen.blocks (with_blocks_of p.objects ids).seen.blocks (length p.objects.objects) (λ k. slot_blocks k p.waits.waits) (λ k. slot_blocks k more.waits) kept.sound.counted.blocks (came_long ids p.objects)
+    blocks = recounted p.objects.seen.blocks (with_blocks_of p.objects ids).seen.blocks (length p.objects.objects)
+        (λ k. slot_blocks k p.waits.waits) (λ k. slot_blocks k more.waits) kept.sound.counted.blocks
+        (came_long ids p.objects)
         (λ k lt.
-        let at = blocks_at p.objects.seen (length p.objects.objects) p.tables.tables p.waits.waits kept.sound.counted k lt in
-        let long = blocks_long p.objects.seen (length p.objects.objects) p.tables.tables p.waits.waits kept.sound.counted in
+        let at = blocks_at p.objects.seen (length p.objects.objects) p.tables.tables p.waits.waits kept.sound.counted k
+        lt in
+        let long = blocks_long p.objects.seen (length p.objects.objects) p.tables.tables p.waits.waits
+        kept.sound.counted in
         let x = came_counts ids p.objects k (omega (arith, long, lt)) in
         let y = slot_added k p.waits.waits t mode ids d in
         omega (arith, at, x, y));
@@ -172,22 +210,32 @@ module _ (p : PartsState) (t : ℕ) (mode : Mode) (ids : List Id) (d : Option �
   named_after = record {
     entries = kept.sound.named.entries;
     blocks = λ id h. elim (cases_lt 0 (count_by (same_id id) ids)) [
-      | inl some ↦ kept.sound.named.entries id (among (λ (x : Id). 0 < handles_among x p.tables.tables) ids there id some)
-      | inr none ↦ (let x = blocks_added id p.waits.waits t mode ids d in kept.sound.named.blocks id (omega (arith, x, h, none)))
+      | inl some ↦ kept.sound.named.entries id (among
+          (λ (x : Id). 0 < handles_among x p.tables.tables) ids there id some)
+      | inr none ↦ (let x = blocks_added id p.waits.waits t mode ids d in
+          kept.sound.named.blocks id (omega (arith, x, h, none)))
     ];
   }
 
-  pub kept_waiting : HasRoom p.limits.max_recursion t p.objects.seen.bodies ids → IsLive p.processes.threads t → list_ready mode t p.objects.seen.bodies ids ≡ false → IsKept waiting
-  kept_waiting room live unready = subst (λ (z : ObjectsState). IsKept (record p { objects = z; waits = more })) (sym came) (record {
-    sound = sound_rested p p.processes (record p.objects { seen = record p.objects.seen { blocks = (with_blocks_of p.objects ids).seen.blocks } }) more p.signaled refl kept.sound refl kept.sound.processes_kept counted_after named_after kept.sound.formed
-        (of_live_waiting p.processes.threads p.objects.seen.bodies p.waits.waits t mode ids d live kept.sound.of_live)
-        (room_added p.limits.max_recursion p.objects.seen.bodies p.waits.waits t mode ids d room kept.sound.room);
-    settled = settled_added p.objects.seen.bodies p.waits.waits t mode ids d unready kept.settled;
-  })
+  pub kept_waiting : HasRoom p.limits.max_recursion t p.objects.seen.bodies ids → IsLive p.processes.threads t
+      → list_ready mode t p.objects.seen.bodies ids ≡ false → IsKept waiting
+  kept_waiting room live unready = subst (λ (z : ObjectsState). IsKept (record p { objects = z; waits = more }))
+      (sym came) (record {
+        sound = sound_rested p p.processes (record p.objects {
+          seen =
+              record p.objects.seen { blocks = (with_blocks_of p.objects ids).seen.blocks };
+        }) more p.signaled refl kept.sound
+            refl kept.sound.processes_kept counted_after named_after kept.sound.formed
+            (of_live_waiting p.processes.threads p.objects.seen.bodies p.waits.waits t mode ids d live kept.sound.of_live)
+            (room_added p.limits.max_recursion p.objects.seen.bodies p.waits.waits t mode ids d room kept.sound.room);
+        settled = settled_added p.objects.seen.bodies p.waits.waits t mode ids d unready kept.settled;
+      })
 
-  pub whole_waiting : IsKept waiting → IsTied (with_blocks_of p.objects ids) → whole_of waiting ≡ record (whole_of p) { state = settled (with_wait (state_of p) t mode ids d) }
+  pub whole_waiting : IsKept waiting → IsTied (with_blocks_of p.objects ids)
+      → whole_of waiting ≡ record (whole_of p) { state = settled (with_wait (state_of p) t mode ids d) }
   whole_waiting after tied =
-      let same : state_of waiting ≡ with_wait (state_of p) t mode ids d = ap (λ (z : ObjectsState). state_of (record p { objects = z; waits = more })) came in
+      let same : state_of waiting ≡ with_wait (state_of p) t mode ids d =
+      ap (λ (z : ObjectsState). state_of (record p { objects = z; waits = more })) came in
       let is = sym (settled_kept waiting after tied) ∙ ap settled same in
       λ i. record { state = is i; keeper = (came i).keeper }
 
@@ -215,12 +263,16 @@ module _ (p : PartsState) (q : ObjectsState) (n code : ℕ) (ids : List Id)
 
   counted_left : IsCounted q.seen (length p.objects.objects) p.tables.tables (waits.with_answer p.waits n code).waits
   counted_left = record {
-    handles = ap (λ (x : Objects). x.handles) seen ∙ (sizes_left ids p.objects.seen).handles ∙ kept.sound.counted.handles;
-    blocks = recounted p.objects.seen.blocks q.seen.blocks (length p.objects.objects) (λ k. slot_blocks k p.waits.waits) (λ k. slot_blocks k after) kept.sound.counted.blocks
+    handles = ap (λ (x : Objects). x.handles) seen ∙ (sizes_left ids p.objects.seen).handles
+        ∙ kept.sound.counted.handles;
+    blocks = recounted p.objects.seen.blocks q.seen.blocks (length p.objects.objects) (λ k. slot_blocks k p.waits.waits)
+        (λ k. slot_blocks k after) kept.sound.counted.blocks
         (ap (λ (x : Objects). length x.blocks) seen ∙ (sizes_left ids p.objects.seen).blocks)
         (λ k lt.
-        let at = blocks_at p.objects.seen (length p.objects.objects) p.tables.tables p.waits.waits kept.sound.counted k lt in
-        let x : get_or q.seen.blocks k 0 ≡ get_or (without_blocks p.objects.seen ids).blocks k 0 = ap (λ (z : Objects). get_or z.blocks k 0) seen in
+        let at = blocks_at p.objects.seen (length p.objects.objects) p.tables.tables p.waits.waits kept.sound.counted k
+        lt in
+        let x : get_or q.seen.blocks k 0 ≡ get_or (without_blocks p.objects.seen ids).blocks k 0 =
+        ap (λ (z : Objects). get_or z.blocks k 0) seen in
         let y = left_all ids p.objects.seen k in
         let z = slot_answered k p.waits.waits n code in
         let e : slot_places k ids ≡ slot_places k (ids_of (get_or p.waits.waits n None)) = ap (slot_places k) are in
@@ -230,43 +282,64 @@ module _ (p : PartsState) (q : ObjectsState) (n code : ℕ) (ids : List Id)
   pub way_expired : IsTied q → IsUnderWay p.objects.keeper expired (with_answer (state_of p) n code)
   way_expired tied = record {
     tied = tied;
-    sound = sound_rested p p.processes q (waits.with_answer p.waits n code) p.signaled rest kept.sound refl kept.sound.processes_kept counted_left
-        (named_fewer p.objects.objects p.tables.tables p.tables.tables p.waits.waits after (λ id. omega arith) (λ id. let x = blocks_answered id p.waits.waits n code in omega (arith, x)) kept.sound.named)
+    sound = sound_rested p p.processes q (waits.with_answer p.waits n code) p.signaled rest kept.sound refl
+        kept.sound.processes_kept counted_left
+        (named_fewer p.objects.objects p.tables.tables p.tables.tables p.waits.waits after (λ id. omega arith)
+        (λ id. let x = blocks_answered id p.waits.waits n code in omega (arith, x)) kept.sound.named)
         (formed_left p.waits.clock p.objects.objects p.objects.seen.bodies q.seen.bodies fewer kept.sound.formed)
         (record {
-          owners = λ k u h. elim (fewer.each k) [ inl same ↦ kept.sound.of_live.owners k u (sym (ap slot_owner same) ∙ h) | inr none ↦ absurd (let e = ap slot_owner none in cc (e, h)) ];
-          waiters = set_waiters p.processes.threads p.waits.waits n (answered (get_or p.waits.waits n None) code) (λ u h. answered_thread (get_or p.waits.waits n None) code u h) kept.sound.of_live.waiters;
+          owners = λ k u h. elim (fewer.each k) [
+            | inl same ↦
+                kept.sound.of_live.owners k u (sym (ap slot_owner same) ∙ h)
+            | inr none ↦
+                absurd (let e = ap slot_owner none in cc (e, h))
+          ];
+          waiters = set_waiters p.processes.threads p.waits.waits n (answered (get_or p.waits.waits n None) code)
+              (λ u h. answered_thread (get_or p.waits.waits n None) code u h) kept.sound.of_live.waiters;
         })
-        (room_answered limit q.seen.bodies p.waits.waits n code (room_changed limit p.objects.seen.bodies q.seen.bodies p.waits.waits (λ u k h. room_left_at limit u p.objects.seen.bodies q.seen.bodies k fewer h) kept.sound.room));
+        (room_answered limit q.seen.bodies p.waits.waits n code
+        (room_changed limit p.objects.seen.bodies q.seen.bodies p.waits.waits
+        (λ u k h. room_left_at limit u p.objects.seen.bodies q.seen.bodies k fewer h) kept.sound.room));
     rest = state_rested p p.processes q (waits.with_answer p.waits n code) p.signaled rest;
     bodies = fewer;
     keeper = ap (λ (r : KeptRest). r.keeper) rest;
   }
 
   pub settled_expired : IsSettled q.seen.bodies (waits.with_answer p.waits n code).waits
-  settled_expired = settled_answered q.seen.bodies p.waits.waits n code (settled_less p.objects.seen.bodies q.seen.bodies p.waits.waits (less_gone p.objects.seen.bodies q.seen.bodies fewer) kept.settled)
+  settled_expired = settled_answered q.seen.bodies p.waits.waits n code
+      (settled_less p.objects.seen.bodies q.seen.bodies p.waits.waits
+      (less_gone p.objects.seen.bodies q.seen.bodies fewer) kept.settled)
 
 -- a wait that was answered is over
 abbrev pub over : PartsState → ℕ → PartsState
 over p n = record p { waits = waits.without_wait p.waits n }
 
-pub kept_over : (p : PartsState) (n code : ℕ) → IsKept p → code_at (get_or p.waits.waits n None) ≡ Some code → IsKept (over p n)
+pub kept_over : (p : PartsState) (n code : ℕ) → IsKept p → code_at (get_or p.waits.waits n None) ≡ Some code
+    → IsKept (over p n)
 kept_over p n code kept is =
     let gone = waits.without_wait p.waits n in
     record {
       sound = sound_rested p p.processes p.objects gone p.signaled refl kept.sound refl kept.sound.processes_kept
           (record {
             handles = kept.sound.counted.handles;
-            blocks = recounted p.objects.seen.blocks p.objects.seen.blocks (length p.objects.objects) (λ k. slot_blocks k p.waits.waits) (λ k. slot_blocks k gone.waits) kept.sound.counted.blocks refl
+            blocks = recounted p.objects.seen.blocks p.objects.seen.blocks (length p.objects.objects)
+                (λ k. slot_blocks k p.waits.waits) (λ k. slot_blocks k gone.waits) kept.sound.counted.blocks refl
                 (λ k lt.
-                let at = blocks_at p.objects.seen (length p.objects.objects) p.tables.tables p.waits.waits kept.sound.counted k lt in
+                let at = blocks_at p.objects.seen (length p.objects.objects) p.tables.tables p.waits.waits
+                kept.sound.counted k lt in
                 let x = slot_removed k p.waits.waits n in
-                let none : slot_places k (ids_of (get_or p.waits.waits n None)) ≡ 0 = ap (slot_places k) (answered_ids (get_or p.waits.waits n None) code is) in
+                let none : slot_places k (ids_of (get_or p.waits.waits n None)) ≡ 0 =
+                ap (slot_places k) (answered_ids (get_or p.waits.waits n None) code is) in
                 omega (arith, at, x, none));
           })
-          (named_fewer p.objects.objects p.tables.tables p.tables.tables p.waits.waits gone.waits (λ id. omega arith) (λ id. let x = blocks_removed id p.waits.waits n in omega (arith, x)) kept.sound.named)
+          (named_fewer p.objects.objects p.tables.tables p.tables.tables p.waits.waits gone.waits (λ id. omega arith)
+          (λ id. let x = blocks_removed id p.waits.waits n in omega (arith, x)) kept.sound.named)
           kept.sound.formed
-          (record { owners = kept.sound.of_live.owners; waiters = set_waiters p.processes.threads p.waits.waits n None (λ u h. absurd (cc)) kept.sound.of_live.waiters })
+          (record {
+            owners = kept.sound.of_live.owners;
+            waiters = set_waiters p.processes.threads p.waits.waits n None
+                (λ u h. absurd (cc)) kept.sound.of_live.waiters;
+          })
           (room_removed p.limits.max_recursion p.objects.seen.bodies p.waits.waits n kept.sound.room);
       settled = settled_removed p.objects.seen.bodies p.waits.waits n kept.settled;
     }

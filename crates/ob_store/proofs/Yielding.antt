@@ -15,7 +15,8 @@ use Rattle.ob_store.specs.Kept.{Yields, unset}
 use Rattle.ob_store.proofs.BodyLaws.{due_same}
 
 -- a body whose form stays, with its due moment
-yields_by : (clock : ℕ) (old new : Body) → form_of new ≡ form_of old → ((t : ℕ) → owner_of new ≡ Some t → owner_of old ≡ Some t)
+yields_by : (clock : ℕ) (old new : Body) → form_of new ≡ form_of old
+    → ((t : ℕ) → owner_of new ≡ Some t → owner_of old ≡ Some t)
     → ((limit t : ℕ) → has_room limit t old ≡ true → has_room limit t new ≡ true) → Yields clock old new
 yields_by clock old new form owner room = record {
   form = ap unset form;
@@ -37,7 +38,8 @@ set_owner (Semaphore s) = refl
 set_owner (Timer t) = refl
 
 pub set_yields : (clock : ℕ) (b : Body) → Yields clock b (after_set b)
-set_yields clock b = yields_by clock b (after_set b) (set_form b) (λ t h. sym (set_owner b) ∙ h) (λ limit t h. room_after_set limit t b h)
+set_yields clock b = yields_by clock b (after_set b) (set_form b) (λ t h. sym (set_owner b)
+    ∙ h) (λ limit t h. room_after_set limit t b h)
 
 reset_form : (b : Body) → form_of (after_reset b) ≡ form_of b
 reset_form (Event e) = refl
@@ -52,7 +54,8 @@ reset_owner (Semaphore s) = refl
 reset_owner (Timer t) = refl
 
 pub reset_yields : (clock : ℕ) (b : Body) → Yields clock b (after_reset b)
-reset_yields clock b = yields_by clock b (after_reset b) (reset_form b) (λ t h. sym (reset_owner b) ∙ h) (λ limit t h. room_after_reset limit t b h)
+reset_yields clock b = yields_by clock b (after_reset b) (reset_form b) (λ t h. sym (reset_owner b)
+    ∙ h) (λ limit t h. room_after_reset limit t b h)
 
 -- nothing is signaled by a reset
 pub reset_less : (b : Body) (t : ℕ) → is_signaled t (after_reset b) ≡ true → is_signaled t b ≡ true
@@ -71,7 +74,8 @@ posted_maximum count s = by (ltb s.maximum (s.count + count))
 post_form : (count : ℕ) (b : Body) → form_of (after_post count b) ≡ form_of b
 post_form count (Event e) = refl
 post_form count (Mutex m) = refl
-post_form count (Semaphore s) = ap (λ n. record { kind = kind.Semaphore; manual = false; maximum = n; due = None }) (posted_maximum count s)
+post_form count (Semaphore s) = ap (λ n. record { kind = kind.Semaphore; manual = false; maximum = n; due = None })
+    (posted_maximum count s)
 post_form count (Timer t) = refl
 
 post_owner : (count : ℕ) (b : Body) → owner_of (after_post count b) ≡ owner_of b
@@ -81,7 +85,8 @@ post_owner count (Semaphore s) = refl
 post_owner count (Timer t) = refl
 
 pub post_yields : (clock count : ℕ) (b : Body) → Yields clock b (after_post count b)
-post_yields clock count b = yields_by clock b (after_post count b) (post_form count b) (λ t h. sym (post_owner count b) ∙ h) (λ limit t h. room_after_post limit t count b h)
+post_yields clock count b = yields_by clock b (after_post count b) (post_form count b) (λ t h. sym (post_owner count b)
+    ∙ h) (λ limit t h. room_after_post limit t count b h)
 
 unlock_form : (u : ℕ) (b : Body) → form_of (after_unlock u b) ≡ form_of b
 unlock_form u (Event e) = refl
@@ -92,7 +97,8 @@ unlock_form u (Timer t) = refl
 unlocked_owner : (u t : ℕ) (m : MutexState) → (mutex.after_unlock u m).owner ≡ Some t → m.owner ≡ Some t
 unlocked_owner u t m h = by (mutex.is_owner u m.owner) (leb m.recursion 1) h
   where
-    by : (a b : Bool) → (cond a (cond b (mutex.free_mutex m.abandoned) (record m { recursion = m.recursion - 1 })) m).owner ≡ Some t → m.owner ≡ Some t
+    by : (a b : Bool) → (cond a (cond b (mutex.free_mutex m.abandoned) (record m { recursion = m.recursion - 1 }))
+        m).owner ≡ Some t → m.owner ≡ Some t
     by true true h = absurd (cc)
     by true false h = h
     by false b h = h
@@ -104,7 +110,8 @@ unlock_owner u t (Semaphore s) h = h
 unlock_owner u t (Timer m) h = h
 
 pub unlock_yields : (clock u : ℕ) (b : Body) → Yields clock b (after_unlock u b)
-unlock_yields clock u b = yields_by clock b (after_unlock u b) (unlock_form u b) (λ t h. unlock_owner u t b h) (λ limit t h. room_after_unlock limit u t b h)
+unlock_yields clock u b = yields_by clock b (after_unlock u b) (unlock_form u b) (λ t h. unlock_owner u t b h)
+    (λ limit t h. room_after_unlock limit u t b h)
 
 -- a timer is set: it is due after now, or not any more
 armed_after : (due now : ℕ) → IsAfter now (cond (leb due now) None (Some due))
@@ -118,7 +125,12 @@ pub arm_yields : (clock due : ℕ) (b : Body) → Yields clock b (after_arm due 
 arm_yields clock due (Event e) = yields_by clock (Event e) (Event e) refl (λ t h. h) (λ limit t h. h)
 arm_yields clock due (Mutex m) = yields_by clock (Mutex m) (Mutex m) refl (λ t h. h) (λ limit t h. h)
 arm_yields clock due (Semaphore s) = yields_by clock (Semaphore s) (Semaphore s) refl (λ t h. h) (λ limit t h. h)
-arm_yields clock due (Timer t) = record { form = refl; due = λ h. armed_after due clock; owner = λ u h. h; room = λ limit u h. refl }
+arm_yields clock due (Timer t) = record {
+  form = refl;
+  due = λ h. armed_after due clock;
+  owner = λ u h. h;
+  room = λ limit u h. refl;
+}
 
 -- or cancelled
 pub disarm_yields : (clock : ℕ) (b : Body) → Yields clock b (after_disarm b)

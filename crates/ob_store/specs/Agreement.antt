@@ -27,7 +27,8 @@ vacant_phase false = Free
 -- a slot without an object is free or retired; the object of a slot has its generation and its descriptor
 abbrev pub Agrees : ℕ → Option Object → Option Body → Bool → Slot → Type 0
 Agrees s None body retired x = (body ≡ None) × (x.phase ≡ vacant_phase retired)
-Agrees s (Some o) body retired x = (o.id ≡ record { slot = s; generation = x.generation }) × (o.descr ≡ x.descr) × (x.phase ≡ phase_of body) × (retired ≡ false)
+Agrees s (Some o) body retired x = (o.id ≡ record { slot = s; generation = x.generation }) × (o.descr ≡ x.descr)
+    × (x.phase ≡ phase_of body) × (retired ≡ false)
 
 pub record IsAgreed (s : ObjectsState) : Type 0 where
   pub few : s.keeper.shape.slots ≤ 65536
@@ -35,7 +36,8 @@ pub record IsAgreed (s : ObjectsState) : Type 0 where
   pub long : length s.objects ≡ s.keeper.shape.slots
   pub bodied : length s.seen.bodies ≡ s.keeper.shape.slots
   pub marked : length s.retired ≡ s.keeper.shape.slots
-  pub each : (k : ℕ) → k < s.keeper.shape.slots → Agrees k (slice_index_or s.objects k None) (slice_index_or s.seen.bodies k None) (slice_index_or s.retired k false) (slot_of s.keeper.slots k)
+  pub each : (k : ℕ) → k < s.keeper.shape.slots → Agrees k (slice_index_or s.objects k None)
+      (slice_index_or s.seen.bodies k None) (slice_index_or s.retired k false) (slot_of s.keeper.slots k)
 
 -- each object's Id is published with its descriptor
 abbrev pub Listed : List (Id × Descr) → Option Object → Type 0
@@ -58,7 +60,8 @@ made_in x = made_by x.phase x.generation
 -- objects are numbered by their births: each number is below their count, and no two have the same
 pub record AreBorn (objects : List (Option Object)) (births : ℕ) : Type 0 where
   pub below : (k : ℕ) (o : Object) → slice_index_or objects k None ≡ Some o → o.birth < births
-  pub apart : (j k : ℕ) (o p : Object) → slice_index_or objects j None ≡ Some o → slice_index_or objects k None ≡ Some p → o.birth ≡ p.birth → j ≡ k
+  pub apart : (j k : ℕ) (o p : Object) → slice_index_or objects j None ≡ Some o → slice_index_or objects k None ≡ Some p
+      → o.birth ≡ p.birth → j ≡ k
 
 -- what holds of objects and their keeper whenever no call is under way
 pub record IsTied (s : ObjectsState) : Type 0 where
@@ -68,12 +71,15 @@ pub record IsTied (s : ObjectsState) : Type 0 where
   pub opens : Opens s.keeper.shape s.keeper.slots
   pub bodied : HasBodies s.seen
   pub born : AreBorn s.objects s.births
-  pub aged : (k : ℕ) → k < s.keeper.shape.slots → (1 ≤ (slot_of s.keeper.slots k).generation) × ((slot_of s.keeper.slots k).generation ≤ s.keeper.shape.max_gen)
+  pub aged : (k : ℕ) → k < s.keeper.shape.slots → (1 ≤ (slot_of s.keeper.slots k).generation)
+      × ((slot_of s.keeper.slots k).generation ≤ s.keeper.shape.max_gen)
   pub last : s.keeper.shape.max_gen ≤ 4294967295
   pub made : s.births ≡ sum_by made_in s.keeper.slots
 
 -- what a reclaim leaves: the object leaves a slot that is freed or retired, and stays in one that somebody holds
 abbrev pub Reclaimed : ObjectsState → ℕ → Reclaim → ObjectsState → Type 0
-Reclaimed s k outcome.Freed t = (t ≡ with_keeper (without_seat (places_in s) k) s.births t.keeper) × Reclaims s.keeper k outcome.Freed t.keeper
-Reclaimed s k outcome.Retired t = (t ≡ with_keeper (with_retired (without_seat (places_in s) k) k) s.births t.keeper) × Reclaims s.keeper k outcome.Retired t.keeper
+Reclaimed s k outcome.Freed t = (t ≡ with_keeper (without_seat (places_in s) k) s.births t.keeper)
+    × Reclaims s.keeper k outcome.Freed t.keeper
+Reclaimed s k outcome.Retired t = (t ≡ with_keeper (with_retired (without_seat (places_in s) k) k) s.births t.keeper)
+    × Reclaims s.keeper k outcome.Retired t.keeper
 Reclaimed s k (outcome.Held n) t = (t ≡ record s { keeper = t.keeper }) × Reclaims s.keeper k (outcome.Held n) t.keeper

@@ -12,12 +12,17 @@ use Rattle.ob_store.specs.Kept.{AreFormed, AreOfLive, IsNamed, IsQuiet, IsThere,
 
 pub record IsConsistent (w : Whole) : Type 0 where
   -- numbers are within the limits, each process number has a table, and a live thread's process is live
-  pub processes : ProcessesKept w.state.limits (record { processes = w.state.processes; threads = w.state.threads }) (length w.state.tables)
-  -- slot by slot: free, or given up, or with one object of the slot's Id and descriptor, live with a body and closing without
-  pub slots : (k : ℕ) → k < w.keeper.shape.slots → Agrees k (slice_index_or w.state.objects k None) (slice_index_or w.state.bodies k None) (slice_index_or w.state.retired k false) (slot_of w.keeper.slots k)
+  pub processes : ProcessesKept w.state.limits (record { processes = w.state.processes; threads = w.state.threads })
+      (length w.state.tables)
+  -- slot by slot: free, or given up, or with one object of the slot's Id and descriptor, live with a body and closing
+  -- without
+  pub slots : (k : ℕ) → k < w.keeper.shape.slots →
+      Agrees k (slice_index_or w.state.objects k None) (slice_index_or w.state.bodies k None)
+      (slice_index_or w.state.retired k false) (slot_of w.keeper.slots k)
   pub shape : w.keeper.shape ≡ shape_of w.state.limits
   -- there are as many slots as the limits say, each with its place in each list, and no others
-  pub sizes : (length w.state.objects ≡ w.state.limits.slots) × (length w.state.bodies ≡ w.state.limits.slots) × (length w.state.retired ≡ w.state.limits.slots) × (length w.keeper.slots ≡ w.state.limits.slots)
+  pub sizes : (length w.state.objects ≡ w.state.limits.slots) × (length w.state.bodies ≡ w.state.limits.slots)
+      × (length w.state.retired ≡ w.state.limits.slots) × (length w.keeper.slots ≡ w.state.limits.slots)
   -- the generations are the keeper's
   pub generations : w.state.generations ≡ map generation_of w.keeper.slots
   -- each object's Id is published with its descriptor
@@ -27,7 +32,8 @@ pub record IsConsistent (w : Whole) : Type 0 where
   -- each Id of an entry or of a pending wait is that of an object
   pub named : IsNamed w.state.objects w.state.tables w.state.waits
   -- an object has a body exactly where an entry or a pending wait refers to it
-  pub ended : (id : Id) → IsThere w.state.objects id → is_some (slice_index_or w.state.bodies id.slot None) ≡ nat_lt 0 (handles_of w.state id + blocks_of w.state id)
+  pub ended : (id : Id) → IsThere w.state.objects id
+      → is_some (slice_index_or w.state.bodies id.slot None) ≡ nat_lt 0 (handles_of w.state id + blocks_of w.state id)
   -- and the body is what the object's descriptor says; a timer's due moment is after now
   pub formed : AreFormed w.state.clock w.state.objects w.state.bodies
   -- no name stands twice in the directory

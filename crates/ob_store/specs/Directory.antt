@@ -16,7 +16,8 @@ named_row id (Some name) = Some (name, id)
 -- the row of an object, where it has this number, a name and handles
 abbrev pub row_of : List (List (Option Entry)) → ℕ → Option Object → Option (ObjectName × Id)
 row_of tables birth None = None
-row_of tables birth (Some o) = if (o.birth == birth) && nat_lt 0 (handles_among o.id tables) then named_row o.id o.name else None
+row_of tables birth (Some o) = if (o.birth == birth)
+    && nat_lt 0 (handles_among o.id tables) then named_row o.id o.name else None
 
 -- the rows of the objects that were made first
 abbrev pub rows_of : List (List (Option Entry)) → List (Option Object) → ℕ → Rows

@@ -35,7 +35,10 @@ threads_ended s process (suc thread) =
 
 -- the entries of a process leave, and its number is gone
 abbrev pub process_ended : State → ℕ → State
-process_ended s process = record s { tables = without_entries s.tables process; processes = slice_set s.processes process None }
+process_ended s process = record s {
+  tables = without_entries s.tables process;
+  processes = slice_set s.processes process None;
+}
 
 -- a process ends with its threads
 abbrev pub exited : State → ℕ → State

@@ -1,4 +1,5 @@
--- What holds whenever no call is under way. Each group of facts is about the parts that it reads, so that a change of others
+-- What holds whenever no call is under way. Each group of facts is about the parts that it reads, so that a change of
+-- others
 -- leaves it as it is.
 use Rattle.std.specs.Prelude.{◌≡◌, ℕ, ◌+◌, ◌<◌, ◌≤◌, List, Option, Some, None, length, slice_index_or, IsSome, true}
 use Rattle.pin_core.specs.declared.id.Id.{Id}
@@ -40,7 +41,8 @@ pub record ProcessesKept (limits : Limits) (p : ProcessesState) (tables : ℕ) :
   pub live : (thread process : ℕ) → slice_index_or p.threads thread None ≡ Some process → IsLive p.processes process
 
 -- the stored counts are the numbers of entries and of places of pending waits
-pub record IsCounted (seen : Objects) (n : ℕ) (tables : List (List (Option Entry))) (waits : List (Option Wait)) : Type 0 where
+pub record IsCounted (seen : Objects) (n : ℕ) (tables : List (List (Option Entry)))
+    (waits : List (Option Wait)) : Type 0 where
   pub handles : seen.handles ≡ by_slot n (λ k. slot_handles k tables)
   pub blocks : seen.blocks ≡ by_slot n (λ k. slot_blocks k waits)
 
@@ -54,7 +56,8 @@ abbrev pub IsThere : List (Option Object) → Id → Type 0
 IsThere objects id = id_in (slice_index_or objects id.slot None) ≡ Some id
 
 -- each Id of an entry or of a pending wait is that of an object
-pub record IsNamed (objects : List (Option Object)) (tables : List (List (Option Entry))) (waits : List (Option Wait)) : Type 0 where
+pub record IsNamed (objects : List (Option Object)) (tables : List (List (Option Entry)))
+    (waits : List (Option Wait)) : Type 0 where
   pub entries : (id : Id) → 0 < handles_among id tables → IsThere objects id
   pub blocks : (id : Id) → 0 < blocks_among id waits → IsThere objects id
 
@@ -68,10 +71,12 @@ unset f = record f { due = None }
 
 -- each body is what its object's descriptor says, and no timer is due yet
 pub record AreFormed (clock : ℕ) (objects : List (Option Object)) (bodies : List (Option Body)) : Type 0 where
-  pub each : (k : ℕ) (o : Object) (b : Body) → slice_index_or objects k None ≡ Some o → slice_index_or bodies k None ≡ Some b → unset (form_of b) ≡ form_in o.descr
+  pub each : (k : ℕ) (o : Object) (b : Body) → slice_index_or objects k None ≡ Some o
+      → slice_index_or bodies k None ≡ Some b → unset (form_of b) ≡ form_in o.descr
   pub later : (k : ℕ) → IsAfter clock (slot_due (slice_index_or bodies k None))
 
--- a change of a body that takes nothing for a thread: its form stays, but for a due moment that is still to come, no thread comes
+-- a change of a body that takes nothing for a thread: its form stays, but for a due moment that is still to come, no
+-- thread comes
 -- to own it, and none loses room
 pub record Yields (clock : ℕ) (old new : Body) : Type 0 where
   pub form : unset (form_of new) ≡ unset (form_of old)
@@ -80,7 +85,8 @@ pub record Yields (clock : ℕ) (old new : Body) : Type 0 where
   pub room : (limit t : ℕ) → has_room limit t old ≡ true → has_room limit t new ≡ true
 
 -- the owner of a mutex is a live thread, and the thread of a wait too
-pub record AreOfLive (threads : List (Option ℕ)) (bodies : List (Option Body)) (waits : List (Option Wait)) : Type 0 where
+pub record AreOfLive (threads : List (Option ℕ)) (bodies : List (Option Body))
+    (waits : List (Option Wait)) : Type 0 where
   pub owners : (k t : ℕ) → slot_owner (slice_index_or bodies k None) ≡ Some t → IsLive threads t
   pub waiters : (n t : ℕ) → thread_of (slice_index_or waits n None) ≡ Some t → IsLive threads t
 
@@ -90,7 +96,8 @@ pub record IsQuiet (limit : ℕ) (bodies : List (Option Body)) (waits : List (Op
   pub settled : IsSettled bodies waits
 
 -- the names that are entered are the directory, and none stands twice
-pub record IsListing (rows : Rows) (tables : List (List (Option Entry))) (objects : List (Option Object)) (births : ℕ) : Type 0 where
+pub record IsListing (rows : Rows) (tables : List (List (Option Entry))) (objects : List (Option Object))
+    (births : ℕ) : Type 0 where
   pub same : rows ≡ rows_of tables objects births
   pub distinct : AreDistinct rows
 

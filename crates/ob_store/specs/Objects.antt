@@ -40,7 +40,13 @@ pub record ObjectsState : Type 0 where
   pub keeper : KeeperState
 
 abbrev pub with_keeper : Places → ℕ → KeeperState → ObjectsState
-with_keeper p births keeper = record { objects = p.objects; seen = p.seen; retired = p.retired; births = births; keeper = keeper }
+with_keeper p births keeper = record {
+  objects = p.objects;
+  seen = p.seen;
+  retired = p.retired;
+  births = births;
+  keeper = keeper;
+}
 
 abbrev pub places_in : ObjectsState → Places
 places_in s = record { objects = s.objects; seen = s.seen; retired = s.retired }
@@ -94,13 +100,23 @@ seat_blocks (Some seat) = seat.blocks
 
 -- an object with one handle, or one block, fewer: without references it has no body
 abbrev pub seat_handle_left : Seat → Seat
-seat_handle_left seat = record seat { handles = seat.handles - 1; body = if (seat.handles - 1) + seat.blocks == 0 then None else seat.body }
+seat_handle_left seat = record seat {
+  handles = seat.handles - 1;
+  body = if (seat.handles - 1) + seat.blocks == 0 then None else seat.body;
+}
 
 abbrev pub seat_block_left : Seat → Seat
-seat_block_left seat = record seat { blocks = seat.blocks - 1; body = if seat.handles + (seat.blocks - 1) == 0 then None else seat.body }
+seat_block_left seat = record seat {
+  blocks = seat.blocks - 1;
+  body = if seat.handles + (seat.blocks - 1) == 0 then None else seat.body;
+}
 
 abbrev pub seen_in : List (Option Seat) → waits.Objects
-seen_in seats = record { bodies = map seat_body seats; handles = map seat_handles seats; blocks = map seat_blocks seats }
+seen_in seats = record {
+  bodies = map seat_body seats;
+  handles = map seat_handles seats;
+  blocks = map seat_blocks seats;
+}
 
 -- one body changed
 abbrev pub changed_at : waits.Objects → ℕ → (Option Body → Option Body) → waits.Objects
@@ -137,7 +153,12 @@ abbrev pub with_seat : Places → ℕ → Object → Body → Places
 with_seat p slot object body = with_seated p slot object (Some body) 1
 
 abbrev pub with_handle : Places → ℕ → Places
-with_handle p slot = record p { seen = record p.seen { handles = slice_set p.seen.handles slot (slice_index_or p.seen.handles slot 0 + 1) } }
+with_handle p slot = record p {
+  seen = record p.seen {
+    handles =
+        slice_set p.seen.handles slot (slice_index_or p.seen.handles slot 0 + 1);
+  };
+}
 
 -- whether nothing refers to the slot's object once a handle has left
 abbrev pub is_last_handle : Places → ℕ → Bool
@@ -153,7 +174,12 @@ without_handle p slot = record p {
 }
 
 abbrev pub with_block : Places → ℕ → Places
-with_block p slot = record p { seen = record p.seen { blocks = slice_set p.seen.blocks slot (slice_index_or p.seen.blocks slot 0 + 1) } }
+with_block p slot = record p {
+  seen = record p.seen {
+    blocks =
+        slice_set p.seen.blocks slot (slice_index_or p.seen.blocks slot 0 + 1);
+  };
+}
 
 -- whether nothing refers to the slot's object once a block has left
 abbrev pub is_last_block : Places → ℕ → Bool
@@ -163,7 +189,11 @@ is_last_block p slot = slice_index_or p.seen.handles slot 0 + (slice_index_or p.
 abbrev pub without_seat : Places → ℕ → Places
 without_seat p slot = record p {
   objects = slice_set p.objects slot None;
-  seen = record { bodies = slice_set p.seen.bodies slot None; handles = slice_set p.seen.handles slot 0; blocks = slice_set p.seen.blocks slot 0 };
+  seen = record {
+    bodies = slice_set p.seen.bodies slot None;
+    handles = slice_set p.seen.handles slot 0;
+    blocks = slice_set p.seen.blocks slot 0;
+  };
 }
 
 abbrev pub with_retired : Places → ℕ → Places
@@ -186,11 +216,18 @@ pub record Head : Type 0 where
 
 -- the object that comes to a slot: the slot gives its Id, and the objects made before it are its number
 abbrev pub object_in : ObjectsState → ℕ → Head → Object
-object_in s slot head = record { id = id_of s.keeper.slots slot; birth = s.births; descr = head.descr; grant = head.grant; name = head.name }
+object_in s slot head = record {
+  id = id_of s.keeper.slots slot;
+  birth = s.births;
+  descr = head.descr;
+  grant = head.grant;
+  name = head.name;
+}
 
 -- a new object: its descriptor is stored, and then it is published
 abbrev pub with_object : ObjectsState → ℕ → Head → Body → ObjectsState
-with_object s slot head body = with_keeper (with_seat (places_in s) slot (object_in s slot head) body) (s.births + 1) (published (stored s.keeper slot head.descr) slot)
+with_object s slot head body = with_keeper (with_seat (places_in s) slot (object_in s slot head) body) (s.births + 1)
+    (published (stored s.keeper slot head.descr) slot)
 
 -- one handle more
 abbrev pub with_handle_of : ObjectsState → ℕ → ObjectsState
@@ -207,7 +244,8 @@ with_handles_of s (place ∷ places) = with_handles_of (with_handle_at s place) 
 
 -- one handle fewer; the slot of an object that nothing refers to any more closes
 abbrev pub without_handle_of : ObjectsState → ℕ → ObjectsState
-without_handle_of s slot = with_keeper (without_handle (places_in s) slot) s.births (if is_last_handle (places_in s) slot then closed s.keeper slot else s.keeper)
+without_handle_of s slot = with_keeper (without_handle (places_in s) slot) s.births
+    (if is_last_handle (places_in s) slot then closed s.keeper slot else s.keeper)
 
 -- one block more
 abbrev pub with_block_of : ObjectsState → ℕ → ObjectsState

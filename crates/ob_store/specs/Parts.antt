@@ -20,7 +20,15 @@ pub record PartsState : Type 0 where
   pub signaled : SignaledState
 
 abbrev pub parts_of : {K : Type 0} → Parts K → PartsState
-parts_of p = record { limits = p.limits; processes = p.processes; tables = p.tables; objects = p.objects; waits = p.waits; rows = p.names.rows; signaled = p.signaled }
+parts_of p = record {
+  limits = p.limits;
+  processes = p.processes;
+  tables = p.tables;
+  objects = p.objects;
+  waits = p.waits;
+  rows = p.names.rows;
+  signaled = p.signaled;
+}
 
 abbrev pub scene_in : {K : Type 0} → Parts K → Scene
 scene_in p = record { objects = p.objects.seen; waits = p.waits.waits }

@@ -1,4 +1,5 @@
--- The live processes and threads. A number is a place of a list; place 0 has nothing, since number 0 is never given, and the
+-- The live processes and threads. A number is a place of a list; place 0 has nothing, since number 0 is never given,
+-- and the
 -- next number is the length.
 use Rattle.std.specs.Prelude.{ℕ, ◌==◌, Bool, false, List, [], ◌∷◌, ◌++◌, Option, Some, None, length}
 
@@ -11,7 +12,10 @@ no_processes = record { processes = None ∷ []; threads = None ∷ [] }
 
 -- the next process, of a session, with the next thread
 abbrev pub with_process : ProcessesState → ℕ → ProcessesState
-with_process l session = record { processes = l.processes ++ Some session ∷ []; threads = l.threads ++ Some (length l.processes) ∷ [] }
+with_process l session = record {
+  processes = l.processes ++ Some session ∷ [];
+  threads = l.threads ++ Some (length l.processes) ∷ [];
+}
 
 -- the next thread, of a process
 abbrev pub with_thread : ProcessesState → ℕ → ProcessesState

@@ -1,4 +1,5 @@
--- What a save says of the objects, once the handles of the tables are counted: bodies, births, and what their keeper says.
+-- What a save says of the objects, once the handles of the tables are counted: bodies, births, and what their keeper
+-- says.
 use Rattle.std.specs.Prelude.{ℕ, zero, suc, ◌+◌, nat_lt, ◌&&◌, Bool, true, false, if◌then◌else◌, List, [], ◌∷◌, length, Option, Some, None, Result, Ok, Err, is_none, is_some, map, slice_index_or, sum_by}
 use Rattle.std.specs.List.{flat_map, range_with_len}
 use Rattle.std.specs.BTreeMap.{insert_entry, is_at}
@@ -27,7 +28,8 @@ use Rattle.ob_store.specs.State.{shape_of}
 -- whether a slot has a body exactly where something refers to its object
 abbrev pub is_bodied : waits.Objects → ℕ → Bool
 is_bodied o k =
-    if nat_lt 0 (slice_index_or o.handles k 0 + slice_index_or o.blocks k 0) then is_some (slice_index_or o.bodies k None)
+    if nat_lt 0 (slice_index_or o.handles k 0 + slice_index_or o.blocks k 0) then is_some
+    (slice_index_or o.bodies k None)
     else is_none (slice_index_or o.bodies k None)
 
 -- the same of the first slots
@@ -42,7 +44,8 @@ Births = List (ℕ × ℕ)
 -- the slot of an object of this birth comes, unless the birth isn't below the count, or another object has it
 abbrev pub with_birth : ℕ → Births → ℕ → ℕ → Result Births TextFault
 with_birth births so_far birth slot =
-    if nat_lt birth births && is_none (lookup (is_at (nat_cmp birth)) so_far) then Ok (insert_entry nat_cmp so_far birth slot)
+    if nat_lt birth births && is_none (lookup (is_at (nat_cmp birth)) so_far) then Ok
+    (insert_entry nat_cmp so_far birth slot)
     else Err Value
 
 abbrev pub with_birth_of : ℕ → Births → ℕ → Option Object → Result Births TextFault

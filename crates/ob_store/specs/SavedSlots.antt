@@ -34,16 +34,19 @@ object_parts o = (o.birth, (o.descr, (o.grant, (o.body, o.name))))
 
 abbrev pub object_text : SavedObject → List ℕ
 object_text o =
-    both (to_le_bytes w64) (both descr_text (both rights_text (both (option body_text) (option name_text)))) (object_parts o)
+    both (to_le_bytes w64) (both descr_text (both rights_text (both (option body_text) (option name_text))))
+    (object_parts o)
 
 abbrev pub object_at : List ℕ → Read SavedObject
 object_at =
     as_at object_of
-    (both_at (number_at w64) (both_at descr_at (both_at rights_at (both_at (option_at body_at) (option_at name_text_at)))))
+    (both_at (number_at w64) (both_at descr_at (both_at rights_at
+    (both_at (option_at body_at) (option_at name_text_at)))))
 
 abbrev pub ObjectFits : SavedObject → Type 0
 ObjectFits o =
-    BothFit (λ n. n < 2 ^ 64) (BothFit IsGiven (BothFit RightsFit (BothFit (OptionFits BodyFits) (OptionFits NameFits))))
+    BothFit (λ n. n < 2 ^ 64) (BothFit IsGiven (BothFit RightsFit
+    (BothFit (OptionFits BodyFits) (OptionFits NameFits))))
     (object_parts o)
 
 -- a slot: its generation, whether it is never given again, its object

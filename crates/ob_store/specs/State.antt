@@ -1,4 +1,5 @@
--- The abstract state of the object manager: plain lists, by number or by slot. It keeps no count and no directory: both are
+-- The abstract state of the object manager: plain lists, by number or by slot. It keeps no count and no directory: both
+-- are
 -- read off the entries, the waits and the objects.
 use Rattle.std.specs.Prelude.{ℕ, ◌+◌, ◌==◌, Bool, true, false, List, [], ◌∷◌, ◌++◌, Option, Some, None, if◌then◌else◌, slice_index_or, slice_set, length, map, replicate}
 use Rattle.std.specs.List.{range_with_len}
@@ -20,7 +21,8 @@ use Rattle.ob_waits.specs.Ends.{settled_plainly, with_ends}
 use Rattle.ob_store.specs.declared.limits.Limits.{Limits}
 use Rattle.ob_store.specs.Objects.{Object, Head}
 
--- Numbers of processes, threads and waits are places of lists. Number 0 is never given, so place 0 has nothing, and the next
+-- Numbers of processes, threads and waits are places of lists. Number 0 is never given, so place 0 has nothing, and the
+-- next
 -- number is the length. A number that is gone has None.
 pub record State : Type 0 where
   pub limits : Limits
@@ -73,8 +75,10 @@ scene_of s = record { objects = objects_of s; waits = s.waits }
 abbrev pub with_scene : State → Scene → State
 with_scene s scene = record s { bodies = scene.objects.bodies; waits = scene.waits }
 
--- as long as a pending wait is ready, the one of least number takes effect; then each object to which nothing refers ends. The code
--- ends an object as soon as its last reference leaves, and settles by the waits of what changed: both come to one state (SettledLaws)
+-- as long as a pending wait is ready, the one of least number takes effect; then each object to which nothing refers
+-- ends. The code
+-- ends an object as soon as its last reference leaves, and settles by the waits of what changed: both come to one state
+-- (SettledLaws)
 abbrev pub settled : State → State
 settled s = with_scene s (with_ends (settled_plainly (scene_of s)))
 
@@ -121,7 +125,13 @@ id_at s slot = record { slot = slot; generation = slice_index_or s.generations s
 -- a new object in a slot: its number is how many were made before it
 abbrev pub with_object : State → ℕ → Head → Body → State
 with_object s slot head body = record s {
-  objects = slice_set s.objects slot (Some (record { id = id_at s slot; birth = s.births; descr = head.descr; grant = head.grant; name = head.name }));
+  objects = slice_set s.objects slot (Some (record {
+    id = id_at s slot;
+    birth = s.births;
+    descr = head.descr;
+    grant = head.grant;
+    name = head.name;
+  }));
   bodies = slice_set s.bodies slot (Some body);
   births = s.births + 1;
 }
@@ -132,7 +142,10 @@ with_body s id body = record s { bodies = slice_set s.bodies id.slot (Some body)
 
 -- an ended object leaves its slot, which is free at the next generation
 abbrev pub freed : State → ℕ → State
-freed s slot = record s { objects = slice_set s.objects slot None; generations = slice_set s.generations slot (slice_index_or s.generations slot 1 + 1) }
+freed s slot = record s {
+  objects = slice_set s.objects slot None;
+  generations = slice_set s.generations slot (slice_index_or s.generations slot 1 + 1);
+}
 
 -- or is never given again
 abbrev pub given_up : State → ℕ → State

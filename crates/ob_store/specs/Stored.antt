@@ -35,21 +35,29 @@ pub record IsOpenByName (s : State) (name : ObjectName) (id : Id) : Type 0 where
 
 -- what is stored refers to the object of a slot: its handles and its blocks, and a hold where it has no body
 abbrev pub references_at : StoredState → ℕ → ℕ
-references_at t k = slice_index_or t.seen.handles k 0 + slice_index_or t.seen.blocks k 0 + hold_in (slice_index_or t.seen.bodies k None)
+references_at t k = slice_index_or t.seen.handles k 0 + slice_index_or t.seen.blocks k 0
+    + hold_in (slice_index_or t.seen.bodies k None)
 
 -- what is stored is what the state and the keeper say, in each slot and in the directory
 pub record MatchesState (w : Whole) (t : StoredState) : Type 0 where
   -- there are as many slots as the limits say, each with its place in each list, and no others
-  pub sizes : (length t.objects ≡ w.state.limits.slots) × (length t.seen.bodies ≡ w.state.limits.slots) × (length t.seen.handles ≡ w.state.limits.slots) × (length t.seen.blocks ≡ w.state.limits.slots)
+  pub sizes : (length t.objects ≡ w.state.limits.slots) × (length t.seen.bodies ≡ w.state.limits.slots)
+      × (length t.seen.handles ≡ w.state.limits.slots) × (length t.seen.blocks ≡ w.state.limits.slots)
   -- each is empty or holds one object, as the state says, whose Id is of that slot
   pub slots : (t.objects ≡ w.state.objects) × ((k : ℕ) (o : Object) → Holds t k o → o.id.slot ≡ k)
   -- and the object's body, as the state says; an empty slot has none
-  pub bodies : (t.seen.bodies ≡ w.state.bodies) × ((k : ℕ) → slice_index_or t.objects k None ≡ None → slice_index_or t.seen.bodies k None ≡ None)
+  pub bodies : (t.seen.bodies ≡ w.state.bodies) × ((k : ℕ) → slice_index_or t.objects k None ≡ None
+      → slice_index_or t.seen.bodies k None ≡ None)
   -- its handle count is the number of table entries that name it
   pub counts : (k : ℕ) (o : Object) → Holds t k o → slice_index_or t.seen.handles k 0 ≡ handles_of w.state o.id
-  -- its references are these entries, its places in pending waits, and a hold once there is neither: each as stored, and their sum
-  pub references : (k : ℕ) (o : Object) → Holds t k o → (slice_index_or t.seen.blocks k 0 ≡ blocks_of w.state o.id) × (hold_in (slice_index_or t.seen.bodies k None) ≡ hold_of w.state o.id) × (references_at t k ≡ references_of w.state o.id)
+  -- its references are these entries, its places in pending waits, and a hold once there is neither: each as stored,
+  -- and their sum
+  pub references : (k : ℕ) (o : Object) → Holds t k o
+      → (slice_index_or t.seen.blocks k 0 ≡ blocks_of w.state o.id)
+      × (hold_in (slice_index_or t.seen.bodies k None) ≡ hold_of w.state o.id)
+      × (references_at t k ≡ references_of w.state o.id)
   -- the directory lists the named objects that have handles, each once, and nothing else
-  pub directory : ((name : ObjectName) (id : Id) → Contains t.rows (name, id) ↔ IsOpenByName w.state name id) × AreDistinct t.rows
+  pub directory : ((name : ObjectName) (id : Id) → Contains t.rows (name, id) ↔ IsOpenByName w.state name id)
+      × AreDistinct t.rows
   -- the keeper published each object's Id with its descriptor
   pub published : IsListed w.keeper.published t.objects

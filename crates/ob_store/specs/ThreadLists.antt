@@ -51,11 +51,14 @@ pub record AreThreadLists (processes : ℕ) (threads : List (Option ℕ)) (m : T
   pub few : length threads ≤ 65537
   pub counted : (p : ℕ) → p < processes → (list_at m p).live ≡ count_by (is_of p) threads
   -- a live thread is one that its process was given
-  pub given : (t p : ℕ) → slice_index_or threads t None ≡ Some p → (p < processes) × ((link_at m t).process ≡ p) × ((list_at m p).first ≤ t)
+  pub given : (t p : ℕ) → slice_index_or threads t None ≡ Some p
+      → (p < processes) × ((link_at m t).process ≡ p) × ((list_at m p).first ≤ t)
   -- none of them is between one and the next
-  pub next : (p t u : ℕ) → p < processes → u < length threads → (link_at m t).process ≡ p → (link_at m u).process ≡ p → (list_at m p).first ≤ t → t < u → (t < (link_at m t).next) × ((link_at m t).next ≤ u)
+  pub next : (p t u : ℕ) → p < processes → u < length threads → (link_at m t).process ≡ p → (link_at m u).process ≡ p
+      → (list_at m p).first ≤ t → t < u → (t < (link_at m t).next) × ((link_at m t).next ≤ u)
   -- the last is one of them, and past it is none
-  pub ending : (p : ℕ) → p < processes → ((list_at m p).last < length threads) × ((link_at m (list_at m p).last).process ≡ p) × ((list_at m p).first ≤ (list_at m p).last)
+  pub ending : (p : ℕ) → p < processes → ((list_at m p).last < length threads)
+      × ((link_at m (list_at m p).last).process ≡ p) × ((list_at m p).first ≤ (list_at m p).last)
   pub last : (p t : ℕ) → p < processes → t < length threads → (link_at m t).process ≡ p → t ≤ (list_at m p).last
 
 -- without its last element

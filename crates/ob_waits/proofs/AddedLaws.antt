@@ -16,28 +16,36 @@ use Rattle.ob_waits.specs.Roster.{Roster, IsRight, HasPlace, IsTracked}
 use Rattle.ob_waits.proofs.TrackedLaws.{no_number}
 
 -- some element passes
-pub any_at : {A : Type 0} (p : A → Bool) (d : A) (xs : List A) → list_any p xs ≡ true → (i : ℕ) × (i < length xs) × (p (get_or xs i d) ≡ true)
+pub any_at : {A : Type 0} (p : A → Bool) (d : A) (xs : List A) → list_any p xs ≡ true
+    → (i : ℕ) × (i < length xs) × (p (get_or xs i d) ≡ true)
 any_at p d [] h = absurd (cc)
 any_at p d (x ∷ xs) h = by (p x) refl (any_at p d xs)
   where
-    by : (b : Bool) → p x ≡ b → (list_any p xs ≡ true → (i : ℕ) × (i < length xs) × (p (get_or xs i d) ≡ true)) → (i : ℕ) × (i < length (x ∷ xs)) × (p (get_or (x ∷ xs) i d) ≡ true)
+    by : (b : Bool) → p x ≡ b → (list_any p xs ≡ true → (i : ℕ) × (i < length xs) × (p (get_or xs i d) ≡ true))
+        → (i : ℕ) × (i < length (x ∷ xs)) × (p (get_or (x ∷ xs) i d) ≡ true)
     by true is rest = (zero, omega arith, is)
     by false is rest = let r = rest (grind (arith, h, is)) in (suc r.0, (let lt = r.1 in omega arith), r.2)
 
 module _ (ws : List (Option Wait)) (w : Wait) where
   -- each number's wait is what it was, or the new one, or none
-  pub by_number : (P : ℕ → Option Wait → Type 0) → ((n : ℕ) → n < length ws → P n (get_or ws n None)) → P (length ws) (Some w) → ((n : ℕ) → length ws < n → P n None) → (n : ℕ) → P n (get_or (ws ++ Some w ∷ []) n None)
+  pub by_number : (P : ℕ → Option Wait → Type 0) → ((n : ℕ) → n < length ws → P n (get_or ws n None))
+      → P (length ws) (Some w) → ((n : ℕ) → length ws < n → P n None) → (n : ℕ)
+      → P n (get_or (ws ++ Some w ∷ []) n None)
   by_number P old new past n = elim (cases_lt n (length ws)) [
     | inl lt ↦ subst (λ x. P n x) (sym (get_or_append_left ws (Some w ∷ []) None n lt)) (old n lt)
     | inr le ↦ elim (cases_eq n (length ws)) [
-      | inl same ↦ subst (λ i. P i (get_or (ws ++ Some w ∷ []) i None)) (sym same) (subst (λ x. P (length ws) x) (sym (get_or_push ws (Some w) None (length ws) refl)) new)
-      | inr other ↦ subst (λ x. P n x) (sym (get_or_past (ws ++ Some w ∷ []) n None (omega (arith, length_push ws (Some w))))) (past n (omega arith))
+      | inl same ↦ subst (λ i. P i (get_or (ws ++ Some w ∷ []) i None)) (sym same)
+          (subst (λ x. P (length ws) x) (sym (get_or_push ws (Some w) None (length ws) refl)) new)
+      | inr other ↦ subst (λ x. P n x) (sym (get_or_past (ws ++ Some w ∷ []) n None
+          (omega (arith, length_push ws (Some w))))) (past n (omega arith))
     ]
   ]
 
 -- The theorem: a wait of a thread that had none is tracked, where the lists have its number as they must.
-pub tracked_came : (limit : ℕ) (ws : List (Option Wait)) (r r' : Roster) (w : Wait) → 0 < length ws → length ws ≤ limit → WaitWaitable (Some w) → number_of w.thread ws ≡ None
-    → IsTracked limit ws r → IsRight ws r' → (is_pending (Some w) ≡ true → Within (length ws) r'.order) → ((s : ℕ) → names_slot s (Some w) ≡ true → Within (length ws) (numbers_of r'.index s))
+pub tracked_came : (limit : ℕ) (ws : List (Option Wait)) (r r' : Roster) (w : Wait) → 0 < length ws → length ws ≤ limit
+    → WaitWaitable (Some w) → number_of w.thread ws ≡ None
+    → IsTracked limit ws r → IsRight ws r' → (is_pending (Some w) ≡ true → Within (length ws) r'.order)
+    → ((s : ℕ) → names_slot s (Some w) ≡ true → Within (length ws) (numbers_of r'.index s))
     → IsTracked limit (ws ++ Some w ∷ []) r'
 tracked_came limit ws r r' w some below waitable alone k right ordered named = record {
   limit_fits = k.limit_fits;
@@ -49,41 +57,65 @@ tracked_came limit ws r r' w some below waitable alone k right ordered named = r
   };
   right = record {
     order_rises = ordered_more r'.order right.order_rises;
-    order_all = record { each = λ m h. by_number ws w (λ i x. is_pending x ≡ true → Within i r'.order) (λ i lt g. right.order_all.each i g) ordered (λ i past g. absurd (cc)) m h };
+    order_all = record {
+      each = λ m h. by_number ws w (λ i x. is_pending x ≡ true
+          → Within i r'.order) (λ i lt g. right.order_all.each i g) ordered (λ i past g. absurd (cc)) m h;
+    };
     index_rises = record { each = λ s. ordered_more (numbers_of r'.index s) (right.index_rises.each s) };
-    index_all = λ s. record { each = λ m h. by_number ws w (λ i x. names_slot s x ≡ true → Within i (numbers_of r'.index s)) (λ i lt g. (right.index_all s).each i g) (named s) (λ i past g. absurd (cc)) m h };
+    index_all = λ s. record {
+      each = λ m h. by_number ws w (λ i x. names_slot s x ≡ true
+          → Within i (numbers_of r'.index s)) (λ i lt g. (right.index_all s).each i g) (named s)
+          (λ i past g. absurd (cc)) m h;
+    };
   };
 }
   where
-    ours : (m u : ℕ) → thread_of (get_or (ws ++ Some w ∷ []) m None) ≡ Some u → (thread_of (get_or ws m None) ≡ Some u × (m < length ws)) ⊎ ((m ≡ length ws) × (u ≡ w.thread))
-    ours m u = by_number ws w (λ i x. thread_of x ≡ Some u → (thread_of (get_or ws i None) ≡ Some u × (i < length ws)) ⊎ ((i ≡ length ws) × (u ≡ w.thread))) (λ i lt g. inl (g, lt)) (λ g. inr (refl, (let e : Some w.thread ≡ Some u = g in cc))) (λ i past g. absurd (cc)) m
+    ours : (m u : ℕ) → thread_of (get_or (ws ++ Some w ∷ []) m None) ≡ Some u
+        → (thread_of (get_or ws m None) ≡ Some u × (m < length ws)) ⊎ ((m ≡ length ws) × (u ≡ w.thread))
+    ours m u = by_number ws w (λ i x. thread_of x ≡ Some u
+        → (thread_of (get_or ws i None) ≡ Some u × (i < length ws))
+        ⊎ ((i ≡ length ws) × (u ≡ w.thread))) (λ i lt g. inl (g, lt))
+        (λ g. inr (refl, (let e : Some w.thread ≡ Some u = g in cc))) (λ i past g. absurd (cc)) m
 
     alone_here : (m u : ℕ) → thread_of (get_or ws m None) ≡ Some u → u ≡ w.thread → ⊥
     alone_here m u own same = no_number w.thread ws m alone (own ∙ ap Some same)
 
-    one_each : (i j u : ℕ) → thread_of (get_or (ws ++ Some w ∷ []) i None) ≡ Some u → thread_of (get_or (ws ++ Some w ∷ []) j None) ≡ Some u → i ≡ j
+    one_each : (i j u : ℕ) → thread_of (get_or (ws ++ Some w ∷ []) i None) ≡ Some u
+        → thread_of (get_or (ws ++ Some w ∷ []) j None) ≡ Some u → i ≡ j
     one_each i j u p q = elim (ours i u p) [
       | inl a ↦ elim (ours j u q) [ inl b ↦ k.kept.one_each i j u a.0 b.0 | inr b ↦ absurd (alone_here i u a.0 b.1) ]
       | inr a ↦ elim (ours j u q) [ inl b ↦ absurd (alone_here j u b.0 a.1) | inr b ↦ a.0 ∙ sym b.0 ]
     ]
 
     ordered_more : (numbers : List ℕ) → IsOrdered (length ws) numbers → IsOrdered (length (ws ++ Some w ∷ [])) numbers
-    ordered_more numbers h = record { rising = h.rising; below = λ i in'. let le = h.below i in' in omega (arith, length_push ws (Some w)) }
+    ordered_more numbers h = record {
+      rising = h.rising;
+      below = λ i in'. let le = h.below i in' in
+          omega (arith, length_push ws (Some w));
+    }
 
 -- one that is pending, for which the roster has a place
-pub tracked_added : (limit : ℕ) (ws : List (Option Wait)) (r r' : Roster) (n t : ℕ) (mode : Mode) (ids : List Id) (d : Option ℕ) → length ws ≡ n → 0 < n → n ≤ limit → IsWaitable mode ids → number_of t ws ≡ None →
-    IsTracked limit ws r → IsRight ws r' → HasPlace r' ids n → IsTracked limit (ws ++ Some (new_wait t mode ids d) ∷ []) r'
+pub tracked_added : (limit : ℕ) (ws : List (Option Wait)) (r r' : Roster) (n t : ℕ) (mode : Mode) (ids : List Id)
+    (d : Option ℕ) → length ws ≡ n → 0 < n → n ≤ limit → IsWaitable mode ids → number_of t ws ≡ None →
+    IsTracked limit ws r → IsRight ws r' → HasPlace r' ids n
+    → IsTracked limit (ws ++ Some (new_wait t mode ids d) ∷ []) r'
 tracked_added limit ws r r' n t mode ids d len some below waitable alone k right place =
-    tracked_came limit ws r r' (new_wait t mode ids d) (omega (arith, len, some)) (omega (arith, len, below)) waitable alone k right (λ g. subst (λ i. Within i r'.order) (sym len) place.order_place) named
+    tracked_came limit ws r r' (new_wait t mode ids d) (omega (arith, len, some))
+    (omega (arith, len, below)) waitable alone k right
+    (λ g. subst (λ i. Within i r'.order) (sym len) place.order_place) named
   where
     named : (s : ℕ) → names_slot s (Some (new_wait t mode ids d)) ≡ true → Within (length ws) (numbers_of r'.index s)
     named s g =
         let found = any_at (λ (id : Id). id.slot == s) nowhere ids g in
         let same : (get_or ids found.0 nowhere).slot ≡ s = grind (arith, nat_tests, found.2) in
-        subst (λ i. Within i (numbers_of r'.index s)) (sym len) (subst (λ x. Within n (numbers_of r'.index x)) same (place.index_place found.0 found.1))
+        subst (λ i. Within i (numbers_of r'.index s)) (sym len)
+        (subst (λ x. Within n (numbers_of r'.index x)) same (place.index_place found.0 found.1))
 
 -- one that is answered needs none
-pub tracked_answered : (limit : ℕ) (ws : List (Option Wait)) (r : Roster) (t code : ℕ) (d : Option ℕ) → 0 < length ws → length ws ≤ limit → number_of t ws ≡ None
-    → IsTracked limit ws r → IsTracked limit (ws ++ Some (record { thread = t; deadline = d; state = Answered code }) ∷ []) r
+pub tracked_answered : (limit : ℕ) (ws : List (Option Wait)) (r : Roster) (t code : ℕ) (d : Option ℕ) → 0 < length ws
+    → length ws ≤ limit → number_of t ws ≡ None
+    → IsTracked limit ws r → IsTracked limit (ws ++ Some (record { thread = t; deadline = d; state = Answered code })
+    ∷ []) r
 tracked_answered limit ws r t code d some below alone k =
-    tracked_came limit ws r r (record { thread = t; deadline = d; state = Answered code }) some below tt alone k k.right (λ g. absurd (cc)) (λ s g. absurd (cc))
+    tracked_came limit ws r r (record { thread = t; deadline = d; state = Answered code }) some below tt alone k k.right
+    (λ g. absurd (cc)) (λ s g. absurd (cc))

@@ -15,7 +15,8 @@ use Rattle.ob_waits.specs.Numbers.{IsOrdered}
 
 sum_same : (g h : ℕ → ℕ) (ns : List ℕ) → ((k : ℕ) → Within k ns → g k ≡ h k) → sum_by g ns ≡ sum_by h ns
 sum_same g h [] same = refl
-sum_same g h (n ∷ ns) same = sum_by-cons g n ns ∙ (let a = same n (inl refl) in let b = sum_same g h ns (λ k i. same k (inr i)) in omega arith) ∙ sym (sum_by-cons h n ns)
+sum_same g h (n ∷ ns) same = sum_by-cons g n ns ∙ (let a = same n (inl refl) in
+    let b = sum_same g h ns (λ k i. same k (inr i)) in omega arith) ∙ sym (sum_by-cons h n ns)
 
 module _ {A : Type 0} (f : Option A → ℕ) (none : f None ≡ 0) where
   sum_zero : (xs : List (Option A)) → ((n : ℕ) → f (get_or xs n None) ≡ 0) → sum_by f xs ≡ 0
@@ -23,8 +24,13 @@ module _ {A : Type 0} (f : Option A → ℕ) (none : f None ≡ 0) where
   sum_zero (x ∷ xs) h = sum_by-cons f x xs ∙ (let a = h 0 in let b = sum_zero xs (λ n. h (suc n)) in omega arith)
 
   -- numbers that rise and have each place that counts sum up to the whole
-  pub sum_numbers : (ns : List ℕ) (xs : List (Option A)) → IsRising ns → ((n : ℕ) → 0 < f (get_or xs n None) → Within n ns) → sum_by (λ n. f (get_or xs n None)) ns ≡ sum_by f xs
-  sum_numbers [] xs rising has = sym (sum_zero xs (λ n. elim (cases_eq (f (get_or xs n None)) 0) [ inl z ↦ z | inr other ↦ absurd (has n (omega arith)) ]))
+  pub sum_numbers : (ns : List ℕ) (xs : List (Option A)) → IsRising ns
+      → ((n : ℕ) → 0 < f (get_or xs n None) → Within n ns) → sum_by (λ n. f (get_or xs n None)) ns ≡ sum_by f xs
+  sum_numbers [] xs rising has = sym (sum_zero xs (λ n. elim (cases_eq (f (get_or xs n None)) 0) [
+    | inl z ↦
+        z
+    | inr other ↦ absurd (has n (omega arith))
+  ]))
   sum_numbers (m ∷ ns) xs rising has =
       sum_by-cons (λ n. f (get_or xs n None)) m ns
       ∙ (let a = sum_same (λ n. f (get_or xs n None)) (λ n. f (get_or (set xs m None) n None)) ns apart in
@@ -42,20 +48,24 @@ module _ {A : Type 0} (f : Option A → ℕ) (none : f None ≡ 0) where
 
       rest : (n : ℕ) → 0 < f (get_or (set xs m None) n None) → Within n ns
       rest n some = elim (cases_eq n m) [
-        | inl same ↦ absurd (let z : f (get_or (set xs m None) n None) ≡ 0 = ap (λ i. f (get_or (set xs m None) i None)) same ∙ here in omega (arith, z))
-        | inr other ↦ elim (has n (let e : f (get_or (set xs m None) n None) ≡ f (get_or xs n None) = ap f (get_or-set_other xs m n None None other) in omega (arith, e))) [
-          | inl same ↦ absurd (other same)
-          | inr in' ↦ in'
-        ]
+        | inl same ↦ absurd (let z : f (get_or (set xs m None) n None) ≡ 0 =
+            ap (λ i. f (get_or (set xs m None) i None)) same ∙ here in omega (arith, z))
+        | inr other ↦ elim (has n (let e : f (get_or (set xs m None) n None) ≡ f (get_or xs n None) =
+            ap f (get_or-set_other xs m n None None other) in omega (arith, e))) [
+              | inl same ↦ absurd (other same)
+              | inr in' ↦ in'
+            ]
       ]
 
       without : f (get_or xs m None) + sum_by f (set xs m None) ≡ sum_by f xs
       without = elim (cases_lt m (length xs)) [
         | inl lt ↦ (let e = sum_by-set f xs m None None lt in omega (arith, e, none))
-        | inr past ↦ (let e = ap (sum_by f) (set_past xs m None past) in let z = ap f (get_or_past xs m None past) in omega (arith, e, z, none))
+        | inr past ↦ (let e = ap (sum_by f) (set_past xs m None past) in let z = ap f (get_or_past xs m None past) in
+            omega (arith, e, z, none))
       ]
 
-ordered_below : (low m : ℕ) (ns : List ℕ) → IsRising ns → ((k : ℕ) → Within k ns → low ≤ k) → ((k : ℕ) → Within k ns → k ≤ m) → length ns ≤ suc m - low
+ordered_below : (low m : ℕ) (ns : List ℕ) → IsRising ns → ((k : ℕ) → Within k ns → low ≤ k)
+    → ((k : ℕ) → Within k ns → k ≤ m) → length ns ≤ suc m - low
 ordered_below low m [] r above below = omega arith
 ordered_below low m (x ∷ ns) r above below =
     let rest = ordered_below (suc x) m ns r.1 (λ k i. r.0 k i) (λ k i. below k (inr i)) in
@@ -65,16 +75,21 @@ ordered_below low m (x ∷ ns) r above below =
 
 -- a list has no more numbers than there are
 pub length-ordered : (m : ℕ) (ns : List ℕ) → IsOrdered m ns → length ns ≤ suc m
-length-ordered m ns numbers = let le = ordered_below 0 m ns numbers.rising (λ k i. omega arith) numbers.below in omega arith
+length-ordered m ns numbers = let le = ordered_below 0 m ns numbers.rising (λ k i. omega arith) numbers.below in
+    omega arith
 
 -- a wait with a block of an object names its slot
-ids_named : (id : Id) (ids : List Id) → 0 < count_by (same_id id) ids → list_any (λ (x : Id). x.slot == id.slot) ids ≡ true
+ids_named : (id : Id) (ids : List Id) → 0 < count_by (same_id id) ids
+    → list_any (λ (x : Id). x.slot == id.slot) ids ≡ true
 ids_named id [] some = absurd (omega arith)
 ids_named id (x ∷ ids) some = by (x.slot == id.slot) refl (ids_named id ids)
   where
-    by : (b : Bool) → (x.slot == id.slot) ≡ b → (0 < count_by (same_id id) ids → list_any (λ (y : Id). y.slot == id.slot) ids ≡ true) → list_any (λ (y : Id). y.slot == id.slot) (x ∷ ids) ≡ true
+    by : (b : Bool) → (x.slot == id.slot) ≡ b → (0 < count_by (same_id id) ids
+        → list_any (λ (y : Id). y.slot == id.slot) ids ≡ true)
+        → list_any (λ (y : Id). y.slot == id.slot) (x ∷ ids) ≡ true
     by true is rest = grind (arith, is)
-    by false is rest = let later : list_any (λ (y : Id). y.slot == id.slot) ids ≡ true = rest (grind (arith, nat_tests, is, some)) in grind (arith, is, later)
+    by false is rest = let later : list_any (λ (y : Id). y.slot == id.slot) ids ≡ true =
+        rest (grind (arith, nat_tests, is, some)) in grind (arith, is, later)
 
 pub blocks_named : (id : Id) (w : Option Wait) → 0 < blocks_in id w → names_slot id.slot w ≡ true
 blocks_named id w some = ids_named id (ids_of w) some

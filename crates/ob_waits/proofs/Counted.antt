@@ -25,17 +25,21 @@ module _ (f : Option Wait → ℕ) (none : f None ≡ 0) where
   sum_added ws w = let a = sum_by-append f ws (w ∷ []) in let b = sum_by-cons f w [] in omega (arith, a, b)
 
   -- a wait is replaced by one that counts nothing
-  sum_cleared : (ws : List (Option Wait)) (n : ℕ) (x : Option Wait) → f x ≡ 0 → sum_by f (set ws n x) + f (get_or ws n None) ≡ sum_by f ws
+  sum_cleared : (ws : List (Option Wait)) (n : ℕ) (x : Option Wait) → f x ≡ 0
+      → sum_by f (set ws n x) + f (get_or ws n None) ≡ sum_by f ws
   sum_cleared ws n x zero = elim (cases_lt n (length ws)) [
     | inl lt ↦ (let e = sum_by-set f ws n x None lt in omega (arith, e, zero))
-    | inr past ↦ (let e = ap (sum_by f) (set_past ws n x past) in let z = ap f (get_or_past ws n None past) in omega (arith, e, z, none))
+    | inr past ↦ (let e = ap (sum_by f) (set_past ws n x past) in let z = ap f (get_or_past ws n None past) in
+        omega (arith, e, z, none))
   ]
 
 -- a wait becomes pending
-pub slot_added : (k : ℕ) (ws : List (Option Wait)) (t : ℕ) (mode : Mode) (ids : List Id) (d : Option ℕ) → slot_blocks k (ws ++ Some (new_wait t mode ids d) ∷ []) ≡ slot_blocks k ws + slot_places k ids
+pub slot_added : (k : ℕ) (ws : List (Option Wait)) (t : ℕ) (mode : Mode) (ids : List Id) (d : Option ℕ)
+    → slot_blocks k (ws ++ Some (new_wait t mode ids d) ∷ []) ≡ slot_blocks k ws + slot_places k ids
 slot_added k ws t mode ids d = sum_added (λ w. slot_places k (ids_of w)) refl ws (Some (new_wait t mode ids d))
 
-pub blocks_added : (id : Id) (ws : List (Option Wait)) (t : ℕ) (mode : Mode) (ids : List Id) (d : Option ℕ) → blocks_among id (ws ++ Some (new_wait t mode ids d) ∷ []) ≡ blocks_among id ws + count_by (same_id id) ids
+pub blocks_added : (id : Id) (ws : List (Option Wait)) (t : ℕ) (mode : Mode) (ids : List Id) (d : Option ℕ)
+    → blocks_among id (ws ++ Some (new_wait t mode ids d) ∷ []) ≡ blocks_among id ws + count_by (same_id id) ids
 blocks_added id ws t mode ids d = sum_added (blocks_in id) refl ws (Some (new_wait t mode ids d))
 
 -- a wait is answered without taking anything
@@ -43,17 +47,25 @@ no_ids : (w : Option Wait) (code : ℕ) → ids_of (answered w code) ≡ []
 no_ids None code = refl
 no_ids (Some w) code = refl
 
-pub slot_answered : (k : ℕ) (ws : List (Option Wait)) (n code : ℕ) → slot_blocks k (set ws n (answered (get_or ws n None) code)) + slot_places k (ids_of (get_or ws n None)) ≡ slot_blocks k ws
-slot_answered k ws n code = sum_cleared (λ w. slot_places k (ids_of w)) refl ws n (answered (get_or ws n None) code) (ap (slot_places k) (no_ids (get_or ws n None) code))
+pub slot_answered : (k : ℕ) (ws : List (Option Wait)) (n code : ℕ)
+    → slot_blocks k (set ws n (answered (get_or ws n None) code)) + slot_places k (ids_of (get_or ws n None))
+    ≡ slot_blocks k ws
+slot_answered k ws n code = sum_cleared (λ w. slot_places k (ids_of w)) refl ws n (answered (get_or ws n None) code)
+    (ap (slot_places k) (no_ids (get_or ws n None) code))
 
-pub blocks_answered : (id : Id) (ws : List (Option Wait)) (n code : ℕ) → blocks_among id (set ws n (answered (get_or ws n None) code)) + blocks_in id (get_or ws n None) ≡ blocks_among id ws
-blocks_answered id ws n code = sum_cleared (blocks_in id) refl ws n (answered (get_or ws n None) code) (ap (count_by (same_id id)) (no_ids (get_or ws n None) code))
+pub blocks_answered : (id : Id) (ws : List (Option Wait)) (n code : ℕ)
+    → blocks_among id (set ws n (answered (get_or ws n None) code)) + blocks_in id (get_or ws n None)
+    ≡ blocks_among id ws
+blocks_answered id ws n code = sum_cleared (blocks_in id) refl ws n (answered (get_or ws n None) code)
+    (ap (count_by (same_id id)) (no_ids (get_or ws n None) code))
 
 -- a wait goes
-pub slot_removed : (k : ℕ) (ws : List (Option Wait)) (n : ℕ) → slot_blocks k (set ws n None) + slot_places k (ids_of (get_or ws n None)) ≡ slot_blocks k ws
+pub slot_removed : (k : ℕ) (ws : List (Option Wait)) (n : ℕ)
+    → slot_blocks k (set ws n None) + slot_places k (ids_of (get_or ws n None)) ≡ slot_blocks k ws
 slot_removed k ws n = sum_cleared (λ w. slot_places k (ids_of w)) refl ws n None refl
 
-pub blocks_removed : (id : Id) (ws : List (Option Wait)) (n : ℕ) → blocks_among id (set ws n None) + blocks_in id (get_or ws n None) ≡ blocks_among id ws
+pub blocks_removed : (id : Id) (ws : List (Option Wait)) (n : ℕ)
+    → blocks_among id (set ws n None) + blocks_in id (get_or ws n None) ≡ blocks_among id ws
 blocks_removed id ws n = sum_cleared (blocks_in id) refl ws n None refl
 
 code_ids : (st : State) (code : ℕ) → state_code st ≡ Some code → state_ids st ≡ []
@@ -72,22 +84,30 @@ unless_other t w h = ap (λ b. cond b None w) h
 unless_own : (t : ℕ) (w : Option Wait) → is_waits_of t w ≡ true → unless_of t w ≡ None
 unless_own t w h = ap (λ b. cond b None w) h
 
-pub dropped_found : (ws : List (Option Wait)) (t n : ℕ) → IsKept ws → number_of t ws ≡ Some n → map (unless_of t) ws ≡ set ws n None
+pub dropped_found : (ws : List (Option Wait)) (t n : ℕ) → IsKept ws → number_of t ws ≡ Some n
+    → map (unless_of t) ws ≡ set ws n None
 dropped_found ws t n kept found =
     let at = position-Some (is_waits_of t) ws n None found in
     let own : thread_of (get_or ws n None) ≡ Some t = waits_thread t (get_or ws n None) at.1 in
     ext_get_or None (map (unless_of t) ws) (set ws n None) (length-map ws (unless_of t) ∙ sym (length-set ws n None))
-    (λ i lt. get_or-map (unless_of t) ws i None None (omega (arith, length-map ws (unless_of t))) ∙ elim (cases_eq i n) [
-      | inl same ↦ unless_own t (get_or ws i None) (thread_waits t (get_or ws i None) (ap (λ j. thread_of (get_or ws j None)) same ∙ own))
+    (λ i lt. get_or-map (unless_of t) ws i None None (omega (arith, length-map ws (unless_of t)))
+    ∙ elim (cases_eq i n) [
+      | inl same ↦ unless_own t (get_or ws i None)
+          (thread_waits t (get_or ws i None) (ap (λ j. thread_of (get_or ws j None)) same ∙ own))
           ∙ sym (ap (λ j. get_or (set ws n None) j None) same ∙ get_or-set_same ws n None None at.0)
-      | inr other ↦ unless_other t (get_or ws i None) (not_true _ (λ h. other (kept.one_each i n t (waits_thread t (get_or ws i None) h) own))) ∙ sym (get_or-set_other ws n i None None other)
+      | inr other ↦ unless_other t (get_or ws i None)
+          (not_true _ (λ h. other (kept.one_each i n t (waits_thread t (get_or ws i None) h) own)))
+          ∙ sym (get_or-set_other ws n i None None other)
     ])
 
 pub dropped_missing : (ws : List (Option Wait)) (t : ℕ) → number_of t ws ≡ None → map (unless_of t) ws ≡ ws
 dropped_missing ws t none = ext_get_or None (map (unless_of t) ws) ws (length-map ws (unless_of t))
-    (λ i lt. get_or-map (unless_of t) ws i None None (omega (arith, length-map ws (unless_of t))) ∙ unless_other t (get_or ws i None) (not_true _ (λ h. no_number t ws i none (waits_thread t (get_or ws i None) h))))
+    (λ i lt. get_or-map (unless_of t) ws i None None (omega (arith, length-map ws (unless_of t)))
+    ∙ unless_other t (get_or ws i None) (not_true _
+    (λ h. no_number t ws i none (waits_thread t (get_or ws i None) h))))
 
-sum_dropped : (f : Option Wait → ℕ) (g : List Id → ℕ) → ((w : Option Wait) → f w ≡ g (ids_of w)) → g [] ≡ 0 → (t : ℕ) (ws : List (Option Wait)) → IsKept ws →
+sum_dropped : (f : Option Wait → ℕ) (g : List Id → ℕ) → ((w : Option Wait) → f w ≡ g (ids_of w)) → g [] ≡ 0
+    → (t : ℕ) (ws : List (Option Wait)) → IsKept ws →
     sum_by f (map (unless_of t) ws) + g (thread_ids t ws) ≡ sum_by f ws
 sum_dropped f g same zero t ws kept = by (number_of t ws) refl
   where
@@ -101,10 +121,12 @@ sum_dropped f g same zero t ws kept = by (number_of t ws) refl
         let one = sum_cleared f (same None ∙ zero) ws n None (same None ∙ zero) in
         let here = same (get_or ws n None) in omega (arith, all, ids, one, here)
 
-pub slot_dropped : (k t : ℕ) (ws : List (Option Wait)) → IsKept ws → slot_blocks k (map (unless_of t) ws) + slot_places k (thread_ids t ws) ≡ slot_blocks k ws
+pub slot_dropped : (k t : ℕ) (ws : List (Option Wait)) → IsKept ws
+    → slot_blocks k (map (unless_of t) ws) + slot_places k (thread_ids t ws) ≡ slot_blocks k ws
 slot_dropped k t ws kept = sum_dropped (λ w. slot_places k (ids_of w)) (slot_places k) (λ w. refl) refl t ws kept
 
-pub blocks_dropped : (id : Id) (t : ℕ) (ws : List (Option Wait)) → IsKept ws → blocks_among id (map (unless_of t) ws) + count_by (same_id id) (thread_ids t ws) ≡ blocks_among id ws
+pub blocks_dropped : (id : Id) (t : ℕ) (ws : List (Option Wait)) → IsKept ws
+    → blocks_among id (map (unless_of t) ws) + count_by (same_id id) (thread_ids t ws) ≡ blocks_among id ws
 blocks_dropped id t ws kept = sum_dropped (blocks_in id) (count_by (same_id id)) (λ w. refl) refl t ws kept
 
 -- a wait that names a slot counts there
@@ -112,30 +134,38 @@ places_named : (k : ℕ) (ids : List Id) → list_any (λ (id : Id). id.slot == 
 places_named k [] h = absurd (cc)
 places_named k (x ∷ xs) h = by (x.slot == k) refl (places_named k xs)
   where
-    by : (b : Bool) → (x.slot == k) ≡ b → (list_any (λ (id : Id). id.slot == k) xs ≡ true → 0 < slot_places k xs) → 0 < slot_places k (x ∷ xs)
-    by true is later = let e = sum_by-cons (λ (y : Id). cond (y.slot == k) 1 0) x xs in let one : cond (x.slot == k) 1 0 ≡ 1 = ap {B = ℕ} (λ b. cond b 1 0) is in omega (arith, e, one)
-    by false is later = let e = sum_by-cons (λ (y : Id). cond (y.slot == k) 1 0) x xs in let some = later (grind (arith, is, h)) in omega (arith, e, some)
+    by : (b : Bool) → (x.slot == k) ≡ b → (list_any (λ (id : Id). id.slot == k) xs ≡ true → 0 < slot_places k xs)
+        → 0 < slot_places k (x ∷ xs)
+    by true is later = let e = sum_by-cons (λ (y : Id). cond (y.slot == k) 1 0) x xs in
+        let one : cond (x.slot == k) 1 0 ≡ 1 = ap {B = ℕ} (λ b. cond b 1 0) is in omega (arith, e, one)
+    by false is later = let e = sum_by-cons (λ (y : Id). cond (y.slot == k) 1 0) x xs in
+        let some = later (grind (arith, is, h)) in omega (arith, e, some)
 
 -- each place of a list counts in its slot
 pub places_at : (ids : List Id) (i : ℕ) → i < length ids → 0 < slot_places (get_or ids i nowhere).slot ids
 places_at ids i lt =
     let k = (get_or ids i nowhere).slot in
     let f : Id → ℕ = λ x. cond (x.slot == k) 1 0 in
-    let here : f (get_or ids i nowhere) ≡ 1 = ap {B = ℕ} (λ b. cond b 1 0) (let yes : (k == k) ≡ true = grind (arith, nat_tests) in yes) in
+    let here : f (get_or ids i nowhere) ≡ 1 = ap {B = ℕ} (λ b. cond b 1 0) (let yes : (k == k) ≡ true =
+    grind (arith, nat_tests) in yes) in
     omega (arith, get_or-le-sum_by f ids i nowhere lt, here)
 
 pub wait_counts : (k n : ℕ) (ws : List (Option Wait)) → slot_places k (ids_of (get_or ws n None)) ≤ slot_blocks k ws
 wait_counts k n ws = elim (cases_lt n (length ws)) [
   | inl lt ↦ get_or-le-sum_by (λ w. slot_places k (ids_of w)) ws n None lt
-  | inr past ↦ (let none : slot_places k (ids_of (get_or ws n None)) ≡ 0 = ap (λ w. slot_places k (ids_of w)) (get_or_past ws n None past) in omega (arith, none))
+  | inr past ↦ (let none : slot_places k (ids_of (get_or ws n None)) ≡ 0 =
+      ap (λ w. slot_places k (ids_of w)) (get_or_past ws n None past) in omega (arith, none))
 ]
 
 pub named_counts : (k n : ℕ) (ws : List (Option Wait)) → names_slot k (get_or ws n None) ≡ true → 0 < slot_blocks k ws
-named_counts k n ws named = let some = places_named k (ids_of (get_or ws n None)) named in let le = wait_counts k n ws in omega (arith, some, le)
+named_counts k n ws named = let some = places_named k (ids_of (get_or ws n None)) named in
+    let le = wait_counts k n ws in omega (arith, some, le)
 
-pub unnamed_ids : (k n : ℕ) (ws : List (Option Wait)) → slot_blocks k ws ≡ 0 → (i : ℕ) → i < length (ids_of (get_or ws n None)) → (get_or (ids_of (get_or ws n None)) i nowhere).slot ≡ k → ⊥
+pub unnamed_ids : (k n : ℕ) (ws : List (Option Wait)) → slot_blocks k ws ≡ 0 → (i : ℕ)
+    → i < length (ids_of (get_or ws n None)) → (get_or (ids_of (get_or ws n None)) i nowhere).slot ≡ k → ⊥
 unnamed_ids k n ws unnamed i lt same =
-    let some : 0 < slot_places k (ids_of (get_or ws n None)) = subst (λ j. 0 < slot_places j (ids_of (get_or ws n None))) same (places_at (ids_of (get_or ws n None)) i lt) in
+    let some : 0 < slot_places k (ids_of (get_or ws n None)) =
+    subst (λ j. 0 < slot_places j (ids_of (get_or ws n None))) same (places_at (ids_of (get_or ws n None)) i lt) in
     let le = wait_counts k n ws in omega (arith, some, le, unnamed)
 
 -- each wait has at most 64 blocks
@@ -144,18 +174,23 @@ few_places k None h = omega arith
 few_places k (Some w) h = by w.state h
   where
     by : (st : State) → StateWaitable st → slot_places k (state_ids st) ≤ 64
-    by (Pending mode ids) waitable = let le = count_by-le-length (λ (id : Id). id.slot == k) ids in let few = waitable.few in omega (arith, le, few)
+    by (Pending mode ids) waitable = let le = count_by-le-length (λ (id : Id). id.slot == k) ids in
+        let few = waitable.few in omega (arith, le, few)
     by (Answered code) waitable = omega arith
 
 pub slot_blocks-few : (k : ℕ) (ws : List (Option Wait)) → IsKept ws → slot_blocks k ws ≤ length ws * 64
-slot_blocks-few k ws kept = sum_by-le (λ w. slot_places k (ids_of w)) 64 ws (All-from_get_or (λ w. slot_places k (ids_of w) ≤ 64) ws None (λ n lt. few_places k (get_or ws n None) (kept.each n)))
+slot_blocks-few k ws kept = sum_by-le (λ w. slot_places k (ids_of w)) 64 ws
+    (All-from_get_or (λ w. slot_places k (ids_of w) ≤ 64) ws None
+    (λ n lt. few_places k (get_or ws n None) (kept.each n)))
 
 -- settling answers waits
-blocks_effect : (id : Id) (s : Scene) (n : ℕ) → is_ready s.objects.bodies (get_or s.waits n None) ≡ true → blocks_among id (effect s n).waits ≤ blocks_among id s.waits
+blocks_effect : (id : Id) (s : Scene) (n : ℕ) → is_ready s.objects.bodies (get_or s.waits n None) ≡ true
+    → blocks_among id (effect s n).waits ≤ blocks_among id s.waits
 blocks_effect id s n ready =
     let a = answers s n ready in
     let e = ap (blocks_among id) a.waits in
     let c = sum_cleared (blocks_in id) refl s.waits n (answered_wait a.wait a.code) refl in omega (arith, e, c)
 
 pub blocks_settled : (id : Id) (scene : Scene) → blocks_among id (settled scene).waits ≤ blocks_among id scene.waits
-blocks_settled id scene = settled_by_effects (λ (a b : Scene). blocks_among id b.waits ≤ blocks_among id a.waits) (λ s. omega arith) (λ a b c x y. omega (arith, x, y)) (blocks_effect id) scene
+blocks_settled id scene = settled_by_effects (λ (a b : Scene). blocks_among id b.waits ≤ blocks_among id a.waits)
+    (λ s. omega arith) (λ a b c x y. omega (arith, x, y)) (blocks_effect id) scene

@@ -26,7 +26,8 @@ use Rattle.ob_waits.proofs.TrackedLaws.{no_number}
 abbrev Follows : Option Wait → Option Wait → Type 0
 Follows old new = (new ≡ old) ⊎ (deadline_of new ≡ None)
 
-pub timely_by : (clock : ℕ) (ws ws' : List (Option Wait)) (dues : List (Option ℕ)) → ((n : ℕ) → Follows (get_or ws n None) (get_or ws' n None)) → AreTimely clock ws dues → AreTimely clock ws' dues
+pub timely_by : (clock : ℕ) (ws ws' : List (Option Wait)) (dues : List (Option ℕ))
+    → ((n : ℕ) → Follows (get_or ws n None) (get_or ws' n None)) → AreTimely clock ws dues → AreTimely clock ws' dues
 timely_by clock ws ws' dues follows timely = record {
   moment = timely.moment;
   ahead = record {
@@ -52,27 +53,34 @@ unpending (Some w) h = by w.state h
     by (Answered code) h = refl
 
 -- some waits were answered
-pub timely_faded : (clock : ℕ) (ws ws' : List (Option Wait)) (dues : List (Option ℕ)) → Fade ws ws' → AreTimely clock ws dues → AreTimely clock ws' dues
-timely_faded clock ws ws' dues fade timely = timely_by clock ws ws' dues (λ n. by n (is_pending (get_or ws' n None)) refl) timely
+pub timely_faded : (clock : ℕ) (ws ws' : List (Option Wait)) (dues : List (Option ℕ)) → Fade ws ws'
+    → AreTimely clock ws dues → AreTimely clock ws' dues
+timely_faded clock ws ws' dues fade timely = timely_by clock ws ws' dues
+    (λ n. by n (is_pending (get_or ws' n None)) refl) timely
   where
     by : (n : ℕ) (b : Bool) → is_pending (get_or ws' n None) ≡ b → Follows (get_or ws n None) (get_or ws' n None)
     by n true is = inl ((fade.each n).stays is)
     by n false is = inr (unpending (get_or ws' n None) is)
 
-pub timely_settled : (clock : ℕ) (before after : Objects) (ws ws' : List (Option Wait)) (dues : List (Option ℕ)) → ◌≡◌ {A = Scene} (record { objects = after; waits = ws' }) (settled (record { objects = before; waits = ws }))
+pub timely_settled : (clock : ℕ) (before after : Objects) (ws ws' : List (Option Wait)) (dues : List (Option ℕ))
+    → ◌≡◌ {A = Scene} (record { objects = after; waits = ws' }) (settled (record { objects = before; waits = ws }))
     → AreTimely clock ws dues → AreTimely clock ws' dues
 timely_settled clock before after ws ws' dues value timely =
-    timely_faded clock ws ws' dues (subst (Fade ws) (sym (ap (λ (s : Scene). s.waits) value)) (settled_stays (record { objects = before; waits = ws })).fade) timely
+    timely_faded clock ws ws' dues (subst (Fade ws) (sym (ap (λ (s : Scene). s.waits) value))
+    (settled_stays (record { objects = before; waits = ws })).fade) timely
 
 -- one went
-pub timely_removed : (clock : ℕ) (ws : List (Option Wait)) (n : ℕ) (dues : List (Option ℕ)) → AreTimely clock ws dues → AreTimely clock (set ws n None) dues
+pub timely_removed : (clock : ℕ) (ws : List (Option Wait)) (n : ℕ) (dues : List (Option ℕ)) → AreTimely clock ws dues
+    → AreTimely clock (set ws n None) dues
 timely_removed clock ws n dues timely = timely_by clock ws (set ws n None) dues (λ m. by m) timely
   where
     by : (m : ℕ) → Follows (get_or ws m None) (get_or (set ws n None) m None)
     by m = elim (cases_eq m n) [
       | inl same ↦ elim (cases_lt n (length ws)) [
-        | inl lt ↦ inr (ap deadline_of (ap (λ i. get_or (set ws n None) i None) same ∙ get_or-set_same ws n None None lt))
-        | inr past ↦ inr (ap deadline_of (get_or_past (set ws n None) m None (omega (arith, length-set {A = Option Wait} ws n None, same, past))))
+        | inl lt ↦ inr (ap deadline_of (ap (λ i. get_or (set ws n None) i None) same
+            ∙ get_or-set_same ws n None None lt))
+        | inr past ↦ inr (ap deadline_of (get_or_past (set ws n None) m None
+            (omega (arith, length-set {A = Option Wait} ws n None, same, past))))
       ]
       | inr other ↦ inl (get_or-set_other ws n m None None other)
     ]
@@ -89,50 +97,73 @@ timely_none = record {
     none n = elim n as (λ n. get_or {A = Option Wait} (None ∷ []) n None ≡ None) [ zero ↦ refl | suc n ↦ refl ]
 
 -- a wait comes, of a thread that had none, whose deadline is listed where it is pending
-pub timely_came : (clock : ℕ) (ws : List (Option Wait)) (w : Wait) (dues dues' : List (Option ℕ)) → number_of w.thread ws ≡ None → IsAfter clock (deadline_of (Some w))
-    → ((u : ℕ) → (u ≡ w.thread → ⊥) → get_or dues' u None ≡ get_or dues u None) → ((e : ℕ) → deadline_of (Some w) ≡ Some e → get_or dues' w.thread None ≡ Some e)
+pub timely_came : (clock : ℕ) (ws : List (Option Wait)) (w : Wait) (dues dues' : List (Option ℕ))
+    → number_of w.thread ws ≡ None → IsAfter clock (deadline_of (Some w))
+    → ((u : ℕ) → (u ≡ w.thread → ⊥) → get_or dues' u None ≡ get_or dues u None)
+    → ((e : ℕ) → deadline_of (Some w) ≡ Some e → get_or dues' w.thread None ≡ Some e)
     → AreTimely clock ws dues → AreTimely clock (ws ++ Some w ∷ []) dues'
 timely_came clock ws w dues dues' alone ahead others here timely = record {
   moment = timely.moment;
-  ahead = record { each = λ n. by_number ws w (λ n x. IsAfter clock (deadline_of x)) (λ n lt. timely.ahead.each n) ahead (λ n past. tt) n };
+  ahead = record {
+    each = λ n. by_number ws w (λ n x. IsAfter clock (deadline_of x)) (λ n lt. timely.ahead.each n) ahead
+        (λ n past. tt) n;
+  };
   listed = record {
-    each = λ n u e own due. by_number ws w (λ n x. thread_of x ≡ Some u → deadline_of x ≡ Some e → get_or dues' u None ≡ Some e)
+    each = λ n u e own due. by_number ws w (λ n x. thread_of x ≡ Some u → deadline_of x ≡ Some e
+        → get_or dues' u None ≡ Some e)
         (λ n lt own due. old n u e own due)
         (λ own due. let same_thread : w.thread ≡ u = cc in ap (λ v. get_or dues' v None) (sym same_thread) ∙ here e due)
         (λ n past own due. absurd (cc)) n own due;
   };
 }
   where
-    old : (n u e : ℕ) → thread_of (get_or ws n None) ≡ Some u → deadline_of (get_or ws n None) ≡ Some e → get_or dues' u None ≡ Some e
+    old : (n u e : ℕ) → thread_of (get_or ws n None) ≡ Some u → deadline_of (get_or ws n None) ≡ Some e
+        → get_or dues' u None ≡ Some e
     old n u e own due = elim (cases_eq u w.thread) [
       | inl ours ↦ absurd (no_number w.thread ws n alone (own ∙ ap Some ours))
       | inr other ↦ others u other ∙ timely.listed.each n u e own due
     ]
 
-pub timely_added : (clock : ℕ) (ws : List (Option Wait)) (t : ℕ) (mode : Mode) (ids : List Id) (d : Option ℕ) (dues room : List (Option ℕ)) → number_of t ws ≡ None → IsAfter clock d → t < length room
-    → ((u : ℕ) → get_or room u None ≡ get_or dues u None) → AreTimely clock ws dues → AreTimely clock (ws ++ Some (new_wait t mode ids d) ∷ []) (set room t d)
+pub timely_added : (clock : ℕ) (ws : List (Option Wait)) (t : ℕ) (mode : Mode) (ids : List Id) (d : Option ℕ)
+    (dues room : List (Option ℕ)) → number_of t ws ≡ None → IsAfter clock d → t < length room
+    → ((u : ℕ) → get_or room u None ≡ get_or dues u None) → AreTimely clock ws dues
+    → AreTimely clock (ws ++ Some (new_wait t mode ids d) ∷ []) (set room t d)
 timely_added clock ws t mode ids d dues room alone ahead place same timely =
-    timely_came clock ws (new_wait t mode ids d) dues (set room t d) alone ahead (λ u other. get_or-set_other room t u d None other ∙ same u) (λ e due. get_or-set_same room t d None place ∙ due) timely
+    timely_came clock ws (new_wait t mode ids d) dues (set room t d) alone ahead
+    (λ u other. get_or-set_other room t u d None other ∙ same u) (λ e due. get_or-set_same room t d None place
+    ∙ due) timely
 
-pub timely_answered : (clock : ℕ) (ws : List (Option Wait)) (t code : ℕ) (d : Option ℕ) (dues : List (Option ℕ)) → number_of t ws ≡ None
-    → AreTimely clock ws dues → AreTimely clock (ws ++ Some (record { thread = t; deadline = d; state = Answered code }) ∷ []) dues
+pub timely_answered : (clock : ℕ) (ws : List (Option Wait)) (t code : ℕ) (d : Option ℕ) (dues : List (Option ℕ))
+    → number_of t ws ≡ None
+    → AreTimely clock ws dues → AreTimely clock (ws
+    ++ Some (record { thread = t; deadline = d; state = Answered code }) ∷ []) dues
 timely_answered clock ws t code d dues alone timely =
-    timely_came clock ws (record { thread = t; deadline = d; state = Answered code }) dues dues alone tt (λ u other. refl) (λ e due. absurd (cc)) timely
+    timely_came clock ws (record { thread = t; deadline = d; state = Answered code }) dues dues alone tt
+    (λ u other. refl) (λ e due. absurd (cc)) timely
 
 -- the clock goes on, where no wait's time is up
 undue_after : (now : ℕ) (d : Option ℕ) → is_due now d ≡ false → IsAfter now d
 undue_after now None h = tt
 undue_after now (Some due) h = grind (arith, nat_tests, h)
 
-pub timely_passed : (clock now : ℕ) (ws : List (Option Wait)) (dues : List (Option ℕ)) → now ≤ 9223372036854775807 → ((n : ℕ) → is_overdue now (get_or ws n None) ≡ false) → AreTimely clock ws dues → AreTimely now ws dues
-timely_passed clock now ws dues last none timely = record { moment = last; ahead = record { each = λ n. undue_after now (deadline_of (get_or ws n None)) (none n) }; listed = timely.listed }
+pub timely_passed : (clock now : ℕ) (ws : List (Option Wait)) (dues : List (Option ℕ)) → now ≤ 9223372036854775807
+    → ((n : ℕ) → is_overdue now (get_or ws n None) ≡ false) → AreTimely clock ws dues → AreTimely now ws dues
+timely_passed clock now ws dues last none timely =
+    record {
+      moment = last;
+      ahead = record { each = λ n. undue_after now (deadline_of (get_or ws n None)) (none n) };
+      listed = timely.listed;
+    }
 
 -- a deadline that is listed, but not of a pending wait, is dropped
-pub listed_cleared : (now : ℕ) (ws : List (Option Wait)) (dues : List (Option ℕ)) (t : ℕ) → is_due now (get_or dues t None) ≡ true → ((n : ℕ) → thread_of (get_or ws n None) ≡ Some t → is_overdue now (get_or ws n None) ≡ false)
+pub listed_cleared : (now : ℕ) (ws : List (Option Wait)) (dues : List (Option ℕ)) (t : ℕ)
+    → is_due now (get_or dues t None) ≡ true → ((n : ℕ) → thread_of (get_or ws n None) ≡ Some t
+    → is_overdue now (get_or ws n None) ≡ false)
     → AreListed ws dues → AreListed ws (set dues t None)
 listed_cleared now ws dues t due idle listed = record {
   each = λ n u d own is. elim (cases_eq u t) [
-    | inl same ↦ absurd (let stands : get_or dues t None ≡ Some d = ap (λ v. get_or dues v None) (sym same) ∙ listed.each n u d own is in
+    | inl same ↦ absurd (let stands : get_or dues t None ≡ Some d = ap (λ v. get_or dues v None) (sym same)
+        ∙ listed.each n u d own is in
         let yes : is_due now (Some d) ≡ true = ap (is_due now) (sym stands) ∙ due in
         let no : is_due now (Some d) ≡ false = ap (is_due now) (sym is) ∙ idle n (own ∙ ap Some same) in
         cc (yes, no))
@@ -141,7 +172,8 @@ listed_cleared now ws dues t due idle listed = record {
 }
 
 -- with each that is dropped one fewer is due
-fewer : (p : Option ℕ → Bool) (dues : List (Option ℕ)) (t : ℕ) → p None ≡ false → p (get_or dues t None) ≡ true → count_by p (set dues t None) < count_by p dues
+fewer : (p : Option ℕ → Bool) (dues : List (Option ℕ)) (t : ℕ) → p None ≡ false → p (get_or dues t None) ≡ true
+    → count_by p (set dues t None) < count_by p dues
 fewer p dues t none due =
     let f : Option ℕ → ℕ = λ x. cond (p x) 1 0 in
     let a = sum_by-set f dues t None None within in
@@ -155,18 +187,22 @@ fewer p dues t none due =
       | inr past ↦ absurd (let e = ap p (get_or_past dues t None past) in cc (e, none, due))
     ]
 
-pub fewer_listed : (now : ℕ) (dues : List (Option ℕ)) (t : ℕ) → is_due now (get_or dues t None) ≡ true → count_by (is_due now) (set dues t None) < count_by (is_due now) dues
+pub fewer_listed : (now : ℕ) (dues : List (Option ℕ)) (t : ℕ) → is_due now (get_or dues t None) ≡ true
+    → count_by (is_due now) (set dues t None) < count_by (is_due now) dues
 fewer_listed now dues t due = fewer (is_due now) dues t refl due
 
 due_some : (now : ℕ) (x : Option ℕ) → is_due now x ≡ true → is_some x ≡ true
 due_some now None due = absurd (cc (due))
 due_some now (Some moment) due = refl
 
-pub fewer_moments : (now : ℕ) (dues : List (Option ℕ)) (t : ℕ) → is_due now (get_or dues t None) ≡ true → count_by is_some (set dues t None) < count_by is_some dues
+pub fewer_moments : (now : ℕ) (dues : List (Option ℕ)) (t : ℕ) → is_due now (get_or dues t None) ≡ true
+    → count_by is_some (set dues t None) < count_by is_some dues
 fewer_moments now dues t due = fewer is_some dues t refl (due_some now (get_or dues t None) due)
 
 -- where none that is listed is due, no wait is overdue
-pub none_overdue : (now : ℕ) (ws : List (Option Wait)) (dues : List (Option ℕ)) → ((t : ℕ) → is_due now (get_or dues t None) ≡ false) → AreListed ws dues → (n : ℕ) → is_overdue now (get_or ws n None) ≡ false
+pub none_overdue : (now : ℕ) (ws : List (Option Wait)) (dues : List (Option ℕ))
+    → ((t : ℕ) → is_due now (get_or dues t None) ≡ false) → AreListed ws dues → (n : ℕ)
+    → is_overdue now (get_or ws n None) ≡ false
 none_overdue now ws dues none listed n = by (get_or ws n None) refl
   where
     by : (w : Option Wait) → get_or ws n None ≡ w → is_overdue now w ≡ false
@@ -175,47 +211,64 @@ none_overdue now ws dues none listed n = by (get_or ws n None) refl
       where
         due : (d : Option ℕ) → deadline_of (Some w) ≡ d → is_due now d ≡ false
         due None is = refl
-        due (Some d) is = ap (is_due now) (sym (listed.each n w.thread d (ap thread_of at) (ap deadline_of at ∙ is))) ∙ none w.thread
+        due (Some d) is = ap (is_due now) (sym (listed.each n w.thread d (ap thread_of at) (ap deadline_of at ∙ is)))
+            ∙ none w.thread
 
 -- the least that is listed
-undue : (now : ℕ) (least x : Option ℕ) → is_due now least ≡ false → ((moment : ℕ) → x ≡ Some moment → NotAfter least moment) → is_due now x ≡ false
+undue : (now : ℕ) (least x : Option ℕ) → is_due now least ≡ false
+    → ((moment : ℕ) → x ≡ Some moment → NotAfter least moment) → is_due now x ≡ false
 undue now least None none first = refl
 undue now None (Some moment) none first = absurd (first moment refl)
-undue now (Some least) (Some moment) none first = let before : least ≤ moment = first moment refl in grind (arith, nat_tests, none, before)
+undue now (Some least) (Some moment) none first = let before : least ≤ moment = first moment refl in
+    grind (arith, nat_tests, none, before)
 
-pub none_due : (now : ℕ) (dues : List (Option ℕ)) (least : Option ℕ) → IsLeast dues least → is_due now least ≡ false → (k : ℕ) → is_due now (get_or dues k None) ≡ false
+pub none_due : (now : ℕ) (dues : List (Option ℕ)) (least : Option ℕ) → IsLeast dues least → is_due now least ≡ false
+    → (k : ℕ) → is_due now (get_or dues k None) ≡ false
 none_due now dues least is none k = undue now least (get_or dues k None) none (λ moment at. is.first k moment at)
 
-pub due_too : (now due : ℕ) (dues : List (Option ℕ)) (x : Option ℕ) → IsLeast dues (Some due) → due ≤ now → IsLeast dues x → is_due now x ≡ true
+pub due_too : (now due : ℕ) (dues : List (Option ℕ)) (x : Option ℕ) → IsLeast dues (Some due) → due ≤ now
+    → IsLeast dues x → is_due now x ≡ true
 due_too now due dues None is soon other = absurd (other.first is.stands.0 due is.stands.1)
-due_too now due dues (Some moment) is soon other = let before : moment ≤ due = other.first is.stands.0 due is.stands.1 in grind (arith, nat_tests, before, soon)
+due_too now due dues (Some moment) is soon other = let before : moment ≤ due =
+    other.first is.stands.0 due is.stands.1 in grind (arith, nat_tests, before, soon)
 
 -- the least deadline: of the waits, where it is that of a pending one
 deadline_at : (ws : List (Option Wait)) (n : ℕ) → get_or (map deadline_of ws) n None ≡ deadline_of (get_or ws n None)
 deadline_at ws n = elim (cases_lt n (length ws)) [
   | inl lt ↦ get_or-map deadline_of ws n None None lt
-  | inr past ↦ get_or_past (map deadline_of ws) n None (omega (arith, length-map ws deadline_of, past)) ∙ sym (ap deadline_of (get_or_past ws n None past))
+  | inr past ↦ get_or_past (map deadline_of ws) n None (omega (arith, length-map ws deadline_of, past))
+      ∙ sym (ap deadline_of (get_or_past ws n None past))
 ]
 
 -- what is listed for a deadline that some wait has
-listed_at : (ws : List (Option Wait)) (dues : List (Option ℕ)) (n d : ℕ) → AreListed ws dues → deadline_of (get_or ws n None) ≡ Some d → (t : ℕ) × (get_or dues t None ≡ Some d)
+listed_at : (ws : List (Option Wait)) (dues : List (Option ℕ)) (n d : ℕ) → AreListed ws dues
+    → deadline_of (get_or ws n None) ≡ Some d → (t : ℕ) × (get_or dues t None ≡ Some d)
 listed_at ws dues n d listed is = by (get_or ws n None) refl
   where
     by : (w : Option Wait) → get_or ws n None ≡ w → (t : ℕ) × (get_or dues t None ≡ Some d)
     by None at = absurd (let e : deadline_of (get_or ws n None) ≡ None = ap deadline_of at in cc (e, is))
     by (Some w) at = (w.thread, listed.each n w.thread d (ap thread_of at) is)
 
-not_before_least : (ws : List (Option Wait)) (dues : List (Option ℕ)) (least : Option ℕ) → AreListed ws dues → IsLeast dues least → (n d : ℕ) → get_or (map deadline_of ws) n None ≡ Some d → NotAfter least d
-not_before_least ws dues least listed is n d at = let there = listed_at ws dues n d listed (sym (deadline_at ws n) ∙ at) in is.first there.0 d there.1
+not_before_least : (ws : List (Option Wait)) (dues : List (Option ℕ)) (least : Option ℕ) → AreListed ws dues
+    → IsLeast dues least → (n d : ℕ) → get_or (map deadline_of ws) n None ≡ Some d → NotAfter least d
+not_before_least ws dues least listed is n d at = let there = listed_at ws dues n d listed (sym (deadline_at ws n) ∙ at)
+    in is.first there.0 d there.1
 
-pub least_none : (ws : List (Option Wait)) (dues : List (Option ℕ)) → AreListed ws dues → IsLeast dues None → IsLeast (map deadline_of ws) None
+pub least_none : (ws : List (Option Wait)) (dues : List (Option ℕ)) → AreListed ws dues → IsLeast dues None
+    → IsLeast (map deadline_of ws) None
 least_none ws dues listed is = record { stands = tt; first = not_before_least ws dues None listed is }
 
-least_deadline : (ws : List (Option Wait)) (dues : List (Option ℕ)) (n due : ℕ) → AreListed ws dues → IsLeast dues (Some due) → is_overdue due (get_or ws n None) ≡ true → IsLeast (map deadline_of ws) (Some due)
-least_deadline ws dues n due listed is over = record { stands = by (deadline_of (get_or ws n None)) refl; first = not_before_least ws dues (Some due) listed is }
+least_deadline : (ws : List (Option Wait)) (dues : List (Option ℕ)) (n due : ℕ) → AreListed ws dues
+    → IsLeast dues (Some due) → is_overdue due (get_or ws n None) ≡ true → IsLeast (map deadline_of ws) (Some due)
+least_deadline ws dues n due listed is over = record {
+  stands = by (deadline_of (get_or ws n None)) refl;
+  first = not_before_least ws dues (Some due) listed is;
+}
   where
-    by : (x : Option ℕ) → deadline_of (get_or ws n None) ≡ x → (place : ℕ) × (get_or (map deadline_of ws) place None ≡ Some due)
-    by None at = absurd (let e : is_due due (deadline_of (get_or ws n None)) ≡ false = ap (is_due due) at in cc (e, over))
+    by : (x : Option ℕ) → deadline_of (get_or ws n None) ≡ x
+        → (place : ℕ) × (get_or (map deadline_of ws) place None ≡ Some due)
+    by None at = absurd (let e : is_due due (deadline_of (get_or ws n None)) ≡ false = ap (is_due due) at in
+        cc (e, over))
     by (Some d) at =
         let soon : is_due due (Some d) ≡ true = ap (is_due due) (sym at) ∙ over in
         let early : d ≤ due = grind (arith, nat_tests, soon) in
@@ -223,12 +276,15 @@ least_deadline ws dues n due listed is over = record { stands = by (deadline_of 
         let same : d ≡ due = omega (arith, early, late) in
         (n, deadline_at ws n ∙ at ∙ ap Some same)
 
-pub least_overdue : (ws : List (Option Wait)) (dues : List (Option ℕ)) (n : Option ℕ) (due : ℕ) → AreListed ws dues → IsLeast dues (Some due) → is_some n ≡ true → IfSome n (λ m. is_overdue due (get_or ws m None) ≡ true) → IsLeast (map deadline_of ws) (Some due)
+pub least_overdue : (ws : List (Option Wait)) (dues : List (Option ℕ)) (n : Option ℕ) (due : ℕ) → AreListed ws dues
+    → IsLeast dues (Some due) → is_some n ≡ true → IfSome n (λ m. is_overdue due (get_or ws m None) ≡ true)
+    → IsLeast (map deadline_of ws) (Some due)
 least_overdue ws dues None due listed is some over = absurd (cc (some))
 least_overdue ws dues (Some n) due listed is some over = least_deadline ws dues n due listed is over
 
 -- the least that is listed is due at its moment
-pub least_is_due : (dues : List (Option ℕ)) (due : ℕ) → IsLeast dues (Some due) → ((t : ℕ) → is_due due (get_or dues t None) ≡ false) → ⊥
+pub least_is_due : (dues : List (Option ℕ)) (due : ℕ) → IsLeast dues (Some due)
+    → ((t : ℕ) → is_due due (get_or dues t None) ≡ false) → ⊥
 least_is_due dues due is none =
     let at : is_due due (Some due) ≡ false = ap (is_due due) (sym is.stands.1) ∙ none is.stands.0 in
     let yes : is_due due (Some due) ≡ true = grind (arith, nat_tests) in

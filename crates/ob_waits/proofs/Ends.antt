@@ -22,12 +22,15 @@ pub record SameSlots (bodies after : List (Option Body)) : Type 0 where
   pub each : (k : ℕ) → is_some (get_or after k None) ≡ is_some (get_or bodies k None)
 
 -- one body changed
-pub same_set : (bodies : List (Option Body)) (i : ℕ) (x : Option Body) → is_some x ≡ is_some (get_or bodies i None) → SameSlots bodies (set bodies i x)
+pub same_set : (bodies : List (Option Body)) (i : ℕ) (x : Option Body) → is_some x ≡ is_some (get_or bodies i None)
+    → SameSlots bodies (set bodies i x)
 same_set bodies i x same = record {
   each = λ k. elim (cases_eq k i) [
     | inl here ↦ elim (cases_lt i (length bodies)) [
-      | inl lt ↦ ap (λ j. is_some (get_or (set bodies i x) j None)) here ∙ ap is_some (get_or-set_same bodies i x None lt) ∙ same ∙ ap (λ j. is_some (get_or bodies j None)) (sym here)
-      | inr past ↦ ap is_some (get_or_past (set bodies i x) k None (omega (arith, length-set bodies i x))) ∙ sym (ap is_some (get_or_past bodies k None (omega arith)))
+      | inl lt ↦ ap (λ j. is_some (get_or (set bodies i x) j None)) here
+          ∙ ap is_some (get_or-set_same bodies i x None lt) ∙ same ∙ ap (λ j. is_some (get_or bodies j None)) (sym here)
+      | inr past ↦ ap is_some (get_or_past (set bodies i x) k None (omega (arith, length-set bodies i x)))
+          ∙ sym (ap is_some (get_or_past bodies k None (omega arith)))
     ]
     | inr other ↦ ap is_some (get_or-set_other bodies i k x None other)
   ];
@@ -38,7 +41,8 @@ same_slot t None = refl
 same_slot t (Some b) = refl
 
 same_one : (t : ℕ) (bodies : List (Option Body)) (id : Id) → SameSlots bodies (with_acquired t bodies id)
-same_one t bodies id = same_set bodies id.slot (slot_acquired t (get_or bodies id.slot None)) (same_slot t (get_or bodies id.slot None))
+same_one t bodies id = same_set bodies id.slot (slot_acquired t (get_or bodies id.slot None))
+    (same_slot t (get_or bodies id.slot None))
 
 same_all : (t : ℕ) (ids : List Id) (bodies : List (Option Body)) → SameSlots bodies (with_all_acquired t bodies ids)
 same_all t [] bodies = record { each = λ k. refl }
@@ -48,54 +52,79 @@ same_all t (id ∷ ids) bodies =
     record { each = λ k. more.each k ∙ one.each k }
 
 -- a thread took what it waits for
-pub same_after : (mode : Mode) (t : ℕ) (bodies : List (Option Body)) (ids : List Id) → SameSlots bodies (bodies_after mode t bodies ids)
+pub same_after : (mode : Mode) (t : ℕ) (bodies : List (Option Body)) (ids : List Id)
+    → SameSlots bodies (bodies_after mode t bodies ids)
 same_after Any t bodies ids = same_one t bodies (get_or ids (first_signaled t bodies ids) nowhere)
 same_after All t bodies ids = same_all t ids bodies
 
-pub ends_taken : (objects : Objects) (after : List (Option Body)) → SameSlots objects.bodies after → HasBodies objects → HasBodies (record objects { bodies = after })
+pub ends_taken : (objects : Objects) (after : List (Option Body)) → SameSlots objects.bodies after → HasBodies objects
+    → HasBodies (record objects { bodies = after })
 ends_taken objects after same has = record { each = λ k. same.each k ∙ has.each k }
 
 -- a block leaves, and with the last one the body
 pub body_left : (objects : Objects) (id : Id) (k : ℕ) →
-    get_or (bodies_left objects id) k None ≡ cond (eqb id.slot k) (cond (eqb (get_or objects.handles k 0 + (get_or objects.blocks k 0 - 1)) 0) None (get_or objects.bodies k None)) (get_or objects.bodies k None)
-body_left objects id k = by (eqb (get_or objects.handles id.slot 0 + (get_or objects.blocks id.slot 0 - 1)) 0) refl (eqb id.slot k) refl
+    get_or (bodies_left objects id) k None ≡ cond (eqb id.slot k)
+    (cond (eqb (get_or objects.handles k 0 + (get_or objects.blocks k 0 - 1)) 0) None
+    (get_or objects.bodies k None)) (get_or objects.bodies k None)
+body_left objects id k = by (eqb (get_or objects.handles id.slot 0 + (get_or objects.blocks id.slot 0 - 1)) 0) refl
+    (eqb id.slot k) refl
   where
     count : ℕ → Bool
     count i = eqb (get_or objects.handles i 0 + (get_or objects.blocks i 0 - 1)) 0
 
     at_none : id.slot ≡ k → get_or (set objects.bodies id.slot None) k None ≡ None
     at_none same = elim (cases_lt id.slot (length objects.bodies)) [
-      | inl lt ↦ ap (λ i. get_or (set objects.bodies id.slot None) i None) (sym same) ∙ get_or-set_same objects.bodies id.slot None None lt
-      | inr past ↦ get_or_past (set objects.bodies id.slot None) k None (omega (arith, length-set objects.bodies id.slot None, same))
+      | inl lt ↦ ap (λ i. get_or (set objects.bodies id.slot None) i None) (sym same)
+          ∙ get_or-set_same objects.bodies id.slot None None lt
+      | inr past ↦ get_or_past (set objects.bodies id.slot None) k None
+          (omega (arith, length-set objects.bodies id.slot None, same))
     ]
 
     by : (gone : Bool) → count id.slot ≡ gone → (here : Bool) → eqb id.slot k ≡ here →
-        get_or (cond gone (set objects.bodies id.slot None) objects.bodies) k None ≡ cond here (cond (count k) None (get_or objects.bodies k None)) (get_or objects.bodies k None)
+        get_or (cond gone (set objects.bodies id.slot None) objects.bodies) k None
+        ≡ cond here (cond (count k) None (get_or objects.bodies k None)) (get_or objects.bodies k None)
     by true gone true here =
         let same : id.slot ≡ k = grind (arith, nat_tests, here) in
         at_none same ∙ sym (ap (λ b. cond b None (get_or objects.bodies k None)) (ap count (sym same) ∙ gone))
     by false gone true here =
         let same : id.slot ≡ k = grind (arith, nat_tests, here) in
         sym (ap (λ b. cond b None (get_or objects.bodies k None)) (ap count (sym same) ∙ gone))
-    by true gone false here = get_or-set_other objects.bodies id.slot k None None (λ e. absurd (grind (arith, nat_tests, here, e)))
+    by true gone false here = get_or-set_other objects.bodies id.slot k None None
+        (λ e. absurd (grind (arith, nat_tests, here, e)))
     by false gone false here = refl
 
 pub ends_left : (id : Id) (objects : Objects) → HasBodies objects → HasBodies (without_block objects id)
-ends_left id objects has = record { each = λ k. by k (eqb id.slot k) refl (eqb (get_or objects.handles k 0 + (get_or objects.blocks k 0 - 1)) 0) refl }
+ends_left id objects has = record {
+  each = λ k. by k (eqb id.slot k) refl
+      (eqb (get_or objects.handles k 0 + (get_or objects.blocks k 0 - 1)) 0) refl;
+}
   where
-    by : (k : ℕ) (here : Bool) → eqb id.slot k ≡ here → (gone : Bool) → eqb (get_or objects.handles k 0 + (get_or objects.blocks k 0 - 1)) 0 ≡ gone →
-        is_some (get_or (bodies_left objects id) k None) ≡ ltb 0 (get_or objects.handles k 0 + get_or (blocks_left objects.blocks id) k 0)
+    by : (k : ℕ) (here : Bool) → eqb id.slot k ≡ here → (gone : Bool)
+        → eqb (get_or objects.handles k 0 + (get_or objects.blocks k 0 - 1)) 0 ≡ gone →
+        is_some (get_or (bodies_left objects id) k None)
+        ≡ ltb 0 (get_or objects.handles k 0 + get_or (blocks_left objects.blocks id) k 0)
     by k true here true gone =
-        let body : is_some (get_or (bodies_left objects id) k None) ≡ false = ap is_some (body_left objects id k) ∙ ap (λ b. is_some (cond b (cond (eqb (get_or objects.handles k 0 + (get_or objects.blocks k 0 - 1)) 0) None (get_or objects.bodies k None)) (get_or objects.bodies k None))) here ∙ ap (λ b. is_some (cond b None (get_or objects.bodies k None))) gone in
+        let body : is_some (get_or (bodies_left objects id) k None) ≡ false =
+        ap is_some (body_left objects id k) ∙ ap
+        (λ b. is_some (cond b (cond (eqb (get_or objects.handles k 0 + (get_or objects.blocks k 0 - 1)) 0) None
+        (get_or objects.bodies k None)) (get_or objects.bodies k None))) here
+        ∙ ap (λ b. is_some (cond b None (get_or objects.bodies k None))) gone in
         let count = left_one objects.blocks id k ∙ ap (λ b. get_or objects.blocks k 0 - cond b 1 0) here in
         grind (arith, nat_tests, body, count, gone)
     by k true here false gone =
-        let body : is_some (get_or (bodies_left objects id) k None) ≡ is_some (get_or objects.bodies k None) = ap is_some (body_left objects id k) ∙ ap (λ b. is_some (cond b (cond (eqb (get_or objects.handles k 0 + (get_or objects.blocks k 0 - 1)) 0) None (get_or objects.bodies k None)) (get_or objects.bodies k None))) here ∙ ap (λ b. is_some (cond b None (get_or objects.bodies k None))) gone in
+        let body : is_some (get_or (bodies_left objects id) k None) ≡ is_some (get_or objects.bodies k None) =
+        ap is_some (body_left objects id k) ∙ ap
+        (λ b. is_some (cond b (cond (eqb (get_or objects.handles k 0 + (get_or objects.blocks k 0 - 1)) 0) None
+        (get_or objects.bodies k None)) (get_or objects.bodies k None))) here
+        ∙ ap (λ b. is_some (cond b None (get_or objects.bodies k None))) gone in
         let count = left_one objects.blocks id k ∙ ap (λ b. get_or objects.blocks k 0 - cond b 1 0) here in
         let before = has.each k in
         grind (arith, nat_tests, body, count, gone, before)
     by k false here gone is =
-        let body : is_some (get_or (bodies_left objects id) k None) ≡ is_some (get_or objects.bodies k None) = ap is_some (body_left objects id k) ∙ ap (λ b. is_some (cond b (cond (eqb (get_or objects.handles k 0 + (get_or objects.blocks k 0 - 1)) 0) None (get_or objects.bodies k None)) (get_or objects.bodies k None))) here in
+        let body : is_some (get_or (bodies_left objects id) k None) ≡ is_some (get_or objects.bodies k None) =
+        ap is_some (body_left objects id k) ∙ ap
+        (λ b. is_some (cond b (cond (eqb (get_or objects.handles k 0 + (get_or objects.blocks k 0 - 1)) 0) None
+        (get_or objects.bodies k None)) (get_or objects.bodies k None))) here in
         let fewer = left_one objects.blocks id k ∙ ap (λ b. get_or objects.blocks k 0 - cond b 1 0) here in
         let count : get_or (blocks_left objects.blocks id) k 0 ≡ get_or objects.blocks k 0 = omega (arith, fewer) in
         body ∙ has.each k ∙ ap (λ n. ltb 0 (get_or objects.handles k 0 + n)) (sym count)
@@ -104,10 +133,12 @@ pub ends_all : (ids : List Id) (objects : Objects) → HasBodies objects → Has
 ends_all [] objects has = has
 ends_all (id ∷ ids) objects has = ends_all ids (without_block objects id) (ends_left id objects has)
 
-ends_of : (scene : Scene) (n : ℕ) (w : Wait) (st : State) → HasBodies scene.objects → HasBodies (effect_of scene n w st).objects
+ends_of : (scene : Scene) (n : ℕ) (w : Wait) (st : State) → HasBodies scene.objects
+    → HasBodies (effect_of scene n w st).objects
 ends_of scene n w (Pending mode ids) has =
     let after = bodies_after mode w.thread scene.objects.bodies ids in
-    ends_all ids (record scene.objects { bodies = after }) (ends_taken scene.objects after (same_after mode w.thread scene.objects.bodies ids) has)
+    ends_all ids (record scene.objects { bodies = after })
+    (ends_taken scene.objects after (same_after mode w.thread scene.objects.bodies ids) has)
 ends_of scene n w (Answered code) has = has
 
 ends_at : (scene : Scene) (n : ℕ) (w : Option Wait) → HasBodies scene.objects → HasBodies (effect_at scene n w).objects
@@ -116,7 +147,9 @@ ends_at scene n (Some w) has = ends_of scene n w w.state has
 
 -- The theorem: where a slot has a body exactly where something refers to its object, it still does after settling.
 pub ends_settled : (scene : Scene) → HasBodies scene.objects → HasBodies (settled scene).objects
-ends_settled scene = settled_by_effects (λ (a b : Scene). HasBodies a.objects → HasBodies b.objects) (λ s has. has) (λ a b c x y has. y (x has)) (λ s n ready. ends_at s n (get_or s.waits n None)) scene
+ends_settled scene = settled_by_effects (λ (a b : Scene). HasBodies a.objects
+    → HasBodies b.objects) (λ s has. has) (λ a b c x y has. y (x has))
+    (λ s n ready. ends_at s n (get_or s.waits n None)) scene
 
 -- handles stay, and no slot comes or goes
 pub record SameSizes (objects after : Objects) : Type 0 where
@@ -128,35 +161,48 @@ sizes_same : (objects : Objects) → SameSizes objects objects
 sizes_same objects = record { bodies = refl; handles = refl; blocks = refl }
 
 sizes_both : (a b c : Objects) → SameSizes a b → SameSizes b c → SameSizes a c
-sizes_both a b c x y = record { bodies = y.bodies ∙ x.bodies; handles = y.handles ∙ x.handles; blocks = y.blocks ∙ x.blocks }
+sizes_both a b c x y = record {
+  bodies = y.bodies ∙ x.bodies;
+  handles = y.handles ∙ x.handles;
+  blocks = y.blocks ∙ x.blocks;
+}
 
-length-left : (gone : Bool) (bodies : List (Option Body)) (i : ℕ) → length (cond gone (set bodies i None) bodies) ≡ length bodies
+length-left : (gone : Bool) (bodies : List (Option Body)) (i : ℕ)
+    → length (cond gone (set bodies i None) bodies) ≡ length bodies
 length-left true bodies i = length-set bodies i None
 length-left false bodies i = refl
 
 pub sizes_left : (ids : List Id) (objects : Objects) → SameSizes objects (without_blocks objects ids)
 sizes_left [] objects = sizes_same objects
-sizes_left (id ∷ ids) objects = sizes_both objects (without_block objects id) (without_blocks (without_block objects id) ids)
+sizes_left (id ∷ ids) objects = sizes_both objects (without_block objects id)
+    (without_blocks (without_block objects id) ids)
     (record {
-      bodies = length-left (eqb (get_or objects.handles id.slot 0 + (get_or objects.blocks id.slot 0 - 1)) 0) objects.bodies id.slot;
+      bodies = length-left (eqb (get_or objects.handles id.slot 0 + (get_or objects.blocks id.slot 0 - 1)) 0)
+          objects.bodies id.slot;
       handles = refl;
       blocks = length-set objects.blocks id.slot (get_or objects.blocks id.slot 0 - 1);
     })
     (sizes_left ids (without_block objects id))
 
-length-all : (t : ℕ) (ids : List Id) (bodies : List (Option Body)) → length (with_all_acquired t bodies ids) ≡ length bodies
+length-all : (t : ℕ) (ids : List Id) (bodies : List (Option Body))
+    → length (with_all_acquired t bodies ids) ≡ length bodies
 length-all t [] bodies = refl
-length-all t (id ∷ ids) bodies = length-all t ids (with_acquired t bodies id) ∙ length-set bodies id.slot (slot_acquired t (get_or bodies id.slot None))
+length-all t (id ∷ ids) bodies = length-all t ids (with_acquired t bodies id)
+    ∙ length-set bodies id.slot (slot_acquired t (get_or bodies id.slot None))
 
-pub length-after : (mode : Mode) (t : ℕ) (bodies : List (Option Body)) (ids : List Id) → length (bodies_after mode t bodies ids) ≡ length bodies
-length-after Any t bodies ids = let id = get_or ids (first_signaled t bodies ids) nowhere in length-set bodies id.slot (slot_acquired t (get_or bodies id.slot None))
+pub length-after : (mode : Mode) (t : ℕ) (bodies : List (Option Body)) (ids : List Id)
+    → length (bodies_after mode t bodies ids) ≡ length bodies
+length-after Any t bodies ids = let id = get_or ids (first_signaled t bodies ids) nowhere in
+    length-set bodies id.slot (slot_acquired t (get_or bodies id.slot None))
 length-after All t bodies ids = length-all t ids bodies
 
 sizes_of : (scene : Scene) (n : ℕ) (w : Wait) (st : State) → SameSizes scene.objects (effect_of scene n w st).objects
 sizes_of scene n w (Pending mode ids) =
     let after = bodies_after mode w.thread scene.objects.bodies ids in
-    sizes_both scene.objects (record scene.objects { bodies = after }) (without_blocks (record scene.objects { bodies = after }) ids)
-    (record { bodies = length-after mode w.thread scene.objects.bodies ids; handles = refl; blocks = refl }) (sizes_left ids (record scene.objects { bodies = after }))
+    sizes_both scene.objects (record scene.objects { bodies = after })
+    (without_blocks (record scene.objects { bodies = after }) ids)
+    (record { bodies = length-after mode w.thread scene.objects.bodies ids; handles = refl; blocks = refl })
+    (sizes_left ids (record scene.objects { bodies = after }))
 sizes_of scene n w (Answered code) = sizes_same scene.objects
 
 sizes_at : (scene : Scene) (n : ℕ) (w : Option Wait) → SameSizes scene.objects (effect_at scene n w).objects
@@ -164,4 +210,5 @@ sizes_at scene n None = sizes_same scene.objects
 sizes_at scene n (Some w) = sizes_of scene n w w.state
 
 pub sizes_settled : (scene : Scene) → SameSizes scene.objects (settled scene).objects
-sizes_settled scene = settled_by_effects (λ (a b : Scene). SameSizes a.objects b.objects) (λ s. sizes_same s.objects) (λ a b c. sizes_both a.objects b.objects c.objects) (λ s n ready. sizes_at s n (get_or s.waits n None)) scene
+sizes_settled scene = settled_by_effects (λ (a b : Scene). SameSizes a.objects b.objects) (λ s. sizes_same s.objects)
+    (λ a b c. sizes_both a.objects b.objects c.objects) (λ s n ready. sizes_at s n (get_or s.waits n None)) scene

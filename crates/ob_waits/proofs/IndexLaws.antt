@@ -7,36 +7,58 @@ use Rattle.ob_waits.specs.Rules.{Within}
 use Rattle.ob_waits.specs.Numbers.{IsOrdered, numbers_of, AreOrdered, Keeps, Thins, ThinsEach}
 use Rattle.ob_waits.proofs.NumberLaws.{thins_none, thins_both}
 
-list_changed : (P : List ℕ → List ℕ → Type 0) (lists : List (List ℕ)) (k : ℕ) (new : List ℕ) → k < length lists → P (numbers_of lists k) new → ((s : ℕ) → P (numbers_of lists s) (numbers_of lists s)) → (s : ℕ) → P (numbers_of lists s) (numbers_of (set lists k new) s)
+list_changed : (P : List ℕ → List ℕ → Type 0) (lists : List (List ℕ)) (k : ℕ) (new : List ℕ) → k < length lists
+    → P (numbers_of lists k) new → ((s : ℕ) → P (numbers_of lists s) (numbers_of lists s)) → (s : ℕ)
+    → P (numbers_of lists s) (numbers_of (set lists k new) s)
 list_changed P lists k new lt here others s = elim (cases_eq s k) [
-  | inl same ↦ subst (λ i. P (numbers_of lists i) (numbers_of (set lists k new) i)) (sym same) (subst (λ r. P (numbers_of lists k) r) (sym (get_or-set_same lists k new [] lt)) here)
+  | inl same ↦ subst (λ i. P (numbers_of lists i) (numbers_of (set lists k new) i)) (sym same)
+      (subst (λ r. P (numbers_of lists k) r) (sym (get_or-set_same lists k new [] lt)) here)
   | inr apart ↦ subst (λ r. P (numbers_of lists s) r) (sym (get_or-set_other lists k s new [] apart)) (others s)
 ]
 
-pub thins_changed : (waits : List (Option Wait)) (lists : List (List ℕ)) (k : ℕ) (new : List ℕ) → k < length lists → Thins waits (numbers_of lists k) new → ThinsEach waits lists (set lists k new)
-thins_changed waits lists k new lt t = record { each = list_changed (λ a b. Thins waits a b) lists k new lt t (λ s. thins_none waits (numbers_of lists s)) }
+pub thins_changed : (waits : List (Option Wait)) (lists : List (List ℕ)) (k : ℕ) (new : List ℕ) → k < length lists
+    → Thins waits (numbers_of lists k) new → ThinsEach waits lists (set lists k new)
+thins_changed waits lists k new lt t = record {
+  each =
+      list_changed (λ a b. Thins waits a b) lists k new lt t (λ s. thins_none waits (numbers_of lists s));
+}
 
-pub keeps_changed : (lists : List (List ℕ)) (k : ℕ) (new : List ℕ) → k < length lists → ((j : ℕ) → Within j (numbers_of lists k) → Within j new) → Keeps lists (set lists k new)
-keeps_changed lists k new lt h = record { each = list_changed (λ a b. (j : ℕ) → Within j a → Within j b) lists k new lt h (λ s j i. i) }
+pub keeps_changed : (lists : List (List ℕ)) (k : ℕ) (new : List ℕ) → k < length lists
+    → ((j : ℕ) → Within j (numbers_of lists k) → Within j new) → Keeps lists (set lists k new)
+keeps_changed lists k new lt h = record {
+  each = list_changed (λ a b. (j : ℕ) → Within j a
+      → Within j b) lists k new lt h (λ s j i. i);
+}
 
-pub lists_changed : (n : ℕ) (lists : List (List ℕ)) (k : ℕ) (new : List ℕ) → k < length lists → IsOrdered n new → AreOrdered n lists → AreOrdered n (set lists k new)
-lists_changed n lists k new lt numbers all = record { each = λ s. list_changed (λ a b. IsOrdered n a → IsOrdered n b) lists k new lt (λ h. numbers) (λ s h. h) s (all.each s) }
+pub lists_changed : (n : ℕ) (lists : List (List ℕ)) (k : ℕ) (new : List ℕ) → k < length lists → IsOrdered n new
+    → AreOrdered n lists → AreOrdered n (set lists k new)
+lists_changed n lists k new lt numbers all = record {
+  each =
+      λ s. list_changed (λ a b. IsOrdered n a → IsOrdered n b) lists k new lt (λ h. numbers) (λ s h. h) s (all.each s);
+}
 
 -- the numbers read at an index
-pub list_read : (lists : List (List ℕ)) (k : ℕ) (x : List ℕ) → x ≡ get_or lists k x → k < length lists → x ≡ numbers_of lists k
+pub list_read : (lists : List (List ℕ)) (k : ℕ) (x : List ℕ) → x ≡ get_or lists k x → k < length lists
+    → x ≡ numbers_of lists k
 list_read lists k x is lt = is ∙ get_or_default lists k x [] lt
 
 pub list_at_end : (lists : List (List ℕ)) (s : ℕ) → numbers_of (lists ++ [] ∷ []) s ≡ numbers_of lists s
 list_at_end lists s = elim (cases_lt s (length lists)) [
   | inl lt ↦ get_or_append_left lists ([] ∷ []) [] s lt
   | inr past ↦ elim (cases_eq s (length lists)) [
-    | inl same ↦ ap (λ i. get_or (lists ++ [] ∷ []) i []) same ∙ get_or_push lists [] [] (length lists) refl ∙ sym (get_or_past lists s [] past)
-    | inr other ↦ get_or_past (lists ++ [] ∷ []) s [] (omega (arith, length_push lists [])) ∙ sym (get_or_past lists s [] past)
+    | inl same ↦ ap (λ i. get_or (lists ++ [] ∷ []) i []) same ∙ get_or_push lists [] [] (length lists) refl
+        ∙ sym (get_or_past lists s [] past)
+    | inr other ↦ get_or_past (lists ++ [] ∷ []) s [] (omega (arith, length_push lists []))
+        ∙ sym (get_or_past lists s [] past)
   ]
 ]
 
 pub thins_each_none : (waits : List (Option Wait)) (lists : List (List ℕ)) → ThinsEach waits lists lists
 thins_each_none waits lists = record { each = λ s. thins_none waits (numbers_of lists s) }
 
-pub thins_each_both : (waits : List (Option Wait)) (a b c : List (List ℕ)) → ThinsEach waits a b → ThinsEach waits b c → ThinsEach waits a c
-thins_each_both waits a b c x y = record { each = λ s. thins_both waits (numbers_of a s) (numbers_of b s) (numbers_of c s) (x.each s) (y.each s) }
+pub thins_each_both : (waits : List (Option Wait)) (a b c : List (List ℕ)) → ThinsEach waits a b → ThinsEach waits b c
+    → ThinsEach waits a c
+thins_each_both waits a b c x y = record {
+  each = λ s. thins_both waits (numbers_of a s) (numbers_of b s)
+      (numbers_of c s) (x.each s) (y.each s);
+}

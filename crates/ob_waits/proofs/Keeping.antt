@@ -20,7 +20,13 @@ fades_same : (w : Option Wait) → Fades w w
 fades_same w = record { thread = refl; waitable = λ h. h; names = λ slot h. h; pending = λ h. h; stays = λ h. refl }
 
 pub fades_answered : (w : Wait) (code : ℕ) → Fades (Some w) (answered_wait w code)
-fades_answered w code = record { thread = refl; waitable = λ h. tt; names = λ slot h. absurd (cc); pending = λ h. absurd (cc); stays = λ h. absurd (cc) }
+fades_answered w code = record {
+  thread = refl;
+  waitable = λ h. tt;
+  names = λ slot h. absurd (cc);
+  pending = λ h. absurd (cc);
+  stays = λ h. absurd (cc);
+}
 
 -- some waits were answered
 pub record Fade (old new : List (Option Wait)) : Type 0 where
@@ -43,30 +49,43 @@ fade_both a b c ab bc = record {
 }
 
 -- the wait of one number was
-pub fade_one : (ws : List (Option Wait)) (n code : ℕ) (w : Wait) → get_or ws n None ≡ Some w → Fade ws (set ws n (answered_wait w code))
+pub fade_one : (ws : List (Option Wait)) (n code : ℕ) (w : Wait) → get_or ws n None ≡ Some w
+    → Fade ws (set ws n (answered_wait w code))
 fade_one ws n code w own = record {
   len = length-set ws n (answered_wait w code);
   each = λ m. elim (cases_eq m n) [
     | inl same ↦ subst (λ i. Fades (get_or ws i None) (get_or (set ws n (answered_wait w code)) i None)) (sym same)
         (subst (λ x. Fades x (get_or (set ws n (answered_wait w code)) n None)) (sym own)
-        (subst (λ x. Fades (Some w) x) (sym (get_or-set_same ws n (answered_wait w code) None within)) (fades_answered w code)))
-    | inr other ↦ subst (λ x. Fades (get_or ws m None) x) (sym (get_or-set_other ws n m (answered_wait w code) None other)) (fades_same (get_or ws m None))
+        (subst (λ x. Fades (Some w) x) (sym (get_or-set_same ws n (answered_wait w code) None within))
+        (fades_answered w code)))
+    | inr other ↦ subst (λ x. Fades (get_or ws m None) x)
+        (sym (get_or-set_other ws n m (answered_wait w code) None other)) (fades_same (get_or ws m None))
   ];
 }
   where
     within : n < length ws
-    within = elim (cases_lt n (length ws)) [ inl lt ↦ lt | inr past ↦ absurd (let e = get_or_past ws n None past in cc (e, own)) ]
+    within = elim (cases_lt n (length ws)) [
+      | inl lt ↦ lt
+      | inr past ↦
+          absurd (let e = get_or_past ws n None past in cc (e, own))
+    ]
 
-pub effect_fades : (scene : Scene) (n : ℕ) → is_ready scene.objects.bodies (get_or scene.waits n None) ≡ true → Fade scene.waits (effect scene n).waits
-effect_fades scene n ready = let a = answers scene n ready in subst (λ ws. Fade scene.waits ws) (sym a.waits) (fade_one scene.waits n a.code a.wait a.own)
+pub effect_fades : (scene : Scene) (n : ℕ) → is_ready scene.objects.bodies (get_or scene.waits n None) ≡ true
+    → Fade scene.waits (effect scene n).waits
+effect_fades scene n ready = let a = answers scene n ready in
+    subst (λ ws. Fade scene.waits ws) (sym a.waits) (fade_one scene.waits n a.code a.wait a.own)
 
 -- a pass answers some waits
 pub passed_fades : (ns : List ℕ) (scene : Scene) → Fade scene.waits (passed ns scene).waits
 passed_fades [] scene = fade_none scene.waits
-passed_fades (n ∷ ns) scene = by (is_ready scene.objects.bodies (get_or scene.waits n None)) refl (passed_fades ns (effect scene n)) (passed_fades ns scene)
+passed_fades (n ∷ ns) scene = by (is_ready scene.objects.bodies (get_or scene.waits n None)) refl
+    (passed_fades ns (effect scene n)) (passed_fades ns scene)
   where
-    by : (b : Bool) → is_ready scene.objects.bodies (get_or scene.waits n None) ≡ b → Fade (effect scene n).waits (passed ns (effect scene n)).waits → Fade scene.waits (passed ns scene).waits → Fade scene.waits (passed (n ∷ ns) scene).waits
-    by true ready after before = rw ready (fade_both scene.waits (effect scene n).waits _ (effect_fades scene n ready) after)
+    by : (b : Bool) → is_ready scene.objects.bodies (get_or scene.waits n None) ≡ b
+        → Fade (effect scene n).waits (passed ns (effect scene n)).waits → Fade scene.waits (passed ns scene).waits
+        → Fade scene.waits (passed (n ∷ ns) scene).waits
+    by true ready after before = rw ready (fade_both scene.waits (effect scene n).waits _
+        (effect_fades scene n ready) after)
     by false ready after before = rw ready before
 
 pub kept_faded : (old new : List (Option Wait)) → Fade old new → IsKept old → IsKept new
@@ -75,20 +94,31 @@ kept_faded old new f k = record {
   one_each = λ n m t p q. k.one_each n m t (sym (f.each n).thread ∙ p) (sym (f.each m).thread ∙ q);
 }
 
-pub effect_kept : (scene : Scene) (n : ℕ) → is_ready scene.objects.bodies (get_or scene.waits n None) ≡ true → IsKept scene.waits → IsKept (effect scene n).waits
+pub effect_kept : (scene : Scene) (n : ℕ) → is_ready scene.objects.bodies (get_or scene.waits n None) ≡ true
+    → IsKept scene.waits → IsKept (effect scene n).waits
 effect_kept scene n ready k = kept_faded scene.waits (effect scene n).waits (effect_fades scene n ready) k
 
 -- an effect leaves the room of the other threads, and the waits that are pending are theirs
-pub room_other : (limit u : ℕ) (bodies after : List (Option Body)) (w : Option Wait) → RoomKept limit u bodies after → (thread_of w ≡ Some u → ⊥) → WaitHasRoom limit bodies w → WaitHasRoom limit after w
+pub room_other : (limit u : ℕ) (bodies after : List (Option Body)) (w : Option Wait) → RoomKept limit u bodies after
+    → (thread_of w ≡ Some u → ⊥) → WaitHasRoom limit bodies w → WaitHasRoom limit after w
 room_other limit u bodies after None kept other room = tt
-room_other limit u bodies after (Some w) kept other room = record { each = λ i lt. kept.room w.thread (λ e. other (ap Some e)) (get_or (ids_of (Some w)) i nowhere).slot (room.each i lt) }
+room_other limit u bodies after (Some w) kept other room =
+    record {
+      each = λ i lt. kept.room w.thread (λ e. other (ap Some e)) (get_or (ids_of (Some w)) i nowhere).slot
+          (room.each i lt);
+    }
 
-pub effect_room : (limit : ℕ) (scene : Scene) (n : ℕ) → is_ready scene.objects.bodies (get_or scene.waits n None) ≡ true → IsKept scene.waits → WaitsHaveRoom limit scene.objects.bodies scene.waits → WaitsHaveRoom limit (effect scene n).objects.bodies (effect scene n).waits
+pub effect_room : (limit : ℕ) (scene : Scene) (n : ℕ) → is_ready scene.objects.bodies (get_or scene.waits n None) ≡ true
+    → IsKept scene.waits → WaitsHaveRoom limit scene.objects.bodies scene.waits
+    → WaitsHaveRoom limit (effect scene n).objects.bodies (effect scene n).waits
 effect_room limit scene n ready k r = record {
   each = λ m. elim (cases_eq m n) [
-    | inl same ↦ subst (λ x. WaitHasRoom limit (effect scene n).objects.bodies x) (sym (ap (λ i. get_or (effect scene n).waits i None) same ∙ at_n)) (record { each = λ i lt. absurd (omega arith) })
+    | inl same ↦ subst (λ x. WaitHasRoom limit (effect scene n).objects.bodies x)
+        (sym (ap (λ i. get_or (effect scene n).waits i None) same ∙ at_n))
+        (record { each = λ i lt. absurd (omega arith) })
     | inr apart ↦ subst (λ x. WaitHasRoom limit (effect scene n).objects.bodies x) (sym (at_other m apart))
-        (room_other limit a.wait.thread scene.objects.bodies (effect scene n).objects.bodies (get_or scene.waits m None) (a.room limit) (λ e. apart (k.one_each m n a.wait.thread e (ap thread_of a.own))) (r.each m))
+        (room_other limit a.wait.thread scene.objects.bodies (effect scene n).objects.bodies (get_or scene.waits m None)
+        (a.room limit) (λ e. apart (k.one_each m n a.wait.thread e (ap thread_of a.own))) (r.each m))
   ];
 }
   where
@@ -104,33 +134,48 @@ effect_room limit scene n ready k r = record {
     at_other : (m : ℕ) → (m ≡ n → ⊥) → get_or (effect scene n).waits m None ≡ get_or scene.waits m None
     at_other m apart = ap (λ ws. get_or ws m None) a.waits ∙ get_or-set_other scene.waits n m w None apart
 
-pub effect_fits : (limit : ℕ) (scene : Scene) (n : ℕ) → is_ready scene.objects.bodies (get_or scene.waits n None) ≡ true → Fits limit scene.objects.bodies scene.waits → Fits limit (effect scene n).objects.bodies (effect scene n).waits
-effect_fits limit scene n ready k = record { kept = effect_kept scene n ready k.kept; room = effect_room limit scene n ready k.kept k.room }
+pub effect_fits : (limit : ℕ) (scene : Scene) (n : ℕ) → is_ready scene.objects.bodies (get_or scene.waits n None) ≡ true
+    → Fits limit scene.objects.bodies scene.waits → Fits limit (effect scene n).objects.bodies (effect scene n).waits
+effect_fits limit scene n ready k = record {
+  kept = effect_kept scene n ready k.kept;
+  room = effect_room limit scene n ready k.kept k.room;
+}
 
 -- a pass keeps it
-pub passed_fits : (limit : ℕ) (ns : List ℕ) (scene : Scene) → Fits limit scene.objects.bodies scene.waits → Fits limit (passed ns scene).objects.bodies (passed ns scene).waits
+pub passed_fits : (limit : ℕ) (ns : List ℕ) (scene : Scene) → Fits limit scene.objects.bodies scene.waits
+    → Fits limit (passed ns scene).objects.bodies (passed ns scene).waits
 passed_fits limit [] scene k = k
-passed_fits limit (n ∷ ns) scene k = by (is_ready scene.objects.bodies (get_or scene.waits n None)) refl (λ s f. passed_fits limit ns s f)
+passed_fits limit (n ∷ ns) scene k = by (is_ready scene.objects.bodies (get_or scene.waits n None)) refl
+    (λ s f. passed_fits limit ns s f)
   where
-    by : (b : Bool) → is_ready scene.objects.bodies (get_or scene.waits n None) ≡ b → ((s : Scene) → Fits limit s.objects.bodies s.waits → Fits limit (passed ns s).objects.bodies (passed ns s).waits) → Fits limit (passed (n ∷ ns) scene).objects.bodies (passed (n ∷ ns) scene).waits
+    by : (b : Bool) → is_ready scene.objects.bodies (get_or scene.waits n None) ≡ b
+        → ((s : Scene) → Fits limit s.objects.bodies s.waits
+        → Fits limit (passed ns s).objects.bodies (passed ns s).waits)
+        → Fits limit (passed (n ∷ ns) scene).objects.bodies (passed (n ∷ ns) scene).waits
     by true ready rest = rw ready (rest (effect scene n) (effect_fits limit scene n ready k))
     by false ready rest = rw ready (rest scene k)
 
 -- the same where the scene after it stands in variables
-pub fits_passed : (limit : ℕ) (ns : List ℕ) (scene after : Scene) → after ≡ passed ns scene → Fits limit scene.objects.bodies scene.waits → Fits limit after.objects.bodies after.waits
-fits_passed limit ns scene after is k = subst (λ (x : Scene). Fits limit x.objects.bodies x.waits) (sym is) (passed_fits limit ns scene k)
+pub fits_passed : (limit : ℕ) (ns : List ℕ) (scene after : Scene) → after ≡ passed ns scene
+    → Fits limit scene.objects.bodies scene.waits → Fits limit after.objects.bodies after.waits
+fits_passed limit ns scene after is k = subst (λ (x : Scene). Fits limit x.objects.bodies x.waits) (sym is)
+    (passed_fits limit ns scene k)
 
 -- a pass over one number and then over the others
 pub passed_more : (n : ℕ) (ns : List ℕ) (scene : Scene) → passed ns (passed (n ∷ []) scene) ≡ passed (n ∷ ns) scene
 passed_more n ns scene = by (is_ready scene.objects.bodies (get_or scene.waits n None)) refl
   where
-    by : (b : Bool) → is_ready scene.objects.bodies (get_or scene.waits n None) ≡ b → passed ns (passed (n ∷ []) scene) ≡ passed (n ∷ ns) scene
+    by : (b : Bool) → is_ready scene.objects.bodies (get_or scene.waits n None) ≡ b
+        → passed ns (passed (n ∷ []) scene) ≡ passed (n ∷ ns) scene
     by true ready = rw ready refl
     by false ready = rw ready refl
 
 -- and so does settling
-pub settled_fits : (limit : ℕ) (scene : Scene) → Fits limit scene.objects.bodies scene.waits → Fits limit (settled scene).objects.bodies (settled scene).waits
-settled_fits limit scene = settled_by_effects (λ (a b : Scene). Fits limit a.objects.bodies a.waits → Fits limit b.objects.bodies b.waits) (λ s k. k) (λ a b c x y k. y (x k)) (effect_fits limit) scene
+pub settled_fits : (limit : ℕ) (scene : Scene) → Fits limit scene.objects.bodies scene.waits
+    → Fits limit (settled scene).objects.bodies (settled scene).waits
+settled_fits limit scene = settled_by_effects (λ (a b : Scene). Fits limit a.objects.bodies a.waits
+    → Fits limit b.objects.bodies b.waits) (λ s k. k) (λ a b c x y k. y (x k)) (effect_fits limit) scene
 
 pub settled_fades : (scene : Scene) → Fade scene.waits (settled scene).waits
-settled_fades scene = settled_by_effects (λ (a b : Scene). Fade a.waits b.waits) (λ s. fade_none s.waits) (λ a b c. fade_both a.waits b.waits c.waits) effect_fades scene
+settled_fades scene = settled_by_effects (λ (a b : Scene). Fade a.waits b.waits) (λ s. fade_none s.waits)
+    (λ a b c. fade_both a.waits b.waits c.waits) effect_fades scene

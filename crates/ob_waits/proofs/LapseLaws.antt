@@ -28,32 +28,40 @@ lapsed_idle : (now : ℕ) (w : Option Wait) → is_overdue now w ≡ false → l
 lapsed_idle now w idle = ap (λ (b : Bool). cond b (answered w 258) w) idle
 
 -- what is answered before the others is answered as with them
-pub lapsed_twice : (now : ℕ) (ws : List (Option Wait)) (n : ℕ) → is_overdue now (get_or ws n None) ≡ true → map (lapsed now) (set ws n (answered (get_or ws n None) 258)) ≡ map (lapsed now) ws
+pub lapsed_twice : (now : ℕ) (ws : List (Option Wait)) (n : ℕ) → is_overdue now (get_or ws n None) ≡ true
+    → map (lapsed now) (set ws n (answered (get_or ws n None) 258)) ≡ map (lapsed now) ws
 lapsed_twice now ws n over =
     let w = get_or ws n None in
-    map-set_same (lapsed now) ws n (answered w 258) None (lapsed_idle now (answered w 258) (answered_idle now 258 w) ∙ sym (ap (λ (b : Bool). cond b (answered w 258) w) over))
+    map-set_same (lapsed now) ws n (answered w 258) None (lapsed_idle now (answered w 258) (answered_idle now 258 w)
+    ∙ sym (ap (λ (b : Bool). cond b (answered w 258) w) over))
 
-at_lapsed : (now : ℕ) (ws : List (Option Wait)) (n : ℕ) → get_or (map (lapsed now) ws) n None ≡ lapsed now (get_or ws n None)
+at_lapsed : (now : ℕ) (ws : List (Option Wait)) (n : ℕ)
+    → get_or (map (lapsed now) ws) n None ≡ lapsed now (get_or ws n None)
 at_lapsed now ws n = elim (cases_lt n (length ws)) [
   | inl lt ↦ get_or-map (lapsed now) ws n None None lt
-  | inr le ↦ get_or_past (map (lapsed now) ws) n None (omega (arith, length-map ws (lapsed now))) ∙ ap (lapsed now) (sym (get_or_past ws n None le))
+  | inr le ↦ get_or_past (map (lapsed now) ws) n None (omega (arith, length-map ws (lapsed now)))
+      ∙ ap (lapsed now) (sym (get_or_past ws n None le))
 ]
 
 -- where no time is up nothing is answered
-pub none_lapsed : (now : ℕ) (ws : List (Option Wait)) → ((n : ℕ) → is_overdue now (get_or ws n None) ≡ false) → map (lapsed now) ws ≡ ws
-none_lapsed now ws none = ext_get_or None (map (lapsed now) ws) ws (length-map ws (lapsed now)) (λ n lt. at_lapsed now ws n ∙ lapsed_idle now (get_or ws n None) (none n))
+pub none_lapsed : (now : ℕ) (ws : List (Option Wait)) → ((n : ℕ) → is_overdue now (get_or ws n None) ≡ false)
+    → map (lapsed now) ws ≡ ws
+none_lapsed now ws none = ext_get_or None (map (lapsed now) ws) ws (length-map ws (lapsed now))
+    (λ n lt. at_lapsed now ws n ∙ lapsed_idle now (get_or ws n None) (none n))
 
 -- only a pending wait is overdue
 pub overdue_pending : (now : ℕ) (w : Option Wait) → is_overdue now w ≡ true → is_pending w ≡ true
 overdue_pending now None over = absurd (cc)
 overdue_pending now (Some w) over = by w.state over
   where
-    by : (s : State) → is_due now (state_deadline w.deadline s) ≡ true → is_pending (Some (record w { state = s })) ≡ true
+    by : (s : State) → is_due now (state_deadline w.deadline s) ≡ true
+        → is_pending (Some (record w { state = s })) ≡ true
     by (Pending mode ids) h = refl
     by (Answered code) h = absurd (cc)
 
 -- with each that is answered one fewer is overdue
-pub fewer_overdue : (now : ℕ) (ws : List (Option Wait)) (n : ℕ) → is_overdue now (get_or ws n None) ≡ true → count_by (is_overdue now) (set ws n (answered (get_or ws n None) 258)) < count_by (is_overdue now) ws
+pub fewer_overdue : (now : ℕ) (ws : List (Option Wait)) (n : ℕ) → is_overdue now (get_or ws n None) ≡ true
+    → count_by (is_overdue now) (set ws n (answered (get_or ws n None) 258)) < count_by (is_overdue now) ws
 fewer_overdue now ws n over =
     let f : Option Wait → ℕ = λ x. cond (is_overdue now x) 1 0 in
     let y = answered (get_or ws n None) 258 in
@@ -69,16 +77,24 @@ fewer_overdue now ws n over =
     ]
 
 -- no place of a wait is more than before
-lapsed_either : (f : Option Wait → ℕ) → ((w : Option Wait) → f (answered w 258) ≤ f w) → (now : ℕ) (w : Option Wait) → f (lapsed now w) ≤ f w
+lapsed_either : (f : Option Wait → ℕ) → ((w : Option Wait) → f (answered w 258) ≤ f w) → (now : ℕ) (w : Option Wait)
+    → f (lapsed now w) ≤ f w
 lapsed_either f less now w = by (is_overdue now w)
   where
     by : (b : Bool) → f (cond b (answered w 258) w) ≤ f w
     by true = less w
     by false = omega arith
 
-sum_lapsed : (f : Option Wait → ℕ) → ((w : Option Wait) → f (answered w 258) ≤ f w) → (now : ℕ) (ws : List (Option Wait)) → sum_by f (map (lapsed now) ws) ≤ sum_by f ws
+sum_lapsed : (f : Option Wait → ℕ) → ((w : Option Wait) → f (answered w 258) ≤ f w)
+    → (now : ℕ) (ws : List (Option Wait)) → sum_by f (map (lapsed now) ws) ≤ sum_by f ws
 sum_lapsed f less now [] = omega arith
-sum_lapsed f less now (w ∷ ws) = omega (arith, sum_by-cons f (lapsed now w) (map (lapsed now) ws), sum_by-cons f w ws, lapsed_either f less now w, sum_lapsed f less now ws)
+sum_lapsed f less now (w ∷ ws) = omega (
+  arith,
+  sum_by-cons f (lapsed now w) (map (lapsed now) ws),
+  sum_by-cons f w ws,
+  lapsed_either f less now w,
+  sum_lapsed f less now ws,
+)
 
 places_answered : (k : ℕ) (w : Option Wait) → slot_places k (ids_of (answered w 258)) ≤ slot_places k (ids_of w)
 places_answered k None = omega arith
@@ -91,12 +107,17 @@ names_answered id (Some w) = omega arith
 pub slot_lapsed : (k now : ℕ) (ws : List (Option Wait)) → slot_blocks k (map (lapsed now) ws) ≤ slot_blocks k ws
 slot_lapsed k now ws = sum_lapsed (λ (w : Option Wait). slot_places k (ids_of w)) (places_answered k) now ws
 
-pub blocks_lapsed : (id : Id) (now : ℕ) (ws : List (Option Wait)) → blocks_among id (map (lapsed now) ws) ≤ blocks_among id ws
+pub blocks_lapsed : (id : Id) (now : ℕ) (ws : List (Option Wait))
+    → blocks_among id (map (lapsed now) ws) ≤ blocks_among id ws
 blocks_lapsed id now ws = sum_lapsed (blocks_in id) (names_answered id) now ws
 
 -- and none becomes ready
-pub settled_lapsed : (bodies : List (Option Body)) (now : ℕ) (ws : List (Option Wait)) → IsSettled bodies ws → IsSettled bodies (map (lapsed now) ws)
-settled_lapsed bodies now ws settled = record { each = λ n. ap (is_ready bodies) (at_lapsed now ws n) ∙ by (get_or ws n None) (is_overdue now (get_or ws n None)) (settled.each n) }
+pub settled_lapsed : (bodies : List (Option Body)) (now : ℕ) (ws : List (Option Wait)) → IsSettled bodies ws
+    → IsSettled bodies (map (lapsed now) ws)
+settled_lapsed bodies now ws settled = record {
+  each = λ n. ap (is_ready bodies) (at_lapsed now ws n)
+      ∙ by (get_or ws n None) (is_overdue now (get_or ws n None)) (settled.each n);
+}
   where
     unready : (w : Option Wait) → is_ready bodies (answered w 258) ≡ false
     unready None = refl
@@ -107,18 +128,24 @@ settled_lapsed bodies now ws settled = record { each = λ n. ap (is_ready bodies
     by w false h = h
 
 -- what ended where there was more to refer to it ends once more where there is less
-slot_twice : (handles blocks more : ℕ) (x : Option Body) → blocks ≤ more → slot_ended handles blocks x ≡ slot_ended handles blocks (slot_ended handles more x)
+slot_twice : (handles blocks more : ℕ) (x : Option Body) → blocks ≤ more
+    → slot_ended handles blocks x ≡ slot_ended handles blocks (slot_ended handles more x)
 slot_twice handles blocks more x le = by (eqb (handles + blocks) 0) refl (eqb (handles + more) 0) refl
   where
-    by : (b : Bool) → eqb (handles + blocks) 0 ≡ b → (c : Bool) → eqb (handles + more) 0 ≡ c → cond b None x ≡ cond b None (cond c None x)
+    by : (b : Bool) → eqb (handles + blocks) 0 ≡ b → (c : Bool) → eqb (handles + more) 0 ≡ c
+        → cond b None x ≡ cond b None (cond c None x)
     by true is c isnt = refl
     by false is false isnt = refl
     by false is true isnt = absurd (grind (arith, nat_tests, is, isnt, le))
 
-pub ended_twice : (o : Objects) (more : List ℕ) → ((k : ℕ) → get_or o.blocks k 0 ≤ get_or more k 0) → ended (record o { bodies = (ended (record o { blocks = more })).bodies }) ≡ ended o
+pub ended_twice : (o : Objects) (more : List ℕ) → ((k : ℕ) → get_or o.blocks k 0 ≤ get_or more k 0)
+    → ended (record o { bodies = (ended (record o { blocks = more })).bodies }) ≡ ended o
 ended_twice o more le =
     let first : Objects = record o { blocks = more } in
     let o' : Objects = record o { bodies = (ended first).bodies } in
-    let is : (ended o).bodies ≡ (ended o').bodies = is_ended o' (ended o).bodies (length-ended o ∙ sym (length-ended first))
-    (λ k. ended_at o k ∙ slot_twice (get_or o.handles k 0) (get_or o.blocks k 0) (get_or more k 0) (get_or o.bodies k None) (le k) ∙ ap (slot_ended (get_or o.handles k 0) (get_or o.blocks k 0)) (sym (ended_at first k))) in
+    let is : (ended o).bodies ≡ (ended o').bodies =
+    is_ended o' (ended o).bodies (length-ended o ∙ sym (length-ended first))
+    (λ k. ended_at o k ∙ slot_twice (get_or o.handles k 0) (get_or o.blocks k 0) (get_or more k 0)
+    (get_or o.bodies k None) (le k) ∙ ap (slot_ended (get_or o.handles k 0) (get_or o.blocks k 0))
+    (sym (ended_at first k))) in
     λ i. record { bodies = sym is i; handles = o.handles; blocks = o.blocks }

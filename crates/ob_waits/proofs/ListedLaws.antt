@@ -15,39 +15,50 @@ module _ {A : Type 0} where
   unfolding listed
   get_or-listed zero f k d lt = absurd (omega arith)
   get_or-listed (suc n) f k d lt = elim (cases_lt k n) [
-    | inl below ↦ get_or_append_left (listed n f) (f n ∷ []) d k (omega (arith, length-listed n f)) ∙ get_or-listed n f k d below
-    | inr past ↦ let e : k ≡ n = omega arith in ap (λ i. get_or (listed (suc n) f) i d) e ∙ get_or_push (listed n f) (f n) d n (length-listed n f) ∙ sym (ap f e)
+    | inl below ↦ get_or_append_left (listed n f) (f n ∷ []) d k (omega (arith, length-listed n f))
+        ∙ get_or-listed n f k d below
+    | inr past ↦ let e : k ≡ n = omega arith in ap (λ i. get_or (listed (suc n) f) i d) e
+        ∙ get_or_push (listed n f) (f n) d n (length-listed n f) ∙ sym (ap f e)
   ]
 
   listed_by : (n : ℕ) (f g : ℕ → A) → ((k : ℕ) → k < n → f k ≡ g k) → listed n f ≡ listed n g
   unfolding listed
   listed_by zero f g same = refl
-  listed_by (suc n) f g same = ap (λ l. l ++ f n ∷ []) (listed_by n f g (λ k lt. same k (omega arith))) ∙ ap (λ x. listed n g ++ x ∷ []) (same n (omega arith))
+  listed_by (suc n) f g same = ap (λ l. l ++ f n ∷ []) (listed_by n f g (λ k lt. same k (omega arith)))
+      ∙ ap (λ x. listed n g ++ x ∷ []) (same n (omega arith))
 
 module _ {A : Type 0} where
   -- each number's value
   pub value_at : (n : ℕ) (f : ℕ → Option A) (k : ℕ) → IsSparse n f → get_or (listed (suc n) f) k None ≡ f k
   value_at n f k s = elim (cases_lt k (suc n)) [
     | inl lt ↦ get_or-listed (suc n) f k None lt
-    | inr past ↦ get_or_past (listed (suc n) f) k None (omega (arith, length-listed (suc n) f)) ∙ sym (s.past_has_none k (omega arith))
+    | inr past ↦ get_or_past (listed (suc n) f) k None (omega (arith, length-listed (suc n) f))
+        ∙ sym (s.past_has_none k (omega arith))
   ]
 
   -- one number's value changed
-  pub listed_changed : (n : ℕ) (f g : ℕ → Option A) (k : ℕ) (x : Option A) → k < suc n → g k ≡ x → ((i : ℕ) → (i ≡ k → ⊥) → g i ≡ f i) → listed (suc n) g ≡ set (listed (suc n) f) k x
+  pub listed_changed : (n : ℕ) (f g : ℕ → Option A) (k : ℕ) (x : Option A) → k < suc n → g k ≡ x
+      → ((i : ℕ) → (i ≡ k → ⊥) → g i ≡ f i) → listed (suc n) g ≡ set (listed (suc n) f) k x
   listed_changed n f g k x lt here others = ext_get_or None (listed (suc n) g) (set (listed (suc n) f) k x)
       (length-listed (suc n) g ∙ sym (length-listed (suc n) f) ∙ sym (length-set (listed (suc n) f) k x))
-      (λ i below. let in' : i < suc n = omega (arith, length-listed (suc n) g) in get_or-listed (suc n) g i None in' ∙ elim (cases_eq i k) [
-        | inl same ↦ ap g same ∙ here ∙ sym (get_or-set_same (listed (suc n) f) k x None (omega (arith, length-listed (suc n) f))) ∙ ap (λ j. get_or (set (listed (suc n) f) k x) j None) (sym same)
-        | inr apart ↦ others i apart ∙ sym (get_or-listed (suc n) f i None in') ∙ sym (get_or-set_other (listed (suc n) f) k i x None apart)
+      (λ i below. let in' : i < suc n = omega (arith, length-listed (suc n) g) in
+      get_or-listed (suc n) g i None in' ∙ elim (cases_eq i k) [
+        | inl same ↦ ap g same ∙ here ∙ sym (get_or-set_same (listed (suc n) f) k x None
+            (omega (arith, length-listed (suc n) f))) ∙ ap (λ j. get_or (set (listed (suc n) f) k x) j None) (sym same)
+        | inr apart ↦ others i apart ∙ sym (get_or-listed (suc n) f i None in')
+            ∙ sym (get_or-set_other (listed (suc n) f) k i x None apart)
       ])
 
   -- one more number
-  pub listed_more : (n : ℕ) (f g : ℕ → Option A) (x : Option A) → g (suc n) ≡ x → ((i : ℕ) → (i ≡ suc n → ⊥) → g i ≡ f i) → listed (suc (suc n)) g ≡ listed (suc n) f ++ x ∷ []
+  pub listed_more : (n : ℕ) (f g : ℕ → Option A) (x : Option A) → g (suc n) ≡ x
+      → ((i : ℕ) → (i ≡ suc n → ⊥) → g i ≡ f i) → listed (suc (suc n)) g ≡ listed (suc n) f ++ x ∷ []
   unfolding listed
-  listed_more n f g x here others = ap (λ l. l ++ g (suc n) ∷ []) (listed_by (suc n) g f (λ k lt. others k (omega arith))) ∙ ap (λ y. listed (suc n) f ++ y ∷ []) here
+  listed_more n f g x here others = ap (λ l. l ++ g (suc n) ∷ [])
+      (listed_by (suc n) g f (λ k lt. others k (omega arith))) ∙ ap (λ y. listed (suc n) f ++ y ∷ []) here
 
   -- a map changed at one key
-  apart : (f g : ℕ → Option A) (k : ℕ) (x : Option A) → ((q : ℕ) → g q ≡ cond (eqb k q) x (f q)) → (i : ℕ) → (i ≡ k → ⊥) → g i ≡ f i
+  apart : (f g : ℕ → Option A) (k : ℕ) (x : Option A) → ((q : ℕ) → g q ≡ cond (eqb k q) x (f q)) → (i : ℕ) → (i ≡ k → ⊥)
+      → g i ≡ f i
   apart f g k x changed i other = changed i ∙ by (eqb k i) refl
     where
       by : (b : Bool) → eqb k i ≡ b → cond b x (f i) ≡ f i
@@ -61,22 +72,31 @@ module _ {A : Type 0} where
       by true e = refl
       by false e = absurd (grind (arith, nat_tests, e))
 
-  pub listed_updated : (n : ℕ) (f g : ℕ → Option A) (k : ℕ) (x : Option A) → k < suc n → ((q : ℕ) → g q ≡ cond (eqb k q) x (f q)) → listed (suc n) g ≡ set (listed (suc n) f) k x
+  pub listed_updated : (n : ℕ) (f g : ℕ → Option A) (k : ℕ) (x : Option A) → k < suc n
+      → ((q : ℕ) → g q ≡ cond (eqb k q) x (f q)) → listed (suc n) g ≡ set (listed (suc n) f) k x
   listed_updated n f g k x lt changed = listed_changed n f g k x lt (here f g k x changed) (apart f g k x changed)
 
-  pub listed_removed : (n : ℕ) (f g : ℕ → Option A) (k : ℕ) → ((q : ℕ) → g q ≡ cond (eqb k q) None (f q)) → listed (suc n) g ≡ set (listed (suc n) f) k None
+  pub listed_removed : (n : ℕ) (f g : ℕ → Option A) (k : ℕ) → ((q : ℕ) → g q ≡ cond (eqb k q) None (f q))
+      → listed (suc n) g ≡ set (listed (suc n) f) k None
   listed_removed n f g k changed = elim (cases_lt k (suc n)) [
     | inl lt ↦ listed_updated n f g k None lt changed
-    | inr past ↦ listed_by (suc n) g f (λ i lt. apart f g k None changed i (λ e. omega arith)) ∙ sym (set_past (listed (suc n) f) k None (omega (arith, length-listed (suc n) f)))
+    | inr past ↦ listed_by (suc n) g f (λ i lt. apart f g k None changed i (λ e. omega arith))
+        ∙ sym (set_past (listed (suc n) f) k None (omega (arith, length-listed (suc n) f)))
   ]
 
-  pub listed_inserted : (n k : ℕ) (f g : ℕ → Option A) (x : Option A) → k ≡ suc n → ((q : ℕ) → g q ≡ cond (eqb k q) x (f q)) → listed (suc k) g ≡ listed (suc n) f ++ x ∷ []
+  pub listed_inserted : (n k : ℕ) (f g : ℕ → Option A) (x : Option A) → k ≡ suc n
+      → ((q : ℕ) → g q ≡ cond (eqb k q) x (f q)) → listed (suc k) g ≡ listed (suc n) f ++ x ∷ []
   listed_inserted n k f g x is changed =
-      ap (λ i. listed (suc i) g) is ∙ listed_more n f g x (ap g (sym is) ∙ here f g k x changed) (λ i other. apart f g k x changed i (λ e. other (e ∙ is)))
+      ap (λ i. listed (suc i) g) is ∙ listed_more n f g x (ap g (sym is)
+      ∙ here f g k x changed) (λ i other. apart f g k x changed i (λ e. other (e ∙ is)))
 
   -- a number that has a value was given
   pub is_given : (n : ℕ) (f : ℕ → Option A) (k : ℕ) (x : A) → f k ≡ Some x → IsSparse n f → (0 < k) × (k ≤ n)
   is_given n f k x is s = (
-    elim (cases_eq k 0) [ inl same ↦ absurd (let e : f 0 ≡ Some x = subst (λ i. f i ≡ Some x) same is in let z = s.zero_has_none in cc (e, z)) | inr other ↦ omega arith ],
+    elim (cases_eq k 0) [
+      | inl same ↦ absurd (let e : f 0 ≡ Some x = subst (λ i. f i ≡ Some x) same is in
+          let z = s.zero_has_none in cc (e, z))
+      | inr other ↦ omega arith
+    ],
     elim (cases_lt n k) [ inl past ↦ absurd (let e = s.past_has_none k past in cc (e, is)) | inr le ↦ le ],
   )

@@ -22,24 +22,31 @@ use Rattle.ob_waits.proofs.NumberLaws.{within_at}
 rising_at : (ns : List ℕ) → IsRising ns → (i j d : ℕ) → i ≤ j → j < length ns → get_or ns i d ≤ get_or ns j d
 rising_at [] r i j d le lt = absurd (omega arith)
 rising_at (x ∷ ns) r zero zero d le lt = omega arith
-rising_at (x ∷ ns) r zero (suc j) d le lt = let above = r.0 (get_or ns j 0) (within_at ns j (omega arith)) in let e = get_or_default ns j d 0 (omega arith) in omega (arith, above, e)
+rising_at (x ∷ ns) r zero (suc j) d le lt = let above = r.0 (get_or ns j 0) (within_at ns j (omega arith)) in
+    let e = get_or_default ns j d 0 (omega arith) in omega (arith, above, e)
 rising_at (x ∷ ns) r (suc i) zero d le lt = absurd (omega arith)
 rising_at (x ∷ ns) r (suc i) (suc j) d le lt = rising_at ns r.1 i j d (omega arith) (omega arith)
 
 within_index : (k : ℕ) (ns : List ℕ) → Within k ns → (i : ℕ) × (i < length ns) × (get_or ns i 0 ≡ k)
 within_index k [] w = absurd w
-within_index k (x ∷ ns) w = elim w [ inl same ↦ (zero, omega arith, sym same) | inr later ↦ let at = within_index k ns later in (suc at.0, (let lt = at.1 in omega (arith, lt)), at.2) ]
+within_index k (x ∷ ns) w = elim w [
+  | inl same ↦ (zero, omega arith, sym same)
+  | inr later ↦ let at =
+      within_index k ns later in (suc at.0, (let lt = at.1 in omega (arith, lt)), at.2)
+]
 
 pub parted : (ns : List ℕ) (last : ℕ) → IsRising ns → IsPartitionedBy (λ n. leb n last) ns
 parted ns last r = IsPartitionedBy-leb (λ (n : ℕ). n) ns last (rising_at ns r)
 
-module _ (ns : List ℕ) (last at : ℕ) (rising : IsRising ns) (point : IsPartitionPoint (λ n. leb n last ≡ true) (λ n. leb n last ≡ false) ns at) where
+module _ (ns : List ℕ) (last at : ℕ) (rising : IsRising ns)
+    (point : IsPartitionPoint (λ n. leb n last ≡ true) (λ n. leb n last ≡ false) ns at) where
   from_there : (k : ℕ) → Within k ns → last < k → (i : ℕ) × (at ≤ i) × (i < length ns) × (get_or ns i 0 ≡ k)
   from_there k w above =
       let i = within_index k ns w in (
         i.0,
         elim (cases_lt i.0 at) [
-          | inl lt ↦ absurd (let low : leb (get_or ns i.0 0) last ≡ true = point.0 i.0 0 (omega arith) lt in let le = leb-true (get_or ns i.0 0) last low in let is = i.2 in omega (arith, le, is, above))
+          | inl lt ↦ absurd (let low : leb (get_or ns i.0 0) last ≡ true = point.0 i.0 0 (omega arith) lt in
+              let le = leb-true (get_or ns i.0 0) last low in let is = i.2 in omega (arith, le, is, above))
           | inr le ↦ le
         ],
         i.1,
@@ -48,23 +55,33 @@ module _ (ns : List ℕ) (last at : ℕ) (rising : IsRising ns) (point : IsParti
 
   pub next_there : at < length ns → IsNext last ns (Some (get_or ns at 0))
   next_there lt = record {
-    above = let high : leb (get_or ns at 0) last ≡ false = point.1 at 0 (omega arith) lt in grind (arith, nat_tests, high);
-    least = λ k w above. let i = from_there k w above in let le = rising_at ns rising at i.0 0 i.1 i.2 in let is = i.3 in omega (arith, le, is);
+    above = let high : leb (get_or ns at 0) last ≡ false = point.1 at 0 (omega arith) lt in
+        grind (arith, nat_tests, high);
+    least = λ k w above. let i = from_there k w above in let le = rising_at ns rising at i.0 0 i.1 i.2 in
+        let is = i.3 in omega (arith, le, is);
   }
 
   pub next_none : length ns ≤ at → IsNext last ns None
-  next_none past = record { above = tt; least = λ k w above. let i = from_there k w above in let a = i.1 in let b = i.2 in absurd (omega (arith, a, b, past)) }
+  next_none past = record {
+    above = tt;
+    least = λ k w above. let i = from_there k w above in let a = i.1 in
+        let b = i.2 in absurd (omega (arith, a, b, past));
+  }
 
--- what is ready is so by one of the slots, and stands above the last number; the slots have the numbers of all waits that name them
+-- what is ready is so by one of the slots, and stands above the last number; the slots have the numbers of all waits
+-- that name them
 pub record Remains (last : ℕ) (lists : List (List ℕ)) (ids : List Id) (s : Scene) : Type 0 where
   pub above : (k : ℕ) → is_ready s.objects.bodies (get_or s.waits k None) ≡ true → last < k
   pub by : IsReadyBy (has_slot ids) s.objects.bodies s.waits
   pub listed : (slot k : ℕ) → names_slot slot (get_or s.waits k None) ≡ true → Within k (numbers_of lists slot)
 
-pub remains_first : (ids : List Id) (order : List ℕ) (lists : List (List ℕ)) (s : Scene) → get_or s.waits 0 None ≡ None → AreIndexed s.waits order lists → IsReadyAtOne ids s.objects.bodies s.waits → Remains 0 lists ids s
+pub remains_first : (ids : List Id) (order : List ℕ) (lists : List (List ℕ)) (s : Scene) → get_or s.waits 0 None ≡ None
+    → AreIndexed s.waits order lists → IsReadyAtOne ids s.objects.bodies s.waits → Remains 0 lists ids s
 remains_first ids order lists s none a at = record {
   above = λ k ready. elim (cases_eq k 0) [
-    | inl same ↦ absurd (let e : is_ready s.objects.bodies (get_or s.waits k None) ≡ false = ap (λ i. is_ready s.objects.bodies (get_or s.waits i None)) same ∙ ap (is_ready s.objects.bodies) none in cc (e, ready))
+    | inl same ↦ absurd (let e : is_ready s.objects.bodies (get_or s.waits k None) ≡ false =
+        ap (λ i. is_ready s.objects.bodies (get_or s.waits i None)) same ∙ ap (is_ready s.objects.bodies) none in
+        cc (e, ready))
     | inr other ↦ omega (arith, other)
   ];
   by = at;
@@ -73,22 +90,27 @@ remains_first ids order lists s none a at = record {
 
 pub record Goes (m : ℕ) (lists : List (List ℕ)) (ids : List Id) (s after : Scene) : Type 0 where
   pub same : settled after ≡ settled s
-  pub was : (k : ℕ) → is_ready after.objects.bodies (get_or after.waits k None) ≡ true → is_ready s.objects.bodies (get_or s.waits k None) ≡ true
+  pub was : (k : ℕ) → is_ready after.objects.bodies (get_or after.waits k None) ≡ true
+      → is_ready s.objects.bodies (get_or s.waits k None) ≡ true
   pub remains : Remains m lists ids after
 
 module _ (last : ℕ) (lists : List (List ℕ)) (ids : List Id) (s : Scene) (r : Remains last lists ids s) where
   -- nothing that is ready is below the next number
-  not_below : (next : Option ℕ) → IsNextOf last lists s ids next → (k : ℕ) → (IsAtMost next k → ⊥) → is_ready s.objects.bodies (get_or s.waits k None) ≡ false
+  not_below : (next : Option ℕ) → IsNextOf last lists s ids next → (k : ℕ) → (IsAtMost next k → ⊥)
+      → is_ready s.objects.bodies (get_or s.waits k None) ≡ false
   not_below next is k below = not_true _ (λ ready.
       let w = get_or s.waits k None in
       let un = unready (has_slot ids) s.objects.bodies s.waits r.by k (λ t i own lt changed.
       let slot = (get_or (ids_of w) i nowhere).slot in
       let some = any_at (λ (id : Id). eqb id.slot slot) nowhere ids changed in
       let same : (get_or ids some.0 nowhere).slot ≡ slot = grind (arith, nat_tests, some.2) in
-      let named : names_slot slot w ≡ true = any_from (λ (id : Id). eqb id.slot slot) (ids_of w) i lt (let e : eqb slot slot ≡ true = grind (arith, nat_tests) in e) in
-      elim (is.least some.0 k some.1 (subst (λ j. Within k (numbers_of lists j)) (sym same) (r.listed slot k named)) (r.above k ready)) [
+      let named : names_slot slot w ≡ true = any_from (λ (id : Id). eqb id.slot slot) (ids_of w) i lt
+      (let e : eqb slot slot ≡ true = grind (arith, nat_tests) in e) in
+      elim (is.least some.0 k some.1 (subst (λ j. Within k (numbers_of lists j)) (sym same) (r.listed slot k named))
+      (r.above k ready)) [
         | inl least ↦ absurd (below least)
-        | inr spent ↦ subst (λ j. slot_signaled t (get_or s.objects.bodies j None) ≡ false) same (spent k t own (ready_pending s.objects.bodies w ready))
+        | inr spent ↦ subst (λ j. slot_signaled t (get_or s.objects.bodies j None) ≡ false) same
+            (spent k t own (ready_pending s.objects.bodies w ready))
       ]) in
       cc (un, ready))
 

@@ -20,11 +20,22 @@ within_last m (x ∷ ns) = inr (within_last m ns)
 
 pub within_either : (n m : ℕ) (ns : List ℕ) → Within n (ns ++ m ∷ []) → Within n ns ⊎ (n ≡ m)
 within_either n m [] i = elim i [ inl same ↦ inr same | inr later ↦ absurd later ]
-within_either n m (x ∷ ns) i = elim i [ inl same ↦ inl (inl same) | inr later ↦ elim (within_either n m ns later) [ inl old ↦ inl (inr old) | inr last ↦ inr last ] ]
+within_either n m (x ∷ ns) i = elim i [
+  | inl same ↦ inl (inl same)
+  | inr later ↦
+      elim (within_either n m ns later) [ inl old ↦ inl (inr old) | inr last ↦ inr last ]
+]
 
 pub rising_push : (m : ℕ) (ns : List ℕ) → ((k : ℕ) → Within k ns → k < m) → IsRising ns → IsRising (ns ++ m ∷ [])
 rising_push m [] below r = ((λ k later. absurd later), tt)
-rising_push m (x ∷ ns) below r = ((λ k later. elim (within_either k m ns later) [ inl old ↦ r.0 k old | inr last ↦ omega (arith, last, below x (inl refl)) ]), rising_push m ns (λ k i. below k (inr i)) r.1)
+rising_push m (x ∷ ns) below r = (
+  (λ k later. elim (within_either k m ns later) [
+    | inl old ↦ r.0 k old
+    | inr last ↦
+        omega (arith, last, below x (inl refl))
+  ]),
+  rising_push m ns (λ k i. below k (inr i)) r.1,
+)
 
 -- the number at an index is there
 pub within_at : (ns : List ℕ) (i : ℕ) → i < length ns → Within (get_or ns i 0) ns
@@ -51,7 +62,8 @@ last_most k x (y ∷ ns) r i = elim i [
 below_new : (m : ℕ) (ns : List ℕ) → IsOrdered m ns → ends_with m ns ≡ false → (k : ℕ) → Within k ns → k < m
 below_new m ns numbers h k i = elim (cases_lt k m) [
   | inl lt ↦ lt
-  | inr le ↦ absurd (by ns numbers h (let b = numbers.below k i in let same : k ≡ m = omega arith in subst (λ j. Within j ns) same i))
+  | inr le ↦ absurd (by ns numbers h (let b = numbers.below k i in let same : k ≡ m = omega arith in
+      subst (λ j. Within j ns) same i))
 ]
   where
     by : (xs : List ℕ) → IsOrdered m xs → ends_with m xs ≡ false → Within m xs → ⊥
@@ -81,7 +93,9 @@ module _ (p : ℕ → Bool) where
   sifted_is (suc i) [] = refl
   sifted_is (suc i) (x ∷ ns) = by (p x) (sifted_is i ns)
     where
-      by : (b : Bool) → filter p (take i ns) ++ drop i ns ≡ sifted i ns → cond b (x ∷ filter p (take i ns)) (filter p (take i ns)) ++ drop i ns ≡ cond b (x ∷ sifted i ns) (sifted i ns)
+      by : (b : Bool) → filter p (take i ns) ++ drop i ns ≡ sifted i ns
+          → cond b (x ∷ filter p (take i ns)) (filter p (take i ns))
+          ++ drop i ns ≡ cond b (x ∷ sifted i ns) (sifted i ns)
       by true rest = ap (λ (ms : List ℕ). x ∷ ms) rest
       by false rest = rest
 
@@ -90,7 +104,8 @@ module _ (p : ℕ → Bool) where
   sifted_within k (suc i) [] w = w
   sifted_within k (suc i) (x ∷ ns) w = by (p x) (sifted_within k i ns) w
     where
-      by : (b : Bool) → (Within k (sifted i ns) → Within k ns) → Within k (cond b (x ∷ sifted i ns) (sifted i ns)) → Within k (x ∷ ns)
+      by : (b : Bool) → (Within k (sifted i ns) → Within k ns) → Within k (cond b (x ∷ sifted i ns) (sifted i ns))
+          → Within k (x ∷ ns)
       by true rest j = elim j [ inl same ↦ inl same | inr later ↦ inr (rest later) ]
       by false rest j = inr (rest j)
 
@@ -99,9 +114,14 @@ module _ (p : ℕ → Bool) where
   within_sifted k (suc i) [] passes w = w
   within_sifted k (suc i) (x ∷ ns) passes w = by (p x) refl (within_sifted k i ns passes) w
     where
-      by : (b : Bool) → p x ≡ b → (Within k ns → Within k (sifted i ns)) → Within k (x ∷ ns) → Within k (cond b (x ∷ sifted i ns) (sifted i ns))
+      by : (b : Bool) → p x ≡ b → (Within k ns → Within k (sifted i ns)) → Within k (x ∷ ns)
+          → Within k (cond b (x ∷ sifted i ns) (sifted i ns))
       by true is rest j = elim j [ inl same ↦ inl same | inr later ↦ inr (rest later) ]
-      by false is rest j = elim j [ inl same ↦ absurd (let e : p x ≡ true = subst (λ y. p y ≡ true) same passes in cc (e, is)) | inr later ↦ rest later ]
+      by false is rest j = elim j [
+        | inl same ↦ absurd (let e : p x ≡ true = subst (λ y. p y ≡ true) same passes in
+            cc (e, is))
+        | inr later ↦ rest later
+      ]
 
   sifted_rising : (i : ℕ) (ns : List ℕ) → IsRising ns → IsRising (sifted i ns)
   sifted_rising zero ns r = r
@@ -120,29 +140,47 @@ pub record IsSifted (p : ℕ → Bool) (xs : List ℕ) (end at to : ℕ) (ys : L
 
 module _ (p : ℕ → Bool) (xs : List ℕ) (end : ℕ) where
   pub sift_none : IsSifted p xs end end end xs
-  sift_none = record { long = refl; same = λ i lt. refl; rest = let none : end - end ≡ 0 = omega arith in ap (λ n. filter p (take n (drop end xs)) ++ drop end xs) (sym none) }
+  sift_none = record {
+    long = refl;
+    same = λ i lt. refl;
+    rest = let none : end - end ≡ 0 = omega arith in
+        ap (λ n. filter p (take n (drop end xs)) ++ drop end xs) (sym none);
+  }
 
   -- one more place
-  next : (b : Bool) (j : ℕ) → j < end → end ≤ length xs → p (get_or xs j 0) ≡ b → filter p (take (end - j) (drop j xs)) ≡ cond b (get_or xs j 0 ∷ filter p (take (end - (j + 1)) (drop (j + 1) xs))) (filter p (take (end - (j + 1)) (drop (j + 1) xs)))
+  next : (b : Bool) (j : ℕ) → j < end → end ≤ length xs → p (get_or xs j 0) ≡ b
+      → filter p (take (end - j) (drop j xs)) ≡ cond b
+      (get_or xs j 0 ∷ filter p (take (end - (j + 1)) (drop (j + 1) xs)))
+      (filter p (take (end - (j + 1)) (drop (j + 1) xs)))
   next b j lt le is =
       let more : end - j ≡ suc (end - (j + 1)) = omega (arith, lt) in
-      ap (λ n. filter p (take n (drop j xs))) more ∙ ap (λ (ys : List ℕ). filter p (take (suc (end - (j + 1))) ys)) (drop_more xs j 0 (omega (arith, lt, le)))
-      ∙ ap (λ c. cond c (get_or xs j 0 ∷ filter p (take (end - (j + 1)) (drop (j + 1) xs))) (filter p (take (end - (j + 1)) (drop (j + 1) xs)))) is
+      ap (λ n. filter p (take n (drop j xs))) more
+      ∙ ap (λ (ys : List ℕ). filter p (take (suc (end - (j + 1))) ys)) (drop_more xs j 0 (omega (arith, lt, le)))
+      ∙ ap (λ c. cond c (get_or xs j 0 ∷ filter p (take (end - (j + 1)) (drop (j + 1) xs)))
+      (filter p (take (end - (j + 1)) (drop (j + 1) xs)))) is
 
-  pub sift_left : (j to : ℕ) (ys : List ℕ) → j < end → end ≤ length xs → p (get_or ys j 0) ≡ false → IsSifted p xs end (j + 1) to ys → IsSifted p xs end j to ys
+  pub sift_left : (j to : ℕ) (ys : List ℕ) → j < end → end ≤ length xs → p (get_or ys j 0) ≡ false
+      → IsSifted p xs end (j + 1) to ys → IsSifted p xs end j to ys
   sift_left j to ys lt le fails s =
       let own : get_or ys j 0 ≡ get_or xs j 0 = s.same j (omega arith) in
-      record { long = s.long; same = λ i below. s.same i (omega (arith, below)); rest = s.rest ∙ ap (λ (zs : List ℕ). zs ++ drop end xs) (sym (next false j lt le (ap p (sym own) ∙ fails))) }
+      record {
+        long = s.long;
+        same = λ i below. s.same i (omega (arith, below));
+        rest = s.rest ∙ ap (λ (zs : List ℕ). zs ++ drop end xs) (sym (next false j lt le (ap p (sym own) ∙ fails)));
+      }
 
-  pub sift_kept : (j to : ℕ) (ys : List ℕ) → j < end → end ≤ length xs → j < to → to ≤ end → p (get_or ys j 0) ≡ true → IsSifted p xs end (j + 1) to ys → IsSifted p xs end j (to - 1) (set ys (to - 1) (get_or ys j 0))
+  pub sift_kept : (j to : ℕ) (ys : List ℕ) → j < end → end ≤ length xs → j < to → to ≤ end → p (get_or ys j 0) ≡ true
+      → IsSifted p xs end (j + 1) to ys → IsSifted p xs end j (to - 1) (set ys (to - 1) (get_or ys j 0))
   sift_kept j to ys lt le below within passes s =
       let own : get_or ys j 0 ≡ get_or xs j 0 = s.same j (omega arith) in
       let place : to - 1 < length ys = let e = s.long in omega (arith, e, below, within, le) in
       let more : to - 1 + 1 ≡ to = omega (arith, below) in
       record {
         long = length-set ys (to - 1) (get_or ys j 0) ∙ s.long;
-        same = λ i under. get_or-set_other ys (to - 1) i (get_or ys j 0) 0 (λ e. omega (arith, e, under, below)) ∙ s.same i (omega (arith, under));
-        rest = drop-set ys (to - 1) (get_or ys j 0) place ∙ ap (λ n. get_or ys j 0 ∷ drop n ys) more ∙ ap (λ (zs : List ℕ). get_or ys j 0 ∷ zs) s.rest
+        same = λ i under. get_or-set_other ys (to - 1) i (get_or ys j 0) 0 (λ e. omega (arith, e, under, below))
+            ∙ s.same i (omega (arith, under));
+        rest = drop-set ys (to - 1) (get_or ys j 0) place ∙ ap (λ n. get_or ys j 0 ∷ drop n ys) more
+            ∙ ap (λ (zs : List ℕ). get_or ys j 0 ∷ zs) s.rest
             ∙ ap (λ n. n ∷ filter p (take (end - (j + 1)) (drop (j + 1) xs)) ++ drop end xs) own
             ∙ ap (λ (zs : List ℕ). zs ++ drop end xs) (sym (next true j lt le (ap p (sym own) ∙ passes)));
       }
@@ -150,60 +188,84 @@ module _ (p : ℕ → Bool) (xs : List ℕ) (end : ℕ) where
 pub thins_none : (waits : List (Option Wait)) (numbers : List ℕ) → Thins waits numbers numbers
 thins_none waits numbers = record { rising = λ r. r; only = λ k i. i; keeps = λ k p i. i }
 
-pub thins_front : (waits : List (Option Wait)) (count : ℕ) (numbers new : List ℕ) → new ≡ filter (has_pending waits) (take count numbers) ++ drop count numbers → Thins waits numbers new
-thins_front waits count numbers new is = subst (λ ns. Thins waits numbers ns) (sym (is ∙ sifted_is (has_pending waits) count numbers)) (record {
-  rising = sifted_rising (has_pending waits) count numbers;
-  only = λ k w. sifted_within (has_pending waits) k count numbers w;
-  keeps = λ k passes w. within_sifted (has_pending waits) k count numbers passes w;
-})
+pub thins_front : (waits : List (Option Wait)) (count : ℕ) (numbers new : List ℕ)
+    → new ≡ filter (has_pending waits) (take count numbers) ++ drop count numbers → Thins waits numbers new
+thins_front waits count numbers new is = subst (λ ns. Thins waits numbers ns)
+    (sym (is ∙ sifted_is (has_pending waits) count numbers)) (record {
+      rising = sifted_rising (has_pending waits) count numbers;
+      only = λ k w. sifted_within (has_pending waits) k count numbers w;
+      keeps = λ k passes w. within_sifted (has_pending waits) k count numbers passes w;
+    })
 
 -- a first number whose wait is not pending leaves
-pub thins_first : (waits : List (Option Wait)) (ns : List ℕ) (i : ℕ) → i < length ns → is_pending (get_or waits (get_or ns i 0) None) ≡ false → Thins waits (drop i ns) (drop (i + 1) ns)
-thins_first waits ns i lt over = subst (λ (old : List ℕ). Thins waits old (drop (i + 1) ns)) (sym (drop_more ns i 0 lt)) (record {
-  rising = λ r. r.1;
-  only = λ k w. inr w;
-  keeps = λ k pending w. elim w [
-    | inl same ↦ absurd (let e : is_pending (get_or waits k None) ≡ false = ap (λ n. is_pending (get_or waits n None)) same ∙ over in cc (e, pending))
-    | inr later ↦ later
-  ];
-})
+pub thins_first : (waits : List (Option Wait)) (ns : List ℕ) (i : ℕ) → i < length ns
+    → is_pending (get_or waits (get_or ns i 0) None) ≡ false → Thins waits (drop i ns) (drop (i + 1) ns)
+thins_first waits ns i lt over = subst (λ (old : List ℕ). Thins waits old (drop (i + 1) ns)) (sym (drop_more ns i 0 lt))
+    (record {
+      rising = λ r. r.1;
+      only = λ k w. inr w;
+      keeps = λ k pending w. elim w [
+        | inl same ↦ absurd (let e : is_pending (get_or waits k None) ≡ false =
+            ap (λ n. is_pending (get_or waits n None)) same ∙ over in cc (e, pending))
+        | inr later ↦ later
+      ];
+    })
 
 pub thins_both : (waits : List (Option Wait)) (a b c : List ℕ) → Thins waits a b → Thins waits b c → Thins waits a c
-thins_both waits a b c x y = record { rising = λ r. y.rising (x.rising r); only = λ k i. x.only k (y.only k i); keeps = λ k p i. y.keeps k p (x.keeps k p i) }
+thins_both waits a b c x y = record {
+  rising = λ r. y.rising (x.rising r);
+  only = λ k i. x.only k (y.only k i);
+  keeps = λ k p i. y.keeps k p (x.keeps k p i);
+}
 
-pub ordered_thinned : (m : ℕ) (waits : List (Option Wait)) (old new : List ℕ) → Thins waits old new → IsOrdered m old → IsOrdered m new
-ordered_thinned m waits old new t numbers = record { rising = t.rising numbers.rising; below = λ k i. numbers.below k (t.only k i) }
+pub ordered_thinned : (m : ℕ) (waits : List (Option Wait)) (old new : List ℕ) → Thins waits old new → IsOrdered m old
+    → IsOrdered m new
+ordered_thinned m waits old new t numbers = record {
+  rising = t.rising numbers.rising;
+  below = λ k i. numbers.below k (t.only k i);
+}
 
 -- a thinned list still has the waits of a test that only pending waits pass
-pub all_thinned : (test : Option Wait → Bool) (waits : List (Option Wait)) (old new : List ℕ) → ((w : Option Wait) → test w ≡ true → is_pending w ≡ true) → Thins waits old new → HasAll test old waits → HasAll test new waits
-all_thinned test waits old new pending t all = record { each = λ n h. t.keeps n (pending (get_or waits n None) h) (all.each n h) }
+pub all_thinned : (test : Option Wait → Bool) (waits : List (Option Wait)) (old new : List ℕ)
+    → ((w : Option Wait) → test w ≡ true → is_pending w ≡ true) → Thins waits old new → HasAll test old waits
+    → HasAll test new waits
+all_thinned test waits old new pending t all = record {
+  each =
+      λ n h. t.keeps n (pending (get_or waits n None) h) (all.each n h);
+}
 
 -- a list without its last number, of a wait that is not pending
 rising_front : (m : ℕ) (ns : List ℕ) → IsRising (ns ++ m ∷ []) → IsRising ns
 rising_front m [] r = tt
 rising_front m (x ∷ ns) r = ((λ k i. r.0 k (within_left k m ns i)), rising_front m ns r.1)
 
-pub thins_last : (ws : List (Option Wait)) (old new : List ℕ) (n : ℕ) → old ≡ new ++ n ∷ [] → is_pending (get_or ws n None) ≡ false → Thins ws old new
+pub thins_last : (ws : List (Option Wait)) (old new : List ℕ) (n : ℕ) → old ≡ new ++ n ∷ []
+    → is_pending (get_or ws n None) ≡ false → Thins ws old new
 thins_last ws old new n is over = subst (λ (ns : List ℕ). Thins ws ns new) (sym is) (record {
   rising = rising_front n new;
   only = λ k i. within_left k n new i;
   keeps = λ k pending i. elim (within_either k n new i) [
     | inl old' ↦ old'
-    | inr same ↦ let other : is_pending (get_or ws k None) ≡ false = ap (λ (m : ℕ). is_pending (get_or ws m None)) same ∙ over in absurd (cc (pending, other))
+    | inr same ↦ let other : is_pending (get_or ws k None) ≡ false = ap (λ (m : ℕ). is_pending (get_or ws m None)) same
+        ∙ over in absurd (cc (pending, other))
   ];
 })
 
 -- a list that ends with a number, without it
-pub last_left : (n start : ℕ) (items new : List ℕ) → new ≡ take (length items - 1) items → ends_with n (drop start items) ≡ true → (start ≤ length new) × (drop start items ≡ drop start new ++ n ∷ [])
+pub last_left : (n start : ℕ) (items new : List ℕ) → new ≡ take (length items - 1) items
+    → ends_with n (drop start items) ≡ true → (start ≤ length new) × (drop start items ≡ drop start new ++ n ∷ [])
 last_left n start items new is ends =
     let ns = drop start items in
     let some : 0 < length ns = grind (arith, nat_tests, ends) in
     let last : get_or ns (length ns - 1) 0 ≡ n = grind (arith, nat_tests, ends) in
     let long = length-drop start items in
     let front : drop start new ≡ take (length ns - 1) ns =
-    let at : length items - 1 ≡ start + (length ns - 1) = omega (arith, some, long) in ap (drop start) (is ∙ ap (λ m. take m items) at) ∙ drop-take start (length ns - 1) items in
+    let at : length items - 1 ≡ start + (length ns - 1) = omega (arith, some, long) in
+    ap (drop start) (is ∙ ap (λ m. take m items) at) ∙ drop-take start (length ns - 1) items in
     let all : length ns - 1 + 1 ≡ length ns = omega (arith, some) in (
-      (let taken = ap (λ (xs : List ℕ). length xs) is ∙ length-take (length items - 1) items in omega (arith, some, long, taken)),
-      sym (take-length ns) ∙ ap (λ m. take m ns) (sym all) ∙ take_more ns (length ns - 1) 0 (omega (arith, some)) ∙ ap (λ m. take (length ns - 1) ns ++ m ∷ []) last
+      (let taken = ap (λ (xs : List ℕ). length xs) is ∙ length-take (length items - 1) items in
+          omega (arith, some, long, taken)),
+      sym (take-length ns) ∙ ap (λ m. take m ns) (sym all) ∙ take_more ns (length ns - 1) 0 (omega (arith, some))
+          ∙ ap (λ m. take (length ns - 1) ns ++ m ∷ []) last
           ∙ ap (λ (xs : List ℕ). xs ++ n ∷ []) (sym front),
     )

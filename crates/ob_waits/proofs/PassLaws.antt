@@ -1,4 +1,5 @@
--- Numbers take effect one after another where they are ready: that is settling, as long as none that is ready is below the next.
+-- Numbers take effect one after another where they are ready: that is settling, as long as none that is ready is below
+-- the next.
 use Rattle.std.proofs.Common.{◌≡◌, ℕ, zero, suc, ◌+◌, ◌<◌, ◌≤◌, List, [], ◌∷◌, length, Option, Some, None, refl, ap, ◌∙◌, sym, subst, arith, drop, eqb, get_or, Bool, true, false, inl, inr}
 use Rattle.std.specs.List.{list_any}
 use Rattle.std.proofs.lemmas.List.{drop_all, drop_more}
@@ -19,20 +20,24 @@ use Rattle.ob_waits.proofs.Settled.{settled_replaced}
 nothing_pending : (s : Scene) → pending_count s.waits ≤ 0 → IsSettled s.objects.bodies s.waits
 nothing_pending s few = record { each = λ k. not_true _ (λ ready. omega (arith, few, ready_counted s k ready)) }
 
-settled_fuel : (f g : ℕ) (s : Scene) → pending_count s.waits ≤ f → pending_count s.waits ≤ g → settled_within f s ≡ settled_within g s
+settled_fuel : (f g : ℕ) (s : Scene) → pending_count s.waits ≤ f → pending_count s.waits ≤ g
+    → settled_within f s ≡ settled_within g s
 settled_fuel zero g s a b = sym (settled_none g s (nothing_pending s a))
 settled_fuel (suc f) zero s a b = settled_none (suc f) s (nothing_pending s b)
 settled_fuel (suc f) (suc g) s a b =
     let k = first_ready s.objects.bodies s.waits in
     elim (cases_lt k (length s.waits)) [
-      | inl lt ↦ (let ready : is_ready s.objects.bodies (get_or s.waits k None) ≡ true = passes_at_first (is_ready s.objects.bodies) s.waits None lt in
+      | inl lt ↦ (let ready : is_ready s.objects.bodies (get_or s.waits k None) ≡ true =
+          passes_at_first (is_ready s.objects.bodies) s.waits None lt in
           let less = fewer s k lt ready in
-          settled_first f s k ready refl ∙ settled_fuel f g (effect s k) (omega (arith, less, a)) (omega (arith, less, b)) ∙ sym (settled_first g s k ready refl))
+          settled_first f s k ready refl ∙ settled_fuel f g (effect s k) (omega (arith, less, a))
+          (omega (arith, less, b)) ∙ sym (settled_first g s k ready refl))
       | inr le ↦ settled_none (suc f) s (settled_at_end s le) ∙ sym (settled_none (suc g) s (settled_at_end s le))
     ]
 
 -- the least number that is ready takes effect first
-settled_next : (s : Scene) (m : ℕ) → is_ready s.objects.bodies (get_or s.waits m None) ≡ true → ((k : ℕ) → k < m → is_ready s.objects.bodies (get_or s.waits k None) ≡ false) → settled (effect s m) ≡ settled s
+settled_next : (s : Scene) (m : ℕ) → is_ready s.objects.bodies (get_or s.waits m None) ≡ true
+    → ((k : ℕ) → k < m → is_ready s.objects.bodies (get_or s.waits k None) ≡ false) → settled (effect s m) ≡ settled s
 settled_next s m ready below =
     let less = fewer s m (ready_within s m ready) ready in
     let few = count_by-le-length is_pending s.waits in
@@ -43,22 +48,26 @@ settled_next s m ready below =
 -- a number takes effect, where it is ready: what is ready then was ready, and is above it
 pub record Steps (m : ℕ) (s after : Scene) : Type 0 where
   pub same : settled after ≡ settled s
-  pub later : (k : ℕ) → is_ready after.objects.bodies (get_or after.waits k None) ≡ true → (is_ready s.objects.bodies (get_or s.waits k None) ≡ true) × (m < k)
+  pub later : (k : ℕ) → is_ready after.objects.bodies (get_or after.waits k None) ≡ true
+      → (is_ready s.objects.bodies (get_or s.waits k None) ≡ true) × (m < k)
 
-pub steps : (m : ℕ) (s : Scene) → ((k : ℕ) → is_ready s.objects.bodies (get_or s.waits k None) ≡ true → m ≤ k) → Steps m s (passed (m ∷ []) s)
+pub steps : (m : ℕ) (s : Scene) → ((k : ℕ) → is_ready s.objects.bodies (get_or s.waits k None) ≡ true → m ≤ k)
+    → Steps m s (passed (m ∷ []) s)
 steps m s least = by (is_ready s.objects.bodies (get_or s.waits m None)) refl
   where
     by : (b : Bool) → is_ready s.objects.bodies (get_or s.waits m None) ≡ b → Steps m s (passed (m ∷ []) s)
     by true ready = rw ready (record {
       same = settled_next s m ready (λ k below. not_true _ (λ h. omega (arith, below, least k h)));
-      later = λ k after. let w = was_ready s m k ready after in (w.before, (let le = least k w.before in let other = w.other in omega (arith, le, other)));
+      later = λ k after. let w = was_ready s m k ready after in
+          (w.before, (let le = least k w.before in let other = w.other in omega (arith, le, other)));
     })
     by false none = rw none (record {
       same = refl;
       later = λ k ready. (
         ready,
         elim (cases_eq k m) [
-          | inl same ↦ absurd (let e : is_ready s.objects.bodies (get_or s.waits k None) ≡ false = ap (λ i. is_ready s.objects.bodies (get_or s.waits i None)) same ∙ none in cc (e, ready))
+          | inl same ↦ absurd (let e : is_ready s.objects.bodies (get_or s.waits k None) ≡ false =
+              ap (λ i. is_ready s.objects.bodies (get_or s.waits i None)) same ∙ none in cc (e, ready))
           | inr apart ↦ (let le = least k ready in omega (arith, le, apart))
         ],
       );
@@ -74,35 +83,51 @@ pub record StepsOn (ns : List ℕ) (i : ℕ) (s after : Scene) : Type 0 where
   pub same : settled after ≡ settled s
   pub covers : Covers (drop (i + 1) ns) after
 
-pub steps_on : (ns : List ℕ) (i : ℕ) (s : Scene) → i < length ns → IsRising ns → Covers (drop i ns) s → StepsOn ns i s (passed (get_or ns i 0 ∷ []) s)
+pub steps_on : (ns : List ℕ) (i : ℕ) (s : Scene) → i < length ns → IsRising ns → Covers (drop i ns) s
+    → StepsOn ns i s (passed (get_or ns i 0 ∷ []) s)
 steps_on ns i s lt rising covers =
     let m = get_or ns i 0 in
     let rest = drop (i + 1) ns in
     let now : Covers (m ∷ rest) s = subst (λ (xs : List ℕ). Covers xs s) (drop_more ns i 0 lt) covers in
     let above : IsRising (m ∷ rest) = subst IsRising (drop_more ns i 0 lt) (rising_drop i ns rising) in
-    let step = steps m s (λ k ready. elim (now.each k ready) [ inl same ↦ omega (arith, same) | inr later ↦ (let lt = above.0 k later in omega (arith, lt)) ]) in
+    let step = steps m s (λ k ready. elim (now.each k ready) [
+      | inl same ↦ omega (arith, same)
+      | inr later ↦
+          (let lt = above.0 k later in omega (arith, lt))
+    ]) in
     record {
       same = step.same;
-      covers = record { each = λ k ready. let l = step.later k ready in elim (now.each k l.0) [ inl same ↦ absurd (let lt = l.1 in omega (arith, same, lt)) | inr later ↦ later ] };
+      covers = record {
+        each = λ k ready. let l = step.later k ready in
+            elim (now.each k l.0) [ inl same ↦ absurd (let lt = l.1 in omega (arith, same, lt)) | inr later ↦ later ];
+      };
     }
 
 pub covered_all : (ns : List ℕ) (i : ℕ) (s : Scene) → length ns ≤ i → Covers (drop i ns) s → settled s ≡ s
-covered_all ns i s past covers = settled_same s (record { each = λ k. not_true _ (λ ready. subst (λ (xs : List ℕ). Within k xs) (drop_all i ns past) (covers.each k ready)) })
+covered_all ns i s past covers = settled_same s (record {
+  each =
+      λ k. not_true _ (λ ready. subst (λ (xs : List ℕ). Within k xs) (drop_all i ns past) (covers.each k ready));
+})
 
 -- some element passes
-pub any_from : (p : Id → Bool) (xs : List Id) (i : ℕ) → i < length xs → p (get_or xs i nowhere) ≡ true → list_any p xs ≡ true
+pub any_from : (p : Id → Bool) (xs : List Id) (i : ℕ) → i < length xs → p (get_or xs i nowhere) ≡ true
+    → list_any p xs ≡ true
 any_from p [] i lt h = absurd (omega arith)
 any_from p (x ∷ xs) zero lt h = grind (arith, h)
-any_from p (x ∷ xs) (suc i) lt h = let later : list_any p xs ≡ true = any_from p xs i (omega (arith, lt)) h in grind (arith, later)
+any_from p (x ∷ xs) (suc i) lt h = let later : list_any p xs ≡ true = any_from p xs i (omega (arith, lt)) h in
+    grind (arith, later)
 
 not_false : (b : Bool) → (b ≡ false → ⊥) → b ≡ true
 not_false true h = refl
 not_false false h = absurd (h refl)
 
-module _ (changed : ℕ → Bool) (bodies : List (Option Body)) (ws : List (Option Wait)) (by : IsReadyBy changed bodies ws) where
+module _ (changed : ℕ → Bool) (bodies : List (Option Body)) (ws : List (Option Wait))
+    (by : IsReadyBy changed bodies ws) where
   -- a wait isn't ready where each changed slot that it names is signaled for its thread in vain
-  pub unready : (n : ℕ) → ((t i : ℕ) → thread_of (get_or ws n None) ≡ Some t → i < length (ids_of (get_or ws n None)) → changed (get_or (ids_of (get_or ws n None)) i nowhere).slot ≡ true
-      → slot_signaled t (get_or bodies (get_or (ids_of (get_or ws n None)) i nowhere).slot None) ≡ false) → is_ready bodies (get_or ws n None) ≡ false
+  pub unready : (n : ℕ) → ((t i : ℕ) → thread_of (get_or ws n None) ≡ Some t → i < length (ids_of (get_or ws n None))
+      → changed (get_or (ids_of (get_or ws n None)) i nowhere).slot ≡ true
+      → slot_signaled t (get_or bodies (get_or (ids_of (get_or ws n None)) i nowhere).slot None) ≡ false)
+      → is_ready bodies (get_or ws n None) ≡ false
   unready n none = not_true _ (λ ready.
       let w = get_or ws n None in
       let before : is_ready by.before w ≡ true = ready_where by.before bodies w (λ t own i lt signaled.
@@ -110,14 +135,18 @@ module _ (changed : ℕ → Bool) (bodies : List (Option Body)) (ws : List (Opti
       by_change t k signaled (changed k) refl (none t i own lt)) ready in
       let settled = by.settled.each n in cc (before, settled))
     where
-      by_change : (t k : ℕ) → slot_signaled t (get_or bodies k None) ≡ true → (b : Bool) → changed k ≡ b → (changed k ≡ true → slot_signaled t (get_or bodies k None) ≡ false) → slot_signaled t (get_or by.before k None) ≡ true
+      by_change : (t k : ℕ) → slot_signaled t (get_or bodies k None) ≡ true → (b : Bool) → changed k ≡ b
+          → (changed k ≡ true → slot_signaled t (get_or bodies k None) ≡ false)
+          → slot_signaled t (get_or by.before k None) ≡ true
       by_change t k signaled true is none = absurd (let e = none is in cc (e, signaled))
       by_change t k signaled false is none = by.less t k is signaled
 
   -- one that is ready names a slot that changed
-  pub names_changed : (n : ℕ) → is_ready bodies (get_or ws n None) ≡ true → list_any (λ (id : Id). changed id.slot) (ids_of (get_or ws n None)) ≡ true
+  pub names_changed : (n : ℕ) → is_ready bodies (get_or ws n None) ≡ true
+      → list_any (λ (id : Id). changed id.slot) (ids_of (get_or ws n None)) ≡ true
   names_changed n ready = not_false _ (λ none.
-      let un = unready n (λ t i own lt is. absurd (let some = any_from (λ (id : Id). changed id.slot) (ids_of (get_or ws n None)) i lt is in cc (some, none))) in
+      let un = unready n (λ t i own lt is. absurd (let some =
+      any_from (λ (id : Id). changed id.slot) (ids_of (get_or ws n None)) i lt is in cc (some, none))) in
       cc (un, ready))
 
   -- where no changed slot has anything for who waits, all is settled
@@ -129,20 +158,32 @@ module _ (changed : ℕ → Bool) (bodies : List (Option Body)) (ws : List (Opti
   }
 
 -- the lists have the numbers of all waits that are ready
-pub covers_order : (objects : Objects) (ws : List (Option Wait)) (order : List ℕ) (index : List (List ℕ)) → AreIndexed ws order index → Covers order (record { objects = objects; waits = ws })
-covers_order objects ws order index a = record { each = λ n ready. a.order_all.each n (ready_pending objects.bodies (get_or ws n None) ready) }
+pub covers_order : (objects : Objects) (ws : List (Option Wait)) (order : List ℕ) (index : List (List ℕ))
+    → AreIndexed ws order index → Covers order (record { objects = objects; waits = ws })
+covers_order objects ws order index a = record {
+  each =
+      λ n ready. a.order_all.each n (ready_pending objects.bodies (get_or ws n None) ready);
+}
 
-pub covers_slot : (objects : Objects) (slot : ℕ) (ws : List (Option Wait)) (order : List ℕ) (index : List (List ℕ)) → IsReadyAt slot objects.bodies ws → AreIndexed ws order index → Covers (numbers_of index slot) (record { objects = objects; waits = ws })
-covers_slot objects slot ws order index at a = record { each = λ n ready. (a.index_all slot).each n (names_changed (λ k. eqb k slot) objects.bodies ws at n ready) }
+pub covers_slot : (objects : Objects) (slot : ℕ) (ws : List (Option Wait)) (order : List ℕ) (index : List (List ℕ))
+    → IsReadyAt slot objects.bodies ws → AreIndexed ws order index
+    → Covers (numbers_of index slot) (record { objects = objects; waits = ws })
+covers_slot objects slot ws order index at a = record {
+  each =
+      λ n ready. (a.index_all slot).each n (names_changed (λ k. eqb k slot) objects.bodies ws at n ready);
+}
 
 -- an effect signals nothing, and what it answers isn't ready
-pub by_passed : (changed : ℕ → Bool) (m : ℕ) (s : Scene) → IsReadyBy changed s.objects.bodies s.waits → IsReadyBy changed (passed (m ∷ []) s).objects.bodies (passed (m ∷ []) s).waits
+pub by_passed : (changed : ℕ → Bool) (m : ℕ) (s : Scene) → IsReadyBy changed s.objects.bodies s.waits
+    → IsReadyBy changed (passed (m ∷ []) s).objects.bodies (passed (m ∷ []) s).waits
 by_passed changed m s r = by (is_ready s.objects.bodies (get_or s.waits m None)) refl
   where
-    by : (b : Bool) → is_ready s.objects.bodies (get_or s.waits m None) ≡ b → IsReadyBy changed (passed (m ∷ []) s).objects.bodies (passed (m ∷ []) s).waits
+    by : (b : Bool) → is_ready s.objects.bodies (get_or s.waits m None) ≡ b
+        → IsReadyBy changed (passed (m ∷ []) s).objects.bodies (passed (m ∷ []) s).waits
     by false none = rw none r
     by true ready = let a = answers s m ready in rw ready (record {
       before = r.before;
-      settled = subst (IsSettled r.before) (sym a.waits) (settled_replaced r.before s.waits m (answered_wait a.wait a.code) refl r.settled);
+      settled = subst (IsSettled r.before) (sym a.waits)
+          (settled_replaced r.before s.waits m (answered_wait a.wait a.code) refl r.settled);
       less = λ t k out signaled. r.less t k out (a.less.each t (record { slot = k; generation = 0 }) signaled);
     })

@@ -120,7 +120,8 @@ module _ (threads slots : ℕ) where
           → are_within threads slots (spread_from (suc k) n ps) ≡ list_all (row_within threads slots) ps)
           → (fits_from (suc k) end (p ∷ ps) ≡ true
           → are_within threads slots (spread_from (suc k) n (p ∷ ps)) ≡ list_all (row_within threads slots) (p ∷ ps))
-          → are_within threads slots (cond t (Some p.1 ∷ spread_from (suc k) n ps) (None ∷ spread_from (suc k) n (p ∷ ps)))
+          → are_within threads slots (cond t (Some p.1 ∷ spread_from (suc k) n ps)
+          (None ∷ spread_from (suc k) n (p ∷ ps)))
           ≡ list_all (row_within threads slots) (p ∷ ps)
       by true same one more =
           let all : fits_from (suc p.0) end ps ≡ true = (both-true (ltb p.0 end) (fits_from (suc p.0) end ps) b.1).1 in
@@ -132,7 +133,8 @@ module _ (threads slots : ℕ) where
           let above = le-leb (suc k) p.0 (omega (arith, low, other)) in
           more (true-both (leb (suc k) p.0) (ltb p.0 end && fits_from (suc p.0) end ps) above b.1)
 
-  pass_in_parts : (rows : List Held) → list_all (row_within threads slots) (map held_parts rows) ≡ rows_within threads slots rows
+  pass_in_parts : (rows : List Held) → list_all (row_within threads slots) (map held_parts rows)
+      ≡ rows_within threads slots rows
   pass_in_parts [] = refl
   pass_in_parts (h ∷ rows) = ap (λ (z : Bool). is_within threads slots (Some h.wait) && z) (pass_in_parts rows)
 

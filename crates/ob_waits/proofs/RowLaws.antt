@@ -1,4 +1,5 @@
--- Waits that are built one after another are those that the rows stand for; and which rows come next of those that are written.
+-- Waits that are built one after another are those that the rows stand for; and which rows come next of those that are
+-- written.
 use Rattle.std.proofs.Common.{◌≡◌, ℕ, zero, suc, ◌+◌, ◌-◌, ◌<◌, ◌≤◌, ◌&&◌, ◌||◌, not, Bool, true, false, cond, eqb, leb, ltb, List, [], ◌∷◌, ◌++◌, length, replicate, Option, Some, None, Result, Ok, Err, refl, ap, ◌∙◌, sym, subst, arith, append_assoc, eq-eqb, ne_eqb, get_or}
 use Rattle.std.specs.List.{list_all, list_any}
 use Rattle.std.specs.Prelude.{is_some}
@@ -48,7 +49,8 @@ fits_next : (k n last : ℕ) (w : Wait) (ps : List (ℕ × Wait)) → k ≤ n �
 fits_next k n last w ps le most = rw (le-leb k n le, lt-ltb n (suc last) (omega (arith, most))) refl
 
 -- a row comes next
-module _ (last n : ℕ) (ws : List (Option Wait)) (w : Wait) (ps : List (ℕ × Wait)) (some : 0 < n) (le : length ws ≤ n) (most : n ≤ last) where
+module _ (last n : ℕ) (ws : List (Option Wait)) (w : Wait) (ps : List (ℕ × Wait)) (some : 0 < n) (le : length ws ≤ n)
+    (most : n ≤ last) where
   more : List (Option Wait)
   more = skipped (n - 1) ws ++ Some w ∷ []
 
@@ -58,7 +60,8 @@ module _ (last n : ℕ) (ws : List (Option Wait)) (w : Wait) (ps : List (ℕ × 
 
   places : ws ++ spread_from (length ws) (suc last - length ws) ((n, w) ∷ ps)
       ≡ (skipped (n - 1) ws ++ Some w ∷ [])
-      ++ spread_from (length (skipped (n - 1) ws ++ Some w ∷ [])) (suc last - length (skipped (n - 1) ws ++ Some w ∷ [])) ps
+      ++ spread_from (length (skipped (n - 1) ws ++ Some w ∷ []))
+      (suc last - length (skipped (n - 1) ws ++ Some w ∷ [])) ps
   places =
       let k = length ws in
       let d = n - k in
@@ -113,18 +116,27 @@ left_all limit clock last ps = ap
     by [] = refl
     by ((zero, w) ∷ ps) =
         to (fits_from 1 (suc last) ps)
-        ∙ sym (ap (λ (z : Bool). tested limit clock (cond (z && fits_from 1 (suc last) ps) (Some (Some w ∷ spread_from 1 last ps)) None)) (lt-ltb 0 (suc last) (omega arith)))
+        ∙ sym (ap (λ (z : Bool). tested limit clock
+        (cond (z && fits_from 1 (suc last) ps) (Some (Some w ∷ spread_from 1 last ps)) None))
+        (lt-ltb 0 (suc last) (omega arith)))
       where
         to : (b : Bool) → tested limit clock None ≡ tested limit clock
             (cond b (Some (Some w ∷ spread_from 1 last ps)) None)
-        to true = sym (ap (λ (c : Bool). cond c (Ok (record { limit = limit; waits = Some w ∷ spread_from 1 last ps; clock = clock })) (Err Value)) (not_first limit clock w (spread_from 1 last ps)))
+        to true = sym (ap (λ (c : Bool). cond c (Ok (record {
+          limit = limit;
+          waits = Some w ∷ spread_from 1 last ps;
+          clock = clock;
+        })) (Err Value)) (not_first limit clock w (spread_from 1 last ps)))
         to false = refl
     by ((suc n, w) ∷ ps) =
         ap (λ (z : Bool). tested limit clock
         (cond (z && (ltb (suc n) (suc last) && fits_from (suc (suc n)) (suc last) ps))
         (Some (None ∷ spread_from 1 last ((suc n, w) ∷ ps))) None))
         (le-leb 1 (suc n) (omega arith) ∙ sym (le-leb 0 (suc n) (omega arith)))
-        ∙ sym (ap (λ (z : Bool). tested limit clock (cond (fits_from 0 (suc last) ((suc n, w) ∷ ps)) (Some (cond z (Some w ∷ spread_from 1 last ps) (None ∷ spread_from 1 last ((suc n, w) ∷ ps)))) None)) (ne_eqb (suc n) 0 (λ q. omega (arith, q))))
+        ∙ sym (ap (λ (z : Bool). tested limit clock
+        (cond (fits_from 0 (suc last) ((suc n, w) ∷ ps))
+        (Some (cond z (Some w ∷ spread_from 1 last ps) (None ∷ spread_from 1 last ((suc n, w) ∷ ps)))) None))
+        (ne_eqb (suc n) 0 (λ q. omega (arith, q))))
 
 -- a row that can't come is refused with all that stands behind it
 stands : (clock : ℕ) (w : Wait) (front back : List (Option Wait))

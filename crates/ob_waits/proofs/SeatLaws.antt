@@ -27,7 +27,8 @@ module _ (given : ℕ) (seats : List (Option Held)) (threads : ℕ → Option �
   seat_found t h is = ap (λ o. wait_at (seat_of seats o)) (s.each t h is).known ∙ ap wait_at is
 
   -- what is found by a number stands at its thread
-  found_seat : (n : ℕ) (w : Wait) → found seats threads n ≡ Some w → (0 < n) × (n ≤ given) × (number_at (get_or seats w.thread None) ≡ Some n)
+  found_seat : (n : ℕ) (w : Wait) → found seats threads n ≡ Some w
+      → (0 < n) × (n ≤ given) × (number_at (get_or seats w.thread None) ≡ Some n)
   found_seat n w is = by (threads n) refl
     where
       by : (o : Option ℕ) → threads n ≡ o → (0 < n) × (n ≤ given) × (number_at (get_or seats w.thread None) ≡ Some n)
@@ -37,8 +38,11 @@ module _ (given : ℕ) (seats : List (Option Held)) (threads : ℕ → Option �
           let at = wait_there (get_or seats t None) w (ap (λ o. wait_at (seat_of seats o)) (sym e) ∙ is) in
           let own = s.each t at.0 at.1 in
           let same : at.0.number ≡ n = same_Some at.0.number n (ap number_at (sym at.1) ∙ number) in
-          let thread : w.thread ≡ t = ap (λ (x : Wait). x.thread) (sym at.2) ∙ own.own in
-          (subst (λ i. 0 < i) same own.some, subst (λ i. i ≤ given) same own.fits, ap (λ i. number_at (get_or seats i None)) thread ∙ number)
+          let thread : w.thread ≡ t = ap (λ (x : Wait). x.thread) (sym at.2) ∙ own.own in (
+            subst (λ i. 0 < i) same own.some,
+            subst (λ i. i ≤ given) same own.fits,
+            ap (λ i. number_at (get_or seats i None)) thread ∙ number,
+          )
 
   none : (n : ℕ) → (0 < n → n ≤ given → ⊥) → found seats threads n ≡ None
   none n out = by (found seats threads n) refl
@@ -63,25 +67,33 @@ module _ (given : ℕ) (seats : List (Option Held)) (threads : ℕ → Option �
     where
       by : (o : Option ℕ) → threads n ≡ o → o ≡ None
       by None e = refl
-      by (Some t) e = let at = number_there (get_or seats t None) n (s.there n t e) in let fits = (s.each t at.0 at.1).fits in let same = at.2 in absurd (omega (arith, fits, same, past))
+      by (Some t) e = let at = number_there (get_or seats t None) n (s.there n t e) in
+          let fits = (s.each t at.0 at.1).fits in let same = at.2 in absurd (omega (arith, fits, same, past))
 
   -- the number of a thread's wait is that of the wait at its seat
-  seat_own : (t : ℕ) (h : Held) → get_or seats t None ≡ Some h → thread_of (get_or (listed (suc given) (found seats threads)) h.number None) ≡ Some t
+  seat_own : (t : ℕ) (h : Held) → get_or seats t None ≡ Some h
+      → thread_of (get_or (listed (suc given) (found seats threads)) h.number None) ≡ Some t
   seat_own t h is = ap thread_of (number_reads h.number ∙ seat_found t h is) ∙ ap Some (s.each t h is).own
 
-  pub number_held : (t n : ℕ) → thread_of (get_or (listed (suc given) (found seats threads)) n None) ≡ Some t → number_at (get_or seats t None) ≡ Some n
+  pub number_held : (t n : ℕ) → thread_of (get_or (listed (suc given) (found seats threads)) n None) ≡ Some t
+      → number_at (get_or seats t None) ≡ Some n
   number_held t n own = by (found seats threads n) refl
     where
       by : (o : Option Wait) → found seats threads n ≡ o → number_at (get_or seats t None) ≡ Some n
       by None e = absurd (let gone = ap thread_of (number_reads n ∙ e) in cc (gone, own))
-      by (Some w) e = ap (λ i. number_at (get_or seats i None)) (sym (same_Some w.thread t (sym (ap thread_of (number_reads n ∙ e)) ∙ own))) ∙ (found_seat n w e).2
+      by (Some w) e = ap (λ i. number_at (get_or seats i None))
+          (sym (same_Some w.thread t (sym (ap thread_of (number_reads n ∙ e)) ∙ own))) ∙ (found_seat n w e).2
 
-  pub number_held_is : (t : ℕ) → number_at (get_or seats t None) ≡ number_of t (listed (suc given) (found seats threads))
+  pub number_held_is : (t : ℕ) → number_at (get_or seats t None)
+      ≡ number_of t (listed (suc given) (found seats threads))
   number_held_is t = by (get_or seats t None) refl
     where
-      by : (o : Option Held) → get_or seats t None ≡ o → number_at o ≡ number_of t (listed (suc given) (found seats threads))
-      by None e = sym (number_none (listed (suc given) (found seats threads)) t (λ m own. none-some m (sym (ap number_at e) ∙ number_held t m own)))
-      by (Some h) e = sym (number_is (listed (suc given) (found seats threads)) t h.number (seat_own t h e) (λ m own. same_Some m h.number (sym (number_held t m own) ∙ ap number_at e)))
+      by : (o : Option Held) → get_or seats t None ≡ o
+          → number_at o ≡ number_of t (listed (suc given) (found seats threads))
+      by None e = sym (number_none (listed (suc given) (found seats threads)) t
+          (λ m own. none-some m (sym (ap number_at e) ∙ number_held t m own)))
+      by (Some h) e = sym (number_is (listed (suc given) (found seats threads)) t h.number (seat_own t h e)
+          (λ m own. same_Some m h.number (sym (number_held t m own) ∙ ap number_at e)))
 
   -- a thread that has no wait has nothing at its seat
   pub free_seat : (t : ℕ) → number_of t (listed (suc given) (found seats threads)) ≡ None → get_or seats t None ≡ None
@@ -92,7 +104,8 @@ module _ (given : ℕ) (seats : List (Option Held)) (threads : ℕ → Option �
       by (Some h) e = absurd (no_number t (listed (suc given) (found seats threads)) h.number free (seat_own t h e))
 
 -- seats and threads that read as they did
-module _ (given : ℕ) (seats seats' : List (Option Held)) (threads threads' : ℕ → Option ℕ) (same : (i : ℕ) → get_or seats' i None ≡ get_or seats i None) (known : (q : ℕ) → threads' q ≡ threads q) where
+module _ (given : ℕ) (seats seats' : List (Option Held)) (threads threads' : ℕ → Option ℕ) (same : (i : ℕ)
+    → get_or seats' i None ≡ get_or seats i None) (known : (q : ℕ) → threads' q ≡ threads q) where
   pub same_found : (q : ℕ) → found seats' threads' q ≡ found seats threads q
   same_found q = ap (λ o. wait_at (seat_of seats' o)) (known q) ∙ by (threads q)
     where
@@ -102,15 +115,19 @@ module _ (given : ℕ) (seats seats' : List (Option Held)) (threads threads' : �
 
   pub same_seated : AreSeated given seats threads → AreSeated given seats' threads'
   same_seated s = record {
-    each = λ t h is. let old = s.each t h (sym (same t) ∙ is) in record { own = old.own; some = old.some; fits = old.fits; known = known h.number ∙ old.known };
+    each = λ t h is. let old = s.each t h (sym (same t) ∙ is) in
+        record { own = old.own; some = old.some; fits = old.fits; known = known h.number ∙ old.known };
     there = λ n t is. ap number_at (same t) ∙ s.there n t (sym (known n) ∙ is);
   }
 
 -- one seat changes, and the thread of one number, whose wait stands or stood there and nowhere else
-module _ (given given' n t : ℕ) (x : Option ℕ) (y : Option Held) (seats seats' : List (Option Held)) (threads threads' : ℕ → Option ℕ) (s : AreSeated given seats threads) (more : given ≤ given')
-    (new : (i : ℕ) → get_or seats' i None ≡ cond (eqb t i) y (get_or seats i None)) (known : (q : ℕ) → threads' q ≡ cond (eqb n q) x (threads q))
+module _ (given given' n t : ℕ) (x : Option ℕ) (y : Option Held) (seats seats' : List (Option Held))
+    (threads threads' : ℕ → Option ℕ) (s : AreSeated given seats threads) (more : given ≤ given')
+    (new : (i : ℕ) → get_or seats' i None ≡ cond (eqb t i) y (get_or seats i None)) (known : (q : ℕ)
+    → threads' q ≡ cond (eqb n q) x (threads q))
     (was : (q : ℕ) → threads q ≡ Some t → n ≡ q) (only : (u : ℕ) → threads n ≡ Some u → t ≡ u)
-    (now : (h : Held) → y ≡ Some h → IsSeated given' threads' t h) (stands : (u : ℕ) → x ≡ Some u → (t ≡ u) × (number_at y ≡ Some n)) where
+    (now : (h : Held) → y ≡ Some h → IsSeated given' threads' t h) (stands : (u : ℕ) → x ≡ Some u
+    → (t ≡ u) × (number_at y ≡ Some n)) where
   here : (i : ℕ) → t ≡ i → get_or seats' i None ≡ y
   here i same = new i ∙ alike t i y (get_or seats i None) same
 
@@ -120,10 +137,13 @@ module _ (given given' n t : ℕ) (x : Option ℕ) (y : Option Held) (seats seat
   same_thread : (q : ℕ) → (n ≡ q → ⊥) → threads' q ≡ threads q
   same_thread q apart = known q ∙ unlike n q x (threads q) apart
 
-  pub changed_found : (q : ℕ) → found seats' threads' q ≡ cond (eqb n q) (wait_at (seat_of seats' x)) (found seats threads q)
+  pub changed_found : (q : ℕ) → found seats' threads' q
+      ≡ cond (eqb n q) (wait_at (seat_of seats' x)) (found seats threads q)
   changed_found q = elim (cases_eq n q) [
-    | inl same ↦ ap (λ o. wait_at (seat_of seats' o)) (known q ∙ alike n q x (threads q) same) ∙ sym (alike n q (wait_at (seat_of seats' x)) (found seats threads q) same)
-    | inr apart ↦ ap (λ o. wait_at (seat_of seats' o)) (same_thread q apart) ∙ by apart (threads q) refl ∙ sym (unlike n q (wait_at (seat_of seats' x)) (found seats threads q) apart)
+    | inl same ↦ ap (λ o. wait_at (seat_of seats' o)) (known q ∙ alike n q x (threads q) same)
+        ∙ sym (alike n q (wait_at (seat_of seats' x)) (found seats threads q) same)
+    | inr apart ↦ ap (λ o. wait_at (seat_of seats' o)) (same_thread q apart) ∙ by apart (threads q) refl
+        ∙ sym (unlike n q (wait_at (seat_of seats' x)) (found seats threads q) apart)
   ]
     where
       by : (n ≡ q → ⊥) → (o : Option ℕ) → threads q ≡ o → wait_at (seat_of seats' o) ≡ wait_at (seat_of seats o)
@@ -137,17 +157,26 @@ module _ (given given' n t : ℕ) (x : Option ℕ) (y : Option Held) (seats seat
       | inr apart ↦
           let old = s.each u h (sym (other u apart) ∙ is) in
           let fits = old.fits in
-          record { own = old.own; some = old.some; fits = omega (arith, fits, more); known = same_thread h.number (λ e. apart (only u (ap threads e ∙ old.known))) ∙ old.known }
+          record {
+            own = old.own;
+            some = old.some;
+            fits = omega (arith, fits, more);
+            known = same_thread h.number (λ e. apart (only u (ap threads e ∙ old.known))) ∙ old.known;
+          }
     ];
     there = λ q u is. elim (cases_eq n q) [
-      | inl same ↦ let at = stands u (sym (known q ∙ alike n q x (threads q) same) ∙ is) in ap number_at (here u at.0) ∙ at.1 ∙ ap Some same
-      | inr apart ↦ let is' : threads q ≡ Some u = sym (same_thread q apart) ∙ is in ap number_at (other u (λ e. apart (was q (is' ∙ ap Some (sym e))))) ∙ s.there q u is'
+      | inl same ↦ let at = stands u (sym (known q ∙ alike n q x (threads q) same) ∙ is) in
+          ap number_at (here u at.0) ∙ at.1 ∙ ap Some same
+      | inr apart ↦ let is' : threads q ≡ Some u = sym (same_thread q apart) ∙ is in
+          ap number_at (other u (λ e. apart (was q (is' ∙ ap Some (sym e))))) ∙ s.there q u is'
     ];
   }
 
 -- a thread takes its seat, with the next number
-module _ (given n : ℕ) (w : Wait) (seats seats' : List (Option Held)) (threads threads' : ℕ → Option ℕ) (s : AreSeated given seats threads) (is : n ≡ given + 1) (free : get_or seats w.thread None ≡ None)
-    (new : (i : ℕ) → get_or seats' i None ≡ cond (eqb w.thread i) (Some (record { number = n; wait = w })) (get_or seats i None)) (known : (q : ℕ) → threads' q ≡ cond (eqb n q) (Some w.thread) (threads q)) where
+module _ (given n : ℕ) (w : Wait) (seats seats' : List (Option Held)) (threads threads' : ℕ
+    → Option ℕ) (s : AreSeated given seats threads) (is : n ≡ given + 1) (free : get_or seats w.thread None ≡ None)
+    (new : (i : ℕ) → get_or seats' i None ≡ cond (eqb w.thread i) (Some (record { number = n; wait = w }))
+    (get_or seats i None)) (known : (q : ℕ) → threads' q ≡ cond (eqb n q) (Some w.thread) (threads q)) where
   was_free : (q : ℕ) → threads q ≡ Some w.thread → n ≡ q
   was_free q e = absurd (none-some q (ap number_at (sym free) ∙ s.there q w.thread e))
 
@@ -155,30 +184,54 @@ module _ (given n : ℕ) (w : Wait) (seats seats' : List (Option Held)) (threads
   was_new u e = absurd (none-some u (sym (not_given given seats threads s n (omega arith)) ∙ e))
 
   sits : (h : Held) → Some (record { number = n; wait = w }) ≡ Some h → IsSeated n threads' w.thread h
-  sits h e = subst (IsSeated n threads' w.thread) (same_Some (record { number = n; wait = w }) h e) (record { own = refl; some = omega arith; fits = omega arith; known = known n ∙ alike n n (Some w.thread) (threads n) refl })
+  sits h e = subst (IsSeated n threads' w.thread) (same_Some (record { number = n; wait = w }) h e)
+      (record {
+        own = refl;
+        some = omega arith;
+        fits = omega arith;
+        known = known n ∙ alike n n (Some w.thread) (threads n) refl;
+      })
 
   pub took_found : (q : ℕ) → found seats' threads' q ≡ cond (eqb n q) (Some w) (found seats threads q)
-  took_found q = changed_found given n n w.thread (Some w.thread) (Some (record { number = n; wait = w })) seats seats' threads threads' s (omega arith) new known was_free was_new sits (λ u e. (same_Some w.thread u e, refl)) q
-      ∙ ap (λ p. cond (eqb n q) (wait_at p) (found seats threads q)) (new w.thread ∙ alike w.thread w.thread (Some (record { number = n; wait = w })) (get_or seats w.thread None) refl)
+  took_found q = changed_found given n n w.thread (Some w.thread)
+      (Some (record { number = n; wait = w })) seats seats' threads threads' s
+      (omega arith) new known was_free was_new sits (λ u e. (same_Some w.thread u e, refl)) q
+      ∙ ap (λ p. cond (eqb n q) (wait_at p) (found seats threads q)) (new w.thread
+      ∙ alike w.thread w.thread (Some (record { number = n; wait = w })) (get_or seats w.thread None) refl)
 
   pub took_seated : AreSeated n seats' threads'
-  took_seated = changed_seated given n n w.thread (Some w.thread) (Some (record { number = n; wait = w })) seats seats' threads threads' s (omega arith) new known was_free was_new sits (λ u e. (same_Some w.thread u e, refl))
+  took_seated = changed_seated given n n w.thread (Some w.thread)
+      (Some (record { number = n; wait = w })) seats seats' threads threads' s
+      (omega arith) new known was_free was_new sits (λ u e. (same_Some w.thread u e, refl))
 
 -- the wait of a number is answered, or leaves its seat
-module _ (given n t : ℕ) (seats seats' : List (Option Held)) (threads : ℕ → Option ℕ) (s : AreSeated given seats threads) (at : threads n ≡ Some t) where
+module _ (given n t : ℕ) (seats seats' : List (Option Held)) (threads : ℕ
+    → Option ℕ) (s : AreSeated given seats threads) (at : threads n ≡ Some t) where
   was_own : (q : ℕ) → threads q ≡ Some t → n ≡ q
   was_own q e = same_Some n q (sym (s.there n t at) ∙ s.there q t e)
 
   was_there : (u : ℕ) → threads n ≡ Some u → t ≡ u
   was_there u e = same_Some t u (sym at ∙ e)
 
-  module _ (code : ℕ) (new : (i : ℕ) → get_or seats' i None ≡ cond (eqb t i) (answered_at code (get_or seats t None)) (get_or seats i None)) where
+  module _ (code : ℕ) (new : (i : ℕ) → get_or seats' i None
+      ≡ cond (eqb t i) (answered_at code (get_or seats t None)) (get_or seats i None)) where
     known_still : (q : ℕ) → threads q ≡ cond (eqb n q) (Some t) (threads q)
-    known_still q = elim (cases_eq n q) [ inl same ↦ ap threads (sym same) ∙ at ∙ sym (alike n q (Some t) (threads q) same) | inr apart ↦ sym (unlike n q (Some t) (threads q) apart) ]
+    known_still q = elim (cases_eq n q) [
+      | inl same ↦ ap threads (sym same) ∙ at
+          ∙ sym (alike n q (Some t) (threads q) same)
+      | inr apart ↦ sym (unlike n q (Some t) (threads q) apart)
+    ]
 
-    sits_on : (p : Option Held) → get_or seats t None ≡ p → (h : Held) → answered_at code p ≡ Some h → IsSeated given threads t h
+    sits_on : (p : Option Held) → get_or seats t None ≡ p → (h : Held) → answered_at code p ≡ Some h
+        → IsSeated given threads t h
     sits_on None is h e = absurd (none-some h e)
-    sits_on (Some x) is h e = let old = s.each t x is in subst (IsSeated given threads t) (same_Some _ h e) (record { own = old.own; some = old.some; fits = old.fits; known = old.known })
+    sits_on (Some x) is h e = let old = s.each t x is in
+        subst (IsSeated given threads t) (same_Some _ h e) (record {
+          own = old.own;
+          some = old.some;
+          fits = old.fits;
+          known = old.known;
+        })
 
     number_still : (p : Option Held) → number_at (answered_at code p) ≡ number_at p
     number_still None = refl
@@ -188,36 +241,52 @@ module _ (given n t : ℕ) (seats seats' : List (Option Held)) (threads : ℕ �
     wait_answered None = refl
     wait_answered (Some h) = refl
 
-    pub answered_found : (q : ℕ) → found seats' threads q ≡ cond (eqb n q) (answered (found seats threads n) code) (found seats threads q)
-    answered_found q = changed_found given given n t (Some t) (answered_at code (get_or seats t None)) seats seats' threads threads s (omega arith) new known_still was_own was_there (sits_on (get_or seats t None) refl)
+    pub answered_found : (q : ℕ) → found seats' threads q
+        ≡ cond (eqb n q) (answered (found seats threads n) code) (found seats threads q)
+    answered_found q = changed_found given given n t (Some t)
+        (answered_at code (get_or seats t None)) seats seats' threads threads s
+        (omega arith) new known_still was_own was_there (sits_on (get_or seats t None) refl)
         (λ u e. (same_Some t u e, number_still (get_or seats t None) ∙ s.there n t at)) q
-        ∙ ap (λ (o : Option Wait). cond (eqb n q) o (found seats threads q)) (ap wait_at (new t ∙ alike t t (answered_at code (get_or seats t None)) (get_or seats t None) refl) ∙ wait_answered (get_or seats t None)
+        ∙ ap (λ (o : Option Wait). cond (eqb n q) o (found seats threads q))
+        (ap wait_at (new t ∙ alike t t (answered_at code (get_or seats t None)) (get_or seats t None) refl)
+        ∙ wait_answered (get_or seats t None)
         ∙ ap (λ o. answered (wait_at (seat_of seats o)) code) (sym at))
 
     pub answered_seated : AreSeated given seats' threads
-    answered_seated = changed_seated given given n t (Some t) (answered_at code (get_or seats t None)) seats seats' threads threads s (omega arith) new known_still was_own was_there (sits_on (get_or seats t None) refl)
+    answered_seated = changed_seated given given n t (Some t)
+        (answered_at code (get_or seats t None)) seats seats' threads threads s
+        (omega arith) new known_still was_own was_there (sits_on (get_or seats t None) refl)
         (λ u e. (same_Some t u e, number_still (get_or seats t None) ∙ s.there n t at))
 
-  module _ (threads' : ℕ → Option ℕ) (new : (i : ℕ) → get_or seats' i None ≡ cond (eqb t i) None (get_or seats i None)) (known : (q : ℕ) → threads' q ≡ cond (eqb n q) None (threads q)) where
+  module _ (threads' : ℕ → Option ℕ) (new : (i : ℕ)
+      → get_or seats' i None ≡ cond (eqb t i) None (get_or seats i None)) (known : (q : ℕ)
+      → threads' q ≡ cond (eqb n q) None (threads q)) where
     pub left_found : (q : ℕ) → found seats' threads' q ≡ cond (eqb n q) None (found seats threads q)
-    left_found = changed_found given given n t None None seats seats' threads threads' s (omega arith) new known was_own was_there (λ h e. absurd (none-some h e)) (λ u e. absurd (none-some u e))
+    left_found = changed_found given given n t None None seats seats' threads threads' s
+        (omega arith) new known was_own was_there (λ h e. absurd (none-some h e)) (λ u e. absurd (none-some u e))
 
     pub left_seated : AreSeated given seats' threads'
-    left_seated = changed_seated given given n t None None seats seats' threads threads' s (omega arith) new known was_own was_there (λ h e. absurd (none-some h e)) (λ u e. absurd (none-some u e))
+    left_seated = changed_seated given given n t None None seats seats' threads threads' s
+        (omega arith) new known was_own was_there (λ h e. absurd (none-some h e)) (λ u e. absurd (none-some u e))
 
 -- a thread's wait is answered, if it has one
-pub answer_seated : (given t code : ℕ) (seats seats' : List (Option Held)) (threads : ℕ → Option ℕ) → AreSeated given seats threads
-    → ((i : ℕ) → get_or seats' i None ≡ cond (eqb t i) (answered_at code (get_or seats t None)) (get_or seats i None)) → AreSeated given seats' threads
+pub answer_seated : (given t code : ℕ) (seats seats' : List (Option Held)) (threads : ℕ → Option ℕ)
+    → AreSeated given seats threads
+    → ((i : ℕ) → get_or seats' i None ≡ cond (eqb t i) (answered_at code (get_or seats t None)) (get_or seats i None))
+    → AreSeated given seats' threads
 answer_seated given t code seats seats' threads s new = by (get_or seats t None) refl
   where
     by : (p : Option Held) → get_or seats t None ≡ p → AreSeated given seats' threads
     by None is = same_seated given seats seats' threads threads (λ i. elim (cases_eq t i) [
-      | inl same ↦ new i ∙ alike t i (answered_at code (get_or seats t None)) (get_or seats i None) same ∙ ap (answered_at code) is ∙ sym (ap (λ j. get_or seats j None) (sym same) ∙ is)
+      | inl same ↦ new i ∙ alike t i (answered_at code (get_or seats t None)) (get_or seats i None) same
+          ∙ ap (answered_at code) is ∙ sym (ap (λ j. get_or seats j None) (sym same) ∙ is)
       | inr apart ↦ new i ∙ unlike t i (answered_at code (get_or seats t None)) (get_or seats i None) apart
     ]) (λ q. refl) s
     by (Some h) is = answered_seated given h.number t seats seats' threads s (s.each t h is).known code new
 
-pub known_held : (given t n : ℕ) (seats : List (Option Held)) (threads : ℕ → Option ℕ) → AreSeated given seats threads → thread_of (get_or (listed (suc given) (found seats threads)) n None) ≡ Some t → (threads n ≡ Some t) × (n < suc given)
+pub known_held : (given t n : ℕ) (seats : List (Option Held)) (threads : ℕ → Option ℕ) → AreSeated given seats threads
+    → thread_of (get_or (listed (suc given) (found seats threads)) n None) ≡ Some t
+    → (threads n ≡ Some t) × (n < suc given)
 known_held given t n seats threads s own =
     let h = number_there (get_or seats t None) n (number_held given seats threads s t n own) in
     let old = s.each t h.0 h.1 in

@@ -12,17 +12,23 @@ use Rattle.ob_waits.proofs.Keeping.{Fade, settled_fits, settled_fades}
 use Rattle.ob_waits.proofs.TrackedLaws.{tracked_faded, tracked_left}
 
 module _ (before after : Objects) (ws ws' : List (Option Wait))
-    (value : ◌≡◌ {A = Scene} (record { objects = after; waits = ws' }) (settled (record { objects = before; waits = ws }))) where
+    (value : ◌≡◌ {A = Scene} (record { objects = after; waits = ws' })
+    (settled (record { objects = before; waits = ws }))) where
   abbrev first : Scene
   first = record { objects = before; waits = ws }
 
-  pub kept_after : (limit clock : ℕ) (r r' : Roster) (dues : List (Option ℕ)) → Leaves ws' r r' → IsTracked limit ws r × AreTimely clock ws dues → IsTracked limit ws' r' × AreTimely clock ws' dues
+  pub kept_after : (limit clock : ℕ) (r r' : Roster) (dues : List (Option ℕ)) → Leaves ws' r r'
+      → IsTracked limit ws r × AreTimely clock ws dues → IsTracked limit ws' r' × AreTimely clock ws' dues
   kept_after limit clock r r' dues leaves k =
-      let fade : Fade ws ws' = subst (λ (s : Scene). Fade ws s.waits) (sym value) (settled_fades first) in
-      (tracked_left limit ws' r r' leaves (tracked_faded limit ws ws' r fade k.0), timely_settled clock before after ws ws' dues value k.1)
+      let fade : Fade ws ws' = subst (λ (s : Scene). Fade ws s.waits) (sym value) (settled_fades first) in (
+        tracked_left limit ws' r r' leaves (tracked_faded limit ws ws' r fade k.0),
+        timely_settled clock before after ws ws' dues value k.1,
+      )
 
   pub settled_after : IsSettled after.bodies ws'
   settled_after = subst (λ (s : Scene). IsSettled s.objects.bodies s.waits) (sym value) (settled_is_settled first)
 
-  pub room_settled : (limit : ℕ) → IsKept ws → WaitsHaveRoom limit before.bodies ws → WaitsHaveRoom limit after.bodies ws'
-  room_settled limit kept room = subst (λ (s : Scene). WaitsHaveRoom limit s.objects.bodies s.waits) (sym value) (settled_fits limit first (record { kept = kept; room = room })).room
+  pub room_settled : (limit : ℕ) → IsKept ws → WaitsHaveRoom limit before.bodies ws
+      → WaitsHaveRoom limit after.bodies ws'
+  room_settled limit kept room = subst (λ (s : Scene). WaitsHaveRoom limit s.objects.bodies s.waits) (sym value)
+      (settled_fits limit first (record { kept = kept; room = room })).room

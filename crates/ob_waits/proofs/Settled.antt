@@ -14,12 +14,18 @@ use Rattle.ob_waits.proofs.Counted.{named_counts}
 use Rattle.ob_waits.proofs.AddedLaws.{by_number}
 
 -- a wait that isn't ready comes
-pub settled_added : (bodies : List (Option Body)) (ws : List (Option Wait)) (t : ℕ) (mode : Mode) (ids : List Id) (d : Option ℕ) → list_ready mode t bodies ids ≡ false → IsSettled bodies ws →
+pub settled_added : (bodies : List (Option Body)) (ws : List (Option Wait)) (t : ℕ) (mode : Mode) (ids : List Id)
+    (d : Option ℕ) → list_ready mode t bodies ids ≡ false → IsSettled bodies ws →
     IsSettled bodies (ws ++ Some (new_wait t mode ids d) ∷ [])
-settled_added bodies ws t mode ids d unready s = record { each = by_number ws (new_wait t mode ids d) (λ n x. is_ready bodies x ≡ false) (λ n lt. s.each n) unready (λ n past. refl) }
+settled_added bodies ws t mode ids d unready s = record {
+  each =
+      by_number ws (new_wait t mode ids d) (λ n x. is_ready bodies x ≡ false) (λ n lt. s.each n) unready
+      (λ n past. refl);
+}
 
 -- nothing becomes signaled
-pub settled_less : (bodies after : List (Option Body)) (ws : List (Option Wait)) → IsLess bodies after → IsSettled bodies ws → IsSettled after ws
+pub settled_less : (bodies after : List (Option Body)) (ws : List (Option Wait)) → IsLess bodies after
+    → IsSettled bodies ws → IsSettled after ws
 settled_less bodies after ws less s = record {
   each = λ n. not_true _ (λ ready.
       let before = ready_less bodies after less (get_or ws n None) ready in
@@ -27,11 +33,14 @@ settled_less bodies after ws less s = record {
 }
 
 -- a thread takes something at once
-pub settled_now : (mode : Mode) (t : ℕ) (bodies : List (Option Body)) (ids : List Id) (ws : List (Option Wait)) → IsSettled bodies ws → IsSettled (bodies_after mode t bodies ids) ws
-settled_now mode t bodies ids ws s = settled_less bodies (bodies_after mode t bodies ids) ws (less_after mode t bodies ids) s
+pub settled_now : (mode : Mode) (t : ℕ) (bodies : List (Option Body)) (ids : List Id) (ws : List (Option Wait))
+    → IsSettled bodies ws → IsSettled (bodies_after mode t bodies ids) ws
+settled_now mode t bodies ids ws s = settled_less bodies (bodies_after mode t bodies ids) ws
+    (less_after mode t bodies ids) s
 
 -- a body changes in a slot that no pending wait names
-pub settled_unnamed : (bodies : List (Option Body)) (ws : List (Option Wait)) (k : ℕ) (x : Option Body) → slot_blocks k ws ≡ 0 → IsSettled bodies ws → IsSettled (set bodies k x) ws
+pub settled_unnamed : (bodies : List (Option Body)) (ws : List (Option Wait)) (k : ℕ) (x : Option Body)
+    → slot_blocks k ws ≡ 0 → IsSettled bodies ws → IsSettled (set bodies k x) ws
 settled_unnamed bodies ws k x unnamed s = record {
   each = λ n. not_true _ (λ ready.
       let named = named_counts k n ws (ready_named bodies ws k x s n ready) in
@@ -39,35 +48,45 @@ settled_unnamed bodies ws k x unnamed s = record {
 }
 
 -- a wait is replaced by one that isn't ready, as by none or by an answered one
-pub settled_replaced : (bodies : List (Option Body)) (ws : List (Option Wait)) (n : ℕ) (x : Option Wait) → is_ready bodies x ≡ false → IsSettled bodies ws → IsSettled bodies (set ws n x)
+pub settled_replaced : (bodies : List (Option Body)) (ws : List (Option Wait)) (n : ℕ) (x : Option Wait)
+    → is_ready bodies x ≡ false → IsSettled bodies ws → IsSettled bodies (set ws n x)
 settled_replaced bodies ws n x unready s = record {
   each = λ m. elim (cases_eq m n) [
     | inl same ↦ elim (cases_lt n (length ws)) [
-      | inl lt ↦ ap (is_ready bodies) (ap (λ i. get_or (set ws n x) i None) same ∙ get_or-set_same ws n x None lt) ∙ unready
+      | inl lt ↦ ap (is_ready bodies) (ap (λ i. get_or (set ws n x) i None) same ∙ get_or-set_same ws n x None lt)
+          ∙ unready
       | inr past ↦ ap (is_ready bodies) (get_or_past (set ws n x) m None (omega (arith, length-set ws n x)))
     ]
     | inr other ↦ ap (is_ready bodies) (get_or-set_other ws n m x None other) ∙ s.each m
   ];
 }
 
-pub settled_removed : (bodies : List (Option Body)) (ws : List (Option Wait)) (n : ℕ) → IsSettled bodies ws → IsSettled bodies (set ws n None)
+pub settled_removed : (bodies : List (Option Body)) (ws : List (Option Wait)) (n : ℕ) → IsSettled bodies ws
+    → IsSettled bodies (set ws n None)
 settled_removed bodies ws n s = settled_replaced bodies ws n None refl s
 
-unready_answered : (bodies : List (Option Body)) (w : Option Wait) (code : ℕ) → is_ready bodies (answered w code) ≡ false
+unready_answered : (bodies : List (Option Body)) (w : Option Wait) (code : ℕ)
+    → is_ready bodies (answered w code) ≡ false
 unready_answered bodies None code = refl
 unready_answered bodies (Some w) code = refl
 
-pub settled_answered : (bodies : List (Option Body)) (ws : List (Option Wait)) (n code : ℕ) → IsSettled bodies ws → IsSettled bodies (set ws n (answered (get_or ws n None) code))
-settled_answered bodies ws n code s = settled_replaced bodies ws n (answered (get_or ws n None) code) (unready_answered bodies (get_or ws n None) code) s
+pub settled_answered : (bodies : List (Option Body)) (ws : List (Option Wait)) (n code : ℕ) → IsSettled bodies ws
+    → IsSettled bodies (set ws n (answered (get_or ws n None) code))
+settled_answered bodies ws n code s = settled_replaced bodies ws n (answered (get_or ws n None) code)
+    (unready_answered bodies (get_or ws n None) code) s
 
-pub settled_dropped : (bodies : List (Option Body)) (ws : List (Option Wait)) (t : ℕ) → IsSettled bodies ws → IsSettled bodies (map (unless_of t) ws)
+pub settled_dropped : (bodies : List (Option Body)) (ws : List (Option Wait)) (t : ℕ) → IsSettled bodies ws
+    → IsSettled bodies (map (unless_of t) ws)
 settled_dropped bodies ws t s = record {
   each = λ n. elim (cases_lt n (length ws)) [
-    | inl lt ↦ ap (is_ready bodies) (get_or-map (unless_of t) ws n None None lt) ∙ by (get_or ws n None) (is_waits_of t (get_or ws n None)) refl (s.each n)
-    | inr past ↦ ap (is_ready bodies) (get_or_past (map (unless_of t) ws) n None (omega (arith, length-map ws (unless_of t))))
+    | inl lt ↦ ap (is_ready bodies) (get_or-map (unless_of t) ws n None None lt)
+        ∙ by (get_or ws n None) (is_waits_of t (get_or ws n None)) refl (s.each n)
+    | inr past ↦ ap (is_ready bodies) (get_or_past (map (unless_of t) ws) n None
+        (omega (arith, length-map ws (unless_of t))))
   ];
 }
   where
-    by : (w : Option Wait) (b : Bool) → is_waits_of t w ≡ b → is_ready bodies w ≡ false → is_ready bodies (unless_of t w) ≡ false
+    by : (w : Option Wait) (b : Bool) → is_waits_of t w ≡ b → is_ready bodies w ≡ false
+        → is_ready bodies (unless_of t w) ≡ false
     by w true is h = rw is refl
     by w false is h = rw is h

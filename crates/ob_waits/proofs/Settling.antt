@@ -33,23 +33,29 @@ less_one : (u : ℕ) (bodies : List (Option Body)) (i : Id) → IsLess bodies (w
 less_one u bodies i = record {
   each = λ t id h. elim (cases_eq id.slot i.slot) [
     | inl same ↦ elim (cases_lt i.slot (length bodies)) [
-      | inl lt ↦ rw same (less_slot u t (get_or bodies i.slot None) (rw (same, get_or-set_same bodies i.slot (slot_acquired u (get_or bodies i.slot None)) None lt) at h))
+      | inl lt ↦ rw same (less_slot u t (get_or bodies i.slot None)
+          (rw (same, get_or-set_same bodies i.slot (slot_acquired u (get_or bodies i.slot None)) None lt) at h))
       | inr le ↦ absurd (beyond t id same le h)
     ]
-    | inr other ↦ rw (get_or-set_other bodies i.slot id.slot (slot_acquired u (get_or bodies i.slot None)) None other) at h
+    | inr other ↦ rw (get_or-set_other bodies i.slot id.slot (slot_acquired u (get_or bodies i.slot None)) None other)
+        at h
   ];
 }
   where
-    beyond : (t : ℕ) (id : Id) → id.slot ≡ i.slot → length bodies ≤ i.slot → is_signaled t (with_acquired u bodies i) id ≡ true → ⊥
+    beyond : (t : ℕ) (id : Id) → id.slot ≡ i.slot → length bodies ≤ i.slot
+        → is_signaled t (with_acquired u bodies i) id ≡ true → ⊥
     beyond t id same le h =
-        let past : get_or (with_acquired u bodies i) id.slot None ≡ None = get_or_past (with_acquired u bodies i) id.slot None (simp length-set (omega arith)) in
+        let past : get_or (with_acquired u bodies i) id.slot None ≡ None =
+        get_or_past (with_acquired u bodies i) id.slot None (simp length-set (omega arith)) in
         let none = ap (slot_signaled t) past in cc (none, h)
 
 less_all : (u : ℕ) (ids : List Id) (bodies : List (Option Body)) → IsLess bodies (with_all_acquired u bodies ids)
 less_all u [] bodies = record { each = λ t id h. h }
-less_all u (i ∷ ids) bodies = less_trans bodies (with_acquired u bodies i) _ (less_one u bodies i) (less_all u ids (with_acquired u bodies i))
+less_all u (i ∷ ids) bodies = less_trans bodies (with_acquired u bodies i) _ (less_one u bodies i)
+    (less_all u ids (with_acquired u bodies i))
 
-pub less_after : (mode : Mode) (u : ℕ) (bodies : List (Option Body)) (ids : List Id) → IsLess bodies (bodies_after mode u bodies ids)
+pub less_after : (mode : Mode) (u : ℕ) (bodies : List (Option Body)) (ids : List Id)
+    → IsLess bodies (bodies_after mode u bodies ids)
 less_after Any u bodies ids = less_one u bodies (get_or ids (first_signaled u bodies ids) nowhere)
 less_after All u bodies ids = less_all u ids bodies
 
@@ -58,9 +64,11 @@ less_none : (bodies : List (Option Body)) (k : ℕ) → IsLess bodies (set bodie
 less_none bodies k = record {
   each = λ t id h. elim (cases_eq id.slot k) [
     | inl same ↦ elim (cases_lt k (length bodies)) [
-      | inl lt ↦ (let none : get_or (set bodies k None) id.slot None ≡ None = ap (λ i. get_or (set bodies k None) i None) same ∙ get_or-set_same bodies k None None lt in
+      | inl lt ↦ (let none : get_or (set bodies k None) id.slot None ≡ None =
+          ap (λ i. get_or (set bodies k None) i None) same ∙ get_or-set_same bodies k None None lt in
           let unsignaled = ap (slot_signaled t) none in absurd (cc (unsignaled, h)))
-      | inr le ↦ (let past : get_or (set bodies k None) id.slot None ≡ None = get_or_past (set bodies k None) id.slot None (simp length-set (omega arith)) in
+      | inr le ↦ (let past : get_or (set bodies k None) id.slot None ≡ None =
+          get_or_past (set bodies k None) id.slot None (simp length-set (omega arith)) in
           let unsignaled = ap (slot_signaled t) past in absurd (cc (unsignaled, h)))
     ]
     | inr other ↦ rw (get_or-set_other bodies k id.slot None None other) at h
@@ -73,18 +81,22 @@ less_if false bodies k = record { each = λ t id h. h }
 
 pub less_left : (ids : List Id) (objects : Objects) → IsLess objects.bodies (without_blocks objects ids).bodies
 less_left [] objects = record { each = λ t id h. h }
-less_left (id ∷ ids) objects = less_trans objects.bodies (without_block objects id).bodies _ (less_if (eqb (get_or objects.handles id.slot 0 + (get_or objects.blocks id.slot 0 - 1)) 0) objects.bodies id.slot) (less_left ids (without_block objects id))
+less_left (id ∷ ids) objects = less_trans objects.bodies (without_block objects id).bodies _
+    (less_if (eqb (get_or objects.handles id.slot 0 + (get_or objects.blocks id.slot 0 - 1)) 0) objects.bodies id.slot)
+    (less_left ids (without_block objects id))
 
 -- a wait that is ready where less is signaled was ready: it is enough that less is at its places, for its thread
 module _ (p q : Id → Bool) where
-  all_less : (xs : List Id) → ((i : ℕ) → i < length xs → q (get_or xs i nowhere) ≡ true → p (get_or xs i nowhere) ≡ true) → list_all q xs ≡ true → list_all p xs ≡ true
+  all_less : (xs : List Id) → ((i : ℕ) → i < length xs → q (get_or xs i nowhere) ≡ true
+      → p (get_or xs i nowhere) ≡ true) → list_all q xs ≡ true → list_all p xs ≡ true
   all_less [] less h = refl
   all_less (x ∷ xs) less h =
       let a : p x ≡ true = less zero (omega arith) (grind (arith, h)) in
       let b : list_all p xs ≡ true = all_less xs (λ i lt. less (suc i) (omega (arith, lt))) (grind (arith, h)) in
       grind (arith, a, b)
 
-  some_less : (xs : List Id) → ((i : ℕ) → i < length xs → q (get_or xs i nowhere) ≡ true → p (get_or xs i nowhere) ≡ true)
+  some_less : (xs : List Id) → ((i : ℕ) → i < length xs → q (get_or xs i nowhere) ≡ true
+      → p (get_or xs i nowhere) ≡ true)
       → ltb (position_or_len q xs) (length xs) ≡ true → ltb (position_or_len p xs) (length xs) ≡ true
   some_less xs less h = elim (cases_lt (position_or_len p xs) (length xs)) [
     | inl lt ↦ lt-ltb (position_or_len p xs) (length xs) lt
@@ -98,17 +110,21 @@ module _ (p q : Id → Bool) where
 
 module _ (bodies after : List (Option Body)) where
   abbrev pub LessAt : ℕ → List Id → Type 0
-  LessAt t ids = (i : ℕ) → i < length ids → is_signaled t after (get_or ids i nowhere) ≡ true → is_signaled t bodies (get_or ids i nowhere) ≡ true
+  LessAt t ids = (i : ℕ) → i < length ids → is_signaled t after (get_or ids i nowhere) ≡ true
+      → is_signaled t bodies (get_or ids i nowhere) ≡ true
 
-  list_less : (mode : Mode) (t : ℕ) (ids : List Id) → LessAt t ids → list_ready mode t after ids ≡ true → list_ready mode t bodies ids ≡ true
+  list_less : (mode : Mode) (t : ℕ) (ids : List Id) → LessAt t ids → list_ready mode t after ids ≡ true
+      → list_ready mode t bodies ids ≡ true
   list_less Any t ids less h = some_less (is_signaled t bodies) (is_signaled t after) ids less h
   list_less All t ids less h = all_less (is_signaled t bodies) (is_signaled t after) ids less h
 
-  state_less : (t : ℕ) (st : State) → LessAt t (state_ids st) → state_ready t after st ≡ true → state_ready t bodies st ≡ true
+  state_less : (t : ℕ) (st : State) → LessAt t (state_ids st) → state_ready t after st ≡ true
+      → state_ready t bodies st ≡ true
   state_less t (Pending mode ids) less h = list_less mode t ids less h
   state_less t (Answered code) less h = h
 
-  pub ready_where : (w : Option Wait) → ((t : ℕ) → thread_of w ≡ Some t → LessAt t (ids_of w)) → is_ready after w ≡ true → is_ready bodies w ≡ true
+  pub ready_where : (w : Option Wait) → ((t : ℕ) → thread_of w ≡ Some t → LessAt t (ids_of w)) → is_ready after w ≡ true
+      → is_ready bodies w ≡ true
   ready_where None less h = h
   ready_where (Some w) less h = state_less w.thread w.state (less w.thread refl) h
 
@@ -117,9 +133,11 @@ module _ (bodies after : List (Option Body)) where
 
 -- taking by one thread leaves the room of the others
 pub record RoomKept (limit u : ℕ) (bodies after : List (Option Body)) : Type 0 where
-  pub room : (t : ℕ) → (t ≡ u → ⊥) → (k : ℕ) → slot_room limit t (get_or bodies k None) ≡ true → slot_room limit t (get_or after k None) ≡ true
+  pub room : (t : ℕ) → (t ≡ u → ⊥) → (k : ℕ) → slot_room limit t (get_or bodies k None) ≡ true
+      → slot_room limit t (get_or after k None) ≡ true
 
-room_slot : (limit u t : ℕ) (x : Option Body) → (t ≡ u → ⊥) → slot_room limit t x ≡ true → slot_room limit t (slot_acquired u x) ≡ true
+room_slot : (limit u t : ℕ) (x : Option Body) → (t ≡ u → ⊥) → slot_room limit t x ≡ true
+    → slot_room limit t (slot_acquired u x) ≡ true
 room_slot limit u t None other h = refl
 room_slot limit u t (Some b) other h = room_after_acquire limit u t b other h
 
@@ -127,21 +145,24 @@ room_one : (limit u : ℕ) (bodies : List (Option Body)) (i : Id) → RoomKept l
 room_one limit u bodies i = record {
   room = λ t other k h. elim (cases_eq k i.slot) [
     | inl same ↦ elim (cases_lt i.slot (length bodies)) [
-      | inl lt ↦ rw (same, get_or-set_same bodies i.slot (slot_acquired u (get_or bodies i.slot None)) None lt) (room_slot limit u t (get_or bodies i.slot None) other (rw same at h))
+      | inl lt ↦ rw (same, get_or-set_same bodies i.slot (slot_acquired u (get_or bodies i.slot None)) None lt)
+          (room_slot limit u t (get_or bodies i.slot None) other (rw same at h))
       | inr le ↦ ap (slot_room limit t) (get_or_past (with_acquired u bodies i) k None (simp length-set (omega arith)))
     ]
     | inr apart ↦ rw (get_or-set_other bodies i.slot k (slot_acquired u (get_or bodies i.slot None)) None apart) h
   ];
 }
 
-room_all : (limit u : ℕ) (ids : List Id) (bodies : List (Option Body)) → RoomKept limit u bodies (with_all_acquired u bodies ids)
+room_all : (limit u : ℕ) (ids : List Id) (bodies : List (Option Body))
+    → RoomKept limit u bodies (with_all_acquired u bodies ids)
 room_all limit u [] bodies = record { room = λ t other k h. h }
 room_all limit u (i ∷ ids) bodies =
     let a = room_one limit u bodies i in
     let b = room_all limit u ids (with_acquired u bodies i) in
     record { room = λ t other k h. b.room t other k (a.room t other k h) }
 
-pub room_after : (limit : ℕ) (mode : Mode) (u : ℕ) (bodies : List (Option Body)) (ids : List Id) → RoomKept limit u bodies (bodies_after mode u bodies ids)
+pub room_after : (limit : ℕ) (mode : Mode) (u : ℕ) (bodies : List (Option Body)) (ids : List Id)
+    → RoomKept limit u bodies (bodies_after mode u bodies ids)
 room_after limit Any u bodies ids = room_one limit u bodies (get_or ids (first_signaled u bodies ids) nowhere)
 room_after limit All u bodies ids = room_all limit u ids bodies
 
@@ -150,23 +171,29 @@ room_none : (limit u : ℕ) (bodies : List (Option Body)) (i : ℕ) → RoomKept
 room_none limit u bodies i = record {
   room = λ t other k h. elim (cases_eq k i) [
     | inl same ↦ elim (cases_lt i (length bodies)) [
-      | inl lt ↦ ap (slot_room limit t) (ap (λ j. get_or (set bodies i None) j None) same ∙ get_or-set_same bodies i None None lt)
+      | inl lt ↦ ap (slot_room limit t) (ap (λ j. get_or (set bodies i None) j None) same
+          ∙ get_or-set_same bodies i None None lt)
       | inr le ↦ ap (slot_room limit t) (get_or_past (set bodies i None) k None (simp length-set (omega arith)))
     ]
     | inr apart ↦ rw (get_or-set_other bodies i k None None apart) h
   ];
 }
 
-pub room_if : (limit u : ℕ) (b : Bool) (bodies : List (Option Body)) (i : ℕ) → RoomKept limit u bodies (cond b (set bodies i None) bodies)
+pub room_if : (limit u : ℕ) (b : Bool) (bodies : List (Option Body)) (i : ℕ)
+    → RoomKept limit u bodies (cond b (set bodies i None) bodies)
 room_if limit u true bodies i = room_none limit u bodies i
 room_if limit u false bodies i = record { room = λ t other k h. h }
 
-room_both : (limit u : ℕ) (a b c : List (Option Body)) → RoomKept limit u a b → RoomKept limit u b c → RoomKept limit u a c
+room_both : (limit u : ℕ) (a b c : List (Option Body)) → RoomKept limit u a b → RoomKept limit u b c
+    → RoomKept limit u a c
 room_both limit u a b c x y = record { room = λ t other k h. y.room t other k (x.room t other k h) }
 
-pub room_left : (limit u : ℕ) (ids : List Id) (objects : Objects) → RoomKept limit u objects.bodies (without_blocks objects ids).bodies
+pub room_left : (limit u : ℕ) (ids : List Id) (objects : Objects)
+    → RoomKept limit u objects.bodies (without_blocks objects ids).bodies
 room_left limit u [] objects = record { room = λ t other k h. h }
-room_left limit u (id ∷ ids) objects = room_both limit u objects.bodies (without_block objects id).bodies _ (room_if limit u (eqb (get_or objects.handles id.slot 0 + (get_or objects.blocks id.slot 0 - 1)) 0) objects.bodies id.slot) (room_left limit u ids (without_block objects id))
+room_left limit u (id ∷ ids) objects = room_both limit u objects.bodies (without_block objects id).bodies _
+    (room_if limit u (eqb (get_or objects.handles id.slot 0 + (get_or objects.blocks id.slot 0 - 1)) 0) objects.bodies
+    id.slot) (room_left limit u ids (without_block objects id))
 
 abbrev pub pending_count : List (Option Wait) → ℕ
 pending_count waits = count_by is_pending waits
@@ -175,7 +202,8 @@ pub not_true : (b : Bool) → (b ≡ true → ⊥) → b ≡ false
 not_true true h = absurd (h refl)
 not_true false h = refl
 
-state_ready_pending : (t : ℕ) (bodies : List (Option Body)) (st : State) → state_ready t bodies st ≡ true → state_pending st ≡ true
+state_ready_pending : (t : ℕ) (bodies : List (Option Body)) (st : State) → state_ready t bodies st ≡ true
+    → state_pending st ≡ true
 state_ready_pending t bodies (Pending mode ids) k = refl
 state_ready_pending t bodies (Answered code) k = cc
 
@@ -183,7 +211,8 @@ pub ready_pending : (bodies : List (Option Body)) (w : Option Wait) → is_ready
 ready_pending bodies None h = cc
 ready_pending bodies (Some w) h = state_ready_pending w.thread bodies w.state h
 
-pub settled_at_end : (scene : Scene) → length scene.waits ≤ first_ready scene.objects.bodies scene.waits → IsSettled scene.objects.bodies scene.waits
+pub settled_at_end : (scene : Scene) → length scene.waits ≤ first_ready scene.objects.bodies scene.waits
+    → IsSettled scene.objects.bodies scene.waits
 settled_at_end scene le = record {
   each = λ n. elim (cases_lt n (length scene.waits)) [
     | inl lt ↦ fails_before_first (is_ready scene.objects.bodies) scene.waits n None (omega arith)
@@ -200,62 +229,85 @@ pub record Answers (scene after : Scene) (n : ℕ) : Type 0 where
   pub room : (limit : ℕ) → RoomKept limit wait.thread scene.objects.bodies after.objects.bodies
   pub own : get_or scene.waits n None ≡ Some wait
 
-answered_by : (scene : Scene) (n : ℕ) (w : Wait) (st : State) → get_or scene.waits n None ≡ Some w → state_pending st ≡ true → Answers scene (effect_of scene n w st) n
+answered_by : (scene : Scene) (n : ℕ) (w : Wait) (st : State) → get_or scene.waits n None ≡ Some w
+    → state_pending st ≡ true → Answers scene (effect_of scene n w st) n
 answered_by scene n w (Pending mode ids) own h =
     let taken : Objects = record scene.objects { bodies = bodies_after mode w.thread scene.objects.bodies ids } in
     record {
       wait = w;
       code = code_of mode w.thread scene.objects.bodies ids;
       waits = refl;
-      less = less_trans scene.objects.bodies taken.bodies (without_blocks taken ids).bodies (less_after mode w.thread scene.objects.bodies ids) (less_left ids taken);
-      room = λ limit. room_both limit w.thread scene.objects.bodies taken.bodies (without_blocks taken ids).bodies (room_after limit mode w.thread scene.objects.bodies ids) (room_left limit w.thread ids taken);
+      less = less_trans scene.objects.bodies taken.bodies (without_blocks taken ids).bodies
+          (less_after mode w.thread scene.objects.bodies ids) (less_left ids taken);
+      room = λ limit. room_both limit w.thread scene.objects.bodies taken.bodies (without_blocks taken ids).bodies
+          (room_after limit mode w.thread scene.objects.bodies ids) (room_left limit w.thread ids taken);
       own = own;
     }
 answered_by scene n w (Answered code) own h = absurd (cc)
 
-answered_at : (scene : Scene) (n : ℕ) (w : Option Wait) → get_or scene.waits n None ≡ w → is_ready scene.objects.bodies w ≡ true → Answers scene (effect_at scene n w) n
+answered_at : (scene : Scene) (n : ℕ) (w : Option Wait) → get_or scene.waits n None ≡ w
+    → is_ready scene.objects.bodies w ≡ true → Answers scene (effect_at scene n w) n
 answered_at scene n None is h = absurd (cc)
-answered_at scene n (Some w) is h = answered_by scene n w w.state is (state_ready_pending w.thread scene.objects.bodies w.state h)
+answered_at scene n (Some w) is h = answered_by scene n w w.state is
+    (state_ready_pending w.thread scene.objects.bodies w.state h)
 
-pub answers : (scene : Scene) (n : ℕ) → is_ready scene.objects.bodies (get_or scene.waits n None) ≡ true → Answers scene (effect scene n) n
+pub answers : (scene : Scene) (n : ℕ) → is_ready scene.objects.bodies (get_or scene.waits n None) ≡ true
+    → Answers scene (effect scene n) n
 answers scene n ready = answered_at scene n (get_or scene.waits n None) refl ready
 
 -- a number whose wait is ready is within the list, and its wait is counted as pending
-pub ready_within : (scene : Scene) (n : ℕ) → is_ready scene.objects.bodies (get_or scene.waits n None) ≡ true → n < length scene.waits
-ready_within scene n ready = elim (cases_lt n (length scene.waits)) [ inl lt ↦ lt | inr past ↦ let none = ap (is_ready scene.objects.bodies) (get_or_past scene.waits n None past) in absurd (cc (none, ready)) ]
+pub ready_within : (scene : Scene) (n : ℕ) → is_ready scene.objects.bodies (get_or scene.waits n None) ≡ true
+    → n < length scene.waits
+ready_within scene n ready = elim (cases_lt n (length scene.waits)) [
+  | inl lt ↦ lt
+  | inr past ↦ let none =
+      ap (is_ready scene.objects.bodies) (get_or_past scene.waits n None past) in absurd (cc (none, ready))
+]
 
-pub fewer : (scene : Scene) (n : ℕ) → n < length scene.waits → is_ready scene.objects.bodies (get_or scene.waits n None) ≡ true → pending_count (effect scene n).waits + 1 ≡ pending_count scene.waits
+pub fewer : (scene : Scene) (n : ℕ) → n < length scene.waits
+    → is_ready scene.objects.bodies (get_or scene.waits n None) ≡ true
+    → pending_count (effect scene n).waits + 1 ≡ pending_count scene.waits
 fewer scene n in' ready =
     let a = answers scene n ready in
     let f : Option Wait → ℕ = λ w. cond (is_pending w) 1 0 in
-    let one : f (get_or scene.waits n None) ≡ 1 = ap {B = ℕ} (λ b. cond b 1 0) (ready_pending scene.objects.bodies (get_or scene.waits n None) ready) in
+    let one : f (get_or scene.waits n None) ≡ 1 = ap {B =
+    ℕ} (λ b. cond b 1 0) (ready_pending scene.objects.bodies (get_or scene.waits n None) ready) in
     omega (arith, ap (sum_by f) a.waits, one, sum_by-set f scene.waits n (answered_wait a.wait a.code) None in')
 
-pub ready_counted : (scene : Scene) (n : ℕ) → is_ready scene.objects.bodies (get_or scene.waits n None) ≡ true → 0 < pending_count scene.waits
+pub ready_counted : (scene : Scene) (n : ℕ) → is_ready scene.objects.bodies (get_or scene.waits n None) ≡ true
+    → 0 < pending_count scene.waits
 ready_counted scene n ready =
-    let one : cond (is_pending (get_or scene.waits n None)) 1 0 ≡ 1 = ap {B = ℕ} (λ b. cond b 1 0) (ready_pending scene.objects.bodies (get_or scene.waits n None) ready) in
+    let one : cond (is_pending (get_or scene.waits n None)) 1 0 ≡ 1 =
+    ap {B = ℕ} (λ b. cond b 1 0) (ready_pending scene.objects.bodies (get_or scene.waits n None) ready) in
     omega (arith, get_or-le-sum_by (λ w. cond (is_pending w) 1 0) scene.waits n None (ready_within scene n ready), one)
 
 pub settled_step : (P : Scene → Type 0) (n : ℕ) (scene : Scene) →
-    ((k : ℕ) → k < length scene.waits → is_ready scene.objects.bodies (get_or scene.waits k None) ≡ true → P (settled_within n (effect scene k))) →
+    ((k : ℕ) → k < length scene.waits → is_ready scene.objects.bodies (get_or scene.waits k None) ≡ true
+    → P (settled_within n (effect scene k))) →
     (length scene.waits ≤ first_ready scene.objects.bodies scene.waits → P scene) → P (settled_within (suc n) scene)
 settled_step P n scene step stop =
     let k = first_ready scene.objects.bodies scene.waits in
     elim (cases_lt k (length scene.waits)) [
-      | inl lt ↦ rw (lt-ltb k (length scene.waits) lt) (step k lt (passes_at_first (is_ready scene.objects.bodies) scene.waits None lt))
+      | inl lt ↦ rw (lt-ltb k (length scene.waits) lt)
+          (step k lt (passes_at_first (is_ready scene.objects.bodies) scene.waits None lt))
       | inr le ↦ rw (le-ltb k (length scene.waits) le) (stop le)
     ]
 
 -- what holds of each effect, and over one after another, holds of settling
-pub settled_by_effects : (R : Scene → Scene → Type 0) → ((s : Scene) → R s s) → ((a b c : Scene) → R a b → R b c → R a c) →
-    ((s : Scene) (n : ℕ) → is_ready s.objects.bodies (get_or s.waits n None) ≡ true → R s (effect s n)) → (scene : Scene) → R scene (settled scene)
+pub settled_by_effects : (R : Scene → Scene → Type 0) → ((s : Scene) → R s s)
+    → ((a b c : Scene) → R a b → R b c → R a c) →
+    ((s : Scene) (n : ℕ) → is_ready s.objects.bodies (get_or s.waits n None) ≡ true → R s (effect s n))
+    → (scene : Scene) → R scene (settled scene)
 settled_by_effects R same both one scene = within (length scene.waits) scene
   where
     within : (fuel : ℕ) (s : Scene) → R s (settled_within fuel s)
     within zero s = same s
-    within (suc fuel) s = settled_step (λ x. R s x) fuel s (λ n lt ready. both s (effect s n) (settled_within fuel (effect s n)) (one s n ready) (within fuel (effect s n))) (λ le. same s)
+    within (suc fuel) s = settled_step (λ x. R s x) fuel s
+        (λ n lt ready. both s (effect s n) (settled_within fuel (effect s n)) (one s n ready)
+        (within fuel (effect s n))) (λ le. same s)
 
-settled_enough : (n : ℕ) (scene : Scene) → pending_count scene.waits ≤ n → IsSettled (settled_within n scene).objects.bodies (settled_within n scene).waits
+settled_enough : (n : ℕ) (scene : Scene) → pending_count scene.waits ≤ n
+    → IsSettled (settled_within n scene).objects.bodies (settled_within n scene).waits
 settled_enough zero scene few = record { each = λ k. not_true _ (λ ready. omega (arith, ready_counted scene k ready)) }
 settled_enough (suc n) scene few = settled_step (λ s. IsSettled s.objects.bodies s.waits) n scene
     (λ k lt ready. settled_enough n (effect scene k) (omega (arith, fewer scene k lt ready)))
@@ -270,33 +322,52 @@ pub record WasReady (scene : Scene) (n k : ℕ) : Type 0 where
   pub before : is_ready scene.objects.bodies (get_or scene.waits k None) ≡ true
   pub other : k ≡ n → ⊥
 
-pub was_ready : (scene : Scene) (n k : ℕ) → is_ready scene.objects.bodies (get_or scene.waits n None) ≡ true → is_ready (effect scene n).objects.bodies (get_or (effect scene n).waits k None) ≡ true → WasReady scene n k
+pub was_ready : (scene : Scene) (n k : ℕ) → is_ready scene.objects.bodies (get_or scene.waits n None) ≡ true
+    → is_ready (effect scene n).objects.bodies (get_or (effect scene n).waits k None) ≡ true → WasReady scene n k
 was_ready scene n k ready after =
     let a = answers scene n ready in
     let w : Option Wait = answered_wait a.wait a.code in
     elim (cases_eq k n) [
       | inl same ↦
-          let at : get_or (effect scene n).waits k None ≡ w = ap (λ ws. get_or ws k None) a.waits ∙ ap (λ i. get_or (set scene.waits n w) i None) same ∙ get_or-set_same scene.waits n w None (ready_within scene n ready) in
-          let none : is_ready (effect scene n).objects.bodies (get_or (effect scene n).waits k None) ≡ false = ap (is_ready (effect scene n).objects.bodies) at in
+          let at : get_or (effect scene n).waits k None ≡ w =
+          ap (λ ws. get_or ws k None) a.waits ∙ ap (λ i. get_or (set scene.waits n w) i None) same
+          ∙ get_or-set_same scene.waits n w None (ready_within scene n ready) in
+          let none : is_ready (effect scene n).objects.bodies (get_or (effect scene n).waits k None) ≡ false =
+          ap (is_ready (effect scene n).objects.bodies) at in
           absurd (cc (none, after))
       | inr other ↦
-          let at : get_or (effect scene n).waits k None ≡ get_or scene.waits k None = ap (λ ws. get_or ws k None) a.waits ∙ get_or-set_other scene.waits n k w None other in
-          record { before = ready_less scene.objects.bodies (effect scene n).objects.bodies a.less (get_or scene.waits k None) (subst (λ x. is_ready (effect scene n).objects.bodies x ≡ true) at after); other = other }
+          let at : get_or (effect scene n).waits k None ≡ get_or scene.waits k None =
+          ap (λ ws. get_or ws k None) a.waits ∙ get_or-set_other scene.waits n k w None other in
+          record {
+            before = ready_less scene.objects.bodies (effect scene n).objects.bodies a.less
+                (get_or scene.waits k None) (subst (λ x. is_ready (effect scene n).objects.bodies x ≡ true) at after);
+            other = other;
+          }
     ]
 
 -- a settled scene stays
-pub settled_none : (fuel : ℕ) (scene : Scene) → IsSettled scene.objects.bodies scene.waits → settled_within fuel scene ≡ scene
+pub settled_none : (fuel : ℕ) (scene : Scene) → IsSettled scene.objects.bodies scene.waits
+    → settled_within fuel scene ≡ scene
 settled_none zero scene q = refl
-settled_none (suc n) scene q = settled_step (λ x. x ≡ scene) n scene (λ k lt ready. let none = q.each k in absurd (cc (none, ready))) (λ le. refl)
+settled_none (suc n) scene q = settled_step (λ x. x ≡ scene) n scene (λ k lt ready. let none = q.each k in
+    absurd (cc (none, ready))) (λ le. refl)
 
 pub settled_same : (scene : Scene) → IsSettled scene.objects.bodies scene.waits → settled scene ≡ scene
 settled_same scene q = settled_none (length scene.waits) scene q
 
 -- where the wait of a number is ready and none below is, that is the first one that is ready
-pub first_is : (scene : Scene) (m : ℕ) → is_ready scene.objects.bodies (get_or scene.waits m None) ≡ true → ((k : ℕ) → k < m → is_ready scene.objects.bodies (get_or scene.waits k None) ≡ false) → first_ready scene.objects.bodies scene.waits ≡ m
-first_is scene m ready below = position_or_len_is (is_ready scene.objects.bodies) scene.waits m None (let lt = ready_within scene m ready in omega arith) below (λ lt. ready)
+pub first_is : (scene : Scene) (m : ℕ) → is_ready scene.objects.bodies (get_or scene.waits m None) ≡ true
+    → ((k : ℕ) → k < m → is_ready scene.objects.bodies (get_or scene.waits k None) ≡ false)
+    → first_ready scene.objects.bodies scene.waits ≡ m
+first_is scene m ready below = position_or_len_is (is_ready scene.objects.bodies) scene.waits m None (let lt =
+    ready_within scene m ready in omega arith) below (λ lt. ready)
 
-pub settled_first : (fuel : ℕ) (scene : Scene) (m : ℕ) → is_ready scene.objects.bodies (get_or scene.waits m None) ≡ true → first_ready scene.objects.bodies scene.waits ≡ m → settled_within (suc fuel) scene ≡ settled_within fuel (effect scene m)
+pub settled_first : (fuel : ℕ) (scene : Scene) (m : ℕ)
+    → is_ready scene.objects.bodies (get_or scene.waits m None) ≡ true
+    → first_ready scene.objects.bodies scene.waits ≡ m
+    → settled_within (suc fuel) scene ≡ settled_within fuel (effect scene m)
 settled_first fuel scene m ready first =
-    let lt : first_ready scene.objects.bodies scene.waits < length scene.waits = (let w = ready_within scene m ready in omega arith) in
-    rw (lt-ltb (first_ready scene.objects.bodies scene.waits) (length scene.waits) lt) (ap (λ k. settled_within fuel (effect scene k)) first)
+    let lt : first_ready scene.objects.bodies scene.waits < length scene.waits =
+    (let w = ready_within scene m ready in omega arith) in
+    rw (lt-ltb (first_ready scene.objects.bodies scene.waits) (length scene.waits) lt)
+    (ap (λ k. settled_within fuel (effect scene k)) first)

@@ -43,7 +43,13 @@ listed_skipped given last f le s = ext_get_or None (listed (suc last) f) (skippe
 pub seated_skipped : (given last : ℕ) (seats : _) (threads : ℕ → Option ℕ) → given ≤ last
     → AreSeated given seats threads → AreSeated last seats threads
 seated_skipped given last seats threads le s = record {
-  each = λ t held is. let old = s.each t held is in record { own = old.own; some = old.some; fits = let fits = old.fits in omega (arith, fits, le); known = old.known };
+  each = λ t held is. let old = s.each t held is in
+      record {
+        own = old.own;
+        some = old.some;
+        fits = let fits = old.fits in omega (arith, fits, le);
+        known = old.known;
+      };
   there = s.there;
 }
 
@@ -53,7 +59,11 @@ module _ (last : ℕ) (ws : List (Option Wait)) where
 
   ordered : length ws ≤ last + 1 → (numbers : List ℕ) → IsOrdered (length ws) numbers
       → IsOrdered (length (skipped last ws)) numbers
-  ordered le numbers o = record { rising = o.rising; below = λ k h. let b = o.below k h in let l = length-skipped last ws le in omega (arith, b, l, le) }
+  ordered le numbers o = record {
+    rising = o.rising;
+    below = λ k h. let b = o.below k h in
+        let l = length-skipped last ws le in omega (arith, b, l, le);
+  }
 
   has_all : (test : Option Wait → Bool) (numbers : List ℕ) → HasAll test numbers ws
       → HasAll test numbers (skipped last ws)

@@ -1,4 +1,5 @@
--- What settling leaves as it is: whose wait each is, the waits that stay pending, the forms of bodies, the owners that are no waiter.
+-- What settling leaves as it is: whose wait each is, the waits that stay pending, the forms of bodies, the owners that
+-- are no waiter.
 use Rattle.std.proofs.Common.{◌≡◌, ◌⊎◌, ℕ, ◌+◌, ◌-◌, List, [], ◌∷◌, length, Option, Some, None, refl, ap, ◌∙◌, sym, subst, arith, get_or, set, Bool, true, false, cond, inl, inr, eqb}
 use Rattle.std.specs.Prelude.{is_some}
 use Rattle.std.proofs.lemmas.List.{length-set, get_or_past, get_or-set_same, get_or-set_other}
@@ -35,7 +36,8 @@ form_some None y e h = absurd (cc)
 form_some (Some b) None e h = absurd (cc)
 form_some (Some b) (Some c) e h = refl
 
-stays_both : (ws ws' : List (Option Wait)) → ((t : ℕ) → HasWait t ws' → HasWait t ws) → (x y z : Option Body) → Stays ws x y → Stays ws' y z → Stays ws x z
+stays_both : (ws ws' : List (Option Wait)) → ((t : ℕ) → HasWait t ws' → HasWait t ws) → (x y z : Option Body)
+    → Stays ws x y → Stays ws' y z → Stays ws x z
 stays_both ws ws' waiters x y z a b = record {
   form = λ h. b.form h ∙ a.form (form_some z y (b.form h) h);
   owner = λ t h. elim (b.owner t h) [ inl old ↦ a.owner t old | inr waits ↦ inr (waiters t waits) ];
@@ -56,70 +58,99 @@ owner_taken u t (Some (Semaphore s)) h = absurd (cc)
 owner_taken u t (Some (Timer m)) h = absurd (cc)
 owner_taken u t (Some (Mutex m)) h = by m.owner m.recursion m.abandoned h
   where
-    by : (owner : Option ℕ) (recursion : ℕ) (abandoned : Bool) → (mutex.after_acquire u (record { owner = owner; recursion = recursion; abandoned = abandoned })).owner ≡ Some t → (owner ≡ Some t) ⊎ (u ≡ t)
+    by : (owner : Option ℕ) (recursion : ℕ) (abandoned : Bool)
+        → (mutex.after_acquire u (record { owner = owner; recursion = recursion; abandoned = abandoned })).owner
+        ≡ Some t → (owner ≡ Some t) ⊎ (u ≡ t)
     by None recursion abandoned h = inr cc
     by (Some owner) recursion abandoned h = own (eqb owner u) refl h
       where
-        own : (b : Bool) → eqb owner u ≡ b → (cond b (mutex.owned_mutex u (recursion + 1)) (record { owner = Some owner; recursion = recursion; abandoned = abandoned })).owner ≡ Some t → (◌≡◌ {A = Option ℕ} (Some owner) (Some t)) ⊎ (u ≡ t)
+        own : (b : Bool) → eqb owner u ≡ b → (cond b (mutex.owned_mutex u (recursion + 1)) (record {
+          owner = Some owner;
+          recursion = recursion;
+          abandoned = abandoned;
+        })).owner ≡ Some t
+            → (◌≡◌ {A = Option ℕ} (Some owner) (Some t)) ⊎ (u ≡ t)
         own true is h = inr cc
         own false is h = inl h
 
 stays_taken : (ws : List (Option Wait)) (u : ℕ) → HasWait u ws → (x : Option Body) → Stays ws x (slot_acquired u x)
 stays_taken ws u waits x = record {
   form = λ h. form_taken u x;
-  owner = λ t h. elim (owner_taken u t x h) [ inl old ↦ inl old | inr same ↦ inr (subst (λ v. HasWait v ws) same waits) ];
+  owner = λ t h. elim (owner_taken u t x h) [
+    | inl old ↦ inl old
+    | inr same ↦
+        inr (subst (λ v. HasWait v ws) same waits)
+  ];
 }
 
 -- and so do all slots
 abbrev AllStay : List (Option Wait) → List (Option Body) → List (Option Body) → Type 0
 AllStay ws bodies after = (k : ℕ) → Stays ws (get_or bodies k None) (get_or after k None)
 
-all_set : (ws : List (Option Wait)) (bodies : List (Option Body)) (i : ℕ) (x : Option Body) → Stays ws (get_or bodies i None) x → AllStay ws bodies (set bodies i x)
+all_set : (ws : List (Option Wait)) (bodies : List (Option Body)) (i : ℕ) (x : Option Body)
+    → Stays ws (get_or bodies i None) x → AllStay ws bodies (set bodies i x)
 all_set ws bodies i x one k = elim (cases_eq k i) [
   | inl same ↦ elim (cases_lt i (length bodies)) [
-    | inl lt ↦ subst (λ j. Stays ws (get_or bodies j None) (get_or (set bodies i x) j None)) (sym same) (subst (λ y. Stays ws (get_or bodies i None) y) (sym (get_or-set_same bodies i x None lt)) one)
-    | inr past ↦ subst (λ y. Stays ws (get_or bodies k None) y) (sym (get_or_past (set bodies i x) k None (omega (arith, length-set bodies i x)))) (stays_none ws (get_or bodies k None))
+    | inl lt ↦ subst (λ j. Stays ws (get_or bodies j None) (get_or (set bodies i x) j None)) (sym same)
+        (subst (λ y. Stays ws (get_or bodies i None) y) (sym (get_or-set_same bodies i x None lt)) one)
+    | inr past ↦ subst (λ y. Stays ws (get_or bodies k None) y)
+        (sym (get_or_past (set bodies i x) k None (omega (arith, length-set bodies i x))))
+        (stays_none ws (get_or bodies k None))
   ]
-  | inr other ↦ subst (λ y. Stays ws (get_or bodies k None) y) (sym (get_or-set_other bodies i k x None other)) (stays_same ws (get_or bodies k None))
+  | inr other ↦ subst (λ y. Stays ws (get_or bodies k None) y) (sym (get_or-set_other bodies i k x None other))
+      (stays_same ws (get_or bodies k None))
 ]
 
 all_both : (ws : List (Option Wait)) (a b c : List (Option Body)) → AllStay ws a b → AllStay ws b c → AllStay ws a c
 all_both ws a b c x y k = stays_both ws ws (λ t h. h) (get_or a k None) (get_or b k None) (get_or c k None) (x k) (y k)
 
-one_taken : (ws : List (Option Wait)) (u : ℕ) → HasWait u ws → (bodies : List (Option Body)) (id : Id) → AllStay ws bodies (with_acquired u bodies id)
-one_taken ws u waits bodies id = all_set ws bodies id.slot (slot_acquired u (get_or bodies id.slot None)) (stays_taken ws u waits (get_or bodies id.slot None))
+one_taken : (ws : List (Option Wait)) (u : ℕ) → HasWait u ws → (bodies : List (Option Body)) (id : Id)
+    → AllStay ws bodies (with_acquired u bodies id)
+one_taken ws u waits bodies id = all_set ws bodies id.slot (slot_acquired u (get_or bodies id.slot None))
+    (stays_taken ws u waits (get_or bodies id.slot None))
 
-all_taken : (ws : List (Option Wait)) (u : ℕ) → HasWait u ws → (ids : List Id) (bodies : List (Option Body)) → AllStay ws bodies (with_all_acquired u bodies ids)
+all_taken : (ws : List (Option Wait)) (u : ℕ) → HasWait u ws → (ids : List Id) (bodies : List (Option Body))
+    → AllStay ws bodies (with_all_acquired u bodies ids)
 all_taken ws u waits [] bodies = λ k. stays_same ws (get_or bodies k None)
-all_taken ws u waits (id ∷ ids) bodies = all_both ws bodies (with_acquired u bodies id) (with_all_acquired u (with_acquired u bodies id) ids) (one_taken ws u waits bodies id) (all_taken ws u waits ids (with_acquired u bodies id))
+all_taken ws u waits (id ∷ ids) bodies = all_both ws bodies (with_acquired u bodies id)
+    (with_all_acquired u (with_acquired u bodies id) ids) (one_taken ws u waits bodies id)
+    (all_taken ws u waits ids (with_acquired u bodies id))
 
-pub taken : (ws : List (Option Wait)) (u : ℕ) → HasWait u ws → (mode : Mode) (ids : List Id) (bodies : List (Option Body)) → AllStay ws bodies (bodies_after mode u bodies ids)
+pub taken : (ws : List (Option Wait)) (u : ℕ) → HasWait u ws
+    → (mode : Mode) (ids : List Id) (bodies : List (Option Body)) → AllStay ws bodies (bodies_after mode u bodies ids)
 taken ws u waits Any ids bodies = one_taken ws u waits bodies (get_or ids (first_signaled u bodies ids) nowhere)
 taken ws u waits All ids bodies = all_taken ws u waits ids bodies
 
-left_if : (ws : List (Option Wait)) (b : Bool) (bodies : List (Option Body)) (i : ℕ) → AllStay ws bodies (cond b (set bodies i None) bodies)
+left_if : (ws : List (Option Wait)) (b : Bool) (bodies : List (Option Body)) (i : ℕ)
+    → AllStay ws bodies (cond b (set bodies i None) bodies)
 left_if ws true bodies i = all_set ws bodies i None (stays_none ws (get_or bodies i None))
 left_if ws false bodies i = λ k. stays_same ws (get_or bodies k None)
 
-left : (ws : List (Option Wait)) (ids : List Id) (objects : Objects) → AllStay ws objects.bodies (without_blocks objects ids).bodies
+left : (ws : List (Option Wait)) (ids : List Id) (objects : Objects)
+    → AllStay ws objects.bodies (without_blocks objects ids).bodies
 left ws [] objects = λ k. stays_same ws (get_or objects.bodies k None)
 left ws (id ∷ ids) objects =
     all_both ws objects.bodies (without_block objects id).bodies (without_blocks (without_block objects id) ids).bodies
-    (left_if ws (eqb (get_or objects.handles id.slot 0 + (get_or objects.blocks id.slot 0 - 1)) 0) objects.bodies id.slot) (left ws ids (without_block objects id))
+    (left_if ws (eqb (get_or objects.handles id.slot 0 + (get_or objects.blocks id.slot 0 - 1)) 0) objects.bodies
+    id.slot) (left ws ids (without_block objects id))
 
 -- one wait after another takes effect
 pub record Stay (scene after : Scene) : Type 0 where
   pub fade : Fade scene.waits after.waits
   pub bodies : (k : ℕ) → Stays scene.waits (get_or scene.objects.bodies k None) (get_or after.objects.bodies k None)
 
-stay_of : (scene : Scene) (n : ℕ) (w : Wait) (st : State) → get_or scene.waits n None ≡ Some w → AllStay scene.waits scene.objects.bodies (effect_of scene n w st).objects.bodies
+stay_of : (scene : Scene) (n : ℕ) (w : Wait) (st : State) → get_or scene.waits n None ≡ Some w
+    → AllStay scene.waits scene.objects.bodies (effect_of scene n w st).objects.bodies
 stay_of scene n w (Pending mode ids) own =
     let after : List (Option Body) = bodies_after mode w.thread scene.objects.bodies ids in
-    all_both scene.waits scene.objects.bodies after (without_blocks (record scene.objects { bodies = after }) ids).bodies
-    (taken scene.waits w.thread (n, ap thread_of own) mode ids scene.objects.bodies) (left scene.waits ids (record scene.objects { bodies = after }))
+    all_both scene.waits scene.objects.bodies after
+    (without_blocks (record scene.objects { bodies = after }) ids).bodies
+    (taken scene.waits w.thread (n, ap thread_of own) mode ids scene.objects.bodies)
+    (left scene.waits ids (record scene.objects { bodies = after }))
 stay_of scene n w (Answered code) own = λ k. stays_same scene.waits (get_or scene.objects.bodies k None)
 
-stay_at : (scene : Scene) (n : ℕ) (w : Option Wait) → get_or scene.waits n None ≡ w → AllStay scene.waits scene.objects.bodies (effect_at scene n w).objects.bodies
+stay_at : (scene : Scene) (n : ℕ) (w : Option Wait) → get_or scene.waits n None ≡ w
+    → AllStay scene.waits scene.objects.bodies (effect_at scene n w).objects.bodies
 stay_at scene n None own = λ k. stays_same scene.waits (get_or scene.objects.bodies k None)
 stay_at scene n (Some w) own = stay_of scene n w w.state own
 
@@ -129,7 +160,8 @@ waited ws ws' fade t h = (h.0, sym (fade.each h.0).thread ∙ h.1)
 stay_both : (a b c : Scene) → Stay a b → Stay b c → Stay a c
 stay_both a b c x y = record {
   fade = fade_both a.waits b.waits c.waits x.fade y.fade;
-  bodies = λ k. stays_both a.waits b.waits (waited a.waits b.waits x.fade) (get_or a.objects.bodies k None) (get_or b.objects.bodies k None) (get_or c.objects.bodies k None) (x.bodies k) (y.bodies k);
+  bodies = λ k. stays_both a.waits b.waits (waited a.waits b.waits x.fade) (get_or a.objects.bodies k None)
+      (get_or b.objects.bodies k None) (get_or c.objects.bodies k None) (x.bodies k) (y.bodies k);
 }
 
 -- The theorem.
@@ -139,14 +171,18 @@ settled_stays scene = settled_by_effects Stay
     stay_both
     (λ s n ready. record { fade = effect_fades s n ready; bodies = stay_at s n (get_or s.waits n None) refl }) scene
 
-pub settled_thread : (scene : Scene) (n : ℕ) → thread_of (get_or (settled scene).waits n None) ≡ thread_of (get_or scene.waits n None)
+pub settled_thread : (scene : Scene) (n : ℕ) → thread_of (get_or (settled scene).waits n None)
+    ≡ thread_of (get_or scene.waits n None)
 settled_thread scene n = ((settled_stays scene).fade.each n).thread
 
-pub settled_pending : (scene : Scene) (n : ℕ) → is_pending (get_or (settled scene).waits n None) ≡ true → get_or (settled scene).waits n None ≡ get_or scene.waits n None
+pub settled_pending : (scene : Scene) (n : ℕ) → is_pending (get_or (settled scene).waits n None) ≡ true
+    → get_or (settled scene).waits n None ≡ get_or scene.waits n None
 settled_pending scene n pending = ((settled_stays scene).fade.each n).stays pending
 
-pub settled_form : (scene : Scene) (k : ℕ) → is_some (get_or (settled scene).objects.bodies k None) ≡ true → slot_form (get_or (settled scene).objects.bodies k None) ≡ slot_form (get_or scene.objects.bodies k None)
+pub settled_form : (scene : Scene) (k : ℕ) → is_some (get_or (settled scene).objects.bodies k None) ≡ true
+    → slot_form (get_or (settled scene).objects.bodies k None) ≡ slot_form (get_or scene.objects.bodies k None)
 settled_form scene k some = ((settled_stays scene).bodies k).form some
 
-pub settled_owner : (scene : Scene) (k t : ℕ) → slot_owner (get_or (settled scene).objects.bodies k None) ≡ Some t → (slot_owner (get_or scene.objects.bodies k None) ≡ Some t) ⊎ HasWait t scene.waits
+pub settled_owner : (scene : Scene) (k t : ℕ) → slot_owner (get_or (settled scene).objects.bodies k None) ≡ Some t
+    → (slot_owner (get_or scene.objects.bodies k None) ≡ Some t) ⊎ HasWait t scene.waits
 settled_owner scene k t owns = ((settled_stays scene).bodies k).owner t owns

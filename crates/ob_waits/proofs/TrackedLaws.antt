@@ -53,15 +53,22 @@ false_of true h = absurd (h refl)
 false_of false h = refl
 
 pub has_wait : (ws : List (Option Wait)) (n t : ℕ) → thread_of (get_or ws n None) ≡ Some t → n < length ws
-has_wait ws n t h = elim (cases_lt n (length ws)) [ inl lt ↦ lt | inr past ↦ absurd (let e = ap thread_of (get_or_past ws n None past) in cc (e, h)) ]
+has_wait ws n t h = elim (cases_lt n (length ws)) [
+  | inl lt ↦ lt
+  | inr past ↦
+      absurd (let e = ap thread_of (get_or_past ws n None past) in cc (e, h))
+]
 
 -- a thread without a number has no wait
-pub no_number : (t : ℕ) (ws : List (Option Wait)) (n : ℕ) → number_of t ws ≡ None → thread_of (get_or ws n None) ≡ Some t → ⊥
+pub no_number : (t : ℕ) (ws : List (Option Wait)) (n : ℕ) → number_of t ws ≡ None
+    → thread_of (get_or ws n None) ≡ Some t → ⊥
 no_number t ws n none own = elim (cases_lt (position_or_len (is_waits_of t) ws) (length ws)) [
-  | inl lt ↦ (let e : number_of t ws ≡ Some (position_or_len (is_waits_of t) ws) = ap (λ b. cond b (Some (position_or_len (is_waits_of t) ws)) None) (lt-ltb _ _ lt) in cc (e, none))
+  | inl lt ↦ (let e : number_of t ws ≡ Some (position_or_len (is_waits_of t) ws) =
+      ap (λ b. cond b (Some (position_or_len (is_waits_of t) ws)) None) (lt-ltb _ _ lt) in cc (e, none))
   | inr le ↦
       let lt = has_wait ws n t own in
-      let fails : is_waits_of t (get_or ws n None) ≡ false = fails_before_first (is_waits_of t) ws n None (omega arith) in
+      let fails : is_waits_of t (get_or ws n None) ≡ false = fails_before_first (is_waits_of t) ws n None (omega arith)
+      in
       let passes = thread_waits t (get_or ws n None) own in cc (fails, passes)
 ]
 
@@ -69,25 +76,31 @@ no_number t ws n none own = elim (cases_lt (position_or_len (is_waits_of t) ws) 
 pub number_own : (ws : List (Option Wait)) (t n : ℕ) → number_of t ws ≡ Some n → thread_of (get_or ws n None) ≡ Some t
 number_own ws t n is = waits_thread t (get_or ws n None) (position-Some (is_waits_of t) ws n None is).1
 
-pub number_is : (ws : List (Option Wait)) (t n : ℕ) → thread_of (get_or ws n None) ≡ Some t → ((m : ℕ) → thread_of (get_or ws m None) ≡ Some t → m ≡ n) → number_of t ws ≡ Some n
+pub number_is : (ws : List (Option Wait)) (t n : ℕ) → thread_of (get_or ws n None) ≡ Some t
+    → ((m : ℕ) → thread_of (get_or ws m None) ≡ Some t → m ≡ n) → number_of t ws ≡ Some n
 number_is ws t n own alone =
     let lt : n < length ws = has_wait ws n t own in
     let first : position_or_len (is_waits_of t) ws ≡ n = position_or_len_is (is_waits_of t) ws n None (omega arith)
-    (λ k below. false_of _ (λ h. let e = alone k (waits_thread t (get_or ws k None) h) in omega (arith, e))) (λ l. thread_waits t (get_or ws n None) own) in
+    (λ k below. false_of _ (λ h. let e = alone k (waits_thread t (get_or ws k None) h) in omega (arith, e)))
+    (λ l. thread_waits t (get_or ws n None) own) in
     ap (λ k. cond (ltb k (length ws)) (Some k) None) first ∙ ap (λ b. cond b (Some n) None) (lt-ltb n (length ws) lt)
 
-pub number_none : (ws : List (Option Wait)) (t : ℕ) → ((m : ℕ) → thread_of (get_or ws m None) ≡ Some t → ⊥) → number_of t ws ≡ None
+pub number_none : (ws : List (Option Wait)) (t : ℕ) → ((m : ℕ) → thread_of (get_or ws m None) ≡ Some t → ⊥)
+    → number_of t ws ≡ None
 number_none ws t none =
-    let first : position_or_len (is_waits_of t) ws ≡ length ws = position_or_len_is (is_waits_of t) ws (length ws) None (omega arith)
+    let first : position_or_len (is_waits_of t) ws ≡ length ws =
+    position_or_len_is (is_waits_of t) ws (length ws) None (omega arith)
     (λ k below. false_of _ (λ h. none k (waits_thread t (get_or ws k None) h))) (λ l. absurd (omega arith)) in
-    ap (λ k. cond (ltb k (length ws)) (Some k) None) first ∙ ap (λ b. cond b (Some (length ws)) None) (le-ltb (length ws) (length ws) (omega arith))
+    ap (λ k. cond (ltb k (length ws)) (Some k) None) first
+    ∙ ap (λ b. cond b (Some (length ws)) None) (le-ltb (length ws) (length ws) (omega arith))
 
 -- some waits were answered
 no_thread : (w : Option Wait) → thread_of w ≡ None → w ≡ None
 no_thread None h = refl
 no_thread (Some w) h = absurd (cc)
 
-pub lists_faded : (ws ws' : List (Option Wait)) (order : List ℕ) (index : List (List ℕ)) → Fade ws ws' → AreIndexed ws order index → AreIndexed ws' order index
+pub lists_faded : (ws ws' : List (Option Wait)) (order : List ℕ) (index : List (List ℕ)) → Fade ws ws'
+    → AreIndexed ws order index → AreIndexed ws' order index
 lists_faded ws ws' order index f a = record {
   order_rises = subst (λ n. IsOrdered n order) (sym f.len) a.order_rises;
   order_all = record { each = λ n h. a.order_all.each n ((f.each n).pending h) };
@@ -95,7 +108,8 @@ lists_faded ws ws' order index f a = record {
   index_all = λ s. record { each = λ n h. (a.index_all s).each n ((f.each n).names s h) };
 }
 
-pub tracked_faded : (limit : ℕ) (ws ws' : List (Option Wait)) (r : Roster) → Fade ws ws' → IsTracked limit ws r → IsTracked limit ws' r
+pub tracked_faded : (limit : ℕ) (ws ws' : List (Option Wait)) (r : Roster) → Fade ws ws' → IsTracked limit ws r
+    → IsTracked limit ws' r
 tracked_faded limit ws ws' r f k = record {
   limit_fits = k.limit_fits;
   few = let e = f.len in let le = k.few in omega arith;
@@ -104,11 +118,19 @@ tracked_faded limit ws ws' r f k = record {
   right = lists_faded ws ws' r.order r.index f k.right;
 }
 
-pub tracked_left : (limit : ℕ) (ws : List (Option Wait)) (r r' : Roster) → Leaves ws r r' → IsTracked limit ws r → IsTracked limit ws r'
-tracked_left limit ws r r' l k = record { limit_fits = k.limit_fits; few = k.few; zero_has_none = k.zero_has_none; kept = k.kept; right = right_left ws r r' l k.right }
+pub tracked_left : (limit : ℕ) (ws : List (Option Wait)) (r r' : Roster) → Leaves ws r r' → IsTracked limit ws r
+    → IsTracked limit ws r'
+tracked_left limit ws r r' l k = record {
+  limit_fits = k.limit_fits;
+  few = k.few;
+  zero_has_none = k.zero_has_none;
+  kept = k.kept;
+  right = right_left ws r r' l k.right;
+}
 
 -- a pending wait is answered
-pub fade_answered : (ws : List (Option Wait)) (n code : ℕ) → is_pending (get_or ws n None) ≡ true → Fade ws (set ws n (answered (get_or ws n None) code))
+pub fade_answered : (ws : List (Option Wait)) (n code : ℕ) → is_pending (get_or ws n None) ≡ true
+    → Fade ws (set ws n (answered (get_or ws n None) code))
 fade_answered ws n code pending = by (get_or ws n None) refl pending
   where
     by : (w : Option Wait) → get_or ws n None ≡ w → is_pending w ≡ true → Fade ws (set ws n (answered w code))
@@ -116,7 +138,8 @@ fade_answered ws n code pending = by (get_or ws n None) refl pending
     by (Some w) is h = fade_one ws n code w is
 
 -- the wait of a thread goes
-lists_removed : (ws : List (Option Wait)) (n : ℕ) (order : List ℕ) (index : List (List ℕ)) → n < length ws → AreIndexed ws order index → AreIndexed (set ws n None) order index
+lists_removed : (ws : List (Option Wait)) (n : ℕ) (order : List ℕ) (index : List (List ℕ)) → n < length ws
+    → AreIndexed ws order index → AreIndexed (set ws n None) order index
 lists_removed ws n order index lt a = record {
   order_rises = subst (λ m. IsOrdered m order) (sym (length-set ws n None)) a.order_rises;
   order_all = record { each = λ m h. a.order_all.each m (was is_pending m refl h) };
@@ -124,23 +147,29 @@ lists_removed ws n order index lt a = record {
   index_all = λ s. record { each = λ m h. (a.index_all s).each m (was (names_slot s) m refl h) };
 }
   where
-    was : (p : Option Wait → Bool) (m : ℕ) → p None ≡ false → p (get_or (set ws n None) m None) ≡ true → p (get_or ws m None) ≡ true
+    was : (p : Option Wait → Bool) (m : ℕ) → p None ≡ false → p (get_or (set ws n None) m None) ≡ true
+        → p (get_or ws m None) ≡ true
     was p m none h = elim (cases_eq m n) [
-      | inl same ↦ absurd (let e : p (get_or (set ws n None) m None) ≡ false = ap p (ap (λ i. get_or (set ws n None) i None) same ∙ get_or-set_same ws n None None lt) ∙ none in cc (e, h))
+      | inl same ↦ absurd (let e : p (get_or (set ws n None) m None) ≡ false =
+          ap p (ap (λ i. get_or (set ws n None) i None) same ∙ get_or-set_same ws n None None lt) ∙ none in cc (e, h))
       | inr other ↦ subst (λ x. p x ≡ true) (get_or-set_other ws n m None None other) h
     ]
 
-pub given_some : (ws : List (Option Wait)) (n t : ℕ) → get_or ws 0 None ≡ None → thread_of (get_or ws n None) ≡ Some t → 0 < n
+pub given_some : (ws : List (Option Wait)) (n t : ℕ) → get_or ws 0 None ≡ None → thread_of (get_or ws n None) ≡ Some t
+    → 0 < n
 given_some ws n t none own = elim (cases_eq n 0) [
-  | inl same ↦ absurd (let e : thread_of (get_or ws n None) ≡ None = ap (λ i. thread_of (get_or ws i None)) same ∙ ap thread_of none in cc (e, own))
+  | inl same ↦ absurd (let e : thread_of (get_or ws n None) ≡ None = ap (λ i. thread_of (get_or ws i None)) same
+      ∙ ap thread_of none in cc (e, own))
   | inr other ↦ omega arith
 ]
 
-pub tracked_removed : (limit : ℕ) (ws : List (Option Wait)) (r : Roster) (n t : ℕ) → thread_of (get_or ws n None) ≡ Some t → IsTracked limit ws r → IsTracked limit (set ws n None) r
+pub tracked_removed : (limit : ℕ) (ws : List (Option Wait)) (r : Roster) (n t : ℕ)
+    → thread_of (get_or ws n None) ≡ Some t → IsTracked limit ws r → IsTracked limit (set ws n None) r
 tracked_removed limit ws r n t own k = record {
   limit_fits = k.limit_fits;
   few = let le = k.few in omega (arith, length-set ws n None);
-  zero_has_none = get_or-set_other ws n 0 None None (λ e. let some = given_some ws n t k.zero_has_none own in omega arith) ∙ k.zero_has_none;
+  zero_has_none = get_or-set_other ws n 0 None None (λ e. let some = given_some ws n t k.zero_has_none own in
+      omega arith) ∙ k.zero_has_none;
   kept = record {
     each = λ m. elim (cases_eq m n) [
       | inl same ↦ subst WaitWaitable (sym (gone m same)) tt

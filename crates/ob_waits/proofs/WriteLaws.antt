@@ -93,7 +93,8 @@ written_next last n count more out out' before ws above least text is fit w = re
   text = ap (λ (t : List ℕ). t ++ flat_map row_text (rows_behind n ws)) text
       ∙ append_assoc out (flat_map row_text (row_of n (get_or ws n None))) (flat_map row_text (rows_behind n ws))
       ∙ ap (λ (t : List ℕ). out ++ t)
-      (sym (ap (flat_map row_text) next ∙ flat_map-append row_text (row_of n (get_or ws n None)) (rows_behind n ws))) ∙ w.text;
+      (sym (ap (flat_map row_text) next ∙ flat_map-append row_text (row_of n (get_or ws n None)) (rows_behind n ws)))
+      ∙ w.text;
   many = let e = ap length next in let l = length-append (row_of n (get_or ws n None))
       (rows_behind n ws) in let c = w.many in omega (arith, e, l, c, is);
   fits = λ all. w.fits (subst (λ (rows : List (ℕ × Wait)). AllByRecursion RowFits rows) (sym next)

@@ -20,7 +20,8 @@ abbrev pub answer_of : ℕ → Option Wait → Option Answer
 answer_of number None = None
 answer_of number (Some wait) = state_answer number wait.thread wait.state
 
--- numbers that rose as their waits were answered; and for each thread the number of its answered wait, where that one did not
+-- numbers that rose as their waits were answered; and for each thread the number of its answered wait, where that one
+-- did not
 pub record Untaken : Type 0 where
   pub fresh : List ℕ
   pub late : List (Option ℕ)
@@ -33,7 +34,8 @@ IsAnswered thread wait = (thread_of wait ≡ Some thread) × (is_answered wait �
 pub record AreToldBut (but : Option ℕ) (waits : List (Option Wait)) (untaken : Untaken) : Type 0 where
   pub rising : IsRising untaken.fresh
   pub late : (t n : ℕ) → slice_index_or untaken.late t None ≡ Some n → IsAnswered t (slice_index_or waits n None)
-  pub each : (t n : ℕ) → Some n ≢ but → IsAnswered t (slice_index_or waits n None) → Within n untaken.fresh ⊎ (slice_index_or untaken.late t None ≡ Some n)
+  pub each : (t n : ℕ) → Some n ≢ but → IsAnswered t (slice_index_or waits n None)
+      → Within n untaken.fresh ⊎ (slice_index_or untaken.late t None ≡ Some n)
   pub placed : (t n : ℕ) → thread_of (slice_index_or waits n None) ≡ Some t → t < length untaken.late
 
 abbrev pub AreTold : List (Option Wait) → Untaken → Type 0

@@ -31,7 +31,8 @@ pub record AreAhead (clock : ℕ) (waits : List (Option Wait)) : Type 0 where
 
 -- and is listed at its thread, where a deadline of a wait that was answered may stand too
 pub record AreListed (waits : List (Option Wait)) (dues : List (Option ℕ)) : Type 0 where
-  pub each : (n t d : ℕ) → thread_of (slice_index_or waits n None) ≡ Some t → deadline_of (slice_index_or waits n None) ≡ Some d → slice_index_or dues t None ≡ Some d
+  pub each : (n t d : ℕ) → thread_of (slice_index_or waits n None) ≡ Some t
+      → deadline_of (slice_index_or waits n None) ≡ Some d → slice_index_or dues t None ≡ Some d
 
 -- what the waits keep of time
 pub record AreTimely (clock : ℕ) (waits : List (Option Wait)) (dues : List (Option ℕ)) : Type 0 where

@@ -1,4 +1,5 @@
--- The same settling told in two steps: first waits are satisfied and only their blocks leave; then each object to which nothing refers ends.
+-- The same settling told in two steps: first waits are satisfied and only their blocks leave; then each object to which
+-- nothing refers ends.
 use Rattle.std.specs.Prelude.{◌≡◌, ℕ, zero, suc, ◌+◌, ◌==◌, nat_lt, List, [], ◌∷◌, Option, Some, None, if◌then◌else◌, slice_index_or, slice_set, length, map}
 use Rattle.std.specs.List.{range_with_len}
 use Rattle.pin_core.specs.declared.id.Id.{Id}
@@ -21,7 +22,10 @@ all_blocks_left blocks (id ∷ ids) = all_blocks_left (blocks_left blocks id) id
 -- a wait takes effect, and no object ends by it
 abbrev pub plain_effect_of : Scene → ℕ → Wait → State → Scene
 plain_effect_of scene number wait (Pending mode ids) = record {
-  objects = record scene.objects { bodies = bodies_after mode wait.thread scene.objects.bodies ids; blocks = all_blocks_left scene.objects.blocks ids };
+  objects = record scene.objects {
+    bodies = bodies_after mode wait.thread scene.objects.bodies ids;
+    blocks = all_blocks_left scene.objects.blocks ids;
+  };
   waits = slice_set scene.waits number (answered_wait wait (code_of mode wait.thread scene.objects.bodies ids));
 }
 plain_effect_of scene number wait (Answered code) = scene
@@ -48,7 +52,8 @@ abbrev pub slot_ended : ℕ → ℕ → Option Body → Option Body
 slot_ended handles blocks body = if handles + blocks == 0 then None else body
 
 abbrev pub body_ended : Objects → ℕ → Option Body
-body_ended objects k = slot_ended (slice_index_or objects.handles k 0) (slice_index_or objects.blocks k 0) (slice_index_or objects.bodies k None)
+body_ended objects k = slot_ended (slice_index_or objects.handles k 0) (slice_index_or objects.blocks k 0)
+    (slice_index_or objects.bodies k None)
 
 -- each object to which nothing refers has ended
 abbrev pub ended : Objects → Objects

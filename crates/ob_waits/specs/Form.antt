@@ -8,7 +8,8 @@ use Rattle.ob_body.specs.Body.{due_of, owner_of}
 use Rattle.ob_waits.specs.declared.wait.Wait.{Wait}
 use Rattle.ob_waits.specs.Rules.{thread_of}
 
--- its kind, whether an event or a timer is reset by hand, the maximum of a semaphore, and the moment at which a timer is due
+-- its kind, whether an event or a timer is reset by hand, the maximum of a semaphore, and the moment at which a timer
+-- is due
 pub record Form : Type 0 where
   pub kind : Kind
   pub manual : Bool

@@ -27,7 +27,8 @@ blocks_left blocks id = slice_set blocks id.slot (slice_index_or blocks id.slot 
 -- an object that nothing refers to any more ends: it has no body
 abbrev pub bodies_left : Objects → Id → List (Option Body)
 bodies_left objects id =
-    if slice_index_or objects.handles id.slot 0 + (slice_index_or objects.blocks id.slot 0 - 1) == 0 then slice_set objects.bodies id.slot None else objects.bodies
+    if slice_index_or objects.handles id.slot 0 + (slice_index_or objects.blocks id.slot 0
+    - 1) == 0 then slice_set objects.bodies id.slot None else objects.bodies
 
 abbrev pub without_block : Objects → Id → Objects
 without_block objects id = record objects { bodies = bodies_left objects id; blocks = blocks_left objects.blocks id }
@@ -37,7 +38,8 @@ abbrev pub without_blocks : Objects → List Id → Objects
 without_blocks objects [] = objects
 without_blocks objects (id ∷ ids) = without_blocks (without_block objects id) ids
 
--- what a slot's body is to a thread, if there is one: a slot without a body, as an ended object's is, is signaled for nobody
+-- what a slot's body is to a thread, if there is one: a slot without a body, as an ended object's is, is signaled for
+-- nobody
 abbrev pub slot_signaled : ℕ → Option Body → Bool
 slot_signaled thread None = false
 slot_signaled thread (Some b) = body.is_signaled thread b

@@ -25,7 +25,8 @@ IsRight waits roster = AreIndexed waits roster.order roster.index
 -- the lists have the number of a wait for these objects
 pub record HasPlace (roster : Roster) (ids : List Id) (number : ℕ) : Type 0 where
   pub order_place : Within number roster.order
-  pub index_place : (i : ℕ) → i < length ids → Within number (numbers_of roster.index (slice_index_or ids i nowhere).slot)
+  pub index_place : (i : ℕ) → i < length ids → Within number
+      (numbers_of roster.index (slice_index_or ids i nowhere).slot)
 
 -- some numbers of waits that are not pending left the lists
 pub record Leaves (waits : List (Option Wait)) (old new : Roster) : Type 0 where

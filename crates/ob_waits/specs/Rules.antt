@@ -12,11 +12,13 @@ use Rattle.ob_waits.specs.Waits.{nowhere, Scene, has_slot, is_pending, is_ready,
 
 -- each object of a list has room for the thread
 pub record HasRoom (limit thread : ℕ) (bodies : List (Option Body)) (ids : List Id) : Type 0 where
-  pub each : (i : ℕ) → i < length ids → slot_room limit thread (slice_index_or bodies (slice_index_or ids i nowhere).slot None) ≡ true
+  pub each : (i : ℕ) → i < length ids → slot_room limit thread
+      (slice_index_or bodies (slice_index_or ids i nowhere).slot None) ≡ true
 
 -- no two places of a list name one slot
 pub record IsDistinct (ids : List Id) : Type 0 where
-  pub apart : (i j : ℕ) → i < j → j < length ids → ((slice_index_or ids i nowhere).slot ≡ (slice_index_or ids j nowhere).slot → ⊥)
+  pub apart : (i j : ℕ) → i < j → j < length ids →
+      ((slice_index_or ids i nowhere).slot ≡ (slice_index_or ids j nowhere).slot → ⊥)
 
 -- a list that a thread may wait for: 1 to 64 objects; for all of them, each once
 pub record IsWaitable (mode : Mode) (ids : List Id) : Type 0 where
@@ -39,7 +41,8 @@ thread_of (Some wait) = Some wait.thread
 -- every pending wait may be waited for, and a thread has one wait
 pub record IsKept (waits : List (Option Wait)) : Type 0 where
   pub each : (n : ℕ) → WaitWaitable (slice_index_or waits n None)
-  pub one_each : (n m t : ℕ) → thread_of (slice_index_or waits n None) ≡ Some t → thread_of (slice_index_or waits m None) ≡ Some t → n ≡ m
+  pub one_each : (n m t : ℕ) → thread_of (slice_index_or waits n None) ≡ Some t
+      → thread_of (slice_index_or waits m None) ≡ Some t → n ≡ m
 
 abbrev pub WaitHasRoom : ℕ → List (Option Body) → Option Wait → Type 0
 WaitHasRoom limit bodies None = Unit {0}
@@ -94,4 +97,5 @@ pub record Covers (ns : List ℕ) (scene : Scene) : Type 0 where
 
 -- a slot has a body exactly where something refers to its object
 pub record HasBodies (objects : Objects) : Type 0 where
-  pub each : (k : ℕ) → is_some (slice_index_or objects.bodies k None) ≡ nat_lt 0 (slice_index_or objects.handles k 0 + slice_index_or objects.blocks k 0)
+  pub each : (k : ℕ) → is_some (slice_index_or objects.bodies k None)
+      ≡ nat_lt 0 (slice_index_or objects.handles k 0 + slice_index_or objects.blocks k 0)

@@ -26,7 +26,8 @@ thread_at finder number = thread_in finder.mask finder.places.items (get nat_eq 
 
 -- a number stands at its own place, and then it is not among the others
 pub record IsPlaced (mask : ℕ) (places : List (Option Entry)) (others : ℕ → Option ℕ) : Type 0 where
-  pub each : (i : ℕ) (entry : Entry) → slice_index_or places i None ≡ Some entry → (home mask entry.number ≡ i) × (others entry.number ≡ None)
+  pub each : (i : ℕ) (entry : Entry) → slice_index_or places i None ≡ Some entry
+      → (home mask entry.number ≡ i) × (others entry.number ≡ None)
 
 -- and the mask is that of some low bits
 pub record IsFinder (finder : Finder) : Type 0 where
@@ -36,12 +37,15 @@ pub record IsFinder (finder : Finder) : Type 0 where
 
 -- no two of some numbers have one place under another mask
 pub record AreApart (mask : ℕ) (places : List (Option Entry)) : Type 0 where
-  pub apart : (i j : ℕ) (a b : Entry) → slice_index_or places i None ≡ Some a → slice_index_or places j None ≡ Some b → home mask a.number ≡ home mask b.number → i ≡ j
+  pub apart : (i j : ℕ) (a b : Entry) → slice_index_or places i None ≡ Some a → slice_index_or places j None ≡ Some b
+      → home mask a.number ≡ home mask b.number → i ≡ j
 
 -- what stands at some places stands at others, at those that it has under another mask, and nothing else does
 pub record IsSpread (mask : ℕ) (from to : List (Option Entry)) : Type 0 where
-  pub all : (i : ℕ) (entry : Entry) → slice_index_or from i None ≡ Some entry → slice_index_or to (home mask entry.number) None ≡ Some entry
-  pub only : (i : ℕ) (entry : Entry) → slice_index_or to i None ≡ Some entry → (home mask entry.number ≡ i) × ((j : ℕ) × (slice_index_or from j None ≡ Some entry))
+  pub all : (i : ℕ) (entry : Entry) → slice_index_or from i None ≡ Some entry
+      → slice_index_or to (home mask entry.number) None ≡ Some entry
+  pub only : (i : ℕ) (entry : Entry) → slice_index_or to i None ≡ Some entry
+      → (home mask entry.number ≡ i) × ((j : ℕ) × (slice_index_or from j None ≡ Some entry))
 
 -- the number and the wait that stand at a seat
 abbrev pub number_at : Option Held → Option ℕ

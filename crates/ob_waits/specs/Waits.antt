@@ -42,7 +42,8 @@ with_all_acquired thread bodies (id ∷ ids) = with_all_acquired thread (with_ac
 
 -- what a wait that is ready takes: the signaled object of least index, or all
 abbrev pub bodies_after : Mode → ℕ → List (Option Body) → List Id → List (Option Body)
-bodies_after Any thread bodies ids = with_acquired thread bodies (slice_index_or ids (first_signaled thread bodies ids) nowhere)
+bodies_after Any thread bodies ids = with_acquired thread bodies
+    (slice_index_or ids (first_signaled thread bodies ids) nowhere)
 bodies_after All thread bodies ids = with_all_acquired thread bodies ids
 
 -- and the code that it is answered with
@@ -54,11 +55,15 @@ code_of All thread bodies ids = if list_any (is_abandoned bodies) ids then 128 e
 
 -- what a wait that need not become pending is answered with, and what it leaves
 abbrev pub code_now : Mode → ℕ → List (Option Body) → List Id → Option ℕ
-code_now mode thread bodies ids = if list_ready mode thread bodies ids then Some (code_of mode thread bodies ids) else None
+code_now mode thread bodies ids = if list_ready mode thread bodies ids then Some
+    (code_of mode thread bodies ids) else None
 
 abbrev pub objects_now : Mode → ℕ → Objects → List Id → Objects
 objects_now mode thread objects ids =
-    if list_ready mode thread objects.bodies ids then record objects { bodies = bodies_after mode thread objects.bodies ids } else objects
+    if list_ready mode thread objects.bodies ids then record objects {
+      bodies =
+          bodies_after mode thread objects.bodies ids;
+    } else objects
 
 abbrev pub state_ready : ℕ → List (Option Body) → State → Bool
 state_ready thread bodies (Pending mode ids) = list_ready mode thread bodies ids
@@ -85,7 +90,10 @@ answered_wait wait code = Some (record wait { state = Answered code })
 -- the objects and waits after a wait took effect: it takes what it is ready for, is answered, and its blocks leave
 abbrev pub effect_of : Scene → ℕ → Wait → State → Scene
 effect_of scene number wait (Pending mode ids) = record {
-  objects = without_blocks (record scene.objects { bodies = bodies_after mode wait.thread scene.objects.bodies ids }) ids;
+  objects = without_blocks (record scene.objects {
+    bodies =
+        bodies_after mode wait.thread scene.objects.bodies ids;
+  }) ids;
   waits = slice_set scene.waits number (answered_wait wait (code_of mode wait.thread scene.objects.bodies ids));
 }
 effect_of scene number wait (Answered code) = scene
@@ -104,14 +112,16 @@ settled_within (suc n) scene =
     let number = first_ready scene.objects.bodies scene.waits in
     if nat_lt number (length scene.waits) then settled_within n (effect scene number) else scene
 
--- as long as a wait is ready, the one of least number takes effect: no more often than there are waits, which is enough (settled_is_settled)
+-- as long as a wait is ready, the one of least number takes effect: no more often than there are waits, which is enough
+-- (settled_is_settled)
 abbrev pub settled : Scene → Scene
 settled scene = settled_within (length scene.waits) scene
 
 -- the waits of these numbers, in this order, take effect where they are ready when their turn comes
 abbrev pub passed : List ℕ → Scene → Scene
 passed [] scene = scene
-passed (n ∷ ns) scene = if is_ready scene.objects.bodies (slice_index_or scene.waits n None) then passed ns (effect scene n) else passed ns scene
+passed (n ∷ ns) scene = if is_ready scene.objects.bodies (slice_index_or scene.waits n None) then passed ns
+    (effect scene n) else passed ns scene
 
 -- whether a wait is pending
 abbrev pub state_pending : State → Bool
@@ -170,7 +180,8 @@ numbered_ids waits (Some number) = ids_of (slice_index_or waits number None)
 abbrev pub thread_ids : ℕ → List (Option Wait) → List Id
 thread_ids thread waits = numbered_ids waits (number_of thread waits)
 
--- the waits by their numbers, from 0, which is never given; how many numbers may be given; and the moment that it is. A wait that is
+-- the waits by their numbers, from 0, which is never given; how many numbers may be given; and the moment that it is. A
+-- wait that is
 -- over is none, so the next number is the length of the list
 pub record WaitList : Type 0 where
   pub limit : ℕ
@@ -187,7 +198,10 @@ new_wait thread mode ids deadline = record { thread = thread; deadline = deadlin
 
 -- the waits with one more, which has the next number
 abbrev pub with_wait : WaitList → ℕ → Mode → List Id → Option ℕ → WaitList
-with_wait list thread mode ids deadline = record list { waits = list.waits ++ Some (new_wait thread mode ids deadline) ∷ [] }
+with_wait list thread mode ids deadline = record list {
+  waits =
+      list.waits ++ Some (new_wait thread mode ids deadline) ∷ [];
+}
 
 -- the waits where the next numbers, up to this one, are given to nobody
 abbrev pub skipped : ℕ → List (Option Wait) → List (Option Wait)
@@ -195,7 +209,10 @@ skipped last waits = waits ++ replicate (last + 1 - length waits) None
 
 -- the waits with one more, which is answered
 abbrev pub with_answered : WaitList → ℕ → Option ℕ → ℕ → WaitList
-with_answered list thread deadline code = record list { waits = list.waits ++ Some (record { thread = thread; deadline = deadline; state = Answered code }) ∷ [] }
+with_answered list thread deadline code = record list {
+  waits =
+      list.waits ++ Some (record { thread = thread; deadline = deadline; state = Answered code }) ∷ [];
+}
 
 -- the wait of a number, answered
 abbrev pub answered : Option Wait → ℕ → Option Wait
@@ -203,7 +220,10 @@ answered None code = None
 answered (Some wait) code = answered_wait wait code
 
 abbrev pub with_answer : WaitList → ℕ → ℕ → WaitList
-with_answer list number code = record list { waits = slice_set list.waits number (answered (slice_index_or list.waits number None) code) }
+with_answer list number code = record list {
+  waits =
+      slice_set list.waits number (answered (slice_index_or list.waits number None) code);
+}
 
 -- the waits without the one of a number
 abbrev pub without_wait : WaitList → ℕ → WaitList

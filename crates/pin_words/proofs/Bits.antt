@@ -23,7 +23,8 @@ phase_of-code_of Live = refl
 phase_of-code_of Retired = refl
 phase_of-code_of Closing = refl
 
-unpacked : (g c n : ℕ) → c < 4 → n < 1073741824 → (packed g c n / 4294967296 ≡ g) × (packed g c n / 1073741824 % 4 ≡ c) × (packed g c n % 1073741824 ≡ n)
+unpacked : (g c n : ℕ) → c < 4 → n < 1073741824 → (packed g c n / 4294967296 ≡ g) × (packed g c n / 1073741824 % 4 ≡ c)
+    × (packed g c n % 1073741824 ≡ n)
 unpacked g c n hc hn = (omega arith, omega arith, omega arith)
 
 pub decoded-encoded : (w : Word) → w.pins < 1073741824 → decoded (encoded w) ≡ w
@@ -31,17 +32,21 @@ decoded-encoded w h = let u = unpacked w.generation (code_of w.phase) w.pins (co
     λ k. record { generation = u.0 k; phase = (ap phase_of u.1 ∙ phase_of-code_of w.phase) k; pins = u.2 k }
 
 or_low : (g c d r : ℕ) → c < 4 → d < 4 → bit_or c d ≡ r → bit_or (g * 4 + c) d ≡ g * 4 + r
-or_low g c d r hc hd e = let f : bit_or (g * 2 ^ 2 + c) (0 * 2 ^ 2 + d) ≡ bit_or g 0 * 2 ^ 2 + bit_or c d = or_block 2 g 0 c d hc hd in
-    let z : 0 * 4 + d ≡ d = omega arith in subst (λ (x : ℕ). bit_or (g * 4 + c) x ≡ g * 4 + r) z (f ∙ λ k. or_zero_r g k * 4 + e k)
+or_low g c d r hc hd e = let f : bit_or (g * 2 ^ 2 + c) (0 * 2 ^ 2 + d) ≡ bit_or g 0 * 2 ^ 2 + bit_or c d =
+    or_block 2 g 0 c d hc hd in
+    let z : 0 * 4 + d ≡ d = omega arith in subst (λ (x : ℕ). bit_or (g * 4 + c) x ≡ g * 4 + r) z (f
+    ∙ λ k. or_zero_r g k * 4 + e k)
 
 -- Free becomes Live
 pub publish-or : (g n : ℕ) → n < 1073741824 → bit_or (packed g 0 n) 1073741824 ≡ packed g 1 n
-publish-or g n h = let e : bit_or ((g * 4 + 0) * 2 ^ 30 + n) (1 * 2 ^ 30 + 0) ≡ bit_or (g * 4 + 0) 1 * 2 ^ 30 + bit_or n 0 = or_block 30 (g * 4 + 0) 1 n 0 h (omega arith) in
+publish-or g n h = let e : bit_or ((g * 4 + 0) * 2 ^ 30 + n) (1 * 2 ^ 30 + 0) ≡ bit_or (g * 4 + 0) 1 * 2 ^ 30
+    + bit_or n 0 = or_block 30 (g * 4 + 0) 1 n 0 h (omega arith) in
     e ∙ λ k. or_low g 0 1 1 (omega arith) (omega arith) refl k * 1073741824 + or_zero_r n k
 
 -- Live becomes Closing
 pub close-or : (g n : ℕ) → n < 1073741824 → bit_or (packed g 1 n) 2147483648 ≡ packed g 3 n
-close-or g n h = let e : bit_or ((g * 4 + 1) * 2 ^ 30 + n) (2 * 2 ^ 30 + 0) ≡ bit_or (g * 4 + 1) 2 * 2 ^ 30 + bit_or n 0 = or_block 30 (g * 4 + 1) 2 n 0 h (omega arith) in
+close-or g n h = let e : bit_or ((g * 4 + 1) * 2 ^ 30 + n) (2 * 2 ^ 30 + 0) ≡ bit_or (g * 4 + 1) 2 * 2 ^ 30
+    + bit_or n 0 = or_block 30 (g * 4 + 1) 2 n 0 h (omega arith) in
     e ∙ λ k. or_low g 1 2 3 (omega arith) (omega arith) refl k * 1073741824 + or_zero_r n k
 
 -- one pin less

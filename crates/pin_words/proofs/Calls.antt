@@ -37,83 +37,121 @@ use Rattle.pin_words.specs.Tries.{HasOnlyLooked, WasStale, Tries, Answers}
 use Rattle.pin_words.proofs.ReaderSteps.{notes-step}
 use Rattle.pin_words.proofs.KeeperSteps.{stores-step}
 
-pub go-means : (max : ℕ) (id : Id) (w : Word) → verdict_of max id w ≡ Go → (w.phase ≡ Live) × (w.generation ≡ id.generation) × (w.pins ≢ max)
+pub go-means : (max : ℕ) (id : Id) (w : Word) → verdict_of max id w ≡ Go
+    → (w.phase ≡ Live) × (w.generation ≡ id.generation) × (w.pins ≢ max)
 go-means max id w e = grind (arith, common_steps)
 
 pub slot-known : (xs ys : List Slot) (i : ℕ) (y : Slot) → xs ≡ ys → i < length ys → y ≡ get_or ys i y → y ≡ slot_of xs i
-slot-known xs ys i y same inside is = is ∙ (get_or_any ys i y opening_slot inside ∙ ap (λ (z : List Slot). get_or z i opening_slot) (sym same))
+slot-known xs ys i y same inside is = is ∙ (get_or_any ys i y opening_slot inside
+    ∙ ap (λ (z : List Slot). get_or z i opening_slot) (sym same))
   where
     get_or_any : (ys : List Slot) (i : ℕ) (a b : Slot) → i < length ys → get_or ys i a ≡ get_or ys i b
     get_or_any [] i a b h = absurd (omega arith)
     get_or_any (z ∷ zs) zero a b h = refl
     get_or_any (z ∷ zs) (suc i) a b h = get_or_any zs i a b (omega arith)
 
-pub released-one : (n p : ℕ) (m m' : M) (id : Id) → p ≡ place_of id.slot → IsReaders m → released (step 0 p 1 0 none) m n m' → 0 < tally (same_id id) (reader_of m.0).held
+pub released-one : (n p : ℕ) (m m' : M) (id : Id) → p ≡ place_of id.slot → IsReaders m
+    → released (step 0 p 1 0 none) m n m' → 0 < tally (same_id id) (reader_of m.0).held
     → IsReaders m' × (reader_of m'.0 ≡ reader_released (reader_of m.0) id)
 released-one n p m m' id at reads does have =
     let did = does id.slot at in let r = reader_of m.0 in
-    let tells : Tells r id.slot n = subst (λ (v : View). Of v.reader (λ r. Tells r id.slot n)) (ap (λ (z : M). z.0) reads) did.1 in
+    let tells : Tells r id.slot n = subst (λ (v : View). Of v.reader (λ r. Tells r id.slot n))
+    (ap (λ (z : M). z.0) reads) did.1 in
     let now : m' ≡ (view None (Some (reader_released r (id_in id.slot n))), []) =
     did.0 ∙ ap (λ (z : M). (view z.0.keeper (on (λ r. reader_released r (id_in id.slot n)) z.0.reader), z.1)) reads in
-    let gen = (tells.held id have refl).0 in
-    (now ∙ ap (λ (z : M). (view None (Some (reader_of z.0)), [])) (sym now), ap (λ (z : M). reader_of z.0) now ∙ λ c. reader_released r record { slot = id.slot; generation = gen c })
+    let gen = (tells.held id have refl).0 in (
+      now ∙ ap (λ (z : M). (view None (Some (reader_of z.0)), [])) (sym now),
+      ap (λ (z : M). reader_of z.0) now
+          ∙ λ c. reader_released r record { slot = id.slot; generation = gen c },
+    )
 
 -- what an exchange that won leaves to its caller
-pub got-one : (n : ℕ) (m m' : M) (id : Id) → IsReaders m → m' ≡ (got_view m.0 id.slot n, m.1) → (decoded n).generation ≡ id.generation → IsReaders m' × (reader_of m'.0 ≡ reader_got (reader_of m.0) id n)
+pub got-one : (n : ℕ) (m m' : M) (id : Id) → IsReaders m → m' ≡ (got_view m.0 id.slot n, m.1)
+    → (decoded n).generation ≡ id.generation → IsReaders m' × (reader_of m'.0 ≡ reader_got (reader_of m.0) id n)
 got-one n m m' id reads did gen =
-    let now : m' ≡ (view None (Some (reader_got (reader_of m.0) (id_in id.slot n) n)), []) = did ∙ ap (λ (z : M). (got_view z.0 id.slot n, z.1)) reads in
-    (now ∙ ap (λ (z : M). (view None (Some (reader_of z.0)), [])) (sym now), ap (λ (z : M). reader_of z.0) now ∙ λ c. reader_got (reader_of m.0) record { slot = id.slot; generation = gen c } n)
+    let now : m' ≡ (view None (Some (reader_got (reader_of m.0) (id_in id.slot n) n)), []) =
+    did ∙ ap (λ (z : M). (got_view z.0 id.slot n, z.1)) reads in (
+      now ∙ ap (λ (z : M). (view None (Some (reader_of z.0)), [])) (sym now),
+      ap (λ (z : M). reader_of z.0) now
+          ∙ λ c. reader_got (reader_of m.0) record { slot = id.slot; generation = gen c } n,
+    )
 
 -- what a change of the one part of a seat leaves to its caller
-pub read-one : (f : ReaderView → ReaderView) (m m' : M) → IsReaders m → m' ≡ (view m.0.keeper (on f m.0.reader), m.1) → IsReaders m' × (reader_of m'.0 ≡ f (reader_of m.0))
+pub read-one : (f : ReaderView → ReaderView) (m m' : M) → IsReaders m → m' ≡ (view m.0.keeper (on f m.0.reader), m.1)
+    → IsReaders m' × (reader_of m'.0 ≡ f (reader_of m.0))
 read-one f m m' reads did =
-    let now : m' ≡ (view None (Some (f (reader_of m.0))), []) = did ∙ ap (λ (z : M). (view z.0.keeper (on f z.0.reader), z.1)) reads in
+    let now : m' ≡ (view None (Some (f (reader_of m.0))), []) =
+    did ∙ ap (λ (z : M). (view z.0.keeper (on f z.0.reader), z.1)) reads in
     (now ∙ ap (λ (z : M). (view None (Some (reader_of z.0)), [])) (sym now), ap (λ (z : M). reader_of z.0) now)
 
-pub kept-one : (f : KeeperView → KeeperView) (m m' : M) → IsKeepers m → m' ≡ (view (on f m.0.keeper) m.0.reader, m.1) → IsKeepers m' × (keeper_of m'.0 ≡ f (keeper_of m.0))
+pub kept-one : (f : KeeperView → KeeperView) (m m' : M) → IsKeepers m → m' ≡ (view (on f m.0.keeper) m.0.reader, m.1)
+    → IsKeepers m' × (keeper_of m'.0 ≡ f (keeper_of m.0))
 kept-one f m m' keeps did =
-    let now : m' ≡ (view (Some (f (keeper_of m.0))) None, []) = did ∙ ap (λ (z : M). (view (on f z.0.keeper) z.0.reader, z.1)) keeps in
+    let now : m' ≡ (view (Some (f (keeper_of m.0))) None, []) =
+    did ∙ ap (λ (z : M). (view (on f z.0.keeper) z.0.reader, z.1)) keeps in
     (now ∙ ap (λ (z : M). (view (Some (keeper_of z.0)) None, [])) (sym now), ap (λ (z : M). keeper_of z.0) now)
 
 -- what a store leaves to its caller
-pub stored-one : (n : ℕ) (m m' : M) (s w : ℕ) (d : Descr) → IsKeepers m → ((k : KeeperView) (i : ℕ) (e : Descr) → m.0.keeper ≡ Some k → w ≡ descr_place i → descr_code.IsGiven e → n ≡ descr_code.encoded e → m' ≡ (view (Some (keeper_stored k i e)) m.0.reader, m.1))
-    → w ≡ descr_place s → descr_code.IsGiven d → n ≡ descr_code.encoded d → IsKeepers m' × (keeper_of m'.0 ≡ keeper_stored (keeper_of m.0) s d)
+pub stored-one : (n : ℕ) (m m' : M) (s w : ℕ) (d : Descr) → IsKeepers m
+    → ((k : KeeperView) (i : ℕ) (e : Descr) → m.0.keeper ≡ Some k → w ≡ descr_place i → descr_code.IsGiven e
+    → n ≡ descr_code.encoded e → m' ≡ (view (Some (keeper_stored k i e)) m.0.reader, m.1))
+    → w ≡ descr_place s → descr_code.IsGiven d → n ≡ descr_code.encoded d
+    → IsKeepers m' × (keeper_of m'.0 ≡ keeper_stored (keeper_of m.0) s d)
 stored-one n m m' s w d mine did is valid n-is =
-    let now : m' ≡ (view (Some (keeper_stored (keeper_of m.0) s d)) None, []) = did (keeper_of m.0) s d (ap (λ (z : M). z.0.keeper) mine) is valid n-is ∙ ap (λ (z : M). (view (Some (keeper_stored (keeper_of m.0) s d)) z.0.reader, z.1)) mine in
+    let now : m' ≡ (view (Some (keeper_stored (keeper_of m.0) s d)) None, []) =
+    did (keeper_of m.0) s d (ap (λ (z : M). z.0.keeper) mine) is valid n-is
+    ∙ ap (λ (z : M). (view (Some (keeper_stored (keeper_of m.0) s d)) z.0.reader, z.1)) mine in
     (now ∙ ap (λ (z : M). (view (Some (keeper_of z.0)) None, [])) (sym now), ap (λ (z : M). keeper_of z.0) now)
 
-pub stores-there : (key : Shape) (slots id i p x : ℕ) (me : M) (v : KeeperView) (d : Descr) (k : Shape) → p ≡ descr_place i → key ≡ k → me.0.keeper ≡ Some v → i < k.slots → (slot_of v.slots i).phase ≡ Free → descr_code.IsGiven d → x ≡ descr_code.encoded d
+pub stores-there : (key : Shape) (slots id i p x : ℕ) (me : M) (v : KeeperView) (d : Descr) (k : Shape)
+    → p ≡ descr_place i → key ≡ k → me.0.keeper ≡ Some v → i < k.slots → (slot_of v.slots i).phase ≡ Free
+    → descr_code.IsGiven d → x ≡ descr_code.encoded d
     → Allows (Shown key) slots id me p (λ _. x) (λ _. stored (step slots p x 0 none) me x)
-stores-there key slots id i p x me v d k at same is inside free descr-given x-is = subst (λ (z : Shape × ℕ). Allows (Shown z.0) slots id me z.1 (λ _. x) (λ _. stored (step slots z.1 x 0 none) me x)) (λ c. (sym same c, sym at c)) (stores-step k slots id i x me v d is inside free descr-given x-is)
+stores-there key slots id i p x me v d k at same is inside free descr-given x-is =
+    subst (λ (z : Shape × ℕ). Allows (Shown z.0) slots id me z.1 (λ _. x) (λ _. stored (step slots z.1 x 0 none) me x))
+    (λ c. (sym same c, sym at c)) (stores-step k slots id i x me v d is inside free descr-given x-is)
 
-pub notes-there : (key : Shape) (slots id p : ℕ) (me : M) (r : ReaderView) (y : Id) (k : Shape) → p ≡ descr_place y.slot → key ≡ k → me.0.reader ≡ Some r → y.slot < k.slots → 0 < tally (same_id y) r.held
+pub notes-there : (key : Shape) (slots id p : ℕ) (me : M) (r : ReaderView) (y : Id) (k : Shape) → p ≡ descr_place y.slot
+    → key ≡ k → me.0.reader ≡ Some r → y.slot < k.slots → 0 < tally (same_id y) r.held
     → Allows (Shown key) slots id me p (λ n. n) (noted (step slots p 0 0 none) me)
-notes-there key slots id p me r y k at same is inside have = subst (λ (z : Shape × ℕ). Allows (Shown z.0) slots id me z.1 (λ n. n) (noted (step slots z.1 0 0 none) me)) (λ c. (sym same c, sym at c)) (notes-step k slots id y.slot me r y is refl inside have)
+notes-there key slots id p me r y k at same is inside have =
+    subst (λ (z : Shape × ℕ). Allows (Shown z.0) slots id me z.1 (λ n. n) (noted (step slots z.1 0 0 none) me))
+    (λ c. (sym same c, sym at c)) (notes-step k slots id y.slot me r y is refl inside have)
 
 -- a held Id is one of these, or the new one
-pub inside-more : (n : ℕ) (id : Id) (xs : List Id) → id.slot < n → ((x : Id) → 0 < tally (same_id x) xs → x.slot < n) → (x : Id) → 0 < tally (same_id x) (xs ++ id ∷ []) → x.slot < n
+pub inside-more : (n : ℕ) (id : Id) (xs : List Id) → id.slot < n → ((x : Id) → 0 < tally (same_id x) xs → x.slot < n)
+    → (x : Id) → 0 < tally (same_id x) (xs ++ id ∷ []) → x.slot < n
 inside-more n id xs lt all x have = cases (same_id x id) refl
   where
     cases : (b : Bool) → same_id x id ≡ b → x.slot < n
     cases true e = let same : id.slot ≡ x.slot = grind (arith, common_steps) in omega arith
-    cases false e = let c = count-snoc (same_id x) xs id in let off : weight (same_id x id) ≡ 0 = ap weight e in all x (omega arith)
+    cases false e = let c = count-snoc (same_id x) xs id in let off : weight (same_id x id) ≡ 0 = ap weight e in
+        all x (omega arith)
 
-pub inside-less : (n : ℕ) (id : Id) (xs : List Id) → ((x : Id) → 0 < tally (same_id x) xs → x.slot < n) → (x : Id) → 0 < tally (same_id x) (drop_first (same_id id) xs) → x.slot < n
+pub inside-less : (n : ℕ) (id : Id) (xs : List Id) → ((x : Id) → 0 < tally (same_id x) xs → x.slot < n) → (x : Id)
+    → 0 < tally (same_id x) (drop_first (same_id id) xs) → x.slot < n
 inside-less n id xs all x have = let le = count-drop-le (same_id x) (same_id id) xs in all x (omega arith)
 
-pub id-inside : (n : ℕ) (id : Id) (xs ys : List Id) → ys ≡ xs → 0 < tally (same_id id) ys → ((x : Id) → 0 < tally (same_id x) xs → x.slot < n) → id.slot < n
+pub id-inside : (n : ℕ) (id : Id) (xs ys : List Id) → ys ≡ xs → 0 < tally (same_id id) ys
+    → ((x : Id) → 0 < tally (same_id x) xs → x.slot < n) → id.slot < n
 id-inside n id xs ys same have all = all id (subst (λ (z : List Id). 0 < tally (same_id id) z) same have)
 
-age-stale : (max : ℕ) (id : Id) (g n : ℕ) (p : Phase) (b : Word) → g * 4 + rank_of p ≤ b.generation * 4 + rank_of b.phase → (p ≡ Retired → b.phase ≡ Retired) → verdict_of max id record { generation = g; phase = p; pins = n } ≡ Stale → verdict_of max id b ≡ Stale
+age-stale : (max : ℕ) (id : Id) (g n : ℕ) (p : Phase) (b : Word)
+    → g * 4 + rank_of p ≤ b.generation * 4 + rank_of b.phase → (p ≡ Retired → b.phase ≡ Retired)
+    → verdict_of max id record { generation = g; phase = p; pins = n } ≡ Stale → verdict_of max id b ≡ Stale
 age-stale max id g n Retired b le last e = let r : b.phase ≡ Retired = last refl in grind (arith, common_steps)
 age-stale max id g n Free b le last e = grind (arith, common_steps)
 age-stale max id g n Live b le last e = grind (arith, common_steps)
 age-stale max id g n Closing b le last e = grind (arith, common_steps)
 
 -- what was stale is stale at each later word
-pub stays-stale : (max : ℕ) (id : Id) (ls : List Look) (n : ℕ) → WasStale max id ls → Behind ls id.slot n → verdict_of max id (decoded n) ≡ Stale
+pub stays-stale : (max : ℕ) (id : Id) (ls : List Look) (n : ℕ) → WasStale max id ls → Behind ls id.slot n
+    → verdict_of max id (decoded n) ≡ Stale
 stays-stale max id [] n h b = absurd h
-stays-stale max id (l ∷ ls) n h b = ⊎_elim (λ (t : (l.slot ≡ id.slot) × (verdict_of max id (decoded l.word) ≡ Stale)). age-stale max id (decoded l.word).generation (decoded l.word).pins (decoded l.word).phase (decoded n) (b.0 t.0).0 (b.0 t.0).1 t.1) (λ (t : WasStale max id ls). stays-stale max id ls n t b.1) h
+stays-stale max id (l ∷ ls) n h b = ⊎_elim (λ (t : (l.slot ≡ id.slot)
+    × (verdict_of max id (decoded l.word) ≡ Stale)). age-stale max id (decoded l.word).generation (decoded l.word).pins
+    (decoded l.word).phase (decoded n) (b.0 t.0).0 (b.0 t.0).1 t.1)
+    (λ (t : WasStale max id ls). stays-stale max id ls n t b.1) h
 
 -- a number is at least another, or below it
 at-least : (m n : ℕ) → (m ≤ n) ⊎ (n < m)
@@ -130,31 +168,41 @@ lost-onward r r' id seen t = ⊎_elim
     (λ (out : r.shape.slots ≤ id.slot). absurd (let e = (t.no_slot out).0 in cc))
     (λ (inside : id.slot < r.shape.slots). ⊎_elim
     (λ (full : 16 ≤ length r.held). absurd (let e = (t.full inside full).0 in cc))
-    (λ (room : length r.held < 16). let tried = t.tried inside room in answer (verdict_of r.shape.max_pins id (decoded tried.0)) tried.0 tried.2)
+    (λ (room : length r.held < 16). let tried = t.tried inside room in
+    answer (verdict_of r.shape.max_pins id (decoded tried.0)) tried.0 tried.2)
     (at-least 16 (length r.held)))
     (at-least r.shape.slots id.slot)
   where
-    answer : (v : Verdict) (n : ℕ) → Answers v r id n (Err (fault.Busy seen)) r' → (n : ℕ) × (m : ℕ) × (r' ≡ reader_looked (reader_looked r id.slot n) id.slot m) × (seen ≡ decoded m) × NoLater n m
+    answer : (v : Verdict) (n : ℕ) → Answers v r id n (Err (fault.Busy seen)) r'
+        → (n : ℕ) × (m : ℕ) × (r' ≡ reader_looked (reader_looked r id.slot n) id.slot m) × (seen ≡ decoded m)
+        × NoLater n m
     answer Unborn n a = absurd (let e = a.0 in cc)
     answer Stale n a = absurd (let e = a.0 in cc)
     answer PinsFull n a = absurd (let e = a.0 in cc)
-    answer Go n a = dite (ℕ_discrete a.0 n) (λ same. absurd (let e = (a.2 same).0 in cc)) (λ other. (n, a.0, (a.3 other).1, (let e = (a.3 other).0 in cc), a.1.looks.0 refl))
+    answer Go n a = dite (ℕ_discrete a.0 n) (λ same. absurd (let e = (a.2 same).0 in cc))
+        (λ other. (n, a.0, (a.3 other).1, (let e = (a.3 other).0 in cc), a.1.looks.0 refl))
 
-pub busy-looked : (r r' : ReaderView) (id : Id) (seen : Word) → Tries r id (Err (fault.Busy seen)) r' → HasOnlyLooked r r'
-busy-looked r r' id seen t = let found = lost-onward r r' id seen t in (look id.slot found.1 ∷ look id.slot found.0 ∷ [], found.2)
+pub busy-looked : (r r' : ReaderView) (id : Id) (seen : Word) → Tries r id (Err (fault.Busy seen)) r'
+    → HasOnlyLooked r r'
+busy-looked r r' id seen t = let found = lost-onward r r' id seen t in
+    (look id.slot found.1 ∷ look id.slot found.0 ∷ [], found.2)
 
 pub looked-more : (a b c : ReaderView) → HasOnlyLooked a b → HasOnlyLooked b c → HasOnlyLooked a c
 looked-more a b c g h = (
   h.0 ++ g.0,
-  h.1 ∙ (ap (λ (z : ReaderView). reader_with z z.held z.notes (h.0 ++ z.looks)) g.1 ∙ ap (reader_with a a.held a.notes) (sym (append_assoc h.0 g.0 a.looks))),
+  h.1 ∙ (ap (λ (z : ReaderView). reader_with z z.held z.notes (h.0 ++ z.looks)) g.1
+      ∙ ap (reader_with a a.held a.notes) (sym (append_assoc h.0 g.0 a.looks))),
 )
 
 -- what a reader found stale it never pins again
-pub stale-answers : (r r' : ReaderView) (id : Id) (res : Result (Unit {0}) PinFault) → Tries r id res r' → id.slot < r.shape.slots → WasStale r.shape.max_pins id r.looks → (res ≡ Err fault.Stale) ⊎ (res ≡ Err fault.HeldFull)
+pub stale-answers : (r r' : ReaderView) (id : Id) (res : Result (Unit {0}) PinFault) → Tries r id res r'
+    → id.slot < r.shape.slots → WasStale r.shape.max_pins id r.looks
+    → (res ≡ Err fault.Stale) ⊎ (res ≡ Err fault.HeldFull)
 stale-answers r r' id res t inside was = ⊎_elim
     (λ (full : 16 ≤ length r.held). inr (t.full inside full).0)
     (λ (room : length r.held < 16). let tried = t.tried inside room in
-    inl (answer (verdict_of r.shape.max_pins id (decoded tried.0)) (stays-stale r.shape.max_pins id r.looks tried.0 was tried.1.looks) tried.0 tried.2))
+    inl (answer (verdict_of r.shape.max_pins id (decoded tried.0))
+    (stays-stale r.shape.max_pins id r.looks tried.0 was tried.1.looks) tried.0 tried.2))
     (at-least 16 (length r.held))
   where
     answer : (v : Verdict) → v ≡ Stale → (n : ℕ) → Answers v r id n res r' → res ≡ Err fault.Stale

@@ -23,7 +23,8 @@ same_turned : (a b : Id) → same_id a b ≡ same_id b a
 same_turned a b = λ k. turned a.slot b.slot k && turned a.generation b.generation k
   where
     turned : (m n : ℕ) → (m == n) ≡ (n == m)
-    turned m n = dite (ℕ_discrete m n) (λ e. eq-eqb m n e ∙ sym (eq-eqb n m (sym e))) (λ ne. ne_eqb m n ne ∙ sym (ne_eqb n m (λ e. ne (sym e))))
+    turned m n = dite (ℕ_discrete m n) (λ e. eq-eqb m n e ∙ sym (eq-eqb n m (sym e))) (λ ne. ne_eqb m n ne
+        ∙ sym (ne_eqb n m (λ e. ne (sym e))))
 
 pub own_copy : (r : ℕ) (id : Id) (k : ℕ) (x : Id) → is_copy r x (hold_of r id k) ≡ same_id x id
 own_copy r id k x = ap (λ (b : Bool). b && same_id id x) (eq-eqb r r refl) ∙ same_turned id x
@@ -38,28 +39,41 @@ is_itself : (x : Id) → same_id x x ≡ true
 is_itself x = grind (arith, common_steps)
 
 -- a copy more
-pub holds-more : (w : WorldState) (r : ℕ) (held : List Id) (id : Id) (k : ℕ) → HoldsJust w r held → (x : Id) → tally (is_copy r x) (with_hold (hold_of r id k) w.holders) ≡ tally (same_id x) (held ++ id ∷ [])
-holds-more w r held id k h x = count-with_hold (is_copy r x) (hold_of r id k) w.holders ∙ ((λ i. h x i + weight (own_copy r id k x i)) ∙ sym (count-snoc (same_id x) held id))
+pub holds-more : (w : WorldState) (r : ℕ) (held : List Id) (id : Id) (k : ℕ) → HoldsJust w r held → (x : Id)
+    → tally (is_copy r x) (with_hold (hold_of r id k) w.holders) ≡ tally (same_id x) (held ++ id ∷ [])
+holds-more w r held id k h x = count-with_hold (is_copy r x) (hold_of r id k) w.holders
+    ∙ ((λ i. h x i + weight (own_copy r id k x i)) ∙ sym (count-snoc (same_id x) held id))
 
-pub holds-same-more : (w : WorldState) (q r : ℕ) (id : Id) (k : ℕ) → r ≢ q → (x : Id) → tally (is_copy q x) (with_hold (hold_of r id k) w.holders) ≡ copies w q x
-holds-same-more w q r id k n x = let c = count-with_hold (is_copy q x) (hold_of r id k) w.holders in let z : weight (is_copy q x (hold_of r id k)) ≡ 0 = ap weight (other_copy q r id k x n) in omega arith
+pub holds-same-more : (w : WorldState) (q r : ℕ) (id : Id) (k : ℕ) → r ≢ q → (x : Id)
+    → tally (is_copy q x) (with_hold (hold_of r id k) w.holders) ≡ copies w q x
+holds-same-more w q r id k n x = let c = count-with_hold (is_copy q x) (hold_of r id k) w.holders in
+    let z : weight (is_copy q x (hold_of r id k)) ≡ 0 = ap weight (other_copy q r id k x n) in omega arith
 
 -- a copy less
 pub holds-less : (w : WorldState) (r : ℕ) (held : List Id) (id : Id) → IsSafe w → HoldsJust w r held → 0 < copies w r id
-    → (x : Id) → tally (is_copy r x) (drop_first (is_hold (last_copy w r id)) w.holders) ≡ tally (same_id x) (drop_first (same_id id) held)
-holds-less w r held id safe h have x = let c = release-count w r id safe have (is_copy r x) in let same : weight (is_copy r x (last_copy w r id)) ≡ weight (same_id x id) = ap weight (own_copy r id (copies w r id) x) in
+    → (x : Id) → tally (is_copy r x) (drop_first (is_hold (last_copy w r id)) w.holders)
+    ≡ tally (same_id x) (drop_first (same_id id) held)
+holds-less w r held id safe h have x = let c = release-count w r id safe have (is_copy r x) in
+    let same : weight (is_copy r x (last_copy w r id)) ≡ weight (same_id x id) =
+    ap weight (own_copy r id (copies w r id) x) in
     let some_there : 0 < tally (same_id id) held = (let e = h id in omega arith) in
-    let d = count-drop (same_id x) (same_id id) (same_id x id) held (λ y e. ap (same_id x) (same_of_id id y e)) some_there in
+    let d = count-drop (same_id x) (same_id id) (same_id x id) held
+    (λ y e. ap (same_id x) (same_of_id id y e)) some_there in
     let e = h x in omega arith
 
-pub holds-same-less : (w : WorldState) (q r : ℕ) (id : Id) → IsSafe w → 0 < copies w r id → r ≢ q → (x : Id) → tally (is_copy q x) (drop_first (is_hold (last_copy w r id)) w.holders) ≡ copies w q x
-holds-same-less w q r id safe have n x = let c = release-count w r id safe have (is_copy q x) in let z : weight (is_copy q x (last_copy w r id)) ≡ 0 = ap weight (other_copy q r id (copies w r id) x n) in omega arith
+pub holds-same-less : (w : WorldState) (q r : ℕ) (id : Id) → IsSafe w → 0 < copies w r id → r ≢ q → (x : Id)
+    → tally (is_copy q x) (drop_first (is_hold (last_copy w r id)) w.holders) ≡ copies w q x
+holds-same-less w q r id safe have n x = let c = release-count w r id safe have (is_copy q x) in
+    let z : weight (is_copy q x (last_copy w r id)) ≡ 0 = ap weight (other_copy q r id (copies w r id) x n) in
+    omega arith
 
 -- where each held Id that passes the one passes the other
-count-in : (p q : Id → Bool) (xs : List Id) → ((x : Id) → 0 < tally (same_id x) xs → p x ≡ true → q x ≡ true) → tally p xs ≤ tally q xs
+count-in : (p q : Id → Bool) (xs : List Id) → ((x : Id) → 0 < tally (same_id x) xs → p x ≡ true → q x ≡ true)
+    → tally p xs ≤ tally q xs
 count-in p q [] h = omega arith
 count-in p q (y ∷ ys) h = let ih = count-in p q ys (λ x have. h x (omega arith)) in
-    let here : weight (p y) ≤ weight (q y) = step (p y) (q y) (h y (let one : weight (same_id y y) ≡ 1 = ap weight (is_itself y) in omega arith)) in omega arith
+    let here : weight (p y) ≤ weight (q y) = step (p y) (q y) (h y (let one : weight (same_id y y) ≡ 1 =
+    ap weight (is_itself y) in omega arith)) in omega arith
   where
     step : (a b : Bool) → (a ≡ true → b ≡ true) → weight a ≤ weight b
     step false true e = omega arith
@@ -74,14 +88,16 @@ is-there : (s g : ℕ) (x : Id) → x.slot ≡ s → g ≡ x.generation → same
 is-there s g x a b = grind (arith, common_steps)
 
 -- a reader has no more copies at a slot than the slot has pins
-pub held-le-pins : (w : WorldState) (r s : ℕ) (held : List Id) → IsSafe w → HoldsJust w r held → tally (sits s) held ≤ pins w s
+pub held-le-pins : (w : WorldState) (r s : ℕ) (held : List Id) → IsSafe w → HoldsJust w r held
+    → tally (sits s) held ≤ pins w s
 held-le-pins w r s held safe h =
     let all : tally (sits s) held ≤ tally (same_id (id_at w s)) held = count-in (sits s) (same_id (id_at w s)) held
     (λ x have e. let there = sits-slot s x e in let known = safe.held r x (let c = h x in omega arith) in
     is-there s (at w s).generation x there (ap (λ (z : ℕ). (at w z).generation) (sym there) ∙ known.1)) in
     let own = h (id_at w s) in let le = copies-le-pins w r (id_at w s) in omega arith
 
-pub has-copies : (w : WorldState) (r : ReaderView) (x : Id) → HoldsJust w r.number r.held → 0 < tally (same_id x) r.held → 0 < copies w r.number x
+pub has-copies : (w : WorldState) (r : ReaderView) (x : Id) → HoldsJust w r.number r.held → 0 < tally (same_id x) r.held
+    → 0 < copies w r.number x
 has-copies w r x held have = let e = held x in omega arith
 
 pub noted-left : (w : WorldState) (held : List Id) (xs : List Note) → AreNoted w xs → AreNoted w (notes_of held xs)
@@ -93,13 +109,17 @@ noted-left w held (x ∷ xs) h = cases (nat_lt 0 (tally (same_id x.id) held)) (n
     cases false ih = ih
 
 -- an Id that is published once has one descriptor
-count-two : (id : Id) (d e : Descr) (ps : List (Id × Descr)) → same_descr d e ≡ false → tally (is_with id d) ps + tally (is_with id e) ps ≤ tally (is_of id) ps
+count-two : (id : Id) (d e : Descr) (ps : List (Id × Descr)) → same_descr d e ≡ false
+    → tally (is_with id d) ps + tally (is_with id e) ps ≤ tally (is_of id) ps
 count-two id d e [] n = omega arith
-count-two id d e (p ∷ ps) n = let ih = count-two id d e ps n in let one = here (same_id p.0 id) (same_descr p.1 d) (same_descr p.1 e) refl refl in omega arith
+count-two id d e (p ∷ ps) n = let ih = count-two id d e ps n in
+    let one = here (same_id p.0 id) (same_descr p.1 d) (same_descr p.1 e) refl refl in omega arith
   where
     here : (a b c : Bool) → same_descr p.1 d ≡ b → same_descr p.1 e ≡ c → weight (a && b) + weight (a && c) ≤ weight a
     here false b c x y = omega arith
-    here true true true x y = absurd (let same : d ≡ e = sym (same_of_descr p.1 d x) ∙ same_of_descr p.1 e y in let off : same_descr d d ≡ false = ap (same_descr d) same ∙ n in let on : same_descr d d ≡ true = grind (arith, common_steps) in cc)
+    here true true true x y = absurd (let same : d ≡ e = sym (same_of_descr p.1 d x) ∙ same_of_descr p.1 e y in
+        let off : same_descr d d ≡ false = ap (same_descr d) same ∙ n in
+        let on : same_descr d d ≡ true = grind (arith, common_steps) in cc)
     here true true false x y = omega arith
     here true false true x y = omega arith
     here true false false x y = omega arith
@@ -113,7 +133,8 @@ one-descr w id d e safe a b = cases (same_descr d e) refl
 
 -- a copy that was just taken is there
 pub got-held : (id : Id) (held : List Id) → 0 < tally (same_id id) (held ++ id ∷ [])
-got-held id held = let c = count-snoc (same_id id) held id in let one : weight (same_id id id) ≡ 1 = ap weight (is_itself id) in omega arith
+got-held id held = let c = count-snoc (same_id id) held id in
+    let one : weight (same_id id id) ≡ 1 = ap weight (is_itself id) in omega arith
 
 -- where a test finds a place, an element passes it
 pub found-there : {X : Type 0} (p : X → Bool) (xs : List X) (n : ℕ) (d : X) → position p xs ≡ Some n → 0 < tally p xs

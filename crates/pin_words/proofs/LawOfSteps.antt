@@ -39,125 +39,202 @@ can-by : (w : WorldState) (e : Event) → refusal w e ≡ None → Can w e (afte
 can-by w e can = (can, refl)
 
 -- a part that is known is the one that is put back
-read-as : (k : Shape) (s : Table) (w' : WorldState) (i n j : ℕ) (v : View) (g : ReaderView → ReaderView) (r : ReaderView) → v.reader ≡ Some r
-    → IsShown k record { words = set s.words i n; homes = s.homes; views = set s.views j (view v.keeper (on g v.reader)) } w' → IsShown k (stepped s i n j (view v.keeper (Some (g r)))) w'
-read-as k s w' i n j v g r is = subst (λ (z : Option ReaderView). IsShown k record { words = set s.words i n; homes = s.homes; views = set s.views j (view v.keeper (on g z)) } w') is
+read-as : (k : Shape) (s : Table) (w' : WorldState) (i n j : ℕ) (v : View) (g : ReaderView
+    → ReaderView) (r : ReaderView) → v.reader ≡ Some r
+    → IsShown k record {
+      words = set s.words i n;
+      homes = s.homes;
+      views = set s.views j (view v.keeper (on g v.reader));
+    } w'
+    → IsShown k (stepped s i n j (view v.keeper (Some (g r)))) w'
+read-as k s w' i n j v g r is = subst (λ (z : Option ReaderView). IsShown k record {
+  words = set s.words i n;
+  homes = s.homes;
+  views = set s.views j (view v.keeper (on g z));
+} w') is
 
-kept-as : (k : Shape) (s : Table) (w' : WorldState) (i n j : ℕ) (v : View) (g : KeeperView → KeeperView) (q : KeeperView) → v.keeper ≡ Some q
-    → IsShown k record { words = set s.words i n; homes = s.homes; views = set s.views j (view (on g v.keeper) v.reader) } w' → IsShown k (stepped s i n j (view (Some (g q)) v.reader)) w'
-kept-as k s w' i n j v g q is = subst (λ (z : Option KeeperView). IsShown k record { words = set s.words i n; homes = s.homes; views = set s.views j (view (on g z) v.reader) } w') is
+kept-as : (k : Shape) (s : Table) (w' : WorldState) (i n j : ℕ) (v : View) (g : KeeperView
+    → KeeperView) (q : KeeperView) → v.keeper ≡ Some q
+    → IsShown k record {
+      words = set s.words i n;
+      homes = s.homes;
+      views = set s.views j (view (on g v.keeper) v.reader);
+    } w'
+    → IsShown k (stepped s i n j (view (Some (g q)) v.reader)) w'
+kept-as k s w' i n j v g q is = subst (λ (z : Option KeeperView). IsShown k record {
+  words = set s.words i n;
+  homes = s.homes;
+  views = set s.views j (view (on g z) v.reader);
+} w') is
 
-pub law-load : (k : Shape) (s : Table) (w : WorldState) (j i : ℕ) (v : View) (r : ReaderView) → IsShown k s w → ReaderAt s j v r → i < k.slots
-    → StepsBy k w (Load r.number i) (stepped s (place_of i) (get_or s.words (place_of i) 0) j (view v.keeper (Some (reader_looked r i (get_or s.words (place_of i) 0)))))
+pub law-load : (k : Shape) (s : Table) (w : WorldState) (j i : ℕ) (v : View) (r : ReaderView) → IsShown k s w
+    → ReaderAt s j v r → i < k.slots
+    → StepsBy k w (Load r.number i) (stepped s (place_of i) (get_or s.words (place_of i) 0) j
+    (view v.keeper (Some (reader_looked r i (get_or s.words (place_of i) 0)))))
 law-load k s w j i v r sh here inside = record {
   can = can-by w (Load r.number i) (may_load w r.number i (in-shape k s w sh i inside));
-  shown = read-as k s w (place_of i) (get_or s.words (place_of i) 0) j v (λ z. reader_looked z i (get_or s.words (place_of i) 0)) r here.part (looks-shown k s w sh j i v here.seated inside);
+  shown = read-as k s w (place_of i) (get_or s.words (place_of i) 0) j v
+      (λ z. reader_looked z i (get_or s.words (place_of i) 0)) r here.part
+      (looks-shown k s w sh j i v here.seated inside);
 }
 
-pub law-pin : (k : Shape) (s : Table) (w : WorldState) (j i : ℕ) (v : View) (r : ReaderView) → IsShown k s w → ReaderAt s j v r → i < k.slots → (decoded (get_or s.words (place_of i) 0)).phase ≡ Live → (decoded (get_or s.words (place_of i) 0)).pins ≢ k.max_pins
-    → StepsBy k w (Pin r.number i (decoded (get_or s.words (place_of i) 0))) (stepped s (place_of i) (get_or s.words (place_of i) 0 + 1) j (view v.keeper (Some (reader_got r (id_in i (get_or s.words (place_of i) 0)) (get_or s.words (place_of i) 0)))))
+pub law-pin : (k : Shape) (s : Table) (w : WorldState) (j i : ℕ) (v : View) (r : ReaderView) → IsShown k s w
+    → ReaderAt s j v r → i < k.slots → (decoded (get_or s.words (place_of i) 0)).phase ≡ Live
+    → (decoded (get_or s.words (place_of i) 0)).pins ≢ k.max_pins
+    → StepsBy k w (Pin r.number i (decoded (get_or s.words (place_of i) 0)))
+    (stepped s (place_of i) (get_or s.words (place_of i) 0 + 1) j
+    (view v.keeper (Some (reader_got r (id_in i (get_or s.words (place_of i) 0)) (get_or s.words (place_of i) 0)))))
 law-pin k s w j i v r sh here inside live room = record {
-  can = can-by w (Pin r.number i (decoded (get_or s.words (place_of i) 0))) (subst (λ (z : Word). refusal w (Pin r.number i z) ≡ None) (sym (found-is k s w sh i inside)) (may_pin_found k s w sh r.number i inside live room));
+  can = can-by w (Pin r.number i (decoded (get_or s.words (place_of i) 0)))
+      (subst (λ (z : Word). refusal w (Pin r.number i z) ≡ None) (sym (found-is k s w sh i inside))
+      (may_pin_found k s w sh r.number i inside live room));
   shown = reader-pins k s w sh j i v r here.seated here.part inside live room;
 }
 
-held-inside : (k : Shape) (s : Table) (w : WorldState) (sh : IsShown k s w) (j : ℕ) (v : View) (r : ReaderView) (id : Id) → ReaderAt s j v r → 0 < tally (same_id id) r.held → (id.slot < k.slots) × (0 < copies w r.number id)
-held-inside k s w sh j v r id here have = let mine = of-here (OfReader w sh.next sh.owner j) v.reader r here.part (sh.each j v here.seated).1 in let c = has-copies w r id mine.held have in
+held-inside : (k : Shape) (s : Table) (w : WorldState) (sh : IsShown k s w) (j : ℕ) (v : View) (r : ReaderView)
+    (id : Id) → ReaderAt s j v r → 0 < tally (same_id id) r.held → (id.slot < k.slots) × (0 < copies w r.number id)
+held-inside k s w sh j v r id here have = let mine =
+    of-here (OfReader w sh.next sh.owner j) v.reader r here.part (sh.each j v here.seated).1 in
+    let c = has-copies w r id mine.held have in
     (subst (λ (z : Shape). id.slot < z.slots) sh.shape (sh.safe.held r.number id c).0, c)
 
-pub law-release : (k : Shape) (s : Table) (w : WorldState) (j : ℕ) (v : View) (r : ReaderView) (id : Id) → IsShown k s w → ReaderAt s j v r → 0 < tally (same_id id) r.held
-    → StepsBy k w (Release r.number id) (stepped s (place_of id.slot) (get_or s.words (place_of id.slot) 0 - 1) j (view v.keeper (Some (reader_released r id))))
+pub law-release : (k : Shape) (s : Table) (w : WorldState) (j : ℕ) (v : View) (r : ReaderView) (id : Id) → IsShown k s w
+    → ReaderAt s j v r → 0 < tally (same_id id) r.held
+    → StepsBy k w (Release r.number id) (stepped s (place_of id.slot) (get_or s.words (place_of id.slot) 0 - 1) j
+    (view v.keeper (Some (reader_released r id))))
 law-release k s w j v r id sh here have = let known = held-inside k s w sh j v r id here have in record {
   can = can-by w (Release r.number id) (may_release w r.number id (in-shape k s w sh id.slot known.0) known.1);
   shown = reader-releases k s w sh j v r id here.seated here.part known.0 have;
 }
 
-pub law-read : (k : Shape) (s : Table) (w : WorldState) (j : ℕ) (v : View) (r : ReaderView) (id : Id) (d : Descr) → IsShown k s w → ReaderAt s j v r → 0 < tally (same_id id) r.held → descr_code.decoded (get_or s.words (descr_place id.slot) 0) ≡ Some d
-    → StepsBy k w (ReadDescr r.number id d) (stepped s (descr_place id.slot) (get_or s.words (descr_place id.slot) 0) j (view v.keeper (Some (reader_noted r id d))))
+pub law-read : (k : Shape) (s : Table) (w : WorldState) (j : ℕ) (v : View) (r : ReaderView) (id : Id) (d : Descr)
+    → IsShown k s w → ReaderAt s j v r → 0 < tally (same_id id) r.held
+    → descr_code.decoded (get_or s.words (descr_place id.slot) 0) ≡ Some d
+    → StepsBy k w (ReadDescr r.number id d) (stepped s (descr_place id.slot) (get_or s.words (descr_place id.slot) 0) j
+    (view v.keeper (Some (reader_noted r id d))))
 law-read k s w j v r id d sh here have is = let known = held-inside k s w sh j v r id here have in
-    let same : (at w id.slot).descr ≡ d = some-same (descr_code.decoded (get_or s.words (descr_place id.slot) 0)) (at w id.slot).descr d (descr_found (at w id.slot).descr (get_or s.words (descr_place id.slot) 0) (sh.given id.slot known.0) (sh.descrs id.slot known.0)) is in record {
-      can = can-by w (ReadDescr r.number id d) (subst (λ (z : Descr). refusal w (ReadDescr r.number id z) ≡ None) same (may_read w r.number id (in-shape k s w sh id.slot known.0) known.1));
-      shown = subst (λ (z : Descr). IsShown k (stepped s (descr_place id.slot) (get_or s.words (descr_place id.slot) 0) j (view v.keeper (Some (reader_noted r id z)))) w) same (reader-notes k s w sh j v r id here.seated here.part known.0 have);
+    let same : (at w id.slot).descr ≡ d = some-same (descr_code.decoded (get_or s.words (descr_place id.slot) 0))
+    (at w id.slot).descr d (descr_found (at w id.slot).descr (get_or s.words (descr_place id.slot) 0)
+    (sh.given id.slot known.0) (sh.descrs id.slot known.0)) is in record {
+      can = can-by w (ReadDescr r.number id d) (subst (λ (z : Descr). refusal w (ReadDescr r.number id z) ≡ None) same
+          (may_read w r.number id (in-shape k s w sh id.slot known.0) known.1));
+      shown = subst (λ (z : Descr). IsShown k (stepped s (descr_place id.slot)
+          (get_or s.words (descr_place id.slot) 0) j (view v.keeper (Some (reader_noted r id z)))) w) same
+          (reader-notes k s w sh j v r id here.seated here.part known.0 have);
     }
 
-phase-at : (k : Shape) (s : Table) (w : WorldState) (sh : IsShown k s w) (j i : ℕ) (v : View) (q : KeeperView) → KeeperAt s j v q → (at w i).phase ≡ (slot_of q.slots i).phase
-phase-at k s w sh j i v q here = let mine = keeper-at k s w sh j v q here.seated here.part in ap (λ (z : List Slot). (slot_of z i).phase) (sym mine.slots)
+phase-at : (k : Shape) (s : Table) (w : WorldState) (sh : IsShown k s w) (j i : ℕ) (v : View) (q : KeeperView)
+    → KeeperAt s j v q → (at w i).phase ≡ (slot_of q.slots i).phase
+phase-at k s w sh j i v q here = let mine = keeper-at k s w sh j v q here.seated here.part in
+    ap (λ (z : List Slot). (slot_of z i).phase) (sym mine.slots)
 
-pub law-publish : (k : Shape) (s : Table) (w : WorldState) (j i : ℕ) (v : View) (q : KeeperView) → IsShown k s w → KeeperAt s j v q → i < k.slots → (slot_of q.slots i).phase ≡ Free
-    → StepsBy k w (Publish i) (stepped s (place_of i) (bit_or (get_or s.words (place_of i) 0) 1073741824) j (view (Some (keeper_published q i)) v.reader))
+pub law-publish : (k : Shape) (s : Table) (w : WorldState) (j i : ℕ) (v : View) (q : KeeperView) → IsShown k s w
+    → KeeperAt s j v q → i < k.slots → (slot_of q.slots i).phase ≡ Free
+    → StepsBy k w (Publish i) (stepped s (place_of i) (bit_or (get_or s.words (place_of i) 0) 1073741824) j
+    (view (Some (keeper_published q i)) v.reader))
 law-publish k s w j i v q sh here inside free = record {
   can = can-by w (Publish i) (may_publish w i (in-shape k s w sh i inside) (phase-at k s w sh j i v q here ∙ free));
   shown = keeper-publishes k s w sh j i v q here.seated here.part inside free;
 }
 
-pub law-close : (k : Shape) (s : Table) (w : WorldState) (j i : ℕ) (v : View) (q : KeeperView) → IsShown k s w → KeeperAt s j v q → i < k.slots → (slot_of q.slots i).phase ≡ Live
-    → StepsBy k w (CloseSlot i) (stepped s (place_of i) (bit_or (get_or s.words (place_of i) 0) 2147483648) j (view (Some (keeper_closed q i)) v.reader))
+pub law-close : (k : Shape) (s : Table) (w : WorldState) (j i : ℕ) (v : View) (q : KeeperView) → IsShown k s w
+    → KeeperAt s j v q → i < k.slots → (slot_of q.slots i).phase ≡ Live
+    → StepsBy k w (CloseSlot i) (stepped s (place_of i) (bit_or (get_or s.words (place_of i) 0) 2147483648) j
+    (view (Some (keeper_closed q i)) v.reader))
 law-close k s w j i v q sh here inside live = record {
   can = can-by w (CloseSlot i) (may_close w i (in-shape k s w sh i inside) (phase-at k s w sh j i v q here ∙ live));
   shown = keeper-closes k s w sh j i v q here.seated here.part inside live;
 }
 
-pub law-reclaim : (k : Shape) (s : Table) (w : WorldState) (j i : ℕ) (v : View) (q : KeeperView) → IsShown k s w → KeeperAt s j v q → i < k.slots → (slot_of q.slots i).phase ≡ Closing → get_or s.words (place_of i) 0 ≡ closing_word (slot_of q.slots i)
-    → StepsBy k w (Reclaim i) (stepped s (place_of i) (next_word k.max_gen (slot_of q.slots i)) j (view (Some (keeper_reclaimed q i (get_or s.words (place_of i) 0))) v.reader))
+pub law-reclaim : (k : Shape) (s : Table) (w : WorldState) (j i : ℕ) (v : View) (q : KeeperView) → IsShown k s w
+    → KeeperAt s j v q → i < k.slots → (slot_of q.slots i).phase ≡ Closing
+    → get_or s.words (place_of i) 0 ≡ closing_word (slot_of q.slots i)
+    → StepsBy k w (Reclaim i) (stepped s (place_of i) (next_word k.max_gen (slot_of q.slots i)) j
+    (view (Some (keeper_reclaimed q i (get_or s.words (place_of i) 0))) v.reader))
 law-reclaim k s w j i v q sh here inside closing hit = record {
   can = can-by w (Reclaim i) (none-pinned k s w sh j i v q here.seated here.part inside closing hit);
   shown = keeper-reclaims k s w sh j i v q here.seated here.part inside closing hit;
 }
 
-pub law-reclaim-failed : (k : Shape) (s : Table) (w : WorldState) (j i n : ℕ) (v : View) (q : KeeperView) → IsShown k s w → KeeperAt s j v q → i < k.slots → (slot_of q.slots i).phase ≡ Closing → get_or s.words (place_of i) 0 ≢ closing_word (slot_of q.slots i)
-    → (0 < (decoded (get_or s.words (place_of i) 0)).pins) × StepsBy k w (Load n i) (stepped s (place_of i) (get_or s.words (place_of i) 0) j (view (Some (keeper_looked q i (get_or s.words (place_of i) 0))) v.reader))
+pub law-reclaim-failed : (k : Shape) (s : Table) (w : WorldState) (j i n : ℕ) (v : View) (q : KeeperView)
+    → IsShown k s w → KeeperAt s j v q → i < k.slots → (slot_of q.slots i).phase ≡ Closing
+    → get_or s.words (place_of i) 0 ≢ closing_word (slot_of q.slots i)
+    → (0 < (decoded (get_or s.words (place_of i) 0)).pins)
+    × StepsBy k w (Load n i) (stepped s (place_of i) (get_or s.words (place_of i) 0) j
+    (view (Some (keeper_looked q i (get_or s.words (place_of i) 0))) v.reader))
 law-reclaim-failed k s w j i n v q sh here inside closing miss = (
   pinned-still k s w sh j i v q here.seated here.part inside closing miss,
   record {
     can = can-by w (Load n i) (may_load w n i (in-shape k s w sh i inside));
-    shown = kept-as k s w (place_of i) (get_or s.words (place_of i) 0) j v (λ z. keeper_looked z i (get_or s.words (place_of i) 0)) q here.part (keeper-looks k s w sh j i v here.seated inside);
+    shown = kept-as k s w (place_of i) (get_or s.words (place_of i) 0) j v
+        (λ z. keeper_looked z i (get_or s.words (place_of i) 0)) q here.part
+        (keeper-looks k s w sh j i v here.seated inside);
   },
 )
 
-pub law-store : (k : Shape) (s : Table) (w : WorldState) (j i : ℕ) (v : View) (q : KeeperView) (d : Descr) → IsShown k s w → KeeperAt s j v q → i < k.slots → (slot_of q.slots i).phase ≡ Free → descr_code.IsGiven d
-    → StepsBy k w (StoreDescr i d) (stepped s (descr_place i) (descr_code.encoded d) j (view (Some (keeper_stored q i d)) v.reader))
+pub law-store : (k : Shape) (s : Table) (w : WorldState) (j i : ℕ) (v : View) (q : KeeperView) (d : Descr)
+    → IsShown k s w → KeeperAt s j v q → i < k.slots → (slot_of q.slots i).phase ≡ Free → descr_code.IsGiven d
+    → StepsBy k w (StoreDescr i d) (stepped s (descr_place i) (descr_code.encoded d) j
+    (view (Some (keeper_stored q i d)) v.reader))
 law-store k s w j i v q d sh here inside free valid = record {
-  can = can-by w (StoreDescr i d) (may_store w i d (in-shape k s w sh i inside) (phase-at k s w sh j i v q here ∙ free));
+  can = can-by w (StoreDescr i d) (may_store w i d (in-shape k s w sh i inside) (phase-at k s w sh j i v q here
+      ∙ free));
   shown = keeper-stores k s w sh j i v q d here.seated here.part inside free valid;
 }
 
 in_numbers : (c n : ℕ) → 1 ≤ n → n ≤ c → weight (nat_lt 0 n && nat_le n c) ≡ 1
 in_numbers c n a b = grind (arith, common_steps)
 
-pub law-held : (k : Shape) (s : Table) (w : WorldState) (j : ℕ) (v : View) (r : ReaderView) (id : Id) (n : ℕ) → IsShown k s w → ReaderAt s j v r → 1 ≤ n → n ≤ tally (same_id id) r.held
+pub law-held : (k : Shape) (s : Table) (w : WorldState) (j : ℕ) (v : View) (r : ReaderView) (id : Id) (n : ℕ)
+    → IsShown k s w → ReaderAt s j v r → 1 ≤ n → n ≤ tally (same_id id) r.held
     → (times w (hold_of r.number id n) ≡ 1) × StaysGiven w id.slot
-law-held k s w j v r id n sh here first last = let mine = of-here (OfReader w sh.next sh.owner j) v.reader r here.part (sh.each j v here.seated).1 in
+law-held k s w j v r id n sh here first last = let mine =
+    of-here (OfReader w sh.next sh.owner j) v.reader r here.part (sh.each j v here.seated).1 in
     let own = mine.held id in
-    let once : times w (hold_of r.number id n) ≡ 1 = sh.safe.numbered r.number id n ∙ in_numbers (copies w r.number id) n first (omega arith) in
+    let once : times w (hold_of r.number id n) ≡ 1 =
+    sh.safe.numbered r.number id n ∙ in_numbers (copies w r.number id) n first (omega arith) in
     (once, kept_while_held w sh.safe (hold_of r.number id n) (omega arith))
 
 published-once : (w : WorldState) (xs : List Note) → IsSafe w → AreNoted w xs → ArePublished w xs
 published-once w [] safe h = tt
-published-once w (x ∷ xs) safe h = ((let a = h.0 in let le = given_as-le w x.id x.descr in let one = safe.once x.id in omega arith), published-once w xs safe h.1)
+published-once w (x ∷ xs) safe h = (
+  (let a = h.0 in let le = given_as-le w x.id x.descr in let one = safe.once x.id in
+      omega arith),
+  published-once w xs safe h.1,
+)
 
-pub law-noted : (k : Shape) (s : Table) (w : WorldState) (j : ℕ) (v : View) (r : ReaderView) → IsShown k s w → ReaderAt s j v r → ArePublished w r.notes
-law-noted k s w j v r sh here = let mine = of-here (OfReader w sh.next sh.owner j) v.reader r here.part (sh.each j v here.seated).1 in published-once w r.notes sh.safe mine.notes
+pub law-noted : (k : Shape) (s : Table) (w : WorldState) (j : ℕ) (v : View) (r : ReaderView) → IsShown k s w
+    → ReaderAt s j v r → ArePublished w r.notes
+law-noted k s w j v r sh here = let mine = of-here (OfReader w sh.next sh.owner j) v.reader r here.part
+    (sh.each j v here.seated).1 in published-once w r.notes sh.safe mine.notes
 
-pub law-gives : (k : Shape) (s : Table) (w : WorldState) (j : ℕ) (v : View) (q : KeeperView) → IsShown k s w → KeeperAt s j v q → IsShown k (with_views s (set s.views j (gave v) ++ play.given v ∷ [])) w
+pub law-gives : (k : Shape) (s : Table) (w : WorldState) (j : ℕ) (v : View) (q : KeeperView) → IsShown k s w
+    → KeeperAt s j v q → IsShown k (with_views s (set s.views j (gave v) ++ play.given v ∷ [])) w
 law-gives k s w j v q sh here = gives-shown k s w sh j v q here.seated here.part
 
 -- the views determine the world, but for the order in which it is listed
-pub one-world : (k : Shape) (s : Table) (a b : WorldState) → IsShown k s a → IsShown k s b → (a.shape ≡ b.shape) × (a.slots ≡ b.slots) × (a.published ≡ b.published) × ((t : Hold) → times a t ≡ times b t)
+pub one-world : (k : Shape) (s : Table) (a b : WorldState) → IsShown k s a → IsShown k s b
+    → (a.shape ≡ b.shape) × (a.slots ≡ b.slots) × (a.published ≡ b.published) × ((t : Hold) → times a t ≡ times b t)
 one-world k s a b p q =
     let h = p.kept in
-    let x : OfKeeper a p.keeper p.next p.keeper h.1 = of-here (OfKeeper a p.keeper p.next p.keeper) h.0.keeper h.1 h.3 (p.each p.keeper h.0 h.2).0 in
-    let y : OfKeeper b q.keeper q.next p.keeper h.1 = of-here (OfKeeper b q.keeper q.next p.keeper) h.0.keeper h.1 h.3 (q.each p.keeper h.0 h.2).0 in (
+    let x : OfKeeper a p.keeper p.next p.keeper h.1 =
+    of-here (OfKeeper a p.keeper p.next p.keeper) h.0.keeper h.1 h.3 (p.each p.keeper h.0 h.2).0 in
+    let y : OfKeeper b q.keeper q.next p.keeper h.1 =
+    of-here (OfKeeper b q.keeper q.next p.keeper) h.0.keeper h.1 h.3 (q.each p.keeper h.0 h.2).0 in (
       p.shape ∙ sym q.shape,
       sym x.slots ∙ y.slots,
       sym x.published ∙ y.published,
       λ t. let same = copies-same t.reader in
-          p.safe.numbered t.reader t.id t.copy ∙ (ap (λ (n : ℕ). weight (nat_lt 0 t.copy && nat_le t.copy n)) (same t.id) ∙ sym (q.safe.numbered t.reader t.id t.copy)),
+          p.safe.numbered t.reader t.id t.copy ∙ (ap (λ (n : ℕ). weight (nat_lt 0 t.copy && nat_le t.copy n))
+          (same t.id) ∙ sym (q.safe.numbered t.reader t.id t.copy)),
     )
   where
     with-seat : (r j : ℕ) → HasReader s.views j r → (id : Id) → copies a r id ≡ copies b r id
     with-seat r j g id =
-        let x : OfReader a p.next p.owner j g.1 = of-here (OfReader a p.next p.owner j) g.0.reader g.1 g.3 (p.each j g.0 g.2).1 in
-        let y : OfReader b q.next q.owner j g.1 = of-here (OfReader b q.next q.owner j) g.0.reader g.1 g.3 (q.each j g.0 g.2).1 in
+        let x : OfReader a p.next p.owner j g.1 = of-here (OfReader a p.next p.owner j) g.0.reader g.1 g.3
+        (p.each j g.0 g.2).1 in
+        let y : OfReader b q.next q.owner j g.1 = of-here (OfReader b q.next q.owner j) g.0.reader g.1 g.3
+        (q.each j g.0 g.2).1 in
         subst (λ (z : ℕ). copies a z id ≡ copies b z id) g.4 (x.held id ∙ sym (y.held id))
 
     copies-same : (r : ℕ) (id : Id) → copies a r id ≡ copies b r id
@@ -175,7 +252,9 @@ opening-free w n safe is t =
     let le = times-le-copies w t in
     let nobody : ¬ (0 < copies w t.reader t.id) = λ some.
     let h = safe.held t.reader t.id some in
-    let free : may_be_held (at w t.id.slot).phase ≡ false = ap (λ (xs : List Slot). may_be_held (slot_of xs t.id.slot).phase) is ∙ ap (λ (x : Slot). may_be_held x.phase) (opening_at n t.id.slot) in
+    let free : may_be_held (at w t.id.slot).phase ≡ false =
+    ap (λ (xs : List Slot). may_be_held (slot_of xs t.id.slot).phase) is
+    ∙ ap (λ (x : Slot). may_be_held x.phase) (opening_at n t.id.slot) in
     let on = h.2 in cc in
     omega arith
 
@@ -183,5 +262,11 @@ opening-free w n safe is t =
 pub shows_opening : (q : KeeperView) (k : Shape) → q ≡ keeper_gave (opening_keeper k) → ShowsOpening q
 shows_opening q k is s w j v sh here =
     let mine : OfKeeper w sh.keeper sh.next j q = keeper-at q.shape s w sh j v q here.seated here.part in
-    let slots : w.slots ≡ replicate q.shape.slots opening_slot = sym mine.slots ∙ (ap (λ (z : KeeperView). z.slots) is ∙ ap (λ (z : KeeperView). replicate z.shape.slots opening_slot) (sym is)) in
-    (sh.shape, slots, sym mine.published ∙ ap (λ (z : KeeperView). z.published) is, opening-free w q.shape.slots sh.safe slots)
+    let slots : w.slots ≡ replicate q.shape.slots opening_slot =
+    sym mine.slots ∙ (ap (λ (z : KeeperView). z.slots) is
+    ∙ ap (λ (z : KeeperView). replicate z.shape.slots opening_slot) (sym is)) in (
+      sh.shape,
+      slots,
+      sym mine.published ∙ ap (λ (z : KeeperView). z.published) is,
+      opening-free w q.shape.slots sh.safe slots,
+    )

@@ -12,19 +12,39 @@ use Rattle.pin_words.specs.Keepers.{KeeperState, with_looks, opened_again, Recla
 sits-else : (s : ℕ) (id : Id) → sits s id ≡ true → id.slot ≡ s
 sits-else s id e = grind (arith, common_steps)
 
-pub room-more : (most : ℕ) (held : List Id) (id : Id) → ((s : ℕ) → tally (sits s) held ≤ most) → tally (sits id.slot) held ≢ most → (s : ℕ) → tally (sits s) (held ++ id ∷ []) ≤ most
+pub room-more : (most : ℕ) (held : List Id) (id : Id) → ((s : ℕ) → tally (sits s) held ≤ most)
+    → tally (sits id.slot) held ≢ most → (s : ℕ) → tally (sits s) (held ++ id ∷ []) ≤ most
 room-more most held id room free s = cases (sits s id) refl
   where
     cases : (b : Bool) → sits s id ≡ b → tally (sits s) (held ++ id ∷ []) ≤ most
-    cases true e = let c = count-snoc (sits s) held id in let one : weight (sits s id) ≡ 1 = ap weight e in let here : tally (sits id.slot) held ≡ tally (sits s) held = ap (λ (z : ℕ). tally (sits z) held) (sits-else s id e) in
+    cases true e = let c = count-snoc (sits s) held id in let one : weight (sits s id) ≡ 1 = ap weight e in
+        let here : tally (sits id.slot) held ≡ tally (sits s) held =
+        ap (λ (z : ℕ). tally (sits z) held) (sits-else s id e) in
         let le = room s in let ne : tally (sits s) held ≢ most = λ x. free (here ∙ x) in omega arith
-    cases false e = let c = count-snoc (sits s) held id in let off : weight (sits s id) ≡ 0 = ap weight e in let le = room s in omega arith
+    cases false e = let c = count-snoc (sits s) held id in let off : weight (sits s id) ≡ 0 = ap weight e in
+        let le = room s in omega arith
 
-pub room-less : (most : ℕ) (held : List Id) (id : Id) → ((s : ℕ) → tally (sits s) held ≤ most) → (s : ℕ) → tally (sits s) (drop_first (same_id id) held) ≤ most
+pub room-less : (most : ℕ) (held : List Id) (id : Id) → ((s : ℕ) → tally (sits s) held ≤ most) → (s : ℕ)
+    → tally (sits s) (drop_first (same_id id) held) ≤ most
 room-less most held id room s = let le = count-drop-le (sits s) (same_id id) held in let o = room s in omega arith
 
 -- what a reclaim under a lock answers is what one of any keeper does
 pub as-any : (k k' : KeeperState) (s : ℕ) (r : Reclaim) → ReclaimsLocked k s r k' → Reclaims k s r k'
-as-any k k' s Freed h = (h.0 ∙ ap (λ (z : KeeperState). with_looks (opened_again k s) z.looks) (sym h.0), h.1, h.2, inl (ap (λ (z : KeeperState). z.looks) h.0))
-as-any k k' s Retired h = (h.0 ∙ ap (λ (z : KeeperState). with_looks (opened_again k s) z.looks) (sym h.0), h.1, h.2, inl (ap (λ (z : KeeperState). z.looks) h.0))
-as-any k k' s (Held n) h = (h.0 ∙ ap (λ (z : KeeperState). with_looks k z.looks) (sym h.0), h.1, h.3, inl (ap (λ (z : KeeperState). z.looks) h.0))
+as-any k k' s Freed h = (
+  h.0 ∙ ap (λ (z : KeeperState). with_looks (opened_again k s) z.looks) (sym h.0),
+  h.1,
+  h.2,
+  inl (ap (λ (z : KeeperState). z.looks) h.0),
+)
+as-any k k' s Retired h = (
+  h.0 ∙ ap (λ (z : KeeperState). with_looks (opened_again k s) z.looks) (sym h.0),
+  h.1,
+  h.2,
+  inl (ap (λ (z : KeeperState). z.looks) h.0),
+)
+as-any k k' s (Held n) h = (
+  h.0 ∙ ap (λ (z : KeeperState). with_looks k z.looks) (sym h.0),
+  h.1,
+  h.3,
+  inl (ap (λ (z : KeeperState). z.looks) h.0),
+)

@@ -38,72 +38,145 @@ use Rattle.pin_words.proofs.Steps.{of-map, of-here, some-same, in-list, step-sho
 use Rattle.pin_words.proofs.Bits.{descr-decoded}
 
 -- the words where the holds change at the slot i alone
-hold-words : (k : Shape) (s : Table) (W : WorldState) (sh : IsShown k s W) (i n : ℕ) (hs : List Hold) → i < k.slots → n ≡ encoded (word_at (with_holders W hs) i) → ((j : ℕ) → j ≢ i → tally (sits_at j) hs ≡ pins W j)
-    → (j : ℕ) → j < k.slots → get_or (set s.words (place_of i) n) (place_of j) 0 ≡ encoded (word_at (with_holders W hs) j)
+hold-words : (k : Shape) (s : Table) (W : WorldState) (sh : IsShown k s W) (i n : ℕ) (hs : List Hold) → i < k.slots
+    → n ≡ encoded (word_at (with_holders W hs) i) → ((j : ℕ) → j ≢ i → tally (sits_at j) hs ≡ pins W j)
+    → (j : ℕ) → j < k.slots → get_or (set s.words (place_of i) n) (place_of j) 0
+    ≡ encoded (word_at (with_holders W hs) j)
 hold-words k s W sh i n hs inside is same j h = dite (ℕ_discrete j i)
-    (λ e. subst (λ (z : ℕ). get_or (set s.words (place_of i) n) (place_of z) 0 ≡ encoded (word_at (with_holders W hs) z)) (sym e) (get_or-set_same s.words (place_of i) n 0 (let wide = sh.wide in omega arith) ∙ is))
-    (λ ne. get_or-set_other s.words (place_of i) (place_of j) n 0 (λ e. ne (omega arith)) ∙ (sh.words j h ∙ ap (λ (p : ℕ). encoded (record { generation = (at W j).generation; phase = (at W j).phase; pins = p })) (sym (same j ne))))
+    (λ e. subst (λ (z : ℕ). get_or (set s.words (place_of i) n) (place_of z) 0
+    ≡ encoded (word_at (with_holders W hs) z)) (sym e) (get_or-set_same s.words (place_of i) n 0 (let wide =
+    sh.wide in omega arith) ∙ is))
+    (λ ne. get_or-set_other s.words (place_of i) (place_of j) n 0 (λ e. ne (omega arith))
+    ∙ (sh.words j h ∙ ap (λ (p : ℕ). encoded (record {
+      generation = (at W j).generation;
+      phase = (at W j).phase;
+      pins = p;
+    })) (sym (same j ne))))
 
 -- a reader's step that changes its holds
-reader-goes : (k : Shape) (s : Table) (W : WorldState) (sh : IsShown k s W) (id i n : ℕ) (v : View) (r r' : ReaderView) (hs : List Hold) → get_elem? s.views id ≡ some v → v.reader ≡ Some r → i < k.slots → IsSafe (with_holders W hs)
-    → n ≡ encoded (word_at (with_holders W hs) i) → ((j : ℕ) → j ≢ i → tally (sits_at j) hs ≡ pins W j) → ((q : ℕ) → r.number ≢ q → (x : Id) → tally (is_copy q x) hs ≡ copies W q x)
+reader-goes : (k : Shape) (s : Table) (W : WorldState) (sh : IsShown k s W) (id i n : ℕ) (v : View) (r r' : ReaderView)
+    (hs : List Hold) → get_elem? s.views id ≡ some v → v.reader ≡ Some r → i < k.slots → IsSafe (with_holders W hs)
+    → n ≡ encoded (word_at (with_holders W hs) i) → ((j : ℕ) → j ≢ i → tally (sits_at j) hs ≡ pins W j)
+    → ((q : ℕ) → r.number ≢ q → (x : Id) → tally (is_copy q x) hs ≡ copies W q x)
     → OfReader (with_holders W hs) sh.next sh.owner id r' → r'.number ≡ r.number
-    → IsShown k record { words = set s.words (place_of i) n; homes = s.homes; views = set s.views id (view v.keeper (Some r')) } (with_holders W hs)
+    → IsShown k record {
+      words = set s.words (place_of i) n;
+      homes = s.homes;
+      views = set s.views id (view v.keeper (Some r'));
+    } (with_holders W hs)
 reader-goes k s W sh id i n v r r' hs seated is inside safe word pins-same parts-same new number =
     let was = sh.each id v seated in
     let mine : OfReader W sh.next sh.owner id r = of-here (OfReader W sh.next sh.owner id) v.reader r is was.1 in
-    step-shown k s W sh id (place_of i) n (view v.keeper (Some r')) (with_holders W hs) sh.shape safe (hold-words k s W sh i n hs inside word pins-same)
+    step-shown k s W sh id (place_of i) n (view v.keeper (Some r')) (with_holders W hs) sh.shape safe
+    (hold-words k s W sh i n hs inside word pins-same)
     (λ j h. get_or-set_other s.words (place_of i) (descr_place j) n 0 (λ e. omega arith) ∙ sh.descrs j h)
-    sh.given
-    (of-map (OfKeeper W sh.keeper sh.next id) (OfKeeper (with_holders W hs) sh.keeper sh.next id) v.keeper (keeper-stays W hs sh.keeper sh.next id) was.0, new)
+    sh.given (
+      of-map (OfKeeper W sh.keeper sh.next id) (OfKeeper (with_holders W hs) sh.keeper sh.next id) v.keeper
+          (keeper-stays W hs sh.keeper sh.next id) was.0,
+      new,
+    )
     (λ j u other a. (
-      of-map (OfKeeper W sh.keeper sh.next j) (OfKeeper (with_holders W hs) sh.keeper sh.next j) u.keeper (keeper-stays W hs sh.keeper sh.next j) a.0,
+      of-map (OfKeeper W sh.keeper sh.next j) (OfKeeper (with_holders W hs) sh.keeper sh.next j) u.keeper
+          (keeper-stays W hs sh.keeper sh.next j) a.0,
       of-map (OfReader W sh.next sh.owner j) (OfReader (with_holders W hs) sh.next sh.owner j) u.reader
-          (λ q b. reader-stays W hs sh.next sh.owner j q (parts-same q.number (λ e. other (sym b.mine ∙ (ap sh.owner (sym e) ∙ mine.mine)))) b) a.1,
+          (λ q b. reader-stays W hs sh.next sh.owner j q
+          (parts-same q.number (λ e. other (sym b.mine ∙ (ap sh.owner (sym e) ∙ mine.mine)))) b) a.1,
     ))
     (λ q later x. parts-same q (λ e. let b = mine.born in omega arith) x ∙ sh.unborn q later x)
     v seated (turn-to v r r' is number)
     (λ q e. dite (ℕ_discrete r.number q)
-    (λ same. inr (view v.keeper (Some r'), r', ap (get_elem? (set s.views id (view v.keeper (Some r')))) (ap sh.owner (sym same) ∙ mine.mine) ∙ set_here s.views id (view v.keeper (Some r')) (in-list s.views id v seated), refl, number ∙ same))
+    (λ same. inr (
+      view v.keeper (Some r'),
+      r',
+      ap (get_elem? (set s.views id (view v.keeper (Some r'))))
+          (ap sh.owner (sym same) ∙ mine.mine) ∙ set_here s.views id (view v.keeper (Some r'))
+          (in-list s.views id v seated),
+      refl,
+      number ∙ same,
+    ))
     (λ ne. inl (λ x. parts-same q ne x ∙ e x)))
 
-with-holds : (w : WorldState) (hs : List Hold) (next : ℕ) (owner : ℕ → ℕ) (id : ℕ) (r : ReaderView) (held : List Id) (notes : List Note) (looks : List Look) → OfReader w next owner id r
-    → ((x : Id) → tally (is_copy r.number x) hs ≡ tally (same_id x) held) → AreNoted w notes → NotAhead w looks → OfReader (with_holders w hs) next owner id (reader_with r held notes looks)
-with-holds w hs next owner id r held notes looks mine is noted behind = record { shape = mine.shape; born = mine.born; mine = mine.mine; held = is; notes = notes-stay w (with_holders w hs) notes (λ i d. omega arith) noted; looks = looks-stay w (with_holders w hs) looks refl (λ j. omega arith) behind }
+with-holds : (w : WorldState) (hs : List Hold) (next : ℕ) (owner : ℕ
+    → ℕ) (id : ℕ) (r : ReaderView) (held : List Id) (notes : List Note) (looks : List Look) → OfReader w next owner id r
+    → ((x : Id) → tally (is_copy r.number x) hs ≡ tally (same_id x) held) → AreNoted w notes → NotAhead w looks
+    → OfReader (with_holders w hs) next owner id (reader_with r held notes looks)
+with-holds w hs next owner id r held notes looks mine is noted behind =
+    record {
+      shape = mine.shape;
+      born = mine.born;
+      mine = mine.mine;
+      held = is;
+      notes = notes-stay w (with_holders w hs) notes (λ i d. omega arith) noted;
+      looks = looks-stay w (with_holders w hs) looks refl (λ j. omega arith) behind;
+    }
 
-pub may_pin_found : (k : Shape) (s : Table) (W : WorldState) (sh : IsShown k s W) (r i : ℕ) → i < k.slots → (decoded (get_or s.words (place_of i) 0)).phase ≡ Live → (decoded (get_or s.words (place_of i) 0)).pins ≢ k.max_pins → refusal W (Pin r i (word_at W i)) ≡ None
+pub may_pin_found : (k : Shape) (s : Table) (W : WorldState) (sh : IsShown k s W) (r i : ℕ) → i < k.slots
+    → (decoded (get_or s.words (place_of i) 0)).phase ≡ Live
+    → (decoded (get_or s.words (place_of i) 0)).pins ≢ k.max_pins → refusal W (Pin r i (word_at W i)) ≡ None
 may_pin_found k s W sh r i inside live room =
     let is = found-is k s W sh i inside in
     let phase : (at W i).phase ≡ Live = sym (ap (λ (y : Word). y.phase) is) ∙ live in
     let count : (decoded (get_or s.words (place_of i) 0)).pins ≡ pins W i = ap (λ (y : Word). y.pins) is in
     let most : W.shape.max_pins ≡ k.max_pins = ap (λ (z : Shape). z.max_pins) sh.shape in
-    let few : pins W i < W.shape.max_pins = (let le = sh.safe.room i in let ne : pins W i ≢ W.shape.max_pins = λ e. room (count ∙ (e ∙ most)) in omega arith) in
+    let few : pins W i < W.shape.max_pins = (let le = sh.safe.room i in
+    let ne : pins W i ≢ W.shape.max_pins = λ e. room (count ∙ (e ∙ most)) in omega arith) in
     may_pin W r i (in-shape k s W sh i inside) phase few
 
-pub reader-pins : (k : Shape) (s : Table) (W : WorldState) (sh : IsShown k s W) (id i : ℕ) (v : View) (r : ReaderView) → get_elem? s.views id ≡ some v → v.reader ≡ Some r → i < k.slots → (decoded (get_or s.words (place_of i) 0)).phase ≡ Live → (decoded (get_or s.words (place_of i) 0)).pins ≢ k.max_pins
-    → IsShown k record { words = set s.words (place_of i) (get_or s.words (place_of i) 0 + 1); homes = s.homes; views = set s.views id (view v.keeper (Some (reader_got r (id_in i (get_or s.words (place_of i) 0)) (get_or s.words (place_of i) 0)))) } (after W (Pin r.number i (word_at W i)))
+pub reader-pins : (k : Shape) (s : Table) (W : WorldState) (sh : IsShown k s W) (id i : ℕ) (v : View) (r : ReaderView)
+    → get_elem? s.views id ≡ some v → v.reader ≡ Some r → i < k.slots
+    → (decoded (get_or s.words (place_of i) 0)).phase ≡ Live
+    → (decoded (get_or s.words (place_of i) 0)).pins ≢ k.max_pins
+    → IsShown k record {
+      words = set s.words (place_of i) (get_or s.words (place_of i) 0 + 1);
+      homes = s.homes;
+      views = set s.views id (view v.keeper (Some
+          (reader_got r (id_in i (get_or s.words (place_of i) 0)) (get_or s.words (place_of i) 0))));
+    }
+    (after W (Pin r.number i (word_at W i)))
 reader-pins k s W sh id i v r seated at-reader inside live room =
     let is = found-is k s W sh i inside in
-    let mine : OfReader W sh.next sh.owner id r = of-here (OfReader W sh.next sh.owner id) v.reader r at-reader (sh.each id v seated).1 in
+    let mine : OfReader W sh.next sh.owner id r = of-here (OfReader W sh.next sh.owner id) v.reader r at-reader
+    (sh.each id v seated).1 in
     let t : Hold = next_copy W r.number i in
-    let more : (j : ℕ) → tally (sits_at j) (with_hold t W.holders) ≡ pins W j + weight (i == j) = λ j. count-with_hold (sits_at j) t W.holders in
-    reader-goes k s W sh id i (get_or s.words (place_of i) 0 + 1) v r (reader_got r (id_in i (get_or s.words (place_of i) 0)) (get_or s.words (place_of i) 0)) (with_hold t W.holders) seated at-reader inside
+    let more : (j : ℕ) → tally (sits_at j) (with_hold t W.holders) ≡ pins W j + weight (i == j) =
+    λ j. count-with_hold (sits_at j) t W.holders in
+    reader-goes k s W sh id i (get_or s.words (place_of i) 0 + 1) v r
+    (reader_got r (id_in i (get_or s.words (place_of i) 0)) (get_or s.words (place_of i) 0))
+    (with_hold t W.holders) seated at-reader inside
     (safe_kept W (Pin r.number i (word_at W i)) sh.safe (may_pin_found k s W sh r.number i inside live room))
-    (let one = more i in let yes : weight (i == i) ≡ 1 = ap weight (eq-eqb i i refl) in let old : get_or s.words (place_of i) 0 ≡ encoded (word_at W i) = sh.words i inside in omega arith)
+    (let one = more i in let yes : weight (i == i) ≡ 1 = ap weight (eq-eqb i i refl) in
+    let old : get_or s.words (place_of i) 0 ≡ encoded (word_at W i) = sh.words i inside in omega arith)
     (λ j ne. let m = more j in let off : weight (i == j) ≡ 0 = ap weight (ne_eqb i j (λ e. ne (sym e))) in omega arith)
     (λ q ne x. holds-same-more W q r.number (id_at W i) t.copy ne x)
-    (with-holds W (with_hold t W.holders) sh.next sh.owner id r (r.held ++ id_in i (get_or s.words (place_of i) 0) ∷ []) r.notes (look i (get_or s.words (place_of i) 0) ∷ r.looks) mine
-    (λ x. holds-more W r.number r.held (id_at W i) t.copy mine.held x ∙ λ c. tally (same_id x) (r.held ++ record { slot = i; generation = sym (ap (λ (y : Word). y.generation) is) c } ∷ []))
+    (with-holds W (with_hold t W.holders) sh.next sh.owner id r (r.held
+    ++ id_in i (get_or s.words (place_of i) 0) ∷ []) r.notes (look i (get_or s.words (place_of i) 0) ∷ r.looks) mine
+    (λ x. holds-more W r.number r.held (id_at W i) t.copy mine.held x
+    ∙ λ c. tally (same_id x) (r.held ++ record {
+      slot = i;
+      generation = sym (ap (λ (y : Word). y.generation) is) c;
+    } ∷ []))
     mine.notes (reader-looks k s W sh id i inside r mine).looks) refl
 
-tells-all : (k : Shape) (s : Table) (W : WorldState) (sh : IsShown k s W) (id i : ℕ) (v : View) → get_elem? s.views id ≡ some v → i < k.slots → Of v.reader (λ r. Tells r i (get_or s.words (place_of i) 0))
-tells-all k s W sh id i v seated inside = of-map (OfReader W sh.next sh.owner id) (λ r. Tells r i (get_or s.words (place_of i) 0)) v.reader (λ r o. told k s W sh id i r inside o) (sh.each id v seated).1
+tells-all : (k : Shape) (s : Table) (W : WorldState) (sh : IsShown k s W) (id i : ℕ) (v : View)
+    → get_elem? s.views id ≡ some v → i < k.slots → Of v.reader (λ r. Tells r i (get_or s.words (place_of i) 0))
+tells-all k s W sh id i v seated inside = of-map (OfReader W sh.next sh.owner id)
+    (λ r. Tells r i (get_or s.words (place_of i) 0)) v.reader (λ r o. told k s W sh id i r inside o)
+    (sh.each id v seated).1
 
-pub looks-shown : (k : Shape) (s : Table) (W : WorldState) (sh : IsShown k s W) (id i : ℕ) (v : View) → get_elem? s.views id ≡ some v → i < k.slots
-    → IsShown k record { words = set s.words (place_of i) (get_or s.words (place_of i) 0); homes = s.homes; views = set s.views id (looked_view v i (get_or s.words (place_of i) 0)) } W
-looks-shown k s W sh id i v seated inside = still-shown k s W sh id (place_of i) (looked_view v i (get_or s.words (place_of i) 0)) (looks-agree k s W sh id i v inside (sh.each id v seated)) v seated (turn-reader v (λ r. reader_looked r i (get_or s.words (place_of i) 0)) (λ x. refl))
+pub looks-shown : (k : Shape) (s : Table) (W : WorldState) (sh : IsShown k s W) (id i : ℕ) (v : View)
+    → get_elem? s.views id ≡ some v → i < k.slots
+    → IsShown k record {
+      words = set s.words (place_of i) (get_or s.words (place_of i) 0);
+      homes = s.homes;
+      views = set s.views id (looked_view v i (get_or s.words (place_of i) 0));
+    } W
+looks-shown k s W sh id i v seated inside = still-shown k s W sh id (place_of i)
+    (looked_view v i (get_or s.words (place_of i) 0))
+    (looks-agree k s W sh id i v inside (sh.each id v seated)) v seated
+    (turn-reader v (λ r. reader_looked r i (get_or s.words (place_of i) 0)) (λ x. refl))
 
-loads-at : (k : Shape) (slots id i : ℕ) (me : M) → i < k.slots → Allows (Shown k) slots id me (place_of i) (λ n. n) (looked (step slots (place_of i) 0 0 none) me)
+loads-at : (k : Shape) (slots id i : ℕ) (me : M) → i < k.slots
+    → Allows (Shown k) slots id me (place_of i) (λ n. n) (looked (step slots (place_of i) 0 0 none) me)
 loads-at k slots id i me inside s (W, sh) deep seated small =
     let mine = sh.each id me.0 seated in
     let n : ℕ = get_or s.words (place_of i) 0 in (
@@ -111,129 +184,218 @@ loads-at k slots id i me inside s (W, sh) deep seated small =
       keeps,
       tt,
       (W, looks-shown k s W sh id i me.0 seated inside),
-      at-slot i (LookedAt me n (looked_view me.0 i n, me.1))
-          (refl, of-map (OfReader W sh.next sh.owner id) (λ r. Tells r i n) me.0.reader (λ r o. told k s W sh id i r inside o) mine.1, met k s W sh id i me.0 inside mine),
+      at-slot i (LookedAt me n (looked_view me.0 i n, me.1)) (
+        refl,
+        of-map (OfReader W sh.next sh.owner id) (λ r. Tells r i n) me.0.reader
+            (λ r o. told k s W sh id i r inside o) mine.1,
+        met k s W sh id i me.0 inside mine,
+      ),
     )
 
-pub loads : (k : Shape) (slots id i p : ℕ) (me : M) → p ≡ place_of i → i < k.slots → Allows (Shown k) slots id me p (λ n. n) (looked (step slots p 0 0 none) me)
-loads k slots id i p me at inside = subst (λ (z : ℕ). Allows (Shown k) slots id me z (λ n. n) (looked (step slots z 0 0 none) me)) (sym at) (loads-at k slots id i me inside)
+pub loads : (k : Shape) (slots id i p : ℕ) (me : M) → p ≡ place_of i → i < k.slots
+    → Allows (Shown k) slots id me p (λ n. n) (looked (step slots p 0 0 none) me)
+loads k slots id i p me at inside = subst (λ (z : ℕ). Allows (Shown k) slots id me z (λ n. n)
+    (looked (step slots z 0 0 none) me)) (sym at) (loads-at k slots id i me inside)
 
-pins-at : (k : Shape) (slots id i old new : ℕ) (me : M) (r : ReaderView) → me.0.reader ≡ Some r → i < k.slots → new ≡ old + 1 → (decoded old).phase ≡ Live → (decoded old).pins ≢ k.max_pins
-    → Allows (Shown k) slots id me (place_of i) (λ n. either (eqb n old) new n) (pinned (step slots (place_of i) old new none) me)
+pins-at : (k : Shape) (slots id i old new : ℕ) (me : M) (r : ReaderView) → me.0.reader ≡ Some r → i < k.slots
+    → new ≡ old + 1 → (decoded old).phase ≡ Live → (decoded old).pins ≢ k.max_pins
+    → Allows (Shown k) slots id me (place_of i) (λ n. either (eqb n old) new n)
+    (pinned (step slots (place_of i) old new none) me)
 pins-at k slots id i old new me r is inside up live room s (W, sh) deep seated small =
     exchanged (get_or s.words (place_of i) 0) old new
-    (λ x. (w : View) × (a : Act (Unit {0})) × Valid s.homes me.1 a × Shown k (stepped s (place_of i) x id me.1 w a) × pinned (step slots (place_of i) old new none) me (get_or s.words (place_of i) 0) (w, carried_after me.1 a))
+    (λ x. (w : View) × (a : Act (Unit {0})) × Valid s.homes me.1 a × Shown k (stepped s (place_of i) x id me.1 w a)
+    × pinned (step slots (place_of i) old new none) me (get_or s.words (place_of i) 0) (w, carried_after me.1 a))
     (λ hit. (
       got_view me.0 i n,
       keeps,
       tt,
       (
         after W (Pin r.number i (word_at W i)),
-        subst (λ (z : Option ReaderView × ℕ). IsShown k record { words = set s.words (place_of i) z.1; homes = s.homes; views = set s.views id (view me.0.keeper (on (λ r. reader_got r (id_in i n) n) z.0)) } (after W (Pin r.number i (word_at W i)))) (λ c. (sym is c, (ap (λ (y : ℕ). y + 1) hit ∙ sym up) c))
-            (reader-pins k s W sh id i me.0 r seated is inside (ap (λ (y : ℕ). (decoded y).phase) hit ∙ live) (λ e. room (ap (λ (y : ℕ). (decoded y).pins) (sym hit) ∙ e))),
+        subst (λ (z : Option ReaderView × ℕ). IsShown k record {
+          words = set s.words (place_of i) z.1;
+          homes = s.homes;
+          views = set s.views id (view me.0.keeper (on (λ r. reader_got r (id_in i n) n) z.0));
+        }
+            (after W (Pin r.number i (word_at W i)))) (λ c. (sym is c, (ap (λ (y : ℕ). y + 1) hit ∙ sym up) c))
+            (reader-pins k s W sh id i me.0 r seated is inside (ap (λ (y : ℕ). (decoded y).phase) hit
+            ∙ live) (λ e. room (ap (λ (y : ℕ). (decoded y).pins) (sym hit) ∙ e))),
       ),
-      at-slot i (PinnedAt old me n (got_view me.0 i n, me.1)) ((λ _. refl), (λ miss. absurd (miss hit)), tells-all k s W sh id i me.0 seated inside),
+      at-slot i (PinnedAt old me n (got_view me.0 i n, me.1)) (
+        (λ _. refl),
+        (λ miss. absurd (miss hit)),
+        tells-all k s W sh id i me.0 seated inside,
+      ),
     ))
     (λ miss. (
       looked_view me.0 i n,
       keeps,
       tt,
       (W, looks-shown k s W sh id i me.0 seated inside),
-      at-slot i (PinnedAt old me n (looked_view me.0 i n, me.1)) ((λ e. absurd (miss e)), (λ _. refl), tells-all k s W sh id i me.0 seated inside),
+      at-slot i (PinnedAt old me n (looked_view me.0 i n, me.1)) (
+        (λ e. absurd (miss e)),
+        (λ _. refl),
+        tells-all k s W sh id i me.0 seated inside,
+      ),
     ))
   where
     n : ℕ
     n = get_or s.words (place_of i) 0
 
-pub pins-step : (k : Shape) (slots id i p old new : ℕ) (me : M) (r : ReaderView) → p ≡ place_of i → me.0.reader ≡ Some r → i < k.slots → new ≡ old + 1 → (decoded old).phase ≡ Live → (decoded old).pins ≢ k.max_pins
+pub pins-step : (k : Shape) (slots id i p old new : ℕ) (me : M) (r : ReaderView) → p ≡ place_of i → me.0.reader ≡ Some r
+    → i < k.slots → new ≡ old + 1 → (decoded old).phase ≡ Live → (decoded old).pins ≢ k.max_pins
     → Allows (Shown k) slots id me p (λ n. either (eqb n old) new n) (pinned (step slots p old new none) me)
-pins-step k slots id i p old new me r at is inside up live room = subst (λ (z : ℕ). Allows (Shown k) slots id me z (λ n. either (eqb n old) new n) (pinned (step slots z old new none) me)) (sym at) (pins-at k slots id i old new me r is inside up live room)
+pins-step k slots id i p old new me r at is inside up live room =
+    subst (λ (z : ℕ). Allows (Shown k) slots id me z (λ n. either (eqb n old) new n)
+    (pinned (step slots z old new none) me)) (sym at) (pins-at k slots id i old new me r is inside up live room)
 
 -- a held slot has a pin
-pub has-pin : (k : Shape) (s : Table) (W : WorldState) (sh : IsShown k s W) (id : ℕ) (v : View) (r : ReaderView) (x : Id) → get_elem? s.views id ≡ some v → v.reader ≡ Some r → x.slot < k.slots → 0 < tally (same_id x) r.held → 0 < get_or s.words (place_of x.slot) 0
+pub has-pin : (k : Shape) (s : Table) (W : WorldState) (sh : IsShown k s W) (id : ℕ) (v : View) (r : ReaderView)
+    (x : Id) → get_elem? s.views id ≡ some v → v.reader ≡ Some r → x.slot < k.slots → 0 < tally (same_id x) r.held
+    → 0 < get_or s.words (place_of x.slot) 0
 has-pin k s W sh id v r x seated at-reader inside have =
-    let mine : OfReader W sh.next sh.owner id r = of-here (OfReader W sh.next sh.owner id) v.reader r at-reader (sh.each id v seated).1 in
+    let mine : OfReader W sh.next sh.owner id r = of-here (OfReader W sh.next sh.owner id) v.reader r at-reader
+    (sh.each id v seated).1 in
     let owned : 0 < copies W r.number x = has-copies W r x mine.held have in let le = copies-le-pins W r.number x in
     let old : get_or s.words (place_of x.slot) 0 ≡ encoded (word_at W x.slot) = sh.words x.slot inside in omega arith
 
-pub reader-releases : (k : Shape) (s : Table) (W : WorldState) (sh : IsShown k s W) (id : ℕ) (v : View) (r : ReaderView) (x : Id) → get_elem? s.views id ≡ some v → v.reader ≡ Some r → x.slot < k.slots → 0 < tally (same_id x) r.held
-    → IsShown k record { words = set s.words (place_of x.slot) (get_or s.words (place_of x.slot) 0 - 1); homes = s.homes; views = set s.views id (view v.keeper (Some (reader_released r x))) } (after W (Release r.number x))
+pub reader-releases : (k : Shape) (s : Table) (W : WorldState) (sh : IsShown k s W) (id : ℕ) (v : View) (r : ReaderView)
+    (x : Id) → get_elem? s.views id ≡ some v → v.reader ≡ Some r → x.slot < k.slots → 0 < tally (same_id x) r.held
+    → IsShown k record {
+      words = set s.words (place_of x.slot) (get_or s.words (place_of x.slot) 0 - 1);
+      homes = s.homes;
+      views = set s.views id (view v.keeper (Some (reader_released r x)));
+    }
+    (after W (Release r.number x))
 reader-releases k s W sh id v r x seated at-reader inside have =
     let i = x.slot in
-    let mine : OfReader W sh.next sh.owner id r = of-here (OfReader W sh.next sh.owner id) v.reader r at-reader (sh.each id v seated).1 in
+    let mine : OfReader W sh.next sh.owner id r = of-here (OfReader W sh.next sh.owner id) v.reader r at-reader
+    (sh.each id v seated).1 in
     let owned : 0 < copies W r.number x = has-copies W r x mine.held have in
     let can = may_release W r.number x (in-shape k s W sh i inside) owned in
     let hs = drop_first (is_hold (last_copy W r.number x)) W.holders in
     let held = drop_first (same_id x) r.held in
-    let less : (j : ℕ) → tally (sits_at j) hs + weight (i == j) ≡ pins W j = λ j. release-count W r.number x sh.safe owned (sits_at j) in
+    let less : (j : ℕ) → tally (sits_at j) hs + weight (i == j) ≡ pins W j =
+    λ j. release-count W r.number x sh.safe owned (sits_at j) in
     let old : get_or s.words (place_of i) 0 ≡ encoded (word_at W i) = sh.words i inside in
     let one = less i in let yes : weight (i == i) ≡ 1 = ap weight (eq-eqb i i refl) in
-    reader-goes k s W sh id i (get_or s.words (place_of i) 0 - 1) v r (reader_released r x) hs seated at-reader inside (safe_kept W (Release r.number x) sh.safe can)
+    reader-goes k s W sh id i (get_or s.words (place_of i) 0 - 1) v r (reader_released r x) hs seated at-reader inside
+    (safe_kept W (Release r.number x) sh.safe can)
     (let goal : get_or s.words (place_of i) 0 - 1 ≡ encoded (word_at (with_holders W hs) i) = omega arith in goal)
     (λ j ne. let m = less j in let off : weight (i == j) ≡ 0 = ap weight (ne_eqb i j (λ e. ne (sym e))) in omega arith)
     (λ q ne y. holds-same-less W q r.number x sh.safe owned ne y)
-    (with-holds W hs sh.next sh.owner id r held (notes_of held r.notes) r.looks mine (holds-less W r.number r.held x sh.safe mine.held owned) (noted-left W held r.notes mine.notes) mine.looks) refl
+    (with-holds W hs sh.next sh.owner id r held (notes_of held r.notes) r.looks mine
+    (holds-less W r.number r.held x sh.safe mine.held owned) (noted-left W held r.notes mine.notes) mine.looks) refl
 
-releases-at : (k : Shape) (slots id i : ℕ) (me : M) (r : ReaderView) (y : Id) → me.0.reader ≡ Some r → i < k.slots → y.slot ≡ i → 0 < tally (same_id y) r.held
-    → Allows (Shown k) slots id me (place_of i) (λ n. (n + (2 ^ 64 - 1)) % 2 ^ 64) (released (step slots (place_of i) 1 0 none) me)
+releases-at : (k : Shape) (slots id i : ℕ) (me : M) (r : ReaderView) (y : Id) → me.0.reader ≡ Some r → i < k.slots
+    → y.slot ≡ i → 0 < tally (same_id y) r.held
+    → Allows (Shown k) slots id me (place_of i) (λ n. (n + (2 ^ 64 - 1)) % 2 ^ 64)
+    (released (step slots (place_of i) 1 0 none) me)
 releases-at k slots id i me r y is inside here have s (W, sh) deep seated small =
     let n : ℕ = get_or s.words (place_of i) 0 in
-    let mine : OfReader W sh.next sh.owner id r = of-here (OfReader W sh.next sh.owner id) me.0.reader r is (sh.each id me.0 seated).1 in
+    let mine : OfReader W sh.next sh.owner id r = of-here (OfReader W sh.next sh.owner id) me.0.reader r is
+    (sh.each id me.0 seated).1 in
     let tells = told k s W sh id i r inside mine in
     let g = (tells.held y have here).0 in
-    let have' : 0 < tally (same_id (id_in i n)) r.held = subst (λ (z : Id). 0 < tally (same_id z) r.held) (λ c. record { slot = here c; generation = sym g c }) have in (
+    let have' : 0 < tally (same_id (id_in i n)) r.held =
+    subst (λ (z : Id). 0 < tally (same_id z) r.held) (λ c. record { slot = here c; generation = sym g c }) have in (
       released_view me.0 i n,
       keeps,
       tt,
       (
         after W (Release r.number (id_in i n)),
-        subst (λ (z : Option ReaderView). IsShown k record { words = set s.words (place_of i) ((n + (2 ^ 64 - 1)) % 2 ^ 64); homes = s.homes; views = set s.views id (view me.0.keeper (on (λ r. reader_released r (id_in i n)) z)) } (after W (Release r.number (id_in i n)))) (sym is)
-            (subst (λ (m : ℕ). IsShown k record { words = set s.words (place_of i) m; homes = s.homes; views = set s.views id (view me.0.keeper (Some (reader_released r (id_in i n)))) } (after W (Release r.number (id_in i n))))
-            (sym (sub_one n (has-pin k s W sh id me.0 r (id_in i n) seated is inside have') small)) (reader-releases k s W sh id me.0 r (id_in i n) seated is inside have')),
+        subst (λ (z : Option ReaderView). IsShown k record {
+          words =
+              set s.words (place_of i) ((n + (2 ^ 64 - 1)) % 2 ^ 64);
+          homes = s.homes;
+          views = set s.views id (view me.0.keeper (on (λ r. reader_released r (id_in i n)) z));
+        }
+            (after W (Release r.number (id_in i n)))) (sym is)
+            (subst (λ (m : ℕ). IsShown k record {
+              words = set s.words (place_of i) m;
+              homes = s.homes;
+              views = set s.views id (view me.0.keeper (Some (reader_released r (id_in i n))));
+            }
+            (after W (Release r.number (id_in i n))))
+            (sym (sub_one n (has-pin k s W sh id me.0 r (id_in i n) seated is inside have') small))
+            (reader-releases k s W sh id me.0 r (id_in i n) seated is inside have')),
       ),
       at-slot i (ReleasedAt me n (released_view me.0 i n, me.1)) (refl, tells-all k s W sh id i me.0 seated inside),
     )
 
-pub releases-step : (k : Shape) (slots id p : ℕ) (me : M) (r : ReaderView) (y : Id) → p ≡ place_of y.slot → me.0.reader ≡ Some r → y.slot < k.slots → 0 < tally (same_id y) r.held
+pub releases-step : (k : Shape) (slots id p : ℕ) (me : M) (r : ReaderView) (y : Id) → p ≡ place_of y.slot
+    → me.0.reader ≡ Some r → y.slot < k.slots → 0 < tally (same_id y) r.held
     → Allows (Shown k) slots id me p (λ n. (n + (2 ^ 64 - 1)) % 2 ^ 64) (released (step slots p 1 0 none) me)
-releases-step k slots id p me r y at is inside have = subst (λ (z : ℕ). Allows (Shown k) slots id me z (λ n. (n + (2 ^ 64 - 1)) % 2 ^ 64) (released (step slots z 1 0 none) me)) (sym at) (releases-at k slots id y.slot me r y is inside refl have)
+releases-step k slots id p me r y at is inside have =
+    subst (λ (z : ℕ). Allows (Shown k) slots id me z (λ n. (n + (2 ^ 64 - 1)) % 2 ^ 64)
+    (released (step slots z 1 0 none) me)) (sym at) (releases-at k slots id y.slot me r y is inside refl have)
 
 -- a held Id is the one of its slot
-held-is : (w : WorldState) (next : ℕ) (owner : ℕ → ℕ) (id : ℕ) (r : ReaderView) (x : Id) → IsSafe w → OfReader w next owner id r → 0 < tally (same_id x) r.held → (x.slot < w.shape.slots) × (x.generation ≡ (at w x.slot).generation) × (may_be_held (at w x.slot).phase ≡ true)
-held-is w next owner id r x safe mine have = let h = safe.held r.number x (has-copies w r x mine.held have) in (h.0, sym h.1, h.2)
+held-is : (w : WorldState) (next : ℕ) (owner : ℕ → ℕ) (id : ℕ) (r : ReaderView) (x : Id) → IsSafe w
+    → OfReader w next owner id r → 0 < tally (same_id x) r.held
+    → (x.slot < w.shape.slots) × (x.generation ≡ (at w x.slot).generation) × (may_be_held (at w x.slot).phase ≡ true)
+held-is w next owner id r x safe mine have = let h = safe.held r.number x (has-copies w r x mine.held have) in
+    (h.0, sym h.1, h.2)
 
 pub descr_found : (d : Descr) (n : ℕ) → descr_code.IsGiven d → n ≡ descr_code.encoded d → descr_code.decoded n ≡ Some d
 descr_found d n given is = ap descr_code.decoded is ∙ descr-decoded d given
 
-pub reader-notes : (k : Shape) (s : Table) (W : WorldState) (sh : IsShown k s W) (id : ℕ) (v : View) (r : ReaderView) (x : Id) → get_elem? s.views id ≡ some v → v.reader ≡ Some r → x.slot < k.slots → 0 < tally (same_id x) r.held
-    → IsShown k record { words = set s.words (descr_place x.slot) (get_or s.words (descr_place x.slot) 0); homes = s.homes; views = set s.views id (view v.keeper (Some (reader_noted r x (at W x.slot).descr))) } W
+pub reader-notes : (k : Shape) (s : Table) (W : WorldState) (sh : IsShown k s W) (id : ℕ) (v : View) (r : ReaderView)
+    (x : Id) → get_elem? s.views id ≡ some v → v.reader ≡ Some r → x.slot < k.slots → 0 < tally (same_id x) r.held
+    → IsShown k record {
+      words = set s.words (descr_place x.slot) (get_or s.words (descr_place x.slot) 0);
+      homes = s.homes;
+      views = set s.views id (view v.keeper (Some (reader_noted r x (at W x.slot).descr)));
+    } W
 reader-notes k s W sh id v r x seated is inside have =
     let was = sh.each id v seated in
     let mine : OfReader W sh.next sh.owner id r = of-here (OfReader W sh.next sh.owner id) v.reader r is was.1 in
     let known = held-is W sh.next sh.owner id r x sh.safe mine have in
-    let shown : given_as W (id_at W x.slot) (at W x.slot).descr ≡ 1 = (sh.safe.slots x.slot (in-shape k s W sh x.slot inside)).shown known.2 in
-    let own : given_as W x (at W x.slot).descr ≡ 1 = subst (λ (z : ℕ). given_as W record { slot = x.slot; generation = z } (at W x.slot).descr ≡ 1) (sym known.1) shown in
-    still-shown k s W sh id (descr_place x.slot) (view v.keeper (Some (reader_noted r x (at W x.slot).descr)))
-    (was.0, record { shape = mine.shape; born = mine.born; mine = mine.mine; held = mine.held; notes = ((let p = own in omega arith), mine.notes); looks = mine.looks }) v seated (turn-to v r (reader_noted r x (at W x.slot).descr) is refl)
+    let shown : given_as W (id_at W x.slot) (at W x.slot).descr ≡ 1 =
+    (sh.safe.slots x.slot (in-shape k s W sh x.slot inside)).shown known.2 in
+    let own : given_as W x (at W x.slot).descr ≡ 1 =
+    subst (λ (z : ℕ). given_as W record { slot = x.slot; generation = z } (at W x.slot).descr ≡ 1)
+    (sym known.1) shown in
+    still-shown k s W sh id (descr_place x.slot) (view v.keeper (Some (reader_noted r x (at W x.slot).descr))) (
+      was.0,
+      record {
+        shape = mine.shape;
+        born = mine.born;
+        mine = mine.mine;
+        held = mine.held;
+        notes = ((let p = own in omega arith), mine.notes);
+        looks = mine.looks;
+      },
+    ) v seated
+    (turn-to v r (reader_noted r x (at W x.slot).descr) is refl)
 
-pub notes-step : (k : Shape) (slots id i : ℕ) (me : M) (r : ReaderView) (y : Id) → me.0.reader ≡ Some r → y.slot ≡ i → i < k.slots → 0 < tally (same_id y) r.held
+pub notes-step : (k : Shape) (slots id i : ℕ) (me : M) (r : ReaderView) (y : Id) → me.0.reader ≡ Some r → y.slot ≡ i
+    → i < k.slots → 0 < tally (same_id y) r.held
     → Allows (Shown k) slots id me (descr_place i) (λ n. n) (noted (step slots (descr_place i) 0 0 none) me)
 notes-step k slots id i me r y is here inside have s (W, sh) deep seated small =
-    let mine : OfReader W sh.next sh.owner id r = of-here (OfReader W sh.next sh.owner id) me.0.reader r is (sh.each id me.0 seated).1 in
+    let mine : OfReader W sh.next sh.owner id r = of-here (OfReader W sh.next sh.owner id) me.0.reader r is
+    (sh.each id me.0 seated).1 in
     let n : ℕ = get_or s.words (descr_place i) 0 in
     let d : Descr = (at W i).descr in
     let x : Id = id_at W i in
     let known = held-is W sh.next sh.owner id r y sh.safe mine have in
-    let have' : 0 < tally (same_id x) r.held = subst (λ (z : Id). 0 < tally (same_id z) r.held) (λ c. record { slot = here c; generation = (known.1 ∙ ap (λ (z : ℕ). (at W z).generation) here) c }) have in (
+    let have' : 0 < tally (same_id x) r.held = subst (λ (z : Id). 0 < tally (same_id z) r.held)
+    (λ c. record { slot = here c; generation = (known.1 ∙ ap (λ (z : ℕ). (at W z).generation) here) c }) have in (
       view me.0.keeper (Some (reader_noted r x d)),
       keeps,
       tt,
       (W, reader-notes k s W sh id me.0 r x seated is inside have'),
       λ r' y' is' have'' word. let same = some-same me.0.reader r r' is is' in
           let index : i ≡ y'.slot = omega arith in
-          let known' = held-is W sh.next sh.owner id r y' sh.safe mine (subst (λ (z : ReaderView). 0 < tally (same_id y') z.held) (sym same) have'') in (
+          let known' = held-is W sh.next sh.owner id r y' sh.safe mine
+          (subst (λ (z : ReaderView). 0 < tally (same_id y') z.held) (sym same) have'') in (
             d,
             descr_found d n (sh.given i inside) (sh.descrs i inside),
-            λ c. (view me.0.keeper (Some (reader_noted (same c) record { slot = index c; generation = (ap (λ (z : ℕ). (at W z).generation) index ∙ sym known'.1) c } d)), me.1),
+            λ c. (
+              view me.0.keeper (Some (reader_noted (same c) record {
+                slot = index c;
+                generation = (ap (λ (z : ℕ). (at W z).generation) index ∙ sym known'.1) c;
+              } d)),
+              me.1,
+            ),
           ),
     )

@@ -24,11 +24,13 @@ use Rattle.pin_words.specs.Plays.{Behind, Tells, AreListed, Show, Meets, MeetsBo
 use Rattle.pin_words.specs.Plays as play
 use Rattle.pin_words.proofs.Steps.{Turns, of-map, of-here, of-put, some-same, in-list, has-keeper, has-reader, turn-keeper}
 
-at-last : {A : Type 0} (l : List A) (a b : A) (j : ℕ) → get_elem? (l ++ a ∷ []) j ≡ some b → (get_elem? l j ≡ some b) ⊎ ((j ≡ length l) × (a ≡ b))
+at-last : {A : Type 0} (l : List A) (a b : A) (j : ℕ) → get_elem? (l ++ a ∷ []) j ≡ some b
+    → (get_elem? l j ≡ some b) ⊎ ((j ≡ length l) × (a ≡ b))
 at-last [] a b zero e = inr (refl, some-injective a b e)
 at-last [] a b (suc j) e = absurd (some-ne-none b (sym e))
 at-last (x ∷ xs) a b zero e = inl e
-at-last (x ∷ xs) a b (suc j) e = ⊎_elim (λ h. inl h) (λ (t : (j ≡ length xs) × (a ≡ b)). inr (ap suc t.0, t.1)) (at-last xs a b j e)
+at-last (x ∷ xs) a b (suc j) e = ⊎_elim (λ h. inl h) (λ (t : (j ≡ length xs) × (a ≡ b)). inr (ap suc t.0, t.1))
+    (at-last xs a b j e)
 
 -- the seats of the readers, once the reader n has the seat q
 abbrev moved-owner : ℕ → ℕ → (ℕ → ℕ) → ℕ → ℕ
@@ -41,7 +43,8 @@ moved-old : (n q : ℕ) (owner : ℕ → ℕ) (r : ℕ) → r ≢ n → moved-ow
 moved-old n q owner r h = ap (λ (b : Bool). cond b q (owner r)) (ne_eqb r n h)
 
 -- the table at the start
-pub opens : (k : Shape) (slots : List Slot) (words : List ℕ) → IsWithinLimits k → Opens k slots → AreLaid slots (length slots) words → Shown k (opening words [] (view_with_slots k slots))
+pub opens : (k : Shape) (slots : List Slot) (words : List ℕ) → IsWithinLimits k → Opens k slots
+    → AreLaid slots (length slots) words → Shown k (opening words [] (view_with_slots k slots))
 opens k slots words fits begins are = (
   opened_with k slots,
   record {
@@ -55,9 +58,11 @@ opens k slots words fits begins are = (
     keeper = 0;
     next = 1;
     owner = λ _. 0;
-    each = λ j u e. ⊎_elim (λ (t : (j ≡ 0) × (view_with_slots k slots ≡ u)). subst (λ (z : ℕ × View). Agrees (opened_with k slots) 0 1 (λ _. 0) z.0 z.1) (λ c. (sym t.0 c, t.1 c))
+    each = λ j u e. ⊎_elim (λ (t : (j ≡ 0) × (view_with_slots k slots ≡ u)). subst (λ (z : ℕ
+        × View). Agrees (opened_with k slots) 0 1 (λ _. 0) z.0 z.1) (λ c. (sym t.0 c, t.1 c))
         (record { shape = refl; mine = refl; slots = refl; published = refl; next_is = refl; looks = tt }, tt))
-        (λ (t : (j ≢ 0) × (get_elem? (view_with_slots k slots ∷ []) j ≡ some u)). absurd (beyond j u t.0 t.1)) (at_set (view_with_slots k slots ∷ []) 0 j (view_with_slots k slots) u e);
+        (λ (t : (j ≢ 0) × (get_elem? (view_with_slots k slots ∷ []) j ≡ some u)). absurd (beyond j u t.0 t.1))
+        (at_set (view_with_slots k slots ∷ []) 0 j (view_with_slots k slots) u e);
     unborn = λ r later x. refl;
     kept = (view_with_slots k slots, keeper_with_slots k slots, refl, refl);
     owned = λ r. inl (λ x. refl);
@@ -72,25 +77,65 @@ opens k slots words fits begins are = (
     beyond (suc j) u other e = some-ne-none u (sym e)
 
 -- slots of which nothing was asked
-pub fresh_opens : (k : Shape) (slots : List Slot) → IsWithinLimits k → slots ≡ replicate k.slots opening_slot → Opens k slots
+pub fresh_opens : (k : Shape) (slots : List Slot) → IsWithinLimits k → slots ≡ replicate k.slots opening_slot
+    → Opens k slots
 fresh_opens k slots fits are = subst (Opens k) (sym are) (record {
   wide = length-replicate k.slots opening_slot;
-  each = λ s h. subst (SlotOpens k.max_gen) (sym (opening_at k.slots s)) (record { given = (omega arith, refl); bounded = fits.4; last = λ e. cc });
+  each = λ s h. subst (SlotOpens k.max_gen) (sym (opening_at k.slots s)) (record {
+    given = (omega arith, refl);
+    bounded = fits.4;
+    last = λ e. cc;
+  });
 })
 
-pub fresh_keeper : (k : Shape) (slots : List Slot) → slots ≡ replicate k.slots opening_slot → keeper_with_slots k slots ≡ opening_keeper k
+pub fresh_keeper : (k : Shape) (slots : List Slot) → slots ≡ replicate k.slots opening_slot
+    → keeper_with_slots k slots ≡ opening_keeper k
 fresh_keeper k slots are = ap (keeper_with_slots k) are
-    ∙ ap (λ (w : WorldState). record { shape = k; slots = replicate k.slots opening_slot; published = w.published; next = 1; looks = [] }) (opening-is k)
+    ∙ ap (λ (w : WorldState). record {
+      shape = k;
+      slots = replicate k.slots opening_slot;
+      published = w.published;
+      next = 1;
+      looks = [];
+    }) (opening-is k)
 
 -- the same world under other views
-reseated : (k : Shape) (s : Table) (W : WorldState) (sh : IsShown k s W) (next : ℕ) (owner : ℕ → ℕ) (views : List View) → ((j : ℕ) (u : View) → get_elem? views j ≡ some u → Agrees W sh.keeper next owner j u) → ((r : ℕ) → next ≤ r → HoldsJust W r [])
+reseated : (k : Shape) (s : Table) (W : WorldState) (sh : IsShown k s W) (next : ℕ) (owner : ℕ → ℕ) (views : List View)
+    → ((j : ℕ) (u : View) → get_elem? views j ≡ some u → Agrees W sh.keeper next owner j u)
+    → ((r : ℕ) → next ≤ r → HoldsJust W r [])
     → HasKeeper views sh.keeper → ((r : ℕ) → HasReader s.views (sh.owner r) r → HasReader views (owner r) r)
     → IsShown k record { words = s.words; homes = s.homes; views = views } W
-reseated k s W sh next owner views each unborn kept moves = record { fits = sh.fits; shape = sh.shape; wide = sh.wide; safe = sh.safe; words = sh.words; descrs = sh.descrs; given = sh.given; keeper = sh.keeper; next = next; owner = owner; each = each; unborn = unborn; kept = kept; owned = λ r. ⊎_elim (λ (e : HoldsJust W r []). inl e) (λ (h : HasReader s.views (sh.owner r) r). inr (moves r h)) (sh.owned r) }
+reseated k s W sh next owner views each unborn kept moves =
+    record {
+      fits = sh.fits;
+      shape = sh.shape;
+      wide = sh.wide;
+      safe = sh.safe;
+      words = sh.words;
+      descrs = sh.descrs;
+      given = sh.given;
+      keeper = sh.keeper;
+      next = next;
+      owner = owner;
+      each = each;
+      unborn = unborn;
+      kept = kept;
+      owned = λ r. ⊎_elim (λ (e : HoldsJust W r []). inl e) (λ (h : HasReader s.views (sh.owner r) r). inr (moves r h))
+          (sh.owned r);
+    }
 
 -- a reader's part, as readers are added or move
-reader-moves : (w : WorldState) (next next' : ℕ) (owner owner' : ℕ → ℕ) (j j' : ℕ) (r : ReaderView) → next ≤ next' → owner' r.number ≡ j' → OfReader w next owner j r → OfReader w next' owner' j' r
-reader-moves w next next' owner owner' j j' r more is a = record { shape = a.shape; born = (let b = a.born in omega arith); mine = is; held = a.held; notes = a.notes; looks = a.looks }
+reader-moves : (w : WorldState) (next next' : ℕ) (owner owner' : ℕ → ℕ) (j j' : ℕ) (r : ReaderView) → next ≤ next'
+    → owner' r.number ≡ j' → OfReader w next owner j r → OfReader w next' owner' j' r
+reader-moves w next next' owner owner' j j' r more is a =
+    record {
+      shape = a.shape;
+      born = (let b = a.born in omega arith);
+      mine = is;
+      held = a.held;
+      notes = a.notes;
+      looks = a.looks;
+    }
 
 longer-keeper : (vs ws : List View) (j : ℕ) → HasKeeper vs j → HasKeeper (vs ++ ws) j
 longer-keeper vs ws j h = (h.0, h.1, at_longer vs ws j h.0 h.2, h.3)
@@ -99,11 +144,14 @@ longer-reader : (vs ws : List View) (j r : ℕ) → HasReader vs j r → HasRead
 longer-reader vs ws j r h = (h.0, h.1, at_longer vs ws j h.0 h.2, h.3, h.4)
 
 -- a reader's number is one that was given
-given-number : (k : Shape) (s : Table) (W : WorldState) (sh : IsShown k s W) (r : ℕ) → HasReader s.views (sh.owner r) r → r < sh.next
-given-number k s W sh r h = let b = (of-here (OfReader W sh.next sh.owner (sh.owner r)) h.0.reader h.1 h.3 (sh.each (sh.owner r) h.0 h.2).1).born in subst (λ (z : ℕ). z < sh.next) h.4 b
+given-number : (k : Shape) (s : Table) (W : WorldState) (sh : IsShown k s W) (r : ℕ) → HasReader s.views (sh.owner r) r
+    → r < sh.next
+given-number k s W sh r h = let b = (of-here (OfReader W sh.next sh.owner (sh.owner r)) h.0.reader h.1 h.3
+    (sh.each (sh.owner r) h.0 h.2).1).born in subst (λ (z : ℕ). z < sh.next) h.4 b
 
 -- a new reader
-pub gives-shown : (k : Shape) (s : Table) (W : WorldState) (sh : IsShown k s W) (id : ℕ) (me : View) (v : KeeperView) → get_elem? s.views id ≡ some me → me.keeper ≡ Some v
+pub gives-shown : (k : Shape) (s : Table) (W : WorldState) (sh : IsShown k s W) (id : ℕ) (me : View) (v : KeeperView)
+    → get_elem? s.views id ≡ some me → me.keeper ≡ Some v
     → IsShown k record { words = s.words; homes = s.homes; views = set s.views id (gave me) ++ play.given me ∷ [] } W
 gives-shown k s W sh id me v seated is =
     let w = W in
@@ -112,47 +160,79 @@ gives-shown k s W sh id me v seated is =
     let last = length (set s.views id (gave me)) in
     let owner' = moved-owner sh.next last sh.owner in
     let turn : Turns me (gave me) = turn-keeper me (keeper_gave) in
-    let old-reader : (j : ℕ) (r : ReaderView) → OfReader w sh.next sh.owner j r → OfReader w (sh.next + 1) owner' j r = λ j r a.
-    reader-moves w sh.next (sh.next + 1) sh.owner owner' j j r (omega arith) (moved-old sh.next last sh.owner r.number (λ e. let b = a.born in omega arith) ∙ a.mine) a in
+    let old-reader : (j : ℕ) (r : ReaderView) → OfReader w sh.next sh.owner j r
+    → OfReader w (sh.next + 1) owner' j r = λ j r a.
+    reader-moves w sh.next (sh.next + 1) sh.owner owner' j j r (omega arith)
+    (moved-old sh.next last sh.owner r.number (λ e. let b = a.born in omega arith) ∙ a.mine) a in
     reseated k s W sh (sh.next + 1) owner' (set s.views id (gave me) ++ play.given me ∷ [])
     (λ j u e. ⊎_elim
     (λ (old : get_elem? (set s.views id (gave me)) j ≡ some u). ⊎_elim
-    (λ (t : (j ≡ id) × (gave me ≡ u)). subst (λ (z : ℕ × View). Agrees w sh.keeper (sh.next + 1) owner' z.0 z.1) (λ c. (sym t.0 c, t.1 c)) (
+    (λ (t : (j ≡ id) × (gave me ≡ u)). subst (λ (z : ℕ × View). Agrees w sh.keeper (sh.next + 1) owner' z.0 z.1)
+    (λ c. (sym t.0 c, t.1 c)) (
       of-put (OfKeeper w sh.keeper (sh.next + 1) id) (gave me).keeper (keeper_gave v)
           (ap (on (keeper_gave)) is)
-          record { shape = mine.shape; mine = mine.mine; slots = mine.slots; published = mine.published; next_is = ap (λ (z : ℕ). z + 1) mine.next_is; looks = mine.looks },
+          record {
+            shape = mine.shape;
+            mine = mine.mine;
+            slots = mine.slots;
+            published = mine.published;
+            next_is = ap (λ (z : ℕ). z + 1) mine.next_is;
+            looks = mine.looks;
+          },
       of-map (OfReader w sh.next sh.owner id) (OfReader w (sh.next + 1) owner' id) me.reader (old-reader id) was.1,
     ))
     (λ (t : (j ≢ id) × (get_elem? s.views j ≡ some u)). let a = sh.each j u t.1 in (
-      of-map (OfKeeper w sh.keeper sh.next j) (OfKeeper w sh.keeper (sh.next + 1) j) u.keeper (λ q b. absurd (t.0 (b.mine ∙ sym mine.mine))) a.0,
+      of-map (OfKeeper w sh.keeper sh.next j) (OfKeeper w sh.keeper (sh.next + 1) j) u.keeper
+          (λ q b. absurd (t.0 (b.mine ∙ sym mine.mine))) a.0,
       of-map (OfReader w sh.next sh.owner j) (OfReader w (sh.next + 1) owner' j) u.reader (old-reader j) a.1,
     ))
     (at_set s.views id j (gave me) u old))
-    (λ (t : (j ≡ last) × (play.given me ≡ u)). subst (λ (z : ℕ × View). Agrees w sh.keeper (sh.next + 1) owner' z.0 z.1) (λ c. (sym t.0 c, t.1 c)) (
+    (λ (t : (j ≡ last) × (play.given me ≡ u)). subst (λ (z : ℕ × View). Agrees w sh.keeper (sh.next + 1) owner' z.0 z.1)
+    (λ c. (sym t.0 c, t.1 c)) (
       tt,
       of-put (OfReader w (sh.next + 1) owner' last) (reader_from me.keeper) (reader_given v) (ap reader_from is)
-          record { shape = mine.shape; born = (let n = mine.next_is in omega arith); mine = ap owner' mine.next_is ∙ moved-new sh.next last sh.owner; held = λ x. ap (λ (z : ℕ). copies w z x) mine.next_is ∙ sh.unborn sh.next (omega arith) x; notes = tt; looks = tt },
+          record {
+            shape = mine.shape;
+            born = (let n = mine.next_is in omega arith);
+            mine = ap owner' mine.next_is ∙ moved-new sh.next last sh.owner;
+            held = λ x. ap (λ (z : ℕ). copies w z x) mine.next_is ∙ sh.unborn sh.next (omega arith) x;
+            notes = tt;
+            looks = tt;
+          },
     ))
     (at-last (set s.views id (gave me)) (play.given me) u j e))
     (λ r later. sh.unborn r (omega arith))
-    (longer-keeper (set s.views id (gave me)) (play.given me ∷ []) sh.keeper (has-keeper s.views id sh.keeper me (gave me) seated turn sh.kept))
-    (λ r h. subst (λ (z : ℕ). HasReader (set s.views id (gave me) ++ play.given me ∷ []) z r) (sym (moved-old sh.next last sh.owner r (λ e. let b = given-number k s W sh r h in omega arith)))
-    (longer-reader (set s.views id (gave me)) (play.given me ∷ []) (sh.owner r) r (has-reader s.views id (sh.owner r) r me (gave me) seated turn h)))
+    (longer-keeper (set s.views id (gave me)) (play.given me ∷ []) sh.keeper
+    (has-keeper s.views id sh.keeper me (gave me) seated turn sh.kept))
+    (λ r h. subst (λ (z : ℕ). HasReader (set s.views id (gave me) ++ play.given me ∷ []) z r)
+    (sym (moved-old sh.next last sh.owner r (λ e. let b = given-number k s W sh r h in omega arith)))
+    (longer-reader (set s.views id (gave me)) (play.given me ∷ []) (sh.owner r) r
+    (has-reader s.views id (sh.owner r) r me (gave me) seated turn h)))
 
-pub gives : (k : Shape) (id : ℕ) (me : View) (v : KeeperView) → me.keeper ≡ Some v → Splits (Shown k) id me (gave me) (play.given me)
+pub gives : (k : Shape) (id : ℕ) (me : View) (v : KeeperView) → me.keeper ≡ Some v
+    → Splits (Shown k) id me (gave me) (play.given me)
 gives k id me v is s (W, sh) seated = (W, gives-shown k s W sh id me v seated is)
 
 -- a seat that knows nothing
-pub blanks-shown : (k : Shape) (s : Table) (W : WorldState) (sh : IsShown k s W) (id : ℕ) (me : View) → get_elem? s.views id ≡ some me → IsShown k record { words = s.words; homes = s.homes; views = set s.views id me ++ spent ∷ [] } W
+pub blanks-shown : (k : Shape) (s : Table) (W : WorldState) (sh : IsShown k s W) (id : ℕ) (me : View)
+    → get_elem? s.views id ≡ some me → IsShown k record {
+      words = s.words;
+      homes = s.homes;
+      views = set s.views id me ++ spent ∷ [];
+    } W
 blanks-shown k s W sh id me seated =
     reseated k s W sh sh.next sh.owner (set s.views id me ++ spent ∷ [])
     (λ j u e. ⊎_elim
-    (λ (old : get_elem? (set s.views id me) j ≡ some u). sh.each j u (ap (λ (z : List View). get_elem? z j) (sym (set_again s.views id me seated)) ∙ old))
-    (λ (t : (j ≡ length (set s.views id me)) × (spent ≡ u)). subst (λ (z : View). Agrees W sh.keeper sh.next sh.owner j z) t.1 (tt, tt))
+    (λ (old : get_elem? (set s.views id me) j ≡ some u). sh.each j u
+    (ap (λ (z : List View). get_elem? z j) (sym (set_again s.views id me seated)) ∙ old))
+    (λ (t : (j ≡ length (set s.views id me)) × (spent ≡ u)). subst (λ
+    (z : View). Agrees W sh.keeper sh.next sh.owner j z) t.1 (tt, tt))
     (at-last (set s.views id me) spent u j e))
     sh.unborn
-    (longer-keeper (set s.views id me) (spent ∷ []) sh.keeper (has-keeper s.views id sh.keeper me me seated same sh.kept))
-    (λ r h. longer-reader (set s.views id me) (spent ∷ []) (sh.owner r) r (has-reader s.views id (sh.owner r) r me me seated same h))
+    (longer-keeper (set s.views id me) (spent ∷ []) sh.keeper
+    (has-keeper s.views id sh.keeper me me seated same sh.kept))
+    (λ r h. longer-reader (set s.views id me) (spent ∷ []) (sh.owner r) r
+    (has-reader s.views id (sh.owner r) r me me seated same h))
   where
     same : Turns me me
     same = record { keeper = λ k e. (k, e); reader = λ x e. (x, e, refl) }
@@ -161,51 +241,88 @@ pub blanks : (k : Shape) (id : ℕ) (me : View) → Splits (Shown k) id me me sp
 blanks k id me s (W, sh) seated = (W, blanks-shown k s W sh id me seated)
 
 -- two seats in one
-pub joins-shown : (k : Shape) (s : Table) (W : WorldState) (sh : IsShown k s W) (id other : ℕ) (kv : KeeperView) (rv : ReaderView) → get_elem? s.views id ≡ some (view (Some kv) None) → other ≢ id → get_elem? (set s.views id (view (Some kv) (Some rv))) other ≡ some (view None (Some rv))
-    → IsShown k record { words = s.words; homes = s.homes; views = set (set s.views id (view (Some kv) (Some rv))) other spent } W
+pub joins-shown : (k : Shape) (s : Table) (W : WorldState) (sh : IsShown k s W) (id other : ℕ) (kv : KeeperView)
+    (rv : ReaderView) → get_elem? s.views id ≡ some (view (Some kv) None) → other ≢ id
+    → get_elem? (set s.views id (view (Some kv) (Some rv))) other ≡ some (view None (Some rv))
+    → IsShown k record {
+      words = s.words;
+      homes = s.homes;
+      views = set (set s.views id (view (Some kv) (Some rv))) other spent;
+    } W
 joins-shown k s W sh id other kv rv seated apart seated' =
     let w = W in
     let a = sh.each id (view (Some kv) None) seated in
-    let b = sh.each other (view None (Some rv)) (sym (set_else s.views id other (view (Some kv) (Some rv)) apart) ∙ seated') in
+    let b = sh.each other (view None (Some rv)) (sym (set_else s.views id other (view (Some kv) (Some rv)) apart)
+    ∙ seated') in
     let owner' = moved-owner rv.number id sh.owner in
     reseated k s W sh sh.next owner' (set (set s.views id (view (Some kv) (Some rv))) other spent)
     (λ j u e. ⊎_elim
     (λ (t : (j ≡ other) × (spent ≡ u)). subst (λ (z : View). Agrees w sh.keeper sh.next owner' j z) t.1 (tt, tt))
     (λ (t : (j ≢ other) × (get_elem? (set s.views id (view (Some kv) (Some rv))) j ≡ some u)). ⊎_elim
-    (λ (q : (j ≡ id) × (view (Some kv) (Some rv) ≡ u)). subst (λ (z : ℕ × View). Agrees w sh.keeper sh.next owner' z.0 z.1) (λ c. (sym q.0 c, q.1 c))
-    (a.0, reader-moves w sh.next sh.next sh.owner owner' other id rv (omega arith) (moved-new rv.number id sh.owner) b.1))
+    (λ (q : (j ≡ id) × (view (Some kv) (Some rv) ≡ u)). subst (λ (z : ℕ
+    × View). Agrees w sh.keeper sh.next owner' z.0 z.1) (λ c. (sym q.0 c, q.1 c)) (
+      a.0,
+      reader-moves w sh.next sh.next sh.owner owner' other id rv (omega arith)
+          (moved-new rv.number id sh.owner) b.1,
+    ))
     (λ (q : (j ≢ id) × (get_elem? s.views j ≡ some u)). let h = sh.each j u q.1 in (
       h.0,
       of-map (OfReader w sh.next sh.owner j) (OfReader w sh.next owner' j) u.reader
-          (λ r x. reader-moves w sh.next sh.next sh.owner owner' j j r (omega arith) (moved-old rv.number id sh.owner r.number (λ same. t.0 (sym x.mine ∙ (ap sh.owner same ∙ b.1.mine))) ∙ x.mine) x) h.1,
+          (λ r x. reader-moves w sh.next sh.next sh.owner owner' j j r (omega arith)
+          (moved-old rv.number id sh.owner r.number (λ same. t.0 (sym x.mine ∙ (ap sh.owner same ∙ b.1.mine)))
+          ∙ x.mine) x) h.1,
     ))
     (at_set s.views id j (view (Some kv) (Some rv)) u t.1))
     (at_set (set s.views id (view (Some kv) (Some rv))) other j spent u e))
     sh.unborn
-    (subst (λ (z : ℕ). HasKeeper (set (set s.views id (view (Some kv) (Some rv))) other spent) z) a.0.mine
-    (view (Some kv) (Some rv), kv, set_else (set s.views id (view (Some kv) (Some rv))) other id spent (λ e. apart (sym e)) ∙ set_here s.views id (view (Some kv) (Some rv)) (in-list s.views id (view (Some kv) None) seated), refl))
+    (subst (λ (z : ℕ). HasKeeper (set (set s.views id (view (Some kv) (Some rv))) other spent) z) a.0.mine (
+      view (Some kv) (Some rv),
+      kv,
+      set_else (set s.views id (view (Some kv) (Some rv))) other id spent
+          (λ e. apart (sym e)) ∙ set_here s.views id (view (Some kv) (Some rv))
+          (in-list s.views id (view (Some kv) None) seated),
+      refl,
+    ))
     (λ r h. dite (ℕ_discrete r rv.number)
     (λ e. (
       view (Some kv) (Some rv),
       rv,
-      ap (get_elem? (set (set s.views id (view (Some kv) (Some rv))) other spent)) (ap owner' e ∙ moved-new rv.number id sh.owner)
-          ∙ (set_else (set s.views id (view (Some kv) (Some rv))) other id spent (λ q. apart (sym q)) ∙ set_here s.views id (view (Some kv) (Some rv)) (in-list s.views id (view (Some kv) None) seated)),
+      ap (get_elem? (set (set s.views id (view (Some kv) (Some rv))) other spent)) (ap owner' e
+          ∙ moved-new rv.number id sh.owner)
+          ∙ (set_else (set s.views id (view (Some kv) (Some rv))) other id spent (λ q. apart (sym q))
+          ∙ set_here s.views id (view (Some kv) (Some rv)) (in-list s.views id (view (Some kv) None) seated)),
       refl,
       sym e,
     ))
     (λ ne. let there = moved-old rv.number id sh.owner r ne in
-    let not-other : sh.owner r ≢ other = λ q. ne (sym h.4 ∙ (let same : h.0 ≡ view None (Some rv) = some-injective h.0 (view None (Some rv)) (sym h.2 ∙ (ap (get_elem? s.views) q ∙ (sym (set_else s.views id other (view (Some kv) (Some rv)) apart) ∙ seated'))) in
+    let not-other : sh.owner r ≢ other = λ q. ne (sym h.4
+    ∙ (let same : h.0 ≡ view None (Some rv) = some-injective h.0 (view None (Some rv)) (sym h.2
+    ∙ (ap (get_elem? s.views) q ∙ (sym (set_else s.views id other (view (Some kv) (Some rv)) apart) ∙ seated'))) in
     ap (λ (z : ReaderView). z.number) (some-same h.0.reader h.1 rv h.3 (ap (λ (z : View). z.reader) same)))) in
-    let not-id : sh.owner r ≢ id = λ q. (let same : h.0 ≡ view (Some kv) None = some-injective h.0 (view (Some kv) None) (sym h.2 ∙ (ap (get_elem? s.views) q ∙ seated)) in
-    let gone : None ≡ Some h.1 = sym (ap (λ (z : View). z.reader) same) ∙ h.3 in cc) in
-    (h.0, h.1, ap (get_elem? (set (set s.views id (view (Some kv) (Some rv))) other spent)) there ∙ (set_else (set s.views id (view (Some kv) (Some rv))) other (sh.owner r) spent not-other ∙ (set_else s.views id (sh.owner r) (view (Some kv) (Some rv)) not-id ∙ h.2)), h.3, h.4)))
+    let not-id : sh.owner r ≢ id = λ q. (let same : h.0 ≡ view (Some kv) None =
+    some-injective h.0 (view (Some kv) None) (sym h.2 ∙ (ap (get_elem? s.views) q ∙ seated)) in
+    let gone : None ≡ Some h.1 = sym (ap (λ (z : View). z.reader) same) ∙ h.3 in cc) in (
+      h.0,
+      h.1,
+      ap (get_elem? (set (set s.views id (view (Some kv) (Some rv))) other spent)) there
+          ∙ (set_else (set s.views id (view (Some kv) (Some rv))) other (sh.owner r) spent not-other
+          ∙ (set_else s.views id (sh.owner r) (view (Some kv) (Some rv)) not-id ∙ h.2)),
+      h.3,
+      h.4,
+    )))
 
-pub joins : (k : Shape) (id other : ℕ) (kv : KeeperView) (rv : ReaderView) → Joins (Shown k) id (view (Some kv) None) other (view None (Some rv)) (view (Some kv) (Some rv)) spent
+pub joins : (k : Shape) (id other : ℕ) (kv : KeeperView) (rv : ReaderView)
+    → Joins (Shown k) id (view (Some kv) None) other (view None (Some rv)) (view (Some kv) (Some rv)) spent
 joins k id other kv rv s (W, sh) seated apart seated' = (W, joins-shown k s W sh id other kv rv seated apart seated')
 
 -- a joined seat in two
-pub parts-shown : (k : Shape) (s : Table) (W : WorldState) (sh : IsShown k s W) (id : ℕ) (kv : KeeperView) (rv : ReaderView) → get_elem? s.views id ≡ some (view (Some kv) (Some rv))
-    → IsShown k record { words = s.words; homes = s.homes; views = set s.views id (view (Some kv) None) ++ view None (Some rv) ∷ [] } W
+pub parts-shown : (k : Shape) (s : Table) (W : WorldState) (sh : IsShown k s W) (id : ℕ) (kv : KeeperView)
+    (rv : ReaderView) → get_elem? s.views id ≡ some (view (Some kv) (Some rv))
+    → IsShown k record {
+      words = s.words;
+      homes = s.homes;
+      views = set s.views id (view (Some kv) None) ++ view None (Some rv) ∷ [];
+    } W
 parts-shown k s W sh id kv rv seated =
     let w = W in
     let a = sh.each id (view (Some kv) (Some rv)) seated in
@@ -214,38 +331,65 @@ parts-shown k s W sh id kv rv seated =
     reseated k s W sh sh.next owner' (set s.views id (view (Some kv) None) ++ view None (Some rv) ∷ [])
     (λ j u e. ⊎_elim
     (λ (old : get_elem? (set s.views id (view (Some kv) None)) j ≡ some u). ⊎_elim
-    (λ (q : (j ≡ id) × (view (Some kv) None ≡ u)). subst (λ (z : ℕ × View). Agrees w sh.keeper sh.next owner' z.0 z.1) (λ c. (sym q.0 c, q.1 c)) (a.0, tt))
+    (λ (q : (j ≡ id) × (view (Some kv) None ≡ u)). subst (λ (z : ℕ × View). Agrees w sh.keeper sh.next owner' z.0 z.1)
+    (λ c. (sym q.0 c, q.1 c)) (a.0, tt))
     (λ (q : (j ≢ id) × (get_elem? s.views j ≡ some u)). let h = sh.each j u q.1 in (
       h.0,
       of-map (OfReader w sh.next sh.owner j) (OfReader w sh.next owner' j) u.reader
-          (λ r x. reader-moves w sh.next sh.next sh.owner owner' j j r (omega arith) (moved-old rv.number last sh.owner r.number (λ same. q.0 (sym x.mine ∙ (ap sh.owner same ∙ a.1.mine))) ∙ x.mine) x) h.1,
+          (λ r x. reader-moves w sh.next sh.next sh.owner owner' j j r (omega arith)
+          (moved-old rv.number last sh.owner r.number (λ same. q.0 (sym x.mine ∙ (ap sh.owner same ∙ a.1.mine)))
+          ∙ x.mine) x) h.1,
     ))
     (at_set s.views id j (view (Some kv) None) u old))
-    (λ (t : (j ≡ last) × (view None (Some rv) ≡ u)). subst (λ (z : ℕ × View). Agrees w sh.keeper sh.next owner' z.0 z.1) (λ c. (sym t.0 c, t.1 c))
-    (tt, reader-moves w sh.next sh.next sh.owner owner' id last rv (omega arith) (moved-new rv.number last sh.owner) a.1))
+    (λ (t : (j ≡ last) × (view None (Some rv) ≡ u)). subst (λ (z : ℕ × View). Agrees w sh.keeper sh.next owner' z.0 z.1)
+    (λ c. (sym t.0 c, t.1 c)) (
+      tt,
+      reader-moves w sh.next sh.next sh.owner owner' id last rv (omega arith)
+          (moved-new rv.number last sh.owner) a.1,
+    ))
     (at-last (set s.views id (view (Some kv) None)) (view None (Some rv)) u j e))
     sh.unborn
     (subst (λ (z : ℕ). HasKeeper (set s.views id (view (Some kv) None) ++ view None (Some rv) ∷ []) z) a.0.mine
-    (longer-keeper (set s.views id (view (Some kv) None)) (view None (Some rv) ∷ []) id (view (Some kv) None, kv, set_here s.views id (view (Some kv) None) (in-list s.views id (view (Some kv) (Some rv)) seated), refl)))
+    (longer-keeper (set s.views id (view (Some kv) None)) (view None (Some rv) ∷ []) id (
+      view (Some kv) None,
+      kv,
+      set_here s.views id (view (Some kv) None) (in-list s.views id (view (Some kv) (Some rv)) seated),
+      refl,
+    )))
     (λ r h. dite (ℕ_discrete r rv.number)
     (λ e. (
       view None (Some rv),
       rv,
-      ap (get_elem? (set s.views id (view (Some kv) None) ++ view None (Some rv) ∷ [])) (ap owner' e ∙ moved-new rv.number last sh.owner)
+      ap (get_elem? (set s.views id (view (Some kv) None) ++ view None (Some rv) ∷ [])) (ap owner' e
+          ∙ moved-new rv.number last sh.owner)
           ∙ at_last (set s.views id (view (Some kv) None)) (view None (Some rv)) last refl,
       refl,
       sym e,
     ))
-    (λ ne. let not-id : sh.owner r ≢ id = λ q. ne (sym h.4 ∙ (let same : h.0 ≡ view (Some kv) (Some rv) = some-injective h.0 (view (Some kv) (Some rv)) (sym h.2 ∙ (ap (get_elem? s.views) q ∙ seated)) in
+    (λ ne. let not-id : sh.owner r ≢ id = λ q. ne (sym h.4
+    ∙ (let same : h.0 ≡ view (Some kv) (Some rv) =
+    some-injective h.0 (view (Some kv) (Some rv)) (sym h.2 ∙ (ap (get_elem? s.views) q ∙ seated)) in
     ap (λ (z : ReaderView). z.number) (some-same h.0.reader h.1 rv h.3 (ap (λ (z : View). z.reader) same)))) in
-    subst (λ (z : ℕ). HasReader (set s.views id (view (Some kv) None) ++ view None (Some rv) ∷ []) z r) (sym (moved-old rv.number last sh.owner r ne))
-    (longer-reader (set s.views id (view (Some kv) None)) (view None (Some rv) ∷ []) (sh.owner r) r (h.0, h.1, set_else s.views id (sh.owner r) (view (Some kv) None) not-id ∙ h.2, h.3, h.4))))
+    subst (λ (z : ℕ). HasReader (set s.views id (view (Some kv) None) ++ view None (Some rv) ∷ []) z r)
+    (sym (moved-old rv.number last sh.owner r ne))
+    (longer-reader (set s.views id (view (Some kv) None)) (view None (Some rv) ∷ []) (sh.owner r) r (
+      h.0,
+      h.1,
+      set_else s.views id (sh.owner r) (view (Some kv) None) not-id ∙ h.2,
+      h.3,
+      h.4,
+    ))))
 
-pub parts : (k : Shape) (id : ℕ) (kv : KeeperView) (rv : ReaderView) → Splits (Shown k) id (view (Some kv) (Some rv)) (view (Some kv) None) (view None (Some rv))
+pub parts : (k : Shape) (id : ℕ) (kv : KeeperView) (rv : ReaderView)
+    → Splits (Shown k) id (view (Some kv) (Some rv)) (view (Some kv) None) (view None (Some rv))
 parts k id kv rv s (W, sh) seated = (W, parts-shown k s W sh id kv rv seated)
 
-pub joins-any : (k : Shape) (id other : ℕ) (me me' : View) (kv : KeeperView) (rv : ReaderView) → me ≡ view (Some kv) None → me' ≡ view None (Some rv) → Joins (Shown k) id me other me' (joined me me') spent
-joins-any k id other me me' kv rv a b = subst (λ (z : View × View). Joins (Shown k) id z.0 other z.1 (joined z.0 z.1) spent) (λ c. (sym a c, sym b c)) (joins k id other kv rv)
+pub joins-any : (k : Shape) (id other : ℕ) (me me' : View) (kv : KeeperView) (rv : ReaderView)
+    → me ≡ view (Some kv) None → me' ≡ view None (Some rv) → Joins (Shown k) id me other me' (joined me me') spent
+joins-any k id other me me' kv rv a b = subst (λ (z : View
+    × View). Joins (Shown k) id z.0 other z.1 (joined z.0 z.1) spent) (λ c. (sym a c, sym b c)) (joins k id other kv rv)
 
-pub parts-any : (k : Shape) (id : ℕ) (me : View) (kv : KeeperView) (rv : ReaderView) → me ≡ view (Some kv) (Some rv) → Splits (Shown k) id me (keeper_part me) (reader_part me)
-parts-any k id me kv rv a = subst (λ (z : View). Splits (Shown k) id z (keeper_part z) (reader_part z)) (sym a) (parts k id kv rv)
+pub parts-any : (k : Shape) (id : ℕ) (me : View) (kv : KeeperView) (rv : ReaderView) → me ≡ view (Some kv) (Some rv)
+    → Splits (Shown k) id me (keeper_part me) (reader_part me)
+parts-any k id me kv rv a = subst (λ (z : View). Splits (Shown k) id z (keeper_part z) (reader_part z)) (sym a)
+    (parts k id kv rv)

@@ -9,17 +9,21 @@ use Rattle.pin_core.specs.Safety.{may_be_held}
 
 shown-append : (k : ℕ) (xs ys : List Slot) → shown_from k (xs ++ ys) ≡ shown_from k xs ++ shown_from (k + length xs) ys
 shown-append k [] ys = ap (λ (n : ℕ). shown_from n ys) (omega arith)
-shown-append k (x ∷ xs) ys = by (may_be_held x.phase) (shown-append (suc k) xs ys ∙ ap (λ (n : ℕ). shown_from (suc k) xs ++ shown_from n ys) (omega arith))
+shown-append k (x ∷ xs) ys = by (may_be_held x.phase) (shown-append (suc k) xs ys
+    ∙ ap (λ (n : ℕ). shown_from (suc k) xs ++ shown_from n ys) (omega arith))
   where
     row : Id × Descr
     row = (record { slot = k; generation = x.generation }, x.descr)
 
     by : (b : Bool) → shown_from (suc k) (xs ++ ys) ≡ shown_from (suc k) xs ++ shown_from (k + length (x ∷ xs)) ys
-        → cond b (row ∷ shown_from (suc k) (xs ++ ys)) (shown_from (suc k) (xs ++ ys)) ≡ cond b (row ∷ shown_from (suc k) xs) (shown_from (suc k) xs) ++ shown_from (k + length (x ∷ xs)) ys
+        → cond b (row ∷ shown_from (suc k) (xs ++ ys)) (shown_from (suc k) (xs ++ ys))
+        ≡ cond b (row ∷ shown_from (suc k) xs) (shown_from (suc k) xs) ++ shown_from (k + length (x ∷ xs)) ys
     by true e = ap (λ (rows : List (Id × Descr)). row ∷ rows) e
     by false e = e
 
-pub one_more_shown : (slots : List Slot) (i : ℕ) (d : Slot) (rows : List (Id × Descr)) → i < length slots → rows ≡ shown_from 0 (take i slots) → rows ++ shown_from i (get_or slots i d ∷ []) ≡ shown_from 0 (take (i + 1) slots)
+pub one_more_shown : (slots : List Slot) (i : ℕ) (d : Slot) (rows : List (Id × Descr)) → i < length slots
+    → rows ≡ shown_from 0 (take i slots) → rows ++ shown_from i (get_or slots i d ∷ [])
+    ≡ shown_from 0 (take (i + 1) slots)
 one_more_shown slots i d rows lt is =
     let long : 0 + length (take i slots) ≡ i = (let l = length-take-le i slots (omega arith) in omega arith) in
     ap (λ (r : List (Id × Descr)). r ++ shown_from i (get_or slots i d ∷ [])) is

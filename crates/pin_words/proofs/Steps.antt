@@ -55,15 +55,19 @@ in-list [] i a e = absurd (some-ne-none a (sym e))
 in-list (x ∷ xs) zero a e = omega arith
 in-list (x ∷ xs) (suc i) a e = let ih = in-list xs i a e in omega arith
 
-pub has-keeper : (vs : List View) (id j : ℕ) (v v' : View) → get_elem? vs id ≡ some v → Turns v v' → HasKeeper vs j → HasKeeper (set vs id v') j
+pub has-keeper : (vs : List View) (id j : ℕ) (v v' : View) → get_elem? vs id ≡ some v → Turns v v' → HasKeeper vs j
+    → HasKeeper (set vs id v') j
 has-keeper vs id j v v' seated turn h = dite (ℕ_discrete j id)
-    (λ e. let same : v ≡ h.0 = some-injective v h.0 (sym seated ∙ (ap (get_elem? vs) (sym e) ∙ h.2)) in let new = turn.keeper h.1 (ap (λ (z : View). z.keeper) same ∙ h.3) in
+    (λ e. let same : v ≡ h.0 = some-injective v h.0 (sym seated ∙ (ap (get_elem? vs) (sym e) ∙ h.2)) in
+    let new = turn.keeper h.1 (ap (λ (z : View). z.keeper) same ∙ h.3) in
     (v', new.0, ap (get_elem? (set vs id v')) e ∙ set_here vs id v' (in-list vs id v seated), new.1))
     (λ ne. (h.0, h.1, set_else vs id j v' ne ∙ h.2, h.3))
 
-pub has-reader : (vs : List View) (id j r : ℕ) (v v' : View) → get_elem? vs id ≡ some v → Turns v v' → HasReader vs j r → HasReader (set vs id v') j r
+pub has-reader : (vs : List View) (id j r : ℕ) (v v' : View) → get_elem? vs id ≡ some v → Turns v v' → HasReader vs j r
+    → HasReader (set vs id v') j r
 has-reader vs id j r v v' seated turn h = dite (ℕ_discrete j id)
-    (λ e. let same : v ≡ h.0 = some-injective v h.0 (sym seated ∙ (ap (get_elem? vs) (sym e) ∙ h.2)) in let new = turn.reader h.1 (ap (λ (z : View). z.reader) same ∙ h.3) in
+    (λ e. let same : v ≡ h.0 = some-injective v h.0 (sym seated ∙ (ap (get_elem? vs) (sym e) ∙ h.2)) in
+    let new = turn.reader h.1 (ap (λ (z : View). z.reader) same ∙ h.3) in
     (v', new.0, ap (get_elem? (set vs id v')) e ∙ set_here vs id v' (in-list vs id v seated), new.1, new.2 ∙ h.4))
     (λ ne. (h.0, h.1, set_else vs id j v' ne ∙ h.2, h.3, h.4))
 
@@ -72,14 +76,16 @@ pub at-slot : (i : ℕ) (P : ℕ → Type 0) → P i → AtSlot (place_of i) P
 at-slot i P have s is = let same : i ≡ s = omega arith in subst P same have
 
 -- a step of one seat, after which the world is w'
-pub step-shown : (k : Shape) (s : Table) (W : WorldState) (sh : IsShown k s W) (id i n : ℕ) (v' : View) (w' : WorldState) → w'.shape ≡ k → IsSafe w'
+pub step-shown : (k : Shape) (s : Table) (W : WorldState) (sh : IsShown k s W) (id i n : ℕ) (v' : View)
+    (w' : WorldState) → w'.shape ≡ k → IsSafe w'
     → ((j : ℕ) → j < k.slots → get_or (set s.words i n) (place_of j) 0 ≡ encoded (word_at w' j))
     → ((j : ℕ) → j < k.slots → get_or (set s.words i n) (descr_place j) 0 ≡ descr_code.encoded (at w' j).descr)
     → ((j : ℕ) → j < k.slots → descr_code.IsGiven (at w' j).descr)
     → Agrees w' sh.keeper sh.next sh.owner id v'
     → ((j : ℕ) (u : View) → j ≢ id → Agrees W sh.keeper sh.next sh.owner j u → Agrees w' sh.keeper sh.next sh.owner j u)
     → ((r : ℕ) → sh.next ≤ r → HoldsJust w' r [])
-    → (v : View) → get_elem? s.views id ≡ some v → Turns v v' → ((r : ℕ) → HoldsJust W r [] → (HoldsJust w' r []) ⊎ HasReader (set s.views id v') (sh.owner r) r)
+    → (v : View) → get_elem? s.views id ≡ some v → Turns v v'
+    → ((r : ℕ) → HoldsJust W r [] → (HoldsJust w' r []) ⊎ HasReader (set s.views id v') (sh.owner r) r)
     → IsShown k record { words = set s.words i n; homes = s.homes; views = set s.views id v' } w'
 step-shown k s W sh id i n v' w' shape safe words descrs given mine others unborn v seated turn parts = record {
   fits = sh.fits;
@@ -92,28 +98,38 @@ step-shown k s W sh id i n v' w' shape safe words descrs given mine others unbor
   keeper = sh.keeper;
   next = sh.next;
   owner = sh.owner;
-  each = λ j u e. ⊎_elim (λ (t : (j ≡ id) × (v' ≡ u)). subst (λ (z : ℕ × View). Agrees w' sh.keeper sh.next sh.owner z.0 z.1) (λ c. (sym t.0 c, t.1 c)) mine)
-      (λ (t : (j ≢ id) × (get_elem? s.views j ≡ some u)). others j u t.0 (sh.each j u t.1)) (at_set s.views id j v' u e);
+  each = λ j u e. ⊎_elim (λ (t : (j ≡ id) × (v' ≡ u)). subst (λ (z : ℕ
+      × View). Agrees w' sh.keeper sh.next sh.owner z.0 z.1) (λ c. (sym t.0 c, t.1 c)) mine)
+      (λ (t : (j ≢ id) × (get_elem? s.views j ≡ some u)). others j u t.0 (sh.each j u t.1))
+      (at_set s.views id j v' u e);
   unborn = unborn;
   kept = has-keeper s.views id sh.keeper v v' seated turn sh.kept;
-  owned = λ r. ⊎_elim (λ (e : HoldsJust W r []). parts r e) (λ (h : HasReader s.views (sh.owner r) r). inr (has-reader s.views id (sh.owner r) r v v' seated turn h)) (sh.owned r);
+  owned = λ r. ⊎_elim (λ (e : HoldsJust W r []). parts r e)
+      (λ (h : HasReader s.views (sh.owner r) r). inr (has-reader s.views id (sh.owner r) r v v' seated turn h))
+      (sh.owned r);
 }
 
 -- a step that leaves the world and the words
-pub still-shown : (k : Shape) (s : Table) (W : WorldState) (sh : IsShown k s W) (id i : ℕ) (v' : View) → Agrees W sh.keeper sh.next sh.owner id v' → (v : View) → get_elem? s.views id ≡ some v → Turns v v'
+pub still-shown : (k : Shape) (s : Table) (W : WorldState) (sh : IsShown k s W) (id i : ℕ) (v' : View)
+    → Agrees W sh.keeper sh.next sh.owner id v' → (v : View) → get_elem? s.views id ≡ some v → Turns v v'
     → IsShown k record { words = set s.words i (get_or s.words i 0); homes = s.homes; views = set s.views id v' } W
 still-shown k s W sh id i v' mine v seated turn = let same = set-get_or s.words i 0 in
-    step-shown k s W sh id i (get_or s.words i 0) v' W sh.shape sh.safe (λ j h. ap (λ (ws : List ℕ). get_or ws (place_of j) 0) same ∙ sh.words j h)
-    (λ j h. ap (λ (ws : List ℕ). get_or ws (descr_place j) 0) same ∙ sh.descrs j h) sh.given mine (λ j u n a. a) sh.unborn v seated turn (λ r e. inl e)
+    step-shown k s W sh id i (get_or s.words i 0) v' W sh.shape sh.safe
+    (λ j h. ap (λ (ws : List ℕ). get_or ws (place_of j) 0) same ∙ sh.words j h)
+    (λ j h. ap (λ (ws : List ℕ). get_or ws (descr_place j) 0) same
+    ∙ sh.descrs j h) sh.given mine (λ j u n a. a) sh.unborn v seated turn (λ r e. inl e)
 
 pub few-pins : (k : Shape) (s : Table) (W : WorldState) (sh : IsShown k s W) (i : ℕ) → pins W i < 1073741824
-few-pins k s W sh i = let room = sh.safe.room i in let max : W.shape.max_pins ≡ k.max_pins = ap (λ (z : Shape). z.max_pins) sh.shape in let fit = sh.fits.3 in omega arith
+few-pins k s W sh i = let room = sh.safe.room i in let max : W.shape.max_pins ≡ k.max_pins =
+    ap (λ (z : Shape). z.max_pins) sh.shape in let fit = sh.fits.3 in omega arith
 
 -- what the word that is found says
-pub found-is : (k : Shape) (s : Table) (W : WorldState) (sh : IsShown k s W) (i : ℕ) → i < k.slots → decoded (get_or s.words (place_of i) 0) ≡ word_at W i
+pub found-is : (k : Shape) (s : Table) (W : WorldState) (sh : IsShown k s W) (i : ℕ) → i < k.slots
+    → decoded (get_or s.words (place_of i) 0) ≡ word_at W i
 found-is k s W sh i inside = ap decoded (sh.words i inside) ∙ decoded-encoded (word_at W i) (few-pins k s W sh i)
 
-pub found-age : (k : Shape) (s : Table) (W : WorldState) (sh : IsShown k s W) (i : ℕ) → i < k.slots → word_age (get_or s.words (place_of i) 0) ≡ age (at W i)
+pub found-age : (k : Shape) (s : Table) (W : WorldState) (sh : IsShown k s W) (i : ℕ) → i < k.slots
+    → word_age (get_or s.words (place_of i) 0) ≡ age (at W i)
 found-age k s W sh i inside = ap (λ (x : Word). x.generation * 4 + rank_of x.phase) (found-is k s W sh i inside)
 
 pub in-shape : (k : Shape) (s : Table) (W : WorldState) (sh : IsShown k s W) (i : ℕ) → i < k.slots → i < W.shape.slots
@@ -131,106 +147,187 @@ ranks Live = omega arith
 ranks Closing = omega arith
 ranks Retired = omega arith
 
-no-later : (w : WorldState) (m : ℕ) (x : Slot) → word_age m ≤ age x → x.generation ≤ w.shape.max_gen → ((decoded m).phase ≡ Retired → w.shape.max_gen ≤ (decoded m).generation) → (decoded m).phase ≡ Retired → x.phase ≡ Retired
-no-later w m x le bounded last e = let top = last e in let three : rank_of (decoded m).phase ≡ 3 = ap rank_of e in let least = ranks x.phase in is_retired x.phase (omega arith)
+no-later : (w : WorldState) (m : ℕ) (x : Slot) → word_age m ≤ age x → x.generation ≤ w.shape.max_gen
+    → ((decoded m).phase ≡ Retired → w.shape.max_gen ≤ (decoded m).generation) → (decoded m).phase ≡ Retired
+    → x.phase ≡ Retired
+no-later w m x le bounded last e = let top = last e in let three : rank_of (decoded m).phase ≡ 3 = ap rank_of e in
+    let least = ranks x.phase in is_retired x.phase (omega arith)
 
-pub behind : (w : WorldState) (ls : List Look) (s n : ℕ) → word_age n ≡ age (at w s) → (decoded n).phase ≡ (at w s).phase → (at w s).generation ≤ w.shape.max_gen → NotAhead w ls → Behind ls s n
+pub behind : (w : WorldState) (ls : List Look) (s n : ℕ) → word_age n ≡ age (at w s)
+    → (decoded n).phase ≡ (at w s).phase → (at w s).generation ≤ w.shape.max_gen → NotAhead w ls → Behind ls s n
 behind w [] s n is phase bounded h = tt
 behind w (l ∷ ls) s n is phase bounded h = (
   (λ e. let le = h.0.0 in let here : age (at w l.slot) ≡ age (at w s) = ap (λ (z : ℕ). age (at w z)) e in
-      let up : word_age l.word ≤ age (at w s) = omega arith in
-      ((let goal : word_age l.word ≤ word_age n = omega arith in goal), λ r. phase ∙ no-later w l.word (at w s) up bounded h.0.1 r)),
+      let up : word_age l.word ≤ age (at w s) = omega arith in (
+        (let goal : word_age l.word ≤ word_age n = omega arith in goal),
+        λ r. phase
+            ∙ no-later w l.word (at w s) up bounded h.0.1 r,
+      )),
   behind w ls s n is phase bounded h.1,
 )
 
-pub told : (k : Shape) (s : Table) (W : WorldState) (sh : IsShown k s W) (id i : ℕ) (r : ReaderView) → i < k.slots → OfReader W sh.next sh.owner id r → Tells r i (get_or s.words (place_of i) 0)
+pub told : (k : Shape) (s : Table) (W : WorldState) (sh : IsShown k s W) (id i : ℕ) (r : ReaderView) → i < k.slots
+    → OfReader W sh.next sh.owner id r → Tells r i (get_or s.words (place_of i) 0)
 told k s W sh id i r inside mine = let is = found-is k s W sh i inside in record {
-  pins = let le = held-le-pins W r.number i r.held sh.safe mine.held in let count : (decoded (get_or s.words (place_of i) 0)).pins ≡ pins W i = ap (λ (x : Word). x.pins) is in omega arith;
-  room = let le = sh.safe.room i in let count : (decoded (get_or s.words (place_of i) 0)).pins ≡ pins W i = ap (λ (x : Word). x.pins) is in let max : r.shape.max_pins ≡ W.shape.max_pins = ap (λ (z : Shape). z.max_pins) mine.shape in omega arith;
+  pins = let le = held-le-pins W r.number i r.held sh.safe mine.held in
+      let count : (decoded (get_or s.words (place_of i) 0)).pins ≡ pins W i = ap (λ (x : Word). x.pins) is in
+      omega arith;
+  room = let le = sh.safe.room i in let count : (decoded (get_or s.words (place_of i) 0)).pins ≡ pins W i =
+      ap (λ (x : Word). x.pins) is in let max : r.shape.max_pins ≡ W.shape.max_pins =
+      ap (λ (z : Shape). z.max_pins) mine.shape in omega arith;
   held = λ x have here. let h = sh.safe.held r.number x (has-copies W r x mine.held have) in (
     ap (λ (y : Word). y.generation) is ∙ (ap (λ (z : ℕ). (at W z).generation) (sym here) ∙ h.1),
     ap (λ (y : Word). may_be_held y.phase) is ∙ (ap (λ (z : ℕ). may_be_held (at W z).phase) (sym here) ∙ h.2),
   );
-  looks = behind W r.looks i (get_or s.words (place_of i) 0) (found-age k s W sh i inside) (ap (λ (x : Word). x.phase) is) (sh.safe.slots i (in-shape k s W sh i inside)).bounded mine.looks;
+  looks = behind W r.looks i (get_or s.words (place_of i) 0) (found-age k s W sh i inside)
+      (ap (λ (x : Word). x.phase) is) (sh.safe.slots i (in-shape k s W sh i inside)).bounded mine.looks;
 }
 
 listed : (w : WorldState) (ps : List (Id × Descr)) (xs : List Note) → ps ≡ w.published → AreNoted w xs → AreListed ps xs
 listed w ps [] same h = tt
-listed w ps (x ∷ xs) same h = (subst (λ (z : List (Id × Descr)). 0 < tally (is_with x.id x.descr) z) (sym same) h.0, listed w ps xs same h.1)
+listed w ps (x ∷ xs) same h = (
+  subst (λ (z : List (Id × Descr)). 0 < tally (is_with x.id x.descr) z) (sym same) h.0,
+  listed w ps xs same h.1,
+)
 
-shows : (w : WorldState) (id : Id) (d : Descr) (xs : List Note) → IsSafe w → 0 < given_as w id d → AreNoted w xs → Show id d xs
+shows : (w : WorldState) (id : Id) (d : Descr) (xs : List Note) → IsSafe w → 0 < given_as w id d → AreNoted w xs
+    → Show id d xs
 shows w id d [] safe have h = tt
-shows w id d (x ∷ xs) safe have h = ((λ e. one-descr w id x.descr d safe (subst (λ (z : Id). 0 < given_as w z x.descr) e h.0) have), shows w id d xs safe have h.1)
+shows w id d (x ∷ xs) safe have h = (
+  (λ e. one-descr w id x.descr d safe
+      (subst (λ (z : Id). 0 < given_as w z x.descr) e h.0) have),
+  shows w id d xs safe have h.1,
+)
 
-pub met : (k : Shape) (s : Table) (W : WorldState) (sh : IsShown k s W) (id i : ℕ) (v : View) → i < k.slots → Agrees W sh.keeper sh.next sh.owner id v → MeetsBoth v.keeper v.reader i (get_or s.words (place_of i) 0)
+pub met : (k : Shape) (s : Table) (W : WorldState) (sh : IsShown k s W) (id i : ℕ) (v : View) → i < k.slots
+    → Agrees W sh.keeper sh.next sh.owner id v → MeetsBoth v.keeper v.reader i (get_or s.words (place_of i) 0)
 met k s W sh id i v inside a = cases v.keeper v.reader a.0 a.1
   where
-    cases : (x : Option KeeperView) (y : Option ReaderView) → Of x (OfKeeper W sh.keeper sh.next id) → Of y (OfReader W sh.next sh.owner id) → MeetsBoth x y i (get_or s.words (place_of i) 0)
+    cases : (x : Option KeeperView) (y : Option ReaderView) → Of x (OfKeeper W sh.keeper sh.next id)
+        → Of y (OfReader W sh.next sh.owner id) → MeetsBoth x y i (get_or s.words (place_of i) 0)
     cases None y a b = tt
     cases (Some x) None a b = tt
-    cases (Some x) (Some y) a b = let is = found-is k s W sh i inside in let here : at W i ≡ slot_of x.slots i = ap (λ (z : List Slot). slot_of z i) (sym a.slots) in record {
-      generation = ap (λ (z : Word). z.generation) is ∙ ap (λ (z : Slot). z.generation) here;
-      phase = ap (λ (z : Word). z.phase) is ∙ ap (λ (z : Slot). z.phase) here;
-      held = λ y' have there. let h = (told k s W sh id i y inside b).held y' have there in (
-        (λ j. record { slot = there j; generation = (sym h.0 ∙ (ap (λ (z : Word). z.generation) is ∙ ap (λ (z : Slot). z.generation) here)) j }),
-        ap may_be_held (sym (ap (λ (z : Word). z.phase) is ∙ ap (λ (z : Slot). z.phase) here)) ∙ h.1,
-      );
-      given = λ on. subst (λ (z : Slot × List (Id × Descr)). 0 < tally (is_with record { slot = i; generation = z.0.generation } z.0.descr) z.1) (λ j. (here j, sym a.published j))
-          (let one = (sh.safe.slots i (in-shape k s W sh i inside)).shown (ap (λ (z : Slot). may_be_held z.phase) here ∙ on) in omega arith);
-      notes = listed W x.published y.notes a.published b.notes;
-      shown = λ on. subst (λ (z : Slot). Show record { slot = i; generation = z.generation } z.descr y.notes) here
-          (shows W (id_at W i) (at W i).descr y.notes sh.safe (let one = (sh.safe.slots i (in-shape k s W sh i inside)).shown (ap (λ (z : Slot). may_be_held z.phase) here ∙ on) in omega arith) b.notes);
-    }
+    cases (Some x) (Some y) a b = let is = found-is k s W sh i inside in
+        let here : at W i ≡ slot_of x.slots i = ap (λ (z : List Slot). slot_of z i) (sym a.slots) in record {
+          generation = ap (λ (z : Word). z.generation) is ∙ ap (λ (z : Slot). z.generation) here;
+          phase = ap (λ (z : Word). z.phase) is ∙ ap (λ (z : Slot). z.phase) here;
+          held = λ y' have there. let h = (told k s W sh id i y inside b).held y' have there in (
+            (λ j. record {
+              slot = there j;
+              generation =
+                  (sym h.0 ∙ (ap (λ (z : Word). z.generation) is ∙ ap (λ (z : Slot). z.generation) here)) j;
+            }),
+            ap may_be_held (sym (ap (λ (z : Word). z.phase) is ∙ ap (λ (z : Slot). z.phase) here)) ∙ h.1,
+          );
+          given = λ on. subst (λ (z : Slot × List (Id × Descr)). 0
+              < tally (is_with record { slot = i; generation = z.0.generation } z.0.descr) z.1)
+              (λ j. (here j, sym a.published j))
+              (let one = (sh.safe.slots i (in-shape k s W sh i inside)).shown (ap (λ (z : Slot). may_be_held z.phase) here
+              ∙ on) in omega arith);
+          notes = listed W x.published y.notes a.published b.notes;
+          shown = λ on. subst (λ (z : Slot). Show record { slot = i; generation = z.generation } z.descr y.notes) here
+              (shows W (id_at W i) (at W i).descr y.notes sh.safe (let one =
+              (sh.safe.slots i (in-shape k s W sh i inside)).shown (ap (λ (z : Slot). may_be_held z.phase) here ∙ on) in
+              omega arith) b.notes);
+        }
 
-pub past-here : (k : Shape) (s : Table) (W : WorldState) (sh : IsShown k s W) (i : ℕ) → i < k.slots → IsPast W (look i (get_or s.words (place_of i) 0))
+pub past-here : (k : Shape) (s : Table) (W : WorldState) (sh : IsShown k s W) (i : ℕ) → i < k.slots
+    → IsPast W (look i (get_or s.words (place_of i) 0))
 past-here k s W sh i inside = let now = found-age k s W sh i inside in let is = found-is k s W sh i inside in (
   (let goal : word_age (get_or s.words (place_of i) 0) ≤ age (at W i) = omega arith in goal),
-  λ e. let last : (at W i).generation ≡ W.shape.max_gen = (sh.safe.slots i (in-shape k s W sh i inside)).last (sym (ap (λ (x : Word). x.phase) is) ∙ e) in
-      let same : (decoded (get_or s.words (place_of i) 0)).generation ≡ (at W i).generation = ap (λ (x : Word). x.generation) is in
+  λ e. let last : (at W i).generation ≡ W.shape.max_gen =
+      (sh.safe.slots i (in-shape k s W sh i inside)).last (sym (ap (λ (x : Word). x.phase) is) ∙ e) in
+      let same : (decoded (get_or s.words (place_of i) 0)).generation ≡ (at W i).generation =
+      ap (λ (x : Word). x.generation) is in
       (let goal : W.shape.max_gen ≤ (decoded (get_or s.words (place_of i) 0)).generation = omega arith in goal),
 )
 
-pub reader-looks : (k : Shape) (s : Table) (W : WorldState) (sh : IsShown k s W) (id i : ℕ) → i < k.slots → (r : ReaderView) → OfReader W sh.next sh.owner id r → OfReader W sh.next sh.owner id (reader_looked r i (get_or s.words (place_of i) 0))
+pub reader-looks : (k : Shape) (s : Table) (W : WorldState) (sh : IsShown k s W) (id i : ℕ) → i < k.slots
+    → (r : ReaderView) → OfReader W sh.next sh.owner id r
+    → OfReader W sh.next sh.owner id (reader_looked r i (get_or s.words (place_of i) 0))
 reader-looks k s W sh id i inside r mine =
-    record { shape = mine.shape; born = mine.born; mine = mine.mine; held = mine.held; notes = mine.notes; looks = (past-here k s W sh i inside, mine.looks) }
+    record {
+      shape = mine.shape;
+      born = mine.born;
+      mine = mine.mine;
+      held = mine.held;
+      notes = mine.notes;
+      looks = (past-here k s W sh i inside, mine.looks);
+    }
 
-pub of-on : {A : Type 0} (P : A → Type 0) (f : A → A) (x : Option A) → ((a : A) → P a → P (f a)) → Of x P → Of (on f x) P
+pub of-on : {A : Type 0} (P : A → Type 0) (f : A → A) (x : Option A) → ((a : A) → P a → P (f a)) → Of x P
+    → Of (on f x) P
 of-on P f None go h = tt
 of-on P f (Some a) go h = go a h
 
-pub turn-reader : (v : View) (g : ReaderView → ReaderView) → ((x : ReaderView) → (g x).number ≡ x.number) → Turns v (view v.keeper (on g v.reader))
+pub turn-reader : (v : View) (g : ReaderView → ReaderView) → ((x : ReaderView) → (g x).number ≡ x.number)
+    → Turns v (view v.keeper (on g v.reader))
 turn-reader v g same = record { keeper = λ k e. (k, e); reader = λ x e. (g x, ap (on g) e, same x) }
 
 pub turn-keeper : (v : View) (f : KeeperView → KeeperView) → Turns v (view (on f v.keeper) v.reader)
 turn-keeper v f = record { keeper = λ k e. (f k, ap (on f) e); reader = λ x e. (x, e, refl) }
 
-pub turn-to : (v : View) (r r' : ReaderView) → v.reader ≡ Some r → r'.number ≡ r.number → Turns v (view v.keeper (Some r'))
-turn-to v r r' is same = record { keeper = λ k e. (k, e); reader = λ x e. (r', refl, same ∙ ap (λ (z : ReaderView). z.number) (some-same v.reader r x is e)) }
+pub turn-to : (v : View) (r r' : ReaderView) → v.reader ≡ Some r → r'.number ≡ r.number
+    → Turns v (view v.keeper (Some r'))
+turn-to v r r' is same = record {
+  keeper = λ k e. (k, e);
+  reader = λ x e. (r', refl, same ∙ ap (λ (z : ReaderView). z.number) (some-same v.reader r x is e));
+}
 
 pub turn-keeper-to : (v : View) (k' : KeeperView) → Turns v (view (Some k') v.reader)
 turn-keeper-to v k' = record { keeper = λ k e. (k', refl); reader = λ x e. (x, e, refl) }
 
-pub looks-agree : (k : Shape) (s : Table) (W : WorldState) (sh : IsShown k s W) (id i : ℕ) (v : View) → i < k.slots → Agrees W sh.keeper sh.next sh.owner id v → Agrees W sh.keeper sh.next sh.owner id (looked_view v i (get_or s.words (place_of i) 0))
-looks-agree k s W sh id i v inside a = (a.0, of-on (OfReader W sh.next sh.owner id) (λ r. reader_looked r i (get_or s.words (place_of i) 0)) v.reader (reader-looks k s W sh id i inside) a.1)
-
--- looks stay behind as slots get older
-pub looks-stay : (w w' : WorldState) (ls : List Look) → w'.shape ≡ w.shape → ((j : ℕ) → age (at w j) ≤ age (at w' j)) → NotAhead w ls → NotAhead w' ls
-looks-stay w w' [] same up h = tt
-looks-stay w w' (l ∷ ls) same up h = let a = h.0.0 in let b = up l.slot in let m : w'.shape.max_gen ≡ w.shape.max_gen = ap (λ (z : Shape). z.max_gen) same in (
-  ((let goal : word_age l.word ≤ age (at w' l.slot) = omega arith in goal), λ e. let c = h.0.1 e in (let goal : w'.shape.max_gen ≤ (decoded l.word).generation = omega arith in goal)),
-  looks-stay w w' ls same up h.1,
+pub looks-agree : (k : Shape) (s : Table) (W : WorldState) (sh : IsShown k s W) (id i : ℕ) (v : View) → i < k.slots
+    → Agrees W sh.keeper sh.next sh.owner id v → Agrees W sh.keeper sh.next sh.owner id
+    (looked_view v i (get_or s.words (place_of i) 0))
+looks-agree k s W sh id i v inside a = (
+  a.0,
+  of-on (OfReader W sh.next sh.owner id)
+      (λ r. reader_looked r i (get_or s.words (place_of i) 0)) v.reader (reader-looks k s W sh id i inside) a.1,
 )
 
+-- looks stay behind as slots get older
+pub looks-stay : (w w' : WorldState) (ls : List Look) → w'.shape ≡ w.shape → ((j : ℕ) → age (at w j) ≤ age (at w' j))
+    → NotAhead w ls → NotAhead w' ls
+looks-stay w w' [] same up h = tt
+looks-stay w w' (l ∷ ls) same up h = let a = h.0.0 in let b = up l.slot in let m : w'.shape.max_gen ≡ w.shape.max_gen =
+    ap (λ (z : Shape). z.max_gen) same in (
+      (
+        (let goal : word_age l.word ≤ age (at w' l.slot) = omega arith in goal),
+        λ e. let c = h.0.1 e in
+            (let goal : w'.shape.max_gen ≤ (decoded l.word).generation = omega arith in goal),
+      ),
+      looks-stay w w' ls same up h.1,
+    )
+
 -- notes stay as more is published
-pub notes-stay : (w w' : WorldState) (xs : List Note) → ((id : Id) (d : Descr) → given_as w id d ≤ given_as w' id d) → AreNoted w xs → AreNoted w' xs
+pub notes-stay : (w w' : WorldState) (xs : List Note) → ((id : Id) (d : Descr) → given_as w id d ≤ given_as w' id d)
+    → AreNoted w xs → AreNoted w' xs
 notes-stay w w' [] up h = tt
 notes-stay w w' (x ∷ xs) up h = let a = h.0 in let b = up x.id x.descr in (omega arith, notes-stay w w' xs up h.1)
 
 -- what a step on the holds leaves to the keeper's part, and to readers that it leaves alone
-pub keeper-stays : (w : WorldState) (hs : List Hold) (keeper next j : ℕ) (v : KeeperView) → OfKeeper w keeper next j v → OfKeeper (with_holders w hs) keeper next j v
-keeper-stays w hs keeper next j v a = record { shape = a.shape; mine = a.mine; slots = a.slots; published = a.published; next_is = a.next_is; looks = looks-stay w (with_holders w hs) v.looks refl (λ j. omega arith) a.looks }
+pub keeper-stays : (w : WorldState) (hs : List Hold) (keeper next j : ℕ) (v : KeeperView) → OfKeeper w keeper next j v
+    → OfKeeper (with_holders w hs) keeper next j v
+keeper-stays w hs keeper next j v a = record {
+  shape = a.shape;
+  mine = a.mine;
+  slots = a.slots;
+  published = a.published;
+  next_is = a.next_is;
+  looks = looks-stay w (with_holders w hs) v.looks refl (λ j. omega arith) a.looks;
+}
 
-pub reader-stays : (w : WorldState) (hs : List Hold) (next : ℕ) (owner : ℕ → ℕ) (j : ℕ) (v : ReaderView) → ((x : Id) → tally (is_copy v.number x) hs ≡ copies w v.number x) → OfReader w next owner j v → OfReader (with_holders w hs) next owner j v
-reader-stays w hs next owner j v same a = record { shape = a.shape; born = a.born; mine = a.mine; held = λ x. same x ∙ a.held x; notes = notes-stay w (with_holders w hs) v.notes (λ i d. omega arith) a.notes; looks = looks-stay w (with_holders w hs) v.looks refl (λ j. omega arith) a.looks }
+pub reader-stays : (w : WorldState) (hs : List Hold) (next : ℕ) (owner : ℕ → ℕ) (j : ℕ) (v : ReaderView)
+    → ((x : Id) → tally (is_copy v.number x) hs ≡ copies w v.number x) → OfReader w next owner j v
+    → OfReader (with_holders w hs) next owner j v
+reader-stays w hs next owner j v same a = record {
+  shape = a.shape;
+  born = a.born;
+  mine = a.mine;
+  held = λ x. same x ∙ a.held x;
+  notes = notes-stay w (with_holders w hs) v.notes (λ i d. omega arith) a.notes;
+  looks = looks-stay w (with_holders w hs) v.looks refl (λ j. omega arith) a.looks;
+}
 
 -- the words where the holds change at the slot i alone

@@ -37,11 +37,27 @@ pub record KeeperState : Type 0 where
 
 -- what a keeper over the words says
 abbrev pub state_of : KeeperSeat → KeeperState
-state_of k = record { table = Some k.table; shape = k.view.shape; slots = k.view.slots; published = k.view.published; next = k.view.next; looks = k.view.looks; held = [] }
+state_of k = record {
+  table = Some k.table;
+  shape = k.view.shape;
+  slots = k.view.slots;
+  published = k.view.published;
+  next = k.view.next;
+  looks = k.view.looks;
+  held = [];
+}
 
 -- what a keeper under a lock says
 abbrev pub locked : Shape → List Slot → List (Id × Descr) → List Id → KeeperState
-locked shape slots published held = record { table = None; shape = shape; slots = slots; published = published; next = 1; looks = []; held = held }
+locked shape slots published held = record {
+  table = None;
+  shape = shape;
+  slots = slots;
+  published = published;
+  next = 1;
+  looks = [];
+  held = held;
+}
 
 -- a keeper of which nothing was asked yet
 pub record IsFresh (k : KeeperState) (shape : Shape) : Type 0 where
@@ -58,22 +74,55 @@ pub record IsFreshWith (k : KeeperState) (shape : Shape) (slots : List Slot) : T
   pub held_is : k.held ≡ []
 
 abbrev pub with_slots : KeeperState → List Slot → KeeperState
-with_slots k slots = record { table = k.table; shape = k.shape; slots = slots; published = k.published; next = k.next; looks = k.looks; held = k.held }
+with_slots k slots = record {
+  table = k.table;
+  shape = k.shape;
+  slots = slots;
+  published = k.published;
+  next = k.next;
+  looks = k.looks;
+  held = k.held;
+}
 
 abbrev pub with_published : KeeperState → List (Id × Descr) → KeeperState
-with_published k ps = record { table = k.table; shape = k.shape; slots = k.slots; published = ps; next = k.next; looks = k.looks; held = k.held }
+with_published k ps = record {
+  table = k.table;
+  shape = k.shape;
+  slots = k.slots;
+  published = ps;
+  next = k.next;
+  looks = k.looks;
+  held = k.held;
+}
 
 abbrev pub with_looks : KeeperState → List Look → KeeperState
-with_looks k looks = record { table = k.table; shape = k.shape; slots = k.slots; published = k.published; next = k.next; looks = looks; held = k.held }
+with_looks k looks = record {
+  table = k.table;
+  shape = k.shape;
+  slots = k.slots;
+  published = k.published;
+  next = k.next;
+  looks = looks;
+  held = k.held;
+}
 
 abbrev pub with_held : KeeperState → List Id → KeeperState
-with_held k held = record { table = k.table; shape = k.shape; slots = k.slots; published = k.published; next = k.next; looks = k.looks; held = held }
+with_held k held = record {
+  table = k.table;
+  shape = k.shape;
+  slots = k.slots;
+  published = k.published;
+  next = k.next;
+  looks = k.looks;
+  held = held;
+}
 
 abbrev pub stored : KeeperState → ℕ → Descr → KeeperState
 stored k s d = with_slots k (slice_set k.slots s (with_descr (slot_of k.slots s) d))
 
 abbrev pub published : KeeperState → ℕ → KeeperState
-published k s = with_published (with_slots k (slice_set k.slots s (in_phase (slot_of k.slots s) Live))) (k.published ++ (id_of k.slots s, (slot_of k.slots s).descr) ∷ [])
+published k s = with_published (with_slots k (slice_set k.slots s (in_phase (slot_of k.slots s) Live))) (k.published
+    ++ (id_of k.slots s, (slot_of k.slots s).descr) ∷ [])
 
 abbrev pub closed : KeeperState → ℕ → KeeperState
 closed k s = with_slots k (slice_set k.slots s (in_phase (slot_of k.slots s) Closing))
@@ -88,19 +137,28 @@ HasLooked s ls ls' = (ls' ≡ ls) ⊎ ((n : ℕ) × (ls' ≡ look s n ∷ ls))
 -- what a reclaim of any keeper answers: freed below the last generation, or retired at it, where its own holder has
 -- nothing there; or held. It may have looked
 abbrev pub Reclaims : KeeperState → ℕ → Reclaim → KeeperState → Type 0
-Reclaims k s Freed k' = (k' ≡ with_looks (opened_again k s) k'.looks) × ((slot_of k.slots s).generation < k.shape.max_gen) × (tally (sits s) k.held ≡ 0) × HasLooked s k.looks k'.looks
-Reclaims k s Retired k' = (k' ≡ with_looks (opened_again k s) k'.looks) × (k.shape.max_gen ≤ (slot_of k.slots s).generation) × (tally (sits s) k.held ≡ 0) × HasLooked s k.looks k'.looks
-Reclaims k s (Held n) k' = (k' ≡ with_looks k k'.looks) × (0 < n) × (n ≤ k.shape.max_pins) × HasLooked s k.looks k'.looks
+Reclaims k s Freed k' = (k' ≡ with_looks (opened_again k s) k'.looks)
+    × ((slot_of k.slots s).generation < k.shape.max_gen) × (tally (sits s) k.held ≡ 0) × HasLooked s k.looks k'.looks
+Reclaims k s Retired k' = (k' ≡ with_looks (opened_again k s) k'.looks)
+    × (k.shape.max_gen ≤ (slot_of k.slots s).generation) × (tally (sits s) k.held ≡ 0) × HasLooked s k.looks k'.looks
+Reclaims k s (Held n) k' = (k' ≡ with_looks k k'.looks) × (0 < n) × (n ≤ k.shape.max_pins)
+    × HasLooked s k.looks k'.looks
 
--- what a reclaim over the words answers: it found the word n of the slot, and is held exactly by the pins that are in it
+-- what a reclaim over the words answers: it found the word n of the slot, and is held exactly by the pins that are in
+-- it
 abbrev pub ReclaimsFound : KeeperState → ℕ → Reclaim → KeeperState → Type 0
 ReclaimsFound k s res k' = (n : ℕ) × TellsSlot k.shape k.slots s n
-    × ((decoded n).pins ≡ 0 → (k' ≡ with_looks (opened_again k s) (look s n ∷ k.looks)) × (res ≡ (if nat_lt (slot_of k.slots s).generation k.shape.max_gen then Freed else Retired)))
+    × ((decoded n).pins ≡ 0 → (k' ≡ with_looks (opened_again k s) (look s n ∷ k.looks))
+    × (res ≡ (if nat_lt (slot_of k.slots s).generation k.shape.max_gen then Freed else Retired)))
     × (0 < (decoded n).pins → (k' ≡ with_looks k (look s n ∷ k.looks)) × (res ≡ Held (decoded n).pins))
 
 -- the word of a slot under a lock: its pins are the one holder's copies there
 abbrev pub word_of : KeeperState → ℕ → Word
-word_of k s = record { generation = (slot_of k.slots s).generation; phase = (slot_of k.slots s).phase; pins = tally (sits s) k.held }
+word_of k s = record {
+  generation = (slot_of k.slots s).generation;
+  phase = (slot_of k.slots s).phase;
+  pins = tally (sits s) k.held;
+}
 
 abbrev pub Answers : Verdict → KeeperState → Id → Result (Unit {0}) PinFault → KeeperState → Type 0
 Answers Unborn k id res k' = (res ≡ Err fault.Unborn) × (k' ≡ k)
@@ -112,12 +170,15 @@ Answers Go k id res k' = (res ≡ Ok tt) × (k' ≡ with_held k (k.held ++ id �
 pub record Tries (k : KeeperState) (id : Id) (res : Result (Unit {0}) PinFault) (k' : KeeperState) : Type 0 where
   pub no_slot : k.shape.slots ≤ id.slot → (res ≡ Err fault.NoSuchSlot) × (k' ≡ k)
   pub full : id.slot < k.shape.slots → 16 ≤ length k.held → (res ≡ Err fault.HeldFull) × (k' ≡ k)
-  pub tried : id.slot < k.shape.slots → length k.held < 16 → Answers (verdict_of k.shape.max_pins id (word_of k id.slot)) k id res k'
+  pub tried : id.slot < k.shape.slots → length k.held < 16
+      → Answers (verdict_of k.shape.max_pins id (word_of k id.slot)) k id res k'
 
 -- the answer of a reclaim under a lock: held exactly by the copies that are there
 abbrev pub ReclaimsLocked : KeeperState → ℕ → Reclaim → KeeperState → Type 0
-ReclaimsLocked k s Freed k' = (k' ≡ opened_again k s) × ((slot_of k.slots s).generation < k.shape.max_gen) × (tally (sits s) k.held ≡ 0)
-ReclaimsLocked k s Retired k' = (k' ≡ opened_again k s) × (k.shape.max_gen ≤ (slot_of k.slots s).generation) × (tally (sits s) k.held ≡ 0)
+ReclaimsLocked k s Freed k' = (k' ≡ opened_again k s) × ((slot_of k.slots s).generation < k.shape.max_gen)
+    × (tally (sits s) k.held ≡ 0)
+ReclaimsLocked k s Retired k' = (k' ≡ opened_again k s) × (k.shape.max_gen ≤ (slot_of k.slots s).generation)
+    × (tally (sits s) k.held ≡ 0)
 ReclaimsLocked k s (Held n) k' = (k' ≡ k) × (0 < n) × (n ≡ tally (sits s) k.held) × (n ≤ k.shape.max_pins)
 
 abbrev pub released : KeeperState → Id → KeeperState

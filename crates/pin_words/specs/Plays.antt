@@ -34,7 +34,8 @@ Behind (l ∷ ls) s n = (l.slot ≡ s → NoLater l.word n) × Behind ls s n
 pub record Tells (r : ReaderView) (s n : ℕ) : Type 0 where
   pub pins : tally (sits s) r.held ≤ (decoded n).pins
   pub room : (decoded n).pins ≤ r.shape.max_pins
-  pub held : (id : Id) → 0 < tally (same_id id) r.held → id.slot ≡ s → ((decoded n).generation ≡ id.generation) × (may_be_held (decoded n).phase ≡ true)
+  pub held : (id : Id) → 0 < tally (same_id id) r.held → id.slot ≡ s
+      → ((decoded n).generation ≡ id.generation) × (may_be_held (decoded n).phase ≡ true)
   pub looks : Behind r.looks s n
 
 -- what the word n of the slot s tells the keeper: it is the word of that slot, with no more pins than there may be
@@ -59,8 +60,10 @@ Show id d (x ∷ xs) = (x.id ≡ id → x.descr ≡ d) × Show id d xs
 pub record Meets (k : KeeperView) (r : ReaderView) (s n : ℕ) : Type 0 where
   pub generation : (decoded n).generation ≡ (slot_of k.slots s).generation
   pub phase : (decoded n).phase ≡ (slot_of k.slots s).phase
-  pub held : (id : Id) → 0 < tally (same_id id) r.held → id.slot ≡ s → (id ≡ id_of k.slots s) × (may_be_held (slot_of k.slots s).phase ≡ true)
-  pub given : may_be_held (slot_of k.slots s).phase ≡ true → 0 < tally (is_with (id_of k.slots s) (slot_of k.slots s).descr) k.published
+  pub held : (id : Id) → 0 < tally (same_id id) r.held → id.slot ≡ s
+      → (id ≡ id_of k.slots s) × (may_be_held (slot_of k.slots s).phase ≡ true)
+  pub given : may_be_held (slot_of k.slots s).phase ≡ true
+      → 0 < tally (is_with (id_of k.slots s) (slot_of k.slots s).descr) k.published
   pub notes : AreListed k.published r.notes
   pub shown : may_be_held (slot_of k.slots s).phase ≡ true → Show (id_of k.slots s) (slot_of k.slots s).descr r.notes
 
@@ -83,14 +86,16 @@ released_view v s n = view v.keeper (on (λ r. reader_released r (id_in s n)) v.
 
 -- a load of the word of the slot s
 abbrev pub LookedAt : M → ℕ → M → ℕ → Type 0
-LookedAt m n m' s = (m' ≡ (looked_view m.0 s n, m.1)) × Of m.0.reader (λ r. Tells r s n) × MeetsBoth m.0.keeper m.0.reader s n
+LookedAt m n m' s = (m' ≡ (looked_view m.0 s n, m.1)) × Of m.0.reader (λ r. Tells r s n)
+    × MeetsBoth m.0.keeper m.0.reader s n
 
 abbrev pub looked : St → M → ℕ → M → Type 0
 looked st m n m' = AtSlot st.word (LookedAt m n m')
 
 -- an exchange of a slot's word for one with one more pin
 abbrev pub PinnedAt : ℕ → M → ℕ → M → ℕ → Type 0
-PinnedAt first m n m' s = (n ≡ first → m' ≡ (got_view m.0 s n, m.1)) × (n ≢ first → m' ≡ (looked_view m.0 s n, m.1)) × Of m.0.reader (λ r. Tells r s n)
+PinnedAt first m n m' s = (n ≡ first → m' ≡ (got_view m.0 s n, m.1)) × (n ≢ first → m' ≡ (looked_view m.0 s n, m.1))
+    × Of m.0.reader (λ r. Tells r s n)
 
 abbrev pub pinned : St → M → ℕ → M → Type 0
 pinned st m n m' = AtSlot st.word (PinnedAt st.first m n m')
@@ -104,7 +109,8 @@ released st m n m' = AtSlot st.word (ReleasedAt m n m')
 
 -- a load of the descriptor word of a slot that the reader holds
 abbrev pub noted : St → M → ℕ → M → Type 0
-noted st m n m' = (r : ReaderView) (id : Id) → m.0.reader ≡ Some r → 0 < tally (same_id id) r.held → st.word ≡ descr_place id.slot
+noted st m n m' = (r : ReaderView) (id : Id) → m.0.reader ≡ Some r → 0 < tally (same_id id) r.held
+    → st.word ≡ descr_place id.slot
     → (d : Descr) × (descr_code.decoded n ≡ Some d) × (m' ≡ (view m.0.keeper (Some (reader_noted r id d)), m.1))
 
 -- bit 30 is set: live
@@ -123,13 +129,15 @@ closed st m n m' = AtSlot st.word (ClosedAt m m')
 
 -- a store of a descriptor word
 abbrev pub stored : St → M → ℕ → M → Type 0
-stored st m n m' = (k : KeeperView) (s : ℕ) (d : Descr) → m.0.keeper ≡ Some k → st.word ≡ descr_place s → descr_code.IsGiven d → n ≡ descr_code.encoded d
+stored st m n m' = (k : KeeperView) (s : ℕ) (d : Descr) → m.0.keeper ≡ Some k → st.word ≡ descr_place s
+    → descr_code.IsGiven d → n ≡ descr_code.encoded d
     → m' ≡ (view (Some (keeper_stored k s d)) m.0.reader, m.1)
 
 -- an exchange of the word of a closing slot without pins for the next
 abbrev pub ReclaimedAt : ℕ → M → ℕ → M → ℕ → Type 0
 ReclaimedAt first m n m' s = (n ≡ first → m' ≡ (view (on (λ k. keeper_reclaimed k s n) m.0.keeper) m.0.reader, m.1))
-    × (n ≢ first → (m' ≡ (view (on (λ k. keeper_looked k s n) m.0.keeper) m.0.reader, m.1)) × (0 < (decoded n).pins)) × Of m.0.keeper (λ k. TellsSlot k.shape k.slots s n)
+    × (n ≢ first → (m' ≡ (view (on (λ k. keeper_looked k s n) m.0.keeper) m.0.reader, m.1)) × (0 < (decoded n).pins))
+    × Of m.0.keeper (λ k. TellsSlot k.shape k.slots s n)
 
 abbrev pub reclaiming : St → M → ℕ → M → Type 0
 reclaiming st m n m' = AtSlot st.word (ReclaimedAt st.first m n m')

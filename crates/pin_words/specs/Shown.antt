@@ -26,7 +26,8 @@ word_age n = (word_code.decoded n).generation * 4 + rank_of (word_code.decoded n
 
 -- a word that was found isn't ahead of its slot, and a retired one is at the last generation
 abbrev pub IsPast : WorldState → Look → Type 0
-IsPast w l = (word_age l.word ≤ age (at w l.slot)) × ((word_code.decoded l.word).phase ≡ Retired → w.shape.max_gen ≤ (word_code.decoded l.word).generation)
+IsPast w l = (word_age l.word ≤ age (at w l.slot))
+    × ((word_code.decoded l.word).phase ≡ Retired → w.shape.max_gen ≤ (word_code.decoded l.word).generation)
 
 abbrev pub NotAhead : WorldState → List Look → Type 0
 NotAhead w [] = Unit {0}
@@ -72,9 +73,12 @@ HasReader vs j r = (v : View) × (x : ReaderView) × (get_elem? vs j ≡ some v)
 abbrev pub Table : Type 0
 Table = State (Unit {0}) View
 
--- each slot has a line of words, of which the first tells the slot and the second its descriptor. The world is safe, and each seat agrees with it;
--- one seat has the keeper's part, and every reader that holds something has a seat of its own. For whoever knows hazard pointers: the
--- pins in a word are the number of hazard pointers to its slot, published by the very exchange that checks the generation, and this
+-- each slot has a line of words, of which the first tells the slot and the second its descriptor. The world is safe,
+-- and each seat agrees with it;
+-- one seat has the keeper's part, and every reader that holds something has a seat of its own. For whoever knows hazard
+-- pointers: the
+-- pins in a word are the number of hazard pointers to its slot, published by the very exchange that checks the
+-- generation, and this
 -- says that the number and the holders never part
 pub record IsShown (k : Shape) (s : Table) (world : WorldState) : Type 0 where
   pub fits : IsWithinLimits k

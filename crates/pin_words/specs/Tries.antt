@@ -23,14 +23,16 @@ abbrev pub Answers : Verdict → ReaderView → Id → ℕ → Result (Unit {0})
 Answers Unborn r id n res r' = (res ≡ Err fault.Unborn) × (r' ≡ reader_looked r id.slot n)
 Answers Stale r id n res r' = (res ≡ Err fault.Stale) × (r' ≡ reader_looked r id.slot n)
 Answers PinsFull r id n res r' = (res ≡ Err fault.PinsFull) × (r' ≡ reader_looked r id.slot n)
-Answers Go r id n res r' = (m : ℕ) × Tells (reader_looked r id.slot n) id.slot m × (m ≡ n → (res ≡ Ok tt) × (r' ≡ reader_got (reader_looked r id.slot n) id m))
+Answers Go r id n res r' = (m : ℕ) × Tells (reader_looked r id.slot n) id.slot m
+    × (m ≡ n → (res ≡ Ok tt) × (r' ≡ reader_got (reader_looked r id.slot n) id m))
     × (m ≢ n → (res ≡ Err (fault.Busy (decoded m))) × (r' ≡ reader_looked (reader_looked r id.slot n) id.slot m))
 
 -- the answer of one try to pin, with the reader's view before and after
 pub record Tries (r : ReaderView) (id : Id) (res : Result (Unit {0}) PinFault) (r' : ReaderView) : Type 0 where
   pub no_slot : r.shape.slots ≤ id.slot → (res ≡ Err fault.NoSuchSlot) × (r' ≡ r)
   pub full : id.slot < r.shape.slots → 16 ≤ length r.held → (res ≡ Err fault.HeldFull) × (r' ≡ r)
-  pub tried : id.slot < r.shape.slots → length r.held < 16 → (n : ℕ) × Tells r id.slot n × Answers (verdict_of r.shape.max_pins id (decoded n)) r id n res r'
+  pub tried : id.slot < r.shape.slots → length r.held < 16
+      → (n : ℕ) × Tells r id.slot n × Answers (verdict_of r.shape.max_pins id (decoded n)) r id n res r'
 
 -- a chain of tries from r on that each were answered busy, with the view before each of them, the last one first
 abbrev pub AreBusy : List ReaderView → ReaderView → Id → ReaderView → Type 0
@@ -38,7 +40,8 @@ AreBusy [] r id r' = r' ≡ r
 AreBusy (s ∷ ss) r id r' = AreBusy ss r id s × (seen : Word) × Tries s id (Err (fault.Busy seen)) r'
 
 -- tries that were answered busy, and then one that wasn't, whose answer it is
-pub record TriesUntilSettled (r : ReaderView) (id : Id) (res : Result (Unit {0}) PinFault) (r' : ReaderView) : Type 0 where
+pub record TriesUntilSettled (r : ReaderView) (id : Id) (res : Result (Unit {0}) PinFault)
+    (r' : ReaderView) : Type 0 where
   pub busy : List ReaderView
   pub last : ReaderView
   pub are_busy : AreBusy busy r id last
@@ -52,12 +55,14 @@ HasOnlyLooked r r' = (ls : List Look) × (r' ≡ reader_with r r.held r.notes (l
 -- some look found the Id stale
 abbrev pub WasStale : ℕ → Id → List Look → Type 0
 WasStale max_pins id [] = ⊥
-WasStale max_pins id (l ∷ ls) = ((l.slot ≡ id.slot) × (verdict_of max_pins id (decoded l.word) ≡ Stale)) ⊎ WasStale max_pins id ls
+WasStale max_pins id (l ∷ ls) = ((l.slot ≡ id.slot) × (verdict_of max_pins id (decoded l.word) ≡ Stale))
+    ⊎ WasStale max_pins id ls
 
 -- the answer of one reclaim, which found the word n of the slot
 abbrev pub Reclaims : KeeperView → ℕ → Reclaim → KeeperView → Type 0
 Reclaims k s res k' = (n : ℕ) × TellsSlot k.shape k.slots s n
-    × ((decoded n).pins ≡ 0 → (k' ≡ keeper_reclaimed k s n) × (res ≡ (if nat_lt (slot_of k.slots s).generation k.shape.max_gen then Freed else Retired)))
+    × ((decoded n).pins ≡ 0 → (k' ≡ keeper_reclaimed k s n)
+    × (res ≡ (if nat_lt (slot_of k.slots s).generation k.shape.max_gen then Freed else Retired)))
     × (0 < (decoded n).pins → (k' ≡ keeper_looked k s n) × (res ≡ Held (decoded n).pins))
 
 -- one look at the slot s by a reader that meets the keeper

@@ -10,7 +10,8 @@ use Rattle.pin_words.specs.declared.fault.Verdict.TheVariants.{Unborn, Stale, Pi
 -- the slot is live at the Id's generation with room for a pin, or why not
 abbrev pub verdict_of : ℕ → Id → Word → Verdict
 verdict_of max_pins id w =
-    if (not (is_phase w.phase Retired) && nat_lt w.generation id.generation) || (is_phase w.phase Free && (w.generation == id.generation))
+    if (not (is_phase w.phase Retired) && nat_lt w.generation id.generation)
+    || (is_phase w.phase Free && (w.generation == id.generation))
     then Unborn
     else (if nat_lt id.generation w.generation || (is_phase w.phase Closing || is_phase w.phase Retired)
     then Stale

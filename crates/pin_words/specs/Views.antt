@@ -51,7 +51,13 @@ notes_of held [] = []
 notes_of held (x ∷ xs) = if nat_lt 0 (tally (same_id x.id) held) then (x ∷ notes_of held xs) else notes_of held xs
 
 abbrev pub reader_with : ReaderView → List Id → List Note → List Look → ReaderView
-reader_with r held notes looks = record { shape = r.shape; number = r.number; held = held; notes = notes; looks = looks }
+reader_with r held notes looks = record {
+  shape = r.shape;
+  number = r.number;
+  held = held;
+  notes = notes;
+  looks = looks;
+}
 
 abbrev pub reader_looked : ReaderView → ℕ → ℕ → ReaderView
 reader_looked r s n = reader_with r r.held r.notes (look s n ∷ r.looks)
@@ -62,13 +68,20 @@ reader_got r id n = reader_with r (r.held ++ id ∷ []) r.notes (look id.slot n 
 
 -- a copy less, and with the last the notes
 abbrev pub reader_released : ReaderView → Id → ReaderView
-reader_released r id = reader_with r (drop_first (same_id id) r.held) (notes_of (drop_first (same_id id) r.held) r.notes) r.looks
+reader_released r id = reader_with r (drop_first (same_id id) r.held)
+    (notes_of (drop_first (same_id id) r.held) r.notes) r.looks
 
 abbrev pub reader_noted : ReaderView → Id → Descr → ReaderView
 reader_noted r id d = reader_with r r.held (note id d ∷ r.notes) r.looks
 
 abbrev pub keeper_with : KeeperView → List Slot → List (Id × Descr) → List Look → KeeperView
-keeper_with k slots published looks = record { shape = k.shape; slots = slots; published = published; next = k.next; looks = looks }
+keeper_with k slots published looks = record {
+  shape = k.shape;
+  slots = slots;
+  published = published;
+  next = k.next;
+  looks = looks;
+}
 
 abbrev pub keeper_looked : KeeperView → ℕ → ℕ → KeeperView
 keeper_looked k s n = keeper_with k k.slots k.published (look s n ∷ k.looks)
@@ -77,13 +90,15 @@ abbrev pub keeper_stored : KeeperView → ℕ → Descr → KeeperView
 keeper_stored k s d = keeper_with k (slice_set k.slots s (with_descr (slot_of k.slots s) d)) k.published k.looks
 
 abbrev pub keeper_published : KeeperView → ℕ → KeeperView
-keeper_published k s = keeper_with k (slice_set k.slots s (in_phase (slot_of k.slots s) Live)) (k.published ++ (id_of k.slots s, (slot_of k.slots s).descr) ∷ []) k.looks
+keeper_published k s = keeper_with k (slice_set k.slots s (in_phase (slot_of k.slots s) Live)) (k.published
+    ++ (id_of k.slots s, (slot_of k.slots s).descr) ∷ []) k.looks
 
 abbrev pub keeper_closed : KeeperView → ℕ → KeeperView
 keeper_closed k s = keeper_with k (slice_set k.slots s (in_phase (slot_of k.slots s) Closing)) k.published k.looks
 
 abbrev pub keeper_reclaimed : KeeperView → ℕ → ℕ → KeeperView
-keeper_reclaimed k s n = keeper_with k (slice_set k.slots s (reclaimed k.shape.max_gen (slot_of k.slots s))) k.published (look s n ∷ k.looks)
+keeper_reclaimed k s n = keeper_with k (slice_set k.slots s (reclaimed k.shape.max_gen (slot_of k.slots s))) k.published
+    (look s n ∷ k.looks)
 
 -- one reader more was given
 abbrev pub keeper_gave : KeeperView → KeeperView

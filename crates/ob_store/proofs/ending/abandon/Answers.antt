@@ -23,7 +23,9 @@ loop-slot-preserved g c = record {
 
 pub returns-then-owns_none-clause-seen : goal.returns-then-owns_none-clause-seen
 returns-then-owns_none-clause-seen g c =
-    all_done (slot_left_by c.args.thread) c.args.objects.now.seen c.loop-slot.objects.seen (λ k. left_by_other c.args.thread (get_or c.loop-slot.objects.seen.bodies k None) (c.owns_none.ensures c.if-owns_none.true k)) c.loop-slot.invariant.seen
+    all_done (slot_left_by c.args.thread) c.args.objects.now.seen c.loop-slot.objects.seen
+    (λ k. left_by_other c.args.thread (get_or c.loop-slot.objects.seen.bodies k None)
+    (c.owns_none.ensures c.if-owns_none.true k)) c.loop-slot.invariant.seen
 
 pub returns-clause-seen : goal.returns-clause-seen
 returns-clause-seen g c =
@@ -38,6 +40,8 @@ returns-clause-seen g c =
     let over = c.loop-slot-test.false in
     let none : (k : ℕ) → owns_at t bodies k ≡ false = (λ k. elim (cases_lt k c.loop-slot.slot) [
       | inl lt ↦ c.loop-slot.invariant.none k lt
-      | inr past ↦ ap (λ x. is_owner t (slot_owner x)) (get_or_past bodies k None (omega (arith, same, long, before, slots, end, over, past)))
+      | inr past ↦ ap (λ x. is_owner t (slot_owner x))
+          (get_or_past bodies k None (omega (arith, same, long, before, slots, end, over, past)))
     ]) in
-    all_done f c.args.objects.now.seen c.loop-slot.objects.seen (λ k. left_by_other t (get_or bodies k None) (none k)) c.loop-slot.invariant.seen
+    all_done f c.args.objects.now.seen c.loop-slot.objects.seen
+    (λ k. left_by_other t (get_or bodies k None) (none k)) c.loop-slot.invariant.seen

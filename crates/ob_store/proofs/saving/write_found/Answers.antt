@@ -9,5 +9,8 @@ use Rattle.ob_store.proofs.saving.write_found.Goals as goal
 pub returns-in_ok-push-in-Some : goal.returns-in_ok-push-in-Some
 returns-in_ok-push-in-Some c =
     let f = c.in-Some.found in
-    rw c.in-Some.is (on_ok_weaker c.write_object.result (λ t. two_behind c.args.out.now.items (1 ∷ []) c.push.new.self.items c.write_object.new.out.items c.in_ok-push-in-Some.ensures.items
-    (object_text (saved_of (object_of f.seat.now (tag_of f.label.now f.name.now)) f.seat.now.body)) t) c.write_object.ensures)
+    rw c.in-Some.is (on_ok_weaker c.write_object.result
+    (λ t. two_behind c.args.out.now.items (1 ∷ []) c.push.new.self.items c.write_object.new.out.items
+    c.in_ok-push-in-Some.ensures.items
+    (object_text (saved_of (object_of f.seat.now (tag_of f.label.now f.name.now)) f.seat.now.body)) t)
+    c.write_object.ensures)

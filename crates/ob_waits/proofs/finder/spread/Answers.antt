@@ -12,17 +12,23 @@ loop-entry-preserved c = elim c.match-entry.branch [
       let e : Entry = w.in-Some.entry in
       let old : List (Option Entry) = c.loop-entry.places.items in
       let new = ap (λ v. v.items) w.places-is in record {
-        room = let r = c.loop-entry.invariant.room in omega (arith, r, ap length new, length-set old (home c.args.mask e.number) (Some e));
-        spread = subst (λ (ps : List (Option Entry)). Spreads (c.loop-entry.entry-index + 1) c.args.mask c.args.from.now ps) (sym new)
-            (spreads_one c.args.mask c.args.from.now old c.loop-entry.entry-index c.loop-entry.invariant.spread e c.requires.apart c.loop-entry.invariant.room w.in-Some.is);
+        room = let r = c.loop-entry.invariant.room in
+            omega (arith, r, ap length new, length-set old (home c.args.mask e.number) (Some e));
+        spread = subst (λ (ps : List (Option Entry)). Spreads
+            (c.loop-entry.entry-index + 1) c.args.mask c.args.from.now ps) (sym new)
+            (spreads_one c.args.mask c.args.from.now old c.loop-entry.entry-index c.loop-entry.invariant.spread e
+            c.requires.apart c.loop-entry.invariant.room w.in-Some.is);
       }
   | in_default w ↦
       let new = ap (λ v. v.items) w.places-is in record {
         room = subst (λ (ps : List (Option Entry)). c.args.mask < length ps) (sym new) c.loop-entry.invariant.room;
-        spread = subst (λ (ps : List (Option Entry)). Spreads (c.loop-entry.entry-index + 1) c.args.mask c.args.from.now ps) (sym new)
-            (spreads_empty c.args.mask c.args.from.now c.loop-entry.places.items c.loop-entry.entry-index c.loop-entry.invariant.spread w.in_default.is);
+        spread = subst (λ (ps : List (Option Entry)). Spreads
+            (c.loop-entry.entry-index + 1) c.args.mask c.args.from.now ps) (sym new)
+            (spreads_empty c.args.mask c.args.from.now c.loop-entry.places.items c.loop-entry.entry-index
+            c.loop-entry.invariant.spread w.in_default.is);
       }
 ]
 
 pub returns : goal.returns
-returns c = spreads_all c.args.mask c.args.from.now c.loop-entry.places.items c.loop-entry.entry-index (let past = c.loop-entry-test.false in omega arith) c.loop-entry.invariant.spread
+returns c = spreads_all c.args.mask c.args.from.now c.loop-entry.places.items c.loop-entry.entry-index (let past =
+    c.loop-entry-test.false in omega arith) c.loop-entry.invariant.spread

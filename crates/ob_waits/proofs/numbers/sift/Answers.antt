@@ -15,12 +15,18 @@ loop-at-preserved-then-is_pending c =
     let end = c.requires.within in
     let long = c.loop-at.invariant.sifted.long in
     let one : c.loop-at.at ≡ j + 1 = omega (arith, test) in
-    let own : c.index-number.result.now ≡ get_or ys j 0 = c.index-number.ensures ∙ get_or_default ys j c.index-number.result.now 0 (omega (arith, test, long, below, within, end)) in
-    let passes : has_pending c.args.live.now (get_or ys j 0) ≡ true = ap (has_pending c.args.live.now) (sym own) ∙ sym c.is_pending.ensures ∙ c.if-is_pending.true in
+    let own : c.index-number.result.now ≡ get_or ys j 0 =
+    c.index-number.ensures ∙ get_or_default ys j c.index-number.result.now 0
+    (omega (arith, test, long, below, within, end)) in
+    let passes : has_pending c.args.live.now (get_or ys j 0) ≡ true = ap (has_pending c.args.live.now) (sym own)
+    ∙ sym c.is_pending.ensures ∙ c.if-is_pending.true in
     record {
-      sifted = subst (λ n. IsSifted (has_pending c.args.live.now) c.args.numbers.now.items c.args.end j (c.loop-at.to - 1) (set ys (c.loop-at.to - 1) n)) (sym own)
-          (sift_kept (has_pending c.args.live.now) c.args.numbers.now.items c.args.end j c.loop-at.to ys (omega (arith, test, below, within)) end (omega (arith, test, below)) within passes
-          (subst (λ n. IsSifted (has_pending c.args.live.now) c.args.numbers.now.items c.args.end n c.loop-at.to ys) one c.loop-at.invariant.sifted));
+      sifted = subst (λ n. IsSifted (has_pending c.args.live.now) c.args.numbers.now.items c.args.end j
+          (c.loop-at.to - 1) (set ys (c.loop-at.to - 1) n)) (sym own)
+          (sift_kept (has_pending c.args.live.now) c.args.numbers.now.items c.args.end j c.loop-at.to ys
+          (omega (arith, test, below, within)) end (omega (arith, test, below)) within passes
+          (subst (λ n. IsSifted (has_pending c.args.live.now) c.args.numbers.now.items c.args.end n c.loop-at.to ys) one
+          c.loop-at.invariant.sifted));
       from = omega (arith, test);
       below = omega (arith, below);
       within = omega (arith, within);
@@ -36,11 +42,16 @@ loop-at-preserved c =
     let end = c.requires.within in
     let long = c.loop-at.invariant.sifted.long in
     let one : c.loop-at.at ≡ j + 1 = omega (arith, test) in
-    let own : c.index-number.result.now ≡ get_or ys j 0 = c.index-number.ensures ∙ get_or_default ys j c.index-number.result.now 0 (omega (arith, test, long, below, within, end)) in
-    let fails : has_pending c.args.live.now (get_or ys j 0) ≡ false = ap (has_pending c.args.live.now) (sym own) ∙ sym c.is_pending.ensures ∙ c.if-is_pending.false in
+    let own : c.index-number.result.now ≡ get_or ys j 0 =
+    c.index-number.ensures ∙ get_or_default ys j c.index-number.result.now 0
+    (omega (arith, test, long, below, within, end)) in
+    let fails : has_pending c.args.live.now (get_or ys j 0) ≡ false = ap (has_pending c.args.live.now) (sym own)
+    ∙ sym c.is_pending.ensures ∙ c.if-is_pending.false in
     record {
-      sifted = sift_left (has_pending c.args.live.now) c.args.numbers.now.items c.args.end j c.loop-at.to ys (omega (arith, test, below, within)) end fails
-          (subst (λ n. IsSifted (has_pending c.args.live.now) c.args.numbers.now.items c.args.end n c.loop-at.to ys) one c.loop-at.invariant.sifted);
+      sifted = sift_left (has_pending c.args.live.now) c.args.numbers.now.items c.args.end j c.loop-at.to ys
+          (omega (arith, test, below, within)) end fails
+          (subst (λ n. IsSifted (has_pending c.args.live.now) c.args.numbers.now.items c.args.end n c.loop-at.to ys) one
+          c.loop-at.invariant.sifted);
       from = omega (arith, test);
       below = omega (arith, below);
       within = within;

@@ -8,18 +8,23 @@ use Rattle.ob_waits.proofs.pass.pass.Goals as goal
 pub loop-number-preserved : goal.loop-number-preserved
 loop-number-preserved g c =
     let scene : Scene = record { objects = g.B.Bodies.objects c.loop-number.bodies; waits = c.loop-number.live } in
-    let after : Scene = record { objects = g.B.Bodies.objects c.take_effect.new.bodies; waits = c.take_effect.new.live } in
+    let after : Scene = record { objects = g.B.Bodies.objects c.take_effect.new.bodies; waits = c.take_effect.new.live }
+    in
     let lt : c.loop-number.number-index < length c.args.numbers.now = search rules in
-    let step = steps_on c.args.numbers.now c.loop-number.number-index scene lt c.requires.rising c.loop-number.invariant.covers in
+    let step = steps_on c.args.numbers.now c.loop-number.number-index scene lt c.requires.rising
+    c.loop-number.invariant.covers in
     let is = c.take_effect.ensures.scene in
     record {
       same = ap settled is ∙ step.same ∙ c.loop-number.invariant.same;
       rest = c.take_effect.ensures.rest ∙ c.loop-number.invariant.rest;
-      covers = subst (λ (s : Scene). Covers (drop (c.loop-number.number-index + 1) c.args.numbers.now) s) (sym is) step.covers;
-      fits = fits_passed 2147483647 (get_or c.args.numbers.now c.loop-number.number-index 0 ∷ []) scene after is c.loop-number.invariant.fits;
+      covers = subst (λ (s : Scene). Covers (drop (c.loop-number.number-index + 1) c.args.numbers.now) s)
+          (sym is) step.covers;
+      fits = fits_passed 2147483647 (get_or c.args.numbers.now c.loop-number.number-index 0
+          ∷ []) scene after is c.loop-number.invariant.fits;
     }
 
 pub returns-clause-scene : goal.returns-clause-scene
 returns-clause-scene g c =
     let scene : Scene = record { objects = g.B.Bodies.objects c.loop-number.bodies; waits = c.loop-number.live } in
-    sym (covered_all c.args.numbers.now c.loop-number.number-index scene (search rules) c.loop-number.invariant.covers) ∙ c.loop-number.invariant.same
+    sym (covered_all c.args.numbers.now c.loop-number.number-index scene (search rules) c.loop-number.invariant.covers)
+    ∙ c.loop-number.invariant.same

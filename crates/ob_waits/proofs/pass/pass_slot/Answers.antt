@@ -12,7 +12,8 @@ pub loop-at-init : goal.loop-at-init
 loop-at-init g c = record {
   same = refl;
   rest = refl;
-  covers = covers_slot (g.B.Bodies.objects c.args.bodies.now) c.args.id.slot c.args.live.now c.args.roster.now.order c.args.roster.now.index c.requires.ready c.requires.right;
+  covers = covers_slot (g.B.Bodies.objects c.args.bodies.now) c.args.id.slot c.args.live.now c.args.roster.now.order
+      c.args.roster.now.index c.requires.ready c.requires.right;
   fits = c.requires.fits;
   ready = c.requires.ready;
   fade = fade_none c.args.live.now;
@@ -22,30 +23,37 @@ pub loop-at-preserved : goal.loop-at-preserved
 loop-at-preserved g c =
     let ns : List ℕ = numbers_of c.args.roster.now.index c.args.id.slot in
     let scene : Scene = record { objects = g.B.Bodies.objects c.loop-at.bodies; waits = c.loop-at.live } in
-    let after : Scene = record { objects = g.B.Bodies.objects c.take_effect.new.bodies; waits = c.take_effect.new.live } in
+    let after : Scene = record { objects = g.B.Bodies.objects c.take_effect.new.bodies; waits = c.take_effect.new.live }
+    in
     let next : Scene = passed (get_or ns c.loop-at.at 0 ∷ []) scene in
     let lt : c.loop-at.at < length ns = search rules in
-    let step = steps_on ns c.loop-at.at scene lt (c.requires.right.index_rises.each c.args.id.slot).rising c.loop-at.invariant.covers in
+    let step = steps_on ns c.loop-at.at scene lt (c.requires.right.index_rises.each c.args.id.slot).rising
+    c.loop-at.invariant.covers in
     let is : after ≡ next = search rules in
     record {
       same = ap settled is ∙ step.same ∙ c.loop-at.invariant.same;
       rest = c.take_effect.ensures.rest ∙ c.loop-at.invariant.rest;
       covers = subst (λ (s : Scene). Covers (drop (c.loop-at.at + 1) ns) s) (sym is) step.covers;
       fits = fits_passed 2147483647 (get_or ns c.loop-at.at 0 ∷ []) scene after is c.loop-at.invariant.fits;
-      ready = subst (λ (s : Scene). IsReadyBy (λ k. eqb k c.args.id.slot) s.objects.bodies s.waits) (sym is) (by_passed (λ k. eqb k c.args.id.slot) (get_or ns c.loop-at.at 0) scene c.loop-at.invariant.ready);
+      ready = subst (λ (s : Scene). IsReadyBy (λ k. eqb k c.args.id.slot) s.objects.bodies s.waits) (sym is)
+          (by_passed (λ k. eqb k c.args.id.slot) (get_or ns c.loop-at.at 0) scene c.loop-at.invariant.ready);
       fade = subst (λ (s : Scene). Fade c.args.live.now s.waits) (sym is)
-          (fade_both c.args.live.now scene.waits next.waits c.loop-at.invariant.fade (passed_fades (get_or ns c.loop-at.at 0 ∷ []) scene));
+          (fade_both c.args.live.now scene.waits next.waits c.loop-at.invariant.fade
+          (passed_fades (get_or ns c.loop-at.at 0 ∷ []) scene));
     }
 
 pub returns-then-not-is_open-clause-scene : goal.returns-then-not-is_open-clause-scene
 returns-then-not-is_open-clause-scene g c =
     let scene : Scene = record { objects = g.B.Bodies.objects c.loop-at.bodies; waits = c.loop-at.live } in
     let spent : IsSpent scene.objects.bodies scene.waits c.args.id.slot = c.is_open.ensures (search rules) in
-    sym (settled_same scene (settled_spent (λ k. eqb k c.args.id.slot) scene.objects.bodies scene.waits c.loop-at.invariant.ready
-    (λ k is. let same : c.args.id.slot ≡ k = grind (arith, nat_tests, is) in subst (IsSpent scene.objects.bodies scene.waits) same spent)))
+    sym (settled_same scene (settled_spent (λ k. eqb k c.args.id.slot) scene.objects.bodies scene.waits
+    c.loop-at.invariant.ready
+    (λ k is. let same : c.args.id.slot ≡ k = grind (arith, nat_tests, is) in
+    subst (IsSpent scene.objects.bodies scene.waits) same spent)))
     ∙ c.loop-at.invariant.same
 
 pub returns-clause-scene : goal.returns-clause-scene
 returns-clause-scene g c =
     let scene : Scene = record { objects = g.B.Bodies.objects c.loop-at.bodies; waits = c.loop-at.live } in
-    sym (covered_all (numbers_of c.args.roster.now.index c.args.id.slot) c.loop-at.at scene (search rules) c.loop-at.invariant.covers) ∙ c.loop-at.invariant.same
+    sym (covered_all (numbers_of c.args.roster.now.index c.args.id.slot) c.loop-at.at scene
+    (search rules) c.loop-at.invariant.covers) ∙ c.loop-at.invariant.same

@@ -7,9 +7,13 @@ use Rattle.ob_waits.proofs.pass.pass_slot.Given as goal
 
 abbrev pub invariant-loop-at : goal.invariant-loop-at
 invariant-loop-at g l = record {
-  same : ◌≡◌ {A = Scene} (settled (record { objects = g.B.Bodies.objects l.bodies; waits = l.live })) (settled (record { objects = g.B.Bodies.objects l.fn.bodies; waits = l.fn.live }));
+  same : ◌≡◌ {A = Scene} (settled (record { objects = g.B.Bodies.objects l.bodies; waits = l.live }))
+      (settled (record { objects = g.B.Bodies.objects l.fn.bodies; waits = l.fn.live }));
   rest : g.B.Bodies.rest l.bodies ≡ g.B.Bodies.rest l.fn.bodies;
-  covers : Covers (drop l.at (numbers_of l.roster.index l.id.slot)) (record { objects = g.B.Bodies.objects l.bodies; waits = l.live });
+  covers : Covers (drop l.at (numbers_of l.roster.index l.id.slot)) (record {
+    objects = g.B.Bodies.objects l.bodies;
+    waits = l.live;
+  });
   fits : Fits 2147483647 (g.B.Bodies.objects l.bodies).bodies l.live;
   ready : IsReadyBy (λ k. eqb k l.id.slot) (g.B.Bodies.objects l.bodies).bodies l.live;
   fade : Fade l.fn.live l.live;

@@ -7,7 +7,8 @@ use Rattle.ob_waits.proofs.pass.pass_some.Given as goal
 
 abbrev pub invariant-loop : goal.invariant-loop
 invariant-loop g l = record {
-  same : ◌≡◌ {A = Scene} (settled (record { objects = g.B.Bodies.objects l.bodies; waits = l.live })) (settled (record { objects = g.B.Bodies.objects l.fn.bodies; waits = l.fn.live }));
+  same : ◌≡◌ {A = Scene} (settled (record { objects = g.B.Bodies.objects l.bodies; waits = l.live }))
+      (settled (record { objects = g.B.Bodies.objects l.fn.bodies; waits = l.fn.live }));
   rest : g.B.Bodies.rest l.bodies ≡ g.B.Bodies.rest l.fn.bodies;
   covers : Covers l.roster.order (record { objects = g.B.Bodies.objects l.bodies; waits = l.live });
   remains : Remains l.last l.roster.index l.ids (record { objects = g.B.Bodies.objects l.bodies; waits = l.live });

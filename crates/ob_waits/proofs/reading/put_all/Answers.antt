@@ -22,7 +22,8 @@ returns-in_err-put_back c =
     rw (p.1, p.2) (ends c.in_err-put_back.field-0.0 c.args.last c.loop-held.waits c.held-item.result
     (map held_parts (drop (i + 1) rows))
     (built c.args.waits.now.limit c.args.waits.now.clock c.args.last rows) c.in_err-put_back.ensures
-    (subst (λ (ps : List (ℕ × Wait)). Goes c.args.last c.loop-held.waits ps (built c.args.waits.now.limit c.args.waits.now.clock c.args.last rows)) first c.loop-held.invariant))
+    (subst (λ (ps : List (ℕ × Wait)). Goes c.args.last c.loop-held.waits ps
+    (built c.args.waits.now.limit c.args.waits.now.clock c.args.last rows)) first c.loop-held.invariant))
 
 pub loop-held-preserved : goal.loop-held-preserved
 loop-held-preserved c =
@@ -33,7 +34,8 @@ loop-held-preserved c =
     ∙ ap (λ (h : Held). held_parts h ∷ map held_parts (drop (i + 1) rows)) (sym c.held-item.is) in
     goes_on c.args.last c.loop-held.waits c.put_back.new.waits c.held-item.result (map held_parts (drop (i + 1) rows))
     (built c.args.waits.now.limit c.args.waits.now.clock c.args.last rows) c.in_ok-put_back.ensures
-    (subst (λ (ps : List (ℕ × Wait)). Goes c.args.last c.loop-held.waits ps (built c.args.waits.now.limit c.args.waits.now.clock c.args.last rows)) first c.loop-held.invariant)
+    (subst (λ (ps : List (ℕ × Wait)). Goes c.args.last c.loop-held.waits ps
+    (built c.args.waits.now.limit c.args.waits.now.clock c.args.last rows)) first c.loop-held.invariant)
 
 pub returns : goal.returns
 returns c =

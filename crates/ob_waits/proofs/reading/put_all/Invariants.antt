@@ -5,4 +5,5 @@ use Rattle.ob_waits.proofs.RowLaws.{Goes}
 use Rattle.ob_waits.proofs.reading.put_all.Given as goal
 
 abbrev pub invariant-loop-held : goal.invariant-loop-held
-invariant-loop-held l = Goes l.last l.waits (map held_parts (drop l.held-index l.rows)) (built l.fn.waits.limit l.fn.waits.clock l.last l.rows)
+invariant-loop-held l = Goes l.last l.waits (map held_parts (drop l.held-index l.rows))
+    (built l.fn.waits.limit l.fn.waits.clock l.last l.rows)

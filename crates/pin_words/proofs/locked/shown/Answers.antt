@@ -10,4 +10,6 @@ abbrev past : Slot
 past = record { generation = 0; phase = Free; descr = record { kind = Event; manual = false; max = 0 } }
 
 pub loop-i-preserved : goal.loop-i-preserved
-loop-i-preserved c = c.with_slot-published.ensures ∙ one_more_shown c.args.slots.now c.loop-i.i past c.loop-i.published.list (let test = c.loop-i-test.true in omega arith) c.loop-i.invariant
+loop-i-preserved c = c.with_slot-published.ensures
+    ∙ one_more_shown c.args.slots.now c.loop-i.i past c.loop-i.published.list (let test = c.loop-i-test.true in
+    omega arith) c.loop-i.invariant

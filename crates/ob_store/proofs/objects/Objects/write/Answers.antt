@@ -13,4 +13,5 @@ loop-slot-preserved g c =
     let k = c.loop-slot.slot in
     c.in_ok-write_slot.ensures ∙ ap (λ (t : List ℕ). t ++ slot_text (slot_saved s k)) c.loop-slot.invariant
     ∙ flat_map_more slot_text c.args.out.now.items (map (slot_saved s) (range_with_len 0 k)) (slot_saved s k)
-    ∙ ap (λ (xs : List SavedSlot). c.args.out.now.items ++ flat_map slot_text xs) (sym (map-range_with_len_more (slot_saved s) 0 k k (omega arith)))
+    ∙ ap (λ (xs : List SavedSlot). c.args.out.now.items ++ flat_map slot_text xs)
+    (sym (map-range_with_len_more (slot_saved s) 0 k k (omega arith)))

@@ -8,7 +8,8 @@ use Rattle.ob_store.proofs.parts.Parts.end_all.Given as goal
 
 abbrev pub invariant-loop-thread : goal.invariant-loop-thread
 invariant-loop-thread g l = record {
-  carries : (first : KeeperState) (s : State) → IsEnding first (parts_of l.fn.self) s → IsEnding first (parts_of l.self) (threads_ended s l.process l.thread);
+  carries : (first : KeeperState) (s : State) → IsEnding first (parts_of l.fn.self) s
+      → IsEnding first (parts_of l.self) (threads_ended s l.process l.thread);
   count : length l.self.processes.threads ≡ length l.fn.self.processes.threads;
   ended : (t : ℕ) → t < l.thread → get_or l.self.processes.threads t None ≡ Some l.process → ⊥;
 }

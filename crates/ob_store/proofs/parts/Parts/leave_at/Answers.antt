@@ -10,30 +10,39 @@ use Rattle.ob_store.proofs.parts.Parts.leave_at.Goals as goal
 pub returns-in_default-clause-carries : goal.returns-in_default-clause-carries
 returns-in_default-clause-carries g c = λ first s ending.
     let none : get_or c.args.places.now c.args.place None ≡ None = search rules in
-    same_ending first (with_left (parts_of c.args.self.now) c.args.process c.args.places.now c.args.place) s (tables_left c.args.self.now.tables.tables c.args.process c.args.places.now (c.args.place + 1))
+    same_ending first (with_left (parts_of c.args.self.now) c.args.process c.args.places.now c.args.place) s
+    (tables_left c.args.self.now.tables.tables c.args.process c.args.places.now (c.args.place + 1))
     (left_none c.args.self.now.tables.tables c.args.process c.args.places.now c.args.place none) ending
 
 pub returns-in_default-clause-sound : goal.returns-in_default-clause-sound
 returns-in_default-clause-sound g c =
     let none : get_or c.args.places.now c.args.place None ≡ None = search rules in
     let p = parts_of c.args.self.now in
-    subst (λ (t : List (List (Option Entry))). IsSound (record p { tables = record p.tables { tables = t } })) (left_none p.tables.tables c.args.process c.args.places.now c.args.place none) c.requires.sound
+    subst (λ (t : List (List (Option Entry))). IsSound (record p { tables = record p.tables { tables = t } }))
+    (left_none p.tables.tables c.args.process c.args.places.now c.args.place none) c.requires.sound
 
 pub handle_left-requires : goal.handle_left-requires
 handle_left-requires g c =
     let here : get_or c.args.places.now c.args.place None ≡ Some c.in-Some.entry = search rules in
-    record { handled = left_held (parts_of c.args.self.now) c.args.process c.args.places.now c.args.place c.in-Some.entry c.requires.sound c.kept.ensures c.requires.table here }
+    record {
+      handled = left_held (parts_of c.args.self.now) c.args.process c.args.places.now c.args.place
+          c.in-Some.entry c.requires.sound c.kept.ensures c.requires.table here;
+    }
 
 pub returns-clause-carries : goal.returns-clause-carries
 returns-clause-carries g c =
     let here : get_or c.args.places.now c.args.place None ≡ Some c.in-Some.entry = search rules in
-    next_ending (parts_of c.args.self.now) c.args.process c.args.places.now c.args.place c.in-Some.entry c.requires.sound c.kept.ensures c.requires.table here
-    c.look.result (λ x. x.seat.now.handles) (λ x. object_of x.seat.now (tag_of x.label.now x.name.now)) c.handle_left.new.self c.leave_directory.new.names.rows
+    next_ending (parts_of c.args.self.now) c.args.process c.args.places.now c.args.place c.in-Some.entry
+    c.requires.sound c.kept.ensures c.requires.table here
+    c.look.result (λ x. x.seat.now.handles) (λ x. object_of x.seat.now (tag_of x.label.now x.name.now))
+    c.handle_left.new.self c.leave_directory.new.names.rows
     c.handle_left.ensures c.look.ensures.object c.look.ensures.handles c.leave_directory.ensures c.kept-2.ensures
 
 pub returns-clause-sound : goal.returns-clause-sound
 returns-clause-sound g c =
     let here : get_or c.args.places.now c.args.place None ≡ Some c.in-Some.entry = search rules in
-    next_sound (parts_of c.args.self.now) c.args.process c.args.places.now c.args.place c.in-Some.entry c.requires.sound c.kept.ensures c.requires.table here
-    c.look.result (λ x. x.seat.now.handles) (λ x. object_of x.seat.now (tag_of x.label.now x.name.now)) c.handle_left.new.self c.leave_directory.new.names.rows
+    next_sound (parts_of c.args.self.now) c.args.process c.args.places.now c.args.place c.in-Some.entry c.requires.sound
+    c.kept.ensures c.requires.table here
+    c.look.result (λ x. x.seat.now.handles) (λ x. object_of x.seat.now (tag_of x.label.now x.name.now))
+    c.handle_left.new.self c.leave_directory.new.names.rows
     c.handle_left.ensures c.look.ensures.object c.look.ensures.handles c.leave_directory.ensures

@@ -6,15 +6,18 @@ use Rattle.ob_store.proofs.parts.Parts.settle_after.Goals as goal
 pub settle_after-requires-clause-room : goal.settle_after-requires-clause-room
 settle_after-requires-clause-room g c =
     let s = c.args.self.now in
-    rooms_at_more s.limits.max_recursion 2147483647 s.objects.seen.bodies s.waits.waits s.limits.in_range.max_recursion_in_range.1 c.requires.sound.room
+    rooms_at_more s.limits.max_recursion 2147483647 s.objects.seen.bodies s.waits.waits
+    s.limits.in_range.max_recursion_in_range.1 c.requires.sound.room
 
 pub returns-clause-kept : goal.returns-clause-kept
 returns-clause-kept g c =
     let s = c.args.self.now in
     let e = c.settle_after.ensures in
-    way_kept (parts_of s) c.settle_after.new.bodies c.settle_after.new.self c.requires.sound e.value e.limit e.clock e.rest (e.room s.limits.max_recursion c.requires.sound.room) e.settled
+    way_kept (parts_of s) c.settle_after.new.bodies c.settle_after.new.self c.requires.sound e.value e.limit e.clock
+    e.rest (e.room s.limits.max_recursion c.requires.sound.room) e.settled
 
 pub returns-clause-state : goal.returns-clause-state
 returns-clause-state g c =
     let e = c.settle_after.ensures in
-    way_state (parts_of c.args.self.now) c.settle_after.new.bodies c.settle_after.new.self c.requires.sound e.value e.limit e.clock e.rest
+    way_state (parts_of c.args.self.now) c.settle_after.new.bodies c.settle_after.new.self c.requires.sound e.value
+    e.limit e.clock e.rest

@@ -12,7 +12,8 @@ use Rattle.ob_store.proofs.saved.Objects+LockedPins.read.Goals as goal
 
 pub count_births-births-requires : goal.count_births-births-requires
 count_births-births-requires c =
-    let long = slots_read c.args.limits.slots c.args.limits.max_gen c.args.clock c.args.from.now c.in_ok-seats.seats c.in_ok-seats.slots.items c.read_slots.new.from c.in_ok-seats.ensures in
+    let long = slots_read c.args.limits.slots c.args.limits.max_gen c.args.clock c.args.from.now c.in_ok-seats.seats
+    c.in_ok-seats.slots.items c.read_slots.new.from c.in_ok-seats.ensures in
     omega (
       arith,
       long,
@@ -22,7 +23,8 @@ count_births-births-requires c =
 
 pub with_slots-keeper-requires-clause-long : goal.with_slots-keeper-requires-clause-long
 with_slots-keeper-requires-clause-long c =
-    slots_read c.args.limits.slots c.args.limits.max_gen c.args.clock c.args.from.now c.in_ok-seats.seats c.in_ok-seats.slots.items c.read_slots.new.from c.in_ok-seats.ensures
+    slots_read c.args.limits.slots c.args.limits.max_gen c.args.clock c.args.from.now c.in_ok-seats.seats
+    c.in_ok-seats.slots.items c.read_slots.new.from c.in_ok-seats.ensures
     ∙ sym (ap (λ (z : Shape). z.slots) c.shape.ensures.shape)
 
 pub invariant_of-result : goal.invariant_of-result

@@ -18,8 +18,11 @@ returns-clause-objects c =
 
 pub returns-clause-rest : goal.returns-clause-rest
 returns-clause-rest c =
-    rest_same c.self.inside.arena.bodies c.args.id.slot c.get_mut.result.now c.get_mut.ensures.value c.self.inside.arena.retired (tags_in c.self.inside.labels.items c.self.inside.names.items) c.acquire-acquired.new.self
-    (λ l. ap (λ (x : Seat). object_of x l) c.acquire-acquired.ensures.value) (ap (λ (x : Seat). x.handles) c.acquire-acquired.ensures.value)
+    rest_same c.self.inside.arena.bodies c.args.id.slot c.get_mut.result.now c.get_mut.ensures.value
+    c.self.inside.arena.retired (tags_in c.self.inside.labels.items c.self.inside.names.items)
+    c.acquire-acquired.new.self
+    (λ l. ap (λ (x : Seat). object_of x l) c.acquire-acquired.ensures.value)
+    (ap (λ (x : Seat). x.handles) c.acquire-acquired.ensures.value)
     ∙ ap rest_of c.self.view_is
 
 pub moved-requires : goal.moved-requires
@@ -27,11 +30,20 @@ moved-requires c = owned_few c.self.inside.arena.bodies c.self.inside.owners c.s
 
 pub invariant_of-self : goal.invariant_of-self
 invariant_of-self c = record {
-  owned = rw c.moved.ensures (owned_set c.self.inside.arena.bodies c.self.inside.owners c.args.id.slot c.get_mut.result.now c.acquire-acquired.new.self c.acquire-acquired.result.before c.acquire-acquired.result.after c.self.invariant.owned
+  owned = rw c.moved.ensures (owned_set c.self.inside.arena.bodies c.self.inside.owners c.args.id.slot
+      c.get_mut.result.now c.acquire-acquired.new.self c.acquire-acquired.result.before c.acquire-acquired.result.after
+      c.self.invariant.owned
       c.get_mut.ensures.value c.acquire-acquired.ensures.before c.acquire-acquired.ensures.after);
-  timed = timed_stays c.self.inside.arena.bodies c.self.inside.timers c.args.id.slot c.get_mut.result.now c.acquire-acquired.new.self c.self.invariant.timed c.get_mut.ensures.value (ap (λ (x : Seat). slot_due x.body) c.acquire-acquired.ensures.value ∙ due_taken c.args.thread c.get_mut.result.now.body);
-  opened = opened_stays c.self.inside.arena.bodies c.self.inside.closing c.args.id.slot c.get_mut.result.now c.acquire-acquired.new.self c.self.invariant.opened c.get_mut.ensures.value
-      (ap (λ (x : Seat). is_some x.body) c.acquire-acquired.ensures.value ∙ body_stays c.args.thread c.get_mut.result.now.body);
-  labelled = c.self.invariant.labelled ∙ sym (length-set c.self.inside.arena.bodies c.args.id.slot (Some c.acquire-acquired.new.self));
-  named = c.self.invariant.named ∙ sym (length-set c.self.inside.arena.bodies c.args.id.slot (Some c.acquire-acquired.new.self));
+  timed = timed_stays c.self.inside.arena.bodies c.self.inside.timers c.args.id.slot c.get_mut.result.now
+      c.acquire-acquired.new.self c.self.invariant.timed c.get_mut.ensures.value
+      (ap (λ (x : Seat). slot_due x.body) c.acquire-acquired.ensures.value
+      ∙ due_taken c.args.thread c.get_mut.result.now.body);
+  opened = opened_stays c.self.inside.arena.bodies c.self.inside.closing c.args.id.slot c.get_mut.result.now
+      c.acquire-acquired.new.self c.self.invariant.opened c.get_mut.ensures.value
+      (ap (λ (x : Seat). is_some x.body) c.acquire-acquired.ensures.value
+      ∙ body_stays c.args.thread c.get_mut.result.now.body);
+  labelled = c.self.invariant.labelled ∙ sym (length-set c.self.inside.arena.bodies c.args.id.slot
+      (Some c.acquire-acquired.new.self));
+  named = c.self.invariant.named ∙ sym (length-set c.self.inside.arena.bodies c.args.id.slot
+      (Some c.acquire-acquired.new.self));
 }

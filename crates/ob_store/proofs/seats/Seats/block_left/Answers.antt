@@ -12,32 +12,51 @@ use Rattle.ob_store.proofs.seats.Seats.block_left.Goals as goal
 pub returns-clause-objects : goal.returns-clause-objects
 returns-clause-objects c =
     ap (λ (x : Seat). seen_in (set c.self.inside.arena.bodies c.args.id.slot (Some x))) c.block_left-gone.ensures.value
-    ∙ seen_block_left c.self.inside.arena.bodies c.args.id.slot c.get_mut.result.now c.get_mut.ensures.value ∙ ap (λ (p : Places). without_block p.seen c.args.id) c.self.view_is
+    ∙ seen_block_left c.self.inside.arena.bodies c.args.id.slot c.get_mut.result.now c.get_mut.ensures.value
+    ∙ ap (λ (p : Places). without_block p.seen c.args.id) c.self.view_is
 
 pub returns-clause-rest : goal.returns-clause-rest
 returns-clause-rest c =
-    rest_same c.self.inside.arena.bodies c.args.id.slot c.get_mut.result.now c.get_mut.ensures.value c.self.inside.arena.retired (tags_in c.self.inside.labels.items c.self.inside.names.items) c.block_left-gone.new.self
-    (λ l. ap (λ (x : Seat). object_of x l) c.block_left-gone.ensures.value) (ap (λ (x : Seat). x.handles) c.block_left-gone.ensures.value)
+    rest_same c.self.inside.arena.bodies c.args.id.slot c.get_mut.result.now c.get_mut.ensures.value
+    c.self.inside.arena.retired (tags_in c.self.inside.labels.items c.self.inside.names.items)
+    c.block_left-gone.new.self
+    (λ l. ap (λ (x : Seat). object_of x l) c.block_left-gone.ensures.value)
+    (ap (λ (x : Seat). x.handles) c.block_left-gone.ensures.value)
     ∙ ap rest_of c.self.view_is
 
 pub returns-then-not-is_occupied-clause-objects : goal.returns-then-not-is_occupied-clause-objects
 returns-then-not-is_occupied-clause-objects c =
     sym (ap (λ (p : Places). p.seen) c.self.view_is)
-    ∙ seen_absent c.self.inside.arena.bodies c.args.id (none_of (get_or c.self.inside.arena.bodies c.args.id.slot None) (sym c.is_occupied.ensures ∙ c.if-not-is_occupied.true))
+    ∙ seen_absent c.self.inside.arena.bodies c.args.id
+    (none_of (get_or c.self.inside.arena.bodies c.args.id.slot None) (sym c.is_occupied.ensures
+    ∙ c.if-not-is_occupied.true))
     ∙ ap (λ (p : Places). without_block p.seen c.args.id) c.self.view_is
 
 pub invariant_of-self : goal.invariant_of-self
 invariant_of-self c = record {
-  owned = rw c.left.ensures (rw c.owner_of.ensures (owned_left_at c.self.inside.arena.bodies c.self.inside.owners c.args.id.slot c.get_mut.result.now c.block_left-gone.new.self _ c.block_left-gone.result c.self.invariant.owned
-      c.get_mut.ensures.value c.block_left-gone.ensures.gone (ap (λ (x : Seat). x.body) c.block_left-gone.ensures.value)));
-  timed = rw c.left-2.ensures (rw c.due_of.ensures (timed_left_at c.self.inside.arena.bodies c.self.inside.timers c.args.id.slot c.get_mut.result.now c.block_left-gone.new.self _ c.block_left-gone.result c.self.invariant.timed
-      c.get_mut.ensures.value c.block_left-gone.ensures.gone (ap (λ (x : Seat). x.body) c.block_left-gone.ensures.value)));
-  opened = rw c.came.ensures (rw c.is_some.ensures (opened_left_at c.self.inside.arena.bodies c.self.inside.closing c.args.id.slot c.get_mut.result.now c.block_left-gone.new.self _ c.block_left-gone.result c.self.invariant.opened
-      c.get_mut.ensures.value c.block_left-gone.ensures.gone (ap (λ (x : Seat). x.body) c.block_left-gone.ensures.value)));
-  labelled = c.self.invariant.labelled ∙ sym (length-set c.self.inside.arena.bodies c.args.id.slot (Some c.block_left-gone.new.self));
-  named = c.self.invariant.named ∙ sym (length-set c.self.inside.arena.bodies c.args.id.slot (Some c.block_left-gone.new.self));
+  owned = rw c.left.ensures (rw c.owner_of.ensures
+      (owned_left_at c.self.inside.arena.bodies c.self.inside.owners c.args.id.slot c.get_mut.result.now
+      c.block_left-gone.new.self _ c.block_left-gone.result c.self.invariant.owned
+      c.get_mut.ensures.value c.block_left-gone.ensures.gone
+      (ap (λ (x : Seat). x.body) c.block_left-gone.ensures.value)));
+  timed = rw c.left-2.ensures (rw c.due_of.ensures
+      (timed_left_at c.self.inside.arena.bodies c.self.inside.timers c.args.id.slot c.get_mut.result.now
+      c.block_left-gone.new.self _ c.block_left-gone.result c.self.invariant.timed
+      c.get_mut.ensures.value c.block_left-gone.ensures.gone
+      (ap (λ (x : Seat). x.body) c.block_left-gone.ensures.value)));
+  opened = rw c.came.ensures (rw c.is_some.ensures
+      (opened_left_at c.self.inside.arena.bodies c.self.inside.closing c.args.id.slot c.get_mut.result.now
+      c.block_left-gone.new.self _ c.block_left-gone.result c.self.invariant.opened
+      c.get_mut.ensures.value c.block_left-gone.ensures.gone
+      (ap (λ (x : Seat). x.body) c.block_left-gone.ensures.value)));
+  labelled = c.self.invariant.labelled ∙ sym (length-set c.self.inside.arena.bodies c.args.id.slot
+      (Some c.block_left-gone.new.self));
+  named = c.self.invariant.named ∙ sym (length-set c.self.inside.arena.bodies c.args.id.slot
+      (Some c.block_left-gone.new.self));
 }
 
 pub came-requires : goal.came-requires
-came-requires c = λ some. gone_was_there c.self.inside.arena.bodies c.self.inside.closing c.args.id.slot c.get_mut.result.now _ c.block_left-gone.result c.self.invariant.opened c.get_mut.ensures.value c.block_left-gone.ensures.gone
+came-requires c = λ some. gone_was_there c.self.inside.arena.bodies c.self.inside.closing c.args.id.slot
+    c.get_mut.result.now _ c.block_left-gone.result c.self.invariant.opened c.get_mut.ensures.value
+    c.block_left-gone.ensures.gone
     (sym c.is_some.ensures ∙ some)

@@ -10,21 +10,40 @@ use Rattle.ob_store.proofs.seats.Seats.handle_left.Goals as goal
 
 pub returns-clause-value : goal.returns-clause-value
 returns-clause-value c =
-    ap (λ (x : Seat). places_of (record { bodies = set c.self.inside.arena.bodies c.args.slot (Some x); retired = c.self.inside.arena.retired }) (tags_in c.self.inside.labels.items c.self.inside.names.items)) c.handle_left-gone.ensures.value
-    ∙ places_handle_left c.self.inside.arena.bodies c.args.slot c.get_mut.result.now c.get_mut.ensures.value c.self.inside.arena.retired (tags_in c.self.inside.labels.items c.self.inside.names.items) ∙ ap (λ (p : Places). without_handle p c.args.slot) c.self.view_is
+    ap (λ (x : Seat). places_of (record {
+      bodies = set c.self.inside.arena.bodies c.args.slot (Some x);
+      retired = c.self.inside.arena.retired;
+    }) (tags_in c.self.inside.labels.items c.self.inside.names.items))
+    c.handle_left-gone.ensures.value
+    ∙ places_handle_left c.self.inside.arena.bodies c.args.slot c.get_mut.result.now c.get_mut.ensures.value
+    c.self.inside.arena.retired (tags_in c.self.inside.labels.items c.self.inside.names.items)
+    ∙ ap (λ (p : Places). without_handle p c.args.slot) c.self.view_is
 
 pub invariant_of-self : goal.invariant_of-self
 invariant_of-self c = record {
-  owned = rw c.left.ensures (rw c.owner_of.ensures (owned_left_at c.self.inside.arena.bodies c.self.inside.owners c.args.slot c.get_mut.result.now c.handle_left-gone.new.self _ c.handle_left-gone.result c.self.invariant.owned
-      c.get_mut.ensures.value c.handle_left-gone.ensures.gone (ap (λ (x : Seat). x.body) c.handle_left-gone.ensures.value)));
-  timed = rw c.left-2.ensures (rw c.due_of.ensures (timed_left_at c.self.inside.arena.bodies c.self.inside.timers c.args.slot c.get_mut.result.now c.handle_left-gone.new.self _ c.handle_left-gone.result c.self.invariant.timed
-      c.get_mut.ensures.value c.handle_left-gone.ensures.gone (ap (λ (x : Seat). x.body) c.handle_left-gone.ensures.value)));
-  opened = rw c.came.ensures (rw c.is_some.ensures (opened_left_at c.self.inside.arena.bodies c.self.inside.closing c.args.slot c.get_mut.result.now c.handle_left-gone.new.self _ c.handle_left-gone.result c.self.invariant.opened
-      c.get_mut.ensures.value c.handle_left-gone.ensures.gone (ap (λ (x : Seat). x.body) c.handle_left-gone.ensures.value)));
-  labelled = c.self.invariant.labelled ∙ sym (length-set c.self.inside.arena.bodies c.args.slot (Some c.handle_left-gone.new.self));
-  named = c.self.invariant.named ∙ sym (length-set c.self.inside.arena.bodies c.args.slot (Some c.handle_left-gone.new.self));
+  owned = rw c.left.ensures (rw c.owner_of.ensures
+      (owned_left_at c.self.inside.arena.bodies c.self.inside.owners c.args.slot c.get_mut.result.now
+      c.handle_left-gone.new.self _ c.handle_left-gone.result c.self.invariant.owned
+      c.get_mut.ensures.value c.handle_left-gone.ensures.gone
+      (ap (λ (x : Seat). x.body) c.handle_left-gone.ensures.value)));
+  timed = rw c.left-2.ensures (rw c.due_of.ensures
+      (timed_left_at c.self.inside.arena.bodies c.self.inside.timers c.args.slot c.get_mut.result.now
+      c.handle_left-gone.new.self _ c.handle_left-gone.result c.self.invariant.timed
+      c.get_mut.ensures.value c.handle_left-gone.ensures.gone
+      (ap (λ (x : Seat). x.body) c.handle_left-gone.ensures.value)));
+  opened = rw c.came.ensures (rw c.is_some.ensures
+      (opened_left_at c.self.inside.arena.bodies c.self.inside.closing c.args.slot c.get_mut.result.now
+      c.handle_left-gone.new.self _ c.handle_left-gone.result c.self.invariant.opened
+      c.get_mut.ensures.value c.handle_left-gone.ensures.gone
+      (ap (λ (x : Seat). x.body) c.handle_left-gone.ensures.value)));
+  labelled = c.self.invariant.labelled ∙ sym (length-set c.self.inside.arena.bodies c.args.slot
+      (Some c.handle_left-gone.new.self));
+  named = c.self.invariant.named ∙ sym (length-set c.self.inside.arena.bodies c.args.slot
+      (Some c.handle_left-gone.new.self));
 }
 
 pub came-requires : goal.came-requires
-came-requires c = λ some. gone_was_there c.self.inside.arena.bodies c.self.inside.closing c.args.slot c.get_mut.result.now _ c.handle_left-gone.result c.self.invariant.opened c.get_mut.ensures.value c.handle_left-gone.ensures.gone
+came-requires c = λ some. gone_was_there c.self.inside.arena.bodies c.self.inside.closing c.args.slot
+    c.get_mut.result.now _ c.handle_left-gone.result c.self.invariant.opened c.get_mut.ensures.value
+    c.handle_left-gone.ensures.gone
     (sym c.is_some.ensures ∙ some)

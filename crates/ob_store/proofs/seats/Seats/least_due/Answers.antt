@@ -7,4 +7,5 @@ use Rattle.ob_store.proofs.seats.Seats.least_due.Goals as goal
 
 pub returns : goal.returns
 returns c = subst (λ (p : Places). IsLeast (map slot_due p.seen.bodies) c.least.result) c.self.view_is
-    (least_of_bodies c.self.inside.arena.bodies c.self.inside.timers c.least.result c.self.invariant.timed c.least.ensures)
+    (least_of_bodies c.self.inside.arena.bodies c.self.inside.timers c.least.result c.self.invariant.timed
+    c.least.ensures)

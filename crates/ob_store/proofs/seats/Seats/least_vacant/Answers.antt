@@ -6,9 +6,13 @@ use Rattle.ob_store.proofs.SeatLaws.{least_same, least_is}
 use Rattle.ob_store.proofs.seats.Seats.least_vacant.Goals as goal
 
 pub returns-clause-value : goal.returns-clause-value
-returns-clause-value c = c.least_vacant.ensures ∙ least_same c.self.inside.arena (tags_in c.self.inside.labels.items c.self.inside.names.items) ∙ ap (λ (p : Places). least_vacant (vacancy p)) c.self.view_is
+returns-clause-value c = c.least_vacant.ensures ∙ least_same c.self.inside.arena
+    (tags_in c.self.inside.labels.items c.self.inside.names.items)
+    ∙ ap (λ (p : Places). least_vacant (vacancy p)) c.self.view_is
 
 pub returns-clause-vacant : goal.returns-clause-vacant
 returns-clause-vacant c =
     subst (λ (p : Places). IfSome c.least_vacant.result (λ slot. is_vacant_at (vacancy p) slot ≡ true)) c.self.view_is
-    (least_is (vacancy (places_of c.self.inside.arena (tags_in c.self.inside.labels.items c.self.inside.names.items))) c.least_vacant.result (c.least_vacant.ensures ∙ least_same c.self.inside.arena (tags_in c.self.inside.labels.items c.self.inside.names.items)))
+    (least_is (vacancy (places_of c.self.inside.arena (tags_in c.self.inside.labels.items c.self.inside.names.items)))
+    c.least_vacant.result (c.least_vacant.ensures
+    ∙ least_same c.self.inside.arena (tags_in c.self.inside.labels.items c.self.inside.names.items)))

@@ -19,9 +19,14 @@ returns c =
 
 pub invariant_of-result : goal.invariant_of-result
 invariant_of-result c = record {
-  owned = subst (λ (s : Slots Seat). IsOwned s.bodies c.in_ok-new-2.field-0) (sym c.in_ok-new.ensures) (rw c.in_ok-new-2.ensures (owned_none c.args.slots c.args.threads c.requires));
-  named = search rules ∙ sym (ap (λ (s : Slots Seat). length s.bodies) c.in_ok-new.ensures ∙ length-replicate c.args.slots None);
-  labelled = search rules ∙ sym (ap (λ (s : Slots Seat). length s.bodies) c.in_ok-new.ensures ∙ length-replicate c.args.slots None);
-  opened = subst (λ (s : Slots Seat). c.in_ok-new-4.field-0 ≡ map is_open s.bodies) (sym c.in_ok-new.ensures) (c.in_ok-new-4.ensures ∙ opened_none c.args.slots);
-  timed = subst (λ (s : Slots Seat). c.in_ok-new-3.field-0 ≡ map seat_due s.bodies) (sym c.in_ok-new.ensures) (c.in_ok-new-3.ensures ∙ timed_none c.args.slots);
+  owned = subst (λ (s : Slots Seat). IsOwned s.bodies c.in_ok-new-2.field-0) (sym c.in_ok-new.ensures)
+      (rw c.in_ok-new-2.ensures (owned_none c.args.slots c.args.threads c.requires));
+  named = search rules ∙ sym (ap (λ (s : Slots Seat). length s.bodies) c.in_ok-new.ensures
+      ∙ length-replicate c.args.slots None);
+  labelled = search rules ∙ sym (ap (λ (s : Slots Seat). length s.bodies) c.in_ok-new.ensures
+      ∙ length-replicate c.args.slots None);
+  opened = subst (λ (s : Slots Seat). c.in_ok-new-4.field-0 ≡ map is_open s.bodies) (sym c.in_ok-new.ensures)
+      (c.in_ok-new-4.ensures ∙ opened_none c.args.slots);
+  timed = subst (λ (s : Slots Seat). c.in_ok-new-3.field-0 ≡ map seat_due s.bodies) (sym c.in_ok-new.ensures)
+      (c.in_ok-new-3.ensures ∙ timed_none c.args.slots);
 }

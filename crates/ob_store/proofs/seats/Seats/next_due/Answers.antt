@@ -7,10 +7,14 @@ use Rattle.ob_store.proofs.seats.Seats.next_due.Goals as goal
 
 pub returns-clause-some : goal.returns-clause-some
 returns-clause-some c =
-    subst (λ (p : Places). IfSome c.next_due.result (λ slot. slot_is_due c.args.now (get_or p.seen.bodies slot None) ≡ true)) c.self.view_is
-    (some_due c.args.now c.self.inside.arena.bodies c.self.inside.timers c.next_due.result c.self.invariant.timed c.next_due.ensures.some)
+    subst (λ (p : Places). IfSome c.next_due.result
+    (λ slot. slot_is_due c.args.now (get_or p.seen.bodies slot None) ≡ true)) c.self.view_is
+    (some_due c.args.now c.self.inside.arena.bodies c.self.inside.timers c.next_due.result c.self.invariant.timed
+    c.next_due.ensures.some)
 
 pub returns-clause-none : goal.returns-clause-none
 returns-clause-none c =
-    subst (λ (p : Places). IfNone c.next_due.result ((k : ℕ) → slot_is_due c.args.now (get_or p.seen.bodies k None) ≡ false)) c.self.view_is
-    (none_due_slot c.args.now c.self.inside.arena.bodies c.self.inside.timers c.next_due.result c.self.invariant.timed c.next_due.ensures.none)
+    subst (λ (p : Places). IfNone c.next_due.result ((k : ℕ)
+    → slot_is_due c.args.now (get_or p.seen.bodies k None) ≡ false)) c.self.view_is
+    (none_due_slot c.args.now c.self.inside.arena.bodies c.self.inside.timers c.next_due.result c.self.invariant.timed
+    c.next_due.ensures.none)

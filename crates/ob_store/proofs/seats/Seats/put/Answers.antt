@@ -13,12 +13,18 @@ use Rattle.ob_store.proofs.seats.Seats.put.Goals as goal
 pub returns-clause-objects : goal.returns-clause-objects
 returns-clause-objects c =
     ap (λ (x : Seat). seen_in (set c.self.inside.arena.bodies c.args.slot (Some x))) c.put-was.ensures.value
-    ∙ seen_put c.self.inside.arena.bodies c.args.slot c.get_mut.result.now c.get_mut.ensures.value c.args.body ∙ ap (λ (p : Places). record p.seen { bodies = set p.seen.bodies c.args.slot (Some c.args.body) }) c.self.view_is
+    ∙ seen_put c.self.inside.arena.bodies c.args.slot c.get_mut.result.now c.get_mut.ensures.value c.args.body
+    ∙ ap (λ (p : Places). record p.seen {
+      bodies =
+          set p.seen.bodies c.args.slot (Some c.args.body);
+    }) c.self.view_is
 
 pub returns-clause-rest : goal.returns-clause-rest
 returns-clause-rest c =
-    rest_same c.self.inside.arena.bodies c.args.slot c.get_mut.result.now c.get_mut.ensures.value c.self.inside.arena.retired (tags_in c.self.inside.labels.items c.self.inside.names.items) c.put-was.new.self
-    (λ l. ap (λ (x : Seat). object_of x l) c.put-was.ensures.value) (ap (λ (x : Seat). x.handles) c.put-was.ensures.value)
+    rest_same c.self.inside.arena.bodies c.args.slot c.get_mut.result.now c.get_mut.ensures.value
+    c.self.inside.arena.retired (tags_in c.self.inside.labels.items c.self.inside.names.items) c.put-was.new.self
+    (λ l. ap (λ (x : Seat). object_of x l) c.put-was.ensures.value)
+    (ap (λ (x : Seat). x.handles) c.put-was.ensures.value)
     ∙ ap rest_of c.self.view_is
 
 pub moved-requires : goal.moved-requires
@@ -26,12 +32,19 @@ moved-requires c = owned_few c.self.inside.arena.bodies c.self.inside.owners c.s
 
 pub invariant_of-self : goal.invariant_of-self
 invariant_of-self c = record {
-  owned = rw c.moved.ensures (owned_set c.self.inside.arena.bodies c.self.inside.owners c.args.slot c.get_mut.result.now c.put-was.new.self c.put-was.result.owner c.owner-owner.result c.self.invariant.owned
-      c.get_mut.ensures.value c.put-was.ensures.owner (c.owner-owner.ensures.owner ∙ ap (λ (x : Seat). slot_owner x.body) (sym c.put-was.ensures.value)));
-  timed = rw c.moved-2.ensures (timed_set c.self.inside.arena.bodies c.self.inside.timers c.args.slot (Some c.put-was.new.self) c.due-due.result c.self.invariant.timed (c.due-due.ensures ∙ ap (λ (x : Seat). slot_due x.body) (sym c.put-was.ensures.value)));
-  opened = opened_stays c.self.inside.arena.bodies c.self.inside.closing c.args.slot c.get_mut.result.now c.put-was.new.self c.self.invariant.opened c.get_mut.ensures.value
-      (ap (λ (x : Seat). is_some x.body) c.put-was.ensures.value ∙ sym (bodied c.self.inside.arena.bodies c.args.slot c.get_mut.result.now c.get_mut.ensures.value
+  owned = rw c.moved.ensures (owned_set c.self.inside.arena.bodies c.self.inside.owners c.args.slot c.get_mut.result.now
+      c.put-was.new.self c.put-was.result.owner c.owner-owner.result c.self.invariant.owned
+      c.get_mut.ensures.value c.put-was.ensures.owner (c.owner-owner.ensures.owner
+      ∙ ap (λ (x : Seat). slot_owner x.body) (sym c.put-was.ensures.value)));
+  timed = rw c.moved-2.ensures (timed_set c.self.inside.arena.bodies c.self.inside.timers c.args.slot
+      (Some c.put-was.new.self) c.due-due.result c.self.invariant.timed (c.due-due.ensures
+      ∙ ap (λ (x : Seat). slot_due x.body) (sym c.put-was.ensures.value)));
+  opened = opened_stays c.self.inside.arena.bodies c.self.inside.closing c.args.slot c.get_mut.result.now
+      c.put-was.new.self c.self.invariant.opened c.get_mut.ensures.value
+      (ap (λ (x : Seat). is_some x.body) c.put-was.ensures.value
+      ∙ sym (bodied c.self.inside.arena.bodies c.args.slot c.get_mut.result.now c.get_mut.ensures.value
       (subst (λ (p : Places). IsSome (get_or p.seen.bodies c.args.slot None)) (sym c.self.view_is) c.requires)));
-  labelled = c.self.invariant.labelled ∙ sym (length-set c.self.inside.arena.bodies c.args.slot (Some c.put-was.new.self));
+  labelled = c.self.invariant.labelled ∙ sym (length-set c.self.inside.arena.bodies c.args.slot
+      (Some c.put-was.new.self));
   named = c.self.invariant.named ∙ sym (length-set c.self.inside.arena.bodies c.args.slot (Some c.put-was.new.self));
 }

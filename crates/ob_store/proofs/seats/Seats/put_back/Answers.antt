@@ -15,16 +15,22 @@ use Rattle.ob_store.proofs.ClosingLaws.{opened_back, vacant_open}
 use Rattle.ob_store.proofs.seats.Seats.put_back.Goals as goal
 
 pub put-requires : goal.put-requires
-put-requires c = sym (vacant_same c.self.inside.arena (tags_in c.self.inside.labels.items c.self.inside.names.items) c.args.id.slot) ∙ ap (λ (p : Places). is_vacant_at (vacancy p) c.args.id.slot) c.self.view_is ∙ c.requires
+put-requires c = sym (vacant_same c.self.inside.arena
+    (tags_in c.self.inside.labels.items c.self.inside.names.items) c.args.id.slot)
+    ∙ ap (λ (p : Places). is_vacant_at (vacancy p) c.args.id.slot) c.self.view_is ∙ c.requires
 
 pub relabel-requires-clause-labelled : goal.relabel-requires-clause-labelled
 relabel-requires-clause-labelled c =
-    let vacant = vacant_seat c.self.inside.arena (tags_in c.self.inside.labels.items c.self.inside.names.items) c.args.id.slot (subst (λ (p : Places). is_vacant_at (vacancy p) c.args.id.slot ≡ true) (sym c.self.view_is) c.requires) in
+    let vacant = vacant_seat c.self.inside.arena (tags_in c.self.inside.labels.items c.self.inside.names.items)
+    c.args.id.slot (subst (λ (p : Places). is_vacant_at (vacancy p) c.args.id.slot ≡ true)
+    (sym c.self.view_is) c.requires) in
     omega (arith, vacant.0, c.self.invariant.labelled)
 
 pub relabel-requires-clause-named : goal.relabel-requires-clause-named
 relabel-requires-clause-named c =
-    let vacant = vacant_seat c.self.inside.arena (tags_in c.self.inside.labels.items c.self.inside.names.items) c.args.id.slot (subst (λ (p : Places). is_vacant_at (vacancy p) c.args.id.slot ≡ true) (sym c.self.view_is) c.requires) in
+    let vacant = vacant_seat c.self.inside.arena (tags_in c.self.inside.labels.items c.self.inside.names.items)
+    c.args.id.slot (subst (λ (p : Places). is_vacant_at (vacancy p) c.args.id.slot ≡ true)
+    (sym c.self.view_is) c.requires) in
     omega (arith, vacant.0, c.self.invariant.named)
 
 pub returns : goal.returns
@@ -39,7 +45,9 @@ returns c =
       body =
           c.args.object.body;
     } in
-    let vacant = vacant_seat c.self.inside.arena (tags_in c.self.inside.labels.items c.self.inside.names.items) c.args.id.slot (subst (λ (p : Places). is_vacant_at (vacancy p) c.args.id.slot ≡ true) (sym c.self.view_is) c.requires) in
+    let vacant = vacant_seat c.self.inside.arena (tags_in c.self.inside.labels.items c.self.inside.names.items)
+    c.args.id.slot (subst (λ (p : Places). is_vacant_at (vacancy p) c.args.id.slot ≡ true)
+    (sym c.self.view_is) c.requires) in
     let within : c.args.id.slot < length (tags_in c.self.inside.labels.items c.self.inside.names.items) =
     omega (
       arith,
@@ -53,7 +61,8 @@ returns c =
     } =
     c.put.ensures in
     (λ i. places_of (arena i) (c.relabel.ensures.value i))
-    ∙ places_added c.self.inside.arena (tags_in c.self.inside.labels.items c.self.inside.names.items) c.args.id.slot seat tag c.args.object.body 0 within refl refl refl
+    ∙ places_added c.self.inside.arena (tags_in c.self.inside.labels.items c.self.inside.names.items) c.args.id.slot
+    seat tag c.args.object.body 0 within refl refl refl
     ∙ ap (λ (p : Places). with_seated p c.args.id.slot object c.args.object.body 0) c.self.view_is
 
 pub came-requires : goal.came-requires
@@ -74,32 +83,47 @@ invariant_of-self c =
           set c.self.inside.arena.bodies c.args.id.slot (Some seat);
     } =
     c.put.ensures in
-    let vacant = vacant_seat c.self.inside.arena (tags_in c.self.inside.labels.items c.self.inside.names.items) c.args.id.slot (subst (λ (p : Places). is_vacant_at (vacancy p) c.args.id.slot ≡ true) (sym c.self.view_is) c.requires) in
+    let vacant = vacant_seat c.self.inside.arena (tags_in c.self.inside.labels.items c.self.inside.names.items)
+    c.args.id.slot (subst (λ (p : Places). is_vacant_at (vacancy p) c.args.id.slot ≡ true)
+    (sym c.self.view_is) c.requires) in
     record {
       labelled = c.relabel.ensures.labels ∙ c.self.invariant.labelled ∙
           sym (ap (λ (s : Slots Seat). length s.bodies) arena ∙
           length-set c.self.inside.arena.bodies c.args.id.slot (Some seat));
       named = c.relabel.ensures.names ∙ c.self.invariant.named ∙ sym (ap (λ (s : Slots Seat). length s.bodies) arena ∙
           length-set c.self.inside.arena.bodies c.args.id.slot (Some seat));
-      owned = subst (λ (s : Slots Seat). IsOwned s.bodies c.came.new.self) (sym arena) (rw c.came.ensures (moved_owned c.self.inside.arena.bodies c.self.inside.owners c.args.id.slot (Some seat) None c.owner_of.result c.self.invariant.owned
+      owned = subst (λ (s : Slots Seat). IsOwned s.bodies c.came.new.self) (sym arena)
+          (rw c.came.ensures (moved_owned c.self.inside.arena.bodies c.self.inside.owners c.args.id.slot
+          (Some seat) None c.owner_of.result c.self.invariant.owned
           vacant.0 (ap seat_owner (sym vacant.1)) c.owner_of.ensures));
       opened = subst (λ (s : Slots Seat). c.came-2.new.self ≡
-          map is_open s.bodies) (sym arena) (rw c.came-2.ensures (opened_back c.self.inside.arena.bodies c.self.inside.closing c.args.id.slot seat c.is_none.result c.self.invariant.opened vacant.1 c.is_none.ensures));
+          map is_open s.bodies) (sym arena) (rw c.came-2.ensures
+          (opened_back c.self.inside.arena.bodies c.self.inside.closing c.args.id.slot seat c.is_none.result
+          c.self.invariant.opened vacant.1 c.is_none.ensures));
       timed = subst (λ (s : Slots Seat). c.moved.new.self ≡
-          map seat_due s.bodies) (sym arena) (rw c.moved.ensures (timed_set c.self.inside.arena.bodies c.self.inside.timers c.args.id.slot (Some seat) c.due_of.result c.self.invariant.timed c.due_of.ensures));
+          map seat_due s.bodies) (sym arena) (rw c.moved.ensures
+          (timed_set c.self.inside.arena.bodies c.self.inside.timers c.args.id.slot
+          (Some seat) c.due_of.result c.self.invariant.timed c.due_of.ensures));
     }
 
 pub moved-requires-clause-within : goal.moved-requires-clause-within
 moved-requires-clause-within c =
-    let vacant = vacant_seat c.self.inside.arena (tags_in c.self.inside.labels.items c.self.inside.names.items) c.args.id.slot (subst (λ (p : Places). is_vacant_at (vacancy p) c.args.id.slot ≡ true) (sym c.self.view_is) c.requires) in
+    let vacant = vacant_seat c.self.inside.arena (tags_in c.self.inside.labels.items c.self.inside.names.items)
+    c.args.id.slot (subst (λ (p : Places). is_vacant_at (vacancy p) c.args.id.slot ≡ true)
+    (sym c.self.view_is) c.requires) in
     timed_within c.self.inside.arena.bodies c.self.inside.timers c.args.id.slot c.self.invariant.timed vacant.0
 
 pub moved-requires-clause-before : goal.moved-requires-clause-before
 moved-requires-clause-before c =
-    let vacant = vacant_seat c.self.inside.arena (tags_in c.self.inside.labels.items c.self.inside.names.items) c.args.id.slot (subst (λ (p : Places). is_vacant_at (vacancy p) c.args.id.slot ≡ true) (sym c.self.view_is) c.requires) in
+    let vacant = vacant_seat c.self.inside.arena (tags_in c.self.inside.labels.items c.self.inside.names.items)
+    c.args.id.slot (subst (λ (p : Places). is_vacant_at (vacancy p) c.args.id.slot ≡ true)
+    (sym c.self.view_is) c.requires) in
     timed_vacant c.self.inside.arena.bodies c.self.inside.timers c.args.id.slot c.self.invariant.timed vacant.1
 
 pub came-requires-2 : goal.came-requires-2
 came-requires-2 c = λ ended.
-    let vacant = vacant_seat c.self.inside.arena (tags_in c.self.inside.labels.items c.self.inside.names.items) c.args.id.slot (subst (λ (p : Places). is_vacant_at (vacancy p) c.args.id.slot ≡ true) (sym c.self.view_is) c.requires) in
-    vacant_open c.self.inside.arena.bodies c.self.inside.closing c.args.id.slot c.self.invariant.opened vacant.0 vacant.1
+    let vacant = vacant_seat c.self.inside.arena (tags_in c.self.inside.labels.items c.self.inside.names.items)
+    c.args.id.slot (subst (λ (p : Places). is_vacant_at (vacancy p) c.args.id.slot ≡ true)
+    (sym c.self.view_is) c.requires) in
+    vacant_open c.self.inside.arena.bodies c.self.inside.closing c.args.id.slot c.self.invariant.opened vacant.0
+    vacant.1

@@ -15,29 +15,47 @@ use Rattle.ob_store.proofs.ClosingLaws.{ended_here, opened_set}
 use Rattle.ob_store.proofs.seats.Seats.remove.Goals as goal
 
 pub take-requires : goal.take-requires
-take-requires c = seat_there c.self.inside.arena.bodies (tags_in c.self.inside.labels.items c.self.inside.names.items) c.args.slot (subst (λ (p : Places). IsSome (get_or p.objects c.args.slot None)) (sym c.self.view_is) c.requires.object)
+take-requires c = seat_there c.self.inside.arena.bodies
+    (tags_in c.self.inside.labels.items c.self.inside.names.items) c.args.slot
+    (subst (λ (p : Places). IsSome (get_or p.objects c.args.slot None)) (sym c.self.view_is) c.requires.object)
 
 pub returns-clause-vacant : goal.returns-clause-vacant
-returns-clause-vacant c = vacant_same c.take.new.self (tags_in c.self.inside.labels.items c.self.inside.names.items) c.args.slot ∙ c.take.ensures.vacant
+returns-clause-vacant c = vacant_same c.take.new.self
+    (tags_in c.self.inside.labels.items c.self.inside.names.items) c.args.slot ∙ c.take.ensures.vacant
 
 pub returns-clause-value : goal.returns-clause-value
-returns-clause-value c = ap (λ (s : Slots Seat). places_of s (tags_in c.self.inside.labels.items c.self.inside.names.items)) c.take.ensures.after ∙ places_removed c.self.inside.arena (tags_in c.self.inside.labels.items c.self.inside.names.items) c.args.slot ∙ ap (λ (p : Places). without_seat p c.args.slot) c.self.view_is
+returns-clause-value c = ap (λ (s : Slots Seat). places_of s
+    (tags_in c.self.inside.labels.items c.self.inside.names.items)) c.take.ensures.after
+    ∙ places_removed c.self.inside.arena (tags_in c.self.inside.labels.items c.self.inside.names.items) c.args.slot
+    ∙ ap (λ (p : Places). without_seat p c.args.slot) c.self.view_is
 
 pub invariant_of-self : goal.invariant_of-self
 invariant_of-self c =
-    let there = subst (λ (p : Places). IsSome (get_or p.objects c.args.slot None)) (sym c.self.view_is) c.requires.object in
-    let ended = subst (λ (p : Places). get_or p.seen.bodies c.args.slot None ≡ None) (sym c.self.view_is) c.requires.ended in
+    let there = subst (λ (p : Places). IsSome (get_or p.objects c.args.slot None))
+    (sym c.self.view_is) c.requires.object in
+    let ended = subst (λ (p : Places). get_or p.seen.bodies c.args.slot None ≡ None)
+    (sym c.self.view_is) c.requires.ended in
     record {
-      labelled = c.self.invariant.labelled ∙ sym (ap (λ (s : Slots Seat). length s.bodies) c.take.ensures.after ∙ length-set c.self.inside.arena.bodies c.args.slot None);
-      named = c.self.invariant.named ∙ sym (ap (λ (s : Slots Seat). length s.bodies) c.take.ensures.after ∙ length-set c.self.inside.arena.bodies c.args.slot None);
+      labelled = c.self.invariant.labelled ∙ sym (ap (λ (s : Slots Seat). length s.bodies) c.take.ensures.after
+          ∙ length-set c.self.inside.arena.bodies c.args.slot None);
+      named = c.self.invariant.named ∙ sym (ap (λ (s : Slots Seat). length s.bodies) c.take.ensures.after
+          ∙ length-set c.self.inside.arena.bodies c.args.slot None);
       owned = subst (λ (s : Slots Seat). IsOwned s.bodies c.self.inside.owners) (sym c.take.ensures.after)
-          (owned_removed c.self.inside.arena.bodies c.self.inside.owners c.args.slot c.self.invariant.owned ended (object_within c.self.inside.arena (tags_in c.self.inside.labels.items c.self.inside.names.items) c.args.slot there));
-      opened = subst (λ (s : Slots Seat). c.left.new.self ≡ map is_open s.bodies) (sym c.take.ensures.after) (c.left.ensures ∙ opened_set c.self.inside.arena.bodies c.self.inside.closing c.args.slot None true c.self.invariant.opened refl);
-      timed = subst (λ (s : Slots Seat). c.self.inside.timers ≡ map seat_due s.bodies) (sym c.take.ensures.after) (timed_removed c.self.inside.arena.bodies c.self.inside.timers c.args.slot c.self.invariant.timed ended);
+          (owned_removed c.self.inside.arena.bodies c.self.inside.owners c.args.slot c.self.invariant.owned ended
+          (object_within c.self.inside.arena (tags_in c.self.inside.labels.items c.self.inside.names.items)
+          c.args.slot there));
+      opened = subst (λ (s : Slots Seat). c.left.new.self ≡ map is_open s.bodies) (sym c.take.ensures.after)
+          (c.left.ensures ∙ opened_set c.self.inside.arena.bodies c.self.inside.closing c.args.slot None true
+          c.self.invariant.opened refl);
+      timed = subst (λ (s : Slots Seat). c.self.inside.timers ≡ map seat_due s.bodies) (sym c.take.ensures.after)
+          (timed_removed c.self.inside.arena.bodies c.self.inside.timers c.args.slot c.self.invariant.timed ended);
     }
 
 pub left-requires : goal.left-requires
 left-requires c =
-    let there = subst (λ (p : Places). IsSome (get_or p.objects c.args.slot None)) (sym c.self.view_is) c.requires.object in
-    let ended = subst (λ (p : Places). get_or p.seen.bodies c.args.slot None ≡ None) (sym c.self.view_is) c.requires.ended in
-    ended_here c.self.inside.arena.bodies (tags_in c.self.inside.labels.items c.self.inside.names.items) c.self.inside.closing c.args.slot c.self.invariant.opened there ended
+    let there = subst (λ (p : Places). IsSome (get_or p.objects c.args.slot None))
+    (sym c.self.view_is) c.requires.object in
+    let ended = subst (λ (p : Places). get_or p.seen.bodies c.args.slot None ≡ None)
+    (sym c.self.view_is) c.requires.ended in
+    ended_here c.self.inside.arena.bodies (tags_in c.self.inside.labels.items c.self.inside.names.items)
+    c.self.inside.closing c.args.slot c.self.invariant.opened there ended

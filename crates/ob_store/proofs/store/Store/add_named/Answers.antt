@@ -18,13 +18,25 @@ invariant_of-self-in-Ok g c =
     let new = c.args.new in
     let name = name_at c.args.name.now in
     let head : Head = record { descr = new.descr; grant = new.grant; name = Some name } in
-    let absent : find_name name s.names.rows ≡ None = ap (find_name name) c.self.invariant.sound.listing.same ∙ ap (λ (w : Whole). find_name name (directory_of w.state)) c.self.view_is ∙ c.requires.absent in
-    rw (c.enter.ensures.rows, c.add-id.ensures.id, c.add-id.ensures.added, c.in-Ok.ensures.ok, c.id_at.ensures, c.in_ok-kept.ensures.copy, c.in_ok-entered.ensures.copy, c.in_ok-entered.ensures.rows)
-    (kept_name (parts_of s) c.self.invariant c.kept.ensures c.args.process c.args.slot new.rights new.flags head new.body
+    let absent : find_name name s.names.rows ≡ None = ap (find_name name) c.self.invariant.sound.listing.same
+    ∙ ap (λ (w : Whole). find_name name (directory_of w.state)) c.self.view_is ∙ c.requires.absent in
+    rw (
+      c.enter.ensures.rows,
+      c.add-id.ensures.id,
+      c.add-id.ensures.added,
+      c.in-Ok.ensures.ok,
+      c.id_at.ensures,
+      c.in_ok-kept.ensures.copy,
+      c.in_ok-entered.ensures.copy,
+      c.in_ok-entered.ensures.rows,
+    )
+    (kept_name (parts_of s) c.self.invariant c.kept.ensures c.args.process c.args.slot new.rights new.flags head
+    new.body
     (subst (λ (w : Whole). c.args.process < length w.state.tables) (sym c.self.view_is) c.requires.process)
     (subst (λ (w : Whole). is_vacant_at (vacancy w.state) c.args.slot ≡ true) (sym c.self.view_is) c.requires.vacant)
     c.requires.formed
-    (subst (λ (w : Whole). (t : ℕ) → owner_of new.body ≡ Some t → IsLive w.state.threads t) (sym c.self.view_is) c.requires.owned)
+    (subst (λ (w : Whole). (t : ℕ) → owner_of new.body ≡ Some t
+    → IsLive w.state.threads t) (sym c.self.view_is) c.requires.owned)
     name refl absent)
 
 pub returns-in-Ok-clause-state : goal.returns-in-Ok-clause-state
@@ -32,8 +44,23 @@ returns-in-Ok-clause-state g c =
     let s = c.self.inside.parts in
     let new = c.args.new in
     let head : Head = record { descr = new.descr; grant = new.grant; name = Some (name_at c.args.name.now) } in
-    let after : State → State = λ (z : State). with_added z c.args.process c.args.slot new.rights new.flags head new.body in
-    let added : state_of (record (parts_of s) { tables = c.place.new.self; objects = c.add-id.new.self; rows = c.enter.new.self.rows }) ≡ after (state_of (parts_of s)) =
-    rw (c.add-id.ensures.added, c.in-Ok.ensures.ok, c.id_at.ensures, c.in_ok-kept.ensures.copy) (added_state (parts_of s) c.args.process c.args.slot new.rights new.flags head new.body c.enter.new.self.rows) in
-    sym (settled_kept (record (parts_of s) { tables = c.place.new.self; objects = c.add-id.new.self; rows = c.enter.new.self.rows }) (invariant_of-self-in-Ok g c) c.kept-in-Ok.ensures)
+    let after : State → State = λ (z : State). with_added z c.args.process c.args.slot new.rights new.flags head
+    new.body in
+    let added : state_of (record (parts_of s) {
+      tables = c.place.new.self;
+      objects = c.add-id.new.self;
+      rows = c.enter.new.self.rows;
+    }) ≡ after (state_of (parts_of s)) =
+    rw (
+      c.add-id.ensures.added,
+      c.in-Ok.ensures.ok,
+      c.id_at.ensures,
+      c.in_ok-kept.ensures.copy,
+    ) (added_state (parts_of s) c.args.process c.args.slot new.rights new.flags head
+    new.body c.enter.new.self.rows) in
+    sym (settled_kept (record (parts_of s) {
+      tables = c.place.new.self;
+      objects = c.add-id.new.self;
+      rows = c.enter.new.self.rows;
+    }) (invariant_of-self-in-Ok g c) c.kept-in-Ok.ensures)
     ∙ ap settled (added ∙ ap (λ (w : Whole). after w.state) c.self.view_is)

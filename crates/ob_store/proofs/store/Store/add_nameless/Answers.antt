@@ -15,11 +15,13 @@ invariant_of-self g c =
     let new = c.args.new in
     let head : Head = record { descr = new.descr; grant = new.grant; name = None } in
     rw (c.in-Ok.ensures.ok, c.id_at.ensures, c.add.ensures.added)
-    (kept_nameless (parts_of s) c.self.invariant c.kept.ensures c.args.process c.args.slot new.rights new.flags head new.body
+    (kept_nameless (parts_of s) c.self.invariant c.kept.ensures c.args.process c.args.slot new.rights new.flags head
+    new.body
     (subst (λ (w : Whole). c.args.process < length w.state.tables) (sym c.self.view_is) c.requires.process)
     (subst (λ (w : Whole). is_vacant_at (vacancy w.state) c.args.slot ≡ true) (sym c.self.view_is) c.requires.vacant)
     c.requires.formed
-    (subst (λ (w : Whole). (t : ℕ) → owner_of new.body ≡ Some t → IsLive w.state.threads t) (sym c.self.view_is) c.requires.owned)
+    (subst (λ (w : Whole). (t : ℕ) → owner_of new.body ≡ Some t
+    → IsLive w.state.threads t) (sym c.self.view_is) c.requires.owned)
     refl)
 
 pub returns-in-Ok-clause-state : goal.returns-in-Ok-clause-state
@@ -27,8 +29,15 @@ returns-in-Ok-clause-state g c =
     let s = c.self.inside.parts in
     let new = c.args.new in
     let head : Head = record { descr = new.descr; grant = new.grant; name = None } in
-    let after : State → State = λ (z : State). with_added z c.args.process c.args.slot new.rights new.flags head new.body in
-    let added : state_of (record (parts_of s) { tables = c.place.new.self; objects = c.add.new.self; rows = s.names.rows }) ≡ after (state_of (parts_of s)) =
-    rw (c.in-Ok.ensures.ok, c.id_at.ensures, c.add.ensures.added) (added_state (parts_of s) c.args.process c.args.slot new.rights new.flags head new.body s.names.rows) in
-    sym (settled_kept (record (parts_of s) { tables = c.place.new.self; objects = c.add.new.self; rows = s.names.rows }) (invariant_of-self g c) c.kept-in-Ok.ensures)
+    let after : State → State = λ (z : State). with_added z c.args.process c.args.slot new.rights new.flags head
+    new.body in
+    let added : state_of (record (parts_of s) {
+      tables = c.place.new.self;
+      objects = c.add.new.self;
+      rows = s.names.rows;
+    }) ≡ after (state_of (parts_of s)) =
+    rw (c.in-Ok.ensures.ok, c.id_at.ensures, c.add.ensures.added)
+    (added_state (parts_of s) c.args.process c.args.slot new.rights new.flags head new.body s.names.rows) in
+    sym (settled_kept (record (parts_of s) { tables = c.place.new.self; objects = c.add.new.self; rows = s.names.rows })
+    (invariant_of-self g c) c.kept-in-Ok.ensures)
     ∙ ap settled (added ∙ ap (λ (w : Whole). after w.state) c.self.view_is)

@@ -11,18 +11,24 @@ pub leave_process-requires : goal.leave_process-requires
 leave_process-requires g c =
     let s = c.self.inside.parts in
     let before = state_of (parts_of s) in
-    let begun = c.end_one.ensures.carries s.objects.keeper before (ending_begins (parts_of s) c.clear.new.self c.self.invariant c.kept.ensures) in
-    let live : get_or s.processes.threads c.args.thread None ≡ Some c.args.process = subst (λ (w : Whole). get_or w.state.threads c.args.thread None ≡ Some c.args.process) (sym c.self.view_is) c.requires.live in
+    let begun = c.end_one.ensures.carries s.objects.keeper before
+    (ending_begins (parts_of s) c.clear.new.self c.self.invariant c.kept.ensures) in
+    let live : get_or s.processes.threads c.args.thread None ≡ Some c.args.process =
+    subst (λ (w : Whole). get_or w.state.threads c.args.thread None ≡ Some c.args.process)
+    (sym c.self.view_is) c.requires.live in
     record {
       sound = begun.way.sound;
-      table = subst (λ (x : State). c.args.process < length x.tables) (sym begun.way.rest) (thread_tabled s.limits s.processes (length s.tables.tables) c.args.thread (Some c.args.process) c.self.invariant.sound.processes_kept (sym live));
+      table = subst (λ (x : State). c.args.process < length x.tables) (sym begun.way.rest)
+          (thread_tabled s.limits s.processes (length s.tables.tables) c.args.thread
+          (Some c.args.process) c.self.invariant.sound.processes_kept (sym live));
     }
 
 pub settle-requires : goal.settle-requires
 settle-requires g c =
     let s = c.self.inside.parts in
     let before = state_of (parts_of s) in
-    let begun = c.end_one.ensures.carries s.objects.keeper before (ending_begins (parts_of s) c.clear.new.self c.self.invariant c.kept.ensures) in
+    let begun = c.end_one.ensures.carries s.objects.keeper before
+    (ending_begins (parts_of s) c.clear.new.self c.self.invariant c.kept.ensures) in
     let ending = c.leave_process.ensures.carries s.objects.keeper (thread_ended before c.args.thread) begun in
     record { sound = ending.way.sound; enough = ending.enough }
 
@@ -30,9 +36,11 @@ pub returns : goal.returns
 returns g c =
     let s = c.self.inside.parts in
     let before = state_of (parts_of s) in
-    let begun = c.end_one.ensures.carries s.objects.keeper before (ending_begins (parts_of s) c.clear.new.self c.self.invariant c.kept.ensures) in
+    let begun = c.end_one.ensures.carries s.objects.keeper before
+    (ending_begins (parts_of s) c.clear.new.self c.self.invariant c.kept.ensures) in
     let ending = c.leave_process.ensures.carries s.objects.keeper (thread_ended before c.args.thread) begun in
     record {
-      state = c.settle.ensures.state s.objects.keeper _ ending.way ∙ ap (λ (w : Whole). settled (left w.state c.args.process c.args.thread)) c.self.view_is;
+      state = c.settle.ensures.state s.objects.keeper _ ending.way
+          ∙ ap (λ (w : Whole). settled (left w.state c.args.process c.args.thread)) c.self.view_is;
       keeper = c.settle.ensures.keeper ∙ ending.way.keeper ∙ ap (λ (w : Whole). opened w.keeper) c.self.view_is;
     }

@@ -10,8 +10,12 @@ use Rattle.ob_store.proofs.store.Store.find.Goals as goal
 
 pub returns-clause-handled : goal.returns-clause-handled
 returns-clause-handled g c =
-    subst (λ (w : Whole). IfSome c.find.result (λ id. 0 < handles_of w.state id)) c.self.view_is (by c.find.result c.find.ensures)
+    subst (λ (w : Whole). IfSome c.find.result (λ id. 0 < handles_of w.state id)) c.self.view_is
+    (by c.find.result c.find.ensures)
   where
-    by : (r : Option Id) → r ≡ find_name (name_at c.args.name.now) c.self.inside.parts.names.rows → IfSome r (λ id. 0 < handles_of (state_of (parts_of c.self.inside.parts)) id)
+    by : (r : Option Id) → r ≡ find_name (name_at c.args.name.now) c.self.inside.parts.names.rows
+        → IfSome r (λ id. 0 < handles_of (state_of (parts_of c.self.inside.parts)) id)
     by None is = tt
-    by (Some id) is = (listing_found c.self.inside.parts.names.rows c.self.inside.parts.tables.tables c.self.inside.parts.objects.objects c.self.inside.parts.objects.births c.self.invariant.sound.listing (placed_agreed c.self.inside.parts.objects c.kept.ensures.agreed) (name_at c.args.name.now) id (sym is)).has
+    by (Some id) is = (listing_found c.self.inside.parts.names.rows c.self.inside.parts.tables.tables
+        c.self.inside.parts.objects.objects c.self.inside.parts.objects.births c.self.invariant.sound.listing
+        (placed_agreed c.self.inside.parts.objects c.kept.ensures.agreed) (name_at c.args.name.now) id (sym is)).has

@@ -11,5 +11,7 @@ pub returns-clause-least : goal.returns-clause-least
 returns-clause-least g c =
     let timers = map slot_due c.self.inside.parts.objects.seen.bodies in
     let waits = map deadline_of c.self.inside.parts.waits.waits in
-    subst (λ (w : Whole). IsLeast (dues_of w.state) c.sooner.result) c.self.view_is (subst (λ (x : Option ℕ). IsLeast (timers ++ waits) x) (sym c.sooner.ensures)
-    (least_joined timers waits c.least_due-timers.result c.next_due-waits.result c.least_due-timers.ensures c.next_due-waits.ensures.least))
+    subst (λ (w : Whole). IsLeast (dues_of w.state) c.sooner.result) c.self.view_is
+    (subst (λ (x : Option ℕ). IsLeast (timers ++ waits) x) (sym c.sooner.ensures)
+    (least_joined timers waits c.least_due-timers.result c.next_due-waits.result c.least_due-timers.ensures
+    c.next_due-waits.ensures.least))

@@ -14,28 +14,52 @@ use Rattle.ob_store.proofs.store.Store.remove_entry.Goals as goal
 pub handle_left-requires : goal.handle_left-requires
 handle_left-requires g c =
     let s = c.self.inside.parts in
-    let found : entry_at (table_of s.tables.tables c.args.process) c.args.handle ≡ Some c.args.entry = subst (λ (w : Whole). entry_at (table_of w.state.tables c.args.process) c.args.handle ≡ Some c.args.entry) (sym c.self.view_is) c.requires in
-    record { handled = held (parts_of s) c.args.process c.args.handle c.args.entry c.self.invariant.sound c.kept.ensures found }
+    let found : entry_at (table_of s.tables.tables c.args.process) c.args.handle ≡ Some c.args.entry =
+    subst (λ (w : Whole). entry_at (table_of w.state.tables c.args.process) c.args.handle ≡ Some c.args.entry)
+    (sym c.self.view_is) c.requires in
+    record {
+      handled = held (parts_of s) c.args.process c.args.handle c.args.entry c.self.invariant.sound c.kept.ensures
+          found;
+    }
 
 pub invariant_of-self : goal.invariant_of-self
 invariant_of-self g c =
     let s = c.self.inside.parts in
-    let found : entry_at (table_of s.tables.tables c.args.process) c.args.handle ≡ Some c.args.entry = subst (λ (w : Whole). entry_at (table_of w.state.tables c.args.process) c.args.handle ≡ Some c.args.entry) (sym c.self.view_is) c.requires in
+    let found : entry_at (table_of s.tables.tables c.args.process) c.args.handle ≡ Some c.args.entry =
+    subst (λ (w : Whole). entry_at (table_of w.state.tables c.args.process) c.args.handle ≡ Some c.args.entry)
+    (sym c.self.view_is) c.requires in
     rw c.remove.ensures.after (record {
-      sound = sound_left (parts_of s) c.args.process c.args.handle c.args.entry c.self.invariant.sound c.kept.ensures found c.look.result (λ x. x.seat.now.handles) (λ x. object_of x.seat.now (tag_of x.label.now x.name.now)) c.handle_left.new.self c.leave_directory.new.names.rows
+      sound = sound_left (parts_of s) c.args.process c.args.handle c.args.entry c.self.invariant.sound c.kept.ensures
+          found c.look.result (λ x. x.seat.now.handles)
+          (λ x. object_of x.seat.now (tag_of x.label.now x.name.now)) c.handle_left.new.self
+          c.leave_directory.new.names.rows
           c.handle_left.ensures c.look.ensures.object c.look.ensures.handles c.leave_directory.ensures;
       settled = settled_less s.objects.seen.bodies c.handle_left.new.self.seen.bodies s.waits.waits
-          (less_gone s.objects.seen.bodies c.handle_left.new.self.seen.bodies (subst (λ (o : ObjectsState). AreLeft s.objects.seen.bodies o.seen.bodies) (sym c.handle_left.ensures) (bodies_left (parts_of s) c.args.process c.args.handle c.args.entry c.self.invariant.sound c.kept.ensures found))) c.self.invariant.settled;
+          (less_gone s.objects.seen.bodies c.handle_left.new.self.seen.bodies
+          (subst (λ (o : ObjectsState). AreLeft s.objects.seen.bodies o.seen.bodies) (sym c.handle_left.ensures)
+          (bodies_left (parts_of s) c.args.process c.args.handle c.args.entry c.self.invariant.sound c.kept.ensures
+          found))) c.self.invariant.settled;
     })
 
 pub returns : goal.returns
 returns g c =
     let s = c.self.inside.parts in
-    let found : entry_at (table_of s.tables.tables c.args.process) c.args.handle ≡ Some c.args.entry = subst (λ (w : Whole). entry_at (table_of w.state.tables c.args.process) c.args.handle ≡ Some c.args.entry) (sym c.self.view_is) c.requires in
-    let way = way_left (parts_of s) c.args.process c.args.handle c.args.entry c.self.invariant.sound c.kept.ensures found c.look.result (λ x. x.seat.now.handles) (λ x. object_of x.seat.now (tag_of x.label.now x.name.now)) c.handle_left.new.self c.leave_directory.new.names.rows
-    c.handle_left.ensures c.look.ensures.object c.look.ensures.handles c.leave_directory.ensures c.kept-2.ensures s.objects.keeper _ (way_begins (parts_of s) c.self.invariant.sound c.kept.ensures) in
+    let found : entry_at (table_of s.tables.tables c.args.process) c.args.handle ≡ Some c.args.entry =
+    subst (λ (w : Whole). entry_at (table_of w.state.tables c.args.process) c.args.handle ≡ Some c.args.entry)
+    (sym c.self.view_is) c.requires in
+    let way = way_left (parts_of s) c.args.process c.args.handle c.args.entry c.self.invariant.sound c.kept.ensures
+    found c.look.result (λ x. x.seat.now.handles)
+    (λ x. object_of x.seat.now (tag_of x.label.now x.name.now)) c.handle_left.new.self
+    c.leave_directory.new.names.rows
+    c.handle_left.ensures c.look.ensures.object c.look.ensures.handles c.leave_directory.ensures c.kept-2.ensures
+    s.objects.keeper _ (way_begins (parts_of s) c.self.invariant.sound c.kept.ensures) in
     record {
-      state = rw c.remove.ensures.after (way_still s.objects.keeper _ _ way (settled_less s.objects.seen.bodies c.handle_left.new.self.seen.bodies s.waits.waits
-          (less_gone s.objects.seen.bodies c.handle_left.new.self.seen.bodies (subst (λ (o : ObjectsState). AreLeft s.objects.seen.bodies o.seen.bodies) (sym c.handle_left.ensures) (bodies_left (parts_of s) c.args.process c.args.handle c.args.entry c.self.invariant.sound c.kept.ensures found))) c.self.invariant.settled)) ∙ ap (λ (w : Whole). settled (without_entry w.state c.args.process c.args.handle)) c.self.view_is;
+      state = rw c.remove.ensures.after (way_still s.objects.keeper _ _ way
+          (settled_less s.objects.seen.bodies c.handle_left.new.self.seen.bodies s.waits.waits
+          (less_gone s.objects.seen.bodies c.handle_left.new.self.seen.bodies
+          (subst (λ (o : ObjectsState). AreLeft s.objects.seen.bodies o.seen.bodies) (sym c.handle_left.ensures)
+          (bodies_left (parts_of s) c.args.process c.args.handle c.args.entry c.self.invariant.sound c.kept.ensures
+          found))) c.self.invariant.settled)) ∙ ap
+          (λ (w : Whole). settled (without_entry w.state c.args.process c.args.handle)) c.self.view_is;
       keeper = way.keeper ∙ ap (λ (w : Whole). opened w.keeper) c.self.view_is;
     }

@@ -10,12 +10,18 @@ use Rattle.ob_store.proofs.store.Store.set_flags.Goals as goal
 pub invariant_of-self : goal.invariant_of-self
 invariant_of-self g c =
     let s = c.self.inside.parts in
-    let some : IsSome (entry_at (table_of s.tables.tables c.args.process) c.args.handle) = subst (λ (w : Whole). IsSome (entry_at (table_of w.state.tables c.args.process) c.args.handle)) (sym c.self.view_is) c.requires in
+    let some : IsSome (entry_at (table_of s.tables.tables c.args.process) c.args.handle) =
+    subst (λ (w : Whole). IsSome (entry_at (table_of w.state.tables c.args.process) c.args.handle))
+    (sym c.self.view_is) c.requires in
     rw c.set_flags.ensures (kept_flags (parts_of s) c.args.process c.args.handle c.args.flags c.self.invariant some)
 
 pub returns : goal.returns
 returns g c =
     let s = c.self.inside.parts in
-    let some : IsSome (entry_at (table_of s.tables.tables c.args.process) c.args.handle) = subst (λ (w : Whole). IsSome (entry_at (table_of w.state.tables c.args.process) c.args.handle)) (sym c.self.view_is) c.requires in
-    rw c.set_flags.ensures (whole_kept (flagged (parts_of s) c.args.process c.args.handle c.args.flags) (kept_flags (parts_of s) c.args.process c.args.handle c.args.flags c.self.invariant some) c.kept.ensures)
-    ∙ ap (λ (w : Whole). record w { state = settled (with_flags w.state c.args.process c.args.handle c.args.flags) }) c.self.view_is
+    let some : IsSome (entry_at (table_of s.tables.tables c.args.process) c.args.handle) =
+    subst (λ (w : Whole). IsSome (entry_at (table_of w.state.tables c.args.process) c.args.handle))
+    (sym c.self.view_is) c.requires in
+    rw c.set_flags.ensures (whole_kept (flagged (parts_of s) c.args.process c.args.handle c.args.flags)
+    (kept_flags (parts_of s) c.args.process c.args.handle c.args.flags c.self.invariant some) c.kept.ensures)
+    ∙ ap (λ (w : Whole). record w { state = settled (with_flags w.state c.args.process c.args.handle c.args.flags) })
+    c.self.view_is

@@ -7,10 +7,13 @@ use Rattle.ob_store.proofs.WaitedLaws.{kept_over, over}
 use Rattle.ob_store.proofs.store.Store.take_result.Goals as goal
 
 pub invariant_of-self : goal.invariant_of-self
-invariant_of-self g c = rw c.take_result.ensures.over (kept_over (parts_of c.self.inside.parts) c.args.wait c.take_result.result c.self.invariant c.take_result.ensures.code)
+invariant_of-self g c = rw c.take_result.ensures.over
+    (kept_over (parts_of c.self.inside.parts) c.args.wait c.take_result.result c.self.invariant
+    c.take_result.ensures.code)
 
 pub returns-clause-over : goal.returns-clause-over
 returns-clause-over g c =
     let p = parts_of c.self.inside.parts in
-    rw c.take_result.ensures.over (whole_kept (over p c.args.wait) (kept_over p c.args.wait c.take_result.result c.self.invariant c.take_result.ensures.code) c.kept.ensures)
+    rw c.take_result.ensures.over (whole_kept (over p c.args.wait)
+    (kept_over p c.args.wait c.take_result.result c.self.invariant c.take_result.ensures.code) c.kept.ensures)
     ∙ ap (λ (w : Whole). record w { state = settled (without_wait w.state c.args.wait) }) c.self.view_is

@@ -5,7 +5,10 @@ use Rattle.ob_waits.proofs.finder.Finder.new.Goals as goal
 
 pub returns-clause-finder : goal.returns-clause-finder
 returns-clause-finder c = record {
-  placed = record { each = λ i entry is. absurd (none-some entry (sym (ap (λ (ps : List (Option Entry)). get_or ps i None) c.new.ensures.items) ∙ is)) };
+  placed = record {
+    each = λ i entry is. absurd (none-some entry
+        (sym (ap (λ (ps : List (Option Entry)). get_or ps i None) c.new.ensures.items) ∙ is));
+  };
   bits = 6;
   mask = refl;
 }

@@ -11,10 +11,14 @@ returns-then-stands-clause-finder c =
     let m = c.args.self.now.mask in
     let n = c.args.number in
     let ps : List (Option Entry) = c.args.self.now.places.items in
-    let some : is_some (here n (get_or ps (home m n) None) None) ≡ true = ap (λ (l : List (Option Entry)). is_some (here n (get_or l (home m n) None) None)) (sym c.as_slice.ensures.value) ∙ sym c.if-stands.ensures.value in
+    let some : is_some (here n (get_or ps (home m n) None) None) ≡ true =
+    ap (λ (l : List (Option Entry)). is_some (here n (get_or l (home m n) None) None))
+    (sym c.as_slice.ensures.value) ∙ sym c.if-stands.ensures.value in
     let at = stands_there n (get_or ps (home m n) None) some in
-    let lt : home m n < length ps = subst (λ (l : List (Option Entry)). home m n < length l) c.as_slice.ensures.value (c.if-stands.ensures.within refl) in record {
-      placed = left_placed m ps (set ps (home m n) None) (get nat_eq c.args.self.now.others) n at.0 c.requires.placed at.2 at.1 (set_read ps (home m n) None lt);
+    let lt : home m n < length ps = subst (λ (l : List (Option Entry)). home m n < length l) c.as_slice.ensures.value
+    (c.if-stands.ensures.within refl) in record {
+      placed = left_placed m ps (set ps (home m n) None)
+          (get nat_eq c.args.self.now.others) n at.0 c.requires.placed at.2 at.1 (set_read ps (home m n) None lt);
       bits = c.requires.bits;
       mask = c.requires.mask;
     }
@@ -24,14 +28,19 @@ returns-then-stands-clause-removed c =
     let m = c.args.self.now.mask in
     let n = c.args.number in
     let ps : List (Option Entry) = c.args.self.now.places.items in
-    let some : is_some (here n (get_or ps (home m n) None) None) ≡ true = ap (λ (l : List (Option Entry)). is_some (here n (get_or l (home m n) None) None)) (sym c.as_slice.ensures.value) ∙ sym c.if-stands.ensures.value in
+    let some : is_some (here n (get_or ps (home m n) None) None) ≡ true =
+    ap (λ (l : List (Option Entry)). is_some (here n (get_or l (home m n) None) None))
+    (sym c.as_slice.ensures.value) ∙ sym c.if-stands.ensures.value in
     let at = stands_there n (get_or ps (home m n) None) some in
-    let lt : home m n < length ps = subst (λ (l : List (Option Entry)). home m n < length l) c.as_slice.ensures.value (c.if-stands.ensures.within refl) in
-    left_there m ps (set ps (home m n) None) (get nat_eq c.args.self.now.others) n at.0 c.requires.placed at.2 at.1 (set_read ps (home m n) None lt)
+    let lt : home m n < length ps = subst (λ (l : List (Option Entry)). home m n < length l) c.as_slice.ensures.value
+    (c.if-stands.ensures.within refl) in
+    left_there m ps (set ps (home m n) None) (get nat_eq c.args.self.now.others) n at.0 c.requires.placed at.2 at.1
+    (set_read ps (home m n) None lt)
 
 pub returns-clause-finder : goal.returns-clause-finder
 returns-clause-finder c = record {
-  placed = left_others_placed c.args.self.now.mask c.args.self.now.places.items (get nat_eq c.args.self.now.others) (get nat_eq c.remove_other.new.others) c.args.number c.remove_other.ensures c.requires.placed;
+  placed = left_others_placed c.args.self.now.mask c.args.self.now.places.items (get nat_eq c.args.self.now.others)
+      (get nat_eq c.remove_other.new.others) c.args.number c.remove_other.ensures c.requires.placed;
   bits = c.requires.bits;
   mask = c.requires.mask;
 }
@@ -41,5 +50,8 @@ returns-clause-removed c =
     let m = c.args.self.now.mask in
     let n = c.args.number in
     let ps : List (Option Entry) = c.args.self.now.places.items in
-    let absent : is_some (here n (get_or ps (home m n) None) None) ≡ false = ap (λ (l : List (Option Entry)). is_some (here n (get_or l (home m n) None) None)) (sym c.as_slice.ensures.value) ∙ sym c.if-stands.ensures.value in
-    left_others m ps (get nat_eq c.args.self.now.others) (get nat_eq c.remove_other.new.others) n c.remove_other.ensures (stands_none n (get_or ps (home m n) None) absent)
+    let absent : is_some (here n (get_or ps (home m n) None) None) ≡ false =
+    ap (λ (l : List (Option Entry)). is_some (here n (get_or l (home m n) None) None))
+    (sym c.as_slice.ensures.value) ∙ sym c.if-stands.ensures.value in
+    left_others m ps (get nat_eq c.args.self.now.others) (get nat_eq c.remove_other.new.others) n c.remove_other.ensures
+    (stands_none n (get_or ps (home m n) None) absent)

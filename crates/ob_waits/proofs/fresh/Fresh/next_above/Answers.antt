@@ -5,16 +5,19 @@ use Rattle.ob_waits.proofs.fresh.Fresh.next_above.Goals as goal
 
 pub returns-then-is_answered-clause-least : goal.returns-then-is_answered-clause-least
 returns-then-is_answered-clause-least c = λ k w above is.
-    c.in-Some.ensures.least k (subst (λ (ns : List ℕ). Within k ns) (sym c.as_slice.ensures) w) (c.loop-number.invariant.least k w above is)
+    c.in-Some.ensures.least k (subst (λ (ns : List ℕ). Within k ns) (sym c.as_slice.ensures) w)
+    (c.loop-number.invariant.least k w above is)
 
 pub loop-number-preserved : goal.loop-number-preserved
 loop-number-preserved c = record {
   later = let a = c.loop-number.invariant.later in let b = c.in-Some.ensures.above in omega (arith, a, b);
   least = λ k w above is.
-      let le = c.in-Some.ensures.least k (subst (λ (ns : List ℕ). Within k ns) (sym c.as_slice.ensures) w) (c.loop-number.invariant.least k w above is) in
+      let le = c.in-Some.ensures.least k (subst (λ (ns : List ℕ). Within k ns) (sym c.as_slice.ensures) w)
+      (c.loop-number.invariant.least k w above is) in
       next_one k c.in-Some.number c.args.waits.now le is (search rules);
 }
 
 pub returns-clause-least : goal.returns-clause-least
 returns-clause-least c = λ k w above is.
-    c.in_default.ensures.least k (subst (λ (ns : List ℕ). Within k ns) (sym c.as_slice.ensures) w) (c.loop-number.invariant.least k w above is)
+    c.in_default.ensures.least k (subst (λ (ns : List ℕ). Within k ns) (sym c.as_slice.ensures) w)
+    (c.loop-number.invariant.least k w above is)

@@ -7,6 +7,9 @@ pub returns-then-at-len : goal.returns-then-at-len
 returns-then-at-len c =
     let lists : List (List ℕ) = c.self.inside.lists.items in
     let lt : c.args.slot < length lists = search rules in
-    subst (λ (rs : List (List ℕ)). ThinsEach c.args.live.now rs (set lists c.args.slot c.advance.new.self)) c.self.view_is
+    subst (λ (rs : List (List ℕ)). ThinsEach c.args.live.now rs (set lists c.args.slot c.advance.new.self))
+    c.self.view_is
     (thins_changed c.args.live.now lists c.args.slot c.advance.new.self lt
-    (subst (λ (r : List ℕ). Thins c.args.live.now r c.advance.new.self) (list_read lists c.args.slot c.index_mut-numbers.result.now c.index_mut-numbers.ensures.value lt) c.advance.ensures))
+    (subst (λ (r : List ℕ). Thins c.args.live.now r c.advance.new.self)
+    (list_read lists c.args.slot c.index_mut-numbers.result.now c.index_mut-numbers.ensures.value lt)
+    c.advance.ensures))

@@ -8,20 +8,25 @@ pub enter-requires : goal.enter-requires
 enter-requires c =
     let lists : List (List ℕ) = c.self.inside.lists.items in
     let lt : c.args.slot < length lists = search rules in
-    let read : c.index_mut-numbers.result.now ≡ numbers_of lists c.args.slot = list_read lists c.args.slot c.index_mut-numbers.result.now c.index_mut-numbers.ensures.value lt in
-    let all : AreOrdered c.args.number lists = subst (λ (rs : List (List ℕ)). AreOrdered c.args.number rs) (sym c.self.view_is) c.requires.ordered in
+    let read : c.index_mut-numbers.result.now ≡ numbers_of lists c.args.slot =
+    list_read lists c.args.slot c.index_mut-numbers.result.now c.index_mut-numbers.ensures.value lt in
+    let all : AreOrdered c.args.number lists = subst (λ (rs : List (List ℕ)). AreOrdered c.args.number rs)
+    (sym c.self.view_is) c.requires.ordered in
     subst (λ (r : List ℕ). IsOrdered c.args.number r) (sym read) (all.each c.args.slot)
 
 pub returns-clause-ordered : goal.returns-clause-ordered
 returns-clause-ordered c =
     let lists : List (List ℕ) = c.self.inside.lists.items in
     let lt : c.args.slot < length lists = search rules in
-    lists_changed c.args.number lists c.args.slot c.enter.new.self lt c.enter.ensures.ordered (subst (λ (rs : List (List ℕ)). AreOrdered c.args.number rs) (sym c.self.view_is) c.requires.ordered)
+    lists_changed c.args.number lists c.args.slot c.enter.new.self lt c.enter.ensures.ordered
+    (subst (λ (rs : List (List ℕ)). AreOrdered c.args.number rs) (sym c.self.view_is) c.requires.ordered)
 
 pub returns-clause-keeps : goal.returns-clause-keeps
 returns-clause-keeps c =
     let lists : List (List ℕ) = c.self.inside.lists.items in
     let lt : c.args.slot < length lists = search rules in
-    let read : c.index_mut-numbers.result.now ≡ numbers_of lists c.args.slot = list_read lists c.args.slot c.index_mut-numbers.result.now c.index_mut-numbers.ensures.value lt in
+    let read : c.index_mut-numbers.result.now ≡ numbers_of lists c.args.slot =
+    list_read lists c.args.slot c.index_mut-numbers.result.now c.index_mut-numbers.ensures.value lt in
     subst (λ (rs : List (List ℕ)). Keeps rs (set lists c.args.slot c.enter.new.self)) c.self.view_is
-    (keeps_changed lists c.args.slot c.enter.new.self lt (subst (λ (r : List ℕ). (j : ℕ) → Within j r → Within j c.enter.new.self) read c.enter.ensures.keeps))
+    (keeps_changed lists c.args.slot c.enter.new.self lt (subst (λ (r : List ℕ). (j : ℕ) → Within j r
+    → Within j c.enter.new.self) read c.enter.ensures.keeps))

@@ -9,4 +9,6 @@ returns-then-at-len c =
     let lt : c.args.slot < length lists = search rules in
     subst (λ (rs : List (List ℕ)). ThinsEach c.args.live.now rs (set lists c.args.slot c.thin.new.self)) c.self.view_is
     (thins_changed c.args.live.now lists c.args.slot c.thin.new.self lt
-    (subst (λ (r : List ℕ). Thins c.args.live.now r c.thin.new.self) (list_read lists c.args.slot c.index_mut-numbers.result.now c.index_mut-numbers.ensures.value lt) c.thin.ensures))
+    (subst (λ (r : List ℕ). Thins c.args.live.now r c.thin.new.self)
+    (list_read lists c.args.slot c.index_mut-numbers.result.now c.index_mut-numbers.ensures.value lt)
+    c.thin.ensures))

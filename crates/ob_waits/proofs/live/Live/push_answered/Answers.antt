@@ -6,17 +6,20 @@ use Rattle.ob_waits.proofs.AnswerLaws.{told_came, told_room}
 use Rattle.ob_waits.proofs.live.Live.push_answered.Goals as goal
 
 pub invariant_of-self : goal.invariant_of-self
-invariant_of-self c = told_room c.self.inside.waits c.self.inside.untaken c.make_room.new.self c.make_room.ensures.fresh c.make_room.ensures.late c.make_room.ensures.longer c.self.invariant
+invariant_of-self c = told_room c.self.inside.waits c.self.inside.untaken c.make_room.new.self c.make_room.ensures.fresh
+    c.make_room.ensures.late c.make_room.ensures.longer c.self.invariant
 
 pub invariant_of-self-in_err-push : goal.invariant_of-self-in_err-push
 invariant_of-self-in_err-push c =
-    let told = told_room c.self.inside.waits c.self.inside.untaken c.make_room.new.self c.make_room.ensures.fresh c.make_room.ensures.late c.make_room.ensures.longer c.self.invariant in
+    let told = told_room c.self.inside.waits c.self.inside.untaken c.make_room.new.self c.make_room.ensures.fresh
+    c.make_room.ensures.late c.make_room.ensures.longer c.self.invariant in
     subst (λ (ws : List (Option Wait)). AreTold ws c.make_room.new.self) (sym c.in_err-push.ensures.err) told
 
 pub came-requires-clause-told : goal.came-requires-clause-told
 came-requires-clause-told c =
     let ws = c.self.inside.waits in
-    let told = told_room ws c.self.inside.untaken c.make_room.new.self c.make_room.ensures.fresh c.make_room.ensures.late c.make_room.ensures.longer c.self.invariant in
+    let told = told_room ws c.self.inside.untaken c.make_room.new.self c.make_room.ensures.fresh
+    c.make_room.ensures.late c.make_room.ensures.longer c.self.invariant in
     let more : c.push.new.self ≡ ws ++ Some c.args.wait ∷ [] = c.in_ok-push.ensures.ok in
     let number : length ws ≡ c.given-number.result = let g = c.given-number.ensures in let l = ap length more in omega
     (arith, g, l, length_push ws (Some c.args.wait)) in

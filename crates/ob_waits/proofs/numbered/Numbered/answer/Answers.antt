@@ -9,15 +9,22 @@ use Rattle.ob_waits.proofs.numbered.Numbered.answer.Goals as goal
 
 pub invariant_of-self : goal.invariant_of-self
 invariant_of-self c =
-    let s = c.self.inside in
-    (answer_seated s.given c.args.thread c.args.code s.seats.items c.answer.new.seats.items (thread_at s.finder) c.self.invariant.0 c.answer.ensures, c.self.invariant.1)
+    let s = c.self.inside in (
+      answer_seated s.given c.args.thread c.args.code s.seats.items c.answer.new.seats.items
+          (thread_at s.finder) c.self.invariant.0 c.answer.ensures,
+      c.self.invariant.1,
+    )
 
 pub returns : goal.returns
 returns c n own =
     let s = c.self.inside in
     let f = found s.seats.items (thread_at s.finder) in
-    let at = known_held s.given c.args.thread n s.seats.items (thread_at s.finder) c.self.invariant.0 (ap (λ (ws : List (Option Wait)). thread_of (get_or ws n None)) c.self.view_is ∙ own) in
+    let at = known_held s.given c.args.thread n s.seats.items (thread_at s.finder) c.self.invariant.0
+    (ap (λ (ws : List (Option Wait)). thread_of (get_or ws n None)) c.self.view_is ∙ own) in
     listed_updated s.given f (found c.answer.new.seats.items (thread_at s.finder)) n (answered (f n) c.args.code) at.1
-    (answered_found s.given n c.args.thread s.seats.items c.answer.new.seats.items (thread_at s.finder) c.self.invariant.0 at.0 c.args.code c.answer.ensures)
+    (answered_found s.given n c.args.thread s.seats.items c.answer.new.seats.items
+    (thread_at s.finder) c.self.invariant.0 at.0 c.args.code c.answer.ensures)
     ∙ ap (λ ws. set ws n (answered (f n) c.args.code)) c.self.view_is
-    ∙ ap (λ o. set c.args.self.now n (answered o c.args.code)) (sym (number_reads s.given s.seats.items (thread_at s.finder) c.self.invariant.0 n) ∙ ap (λ ws. get_or ws n None) c.self.view_is)
+    ∙ ap (λ o. set c.args.self.now n (answered o c.args.code))
+    (sym (number_reads s.given s.seats.items (thread_at s.finder) c.self.invariant.0 n)
+    ∙ ap (λ ws. get_or ws n None) c.self.view_is)

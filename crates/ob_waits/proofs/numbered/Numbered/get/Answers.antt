@@ -9,12 +9,15 @@ returns-in_default c =
     let s = c.self.inside in
     let n = c.args.number in
     ap (λ (o : Option ℕ). wait_at (seat_of s.seats.items o)) c.in_default.ensures
-    ∙ sym (number_reads s.given s.seats.items (thread_at s.finder) c.self.invariant.0 n) ∙ ap (λ ws. get_or ws n None) c.self.view_is
+    ∙ sym (number_reads s.given s.seats.items (thread_at s.finder) c.self.invariant.0 n)
+    ∙ ap (λ ws. get_or ws n None) c.self.view_is
 
 pub returns : goal.returns
 returns c =
     let s = c.self.inside in
     let n = c.args.number in
-    c.wait_at.ensures ∙ ap (λ (l : List (Option Held)). wait_at (get_or l c.in-Some.thread None)) c.as_slice.ensures.value
+    c.wait_at.ensures ∙ ap (λ (l : List (Option Held)). wait_at (get_or l c.in-Some.thread None))
+    c.as_slice.ensures.value
     ∙ ap (λ (o : Option ℕ). wait_at (seat_of s.seats.items o)) c.in-Some.ensures
-    ∙ sym (number_reads s.given s.seats.items (thread_at s.finder) c.self.invariant.0 n) ∙ ap (λ ws. get_or ws n None) c.self.view_is
+    ∙ sym (number_reads s.given s.seats.items (thread_at s.finder) c.self.invariant.0 n)
+    ∙ ap (λ ws. get_or ws n None) c.self.view_is

@@ -10,14 +10,23 @@ pub invariant_of-self : goal.invariant_of-self
 invariant_of-self c =
     let s = c.self.inside in
     let n = c.args.number in
-    let at = known_held s.given c.args.thread n s.seats.items (thread_at s.finder) c.self.invariant.0 (ap (λ (ws : List (Option Wait)). thread_of (get_or ws n None)) c.self.view_is ∙ c.requires) in
-    (left_seated s.given n c.args.thread s.seats.items c.clear.new.seats.items (thread_at s.finder) c.self.invariant.0 at.0 (thread_at c.remove.new.self) c.clear.ensures c.remove.ensures.removed, c.remove.ensures.finder)
+    let at = known_held s.given c.args.thread n s.seats.items (thread_at s.finder) c.self.invariant.0
+    (ap (λ (ws : List (Option Wait)). thread_of (get_or ws n None)) c.self.view_is ∙ c.requires) in (
+      left_seated s.given n c.args.thread s.seats.items c.clear.new.seats.items
+          (thread_at s.finder) c.self.invariant.0 at.0
+          (thread_at c.remove.new.self) c.clear.ensures c.remove.ensures.removed,
+      c.remove.ensures.finder,
+    )
 
 pub returns : goal.returns
 returns c =
     let s = c.self.inside in
     let n = c.args.number in
-    let at = known_held s.given c.args.thread n s.seats.items (thread_at s.finder) c.self.invariant.0 (ap (λ (ws : List (Option Wait)). thread_of (get_or ws n None)) c.self.view_is ∙ c.requires) in
-    listed_removed s.given (found s.seats.items (thread_at s.finder)) (found c.clear.new.seats.items (thread_at c.remove.new.self)) n
-    (left_found s.given n c.args.thread s.seats.items c.clear.new.seats.items (thread_at s.finder) c.self.invariant.0 at.0 (thread_at c.remove.new.self) c.clear.ensures c.remove.ensures.removed)
+    let at = known_held s.given c.args.thread n s.seats.items (thread_at s.finder) c.self.invariant.0
+    (ap (λ (ws : List (Option Wait)). thread_of (get_or ws n None)) c.self.view_is ∙ c.requires) in
+    listed_removed s.given (found s.seats.items (thread_at s.finder))
+    (found c.clear.new.seats.items (thread_at c.remove.new.self)) n
+    (left_found s.given n c.args.thread s.seats.items c.clear.new.seats.items
+    (thread_at s.finder) c.self.invariant.0 at.0
+    (thread_at c.remove.new.self) c.clear.ensures c.remove.ensures.removed)
     ∙ ap (λ ws. set ws n None) c.self.view_is

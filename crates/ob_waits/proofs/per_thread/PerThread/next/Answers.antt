@@ -6,4 +6,6 @@ use Rattle.ob_waits.proofs.per_thread.PerThread.next.Goals as goal
 pub returns-clause-some : goal.returns-clause-some
 returns-clause-some c =
     ap (λ (dues : List (Option ℕ)). is_due c.args.now (get_or dues c.in_ok-thread.thread None)) (sym c.self.view_is)
-    ∙ due_too c.args.now c.in_ok-due.due c.self.inside.dues (get_or c.self.inside.dues c.in_ok-thread.thread None) c.in_ok-due.ensures (omega arith) c.in_ok-thread.ensures.least
+    ∙ due_too c.args.now c.in_ok-due.due c.self.inside.dues
+    (get_or c.self.inside.dues c.in_ok-thread.thread None) c.in_ok-due.ensures
+    (omega arith) c.in_ok-thread.ensures.least

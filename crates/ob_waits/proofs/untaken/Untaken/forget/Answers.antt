@@ -7,11 +7,18 @@ pub returns-then-eq : goal.returns-then-eq
 returns-then-eq c = λ waits own told.
     let u : Untaken = record { fresh = c.self.inside.fresh; late = c.self.inside.late } in
     let at : get_or u.late c.args.thread None ≡ Some c.args.number = search rules in
-    subst (λ (l : List (Option ℕ)). AreTold (set waits c.args.number None) (record { fresh = c.self.inside.fresh; late = l })) (sym c.clear.ensures)
+    subst (λ (l : List (Option ℕ)). AreTold (set waits c.args.number None) (record {
+      fresh = c.self.inside.fresh;
+      late = l;
+    })) (sym c.clear.ensures)
     (told_cleared waits c.args.number c.args.thread own u at (subst (AreTold waits) (sym c.self.view_is) told))
 
 pub returns-else-eq : goal.returns-else-eq
 returns-else-eq c = λ waits own told.
     let free : get_or c.self.inside.late c.args.thread None ≢ Some c.args.number = λ same. search rules in
-    subst (AreTold (set waits c.args.number None)) c.self.view_is (told_gone waits c.args.number c.args.thread own (record { fresh = c.self.inside.fresh; late = c.self.inside.late }) free
+    subst (AreTold (set waits c.args.number None)) c.self.view_is
+    (told_gone waits c.args.number c.args.thread own (record {
+      fresh = c.self.inside.fresh;
+      late = c.self.inside.late;
+    }) free
     (subst (AreTold waits) (sym c.self.view_is) told))

@@ -7,7 +7,8 @@ pub overflow_cast-result : goal.overflow_cast-result
 overflow_cast-result c =
     let told = subst (AreTold c.args.waits.now) (sym c.self.view_is) c.requires in
     let at = c.in_ok-number.ensures.stands in
-    let lt : c.in_ok-number.number < length c.args.waits.now = has_wait c.args.waits.now c.in_ok-number.number at.0 (told.late at.0 c.in_ok-number.number at.1).0 in
+    let lt : c.in_ok-number.number < length c.args.waits.now =
+    has_wait c.args.waits.now c.in_ok-number.number at.0 (told.late at.0 c.in_ok-number.number at.1).0 in
     let given = c.given-given.ensures in
     let range = c.given-given.type_inv in
     omega (arith, lt, given, range)

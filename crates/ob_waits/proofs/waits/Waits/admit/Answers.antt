@@ -14,15 +14,25 @@ pub invariant_of-self-2 : goal.invariant_of-self-2
 invariant_of-self-2 c =
     let number = c.given-number.result + 1 in
     let len : length c.self.inside.live ≡ number = c.given-number.ensures in
-    let alone : number_of c.args.thread c.self.inside.live ≡ None = subst (λ (l : WaitList). number_of c.args.thread l.waits ≡ None) (sym c.self.view_is) c.requires.alone in
-    let full : is_full (record { limit = c.self.inside.limit; waits = c.self.inside.live; clock = c.self.inside.clock }) ≡ false = subst (λ (l : WaitList). is_full l ≡ false) (sym c.self.view_is) c.requires.below_limit in
+    let alone : number_of c.args.thread c.self.inside.live ≡ None =
+    subst (λ (l : WaitList). number_of c.args.thread l.waits ≡ None) (sym c.self.view_is) c.requires.alone in
+    let full : is_full (record { limit = c.self.inside.limit; waits = c.self.inside.live; clock = c.self.inside.clock })
+    ≡ false = subst (λ (l : WaitList). is_full l ≡ false) (sym c.self.view_is) c.requires.below_limit in
     let below : number ≤ c.self.inside.limit = grind (arith, nat_tests, full, len) in
-    let waits : c.push.new.self ≡ c.self.inside.live ++ Some (new_wait c.args.thread c.args.mode c.args.ids.now c.args.deadline) ∷ [] =
-    c.in_ok-push.ensures.ok ∙ ap (λ (ids : List Id). c.self.inside.live ++ Some (new_wait c.args.thread c.args.mode ids c.args.deadline) ∷ []) c.in_ok-list.ensures in
-    subst (λ (ws : List (Option Wait)). IsTracked c.self.inside.limit ws c.make_room.new.self × AreTimely c.self.inside.clock ws c.set.new.self) (sym waits) (
-      tracked_added c.self.inside.limit c.self.inside.live c.self.inside.roster c.make_room.new.self number c.args.thread c.args.mode c.args.ids.now c.args.deadline
-          len (omega arith) below c.requires.waitable alone c.self.invariant.0 c.in_ok-make_room.ensures.right c.in_ok-make_room.ensures.place,
-      subst (AreTimely c.self.inside.clock (c.self.inside.live ++ Some (new_wait c.args.thread c.args.mode c.args.ids.now c.args.deadline) ∷ [])) (sym c.set.ensures)
-          (timely_added c.self.inside.clock c.self.inside.live c.args.thread c.args.mode c.args.ids.now c.args.deadline c.self.inside.deadlines c.make_room-2.new.self alone
-          (subst (λ (l : WaitList). IsAfter l.clock c.args.deadline) (sym c.self.view_is) c.requires.ahead) c.in_ok-make_room-2.ensures.room c.in_ok-make_room-2.ensures.same c.self.invariant.1),
+    let waits : c.push.new.self ≡ c.self.inside.live
+    ++ Some (new_wait c.args.thread c.args.mode c.args.ids.now c.args.deadline) ∷ [] =
+    c.in_ok-push.ensures.ok ∙ ap (λ (ids : List Id). c.self.inside.live
+    ++ Some (new_wait c.args.thread c.args.mode ids c.args.deadline) ∷ []) c.in_ok-list.ensures in
+    subst (λ (ws : List (Option Wait)). IsTracked c.self.inside.limit ws c.make_room.new.self
+    × AreTimely c.self.inside.clock ws c.set.new.self) (sym waits) (
+      tracked_added c.self.inside.limit c.self.inside.live c.self.inside.roster c.make_room.new.self number
+          c.args.thread c.args.mode c.args.ids.now c.args.deadline
+          len (omega arith) below c.requires.waitable alone c.self.invariant.0 c.in_ok-make_room.ensures.right
+          c.in_ok-make_room.ensures.place,
+      subst (AreTimely c.self.inside.clock (c.self.inside.live
+          ++ Some (new_wait c.args.thread c.args.mode c.args.ids.now c.args.deadline) ∷ [])) (sym c.set.ensures)
+          (timely_added c.self.inside.clock c.self.inside.live c.args.thread c.args.mode c.args.ids.now c.args.deadline
+          c.self.inside.deadlines c.make_room-2.new.self alone
+          (subst (λ (l : WaitList). IsAfter l.clock c.args.deadline) (sym c.self.view_is) c.requires.ahead)
+          c.in_ok-make_room-2.ensures.room c.in_ok-make_room-2.ensures.same c.self.invariant.1),
     )

@@ -14,7 +14,8 @@ pub returns-then-last-waits : goal.returns-then-last-waits
 returns-then-last-waits c =
     let a = c.args in
     let rows = c.in_ok-rows.rows.items in
-    rows_read a.waits a.clock a.threads a.slots c.in_ok-last.last a.from.now c.four.new.self c.read_rows.new.from rows c.in_ok-last.ensures c.in_ok-rows.ensures
+    rows_read a.waits a.clock a.threads a.slots c.in_ok-last.last a.from.now c.four.new.self c.read_rows.new.from rows
+    c.in_ok-last.ensures c.in_ok-rows.ensures
     ∙ ap (behind c.read_rows.new.from)
     (none_read (rows_within a.threads a.slots rows) (built a.waits a.clock c.in_ok-last.last rows)
     (too_many a.waits a.clock c.in_ok-last.last (map held_parts rows) c.if-last-waits.true))
@@ -25,7 +26,8 @@ returns-then-not-rows_within c =
     let rows = c.in_ok-rows.rows.items in
     let beyond : rows_within a.threads a.slots rows ≡ false = ap (rows_within a.threads a.slots)
     (sym c.as_slice.ensures.value) ∙ sym c.rows_within.ensures ∙ c.if-not-rows_within.true in
-    rows_read a.waits a.clock a.threads a.slots c.in_ok-last.last a.from.now c.four.new.self c.read_rows.new.from rows c.in_ok-last.ensures c.in_ok-rows.ensures
+    rows_read a.waits a.clock a.threads a.slots c.in_ok-last.last a.from.now c.four.new.self c.read_rows.new.from rows
+    c.in_ok-last.ensures c.in_ok-rows.ensures
     ∙ ap (λ (b : Bool). behind c.read_rows.new.from
     (cond b (built a.waits a.clock c.in_ok-last.last rows) (Err Value))) beyond
 
@@ -41,8 +43,10 @@ returns-in_err-put_all c =
     ∙ ap (λ (l : WaitList). record l { clock = a.clock }) c.new-read.ensures in
     let fails : Fails fault (built a.waits a.clock last rows) = subst
     (λ (l : WaitList). Fails fault (built l.limit l.clock last rows)) begun
-    (subst (λ (rs : List Held). Fails fault (built c.pass_to.new.self.limit c.pass_to.new.self.clock last rs)) c.as_slice-2.ensures.value c.in_err-put_all.ensures) in
-    let total = rows_read a.waits a.clock a.threads a.slots last a.from.now c.four.new.self c.read_rows.new.from rows c.in_ok-last.ensures c.in_ok-rows.ensures
+    (subst (λ (rs : List Held). Fails fault (built c.pass_to.new.self.limit c.pass_to.new.self.clock last rs))
+    c.as_slice-2.ensures.value c.in_err-put_all.ensures) in
+    let total = rows_read a.waits a.clock a.threads a.slots last a.from.now c.four.new.self c.read_rows.new.from rows
+    c.in_ok-last.ensures c.in_ok-rows.ensures
     ∙ ap (λ (b : Bool). behind c.read_rows.new.from (cond b (built a.waits a.clock last rows) (Err Value))) below in
     let p = err_from_is_err_and c.from_residual-in_err-put_all.result c.from_residual-in_err-put_all.ensures.1 in
     rw (p.1, p.2) (read_fails fault (waits_at a.waits a.clock a.threads a.slots a.from.now) c.read_rows.new.from
@@ -59,7 +63,9 @@ returns c =
     ∙ ap (λ (l : WaitList). record l { clock = a.clock }) c.new-read.ensures in
     let is : built a.waits a.clock last rows ≡ Ok c.put_all.new.waits = subst
     (λ (l : WaitList). built l.limit l.clock last rows ≡ Ok c.put_all.new.waits) begun
-    (subst (λ (rs : List Held). built c.pass_to.new.self.limit c.pass_to.new.self.clock last rs ≡ Ok c.put_all.new.waits) c.as_slice-2.ensures.value c.in_ok-put_all.ensures) in
-    rows_read a.waits a.clock a.threads a.slots last a.from.now c.four.new.self c.read_rows.new.from rows c.in_ok-last.ensures c.in_ok-rows.ensures
+    (subst (λ (rs : List Held). built c.pass_to.new.self.limit c.pass_to.new.self.clock last rs
+    ≡ Ok c.put_all.new.waits) c.as_slice-2.ensures.value c.in_ok-put_all.ensures) in
+    rows_read a.waits a.clock a.threads a.slots last a.from.now c.four.new.self c.read_rows.new.from rows
+    c.in_ok-last.ensures c.in_ok-rows.ensures
     ∙ ap (λ (b : Bool). behind c.read_rows.new.from (cond b (built a.waits a.clock last rows) (Err Value))) below
     ∙ ap (behind c.read_rows.new.from) is

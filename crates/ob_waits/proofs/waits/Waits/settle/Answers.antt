@@ -9,19 +9,27 @@ pub pass-requires-clause-rising : goal.pass-requires-clause-rising
 pass-requires-clause-rising g c = subst IsRising (sym c.order.ensures) c.self.invariant.0.right.order_rises.rising
 
 pub pass-requires-clause-covers : goal.pass-requires-clause-covers
-pass-requires-clause-covers g c = subst (λ (ns : List ℕ). Covers ns (record { objects = g.B.Bodies.objects c.args.bodies.now; waits = c.self.inside.live })) (sym c.order.ensures)
-    (covers_order (g.B.Bodies.objects c.args.bodies.now) c.self.inside.live c.self.inside.roster.order c.self.inside.roster.index c.self.invariant.0.right)
+pass-requires-clause-covers g c = subst (λ (ns : List ℕ). Covers ns
+    (record { objects = g.B.Bodies.objects c.args.bodies.now; waits = c.self.inside.live })) (sym c.order.ensures)
+    (covers_order (g.B.Bodies.objects c.args.bodies.now) c.self.inside.live c.self.inside.roster.order
+    c.self.inside.roster.index c.self.invariant.0.right)
 
 pub invariant_of-self : goal.invariant_of-self
-invariant_of-self g c = kept_after (g.B.Bodies.objects c.args.bodies.now) (g.B.Bodies.objects c.pass.new.bodies) c.self.inside.live c.pass.new.live c.pass.ensures.scene
+invariant_of-self g c = kept_after (g.B.Bodies.objects c.args.bodies.now)
+    (g.B.Bodies.objects c.pass.new.bodies) c.self.inside.live c.pass.new.live c.pass.ensures.scene
     c.self.inside.limit c.self.inside.clock _ _ _ c.thin.ensures c.self.invariant
 
 pub returns-clause-value : goal.returns-clause-value
-returns-clause-value g c = c.pass.ensures.scene ∙ ap (λ (l : WaitList). settled (record { objects = g.B.Bodies.objects c.args.bodies.now; waits = l.waits })) c.self.view_is
+returns-clause-value g c = c.pass.ensures.scene ∙ ap
+    (λ (l : WaitList). settled (record { objects = g.B.Bodies.objects c.args.bodies.now; waits = l.waits }))
+    c.self.view_is
 
 pub returns-clause-settled : goal.returns-clause-settled
-returns-clause-settled g c = settled_after (g.B.Bodies.objects c.args.bodies.now) (g.B.Bodies.objects c.pass.new.bodies) c.self.inside.live c.pass.new.live c.pass.ensures.scene
+returns-clause-settled g c = settled_after (g.B.Bodies.objects c.args.bodies.now)
+    (g.B.Bodies.objects c.pass.new.bodies) c.self.inside.live c.pass.new.live c.pass.ensures.scene
 
 pub returns-clause-room : goal.returns-clause-room
-returns-clause-room g c limit h = room_settled (g.B.Bodies.objects c.args.bodies.now) (g.B.Bodies.objects c.pass.new.bodies) c.self.inside.live c.pass.new.live c.pass.ensures.scene
-    limit c.self.invariant.0.kept (subst (λ (l : WaitList). WaitsHaveRoom limit (g.B.Bodies.objects c.args.bodies.now).bodies l.waits) (sym c.self.view_is) h)
+returns-clause-room g c limit h = room_settled (g.B.Bodies.objects c.args.bodies.now)
+    (g.B.Bodies.objects c.pass.new.bodies) c.self.inside.live c.pass.new.live c.pass.ensures.scene
+    limit c.self.invariant.0.kept (subst (λ (l : WaitList). WaitsHaveRoom limit
+    (g.B.Bodies.objects c.args.bodies.now).bodies l.waits) (sym c.self.view_is) h)

@@ -15,8 +15,10 @@ invariant_of-self c =
     let most : c.args.last ≤ s.limit = subst (λ (l : WaitList). c.args.last ≤ l.limit)
     (sym c.self.view_is) c.requires.most in
     subst (λ (ws : List (Option Wait)). IsTracked s.limit ws s.roster × AreTimely s.clock ws s.deadlines)
-    (sym c.skip_to.ensures)
-    (tracked_skipped c.args.last s.live s.limit s.roster next most c.self.invariant.0, timely_skipped c.args.last s.live s.clock s.deadlines c.self.invariant.1)
+    (sym c.skip_to.ensures) (
+      tracked_skipped c.args.last s.live s.limit s.roster next most c.self.invariant.0,
+      timely_skipped c.args.last s.live s.clock s.deadlines c.self.invariant.1,
+    )
 
 pub returns-clause-can_be : goal.returns-clause-can_be
 returns-clause-can_be c =

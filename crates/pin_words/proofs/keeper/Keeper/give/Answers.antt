@@ -5,4 +5,9 @@ use Rattle.pin_words.proofs.Owned.{wide_at}
 use Rattle.pin_words.proofs.keeper.Keeper.give.Goals as goal
 
 pub split_seat-seat-requires : goal.split_seat-seat-requires
-split_seat-seat-requires c = (search rules, (let wide = wide_at c.deref.ensures c.self.inside.wide in let some = c.self.inside.some in omega arith), gives _ _ _ (keeper_of c.self.inside.seat.me.0) (ap (λ m. m.0.keeper) c.self.inside.keeps))
+split_seat-seat-requires c = (
+  search rules,
+  (let wide = wide_at c.deref.ensures c.self.inside.wide in
+      let some = c.self.inside.some in omega arith),
+  gives _ _ _ (keeper_of c.self.inside.seat.me.0) (ap (λ m. m.0.keeper) c.self.inside.keeps),
+)

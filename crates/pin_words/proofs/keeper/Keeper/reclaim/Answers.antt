@@ -16,30 +16,50 @@ use Rattle.pin_words.proofs.Owned.{key_at, wide_at}
 use Rattle.pin_words.proofs.keeper.Keeper.reclaim.Goals as goal
 
 pub compare_exchange-found-requires : goal.compare_exchange-found-requires
-compare_exchange-found-requires c = let view : keeper_of c.self.inside.seat.me.0 ≡ c.args.self.now.view = ap (λ w. w.view) c.self.view_is in
-    let shape : c.args.self.now.view.shape ≡ c.self.inside.shape = ap (λ w. w.shape) (sym view) ∙ c.self.inside.shaped in
-    let lt : c.args.slot < c.self.inside.shape.slots = subst (λ (k : Shape). c.args.slot < k.slots) shape c.requires.slot in
-    let was : c.index-was.result.now ≡ slot_of (keeper_of c.self.inside.seat.me.0).slots c.args.slot = slot-known _ c.self.inside.slots.items c.args.slot c.index-was.result.now c.self.inside.knows (let long = c.self.inside.long in omega arith) c.index-was.ensures in (
+compare_exchange-found-requires c = let view : keeper_of c.self.inside.seat.me.0 ≡ c.args.self.now.view =
+    ap (λ w. w.view) c.self.view_is in
+    let shape : c.args.self.now.view.shape ≡ c.self.inside.shape = ap (λ w. w.shape) (sym view) ∙ c.self.inside.shaped
+    in
+    let lt : c.args.slot < c.self.inside.shape.slots =
+    subst (λ (k : Shape). c.args.slot < k.slots) shape c.requires.slot in
+    let was : c.index-was.result.now ≡ slot_of (keeper_of c.self.inside.seat.me.0).slots c.args.slot =
+    slot-known _ c.self.inside.slots.items c.args.slot c.index-was.result.now c.self.inside.knows (let long =
+    c.self.inside.long in omega arith) c.index-was.ensures in (
       search rules,
       (let wide = wide_at c.deref.ensures c.self.inside.wide in let at = c.place_of.ensures in omega arith),
-      reclaims-step _ _ _ _ _ _ _ _ (keeper_of c.self.inside.seat.me.0) c.place_of.ensures (ap (λ m. m.0.keeper) c.self.inside.keeps) (subst (λ (k : Shape). c.args.slot < k.slots) (sym (key_at c.deref.ensures c.self.inside.keyed)) lt)
+      reclaims-step _ _ _ _ _ _ _ _ (keeper_of c.self.inside.seat.me.0) c.place_of.ensures
+          (ap (λ m. m.0.keeper) c.self.inside.keeps)
+          (subst (λ (k : Shape). c.args.slot < k.slots) (sym (key_at c.deref.ensures c.self.inside.keyed)) lt)
           (subst (λ (z : KeeperView). (slot_of z.slots c.args.slot).phase ≡ Closing) (sym view) c.requires.closing)
           (c.encode.ensures ∙ ap word_closing was)
-          (c.encode-2.ensures ∙ (ap (λ (y : Slot). packed y.generation (code_of y.phase) 0) c.reclaimed-next.ensures ∙ λ k. word_reclaimed (ap (λ (z : Shape). z.max_gen) (sym (key_at c.deref.ensures c.self.inside.keyed)) k) (was k))),
+          (c.encode-2.ensures ∙ (ap (λ (y : Slot). packed y.generation (code_of y.phase) 0) c.reclaimed-next.ensures
+          ∙ λ k. word_reclaimed (ap (λ (z : Shape). z.max_gen) (sym (key_at c.deref.ensures c.self.inside.keyed)) k)
+          (was k))),
     )
 
 pub invariant_of-self-inside : goal.invariant_of-self-inside
-invariant_of-self-inside c = let played = c.compare_exchange-found.ensures.2 c.args.slot c.place_of.ensures in search rules
+invariant_of-self-inside c = let played = c.compare_exchange-found.ensures.2 c.args.slot c.place_of.ensures in
+    search rules
 
 pub returns-then-pins-gt0-clause-reclaims : goal.returns-then-pins-gt0-clause-reclaims
-returns-then-pins-gt0-clause-reclaims c = let played = c.compare_exchange-found.ensures.2 c.args.slot c.place_of.ensures in search rules
+returns-then-pins-gt0-clause-reclaims c = let played = c.compare_exchange-found.ensures.2 c.args.slot c.place_of.ensures
+    in search rules
 
 pub invariant_of-self-inside-2 : goal.invariant_of-self-inside-2
 invariant_of-self-inside-2 c = let played = c.compare_exchange-found.ensures.2 c.args.slot c.place_of.ensures in
-    let hit : c.compare_exchange-found.result ≡ c.encode.result = dite (ℕ_discrete c.compare_exchange-found.result c.encode.result) (λ hit. hit)
-    (λ miss. absurd (let some = (played.1 miss).1 in let found : c.decode-pins.result.pins ≡ (decoded c.compare_exchange-found.result).pins = ap (λ (w : Word). w.pins) c.decode-pins.ensures in let none = c.if-pins-gt0.false in omega arith)) in
-    let one = kept-one (λ k. keeper_reclaimed k c.args.slot c.compare_exchange-found.result) c.self.inside.seat.me c.compare_exchange-found.new.seat.me c.self.inside.keeps (played.0 hit) in
-    let was : c.index-was.result.now ≡ slot_of (keeper_of c.self.inside.seat.me.0).slots c.args.slot = slot-known _ c.self.inside.slots.items c.args.slot c.index-was.result.now c.self.inside.knows (let long = c.self.inside.long in let shape : c.args.self.now.view.shape ≡ c.self.inside.shape = ap (λ w. w.view.shape) (sym c.self.view_is) ∙ c.self.inside.shaped in let lt : c.args.slot < c.self.inside.shape.slots = subst (λ (k : Shape). c.args.slot < k.slots) shape c.requires.slot in omega arith) c.index-was.ensures in (
+    let hit : c.compare_exchange-found.result ≡ c.encode.result =
+    dite (ℕ_discrete c.compare_exchange-found.result c.encode.result) (λ hit. hit)
+    (λ miss. absurd (let some = (played.1 miss).1 in
+    let found : c.decode-pins.result.pins ≡ (decoded c.compare_exchange-found.result).pins =
+    ap (λ (w : Word). w.pins) c.decode-pins.ensures in let none = c.if-pins-gt0.false in omega arith)) in
+    let one = kept-one (λ k. keeper_reclaimed k c.args.slot c.compare_exchange-found.result) c.self.inside.seat.me
+    c.compare_exchange-found.new.seat.me c.self.inside.keeps (played.0 hit) in
+    let was : c.index-was.result.now ≡ slot_of (keeper_of c.self.inside.seat.me.0).slots c.args.slot =
+    slot-known _ c.self.inside.slots.items c.args.slot c.index-was.result.now c.self.inside.knows (let long =
+    c.self.inside.long in let shape : c.args.self.now.view.shape ≡ c.self.inside.shape =
+    ap (λ w. w.view.shape) (sym c.self.view_is) ∙ c.self.inside.shaped in
+    let lt : c.args.slot < c.self.inside.shape.slots =
+    subst (λ (k : Shape). c.args.slot < k.slots) shape c.requires.slot in omega arith) c.index-was.ensures in (
       c.self.inside.keyed,
       (
         c.self.inside.wide,
@@ -52,7 +72,9 @@ invariant_of-self-inside-2 c = let played = c.compare_exchange-found.ensures.2 c
               (
                 ap (λ k. k.shape) one.1 ∙ c.self.inside.shaped,
                 (
-                  ap (λ k. k.slots) one.1 ∙ ((λ i. set (c.self.inside.knows i) c.args.slot (reclaimed (c.self.inside.shaped i).max_gen (sym was i))) ∙ ap (set c.self.inside.slots.items c.args.slot) (sym c.reclaimed-next.ensures)),
+                  ap (λ k. k.slots) one.1 ∙ ((λ i. set (c.self.inside.knows i) c.args.slot
+                      (reclaimed (c.self.inside.shaped i).max_gen (sym was i)))
+                      ∙ ap (set c.self.inside.slots.items c.args.slot) (sym c.reclaimed-next.ensures)),
                   (
                     length-set c.self.inside.slots.items c.args.slot _ ∙ c.self.inside.long,
                     tt,
@@ -66,4 +88,5 @@ invariant_of-self-inside-2 c = let played = c.compare_exchange-found.ensures.2 c
     )
 
 pub returns-clause-reclaims : goal.returns-clause-reclaims
-returns-clause-reclaims c = let played = c.compare_exchange-found.ensures.2 c.args.slot c.place_of.ensures in search rules
+returns-clause-reclaims c = let played = c.compare_exchange-found.ensures.2 c.args.slot c.place_of.ensures in
+    search rules

@@ -12,9 +12,11 @@ invariant_of-self-inside c = let i = c.self.inside in (
   (
     i.long,
     (
-      (λ s. subst (λ (z : List Id). tally (sits s) z ≤ i.shape.max_pins) (sym c.forget.ensures) (room-less i.shape.max_pins i.held.items c.args.id i.room s)),
+      (λ s. subst (λ (z : List Id). tally (sits s) z ≤ i.shape.max_pins) (sym c.forget.ensures)
+          (room-less i.shape.max_pins i.held.items c.args.id i.room s)),
       (
-        (λ x have. inside-less i.shape.slots c.args.id i.held.items i.inside x (subst (λ (z : List Id). 0 < tally (same_id x) z) c.forget.ensures have)),
+        (λ x have. inside-less i.shape.slots c.args.id i.held.items i.inside x
+            (subst (λ (z : List Id). 0 < tally (same_id x) z) c.forget.ensures have)),
         tt,
       ),
     ),

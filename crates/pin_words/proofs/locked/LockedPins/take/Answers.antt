@@ -10,7 +10,8 @@ pub invariant_of-self-inside : goal.invariant_of-self-inside
 invariant_of-self-inside c = let i = c.self.inside in
     let most : c.args.self.now.shape.max_pins ≡ i.shape.max_pins = ap (λ w. w.shape.max_pins) (sym c.self.view_is) in
     let slots : c.args.self.now.shape.slots ≡ i.shape.slots = ap (λ w. w.shape.slots) (sym c.self.view_is) in
-    let count : tally (sits c.args.id.slot) c.args.self.now.held ≡ tally (sits c.args.id.slot) i.held.items = ap (λ w. tally (sits c.args.id.slot) w.held) (sym c.self.view_is) in
+    let count : tally (sits c.args.id.slot) c.args.self.now.held ≡ tally (sits c.args.id.slot) i.held.items =
+    ap (λ w. tally (sits c.args.id.slot) w.held) (sym c.self.view_is) in
     let few = c.requires.few in let slot = c.requires.slot in
     let free : tally (sits c.args.id.slot) i.held.items ≢ i.shape.max_pins = λ e. omega arith in
     let inside : c.args.id.slot < i.shape.slots = omega arith in (
@@ -18,9 +19,11 @@ invariant_of-self-inside c = let i = c.self.inside in
       (
         i.long,
         (
-          (λ s. subst (λ (z : List Id). tally (sits s) z ≤ i.shape.max_pins) (sym c.push.ensures.items) (room-more i.shape.max_pins i.held.items c.args.id i.room free s)),
+          (λ s. subst (λ (z : List Id). tally (sits s) z ≤ i.shape.max_pins) (sym c.push.ensures.items)
+              (room-more i.shape.max_pins i.held.items c.args.id i.room free s)),
           (
-            (λ x have. inside-more i.shape.slots c.args.id i.held.items inside i.inside x (subst (λ (z : List Id). 0 < tally (same_id x) z) c.push.ensures.items have)),
+            (λ x have. inside-more i.shape.slots c.args.id i.held.items inside i.inside x
+                (subst (λ (z : List Id). 0 < tally (same_id x) z) c.push.ensures.items have)),
             tt,
           ),
         ),

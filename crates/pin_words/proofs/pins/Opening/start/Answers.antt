@@ -8,7 +8,8 @@ use Rattle.pin_words.proofs.pins.Opening.start.Goals as goal
 known : (c : goal.In-Ok) → c.in-Ok.started.0.view ≡ keeper_gave (opening_keeper c.args.self.shape)
 known c =
     let over = c.self.inside.over in
-    c.in-Ok.ensures.keeper.1 ∙ (ap keeper_gave (fresh_keeper over.table.shape over.slots c.self.inside.fresh) ∙ ap (λ (t : TableState). keeper_gave (opening_keeper t.shape)) c.self.view_is)
+    c.in-Ok.ensures.keeper.1 ∙ (ap keeper_gave (fresh_keeper over.table.shape over.slots c.self.inside.fresh)
+    ∙ ap (λ (t : TableState). keeper_gave (opening_keeper t.shape)) c.self.view_is)
 
 pub returns-in-Ok-clause-keeper : goal.returns-in-Ok-clause-keeper
 returns-in-Ok-clause-keeper c = (c.in-Ok.ensures.keeper.0 ∙ c.self.view_is, known c)

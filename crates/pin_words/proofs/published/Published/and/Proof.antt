@@ -49,7 +49,8 @@ module _ {M : Type 1} {𝓤 : Ura M} (𝓛 : Logic 𝓤) (at_mem : Memory → SP
     abbrev Post : Val → SProp 𝓤
     Post = (walk_of 𝓛 ended stayed held).post z
 
-    walks : ent 𝓤 ((walk_of 𝓛 ended stayed held).pre z) (WpFn 𝓤 H C Λ code.function ((walk_of 𝓛 ended stayed held).args z) Post)
+    walks : ent 𝓤 ((walk_of 𝓛 ended stayed held).pre z)
+        (WpFn 𝓤 H C Λ code.function ((walk_of 𝓛 ended stayed held).args z) Post)
     walks =
         let a = z.0.3 in
         let vss = z.0.4 in
@@ -57,17 +58,26 @@ module _ {M : Type 1} {𝓤 : Ura M} (𝓛 : Logic 𝓤) (at_mem : Memory → SP
         let id : Val = vptr a.1.0.ref_ptr.0 a.1.0.ref_ptr.1 in
         let descr : Val = vptr a.1.1.0.ref_ptr.0 a.1.1.0.ref_ptr.1 in
         let made : (Published.the_row).Denot = record { list = a.0.now.list ++ (a.1.0.now, a.1.1.0.now) ∷ [] } in
-        qed 𝓛 ((raw (alive 𝓛 ended.signature z.0.0 z.0.1) ⊛ ‵ (owns (types_at ended.signature.params z.0.0) a vss)) ∷ raw ((held z.0.0 a).requires z.1) ∷ []) ∵
-        keep ! (0 ∷ []) $ split ! $ move ! (1 ∷ []) $ fsplit ! $ fsplit ! $ feq_l ! (λ is₀. drop ! $ fsplit ! $ fsplit ! $ feq_l ! (λ is₁. drop ! $ fsplit ! $ fsplit ! $ feq_l ! (λ is₂. drop ! $ drop ! $
-        regoal ! (λ (us : List Val). prop (WpFn 𝓤 H C Λ code.function (us ++ (vss.1.0 ++ (vss.1.1.0 ++ []))) Post)) is₀ refl $
-        regoal ! (λ (us : List Val). prop (WpFn 𝓤 H C Λ code.function ((list ∷ []) ++ (us ++ (vss.1.1.0 ++ []))) Post)) is₁ refl $
-        regoal ! (λ (us : List Val). prop (WpFn 𝓤 H C Λ code.function ((list ∷ []) ++ ((id ∷ []) ++ (us ++ []))) Post)) is₂ refl $
-        enter ! C Λ code.function (list ∷ id ∷ descr ∷ []) Post $ alloc_all ! (λ l. pass_all ! refl ((tt, tt), ((tt, tt), ((tt, tt), tt))) $
+        qed 𝓛 ((raw (alive 𝓛 ended.signature z.0.0 z.0.1) ⊛ ‵ (owns (types_at ended.signature.params z.0.0) a vss))
+        ∷ raw ((held z.0.0 a).requires z.1) ∷ []) ∵
+        keep ! (0 ∷ []) $ split ! $ move ! (1 ∷ []) $ fsplit ! $ fsplit ! $ feq_l !
+        (λ is₀. drop ! $ fsplit ! $ fsplit ! $ feq_l !
+        (λ is₁. drop ! $ fsplit ! $ fsplit ! $ feq_l ! (λ is₂. drop ! $ drop ! $
+        regoal ! (λ (us : List Val). prop (WpFn 𝓤 H C Λ code.function (us ++ (vss.1.0 ++ (vss.1.1.0 ++ []))) Post)) is₀
+        refl $
+        regoal ! (λ (us : List Val). prop (WpFn 𝓤 H C Λ code.function ((list ∷ []) ++ (us ++ (vss.1.1.0 ++ []))) Post))
+        is₁ refl $
+        regoal ! (λ (us : List Val). prop (WpFn 𝓤 H C Λ code.function ((list ∷ []) ++ ((id ∷ []) ++ (us ++ []))) Post))
+        is₂ refl $
+        enter ! C Λ code.function (list ∷ id ∷ descr ∷ []) Post $ alloc_all !
+        (λ l. pass_all ! refl ((tt, tt), ((tt, tt), ((tt, tt), tt))) $
         sets ! (agg ! (no_more !)) refl (tt, tt) $
         nothing ! $ owns_empty ! $ fjoin ! $
         returns ! (look_at ! 0 refl) $ free_all ! refl $
-        suffices ! _ (ends_at 𝓛 ended stayed held z empty_value made (tt, (tt, (tt, tt))) (tt, (tt, (tt, tt)))) $ says ! refl $
-        nothing ! $ nothing ! $ fjoin ! $ nothing ! $ fjoin ! $ nothing ! $ fjoin ! $ move ! (2 ∷ 0 ∷ 1 ∷ []) $ done !))))
+        suffices ! _ (ends_at 𝓛 ended stayed held z empty_value made (tt, (tt, (tt, tt))) (tt, (tt, (tt, tt)))) $ says !
+        refl $
+        nothing ! $ nothing ! $ fjoin ! $ nothing ! $ fjoin ! $ nothing ! $ fjoin ! $ move ! (2 ∷ 0 ∷ 1 ∷ []) $
+        done !))))
 
   meets : (𝓣 : Tables 𝓤 H) → Meets 𝓛 ended.signature (WpFn 𝓤 H 𝓣.C 𝓣.Λ code.function) (closing 𝓛 ended held)
   meets 𝓣 =

@@ -45,10 +45,13 @@ module _ {M : Type 1} {𝓤 : Ura M} (𝓛 : Logic 𝓤) (at_mem : Memory → SP
     abbrev Post : Val → SProp 𝓤
     Post = (walk_of 𝓛 ended stayed held).post z
 
-    walks : ent 𝓤 ((walk_of 𝓛 ended stayed held).pre z) (WpFn 𝓤 H C Λ code.function ((walk_of 𝓛 ended stayed held).args z) Post)
+    walks : ent 𝓤 ((walk_of 𝓛 ended stayed held).pre z)
+        (WpFn 𝓤 H C Λ code.function ((walk_of 𝓛 ended stayed held).args z) Post)
     walks =
         let made : (Published.the_row).Denot = record { list = [] } in
-        qed 𝓛 ((raw (alive 𝓛 ended.signature z.0.0 z.0.1) ⊛ ‵ (owns (types_at ended.signature.params z.0.0) z.0.3 z.0.4)) ∷ raw ((held z.0.0 z.0.3).requires z.1) ∷ []) ∵
+        qed 𝓛 ((raw (alive 𝓛 ended.signature z.0.0 z.0.1)
+        ⊛ ‵ (owns (types_at ended.signature.params z.0.0) z.0.3 z.0.4)) ∷ raw ((held z.0.0 z.0.3).requires z.1)
+        ∷ []) ∵
         keep ! (0 ∷ []) $ split ! $ move ! (1 ∷ []) $ drop ! $
         enter ! C Λ code.function [] Post $ alloc_all ! (λ l. pass_all ! refl tt $
         sets ! (agg ! (no_more !)) refl (tt, tt) $

@@ -11,19 +11,28 @@ use Rattle.pin_words.proofs.Owned.{key_at, wide_at}
 use Rattle.pin_words.proofs.reader.Reader.take.Goals as goal
 
 pub compare_exchange-seen-requires : goal.compare_exchange-seen-requires
-compare_exchange-seen-requires c = let shape : c.args.self.now.view.shape ≡ c.self.inside.shape = ap (λ w. w.view.shape) (sym c.self.view_is) ∙ c.self.inside.shaped in
+compare_exchange-seen-requires c = let shape : c.args.self.now.view.shape ≡ c.self.inside.shape =
+    ap (λ w. w.view.shape) (sym c.self.view_is) ∙ c.self.inside.shaped in
     let key = shape ∙ sym (key_at c.deref.ensures c.self.inside.keyed) in
-    let lt : c.args.id.slot < c.self.inside.shape.slots = subst (λ (k : Shape). c.args.id.slot < k.slots) shape c.requires.slot in
+    let lt : c.args.id.slot < c.self.inside.shape.slots =
+    subst (λ (k : Shape). c.args.id.slot < k.slots) shape c.requires.slot in
     let go = go-means c.args.self.now.view.shape.max_pins c.args.id (decoded c.args.found) c.requires.go in (
       search rules,
       (let wide = wide_at c.deref.ensures c.self.inside.wide in let at = c.place_of.ensures in omega arith),
-      pins-step _ _ _ _ _ _ _ _ (reader_of c.self.inside.seat.me.0) c.place_of.ensures (ap (λ m. m.0.reader) c.self.inside.reads) (subst (λ (k : Shape). c.args.id.slot < k.slots) key c.requires.slot) refl go.0 (subst (λ (k : Shape). (decoded c.args.found).pins ≢ k.max_pins) key go.2),
+      pins-step _ _ _ _ _ _ _ _ (reader_of c.self.inside.seat.me.0) c.place_of.ensures
+          (ap (λ m. m.0.reader) c.self.inside.reads)
+          (subst (λ (k : Shape). c.args.id.slot < k.slots) key c.requires.slot) refl go.0
+          (subst (λ (k : Shape). (decoded c.args.found).pins ≢ k.max_pins) key go.2),
     )
 
 pub invariant_of-self-inside-else-seen-found : goal.invariant_of-self-inside-else-seen-found
-invariant_of-self-inside-else-seen-found c = let shape : c.args.self.now.view.shape ≡ c.self.inside.shape = ap (λ w. w.view.shape) (sym c.self.view_is) ∙ c.self.inside.shaped in
-    let did = c.compare_exchange-seen.ensures in let played = did.2 c.args.id.slot c.place_of.ensures in let hit = c.if-seen-found.false in let go = go-means c.args.self.now.view.shape.max_pins c.args.id (decoded c.args.found) c.requires.go in
-    let one = got-one c.compare_exchange-seen.result c.self.inside.seat.me c.compare_exchange-seen.new.seat.me c.args.id c.self.inside.reads (played.0 hit) (ap (λ (n : ℕ). (decoded n).generation) hit ∙ go.1) in (
+invariant_of-self-inside-else-seen-found c = let shape : c.args.self.now.view.shape ≡ c.self.inside.shape =
+    ap (λ w. w.view.shape) (sym c.self.view_is) ∙ c.self.inside.shaped in
+    let did = c.compare_exchange-seen.ensures in let played = did.2 c.args.id.slot c.place_of.ensures in
+    let hit = c.if-seen-found.false in let go =
+    go-means c.args.self.now.view.shape.max_pins c.args.id (decoded c.args.found) c.requires.go in
+    let one = got-one c.compare_exchange-seen.result c.self.inside.seat.me c.compare_exchange-seen.new.seat.me c.args.id
+    c.self.inside.reads (played.0 hit) (ap (λ (n : ℕ). (decoded n).generation) hit ∙ go.1) in (
       c.self.inside.keyed,
       (
         c.self.inside.wide,
@@ -34,9 +43,12 @@ invariant_of-self-inside-else-seen-found c = let shape : c.args.self.now.view.sh
             (
               ap (λ r. r.shape) one.1 ∙ c.self.inside.shaped,
               (
-                ap (λ r. r.held) one.1 ∙ (ap (λ (z : List Id). z ++ c.args.id ∷ []) c.self.inside.holds ∙ sym c.push.ensures.items),
+                ap (λ r. r.held) one.1 ∙ (ap (λ (z : List Id). z ++ c.args.id ∷ []) c.self.inside.holds
+                    ∙ sym c.push.ensures.items),
                 (
-                  (λ x have. inside-more _ c.args.id c.self.inside.held.items (subst (λ (k : Shape). c.args.id.slot < k.slots) shape c.requires.slot) c.self.inside.inside x (subst (λ (z : List Id). 0 < tally (same_id x) z) c.push.ensures.items have)),
+                  (λ x have. inside-more _ c.args.id c.self.inside.held.items
+                      (subst (λ (k : Shape). c.args.id.slot < k.slots) shape c.requires.slot) c.self.inside.inside x
+                      (subst (λ (z : List Id). 0 < tally (same_id x) z) c.push.ensures.items have)),
                   tt,
                 ),
               ),
@@ -48,10 +60,14 @@ invariant_of-self-inside-else-seen-found c = let shape : c.args.self.now.view.sh
 
 pub invariant_of-self-inside : goal.invariant_of-self-inside
 invariant_of-self-inside c = let played = c.compare_exchange-seen.ensures.2 c.args.id.slot c.place_of.ensures in
-    let one = read-one (λ r. reader_looked r c.args.id.slot c.compare_exchange-seen.result) c.self.inside.seat.me c.compare_exchange-seen.new.seat.me c.self.inside.reads (played.1 c.if-seen-found.true) in
-    let counted : length c.push.new.self.items ≡ length c.self.inside.held.items + 1 = ap length c.push.ensures.items ∙ length-append c.self.inside.held.items (c.args.id ∷ []) in
+    let one = read-one (λ r. reader_looked r c.args.id.slot c.compare_exchange-seen.result) c.self.inside.seat.me
+    c.compare_exchange-seen.new.seat.me c.self.inside.reads (played.1 c.if-seen-found.true) in
+    let counted : length c.push.new.self.items ≡ length c.self.inside.held.items + 1 =
+    ap length c.push.ensures.items ∙ length-append c.self.inside.held.items (c.args.id ∷ []) in
     let less : length c.push.new.self.items - 1 ≡ length c.self.inside.held.items = omega arith in
-    let popped : c.pop.new.self.items ≡ c.self.inside.held.items = c.pop.ensures.rest ∙ ((λ i. take (less i) (c.push.ensures.items i)) ∙ take-append_seam c.self.inside.held.items (c.args.id ∷ [])) in (
+    let popped : c.pop.new.self.items ≡ c.self.inside.held.items =
+    c.pop.ensures.rest ∙ ((λ i. take (less i) (c.push.ensures.items i))
+    ∙ take-append_seam c.self.inside.held.items (c.args.id ∷ [])) in (
       c.self.inside.keyed,
       (
         c.self.inside.wide,
@@ -64,7 +80,8 @@ invariant_of-self-inside c = let played = c.compare_exchange-seen.ensures.2 c.ar
               (
                 ap (λ r. r.held) one.1 ∙ (c.self.inside.holds ∙ sym popped),
                 (
-                  subst (λ (held : List Id). (x : Id) → 0 < tally (same_id x) held → x.slot < c.self.inside.shape.slots) (sym popped) c.self.inside.inside,
+                  subst (λ (held : List Id). (x : Id) → 0 < tally (same_id x) held
+                      → x.slot < c.self.inside.shape.slots) (sym popped) c.self.inside.inside,
                   tt,
                 ),
               ),
@@ -75,13 +92,17 @@ invariant_of-self-inside c = let played = c.compare_exchange-seen.ensures.2 c.ar
     )
 
 pub returns-then-seen-found-clause-lost : goal.returns-then-seen-found-clause-lost
-returns-then-seen-found-clause-lost c = let played = c.compare_exchange-seen.ensures.2 c.args.id.slot c.place_of.ensures in search rules
+returns-then-seen-found-clause-lost c = let played = c.compare_exchange-seen.ensures.2 c.args.id.slot c.place_of.ensures
+    in search rules
 
 pub returns-then-seen-found-clause-tells : goal.returns-then-seen-found-clause-tells
-returns-then-seen-found-clause-tells c = let played = c.compare_exchange-seen.ensures.2 c.args.id.slot c.place_of.ensures in search rules
+returns-then-seen-found-clause-tells c = let played =
+    c.compare_exchange-seen.ensures.2 c.args.id.slot c.place_of.ensures in search rules
 
 pub returns-else-seen-found-clause-won : goal.returns-else-seen-found-clause-won
-returns-else-seen-found-clause-won c = let played = c.compare_exchange-seen.ensures.2 c.args.id.slot c.place_of.ensures in search rules
+returns-else-seen-found-clause-won c = let played = c.compare_exchange-seen.ensures.2 c.args.id.slot c.place_of.ensures
+    in search rules
 
 pub returns-else-seen-found-clause-tells : goal.returns-else-seen-found-clause-tells
-returns-else-seen-found-clause-tells c = let played = c.compare_exchange-seen.ensures.2 c.args.id.slot c.place_of.ensures in search rules
+returns-else-seen-found-clause-tells c = let played =
+    c.compare_exchange-seen.ensures.2 c.args.id.slot c.place_of.ensures in search rules
