@@ -29,7 +29,7 @@ pub record Counts (p q : Places) (more : ℕ → ℕ) (Named : Id → Type 0) : 
 abbrev pub IsWide : Places → Type 0
 IsWide p = length p.objects ≡ length p.seen.handles
 
-still_wide : (p q : Places) (more : ℕ → ℕ) (Named : Id → Type 0) → Counts p q more Named → IsWide p → IsWide q
+pub still_wide : (p q : Places) (more : ℕ → ℕ) (Named : Id → Type 0) → Counts p q more Named → IsWide p → IsWide q
 still_wide p q more Named c wide = ap (λ (z : Places). length z.objects) c.same ∙ wide ∙ sym c.long
 
 none_counts : (p : Places) (more : ℕ → ℕ) (Named : Id → Type 0) → ((k : ℕ) → more k ≡ 0) → ((id : Id) → Named id → ⊥) →
@@ -46,7 +46,7 @@ its_there None id e = absurd cc
 its_there (Some o) id e = ap Some (one_id o.id id e)
 
 -- one handle more of the slot of an entry
-one_counts : (p : Places) (e : Entry) → IsWide p → may_count p e.id ≡ true →
+pub one_counts : (p : Places) (e : Entry) → IsWide p → may_count p e.id ≡ true →
     Counts p (with_handle p e.id.slot) (λ k. cond (names_slot k (Some e)) 1 0) (λ id. names id (Some e) ≡ true)
 one_counts p e wide may =
     let there : IsThere p.objects e.id =

@@ -36,6 +36,8 @@ pub mod SavedBirthLaws
 pub mod SavedObjectLaws
 pub mod SavingLaws
 pub mod SavedCodecs
+pub mod CountingAgain
+pub mod WholeAgain
 pub mod TickLaws
 pub mod Yielding
 pub mod OpeningLaws

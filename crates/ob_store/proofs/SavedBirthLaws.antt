@@ -18,7 +18,7 @@ use Rattle.ob_store.specs.SavedObjects.{Births, births_from, with_birth}
 abbrev pub taken : Births → ℕ → Option ℕ
 taken es birth = lookup (is_at (nat_cmp birth)) es
 
-first-none : (t : Bool) (slot : ℕ) (rest : Option ℕ) → cond t (Some slot) rest ≡ None → (t ≡ false) × (rest ≡ None)
+pub first-none : (t : Bool) (slot : ℕ) (rest : Option ℕ) → cond t (Some slot) rest ≡ None → (t ≡ false) × (rest ≡ None)
 first-none true slot rest e = absurd cc
 first-none false slot rest e = (refl, e)
 
@@ -26,7 +26,7 @@ other-than : (c b : ℕ) → is_at (nat_cmp c) b ≡ false → c ≢ b
 other-than c b e same = let t = sym (unsigned_tied c b) ∙ e in let f = eq-eqb c b same in
     absurd (let x = sym f ∙ t in cc x)
 
-none-first : (c b slot : ℕ) (rest : Option ℕ) → is_at (nat_cmp c) b ≡ false → rest ≡ None →
+pub none-first : (c b slot : ℕ) (rest : Option ℕ) → is_at (nat_cmp c) b ≡ false → rest ≡ None →
     cond (is_at (nat_cmp c) b) (Some slot) rest ≡ None
 none-first c b slot rest e none = ap (λ (t : Bool). cond t (Some slot) rest) e ∙ none
 

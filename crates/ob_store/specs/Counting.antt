@@ -1,5 +1,5 @@
 -- The handles of the objects, counted over the tables: each entry has to name an object that is there.
-use Rattle.std.specs.Prelude.{nat_lt, ◌&&◌, Bool, false, if◌then◌else◌, List, [], ◌∷◌, Option, Some, None, Result, Ok, Err, slice_index_or}
+use Rattle.std.specs.Prelude.{nat_lt, ◌&&◌, Bool, false, if◌then◌else◌, List, [], ◌∷◌, Option, Some, None, Result, Ok, Err, length, replicate, slice_index_or}
 use Rattle.ob_codec.specs.declared.fault.TextFault.{TextFault}
 use Rattle.ob_codec.specs.declared.fault.TextFault.TheVariants.{Value}
 use Rattle.ob_codec.specs.Reading.{◌>>=◌}
@@ -38,3 +38,7 @@ counting_all p [] = Ok p
 counting_all p (table ∷ tables) = do
   q ← counting_in p table
   counting_all q tables
+
+-- before any handle is counted
+abbrev pub uncounted : Places → Places
+uncounted p = record p { seen = record p.seen { handles = replicate (length p.objects) 0 } }

@@ -1,10 +1,33 @@
-ghost use Rattle.std.specs.Prelude.{◌≡◌, ℕ, List, Ok, Option};
+ghost use Rattle.std.specs.Prelude.{◌≡◌, ℕ, List, [], Ok, Option, length, true};
 ghost use Rattle.ob_codec.specs.Laws.{Takes};
 ghost use Rattle.ob_codec.specs.Spelling.{AreBytes};
 ghost use Rattle.ob_tables.specs.declared.entry.Entry.{Entry};
 ghost use Rattle.ob_store.specs.declared.limits.Limits.{Limits};
-ghost use Rattle.ob_store.specs.Objects.{ObjectsState};
-ghost use Rattle.ob_store.specs.SavedObjects.{objects_at, objects_text};
+ghost use Rattle.ob_tables.specs.Tables.{IsBounded};
+ghost use Rattle.ob_waits.specs.declared.wait.Wait.{Wait};
+ghost use Rattle.ob_store.specs.Counting.{counting_all, uncounted};
+ghost use Rattle.ob_store.specs.Kept.{IsCounted, IsNamed};
+ghost use Rattle.ob_waits.specs.Objects as waits;
+ghost use Rattle.ob_waits.specs.Rules.{HasBodies};
+ghost use Rattle.ob_store.specs.Agreement.{AreBorn};
+ghost use Rattle.ob_store.specs.Objects.{Object, ObjectsState, Places};
+ghost use Rattle.ob_store.specs.SavedObjects.{Births, are_bodied, births_from, objects_at, objects_text};
+
+/// What is counted in a store that is kept is counted again, from no handle on.
+pub fn law_of_counting()
+    ensures again { (p : Places) (processes limit : ℕ) (tables : List (List (Option Entry)))
+        (waits : List (Option Wait)) → IsCounted p.seen (length p.objects) tables waits
+        → IsNamed p.objects tables waits → IsBounded processes limit tables
+        → counting_all (uncounted p) tables ≡ Ok p }
+{}
+
+/// Objects whose births are distinct and below their count are taken, and so are those that have bodies just where
+/// something refers to them.
+pub fn law_of_whole_objects()
+    ensures births { (objects : List (Option Object)) (births : ℕ) → AreBorn objects births
+        → (order : Births) × (births_from births [] 0 objects ≡ Ok order) }
+    ensures bodies { (seen : waits.Objects) (slots : ℕ) → HasBodies seen → are_bodied seen slots ≡ true }
+{}
 
 /// What is read of objects is the spelling of those that it gives.
 pub fn law_of_spelled_objects()

@@ -1,0 +1,113 @@
+-- What is counted in a store that is kept is counted again, so that what it saves isn't refused.
+use Rattle.std.proofs.Common.{◌≡◌, ℕ, ◌+◌, ◌<◌, ◌≤◌, ltb, Bool, true, cond, List, [], ◌∷◌, length, get_or, Option, Some, None, Ok, Err, refl, sym, ap, ◌∙◌, subst, arith, inl, inr}
+use Rattle.std.specs.Prelude.{replicate}
+use Rattle.std.proofs.lemmas.Bool.{cases_lt, lt-ltb}
+use Rattle.std.proofs.lemmas.List.{ext_get_or, get_or-replicate, get_or_past, length-replicate}
+use Rattle.std.proofs.lemmas.List.Sums.{sum_by-cons}
+use Rattle.pin_core.specs.declared.id.Id.{Id}
+use Rattle.pin_core.specs.Holds.{same_id}
+use Rattle.ob_codec.specs.declared.fault.TextFault.TheVariants.{Value}
+use Rattle.ob_codec.specs.Reading.{◌>>=◌}
+use Rattle.ob_codec.specs.Steps.{true-both}
+use Rattle.ob_tables.specs.declared.entry.Entry.{Entry}
+use Rattle.ob_tables.specs.Counts.{names, names_slot, handles_in, handles_among, slot_handles_in, slot_handles}
+use Rattle.ob_tables.proofs.Counting.{same_id-same}
+use Rattle.ob_tables.specs.Tables.{IsBounded}
+use Rattle.ob_tables.proofs.SlotCounts.{one_in-same, slot_handles-few}
+use Rattle.ob_waits.specs.declared.wait.Wait.{Wait}
+use Rattle.ob_store.specs.Counting.{counting_all, counting_in, is_its, may_count, uncounted}
+use Rattle.ob_store.specs.Kept.{IsCounted, IsNamed, IsThere, id_in}
+use Rattle.ob_store.specs.Objects.{Object, Places, with_handle}
+use Rattle.ob_store.proofs.CountedLaws as stored
+use Rattle.ob_store.proofs.CountedLaws.{handles_long}
+use Rattle.ob_store.proofs.CountingLaws.{IsWide, handles_at, one_counts, still_wide, table_counts, tables_count}
+
+abbrev Again : Places → List (List (Option Entry)) → Type 0
+Again p tables = (q : Places) × (counting_all p tables ≡ Ok q)
+
+its-id : (x : Option Object) (id : Id) → id_in x ≡ Some id → is_its id x ≡ true
+its-id None id e = absurd cc
+its-id (Some o) id e = ap (λ (z : Id). same_id z id) (some-is o.id id e) ∙ same_id-same id
+  where
+    some-is : (a b : Id) → Some a ≡ Some b → a ≡ b
+    some-is a b e = cc
+
+may-again : (p : Places) (id : Id) → IsThere p.objects id → handles_at p id.slot < 4294967295 → may_count p id ≡ true
+may-again p id there room =
+    true-both (is_its id (get_or p.objects id.slot None)) (ltb (handles_at p id.slot) 4294967295)
+    (its-id (get_or p.objects id.slot None) id there) (lt-ltb (handles_at p id.slot) 4294967295 room)
+
+in-again : (p : Places) (places : List (Option Entry)) → IsWide p →
+    ((k : ℕ) → handles_at p k + slot_handles_in k places ≤ 4294967295) →
+    ((id : Id) → 0 < handles_in id places → IsThere p.objects id) → (q : Places) × (counting_in p places ≡ Ok q)
+in-again p [] wide few named = (p, refl)
+in-again p (None ∷ places) wide few named =
+    in-again p places wide
+    (λ k. (let s = sum_by-cons (λ (y : Option Entry). cond (names_slot k y) 1 0) None places in let f = few k in
+    omega (arith, s, f)))
+    (λ id h. named id (let s = sum_by-cons (λ (y : Option Entry). cond (names id y) 1 0) None places in
+    omega (arith, s, h)))
+in-again p (Some e ∷ places) wide few named =
+    let own : cond {A = ℕ} (names e.id (Some e)) 1 0 ≡ 1 = ap {B = ℕ} (λ (b : Bool). cond b 1 0) (same_id-same e.id) in
+    let there : IsThere p.objects e.id =
+    named e.id (let s = sum_by-cons (λ (y : Option Entry). cond (names e.id y) 1 0) (Some e) places in
+    omega (arith, s, own)) in
+    let room : handles_at p e.id.slot < 4294967295 =
+    (let s = sum_by-cons (λ (y : Option Entry). cond (names_slot e.id.slot y) 1 0) (Some e) places in
+    let f = few e.id.slot in let one = one_in-same e in omega (arith, s, f, one)) in
+    let may = may-again p e.id there room in
+    let c = one_counts p e wide may in
+    let rest = in-again (with_handle p e.id.slot) places (still_wide p (with_handle p e.id.slot) _ _ c wide)
+    (λ k. (let s = sum_by-cons (λ (y : Option Entry). cond (names_slot k y) 1 0) (Some e) places in
+    let f = few k in let h = c.handles k in omega (arith, s, f, h)))
+    (λ id h. named id (let s = sum_by-cons (λ (y : Option Entry). cond (names id y) 1 0) (Some e) places in
+    omega (arith, s, h))) in
+    (rest.0, ap (λ (b : Bool). cond b (Ok (with_handle p e.id.slot)) (Err Value) >>= λ (z : Places). counting_in z places) may ∙ rest.1)
+
+all-again : (p : Places) (tables : List (List (Option Entry))) → IsWide p →
+    ((k : ℕ) → handles_at p k + slot_handles k tables ≤ 4294967295) →
+    ((id : Id) → 0 < handles_among id tables → IsThere p.objects id) → Again p tables
+all-again p [] wide few named = (p, refl)
+all-again p (table ∷ tables) wide few named =
+    let a = in-again p table wide
+    (λ k. (let s = sum_by-cons (slot_handles_in k) table tables in let f = few k in omega (arith, s, f)))
+    (λ id h. named id (let s = sum_by-cons (handles_in id) table tables in omega (arith, s, h))) in
+    let c = table_counts p a.0 table wide a.1 in
+    let rest = all-again a.0 tables (still_wide p a.0 _ _ c wide)
+    (λ k. (let s = sum_by-cons (slot_handles_in k) table tables in let f = few k in let h = c.handles k in
+    omega (arith, s, f, h)))
+    (λ id h. subst (λ (z : Places). IsThere z.objects id) (sym c.same)
+    (named id (let s = sum_by-cons (handles_in id) table tables in omega (arith, s, h)))) in
+    (rest.0, ap (λ r. r >>= λ (z : Places). counting_all z tables) a.1 ∙ rest.1)
+
+zero-at : (n k : ℕ) → get_or {A = ℕ} (replicate n 0) k 0 ≡ 0
+zero-at n k = elim (cases_lt k n) [
+  | inl lt ↦ get_or-replicate {A = ℕ} n k 0 0 lt
+  | inr le ↦ get_or_past (replicate {A = ℕ} n 0) k 0 (omega (arith, length-replicate {A = ℕ} n 0, le))
+]
+
+pub counting_again : (p : Places) (processes limit : ℕ) (tables : List (List (Option Entry))) (waits : List (Option Wait)) →
+    IsCounted p.seen (length p.objects) tables waits → IsNamed p.objects tables waits →
+    IsBounded processes limit tables →
+    counting_all (uncounted p) tables ≡ Ok p
+counting_again p processes limit tables waits counted named bounded =
+    let n = length p.objects in
+    let wide : IsWide (uncounted p) = sym (length-replicate {A = ℕ} n 0) in
+    let a = all-again (uncounted p) tables wide
+    (λ k. (let z = zero-at n k in let f = slot_handles-few k processes limit tables bounded in
+    omega (arith, z, f))) named.entries in
+    let c = tables_count (uncounted p) a.0 tables wide a.1 in
+    let long : length p.seen.handles ≡ n = handles_long p.seen n tables waits counted in
+    let same : a.0.seen.handles ≡ p.seen.handles =
+    ext_get_or 0 a.0.seen.handles p.seen.handles (c.long ∙ sym wide ∙ sym long)
+    (λ k lt. (let x = c.handles k in
+    let z = zero-at n k in
+    let within : k < n = omega (
+      arith,
+      lt,
+      ap (λ (hs : List ℕ). length hs) (ap (λ (w : Places). w.seen.handles) c.same),
+      c.long,
+      wide,
+    ) in
+    let h = stored.handles_at p.seen n tables waits counted k within in omega (arith, x, z, h))) in
+    a.1 ∙ ap Ok (c.same ∙ ap (λ (hs : List ℕ). record p { seen = record p.seen { handles = hs } }) same)
