@@ -38,6 +38,7 @@ pub mod SavingLaws
 pub mod SavedCodecs
 pub mod CountingAgain
 pub mod WholeAgain
+pub mod SavedAgain
 pub mod TickLaws
 pub mod Yielding
 pub mod OpeningLaws

@@ -49,7 +49,7 @@ table_within ts p i e is = elim (cases_lt p (length ts)) [
       ap (λ (t : List (Option Entry)). get_or t i None) (get_or_past ts p [] le) in cc (x, is))
 ]
 
-sum_same : {X : Type 0} (f g : X → ℕ) (d : X) (xs : List X)
+pub sum_same : {X : Type 0} (f g : X → ℕ) (d : X) (xs : List X)
     → ((i : ℕ) → i < length xs → f (get_or xs i d) ≡ g (get_or xs i d)) → sum_by f xs ≡ sum_by g xs
 sum_same f g d [] each = refl
 sum_same f g d (x ∷ xs) each = omega (

@@ -72,7 +72,7 @@ all_bodied o n bodies handles blocks all = record {
 abbrev pub none_saved : SavedSlot
 none_saved = record { generation = 0; retired = false; object = None }
 
-object-at : (j k : ℕ) (xs : List SavedSlot) → k < length xs → get_or (objects_from j xs) k None ≡
+pub object-at : (j k : ℕ) (xs : List SavedSlot) → k < length xs → get_or (objects_from j xs) k None ≡
     object_from (j + k) (get_or xs k none_saved)
 object-at j k [] lt = absurd (omega arith)
 object-at j zero (x ∷ xs) lt = ap (λ (n : ℕ). object_from n x) (let e : j ≡ j + 0 = omega arith in e)

@@ -1,4 +1,5 @@
-ghost use Rattle.std.specs.Prelude.{◌≡◌, ℕ, List, [], Ok, Option, length, true};
+ghost use Rattle.std.specs.Prelude.{◌≡◌, ◌∷◌, ◌++◌, ℕ, List, [], None, Ok, Option, length, map, true};
+ghost use Rattle.std.specs.List.{AllByRecursion};
 ghost use Rattle.ob_codec.specs.Laws.{Takes};
 ghost use Rattle.ob_codec.specs.Spelling.{AreBytes};
 ghost use Rattle.ob_tables.specs.declared.entry.Entry.{Entry};
@@ -9,9 +10,12 @@ ghost use Rattle.ob_store.specs.Counting.{counting_all, uncounted};
 ghost use Rattle.ob_store.specs.Kept.{IsCounted, IsNamed};
 ghost use Rattle.ob_waits.specs.Objects as waits;
 ghost use Rattle.ob_waits.specs.Rules.{HasBodies};
-ghost use Rattle.ob_store.specs.Agreement.{AreBorn};
-ghost use Rattle.ob_store.specs.Objects.{Object, ObjectsState, Places};
-ghost use Rattle.ob_store.specs.SavedObjects.{Births, are_bodied, births_from, objects_at, objects_text};
+ghost use Rattle.ob_store.specs.Agreement.{AreBorn, IsTied};
+ghost use Rattle.ob_store.specs.Objects.{Object, ObjectsState, Places, places_in};
+ghost use Rattle.ob_store.specs.SavedObjects.{Births, are_bodied, births_from, objects_at, objects_text, slots_saved};
+ghost use Rattle.ob_store.specs.SavedObjects.{with_slots};
+ghost use Rattle.ob_store.specs.SavedSlots.{SlotFits, keeper_slot};
+ghost use Rattle.ob_store.specs.State.{shape_of};
 
 /// What is counted in a store that is kept is counted again, from no handle on.
 pub fn law_of_counting()
@@ -29,8 +33,15 @@ pub fn law_of_whole_objects()
     ensures bodies { (seen : waits.Objects) (slots : ℕ) → HasBodies seen → are_bodied seen slots ≡ true }
 {}
 
-/// What is read of objects is the spelling of those that it gives.
+/// Objects for which no wait is pending are read again as they were written, over a keeper that begins with their
+/// slots, where each slot fits; and what is read of objects is the spelling of those that it gives.
 pub fn law_of_spelled_objects()
+    ensures again { (s : ObjectsState) → IsTied s → (limits : Limits) (clock processes limit : ℕ)
+        (tables : List (List (Option Entry))) (rest : List ℕ) → s.keeper.shape ≡ shape_of limits
+        → IsCounted s.seen (length s.objects) tables (None ∷ []) → IsNamed s.objects tables (None ∷ [])
+        → IsBounded processes limit tables → AllByRecursion (SlotFits limits.max_gen clock) (slots_saved s)
+        → objects_at limits clock tables (objects_text s ++ rest)
+        ≡ Ok (with_slots (places_in s) limits (map keeper_slot (slots_saved s)), rest) }
     ensures takes { (limits : Limits) (clock : ℕ) (tables : List (List (Option Entry))) (bytes : List ℕ)
         (s : ObjectsState) (rest : List ℕ) → AreBytes bytes
         → objects_at limits clock tables bytes ≡ Ok (s, rest) → Takes bytes (objects_text s) rest }

@@ -1,0 +1,148 @@
+-- Objects that are kept are read again as they were written.
+use Rattle.std.proofs.Common.{◌≡◌, ℕ, ◌+◌, ◌<◌, Bool, false, List, [], ◌∷◌, ◌++◌, length, get_or, map, Option, Some, None, Ok, refl, sym, ap, ◌∙◌, subst, arith}
+use Rattle.std.specs.Prelude.{replicate, sum_by}
+use Rattle.std.specs.List.{AllByRecursion, range_with_len}
+use Rattle.std.proofs.lemmas.List.{ext_get_or, get_or-map, length-map}
+use Rattle.std.proofs.lemmas.List.FromFn.{get_or-map-range_with_len, length-map-range_with_len, get_or-range_with_len, length-range_with_len}
+use Rattle.std.proofs.lemmas.List.Sums.{sum_by-cons}
+use Rattle.ob_codec.specs.Codecs.{items_again}
+use Rattle.ob_codec.specs.Reading.{◌>>=◌, items_at}
+use Rattle.pin_core.specs.declared.shape.Shape.{Shape}
+use Rattle.pin_core.specs.declared.word.Phase.{Phase}
+use Rattle.pin_core.specs.declared.world.Slot.{Slot}
+use Rattle.pin_core.specs.Worlds.{opening_slot, slot_of}
+use Rattle.ob_body.specs.declared.body.Body.{Body}
+use Rattle.ob_tables.specs.declared.entry.Entry.{Entry}
+use Rattle.ob_tables.specs.Tables.{IsBounded}
+use Rattle.ob_waits.specs.Waits.{slot_blocks}
+use Rattle.ob_store.specs.declared.limits.Limits.{Limits}
+use Rattle.ob_store.specs.declared.saved_slot.SavedSlot.{SavedSlot}
+use Rattle.ob_store.specs.Agreement.{Agrees, AreBorn, IsTied, made_by, made_in}
+use Rattle.ob_store.specs.Counting.{uncounted}
+use Rattle.ob_store.specs.Kept.{IsCounted, IsNamed}
+use Rattle.ob_store.specs.Objects.{Object, ObjectsState, Places, places_in}
+use Rattle.ob_store.specs.SavedObjects.{object_saved, objects_at, objects_text, slot_saved, slots_saved, with_slots}
+use Rattle.ob_store.specs.SavedSlots.{SlotFits, body_from, body_in, is_retired, keeper_slot, keeper_slot_with, object_from, object_in_slot, objects_from, places_from, slot_at, slots_at, slots_from}
+use Rattle.ob_store.specs.State.{shape_of}
+use Rattle.ob_store.proofs.BySlot.{zero_counts}
+use Rattle.ob_store.proofs.CountingAgain.{counting_again}
+use Rattle.ob_store.proofs.NamedLaws.{sum_same}
+use Rattle.ob_store.proofs.SavedCodecs.{slot_codec}
+use Rattle.ob_store.proofs.SavedLaws.{objects-long}
+use Rattle.ob_store.proofs.SavedObjectLaws.{none_saved, object-at}
+use Rattle.ob_store.proofs.WholeAgain.{births_again, bodied_again}
+
+sum_map : {A B : Type 0} (f : B → ℕ) (g : A → B) (xs : List A) → sum_by f (map g xs) ≡ sum_by (λ x. f (g x)) xs
+sum_map f g [] = refl
+sum_map f g (x ∷ xs) = omega (arith, sum_by-cons f (g x) (map g xs), sum_by-cons (λ y. f (g y)) x xs, sum_map f g xs)
+
+-- an object, its body and its slot, as they are saved
+one-object : (k : ℕ) (x : Option Object) (b : Option Body) (r : Bool) (y : Slot) → Agrees k x b r y →
+    object_in_slot (record { slot = k; generation = y.generation }) (object_saved x b) ≡ x
+one-object k None b r y a = refl
+one-object k (Some o) b r y a = λ i. Some (record o { id = sym a.0 i })
+
+one-body : (k : ℕ) (x : Option Object) (b : Option Body) (r : Bool) (y : Slot) → Agrees k x b r y →
+    body_in (object_saved x b) ≡ b
+one-body k None b r y a = sym a.0
+one-body k (Some o) b r y a = refl
+
+one-made : (k : ℕ) (x : Option Object) (b : Option Body) (r : Bool) (y : Slot) → Agrees k x b r y →
+    made_in (keeper_slot_with y.generation r (object_saved x b)) ≡ made_in y
+one-made k None b r y a = ap (λ (p : Phase). made_by p y.generation) (sym a.1)
+one-made k (Some o) b r y a = ap (λ (p : Phase). made_by p y.generation) (sym a.2)
+
+module _ (s : ObjectsState) (tied : IsTied s) where
+  abbrev n : ℕ
+  n = s.keeper.shape.slots
+
+  abbrev xs : List SavedSlot
+  xs = slots_saved s
+
+  xs-long : length xs ≡ n
+  xs-long = length-map-range_with_len (slot_saved s) 0 n
+
+  xs-at : (k : ℕ) → k < n → get_or xs k none_saved ≡ slot_saved s k
+  xs-at k lt = get_or-map-range_with_len (slot_saved s) 0 n k k none_saved lt (omega arith)
+
+  objects-back : objects_from 0 xs ≡ s.objects
+  objects-back = ext_get_or None (objects_from 0 xs) s.objects (objects-long 0 xs ∙ xs-long ∙ sym tied.agreed.long)
+      (λ k lt. (let within : k < n = omega (arith, lt, objects-long 0 xs, xs-long) in
+      object-at 0 k xs (omega (arith, within, xs-long)) ∙
+      ap (λ (j : ℕ). object_from j (get_or xs k none_saved)) (let e : 0 + k ≡ k = omega arith in e)
+      ∙ ap (object_from k) (xs-at k within) ∙ one-object k _ _ _ _ (tied.agreed.each k within)))
+
+  bodies-back : map body_from xs ≡ s.seen.bodies
+  bodies-back = ext_get_or None (map body_from xs) s.seen.bodies (length-map xs body_from ∙ xs-long ∙
+      sym tied.agreed.bodied)
+      (λ k lt. (let within : k < n = omega (arith, lt, length-map xs body_from, xs-long) in
+      get_or-map body_from xs k none_saved None (omega (arith, within, xs-long)) ∙ ap body_from (xs-at k within) ∙
+      one-body k _ _ _ _ (tied.agreed.each k within)))
+
+  retired-back : map is_retired xs ≡ s.retired
+  retired-back = ext_get_or false (map is_retired xs) s.retired (length-map xs is_retired ∙ xs-long ∙
+      sym tied.agreed.marked)
+      (λ k lt. (let within : k < n = omega (arith, lt, length-map xs is_retired, xs-long) in
+      get_or-map is_retired xs k none_saved false (omega (arith, within, xs-long)) ∙ ap is_retired (xs-at k within)))
+
+  slots-back : map (slot_of s.keeper.slots) (range_with_len 0 n) ≡ s.keeper.slots
+  slots-back = ext_get_or opening_slot (map (slot_of s.keeper.slots) (range_with_len 0 n)) s.keeper.slots
+      (length-map-range_with_len (slot_of s.keeper.slots) 0 n ∙ sym tied.agreed.wide)
+      (λ k lt. (let within : k < n = omega (arith, lt, length-map-range_with_len (slot_of s.keeper.slots) 0 n) in
+      get_or-map-range_with_len (slot_of s.keeper.slots) 0 n k k opening_slot within (omega arith)))
+
+  births-back : sum_by made_in (map keeper_slot xs) ≡ s.births
+  births-back =
+      sum_map made_in keeper_slot xs ∙
+      sum_map (λ (x : SavedSlot). made_in (keeper_slot x)) (slot_saved s) (range_with_len 0 n)
+      ∙ sum_same (λ (k : ℕ). made_in (keeper_slot (slot_saved s k))) (λ (k : ℕ). made_in (slot_of s.keeper.slots k)) 0 (range_with_len 0 n)
+      (λ i lt. (let within : i < n = omega (arith, lt, length-range_with_len 0 n) in
+      let at : get_or (range_with_len 0 n) i 0 ≡ i = get_or-range_with_len 0 n i 0 within ∙
+      (let e : 0 + i ≡ i = omega arith in e) in
+      subst (λ (k : ℕ). made_in (keeper_slot (slot_saved s k)) ≡ made_in (slot_of s.keeper.slots k)) (sym at)
+      (one-made i _ _ _ _ (tied.agreed.each i within))))
+      ∙ sym (sum_map made_in (slot_of s.keeper.slots) (range_with_len 0 n)) ∙ ap (sum_by made_in) slots-back ∙
+      sym tied.made
+
+  -- no wait names an object
+  module _ (limits : Limits) (clock processes limit : ℕ) (tables : List (List (Option Entry))) (rest : List ℕ)
+      (shape : s.keeper.shape ≡ shape_of limits) (counted : IsCounted s.seen (length s.objects) tables (None ∷ []))
+      (named : IsNamed s.objects tables (None ∷ [])) (bounded : IsBounded processes limit tables)
+      (fits : AllByRecursion (SlotFits limits.max_gen clock) xs) where
+    wide : length xs ≡ limits.slots
+    wide = xs-long ∙ ap (λ (z : Shape). z.slots) shape
+
+    zeros : replicate {A = ℕ} (length xs) 0 ≡ replicate {A = ℕ} (length s.objects) 0
+    zeros = ap (λ (m : ℕ). replicate {A = ℕ} m 0) (xs-long ∙ sym tied.agreed.long)
+
+    blocks-back : replicate {A = ℕ} (length xs) 0 ≡ s.seen.blocks
+    blocks-back = zeros ∙ zero_counts (length s.objects) (λ k. slot_blocks k (None ∷ [])) (λ k. refl) ∙
+        sym counted.blocks
+
+    places-back : places_from xs ≡ uncounted (places_in s)
+    places-back = λ i. record {
+      objects = objects-back i;
+      seen = record { bodies = bodies-back i; handles = zeros i; blocks = blocks-back i };
+      retired = retired-back i;
+    }
+
+    slots-again : slots_at limits.slots limits.max_gen clock (objects_text s ++ rest) ≡
+        Ok ((uncounted (places_in s), map keeper_slot xs), rest)
+    slots-again =
+        let items : items_at (slot_at limits.max_gen clock) limits.slots (objects_text s ++ rest) ≡ Ok (xs, rest) =
+        ap (λ (m : ℕ). items_at (slot_at limits.max_gen clock) m (objects_text s ++ rest)) (sym wide) ∙
+        items_again (slot_codec limits.max_gen clock) xs rest fits in
+        ap (λ r. r >>= λ (z : List SavedSlot × List ℕ). Ok (slots_from z.0, z.1)) items
+        ∙ ap (λ (p : Places). Ok ((p, map keeper_slot xs), rest)) places-back
+
+    pub objects_again : objects_at limits clock tables (objects_text s ++ rest) ≡
+        Ok (with_slots (places_in s) limits (map keeper_slot xs), rest)
+    objects_again =
+        let slots = map keeper_slot xs in
+        let born = births_again s.objects (sum_by made_in slots) (subst (AreBorn s.objects) (sym births-back) tied.born) in
+        rw (
+          slots-again,
+          counting_again (places_in s) processes limit tables (None ∷ []) counted named bounded,
+          born.1,
+          bodied_again s.seen (length s.objects) tied.bodied,
+        ) refl
