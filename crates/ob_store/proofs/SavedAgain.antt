@@ -20,8 +20,8 @@ use Rattle.ob_store.specs.declared.saved_slot.SavedSlot.{SavedSlot}
 use Rattle.ob_store.specs.Agreement.{Agrees, AreBorn, IsTied, made_by, made_in}
 use Rattle.ob_store.specs.Counting.{uncounted}
 use Rattle.ob_store.specs.Kept.{IsCounted, IsNamed}
-use Rattle.ob_store.specs.Objects.{Object, ObjectsState, Places, places_in}
-use Rattle.ob_store.specs.SavedObjects.{object_saved, objects_at, objects_text, slot_saved, slots_saved, with_slots}
+use Rattle.ob_store.specs.Objects.{Object, ObjectsState, Places, places_in, with_keeper}
+use Rattle.ob_store.specs.SavedObjects.{begun_over, object_saved, objects_at, objects_text, slot_saved, slots_saved, with_slots}
 use Rattle.ob_store.specs.SavedSlots.{SlotFits, body_from, body_in, is_retired, keeper_slot, keeper_slot_with, object_from, object_in_slot, objects_from, places_from, slot_at, slots_at, slots_from}
 use Rattle.ob_store.specs.State.{shape_of}
 use Rattle.ob_store.proofs.BySlot.{zero_counts}
@@ -136,13 +136,15 @@ module _ (s : ObjectsState) (tied : IsTied s) where
         ∙ ap (λ (p : Places). Ok ((p, map keeper_slot xs), rest)) places-back
 
     pub objects_again : objects_at limits clock tables (objects_text s ++ rest) ≡
-        Ok (with_slots (places_in s) limits (map keeper_slot xs), rest)
+        Ok (record s { keeper = begun_over (shape_of limits) (map keeper_slot xs) }, rest)
     objects_again =
         let slots = map keeper_slot xs in
         let born = births_again s.objects (sum_by made_in slots) (subst (AreBorn s.objects) (sym births-back) tied.born) in
+        let read : objects_at limits clock tables (objects_text s ++ rest) ≡ Ok (with_slots (places_in s) limits slots, rest) =
         rw (
           slots-again,
           counting_again (places_in s) processes limit tables (None ∷ []) counted named bounded,
           born.1,
           bodied_again s.seen (length s.objects) tied.bodied,
-        ) refl
+        ) refl in
+        read ∙ ap (λ (b : ℕ). Ok (with_keeper (places_in s) b (begun_over (shape_of limits) slots), rest)) births-back

@@ -11,9 +11,9 @@ ghost use Rattle.ob_store.specs.Kept.{IsCounted, IsNamed};
 ghost use Rattle.ob_waits.specs.Objects as waits;
 ghost use Rattle.ob_waits.specs.Rules.{HasBodies};
 ghost use Rattle.ob_store.specs.Agreement.{AreBorn, IsTied};
-ghost use Rattle.ob_store.specs.Objects.{Object, ObjectsState, Places, places_in};
+ghost use Rattle.ob_store.specs.Objects.{Object, ObjectsState, Places};
 ghost use Rattle.ob_store.specs.SavedObjects.{Births, are_bodied, births_from, objects_at, objects_text, slots_saved};
-ghost use Rattle.ob_store.specs.SavedObjects.{with_slots};
+ghost use Rattle.ob_store.specs.SavedObjects.{begun_over};
 ghost use Rattle.ob_store.specs.SavedSlots.{SlotFits, keeper_slot};
 ghost use Rattle.ob_store.specs.State.{shape_of};
 
@@ -41,7 +41,7 @@ pub fn law_of_spelled_objects()
         → IsCounted s.seen (length s.objects) tables (None ∷ []) → IsNamed s.objects tables (None ∷ [])
         → IsBounded processes limit tables → AllByRecursion (SlotFits limits.max_gen clock) (slots_saved s)
         → objects_at limits clock tables (objects_text s ++ rest)
-        ≡ Ok (with_slots (places_in s) limits (map keeper_slot (slots_saved s)), rest) }
+        ≡ Ok (record s { keeper = begun_over (shape_of limits) (map keeper_slot (slots_saved s)) }, rest) }
     ensures takes { (limits : Limits) (clock : ℕ) (tables : List (List (Option Entry))) (bytes : List ℕ)
         (s : ObjectsState) (rest : List ℕ) → AreBytes bytes
         → objects_at limits clock tables bytes ≡ Ok (s, rest) → Takes bytes (objects_text s) rest }
