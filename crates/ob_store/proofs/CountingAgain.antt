@@ -61,8 +61,11 @@ in-again p (Some e ∷ places) wide few named =
     (λ k. (let s = sum_by-cons (λ (y : Option Entry). cond (names_slot k y) 1 0) (Some e) places in
     let f = few k in let h = c.handles k in omega (arith, s, f, h)))
     (λ id h. named id (let s = sum_by-cons (λ (y : Option Entry). cond (names id y) 1 0) (Some e) places in
-    omega (arith, s, h))) in
-    (rest.0, ap (λ (b : Bool). cond b (Ok (with_handle p e.id.slot)) (Err Value) >>= λ (z : Places). counting_in z places) may ∙ rest.1)
+    omega (arith, s, h))) in (
+      rest.0,
+      ap (λ (b : Bool). cond b (Ok (with_handle p e.id.slot))
+          (Err Value) >>= λ (z : Places). counting_in z places) may ∙ rest.1,
+    )
 
 all-again : (p : Places) (tables : List (List (Option Entry))) → IsWide p →
     ((k : ℕ) → handles_at p k + slot_handles k tables ≤ 4294967295) →
@@ -86,7 +89,8 @@ zero-at n k = elim (cases_lt k n) [
   | inr le ↦ get_or_past (replicate {A = ℕ} n 0) k 0 (omega (arith, length-replicate {A = ℕ} n 0, le))
 ]
 
-pub counting_again : (p : Places) (processes limit : ℕ) (tables : List (List (Option Entry))) (waits : List (Option Wait)) →
+pub counting_again : (p : Places) (processes limit : ℕ) (tables : List (List (Option Entry)))
+    (waits : List (Option Wait)) →
     IsCounted p.seen (length p.objects) tables waits → IsNamed p.objects tables waits →
     IsBounded processes limit tables →
     counting_all (uncounted p) tables ≡ Ok p

@@ -22,7 +22,8 @@ listed_set ps objects s x new old = record {
     | inl same ↦ subst (λ (k : ℕ). Listed ps (get_or (set objects s x) k None)) (sym same)
         (elim (cases_lt s (length objects)) [
           | inl lt ↦ subst (Listed ps) (sym (get_or-set_same objects s x None lt)) new
-          | inr le ↦ subst (Listed ps) (sym (get_or_past (set objects s x) s None (omega (arith, length-set objects s x))))
+          | inr le ↦ subst (Listed ps) (sym (get_or_past (set objects s x) s None
+              (omega (arith, length-set objects s x))))
               tt
         ])
     | inr other ↦ subst (Listed ps) (sym (get_or-set_other objects s j x None other)) (old.each j)

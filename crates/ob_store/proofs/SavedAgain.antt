@@ -95,7 +95,8 @@ module _ (s : ObjectsState) (tied : IsTied s) where
   births-back =
       sum_map made_in keeper_slot xs ∙
       sum_map (λ (x : SavedSlot). made_in (keeper_slot x)) (slot_saved s) (range_with_len 0 n)
-      ∙ sum_same (λ (k : ℕ). made_in (keeper_slot (slot_saved s k))) (λ (k : ℕ). made_in (slot_of s.keeper.slots k)) 0 (range_with_len 0 n)
+      ∙ sum_same (λ (k : ℕ). made_in (keeper_slot (slot_saved s k))) (λ (k : ℕ). made_in (slot_of s.keeper.slots k)) 0
+      (range_with_len 0 n)
       (λ i lt. (let within : i < n = omega (arith, lt, length-range_with_len 0 n) in
       let at : get_or (range_with_len 0 n) i 0 ≡ i = get_or-range_with_len 0 n i 0 within ∙
       (let e : 0 + i ≡ i = omega arith in e) in
@@ -139,8 +140,12 @@ module _ (s : ObjectsState) (tied : IsTied s) where
         Ok (record s { keeper = begun_over (shape_of limits) (map keeper_slot xs) }, rest)
     objects_again =
         let slots = map keeper_slot xs in
-        let born = births_again s.objects (sum_by made_in slots) (subst (AreBorn s.objects) (sym births-back) tied.born) in
-        let read : objects_at limits clock tables (objects_text s ++ rest) ≡ Ok (with_slots (places_in s) limits slots, rest) =
+        let born = births_again s.objects (sum_by made_in slots) (subst (AreBorn s.objects) (sym births-back) tied.born)
+        in
+        let read : objects_at limits clock tables (objects_text s ++ rest) ≡ Ok (
+          with_slots (places_in s) limits slots,
+          rest,
+        ) =
         rw (
           slots-again,
           counting_again (places_in s) processes limit tables (None ∷ []) counted named bounded,

@@ -252,3 +252,6 @@ module _ (limits : Limits) (clock : ℕ) (tables : List (List (Option Entry))) (
       IsTied (with_slots q limits slots)
   tied_read order ordered bodied =
       read_tied limits.slots limits.max_gen clock p slots are q _ _ counts limits refl refl order ordered bodied
+
+  pub formed_read : AreFormed clock q.objects q.seen.bodies
+  formed_read = read_formed limits.slots limits.max_gen clock p slots are q _ _ counts

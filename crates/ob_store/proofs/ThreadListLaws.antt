@@ -62,7 +62,8 @@ module _ (ts : List (Option ℕ)) (n : ℕ) where
       | inl same ↦ inr (
         same,
         let a : Some n ≡ Some p =
-            sym (ap (λ i. get_or (ts ++ Some n ∷ []) i None) same ∙ get_or-append_seam ts (Some n) [] None) ∙ h in cc (a),
+            sym (ap (λ i. get_or (ts ++ Some n ∷ []) i None) same ∙ get_or-append_seam ts (Some n) [] None) ∙ h in
+            cc (a),
       )
       | inr other ↦ absurd (let a = get_or_past (ts ++ Some n ∷ []) t None
           (omega (arith, le, other, length-append ts (Some n ∷ []))) in cc (a, h))

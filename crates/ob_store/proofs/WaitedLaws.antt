@@ -226,7 +226,8 @@ module _ (p : PartsState) (t : â„•) (mode : Mode) (ids : List Id) (d : Option â„
               record p.objects.seen { blocks = (with_blocks_of p.objects ids).seen.blocks };
         }) more p.signaled refl kept.sound
             refl kept.sound.processes_kept counted_after named_after kept.sound.formed
-            (of_live_waiting p.processes.threads p.objects.seen.bodies p.waits.waits t mode ids d live kept.sound.of_live)
+            (of_live_waiting p.processes.threads p.objects.seen.bodies p.waits.waits t mode ids d live
+            kept.sound.of_live)
             (room_added p.limits.max_recursion p.objects.seen.bodies p.waits.waits t mode ids d room kept.sound.room);
         settled = settled_added p.objects.seen.bodies p.waits.waits t mode ids d unready kept.settled;
       })

@@ -1,9 +1,10 @@
-ghost use Rattle.std.specs.Prelude.{◌≡◌, ◌≤◌, true};
+ghost use Rattle.std.specs.Prelude.{◌≡◌, ◌≤◌, IfOk, true};
 ghost use Rattle.ob_arena.specs.Slots.{is_vacant_at};
 ghost use Rattle.ob_codec.specs.Reading.{Gives};
 ghost use Rattle.ob_store.specs.Objects.{vacancy};
 ghost use Rattle.ob_store.specs.SavedSlots.{slots_at, with_saved};
 ghost use Rattle.ob_store.specs.SavedObjects.{objects_at};
+ghost use Rattle.ob_store.specs.Kept.{AreFormed};
 
 use crate::births::{count_births, order_births};
 use crate::counting::count_tables;
@@ -73,7 +74,8 @@ impl Objects<LockedPins> {
         tables: &Tables,
         from: &mut Cursor<'_>,
     ) -> Result<Objects<LockedPins>, ReadFault>
-        ensures { Gives (λ objects. objects) result (objects_at limits clock tables.now.tables from.old) from.new }
+        ensures read { Gives (λ objects. objects) result (objects_at limits clock tables.now.tables from.old) from.new }
+        ensures formed { IfOk result (λ objects. AreFormed clock objects.objects objects.seen.bodies) }
     {
         let (mut seats, slots) = read_slots(
             alloc,

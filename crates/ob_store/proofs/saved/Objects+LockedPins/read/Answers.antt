@@ -7,7 +7,7 @@ use Rattle.ob_store.specs.Agreement.{IsTied, made_in}
 use Rattle.ob_store.specs.Objects.{with_keeper}
 use Rattle.ob_store.specs.SavedObjects.{begun_over, births_from}
 use Rattle.ob_store.specs.State.{shape_of}
-use Rattle.ob_store.proofs.SavedObjectLaws.{slots_read, tied_read}
+use Rattle.ob_store.proofs.SavedObjectLaws.{formed_read, slots_read, tied_read}
 use Rattle.ob_store.proofs.saved.Objects+LockedPins.read.Goals as goal
 
 pub count_births-births-requires : goal.count_births-births-requires
@@ -41,3 +41,9 @@ invariant_of-result c =
     c.in_ok-seats.ensures (c.if-not-count_tables.ensures.counted refl) c.in_ok-_order._order.entries
     (subst (λ (n : ℕ). births_from n [] 0 q.objects ≡ Ok c.in_ok-_order._order.entries) births c.in_ok-_order.ensures)
     (sym c.are_bodied.ensures ∙ c.if-not-are_bodied.false))
+
+pub returns-clause-formed : goal.returns-clause-formed
+returns-clause-formed c =
+    formed_read c.args.limits c.args.clock c.args.tables.now.tables c.args.from.now c.in_ok-seats.seats
+    c.count_tables.new.seats
+    c.in_ok-seats.slots.items c.read_slots.new.from c.in_ok-seats.ensures (c.if-not-count_tables.ensures.counted refl)
