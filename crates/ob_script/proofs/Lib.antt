@@ -12,3 +12,6 @@ pub mod Spaces
 pub mod Fields
 pub mod ReadBack
 pub mod Alike
+pub mod Fitted
+pub mod Short
+pub mod Lineless

@@ -110,7 +110,7 @@ hex_length (suc k) (suc i) n acc fits =
     either (eqb (n / 16) 0) _ _ (suc (suc i) + length acc) (omega arith)
     (omega (arith, hex_length k i (n / 16) (digit_glyph false (n % 16) ∷ acc) (omega (arith, fits, pow-suc 16 (suc i)))))
 
-hex_few : (n : ℕ) → n ≤ 4294967295 → length (digits 16 false n) ≤ 8
+pub hex_few : (n : ℕ) → n ≤ 4294967295 → length (digits 16 false n) ≤ 8
 unfolding digits
 hex_few n fits = omega (arith, hex_length 64 7 n [] (omega arith))
 

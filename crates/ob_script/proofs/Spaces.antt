@@ -22,7 +22,7 @@ abbrev pub AreWords : List (List ℕ) → Type 0
 AreWords [] = Unit {0}
 AreWords (word ∷ words) = (is_word word ≡ true) × AreWords words
 
-both : (a b : Bool) → a ≡ true → b ≡ true → (a && b) ≡ true
+pub both : (a b : Bool) → a ≡ true → b ≡ true → (a && b) ≡ true
 both a b a_is b_is = ap (λ x. x && b) a_is ∙ b_is
 
 first_of_both : (a b : Bool) → (a && b) ≡ true → a ≡ true

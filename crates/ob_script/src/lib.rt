@@ -13,6 +13,7 @@
 
 mod act;
 mod ends;
+mod fitting;
 mod grammar;
 mod handles;
 mod held;

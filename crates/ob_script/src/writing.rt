@@ -6,11 +6,13 @@ ghost use Rattle.std.specs.List.{flat_map, list_all};
 ghost use Rattle.ob_manager.specs.Calls.{with_parts};
 ghost use Rattle.ob_manager.specs.declared.call.CallOf.TheVariants as calls;
 ghost use Rattle.ob_manager.specs.Makings.{making_of, Making};
+ghost use Rattle.ob_script.specs.Fitting.{Fits};
 ghost use Rattle.ob_script.specs.Writing.{access_word, behind_spaces, can_be_said, either_word, ended, handle_words};
 ghost use Rattle.ob_script.specs.Writing.{id_word, is_line, kind_word};
 ghost use Rattle.ob_script.specs.Writing.{label, line_of, make_words, mask_word, mask_words, mode_word, name_words};
 ghost use Rattle.ob_script.specs.Writing.{said, target_word, text_for, text_words, timeout_word, word_if, words_for};
 
+use crate::fitting::fits;
 use crate::grammar::is_too_long;
 use itoa::Buffer;
 use ob_manager::{AsMake, CallOf, Make, Mode, Timeout};
@@ -576,8 +578,11 @@ pub fn line_of<M: AsMake, T: AsSlice<u8>, H: AsSlice<u32>>(
     alloc: Global,
     call: &CallOf<M, T, H>,
 ) -> Result<Option<Vec<u8>>, AllocError>
-    ensures { IfOk result (λ line. option_map vec_items line ≡ line_of (with_parts M.making T.items H.items call.now)) }
+    ensures line { IfOk result (λ line. option_map vec_items line
+        ≡ line_of (with_parts M.making T.items H.items call.now)) }
+    ensures fits { Fits (with_parts M.making T.items H.items call.now) }
 {
+    fits(call);
     if !can_be_said(call) {
         return Ok(None);
     }

@@ -1,4 +1,5 @@
 use Rattle.ob_script.proofs.Alike.{answered_alike}
+use Rattle.ob_script.proofs.Lineless.{lineless_is_refused}
 use Rattle.ob_script.proofs.ReadBack.{line_is_read}
 use Rattle.ob_script.proofs.law.law_of_lines.Goals as goal
 
@@ -7,3 +8,6 @@ returns-clause-read c = line_is_read
 
 pub returns-clause-alike : goal.returns-clause-alike
 returns-clause-alike c = answered_alike
+
+pub returns-clause-lineless : goal.returns-clause-lineless
+returns-clause-lineless c = lineless_is_refused
