@@ -137,6 +137,7 @@ impl<K: PinKeeper> Book<K> {
         requires { manager.state ≡ opening manager.state.limits }
         ensures { result ≡ record { manager = manager; journal = [] } }
     {
+        manager.kept();
         Book {
             manager,
             journal: Vec::new(alloc),
@@ -169,6 +170,7 @@ impl<K: PinKeeper> Book<K> {
     {
         self.journal.reserve(1)?;
         let reply = self.manager.apply(call);
+        self.manager.kept();
         self.journal.push_reserved(Entry {
             lane,
             call: copy,
@@ -195,8 +197,8 @@ impl<K: PinKeeper> Book<K> {
         self.manager.card(id)
     }
 
-    /// What holds of a book: the manager is kept, its journal has all calls since it was made, each of them a step, and
-    /// its state is the one after them.
+    /// What holds of a book: the manager is kept, its journal has all calls since it was made, each of them a step to a
+    /// manager that is kept, and its state is the one after them.
     #[tactic(auto, using(crate::proofs::Journals::history_state))]
     pub fn replays(&self)
         ensures kept { IsConsistent self.now.manager }
