@@ -22,6 +22,7 @@ mod wired;
 
 pub use account::Account;
 pub use answer::Answer;
+pub use block::Block;
 pub use collected::Collected;
 pub use device::{Sink, Source, Trouble};
 pub use output::{NotWritten, Output};

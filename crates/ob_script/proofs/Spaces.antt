@@ -29,7 +29,7 @@ first_of_both : (a b : Bool) → (a && b) ≡ true → a ≡ true
 first_of_both true b is = refl
 first_of_both false b is = is
 
-second_of_both : (a b : Bool) → (a && b) ≡ true → b ≡ true
+pub second_of_both : (a b : Bool) → (a && b) ≡ true → b ≡ true
 second_of_both true b is = is
 second_of_both false b is = absurd (true≢false (sym is))
 

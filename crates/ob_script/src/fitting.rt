@@ -1,7 +1,8 @@
 ghost use Rattle.std.specs.Prelude.{All};
 ghost use Rattle.ob_manager.specs.Calls.{with_parts};
 ghost use Rattle.ob_manager.specs.Makings.{making_of};
-ghost use Rattle.ob_script.specs.Fitting.{FitHandles, Fits, FitsMake, FitsMask, FitsSign, FitsTarget, FitsTimeout, Small};
+ghost use Rattle.ob_script.specs.Fitting.{FitHandles, Fits, FitsMake, FitsMask, FitsSign, FitsTarget, FitsTimeout};
+ghost use Rattle.ob_script.specs.Fitting.{Small};
 
 use ob_manager::{AsMake, CallOf, Make, Timeout};
 use ob_rights::Rights;
