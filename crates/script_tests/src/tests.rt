@@ -1,6 +1,7 @@
 mod console;
 mod lanes;
 mod options;
+mod recording;
 mod writing;
 
 use std::alloc::{AllocError, Global};

@@ -9,6 +9,7 @@ mod members;
 mod opening;
 mod playing;
 mod racing;
+mod replaying;
 mod turns;
 mod wanting;
 

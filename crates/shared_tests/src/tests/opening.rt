@@ -6,6 +6,7 @@ use super::closing::{Case, closes_again, plays_a_case};
 use super::crowd::agrees_with_a_fresh_one;
 use super::holding::{Move, plays_moves};
 use super::members::{Script, plays_members};
+use super::replaying::replays;
 use super::turns::is_in_turn;
 use super::{blocking, holds, lanes, playing, racing, same};
 use call_tables::{Step, manager_over, pins_for, started};
@@ -174,7 +175,7 @@ fn closes(
     }
 }
 
-/// What a journal shows.
+/// What a journal shows: a run of its script prints the same, whatever the scene.
 fn shows(
     rt: &impl Abort,
     alloc: Global,
@@ -183,6 +184,7 @@ fn shows(
     journal: &[Entry],
     scene: Scene<'_>,
 ) -> Result<(), Fault> {
+    replays(rt, alloc, limits, journal);
     match scene {
         Scene::Members(Script::InTurn) => holds(rt, is_in_turn(journal)),
         Scene::Members(Script::Crowd) => {

@@ -1,0 +1,96 @@
+//! Calls with their answers, as lines of a script.
+use crate::tests::holds_at;
+use ob_manager::CallOf::{MakeEvent, Reap, Spawn, Tick, WaitFor};
+use ob_manager::{CallOf, Make, Mode, Reply, Timeout};
+use ob_record::Record;
+use ob_rights::Fault;
+use pin_core::Id;
+use pin_words::Reclaim;
+use std::alloc::{AllocError, Global};
+use std::test::Fail;
+
+type Asked = CallOf<Make<'static>, &'static [u8], &'static [u32]>;
+
+const NAMED: Make<'static> = Make {
+    name: Some(b"a\nb"),
+    inherit: false,
+    access: None,
+    grant: None,
+};
+
+const OBJECT: Id = Id {
+    slot: 0,
+    generation: 1,
+};
+
+/// Each a call, its answer, and the lines of both.
+#[rattlefmt::skip]
+const ROWS: &[(Asked, Reply, &[u8])] = &[
+    (Spawn { session: 7 }, Reply::Spawned { process: 1, thread: 1 }, b"spawn 7\n# p1 t1\n"),
+    (Spawn { session: 7 }, Reply::Refused(Fault::Limit), b"spawn 7\n# error 1450\n"),
+    (Spawn { session: 7 }, Reply::Refused(Fault::Memory), b"# spawn 7\n# error 8\n"),
+    (Reap { slot: 0 }, Reply::Reaped { id: OBJECT, outcome: Reclaim::Freed }, b"reap s0\n# s0.1 freed\n"),
+    (Reap { slot: 0 }, Reply::Reaped { id: OBJECT, outcome: Reclaim::Retired }, b"reap s0\n# s0.1 retired\n"),
+    (Reap { slot: 0 }, Reply::Reaped { id: OBJECT, outcome: Reclaim::Held { pins: 2 } }, b"# reap s0\n# s0.1 held 2\n"),
+    (Reap { slot: 9 }, Reply::Refused(Fault::Handle), b"reap s9\n# error 6\n"),
+    (MakeEvent { thread: 1, make: NAMED, manual: true, set: false }, Reply::Refused(Fault::Parameter),
+        b"# a call that no line asks for\n# error 87\n"),
+    (Tick { now: 9_223_372_036_854_775_808 }, Reply::Refused(Fault::Parameter),
+        b"# a call that no line asks for\n# error 87\n"),
+    (WaitFor { thread: 1, mode: Mode::Any, timeout: Timeout::Zero, handles: &[4] }, Reply::Code { code: 258 },
+        b"wait t1 any 0 h4\n# code 258\n"),
+];
+
+/// Adds a call with its answer; once more where memory was wanting.
+fn add(record: &mut Record, call: &Asked, reply: &Reply) -> Result<(), AllocError> {
+    if record.add(call, reply).is_ok() {
+        return Ok(());
+    }
+    record.add(call, reply)
+}
+
+/// Whether a record tells these lines alone of a call and its answer.
+fn is_told(alloc: Global, call: &Asked, reply: &Reply, lines: &[u8]) -> Result<bool, AllocError> {
+    let mut record = Record::new(alloc)?;
+    add(&mut record, call, reply)?;
+    Ok(record.as_slice() == lines)
+}
+
+#[test]
+fn each_entry_has_its_lines(rt: HostRuntime) -> Result<(), Fail> {
+    let alloc = rt.alloc();
+    for (place, row) in ROWS.iter().enumerate() {
+        holds_at(&rt, is_told(alloc, &row.0, &row.1, row.2)?, place);
+    }
+    Ok(())
+}
+
+/// The last byte of the first line that is told where memory was wanting for a wait for so many handles, and how long
+/// the line is.
+fn first_line(alloc: Global, handles: &mut Vec<u32>, count: usize) -> Result<usize, AllocError> {
+    handles.resize(count, 4)?;
+    let call: CallOf<Make<'_>, &[u8], &[u32]> = WaitFor {
+        thread: 1,
+        mode: Mode::Any,
+        timeout: Timeout::Infinite,
+        handles: handles.as_slice(),
+    };
+    let mut record = Record::new(alloc)?;
+    record.add(&call, &Reply::Refused(Fault::Memory))?;
+    Ok(
+        record
+            .as_slice()
+            .iter()
+            .position(|byte| *byte == b'\n')
+            .unwrap_or(0),
+    )
+}
+
+#[test]
+fn a_comment_has_4096_bytes_at_most(rt: HostRuntime) -> Result<(), Fail> {
+    let alloc = rt.alloc();
+    let mut handles = Vec::new(alloc);
+    holds_at(&rt, first_line(alloc, &mut handles, 1_359)? == 4_094, 0);
+    holds_at(&rt, first_line(alloc, &mut handles, 1_360)? == 4_096, 1);
+    Ok(())
+}
