@@ -1,5 +1,5 @@
 -- No line of a call and its answer has a line feed.
-use Rattle.std.proofs.Common.{◌≡◌, ℕ, zero, suc, ◌+◌, ◌/◌, ◌%◌, arith, refl, ap, sym, ◌∙◌, List, [], ◌∷◌, ◌++◌, length, take, Bool, true, false, not, ◌&&◌, ◌==◌, Option, Some, None, codes, decimal, nat_lt, if◌then◌else◌, true≢false}
+use Rattle.std.proofs.Common.{◌≡◌, ℕ, zero, suc, ◌/◌, ◌%◌, arith, refl, ◌∙◌, List, [], ◌∷◌, ◌++◌, length, take, Bool, true, false, not, ◌&&◌, ◌==◌, Some, None, codes, decimal, nat_lt, if◌then◌else◌}
 use Rattle.std.specs.Prelude.{slice_index, ◌-◌}
 use Rattle.std.specs.Fmt.{digit_glyph, digits, digits_onto}
 use Rattle.std.specs.List.{list_all}

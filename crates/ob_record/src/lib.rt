@@ -9,5 +9,7 @@
 #![tactic(auto)]
 
 mod record;
+mod recorder;
 
 pub use record::Record;
+pub use recorder::Recorder;

@@ -64,12 +64,8 @@ impl Record {
         ensures memory { OnErr result (self.new ≡ self.old) }
         ensures fits { Fits (with_parts M.making T.items H.items call.now) }
     {
-        let line = line_of(self.alloc, call)?;
-        let mut text = Vec::new(self.alloc);
-        add_asking(&mut text, is_repeatable(call, reply), line)?;
-        add_answer(&mut text, &mut self.block, reply)?;
-        self.text.extend_from_slice(text.as_slice())?;
-        Ok(())
+        let text = text_of(self.alloc, &mut self.block, call, reply)?;
+        self.text.extend_from_slice(text.as_slice())
     }
 
     /// The text: whole lines, each with its line feed.
@@ -85,6 +81,24 @@ impl Record {
     {
         self.text
     }
+}
+
+/// The lines of a call with its answer, which is printed in a block.
+pub(crate) fn text_of<M: AsMake, T: AsSlice<u8>, H: AsSlice<u32>>(
+    alloc: Global,
+    block: &mut Block,
+    call: &CallOf<M, T, H>,
+    reply: &Reply,
+) -> Result<Vec<u8>, AllocError>
+    ensures text { IfOk result (λ text. text.items
+        ≡ text_for (with_parts M.making T.items H.items call.now) reply.now) }
+    ensures fits { Fits (with_parts M.making T.items H.items call.now) }
+{
+    let line = line_of(alloc, call)?;
+    let mut text = Vec::new(alloc);
+    add_asking(&mut text, is_repeatable(call, reply), line)?;
+    add_answer(&mut text, block, reply)?;
+    Ok(text)
 }
 
 /// Whether the answer says that a slot is held.

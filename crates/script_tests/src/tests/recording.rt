@@ -2,7 +2,7 @@
 use crate::tests::holds_at;
 use ob_manager::CallOf::{MakeEvent, Reap, Spawn, Tick, WaitFor};
 use ob_manager::{CallOf, Make, Mode, Reply, Timeout};
-use ob_record::Record;
+use ob_record::{Record, Recorder};
 use ob_rights::Fault;
 use pin_core::Id;
 use pin_words::Reclaim;
@@ -92,5 +92,35 @@ fn a_comment_has_4096_bytes_at_most(rt: HostRuntime) -> Result<(), Fail> {
     let mut handles = Vec::new(alloc);
     holds_at(&rt, first_line(alloc, &mut handles, 1_359)? == 4_094, 0);
     holds_at(&rt, first_line(alloc, &mut handles, 1_360)? == 4_096, 1);
+    Ok(())
+}
+
+/// Whether these are the lines that are taken of a recorder where there is room for so many bytes.
+fn gives(recorder: &mut Recorder, room: &mut [u8], lines: &[u8]) -> bool {
+    let count = recorder.take(room);
+    count <= room.len() && &room[..count] == lines
+}
+
+/// Notes the call of the first row.
+fn note(recorder: &mut Recorder) {
+    recorder.note(&ROWS[0].0, &ROWS[0].1);
+}
+
+#[test]
+fn a_recorder_is_taken_by_whole_lines(rt: HostRuntime) -> Result<(), Fail> {
+    let mut recorder = Recorder::new(rt.alloc());
+    let (mut few, mut some, mut room) = ([0u8; 7], [0u8; 15], [0u8; 16]);
+    note(&mut recorder);
+    holds_at(&rt, gives(&mut recorder, &mut room, b""), 0);
+    if recorder.start().is_err() {
+        recorder.start()?;
+    }
+    note(&mut recorder);
+    holds_at(&rt, gives(&mut recorder, &mut few, b""), 1);
+    holds_at(&rt, gives(&mut recorder, &mut some, b"spawn 7\n"), 2);
+    recorder.stop();
+    note(&mut recorder);
+    holds_at(&rt, gives(&mut recorder, &mut room, b"# p1 t1\n"), 3);
+    holds_at(&rt, gives(&mut recorder, &mut room, b""), 4);
     Ok(())
 }
