@@ -22,7 +22,8 @@ abbrev pub HasNone : List ℕ → Type 0
 HasNone text = list_all no_feed text ≡ true
 
 join : (front back : List ℕ) → HasNone front → HasNone back → HasNone (front ++ back)
-join front back front_has back_has = list_all-append no_feed front back ∙ both (list_all no_feed front) (list_all no_feed back) front_has back_has
+join front back front_has back_has = list_all-append no_feed front back
+    ∙ both (list_all no_feed front) (list_all no_feed back) front_has back_has
 
 -- digits
 glyph : (d : ℕ) → no_feed (digit_glyph false d) ≡ true
@@ -36,7 +37,8 @@ onto (suc k) base n acc has = by (n / base == 0) (onto k base (n / base) (digit_
     one = both (no_feed (digit_glyph false (n % base))) (list_all no_feed acc) (glyph (n % base)) has
 
     by : (b : Bool) → HasNone (digits_onto k base false (n / base) (digit_glyph false (n % base) ∷ acc))
-        → HasNone (if b then digit_glyph false (n % base) ∷ acc else digits_onto k base false (n / base) (digit_glyph false (n % base) ∷ acc))
+        → HasNone (if b then digit_glyph false (n % base)
+        ∷ acc else digits_onto k base false (n / base) (digit_glyph false (n % base) ∷ acc))
     by true more = one
     by false more = more
 
@@ -54,7 +56,8 @@ id_has id =
 
 handle_has : (handle : ℕ) (how : List ℕ) (id : Id) → HasNone how → HasNone (printed_handle handle how id)
 handle_has handle how id has =
-    join (codes "h" ++ decimal handle ++ how) (printed_id id) (join (codes "h" ++ decimal handle) how (known (codes "h") handle refl) has) (id_has id)
+    join (codes "h" ++ decimal handle ++ how) (printed_id id)
+    (join (codes "h" ++ decimal handle) how (known (codes "h") handle refl) has) (id_has id)
 
 reclaim_has : (outcome : Reclaim) → HasNone (printed_reclaim outcome)
 reclaim_has Freed = refl
@@ -63,7 +66,8 @@ reclaim_has (Held pins) = known (codes " held ") pins refl
 
 pub reply_has : (reply : Reply) → HasNone (printed_reply reply)
 reply_has (Spawned process thread) =
-    join (codes "p" ++ decimal process ++ codes " t") (decimal thread) (join (codes "p" ++ decimal process) (codes " t") (known (codes "p") process refl) refl) (number thread)
+    join (codes "p" ++ decimal process ++ codes " t") (decimal thread)
+    (join (codes "p" ++ decimal process) (codes " t") (known (codes "p") process refl) refl) (number thread)
 reply_has (Started thread) = known (codes "t") thread refl
 reply_has (Made handle id) = handle_has handle (codes " new ") id refl
 reply_has (Exists handle id) = handle_has handle (codes " exists ") id refl
@@ -84,7 +88,8 @@ reply_has (CountsAre handles waits hold) =
     join (codes "handles " ++ decimal handles ++ codes " waits " ++ decimal waits ++ codes " hold ") (decimal hold)
     (join (codes "handles " ++ decimal handles ++ codes " waits " ++ decimal waits) (codes " hold ")
     (join (codes "handles " ++ decimal handles ++ codes " waits ") (decimal waits)
-    (join (codes "handles " ++ decimal handles) (codes " waits ") (known (codes "handles ") handles refl) refl) (number waits)) refl) (number hold)
+    (join (codes "handles " ++ decimal handles) (codes " waits ") (known (codes "handles ") handles refl) refl)
+    (number waits)) refl) (number hold)
 reply_has (Refused fault) = known (codes "error ") (code_of fault) refl
 
 -- lines and comments
@@ -93,7 +98,8 @@ begins zero text has = refl
 begins (suc n) [] has = refl
 begins (suc n) (byte ∷ text) has = by (no_feed byte) (begins n text) has
   where
-    by : (b : Bool) → (HasNone text → HasNone (take n text)) → (b && list_all no_feed text) ≡ true → (b && list_all no_feed (take n text)) ≡ true
+    by : (b : Bool) → (HasNone text → HasNone (take n text)) → (b && list_all no_feed text) ≡ true
+        → (b && list_all no_feed (take n text)) ≡ true
     by true rest has = rest has
     by false rest has = has
 
@@ -110,10 +116,12 @@ ended_has text has = by (slice_index text (length text - 1) == 13)
 pub asking_has : (again : Bool) (call : Call) → HasNone (asking again (line_of call))
 asking_has again call = by (can_be_said call) (is_line (text_for call)) again refl
   where
-    by : (can is again : Bool) → is_line (text_for call) ≡ is → HasNone (asking again (if can && is then Some (ended (text_for call)) else None))
+    by : (can is again : Bool) → is_line (text_for call) ≡ is
+        → HasNone (asking again (if can && is then Some (ended (text_for call)) else None))
     by false is again same = refl
     by true false again same = refl
-    by true true again same = line again (ended_has (text_for call) (second_of_both (not (nat_lt 4096 (length (text_for call)))) (list_all no_feed (text_for call)) same))
+    by true true again same = line again (ended_has (text_for call)
+        (second_of_both (not (nat_lt 4096 (length (text_for call)))) (list_all no_feed (text_for call)) same))
       where
         line : (b : Bool) → HasNone (ended (text_for call)) → HasNone (asking b (Some (ended (text_for call))))
         line true has = has

@@ -25,7 +25,8 @@ AddsWhere false old lines new = new ≡ old
 abbrev pub Notes : Recording → List ℕ → Recording → Type 0
 Notes old lines new = AddsWhere old.is_on old lines new
 
--- Whole lines are taken from the front, as many as there is room for: so many bytes, which end behind a line feed, or none.
+-- Whole lines are taken from the front, as many as there is room for: so many bytes, which end behind a line feed, or
+-- none.
 pub record TakesLines (old room : List ℕ) (count : ℕ) (new after : List ℕ) : Type 0 where
   pub front : List ℕ
   pub whole : old ≡ front ++ new

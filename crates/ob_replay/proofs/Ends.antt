@@ -30,8 +30,10 @@ is_within line has = λ k d within. no_end (get_or line k d) (AllPass-from_list_
 pub lines_within : (journal : List Entry) → All IsWithin (lines_in journal)
 lines_within [] = λ k d within. absurd (omega (arith, within))
 lines_within (entry ∷ entries) =
-    All-cons IsWithin ask (say ∷ lines_in entries) (is_within ask (asking_has (is_repeatable entry.call entry.reply) entry.call))
-    (All-cons IsWithin say (lines_in entries) (is_within say (comment_has (printed_reply entry.reply) (reply_has entry.reply))) (lines_within entries))
+    All-cons IsWithin ask (say ∷ lines_in entries)
+    (is_within ask (asking_has (is_repeatable entry.call entry.reply) entry.call))
+    (All-cons IsWithin say (lines_in entries) (is_within say
+    (comment_has (printed_reply entry.reply) (reply_has entry.reply))) (lines_within entries))
   where
     ask : List ℕ
     ask = asking (is_repeatable entry.call entry.reply) (line_of entry.call)
@@ -48,18 +50,29 @@ cut [] [] a b x_in y_in same = (refl, ap (drop 1) same)
 cut [] (c ∷ y) a b x_in y_in same = absurd (y_in 0 0 (omega arith) (sym (ap (λ l. get_or l 0 0) same)))
 cut (c ∷ x) [] a b x_in y_in same = absurd (x_in 0 0 (omega arith) (ap (λ l. get_or l 0 0) same))
 cut (c ∷ x) (e ∷ y) a b x_in y_in same =
-    let rest = cut x y a b (rest_of (λ byte. byte ≢ 10) c x x_in) (rest_of (λ byte. byte ≢ 10) e y y_in) (ap (drop 1) same) in
+    let rest = cut x y a b (rest_of (λ byte. byte ≢ 10) c x x_in) (rest_of (λ byte. byte ≢ 10) e y y_in)
+    (ap (drop 1) same) in
     (ap (λ h. h ∷ x) (ap (λ l. get_or l 0 0) same) ∙ ap (λ t. e ∷ t) rest.0, rest.1)
 
 -- an input is cut into lines in one way
-pub one_cut : (ours theirs : List (List ℕ)) (rest : List ℕ) → All IsWithin ours → All IsWithin theirs → IsWithin rest → with_ends ours ≡ with_ends theirs ++ rest → (theirs ≡ ours) × (rest ≡ [])
+pub one_cut : (ours theirs : List (List ℕ)) (rest : List ℕ) → All IsWithin ours → All IsWithin theirs → IsWithin rest
+    → with_ends ours ≡ with_ends theirs ++ rest → (theirs ≡ ours) × (rest ≡ [])
 one_cut [] [] rest ours_in theirs_in within same = (refl, sym same)
 one_cut [] (y ∷ theirs) rest ours_in theirs_in within same =
-    absurd (omega (arith, ap length same, length-append ((y ++ 10 ∷ []) ++ with_ends theirs) rest, length-append (y ++ 10 ∷ []) (with_ends theirs), length-append y (10 ∷ [])))
+    absurd (omega (
+      arith,
+      ap length same,
+      length-append ((y ++ 10 ∷ []) ++ with_ends theirs) rest,
+      length-append (y ++ 10 ∷ []) (with_ends theirs),
+      length-append y (10 ∷ []),
+    ))
 one_cut (x ∷ ours) [] rest ours_in theirs_in within same =
     absurd (no_end x (with_ends ours) (subst IsWithin (sym same ∙ append_assoc x (10 ∷ []) (with_ends ours)) within))
 one_cut (x ∷ ours) (y ∷ theirs) rest ours_in theirs_in within same =
-    let split = cut x y (with_ends ours) (with_ends theirs ++ rest) (ours_in 0 [] (omega arith)) (theirs_in 0 [] (omega arith))
-    (sym (append_assoc x (10 ∷ []) (with_ends ours)) ∙ same ∙ append_assoc (y ++ 10 ∷ []) (with_ends theirs) rest ∙ append_assoc y (10 ∷ []) (with_ends theirs ++ rest)) in
-    let more = one_cut ours theirs rest (rest_of IsWithin x ours ours_in) (rest_of IsWithin y theirs theirs_in) within split.1 in
+    let split = cut x y (with_ends ours) (with_ends theirs ++ rest) (ours_in 0 [] (omega arith))
+    (theirs_in 0 [] (omega arith))
+    (sym (append_assoc x (10 ∷ []) (with_ends ours)) ∙ same ∙ append_assoc (y ++ 10 ∷ []) (with_ends theirs) rest
+    ∙ append_assoc y (10 ∷ []) (with_ends theirs ++ rest)) in
+    let more = one_cut ours theirs rest (rest_of IsWithin x ours ours_in)
+    (rest_of IsWithin y theirs theirs_in) within split.1 in
     (ap (λ h. h ∷ theirs) (sym split.0) ∙ ap (λ t. x ∷ t) more.0, more.1)

@@ -16,32 +16,45 @@ not_true true h = absurd (h refl)
 not_true false h = refl
 
 -- the place that is found is the first
-pub first_place : (byte : ℕ) (text : List ℕ) (at : ℕ) → IsFirstByte (is_byte byte) text (Some at) → (position_or_len (is_byte byte) text ≡ at) × (at < length text)
-first_place byte text at found =
-    (position_or_len_is (is_byte byte) text at 0 (omega (arith, found.0.high)) (λ k before. not_true _ (found.0.before k (omega arith) before)) (λ within. found.1), found.0.high)
+pub first_place : (byte : ℕ) (text : List ℕ) (at : ℕ) → IsFirstByte (is_byte byte) text (Some at)
+    → (position_or_len (is_byte byte) text ≡ at) × (at < length text)
+first_place byte text at found = (
+  position_or_len_is (is_byte byte) text at 0 (omega (arith, found.0.high))
+      (λ k before. not_true _ (found.0.before k (omega arith) before)) (λ within. found.1),
+  found.0.high,
+)
 
 -- where none is found, the first place is the length
-pub no_place : (byte : ℕ) (text : List ℕ) → IsFirstByte (is_byte byte) text None → position_or_len (is_byte byte) text ≡ length text
+pub no_place : (byte : ℕ) (text : List ℕ) → IsFirstByte (is_byte byte) text None
+    → position_or_len (is_byte byte) text ≡ length text
 no_place byte text none =
-    position_or_len_is (is_byte byte) text (length text) 0 (omega arith) (λ k before. not_true _ (none k (omega arith) before)) (λ past. absurd (omega arith))
+    position_or_len_is (is_byte byte) text (length text) 0 (omega arith)
+    (λ k before. not_true _ (none k (omega arith) before)) (λ past. absurd (omega arith))
 
 -- what is behind the first place
-pub behind_first : (byte : ℕ) (text rest : List ℕ) (at : ℕ) → IsFirstByte (is_byte byte) text (Some at) → rest ≡ drop at text → take (length rest - 1) (drop 1 rest) ≡ after_first (is_byte byte) text
+pub behind_first : (byte : ℕ) (text rest : List ℕ) (at : ℕ) → IsFirstByte (is_byte byte) text (Some at)
+    → rest ≡ drop at text → take (length rest - 1) (drop 1 rest) ≡ after_first (is_byte byte) text
 behind_first byte text rest at found rest_is =
-    take_rest rest 1 ∙ ap (drop 1) rest_is ∙ drop-drop 1 at text ∙ ap (λ n. drop (n + 1) text) (sym (first_place byte text at found).0)
+    take_rest rest 1 ∙ ap (drop 1) rest_is ∙ drop-drop 1 at text
+    ∙ ap (λ n. drop (n + 1) text) (sym (first_place byte text at found).0)
 
 -- the first word ends at the first space, or is the last
-pub words_first : (text : List ℕ) → position_or_len (is_byte 32) text < length text → words_of text ≡ before_first (is_byte 32) text ∷ words_of (after_first (is_byte 32) text)
+pub words_first : (text : List ℕ) → position_or_len (is_byte 32) text < length text
+    → words_of text ≡ before_first (is_byte 32) text ∷ words_of (after_first (is_byte 32) text)
 words_first text within = slice_split_first (is_byte 32) text 0 within
 
 pub words_last : (text : List ℕ) → position_or_len (is_byte 32) text ≡ length text → words_of text ≡ text ∷ []
-words_last text none = slice_split_none (is_byte 32) text (All-from_get_or (λ byte. is_byte 32 byte ≡ false) text 0 (λ k within. fails_before_first (is_byte 32) text k 0 (omega arith)))
+words_last text none = slice_split_none (is_byte 32) text
+    (All-from_get_or (λ byte. is_byte 32 byte ≡ false) text 0
+    (λ k within. fails_before_first (is_byte 32) text k 0 (omega arith)))
 
 -- the same by the place that was found
-pub first_word : (text : List ℕ) (at : ℕ) → IsFirstByte (is_byte 32) text (Some at) → words_of text ≡ take at text ∷ words_of (take (length text - (at + 1)) (drop (at + 1) text))
+pub first_word : (text : List ℕ) (at : ℕ) → IsFirstByte (is_byte 32) text (Some at)
+    → words_of text ≡ take at text ∷ words_of (take (length text - (at + 1)) (drop (at + 1) text))
 first_word text at found =
     let first : position_or_len (is_byte 32) text ≡ at = (first_place 32 text at found).0 in
-    rw (take_rest text (at + 1)) (subst (λ n. words_of text ≡ take n text ∷ words_of (drop (n + 1) text)) first (words_first text (omega (arith, first, (first_place 32 text at found).1))))
+    rw (take_rest text (at + 1)) (subst (λ n. words_of text ≡ take n text ∷ words_of (drop (n + 1) text)) first
+    (words_first text (omega (arith, first, (first_place 32 text at found).1))))
 
 pub last_word : (text : List ℕ) → IsFirstByte (is_byte 32) text None → words_of text ≡ text ∷ []
 last_word text none = words_last text (no_place 32 text none)
@@ -55,6 +68,7 @@ pub words_joined : (text : List ℕ) → joined (words_of text) ≡ text
 words_joined text = join_with_byte-slice_split 32 text
 
 -- what is left of a text
-pub text_left : (rest : Option (Bor (List ℕ))) (words : List (List ℕ)) → words_left rest ≡ words → MatchOption rest (words ≡ []) (λ text. (text.now ≡ joined words) × (words ≢ []))
+pub text_left : (rest : Option (Bor (List ℕ))) (words : List (List ℕ)) → words_left rest ≡ words
+    → MatchOption rest (words ≡ []) (λ text. (text.now ≡ joined words) × (words ≢ []))
 text_left None words is = sym is
 text_left (Some rest) words is = (sym (words_joined rest.now) ∙ ap joined is, λ none. words_some rest.now (is ∙ none))

@@ -28,35 +28,50 @@ use Rattle.ob_script.proofs.Numerals.{reads_number, reads_mask, digit_is}
 use Rattle.ob_script.proofs.Spaces.{is_word, AreWords, read_words, reads_next, reads_front, word_append, decimal_word, hex_word, label_word}
 
 -- the next value is read, and what is made of it
-pub read_next : {A B : Type 0} (read : Option A) (value : A) (make : A → Option B) → read ≡ Some value → (read >>= make) ≡ make value
+pub read_next : {A B : Type 0} (read : Option A) (value : A) (make : A → Option B) → read ≡ Some value
+    → (read >>= make) ≡ make value
 read_next read value make is = ap (λ r. r >>= make) is
 
-pub reads_either : (first second : List ℕ) (is_so : Bool) → bytes_eq first first ≡ true → bytes_eq second first ≡ false → bytes_eq second second ≡ true
+pub reads_either : (first second : List ℕ) (is_so : Bool) → bytes_eq first first ≡ true → bytes_eq second first ≡ false
+    → bytes_eq second second ≡ true
     → either_of first second (either_word first second is_so) ≡ Some is_so
-reads_either first second true same other self = ap (λ b. if b then Some false else (if bytes_eq second second then Some true else None)) other ∙ ap (λ b. if b then Some true else None) self
-reads_either first second false same other self = ap (λ b. if b then Some false else (if bytes_eq first second then Some true else None)) same
+reads_either first second true same other self = ap
+    (λ b. if b then Some false else (if bytes_eq second second then Some true else None)) other
+    ∙ ap (λ b. if b then Some true else None) self
+reads_either first second false same other self = ap
+    (λ b. if b then Some false else (if bytes_eq first second then Some true else None)) same
 
 pub reads_rights : (mask : Rights) → mask.0 ≤ 4294967295 → mask_of (mask_word mask) ≡ Some mask
 reads_rights mask fits = reads_mask mask.0 fits
 
 -- what isn't the keyword stays
-not_behind : (keyword : List ℕ) (words : List (List ℕ)) → begins_with keyword words ≡ false → behind keyword words ≡ words
+not_behind : (keyword : List ℕ) (words : List (List ℕ)) → begins_with keyword words ≡ false
+    → behind keyword words ≡ words
 not_behind keyword [] is = refl
 not_behind keyword (word ∷ words) is = ap (λ b. if b then words else word ∷ words) is
 
-pub behind_inherit : (is_so : Bool) (rest : List (List ℕ)) → begins_with (codes "inherit") rest ≡ false → behind (codes "inherit") (word_if is_so (codes "inherit") ++ rest) ≡ rest
+pub behind_inherit : (is_so : Bool) (rest : List (List ℕ)) → begins_with (codes "inherit") rest ≡ false
+    → behind (codes "inherit") (word_if is_so (codes "inherit") ++ rest) ≡ rest
 behind_inherit true rest is = refl
 behind_inherit false rest is = not_behind (codes "inherit") rest is
 
-pub begins_inherit : (is_so : Bool) (rest : List (List ℕ)) → begins_with (codes "inherit") rest ≡ false → begins_with (codes "inherit") (word_if is_so (codes "inherit") ++ rest) ≡ is_so
+pub begins_inherit : (is_so : Bool) (rest : List (List ℕ)) → begins_with (codes "inherit") rest ≡ false
+    → begins_with (codes "inherit") (word_if is_so (codes "inherit") ++ rest) ≡ is_so
 begins_inherit true rest is = refl
 begins_inherit false rest is = is
 
-reads_masked : (keyword : List ℕ) (mask : Option Rights) (rest : List (List ℕ)) → bytes_eq keyword keyword ≡ true → begins_with keyword rest ≡ false → FitsMask mask
+reads_masked : (keyword : List ℕ) (mask : Option Rights) (rest : List (List ℕ)) → bytes_eq keyword keyword ≡ true
+    → begins_with keyword rest ≡ false → FitsMask mask
     → masked keyword (mask_words keyword mask ++ rest) ≡ Some (mask, rest)
-reads_masked keyword None rest self is fits = ap (λ b. if b then some_mask (behind keyword rest) else Some (None, rest)) is
+reads_masked keyword None rest self is fits = ap (λ b. if b then some_mask (behind keyword rest) else Some (
+  None,
+  rest,
+)) is
 reads_masked keyword (Some mask) rest self is fits =
-    ap (λ b. if b then some_mask (if b then mask_word mask ∷ rest else keyword ∷ mask_word mask ∷ rest) else Some (None, keyword ∷ mask_word mask ∷ rest)) self
+    ap (λ b. if b then some_mask (if b then mask_word mask ∷ rest else keyword ∷ mask_word mask ∷ rest) else Some (
+      None,
+      keyword ∷ mask_word mask ∷ rest,
+    )) self
     ∙ read_next (mask_of (mask_word mask)) mask (λ m. Some (Some m, rest)) (reads_rights mask fits)
 
 -- the name of a create, as it stands in the words of a line
@@ -65,13 +80,16 @@ name_read None = []
 name_read (Some text) = codes "name" ∷ words_of text
 
 abbrev pub make_read : Making → List (List ℕ)
-make_read make = word_if make.inherit (codes "inherit") ++ (mask_words (codes "access") make.access ++ (mask_words (codes "grant") make.grant ++ name_read make.name))
+make_read make = word_if make.inherit (codes "inherit")
+    ++ (mask_words (codes "access") make.access ++ (mask_words (codes "grant") make.grant ++ name_read make.name))
 
-not_name : (keyword : List ℕ) → bytes_eq (codes "name") keyword ≡ false → (name : Option (List ℕ)) → begins_with keyword (name_read name) ≡ false
+not_name : (keyword : List ℕ) → bytes_eq (codes "name") keyword ≡ false → (name : Option (List ℕ))
+    → begins_with keyword (name_read name) ≡ false
 not_name keyword other None = refl
 not_name keyword other (Some text) = other
 
-not_mask : (keyword other : List ℕ) → bytes_eq other keyword ≡ false → (mask : Option Rights) (rest : List (List ℕ)) → begins_with keyword rest ≡ false → begins_with keyword (mask_words other mask ++ rest) ≡ false
+not_mask : (keyword other : List ℕ) → bytes_eq other keyword ≡ false → (mask : Option Rights) (rest : List (List ℕ))
+    → begins_with keyword rest ≡ false → begins_with keyword (mask_words other mask ++ rest) ≡ false
 not_mask keyword other differs None rest is = is
 not_mask keyword other differs (Some mask) rest is = differs
 
@@ -87,7 +105,12 @@ reads_named None = refl
 reads_named (Some text) = read_next (name_of (codes "name" ∷ words_of text)) text (λ t. Some (Some t)) (reads_text text)
 
 abbrev made : List (List ℕ) → Option Rights → Option Rights → Option (List ℕ) → Making
-made words access grant name = record { name = name; inherit = begins_with (codes "inherit") words; access = access; grant = grant }
+made words access grant name = record {
+  name = name;
+  inherit = begins_with (codes "inherit") words;
+  access = access;
+  grant = grant;
+}
 
 abbrev from_name : List (List ℕ) → Option Rights → Option Rights × List (List ℕ) → Option Making
 from_name words access grant = named grant.1 >>= (λ name. Some (made words access grant.0 name))
@@ -109,17 +132,24 @@ module _ (make : Making) where
   no_grant = not_name (codes "grant") refl make.name
 
   no_access : begins_with (codes "access") grant_rest ≡ false
-  no_access = not_mask (codes "access") (codes "grant") refl make.grant named_rest (not_name (codes "access") refl make.name)
+  no_access = not_mask (codes "access") (codes "grant") refl make.grant named_rest
+      (not_name (codes "access") refl make.name)
 
   no_inherit : begins_with (codes "inherit") access_rest ≡ false
-  no_inherit = not_mask (codes "inherit") (codes "access") refl make.access grant_rest (not_mask (codes "inherit") (codes "grant") refl make.grant named_rest (not_name (codes "inherit") refl make.name))
+  no_inherit = not_mask (codes "inherit") (codes "access") refl make.access grant_rest
+      (not_mask (codes "inherit") (codes "grant") refl make.grant named_rest
+      (not_name (codes "inherit") refl make.name))
 
   pub reads_make : FitsMake make → make_of (make_read make) ≡ Some make
   reads_make fits =
-      ap (λ rest. masked (codes "access") rest >>= from_grant (make_read make)) (behind_inherit make.inherit access_rest no_inherit)
-      ∙ read_next (masked (codes "access") access_rest) (make.access, grant_rest) (from_grant (make_read make)) (reads_masked (codes "access") make.access grant_rest refl no_access fits.access)
-      ∙ read_next (masked (codes "grant") grant_rest) (make.grant, named_rest) (from_name (make_read make) make.access) (reads_masked (codes "grant") make.grant named_rest refl no_grant fits.grant)
-      ∙ read_next (named named_rest) make.name (λ name. Some (made (make_read make) make.access make.grant name)) (reads_named make.name)
+      ap (λ rest. masked (codes "access") rest >>= from_grant (make_read make))
+      (behind_inherit make.inherit access_rest no_inherit)
+      ∙ read_next (masked (codes "access") access_rest) (make.access, grant_rest) (from_grant (make_read make))
+      (reads_masked (codes "access") make.access grant_rest refl no_access fits.access)
+      ∙ read_next (masked (codes "grant") grant_rest) (make.grant, named_rest) (from_name (make_read make) make.access)
+      (reads_masked (codes "grant") make.grant named_rest refl no_grant fits.grant)
+      ∙ read_next (named named_rest) make.name (λ name. Some (made (make_read make) make.access make.grant name))
+      (reads_named make.name)
       ∙ ap (λ is_so. Some (record make { inherit = is_so })) (begins_inherit make.inherit access_rest no_inherit)
 
 -- the words of a create have no space but in the name
@@ -130,7 +160,8 @@ word_if_is false word is = tt
 pub mask_is_word : (mask : Rights) → mask.0 ≤ 4294967295 → is_word (mask_word mask) ≡ true
 mask_is_word mask fits = hex_word mask.0 (omega (arith, fits))
 
-masks_are : (keyword : List ℕ) (mask : Option Rights) → is_word keyword ≡ true → FitsMask mask → AreWords (mask_words keyword mask)
+masks_are : (keyword : List ℕ) (mask : Option Rights) → is_word keyword ≡ true → FitsMask mask
+    → AreWords (mask_words keyword mask)
 masks_are keyword None is fits = tt
 masks_are keyword (Some mask) is fits = (is, (mask_is_word mask fits, tt))
 
@@ -140,21 +171,28 @@ reads_name_words (Some text) = reads_next (codes "name") (text ∷ []) refl
 
 pub reads_make_words : (make : Making) → FitsMake make → read_words (make_words make) ≡ make_read make
 reads_make_words make fits =
-    reads_front (word_if make.inherit (codes "inherit")) (mask_words (codes "access") make.access ++ (mask_words (codes "grant") make.grant ++ name_words make.name)) (word_if_is make.inherit (codes "inherit") refl)
+    reads_front (word_if make.inherit (codes "inherit")) (mask_words (codes "access") make.access
+    ++ (mask_words (codes "grant") make.grant ++ name_words make.name))
+    (word_if_is make.inherit (codes "inherit") refl)
     ∙ ap (λ rest. word_if make.inherit (codes "inherit") ++ rest)
-    (reads_front (mask_words (codes "access") make.access) (mask_words (codes "grant") make.grant ++ name_words make.name) (masks_are (codes "access") make.access refl fits.access)
+    (reads_front (mask_words (codes "access") make.access) (mask_words (codes "grant") make.grant
+    ++ name_words make.name) (masks_are (codes "access") make.access refl fits.access)
     ∙ ap (λ rest. mask_words (codes "access") make.access ++ rest)
-    (reads_front (mask_words (codes "grant") make.grant) (name_words make.name) (masks_are (codes "grant") make.grant refl fits.grant)
+    (reads_front (mask_words (codes "grant") make.grant) (name_words make.name)
+    (masks_are (codes "grant") make.grant refl fits.grant)
     ∙ ap (λ rest. mask_words (codes "grant") make.grant ++ rest) (reads_name_words make.name)))
 
 -- an open's words behind its mask
-pub reads_open_words : (inherit : Bool) (text : List ℕ) → read_words (word_if inherit (codes "inherit") ++ text_words text) ≡ word_if inherit (codes "inherit") ++ (codes "name" ∷ words_of text)
+pub reads_open_words : (inherit : Bool) (text : List ℕ)
+    → read_words (word_if inherit (codes "inherit") ++ text_words text) ≡ word_if inherit (codes "inherit")
+    ++ (codes "name" ∷ words_of text)
 reads_open_words inherit text =
     reads_front (word_if inherit (codes "inherit")) (text_words text) (word_if_is inherit (codes "inherit") refl)
     ∙ ap (λ rest. word_if inherit (codes "inherit") ++ rest) (reads_next (codes "name") (text ∷ []) refl)
 
 -- the words of a duplicate behind its mask
-pub dup_words_are : (inherit : Bool) (is_so : Bool) → AreWords (word_if inherit (codes "inherit") ++ word_if is_so (codes "close"))
+pub dup_words_are : (inherit : Bool) (is_so : Bool)
+    → AreWords (word_if inherit (codes "inherit") ++ word_if is_so (codes "close"))
 dup_words_are true true = (refl, (refl, tt))
 dup_words_are true false = (refl, tt)
 dup_words_are false true = (refl, tt)
@@ -172,11 +210,15 @@ abbrev pub said_mask : ℕ → Rights → Rights
 said_mask options mask = if keeps_rights options then record { 0 = 0 } else mask
 
 pub reads_access : (same : Bool) (mask : Rights) → mask.0 ≤ 4294967295
-    → access_of (if same then codes "same" else mask_word mask) ≡ Some (if same then record { 0 = 0 } else mask, if same then 2 else 0)
+    → access_of (if same then codes "same" else mask_word mask) ≡ Some (
+      if same then record { 0 = 0 } else mask,
+      if same then 2 else 0,
+    )
 reads_access true mask fits = refl
 reads_access false mask fits = read_next (mask_of (mask_word mask)) mask (λ m. Some (m, 0)) (reads_rights mask fits)
 
-pub options_are : (options : ℕ) → nat_lt options 4 ≡ true → (if keeps_rights options then 2 else 0) + (if closes options then 1 else 0) ≡ options
+pub options_are : (options : ℕ) → nat_lt options 4 ≡ true
+    → (if keeps_rights options then 2 else 0) + (if closes options then 1 else 0) ≡ options
 options_are zero few = refl
 options_are (suc zero) few = refl
 options_are (suc (suc zero)) few = refl
@@ -185,13 +227,15 @@ options_are (suc (suc (suc (suc more)))) few = grind (arith, nat_tests)
 
 pub reads_target : (target : Option ℕ) → FitsTarget target → target_of (target_word target) ≡ Some target
 reads_target None fits = refl
-reads_target (Some process) fits = read_next (labelled 112 (label 112 process)) process (λ p. Some (Some p)) (reads_number process fits)
+reads_target (Some process) fits = read_next (labelled 112 (label 112 process)) process (λ p. Some (Some p))
+    (reads_number process fits)
 
 pub target_is_word : (target : Option ℕ) → FitsTarget target → is_word (target_word target) ≡ true
 target_is_word None fits = refl
 target_is_word (Some process) fits = label_word 112 process refl (omega (arith, fits))
 
-pub access_is_word : (same : Bool) (mask : Rights) → mask.0 ≤ 4294967295 → is_word (if same then codes "same" else mask_word mask) ≡ true
+pub access_is_word : (same : Bool) (mask : Rights) → mask.0 ≤ 4294967295
+    → is_word (if same then codes "same" else mask_word mask) ≡ true
 access_is_word true mask fits = refl
 access_is_word false mask fits = mask_is_word mask fits
 
@@ -207,7 +251,8 @@ kind_is_word Mutex = refl
 kind_is_word Semaphore = refl
 kind_is_word Timer = refl
 
-pub either_is_word : (first second : List ℕ) (is_so : Bool) → is_word first ≡ true → is_word second ≡ true → is_word (either_word first second is_so) ≡ true
+pub either_is_word : (first second : List ℕ) (is_so : Bool) → is_word first ≡ true → is_word second ≡ true
+    → is_word (either_word first second is_so) ≡ true
 either_is_word first second true first_is second_is = second_is
 either_is_word first second false first_is second_is = first_is
 
@@ -226,7 +271,8 @@ not_inf (c ∷ cs) is = let d = digit_is c is.1.0 in grind (arith, nat_tests)
 
 reads_millis : (n : ℕ) → n ≤ 4294967295 → timeout_of (decimal n) ≡ Some (Millis n)
 reads_millis n fits =
-    ap (λ b. if b then Some Infinite else (number_of (decimal n) >>= (λ millis. Some (Millis millis)))) (not_inf (decimal n) (decimal_is_IsNumeral n (omega (arith, fits))).0)
+    ap (λ b. if b then Some Infinite else (number_of (decimal n) >>= (λ millis. Some (Millis millis))))
+    (not_inf (decimal n) (decimal_is_IsNumeral n (omega (arith, fits))).0)
     ∙ read_next (number_of (decimal n)) n (λ millis. Some (Millis millis)) (reads_number n fits)
 
 abbrev pub said_timeout : Timeout → Timeout
@@ -234,7 +280,8 @@ said_timeout Zero = Millis 0
 said_timeout Infinite = Infinite
 said_timeout (Millis millis) = Millis millis
 
-pub reads_timeout : (timeout : Timeout) → FitsTimeout timeout → timeout_of (timeout_word timeout) ≡ Some (said_timeout timeout)
+pub reads_timeout : (timeout : Timeout) → FitsTimeout timeout
+    → timeout_of (timeout_word timeout) ≡ Some (said_timeout timeout)
 reads_timeout Zero fits = reads_millis 0 (omega arith)
 reads_timeout Infinite fits = refl
 reads_timeout (Millis millis) fits = reads_millis millis fits
@@ -244,17 +291,22 @@ timeout_is_word Zero fits = decimal_word 0 (omega arith)
 timeout_is_word Infinite fits = refl
 timeout_is_word (Millis millis) fits = decimal_word millis (omega (arith, fits))
 
-pub reads_handles : (handles : List ℕ) → FitHandles handles → (are_handles (map (label 104) handles) ≡ true) × (handles_in (map (label 104) handles) ≡ handles)
+pub reads_handles : (handles : List ℕ) → FitHandles handles
+    → (are_handles (map (label 104) handles) ≡ true) × (handles_in (map (label 104) handles) ≡ handles)
 reads_handles [] fit = (refl, refl)
 reads_handles (handle ∷ handles) fit =
     let rest = reads_handles handles fit.1 in (
       ap (λ read. is_some read && are_handles (map (label 104) handles)) (reads_number handle fit.0) ∙ rest.0,
-      ap (λ read. unwrap_or read 0 ∷ handles_in (map (label 104) handles)) (reads_number handle fit.0) ∙ ap (λ more. handle ∷ more) rest.1,
+      ap (λ read. unwrap_or read 0 ∷ handles_in (map (label 104) handles)) (reads_number handle fit.0)
+          ∙ ap (λ more. handle ∷ more) rest.1,
     )
 
 pub handles_are_words : (handles : List ℕ) → FitHandles handles → AreWords (map (label 104) handles)
 handles_are_words [] fit = tt
-handles_are_words (handle ∷ handles) fit = (label_word 104 handle refl (omega (arith, fit.0)), handles_are_words handles fit.1)
+handles_are_words (handle ∷ handles) fit = (
+  label_word 104 handle refl (omega (arith, fit.0)),
+  handles_are_words handles fit.1,
+)
 
 -- an object's slot ends at the full stop
 stop_place : (ds rest : List ℕ) → AllDigits 10 ds → position_or_len (is_byte 46) (ds ++ 46 ∷ rest) ≡ length ds
@@ -268,8 +320,10 @@ stop_place (c ∷ cs) rest all =
 
 pub reads_id : (id : Id) → id.slot ≤ 4294967295 → id.generation ≤ 4294967295 → id_of (id_word id) ≡ Some id
 reads_id id slot_fits generation_fits =
-    ap (λ at. labelled 115 (take at word) >>= (λ slot. number_of (drop (at + 1) word) >>= (λ generation. Some (record { slot = slot; generation = generation })))) place
-    ∙ ap (λ front. labelled 115 front >>= (λ slot. number_of (drop (length (115 ∷ slot_digits) + 1) word) >>= (λ generation. Some (record { slot = slot; generation = generation }))))
+    ap (λ at. labelled 115 (take at word) >>= (λ slot. number_of (drop (at + 1) word) >>=
+    (λ generation. Some (record { slot = slot; generation = generation })))) place
+    ∙ ap (λ front. labelled 115 front >>= (λ slot. number_of (drop (length (115 ∷ slot_digits) + 1) word) >>=
+    (λ generation. Some (record { slot = slot; generation = generation }))))
     (take-append_seam (115 ∷ slot_digits) (46 ∷ decimal id.generation))
     ∙ read_next (number_of slot_digits) id.slot _ (reads_number id.slot slot_fits)
     ∙ ap (λ back. number_of back >>= (λ generation. Some (record { slot = id.slot; generation = generation })))
@@ -283,7 +337,13 @@ reads_id id slot_fits generation_fits =
     word = (115 ∷ slot_digits) ++ 46 ∷ decimal id.generation
 
     place : position_or_len (is_byte 46) word ≡ length (115 ∷ slot_digits)
-    place = omega (arith, stop_place slot_digits (decimal id.generation) (decimal_is_IsNumeral id.slot (omega (arith, slot_fits))).0.1)
+    place = omega (
+      arith,
+      stop_place slot_digits (decimal id.generation)
+          (decimal_is_IsNumeral id.slot (omega (arith, slot_fits))).0.1,
+    )
 
 pub id_is_word : (id : Id) → id.slot ≤ 4294967295 → id.generation ≤ 4294967295 → is_word (id_word id) ≡ true
-id_is_word id slot_fits generation_fits = word_append (label 115 id.slot) (label 46 id.generation) (label_word 115 id.slot refl (omega (arith, slot_fits))) (label_word 46 id.generation refl (omega (arith, generation_fits)))
+id_is_word id slot_fits generation_fits = word_append (label 115 id.slot) (label 46 id.generation)
+    (label_word 115 id.slot refl (omega (arith, slot_fits)))
+    (label_word 46 id.generation refl (omega (arith, generation_fits)))

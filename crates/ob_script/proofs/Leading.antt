@@ -17,65 +17,87 @@ use Rattle.ob_script.specs.Words.{labelled, number_of, value_after, value_of, wo
 use Rattle.ob_script.proofs.Cuts.{words_first, words_last}
 
 -- one digit more
-value_after-append : (value : ℕ) (digits : List ℕ) (digit : ℕ) → value_after value (digits ++ digit ∷ []) ≡ value_after value digits * 10 + (digit - 48)
+value_after-append : (value : ℕ) (digits : List ℕ) (digit : ℕ)
+    → value_after value (digits ++ digit ∷ []) ≡ value_after value digits * 10 + (digit - 48)
 value_after-append value [] digit = refl
 value_after-append value (first ∷ digits) digit = value_after-append (value * 10 + (first - 48)) digits digit
 
-pub value_more : (text : List ℕ) (i : ℕ) → i < length text → value_of (take (i + 1) text) ≡ value_of (take i text) * 10 + (get_or text i 0 - 48)
+pub value_more : (text : List ℕ) (i : ℕ) → i < length text
+    → value_of (take (i + 1) text) ≡ value_of (take i text) * 10 + (get_or text i 0 - 48)
 value_more text i within =
-    ap value_of (ap (λ n. take n text) (let next : i + 1 ≡ suc i = omega arith in next) ∙ take-suc text i 0 within) ∙ value_after-append 0 (take i text) (get_or text i 0)
+    ap value_of (ap (λ n. take n text) (let next : i + 1 ≡ suc i = omega arith in next) ∙ take-suc text i 0 within)
+    ∙ value_after-append 0 (take i text) (get_or text i 0)
 
-pub digits_more : (text : List ℕ) (i : ℕ) → i < length text → list_all is_ascii_digit (take i text) ≡ true → is_ascii_digit (get_or text i 0) ≡ true → list_all is_ascii_digit (take (i + 1) text) ≡ true
-digits_more text i within before digit = list_all_more is_ascii_digit text i 0 within ∙ ap (λ b. b && is_ascii_digit (get_or text i 0)) before ∙ digit
+pub digits_more : (text : List ℕ) (i : ℕ) → i < length text → list_all is_ascii_digit (take i text) ≡ true
+    → is_ascii_digit (get_or text i 0) ≡ true → list_all is_ascii_digit (take (i + 1) text) ≡ true
+digits_more text i within before digit = list_all_more is_ascii_digit text i 0 within
+    ∙ ap (λ b. b && is_ascii_digit (get_or text i 0)) before ∙ digit
 
 -- digits are no blanks
 not_blank : (byte : ℕ) → is_ascii_digit byte ≡ true → is_byte 32 byte ≡ false
 not_blank byte digit = grind (arith, nat_tests)
 
-among_digits : (text : List ℕ) (n k : ℕ) → list_all is_ascii_digit (take n text) ≡ true → n ≤ length text → k < n → is_byte 32 (get_or text k 0) ≡ false
+among_digits : (text : List ℕ) (n k : ℕ) → list_all is_ascii_digit (take n text) ≡ true → n ≤ length text → k < n
+    → is_byte 32 (get_or text k 0) ≡ false
 among_digits text n k digits within before =
     not_blank (get_or text k 0) (sym (ap is_ascii_digit (get_or-take n text k 0 before))
-    ∙ All-get_or (λ byte. is_ascii_digit byte ≡ true) (take n text) k 0 (grind (arith, length-take n text)) (AllPass-from_list_all is_ascii_digit (take n text) digits))
+    ∙ All-get_or (λ byte. is_ascii_digit byte ≡ true) (take n text) k 0 (grind (arith, length-take n text))
+    (AllPass-from_list_all is_ascii_digit (take n text) digits))
 
-first_blank : (text : List ℕ) (n : ℕ) → list_all is_ascii_digit (take n text) ≡ true → n ≤ length text → (n < length text → is_byte 32 (get_or text n 0) ≡ true) → position_or_len (is_byte 32) text ≡ n
-first_blank text n digits within blank = position_or_len_is (is_byte 32) text n 0 within (λ k before. among_digits text n k digits within before) blank
+first_blank : (text : List ℕ) (n : ℕ) → list_all is_ascii_digit (take n text) ≡ true → n ≤ length text
+    → (n < length text → is_byte 32 (get_or text n 0) ≡ true) → position_or_len (is_byte 32) text ≡ n
+first_blank text n digits within blank = position_or_len_is (is_byte 32) text n 0 within
+    (λ k before. among_digits text n k digits within before) blank
 
-number_is : (word : List ℕ) (value : ℕ) → list_all is_ascii_digit word ≡ true → value_of word ≡ value → 1 ≤ length word → length word ≤ 10 → value ≤ 4294967295 → number_of word ≡ Some value
+number_is : (word : List ℕ) (value : ℕ) → list_all is_ascii_digit word ≡ true → value_of word ≡ value → 1 ≤ length word
+    → length word ≤ 10 → value ≤ 4294967295 → number_of word ≡ Some value
 number_is word value digits is some few small = grind (arith, nat_tests)
 
 -- a number is the last word, or the first
-pub number_last : (text : List ℕ) (n value : ℕ) → list_all is_ascii_digit (take n text) ≡ true → value_of (take n text) ≡ value → n ≡ length text → n ≢ 0 → n ≤ 10 → value ≤ 4294967295 →
+pub number_last : (text : List ℕ) (n value : ℕ) → list_all is_ascii_digit (take n text) ≡ true
+    → value_of (take n text) ≡ value → n ≡ length text → n ≢ 0 → n ≤ 10 → value ≤ 4294967295 →
     (word : List ℕ) × (number_of word ≡ Some value) × (words_of text ≡ word ∷ [])
 number_last text n value digits is last some few small =
     let whole : take n text ≡ text = take_all n text (omega arith) in (
       text,
-      number_is text value (sym (ap (list_all is_ascii_digit) whole) ∙ digits) (sym (ap value_of whole) ∙ is) (omega arith) (omega arith) small,
+      number_is text value (sym (ap (list_all is_ascii_digit) whole) ∙ digits) (sym (ap value_of whole)
+          ∙ is) (omega arith) (omega arith) small,
       words_last text (first_blank text n digits (omega arith) (λ within. absurd (omega arith)) ∙ last),
     )
 
-pub number_first : (text : List ℕ) (n value : ℕ) → list_all is_ascii_digit (take n text) ≡ true → value_of (take n text) ≡ value → n < length text → get_or text n 0 ≡ 32 → n ≢ 0 → n ≤ 10 → value ≤ 4294967295 →
-    (word : List ℕ) × (number_of word ≡ Some value) × (words_of text ≡ word ∷ words_of (take (length text - (n + 1)) (drop (n + 1) text)))
+pub number_first : (text : List ℕ) (n value : ℕ) → list_all is_ascii_digit (take n text) ≡ true
+    → value_of (take n text) ≡ value → n < length text → get_or text n 0 ≡ 32 → n ≢ 0 → n ≤ 10 → value ≤ 4294967295 →
+    (word : List ℕ) × (number_of word ≡ Some value)
+    × (words_of text ≡ word ∷ words_of (take (length text - (n + 1)) (drop (n + 1) text)))
 number_first text n value digits is within blank some few small =
-    let at : position_or_len (is_byte 32) text ≡ n = first_blank text n digits (omega arith) (λ _. ap (is_byte 32) blank) in (
+    let at : position_or_len (is_byte 32) text ≡ n =
+    first_blank text n digits (omega arith) (λ _. ap (is_byte 32) blank) in (
       take n text,
-      number_is (take n text) value digits is (grind (arith, length-take n text)) (grind (arith, length-take n text)) small,
-      rw (take_rest text (n + 1)) (subst (λ m. words_of text ≡ take m text ∷ words_of (drop (m + 1) text)) at (words_first text (omega (arith, at)))),
+      number_is (take n text) value digits is (grind (arith, length-take n text))
+          (grind (arith, length-take n text)) small,
+      rw (take_rest text (n + 1)) (subst (λ m. words_of text ≡ take m text ∷ words_of (drop (m + 1) text)) at
+          (words_first text (omega (arith, at)))),
     )
 
 -- and so it is behind a letter, which is no blank
 not_equal : (a b : ℕ) → a ≢ b → (a == b) ≡ false
 not_equal a b apart = grind (arith, nat_tests)
 
-labelled_is : (letter : ℕ) (word : List ℕ) (value : ℕ) → number_of word ≡ Some value → labelled letter (letter ∷ word) ≡ Some value
+labelled_is : (letter : ℕ) (word : List ℕ) (value : ℕ) → number_of word ≡ Some value
+    → labelled letter (letter ∷ word) ≡ Some value
 labelled_is letter word value number = grind (arith, nat_tests)
 
-pub behind_letter : (letter : ℕ) (text digits : List ℕ) (found : Option (ℕ × Option (Bor (List ℕ)))) → letter ≢ 32 → 1 ≤ length text → get_or text 0 0 ≡ letter →
-    IfSome found (λ number. (word : List ℕ) × (number_of word ≡ Some number.0) × (words_of digits ≡ word ∷ words_left number.1)) → digits ≡ drop 1 text →
-    IfSome found (λ number. (word : List ℕ) × (labelled letter word ≡ Some number.0) × (words_of text ≡ word ∷ words_left number.1))
+pub behind_letter : (letter : ℕ) (text digits : List ℕ) (found : Option (ℕ × Option (Bor (List ℕ)))) → letter ≢ 32
+    → 1 ≤ length text → get_or text 0 0 ≡ letter →
+    IfSome found (λ number. (word : List ℕ) × (number_of word ≡ Some number.0)
+    × (words_of digits ≡ word ∷ words_left number.1)) → digits ≡ drop 1 text →
+    IfSome found (λ number. (word : List ℕ) × (labelled letter word ≡ Some number.0)
+    × (words_of text ≡ word ∷ words_left number.1))
 behind_letter letter [] digits found dark some is number rest = absurd (omega (arith, some))
 behind_letter letter (first ∷ more) digits None dark some is number rest = number
 behind_letter letter (first ∷ more) digits (Some found) dark some is (word, number, words) rest = (
   letter ∷ word,
   labelled_is letter word found.0 number,
-  slice_split-cons_no (is_byte 32) first more (ap (is_byte 32) is ∙ not_equal letter 32 dark) ∙ ap (onto_first first) (sym (ap words_of rest) ∙ words) ∙ ap (λ byte. (byte ∷ word) ∷ words_left found.1) is,
+  slice_split-cons_no (is_byte 32) first more (ap (is_byte 32) is ∙ not_equal letter 32 dark)
+      ∙ ap (onto_first first) (sym (ap words_of rest) ∙ words) ∙ ap (λ byte. (byte ∷ word) ∷ words_left found.1) is,
 )

@@ -35,7 +35,8 @@ first_fails : {A B : Type 0} (r : Result A Fault) (f : A → Result B Fault) →
 first_fails (Ok x) f fails = absurd (true≢false fails)
 first_fails (Err e) f fails = refl
 
-rest_fails : {A B : Type 0} (r : Result A Fault) (f : A → Result B Fault) → ((x : A) → is_ok (f x) ≡ false) → is_ok (r >>= f) ≡ false
+rest_fails : {A B : Type 0} (r : Result A Fault) (f : A → Result B Fault) → ((x : A) → is_ok (f x) ≡ false)
+    → is_ok (r >>= f) ≡ false
 rest_fails (Ok x) f fails = fails x
 rest_fails (Err e) f fails = refl
 
@@ -54,7 +55,8 @@ unprintable (byte ∷ bytes) is = by (no_feed byte) refl (unprintable bytes)
     unprinted : no_feed byte ≡ false → is_printable byte ≡ false
     unprinted feed = grind (arith, nat_tests)
 
-    by : (b : Bool) → no_feed byte ≡ b → (list_all no_feed bytes ≡ false → list_all is_printable bytes ≡ false) → (is_printable byte && list_all is_printable bytes) ≡ false
+    by : (b : Bool) → no_feed byte ≡ b → (list_all no_feed bytes ≡ false → list_all is_printable bytes ≡ false)
+        → (is_printable byte && list_all is_printable bytes) ≡ false
     by true good rest = later (is_printable byte) (rest (sym (ap (λ b. b && list_all no_feed bytes) good) ∙ is))
     by false feed rest = ap (λ b. b && list_all is_printable bytes) (unprinted feed)
 
@@ -83,7 +85,10 @@ name_short text is = by (nat_lt 260 (length text)) refl
   where
     by : (b : Bool) → nat_lt 260 (length text) ≡ b → IsShort 260 text
     by true long = absurd (true≢false (sym (sym (ap (λ a. not a && list_all no_feed text) long) ∙ is)))
-    by false short = record { len = grind (arith, nat_tests); within = sym (ap (λ a. not a && list_all no_feed text) short) ∙ is }
+    by false short = record {
+      len = grind (arith, nat_tests);
+      within = sym (ap (λ a. not a && list_all no_feed text) short) ∙ is;
+    }
 
 wide : 21 ≤ 260
 wide = omega arith
@@ -94,51 +99,68 @@ word = known_short 260 wide
 -- what a create asks for has its words, where its name does
 make_short : (make : Making) → FitsMake make → AreShort 260 (name_words make.name) → AreShort 260 (make_words make)
 make_short make fits named =
-    append_short 260 wide (word_if make.inherit (codes "inherit")) _ (if_short 260 wide make.inherit (codes "inherit") (word (codes "inherit") (omega arith) refl))
-    (append_short 260 wide (mask_words (codes "access") make.access) _ (masks_short 260 wide (codes "access") make.access (word (codes "access") (omega arith) refl) fits.access)
-    (append_short 260 wide (mask_words (codes "grant") make.grant) _ (masks_short 260 wide (codes "grant") make.grant (word (codes "grant") (omega arith) refl) fits.grant) named))
+    append_short 260 wide (word_if make.inherit (codes "inherit")) _
+    (if_short 260 wide make.inherit (codes "inherit") (word (codes "inherit") (omega arith) refl))
+    (append_short 260 wide (mask_words (codes "access") make.access) _
+    (masks_short 260 wide (codes "access") make.access (word (codes "access") (omega arith) refl) fits.access)
+    (append_short 260 wide (mask_words (codes "grant") make.grant) _
+    (masks_short 260 wide (codes "grant") make.grant (word (codes "grant") (omega arith) refl) fits.grant) named))
 
-own_fails : (s : State) (process : ℕ) (name : Option (List ℕ)) (text : List ℕ) → name ≡ Some text → is_nameable text ≡ false → is_ok (own_name s process name) ≡ false
+own_fails : (s : State) (process : ℕ) (name : Option (List ℕ)) (text : List ℕ) → name ≡ Some text
+    → is_nameable text ≡ false → is_ok (own_name s process name) ≡ false
 own_fails s process name text is bad =
-    ap (λ n. is_ok (own_name s process n)) is ∙ first_fails (name_in s process text) (λ name. Ok (Some name)) (nameless s process text bad)
+    ap (λ n. is_ok (own_name s process n)) is ∙ first_fails (name_in s process text) (λ name. Ok (Some name))
+    (nameless s process text bad)
 
-unnamed_fails : (s : State) (thread : ℕ) (make : Making) (what : Result New Fault) → ((process : ℕ) → is_ok (own_name s process make.name) ≡ false)
+unnamed_fails : (s : State) (thread : ℕ) (make : Making) (what : Result New Fault)
+    → ((process : ℕ) → is_ok (own_name s process make.name) ≡ false)
     → is_ok (create s thread make what) ≡ false
 unnamed_fails s thread make what fails = search (rest_fails, first_fails, fails)
 
-module _ (s : State) (thread : ℕ) (make : Making) (what : Result New Fault) (call : Call) (front : List (List ℕ)) (front_are : AreShort 260 front) (few : length front ≤ 5)
-    (words : words_for call ≡ front ++ make_words make) (can : can_be_said call ≡ true) (fits : FitsMake make) (none : line_of call ≡ None) where
+module _ (s : State) (thread : ℕ) (make : Making) (what : Result New Fault) (call : Call) (front : List (List ℕ))
+    (front_are : AreShort 260 front) (few : length front ≤ 5)
+    (words : words_for call ≡ front ++ make_words make) (can : can_be_said call ≡ true) (fits : FitsMake make)
+    (none : line_of call ≡ None) where
   lined : AreShort 260 (name_words make.name) → ⊥
   lined named =
-      have_line 260 call can (subst (AreShort 260) (sym words) (append_short 260 wide front (make_words make) front_are (make_short make fits named)))
+      have_line 260 call can (subst (AreShort 260) (sym words)
+      (append_short 260 wide front (make_words make) front_are (make_short make fits named)))
       (omega (arith, ap length words, length-append front (make_words make), make_few make, few)) none
 
   create_fails : is_ok (create s thread make what) ≡ false
   create_fails = by make.name refl
     where
-      by_text : (text : List ℕ) (b : Bool) → make.name ≡ Some text → is_nameable text ≡ b → is_ok (create s thread make what) ≡ false
-      by_text text true is good = absurd (lined (subst (λ n. AreShort 260 (name_words n)) (sym is) (word (codes "name") (omega arith) refl, (name_short text good, tt))))
-      by_text text false is bad = unnamed_fails s thread make what (λ process. own_fails s process make.name text is bad)
+      by_text : (text : List ℕ) (b : Bool) → make.name ≡ Some text → is_nameable text ≡ b
+          → is_ok (create s thread make what) ≡ false
+      by_text text true is good = absurd (lined (subst (λ n. AreShort 260 (name_words n)) (sym is)
+          (word (codes "name") (omega arith) refl, (name_short text good, tt))))
+      by_text text false is bad = unnamed_fails s thread make what
+          (λ process. own_fails s process make.name text is bad)
 
       by : (name : Option (List ℕ)) → make.name ≡ name → is_ok (create s thread make what) ≡ false
       by None is = absurd (lined (subst (λ n. AreShort 260 (name_words n)) (sym is) tt))
       by (Some text) is = by_text text (is_nameable text) is refl
 
 -- a verb with a thread and a handle, and words behind
-handle_short : (verb : List ℕ) (thread handle : ℕ) (more : List (List ℕ)) → IsShort 260 verb → thread ≤ 4294967295 → handle ≤ 4294967295 → AreShort 260 more → AreShort 260 (handle_words verb thread handle more)
+handle_short : (verb : List ℕ) (thread handle : ℕ) (more : List (List ℕ)) → IsShort 260 verb → thread ≤ 4294967295
+    → handle ≤ 4294967295 → AreShort 260 more → AreShort 260 (handle_words verb thread handle more)
 handle_short verb thread handle more is thread_fits handle_fits are =
     (is, (label_short 260 wide 116 thread refl thread_fits, (label_short 260 wide 104 handle refl handle_fits, are)))
 
 -- a verb and a number behind a letter
-lone_short : (verb : List ℕ) (letter n : ℕ) → IsShort 260 verb → no_feed letter ≡ true → n ≤ 4294967295 → AreShort 260 (verb ∷ label letter n ∷ [])
+lone_short : (verb : List ℕ) (letter n : ℕ) → IsShort 260 verb → no_feed letter ≡ true → n ≤ 4294967295
+    → AreShort 260 (verb ∷ label letter n ∷ [])
 lone_short verb letter n is good fits = (is, (label_short 260 wide letter n good fits, tt))
 
-nameless_fails : (s : State) (thread : ℕ) (kind : Kind) (mask : Rights) (inherit : Bool) (text : List ℕ) → ((process : ℕ) → is_ok (name_in s process text) ≡ false)
+nameless_fails : (s : State) (thread : ℕ) (kind : Kind) (mask : Rights) (inherit : Bool) (text : List ℕ)
+    → ((process : ℕ) → is_ok (name_in s process text) ≡ false)
     → is_ok (open_named s thread kind mask inherit text) ≡ false
 nameless_fails s thread kind mask inherit text fails = search (rest_fails, first_fails, fails)
 
-open_fails : (s : State) (thread : ℕ) (kind : Kind) (mask : Rights) (inherit : Bool) (text : List ℕ) → thread ≤ 4294967295 → mask.0 ≤ 4294967295
-    → line_of (calls.OpenNamed thread kind mask inherit text) ≡ None → is_ok (open_named s thread kind mask inherit text) ≡ false
+open_fails : (s : State) (thread : ℕ) (kind : Kind) (mask : Rights) (inherit : Bool) (text : List ℕ)
+    → thread ≤ 4294967295 → mask.0 ≤ 4294967295
+    → line_of (calls.OpenNamed thread kind mask inherit text) ≡ None
+    → is_ok (open_named s thread kind mask inherit text) ≡ false
 open_fails s thread kind mask inherit text fits mask_fits none = by (is_nameable text) refl
   where
     call : Call
@@ -160,7 +182,8 @@ open_fails s thread kind mask inherit text fits mask_fits none = by (is_nameable
               kind_short 260 wide kind,
               (
                 mask_short 260 wide mask mask_fits,
-                append_short 260 wide (word_if inherit (codes "inherit")) named (if_short 260 wide inherit (codes "inherit") (word (codes "inherit") (omega arith) refl))
+                append_short 260 wide (word_if inherit (codes "inherit")) named
+                    (if_short 260 wide inherit (codes "inherit") (word (codes "inherit") (omega arith) refl))
                     (word (codes "name") (omega arith) refl, (is, tt)),
               ),
             ),
@@ -176,12 +199,15 @@ or_true : (b : Bool) → (b || true) ≡ true
 or_true true = refl
 or_true false = refl
 
-misshapen_fails : (s : State) (thread : ℕ) (mode : Mode) (timeout : Timeout) (handles : List ℕ) → is_misshapen handles ≡ true → is_ok (wait s thread mode timeout handles) ≡ false
+misshapen_fails : (s : State) (thread : ℕ) (mode : Mode) (timeout : Timeout) (handles : List ℕ)
+    → is_misshapen handles ≡ true → is_ok (wait s thread mode timeout handles) ≡ false
 misshapen_fails s thread mode timeout handles bad =
-    let refused : is_ok (refuse_if (is_misshapen handles) fault.Parameter) ≡ false = ap (λ b. is_ok (refuse_if b fault.Parameter)) bad in
+    let refused : is_ok (refuse_if (is_misshapen handles) fault.Parameter) ≡ false =
+    ap (λ b. is_ok (refuse_if b fault.Parameter)) bad in
     search (rest_fails, first_fails, refused)
 
-wait_fails : (s : State) (thread : ℕ) (mode : Mode) (timeout : Timeout) (handles : List ℕ) → thread ≤ 4294967295 → FitsTimeout timeout → FitHandles handles
+wait_fails : (s : State) (thread : ℕ) (mode : Mode) (timeout : Timeout) (handles : List ℕ) → thread ≤ 4294967295
+    → FitsTimeout timeout → FitHandles handles
     → line_of (calls.WaitFor thread mode timeout handles) ≡ None → is_ok (wait s thread mode timeout handles) ≡ false
 wait_fails s thread mode timeout handles fits timeout_fits handles_fit none = by (nat_lt 64 (length handles)) refl
   where
@@ -190,24 +216,40 @@ wait_fails s thread mode timeout handles fits timeout_fits handles_fit none = by
 
     lined : length handles ≤ 64 → ⊥
     lined few =
-        have_line 21 (calls.WaitFor thread mode timeout handles) refl
-        (known_short 21 least (codes "wait") (omega arith) refl, (label_short 21 least 116 thread refl fits, (mode_short 21 least mode, (timeout_short 21 least timeout timeout_fits, handles_short 21 least handles handles_fit))))
+        have_line 21 (calls.WaitFor thread mode timeout handles) refl (
+          known_short 21 least (codes "wait") (omega arith) refl,
+          (
+            label_short 21 least 116 thread refl fits,
+            (
+              mode_short 21 least mode,
+              (
+                timeout_short 21 least timeout timeout_fits,
+                handles_short 21 least handles handles_fit,
+              ),
+            ),
+          ),
+        )
         (omega (arith, length-map handles (label 104), few)) none
 
     by : (b : Bool) → nat_lt 64 (length handles) ≡ b → is_ok (wait s thread mode timeout handles) ≡ false
-    by true many = misshapen_fails s thread mode timeout handles (ap (λ b. (length handles == 0) || (b || has_twice same_handle handles)) many ∙ or_true (length handles == 0))
+    by true many = misshapen_fails s thread mode timeout handles
+        (ap (λ b. (length handles == 0) || (b || has_twice same_handle handles)) many ∙ or_true (length handles == 0))
     by false few = absurd (lined (grind (arith, nat_tests)))
 
-wrong_fails : (s : State) (thread source handle : ℕ) (target : Option ℕ) (mask : Rights) (inherit : Bool) (options : ℕ) → is_wrong options target ≡ true
+wrong_fails : (s : State) (thread source handle : ℕ) (target : Option ℕ) (mask : Rights) (inherit : Bool) (options : ℕ)
+    → is_wrong options target ≡ true
     → is_ok (duplicate s thread source handle target mask inherit options) ≡ false
 wrong_fails s thread source handle target mask inherit options wrong =
-    let refused : is_ok (refuse_if (is_wrong options target) fault.Parameter) ≡ false = ap (λ b. is_ok (refuse_if b fault.Parameter)) wrong in
+    let refused : is_ok (refuse_if (is_wrong options target) fault.Parameter) ≡ false =
+    ap (λ b. is_ok (refuse_if b fault.Parameter)) wrong in
     search (rest_fails, first_fails, refused)
 
 dup_fails : (s : State) (thread source handle : ℕ) (target : Option ℕ) (mask : Rights) (inherit : Bool) (options : ℕ)
     → thread ≤ 4294967295 → source ≤ 4294967295 → handle ≤ 4294967295 → FitsTarget target → mask.0 ≤ 4294967295
-    → line_of (calls.Duplicate thread source handle target mask inherit options) ≡ None → is_ok (duplicate s thread source handle target mask inherit options) ≡ false
-dup_fails s thread source handle target mask inherit options fits source_fits handle_fits target_fits mask_fits none = by (nat_lt options 4) refl
+    → line_of (calls.Duplicate thread source handle target mask inherit options) ≡ None
+    → is_ok (duplicate s thread source handle target mask inherit options) ≡ false
+dup_fails s thread source handle target mask inherit options fits source_fits handle_fits target_fits mask_fits none =
+    by (nat_lt options 4) refl
   where
     call : Call
     call = calls.Duplicate thread source handle target mask inherit options
@@ -229,7 +271,8 @@ dup_fails s thread source handle target mask inherit options fits source_fits ha
                   target_short 260 wide target target_fits,
                   (
                     access_short 260 wide (keeps_rights options) mask mask_fits,
-                    append_short 260 wide (word_if inherit (codes "inherit")) (word_if (closes options) (codes "close")) (if_short 260 wide inherit (codes "inherit") (word (codes "inherit") (omega arith) refl))
+                    append_short 260 wide (word_if inherit (codes "inherit")) (word_if (closes options) (codes "close"))
+                        (if_short 260 wide inherit (codes "inherit") (word (codes "inherit") (omega arith) refl))
                         (if_short 260 wide (closes options) (codes "close") (word (codes "close") (omega arith) refl)),
                   ),
                 ),
@@ -237,7 +280,12 @@ dup_fails s thread source handle target mask inherit options fits source_fits ha
             ),
           ),
         )
-        (omega (arith, length-append (word_if inherit (codes "inherit")) (word_if (closes options) (codes "close")), if_few inherit (codes "inherit"), if_few (closes options) (codes "close"))) none
+        (omega (
+          arith,
+          length-append (word_if inherit (codes "inherit")) (word_if (closes options) (codes "close")),
+          if_few inherit (codes "inherit"),
+          if_few (closes options) (codes "close"),
+        )) none
 
     wrong : nat_lt options 4 ≡ false → (target : Option ℕ) → is_wrong options target ≡ true
     wrong more None = ap (λ b. b || not (closes options)) (past more)
@@ -246,7 +294,8 @@ dup_fails s thread source handle target mask inherit options fits source_fits ha
         past more = grind (arith, nat_tests)
     wrong more (Some target) = grind (arith, nat_tests)
 
-    by : (b : Bool) → nat_lt options 4 ≡ b → is_ok (duplicate s thread source handle target mask inherit options) ≡ false
+    by : (b : Bool) → nat_lt options 4 ≡ b → is_ok (duplicate s thread source handle target mask inherit options)
+        ≡ false
     by true few = absurd (lined few)
     by false more = wrong_fails s thread source handle target mask inherit options (wrong more target)
 
@@ -255,8 +304,12 @@ tick_fails s now none = by (nat_le now 9223372036854775807) refl
   where
     by : (b : Bool) → nat_le now 9223372036854775807 ≡ b → is_ok (tick s now) ≡ false
     by true early =
-        absurd (have_line 260 (calls.Tick now) early (word (codes "tick") (omega arith) refl, (number_short 260 wide now (grind (arith, nat_tests)), tt)) (omega arith) none)
-    by false late = ap (λ b. is_ok {T = Outcome} (refuse_if b fault.Parameter >>= (λ _. Ok (record { reply = Ticked now; state = ticked now s })))) (past late)
+        absurd (have_line 260 (calls.Tick now) early (
+          word (codes "tick") (omega arith) refl,
+          (number_short 260 wide now (grind (arith, nat_tests)), tt),
+        ) (omega arith) none)
+    by false late = ap (λ b. is_ok {T = Outcome} (refuse_if b fault.Parameter >>=
+        (λ _. Ok (record { reply = Ticked now; state = ticked now s })))) (past late)
       where
         past : nat_le now 9223372036854775807 ≡ false → (nat_lt now s.clock || nat_lt last_moment now) ≡ true
         past late = ap (λ b. nat_lt now s.clock || b) (after late) ∙ or_true (nat_lt now s.clock)
@@ -265,28 +318,44 @@ tick_fails s now none = by (nat_le now 9223372036854775807) refl
             after late = grind (arith, nat_tests)
 
 -- whichever call it is
-fails : (s : State) (call : Call) (reply : Reply) → Fits call → line_of call ≡ None → is_ok (outcome_of s call reply) ≡ false
+fails : (s : State) (call : Call) (reply : Reply) → Fits call → line_of call ≡ None
+    → is_ok (outcome_of s call reply) ≡ false
 fails s (calls.Spawn session) reply fits none =
-    absurd (have_line 260 (calls.Spawn session) refl (word (codes "spawn") (omega arith) refl, (number_short 260 wide session (omega (arith, fits)), tt)) (omega arith) none)
+    absurd (have_line 260 (calls.Spawn session) refl (
+      word (codes "spawn") (omega arith) refl,
+      (number_short 260 wide session (omega (arith, fits)), tt),
+    ) (omega arith) none)
 fails s (calls.Child thread inherit) reply fits none =
     absurd (have_line 260 (calls.Child thread inherit) refl (
       word (codes "child") (omega arith) refl,
       (
         label_short 260 wide 116 thread refl fits,
-        (either_short 260 wide (codes "plain") (codes "inherit") inherit (word (codes "plain") (omega arith) refl) (word (codes "inherit") (omega arith) refl), tt),
+        (
+          either_short 260 wide (codes "plain") (codes "inherit") inherit (word (codes "plain") (omega arith) refl)
+              (word (codes "inherit") (omega arith) refl),
+          tt,
+        ),
       ),
     )
     (omega arith) none)
-fails s (calls.StartThread process) reply fits none = absurd (have_line 260 (calls.StartThread process) refl (lone_short (codes "thread") 112 process (word (codes "thread") (omega arith) refl) refl fits) (omega arith) none)
+fails s (calls.StartThread process) reply fits none =
+    absurd (have_line 260 (calls.StartThread process) refl
+    (lone_short (codes "thread") 112 process (word (codes "thread") (omega arith) refl) refl fits) (omega arith) none)
 fails s (calls.MakeEvent thread make manual set) reply fits none =
     create_fails s thread make (Ok (new_event manual set)) (calls.MakeEvent thread make manual set)
-    (codes "event" ∷ label 116 thread ∷ either_word (codes "auto") (codes "manual") manual ∷ either_word (codes "clear") (codes "set") set ∷ []) (
+    (codes "event" ∷ label 116 thread ∷ either_word (codes "auto") (codes "manual") manual
+    ∷ either_word (codes "clear") (codes "set") set ∷ []) (
       word (codes "event") (omega arith) refl,
       (
         label_short 260 wide 116 thread refl fits.0,
         (
-          either_short 260 wide (codes "auto") (codes "manual") manual (word (codes "auto") (omega arith) refl) (word (codes "manual") (omega arith) refl),
-          (either_short 260 wide (codes "clear") (codes "set") set (word (codes "clear") (omega arith) refl) (word (codes "set") (omega arith) refl), tt),
+          either_short 260 wide (codes "auto") (codes "manual") manual (word (codes "auto") (omega arith) refl)
+              (word (codes "manual") (omega arith) refl),
+          (
+            either_short 260 wide (codes "clear") (codes "set") set (word (codes "clear") (omega arith) refl)
+                (word (codes "set") (omega arith) refl),
+            tt,
+          ),
         ),
       ),
     )
@@ -297,7 +366,11 @@ fails s (calls.MakeMutex thread make owned) reply fits none =
       word (codes "mutex") (omega arith) refl,
       (
         label_short 260 wide 116 thread refl fits.0,
-        (either_short 260 wide (codes "free") (codes "owned") owned (word (codes "free") (omega arith) refl) (word (codes "owned") (omega arith) refl), tt),
+        (
+          either_short 260 wide (codes "free") (codes "owned") owned (word (codes "free") (omega arith) refl)
+              (word (codes "owned") (omega arith) refl),
+          tt,
+        ),
       ),
     )
     (omega arith) refl refl fits.1 none
@@ -307,7 +380,10 @@ fails s (calls.MakeSemaphore thread make initial max) reply fits none =
       word (codes "semaphore") (omega arith) refl,
       (
         label_short 260 wide 116 thread refl fits.0,
-        (signed_short 260 wide 2147483648 initial (omega arith) fits.2, (signed_short 260 wide 2147483648 max (omega arith) fits.3, tt)),
+        (
+          signed_short 260 wide 2147483648 initial (omega arith) fits.2,
+          (signed_short 260 wide 2147483648 max (omega arith) fits.3, tt),
+        ),
       ),
     )
     (omega arith) refl refl fits.1 none
@@ -317,53 +393,103 @@ fails s (calls.MakeTimer thread make manual) reply fits none =
       word (codes "timer") (omega arith) refl,
       (
         label_short 260 wide 116 thread refl fits.0,
-        (either_short 260 wide (codes "auto") (codes "manual") manual (word (codes "auto") (omega arith) refl) (word (codes "manual") (omega arith) refl), tt),
+        (
+          either_short 260 wide (codes "auto") (codes "manual") manual (word (codes "auto") (omega arith) refl)
+              (word (codes "manual") (omega arith) refl),
+          tt,
+        ),
       ),
     )
     (omega arith) refl refl fits.1 none
-fails s (calls.OpenNamed thread kind mask inherit text) reply fits none = open_fails s thread kind mask inherit text fits.0 fits.1 none
+fails s (calls.OpenNamed thread kind mask inherit text) reply fits none =
+    open_fails s thread kind mask inherit text fits.0 fits.1 none
 fails s (calls.Duplicate thread source handle target mask inherit options) reply fits none =
     dup_fails s thread source handle target mask inherit options fits.0 fits.1 fits.2 fits.3 fits.4 none
-fails s (calls.CloseHandle thread handle) reply fits none = absurd (have_line 260 (calls.CloseHandle thread handle) refl (handle_short (codes "close") thread handle [] (word (codes "close") (omega arith) refl) fits.0 fits.1 tt) (omega arith) none)
-fails s (calls.GetFlags thread handle) reply fits none = absurd (have_line 260 (calls.GetFlags thread handle) refl (handle_short (codes "flags") thread handle [] (word (codes "flags") (omega arith) refl) fits.0 fits.1 tt) (omega arith) none)
+fails s (calls.CloseHandle thread handle) reply fits none =
+    absurd (have_line 260 (calls.CloseHandle thread handle) refl
+    (handle_short (codes "close") thread handle [] (word (codes "close") (omega arith) refl) fits.0 fits.1 tt)
+    (omega arith) none)
+fails s (calls.GetFlags thread handle) reply fits none =
+    absurd (have_line 260 (calls.GetFlags thread handle) refl
+    (handle_short (codes "flags") thread handle [] (word (codes "flags") (omega arith) refl) fits.0 fits.1 tt)
+    (omega arith) none)
 fails s (calls.SetFlags thread handle mask flags) reply fits none =
     absurd (have_line 260 (calls.SetFlags thread handle mask flags) refl
-    (handle_short (codes "setflags") thread handle (decimal mask ∷ decimal flags ∷ []) (word (codes "setflags") (omega arith) refl) fits.0 fits.1
+    (handle_short (codes "setflags") thread handle (decimal mask ∷ decimal flags ∷ [])
+    (word (codes "setflags") (omega arith) refl) fits.0 fits.1
     (number_short 260 wide mask (omega (arith, fits.2)), (number_short 260 wide flags (omega (arith, fits.3)), tt)))
     (omega arith) none)
-fails s (calls.SetEvent thread handle) reply fits none = absurd (have_line 260 (calls.SetEvent thread handle) refl (handle_short (codes "set") thread handle [] (word (codes "set") (omega arith) refl) fits.0 fits.1 tt) (omega arith) none)
-fails s (calls.ResetEvent thread handle) reply fits none = absurd (have_line 260 (calls.ResetEvent thread handle) refl (handle_short (codes "reset") thread handle [] (word (codes "reset") (omega arith) refl) fits.0 fits.1 tt) (omega arith) none)
+fails s (calls.SetEvent thread handle) reply fits none =
+    absurd (have_line 260 (calls.SetEvent thread handle) refl
+    (handle_short (codes "set") thread handle [] (word (codes "set") (omega arith) refl) fits.0 fits.1 tt)
+    (omega arith) none)
+fails s (calls.ResetEvent thread handle) reply fits none =
+    absurd (have_line 260 (calls.ResetEvent thread handle) refl
+    (handle_short (codes "reset") thread handle [] (word (codes "reset") (omega arith) refl) fits.0 fits.1 tt)
+    (omega arith) none)
 fails s (calls.ReleaseSemaphore thread handle count) reply fits none =
     absurd (have_line 260 (calls.ReleaseSemaphore thread handle count) refl
-    (handle_short (codes "release") thread handle (signed_decimal count ∷ []) (word (codes "release") (omega arith) refl) fits.0 fits.1 (signed_short 260 wide 2147483648 count (omega arith) fits.2, tt))
+    (handle_short (codes "release") thread handle (signed_decimal count ∷ [])
+    (word (codes "release") (omega arith) refl) fits.0 fits.1
+    (signed_short 260 wide 2147483648 count (omega arith) fits.2, tt))
     (omega arith) none)
-fails s (calls.ReleaseMutex thread handle) reply fits none = absurd (have_line 260 (calls.ReleaseMutex thread handle) refl (handle_short (codes "unlock") thread handle [] (word (codes "unlock") (omega arith) refl) fits.0 fits.1 tt) (omega arith) none)
+fails s (calls.ReleaseMutex thread handle) reply fits none =
+    absurd (have_line 260 (calls.ReleaseMutex thread handle) refl
+    (handle_short (codes "unlock") thread handle [] (word (codes "unlock") (omega arith) refl) fits.0 fits.1 tt)
+    (omega arith) none)
 fails s (calls.SetTimer thread handle due) reply fits none =
     absurd (have_line 260 (calls.SetTimer thread handle due) refl
-    (handle_short (codes "settimer") thread handle (signed_decimal due ∷ []) (word (codes "settimer") (omega arith) refl) fits.0 fits.1 (signed_short 260 wide 9223372036854775808 due (omega arith) fits.2, tt))
+    (handle_short (codes "settimer") thread handle (signed_decimal due ∷ [])
+    (word (codes "settimer") (omega arith) refl) fits.0 fits.1
+    (signed_short 260 wide 9223372036854775808 due (omega arith) fits.2, tt))
     (omega arith) none)
-fails s (calls.CancelTimer thread handle) reply fits none = absurd (have_line 260 (calls.CancelTimer thread handle) refl (handle_short (codes "cancel") thread handle [] (word (codes "cancel") (omega arith) refl) fits.0 fits.1 tt) (omega arith) none)
+fails s (calls.CancelTimer thread handle) reply fits none =
+    absurd (have_line 260 (calls.CancelTimer thread handle) refl
+    (handle_short (codes "cancel") thread handle [] (word (codes "cancel") (omega arith) refl) fits.0 fits.1 tt)
+    (omega arith) none)
 fails s (calls.Tick now) reply fits none = tick_fails s now none
-fails s (calls.WaitFor thread mode timeout handles) reply fits none = wait_fails s thread mode timeout handles fits.0 fits.1 fits.2 none
-fails s (calls.WaitResult number) reply fits none = absurd (have_line 260 (calls.WaitResult number) refl (lone_short (codes "result") 119 number (word (codes "result") (omega arith) refl) refl fits) (omega arith) none)
-fails s (calls.Expire number) reply fits none = absurd (have_line 260 (calls.Expire number) refl (lone_short (codes "expire") 119 number (word (codes "expire") (omega arith) refl) refl fits) (omega arith) none)
-fails s (calls.EndThread thread) reply fits none = absurd (have_line 260 (calls.EndThread thread) refl (lone_short (codes "endthread") 116 thread (word (codes "endthread") (omega arith) refl) refl fits) (omega arith) none)
-fails s (calls.Exit process) reply fits none = absurd (have_line 260 (calls.Exit process) refl (lone_short (codes "exit") 112 process (word (codes "exit") (omega arith) refl) refl fits) (omega arith) none)
-fails s (calls.Reap slot) reply fits none = absurd (have_line 260 (calls.Reap slot) refl (lone_short (codes "reap") 115 slot (word (codes "reap") (omega arith) refl) refl fits) (omega arith) none)
+fails s (calls.WaitFor thread mode timeout handles) reply fits none =
+    wait_fails s thread mode timeout handles fits.0 fits.1 fits.2 none
+fails s (calls.WaitResult number) reply fits none =
+    absurd (have_line 260 (calls.WaitResult number) refl
+    (lone_short (codes "result") 119 number (word (codes "result") (omega arith) refl) refl fits) (omega arith) none)
+fails s (calls.Expire number) reply fits none = absurd
+    (have_line 260 (calls.Expire number) refl (lone_short (codes "expire") 119 number
+    (word (codes "expire") (omega arith) refl) refl fits) (omega arith) none)
+fails s (calls.EndThread thread) reply fits none =
+    absurd (have_line 260 (calls.EndThread thread) refl
+    (lone_short (codes "endthread") 116 thread (word (codes "endthread") (omega arith) refl) refl fits)
+    (omega arith) none)
+fails s (calls.Exit process) reply fits none = absurd
+    (have_line 260 (calls.Exit process) refl (lone_short (codes "exit") 112 process
+    (word (codes "exit") (omega arith) refl) refl fits) (omega arith) none)
+fails s (calls.Reap slot) reply fits none = absurd
+    (have_line 260 (calls.Reap slot) refl (lone_short (codes "reap") 115 slot
+    (word (codes "reap") (omega arith) refl) refl fits) (omega arith) none)
 fails s (calls.Counts id) reply fits none =
     absurd (have_line 42 (calls.Counts id) refl
-    (known_short 42 (omega arith) (codes "count") (omega arith) refl, (id_short 21 (omega arith) id fits.0 fits.1, tt)) (omega arith) none)
+    (known_short 42 (omega arith) (codes "count") (omega arith) refl, (id_short 21 (omega arith) id fits.0 fits.1, tt))
+    (omega arith) none)
 
 -- what refuses leaves all as it was
-refused_of : (w v : Whole) (reply : Reply) (r : Result Outcome Fault) → is_ok r ≡ false → final w.state r ≡ record { reply = reply; state = v.state } → Keeps reply v.state w.keeper v.keeper
+refused_of : (w v : Whole) (reply : Reply) (r : Result Outcome Fault) → is_ok r ≡ false
+    → final w.state r ≡ record { reply = reply; state = v.state } → Keeps reply v.state w.keeper v.keeper
     → (v ≡ w) × (fault : Fault) × (reply ≡ Refused fault)
 refused_of w v reply (Ok outcome) bad is keeps = absurd (true≢false bad)
 refused_of w v reply (Err e) bad is keeps =
     let said : Refused e ≡ reply = ap (λ (o : Outcome). o.reply) is in
-    let kept : v.keeper ≡ w.keeper = subst (λ (r : Reply). Keeps r v.state w.keeper v.keeper) (sym said) keeps in
-    (ap (λ (s : State). record { state = s; keeper = v.keeper }) (sym (ap (λ (o : Outcome). o.state) is)) ∙ ap (λ k. record { state = w.state; keeper = k }) kept, e, sym said)
+    let kept : v.keeper ≡ w.keeper = subst (λ (r : Reply). Keeps r v.state w.keeper v.keeper) (sym said) keeps in (
+      ap (λ (s : State). record { state = s; keeper = v.keeper }) (sym (ap (λ (o : Outcome). o.state) is))
+          ∙ ap (λ k. record { state = w.state; keeper = k }) kept,
+      e,
+      sym said,
+    )
 
-pub lineless_is_refused : (w v : Whole) (call : Call) (reply : Reply) → Fits call → line_of call ≡ None → Step w call reply v → (v ≡ w) × (fault : Fault) × (reply ≡ Refused fault)
-lineless_is_refused w v call reply fits none (does is keeps) = refused_of w v reply (outcome_of w.state call reply) (fails w.state call reply fits none) is keeps
-lineless_is_refused w v call reply fits none (closes_source is gives only) = absurd (true≢false (sym (ap is_ok gives) ∙ fails w.state call reply fits none))
-lineless_is_refused w v call reply fits none (lacks takes ok is same) = absurd (true≢false (sym ok ∙ fails w.state call reply fits none))
+pub lineless_is_refused : (w v : Whole) (call : Call) (reply : Reply) → Fits call → line_of call ≡ None
+    → Step w call reply v → (v ≡ w) × (fault : Fault) × (reply ≡ Refused fault)
+lineless_is_refused w v call reply fits none (does is keeps) =
+    refused_of w v reply (outcome_of w.state call reply) (fails w.state call reply fits none) is keeps
+lineless_is_refused w v call reply fits none (closes_source is gives only) =
+    absurd (true≢false (sym (ap is_ok gives) ∙ fails w.state call reply fits none))
+lineless_is_refused w v call reply fits none (lacks takes ok is same) =
+    absurd (true≢false (sym ok ∙ fails w.state call reply fits none))

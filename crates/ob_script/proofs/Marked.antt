@@ -15,17 +15,21 @@ use Rattle.ob_script.specs.Marks.{Marks}
 
 -- a bit for each lane
 pub marks_compared : (byte : ℕ) (bytes : List ℕ) → length bytes ≡ 32
-    → Marks (is_byte byte) bytes 32 (mask_l (map (top 7) (zip2 (λ a b. cond (eqb a b) 255 0) bytes (replicate 32 byte))) % 2 ^ 64)
+    → Marks (is_byte byte) bytes 32 (mask_l (map (top 7) (zip2 (λ a b. cond (eqb a b) 255 0) bytes (replicate 32 byte)))
+    % 2 ^ 64)
 marks_compared byte bytes long =
     subst (Marks (is_byte byte) bytes 32) (sym (bitmask_splat w8 eqb bytes 32 byte long (omega arith))) (record {
-      each = λ k within. bit_mask_l (map (is_byte byte) bytes) k ∙ ap (λ b. cond b 1 0) (get_or-map (is_byte byte) bytes k 0 false (omega (arith, long, within)));
-      within = λ k set. ⊎_elim (λ within. within) (λ past. absurd (omega (arith, set, clear_past k past))) (cases_lt k 32);
+      each = λ k within. bit_mask_l (map (is_byte byte) bytes) k
+          ∙ ap (λ b. cond b 1 0) (get_or-map (is_byte byte) bytes k 0 false (omega (arith, long, within)));
+      within = λ k set. ⊎_elim (λ within. within) (λ past. absurd (omega (arith, set, clear_past k past)))
+          (cases_lt k 32);
     })
   where
     clear_past : (k : ℕ) → 32 ≤ k → bit_at (mask_l (map (is_byte byte) bytes)) k ≡ 0
     clear_past k past =
         bit_mask_l (map (is_byte byte) bytes) k
-        ∙ ap (λ b. cond b 1 0) (get_or_past (map (is_byte byte) bytes) k false (omega (arith, long, past, length-map bytes (is_byte byte))))
+        ∙ ap (λ b. cond b 1 0) (get_or_past (map (is_byte byte) bytes) k false
+        (omega (arith, long, past, length-map bytes (is_byte byte))))
 
 set_tells : (b : Bool) → cond {A = ℕ} b 1 0 ≡ 1 → b ≡ true
 set_tells true is = refl
@@ -39,16 +43,21 @@ module _ (text : List ℕ) (long : 32 ≤ length text) where
   from_front : (k : ℕ) → k < 32 → get_or (chunk 0 32 text) k 0 ≡ get_or text k 0
   from_front k within = get_or-chunk 0 32 text k 0 within ∙ ap (λ n. get_or text n 0) (omega arith)
 
-  set_is : (byte marks k : ℕ) → Marks (is_byte byte) (chunk 0 32 text) 32 marks → bit_at marks k ≡ 1 → is_byte byte (get_or text k 0) ≡ true
+  set_is : (byte marks k : ℕ) → Marks (is_byte byte) (chunk 0 32 text) 32 marks → bit_at marks k ≡ 1
+      → is_byte byte (get_or text k 0) ≡ true
   set_is byte marks k are set =
-      subst (λ (b : ℕ). is_byte byte b ≡ true) (from_front k (are.within k set)) (set_tells _ (sym (are.each k (are.within k set)) ∙ set))
+      subst (λ (b : ℕ). is_byte byte b ≡ true) (from_front k (are.within k set))
+      (set_tells _ (sym (are.each k (are.within k set)) ∙ set))
 
-  clear_is : (byte marks k : ℕ) → Marks (is_byte byte) (chunk 0 32 text) 32 marks → k < 32 → bit_at marks k ≡ 0 → is_byte byte (get_or text k 0) ≡ false
+  clear_is : (byte marks k : ℕ) → Marks (is_byte byte) (chunk 0 32 text) 32 marks → k < 32 → bit_at marks k ≡ 0
+      → is_byte byte (get_or text k 0) ≡ false
   clear_is byte marks k are within clear =
       subst (λ (b : ℕ). is_byte byte b ≡ false) (from_front k within) (clear_tells _ (sym (are.each k within) ∙ clear))
 
-  module _ (feeds : ℕ) (fits : feeds < 2 ^ 64) (some : 0 < feeds) (are_feeds : Marks (is_byte 10) (chunk 0 32 text) 32 feeds) where
-    lowest : (trailing_zeros w64 feeds < 64) × (bit_at feeds (trailing_zeros w64 feeds) ≡ 1) × ((k : ℕ) → k < trailing_zeros w64 feeds → bit_at feeds k ≡ 0)
+  module _ (feeds : ℕ) (fits : feeds < 2 ^ 64) (some : 0 < feeds)
+      (are_feeds : Marks (is_byte 10) (chunk 0 32 text) 32 feeds) where
+    lowest : (trailing_zeros w64 feeds < 64) × (bit_at feeds (trailing_zeros w64 feeds) ≡ 1)
+        × ((k : ℕ) → k < trailing_zeros w64 feeds → bit_at feeds k ≡ 0)
     lowest = bit_at-trailing_zeros w64 feeds some fits
 
     near : trailing_zeros w64 feeds < 32
@@ -60,24 +69,30 @@ module _ (text : List ℕ) (long : 32 ≤ length text) where
     -- the lowest bit is the first line feed
     pub line_ends : position_or_len (is_byte 10) text ≡ trailing_zeros w64 feeds
     line_ends =
-        position_or_len_is (is_byte 10) text (trailing_zeros w64 feeds) 0 (omega (arith, line_within)) (λ k before. clear_is 10 feeds k are_feeds (omega (arith, before, near)) (lowest.2 k before))
+        position_or_len_is (is_byte 10) text (trailing_zeros w64 feeds) 0 (omega (arith, line_within))
+        (λ k before. clear_is 10 feeds k are_feeds (omega (arith, before, near)) (lowest.2 k before))
         (λ _. set_is 10 feeds (trailing_zeros w64 feeds) are_feeds lowest.1)
 
-    module _ (blanks : ℕ) (blanks_fit : blanks < 2 ^ 64) (are_blanks : Marks (is_byte 32) (chunk 0 32 text) 32 blanks) where
+    module _ (blanks : ℕ) (blanks_fit : blanks < 2 ^ 64)
+        (are_blanks : Marks (is_byte 32) (chunk 0 32 text) 32 blanks) where
       -- the lowest bit of both is the first blank of the line, or its end
-      pub word_ends : position_or_len (is_byte 32) (take (trailing_zeros w64 feeds) text) ≡ trailing_zeros w64 (bit_or blanks feeds)
+      pub word_ends : position_or_len (is_byte 32) (take (trailing_zeros w64 feeds) text)
+          ≡ trailing_zeros w64 (bit_or blanks feeds)
       word_ends =
           let end = trailing_zeros w64 feeds in
           let word = trailing_zeros w64 (bit_or blanks feeds) in
           let both = bit_at_or blanks feeds in
           let set_end : 1 ≤ bit_at (bit_or blanks feeds) end = omega (arith, both end, lowest.1) in
-          let first = bit_at-trailing_zeros w64 (bit_or blanks feeds) (omega (arith, some, or_ge_right blanks feeds)) (or_lt 64 blanks feeds blanks_fit fits) in
-          let no_later : word ≤ end = ⊎_elim (λ later. absurd (omega (arith, first.2 end later, set_end))) (λ le. le) (cases_lt end word) in
+          let first = bit_at-trailing_zeros w64 (bit_or blanks feeds) (omega (arith, some, or_ge_right blanks feeds))
+          (or_lt 64 blanks feeds blanks_fit fits) in
+          let no_later : word ≤ end = ⊎_elim (λ later. absurd (omega (arith, first.2 end later, set_end))) (λ le. le)
+          (cases_lt end word) in
           let len : length (take end text) ≡ end = length-take-le end text (omega (arith, near, long)) in
           position_or_len_is (is_byte 32) (take end text) word 0 (omega (arith, len, no_later))
           (λ k before.
           ap (is_byte 32) (get_or-take end text k 0 (omega (arith, before, no_later)))
-          ∙ clear_is 32 blanks k are_blanks (omega (arith, before, no_later, near)) (omega (arith, both k, first.2 k before)))
+          ∙ clear_is 32 blanks k are_blanks (omega (arith, before, no_later, near))
+          (omega (arith, both k, first.2 k before)))
           (λ within.
           let before : word < end = omega (arith, len, within) in
           ap (is_byte 32) (get_or-take end text word 0 before)

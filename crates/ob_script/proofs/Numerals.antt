@@ -104,11 +104,16 @@ either false xs ys most p q = q
 hex_length : (k j n : ℕ) (acc : List ℕ) → n < 16 ^ suc j → length (digits_onto k 16 false n acc) ≤ suc j + length acc
 hex_length zero j n acc fits = omega arith
 hex_length (suc k) zero n acc fits =
-    subst (λ b. length (cond b (digit_glyph false (n % 16) ∷ acc) (digits_onto k 16 false (n / 16) (digit_glyph false (n % 16) ∷ acc))) ≤ 1 + length acc)
+    subst (λ b. length (cond b (digit_glyph false (n % 16) ∷ acc)
+    (digits_onto k 16 false (n / 16) (digit_glyph false (n % 16) ∷ acc))) ≤ 1 + length acc)
     (sym (eq-eqb (n / 16) 0 (omega (arith, fits)))) (omega arith)
 hex_length (suc k) (suc i) n acc fits =
     either (eqb (n / 16) 0) _ _ (suc (suc i) + length acc) (omega arith)
-    (omega (arith, hex_length k i (n / 16) (digit_glyph false (n % 16) ∷ acc) (omega (arith, fits, pow-suc 16 (suc i)))))
+    (omega (
+      arith,
+      hex_length k i (n / 16) (digit_glyph false (n % 16) ∷ acc)
+          (omega (arith, fits, pow-suc 16 (suc i))),
+    ))
 
 pub hex_few : (n : ℕ) → n ≤ 4294967295 → length (digits 16 false n) ≤ 8
 unfolding digits

@@ -42,26 +42,36 @@ joined_within most [] are = refl
 joined_within most (word ∷ []) are = are.0.within
 joined_within most (word ∷ next ∷ words) are =
     list_all-append no_feed word (32 ∷ joined (next ∷ words))
-    ∙ both (list_all no_feed word) (list_all no_feed (joined (next ∷ words))) are.0.within (joined_within most (next ∷ words) are.1)
+    ∙ both (list_all no_feed word) (list_all no_feed (joined (next ∷ words))) are.0.within
+    (joined_within most (next ∷ words) are.1)
 
-joined_len : (most : ℕ) (words : List (List ℕ)) → AreShort most words → length (joined words) ≤ (most + 1) * length words
+joined_len : (most : ℕ) (words : List (List ℕ)) → AreShort most words
+    → length (joined words) ≤ (most + 1) * length words
 joined_len most [] are = omega arith
 joined_len most (word ∷ []) are = omega (arith, are.0.len)
 joined_len most (word ∷ next ∷ words) are =
-    omega (arith, length-append word (32 ∷ joined (next ∷ words)), are.0.len, joined_len most (next ∷ words) are.1, more (length (next ∷ words)))
+    omega (
+      arith,
+      length-append word (32 ∷ joined (next ∷ words)),
+      are.0.len,
+      joined_len most (next ∷ words) are.1,
+      more (length (next ∷ words)),
+    )
   where
     more : (n : ℕ) → (most + 1) * suc n ≡ (most + 1) + (most + 1) * n
     more n = search (arith)
 
 -- few short words are a line
-pub have_line : (most : ℕ) (call : Call) → can_be_said call ≡ true → AreShort most (words_for call) → (most + 1) * length (words_for call) ≤ 4096
+pub have_line : (most : ℕ) (call : Call) → can_be_said call ≡ true → AreShort most (words_for call)
+    → (most + 1) * length (words_for call) ≤ 4096
     → line_of call ≡ None → ⊥
 have_line most call can are few none = by (can_be_said call) (is_line (text_for call)) can is none
   where
     is : is_line (text_for call) ≡ true
     is =
         let short = joined_len most (words_for call) are in
-        both (not (nat_lt 4096 (length (text_for call)))) (list_all no_feed (text_for call)) (grind (arith, nat_tests)) (joined_within most (words_for call) are)
+        both (not (nat_lt 4096 (length (text_for call)))) (list_all no_feed (text_for call)) (grind (arith, nat_tests))
+        (joined_within most (words_for call) are)
 
     by : (a b : Bool) → a ≡ true → b ≡ true → (if a && b then Some (ended (text_for call)) else None) ≡ None → ⊥
     by true true can is none = cc
@@ -74,13 +84,15 @@ no_digit c small = grind (arith, nat_tests)
 
 digits_within : (base : ℕ) → base ≤ 16 → (ds : List ℕ) → AllDigits base ds → list_all no_feed ds ≡ true
 digits_within base high [] all = refl
-digits_within base high (c ∷ cs) all = both (no_feed c) (list_all no_feed cs) (no_digit c (omega (arith, high, all.0))) (digits_within base high cs all.1)
+digits_within base high (c ∷ cs) all = both (no_feed c) (list_all no_feed cs) (no_digit c (omega (arith, high, all.0)))
+    (digits_within base high cs all.1)
 
 module _ (most : ℕ) (room : 21 ≤ most) where
   pub number_short : (n : ℕ) → n < 2 ^ 64 → IsShort most (decimal n)
   number_short n small = record {
     len = omega (arith, room, length-decimal-le 20 n (omega arith) (omega arith) small);
-    within = digits_within 10 (omega arith) (decimal n) (digits_is_IsNumeral 10 false (omega arith) (omega arith) n (omega arith)).0.1;
+    within = digits_within 10 (omega arith) (decimal n)
+        (digits_is_IsNumeral 10 false (omega arith) (omega arith) n (omega arith)).0.1;
   }
 
   pub label_short : (letter n : ℕ) → no_feed letter ≡ true → n ≤ 4294967295 → IsShort most (label letter n)
@@ -96,10 +108,12 @@ module _ (most : ℕ) (room : 21 ≤ most) where
         len = omega (arith, length-append (label 115 id.slot) (label 46 id.generation), slot.len, generation.len);
         within =
             list_all-append no_feed (label 115 id.slot) (label 46 id.generation)
-            ∙ both (list_all no_feed (label 115 id.slot)) (list_all no_feed (label 46 id.generation)) slot.within generation.within;
+            ∙ both (list_all no_feed (label 115 id.slot))
+            (list_all no_feed (label 46 id.generation)) slot.within generation.within;
       }
 
-  pub signed_short : (limit : ℕ) (z : ℤ) → limit ≤ 9223372036854775808 → FitsSign limit z → IsShort most (signed_decimal z)
+  pub signed_short : (limit : ℕ) (z : ℤ) → limit ≤ 9223372036854775808 → FitsSign limit z
+      → IsShort most (signed_decimal z)
   signed_short limit (pos n) low fits = number_short n (omega (arith, fits))
   signed_short limit (negsuc n) low fits = record {
     len = omega (arith, room, length-decimal-le 20 (suc n) (omega arith) (omega (arith, fits)) (omega (arith, fits)));
@@ -109,14 +123,16 @@ module _ (most : ℕ) (room : 21 ≤ most) where
   pub mask_short : (mask : Rights) → mask.0 ≤ 4294967295 → IsShort most (mask_word mask)
   mask_short mask fits = record {
     len = omega (arith, room, hex_few mask.0 fits);
-    within = digits_within 16 (omega arith) (digits 16 false mask.0) (digits_is_IsNumeral 16 false (omega arith) (omega arith) mask.0 (omega arith)).0.1;
+    within = digits_within 16 (omega arith) (digits 16 false mask.0)
+        (digits_is_IsNumeral 16 false (omega arith) (omega arith) mask.0 (omega arith)).0.1;
   }
 
   -- a keyword
   pub known_short : (word : List ℕ) → length word ≤ 21 → list_all no_feed word ≡ true → IsShort most word
   known_short word len within = record { len = omega (arith, room, len); within = within }
 
-  pub either_short : (first second : List ℕ) (is_so : Bool) → IsShort most first → IsShort most second → IsShort most (either_word first second is_so)
+  pub either_short : (first second : List ℕ) (is_so : Bool) → IsShort most first → IsShort most second
+      → IsShort most (either_word first second is_so)
   either_short first second true first_is second_is = second_is
   either_short first second false first_is second_is = first_is
 
@@ -139,7 +155,8 @@ module _ (most : ℕ) (room : 21 ≤ most) where
   target_short None fits = known_short (codes "-") (omega arith) refl
   target_short (Some process) fits = label_short 112 process refl fits
 
-  pub access_short : (same : Bool) (mask : Rights) → mask.0 ≤ 4294967295 → IsShort most (if same then codes "same" else mask_word mask)
+  pub access_short : (same : Bool) (mask : Rights) → mask.0 ≤ 4294967295
+      → IsShort most (if same then codes "same" else mask_word mask)
   access_short true mask fits = known_short (codes "same") (omega arith) refl
   access_short false mask fits = mask_short mask fits
 
@@ -147,7 +164,8 @@ module _ (most : ℕ) (room : 21 ≤ most) where
   handles_short [] fit = tt
   handles_short (handle ∷ handles) fit = (label_short 104 handle refl fit.0, handles_short handles fit.1)
 
-  pub append_short : (front back : List (List ℕ)) → AreShort most front → AreShort most back → AreShort most (front ++ back)
+  pub append_short : (front back : List (List ℕ)) → AreShort most front → AreShort most back
+      → AreShort most (front ++ back)
   append_short [] back front_are back_are = back_are
   append_short (word ∷ front) back front_are back_are = (front_are.0, append_short front back front_are.1 back_are)
 
@@ -155,7 +173,8 @@ module _ (most : ℕ) (room : 21 ≤ most) where
   if_short true word is = (is, tt)
   if_short false word is = tt
 
-  pub masks_short : (keyword : List ℕ) (mask : Option Rights) → IsShort most keyword → FitsMask mask → AreShort most (mask_words keyword mask)
+  pub masks_short : (keyword : List ℕ) (mask : Option Rights) → IsShort most keyword → FitsMask mask
+      → AreShort most (mask_words keyword mask)
   masks_short keyword None is fits = tt
   masks_short keyword (Some mask) is fits = (is, (mask_short mask fits, tt))
 

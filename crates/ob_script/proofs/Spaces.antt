@@ -44,13 +44,16 @@ abbrev pub read_words : List (List ℕ) → List (List ℕ)
 read_words [] = []
 read_words (word ∷ words) = words_of (joined (word ∷ words))
 
-pub reads_next : (word : List ℕ) (words : List (List ℕ)) → is_word word ≡ true → read_words (word ∷ words) ≡ word ∷ read_words words
+pub reads_next : (word : List ℕ) (words : List (List ℕ)) → is_word word ≡ true
+    → read_words (word ∷ words) ≡ word ∷ read_words words
 reads_next word [] is = slice_split_none (is_byte 32) word (no_spaces word is)
 reads_next word (next ∷ words) is = slice_split_at (is_byte 32) word 32 (joined (next ∷ words)) (no_spaces word is) refl
 
-pub reads_front : (front words : List (List ℕ)) → AreWords front → read_words (front ++ words) ≡ front ++ read_words words
+pub reads_front : (front words : List (List ℕ)) → AreWords front
+    → read_words (front ++ words) ≡ front ++ read_words words
 reads_front [] words are = refl
-reads_front (word ∷ front) words are = reads_next word (front ++ words) are.0 ∙ ap (λ rest. word ∷ rest) (reads_front front words are.1)
+reads_front (word ∷ front) words are = reads_next word (front ++ words) are.0
+    ∙ ap (λ rest. word ∷ rest) (reads_front front words are.1)
 
 pub reads_all : (words : List (List ℕ)) → AreWords words → read_words words ≡ words
 reads_all [] are = refl
@@ -62,13 +65,16 @@ no_digit c small = grind (arith, nat_tests)
 
 digits_word : (base : ℕ) → base ≤ 16 → (ds : List ℕ) → AllDigits base ds → is_word ds ≡ true
 digits_word base high [] all = refl
-digits_word base high (c ∷ cs) all = both (not (c == 32)) (is_word cs) (no_digit c (omega (arith, high, all.0))) (digits_word base high cs all.1)
+digits_word base high (c ∷ cs) all = both (not (c == 32)) (is_word cs) (no_digit c (omega (arith, high, all.0)))
+    (digits_word base high cs all.1)
 
 pub hex_word : (n : ℕ) → n < 2 ^ 64 → is_word (digits 16 false n) ≡ true
-hex_word n small = digits_word 16 (omega arith) (digits 16 false n) (digits_is_IsNumeral 16 false (omega arith) (omega arith) n (omega arith)).0.1
+hex_word n small = digits_word 16 (omega arith) (digits 16 false n)
+    (digits_is_IsNumeral 16 false (omega arith) (omega arith) n (omega arith)).0.1
 
 pub decimal_word : (n : ℕ) → n < 2 ^ 64 → is_word (decimal n) ≡ true
-decimal_word n small = digits_word 10 (omega arith) (decimal n) (digits_is_IsNumeral 10 false (omega arith) (omega arith) n (omega arith)).0.1
+decimal_word n small = digits_word 10 (omega arith) (decimal n)
+    (digits_is_IsNumeral 10 false (omega arith) (omega arith) n (omega arith)).0.1
 
 pub label_word : (letter n : ℕ) → not (letter == 32) ≡ true → n < 2 ^ 64 → is_word (letter ∷ decimal n) ≡ true
 label_word letter n is small = both (not (letter == 32)) (is_word (decimal n)) is (decimal_word n small)
@@ -85,5 +91,6 @@ said_joined [] = refl
 said_joined (word ∷ []) = append-nil word
 said_joined (word ∷ next ∷ words) = ap (λ rest. word ++ 32 ∷ rest) (said_joined (next ∷ words))
 
-pub spaces_of_handles : (handles : List ℕ) → flat_map (λ handle. 32 ∷ label 104 handle) handles ≡ behind_spaces (map (label 104) handles)
+pub spaces_of_handles : (handles : List ℕ) → flat_map (λ handle. 32 ∷ label 104 handle) handles
+    ≡ behind_spaces (map (label 104) handles)
 spaces_of_handles handles = sym (flat_map-map (λ word. 32 ∷ word) (label 104) handles)

@@ -10,7 +10,8 @@ use Rattle.ob_script.specs.Held.{capped, more_held, act_of_held}
 -- a text is at most one byte shorter than its line
 text_of-long : (line : List ℕ) → length line ≤ length (text_of line) + 1
 text_of-long line =
-    elim (eqb (get_or line (length line - 1) 0) 13) as (λ test. length line ≤ length (cond test (take (length line - 1) line) line) + 1)
+    elim (eqb (get_or line (length line - 1) 0) 13) as
+    (λ test. length line ≤ length (cond test (take (length line - 1) line) line) + 1)
     [ true ↦ grind (arith, length-take (length line - 1) line) | false ↦ omega arith ]
 
 long_is_bad : (line : List ℕ) → 4097 < length line → act_of line ≡ Bad
@@ -35,6 +36,7 @@ act_of_capped line = elim (cases_lt 4097 (length line)) [
 -- and to go on
 pub more_capped : (text part : List ℕ) → more_held (capped text) part ≡ capped (text ++ part)
 more_capped text part = elim (cases_lt 4097 (length text)) [
-  | inl long ↦ ap (λ held. more_held held part) (capped_long text long) ∙ sym (capped_long (text ++ part) (omega (arith, length-append text part)))
+  | inl long ↦ ap (λ held. more_held held part) (capped_long text long)
+      ∙ sym (capped_long (text ++ part) (omega (arith, length-append text part)))
   | inr short ↦ ap (λ held. more_held held part) (capped_short text short)
 ]

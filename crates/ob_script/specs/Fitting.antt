@@ -48,10 +48,12 @@ Fits (calls.Child thread inherit) = Small thread
 Fits (calls.StartThread process) = Small process
 Fits (calls.MakeEvent thread make manual set) = Small thread × FitsMake make
 Fits (calls.MakeMutex thread make owned) = Small thread × FitsMake make
-Fits (calls.MakeSemaphore thread make initial max) = Small thread × FitsMake make × FitsSign 2147483648 initial × FitsSign 2147483648 max
+Fits (calls.MakeSemaphore thread make initial max) = Small thread × FitsMake make × FitsSign 2147483648 initial
+    × FitsSign 2147483648 max
 Fits (calls.MakeTimer thread make manual) = Small thread × FitsMake make
 Fits (calls.OpenNamed thread kind mask inherit text) = Small thread × Small mask.0
-Fits (calls.Duplicate thread source handle target mask inherit options) = Small thread × Small source × Small handle × FitsTarget target × Small mask.0
+Fits (calls.Duplicate thread source handle target mask inherit options) = Small thread × Small source × Small handle
+    × FitsTarget target × Small mask.0
 Fits (calls.CloseHandle thread handle) = Small thread × Small handle
 Fits (calls.GetFlags thread handle) = Small thread × Small handle
 Fits (calls.SetFlags thread handle mask flags) = Small thread × Small handle × Small mask × Small flags

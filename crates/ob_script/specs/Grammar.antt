@@ -267,7 +267,8 @@ dup_of (thread ∷ source ∷ handle ∷ target ∷ access ∷ words) = do
 
 -- `any` or `all`
 abbrev pub mode_of : List ℕ → Option Mode
-mode_of word = if bytes_eq word (codes "any") then Some Any else (if bytes_eq word (codes "all") then Some All else None)
+mode_of word = if bytes_eq word (codes "any") then Some Any else
+    (if bytes_eq word (codes "all") then Some All else None)
 
 -- `inf`, or milliseconds
 abbrev pub timeout_of : List ℕ → Option Timeout

@@ -3,7 +3,8 @@ use Rattle.std.specs.Prelude.{ℕ, nat_le, Bool, true, false, List, ◌++◌, Op
 use Rattle.ob_script.specs.Acts.{Act, Bad}
 use Rattle.ob_script.specs.Grammar.{act_of}
 
--- what is kept of a text: all of it, unless it has more bytes than a line that is none too long with its carriage return
+-- what is kept of a text: all of it, unless it has more bytes than a line that is none too long with its carriage
+-- return
 abbrev pub capped : List ℕ → Option (List ℕ)
 capped text = if nat_le (length text) 4097 then Some text else None
 

@@ -38,7 +38,8 @@ value_of digits = value_after 0 digits
 -- a number: 1 to 10 decimal digits, leading zeros allowed, at most 4,294,967,295
 abbrev pub number_of : List ℕ → Option ℕ
 number_of word =
-    if nat_le 1 (length word) && nat_le (length word) 10 && list_all is_ascii_digit word && nat_le (value_of word) 4294967295
+    if nat_le 1 (length word) && nat_le (length word) 10 && list_all is_ascii_digit word
+    && nat_le (value_of word) 4294967295
     then Some (value_of word) else None
 
 -- a number behind a letter
@@ -61,7 +62,8 @@ id_of word = do
 
 -- one of two keywords: false for the first, true for the second
 abbrev pub either_of : List ℕ → List ℕ → List ℕ → Option Bool
-either_of first second word = if bytes_eq word first then Some false else (if bytes_eq word second then Some true else None)
+either_of first second word = if bytes_eq word first then Some false else
+    (if bytes_eq word second then Some true else None)
 
 -- one of the kinds of objects
 abbrev pub kind_of : List ℕ → Option Kind
@@ -86,7 +88,8 @@ signed_of (first ∷ rest) = if first == 45 then number_of rest >>= negated else
 
 -- a number of 1 to 19 decimal digits, leading zeros allowed
 abbrev pub long_of : List ℕ → Option ℕ
-long_of word = if nat_le 1 (length word) && nat_le (length word) 19 && list_all is_ascii_digit word then Some (value_of word) else None
+long_of word = if nat_le 1 (length word) && nat_le (length word) 19
+    && list_all is_ascii_digit word then Some (value_of word) else None
 
 -- the same that isn't above the greatest of 64 bits with a sign, and the negative of one that isn't below the least
 abbrev pub unless_late : ℕ → Option ℕ
@@ -114,7 +117,8 @@ hex_after value (digit ∷ digits) = hex_after (value * 16 + digit_value digit) 
 
 -- 1 to 8 hexadecimal digits of either case
 abbrev pub hex_of : List ℕ → Option Rights
-hex_of digits = if nat_le 1 (length digits) && nat_le (length digits) 8 && list_all is_ascii_hexdigit digits then Some (record { 0 = hex_after 0 digits }) else None
+hex_of digits = if nat_le 1 (length digits) && nat_le (length digits) 8
+    && list_all is_ascii_hexdigit digits then Some (record { 0 = hex_after 0 digits }) else None
 
 -- a mask: `0x`, and its hexadecimal digits
 abbrev pub mask_of : List ℕ → Option Rights

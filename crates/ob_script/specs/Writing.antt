@@ -153,14 +153,19 @@ can_be_said call = true
 abbrev pub is_line : List ℕ → Bool
 is_line text = not (nat_lt 4096 (length text)) && list_all (λ byte. not (byte == 10)) text
 
--- The line that asks for a call, where there is one: not for a name with a line feed, nor for what takes too long a line.
+-- The line that asks for a call, where there is one: not for a name with a line feed, nor for what takes too long a
+-- line.
 abbrev pub line_of : Call → Option (List ℕ)
 line_of call = if can_be_said call && is_line (text_for call) then Some (ended (text_for call)) else None
 
--- The call as a line asks for it. It is answered alike: a duplicate with the rights of its source has no use for a mask,
+-- The call as a line asks for it. It is answered alike: a duplicate with the rights of its source has no use for a
+-- mask,
 -- and a wait of no time is one of 0 milliseconds.
 abbrev pub as_said : Call → Call
 as_said (calls.Duplicate thread source handle target mask inherit options) =
-    calls.Duplicate thread source handle target (if keeps_rights options then record { 0 = 0 } else mask) inherit options
+    calls.Duplicate thread source handle target (if keeps_rights options then record {
+      0 =
+          0;
+    } else mask) inherit options
 as_said (calls.WaitFor thread mode Zero handles) = calls.WaitFor thread mode (Millis 0) handles
 as_said call = call

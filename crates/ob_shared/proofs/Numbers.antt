@@ -17,13 +17,16 @@ none_or a b first second = rw (first, second) refl
 differ : (m n : ℕ) → (m == n) ≡ false → (n == m) ≡ false
 differ m n no_match = grind (arith, nat_tests)
 
-apart_more : (xs : List LaneState) (x : LaneState) → has_twice xs ≡ false → list_any (has_number x.number) xs ≡ false → has_twice (xs ++ x ∷ []) ≡ false
+apart_more : (xs : List LaneState) (x : LaneState) → has_twice xs ≡ false → list_any (has_number x.number) xs ≡ false
+    → has_twice (xs ++ x ∷ []) ≡ false
 apart_more [] x apart none = refl
 apart_more (y ∷ xs) x apart none =
     let old = or_none (list_any (has_number y.number) xs) (has_twice xs) apart in
     let other = or_none (y.number == x.number) (list_any (has_number x.number) xs) none in
     none_or (list_any (has_number y.number) (xs ++ x ∷ [])) (has_twice (xs ++ x ∷ []))
-    (rw (list_any-append (has_number y.number) xs (x ∷ [])) (none_or (list_any (has_number y.number) xs) ((x.number == y.number) || false) old.0 (none_or (x.number == y.number) false (differ y.number x.number other.0) refl)))
+    (rw (list_any-append (has_number y.number) xs (x ∷ []))
+    (none_or (list_any (has_number y.number) xs) ((x.number == y.number) || false) old.0
+    (none_or (x.number == y.number) false (differ y.number x.number other.0) refl)))
     (apart_more xs x old.1 other.1)
 
 -- no number is there twice, and none from the least one on
@@ -32,12 +35,14 @@ pub record HaveRisen (lanes : List LaneState) (least : ℕ) : Type 0 where
   pub below : (n : ℕ) → least ≤ n → list_any (has_number n) lanes ≡ false
 
 -- one lane more
-pub risen_more : (xs : List LaneState) (i : ℕ) (x : LaneState) (least next : ℕ) → i < length xs → x ≡ get_or xs i x → least ≤ x.number → next ≡ x.number + 1
+pub risen_more : (xs : List LaneState) (i : ℕ) (x : LaneState) (least next : ℕ) → i < length xs → x ≡ get_or xs i x
+    → least ≤ x.number → next ≡ x.number + 1
     → HaveRisen (take i xs) least → HaveRisen (take (i + 1) xs) next
 risen_more xs i x least next inside at above is old = rw (take_more xs i x inside, ← at) (record {
   apart = apart_more (take i xs) x old.apart (old.below x.number above);
   below = λ n past. rw (list_any-append (has_number n) (take i xs) (x ∷ []))
-      (none_or (list_any (has_number n) (take i xs)) ((x.number == n) || false) (old.below n (omega (arith, above, is, past))) (none_or (x.number == n) false (other n past) refl));
+      (none_or (list_any (has_number n) (take i xs)) ((x.number == n) || false)
+      (old.below n (omega (arith, above, is, past))) (none_or (x.number == n) false (other n past) refl));
 })
   where
     other : (n : ℕ) → next ≤ n → (x.number == n) ≡ false

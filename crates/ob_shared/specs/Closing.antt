@@ -27,7 +27,8 @@ is_entry_missing lanes entry = is_missing lanes entry.lane
 
 -- a number that was given, or one in the journal, that no lane has
 abbrev pub misses : ℕ → List LaneState → List Entry → Bool
-misses given lanes journal = list_any (is_missing lanes) (range_with_len 0 given) || list_any (is_entry_missing lanes) journal
+misses given lanes journal = list_any (is_missing lanes) (range_with_len 0 given)
+    || list_any (is_entry_missing lanes) journal
 
 -- the lane's list is its part of the journal
 abbrev pub IsPart : List Entry → LaneState → Type 0
@@ -57,5 +58,7 @@ pub record AreWhole (given : ℕ) (lanes : List LaneState) (journal : List Entry
 abbrev pub IsCause : ℕ → List LaneState → List Entry → CloseCause → Type 0
 IsCause given lanes journal LaneStranger = list_any (is_stranger given) lanes ≡ true
 IsCause given lanes journal LaneTwice = (list_any (is_stranger given) lanes ≡ false) × (has_twice lanes ≡ true)
-IsCause given lanes journal LaneMissing = (list_any (is_stranger given) lanes ≡ false) × (has_twice lanes ≡ false) × (misses given lanes journal ≡ true)
-IsCause given lanes journal (LanesDiffer number place) = (list_any (is_stranger given) lanes ≡ false) × (has_twice lanes ≡ false) × (misses given lanes journal ≡ false) × FirstDiffers lanes journal number place
+IsCause given lanes journal LaneMissing = (list_any (is_stranger given) lanes ≡ false) × (has_twice lanes ≡ false)
+    × (misses given lanes journal ≡ true)
+IsCause given lanes journal (LanesDiffer number place) = (list_any (is_stranger given) lanes ≡ false)
+    × (has_twice lanes ≡ false) × (misses given lanes journal ≡ false) × FirstDiffers lanes journal number place

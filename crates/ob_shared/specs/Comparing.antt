@@ -9,4 +9,5 @@ AreFrom first lanes = (k : ℕ) (d : LaneState) → k < length lanes → (slice_
 
 -- of the list of each of these lanes so many entries are the lane's in the journal
 abbrev pub HaveRead : ℕ → List LaneState → List Entry → List ℕ → Type 0
-HaveRead first lanes journal read = (k : ℕ) (d : LaneState) → k < length lanes → take (slice_index_or read k 0) (slice_index_or lanes k d).list ≡ part (first + k) journal
+HaveRead first lanes journal read = (k : ℕ) (d : LaneState) → k < length lanes
+    → take (slice_index_or read k 0) (slice_index_or lanes k d).list ≡ part (first + k) journal

@@ -17,7 +17,11 @@ AreOf number (entry ∷ entries) = (entry.lane ≡ number) × AreOf number entri
 
 -- the call and its reply are listed; or memory was wanting, and nothing is
 abbrev pub Lists : LaneState → Call → Reply → LaneState → Type 0
-Lists old call reply new = (new ≡ record { number = old.number; list = old.list ++ record { lane = old.number; call = call; reply = reply } ∷ [] }) ⊎ ((new ≡ old) × (reply ≡ Refused Memory))
+Lists old call reply new = (new ≡ record {
+  number = old.number;
+  list = old.list ++ record { lane = old.number; call = call; reply = reply } ∷ [];
+})
+    ⊎ ((new ≡ old) × (reply ≡ Refused Memory))
 
 -- the entries of one lane, in order
 abbrev pub part : ℕ → List Entry → List Entry

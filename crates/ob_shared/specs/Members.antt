@@ -71,7 +71,8 @@ IsReading s t = (t.lane ≡ s.lane) × (t.waits ≡ s.waits) × (t.reader.table 
 
 -- the answer of one act, with the member before and after
 abbrev pub Answers : Act → Seen → Between → Between → Type 0
-Answers (Ask call) (sees.Reply reply) s t = Lists s.lane call reply t.lane × (t.waits ≡ with_wait (is_wait call) reply s.waits) × (t.reader ≡ s.reader)
+Answers (Ask call) (sees.Reply reply) s t = Lists s.lane call reply t.lane
+    × (t.waits ≡ with_wait (is_wait call) reply s.waits) × (t.reader ≡ s.reader)
 Answers (Pin id) (sees.Pinned answer) s t = Pins s.reader.view id answer t.reader.view × IsReading s t
 Answers (Unpin id) (sees.Unpinned was_held) s t = Unpins s.reader.view id was_held t.reader.view × IsReading s t
 Answers (ShowCard id) (sees.Shown card) s t = Shows s.reader.view id card × (t ≡ s)
@@ -132,11 +133,13 @@ IsReady m = (m.seen.items ≡ []) × (length m.script.items ≤ vec_capacity m.s
 
 -- but for room, the member is as it was
 abbrev pub IsSame : Member → Member → Type 0
-IsSame old new = (new.lane ≡ old.lane) × (new.reader ≡ old.reader) × (new.script ≡ old.script) × (new.seen.items ≡ old.seen.items)
+IsSame old new = (new.lane ≡ old.lane) × (new.reader ≡ old.reader) × (new.script ≡ old.script)
+    × (new.seen.items ≡ old.seen.items)
 
 -- a member without waits was run, where the gate may answer so, and is told of this, in each lane
 pub record IsDriven (may : ℕ → ℕ → Pass → Type 0) (told : ℕ → Tells) (old new : Member) : Type 0 where
   pub waits : List ℕ
   pub script : new.script ≡ old.script
   pub number : new.lane.number ≡ old.lane.number
-  pub run : IsRun (may old.lane.number) (told old.lane.number) old.script.items new.seen.items (between old.lane [] old.reader) (between new.lane waits new.reader)
+  pub run : IsRun (may old.lane.number) (told old.lane.number) old.script.items new.seen.items
+      (between old.lane [] old.reader) (between new.lane waits new.reader)

@@ -27,7 +27,8 @@ published_home : (o : Option Object) (slot : ℕ) (k k' : KeeperState) → Publi
 published_home None slot k k' keeps = absurd keeps
 published_home (Some o) slot k k' keeps = ap home keeps
 
-reclaimed_home : (k : KeeperState) (slot : ℕ) (outcome : Reclaim) (k' : KeeperState) → Reclaims k slot outcome k' → home k' ≡ home k
+reclaimed_home : (k : KeeperState) (slot : ℕ) (outcome : Reclaim) (k' : KeeperState) → Reclaims k slot outcome k'
+    → home k' ≡ home k
 reclaimed_home k slot reclaim.Freed k' keeps = ap home keeps.0
 reclaimed_home k slot reclaim.Retired k' keeps = ap home keeps.0
 reclaimed_home k slot (reclaim.Held pins) k' keeps = ap home keeps.0
@@ -58,5 +59,6 @@ step_home w v call reply (does outcome keeps) = kept_home reply v.state w.keeper
 step_home w v call reply (closes is comes keeps) = ap home keeps
 step_home w v call reply (lacks takes there fault same) = ap (λ (whole : Whole). home whole.keeper) same
 
-pub stays : (w v : Whole) (call : Call) (reply : Reply) (r : ReaderState) → Step w call reply v → AreOfOne w r → AreOfOne v r
+pub stays : (w v : Whole) (call : Call) (reply : Reply) (r : ReaderState) → Step w call reply v → AreOfOne w r
+    → AreOfOne v r
 stays w v call reply r step of = ap (λ (h : Home). h.table) (step_home w v call reply step) ∙ of

@@ -22,17 +22,21 @@ use Rattle.obman_c.specs.Asking.{number_at}
 use Rattle.obman_c.specs.Looking.{IdsTell, NextDue, NextHandle, NextObject, StateTells, WaitPlaces, WaitTells, Walks, handle_entry, or_zero, pending_wait}
 use Rattle.obman_c.specs.Telling.{object_of}
 
-pub object_next : {s : State} {from status : ℕ} {before after : Object} (found : Option Id) → IsLeastFrom from (is_object_at s) (option_map (λ (id : Id). id.slot) found)
-    → IfSome found (λ id. IsThere s.objects id) → Walks object_of found status before after → NextObject s from status before after
+pub object_next : {s : State} {from status : ℕ} {before after : Object} (found : Option Id)
+    → IsLeastFrom from (is_object_at s) (option_map (λ (id : Id). id.slot) found)
+    → IfSome found (λ id. IsThere s.objects id) → Walks object_of found status before after
+    → NextObject s from status before after
 object_next found least object told = record { found = found; least = least; object = object; told = told }
 
 pub handle_next : {s : State} {process behind status : ℕ} {before after : HandleEntry} (found : Option (ℕ × Entry))
     → IsLeastFrom (behind + 1) (is_value_of s process) (option_map (λ (handle : ℕ × Entry). handle.0) found)
-    → IfSome found (λ handle. entry_at (table_of s.tables process) handle.0 ≡ Some handle.1) → Walks handle_entry found status before after
+    → IfSome found (λ handle. entry_at (table_of s.tables process) handle.0 ≡ Some handle.1)
+    → Walks handle_entry found status before after
     → NextHandle s process behind status before after
 handle_next found least entry told = record { found = found; least = least; entry = entry; told = told }
 
-pub due_next : {s : State} {status before after : ℕ} {found : Option ℕ} → IsLeast (dues_of s) found → Walks (λ moment. moment) found status before after
+pub due_next : {s : State} {status before after : ℕ} {found : Option ℕ} → IsLeast (dues_of s) found
+    → Walks (λ moment. moment) found status before after
     → NextDue s status before after
 due_next {found = found} least told = record { found = found; least = least; told = told }
 
@@ -46,22 +50,29 @@ above_zero : (from : ℕ) (found : Option ℕ) → IfSome found (λ n. from + 1 
 above_zero from None above = tt
 above_zero from (Some n) above = omega (arith, above)
 
-pub numbered : (from : ℕ) {number : ℕ} {test : ℕ → Bool} (found : Option ℕ) → number ≡ or_zero found → IsLeastFrom (from + 1) test found
+pub numbered : (from : ℕ) {number : ℕ} {test : ℕ → Bool} (found : Option ℕ) → number ≡ or_zero found
+    → IsLeastFrom (from + 1) test found
     → IsLeastFrom (from + 1) test (number_at number)
 numbered from {number} {test} found told least =
-    subst (λ (o : Option ℕ). IsLeastFrom (from + 1) test o) (sym (ap number_at told ∙ at_or_zero found (above_zero from found least.above))) least
+    subst (λ (o : Option ℕ). IsLeastFrom (from + 1) test o)
+    (sym (ap number_at told ∙ at_or_zero found (above_zero from found least.above))) least
 
 -- a wait that is pending is told with its objects
-pub waited : {wait : Option Wait} {status thread : ℕ} {mode : Mode} {ids : List Id} {deadline : Option ℕ} (before : WaitPlaces) {after : WaitPlaces} → wait ≡ Some (new_wait thread mode ids deadline)
-    → after.pending ≡ pending_wait thread mode deadline → after.count ≡ length ids → IdsTell ids status before.objects after.objects → WaitTells wait status before after
-waited {status = status} before {after = after} is value many told = subst (λ (w : Option Wait). WaitTells w status before after) (sym is) (value, many, told)
+pub waited : {wait : Option Wait} {status thread : ℕ} {mode : Mode} {ids : List Id} {deadline : Option ℕ}
+    (before : WaitPlaces) {after : WaitPlaces} → wait ≡ Some (new_wait thread mode ids deadline)
+    → after.pending ≡ pending_wait thread mode deadline → after.count ≡ length ids
+    → IdsTell ids status before.objects after.objects → WaitTells wait status before after
+waited {status = status} before {after = after} is value many told =
+    subst (λ (w : Option Wait). WaitTells w status before after) (sym is) (value, many, told)
 
-state_unwaited : (thread : ℕ) (deadline : Option ℕ) (state : WaitsState) {status : ℕ} {before after : WaitPlaces} → state_pending state ≡ false → status ≡ 87 → after ≡ before
+state_unwaited : (thread : ℕ) (deadline : Option ℕ) (state : WaitsState) {status : ℕ} {before after : WaitPlaces}
+    → state_pending state ≡ false → status ≡ 87 → after ≡ before
     → StateTells thread deadline state status before after
 state_unwaited thread deadline (Pending mode ids) none told same = cc
 state_unwaited thread deadline (Answered code) none told same = (told, same)
 
 -- no other is told
-pub unwaited : (wait : Option Wait) {status : ℕ} {before after : WaitPlaces} → is_pending wait ≡ false → status ≡ 87 → after ≡ before → WaitTells wait status before after
+pub unwaited : (wait : Option Wait) {status : ℕ} {before after : WaitPlaces} → is_pending wait ≡ false → status ≡ 87
+    → after ≡ before → WaitTells wait status before after
 unwaited None none told same = (told, same)
 unwaited (Some wait) none told same = state_unwaited wait.thread wait.deadline wait.state none told same

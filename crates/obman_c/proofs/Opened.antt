@@ -5,8 +5,10 @@ use Rattle.obman_c_base.specs.declared.limits.Bounds.{Bounds}
 use Rattle.obman_c_base.specs.Allowed.{AreAllowed}
 use Rattle.obman_c.specs.Opening.{Opens, outside, lacks}
 
-pub out_of_range : {b : Bounds} {status : ℕ} {before after : Option OwnedManager} → (AreAllowed b → ⊥) → status ≡ 87 → after ≡ before → Opens b status before after
+pub out_of_range : {b : Bounds} {status : ℕ} {before after : Option OwnedManager} → (AreAllowed b → ⊥) → status ≡ 87
+    → after ≡ before → Opens b status before after
 out_of_range = outside
 
-pub no_memory : {b : Bounds} {status : ℕ} {before after : Option OwnedManager} → AreAllowed b → status ≡ 8 → after ≡ before → Opens b status before after
+pub no_memory : {b : Bounds} {status : ℕ} {before after : Option OwnedManager} → AreAllowed b → status ≡ 8
+    → after ≡ before → Opens b status before after
 no_memory = lacks

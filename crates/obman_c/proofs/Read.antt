@@ -22,39 +22,53 @@ use Rattle.obman_c.specs.Finding.{description_of}
 use Rattle.obman_c.specs.Pinning.{pin_status}
 use Rattle.obman_c.specs.Reading.{AreOfOne, DescribeTold, InspectTold, IsHeld, PinTold, ReaderOpens, UnpinTold, opens, lacks, descriptor_of}
 
-pub pinned : {id : Id} {old new : ReaderState} {status : ℕ} → Tries old.view id (Ok tt) new.view → status ≡ 0 → PinTold id old status new
+pub pinned : {id : Id} {old new : ReaderState} {status : ℕ} → Tries old.view id (Ok tt) new.view → status ≡ 0
+    → PinTold id old status new
 pinned tries told = record { answer = Ok tt; tries = tries; told = told }
 
-pub refused : {id : Id} {old new : ReaderState} {status : ℕ} {fault : PinFault} → Tries old.view id (Err fault) new.view → status ≡ pin_status fault → PinTold id old status new
+pub refused : {id : Id} {old new : ReaderState} {status : ℕ} {fault : PinFault} → Tries old.view id (Err fault) new.view
+    → status ≡ pin_status fault → PinTold id old status new
 refused {fault = fault} tries told = record { answer = Err fault; tries = tries; told = told }
 
-pub opened : {old new : Whole} {r : ReaderState} {status : ℕ} {before after : Option OwnedReader} → status ≡ 0 → after ≡ Some (record { reader = r }) → r.view ≡ given_by old.keeper → AreOfOne old r
+pub opened : {old new : Whole} {r : ReaderState} {status : ℕ} {before after : Option OwnedReader} → status ≡ 0
+    → after ≡ Some (record { reader = r }) → r.view ≡ given_by old.keeper → AreOfOne old r
     → new ≡ record old { keeper = with_next old.keeper } → ReaderOpens old status new before after
 opened {r = r} = opens r
 
-pub lacking : {old new : Whole} {status : ℕ} {before after : Option OwnedReader} → status ≡ 8 → after ≡ before → new ≡ record old { keeper = with_next old.keeper } → ReaderOpens old status new before after
+pub lacking : {old new : Whole} {status : ℕ} {before after : Option OwnedReader} → status ≡ 8 → after ≡ before
+    → new ≡ record old { keeper = with_next old.keeper } → ReaderOpens old status new before after
 lacking told same given = lacks told same (inr given)
 
-pub lacking_owner : {old new : Whole} {status : ℕ} {before after : Option OwnedReader} → status ≡ 8 → after ≡ before → new ≡ old → ReaderOpens old status new before after
+pub lacking_owner : {old new : Whole} {status : ℕ} {before after : Option OwnedReader} → status ≡ 8 → after ≡ before
+    → new ≡ old → ReaderOpens old status new before after
 lacking_owner told same kept = lacks told same (inl kept)
 
-pub unpinned : (id : Id) {old new : ReaderState} {status : ℕ} → IsHeld id old → status ≡ 0 → new.view ≡ reader_released old.view id → UnpinTold id old status new
+pub unpinned : (id : Id) {old new : ReaderState} {status : ℕ} → IsHeld id old → status ≡ 0
+    → new.view ≡ reader_released old.view id → UnpinTold id old status new
 unpinned id held told view = inl (held, told, view)
 
-pub unheld : (id : Id) {old new : ReaderState} {status : ℕ} → (IsHeld id old → ⊥) → status ≡ 6 → new ≡ old → UnpinTold id old status new
+pub unheld : (id : Id) {old new : ReaderState} {status : ℕ} → (IsHeld id old → ⊥) → status ≡ 6 → new ≡ old
+    → UnpinTold id old status new
 unheld id none told same = inr (none, told, same)
 
-pub described : {id : Id} {old new : ReaderState} {status : ℕ} {before after : Descriptor} {d : Descr} → IsHeld id old → status ≡ 0 → after ≡ descriptor_of d → new.view ≡ reader_noted old.view id d → DescribeTold id old status new before after
+pub described : {id : Id} {old new : ReaderState} {status : ℕ} {before after : Descriptor} {d : Descr} → IsHeld id old
+    → status ≡ 0 → after ≡ descriptor_of d → new.view ≡ reader_noted old.view id d
+    → DescribeTold id old status new before after
 described {d = d} held told value noted = inl (held, told, (d, value, noted))
 
-pub undescribed : {id : Id} {old new : ReaderState} {status : ℕ} {before after : Descriptor} → (IsHeld id old → ⊥) → status ≡ 6 → new ≡ old → after ≡ before → DescribeTold id old status new before after
+pub undescribed : {id : Id} {old new : ReaderState} {status : ℕ} {before after : Descriptor} → (IsHeld id old → ⊥)
+    → status ≡ 6 → new ≡ old → after ≡ before → DescribeTold id old status new before after
 undescribed none told same value = inr (none, told, λ i. (same i, value i))
 
-pub inspected : {m : Whole} {id : Id} {old new : ReaderState} {status : ℕ} {before after : Description} {made : Card} → IsHeld id old → status ≡ 0 → card m.state id ≡ Some made → after ≡ description_of made
-    → Show id made.descr old.view.notes → IsMet m.keeper old.view id.slot new.view → InspectTold m id old status new before after
-inspected {made = made} held told there value noted looked = inl (held, told, record { made = made; there = there; value = value; noted = noted; looked = looked })
+pub inspected : {m : Whole} {id : Id} {old new : ReaderState} {status : ℕ} {before after : Description} {made : Card}
+    → IsHeld id old → status ≡ 0 → card m.state id ≡ Some made → after ≡ description_of made
+    → Show id made.descr old.view.notes → IsMet m.keeper old.view id.slot new.view
+    → InspectTold m id old status new before after
+inspected {made = made} held told there value noted looked =
+    inl (held, told, record { made = made; there = there; value = value; noted = noted; looked = looked })
 
-pub uninspected : {m : Whole} {id : Id} {old new : ReaderState} {status : ℕ} {before after : Description} → (IsHeld id old → ⊥) → status ≡ 6 → new ≡ old → after ≡ before → InspectTold m id old status new before after
+pub uninspected : {m : Whole} {id : Id} {old new : ReaderState} {status : ℕ} {before after : Description}
+    → (IsHeld id old → ⊥) → status ≡ 6 → new ≡ old → after ≡ before → InspectTold m id old status new before after
 uninspected none told same value = inr (none, told, λ i. (same i, value i))
 
 -- the first Id of which a copy is held
@@ -70,7 +84,8 @@ every [] = refl
 every (x ∷ held) = let e = every held in omega arith
 
 -- with a copy less there are fewer
-pub fewer : (id : Id) (held : List Id) → 0 < tally (same_id id) held → length (drop_first (same_id id) held) < length held
+pub fewer : (id : Id) (held : List Id) → 0 < tally (same_id id) held
+    → length (drop_first (same_id id) held) < length held
 fewer id held some =
     let less = count-drop (λ _. true) (same_id id) true held (λ x e. refl) some in
     let all = every held in

@@ -34,25 +34,36 @@ abbrev code_in : Option Answer → ℕ
 code_in None = 0
 code_in (Some a) = a.code
 
-stands : (s t : State) (n thread : ℕ) (a : Answer) (reply : Reply) (state : WaitsState) → state_answer n thread state ≡ Some a
+stands : (s t : State) (n thread : ℕ) (a : Answer) (reply : Reply) (state : WaitsState)
+    → state_answer n thread state ≡ Some a
     → final s (Ok (shown s n (state_shown state))) ≡ record { reply = reply; state = t } → reply ≡ Code a.code
 stands s t n thread a reply (StillPending mode ids) is comes = cc
-stands s t n thread a reply (Answered c) is comes = let told : Code c ≡ reply = ap (λ (o : Outcome). o.reply) comes in sym told ∙ ap Code (ap code_in is)
+stands s t n thread a reply (Answered c) is comes = let told : Code c ≡ reply = ap (λ (o : Outcome). o.reply) comes in
+    sym told ∙ ap Code (ap code_in is)
 
 there : (s t : State) (n : ℕ) (a : Answer) (reply : Reply) (wait : Option Wait) → answer_of n wait ≡ Some a
-    → final s (or_refuse (state_at wait) fault.Parameter >>= (λ stands. Ok (shown s n stands))) ≡ record { reply = reply; state = t } → reply ≡ Code a.code
+    → final s (or_refuse (state_at wait) fault.Parameter >>= (λ stands. Ok (shown s n stands))) ≡ record {
+      reply =
+          reply;
+      state = t;
+    } → reply ≡ Code a.code
 there s t n a reply None is comes = cc
 there s t n a reply (Some wait) is comes = stands s t n wait.thread a reply wait.state is comes
 
 -- an answer that is there is what wait_result tells
-pub answered : (w v : Whole) (n : ℕ) (a : Answer) (reply : Reply) → answer_of n (slice_index_or w.state.waits n None) ≡ Some a → Step w (calls.WaitResult n) reply v → reply ≡ Code a.code
-answered w v n a reply is (does comes keeps) = there w.state v.state n a reply (slice_index_or w.state.waits n None) is comes
+pub answered : (w v : Whole) (n : ℕ) (a : Answer) (reply : Reply)
+    → answer_of n (slice_index_or w.state.waits n None) ≡ Some a → Step w (calls.WaitResult n) reply v
+    → reply ≡ Code a.code
+answered w v n a reply is (does comes keeps) = there w.state v.state n a reply
+    (slice_index_or w.state.waits n None) is comes
 answered w v n a reply is (closes it comes keeps) = cc
 answered w v n a reply is (lacks takes ok fault same) = cc
 
 in_place : (xs : List (Option Object)) (k : ℕ) (id : Id) → id_in (slice_index_or xs k None) ≡ Some id → k < length xs
 in_place xs k id there = ⊎_elim (λ (lt : k < length xs). lt)
-    (λ (past : length xs ≤ k). let is : id_in None ≡ Some id = subst (λ (o : Option Object). id_in o ≡ Some id) (get_or_past xs k None past) there in absurd (let bad : ⊥ = cc in bad))
+    (λ (past : length xs ≤ k). let is : id_in None ≡ Some id =
+    subst (λ (o : Option Object). id_in o ≡ Some id) (get_or_past xs k None past) there in
+    absurd (let bad : ⊥ = cc in bad))
     (cases_lt k (length xs))
 
 -- there are at most 65,536 slots
@@ -62,27 +73,34 @@ below w id consistent there =
     let most = w.state.limits.in_range.slots_in_range.1 in
     omega (arith, inside, consistent.sizes.0, most)
 
-taken_back : (s t : State) (slot : ℕ) (id : Id) (outcome : Reclaim) (reply : Reply) (past : Bool) (object : Option Object) (body : Option Body) → past ≡ false
+taken_back : (s t : State) (slot : ℕ) (id : Id) (outcome : Reclaim) (reply : Reply) (past : Bool)
+    (object : Option Object) (body : Option Body) → past ≡ false
     → id_in object ≡ Some id → is_closing object body ≡ true
-    → final s (refuse_if past fault.Parameter >>= (λ _. if_ended object body >>= (λ named. Ok (record { reply = Reaped named outcome; state = settled (after_reclaim s slot outcome) })))) ≡ record { reply = reply; state = t }
+    → final s (refuse_if past fault.Parameter >>= (λ _. if_ended object body >>=
+    (λ named. Ok (record { reply = Reaped named outcome; state = settled (after_reclaim s slot outcome) }))))
+    ≡ record { reply = reply; state = t }
     → reply ≡ Reaped id outcome
 taken_back s t slot id outcome reply true object body inside there ended comes = cc
 taken_back s t slot id outcome reply false None body inside there ended comes = cc
 taken_back s t slot id outcome reply false (Some o) (Some b) inside there ended comes = cc
-taken_back s t slot id outcome reply false (Some o) None inside there ended comes = let told : Reaped o.id outcome ≡ reply = ap (λ (x : Outcome). x.reply) comes in cc
+taken_back s t slot id outcome reply false (Some o) None inside there ended comes =
+    let told : Reaped o.id outcome ≡ reply = ap (λ (x : Outcome). x.reply) comes in cc
 
 -- an object that has ended is reaped
-pub reaped : (w v : Whole) (id : Id) (reply : Reply) → IsConsistent w → IsThere w.state.objects id → is_closing_at w.state id.slot ≡ true → Step w (calls.Reap id.slot) reply v
+pub reaped : (w v : Whole) (id : Id) (reply : Reply) → IsConsistent w → IsThere w.state.objects id
+    → is_closing_at w.state id.slot ≡ true → Step w (calls.Reap id.slot) reply v
     → reply ≡ Reaped id (reclaim_in reply)
 reaped w v id reply consistent there ended (does comes keeps) =
     let inside = in_place w.state.objects id.slot id there in
     let few : id.slot < w.state.limits.slots = omega (arith, inside, consistent.sizes.0) in
-    taken_back w.state v.state id.slot id (reclaim_in reply) reply (nat_le w.state.limits.slots id.slot) (slice_index_or w.state.objects id.slot None) (slice_index_or w.state.bodies id.slot None)
+    taken_back w.state v.state id.slot id (reclaim_in reply) reply (nat_le w.state.limits.slots id.slot)
+    (slice_index_or w.state.objects id.slot None) (slice_index_or w.state.bodies id.slot None)
     (grind (arith, nat_tests, few)) there ended comes
 reaped w v id reply consistent there ended (closes is comes keeps) = cc
 reaped w v id reply consistent there ended (lacks takes ok fault same) = cc
 
 -- and so it is told, whatever stood at the place
-pub told_as : {reply : Reply} {id : Id} {outcome : Reclaim} {told : Reaping} (before : Reaping) → reply ≡ Reaped id outcome → told ≡ reaping_in reply before
+pub told_as : {reply : Reply} {id : Id} {outcome : Reclaim} {told : Reaping} (before : Reaping)
+    → reply ≡ Reaped id outcome → told ≡ reaping_in reply before
     → told ≡ reaping_in (Reaped id outcome) told
 told_as before is value = value ∙ ap (λ (r : Reply). reaping_in r before) is

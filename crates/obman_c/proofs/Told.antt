@@ -11,13 +11,24 @@ use Rattle.obman_c.specs.declared.values.Reaping.{Reaping}
 use Rattle.obman_c.specs.Reaping.{ReapsTold}
 use Rattle.obman_c.specs.Telling.{Tells, TellsAs, reaping_in, status_of}
 
-pub tells : {old new : Whole} {call : Call} {reply : Reply} {status : ℕ} → Step old call reply new → status ≡ status_of reply → Tells old call status new
+pub tells : {old new : Whole} {call : Call} {reply : Reply} {status : ℕ} → Step old call reply new
+    → status ≡ status_of reply → Tells old call status new
 tells {reply = reply} step told = record { reply = reply; step = step; told = told }
 
-pub tells_as : {V : Type 0} {value_of : Reply → V → V} {old new : Whole} {call : Call} {reply : Reply} {status : ℕ} {before after : V}
-    → Step old call reply new → status ≡ status_of reply → after ≡ value_of reply before → TellsAs value_of old call status new before after
+pub tells_as : {V : Type 0} {value_of : Reply → V →
+    V} {old new : Whole} {call : Call} {reply : Reply} {status : ℕ} {before after : V}
+    → Step old call reply new → status ≡ status_of reply → after ≡ value_of reply before
+    → TellsAs value_of old call status new before after
 tells_as {reply = reply} step told value = record { reply = reply; step = step; told = told; value = value }
 
-pub reaps : {slot : ℕ} {old new : Whole} {reply : Reply} {status : ℕ} {before after : Reaping} → Step old (calls.Reap slot) reply new
-    → IfReaped reply (λ outcome. ReclaimsFound old.keeper slot outcome new.keeper) → status ≡ status_of reply → after ≡ reaping_in reply before → ReapsTold slot old status new before after
-reaps {reply = reply} step exact told value = record { reply = reply; step = step; exact = exact; told = told; value = value }
+pub reaps : {slot : ℕ} {old new : Whole} {reply : Reply} {status : ℕ} {before after : Reaping}
+    → Step old (calls.Reap slot) reply new
+    → IfReaped reply (λ outcome. ReclaimsFound old.keeper slot outcome new.keeper) → status ≡ status_of reply
+    → after ≡ reaping_in reply before → ReapsTold slot old status new before after
+reaps {reply = reply} step exact told value = record {
+  reply = reply;
+  step = step;
+  exact = exact;
+  told = told;
+  value = value;
+}

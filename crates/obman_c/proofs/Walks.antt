@@ -50,7 +50,12 @@ pub use Rattle.std.proofs.BoxSteps.Steps.{box_out, box_in}
 
 -- a box on C's heap
 abbrev pub on_heap : (R : RattleType) → Laws R → Bx
-on_heap R laws = record { row = R; laws = laws; al = record { row = heap.the_row; laws = heap_laws.the_row_laws; g = ghosts; d = dict; drops = impl [] tnil dnil } }
+on_heap R laws = record {
+  row = R;
+  laws = laws;
+  al =
+      record { row = heap.the_row; laws = heap_laws.the_row_laws; g = ghosts; d = dict; drops = impl [] tnil dnil };
+}
 
 -- a box of a manager
 abbrev pub of_manager : Bx

@@ -13,7 +13,12 @@ rights_in true mask = Some (mask_of mask)
 rights_in false mask = None
 
 abbrev pub asked_for : Asking → List ℕ → Making
-asked_for asking name = record { name = given_name asking.named name; inherit = asking.inherit; access = rights_in asking.has_access asking.access; grant = rights_in asking.has_grant asking.grant }
+asked_for asking name = record {
+  name = given_name asking.named name;
+  inherit = asking.inherit;
+  access = rights_in asking.has_access asking.access;
+  grant = rights_in asking.has_grant asking.grant;
+}
 
 -- a process, a thread or a wait by its number, from 1; 0 for none
 abbrev pub number_at : ℕ → Option ℕ

@@ -24,7 +24,12 @@ kind_number Timer = 3
 
 -- what an object was created as
 abbrev pub description_of : Card → Description
-description_of card = record { kind = kind_number card.descr.kind; max = card.descr.max; grant = card.grant.0; manual = card.descr.manual }
+description_of card = record {
+  kind = kind_number card.descr.kind;
+  max = card.descr.max;
+  grant = card.grant.0;
+  manual = card.descr.manual;
+}
 
 -- a description at its place and 0, or 6, and the place as it was
 abbrev pub Describes : Option Card → ℕ → Description → Description → Type 0

@@ -15,7 +15,8 @@ row_of found = record { object = object_of found.1; session = session_of found.0
 -- the name stands at the front of the bytes and 0 is told; or it doesn't fit, and 122 is told
 abbrev pub RowTells : ObjectName × Id → ℕ → Row → List ℕ → List ℕ → Type 0
 RowTells found status row before after = (row ≡ row_of found)
-    × (((length found.0.base ≤ length before) × (status ≡ 0) × (after ≡ found.0.base ++ drop (length found.0.base) before))
+    × (((length found.0.base ≤ length before) × (status ≡ 0)
+    × (after ≡ found.0.base ++ drop (length found.0.base) before))
     ⊎ ((length before < length found.0.base) × (status ≡ 122) × (after ≡ before)))
 
 abbrev pub RowTold : Option (ObjectName × Id) → ℕ → Row → Row → List ℕ → List ℕ → Type 0

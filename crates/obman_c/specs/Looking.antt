@@ -33,14 +33,34 @@ or_zero (Some n) = n
 
 -- the state of no object: each number 0, and 4 in place of a kind
 abbrev pub ended : Standing
-ended = record { due = 0; kind = 4; count = 0; max = 0; owner = 0; signaled = false; abandoned = false; has_due = false }
+ended = record {
+  due = 0;
+  kind = 4;
+  count = 0;
+  max = 0;
+  owner = 0;
+  signaled = false;
+  abandoned = false;
+  has_due = false;
+}
 
 -- what state an object is in, by its kind; what the kind hasn't is 0
 abbrev pub standing_of : ObjectState → Standing
 standing_of (Event set) = record ended { kind = 0; signaled = set }
-standing_of (Mutex owner recursion abandoned) = record ended { kind = 1; count = recursion; owner = or_zero owner; signaled = is_none owner; abandoned = abandoned }
+standing_of (Mutex owner recursion abandoned) = record ended {
+  kind = 1;
+  count = recursion;
+  owner = or_zero owner;
+  signaled = is_none owner;
+  abandoned = abandoned;
+}
 standing_of (Semaphore count max) = record ended { kind = 2; count = count; max = max; signaled = nat_lt 0 count }
-standing_of (Timer signaled due) = record ended { kind = 3; due = or_zero due; signaled = signaled; has_due = is_some due }
+standing_of (Timer signaled due) = record ended {
+  kind = 3;
+  due = or_zero due;
+  signaled = signaled;
+  has_due = is_some due;
+}
 standing_of Ended = ended
 
 -- at its place and 0, or 6, and the place as it was
@@ -50,7 +70,12 @@ Stands None status before after = (status ≡ 6) × (after ≡ before)
 
 -- a handle with what it names
 abbrev pub handle_entry : ℕ × Entry → HandleEntry
-handle_entry found = record { object = object_of found.1.id; handle = found.0; access = found.1.rights.0; flags = found.1.flags.0 }
+handle_entry found = record {
+  object = object_of found.1.id;
+  handle = found.0;
+  access = found.1.rights.0;
+  flags = found.1.flags.0;
+}
 
 -- a handle's entry at its place and 0, or a refusal's number, and the place as it was
 abbrev pub FindsEntry : ℕ → Result Entry Fault → ℕ → HandleEntry → HandleEntry → Type 0
@@ -94,11 +119,18 @@ is_for_all All = true
 
 -- what a wait is for, but for its objects
 abbrev pub pending_wait : ℕ → Mode → Option ℕ → PendingWait
-pending_wait thread mode deadline = record { deadline = or_zero deadline; thread = thread; all = is_for_all mode; has_deadline = is_some deadline }
+pending_wait thread mode deadline = record {
+  deadline = or_zero deadline;
+  thread = thread;
+  all = is_for_all mode;
+  has_deadline = is_some deadline;
+}
 
--- the objects stand at the front of the places in the order of the wait and 0 is told; or they don't fit, and 122 is told
+-- the objects stand at the front of the places in the order of the wait and 0 is told; or they don't fit, and 122 is
+-- told
 abbrev pub IdsTell : List Id → ℕ → List Object → List Object → Type 0
-IdsTell ids status before after = ((length ids ≤ length before) × (status ≡ 0) × (after ≡ map object_of ids ++ drop (length ids) before))
+IdsTell ids status before after = ((length ids ≤ length before) × (status ≡ 0)
+    × (after ≡ map object_of ids ++ drop (length ids) before))
     ⊎ ((length before < length ids) × (status ≡ 122) × (after ≡ before))
 
 -- what C is told of a wait: the wait itself, its objects, and how many these are
@@ -110,7 +142,8 @@ pub record WaitPlaces : Type 0 where
 -- a pending wait, whose objects may not fit; one that is answered is for nothing, and 87 is told
 abbrev pub StateTells : ℕ → Option ℕ → WaitsState → ℕ → WaitPlaces → WaitPlaces → Type 0
 StateTells thread deadline (Pending mode ids) status before after =
-    (after.pending ≡ pending_wait thread mode deadline) × (after.count ≡ length ids) × IdsTell ids status before.objects after.objects
+    (after.pending ≡ pending_wait thread mode deadline) × (after.count ≡ length ids)
+    × IdsTell ids status before.objects after.objects
 StateTells thread deadline (Answered code) status before after = (status ≡ 87) × (after ≡ before)
 
 abbrev pub WaitTells : Option Wait → ℕ → WaitPlaces → WaitPlaces → Type 0

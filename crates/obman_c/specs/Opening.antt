@@ -18,9 +18,11 @@ new_keeper shape t = record { table = t; view = keeper_gave (opening_keeper shap
 abbrev pub new_manager : Limits → TableState → Whole
 new_manager limits t = record { state = opening limits; keeper = state_of (new_keeper (shape_of limits) t) }
 
--- A place gets a new manager with these limits, over words of its own, and 0 is told; or it stays as it is, and 87 is told where a
+-- A place gets a new manager with these limits, over words of its own, and 0 is told; or it stays as it is, and 87 is
+-- told where a
 -- limit is out of its range, else 8, for want of memory.
 pub data Opens (b : Bounds) (status : ℕ) (before after : Option OwnedManager) : Type 0 where
-  opens : (limits : Limits) (t : TableState) → AreAs b limits → status ≡ 0 → after ≡ Some (record { manager = new_manager limits t }) → Opens b status before after
+  opens : (limits : Limits) (t : TableState) → AreAs b limits → status ≡ 0
+      → after ≡ Some (record { manager = new_manager limits t }) → Opens b status before after
   outside : (AreAllowed b → ⊥) → status ≡ 87 → after ≡ before → Opens b status before after
   lacks : AreAllowed b → status ≡ 8 → after ≡ before → Opens b status before after

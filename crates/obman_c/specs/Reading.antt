@@ -26,11 +26,14 @@ IsHeld id r = 0 < tally (same_id id) r.view.held
 abbrev pub AreOfOne : Whole → ReaderState → Type 0
 AreOfOne m r = m.keeper.table ≡ Some r.table
 
--- A place gets a reader of the manager's pins, of the next number and with nothing held, and 0 is told; or the place stays as it is,
+-- A place gets a reader of the manager's pins, of the next number and with nothing held, and 0 is told; or the place
+-- stays as it is,
 -- and 8 is told for want of memory. Nothing else changes but that the number was given.
 pub data ReaderOpens (old : Whole) (status : ℕ) (new : Whole) (before after : Option OwnedReader) : Type 0 where
-  opens : (r : ReaderState) → status ≡ 0 → after ≡ Some (record { reader = r }) → r.view ≡ given_by old.keeper → AreOfOne old r → new ≡ record old { keeper = with_next old.keeper } → ReaderOpens old status new before after
-  lacks : status ≡ 8 → after ≡ before → (new ≡ old) ⊎ (new ≡ record old { keeper = with_next old.keeper }) → ReaderOpens old status new before after
+  opens : (r : ReaderState) → status ≡ 0 → after ≡ Some (record { reader = r }) → r.view ≡ given_by old.keeper
+      → AreOfOne old r → new ≡ record old { keeper = with_next old.keeper } → ReaderOpens old status new before after
+  lacks : status ≡ 8 → after ≡ before → (new ≡ old) ⊎ (new ≡ record old { keeper = with_next old.keeper })
+      → ReaderOpens old status new before after
 
 -- the reader's own answer to one try, and its number
 pub record PinTold (id : Id) (old : ReaderState) (status : ℕ) (new : ReaderState) : Type 0 where
@@ -40,7 +43,8 @@ pub record PinTold (id : Id) (old : ReaderState) (status : ℕ) (new : ReaderSta
 
 -- what is told where a copy of the Id is held, else 6, and nothing changes
 abbrev pub WhereHeld : Id → ReaderState → ℕ → (V : Type 0) → V → V → Type 0 → Type 0
-WhereHeld id r status V before after told = (IsHeld id r × (status ≡ 0) × told) ⊎ ((IsHeld id r → ⊥) × (status ≡ 6) × (after ≡ before))
+WhereHeld id r status V before after told = (IsHeld id r × (status ≡ 0) × told)
+    ⊎ ((IsHeld id r → ⊥) × (status ≡ 6) × (after ≡ before))
 
 -- one copy goes
 abbrev pub UnpinTold : Id → ReaderState → ℕ → ReaderState → Type 0
@@ -51,7 +55,9 @@ descriptor_of d = record { kind = kind_number d.kind; max = d.max; manual = d.ma
 
 -- the descriptor that was read under the pin, which the reader notes
 abbrev pub DescribeTold : Id → ReaderState → ℕ → ReaderState → Descriptor → Descriptor → Type 0
-DescribeTold id old status new before after = WhereHeld id old status (ReaderState × Descriptor) (old, before) (new, after) ((d : Descr) × (after ≡ descriptor_of d) × (new.view ≡ reader_noted old.view id d))
+DescribeTold id old status new before after = WhereHeld id old status (ReaderState
+    × Descriptor) (old, before) (new, after) ((d : Descr) × (after ≡ descriptor_of d)
+    × (new.view ≡ reader_noted old.view id d))
 
 -- the object of a held Id is there: its card, which is of the descriptor that the reader noted, if it did
 pub record IsInspected (m : Whole) (id : Id) (old new : ReaderState) (after : Description) : Type 0 where
@@ -62,4 +68,5 @@ pub record IsInspected (m : Whole) (id : Id) (old new : ReaderState) (after : De
   pub looked : IsMet m.keeper old.view id.slot new.view
 
 abbrev pub InspectTold : Whole → Id → ReaderState → ℕ → ReaderState → Description → Description → Type 0
-InspectTold m id old status new before after = WhereHeld id old status (ReaderState × Description) (old, before) (new, after) (IsInspected m id old new after)
+InspectTold m id old status new before after = WhereHeld id old status (ReaderState
+    × Description) (old, before) (new, after) (IsInspected m id old new after)

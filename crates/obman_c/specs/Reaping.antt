@@ -33,8 +33,10 @@ pub record ReapsNext (old : ℕ × Whole) (told : Reaping) (new : ℕ × Whole) 
   pub value : told ≡ reaping_in (Reaped id outcome) told
   pub next : new.0 ≡ id.slot + 1
 
--- and so on from slot 0, as far as there are any and places for them: so many are told at the front of the list, whose rest stays
-pub record ReapsAll (old : Whole) (before : List Reaping) (count : ℕ) (new : Whole) (after : List Reaping) : Type 0 where
+-- and so on from slot 0, as far as there are any and places for them: so many are told at the front of the list, whose
+-- rest stays
+pub record ReapsAll (old : Whole) (before : List Reaping) (count : ℕ) (new : Whole)
+    (after : List Reaping) : Type 0 where
   pub from : ℕ
   pub reaped : Chain ReapsNext (0, old) (take count after) (from, new)
   pub rest : drop count after ≡ drop count before

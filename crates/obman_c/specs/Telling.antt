@@ -15,7 +15,8 @@ use Rattle.obman_c.specs.declared.values.Opening.{Opening}
 use Rattle.obman_c.specs.declared.values.Reaping.{Reaping}
 use Rattle.obman_c.specs.declared.values.References.{References}
 
--- 0, but ERROR_ALREADY_EXISTS for a name that was there, ERROR_IO_PENDING for a wait that is pending, and a refusal's own number
+-- 0, but ERROR_ALREADY_EXISTS for a name that was there, ERROR_IO_PENDING for a wait that is pending, and a refusal's
+-- own number
 abbrev pub status_of : Reply → ℕ
 status_of (Exists handle id) = 183
 status_of (Pending number) = 997
@@ -44,7 +45,8 @@ pub record Tells (old : Whole) (call : Call) (status : ℕ) (new : Whole) : Type
   pub told : status ≡ status_of reply
 
 -- the same where a value is told too, over what stood at its place
-pub record TellsAs {V : Type 0} (value_of : Reply → V → V) (old : Whole) (call : Call) (status : ℕ) (new : Whole) (before after : V) : Type 0 where
+pub record TellsAs {V : Type 0} (value_of : Reply → V
+    → V) (old : Whole) (call : Call) (status : ℕ) (new : Whole) (before after : V) : Type 0 where
   pub reply : Reply
   pub step : Step old call reply new
   pub told : status ≡ status_of reply
@@ -95,7 +97,11 @@ pins_of Retired = 0
 pins_of (Held pins) = pins
 
 abbrev pub reaping_in : Reply → Reaping → Reaping
-reaping_in (Reaped id outcome) before = record { object = object_of id; outcome = outcome_of outcome; pins = pins_of outcome }
+reaping_in (Reaped id outcome) before = record {
+  object = object_of id;
+  outcome = outcome_of outcome;
+  pins = pins_of outcome;
+}
 reaping_in reply before = before
 
 abbrev pub references_in : Reply → References → References

@@ -7,6 +7,7 @@ loop-entry-preserved c =
     let journal = c.args.journal.now in
     let i = c.loop-entry.entry-index in
     let entry = c.entry-item.result in (
-      c.in_ok-add.ensures.ok ∙ script_next journal i entry (search rules) (search rules) c.loop-entry.record c.loop-entry.invariant.0,
+      c.in_ok-add.ensures.ok ∙ script_next journal i entry (search rules)
+          (search rules) c.loop-entry.record c.loop-entry.invariant.0,
       fits_next journal i entry (search rules) (search rules) c.loop-entry.invariant.1 c.add.ensures.fits,
     )

@@ -4,10 +4,18 @@ use Rattle.ob_script.proofs.Leading.{digits_more, value_more}
 use Rattle.ob_script.proofs.numbers.leading_digits.Goals as goal
 
 pub overflow_mul-value : goal.overflow_mul-value
-overflow_mul-value c = omega (arith, within_18_digits c.loop-count.value c.loop-count.count (omega arith) c.loop-count.invariant.few)
+overflow_mul-value c = omega (
+  arith,
+  within_18_digits c.loop-count.value c.loop-count.count
+      (omega arith) c.loop-count.invariant.few,
+)
 
 pub overflow_add-value : goal.overflow_add-value
-overflow_add-value c = omega (arith, within_18_digits c.loop-count.value c.loop-count.count (omega arith) c.loop-count.invariant.few)
+overflow_add-value c = omega (
+  arith,
+  within_18_digits c.loop-count.value c.loop-count.count
+      (omega arith) c.loop-count.invariant.few,
+)
 
 pub loop-count-preserved : goal.loop-count-preserved
 loop-count-preserved c =

@@ -5,4 +5,5 @@ use Rattle.ob_script.proofs.numbers.leading_number.Goals as goal
 pub returns-then-count-text : goal.returns-then-count-text
 returns-then-count-text c =
     let found = c.leading_digits-value in
-    number_last c.args.text.now found.result.1 found.result.0 found.ensures.digits found.ensures.value (search rules) (search rules) (search rules) (search rules)
+    number_last c.args.text.now found.result.1 found.result.0 found.ensures.digits found.ensures.value (search rules)
+    (search rules) (search rules) (search rules)

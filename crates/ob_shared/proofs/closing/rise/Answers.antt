@@ -3,4 +3,5 @@ use Rattle.ob_shared.proofs.Numbers.{risen_more}
 use Rattle.ob_shared.proofs.closing.rise.Goals as goal
 
 pub loop-lane-preserved : goal.loop-lane-preserved
-loop-lane-preserved c = risen_more c.args.lanes.now c.loop-lane.lane-index c.lane-item.result c.loop-lane.least _ (search rules) (search rules) (search rules) (search rules) (search rules)
+loop-lane-preserved c = risen_more c.args.lanes.now c.loop-lane.lane-index c.lane-item.result c.loop-lane.least _
+    (search rules) (search rules) (search rules) (search rules) (search rules)

@@ -6,15 +6,20 @@ use Rattle.ob_shared.proofs.lane.difference.Goals as goal
 
 pub returns-then-not-has_at-clause-some : goal.returns-then-not-has_at-clause-some
 returns-then-not-has_at-clause-some c =
-    differ_next c.args.number c.args.journal.now c.args.list.now c.loop-entry.entry-index c.loop-entry.place c.entry-item.result (search rules) (search rules) (search rules) (search rules) (search rules) (search rules)
+    differ_next c.args.number c.args.journal.now c.args.list.now c.loop-entry.entry-index c.loop-entry.place
+    c.entry-item.result (search rules) (search rules) (search rules) (search rules) (search rules) (search rules)
 
 pub loop-entry-preserved : goal.loop-entry-preserved
 loop-entry-preserved c = elim c.if-entry-number.branch [
-  | then-entry-number+else-not-has_at w ↦ subst (λ n. (n ≤ length c.args.list.now) × (take n c.args.list.now ≡ part c.args.number (take (c.loop-entry.entry-index + 1) c.args.journal.now))) (sym w.place-is)
-      (part_found c.args.number c.args.journal.now c.args.list.now c.loop-entry.entry-index c.loop-entry.place c.entry-item.result (search rules) (search rules) (search rules) (search rules) (search rules))
+  | then-entry-number+else-not-has_at w ↦ subst (λ n. (n ≤ length c.args.list.now)
+      × (take n c.args.list.now ≡ part c.args.number (take (c.loop-entry.entry-index + 1) c.args.journal.now)))
+      (sym w.place-is)
+      (part_found c.args.number c.args.journal.now c.args.list.now c.loop-entry.entry-index c.loop-entry.place
+      c.entry-item.result (search rules) (search rules) (search rules) (search rules) (search rules))
   | else-entry-number w ↦ (search rules, search (rules, part_other))
 ]
 
 pub returns-then-place-list-clause-some : goal.returns-then-place-list-clause-some
 returns-then-place-list-clause-some c =
-    differ_end c.args.number c.args.journal.now c.args.list.now c.loop-entry.entry-index c.loop-entry.place (search rules) (search rules) (search rules)
+    differ_end c.args.number c.args.journal.now c.args.list.now c.loop-entry.entry-index c.loop-entry.place
+    (search rules) (search rules) (search rules)

@@ -3,4 +3,5 @@ use Rattle.ob_shared.specs.Lanes.{part}
 use Rattle.ob_shared.proofs.lane.difference.Given as goal
 
 abbrev pub invariant-loop-entry : goal.invariant-loop-entry
-invariant-loop-entry l = (l.place ≤ length l.list) × (take l.place l.list ≡ part l.number (take l.entry-index l.journal))
+invariant-loop-entry l = (l.place ≤ length l.list)
+    × (take l.place l.list ≡ part l.number (take l.entry-index l.journal))

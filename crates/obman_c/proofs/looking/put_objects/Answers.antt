@@ -8,4 +8,5 @@ pub loop-at-preserved : goal.loop-at-preserved
 loop-at-preserved c =
     let within : c.loop-at.at < length c.args.ids.now = omega (arith, c.loop-at-test.true) in
     ap (λ (o : Object). slice_set c.loop-at.objects c.loop-at.at o) c.object_of.ensures
-    ∙ put_more object_of c.args.ids.now c.args.objects.now c.loop-at.objects c.loop-at.at _ within c.requires c.loop-at.invariant
+    ∙ put_more object_of c.args.ids.now c.args.objects.now c.loop-at.objects c.loop-at.at _ within c.requires
+    c.loop-at.invariant

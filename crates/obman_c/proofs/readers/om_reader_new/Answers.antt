@@ -8,7 +8,8 @@ use Rattle.obman_c.proofs.readers.om_reader_new.Goals as goal
 
 -- the reader of the box is at the place
 pub returns-in-Ok : goal.returns-in-Ok
-returns-in-Ok c = let m = ap (λ (held : OwnedManager). held.manager) c.lend.ensures.value in let made = c.in-Some.ensures in
+returns-in-Ok c = let m = ap (λ (held : OwnedManager). held.manager) c.lend.ensures.value in
+    let made = c.in-Some.ensures in
     opens c.in-Some.reader refl (c.of.ensures ∙ ap (λ (hand : OwnedReader). Some hand) c.in-Ok.ensures.ok)
     (made.reader.0 ∙ ap (λ (w : Whole). given_by w.keeper) m)
     (ap (λ (w : Whole). w.keeper.table) (sym m) ∙ made.reader.1)

@@ -18,19 +18,24 @@ loop-place-preserved c =
     let id = c.in-Some.id in
     let outcome = reclaim_in c.reap-reply.result in
     let told = c.tell_reaping.new.out in
-    let is = reaped old new id c.reap-reply.result c.kept.ensures c.in-Some.ensures.object c.in-Some.ensures.least.passes c.reap-reply.ensures.step in
+    let is = reaped old new id c.reap-reply.result c.kept.ensures c.in-Some.ensures.object
+    c.in-Some.ensures.least.passes c.reap-reply.ensures.step in
     let next : ReapsNext (c.loop-place.from, old) told (id.slot + 1, new) = record {
       id = id;
       outcome = outcome;
       least = c.in-Some.ensures.least;
       step = subst (λ (r : Reply). Step old (calls.Reap id.slot) r new) is c.reap-reply.ensures.step;
-      exact = subst (λ (r : Reply). IfReaped r (λ o. ReclaimsFound old.keeper id.slot o new.keeper)) is c.reap-reply.ensures.exact;
+      exact = subst (λ (r : Reply). IfReaped r (λ o. ReclaimsFound old.keeper id.slot o new.keeper)) is
+          c.reap-reply.ensures.exact;
       value = told_as _ is c.tell_reaping.ensures.value;
       next = refl;
     } in
     let within : place < length list = omega (arith, c.loop-place-test.true, c.loop-place.invariant.long) in
     record {
-      reaped = chain_set ReapsNext (0, c.args.manager.now) (c.loop-place.from, old) (id.slot + 1, new) told place list within c.loop-place.invariant.reaped next;
+      reaped = chain_set ReapsNext (0, c.args.manager.now) (c.loop-place.from, old) (
+        id.slot + 1,
+        new,
+      ) told place list within c.loop-place.invariant.reaped next;
       rest = rest_set list c.args.reapings.now told place c.loop-place.invariant.rest;
       long = length-set list place told ∙ c.loop-place.invariant.long;
     }

@@ -18,8 +18,14 @@ loop-place-preserved c =
     let a = c.in-Some.field-0 in
     let told : Answered = record { wait = a.wait; thread = a.thread; code = a.code } in
     let step : Step old (calls.WaitResult a.wait) (Code a.code) new =
-    subst (λ (reply : Reply). Step old (calls.WaitResult a.wait) reply new) (answered old new a.wait a c.wait_result.result c.in-Some.ensures.answer c.wait_result.ensures) c.wait_result.ensures in
-    let next : TakesNext old told new = record { least = c.in-Some.ensures.least; answer = c.in-Some.ensures.answer; step = step } in
+    subst (λ (reply : Reply). Step old (calls.WaitResult a.wait) reply new)
+    (answered old new a.wait a c.wait_result.result c.in-Some.ensures.answer c.wait_result.ensures)
+    c.wait_result.ensures in
+    let next : TakesNext old told new = record {
+      least = c.in-Some.ensures.least;
+      answer = c.in-Some.ensures.answer;
+      step = step;
+    } in
     let within : place < length list = omega (arith, c.loop-place-test.true, c.loop-place.invariant.long) in
     record {
       taken = chain_set TakesNext c.args.manager.now old new told place list within c.loop-place.invariant.taken next;

@@ -7,5 +7,7 @@ pub returns-in-Ok-run_whole : goal.returns-in-Ok-run_whole
 returns-in-Ok-run_whole c =
     let ended = c.in-Ok-run_whole.ensures.answers in
     answers c.in-Ok.limits c.in-Ok.ensures.same ended.0 ended.2
-    (subst (λ (bytes : List ℕ). HandsOver bytes c.hand_over.result c.args.answers.now c.hand_over.new.room c.hand_over.new.length)
-    (c.as_slice.ensures ∙ ended.1 ∙ ap (λ (front : List ℕ). front ++ ended.0) c.new-sink.ensures.bytes) c.hand_over.ensures)
+    (subst (λ (bytes : List ℕ). HandsOver bytes c.hand_over.result c.args.answers.now c.hand_over.new.room
+    c.hand_over.new.length)
+    (c.as_slice.ensures ∙ ended.1 ∙ ap (λ (front : List ℕ). front ++ ended.0) c.new-sink.ensures.bytes)
+    c.hand_over.ensures)

@@ -4,4 +4,5 @@ use Rattle.ob_script.specs.Writing.{label}
 use Rattle.ob_script.proofs.writing.Line.each.Given as goal
 
 abbrev pub invariant-loop-handle : goal.invariant-loop-handle
-invariant-loop-handle l = l.self ≡ l.fn.self ++ flat_map (λ handle. 32 ∷ label 104 handle) (take l.handle-index l.handles)
+invariant-loop-handle l = l.self ≡ l.fn.self ++ flat_map (λ handle. 32 ∷ label 104 handle)
+    (take l.handle-index l.handles)

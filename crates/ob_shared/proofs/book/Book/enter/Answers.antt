@@ -9,6 +9,9 @@ use Rattle.ob_shared.proofs.book.Book.enter.Goals as goal
 pub invariant_of-self-2 : goal.invariant_of-self-2
 invariant_of-self-2 g c =
     let entry : Entry = record { lane = c.args.lane; call = c.args.copy; reply = c.apply-reply.result } in
-    let step = subst (λ (call : Call). Step c.self.inside.manager call c.apply-reply.result c.apply-reply.new.self) (sym c.requires) c.apply-reply.ensures.step in
-    subst (λ (entries : List Entry). IsHistory entries c.apply-reply.new.self) (sym (c.push_reserved.ensures.items ∙ ap (λ entries. entries ++ entry ∷ []) c.reserve.ensures.items))
-    (history_next c.self.inside.journal.items c.self.inside.manager c.apply-reply.new.self entry c.self.invariant step c.kept.ensures)
+    let step = subst (λ (call : Call). Step c.self.inside.manager call c.apply-reply.result c.apply-reply.new.self)
+    (sym c.requires) c.apply-reply.ensures.step in
+    subst (λ (entries : List Entry). IsHistory entries c.apply-reply.new.self)
+    (sym (c.push_reserved.ensures.items ∙ ap (λ entries. entries ++ entry ∷ []) c.reserve.ensures.items))
+    (history_next c.self.inside.journal.items c.self.inside.manager c.apply-reply.new.self entry c.self.invariant step
+    c.kept.ensures)

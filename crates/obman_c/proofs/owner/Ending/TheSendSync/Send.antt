@@ -16,9 +16,13 @@ use Rattle.obman_c.proofs.owned.OwnedManager.TheSendSync.{the_send}
 use Rattle.obman_c.proofs.Sending.{leads, leaving}
 use Rattle.obman_c.specs.contracts.owner.Ending.{the_row, the_type}
 
-keyless : (alloc : Global) (at : Ptr) (value : Option (OwnedManager.the_row).Denot) → Keyless (owns_or_null OwnedManager.the_row alloc at value)
+keyless : (alloc : Global) (at : Ptr) (value : Option (OwnedManager.the_row).Denot)
+    → Keyless (owns_or_null OwnedManager.the_row alloc at value)
 keyless alloc at None = tt
-keyless alloc at (Some held) = (leads OwnedManager.the_row the_send at held, frees.frees alloc (raw (lone OwnedManager.the_row.mir)) at)
+keyless alloc at (Some held) = (
+  leads OwnedManager.the_row the_send at held,
+  frees.frees alloc (raw (lone OwnedManager.the_row.mir)) at,
+)
 
 pub send : IsSend the_row
 send =

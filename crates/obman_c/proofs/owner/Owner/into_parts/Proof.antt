@@ -13,12 +13,17 @@ stayed = (stay_dropped (plain (λ _. Owner.the_row)) yes, tt)
 pub into_parts_spec : {M : Type 1} → statement M
 into_parts_spec 𝓤 𝓛 𝓜 𝓡 wired =
     let 𝓣 = tables 𝓤 𝓛.H 𝓜 𝓡 𝓡.env in let c = F.clauses 𝓛 𝓜.mem 𝓡.returns in let E = of_manager in
-    proved_at 𝓛 F.ended stayed c 𝓜 𝓡 (Goes-dropped 𝓛 0 (plain (λ _. Owner.the_row)) yes (λ κs x f. refl), tt) #self code.function (code.unfolded 𝓤 𝓛.H 𝓜 𝓡 wired) (λ z are.
+    proved_at 𝓛 F.ended stayed c 𝓜 𝓡 (
+      Goes-dropped 𝓛 0 (plain (λ _. Owner.the_row)) yes (λ κs x f. refl),
+      tt,
+    ) #self code.function (code.unfolded 𝓤 𝓛.H 𝓜 𝓡 wired) (λ z are.
     let owner = z.0.3.0 in let To = Parts.the_row E.row E.al.row E.al.g in
-    let boxed : D E = record { ptr = owner.at; alloc = owner.alloc; value = owner.value } in let parts : To.Denot = record { at = owner.at; alloc = owner.alloc; value = owner.value } in
+    let boxed : D E = record { ptr = owner.at; alloc = owner.alloc; value = owner.value } in
+    let parts : To.Denot = record { at = owner.at; alloc = owner.alloc; value = owner.value } in
     qed 𝓛 ((‵ ftrue ⊛ ‵ (fsep ((B E).own_val boxed z.0.4.0) ftrue)) ∷ raw (emp 𝓤) ∷ []) ∵ split ! $ drop ! $ fsplit ! $
     box_out E ! boxed z.0.4.0 (λ b o h at_b is fits.
-    regoal ! (λ (vs : List Val). prop (WpFn 𝓤 𝓛.H 𝓣.C 𝓣.Λ code.function (vs ++ []) ((walk_of 𝓛 F.ended stayed c).post z))) is refl $
+    regoal ! (λ (vs : List Val). prop (WpFn 𝓤 𝓛.H 𝓣.C 𝓣.Λ code.function (vs ++ [])
+    ((walk_of 𝓛 F.ended stayed c).post z))) is refl $
     box_in E ! boxed b o owner.value at_b refl $ use1 𝓛 (‵ (To.own_val parts (word E h b o ∷ []))) (id⊢ 𝓤 _) $
     enter ! _ _ _ _ _ $ alloc_all ! (λ l. pass_all ! refl (box_typed E h b o fits, tt) $
     sets ! (of_opd ! (get_in ! (fld ! refl (stop !)) (sub ! 0 refl (whole !)))) refl (tt, tt) $

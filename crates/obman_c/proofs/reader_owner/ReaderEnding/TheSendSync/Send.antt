@@ -16,9 +16,13 @@ use Rattle.obman_c.proofs.owned.OwnedReader.TheSendSync.{the_send}
 use Rattle.obman_c.proofs.Sending.{leads, leaving}
 use Rattle.obman_c.specs.contracts.reader_owner.ReaderEnding.{the_row, the_type}
 
-keyless : (alloc : Global) (at : Ptr) (value : Option (OwnedReader.the_row).Denot) → Keyless (owns_or_null OwnedReader.the_row alloc at value)
+keyless : (alloc : Global) (at : Ptr) (value : Option (OwnedReader.the_row).Denot)
+    → Keyless (owns_or_null OwnedReader.the_row alloc at value)
 keyless alloc at None = tt
-keyless alloc at (Some held) = (leads OwnedReader.the_row the_send at held, frees.frees alloc (raw (lone OwnedReader.the_row.mir)) at)
+keyless alloc at (Some held) = (
+  leads OwnedReader.the_row the_send at held,
+  frees.frees alloc (raw (lone OwnedReader.the_row.mir)) at,
+)
 
 pub send : IsSend the_row
 send =

@@ -14,5 +14,8 @@ use Rattle.obman_c.specs.contracts.reader_owner.ReaderOwner.{the_row, the_type}
 pub send : IsSend the_row
 send =
     let each : AllSend (fields the_type) = (search sendable, (heap.the_field_send, tt)) in
-    owning_send the_type each (λ owner. (leads OwnedReader.the_row the_send owner.at owner.value, frees.frees owner.alloc (raw (lone OwnedReader.the_row.mir)) owner.at))
+    owning_send the_type each (λ owner. (
+      leads OwnedReader.the_row the_send owner.at owner.value,
+      frees.frees owner.alloc (raw (lone OwnedReader.the_row.mir)) owner.at,
+    ))
     (λ k. leaving (to the_type) (exits_of k (fields the_type)) ((struct_send (shape the_type) each).leaving k))
