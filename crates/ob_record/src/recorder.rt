@@ -1,5 +1,5 @@
-ghost use Rattle.std.specs.Prelude.{◌≡◌, ◌≢◌, ◌-◌, ◌<◌, ◌≤◌, ◌++◌, ℕ, [], false, length, slice_index_or, true};
-ghost use Rattle.std.specs.Prelude.{OnErr, OnOk};
+ghost use Rattle.std.specs.Prelude.{◌≡◌, ◌≢◌, ◌↔◌, ◌-◌, ◌<◌, ◌≤◌, ◌++◌, ℕ, [], false, length, slice_index_or, true};
+ghost use Rattle.std.specs.Prelude.{IsTrue, OnErr, OnOk};
 ghost use Rattle.ob_manager.specs.Calls.{with_parts};
 ghost use Rattle.ob_record.specs.Recording.{Adds, Notes, TakesLines, last_line, recording};
 ghost use Rattle.ob_record.specs.Telling.{text_for};
@@ -54,6 +54,13 @@ impl Recorder {
         ensures { result ≡ self.now.is_on }
     {
         self.block.is_some()
+    }
+
+    /// Whether all that was recorded has been taken.
+    pub fn is_empty(&self) -> bool
+        ensures { IsTrue result ↔ (self.now.text ≡ []) }
+    {
+        self.text.is_empty()
     }
 
     /// Calls are recorded from now on. The refusal is want of memory.
