@@ -126,6 +126,9 @@ extern "C" {
 /* The most bytes of a name without its prefix. */
 #define OM_NAME_MOST 260u
 
+/* The most bytes of a line that om_take_record hands out, with its line feed. */
+#define OM_LINE_MOST 4098u
+
 /* Limits that serve most guests: om_limits limits = OM_LIMITS_DEFAULT; */
 #define OM_LIMITS_DEFAULT {64u, 64u, 256u, 1024u, 1000000u, 1073741823u, 4294967295u, 2147483647u}
 
@@ -509,6 +512,18 @@ uint32_t om_take_ended(om_manager *m, om_reaping *reapings, size_t capacity, siz
  * prefix and with no zero byte behind it; `capacity` bytes stand at `name`, and OM_NAME_MOST are always enough.
  * OM_ERROR_NO_MORE_ITEMS behind the last row; OM_ERROR_INSUFFICIENT_BUFFER where the name doesn't fit, and the row is written. */
 uint32_t om_directory_at(om_manager *m, size_t at, char *name, size_t capacity, om_row *row);
+
+/* Records each call from now on, or no more: what changes something or may be refused, and each wait and slot that om_take_answered and
+ * om_take_ended take; not what only looks. A manager begins with it off. Where memory is wanting for a line the recording stops behind
+ * the line "# recording stopped: no memory", and the call answers as ever. What was recorded stays until it is taken.
+ * OM_ERROR_NOT_ENOUGH_MEMORY, where `on`: then it is as it was. */
+uint32_t om_record(om_manager *m, bool on);
+
+/* Takes what was recorded since, whole lines only, as many as `capacity` bytes at `lines` have room for: *written says how many bytes. A
+ * call is the line of a script that asks for it (docs/FORMATS.md), with its answer behind # in the next line, so that obman replays it
+ * under the same limits; where a line can't make the call again it stands behind # too. Repeat it until *written is 0.
+ * OM_ERROR_INSUFFICIENT_BUFFER where lines are left and not one fits, with 0 in *written: OM_LINE_MOST bytes are always enough. */
+uint32_t om_take_record(om_manager *m, char *lines, size_t capacity, size_t *written);
 
 /* Answers a whole script over a manager of its own, as the program obman does: script and answers are as its format has them.
  * `capacity` bytes stand at `answers`; *written says how many the answers have.

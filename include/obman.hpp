@@ -310,6 +310,13 @@ public:
         std::uint32_t status = om_script(&limits, bytes(script), script.size(), answers.data(), answers.size(), &written);
         return {status, written};
     }
+    // Calls recorded as lines of a script with their answers; what was recorded since, as many whole lines as fit.
+    status_only record(bool on) noexcept { return status_only(om_record(&m_, on)); }
+    result<std::size_t> take_record(span<char> lines) noexcept {
+        std::size_t written = 0;
+        std::uint32_t status = om_take_record(&m_, lines.data(), lines.size(), &written);
+        return {status, written};
+    }
     std::size_t directory_len() noexcept { return om_directory_len(&m_); }
     result<om_row> directory_at(std::size_t at, span<char> name) noexcept {
         om_row row{};

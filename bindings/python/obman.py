@@ -42,6 +42,7 @@ WAIT_OBJECT_0, WAIT_ABANDONED_0, WAIT_TIMEOUT = 0, 128, 258
 EVENT, MUTEX, SEMAPHORE, TIMER, ENDED = range(5)
 FREED, RETIRED, HELD = range(3)
 NAME_MOST = 260
+LINE_MOST = 4098
 SUCCESS, ERROR_ALREADY_EXISTS, ERROR_IO_PENDING = 0, 183, 997
 
 ERRORS = {
@@ -183,6 +184,8 @@ FUNCTIONS = {
     "om_reap": (_U, [_M, _U, POINTER(Reaping)]),
     "om_take_ended": (_U, [_M, POINTER(Reaping), _Z, POINTER(_Z)]),
     "om_directory_at": (_U, [_M, _Z, POINTER(c_char), _Z, POINTER(_Row)]),
+    "om_record": (_U, [_M, _B]),
+    "om_take_record": (_U, [_M, POINTER(c_char), _Z, POINTER(_Z)]),
     "om_script": (_U, [POINTER(Limits), ctypes.c_char_p, _Z, POINTER(c_char), _Z, POINTER(_Z)]),
     "om_reader_new": (_U, [_M, _R]),
     "om_reader_free": (None, [_Reader]),
@@ -541,6 +544,18 @@ class Manager(_Owner):
         for at in range(_c.om_directory_len(self._at)):
             _done(_c.om_directory_at(self._at, at, base, NAME_MOST, row))
             yield Name(Object.from_buffer_copy(row.object), row.session, base.raw[: row.length])
+
+    def record(self, on=True):
+        """Records each call that changes something or may be refused from now on, or no more."""
+        _done(_c.om_record(self._at, on))
+
+    def recorded(self):
+        """Takes what was recorded since: lines of a script, each call with its answer behind # in the next line."""
+        lines, written, all_of_them = ctypes.create_string_buffer(16 * LINE_MOST), c_size_t(1), b""
+        while written.value:
+            _done(_c.om_take_record(self._at, lines, len(lines), written))
+            all_of_them += lines.raw[: written.value]
+        return all_of_them
 
     def reader(self):
         """A reader, which pins objects on any thread without this manager."""

@@ -63,6 +63,8 @@ pub const DUPLICATE_CLOSE_SOURCE: u32 = 1;
 pub const DUPLICATE_SAME_ACCESS: u32 = 2;
 /// The milliseconds of a wait without end.
 pub const INFINITE: u32 = u32::MAX;
+/// The most bytes of a recorded line, with its line feed.
+pub const LINE_MOST: u32 = 4098;
 /// Which release this binding is of, 1.0.0: two decimal digits each for the second number and the third.
 pub const VERSION: u32 = 10000;
 
@@ -815,6 +817,25 @@ impl Manager {
     /// How many names objects have.
     pub fn directory_len(&mut self) -> usize {
         unsafe { sys::om_directory_len(&mut self.m) }
+    }
+
+    /// Records each call that changes something or may be refused from now on, or no more.
+    pub fn record(&mut self, on: bool) -> Result<(), Error> {
+        done(unsafe { sys::om_record(&mut self.m, on) })
+    }
+
+    /// Takes what was recorded since: lines of a script, each call with its answer behind `#` in the next line.
+    pub fn recorded(&mut self) -> Vec<u8> {
+        let (mut all, mut count) = (Vec::new(), 0);
+        loop {
+            let from = all.len();
+            all.resize(from + 16 * LINE_MOST as usize, 0);
+            unsafe { sys::om_take_record(&mut self.m, all[from..].as_mut_ptr(), all.len() - from, &mut count) };
+            all.truncate(from + count);
+            if count == 0 {
+                return all;
+            }
+        }
     }
 
     /// A reader, which pins objects on any thread without this manager.

@@ -205,6 +205,13 @@ extern "C" {
         capacity: usize,
         row: *mut om_row,
     ) -> u32;
+    pub fn om_record(m: *mut om_manager, on: bool) -> u32;
+    pub fn om_take_record(
+        m: *mut om_manager,
+        lines: *mut u8,
+        capacity: usize,
+        written: *mut usize,
+    ) -> u32;
     pub fn om_script(
         limits: *const om_limits,
         script: *const u8,

@@ -1,11 +1,12 @@
 -- How a manager comes to be at a place.
-use Rattle.std.specs.Prelude.{◌≡◌, ℕ, Option, Some}
+use Rattle.std.specs.Prelude.{◌≡◌, ℕ, false, [], Option, Some}
 use Rattle.pin_core.specs.declared.shape.Shape.{Shape}
 use Rattle.pin_words.specs.Keepers.{state_of}
 use Rattle.pin_words.specs.Seats.{KeeperSeat, TableState}
 use Rattle.pin_words.specs.Views.{keeper_gave, opening_keeper}
 use Rattle.ob_store.specs.declared.limits.Limits.{Limits}
 use Rattle.ob_store.specs.State.{Whole, opening, shape_of}
+use Rattle.ob_record.specs.Recording.{recording}
 use Rattle.obman_c.specs.declared.owned.OwnedManager.{OwnedManager}
 use Rattle.obman_c_base.specs.declared.limits.Bounds.{Bounds}
 use Rattle.obman_c_base.specs.Allowed.{AreAllowed, AreAs}
@@ -18,11 +19,15 @@ new_keeper shape t = record { table = t; view = keeper_gave (opening_keeper shap
 abbrev pub new_manager : Limits → TableState → Whole
 new_manager limits t = record { state = opening limits; keeper = state_of (new_keeper (shape_of limits) t) }
 
+-- and nothing is recorded
+abbrev pub new_owned : Limits → TableState → OwnedManager
+new_owned limits t = record { manager = new_manager limits t; recorder = recording [] false }
+
 -- A place gets a new manager with these limits, over words of its own, and 0 is told; or it stays as it is, and 87 is
 -- told where a
 -- limit is out of its range, else 8, for want of memory.
 pub data Opens (b : Bounds) (status : ℕ) (before after : Option OwnedManager) : Type 0 where
   opens : (limits : Limits) (t : TableState) → AreAs b limits → status ≡ 0
-      → after ≡ Some (record { manager = new_manager limits t }) → Opens b status before after
+      → after ≡ Some (new_owned limits t) → Opens b status before after
   outside : (AreAllowed b → ⊥) → status ≡ 87 → after ≡ before → Opens b status before after
   lacks : AreAllowed b → status ≡ 8 → after ≡ before → Opens b status before after

@@ -4,11 +4,13 @@ use Rattle.ob_rights.specs.Fault.{code_of}
 use Rattle.pin_core.specs.declared.id.Id.{Id}
 use Rattle.pin_words.specs.declared.pin_keeper.Reclaim.{Reclaim}
 use Rattle.pin_words.specs.declared.pin_keeper.Reclaim.TheVariants.{Freed, Retired, Held}
-use Rattle.ob_store.specs.State.{Whole}
 use Rattle.ob_manager.specs.Calls.{Call}
 use Rattle.ob_manager.specs.declared.reply.Reply.{Reply}
 use Rattle.ob_manager.specs.declared.reply.Reply.TheVariants.{Spawned, Started, Made, Exists, Opened, Duplicated, Closed, Done, Flags, Previous, Code, Pending, Expired, Ended, Exited, Reaped, CountsAre, Ticked, Refused}
 use Rattle.ob_manager.specs.Steps.{Step}
+use Rattle.ob_record.specs.Recording.{Notes, Recording}
+use Rattle.ob_record.specs.Telling.{text_for}
+use Rattle.obman_c.specs.declared.owned.OwnedManager.{OwnedManager}
 use Rattle.obman_c.specs.declared.values.Member.{Member}
 use Rattle.obman_c.specs.declared.values.Object.{Object}
 use Rattle.obman_c.specs.declared.values.Opening.{Opening}
@@ -38,18 +40,25 @@ status_of (Reaped id outcome) = 0
 status_of (CountsAre handles waits hold) = 0
 status_of (Ticked now) = 0
 
--- From a state a call gives some reply and goes on as the manager does, and this number is told of the reply.
-pub record Tells (old : Whole) (call : Call) (status : ℕ) (new : Whole) : Type 0 where
+-- where calls are recorded, one is, with its reply
+pub record IsNoted (old : Recording) (call : Call) (reply : Reply) (new : Recording) : Type 0 where
+  pub lines : Notes old (text_for call reply) new
+
+-- From a state a call gives some reply and goes on as the manager does, this number is told of the reply, and where
+-- calls are recorded this one is, with the reply.
+pub record Tells (old : OwnedManager) (call : Call) (status : ℕ) (new : OwnedManager) : Type 0 where
   pub reply : Reply
-  pub step : Step old call reply new
+  pub step : Step old.manager call reply new.manager
   pub told : status ≡ status_of reply
+  pub noted : IsNoted old.recorder call reply new.recorder
 
 -- the same where a value is told too, over what stood at its place
 pub record TellsAs {V : Type 0} (value_of : Reply → V
-    → V) (old : Whole) (call : Call) (status : ℕ) (new : Whole) (before after : V) : Type 0 where
+    → V) (old : OwnedManager) (call : Call) (status : ℕ) (new : OwnedManager) (before after : V) : Type 0 where
   pub reply : Reply
-  pub step : Step old call reply new
+  pub step : Step old.manager call reply new.manager
   pub told : status ≡ status_of reply
+  pub noted : IsNoted old.recorder call reply new.recorder
   pub value : after ≡ value_of reply before
 
 -- Each value by the replies that have one; no other reply changes what stood there.

@@ -7,7 +7,7 @@ ghost use Rattle.obman_c.specs.Telling.{TellsAs, opening_in};
 
 use crate::owner::Owner;
 use crate::values::{Opening, tell_opening};
-use ob_manager::Make;
+use ob_manager::{Ask, Make};
 use ob_rights::{Kind, Rights};
 
 /// What a create asks for (`om_making`), beside the name's bytes and the object's own state. All zeros ask for no name,
@@ -50,7 +50,6 @@ fn rights_in(is_there: bool, mask: u32) -> Option<Rights>
 }
 
 /// [`Manager::create_event`](ob_manager::Manager::create_event): 0, 183, 87, 170, 206, 3, 6, 5, 1450 or 8.
-#[tactic(auto, using(crate::proofs::Told::tells_as))]
 #[unsafe(no_mangle)]
 pub extern "C" fn om_create_event(
     owner: &mut Owner,
@@ -61,20 +60,26 @@ pub extern "C" fn om_create_event(
     set: bool,
     opening: &mut Opening,
 ) -> u32
-    ensures { TellsAs opening_in owner.old.value.manager (Call.MakeEvent thread (asked_for asking.now name.now) manual set) result owner.new.value.manager opening.old opening.new }
+    ensures { TellsAs opening_in owner.old.value
+        (Call.MakeEvent thread (asked_for asking.now name.now) manual set)
+        result owner.new.value opening.old opening.new }
 {
     let make = make_of(asking, name);
-    tell_opening(
-        owner
-            .lend()
-            .manager
-            .create_event(thread, &make, manual, set),
-        opening,
-    )
+    let held = owner.lend();
+    let reply = held.manager.create_event(thread, &make, manual, set);
+    held.note(
+        &Ask::MakeEvent {
+            thread,
+            make,
+            manual,
+            set,
+        },
+        &reply,
+    );
+    tell_opening(reply, opening)
 }
 
 /// [`Manager::create_mutex`](ob_manager::Manager::create_mutex): 0, 183, 87, 170, 206, 3, 6, 5, 1450 or 8.
-#[tactic(auto, using(crate::proofs::Told::tells_as))]
 #[unsafe(no_mangle)]
 pub extern "C" fn om_create_mutex(
     owner: &mut Owner,
@@ -84,17 +89,25 @@ pub extern "C" fn om_create_mutex(
     owned: bool,
     opening: &mut Opening,
 ) -> u32
-    ensures { TellsAs opening_in owner.old.value.manager (Call.MakeMutex thread (asked_for asking.now name.now) owned) result owner.new.value.manager opening.old opening.new }
+    ensures { TellsAs opening_in owner.old.value
+        (Call.MakeMutex thread (asked_for asking.now name.now) owned)
+        result owner.new.value opening.old opening.new }
 {
     let make = make_of(asking, name);
-    tell_opening(
-        owner.lend().manager.create_mutex(thread, &make, owned),
-        opening,
-    )
+    let held = owner.lend();
+    let reply = held.manager.create_mutex(thread, &make, owned);
+    held.note(
+        &Ask::MakeMutex {
+            thread,
+            make,
+            owned,
+        },
+        &reply,
+    );
+    tell_opening(reply, opening)
 }
 
 /// [`Manager::create_semaphore`](ob_manager::Manager::create_semaphore): 0, 183, 87, 170, 206, 3, 6, 5, 1450 or 8.
-#[tactic(auto, using(crate::proofs::Told::tells_as))]
 #[unsafe(no_mangle)]
 pub extern "C" fn om_create_semaphore(
     owner: &mut Owner,
@@ -105,22 +118,26 @@ pub extern "C" fn om_create_semaphore(
     max: i32,
     opening: &mut Opening,
 ) -> u32
-    ensures { TellsAs opening_in owner.old.value.manager
+    ensures { TellsAs opening_in owner.old.value
         (Call.MakeSemaphore thread
-        (asked_for asking.now name.now) initial max) result owner.new.value.manager opening.old opening.new }
+        (asked_for asking.now name.now) initial max) result owner.new.value opening.old opening.new }
 {
     let make = make_of(asking, name);
-    tell_opening(
-        owner
-            .lend()
-            .manager
-            .create_semaphore(thread, &make, initial, max),
-        opening,
-    )
+    let held = owner.lend();
+    let reply = held.manager.create_semaphore(thread, &make, initial, max);
+    held.note(
+        &Ask::MakeSemaphore {
+            thread,
+            make,
+            initial,
+            max,
+        },
+        &reply,
+    );
+    tell_opening(reply, opening)
 }
 
 /// [`Manager::create_timer`](ob_manager::Manager::create_timer): 0, 183, 87, 170, 206, 3, 6, 5, 1450 or 8.
-#[tactic(auto, using(crate::proofs::Told::tells_as))]
 #[unsafe(no_mangle)]
 pub extern "C" fn om_create_timer(
     owner: &mut Owner,
@@ -130,13 +147,22 @@ pub extern "C" fn om_create_timer(
     manual: bool,
     opening: &mut Opening,
 ) -> u32
-    ensures { TellsAs opening_in owner.old.value.manager (Call.MakeTimer thread (asked_for asking.now name.now) manual) result owner.new.value.manager opening.old opening.new }
+    ensures { TellsAs opening_in owner.old.value
+        (Call.MakeTimer thread (asked_for asking.now name.now) manual)
+        result owner.new.value opening.old opening.new }
 {
     let make = make_of(asking, name);
-    tell_opening(
-        owner.lend().manager.create_timer(thread, &make, manual),
-        opening,
-    )
+    let held = owner.lend();
+    let reply = held.manager.create_timer(thread, &make, manual);
+    held.note(
+        &Ask::MakeTimer {
+            thread,
+            make,
+            manual,
+        },
+        &reply,
+    );
+    tell_opening(reply, opening)
 }
 
 /// [`Manager::open_named`](ob_manager::Manager::open_named) of an event: 0, 87, 170, 206, 3, 2, 6, 5, 1450 or 8.
@@ -150,17 +176,26 @@ pub extern "C" fn om_open_event(
     name: &[u8],
     opening: &mut Opening,
 ) -> u32
-    ensures { TellsAs opening_in owner.old.value.manager
+    ensures { TellsAs opening_in owner.old.value
         (Call.OpenNamed thread Kind.Event
-        (mask_of access) inherit name.now) result owner.new.value.manager opening.old opening.new }
+        (mask_of access) inherit name.now) result owner.new.value opening.old opening.new }
 {
-    tell_opening(
-        owner
-            .lend()
-            .manager
-            .open_named(thread, Kind::Event, Rights(access), inherit, name),
-        opening,
-    )
+    let mask = Rights(access);
+    let held = owner.lend();
+    let reply = held
+        .manager
+        .open_named(thread, Kind::Event, mask, inherit, name);
+    held.note(
+        &Ask::OpenNamed {
+            thread,
+            kind: Kind::Event,
+            mask,
+            inherit,
+            text: name,
+        },
+        &reply,
+    );
+    tell_opening(reply, opening)
 }
 
 /// [`Manager::open_named`](ob_manager::Manager::open_named) of a mutex: 0, 87, 170, 206, 3, 2, 6, 5, 1450 or 8.
@@ -174,17 +209,26 @@ pub extern "C" fn om_open_mutex(
     name: &[u8],
     opening: &mut Opening,
 ) -> u32
-    ensures { TellsAs opening_in owner.old.value.manager
+    ensures { TellsAs opening_in owner.old.value
         (Call.OpenNamed thread Kind.Mutex
-        (mask_of access) inherit name.now) result owner.new.value.manager opening.old opening.new }
+        (mask_of access) inherit name.now) result owner.new.value opening.old opening.new }
 {
-    tell_opening(
-        owner
-            .lend()
-            .manager
-            .open_named(thread, Kind::Mutex, Rights(access), inherit, name),
-        opening,
-    )
+    let mask = Rights(access);
+    let held = owner.lend();
+    let reply = held
+        .manager
+        .open_named(thread, Kind::Mutex, mask, inherit, name);
+    held.note(
+        &Ask::OpenNamed {
+            thread,
+            kind: Kind::Mutex,
+            mask,
+            inherit,
+            text: name,
+        },
+        &reply,
+    );
+    tell_opening(reply, opening)
 }
 
 /// [`Manager::open_named`](ob_manager::Manager::open_named) of a semaphore: 0, 87, 170, 206, 3, 2, 6, 5, 1450 or 8.
@@ -198,17 +242,26 @@ pub extern "C" fn om_open_semaphore(
     name: &[u8],
     opening: &mut Opening,
 ) -> u32
-    ensures { TellsAs opening_in owner.old.value.manager
+    ensures { TellsAs opening_in owner.old.value
         (Call.OpenNamed thread Kind.Semaphore
-        (mask_of access) inherit name.now) result owner.new.value.manager opening.old opening.new }
+        (mask_of access) inherit name.now) result owner.new.value opening.old opening.new }
 {
-    tell_opening(
-        owner
-            .lend()
-            .manager
-            .open_named(thread, Kind::Semaphore, Rights(access), inherit, name),
-        opening,
-    )
+    let mask = Rights(access);
+    let held = owner.lend();
+    let reply = held
+        .manager
+        .open_named(thread, Kind::Semaphore, mask, inherit, name);
+    held.note(
+        &Ask::OpenNamed {
+            thread,
+            kind: Kind::Semaphore,
+            mask,
+            inherit,
+            text: name,
+        },
+        &reply,
+    );
+    tell_opening(reply, opening)
 }
 
 /// [`Manager::open_named`](ob_manager::Manager::open_named) of a timer: 0, 87, 170, 206, 3, 2, 6, 5, 1450 or 8.
@@ -222,15 +275,24 @@ pub extern "C" fn om_open_timer(
     name: &[u8],
     opening: &mut Opening,
 ) -> u32
-    ensures { TellsAs opening_in owner.old.value.manager
+    ensures { TellsAs opening_in owner.old.value
         (Call.OpenNamed thread Kind.Timer
-        (mask_of access) inherit name.now) result owner.new.value.manager opening.old opening.new }
+        (mask_of access) inherit name.now) result owner.new.value opening.old opening.new }
 {
-    tell_opening(
-        owner
-            .lend()
-            .manager
-            .open_named(thread, Kind::Timer, Rights(access), inherit, name),
-        opening,
-    )
+    let mask = Rights(access);
+    let held = owner.lend();
+    let reply = held
+        .manager
+        .open_named(thread, Kind::Timer, mask, inherit, name);
+    held.note(
+        &Ask::OpenNamed {
+            thread,
+            kind: Kind::Timer,
+            mask,
+            inherit,
+            text: name,
+        },
+        &reply,
+    );
+    tell_opening(reply, opening)
 }

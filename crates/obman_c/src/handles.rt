@@ -9,11 +9,11 @@ ghost use Rattle.obman_c.specs.Telling.{Tells, TellsAs, flags_in, opening_in};
 use crate::owner::Owner;
 use crate::status::told;
 use crate::values::{Object, Opening, object_of, tell_flags, tell_opening};
+use ob_manager::Ask;
 use ob_rights::{Rights, code_of};
 use obman_c_base::SUCCESS;
 
 /// [`Manager::duplicate`](ob_manager::Manager::duplicate), where the target 0 is none: 0, 87, 170, 6, 5, 1450 or 8.
-#[tactic(auto, using(crate::proofs::Told::tells_as))]
 #[unsafe(no_mangle)]
 pub extern "C" fn om_duplicate(
     owner: &mut Owner,
@@ -26,19 +26,27 @@ pub extern "C" fn om_duplicate(
     options: u32,
     opening: &mut Opening,
 ) -> u32
-    ensures { TellsAs opening_in owner.old.value.manager
+    ensures { TellsAs opening_in owner.old.value
         (Call.Duplicate thread source handle (number_at target)
-        (mask_of access) inherit options) result owner.new.value.manager opening.old opening.new }
+        (mask_of access) inherit options) result owner.new.value opening.old opening.new }
 {
     let target = number_at(target);
-    let reply = owner.lend().manager.duplicate(
-        thread,
-        source,
-        handle,
-        target,
-        Rights(access),
-        inherit,
-        options,
+    let mask = Rights(access);
+    let held = owner.lend();
+    let reply = held
+        .manager
+        .duplicate(thread, source, handle, target, mask, inherit, options);
+    held.note(
+        &Ask::Duplicate {
+            thread,
+            source,
+            handle,
+            target,
+            mask,
+            inherit,
+            options,
+        },
+        &reply,
     );
     tell_opening(reply, opening)
 }
@@ -54,9 +62,12 @@ fn number_at(number: u32) -> Option<u32>
 #[tactic(auto, using(crate::proofs::Told::tells))]
 #[unsafe(no_mangle)]
 pub extern "C" fn om_close(owner: &mut Owner, thread: u32, handle: u32) -> u32
-    ensures { Tells owner.old.value.manager (Call.CloseHandle thread handle) result owner.new.value.manager }
+    ensures { Tells owner.old.value (Call.CloseHandle thread handle) result owner.new.value }
 {
-    told(owner.lend().manager.close(thread, handle))
+    let held = owner.lend();
+    let reply = held.manager.close(thread, handle);
+    held.note(&Ask::CloseHandle { thread, handle }, &reply);
+    told(reply)
 }
 
 /// [`Manager::handle_flags`](ob_manager::Manager::handle_flags): 0, 87, 170 or 6.
@@ -68,11 +79,14 @@ pub extern "C" fn om_handle_flags(
     handle: u32,
     flags: &mut u32,
 ) -> u32
-    ensures step { TellsAs flags_in owner.old.value.manager
-        (Call.GetFlags thread handle) result owner.new.value.manager flags.old flags.new }
-    ensures same { owner.new.value ≡ owner.old.value }
+    ensures step { TellsAs flags_in owner.old.value
+        (Call.GetFlags thread handle) result owner.new.value flags.old flags.new }
+    ensures same { owner.new.value.manager ≡ owner.old.value.manager }
 {
-    tell_flags(owner.lend().manager.handle_flags(thread, handle), flags)
+    let held = owner.lend();
+    let reply = held.manager.handle_flags(thread, handle);
+    held.note(&Ask::GetFlags { thread, handle }, &reply);
+    tell_flags(reply, flags)
 }
 
 /// [`Manager::set_handle_flags`](ob_manager::Manager::set_handle_flags): 0, 87, 170 or 6.
@@ -85,14 +99,20 @@ pub extern "C" fn om_set_handle_flags(
     mask: u32,
     flags: u32,
 ) -> u32
-    ensures { Tells owner.old.value.manager (Call.SetFlags thread handle mask flags) result owner.new.value.manager }
+    ensures { Tells owner.old.value (Call.SetFlags thread handle mask flags) result owner.new.value }
 {
-    told(
-        owner
-            .lend()
-            .manager
-            .set_handle_flags(thread, handle, mask, flags),
-    )
+    let held = owner.lend();
+    let reply = held.manager.set_handle_flags(thread, handle, mask, flags);
+    held.note(
+        &Ask::SetFlags {
+            thread,
+            handle,
+            mask,
+            flags,
+        },
+        &reply,
+    );
+    told(reply)
 }
 
 /// [`Manager::resolve`](ob_manager::Manager::resolve): 0, 87 or 6.

@@ -28,6 +28,7 @@ mod reader_owner;
 mod readers;
 mod reading;
 mod reaping;
+mod recording;
 mod signaling;
 mod status;
 mod timing;

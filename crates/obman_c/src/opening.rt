@@ -4,11 +4,12 @@ ghost use Rattle.pin_core.specs.Shapes.{IsWithinLimits};
 ghost use Rattle.pin_words.specs.Seats.{TableState};
 ghost use Rattle.ob_store.specs.State.{shape_of};
 ghost use Rattle.obman_c.specs.declared.owned.OwnedManager.{OwnedManager};
-ghost use Rattle.obman_c.specs.Opening.{Opens, new_keeper, new_manager};
+ghost use Rattle.obman_c.specs.Opening.{Opens, new_keeper, new_owned};
 
 use crate::owned::OwnedManager;
 use crate::owner::{Ending, Place};
 use ob_manager::{Limits, Manager};
+use ob_record::Recorder;
 use ob_rights::{Fault, code_of};
 use obman_c_base::{Bounds, SUCCESS, limits_of};
 use pin_core::Shape;
@@ -44,12 +45,18 @@ pub extern "C" fn om_free(ending: Ending) {
 
 /// A new manager in a box of its own.
 fn held(alloc: Global, limits: Limits) -> Result<Box<OwnedManager>, Fault>
-    ensures new { IfOk result (λ held. (t : TableState) × (held.value ≡ record { manager = new_manager limits t })) }
+    ensures new { IfOk result (λ held. (t : TableState) × (held.value ≡ new_owned limits t)) }
     ensures memory { IfErr result (λ fault. fault ≡ Fault.Memory) }
 {
     let keeper = keeper(alloc, limits.shape())?;
     match Manager::new(alloc, limits, keeper) {
-        Ok(manager) => Ok(Box::new(alloc, OwnedManager { manager })?),
+        Ok(manager) => Ok(Box::new(
+            alloc,
+            OwnedManager {
+                manager,
+                recorder: Recorder::new(alloc),
+            },
+        )?),
         Err(_) => Err(Fault::Memory),
     }
 }

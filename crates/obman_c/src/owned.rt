@@ -1,4 +1,10 @@
-use ob_manager::Manager;
+ghost use Rattle.std.specs.Prelude.{◌≡◌};
+ghost use Rattle.ob_manager.specs.Calls.{with_parts};
+ghost use Rattle.ob_manager.specs.Makings.{making_of};
+ghost use Rattle.obman_c.specs.Telling.{IsNoted};
+
+use ob_manager::{Ask, Manager, Reply};
+use ob_record::Recorder;
 use pin_words::{Keeper, Reader};
 
 /// What C's pointer to a manager leads to.
@@ -6,6 +12,8 @@ use pin_words::{Keeper, Reader};
 pub struct OwnedManager {
     /// The manager, over words that readers pin beside it.
     pub manager: Manager<Keeper>,
+    /// Its calls with their answers, while they are recorded.
+    pub recorder: Recorder,
 }
 
 /// What C's pointer to a reader leads to.
@@ -13,4 +21,19 @@ pub struct OwnedManager {
 pub struct OwnedReader {
     /// The reader.
     pub reader: Reader,
+}
+
+impl OwnedManager {
+    /// Records a call with its answer, where calls are recorded.
+    #[inline(always)]
+    #[tactic(auto, using(crate::proofs::Told::notes))]
+    pub fn note(&mut self, call: &Ask<'_>, reply: &Reply)
+        ensures notes { IsNoted self.old.recorder
+            (with_parts making_of (λ text. text.now) (λ handles. handles.now) call.now) reply.now self.new.recorder }
+        ensures manager { self.new.manager ≡ self.old.manager }
+    {
+        if self.recorder.is_on() {
+            self.recorder.note(call, reply);
+        }
+    }
 }

@@ -36,7 +36,8 @@ pub struct Descriptor {
 #[tactic(auto, using(crate::proofs::Read::opened, crate::proofs::Read::lacking, crate::proofs::Read::lacking_owner))]
 #[unsafe(no_mangle)]
 pub extern "C" fn om_reader_new(alloc: Global, owner: &mut Owner, place: &mut ReaderPlace) -> u32
-    ensures { ReaderOpens owner.old.value.manager result owner.new.value.manager place.old.value place.new.value }
+    ensures opens { ReaderOpens owner.old.value.manager result owner.new.value.manager place.old.value place.new.value }
+    ensures recorder { owner.new.value.recorder ≡ owner.old.value.recorder }
 {
     let Some(reader) = owner.lend().manager.reader() else {
         return code_of(Fault::Memory);

@@ -5,34 +5,37 @@ ghost use Rattle.obman_c.specs.Pinning.{id_at};
 ghost use Rattle.obman_c.specs.Reaping.{ReapsAll, ReapsTold};
 ghost use Rattle.obman_c.specs.Telling.{TellsAs, references_in};
 
+use crate::owned::OwnedManager;
 use crate::owner::Owner;
 use crate::values::{Reaping, References, tell_reaping, tell_references};
-use ob_manager::Manager;
+use ob_manager::Ask;
 use obman_c_base::SUCCESS;
 use pin_core::Id;
-use pin_words::Keeper;
 
 /// [`Manager::reap`](ob_manager::Manager::reap): 0, 87 or 6.
-#[tactic(auto, using(crate::proofs::Told::reaps))]
 #[unsafe(no_mangle)]
 pub extern "C" fn om_reap(owner: &mut Owner, slot: u32, reaping: &mut Reaping) -> u32
-    ensures { ReapsTold slot owner.old.value.manager result owner.new.value.manager reaping.old reaping.new }
+    ensures { ReapsTold slot owner.old.value result owner.new.value reaping.old reaping.new }
 {
-    tell_reaping(owner.lend().manager.reap(slot), reaping)
+    let held = owner.lend();
+    let reply = held.manager.reap(slot);
+    held.note(&Ask::Reap { slot }, &reply);
+    tell_reaping(reply, reaping)
 }
 
 /// Slots of ended objects by rising number, each taken back by [`Manager::reap`], as far as there are any and places
 /// for them. How many.
-fn take_ended(manager: &mut Manager<Keeper>, reapings: &mut [Reaping]) -> usize
-    ensures { ReapsAll manager.old reapings.old result manager.new reapings.new }
+fn take_ended(held: &mut OwnedManager, reapings: &mut [Reaping]) -> usize
+    ensures { ReapsAll held.old reapings.old result held.new reapings.new }
 {
     let mut from = 0;
     for place in 0..reapings.len() {
-        manager.kept();
-        let Some(id) = manager.next_closing(from) else {
+        held.manager.kept();
+        let Some(id) = held.manager.next_closing(from) else {
             return place;
         };
-        let reply = manager.reap(id.slot);
+        let reply = held.manager.reap(id.slot);
+        held.note(&Ask::Reap { slot: id.slot }, &reply);
         let _ = tell_reaping(reply, &mut reapings[place]);
         from = id.slot + 1;
     }
@@ -47,10 +50,10 @@ pub extern "C" fn om_take_ended(
     reapings: &mut [Reaping],
     count: &mut usize,
 ) -> u32
-    ensures ended { ReapsAll owner.old.value.manager reapings.old count.new owner.new.value.manager reapings.new }
+    ensures ended { ReapsAll owner.old.value reapings.old count.new owner.new.value reapings.new }
     ensures status { result ≡ 0 }
 {
-    *count = take_ended(&mut owner.lend().manager, reapings);
+    *count = take_ended(owner.lend(), reapings);
     SUCCESS
 }
 
@@ -63,10 +66,13 @@ pub extern "C" fn om_counts(
     generation: u32,
     references: &mut References,
 ) -> u32
-    ensures step { TellsAs references_in owner.old.value.manager
-        (Call.Counts (id_at slot generation)) result owner.new.value.manager references.old references.new }
-    ensures same { owner.new.value ≡ owner.old.value }
+    ensures step { TellsAs references_in owner.old.value
+        (Call.Counts (id_at slot generation)) result owner.new.value references.old references.new }
+    ensures same { owner.new.value.manager ≡ owner.old.value.manager }
 {
     let id = Id { slot, generation };
-    tell_references(owner.lend().manager.counts(id), references)
+    let held = owner.lend();
+    let reply = held.manager.counts(id);
+    held.note(&Ask::Counts { id }, &reply);
+    tell_references(reply, references)
 }

@@ -5,27 +5,33 @@ ghost use Rattle.obman_c.specs.Telling.{Tells, TellsAs, count_in};
 use crate::owner::Owner;
 use crate::status::told;
 use crate::values::tell_count;
+use ob_manager::Ask;
 
 /// [`Manager::set_event`](ob_manager::Manager::set_event): 0, 87, 170, 6 or 5.
 #[tactic(auto, using(crate::proofs::Told::tells))]
 #[unsafe(no_mangle)]
 pub extern "C" fn om_set_event(owner: &mut Owner, thread: u32, handle: u32) -> u32
-    ensures { Tells owner.old.value.manager (Call.SetEvent thread handle) result owner.new.value.manager }
+    ensures { Tells owner.old.value (Call.SetEvent thread handle) result owner.new.value }
 {
-    told(owner.lend().manager.set_event(thread, handle))
+    let held = owner.lend();
+    let reply = held.manager.set_event(thread, handle);
+    held.note(&Ask::SetEvent { thread, handle }, &reply);
+    told(reply)
 }
 
 /// [`Manager::reset_event`](ob_manager::Manager::reset_event): 0, 87, 170, 6 or 5.
 #[tactic(auto, using(crate::proofs::Told::tells))]
 #[unsafe(no_mangle)]
 pub extern "C" fn om_reset_event(owner: &mut Owner, thread: u32, handle: u32) -> u32
-    ensures { Tells owner.old.value.manager (Call.ResetEvent thread handle) result owner.new.value.manager }
+    ensures { Tells owner.old.value (Call.ResetEvent thread handle) result owner.new.value }
 {
-    told(owner.lend().manager.reset_event(thread, handle))
+    let held = owner.lend();
+    let reply = held.manager.reset_event(thread, handle);
+    held.note(&Ask::ResetEvent { thread, handle }, &reply);
+    told(reply)
 }
 
 /// [`Manager::release_semaphore`](ob_manager::Manager::release_semaphore): 0, 87, 170, 6, 5 or 298.
-#[tactic(auto, using(crate::proofs::Told::tells_as))]
 #[unsafe(no_mangle)]
 pub extern "C" fn om_release_semaphore(
     owner: &mut Owner,
@@ -34,23 +40,30 @@ pub extern "C" fn om_release_semaphore(
     count: i32,
     previous: &mut u32,
 ) -> u32
-    ensures { TellsAs count_in owner.old.value.manager
-        (Call.ReleaseSemaphore thread handle count) result owner.new.value.manager previous.old previous.new }
+    ensures { TellsAs count_in owner.old.value
+        (Call.ReleaseSemaphore thread handle count) result owner.new.value previous.old previous.new }
 {
-    tell_count(
-        owner
-            .lend()
-            .manager
-            .release_semaphore(thread, handle, count),
-        previous,
-    )
+    let held = owner.lend();
+    let reply = held.manager.release_semaphore(thread, handle, count);
+    held.note(
+        &Ask::ReleaseSemaphore {
+            thread,
+            handle,
+            count,
+        },
+        &reply,
+    );
+    tell_count(reply, previous)
 }
 
 /// [`Manager::release_mutex`](ob_manager::Manager::release_mutex): 0, 87, 170, 6 or 288.
 #[tactic(auto, using(crate::proofs::Told::tells))]
 #[unsafe(no_mangle)]
 pub extern "C" fn om_release_mutex(owner: &mut Owner, thread: u32, handle: u32) -> u32
-    ensures { Tells owner.old.value.manager (Call.ReleaseMutex thread handle) result owner.new.value.manager }
+    ensures { Tells owner.old.value (Call.ReleaseMutex thread handle) result owner.new.value }
 {
-    told(owner.lend().manager.release_mutex(thread, handle))
+    let held = owner.lend();
+    let reply = held.manager.release_mutex(thread, handle);
+    held.note(&Ask::ReleaseMutex { thread, handle }, &reply);
+    told(reply)
 }

@@ -6,33 +6,49 @@ ghost use Rattle.obman_c.specs.Telling.{Tells};
 
 use crate::owner::Owner;
 use crate::status::{NO_MORE, told};
+use ob_manager::Ask;
 use obman_c_base::SUCCESS;
 
 /// [`Manager::set_timer`](ob_manager::Manager::set_timer): 0, 87, 170, 6 or 5.
-#[tactic(auto, using(crate::proofs::Told::tells))]
 #[unsafe(no_mangle)]
 pub extern "C" fn om_set_timer(owner: &mut Owner, thread: u32, handle: u32, due: i64) -> u32
-    ensures { Tells owner.old.value.manager (Call.SetTimer thread handle due) result owner.new.value.manager }
+    ensures { Tells owner.old.value (Call.SetTimer thread handle due) result owner.new.value }
 {
-    told(owner.lend().manager.set_timer(thread, handle, due))
+    let held = owner.lend();
+    let reply = held.manager.set_timer(thread, handle, due);
+    held.note(
+        &Ask::SetTimer {
+            thread,
+            handle,
+            due,
+        },
+        &reply,
+    );
+    told(reply)
 }
 
 /// [`Manager::cancel_timer`](ob_manager::Manager::cancel_timer): 0, 87, 170, 6 or 5.
 #[tactic(auto, using(crate::proofs::Told::tells))]
 #[unsafe(no_mangle)]
 pub extern "C" fn om_cancel_timer(owner: &mut Owner, thread: u32, handle: u32) -> u32
-    ensures { Tells owner.old.value.manager (Call.CancelTimer thread handle) result owner.new.value.manager }
+    ensures { Tells owner.old.value (Call.CancelTimer thread handle) result owner.new.value }
 {
-    told(owner.lend().manager.cancel_timer(thread, handle))
+    let held = owner.lend();
+    let reply = held.manager.cancel_timer(thread, handle);
+    held.note(&Ask::CancelTimer { thread, handle }, &reply);
+    told(reply)
 }
 
 /// [`Manager::tick`](ob_manager::Manager::tick): 0 or 87.
 #[tactic(auto, using(crate::proofs::Told::tells))]
 #[unsafe(no_mangle)]
 pub extern "C" fn om_tick(owner: &mut Owner, now: u64) -> u32
-    ensures { Tells owner.old.value.manager (Call.Tick now) result owner.new.value.manager }
+    ensures { Tells owner.old.value (Call.Tick now) result owner.new.value }
 {
-    told(owner.lend().manager.tick(now))
+    let held = owner.lend();
+    let reply = held.manager.tick(now);
+    held.note(&Ask::Tick { now }, &reply);
+    told(reply)
 }
 
 /// [`Manager::next_due`](ob_manager::Manager::next_due): 0, or 259 where nothing is due.

@@ -6,12 +6,12 @@ ghost use Rattle.obman_c.specs.Telling.{Tells, TellsAs, answer_in};
 ghost use Rattle.ob_manager.specs.declared.waiting.Timeout.TheVariants as Timeout;
 ghost use Rattle.obman_c.specs.Waiting.{TakesAll, mode_of};
 
+use crate::owned::OwnedManager;
 use crate::owner::Owner;
 use crate::status::told;
 use crate::values::tell_answer;
-use ob_manager::{Answer, Manager, Mode, Timeout};
+use ob_manager::{Answer, Ask, Mode, Timeout};
 use obman_c_base::SUCCESS;
-use pin_words::Keeper;
 
 /// The answer of a wait (`om_answer`).
 #[repr(C)]
@@ -34,7 +34,6 @@ fn mode_of(all: bool) -> Mode
 
 /// [`Manager::wait`](ob_manager::Manager::wait), for so many milliseconds. 0 with the wait's code, 997 with its number,
 /// or 87, 170, 6, 5, 1450 or 8.
-#[tactic(auto, using(crate::proofs::Told::tells_as))]
 #[unsafe(no_mangle)]
 pub extern "C" fn om_wait(
     owner: &mut Owner,
@@ -44,36 +43,50 @@ pub extern "C" fn om_wait(
     handles: &[u32],
     answer: &mut u32,
 ) -> u32
-    ensures { TellsAs answer_in owner.old.value.manager
+    ensures { TellsAs answer_in owner.old.value
         (Call.WaitFor thread (mode_of all)
-        (Timeout.Millis milliseconds) handles.now) result owner.new.value.manager answer.old answer.new }
+        (Timeout.Millis milliseconds) handles.now) result owner.new.value answer.old answer.new }
 {
-    tell_answer(
-        owner.lend().manager.wait(thread, mode_of(all), Timeout::Millis(milliseconds), handles),
-        answer,
-    )
+    let mode = mode_of(all);
+    let timeout = Timeout::Millis(milliseconds);
+    let held = owner.lend();
+    let reply = held.manager.wait(thread, mode, timeout, handles);
+    held.note(
+        &Ask::WaitFor {
+            thread,
+            mode,
+            timeout,
+            handles,
+        },
+        &reply,
+    );
+    tell_answer(reply, answer)
 }
 
 /// [`Manager::wait_result`](ob_manager::Manager::wait_result): 0 with the wait's code, 997 with its number, or 87.
 #[tactic(auto, using(crate::proofs::Told::tells_as))]
 #[unsafe(no_mangle)]
 pub extern "C" fn om_wait_result(owner: &mut Owner, wait: u32, answer: &mut u32) -> u32
-    ensures { TellsAs answer_in owner.old.value.manager
-        (Call.WaitResult wait) result owner.new.value.manager answer.old answer.new }
+    ensures { TellsAs answer_in owner.old.value
+        (Call.WaitResult wait) result owner.new.value answer.old answer.new }
 {
-    tell_answer(owner.lend().manager.wait_result(wait), answer)
+    let held = owner.lend();
+    let reply = held.manager.wait_result(wait);
+    held.note(&Ask::WaitResult { wait }, &reply);
+    tell_answer(reply, answer)
 }
 
 /// The answers of waits by rising number, each taken by [`Manager::wait_result`], as far as there are any and places
 /// for them. How many.
-fn take_answers(manager: &mut Manager<Keeper>, answers: &mut [Answered]) -> usize
-    ensures { TakesAll manager.old answers.old result manager.new answers.new }
+fn take_answers(held: &mut OwnedManager, answers: &mut [Answered]) -> usize
+    ensures { TakesAll held.old answers.old result held.new answers.new }
 {
     for place in 0..answers.len() {
-        let Some(Answer { wait, thread, code }) = manager.next_answered(0) else {
+        let Some(Answer { wait, thread, code }) = held.manager.next_answered(0) else {
             return place;
         };
-        let _ = manager.wait_result(wait);
+        let taken = held.manager.wait_result(wait);
+        held.note(&Ask::WaitResult { wait }, &taken);
         answers[place] = Answered { wait, thread, code };
     }
     answers.len()
@@ -86,10 +99,10 @@ pub extern "C" fn om_take_answered(
     answers: &mut [Answered],
     count: &mut usize,
 ) -> u32
-    ensures taken { TakesAll owner.old.value.manager answers.old count.new owner.new.value.manager answers.new }
+    ensures taken { TakesAll owner.old.value answers.old count.new owner.new.value answers.new }
     ensures status { result ≡ 0 }
 {
-    *count = take_answers(&mut owner.lend().manager, answers);
+    *count = take_answers(owner.lend(), answers);
     SUCCESS
 }
 
@@ -97,9 +110,12 @@ pub extern "C" fn om_take_answered(
 #[tactic(auto, using(crate::proofs::Told::tells))]
 #[unsafe(no_mangle)]
 pub extern "C" fn om_expire(owner: &mut Owner, wait: u32) -> u32
-    ensures { Tells owner.old.value.manager (Call.Expire wait) result owner.new.value.manager }
+    ensures { Tells owner.old.value (Call.Expire wait) result owner.new.value }
 {
-    told(owner.lend().manager.expire(wait))
+    let held = owner.lend();
+    let reply = held.manager.expire(wait);
+    held.note(&Ask::Expire { wait }, &reply);
+    told(reply)
 }
 
 /// [`Manager::is_pending`](ob_manager::Manager::is_pending).

@@ -7,8 +7,8 @@ use Rattle.obman_c.specs.Reading.{opens}
 use Rattle.obman_c.proofs.readers.om_reader_new.Goals as goal
 
 -- the reader of the box is at the place
-pub returns-in-Ok : goal.returns-in-Ok
-returns-in-Ok c = let m = ap (λ (held : OwnedManager). held.manager) c.lend.ensures.value in
+pub returns-in-Ok-clause-opens : goal.returns-in-Ok-clause-opens
+returns-in-Ok-clause-opens c = let m = ap (λ (held : OwnedManager). held.manager) c.lend.ensures.value in
     let made = c.in-Some.ensures in
     opens c.in-Some.reader refl (c.of.ensures ∙ ap (λ (hand : OwnedReader). Some hand) c.in-Ok.ensures.ok)
     (made.reader.0 ∙ ap (λ (w : Whole). given_by w.keeper) m)

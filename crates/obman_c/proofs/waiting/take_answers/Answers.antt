@@ -1,9 +1,11 @@
-use Rattle.std.proofs.Common.{◌<◌, ◌∙◌, length, length-set, subst, arith}
+use Rattle.std.proofs.Common.{◌<◌, ◌∙◌, length, length-set, subst, sym, arith}
 use Rattle.ob_manager.specs.declared.call.CallOf.TheVariants as calls
 use Rattle.ob_manager.specs.declared.reply.Reply.{Reply}
 use Rattle.ob_manager.specs.declared.reply.Reply.TheVariants.{Code}
 use Rattle.ob_manager.specs.Steps.{Step}
 use Rattle.obman_c.specs.declared.waiting.Answered.{Answered}
+use Rattle.ob_store.specs.State.{Whole}
+use Rattle.obman_c.specs.Telling.{IsNoted}
 use Rattle.obman_c.specs.Waiting.{TakesNext}
 use Rattle.obman_c.proofs.Chains.{chain_set, rest_set}
 use Rattle.obman_c.proofs.Taking.{answered}
@@ -13,22 +15,26 @@ pub loop-place-preserved : goal.loop-place-preserved
 loop-place-preserved c =
     let place = c.loop-place.place in
     let list = c.loop-place.answers in
-    let old = c.loop-place.manager in
-    let new = c.wait_result.new.self in
+    let old = c.loop-place.held in
+    let left = c.wait_result-taken.new.self in
+    let new = c.note.new.self in
     let a = c.in-Some.field-0 in
     let told : Answered = record { wait = a.wait; thread = a.thread; code = a.code } in
-    let step : Step old (calls.WaitResult a.wait) (Code a.code) new =
-    subst (λ (reply : Reply). Step old (calls.WaitResult a.wait) reply new)
-    (answered old new a.wait a c.wait_result.result c.in-Some.ensures.answer c.wait_result.ensures)
-    c.wait_result.ensures in
+    let is = answered old.manager left a.wait a c.wait_result-taken.result c.in-Some.ensures.answer
+    c.wait_result-taken.ensures in
     let next : TakesNext old told new = record {
       least = c.in-Some.ensures.least;
       answer = c.in-Some.ensures.answer;
-      step = step;
+      step = subst (λ (w : Whole). Step old.manager (calls.WaitResult a.wait) (Code a.code) w)
+          (sym c.note.ensures.manager)
+          (subst (λ (reply : Reply). Step old.manager (calls.WaitResult a.wait) reply left) is
+          c.wait_result-taken.ensures);
+      noted = subst (λ (reply : Reply). IsNoted old.recorder (calls.WaitResult a.wait) reply new.recorder) is
+          c.note.ensures.notes;
     } in
     let within : place < length list = omega (arith, c.loop-place-test.true, c.loop-place.invariant.long) in
     record {
-      taken = chain_set TakesNext c.args.manager.now old new told place list within c.loop-place.invariant.taken next;
+      taken = chain_set TakesNext c.args.held.now old new told place list within c.loop-place.invariant.taken next;
       rest = rest_set list c.args.answers.now told place c.loop-place.invariant.rest;
       long = length-set list place told ∙ c.loop-place.invariant.long;
     }
