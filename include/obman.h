@@ -21,7 +21,7 @@
  *   for GetLastError. What it writes is written with 0, and else only where its text says so. A refused call changes nothing, but
  *   that om_duplicate may close its source.
  * - Where a call takes memory and there is none it answers OM_ERROR_NOT_ENOUGH_MEMORY, has changed nothing, and may be made
- *   again. A call whose text doesn't name this number takes no memory.
+ *   again. A call whose text doesn't name this number takes no memory, but for its lines where calls are recorded (om_record).
  * - Memory comes from malloc, realloc and free. Call nothing here from a signal handler, nor after fork in a child of a process
  *   with several threads.
  *

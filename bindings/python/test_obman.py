@@ -74,6 +74,16 @@ class Calls(unittest.TestCase):
     def test_a_script(self):
         self.assertEqual(obman.script("spawn 1\nevent t1 auto set\n"), b"p1 t1\nh4 new s0.1\n")
 
+    def test_a_record_is_a_script(self):
+        with obman.Manager() as m:
+            m.record()
+            thread = m.spawn(1).thread
+            m.create_event(thread)
+            m.record(False)
+            m.create_event(thread)
+            self.assertEqual(m.recorded(), b"spawn 1\n# p1 t1\nevent t1 auto clear\n# h4 new s0.1\n")
+            self.assertEqual(m.recorded(), b"")
+
     def test_a_library_of_this_release(self):
         self.assertEqual(obman.version(), obman.VERSION)
         self.assertEqual([obman.error_name(number) for number in (0, 183, 258, 87, 4)], ["ERROR_SUCCESS", "ERROR_ALREADY_EXISTS", "WAIT_TIMEOUT", "ERROR_INVALID_PARAMETER", "unknown"])

@@ -1,6 +1,6 @@
 /* counted SEED: makes random calls of new managers until each call that takes no memory was made 10,000 times, and answered without
- * an error 1,000 times: none of them has asked for memory. A wait takes some where it becomes pending alone, and a duplicate where
- * it has a target. Linked with --wrap of malloc and realloc, and of each of these calls. */
+ * an error 1,000 times: none of them has asked for memory. A wait takes some where it becomes pending alone, a duplicate where it has a
+ * target, and a record where it begins. Linked with --wrap of malloc and realloc, and of each of these calls. */
 #include "calls.h"
 
 #include <stdlib.h>
@@ -53,6 +53,7 @@ void *__wrap_realloc(void *block, size_t size) {
          status == OM_SUCCESS)                                                                                                      \
     CALL(uint32_t, om_take_answered, (om_manager *m, om_answer *a, size_t c, size_t *n), (m, a, c, n), *n > 0)                      \
     CALL(uint32_t, om_take_ended, (om_manager *m, om_reaping *r, size_t c, size_t *n), (m, r, c, n), *n > 0)                        \
+    CALL(uint32_t, om_take_record, (om_manager *m, char *l, size_t c, size_t *n), (m, l, c, n), *n > 0)                             \
     CALL(uint32_t, om_next_due, (om_manager *m, uint64_t *n), (m, n), status == OM_SUCCESS)                                         \
     CALL(uint32_t, om_state, (om_manager *m, uint32_t s, uint32_t g, om_object_state *o), (m, s, g, o), status == OM_SUCCESS)       \
     CALL(uint32_t, om_handle, (om_manager *m, uint32_t p, uint32_t h, om_entry *e), (m, p, h, e), status == OM_SUCCESS)             \
@@ -75,6 +76,7 @@ enum {
 #define NUMBER(type, name, parameters, arguments, ok) NUMBER_##name,
     EACH(NUMBER) WAIT,
     DUPLICATE,
+    RECORD,
     CALLS
 };
 
@@ -117,6 +119,16 @@ uint32_t __wrap_om_duplicate(om_manager *m, uint32_t t, uint32_t s, uint32_t h, 
     return status;
 }
 
+uint32_t __real_om_record(om_manager *m, bool on);
+uint32_t __wrap_om_record(om_manager *m, bool on) {
+    unsigned long before = requests;
+    uint32_t status = __real_om_record(m, on);
+    if (!on) {
+        count(RECORD, before, status == OM_SUCCESS, "om_record asked for memory to end");
+    }
+    return status;
+}
+
 /* Asks for what a host is told, and for what there is. Answers and ends are taken now and then, so that there are some. */
 static void ask(calls *c) {
     om_answer answers[2];
@@ -126,6 +138,8 @@ static void ask(calls *c) {
     om_pending pending;
     om_entry entry;
     uint64_t moment;
+    om_member member;
+    char lines[OM_LINE_MOST];
     uint32_t session, process = om_next_process(&c->m, below(c, 2));
     size_t count = 0;
     if (below(c, 4) == 0) {
@@ -144,6 +158,10 @@ static void ask(calls *c) {
     om_objects_waited_for(&c->m, om_wait_of(&c->m, om_next_thread(&c->m, process, 0)), &pending, objects, OM_MAXIMUM_WAIT_OBJECTS, &count);
     om_now(&c->m);
     om_version();
+    must(om_record(&c->m, true) == OM_SUCCESS, "no record");
+    om_child(&c->m, 0, false, &member); /* refused, and recorded so */
+    om_record(&c->m, false);
+    om_take_record(&c->m, lines, sizeof lines, &count);
 }
 
 /* A new manager, and random calls of it. Threads and processes end more often than they do in other trials. */

@@ -134,6 +134,19 @@ fn a_script_is_answered() -> Result<(), Error> {
 }
 
 #[test]
+fn a_record_is_a_script() -> Result<(), Error> {
+    let mut m = Manager::new(&Limits::default())?;
+    m.record(true)?;
+    let member = m.spawn(1)?;
+    m.create_event(member.thread, &Create::default(), false, false)?;
+    m.record(false)?;
+    m.spawn(1)?;
+    assert_eq!(m.recorded(), b"spawn 1\n# p1 t1\nevent t1 auto clear\n# h4 new s0.1\n");
+    assert_eq!(m.recorded(), b"");
+    Ok(())
+}
+
+#[test]
 fn threads_share_a_manager_behind_a_lock() -> Result<(), Error> {
     let m = Arc::new(Mutex::new(Manager::new(&Limits::default())?));
     let threads: Vec<_> = (0..4)
