@@ -1,6 +1,7 @@
 /* refused COUNT SEED: makes so many random calls of a new manager, once with all the memory there is, and then again and again
  * with one request refused, the first, the second and so on. The call that took it answers that there is no memory, has written
  * nothing, and made again is answered as it was before. Nothing is left at the end of a run. A script is answered in the same way.
+ * And so are the calls while they are recorded: where it was the record that had no memory, it ends with a line that says so.
  * Linked with --wrap of malloc, realloc and free, and of each call that takes memory. */
 #include "calls.h"
 
@@ -65,17 +66,33 @@ AGAIN(om_open_semaphore, (om_manager *m, uint32_t t, uint32_t a, bool i, const c
 AGAIN(om_open_timer, (om_manager *m, uint32_t t, uint32_t a, bool i, const char *n, size_t l, om_opening *o), (m, t, a, i, n, l, o), o, sizeof *o)
 AGAIN(om_duplicate, (om_manager *m, uint32_t t, uint32_t s, uint32_t h, uint32_t p, uint32_t a, bool i, uint32_t f, om_opening *o), (m, t, s, h, p, a, i, f, o), o, sizeof *o)
 AGAIN(om_wait, (om_manager *m, uint32_t t, bool a, uint32_t d, const uint32_t *h, size_t n, uint32_t *o), (m, t, a, d, h, n, o), o, sizeof *o)
+AGAIN(om_record, (om_manager *m, bool o), (m, o), m, sizeof *m)
 AGAIN(om_script, (const om_limits *l, const char *s, size_t n, char *a, size_t c, size_t *o), (l, s, n, a, c, o), o, sizeof *o)
 
+/* What was recorded in a run in which no call had no memory. */
+static void look_at_record(calls *c) {
+    static const char last[] = "# recording stopped: no memory\n";
+    static char lines[1 << 20];
+    size_t written, long_enough = sizeof last - 1;
+    must(om_take_record(&c->m, lines, sizeof lines, &written) == OM_SUCCESS && written < sizeof lines, "a record");
+    bool has_ended = written >= long_enough && memcmp(lines + written - long_enough, last, long_enough) == 0;
+    must(has_ended == (requests >= refused_at), "a record that says another end");
+}
+
 /* One run: the lines of the script, and behind them the answers. The caller frees them. */
-static char *run(long count, uint64_t seed, size_t *length, size_t *answers_length) {
+static char *run(long count, bool is_recorded, uint64_t seed, size_t *length, size_t *answers_length) {
     calls c = {{NULL}, {NULL}, seed, 0, 0, 0, 0, 0, tmpfile(), tmpfile()};
     char *both;
     must(c.script != NULL && c.answers != NULL, "a file can't be written");
+    unsigned long before = lacks;
     requests = blocks = 0;
     make_manager(&c);
+    must(!is_recorded || om_record(&c.m, true) == OM_SUCCESS, "no record");
     while (count-- > 0) {
         call(&c);
+    }
+    if (is_recorded && lacks == before) {
+        look_at_record(&c);
     }
     end_manager(&c);
     must(blocks == 0, "memory is left");
@@ -109,28 +126,33 @@ static bool script_is_answered(const char *script, size_t length, long number) {
     return requests >= number;
 }
 
-int main(int count, char **words) {
-    must(count == 3, "COUNT SEED");
-    long calls_due = atol(words[1]), number = 1, scripts = 1;
-    uint64_t seed = 0x9E3779B97F4A7C15ULL * (uint64_t)(1 + atol(words[2]));
-    size_t length, answers_length, other_length, other_answers_length;
-    refused_at = 0;
-    char *due = run(calls_due, seed, &length, &answers_length);
-    for (;; number++) {
-        refused_at = number;
-        char *now = run(calls_due, seed, &other_length, &other_answers_length);
-        bool is_over = requests < number;
+/* Each request of so many calls refused in turn, with the answers that are due; how many there are. */
+static long refuse_each(long count, bool is_recorded, uint64_t seed, const char *due, size_t length, size_t answers_length) {
+    size_t other_length, other_answers_length;
+    for (refused_at = 1;; refused_at++) {
+        char *now = run(count, is_recorded, seed, &other_length, &other_answers_length);
         must(other_length == length && other_answers_length == answers_length && memcmp(due, now, length + answers_length) == 0, "other answers");
         __real_free(now);
-        if (is_over) {
-            break;
+        if (requests < refused_at) {
+            return refused_at - 1;
         }
     }
+}
+
+int main(int count, char **words) {
+    must(count == 3, "COUNT SEED");
+    long calls_due = atol(words[1]), scripts = 1;
+    uint64_t seed = 0x9E3779B97F4A7C15ULL * (uint64_t)(1 + atol(words[2]));
+    size_t length, answers_length;
+    refused_at = 0;
+    char *due = run(calls_due, false, seed, &length, &answers_length);
+    long number = refuse_each(calls_due, false, seed, due, length, answers_length);
+    long recorded = refuse_each(calls_due, true, seed, due, length, answers_length);
     while (script_is_answered(due, length, scripts)) {
         scripts++;
     }
     __real_free(due);
-    printf("%ld requests of calls and %ld of a script, %lu calls made again\n", number - 1, scripts - 1, lacks);
+    printf("%ld requests of calls, %ld where they are recorded and %ld of a script, %lu calls made again\n", number, recorded, scripts - 1, lacks);
     must(lacks > 0, "no call had no memory");
     return 0;
 }
