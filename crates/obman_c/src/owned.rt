@@ -33,7 +33,9 @@ impl OwnedManager {
         ensures manager { self.new.manager ≡ self.old.manager }
     {
         if self.recorder.is_on() {
-            self.recorder.note(call, reply);
+            // Copies: so the call and the reply themselves stay in registers where nothing is recorded.
+            let (call, reply) = (*call, *reply);
+            self.recorder.note(&call, &reply);
         }
     }
 }
