@@ -35,7 +35,18 @@ impl OwnedManager {
         if self.recorder.is_on() {
             // Copies: so the call and the reply themselves stay in registers where nothing is recorded.
             let (call, reply) = (*call, *reply);
-            self.recorder.note(&call, &reply);
+            record(&mut self.recorder, &call, &reply);
         }
     }
+}
+
+// It stands apart, so that calls have no more than the test in them.
+#[cold]
+#[inline(never)]
+#[tactic(auto, using(crate::proofs::Told::notes))]
+fn record(recorder: &mut Recorder, call: &Ask<'_>, reply: &Reply)
+    ensures { IsNoted recorder.old
+        (with_parts making_of (λ text. text.now) (λ handles. handles.now) call.now) reply.now recorder.new }
+{
+    recorder.note(call, reply);
 }
