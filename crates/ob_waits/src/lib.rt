@@ -1,9 +1,9 @@
 //! Waits: which thread waits for which objects, which wait is satisfied, with which code, and what it takes.
 //!
-//! [`try_now`] is a wait that may be satisfied at once. [`Waits`] has those that are pending, and settles them
-//! after bodies changed. The objects stand behind [`Bodies`], which the layer above implements.
-//! [`law_of_settling`] says what settling leaves as it is, [`law_of_ends`] when objects end, and
-//! [`law_of_spelled_waits`] that waits are read as they were written.
+//! [`is_satisfied`] says whether a wait is satisfied now, and [`try_now`] is a wait that may be satisfied at once.
+//! [`Waits`] has those that are pending, and settles them after bodies changed. The objects stand behind [`Bodies`],
+//! which the layer above implements. [`law_of_settling`] says what settling leaves as it is, [`law_of_ends`] when
+//! objects end, and [`law_of_spelled_waits`] that waits are read as they were written.
 #![tactic(auto)]
 
 mod answer;
@@ -41,6 +41,6 @@ pub use codes::{LAST_MOMENT, MAXIMUM_WAIT_OBJECTS, WAIT_ABANDONED_0, WAIT_TIMEOU
 pub use law::{law_of_ends, law_of_settling, law_of_spelled_waits};
 pub use pass::leave_all;
 pub use pending::Pending;
-pub use take::try_now;
+pub use take::{is_satisfied, try_now};
 pub use wait::{Mode, WaitState};
 pub use waits::Waits;

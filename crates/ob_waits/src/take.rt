@@ -45,6 +45,17 @@ fn are_all_signaled<B: Bodies>(bodies: &B, thread: u32, ids: &[Id]) -> bool
     true
 }
 
+/// Whether a wait of the thread for these objects is satisfied now: for any, where one is signaled; for all, where each
+/// is.
+pub fn is_satisfied<B: Bodies>(bodies: &B, thread: u32, mode: Mode, ids: &[Id]) -> bool
+    ensures { result ≡ list_ready mode thread (B.objects bodies.now).bodies ids.now }
+{
+    match mode {
+        Mode::Any => first_signaled(bodies, thread, ids) < ids.len(),
+        Mode::All => are_all_signaled(bodies, thread, ids),
+    }
+}
+
 /// A thread acquires each of some objects; whether one was an abandoned mutex.
 fn take_all<B: Bodies>(bodies: &mut B, thread: u32, ids: &[Id]) -> bool
     requires ready { list_all (is_signaled thread (B.objects bodies.old).bodies) ids.now ≡ true }
