@@ -25,9 +25,9 @@ use Rattle.ob_store.proofs.CountingLaws.{IsWide, handles_at, one_counts, still_w
 abbrev Again : Places → List (List (Option Entry)) → Type 0
 Again p tables = (q : Places) × (counting_all p tables ≡ Ok q)
 
-its-id : (x : Option Object) (id : Id) → id_in x ≡ Some id → is_its id x ≡ true
-its-id None id e = absurd cc
-its-id (Some o) id e = ap (λ (z : Id). same_id z id) (some-is o.id id e) ∙ same_id-same id
+pub its_id : (x : Option Object) (id : Id) → id_in x ≡ Some id → is_its id x ≡ true
+its_id None id e = absurd cc
+its_id (Some o) id e = ap (λ (z : Id). same_id z id) (some-is o.id id e) ∙ same_id-same id
   where
     some-is : (a b : Id) → Some a ≡ Some b → a ≡ b
     some-is a b e = cc
@@ -35,7 +35,7 @@ its-id (Some o) id e = ap (λ (z : Id). same_id z id) (some-is o.id id e) ∙ sa
 may-again : (p : Places) (id : Id) → IsThere p.objects id → handles_at p id.slot < 4294967295 → may_count p id ≡ true
 may-again p id there room =
     true-both (is_its id (get_or p.objects id.slot None)) (ltb (handles_at p id.slot) 4294967295)
-    (its-id (get_or p.objects id.slot None) id there) (lt-ltb (handles_at p id.slot) 4294967295 room)
+    (its_id (get_or p.objects id.slot None) id there) (lt-ltb (handles_at p id.slot) 4294967295 room)
 
 in-again : (p : Places) (places : List (Option Entry)) → IsWide p →
     ((k : ℕ) → handles_at p k + slot_handles_in k places ≤ 4294967295) →

@@ -41,7 +41,7 @@ none_counts p more Named none never = record {
   named = λ id h. absurd (never id h);
 }
 
-its_there : (x : Option Object) (id : Id) → is_its id x ≡ true → id_in x ≡ Some id
+pub its_there : (x : Option Object) (id : Id) → is_its id x ≡ true → id_in x ≡ Some id
 its_there None id e = absurd cc
 its_there (Some o) id e = ap Some (one_id o.id id e)
 

@@ -32,9 +32,11 @@ pub mod KeeperLaws
 pub mod SavedLaws
 pub mod CountingLaws
 pub mod SavedSlotLaws
+pub mod SavedWaitLaws
 pub mod SavedBirthLaws
 pub mod SavedObjectLaws
 pub mod SavingLaws
+pub mod SavedKeptLaws
 pub mod SavedCodecs
 pub mod CountingAgain
 pub mod WholeAgain

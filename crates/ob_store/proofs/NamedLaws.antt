@@ -175,7 +175,7 @@ module _ (objects : List (Option Object)) (ts : List (List (Option Entry))) (ws 
   handles_are id there = slot_handles-one id ts (λ p i e is same. one_there objects e.id id
       (named.entries e.id (entry_counted p i e is)) there same)
 
-  place_counted : (n i : ℕ) → n < length ws → i < length (ids_of (get_or ws n None))
+  pub place_counted : (n i : ℕ) → n < length ws → i < length (ids_of (get_or ws n None))
       → 0 < blocks_among (get_or (ids_of (get_or ws n None)) i nowhere) ws
   place_counted n i lt in' =
       let ids = ids_of (get_or ws n None) in
@@ -193,19 +193,24 @@ module _ (objects : List (Option Object)) (ts : List (List (Option Entry))) (ws 
       (λ i in'. let x = get_or (ids_of (get_or ws n None)) i nowhere in
       ap {B = ℕ} (λ b. cond b 1 0) (ids_agree x id (named.blocks x (place_counted n i lt in')) there)))
 
-  -- no wait names a slot past the last
-  pub blocks_past : (k : ℕ) → length objects ≤ k → slot_blocks k ws ≡ 0
-  blocks_past k le = sum_none (λ (w : Option Wait). slot_places k (ids_of w)) None ws
+  -- no wait names a slot without an object
+  pub blocks_vacant : (k : ℕ) → get_or objects k None ≡ None → slot_blocks k ws ≡ 0
+  blocks_vacant k none = sum_none (λ (w : Option Wait). slot_places k (ids_of w)) None ws
       (λ n lt. sum_none (λ (x : Id). cond (eqb x.slot k) 1 0) nowhere (ids_of (get_or ws n None))
       (λ i in'. let x = get_or (ids_of (get_or ws n None)) i nowhere in
-      other x k le (there_within objects x (named.blocks x (place_counted n i lt in')))))
+      other x (named.blocks x (place_counted n i lt in'))))
     where
-      other : (x : Id) (k : ℕ) → length objects ≤ k → x.slot < length objects → ◌≡◌ {A = ℕ} (cond (eqb x.slot k) 1 0) 0
-      other x k le lt = by (eqb x.slot k) refl
+      other : (x : Id) → IsThere objects x → ◌≡◌ {A = ℕ} (cond (eqb x.slot k) 1 0) 0
+      other x there = by (eqb x.slot k) refl
         where
           by : (b : Bool) → eqb x.slot k ≡ b → ◌≡◌ {A = ℕ} (cond (eqb x.slot k) 1 0) 0
-          by true is = absurd (let same : x.slot ≡ k = grind (arith, nat_tests, is) in omega (arith, same, lt, le))
+          by true is = absurd (let same : x.slot ≡ k = grind (arith, nat_tests, is) in
+              let e = ap (λ (i : ℕ). id_in (get_or objects i None)) same in let f = ap id_in none in cc (e, f, there))
           by false is = ap {B = ℕ} (λ c. cond c 1 0) is
+
+  -- as past the last
+  pub blocks_past : (k : ℕ) → length objects ≤ k → slot_blocks k ws ≡ 0
+  blocks_past k le = blocks_vacant k (get_or_past objects k None le)
 
 -- an object to which nothing refers leaves its slot
 pub named_left : (objects : List (Option Object)) (ts : List (List (Option Entry))) (ws : List (Option Wait)) (id : Id)

@@ -1,12 +1,14 @@
 -- Objects that are kept are read again as they were written.
-use Rattle.std.proofs.Common.{◌≡◌, ℕ, ◌+◌, ◌<◌, Bool, false, List, [], ◌∷◌, ◌++◌, length, get_or, map, Option, Some, None, Ok, refl, sym, ap, ◌∙◌, subst, arith}
+use Rattle.std.proofs.Common.{◌≡◌, ℕ, ◌+◌, ◌<◌, Bool, false, List, [], ◌∷◌, ◌++◌, length, get_or, map, Option, Some, None, Result, Ok, Err, cond, refl, sym, ap, ◌∙◌, subst, arith}
 use Rattle.std.specs.Prelude.{replicate, sum_by}
 use Rattle.std.specs.List.{AllByRecursion, range_with_len}
 use Rattle.std.proofs.lemmas.List.{ext_get_or, get_or-map, length-map}
 use Rattle.std.proofs.lemmas.List.FromFn.{get_or-map-range_with_len, length-map-range_with_len, get_or-range_with_len, length-range_with_len}
 use Rattle.std.proofs.lemmas.List.Sums.{sum_by-cons}
 use Rattle.ob_codec.specs.Codecs.{items_again}
-use Rattle.ob_codec.specs.Reading.{◌>>=◌, items_at}
+use Rattle.ob_codec.specs.declared.fault.TextFault.{TextFault}
+use Rattle.ob_codec.specs.declared.fault.TextFault.TheVariants.{Value}
+use Rattle.ob_codec.specs.Reading.{◌>>=◌, Read, items_at}
 use Rattle.pin_core.specs.declared.shape.Shape.{Shape}
 use Rattle.pin_core.specs.declared.word.Phase.{Phase}
 use Rattle.pin_core.specs.declared.world.Slot.{Slot}
@@ -14,20 +16,22 @@ use Rattle.pin_core.specs.Worlds.{opening_slot, slot_of}
 use Rattle.ob_body.specs.declared.body.Body.{Body}
 use Rattle.ob_tables.specs.declared.entry.Entry.{Entry}
 use Rattle.ob_tables.specs.Tables.{IsBounded}
-use Rattle.ob_waits.specs.Waits.{slot_blocks}
+use Rattle.ob_waits.specs.Waits.{WaitList, slot_blocks}
 use Rattle.ob_store.specs.declared.limits.Limits.{Limits}
 use Rattle.ob_store.specs.declared.saved_slot.SavedSlot.{SavedSlot}
 use Rattle.ob_store.specs.Agreement.{Agrees, AreBorn, IsTied, made_by, made_in}
-use Rattle.ob_store.specs.Counting.{uncounted}
-use Rattle.ob_store.specs.Kept.{IsCounted, IsNamed}
+use Rattle.ob_store.specs.Counting.{counting_all, uncounted}
+use Rattle.ob_store.specs.Kept.{AreOfLive, IsCounted, IsNamed, IsQuiet}
 use Rattle.ob_store.specs.Objects.{Object, ObjectsState, Places, places_in, with_keeper}
-use Rattle.ob_store.specs.SavedObjects.{begun_over, object_saved, objects_at, objects_text, slot_saved, slots_saved, with_slots}
+use Rattle.ob_store.specs.SavedObjects.{begun_over, object_saved, objects_at, objects_text, slot_saved, slots_saved, whole_at, whole_objects, with_slots}
+use Rattle.ob_store.specs.SavedWaits.{all_stand, with_blocks}
 use Rattle.ob_store.specs.SavedSlots.{SlotFits, body_from, body_in, is_retired, keeper_slot, keeper_slot_with, object_from, object_in_slot, objects_from, places_from, slot_at, slots_at, slots_from}
 use Rattle.ob_store.specs.State.{shape_of}
 use Rattle.ob_store.proofs.BySlot.{zero_counts}
 use Rattle.ob_store.proofs.CountingAgain.{counting_again}
 use Rattle.ob_store.proofs.NamedLaws.{sum_same}
 use Rattle.ob_store.proofs.SavedCodecs.{slot_codec}
+use Rattle.ob_store.proofs.SavedKeptLaws.{all_taken, blocks_counted}
 use Rattle.ob_store.proofs.SavedLaws.{objects-long}
 use Rattle.ob_store.proofs.SavedObjectLaws.{none_saved, object-at}
 use Rattle.ob_store.proofs.WholeAgain.{births_again, bodied_again}
@@ -105,51 +109,77 @@ module _ (s : ObjectsState) (tied : IsTied s) where
       ∙ sym (sum_map made_in (slot_of s.keeper.slots) (range_with_len 0 n)) ∙ ap (sum_by made_in) slots-back ∙
       sym tied.made
 
-  -- no wait names an object
-  module _ (limits : Limits) (clock processes limit : ℕ) (tables : List (List (Option Entry))) (rest : List ℕ)
-      (shape : s.keeper.shape ≡ shape_of limits) (counted : IsCounted s.seen (length s.objects) tables (None ∷ []))
-      (named : IsNamed s.objects tables (None ∷ [])) (bounded : IsBounded processes limit tables)
-      (fits : AllByRecursion (SlotFits limits.max_gen clock) xs) where
+  -- before anything that refers to the objects is counted
+  abbrev bare : Places
+  bare = record (places_in s) { seen = record s.seen { blocks = replicate (length s.objects) 0 } }
+
+  module _ (limits : Limits) (processes limit : ℕ) (threads : List (Option ℕ)) (tables : List (List (Option Entry)))
+      (list : WaitList) (rest : List ℕ) (shape : s.keeper.shape ≡ shape_of limits)
+      (counted : IsCounted s.seen (length s.objects) tables list.waits)
+      (named : IsNamed s.objects tables list.waits) (live : AreOfLive threads s.seen.bodies list.waits)
+      (quiet : IsQuiet limits.max_recursion s.seen.bodies list.waits) (bounded : IsBounded processes limit tables)
+      (fits : AllByRecursion (SlotFits limits.max_gen list.clock) xs) where
     wide : length xs ≡ limits.slots
     wide = xs-long ∙ ap (λ (z : Shape). z.slots) shape
 
     zeros : replicate {A = ℕ} (length xs) 0 ≡ replicate {A = ℕ} (length s.objects) 0
     zeros = ap (λ (m : ℕ). replicate {A = ℕ} m 0) (xs-long ∙ sym tied.agreed.long)
 
-    blocks-back : replicate {A = ℕ} (length xs) 0 ≡ s.seen.blocks
-    blocks-back = zeros ∙ zero_counts (length s.objects) (λ k. slot_blocks k (None ∷ [])) (λ k. refl) ∙
-        sym counted.blocks
-
-    places-back : places_from xs ≡ uncounted (places_in s)
+    places-back : places_from xs ≡ uncounted bare
     places-back = λ i. record {
       objects = objects-back i;
-      seen = record { bodies = bodies-back i; handles = zeros i; blocks = blocks-back i };
+      seen = record { bodies = bodies-back i; handles = zeros i; blocks = zeros i };
       retired = retired-back i;
     }
 
-    slots-again : slots_at limits.slots limits.max_gen clock (objects_text s ++ rest) ≡
-        Ok ((uncounted (places_in s), map keeper_slot xs), rest)
+    slots-again : slots_at limits.slots limits.max_gen list.clock (objects_text s ++ rest) ≡
+        Ok ((uncounted bare, map keeper_slot xs), rest)
     slots-again =
-        let items : items_at (slot_at limits.max_gen clock) limits.slots (objects_text s ++ rest) ≡ Ok (xs, rest) =
-        ap (λ (m : ℕ). items_at (slot_at limits.max_gen clock) m (objects_text s ++ rest)) (sym wide) ∙
-        items_again (slot_codec limits.max_gen clock) xs rest fits in
+        let items : items_at (slot_at limits.max_gen list.clock) limits.slots (objects_text s ++ rest) ≡
+        Ok (xs, rest) =
+        ap (λ (m : ℕ). items_at (slot_at limits.max_gen list.clock) m (objects_text s ++ rest)) (sym wide) ∙
+        items_again (slot_codec limits.max_gen list.clock) xs rest fits in
         ap (λ r. r >>= λ (z : List SavedSlot × List ℕ). Ok (slots_from z.0, z.1)) items
         ∙ ap (λ (p : Places). Ok ((p, map keeper_slot xs), rest)) places-back
 
-    pub objects_again : objects_at limits clock tables (objects_text s ++ rest) ≡
+    handles-again : counting_all (uncounted bare) tables ≡ Ok bare
+    handles-again = counting_again bare processes limit tables (None ∷ [])
+        (record {
+          handles = counted.handles;
+          blocks = zero_counts (length s.objects) (λ k. slot_blocks k (None ∷ [])) (λ k. refl);
+        })
+        (record { entries = named.entries; blocks = λ id h. absurd (omega (arith, h)) }) bounded
+
+    blocks-again : with_blocks list.waits bare ≡ places_in s
+    blocks-again = λ i. record (places_in s) {
+      seen = record s.seen {
+        blocks = (blocks_counted s tables list.waits tied named ∙ sym counted.blocks) i;
+      };
+    }
+
+    whole-again : whole_at limits tables list (objects_text s ++ rest) ≡
         Ok (record s { keeper = begun_over (shape_of limits) (map keeper_slot xs) }, rest)
-    objects_again =
+    whole-again =
         let slots = map keeper_slot xs in
         let born = births_again s.objects (sum_by made_in slots) (subst (AreBorn s.objects) (sym births-back) tied.born)
         in
-        let read : objects_at limits clock tables (objects_text s ++ rest) ≡ Ok (
+        let whole : whole_objects limits slots (places_in s) ≡ Ok (with_slots (places_in s) limits slots) =
+        rw (born.1, bodied_again s.seen (length s.objects) tied.bodied) refl in
+        let read : whole_at limits tables list (objects_text s ++ rest) ≡ Ok (
           with_slots (places_in s) limits slots,
           rest,
         ) =
-        rw (
-          slots-again,
-          counting_again (places_in s) processes limit tables (None ∷ []) counted named bounded,
-          born.1,
-          bodied_again s.seen (length s.objects) tied.bodied,
-        ) refl in
+        rw (slots-again, handles-again)
+        (ap (λ (p : Places). whole_objects limits slots p >>= λ (o : ObjectsState). Ok (o, rest)) blocks-again
+        ∙ ap (λ (r : Result ObjectsState TextFault). r >>= λ (o : ObjectsState). Ok (o, rest)) whole) in
         read ∙ ap (λ (b : ℕ). Ok (with_keeper (places_in s) b (begun_over (shape_of limits) slots), rest)) births-back
+
+    pub objects_again : objects_at limits threads tables list (objects_text s ++ rest) ≡
+        Ok (record s { keeper = begun_over (shape_of limits) (map keeper_slot xs) }, rest)
+    objects_again =
+        let again : ObjectsState × List ℕ =
+        (record s { keeper = begun_over (shape_of limits) (map keeper_slot xs) }, rest) in
+        ap (λ (r : Read ObjectsState). r >>= λ (a : ObjectsState × List ℕ).
+        cond (all_stand limits.max_recursion threads list.waits a.0) (Ok a) (Err Value)) whole-again
+        ∙ ap (λ (b : Bool). cond b (Ok again) (Err Value))
+        (all_taken limits.max_recursion threads s tables list.waits named live quiet)

@@ -1,12 +1,11 @@
 -- Slots are read as they were spelled, and the objects that are read were spelled so.
-use Rattle.std.proofs.Common.{◌≡◌, ℕ, ◌<◌, false, cond, List, [], length, get_or, Option, Some, None, Ok, Err, refl, sym, ap, ◌∙◌, subst, arith}
-use Rattle.std.specs.Prelude.{sum_by}
+use Rattle.std.proofs.Common.{◌≡◌, ℕ, ◌<◌, false, List, length, get_or, Option, Some, None, Ok, refl, sym, ap, ◌∙◌, subst, arith}
 use Rattle.std.specs.List.{flat_map}
 use Rattle.std.proofs.lemmas.List.{ext_get_or}
 use Rattle.std.proofs.lemmas.List.FromFn.{get_or-map-range_with_len, length-map-range_with_len}
 use Rattle.ob_codec.specs.Codecs.{as_codec, both_codec, flag_codec, items_take, option_codec, u32_codec, u64_codec, where_codec}
 use Rattle.ob_codec.specs.Laws.{IsCodec, Takes}
-use Rattle.ob_codec.specs.Reading.{◌>>=◌, items_at}
+use Rattle.ob_codec.specs.Reading.{items_at}
 use Rattle.ob_codec.specs.Spelling.{AreBytes}
 use Rattle.ob_codec.specs.Steps.{bind_ok, guard_passed, ok_is}
 use Rattle.ob_codec.specs.declared.fault.TextFault.TheVariants.{Value}
@@ -18,16 +17,18 @@ use Rattle.pin_core.specs.declared.world.Slot.{Slot}
 use Rattle.pin_core.specs.Worlds.{slot_of}
 use Rattle.ob_body.specs.SpellingLaws.{body_codec}
 use Rattle.ob_tables.specs.declared.entry.Entry.{Entry}
+use Rattle.ob_waits.specs.Waits.{WaitList}
+use Rattle.ob_waits.specs.declared.wait.Wait.{Wait}
 use Rattle.ob_store.proofs.CountingLaws.{Counts}
 use Rattle.ob_store.proofs.SavedObjectLaws.{AreRead, body-here, counts, none_saved, object-here, retired-here, slot-here}
+use Rattle.ob_store.proofs.SavedKeptLaws.{whole_steps}
 use Rattle.ob_store.proofs.SavedSlotLaws.{IsSound, items_all, slot_generation, slot_sound}
 use Rattle.ob_store.specs.declared.limits.Limits.{Limits}
 use Rattle.ob_store.specs.declared.saved_slot.SavedObject.{SavedObject}
 use Rattle.ob_store.specs.declared.saved_slot.SavedSlot.{SavedSlot}
-use Rattle.ob_store.specs.Agreement.{made_in}
-use Rattle.ob_store.specs.Counting.{counting_all}
 use Rattle.ob_store.specs.Objects.{ObjectsState, Places}
-use Rattle.ob_store.specs.SavedObjects.{Births, are_bodied, births_from, object_saved, objects_at, objects_text, slot_saved, slots_saved, whole_objects, with_slots}
+use Rattle.ob_store.specs.SavedObjects.{object_saved, objects_at, objects_text, slot_saved, slots_saved, whole_at, with_slots}
+use Rattle.ob_store.specs.SavedWaits.{all_stand, with_blocks}
 use Rattle.ob_store.specs.SavedSlots as saved
 use Rattle.ob_store.specs.SavedSlots.{ObjectFits, SlotFits, any_slot_at, object_at, object_parts, object_text, slot_at, slot_parts, slot_stands, slot_text, slots_at, slots_from}
 
@@ -65,52 +66,45 @@ module _ (n max_gen clock : ℕ) (p : Places) (slots : List Slot) (r : AreRead n
       λ i. record { generation = generation i; retired = retired i; object = object i }
 
   -- the slots that were read are what is saved again
-  pub slots_back : slots_saved (with_slots q limits slots) ≡ r.xs
-  slots_back =
-      let long : length (slots_saved (with_slots q limits slots)) ≡ limits.slots =
-      length-map-range_with_len (slot_saved (with_slots q limits slots)) 0 limits.slots in
-      ext_get_or none_saved (slots_saved (with_slots q limits slots)) r.xs (long ∙ sym wide ∙ sym r.long)
+  pub slots_back : (waits : List (Option Wait)) → slots_saved (with_slots (with_blocks waits q) limits slots) ≡ r.xs
+  slots_back waits =
+      let s = with_slots (with_blocks waits q) limits slots in
+      let long : length (slots_saved s) ≡ limits.slots = length-map-range_with_len (slot_saved s) 0 limits.slots in
+      ext_get_or none_saved (slots_saved s) r.xs (long ∙ sym wide ∙ sym r.long)
       (λ k lt. (let within : k < n = omega (arith, lt, long, wide) in
-      get_or-map-range_with_len (slot_saved (with_slots q limits slots)) 0 limits.slots k k none_saved (omega (
-        arith,
-        within,
-        wide,
-      )) (omega arith)
+      get_or-map-range_with_len (slot_saved s) 0 limits.slots k k none_saved (omega (arith, within, wide)) (omega arith)
       ∙ slot-back k within))
 
 -- what is read is the spelling of the objects that it gives
-pub objects_take : (limits : Limits) (clock : ℕ) (tables : List (List (Option Entry))) (bytes : List ℕ)
+whole_take : (limits : Limits) (tables : List (List (Option Entry))) (list : WaitList) (bytes : List ℕ)
     (s : ObjectsState) (rest : List ℕ) → AreBytes bytes →
-    objects_at limits clock tables bytes ≡ Ok (s, rest) → Takes bytes (objects_text s) rest
-objects_take limits clock tables bytes s rest are e =
-    let a = bind_ok (slots_at limits.slots limits.max_gen clock bytes) _ (s, rest) e in
-    let b = bind_ok (counting_all a.0.0.0 tables) (λ
-    (q : Places). whole_objects limits a.0.0.1 q >>= λ (o : ObjectsState). Ok (o, a.0.1)) (s, rest) a.2 in
-    let c = bind_ok (whole_objects limits a.0.0.1 b.0) (λ (o : ObjectsState). Ok (o, a.0.1)) (s, rest) b.2 in
-    let d = bind_ok (births_from (sum_by made_in a.0.0.1) [] 0 b.0.objects)
-    (λ (order : Births). cond (are_bodied b.0.seen (length b.0.objects)) (Ok (with_slots b.0 limits a.0.0.1))
-    (Err Value)) c.0 c.1 in
-    let g = guard_passed (are_bodied b.0.seen (length b.0.objects)) Value (with_slots b.0 limits a.0.0.1) c.0 d.2 in
-    let q = ok_is (c.0, a.0.1) (s, rest) c.2 in
-    let i = bind_ok (items_at (slot_at limits.max_gen clock) limits.slots bytes) (λ (xs : List SavedSlot ×
-    List ℕ). Ok (slots_from xs.0, xs.1)) a.0 a.1 in
-    let back = ok_is (slots_from i.0.0, i.0.1) a.0 i.2 in
-    let all = items_all (slot_at limits.max_gen clock) (IsSound limits.max_gen clock)
-    (slot_sound limits.max_gen clock) none_saved limits.slots bytes i.0.0 i.0.1 i.1 in
-    let r : AreRead limits.slots limits.max_gen clock a.0.0.0 a.0.0.1 = record {
+    whole_at limits tables list bytes ≡ Ok (s, rest) → Takes bytes (objects_text s) rest
+whole_take limits tables list bytes s rest are e =
+    let w = whole_steps limits tables list bytes s rest e in
+    let i = bind_ok (items_at (slot_at limits.max_gen list.clock) limits.slots bytes) (λ (xs : List SavedSlot ×
+    List ℕ). Ok (slots_from xs.0, xs.1)) ((w.p, w.slots), rest) w.read in
+    let back = ok_is (slots_from i.0.0, i.0.1) ((w.p, w.slots), rest) i.2 in
+    let all = items_all (slot_at limits.max_gen list.clock) (IsSound limits.max_gen list.clock)
+    (slot_sound limits.max_gen list.clock) none_saved limits.slots bytes i.0.0 i.0.1 i.1 in
+    let r : AreRead limits.slots limits.max_gen list.clock w.p w.slots = record {
       xs = i.0.0;
       long = all.0;
       sound = all.1;
       places = sym (ap (λ (z : (Places × List Slot) × List ℕ). z.0.0) back);
       slots_are = sym (ap (λ (z : (Places × List Slot) × List ℕ). z.0.1) back);
     } in
-    let taken = (items_take (slot_codec limits.max_gen clock) limits.slots bytes i.0.0 i.0.1 are i.1).0 in
-    subst (λ (z : ObjectsState × List ℕ). Takes bytes (objects_text z.0) z.1) (ap (λ (z : ObjectsState). (
-      z,
-      a.0.1,
-    )) g.1 ∙ q)
-    (subst (λ (xs : List SavedSlot). Takes bytes (flat_map slot_text xs) a.0.1)
-    (sym (slots_back limits.slots limits.max_gen clock a.0.0.0 a.0.0.1 r b.0 _ _
-    (counts limits clock tables bytes a.0.0.0 b.0 a.0.0.1 a.0.1 a.1 b.1) limits refl))
+    let taken = (items_take (slot_codec limits.max_gen list.clock) limits.slots bytes i.0.0 i.0.1 are i.1).0 in
+    subst (λ (z : ObjectsState). Takes bytes (objects_text z) rest) w.is
+    (subst (λ (xs : List SavedSlot). Takes bytes (flat_map slot_text xs) rest)
+    (sym (slots_back limits.slots limits.max_gen list.clock w.p w.slots r w.q _ _
+    (counts limits list.clock tables bytes w.p w.q w.slots rest w.read w.counted) limits refl list.waits))
     (subst (λ (t : List ℕ). Takes bytes (flat_map slot_text i.0.0) t) (ap (λ (z : (Places × List Slot) ×
     List ℕ). z.1) back) taken))
+
+pub objects_take : (limits : Limits) (threads : List (Option ℕ)) (tables : List (List (Option Entry)))
+    (list : WaitList) (bytes : List ℕ) (s : ObjectsState) (rest : List ℕ) → AreBytes bytes →
+    objects_at limits threads tables list bytes ≡ Ok (s, rest) → Takes bytes (objects_text s) rest
+objects_take limits threads tables list bytes s rest are e =
+    let a = bind_ok (whole_at limits tables list bytes) _ (s, rest) e in
+    let g = guard_passed (all_stand limits.max_recursion threads list.waits a.0.0) Value a.0 (s, rest) a.2 in
+    whole_take limits tables list bytes s rest are (a.1 ∙ ap (λ (z : ObjectsState × List ℕ). Ok z) g.1)

@@ -15,14 +15,18 @@ use Rattle.ob_tables.specs.Counts.{handles_among, slot_handles}
 use Rattle.ob_waits.specs.Form.{IsAfter, slot_due}
 use Rattle.ob_waits.specs.Objects as waits
 use Rattle.ob_waits.specs.Rules.{HasBodies}
+use Rattle.ob_waits.specs.declared.wait.Wait.{Wait}
 use Rattle.ob_store.specs.declared.limits.Limits.{Limits}
 use Rattle.ob_store.specs.declared.saved_slot.SavedSlot.{SavedSlot}
 use Rattle.ob_store.specs.Agreement.{Agrees, IsAgreed, IsTied, made_in}
 use Rattle.ob_store.specs.Counting.{counting_all}
-use Rattle.ob_store.specs.Kept.{AreFormed}
+use Rattle.ob_store.specs.Kept.{AreFormed, IsThere}
 use Rattle.ob_store.specs.Objects.{Object, Places}
 use Rattle.ob_store.specs.SavedObjects.{Births, are_bodied, births_from, is_bodied, with_slots}
 use Rattle.ob_store.specs.SavedSlots.{body_from, is_retired, keeper_slot, object_from, objects_from, places_from, slot_at, slots_at, slots_from}
+use Rattle.ob_store.specs.SavedWaits.{object_blocks, with_blocks}
+use Rattle.ob_store.specs.State.{by_slot}
+use Rattle.ob_store.proofs.BySlot.{is_by_slot}
 use Rattle.ob_store.proofs.CountingLaws.{Counts, IsWide, tables_count}
 use Rattle.ob_store.proofs.KeeperLaws.{all_shown}
 use Rattle.ob_store.proofs.SavedBirthLaws.{ordered_born}
@@ -185,8 +189,9 @@ module _ (n max_gen clock : ℕ) (p : Places) (slots : List Slot) (r : AreRead n
 
   module _ (limits : Limits) (wide : n ≡ limits.slots) (last : max_gen ≡ limits.max_gen) (order : Births)
       (ordered : births_from (sum_by made_in slots) [] 0 q.objects ≡
-      Ok order) (bodied : are_bodied q.seen (length q.objects) ≡ true) where
-    read_agreed : IsAgreed (with_slots q limits slots)
+      Ok order) (waits : List (Option Wait))
+      (bodied : are_bodied (with_blocks waits q).seen (length q.objects) ≡ true) where
+    read_agreed : IsAgreed (with_slots (with_blocks waits q) limits slots)
     read_agreed = record {
       few = limits.in_range.slots_in_range.1;
       wide = slots-long ∙ wide;
@@ -196,10 +201,10 @@ module _ (n max_gen clock : ℕ) (p : Places) (slots : List Slot) (r : AreRead n
       each = λ k lt. agrees-here k (omega (arith, lt, wide));
     }
 
-    pub read_tied : IsTied (with_slots q limits slots)
+    pub read_tied : IsTied (with_slots (with_blocks waits q) limits slots)
     read_tied = record {
       agreed = read_agreed;
-      listed = all_shown (with_slots q limits slots) read_agreed;
+      listed = all_shown (with_slots (with_blocks waits q) limits slots) read_agreed;
       opens = record {
         wide = slots-long ∙ wide;
         each = λ k lt. (let within : k < n = omega (arith, lt, wide) in
@@ -207,8 +212,9 @@ module _ (n max_gen clock : ℕ) (p : Places) (slots : List Slot) (r : AreRead n
             (subst (SlotOpens max_gen) (sym (slot-here k within))
             (slot_opens max_gen clock (at k) (r.sound k within))));
       };
-      bodied = all_bodied q.seen n bodies-long handles-long blocks-long (subst (λ (m : ℕ). are_bodied q.seen m ≡
-          true) objects-long-here bodied);
+      bodied = all_bodied (with_blocks waits q).seen n bodies-long handles-long
+          (length-map q.objects (object_blocks waits) ∙ objects-long-here)
+          (subst (λ (m : ℕ). are_bodied (with_blocks waits q).seen m ≡ true) objects-long-here bodied);
       born = ordered_born (sum_by made_in slots) order q.objects ordered;
       aged = λ k lt. (let within : k < n = omega (arith, lt, wide) in
           let age = slot_aged max_gen clock (at k) (r.sound k within) in
@@ -221,14 +227,16 @@ module _ (n max_gen clock : ℕ) (p : Places) (slots : List Slot) (r : AreRead n
     }
 
   -- the stored counts are the numbers of entries
-  pub read_handles : ((k : ℕ) → k < n → get_or q.seen.handles k 0 ≡ more k) × (length q.seen.handles ≡ n)
-  read_handles = (
-    λ k lt. (let c = counts.handles k in
-        let z : get_or p.seen.handles k 0 ≡ 0 = ap (λ (y : Places). get_or y.seen.handles k 0) r.places ∙
-        get_or-replicate {A = ℕ} (length r.xs) k 0 0 (omega (arith, lt, r.long)) in
-        omega (arith, c, z)),
-    handles-long,
-  )
+  pub read_handles : q.seen.handles ≡ by_slot (length q.objects) more
+  read_handles = is_by_slot q.seen.handles (length q.objects) more (handles-long ∙ sym objects-long-here)
+      (λ k lt. (let c = counts.handles k in
+      let z : get_or p.seen.handles k 0 ≡ 0 = ap (λ (y : Places). get_or y.seen.handles k 0) r.places ∙
+      get_or-replicate {A = ℕ} (length r.xs) k 0 0 (omega (arith, lt, objects-long-here, r.long)) in
+      omega (arith, c, z)))
+
+  -- and there is a count of blocks for each object
+  pub read_wide : length q.seen.blocks ≡ length q.objects
+  read_wide = blocks-long ∙ sym objects-long-here
 
 pub slots_read : (n max_gen clock : ℕ) (bytes : List ℕ) (p : Places) (slots : List Slot) (rest : List ℕ) →
     slots_at n max_gen clock bytes ≡ Ok ((p, slots), rest) → length slots ≡ n
@@ -248,10 +256,19 @@ module _ (limits : Limits) (clock : ℕ) (tables : List (List (Option Entry))) (
       (subst IsWide (sym are.places) (objects-long 0 are.xs ∙ sym (length-replicate {A = ℕ} (length are.xs) 0))) counted
 
   pub tied_read : (order : Births) → births_from (sum_by made_in slots) [] 0 q.objects ≡ Ok order →
-      are_bodied q.seen (length q.objects) ≡ true →
-      IsTied (with_slots q limits slots)
-  tied_read order ordered bodied =
-      read_tied limits.slots limits.max_gen clock p slots are q _ _ counts limits refl refl order ordered bodied
+      (waits : List (Option Wait)) → are_bodied (with_blocks waits q).seen (length q.objects) ≡ true →
+      IsTied (with_slots (with_blocks waits q) limits slots)
+  tied_read order ordered waits bodied =
+      read_tied limits.slots limits.max_gen clock p slots are q _ _ counts limits refl refl order ordered waits bodied
 
   pub formed_read : AreFormed clock q.objects q.seen.bodies
   formed_read = read_formed limits.slots limits.max_gen clock p slots are q _ _ counts
+
+  pub handles_read : q.seen.handles ≡ by_slot (length q.objects) (λ k. slot_handles k tables)
+  handles_read = read_handles limits.slots limits.max_gen clock p slots are q _ _ counts
+
+  pub entries_read : (id : Id) → 0 < handles_among id tables → IsThere q.objects id
+  entries_read id some = subst (λ (z : Places). IsThere z.objects id) (sym counts.same) (counts.named id some)
+
+  pub wide_read : length q.seen.blocks ≡ length q.objects
+  wide_read = read_wide limits.slots limits.max_gen clock p slots are q _ _ counts

@@ -11,6 +11,7 @@ use Rattle.ob_arena.specs.Slots.{Slots, is_vacant_at, least_vacant}
 use Rattle.ob_arena.proofs.SlotLemmas.{vacant_least, vacant_within}
 use Rattle.ob_waits.specs.Objects.{slot_acquired, without_block}
 use Rattle.ob_store.specs.declared.seat.Seat.{Seat}
+use Rattle.ob_store.specs.SavedWaits.{with_blocks_at}
 use Rattle.ob_store.specs.Objects.{Object, Places, places_of, rest_of, seen_in, Tag, object_at, object_of, objects_in, no_tag, seat_body, seat_handles, seat_blocks, seat_handle_left, seat_block_left, vacancy, vacant_places, with_seated, with_handle, without_handle, with_block, without_seat, is_last_handle}
 use Rattle.ob_store.proofs.LabelLaws.{none_object, object_read, objects_kept, objects_length, objects_none, objects_out, objects_put}
 
@@ -120,6 +121,17 @@ module _ (xs : List (Option Seat)) (k : ℕ) (x : Seat) (is : get_or xs k None �
         handles = handles_same y refl i;
         blocks = (map-set seat_blocks xs k (Some y)
             ∙ ap (λ n. set (map seat_blocks xs) k (n + 1)) (sym blocks_at)) i;
+      };
+      retired = retired;
+    }
+
+    pub places_blocks : (n : ℕ) → after (record x { blocks = n }) ≡ with_blocks_at before k n
+    places_blocks n = let y : Seat = record x { blocks = n } in λ i. record {
+      objects = objects_same ls y (λ l. refl) i;
+      seen = record {
+        bodies = bodies_same y refl i;
+        handles = handles_same y refl i;
+        blocks = map-set seat_blocks xs k (Some y) i;
       };
       retired = retired;
     }

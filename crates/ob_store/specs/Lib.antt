@@ -23,5 +23,6 @@ pub mod Consistent
 pub mod Stored
 pub mod SavedSlots
 pub mod Counting
+pub mod SavedWaits
 pub mod SavedObjects
 pub mod Giving

@@ -1,5 +1,4 @@
--- What a save says of the objects, once the handles of the tables are counted: bodies, births, and what their keeper
--- says.
+-- What a save says of the objects, once what refers to them is counted: bodies, births, and what their keeper says.
 use Rattle.std.specs.Prelude.{ℕ, zero, suc, ◌+◌, nat_lt, ◌&&◌, Bool, true, false, if◌then◌else◌, List, [], ◌∷◌, length, Option, Some, None, Result, Ok, Err, is_none, is_some, map, slice_index_or, sum_by}
 use Rattle.std.specs.List.{flat_map, range_with_len}
 use Rattle.std.specs.BTreeMap.{insert_entry, is_at}
@@ -7,7 +6,7 @@ use Rattle.std.specs.Map.{lookup}
 use Rattle.std.specs.Ordering.{nat_cmp}
 use Rattle.ob_codec.specs.declared.fault.TextFault.{TextFault}
 use Rattle.ob_codec.specs.declared.fault.TextFault.TheVariants.{Value}
-use Rattle.ob_codec.specs.Reading.{◌>>=◌, Read}
+use Rattle.ob_codec.specs.Reading.{◌>>=◌, Read, where_at}
 use Rattle.pin_core.specs.declared.shape.Shape.{Shape}
 use Rattle.pin_core.specs.declared.world.Slot.{Slot}
 use Rattle.pin_core.specs.Opened.{shown_from}
@@ -16,6 +15,7 @@ use Rattle.pin_words.specs.Keepers.{KeeperState, locked}
 use Rattle.ob_body.specs.declared.body.Body.{Body}
 use Rattle.ob_tables.specs.declared.entry.Entry.{Entry}
 use Rattle.ob_waits.specs.Objects as waits
+use Rattle.ob_waits.specs.Waits.{WaitList}
 use Rattle.ob_store.specs.declared.limits.Limits.{Limits}
 use Rattle.ob_store.specs.declared.saved_slot.SavedObject.{SavedObject}
 use Rattle.ob_store.specs.declared.saved_slot.SavedSlot.{SavedSlot}
@@ -23,6 +23,7 @@ use Rattle.ob_store.specs.Agreement.{made_in}
 use Rattle.ob_store.specs.Counting.{counting_all}
 use Rattle.ob_store.specs.Objects.{Object, ObjectsState, Places, with_keeper}
 use Rattle.ob_store.specs.SavedSlots.{slot_text, slots_at}
+use Rattle.ob_store.specs.SavedWaits.{all_stand, with_blocks}
 use Rattle.ob_store.specs.State.{shape_of}
 
 -- whether a slot has a body exactly where something refers to its object
@@ -72,13 +73,18 @@ whole_objects limits slots p = do
   order ← births_from (sum_by made_in slots) [] 0 p.objects
   if are_bodied p.seen (length p.objects) then Ok (with_slots p limits slots) else Err Value
 
--- the objects of a save, of which just the entries of these tables are handles
-abbrev pub objects_at : Limits → ℕ → List (List (Option Entry)) → List ℕ → Read ObjectsState
-objects_at limits clock tables bytes = do
-  read ← slots_at limits.slots limits.max_gen clock bytes
+-- the objects of a save, of which just the entries of these tables are handles, and the places of these waits blocks
+abbrev pub whole_at : Limits → List (List (Option Entry)) → WaitList → List ℕ → Read ObjectsState
+whole_at limits tables list bytes = do
+  read ← slots_at limits.slots limits.max_gen list.clock bytes
   counted ← counting_all read.0.0 tables
-  objects ← whole_objects limits read.0.1 counted
+  objects ← whole_objects limits read.0.1 (with_blocks list.waits counted)
   Ok (objects, read.1)
+
+-- where these waits, and the owners of mutexes, can be there
+abbrev pub objects_at : Limits → List (Option ℕ) → List (List (Option Entry)) → WaitList → List ℕ → Read ObjectsState
+objects_at limits threads tables list =
+    where_at (all_stand limits.max_recursion threads list.waits) (whole_at limits tables list)
 
 -- what a save says of an object with its body, and of a slot
 abbrev pub saved_of : Object → Option Body → SavedObject

@@ -1,4 +1,4 @@
-ghost use Rattle.std.specs.Prelude.{◌≡◌, ◌∷◌, ◌++◌, ℕ, List, [], None, Ok, Option, length, map, true};
+ghost use Rattle.std.specs.Prelude.{◌≡◌, ◌++◌, ℕ, List, [], Ok, Option, length, map, true};
 ghost use Rattle.std.specs.List.{AllByRecursion};
 ghost use Rattle.ob_codec.specs.Laws.{Takes};
 ghost use Rattle.ob_codec.specs.Spelling.{AreBytes};
@@ -7,9 +7,10 @@ ghost use Rattle.ob_store.specs.declared.limits.Limits.{Limits};
 ghost use Rattle.ob_tables.specs.Tables.{IsBounded};
 ghost use Rattle.ob_waits.specs.declared.wait.Wait.{Wait};
 ghost use Rattle.ob_store.specs.Counting.{counting_all, uncounted};
-ghost use Rattle.ob_store.specs.Kept.{IsCounted, IsNamed};
+ghost use Rattle.ob_store.specs.Kept.{AreOfLive, IsCounted, IsNamed, IsQuiet};
 ghost use Rattle.ob_waits.specs.Objects as waits;
 ghost use Rattle.ob_waits.specs.Rules.{HasBodies};
+ghost use Rattle.ob_waits.specs.Waits.{WaitList};
 ghost use Rattle.ob_store.specs.Agreement.{AreBorn, IsTied};
 ghost use Rattle.ob_store.specs.Objects.{Object, ObjectsState, Places};
 ghost use Rattle.ob_store.specs.SavedObjects.{Births, are_bodied, births_from, objects_at, objects_text, slots_saved};
@@ -33,16 +34,19 @@ pub fn law_of_whole_objects()
     ensures bodies { (seen : waits.Objects) (slots : ℕ) → HasBodies seen → are_bodied seen slots ≡ true }
 {}
 
-/// Objects for which no wait is pending are read again as they were written, over a keeper that begins with their
-/// slots, where each slot fits; and what is read of objects is the spelling of those that it gives.
+/// Objects that are kept with the tables, the waits and the threads are read again as they were written, over a keeper
+/// that begins with their slots, where each slot fits; and what is read of objects is the spelling of those that it
+/// gives.
 pub fn law_of_spelled_objects()
-    ensures again { (s : ObjectsState) → IsTied s → (limits : Limits) (clock processes limit : ℕ)
-        (tables : List (List (Option Entry))) (rest : List ℕ) → s.keeper.shape ≡ shape_of limits
-        → IsCounted s.seen (length s.objects) tables (None ∷ []) → IsNamed s.objects tables (None ∷ [])
-        → IsBounded processes limit tables → AllByRecursion (SlotFits limits.max_gen clock) (slots_saved s)
-        → objects_at limits clock tables (objects_text s ++ rest)
+    ensures again { (s : ObjectsState) → IsTied s → (limits : Limits) (processes limit : ℕ)
+        (threads : List (Option ℕ)) (tables : List (List (Option Entry))) (list : WaitList) (rest : List ℕ)
+        → s.keeper.shape ≡ shape_of limits → IsCounted s.seen (length s.objects) tables list.waits
+        → IsNamed s.objects tables list.waits → AreOfLive threads s.seen.bodies list.waits
+        → IsQuiet limits.max_recursion s.seen.bodies list.waits → IsBounded processes limit tables
+        → AllByRecursion (SlotFits limits.max_gen list.clock) (slots_saved s)
+        → objects_at limits threads tables list (objects_text s ++ rest)
         ≡ Ok (record s { keeper = begun_over (shape_of limits) (map keeper_slot (slots_saved s)) }, rest) }
-    ensures takes { (limits : Limits) (clock : ℕ) (tables : List (List (Option Entry))) (bytes : List ℕ)
-        (s : ObjectsState) (rest : List ℕ) → AreBytes bytes
-        → objects_at limits clock tables bytes ≡ Ok (s, rest) → Takes bytes (objects_text s) rest }
+    ensures takes { (limits : Limits) (threads : List (Option ℕ)) (tables : List (List (Option Entry)))
+        (list : WaitList) (bytes : List ℕ) (s : ObjectsState) (rest : List ℕ) → AreBytes bytes
+        → objects_at limits threads tables list bytes ≡ Ok (s, rest) → Takes bytes (objects_text s) rest }
 {}

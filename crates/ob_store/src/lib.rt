@@ -42,6 +42,7 @@ mod processes;
 mod reclaiming;
 mod saved;
 mod saved_slot;
+mod saved_waits;
 mod saving;
 mod seat;
 mod seats;

@@ -1,20 +1,25 @@
-ghost use Rattle.std.specs.Prelude.{◌≡◌, ◌≤◌, IfOk, true};
+ghost use Rattle.std.specs.Prelude.{◌≡◌, ◌≤◌, ◌+◌, IfOk, length, true};
 ghost use Rattle.ob_arena.specs.Slots.{is_vacant_at};
 ghost use Rattle.ob_codec.specs.Reading.{Gives};
 ghost use Rattle.ob_store.specs.Objects.{vacancy};
 ghost use Rattle.ob_store.specs.SavedSlots.{slots_at, with_saved};
-ghost use Rattle.ob_store.specs.SavedObjects.{objects_at};
-ghost use Rattle.ob_store.specs.Kept.{AreFormed};
+ghost use Rattle.ob_store.specs.SavedObjects.{objects_at, whole_at};
+ghost use Rattle.ob_store.specs.State.{shape_of};
+ghost use Rattle.ob_store.specs.Kept.{AreFormed, AreOfLive, IsCounted, IsNamed, IsQuiet};
+ghost use Rattle.ob_waits.specs.Spelling.{are_within};
 
 use crate::births::{count_births, order_births};
 use crate::counting::count_tables;
 use crate::limits::Limits;
 use crate::objects::Objects;
+use crate::processes::Processes;
 use crate::saved_slot::SavedSlot;
+use crate::saved_waits::{all_stand, count_blocks};
 use crate::seats::Seats;
 use ob_arena::SLOTS_MAX;
 use ob_codec::{Cursor, ReadFault, TextFault};
 use ob_tables::Tables;
+use ob_waits::Waits;
 use pin_core::{Id, Slot};
 use pin_words::LockedPins;
 use std::alloc::Global;
@@ -62,42 +67,71 @@ pub(crate) fn read_slots(
     Ok((seats, begun))
 }
 
+/// Reads the objects, and counts what refers to them.
+fn read_whole(
+    alloc: Global,
+    limits: Limits,
+    tables: &Tables,
+    waits: &Waits,
+    from: &mut Cursor<'_>,
+) -> Result<Objects<LockedPins>, ReadFault>
+    ensures { Gives (λ objects. objects) result (whole_at limits tables.now.tables waits.now from.old) from.new }
+{
+    let (mut seats, slots) = read_slots(
+        alloc,
+        limits.slots,
+        limits.threads + 1,
+        limits.max_gen,
+        waits.clock(),
+        from,
+    )?;
+    if !count_tables(&mut seats, tables) {
+        return Err(ReadFault::Text(TextFault::Value));
+    }
+    count_blocks(&mut seats, waits);
+    let births = count_births(slots.as_slice());
+    let _order = order_births(alloc, births, &seats)?;
+    if !seats.are_bodied() {
+        return Err(ReadFault::Text(TextFault::Value));
+    }
+    let keeper = LockedPins::with_slots(limits.shape(), slots);
+    Ok(Objects {
+        seats,
+        births,
+        keeper,
+    })
+}
+
 impl Objects<LockedPins> {
-    /// Reads the objects of a save at a moment, over a keeper that begins with their slots. The handles of each are
-    /// the entries of the tables that name it. [`TextFault::Value`] where a slot can't be so, an entry names an object
-    /// that isn't there, two objects have one birth, or an object has a body but nothing refers to it, or the other
-    /// way round.
-    pub fn read(
+    /// Reads the objects of a save at the moment of its waits, over a keeper that begins with their slots. The handles
+    /// of each are the entries of the tables that name it, and its blocks the places of pending waits.
+    /// [`TextFault::Value`] where a slot can't be so, an entry or a wait names an object that isn't there, two objects
+    /// have one birth, or an object has a body but nothing refers to it, or the other way round; where a wait's thread
+    /// or the owner of a mutex isn't live; and where a pending wait is satisfied, or its thread owns one of its mutexes
+    /// as often as the limit lets.
+    pub(crate) fn read(
         alloc: Global,
         limits: Limits,
-        clock: u64,
+        processes: &Processes,
         tables: &Tables,
+        waits: &Waits,
         from: &mut Cursor<'_>,
     ) -> Result<Objects<LockedPins>, ReadFault>
-        ensures read { Gives (λ objects. objects) result (objects_at limits clock tables.now.tables from.old) from.new }
-        ensures formed { IfOk result (λ objects. AreFormed clock objects.objects objects.seen.bodies) }
+        requires { are_within (limits.threads + 1) limits.slots waits.now.waits ≡ true }
+        ensures read { Gives (λ o. o) result
+            (objects_at limits processes.now.threads tables.now.tables waits.now from.old) from.new }
+        ensures shape { IfOk result (λ o. o.keeper.shape ≡ shape_of limits) }
+        ensures formed { IfOk result (λ o. AreFormed waits.now.clock o.objects o.seen.bodies) }
+        ensures counted { IfOk result (λ o. IsCounted o.seen (length o.objects) tables.now.tables waits.now.waits) }
+        ensures named { IfOk result (λ o. IsNamed o.objects tables.now.tables waits.now.waits) }
+        ensures of_live { IfOk result (λ o. AreOfLive processes.now.threads o.seen.bodies waits.now.waits) }
+        ensures quiet { IfOk result (λ o. IsQuiet limits.max_recursion o.seen.bodies waits.now.waits) }
     {
-        let (mut seats, slots) = read_slots(
-            alloc,
-            limits.slots,
-            limits.threads + 1,
-            limits.max_gen,
-            clock,
-            from,
-        )?;
-        if !count_tables(&mut seats, tables) {
+        let objects = read_whole(alloc, limits, tables, waits, from)?;
+        objects.kept();
+        if !all_stand(&objects, limits, processes, waits) {
             return Err(ReadFault::Text(TextFault::Value));
         }
-        let births = count_births(slots.as_slice());
-        let _order = order_births(alloc, births, &seats)?;
-        if !seats.are_bodied() {
-            return Err(ReadFault::Text(TextFault::Value));
-        }
-        let keeper = LockedPins::with_slots(limits.shape(), slots);
-        Ok(Objects {
-            seats,
-            births,
-            keeper,
-        })
+        Ok(objects)
     }
 }

@@ -15,6 +15,7 @@ ghost use Rattle.ob_store.specs.Objects.{without_seat, with_retired, with_seated
 ghost use Rattle.ob_store.specs.SavedSlots.{stored_object};
 ghost use Rattle.ob_store.specs.Counting.{counting_one, may_count};
 ghost use Rattle.ob_store.specs.SavedObjects.{are_bodied, is_bodied};
+ghost use Rattle.ob_store.specs.SavedWaits.{object_blocks, with_blocks_at};
 ghost use Rattle.ob_codec.specs.declared.fault.TextFault.TheVariants.{Value};
 
 use crate::closing::ClosingSlots;
@@ -28,6 +29,7 @@ use ob_arena::{Arena, SLOTS_MAX};
 use ob_body::{Body, RECURSION_MAX};
 use ob_name::Name;
 use ob_rights::Rights;
+use ob_waits::Waits;
 use pin_core::{Descr, Id, same_id};
 use std::alloc::{AllocError, Global};
 use std::marker::Model;
@@ -60,7 +62,7 @@ impl Model for Seats {
 }
 
 /// The thread that owns a mutex.
-fn owner_of(body: Option<Body>) -> Option<u32>
+pub(crate) fn owner_of(body: Option<Body>) -> Option<u32>
     ensures { result ≡ slot_owner body }
 {
     match body {
@@ -361,6 +363,18 @@ impl Seats {
         ensures { self.new ≡ with_block self.old slot }
     {
         self.arena.get_mut(slot).blocks += 1;
+    }
+
+    /// Counts the blocks of the object in a slot, if there is one.
+    pub(crate) fn count_blocks(&mut self, slot: u32, waits: &Waits)
+        ensures { self.new ≡ with_blocks_at self.old slot
+            (object_blocks waits.now.waits (slice_index_or self.old.objects slot None)) }
+    {
+        if !self.arena.is_occupied(slot) {
+            return;
+        }
+        let blocks = waits.blocks_of(self.arena.get(slot).id);
+        self.arena.get_mut(slot).blocks = blocks;
     }
 
     /// An object without a body leaves the slot, which is vacant then.

@@ -4,7 +4,7 @@ use crate::tests::{holds, same};
 use ob_body::{Body, RECURSION_MAX};
 use ob_rights::{Fault, Kind, all_access};
 use ob_store::Objects;
-use ob_waits::Bodies;
+use ob_waits::{Bodies, Mode, is_satisfied};
 use pin_core::{Descr, Id, Shape};
 use pin_words::{LockedPins, PinKeeper, Pins, Reclaim};
 use std::alloc::Global;
@@ -148,6 +148,11 @@ fn has_released<K: PinKeeper>(objects: &mut Objects<K>, thread: u32, slot: u32) 
     true
 }
 
+/// Whether a wait of the thread for the objects of the first two slots is satisfied.
+fn may_take<K: PinKeeper>(objects: &Objects<K>, thread: u32, mode: Mode) -> bool {
+    is_satisfied(objects, thread, mode, &[first_of(0), first_of(1)])
+}
+
 /// The mutexes that are listed for a thread are abandoned: as many as it owns.
 fn abandon_listed<K: PinKeeper>(objects: &mut Objects<K>, thread: u32) {
     for _ in 0..objects.owned_count(thread) {
@@ -172,6 +177,8 @@ enum Act {
     Take(u32, u32, bool),
     /// A thread releases the mutex of a slot, where it owns it.
     Release(u32, u32, bool),
+    /// Whether a wait of a thread for the objects of the first two slots is satisfied.
+    Satisfied(u32, Mode, bool),
     /// The mutexes of a thread are abandoned.
     Abandon(u32),
     OwnsNone(u32, bool),
@@ -192,6 +199,9 @@ fn play_one<K: PinKeeper>(rt: &impl Abort, objects: &mut Objects<K>, act: Act) {
         }
         Act::Release(thread, slot, released) => {
             same(rt, has_released(objects, thread, slot), released);
+        }
+        Act::Satisfied(thread, mode, satisfied) => {
+            same(rt, may_take(objects, thread, mode), satisfied);
         }
         Act::Abandon(thread) => abandon_listed(objects, thread),
         Act::OwnsNone(thread, none) => same(rt, objects.owns_none(thread), none),
@@ -326,6 +336,23 @@ fn each_place_of_a_list_is_a_block(rt: HostRuntime) -> Result<(), Fail> {
 #[test]
 fn a_pinned_slot_is_held(rt: HostRuntime) -> Result<(), Fail> {
     over_locked(&rt, rt.alloc(), 1, Scene::Pinned)
+}
+
+/// A mutex and an event that isn't set.
+#[rattlefmt::skip]
+const ONE_OF_TWO: &[Act] = &[
+    Act::Make(MUTEX, Some(FIRST)),
+    Act::Make(EVENT, Some(Id { slot: 1, generation: 1 })),
+    Act::Satisfied(1, Mode::Any, true),
+    Act::Satisfied(1, Mode::All, false),
+    Act::Take(1, 0, true),
+    Act::Satisfied(1, Mode::Any, true),
+    Act::Satisfied(2, Mode::Any, false),
+];
+
+#[test]
+fn a_wait_is_satisfied_by_what_its_thread_may_take(rt: HostRuntime) -> Result<(), Fail> {
+    over_locked(&rt, rt.alloc(), 2, Scene::Acts(ONE_OF_TWO))
 }
 
 /// Mutexes in seven slots. Thread 1 takes those of 0 to 4, the last of them twice, and thread 2 that of 5. Then thread

@@ -1,0 +1,261 @@
+-- What holds of objects that were read, with their tables, waits and threads, and that such objects are taken.
+use Rattle.std.proofs.Common.{◌≡◌, ℕ, zero, suc, ◌+◌, ◌<◌, not, Bool, true, false, cond, List, [], ◌∷◌, length, get_or, map, Option, Some, None, Ok, Err, refl, sym, ap, ◌∙◌, subst, arith}
+use Rattle.std.specs.List.{list_all}
+use Rattle.std.specs.Prelude.{count_by, sum_by}
+use Rattle.std.proofs.lemmas.List.{get_or-map, length-map}
+use Rattle.std.proofs.lemmas.List.Sums.{AllPass-from_list_all, sum_by-cons}
+use Rattle.ob_codec.specs.declared.fault.TextFault.TheVariants.{Value}
+use Rattle.ob_codec.specs.Reading.{◌>>=◌}
+use Rattle.ob_codec.specs.Steps.{bind_ok, both-true, guard_passed, ok_is, true-both}
+use Rattle.pin_core.specs.Holds.{same_id}
+use Rattle.pin_core.specs.declared.id.Id.{Id}
+use Rattle.pin_core.specs.declared.world.Slot.{Slot}
+use Rattle.pin_core.specs.Worlds.{slot_of}
+use Rattle.ob_tables.proofs.Counting.{one_id}
+use Rattle.ob_tables.specs.declared.entry.Entry.{Entry}
+use Rattle.ob_tables.specs.Counts.{handles_among, slot_handles}
+use Rattle.ob_waits.specs.Form.{slot_owner}
+use Rattle.ob_waits.specs.Objects.{slot_room}
+use Rattle.ob_waits.specs.Rules.{HasRoom, WaitHasRoom, thread_of}
+use Rattle.ob_waits.specs.Waits.{WaitList, blocks_among, blocks_in, ids_of, is_ready, list_ready, nowhere, slot_blocks, state_ids, state_ready}
+use Rattle.ob_waits.specs.declared.wait.State.{State}
+use Rattle.ob_waits.specs.declared.wait.State.TheVariants.{Pending, Answered}
+use Rattle.ob_waits.specs.declared.wait.Wait.{Wait}
+use Rattle.ob_store.specs.declared.limits.Limits.{Limits}
+use Rattle.ob_store.specs.Agreement.{Agrees, IsTied}
+use Rattle.ob_store.specs.Counting.{counting_all, is_its}
+use Rattle.ob_store.specs.Kept.{AreFormed, AreOfLive, IsCounted, IsLive, IsNamed, IsQuiet, IsThere, id_in}
+use Rattle.ob_store.specs.Objects.{Object, ObjectsState, Places}
+use Rattle.ob_store.specs.SavedObjects.{Births, are_bodied, births_from, whole_at, whole_objects, with_slots}
+use Rattle.ob_store.specs.SavedSlots.{slots_at}
+use Rattle.ob_store.specs.SavedWaits.{all_stand, may_wait_for, is_live, is_live_if_some, object_blocks, owner_stands, owners_stand, state_stands, wait_stands, waits_stand, with_blocks}
+use Rattle.ob_store.specs.Agreement.{made_in}
+use Rattle.ob_store.specs.State.{by_slot, shape_of}
+use Rattle.ob_store.proofs.BySlot.{is_by_slot}
+use Rattle.ob_store.proofs.CountingAgain.{its_id}
+use Rattle.ob_store.proofs.CountingLaws.{its_there}
+use Rattle.ob_store.proofs.NamedLaws.{blocks_are, blocks_vacant, place_counted}
+use Rattle.ob_store.proofs.SavedObjectLaws.{entries_read, formed_read, handles_read}
+use Rattle.ob_store.proofs.SavedWaitLaws.{all_at, all_from}
+
+-- the steps in which objects were read
+pub record IsWhole (limits : Limits) (tables : List (List (Option Entry))) (list : WaitList) (bytes : List ℕ)
+    (s : ObjectsState) (rest : List ℕ) : Type 0 where
+  pub p : Places
+  pub q : Places
+  pub slots : List Slot
+  pub read : slots_at limits.slots limits.max_gen list.clock bytes ≡ Ok ((p, slots), rest)
+  pub counted : counting_all p tables ≡ Ok q
+  pub is : with_slots (with_blocks list.waits q) limits slots ≡ s
+
+pub whole_steps : (limits : Limits) (tables : List (List (Option Entry))) (list : WaitList) (bytes : List ℕ)
+    (s : ObjectsState) (rest : List ℕ) → whole_at limits tables list bytes ≡ Ok (s, rest) →
+    IsWhole limits tables list bytes s rest
+whole_steps limits tables list bytes s rest e =
+    let a = bind_ok (slots_at limits.slots limits.max_gen list.clock bytes) _ (s, rest) e in
+    let b = bind_ok (counting_all a.0.0.0 tables) (λ (q : Places). whole_objects limits a.0.0.1
+    (with_blocks list.waits q) >>= λ (o : ObjectsState). Ok (o, a.0.1)) (s, rest) a.2 in
+    let q = with_blocks list.waits b.0 in
+    let c = bind_ok (whole_objects limits a.0.0.1 q) (λ (o : ObjectsState). Ok (o, a.0.1)) (s, rest) b.2 in
+    let d = bind_ok (births_from (sum_by made_in a.0.0.1) [] 0 q.objects)
+    (λ (order : Births). cond (are_bodied q.seen (length q.objects)) (Ok (with_slots q limits a.0.0.1)) (Err Value))
+    c.0 c.1 in
+    let g = guard_passed (are_bodied q.seen (length q.objects)) Value (with_slots q limits a.0.0.1) c.0 d.2 in
+    let same = ok_is (c.0, a.0.1) (s, rest) c.2 in
+    record {
+      p = a.0.0.0;
+      q = b.0;
+      slots = a.0.0.1;
+      read = a.1 ∙ ap (λ (z : ObjectsState × List ℕ). Ok ((a.0.0.0, a.0.0.1), z.1)) same;
+      counted = b.1;
+      is = g.1 ∙ ap (λ (z : ObjectsState × List ℕ). z.0) same;
+    }
+
+-- what waits that can be there keep
+module _ (limit : ℕ) (threads : List (Option ℕ)) (s : ObjectsState) where
+  abbrev stands : Option Wait → Bool
+  stands w = wait_stands limit threads s w
+
+  ids-there : (t : ℕ) (id : Id) (ids : List Id) → list_all (may_wait_for limit s t) ids ≡ true →
+      0 < count_by (same_id id) ids → IsThere s.objects id
+  ids-there t id [] all some = absurd (omega (arith, some))
+  ids-there t id (x ∷ ids) all some =
+      let a = both-true (may_wait_for limit s t x) (list_all (may_wait_for limit s t) ids) all in
+      let here : IsThere s.objects x =
+      its_there (get_or s.objects x.slot None) x (both-true (is_its x (get_or s.objects x.slot None)) _ a.0).0 in
+      by (same_id id x) refl here (λ later. ids-there t id ids a.1 later)
+      (subst (λ (n : ℕ). 0 < n) (sum_by-cons (λ (y : Id). cond (same_id id y) 1 0) x ids) some)
+    where
+      by : (b : Bool) → same_id id x ≡ b → IsThere s.objects x →
+          (0 < count_by (same_id id) ids → IsThere s.objects id) → 0 < cond b 1 0 + count_by (same_id id) ids →
+          IsThere s.objects id
+      by true is here later some = subst (IsThere s.objects) (sym (one_id id x is)) here
+      by false is here later some = later (omega (arith, some))
+
+  state-there : (t : ℕ) (id : Id) (x : State) → state_stands limit s t x ≡ true →
+      0 < count_by (same_id id) (state_ids x) → IsThere s.objects id
+  state-there t id (Pending mode ids) e some =
+      ids-there t id ids (both-true (list_all (may_wait_for limit s t) ids) _ e).0 some
+  state-there t id (Answered code) e some = absurd (omega (arith, some))
+
+  wait-there : (id : Id) (w : Option Wait) → stands w ≡ true → 0 < blocks_in id w → IsThere s.objects id
+  wait-there id None e some = absurd (omega (arith, some))
+  wait-there id (Some w) e some =
+      state-there w.thread id w.state (both-true (is_live threads w.thread) _ e).1 some
+
+  pub waits_there : (waits : List (Option Wait)) → waits_stand limit threads waits s ≡ true → (id : Id) →
+      0 < blocks_among id waits → IsThere s.objects id
+  waits_there [] all id some = absurd (omega (arith, some))
+  waits_there (w ∷ waits) all id some =
+      let a = both-true (stands w) (waits_stand limit threads waits s) all in
+      by (blocks_in id w) refl (wait-there id w a.0) (waits_there waits a.1 id)
+      (subst (λ (n : ℕ). 0 < n) (sum_by-cons (blocks_in id) w waits) some)
+    where
+      by : (n : ℕ) → blocks_in id w ≡ n → (0 < blocks_in id w → IsThere s.objects id) →
+          (0 < blocks_among id waits → IsThere s.objects id) → 0 < n + blocks_among id waits → IsThere s.objects id
+      by zero is here later some = later (omega (arith, some))
+      by (suc n) is here later some = here (omega (arith, is))
+
+  state-room : (t : ℕ) (x : State) → state_stands limit s t x ≡ true →
+      HasRoom limit t s.seen.bodies (state_ids x)
+  state-room t (Pending mode ids) e = record {
+    each = λ i lt. (both-true (is_its (get_or ids i nowhere) _) _
+        (AllPass-from_list_all (may_wait_for limit s t) ids
+        (both-true (list_all (may_wait_for limit s t) ids) _ e).0 i nowhere lt)).1;
+  }
+  state-room t (Answered code) e = record { each = λ i lt. absurd (omega (arith, lt)) }
+
+  wait-room : (w : Option Wait) → stands w ≡ true → WaitHasRoom limit s.seen.bodies w
+  wait-room None e = tt
+  wait-room (Some w) e = state-room w.thread w.state (both-true (is_live threads w.thread) _ e).1
+
+  state-unready : (t : ℕ) (x : State) → state_stands limit s t x ≡ true → state_ready t s.seen.bodies x ≡ false
+  state-unready t (Pending mode ids) e =
+      by (list_ready mode t s.seen.bodies ids) (both-true (list_all (may_wait_for limit s t) ids) _ e).1
+    where
+      by : (b : Bool) → not b ≡ true → b ≡ false
+      by true e = absurd (cc e)
+      by false e = refl
+  state-unready t (Answered code) e = refl
+
+  wait-unready : (w : Option Wait) → stands w ≡ true → is_ready s.seen.bodies w ≡ false
+  wait-unready None e = refl
+  wait-unready (Some w) e = state-unready w.thread w.state (both-true (is_live threads w.thread) _ e).1
+
+  wait-live : (t : ℕ) (w : Option Wait) → stands w ≡ true → thread_of w ≡ Some t → IsLive threads t
+  wait-live t None e own = absurd (cc own)
+  wait-live t (Some w) e own =
+      let same : w.thread ≡ t = cc own in
+      subst (IsLive threads) same (both-true (is_live threads w.thread) _ e).0
+
+  owner-live : (t : ℕ) (o : Option ℕ) → is_live_if_some threads o ≡ true → o ≡ Some t → IsLive threads t
+  owner-live t None e own = absurd (cc own)
+  owner-live t (Some u) e own =
+      let same : u ≡ t = cc own in subst (IsLive threads) same e
+
+  -- a wait that is kept so is one that can be there
+  state-taken : (t : ℕ) (x : State) →
+      ((i : ℕ) → i < length (state_ids x) → IsThere s.objects (get_or (state_ids x) i nowhere)) →
+      HasRoom limit t s.seen.bodies (state_ids x) → state_ready t s.seen.bodies x ≡ false →
+      state_stands limit s t x ≡ true
+  state-taken t (Pending mode ids) there room unready =
+      true-both (list_all (may_wait_for limit s t) ids) (not (list_ready mode t s.seen.bodies ids))
+      (all_from (may_wait_for limit s t) ids nowhere (λ i lt. (let id = get_or ids i nowhere in
+      true-both (is_its id (get_or s.objects id.slot None)) (slot_room limit t (get_or s.seen.bodies id.slot None))
+      (its_id (get_or s.objects id.slot None) id (there i lt)) (room.each i lt))))
+      (ap not unready)
+  state-taken t (Answered code) there room unready = refl
+
+  wait-taken : (w : Option Wait) → ((t : ℕ) → thread_of w ≡ Some t → IsLive threads t) →
+      ((i : ℕ) → i < length (ids_of w) → IsThere s.objects (get_or (ids_of w) i nowhere)) →
+      WaitHasRoom limit s.seen.bodies w → is_ready s.seen.bodies w ≡ false → stands w ≡ true
+  wait-taken None live there room unready = refl
+  wait-taken (Some w) live there room unready =
+      true-both (is_live threads w.thread) (state_stands limit s w.thread w.state)
+      (live w.thread refl) (state-taken w.thread w.state there room unready)
+
+  owner-taken : (o : Option ℕ) → ((t : ℕ) → o ≡ Some t → IsLive threads t) → is_live_if_some threads o ≡ true
+  owner-taken None live = refl
+  owner-taken (Some t) live = live t refl
+
+  module _ (waits : List (Option Wait)) (all : all_stand limit threads waits s ≡ true) where
+    fits : waits_stand limit threads waits s ≡ true
+    fits = (both-true (waits_stand limit threads waits s) (owners_stand threads s) all).0
+
+    each-fits : (n : ℕ) → stands (get_or waits n None) ≡ true
+    each-fits n = all_at (λ (w : Option Wait). stands w) waits None refl fits n
+
+    pub stands_named : (id : Id) → 0 < blocks_among id waits → IsThere s.objects id
+    stands_named = waits_there waits fits
+
+    pub stands_live : AreOfLive threads s.seen.bodies waits
+    stands_live = record {
+      owners = λ k t. owner-live t (slot_owner (get_or s.seen.bodies k None))
+          (all_at (owner_stands threads) s.seen.bodies None refl
+          (both-true (waits_stand limit threads waits s) (owners_stand threads s) all).1 k);
+      waiters = λ n t. wait-live t (get_or waits n None) (each-fits n);
+    }
+
+    pub stands_quiet : IsQuiet limit s.seen.bodies waits
+    stands_quiet = record {
+      room = record { each = λ n. wait-room (get_or waits n None) (each-fits n) };
+      settled = record { each = λ n. wait-unready (get_or waits n None) (each-fits n) };
+    }
+
+  pub all_taken : (tables : List (List (Option Entry))) (waits : List (Option Wait)) →
+      IsNamed s.objects tables waits → AreOfLive threads s.seen.bodies waits → IsQuiet limit s.seen.bodies waits →
+      all_stand limit threads waits s ≡ true
+  all_taken tables waits named live quiet =
+      true-both (waits_stand limit threads waits s) (owners_stand threads s)
+      (all_from (λ (w : Option Wait). stands w) waits None (λ n lt. wait-taken (get_or waits n None) (live.waiters n)
+      (λ i in'. named.blocks _ (place_counted s.objects tables waits named n i lt in'))
+      (quiet.room.each n) (quiet.settled.each n)))
+      (all_from (owner_stands threads) s.seen.bodies None
+      (λ k lt. owner-taken (slot_owner (get_or s.seen.bodies k None)) (live.owners k)))
+
+-- blocks that were counted by objects are counted by slots
+pub blocks_counted : (s : ObjectsState) (tables : List (List (Option Entry))) (waits : List (Option Wait)) →
+    IsTied s → IsNamed s.objects tables waits →
+    map (object_blocks waits) s.objects ≡ by_slot (length s.objects) (λ k. slot_blocks k waits)
+blocks_counted s tables waits tied named =
+    is_by_slot (map (object_blocks waits) s.objects) (length s.objects) (λ k. slot_blocks k waits)
+    (length-map s.objects (object_blocks waits))
+    (λ k lt. get_or-map (object_blocks waits) s.objects k None 0 lt ∙
+    by k (get_or s.objects k None) refl (tied.agreed.each k (omega (arith, lt, tied.agreed.long))))
+  where
+    by : (k : ℕ) (x : Option Object) → get_or s.objects k None ≡ x →
+        Agrees k x (get_or s.seen.bodies k None) (get_or s.retired k false) (slot_of s.keeper.slots k) →
+        object_blocks waits x ≡ slot_blocks k waits
+    by k None is agrees = sym (blocks_vacant s.objects tables waits named k is)
+    by k (Some o) is agrees =
+        let own : o.id.slot ≡ k = ap (λ (id : Id). id.slot) agrees.0 in
+        let there : IsThere s.objects o.id =
+        ap (λ (i : ℕ). id_in (get_or s.objects i None)) own ∙ ap id_in is in
+        sym (blocks_are s.objects tables waits named o.id there) ∙ ap (λ (i : ℕ). slot_blocks i waits) own
+
+-- what was read
+module _ (limits : Limits) (tables : List (List (Option Entry))) (list : WaitList) (bytes : List ℕ)
+    (s : ObjectsState) (rest : List ℕ) (read : whole_at limits tables list bytes ≡ Ok (s, rest)) where
+  steps : IsWhole limits tables list bytes s rest
+  steps = whole_steps limits tables list bytes s rest read
+
+  pub whole_shape : s.keeper.shape ≡ shape_of limits
+  whole_shape = ap (λ (z : ObjectsState). z.keeper.shape) (sym steps.is)
+
+  pub whole_formed : AreFormed list.clock s.objects s.seen.bodies
+  whole_formed = subst (λ (z : ObjectsState). AreFormed list.clock z.objects z.seen.bodies) steps.is
+      (formed_read limits list.clock tables bytes steps.p steps.q steps.slots rest steps.read steps.counted)
+
+  pub whole_entries : (id : Id) → 0 < handles_among id tables → IsThere s.objects id
+  whole_entries id some = subst (λ (z : ObjectsState). IsThere z.objects id) steps.is
+      (entries_read limits list.clock tables bytes steps.p steps.q steps.slots rest steps.read steps.counted id some)
+
+  pub whole_counted : IsTied s → IsNamed s.objects tables list.waits →
+      IsCounted s.seen (length s.objects) tables list.waits
+  whole_counted tied named = record {
+    handles = subst (λ (z : ObjectsState). z.seen.handles ≡
+        by_slot (length z.objects) (λ k. slot_handles k tables)) steps.is
+        (handles_read limits list.clock tables bytes steps.p steps.q steps.slots rest steps.read steps.counted);
+    blocks = subst (λ (z : ObjectsState). z.seen.blocks ≡ map (object_blocks list.waits) z.objects) steps.is refl ∙
+        blocks_counted s tables list.waits tied named;
+  }

@@ -1,0 +1,193 @@
+-- The blocks that are counted of objects that were read, and the tests of their waits and owners.
+use Rattle.std.proofs.Common.{◌≡◌, ℕ, zero, suc, ◌+◌, ◌<◌, ◌≤◌, ◌&&◌, Bool, true, false, List, [], ◌∷◌, length, get_or, set, map, Option, Some, None, refl, sym, ap, ◌∙◌, subst, arith, inl, inr}
+use Rattle.std.specs.List.{list_all}
+use Rattle.std.proofs.lemmas.Bool.{cases_eq, ltb-true}
+use Rattle.std.proofs.lemmas.List.{ext_get_or, get_or-map, get_or-set_other, get_or-set_same, length-map, length-set, set-get_or}
+use Rattle.std.proofs.lemmas.List.Quantifiers.{position-Some}
+use Rattle.ob_arena.specs.Slots.{Slots}
+use Rattle.ob_codec.specs.Steps.{both-true, true-both}
+use Rattle.pin_core.specs.declared.id.Id.{Id}
+use Rattle.ob_waits.specs.Rules.{IsKept, thread_of}
+use Rattle.ob_waits.specs.Spelling.{are_within, is_within}
+use Rattle.ob_waits.specs.Waits.{blocks_among, is_pending, is_waits_of, new_wait, number_of}
+use Rattle.ob_waits.specs.declared.wait.Mode.{Mode}
+use Rattle.ob_waits.specs.declared.wait.State.{State}
+use Rattle.ob_waits.specs.declared.wait.State.TheVariants.{Pending, Answered}
+use Rattle.ob_waits.specs.declared.wait.Wait.{Wait}
+use Rattle.ob_waits.proofs.TrackedLaws.{no_number, waits_thread}
+use Rattle.ob_store.specs.declared.seat.Seat.{Seat}
+use Rattle.ob_store.specs.Objects.{ObjectsState, Places, Tag, no_tag, object_at, places_of, seat_blocks}
+use Rattle.ob_store.specs.SavedWaits.{is_live, numbered, object_blocks, state_stands, wait_of, wait_stands, waits_stand, with_blocks, with_blocks_at}
+use Rattle.ob_store.proofs.LabelLaws.{object_read}
+
+-- a test that each element passes, and that holds of what stands for none
+pub all_at : {A : Type 0} (p : A → Bool) (xs : List A) (none : A) → p none ≡ true → list_all p xs ≡ true →
+    (n : ℕ) → p (get_or xs n none) ≡ true
+all_at p [] none past all n = past
+all_at p (x ∷ xs) none past all zero = (both-true (p x) (list_all p xs) all).0
+all_at p (x ∷ xs) none past all (suc n) = all_at p xs none past (both-true (p x) (list_all p xs) all).1 n
+
+pub all_from : {A : Type 0} (p : A → Bool) (xs : List A) (none : A) →
+    ((n : ℕ) → n < length xs → p (get_or xs n none) ≡ true) → list_all p xs ≡ true
+all_from p [] none each = refl
+all_from p (x ∷ xs) none each =
+    true-both (p x) (list_all p xs) (each 0 (omega arith)) (all_from p xs none (λ n lt. each (suc n) (omega arith)))
+
+pub not_all : {A : Type 0} (p : A → Bool) (xs : List A) (none : A) (n : ℕ) → p none ≡ true →
+    p (get_or xs n none) ≡ false → list_all p xs ≡ false
+not_all p xs none n past fails = by (list_all p xs) refl
+  where
+    by : (b : Bool) → list_all p xs ≡ b → list_all p xs ≡ false
+    by true is = absurd (let e = all_at p xs none past is n in cc (e, fails))
+    by false is = is
+
+-- a slot without an object has no blocks
+no-blocks : (xs : List (Option Seat)) (k : ℕ) → get_or xs k None ≡ None → get_or (map seat_blocks xs) k 0 ≡ 0
+no-blocks [] k none = refl
+no-blocks (x ∷ xs) zero none = ap seat_blocks none
+no-blocks (x ∷ xs) (suc k) none = no-blocks xs k none
+
+module _ (s : Slots Seat) (tags : List Tag) (k : ℕ) (waits : List (Option Wait)) where
+  pub blocks_vacant : get_or s.bodies k None ≡ None →
+      places_of s tags ≡ with_blocks_at (places_of s tags) k
+      (object_blocks waits (get_or (places_of s tags).objects k None))
+  blocks_vacant none =
+      let p = places_of s tags in
+      let counted : object_blocks waits (get_or p.objects k None) ≡ get_or p.seen.blocks k 0 =
+      ap (object_blocks waits) (object_read s.bodies tags k ∙
+      ap (λ (x : Option Seat). object_at x (get_or tags k no_tag)) none) ∙ sym (no-blocks s.bodies k none) in
+      λ i. record p {
+        seen = record p.seen {
+          blocks = (sym (set-get_or p.seen.blocks k 0) ∙ ap (set p.seen.blocks k) (sym counted)) i;
+        };
+      }
+
+  pub blocks_seated : (x : Seat) → get_or s.bodies k None ≡ Some x →
+      object_blocks waits (get_or (places_of s tags).objects k None) ≡ blocks_among x.id waits
+  blocks_seated x is = ap (object_blocks waits) (object_read s.bodies tags k ∙
+      ap (λ (y : Option Seat). object_at y (get_or tags k no_tag)) is)
+
+-- the blocks of the slots below one are counted, and all else is as it was
+pub record HasCounted (waits : List (Option Wait)) (p : Places) (slot : ℕ) (q : Places) : Type 0 where
+  pub same : q ≡ record p { seen = record p.seen { blocks = q.seen.blocks } }
+  pub long : length q.seen.blocks ≡ length p.objects
+  pub done : (k : ℕ) → k < slot → k < length p.objects → get_or q.seen.blocks k 0 ≡
+      object_blocks waits (get_or p.objects k None)
+
+module _ (waits : List (Option Wait)) (p q : Places) (slot : ℕ) (h : HasCounted waits p slot q) where
+  pub counts_next : HasCounted waits p (slot + 1) (with_blocks_at q slot
+      (object_blocks waits (get_or q.objects slot None)))
+  counts_next =
+      let n = object_blocks waits (get_or q.objects slot None) in
+      let own : n ≡ object_blocks waits (get_or p.objects slot None) =
+      ap (λ (z : Places). object_blocks waits (get_or z.objects slot None)) h.same in
+      record {
+        same = ap (λ (z : Places). with_blocks_at z slot n) h.same;
+        long = length-set q.seen.blocks slot n ∙ h.long;
+        done = λ k lt within. elim (cases_eq k slot) [
+          | inl here ↦ ap (λ (i : ℕ). get_or (set q.seen.blocks slot n) i 0) here
+              ∙ get_or-set_same q.seen.blocks slot n 0 (omega (arith, within, here, h.long)) ∙ own ∙
+              ap (λ (i : ℕ). object_blocks waits (get_or p.objects i None)) (sym here)
+          | inr apart ↦ get_or-set_other q.seen.blocks slot k n 0 apart ∙
+              h.done k (omega (arith, lt, apart)) within
+        ];
+      }
+
+  pub counts_end : length p.objects ≤ slot → q ≡ with_blocks waits p
+  counts_end all =
+      let long : length (map (object_blocks waits) p.objects) ≡ length p.objects =
+      length-map p.objects (object_blocks waits) in
+      let same : q.seen.blocks ≡ map (object_blocks waits) p.objects =
+      ext_get_or 0 q.seen.blocks (map (object_blocks waits) p.objects) (h.long ∙ sym long)
+      (λ k lt. (let within : k < length p.objects = omega (arith, lt, h.long) in
+      h.done k (omega (arith, within, all)) within ∙
+      sym (get_or-map (object_blocks waits) p.objects k None 0 within))) in
+      h.same ∙ ap (λ (blocks : List ℕ). record p { seen = record p.seen { blocks = blocks } }) same
+
+module _ (limit : ℕ) (threads : List (Option ℕ)) (s : ObjectsState) (waits : List (Option Wait)) where
+  abbrev stands : Option Wait → Bool
+  stands w = wait_stands limit threads s w
+
+  found-of : (t n : ℕ) → number_of t waits ≡ Some n → thread_of (get_or waits n None) ≡ Some t
+  found-of t n found = waits_thread t (get_or waits n None) (position-Some (is_waits_of t) waits n None found).1
+
+  -- the wait of a thread that isn't live
+  pub dead_wait : (t n : ℕ) → number_of t waits ≡ Some n → is_live threads t ≡ false →
+      stands (wait_of t waits) ≡ false
+  dead_wait t n found dead =
+      ap (λ (o : Option ℕ). stands (numbered waits o)) found ∙ by (get_or waits n None) (found-of t n found)
+    where
+      by : (w : Option Wait) → thread_of w ≡ Some t → stands w ≡ false
+      by None own = absurd (cc own)
+      by (Some w) own =
+          let same : w.thread ≡ t = cc own in
+          ap (λ (b : Bool). b && state_stands limit s w.thread w.state)
+          (ap (is_live threads) same ∙ dead)
+
+  -- that of one that is, pending or answered
+  pub pending_wait : (t n u : ℕ) (mode : Mode) (ids : List Id) (deadline : Option ℕ) → number_of t waits ≡ Some n →
+      is_live threads t ≡ true → get_or waits n None ≡ Some (new_wait u mode ids deadline) →
+      stands (wait_of t waits) ≡ state_stands limit s t (Pending mode ids)
+  pending_wait t n u mode ids deadline found live is =
+      let own = found-of t n found in
+      let same : u ≡ t = (let e : Some u ≡ Some t = sym (ap thread_of is) ∙ own in cc e) in
+      ap (λ (o : Option ℕ). stands (numbered waits o)) found ∙ ap (λ (w : Option Wait). stands w) is ∙
+      ap (λ (v : ℕ). is_live threads v && state_stands limit s v (Pending mode ids)) same ∙
+      ap (λ (b : Bool). b && state_stands limit s t (Pending mode ids)) live
+
+  pub answered_wait : (t n : ℕ) → number_of t waits ≡ Some n → is_live threads t ≡ true →
+      is_pending (get_or waits n None) ≡ false → stands (wait_of t waits) ≡ true
+  answered_wait t n found live over =
+      ap (λ (o : Option ℕ). stands (numbered waits o)) found ∙ by (get_or waits n None) (found-of t n found) over
+    where
+      state : (u : ℕ) (x : State) → is_pending (Some (record { thread = u; deadline = None; state = x })) ≡ false →
+          state_stands limit s u x ≡ true
+      state u (Pending mode ids) over = absurd (cc over)
+      state u (Answered code) over = refl
+
+      by : (w : Option Wait) → thread_of w ≡ Some t → is_pending w ≡ false → stands w ≡ true
+      by None own over = refl
+      by (Some w) own over =
+          let same : w.thread ≡ t = cc own in
+          ap (λ (b : Bool). b && state_stands limit s w.thread w.state)
+          (ap (is_live threads) same ∙ live) ∙
+          state w.thread w.state over
+
+  -- a wait of a thread that can't be there is one of the waits
+  pub wait_fails : (t : ℕ) → stands (wait_of t waits) ≡ false → waits_stand limit threads waits s ≡ false
+  wait_fails t fails = by (number_of t waits) fails
+    where
+      by : (o : Option ℕ) → stands (numbered waits o) ≡ false → waits_stand limit threads waits s ≡ false
+      by None fails = absurd (cc fails)
+      by (Some n) fails = not_all (λ (w : Option Wait). stands w) waits None n refl fails
+
+  -- and each wait is that of its thread
+  its-wait : IsKept waits → (n : ℕ) (w : Wait) → get_or waits n None ≡ Some w → wait_of w.thread waits ≡ Some w
+  its-wait kept n w is = by (number_of w.thread waits) refl
+    where
+      by : (o : Option ℕ) → number_of w.thread waits ≡ o → numbered waits o ≡ Some w
+      by None none = absurd (no_number w.thread waits n none (ap thread_of is))
+      by (Some m) found =
+          ap (λ (i : ℕ). get_or waits i None) (kept.one_each m n w.thread (found-of w.thread m found)
+          (ap thread_of is)) ∙ is
+
+  pub waits_next : (t : ℕ) → ((u : ℕ) → u < t → stands (wait_of u waits) ≡ true) → stands (wait_of t waits) ≡ true →
+      (u : ℕ) → u < t + 1 → stands (wait_of u waits) ≡ true
+  waits_next t before own u lt = elim (cases_eq u t) [
+    | inl here ↦ ap (λ (v : ℕ). stands (wait_of v waits)) here ∙ own
+    | inr apart ↦ before u (omega (arith, lt, apart))
+  ]
+
+  pub waits_pass : (bound slots : ℕ) → IsKept waits → are_within bound slots waits ≡ true →
+      ((t : ℕ) → t < bound → stands (wait_of t waits) ≡ true) → waits_stand limit threads waits s ≡ true
+  waits_pass bound slots kept within each =
+      all_from (λ (w : Option Wait). stands w) waits None (λ n lt. by n (get_or waits n None) refl)
+    where
+      by : (n : ℕ) (w : Option Wait) → get_or waits n None ≡ w → stands w ≡ true
+      by n None is = refl
+      by n (Some w) is =
+          let here : is_within bound slots (Some w) ≡ true =
+          subst (λ (x : Option Wait). is_within bound slots x ≡ true) is
+          (all_at (is_within bound slots) waits None refl within n) in
+          ap (λ (x : Option Wait). stands x) (sym (its-wait kept n w is)) ∙
+          each w.thread (ltb-true w.thread bound (both-true _ _ here).0)

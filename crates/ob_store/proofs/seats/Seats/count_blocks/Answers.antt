@@ -1,0 +1,43 @@
+use Rattle.std.proofs.Common.{◌≡◌, ◌∙◌, ap, refl, get_or, subst, sym, None}
+use Rattle.std.proofs.lemmas.List.{length-set}
+use Rattle.ob_store.specs.Objects.{tags_in, Places}
+use Rattle.ob_store.specs.SavedWaits.{object_blocks, with_blocks_at}
+use Rattle.ob_store.proofs.SavedWaitLaws.{blocks_seated, blocks_vacant}
+use Rattle.ob_store.proofs.SeatLaws.{none_of, places_blocks}
+use Rattle.ob_store.proofs.OwnerLaws.{owned_stays}
+use Rattle.ob_store.proofs.TimerLaws.{timed_stays}
+use Rattle.ob_store.proofs.ClosingLaws.{opened_stays}
+use Rattle.ob_store.proofs.seats.Seats.count_blocks.Goals as goal
+
+pub returns-then-not-is_occupied : goal.returns-then-not-is_occupied
+returns-then-not-is_occupied c =
+    let arena = c.self.inside.arena in
+    let waits = c.args.waits.now.waits in
+    subst (λ (p : Places). p ≡
+    with_blocks_at p c.args.slot (object_blocks waits (get_or p.objects c.args.slot None))) c.self.view_is
+    (blocks_vacant arena (tags_in c.self.inside.labels.items c.self.inside.names.items) c.args.slot waits
+    (none_of (get_or arena.bodies c.args.slot None) (sym c.is_occupied.ensures ∙ c.if-not-is_occupied.true)))
+
+pub returns : goal.returns
+returns c =
+    let arena = c.self.inside.arena in
+    let tags = tags_in c.self.inside.labels.items c.self.inside.names.items in
+    let waits = c.args.waits.now.waits in
+    places_blocks arena.bodies c.args.slot c.get_mut.result.now c.get_mut.ensures.value arena.retired tags
+    c.blocks_of-blocks.result
+    ∙ ap (with_blocks_at _ c.args.slot) (c.blocks_of-blocks.ensures ∙
+    sym (blocks_seated arena tags c.args.slot waits c.get.result.now c.get.ensures))
+    ∙ ap (λ (p : Places). with_blocks_at p c.args.slot (object_blocks waits (get_or p.objects c.args.slot None)))
+    c.self.view_is
+
+pub invariant_of-self : goal.invariant_of-self
+invariant_of-self c = record {
+  owned = owned_stays c.self.inside.arena.bodies c.self.inside.owners c.args.slot c.get_mut.result.now _
+      c.self.invariant.owned c.get_mut.ensures.value refl;
+  timed = timed_stays c.self.inside.arena.bodies c.self.inside.timers c.args.slot c.get_mut.result.now _
+      c.self.invariant.timed c.get_mut.ensures.value refl;
+  opened = opened_stays c.self.inside.arena.bodies c.self.inside.closing c.args.slot c.get_mut.result.now _
+      c.self.invariant.opened c.get_mut.ensures.value refl;
+  labelled = c.self.invariant.labelled ∙ sym (length-set c.self.inside.arena.bodies c.args.slot _);
+  named = c.self.invariant.named ∙ sym (length-set c.self.inside.arena.bodies c.args.slot _);
+}
