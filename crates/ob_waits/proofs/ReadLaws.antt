@@ -7,11 +7,11 @@ use Rattle.ob_codec.specs.declared.fault.ReadFault.{ReadFault}
 use Rattle.ob_codec.specs.declared.fault.ReadFault.TheVariants.{Memory, Text}
 use Rattle.ob_codec.specs.declared.fault.TextFault.{TextFault}
 use Rattle.ob_codec.specs.declared.fault.TextFault.TheVariants.{Value}
-use Rattle.ob_codec.specs.Reading.{◌>>=◌, Fails, Gives, Read, given_at, items_at, list_at, number_at}
-use Rattle.ob_codec.specs.Sparse.{fits_from, spread, spread_from}
-use Rattle.ob_codec.specs.Steps.{both-true, true-both}
+use Rattle.ob_codec.specs.Reading.{◌>>=◌, Fails, Gives, Read, given_at, items_at, list_at, number_at, where_at}
+use Rattle.ob_codec.specs.Sparse.{fits_from, sparse_at, spread, spread_from}
+use Rattle.ob_codec.specs.Steps.{bind_ok, both-true, guard_passed, ok_is, true-both}
 use Rattle.ob_waits.specs.Rows.{built, rows_within, tested}
-use Rattle.ob_waits.specs.Spelling.{are_within, can_be, held_at, held_of, held_parts, is_within, row_at, waits_at, with_rest}
+use Rattle.ob_waits.specs.Spelling.{are_within, can_be, held_at, held_of, held_parts, is_within, row_at, wait_at, waits_at, with_rest}
 use Rattle.ob_waits.specs.Waits.{WaitList}
 use Rattle.ob_waits.specs.declared.held.Held.{Held}
 use Rattle.ob_waits.specs.declared.wait.Wait.{Wait}
@@ -185,3 +185,18 @@ read_fails (Text f) total rest r is fails = is ∙ ap (behind rest) fails
 pub none_read : (c : Bool) (r : Result WaitList TextFault) → r ≡ Err Value → cond c r (Err Value) ≡ Err Value
 none_read true r is = is
 none_read false r is = refl
+
+-- what was read has its limit and its moment, and all threads and slots are below
+pub read_within : (limit clock threads slots : ℕ) (bytes : List ℕ) (list : WaitList) (rest : List ℕ)
+    → waits_at limit clock threads slots bytes ≡ Ok (list, rest)
+    → (list.limit ≡ limit) × (list.clock ≡ clock) × (are_within threads slots list.waits ≡ true)
+read_within limit clock threads slots bytes list rest e =
+    let a = bind_ok (where_at (are_within threads slots) (where_at (can_be limit clock) (sparse_at wait_at)) bytes) _
+    (list, rest) e in
+    let b = bind_ok (where_at (can_be limit clock) (sparse_at wait_at) bytes) _ a.0 a.1 in
+    let g = guard_passed (are_within threads slots b.0.0) Value b.0 a.0 b.2 in
+    let is = ap (λ (z : WaitList × List ℕ). z.0) (ok_is (with_rest limit clock a.0.0, a.0.1) (list, rest) a.2) in
+    let fits : are_within threads slots a.0.0 ≡ true =
+    subst (λ (z : List (Option Wait) × List ℕ). are_within threads slots z.0 ≡ true) g.1 g.0 in
+    subst (λ (z : WaitList). (z.limit ≡ limit) × (z.clock ≡ clock) × (are_within threads slots z.waits ≡ true)) is
+    (refl, refl, fits)

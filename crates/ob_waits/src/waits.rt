@@ -4,7 +4,7 @@ ghost use Rattle.std.specs.Option.{option_map};
 ghost use Rattle.ob_waits.specs.Waits.{settled, passed, blocks_among, number_of, with_wait, with_answer};
 ghost use Rattle.ob_waits.specs.Waits.{without_wait, without_thread, is_pending, code_at, state_at, ids_of, is_full};
 ghost use Rattle.ob_codec.specs.Reading.{Gives};
-ghost use Rattle.ob_waits.specs.Spelling.{WaitsFit, can_be, waits_at, waits_text};
+ghost use Rattle.ob_waits.specs.Spelling.{WaitsFit, are_within, can_be, waits_at, waits_text};
 ghost use Rattle.ob_waits.specs.Waits.{new_wait, skipped, with_answered};
 ghost use Rattle.least_due.specs.Dues.{IsLeast};
 ghost use Rattle.least_free.specs.From.{IsLeastFrom};
@@ -117,7 +117,10 @@ impl Waits {
         from: &mut Cursor<'_>,
     ) -> Result<Waits, ReadFault>
         requires { clock ≤ LAST_MOMENT }
-        ensures { Gives (λ read. read) result (waits_at waits clock threads slots from.old) from.new }
+        ensures read { Gives (λ read. read) result (waits_at waits clock threads slots from.old) from.new }
+        ensures limit { IfOk result (λ read. read.limit ≡ waits) }
+        ensures clock { IfOk result (λ read. read.clock ≡ clock) }
+        ensures within { IfOk result (λ read. are_within threads slots read.waits ≡ true) }
     {
         let last = from.four()?;
         let rows = read_rows(alloc, from)?;

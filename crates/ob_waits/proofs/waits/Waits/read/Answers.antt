@@ -6,12 +6,12 @@ use Rattle.ob_waits.specs.Rows.{built, rows_within}
 use Rattle.ob_waits.specs.Spelling.{held_parts, waits_at}
 use Rattle.ob_waits.specs.Waits.{WaitList}
 use Rattle.ob_waits.specs.declared.held.Held.{Held}
-use Rattle.ob_waits.proofs.ReadLaws.{behind, none_read, read_fails, rows_read}
+use Rattle.ob_waits.proofs.ReadLaws.{behind, none_read, read_fails, read_within, rows_read}
 use Rattle.ob_waits.proofs.RowLaws.{too_many}
 use Rattle.ob_waits.proofs.waits.Waits.read.Goals as goal
 
-pub returns-then-last-waits : goal.returns-then-last-waits
-returns-then-last-waits c =
+pub returns-then-last-waits-clause-read : goal.returns-then-last-waits-clause-read
+returns-then-last-waits-clause-read c =
     let a = c.args in
     let rows = c.in_ok-rows.rows.items in
     rows_read a.waits a.clock a.threads a.slots c.in_ok-last.last a.from.now c.four.new.self c.read_rows.new.from rows
@@ -20,8 +20,8 @@ returns-then-last-waits c =
     (none_read (rows_within a.threads a.slots rows) (built a.waits a.clock c.in_ok-last.last rows)
     (too_many a.waits a.clock c.in_ok-last.last (map held_parts rows) c.if-last-waits.true))
 
-pub returns-then-not-rows_within : goal.returns-then-not-rows_within
-returns-then-not-rows_within c =
+pub returns-then-not-rows_within-clause-read : goal.returns-then-not-rows_within-clause-read
+returns-then-not-rows_within-clause-read c =
     let a = c.args in
     let rows = c.in_ok-rows.rows.items in
     let beyond : rows_within a.threads a.slots rows ≡ false = ap (rows_within a.threads a.slots)
@@ -31,8 +31,8 @@ returns-then-not-rows_within c =
     ∙ ap (λ (b : Bool). behind c.read_rows.new.from
     (cond b (built a.waits a.clock c.in_ok-last.last rows) (Err Value))) beyond
 
-pub returns-in_err-put_all : goal.returns-in_err-put_all
-returns-in_err-put_all c =
+pub returns-in_err-put_all-clause-read : goal.returns-in_err-put_all-clause-read
+returns-in_err-put_all-clause-read c =
     let a = c.args in
     let last = c.in_ok-last.last in
     let rows = c.in_ok-rows.rows.items in
@@ -52,8 +52,8 @@ returns-in_err-put_all c =
     rw (p.1, p.2) (read_fails fault (waits_at a.waits a.clock a.threads a.slots a.from.now) c.read_rows.new.from
     (built a.waits a.clock last rows) total fails)
 
-pub returns : goal.returns
-returns c =
+pub returns-clause-read : goal.returns-clause-read
+returns-clause-read c =
     let a = c.args in
     let last = c.in_ok-last.last in
     let rows = c.in_ok-rows.rows.items in
@@ -69,3 +69,18 @@ returns c =
     c.in_ok-last.ensures c.in_ok-rows.ensures
     ∙ ap (λ (b : Bool). behind c.read_rows.new.from (cond b (built a.waits a.clock last rows) (Err Value))) below
     ∙ ap (behind c.read_rows.new.from) is
+
+pub returns-clause-limit : goal.returns-clause-limit
+returns-clause-limit c = let a = c.args in
+    (read_within a.waits a.clock a.threads a.slots a.from.now c.put_all.new.waits c.read_rows.new.from
+    (returns-clause-read c)).0
+
+pub returns-clause-clock : goal.returns-clause-clock
+returns-clause-clock c = let a = c.args in
+    (read_within a.waits a.clock a.threads a.slots a.from.now c.put_all.new.waits c.read_rows.new.from
+    (returns-clause-read c)).1
+
+pub returns-clause-within : goal.returns-clause-within
+returns-clause-within c = let a = c.args in
+    (read_within a.waits a.clock a.threads a.slots a.from.now c.put_all.new.waits c.read_rows.new.from
+    (returns-clause-read c)).2
