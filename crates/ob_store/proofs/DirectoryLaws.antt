@@ -2,6 +2,7 @@
 use Rattle.std.proofs.Common.{◌≡◌, ◌≢◌, ℕ, zero, suc, ◌<◌, List, [], ◌∷◌, ◌++◌, length, Option, Some, None, refl, ap, ◌∙◌, sym, arith, get_or, set, Bool, true, false, cond, not, ◌&&◌, eqb, eq-eqb, ltb, inl, inr}
 use Rattle.std.specs.List.{All, Contains, cons_option, filter, filter_map}
 use Rattle.std.proofs.lemmas.Bool.{and_right, cases_eq, ne_eqb}
+use Rattle.std.proofs.lemmas.List.{get_or-set_other, get_or-set_same, length-set, set-get_or, set-set}
 use Rattle.std.proofs.lemmas.List.Elements.{All-append, All-cons, All-nil, All-tail, Contains-append_left, Contains-append_right, filter-append}
 use Rattle.pin_core.specs.declared.id.Id.{Id}
 use Rattle.pin_core.specs.Holds.{same_id}
@@ -38,7 +39,7 @@ module _ {A B : Type 0} (f : Option A → Option B) where
   picks_stay (y ∷ xs) zero x less same = ap (λ o. cons_option o (filter_map f xs)) same
   picks_stay (y ∷ xs) (suc k) x less same = ap (cons_option (f y)) (picks_stay xs k x (omega (arith, less)) same)
 
-  picks_none : (xs : List (Option A)) → ((k : ℕ) → f (get_or xs k None) ≡ None) → filter_map f xs ≡ []
+  pub picks_none : (xs : List (Option A)) → ((k : ℕ) → f (get_or xs k None) ≡ None) → filter_map f xs ≡ []
   picks_none [] none = refl
   picks_none (x ∷ xs) none = ap (λ o. cons_option o (filter_map f xs)) (none 0) ∙ picks_none xs (λ k. none (suc k))
 
@@ -49,6 +50,20 @@ module _ {A B : Type 0} (f : Option A → Option B) where
   picks_one (y ∷ xs) zero x less none = ap (cons_option (f x)) (picks_none xs (λ j. none (suc j)))
   picks_one (y ∷ xs) (suc k) x less none = ap (λ o. cons_option o (filter_map f (set xs k x))) (none 0)
       ∙ picks_one xs k x (omega (arith, less)) (λ j. none (suc j))
+
+  -- as does the one slot of which anything is picked
+  pub picks_only : (xs : List (Option A)) (k : ℕ) → k < length xs → f None ≡ None
+      → ((j : ℕ) → j ≢ k → f (get_or xs j None) ≡ None) → filter_map f xs ≡ cons_option (f (get_or xs k None)) []
+  picks_only xs k less none others =
+      ap (filter_map f) (sym (set-set xs k None (get_or xs k None) ∙ set-get_or xs k None))
+      ∙ picks_one (set xs k None) k (get_or xs k None) (omega (arith, less, length-set xs k None)) emptied
+    where
+      emptied : (j : ℕ) → f (get_or (set xs k None) j None) ≡ None
+      emptied j = elim (cases_eq j k) [
+        | inl same ↦ ap (λ i. f (get_or (set xs k None) i None)) same ∙ ap f (get_or-set_same xs k None None less)
+            ∙ none
+        | inr other ↦ ap f (get_or-set_other xs k j None None other) ∙ others j other
+      ]
 
   -- what is picked is picked of a slot
   picked_cons : (P : B → Type 0) (o : Option B) (ys : List B) → ((y : B) → o ≡ Some y → P y) → All P ys
@@ -161,7 +176,7 @@ first_goes id row rows rest false is stay same = ap (λ more. row ∷ more) same
     ∙ sym (filtered_first id row rows false is)
 
 -- an object of another birth has no row, and none has one without handles
-other_birth : (ts : Tables) (b : ℕ) (o : Object) → o.birth ≢ b → row_of ts b (Some o) ≡ None
+pub other_birth : (ts : Tables) (b : ℕ) (o : Object) → o.birth ≢ b → row_of ts b (Some o) ≡ None
 other_birth ts b o other = ap (λ t. cond (t && has_handles o.id ts) (named_row o.id o.name) None)
     (ne_eqb o.birth b other)
 

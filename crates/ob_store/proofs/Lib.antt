@@ -34,6 +34,8 @@ pub mod CountingLaws
 pub mod SavedSlotLaws
 pub mod SavedWaitLaws
 pub mod SavedBirthLaws
+pub mod SavedOrderLaws
+pub mod SavedNameLaws
 pub mod SavedObjectLaws
 pub mod SavingLaws
 pub mod SavedKeptLaws

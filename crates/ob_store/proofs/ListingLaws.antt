@@ -121,7 +121,7 @@ rows_with ts objects births p e o name placed born table own number named empty 
     ∙ λ i. others i ++ cons_option (named_row o.id (named i)) []
 
 -- a name that isn't there comes last
-distinct_with : (rows : Rows) (name : ObjectName) (id : Id) → AreDistinct rows → find_name name rows ≡ None
+pub distinct_with : (rows : Rows) (name : ObjectName) (id : Id) → AreDistinct rows → find_name name rows ≡ None
     → AreDistinct (rows ++ (name, id) ∷ [])
 distinct_with rows name id distinct absent =
     subst (IsDistinct same_name) (sym (map-append (λ (row : Row). row.0) rows ((name, id) ∷ [])))

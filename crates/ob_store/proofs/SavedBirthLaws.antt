@@ -1,5 +1,5 @@
 -- Births that were ordered are distinct, and below their count.
-use Rattle.std.proofs.Common.{◌≡◌, ◌≢◌, ℕ, zero, suc, ◌<◌, ◌&&◌, Bool, true, false, cond, ltb, List, [], ◌∷◌, get_or, Option, Some, None, Ok, refl, sym, ap, ◌∙◌, subst, eq-eqb}
+use Rattle.std.proofs.Common.{◌≡◌, ◌≢◌, ℕ, zero, suc, ◌<◌, ◌&&◌, Bool, true, false, cond, eqb, ltb, List, [], ◌∷◌, get_or, Option, Some, None, Ok, refl, sym, ap, ◌∙◌, subst, arith, eq-eqb, ne_eqb}
 use Rattle.std.specs.Prelude.{is_none}
 use Rattle.std.specs.BTreeMap.{insert_entry, is_at}
 use Rattle.std.specs.Cmp.{unsigned_tied}
@@ -8,48 +8,88 @@ use Rattle.std.specs.declared.cmp.Ordering.{Ordering}
 use Rattle.std.specs.declared.cmp.Ordering.TheVariants.{Less, Equal, Greater}
 use Rattle.std.specs.Ordering.{is_eq, match_ordering, nat_cmp}
 use Rattle.std.proofs.lemmas.Bool.{eqb-true, ltb-true}
+use Rattle.std.proofs.lemmas.Bool.Decides.{nat_tests}
 use Rattle.ob_codec.specs.declared.fault.TextFault.TheVariants.{Value}
 use Rattle.ob_codec.specs.Steps.{bind_ok, both-true, guard_passed}
 use Rattle.ob_store.specs.Agreement.{AreBorn}
 use Rattle.ob_store.specs.Objects.{Object}
-use Rattle.ob_store.specs.SavedObjects.{Births, births_from, with_birth}
+use Rattle.ob_store.specs.SavedBirths.{Births, births_from, with_birth}
 
 -- the slot that has a birth
 abbrev pub taken : Births → ℕ → Option ℕ
 taken es birth = lookup (is_at (nat_cmp birth)) es
 
-pub first-none : (t : Bool) (slot : ℕ) (rest : Option ℕ) → cond t (Some slot) rest ≡ None → (t ≡ false) × (rest ≡ None)
-first-none true slot rest e = absurd cc
-first-none false slot rest e = (refl, e)
+-- what the order of two numbers says of them
+pub is_less : (b c : ℕ) → nat_cmp b c ≡ Less → b < c
+is_less b c e = by (ltb b c) (eqb b c) refl e
+  where
+    by : (l s : Bool) → ltb b c ≡ l → cond l Less (cond s Equal Greater) ≡ Less → b < c
+    by true s is e = ltb-true b c is
+    by false true is e = absurd (cc e)
+    by false false is e = absurd (cc e)
 
-other-than : (c b : ℕ) → is_at (nat_cmp c) b ≡ false → c ≢ b
-other-than c b e same = let t = sym (unsigned_tied c b) ∙ e in let f = eq-eqb c b same in
-    absurd (let x = sym f ∙ t in cc x)
+pub is_greater : (b c : ℕ) → nat_cmp b c ≡ Greater → c < b
+is_greater b c e = by (ltb b c) (eqb b c) refl refl e
+  where
+    by : (l s : Bool) → ltb b c ≡ l → eqb b c ≡ s → cond l Less (cond s Equal Greater) ≡ Greater → c < b
+    by true s is it e = absurd (cc e)
+    by false true is it e = absurd (cc e)
+    by false false is it e = grind (arith, nat_tests, is, it)
 
-pub none-first : (c b slot : ℕ) (rest : Option ℕ) → is_at (nat_cmp c) b ≡ false → rest ≡ None →
-    cond (is_at (nat_cmp c) b) (Some slot) rest ≡ None
-none-first c b slot rest e none = ap (λ (t : Bool). cond t (Some slot) rest) e ∙ none
+is-equal : (b c : ℕ) → nat_cmp b c ≡ Equal → b ≡ c
+is-equal b c e = eqb-true b c (sym (unsigned_tied b c) ∙ ap is_eq e)
+
+pub at_is : (c b : ℕ) → is_at (nat_cmp c) b ≡ true → c ≡ b
+at_is c b e = eqb-true c b (sym (unsigned_tied c b) ∙ e)
+
+pub at_same : (b : ℕ) → is_at (nat_cmp b) b ≡ true
+at_same b = unsigned_tied b b ∙ eq-eqb b b refl
+
+pub at_other : (c b : ℕ) → c ≢ b → is_at (nat_cmp c) b ≡ false
+at_other c b apart = unsigned_tied c b ∙ ne_eqb c b apart
+
+-- what has a birth once one came
+pub taken_inserted : (es : Births) (b slot c : ℕ) →
+    taken (insert_entry nat_cmp es b slot) c ≡ cond (is_at (nat_cmp c) b) (Some slot) (taken es c)
+taken_inserted [] b slot c = refl
+taken_inserted (x ∷ es) b slot c = by (nat_cmp b x.0) refl (taken_inserted es b slot c)
+  where
+    swap : (s t : Bool) → is_at (nat_cmp c) x.0 ≡ s → is_at (nat_cmp c) b ≡ t → b ≢ x.0 →
+        cond s (Some x.1) (cond t (Some slot) (taken es c)) ≡ cond t (Some slot) (cond s (Some x.1) (taken es c))
+    swap true true is it apart = absurd (apart (sym (at_is c b it) ∙ at_is c x.0 is))
+    swap true false is it apart = refl
+    swap false true is it apart = refl
+    swap false false is it apart = refl
+
+    once : (t : Bool) → cond t (Some slot) (taken es c) ≡ cond t (Some slot) (cond t (Some x.1) (taken es c))
+    once true = refl
+    once false = refl
+
+    by : (o : Ordering) → nat_cmp b x.0 ≡ o →
+        taken (insert_entry nat_cmp es b slot) c ≡ cond (is_at (nat_cmp c) b) (Some slot) (taken es c) →
+        taken (match_ordering o ((b, slot) ∷ x ∷ es) ((x.0, slot) ∷ es) (x ∷ insert_entry nat_cmp es b slot)) c ≡
+        cond (is_at (nat_cmp c) b) (Some slot) (taken (x ∷ es) c)
+    by Less is others = refl
+    by Equal is others =
+        once (is_at (nat_cmp c) x.0) ∙
+        ap (λ (k : ℕ). cond (is_at (nat_cmp c) k) (Some slot) (taken (x ∷ es) c)) (sym (is-equal b x.0 is))
+    by Greater is others =
+        let less = is_greater b x.0 is in
+        ap (cond (is_at (nat_cmp c) x.0) (Some x.1)) others ∙
+        swap (is_at (nat_cmp c) x.0) (is_at (nat_cmp c) b) refl refl (λ same. omega (arith, less, same))
+
+pub none_first : (t : Bool) (slot : ℕ) (rest : Option ℕ) → t ≡ false → rest ≡ None → cond t (Some slot) rest ≡ None
+none_first t slot rest e none = ap (λ (z : Bool). cond z (Some slot) rest) e ∙ none
 
 -- a birth that isn't there once another came wasn't there before, and is another one
-pub not_taken : (es : Births) (b slot c : ℕ) → taken (insert_entry nat_cmp es b slot) c ≡ None → (c ≢ b) ×
+not-taken : (es : Births) (b slot c : ℕ) → taken (insert_entry nat_cmp es b slot) c ≡ None → (c ≢ b) ×
     (taken es c ≡ None)
-not_taken [] b slot c e = (other-than c b (first-none (is_at (nat_cmp c) b) slot None e).0, refl)
-not_taken (x ∷ es) b slot c e = by (nat_cmp b x.0) refl (not_taken es b slot c) e
+not-taken es b slot c e = by (is_at (nat_cmp c) b) refl (sym (taken_inserted es b slot c) ∙ e)
   where
-    by : (o : Ordering) → nat_cmp b x.0 ≡ o → (taken (insert_entry nat_cmp es b slot) c ≡ None → (c ≢ b) ×
-        (taken es c ≡ None)) →
-        taken (match_ordering o ((b, slot) ∷ x ∷ es) ((x.0, slot) ∷ es) (x ∷ insert_entry nat_cmp es b slot)) c ≡ None →
-        (c ≢ b) × (taken (x ∷ es) c ≡ None)
-    by Less is others e = let f = first-none (is_at (nat_cmp c) b) slot (taken (x ∷ es) c) e in
-        (other-than c b f.0, f.1)
-    by Equal is others e =
-        let f = first-none (is_at (nat_cmp c) x.0) slot (taken es c) e in
-        let same : b ≡ x.0 = eqb-true b x.0 (sym (unsigned_tied b x.0) ∙ ap is_eq is) in
-        ((λ (q : c ≡ b). other-than c x.0 f.0 (q ∙ same)), none-first c x.0 x.1 (taken es c) f.0 f.1)
-    by Greater is others e =
-        let f = first-none (is_at (nat_cmp c) x.0) x.1 (taken (insert_entry nat_cmp es b slot) c) e in
-        let rest = others f.1 in
-        (rest.0, none-first c x.0 x.1 (taken es c) f.0 rest.1)
+    by : (t : Bool) → is_at (nat_cmp c) b ≡ t → cond t (Some slot) (taken es c) ≡ None → (c ≢ b) × (taken es c ≡ None)
+    by true is none = absurd cc
+    by false is none =
+        (λ same. absurd (let e = sym is ∙ (ap (is_at (nat_cmp c)) (sym same) ∙ at_same c) in cc e), none)
 
 none-is : (x : Option ℕ) → is_none x ≡ true → x ≡ None
 none-is None e = refl
@@ -60,11 +100,11 @@ some-is o p e = cc
 
 module _ (births : ℕ) (order : Births) where
   -- one object more
-  step : (slot : ℕ) (so_far : Births) (x : Object) (objects : List (Option Object)) →
+  pub births_step : (slot : ℕ) (so_far : Births) (x : Object) (objects : List (Option Object)) →
       births_from births so_far slot (Some x ∷ objects) ≡ Ok order →
       (x.birth < births) × (taken so_far x.birth ≡ None) ×
       (births_from births (insert_entry nat_cmp so_far x.birth slot) (suc slot) objects ≡ Ok order)
-  step slot so_far x objects e =
+  births_step slot so_far x objects e =
       let b = bind_ok (with_birth births so_far x.birth slot)
       (λ (more : Births). births_from births more (suc slot) objects) order e in
       let g = guard_passed (ltb x.birth births && is_none (taken so_far x.birth)) Value
@@ -83,20 +123,20 @@ module _ (births : ℕ) (order : Births) where
   each-new slot so_far (None ∷ objects) e zero o is = absurd cc
   each-new slot so_far (None ∷ objects) e (suc k) o is = each-new (suc slot) so_far objects e k o is
   each-new slot so_far (Some x ∷ objects) e zero o is =
-      let s = step slot so_far x objects e in
+      let s = births_step slot so_far x objects e in
       subst (λ (z : Object). (z.birth < births) × (taken so_far z.birth ≡ None)) (some-is x o is) (s.0, s.1)
   each-new slot so_far (Some x ∷ objects) e (suc k) o is =
       let later = each-new (suc slot) (insert_entry nat_cmp so_far x.birth slot) objects
-      (step slot so_far x objects e).2 k o is in
-      (later.0, (not_taken so_far x.birth slot o.birth later.1).1)
+      (births_step slot so_far x objects e).2 k o is in
+      (later.0, (not-taken so_far x.birth slot o.birth later.1).1)
 
   -- a later object has another birth
   later-apart : (slot : ℕ) (so_far : Births) (x : Object) (objects : List (Option Object)) →
       births_from births so_far slot (Some x ∷ objects) ≡ Ok order →
       (k : ℕ) (o : Object) → get_or objects k None ≡ Some o → o.birth ≢ x.birth
   later-apart slot so_far x objects e k o is =
-      (not_taken so_far x.birth slot o.birth (each-new (suc slot) (insert_entry nat_cmp so_far x.birth slot) objects
-      (step slot so_far x objects e).2 k o is).1).0
+      (not-taken so_far x.birth slot o.birth (each-new (suc slot) (insert_entry nat_cmp so_far x.birth slot) objects
+      (births_step slot so_far x objects e).2 k o is).1).0
 
   -- no two are the same
   none-twice : (slot : ℕ) (so_far : Births) (objects : List (Option Object)) → births_from births so_far slot objects ≡
@@ -116,7 +156,7 @@ module _ (births : ℕ) (order : Births) where
       absurd (later-apart slot so_far x objects e j o is (same ∙ ap (λ (z : Object). z.birth) (sym (some-is x p it))))
   none-twice slot so_far (Some x ∷ objects) e (suc j) (suc k) o p is it same =
       ap suc (none-twice (suc slot) (insert_entry nat_cmp so_far x.birth slot) objects
-      (step slot so_far x objects e).2 j k o p is it same)
+      (births_step slot so_far x objects e).2 j k o p is it same)
 
   pub ordered_born : (objects : List (Option Object)) → births_from births [] 0 objects ≡ Ok order →
       AreBorn objects births

@@ -26,7 +26,8 @@ use Rattle.ob_store.specs.Agreement.{Agrees, IsTied}
 use Rattle.ob_store.specs.Counting.{counting_all, is_its}
 use Rattle.ob_store.specs.Kept.{AreFormed, AreOfLive, IsCounted, IsLive, IsNamed, IsQuiet, IsThere, id_in}
 use Rattle.ob_store.specs.Objects.{Object, ObjectsState, Places}
-use Rattle.ob_store.specs.SavedObjects.{Births, are_bodied, births_from, whole_at, whole_objects, with_slots}
+use Rattle.ob_store.specs.SavedBirths.{Births, births_from}
+use Rattle.ob_store.specs.SavedObjects.{are_bodied, whole_at, whole_objects, with_slots}
 use Rattle.ob_store.specs.SavedSlots.{slots_at}
 use Rattle.ob_store.specs.SavedWaits.{all_stand, may_wait_for, is_live, is_live_if_some, object_blocks, owner_stands, owners_stand, state_stands, wait_stands, waits_stand, with_blocks}
 use Rattle.ob_store.specs.Agreement.{made_in}

@@ -22,7 +22,8 @@ use Rattle.ob_store.specs.Agreement.{Agrees, IsAgreed, IsTied, made_in}
 use Rattle.ob_store.specs.Counting.{counting_all}
 use Rattle.ob_store.specs.Kept.{AreFormed, IsThere}
 use Rattle.ob_store.specs.Objects.{Object, Places}
-use Rattle.ob_store.specs.SavedObjects.{Births, are_bodied, births_from, is_bodied, with_slots}
+use Rattle.ob_store.specs.SavedBirths.{Births, births_from}
+use Rattle.ob_store.specs.SavedObjects.{are_bodied, is_bodied, with_slots}
 use Rattle.ob_store.specs.SavedSlots.{body_from, is_retired, keeper_slot, object_from, objects_from, places_from, slot_at, slots_at, slots_from}
 use Rattle.ob_store.specs.SavedWaits.{object_blocks, with_blocks}
 use Rattle.ob_store.specs.State.{by_slot}

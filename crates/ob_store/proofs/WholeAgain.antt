@@ -1,11 +1,8 @@
 -- Births that are distinct are ordered, and objects that have bodies just where something refers to them pass.
-use Rattle.std.proofs.Common.{◌≡◌, ◌≢◌, ℕ, zero, suc, ◌+◌, ◌<◌, ◌&&◌, ltb, Bool, true, false, cond, List, [], ◌∷◌, get_or, Option, Some, None, Ok, Err, refl, ap, ◌∙◌, ne_eqb, arith}
+use Rattle.std.proofs.Common.{◌≡◌, ◌≢◌, ℕ, zero, suc, ◌+◌, ◌<◌, ◌&&◌, ltb, Bool, true, false, cond, List, [], ◌∷◌, get_or, Option, Some, None, Ok, Err, refl, ap, ◌∙◌, arith}
 use Rattle.std.specs.Prelude.{is_none, is_some}
 use Rattle.std.specs.BTreeMap.{insert_entry, is_at}
-use Rattle.std.specs.Cmp.{unsigned_tied}
-use Rattle.std.specs.declared.cmp.Ordering.{Ordering}
-use Rattle.std.specs.declared.cmp.Ordering.TheVariants.{Less, Equal, Greater}
-use Rattle.std.specs.Ordering.{match_ordering, nat_cmp}
+use Rattle.std.specs.Ordering.{nat_cmp}
 use Rattle.std.proofs.lemmas.Bool.{lt-ltb}
 use Rattle.ob_codec.specs.declared.fault.TextFault.TheVariants.{Value}
 use Rattle.ob_codec.specs.Reading.{◌>>=◌}
@@ -15,22 +12,14 @@ use Rattle.ob_waits.specs.Objects as waits
 use Rattle.ob_waits.specs.Rules.{HasBodies}
 use Rattle.ob_store.specs.Agreement.{AreBorn}
 use Rattle.ob_store.specs.Objects.{Object}
-use Rattle.ob_store.specs.SavedObjects.{Births, are_bodied, births_from, is_bodied}
-use Rattle.ob_store.proofs.SavedBirthLaws.{first-none, none-first, taken}
+use Rattle.ob_store.specs.SavedBirths.{Births, births_from}
+use Rattle.ob_store.specs.SavedObjects.{are_bodied, is_bodied}
+use Rattle.ob_store.proofs.SavedBirthLaws.{at_other, none_first, taken, taken_inserted}
 
 -- a birth that isn't there stays so as another comes
 still_free : (es : Births) (b slot c : ℕ) → c ≢ b → taken es c ≡ None → taken (insert_entry nat_cmp es b slot) c ≡ None
-still_free [] b slot c apart none = none-first c b slot None (unsigned_tied c b ∙ ne_eqb c b apart) refl
-still_free (x ∷ es) b slot c apart none = by (nat_cmp b x.0) (still_free es b slot c apart)
-  where
-    by : (o : Ordering) → (taken es c ≡ None → taken (insert_entry nat_cmp es b slot) c ≡ None) →
-        taken (match_ordering o ((b, slot) ∷ x ∷ es) ((x.0, slot) ∷ es) (x ∷ insert_entry nat_cmp es b slot)) c ≡ None
-    by Less others = none-first c b slot (taken (x ∷ es) c) (unsigned_tied c b ∙ ne_eqb c b apart) none
-    by Equal others = let f = first-none (is_at (nat_cmp c) x.0) x.1 (taken es c) none in
-        none-first c x.0 slot (taken es c) f.0 f.1
-    by Greater others =
-        let f = first-none (is_at (nat_cmp c) x.0) x.1 (taken es c) none in
-        none-first c x.0 x.1 (taken (insert_entry nat_cmp es b slot) c) f.0 (others f.1)
+still_free es b slot c apart none =
+    taken_inserted es b slot c ∙ none_first (is_at (nat_cmp c) b) slot (taken es c) (at_other c b apart) none
 
 Fresh : ℕ → Births → List (Option Object) → Type 0
 Fresh births so_far objects = (k : ℕ) (o : Object) → get_or objects k None ≡ Some o → (o.birth < births) ×

@@ -24,5 +24,7 @@ pub mod Stored
 pub mod SavedSlots
 pub mod Counting
 pub mod SavedWaits
+pub mod SavedBirths
+pub mod SavedNames
 pub mod SavedObjects
 pub mod Giving

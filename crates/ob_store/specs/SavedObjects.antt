@@ -1,9 +1,6 @@
 -- What a save says of the objects, once what refers to them is counted: bodies, births, and what their keeper says.
 use Rattle.std.specs.Prelude.{ℕ, zero, suc, ◌+◌, nat_lt, ◌&&◌, Bool, true, false, if◌then◌else◌, List, [], ◌∷◌, length, Option, Some, None, Result, Ok, Err, is_none, is_some, map, slice_index_or, sum_by}
 use Rattle.std.specs.List.{flat_map, range_with_len}
-use Rattle.std.specs.BTreeMap.{insert_entry, is_at}
-use Rattle.std.specs.Map.{lookup}
-use Rattle.std.specs.Ordering.{nat_cmp}
 use Rattle.ob_codec.specs.declared.fault.TextFault.{TextFault}
 use Rattle.ob_codec.specs.declared.fault.TextFault.TheVariants.{Value}
 use Rattle.ob_codec.specs.Reading.{◌>>=◌, Read, where_at}
@@ -22,6 +19,7 @@ use Rattle.ob_store.specs.declared.saved_slot.SavedSlot.{SavedSlot}
 use Rattle.ob_store.specs.Agreement.{made_in}
 use Rattle.ob_store.specs.Counting.{counting_all}
 use Rattle.ob_store.specs.Objects.{Object, ObjectsState, Places, with_keeper}
+use Rattle.ob_store.specs.SavedBirths.{births_from}
 use Rattle.ob_store.specs.SavedSlots.{slot_text, slots_at}
 use Rattle.ob_store.specs.SavedWaits.{all_stand, with_blocks}
 use Rattle.ob_store.specs.State.{shape_of}
@@ -37,28 +35,6 @@ is_bodied o k =
 abbrev pub are_bodied : waits.Objects → ℕ → Bool
 are_bodied o zero = true
 are_bodied o (suc n) = are_bodied o n && is_bodied o n
-
--- slots by the births of their objects
-abbrev pub Births : Type 0
-Births = List (ℕ × ℕ)
-
--- the slot of an object of this birth comes, unless the birth isn't below the count, or another object has it
-abbrev pub with_birth : ℕ → Births → ℕ → ℕ → Result Births TextFault
-with_birth births so_far birth slot =
-    if nat_lt birth births && is_none (lookup (is_at (nat_cmp birth)) so_far) then Ok
-    (insert_entry nat_cmp so_far birth slot)
-    else Err Value
-
-abbrev pub with_birth_of : ℕ → Births → ℕ → Option Object → Result Births TextFault
-with_birth_of births so_far slot None = Ok so_far
-with_birth_of births so_far slot (Some o) = with_birth births so_far o.birth slot
-
--- the slots of all objects from a slot on
-abbrev pub births_from : ℕ → Births → ℕ → List (Option Object) → Result Births TextFault
-births_from births so_far slot [] = Ok so_far
-births_from births so_far slot (object ∷ objects) = do
-  more ← with_birth_of births so_far slot object
-  births_from births more (suc slot) objects
 
 -- what a keeper under a lock says that begins with these slots
 abbrev pub begun_over : Shape → List Slot → KeeperState

@@ -1,7 +1,7 @@
 ghost use Rattle.std.specs.Prelude.{◌≡◌, ◌≤◌, [], length, sum_by};
 ghost use Rattle.ob_codec.specs.Reading.{GivesAll};
 ghost use Rattle.ob_store.specs.Agreement.{made_in};
-ghost use Rattle.ob_store.specs.SavedObjects.{births_from, with_birth, with_birth_of};
+ghost use Rattle.ob_store.specs.SavedBirths.{births_from, with_birth, with_birth_of};
 ghost use Rattle.std.specs.Prelude.{None, slice_index_or};
 
 use crate::seats::Seats;

@@ -2,18 +2,21 @@ ghost use Rattle.std.specs.Prelude.{◌≡◌, ◌++◌, ℕ, List, [], Ok, Opti
 ghost use Rattle.std.specs.List.{AllByRecursion};
 ghost use Rattle.ob_codec.specs.Laws.{Takes};
 ghost use Rattle.ob_codec.specs.Spelling.{AreBytes};
+ghost use Rattle.ob_name.specs.Listing.{Rows};
 ghost use Rattle.ob_tables.specs.declared.entry.Entry.{Entry};
 ghost use Rattle.ob_store.specs.declared.limits.Limits.{Limits};
 ghost use Rattle.ob_tables.specs.Tables.{IsBounded};
 ghost use Rattle.ob_waits.specs.declared.wait.Wait.{Wait};
 ghost use Rattle.ob_store.specs.Counting.{counting_all, uncounted};
-ghost use Rattle.ob_store.specs.Kept.{AreOfLive, IsCounted, IsNamed, IsQuiet};
+ghost use Rattle.ob_store.specs.Kept.{AreOfLive, IsCounted, IsListing, IsNamed, IsQuiet};
 ghost use Rattle.ob_waits.specs.Objects as waits;
 ghost use Rattle.ob_waits.specs.Rules.{HasBodies};
 ghost use Rattle.ob_waits.specs.Waits.{WaitList};
 ghost use Rattle.ob_store.specs.Agreement.{AreBorn, IsTied};
-ghost use Rattle.ob_store.specs.Objects.{Object, ObjectsState, Places};
-ghost use Rattle.ob_store.specs.SavedObjects.{Births, are_bodied, births_from, objects_at, objects_text, slots_saved};
+ghost use Rattle.ob_store.specs.Objects.{Object, ObjectsState, Places, places_in};
+ghost use Rattle.ob_store.specs.SavedBirths.{Births, births_from};
+ghost use Rattle.ob_store.specs.SavedObjects.{are_bodied, objects_at, objects_text, slots_saved};
+ghost use Rattle.ob_store.specs.SavedNames.{names_in};
 ghost use Rattle.ob_store.specs.SavedObjects.{begun_over};
 ghost use Rattle.ob_store.specs.SavedSlots.{SlotFits, keeper_slot};
 ghost use Rattle.ob_store.specs.State.{shape_of};
@@ -49,4 +52,17 @@ pub fn law_of_spelled_objects()
     ensures takes { (limits : Limits) (threads : List (Option ℕ)) (tables : List (List (Option Entry)))
         (list : WaitList) (bytes : List ℕ) (s : ObjectsState) (rest : List ℕ) → AreBytes bytes
         → objects_at limits threads tables list bytes ≡ Ok (s, rest) → Takes bytes (objects_text s) rest }
+{}
+
+/// The names that a load enters, in the order of births, are the directory, and none stands twice there; and those of
+/// such a directory are entered.
+pub fn law_of_entered_names()
+    ensures sound { (s : ObjectsState) (tables : List (List (Option Entry))) (waits : List (Option Wait))
+        (order : Births) (rows : Rows) → IsTied s → IsCounted s.seen (length s.objects) tables waits
+        → IsNamed s.objects tables waits → births_from s.births [] 0 s.objects ≡ Ok order
+        → names_in order (places_in s) ≡ Ok rows → IsListing rows tables s.objects s.births }
+    ensures complete { (s : ObjectsState) (tables : List (List (Option Entry))) (waits : List (Option Wait))
+        (order : Births) (rows : Rows) → IsTied s → IsCounted s.seen (length s.objects) tables waits
+        → IsNamed s.objects tables waits → births_from s.births [] 0 s.objects ≡ Ok order
+        → IsListing rows tables s.objects s.births → names_in order (places_in s) ≡ Ok rows }
 {}

@@ -32,6 +32,7 @@ mod law;
 mod limits;
 mod links;
 mod meeting;
+mod naming;
 mod numbers;
 mod objects;
 mod owners;
@@ -61,7 +62,9 @@ mod walking;
 pub use creation::Creation;
 pub use found::Found;
 pub use label::Label;
-pub use law::{law_of_counting, law_of_spelled_objects, law_of_whole_objects};
+pub use law::{
+    law_of_counting, law_of_entered_names, law_of_spelled_objects, law_of_whole_objects,
+};
 pub use limits::Limits;
 pub use ob_waits::LAST_MOMENT;
 pub use objects::Objects;

@@ -5,7 +5,8 @@ use Rattle.pin_core.specs.declared.shape.Shape.{Shape}
 use Rattle.pin_words.specs.Keepers.{KeeperState}
 use Rattle.ob_store.specs.Agreement.{IsTied, made_in}
 use Rattle.ob_store.specs.Objects.{Places, with_keeper}
-use Rattle.ob_store.specs.SavedObjects.{are_bodied, begun_over, births_from}
+use Rattle.ob_store.specs.SavedBirths.{births_from}
+use Rattle.ob_store.specs.SavedObjects.{are_bodied, begun_over}
 use Rattle.ob_store.specs.SavedWaits.{with_blocks}
 use Rattle.ob_store.specs.State.{shape_of}
 use Rattle.ob_store.proofs.SavedObjectLaws.{slots_read, tied_read, wide_read}

@@ -1,0 +1,221 @@
+-- The names that a load enters are the directory, where no name stands twice.
+use Rattle.std.proofs.Common.{◌≡◌, ◌≢◌, ℕ, zero, suc, ◌+◌, ◌≤◌, ◌&&◌, Bool, true, false, cond, ltb, List, [], ◌∷◌, ◌++◌, length, get_or, is_none, Option, Some, None, Ok, Err, refl, sym, ap, ◌∙◌, subst, arith, inl, inr, eq-eqb}
+use Rattle.std.specs.BTreeMap.{is_at}
+use Rattle.std.specs.List.{AllByRecursion, IsDistinct, cons_option, filter_map}
+use Rattle.std.specs.Map.{keys_of, values_of}
+use Rattle.std.specs.Ordering.{nat_cmp}
+use Rattle.std.proofs.lemmas.Bool.{cases_eq}
+use Rattle.std.proofs.lemmas.List.{append-nil, append_assoc}
+use Rattle.std.proofs.lemmas.Map.Keys.{IsDistinct-head, IsDistinct-tail}
+use Rattle.ob_codec.specs.declared.fault.TextFault.TheVariants.{Value}
+use Rattle.ob_codec.specs.Reading.{◌>>=◌}
+use Rattle.ob_codec.specs.Steps.{bind_ok, guard_passed, ok_is}
+use Rattle.pin_core.specs.declared.id.Id.{Id}
+use Rattle.ob_name.specs.Names.{ObjectName}
+use Rattle.ob_name.specs.Listing.{AreDistinct, Rows, find_name, same_name}
+use Rattle.ob_name.specs.Order.{Row}
+use Rattle.ob_name.specs.Same.{same_name_equiv}
+use Rattle.ob_tables.specs.Counts.{slot_handles}
+use Rattle.ob_tables.proofs.Counting.{some_within}
+use Rattle.ob_waits.specs.declared.wait.Wait.{Wait}
+use Rattle.ob_store.specs.Agreement.{IsTied}
+use Rattle.ob_store.specs.Directory.{named_row, row_of, rows_of}
+use Rattle.ob_store.specs.Kept.{IsCounted, IsListing, IsNamed, IsThere, id_in}
+use Rattle.ob_store.specs.Objects.{Object, ObjectsState, Places, places_in}
+use Rattle.ob_store.specs.SavedNames.{handled_row, named_from, names_in, slot_row, with_row}
+use Rattle.ob_store.specs.SavedBirths.{Births, births_from}
+use Rattle.ob_store.proofs.CountedLaws.{handles_at}
+use Rattle.ob_store.proofs.DirectoryLaws.{Tables, has_handles, other_birth, picks_none, picks_only}
+use Rattle.ob_store.proofs.ListingLaws.{distinct_with, placed_agreed}
+use Rattle.ob_store.proofs.NamedLaws.{handles_are}
+use Rattle.ob_store.proofs.SavedBirthLaws.{at_other, at_same, taken}
+use Rattle.ob_store.proofs.SavedOrderLaws.{IsOrder, Rises, is_order, none_below}
+
+some-same : (j k : ℕ) → ◌≡◌ {A = Option ℕ} (Some j) (Some k) → j ≡ k
+some-same j k e = cc
+
+cons_end : {A : Type 0} (xs ys : List A) (o : Option A) → xs ++ cons_option o [] ++ ys ≡ xs ++ cons_option o ys
+cons_end xs ys None = ap (λ l. l ++ ys) (append-nil xs)
+cons_end xs ys (Some a) = append_assoc xs (a ∷ []) ys
+
+-- in the order of births stand just the rows of the directory, where what is stored of handles is what is counted
+module _ (ts : Tables) (p : Places) (births : ℕ) (order : Births) (is : IsOrder p.objects births order)
+    (handled : (k : ℕ) (o : Object) → get_or p.objects k None ≡ Some o → ltb 0 (get_or p.seen.handles k 0) ≡
+    has_handles o.id ts) where
+  one-row : (b k : ℕ) (o : Object) → get_or p.objects k None ≡ Some o → o.birth ≡ b →
+      row_of ts b (get_or p.objects k None) ≡ slot_row p k
+  one-row b k o at born =
+      ap (row_of ts b) at ∙
+      (λ i. cond (eq-eqb o.birth b born i && sym (handled k o at) i) (named_row o.id o.name) None) ∙
+      sym (ap (handled_row (ltb 0 (get_or p.seen.handles k 0))) at)
+
+  -- the objects of one birth
+  none-other : (b j : ℕ) (x : Option Object) → get_or p.objects j None ≡ x →
+      ((o : Object) → x ≡ Some o → o.birth ≢ b) → row_of ts b x ≡ None
+  none-other b j None at other = refl
+  none-other b j (Some o) at other = other_birth ts b o (other o refl)
+
+  none-born : (b : ℕ) → taken order b ≡ None → filter_map (row_of ts b) p.objects ≡ []
+  none-born b none = picks_none (row_of ts b) p.objects (λ k. none-other b k (get_or p.objects k None) refl
+      (λ o at born. let e = sym (is.each k o at) ∙ ap (taken order) born ∙ none in absurd (cc e)))
+
+  one-born : (b k : ℕ) → taken order b ≡ Some k → filter_map (row_of ts b) p.objects ≡ cons_option (slot_row p k) []
+  one-born b k at =
+      let own = is.own b k at in
+      picks_only (row_of ts b) p.objects k (some_within p.objects k own.0 own.1) refl
+      (λ j other. none-other b j (get_or p.objects j None) refl
+      (λ o there born. other (some-same j k (sym (is.each j o there) ∙ ap (taken order) born ∙ at)))) ∙
+      ap (λ r. cons_option r []) (one-row b k own.0 own.1 own.2)
+
+  -- the rows of one birth come behind those of the ones before it
+  before : (low n : ℕ) (mine others : Rows) → filter_map (row_of ts low) p.objects ≡ mine →
+      rows_of ts p.objects (suc low + n) ≡ rows_of ts p.objects (suc low) ++ others →
+      rows_of ts p.objects (low + suc n) ≡ rows_of ts p.objects low ++ mine ++ others
+  before low n mine others first more =
+      ap (rows_of ts p.objects) (let e : low + suc n ≡ suc low + n = omega arith in e) ∙ more ∙
+      ap (λ z. rows_of ts p.objects low ++ z ++ others) first
+
+  before-none : (low n : ℕ) (others : Rows) → taken order low ≡ None →
+      rows_of ts p.objects (suc low + n) ≡ rows_of ts p.objects (suc low) ++ others →
+      rows_of ts p.objects (low + suc n) ≡ rows_of ts p.objects low ++ others
+  before-none low n others none more =
+      before low n [] others (none-born low none) more ∙ ap (λ l. l ++ others) (append-nil (rows_of ts p.objects low))
+
+  before-one : (low n k : ℕ) (others : Rows) → taken order low ≡ Some k →
+      rows_of ts p.objects (suc low + n) ≡ rows_of ts p.objects (suc low) ++ others →
+      rows_of ts p.objects (low + suc n) ≡ rows_of ts p.objects low ++ cons_option (slot_row p k) others
+  before-one low n k others one more =
+      before low n (cons_option (slot_row p k) []) others (one-born low k one) more ∙
+      cons_end (rows_of ts p.objects low) others (slot_row p k)
+
+  -- the rows from one birth on
+  rows-on : (n low : ℕ) (es : Births) → Rises low (low + n) es →
+      ((b : ℕ) → low ≤ b → taken es b ≡ taken order b) →
+      rows_of ts p.objects (low + n) ≡ rows_of ts p.objects low ++ filter_map (slot_row p) (values_of es)
+  unfolding Rises
+  rows-on zero low [] r same =
+      ap (rows_of ts p.objects) (let e : low + 0 ≡ low = omega arith in e) ∙ sym (append-nil (rows_of ts p.objects low))
+  rows-on zero low (e ∷ es) r same = absurd (let from = r.0 in let below = r.1 in omega (arith, from, below))
+  rows-on (suc n) low [] r same =
+      before-none low n [] (sym (same low (omega arith)))
+      (rows-on n (suc low) [] tt (λ b from. same b (omega (arith, from))))
+  rows-on (suc n) low (e ∷ es) r same =
+      let up : low + suc n ≡ suc low + n = omega arith in
+      let from = r.0 in
+      let below = r.1 in
+      elim (cases_eq e.0 low) [
+        | inl here ↦
+            before-one low n e.1 (filter_map (slot_row p) (values_of es))
+            (sym (same low (omega arith)) ∙
+            ap (λ (t : Bool). cond t (Some e.1) (taken es low)) (ap (is_at (nat_cmp low)) here ∙ at_same low))
+            (rows-on n (suc low) es
+            (subst (λ (l : ℕ). Rises (suc l) (suc low + n) es) here (subst (λ (h : ℕ). Rises (suc e.0) h es) up r.2))
+            (λ b above. sym (ap (λ (t : Bool). cond t (Some e.1) (taken es b))
+            (at_other b e.0 (λ is. omega (arith, above, here, is)))) ∙ same b (omega (arith, above))))
+        | inr other ↦ (let rises : Rises (suc low) (suc low + n) (e ∷ es) = (
+          omega (arith, from, other),
+          omega (arith, below),
+          subst (λ (h : ℕ). Rises (suc e.0) h es) up r.2,
+        ) in
+            before-none low n (filter_map (slot_row p) (values_of (e ∷ es)))
+            (sym (same low (omega arith)) ∙
+            none_below (suc low) (suc low + n) (e ∷ es) low (omega arith) rises)
+            (rows-on n (suc low) (e ∷ es) rises (λ b above. same b (omega (arith, above)))))
+      ]
+
+  rows-by-order : rows_of ts p.objects births ≡ filter_map (slot_row p) (values_of order)
+  rows-by-order =
+      let all : births ≡ 0 + births = omega arith in
+      ap (rows_of ts p.objects) all ∙
+      rows-on births 0 order (subst (λ (h : ℕ). Rises 0 h order) all is.rises) (λ b from. refl)
+
+-- a name that is entered comes last, and is a new one
+module _ (p : Places) where
+  one-entered : (rows more : Rows) (r : Option Row) → with_row rows r ≡ Ok more →
+      (rows ++ cons_option r [] ≡ more) × (AreDistinct rows → AreDistinct more)
+  one-entered rows more None e =
+      let same = ok_is rows more e in (append-nil rows ∙ same, λ distinct. subst AreDistinct same distinct)
+  one-entered rows more (Some row) e =
+      let g = guard_passed (is_none (find_name row.0 rows)) Value (rows ++ row ∷ []) more e in (
+        g.1,
+        λ distinct. subst AreDistinct g.1
+            (distinct_with rows row.0 row.1 distinct (none-found (find_name row.0 rows) g.0)),
+      )
+    where
+      none-found : (x : Option Id) → is_none x ≡ true → x ≡ None
+      none-found None e = refl
+      none-found (Some id) e = absurd (cc e)
+
+  all-entered : (rows out : Rows) (slots : List ℕ) → named_from p rows slots ≡ Ok out →
+      (rows ++ filter_map (slot_row p) slots ≡ out) × (AreDistinct rows → AreDistinct out)
+  all-entered rows out [] e =
+      let same = ok_is rows out e in (append-nil rows ∙ same, λ distinct. subst AreDistinct same distinct)
+  all-entered rows out (slot ∷ slots) e =
+      let b = bind_ok (with_row rows (slot_row p slot)) (λ (more : Rows). named_from p more slots) out e in
+      let one = one-entered rows b.0 (slot_row p slot) b.1 in
+      let others = all-entered b.0 out slots b.2 in (
+        sym (cons_end rows (filter_map (slot_row p) slots) (slot_row p slot)) ∙
+            ap (λ (z : Rows). z ++ filter_map (slot_row p) slots) one.0 ∙ others.0,
+        λ distinct. others.1 (one.1 distinct),
+      )
+
+  -- a name that stands once among rows isn't among those before it
+  there-all : (P : ObjectName → Type 0) (rows more : Rows) (row : Row) →
+      AllByRecursion P (keys_of (rows ++ row ∷ more)) → P row.0
+  there-all P [] more row all = all.0
+  there-all P (r ∷ rows) more row all = there-all P rows more row all.1
+
+  new-name : (rows more : Rows) (row : Row) → AreDistinct (rows ++ row ∷ more) → find_name row.0 rows ≡ None
+  new-name [] more row distinct = refl
+  new-name (r ∷ rows) more row distinct =
+      let apart : same_name row.0 r.0 ≡ false = same_name_equiv.symm row.0 r.0 ∙
+      there-all (λ y. same_name r.0 y ≡ false) rows more row
+      (IsDistinct-head same_name r.0 (keys_of (rows ++ row ∷ more)) distinct) in
+      ap (λ (t : Bool). cond t (Some r.1) (find_name row.0 rows)) apart ∙
+      new-name rows more row (IsDistinct-tail same_name r.0 (keys_of (rows ++ row ∷ more)) distinct)
+
+  -- so rows in which no name stands twice are all entered
+  enters-all : (rows : Rows) (slots : List ℕ) → AreDistinct (rows ++ filter_map (slot_row p) slots) →
+      named_from p rows slots ≡ Ok (rows ++ filter_map (slot_row p) slots)
+  enters-all rows [] distinct = ap (λ (z : Rows). Ok z) (sym (append-nil rows))
+  enters-all rows (slot ∷ slots) distinct = by (slot_row p slot) distinct (λ more d. enters-all more slots d)
+    where
+      others : Rows
+      others = filter_map (slot_row p) slots
+
+      by : (r : Option Row) → AreDistinct (rows ++ cons_option r others) →
+          ((more : Rows) → AreDistinct (more ++ others) → named_from p more slots ≡ Ok (more ++ others)) →
+          (with_row rows r >>= λ (more : Rows). named_from p more slots) ≡ Ok (rows ++ cons_option r others)
+      by None distinct go = go rows distinct
+      by (Some row) distinct go =
+          let behind = append_assoc rows (row ∷ []) others in
+          ap (λ (x : Option Id). cond (is_none x) (Ok (rows ++ row ∷ [])) (Err Value) >>= λ (more : Rows).
+          named_from p more slots) (new-name rows others row distinct) ∙
+          go (rows ++ row ∷ []) (subst AreDistinct (sym behind) distinct) ∙
+          ap (λ (z : Rows). Ok z) behind
+
+module _ (s : ObjectsState) (ts : Tables) (ws : List (Option Wait)) (order : Births) (rows : Rows) (tied : IsTied s)
+    (counted : IsCounted s.seen (length s.objects) ts ws) (named : IsNamed s.objects ts ws)
+    (ordered : births_from s.births [] 0 s.objects ≡ Ok order) where
+  its-handles : (k : ℕ) (o : Object) → get_or s.objects k None ≡ Some o → ltb 0 (get_or s.seen.handles k 0) ≡
+      has_handles o.id ts
+  its-handles k o at =
+      let slot = placed_agreed s tied.agreed k o at in
+      let there : IsThere s.objects o.id = ap (λ (j : ℕ). id_in (get_or s.objects j None)) slot ∙ ap id_in at in
+      ap (λ (n : ℕ). ltb 0 n) (handles_at s.seen (length s.objects) ts ws counted k (some_within s.objects k o at)
+      ∙ ap (λ (j : ℕ). slot_handles j ts) (sym slot) ∙ handles_are s.objects ts ws named o.id there)
+
+  directory : rows_of ts s.objects s.births ≡ filter_map (slot_row (places_in s)) (values_of order)
+  directory = rows-by-order ts (places_in s) s.births order (is_order s.births order s.objects ordered) its-handles
+
+  pub names_sound : names_in order (places_in s) ≡ Ok rows → IsListing rows ts s.objects s.births
+  unfolding IsDistinct
+  names_sound e =
+      let all = all-entered (places_in s) [] rows (values_of order) e in
+      record { same = sym (directory ∙ all.0); distinct = all.1 tt }
+
+  pub names_complete : IsListing rows ts s.objects s.births → names_in order (places_in s) ≡ Ok rows
+  names_complete listing =
+      let same = listing.same ∙ directory in
+      enters-all (places_in s) [] (values_of order) (subst AreDistinct same listing.distinct) ∙
+      ap (λ (z : Rows). Ok z) (sym same)
