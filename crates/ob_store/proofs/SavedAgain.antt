@@ -14,6 +14,7 @@ use Rattle.pin_core.specs.declared.word.Phase.{Phase}
 use Rattle.pin_core.specs.declared.world.Slot.{Slot}
 use Rattle.pin_core.specs.Worlds.{opening_slot, slot_of}
 use Rattle.ob_body.specs.declared.body.Body.{Body}
+use Rattle.ob_name.specs.Listing.{Rows}
 use Rattle.ob_tables.specs.declared.entry.Entry.{Entry}
 use Rattle.ob_tables.specs.Tables.{IsBounded}
 use Rattle.ob_waits.specs.Waits.{WaitList, slot_blocks}
@@ -21,8 +22,10 @@ use Rattle.ob_store.specs.declared.limits.Limits.{Limits}
 use Rattle.ob_store.specs.declared.saved_slot.SavedSlot.{SavedSlot}
 use Rattle.ob_store.specs.Agreement.{Agrees, AreBorn, IsTied, made_by, made_in}
 use Rattle.ob_store.specs.Counting.{counting_all, uncounted}
-use Rattle.ob_store.specs.Kept.{AreOfLive, IsCounted, IsNamed, IsQuiet}
+use Rattle.ob_store.specs.Kept.{AreOfLive, IsCounted, IsListing, IsNamed, IsQuiet}
 use Rattle.ob_store.specs.Objects.{Object, ObjectsState, Places, places_in, with_keeper}
+use Rattle.ob_store.specs.SavedBirths.{births_from}
+use Rattle.ob_store.specs.SavedNames.{names_in}
 use Rattle.ob_store.specs.SavedObjects.{begun_over, object_saved, objects_at, objects_text, slot_saved, slots_saved, whole_at, whole_objects, with_slots}
 use Rattle.ob_store.specs.SavedWaits.{all_stand, with_blocks}
 use Rattle.ob_store.specs.SavedSlots.{SlotFits, body_from, body_in, is_retired, keeper_slot, keeper_slot_with, object_from, object_in_slot, objects_from, places_from, slot_at, slots_at, slots_from}
@@ -33,6 +36,7 @@ use Rattle.ob_store.proofs.NamedLaws.{sum_same}
 use Rattle.ob_store.proofs.SavedCodecs.{slot_codec}
 use Rattle.ob_store.proofs.SavedKeptLaws.{all_taken, blocks_counted}
 use Rattle.ob_store.proofs.SavedLaws.{objects-long}
+use Rattle.ob_store.proofs.SavedNameLaws.{names_complete}
 use Rattle.ob_store.proofs.SavedObjectLaws.{none_saved, object-at}
 use Rattle.ob_store.proofs.WholeAgain.{births_again, bodied_again}
 
@@ -114,10 +118,11 @@ module _ (s : ObjectsState) (tied : IsTied s) where
   bare = record (places_in s) { seen = record s.seen { blocks = replicate (length s.objects) 0 } }
 
   module _ (limits : Limits) (processes limit : ℕ) (threads : List (Option ℕ)) (tables : List (List (Option Entry)))
-      (list : WaitList) (rest : List ℕ) (shape : s.keeper.shape ≡ shape_of limits)
+      (list : WaitList) (rows : Rows) (rest : List ℕ) (shape : s.keeper.shape ≡ shape_of limits)
       (counted : IsCounted s.seen (length s.objects) tables list.waits)
       (named : IsNamed s.objects tables list.waits) (live : AreOfLive threads s.seen.bodies list.waits)
-      (quiet : IsQuiet limits.max_recursion s.seen.bodies list.waits) (bounded : IsBounded processes limit tables)
+      (quiet : IsQuiet limits.max_recursion s.seen.bodies list.waits)
+      (listing : IsListing rows tables s.objects s.births) (bounded : IsBounded processes limit tables)
       (fits : AllByRecursion (SlotFits limits.max_gen list.clock) xs) where
     wide : length xs ≡ limits.slots
     wide = xs-long ∙ ap (λ (z : Shape). z.slots) shape
@@ -158,28 +163,32 @@ module _ (s : ObjectsState) (tied : IsTied s) where
     }
 
     whole-again : whole_at limits tables list (objects_text s ++ rest) ≡
-        Ok (record s { keeper = begun_over (shape_of limits) (map keeper_slot xs) }, rest)
+        Ok ((record s { keeper = begun_over (shape_of limits) (map keeper_slot xs) }, rows), rest)
     whole-again =
         let slots = map keeper_slot xs in
         let born = births_again s.objects (sum_by made_in slots) (subst (AreBorn s.objects) (sym births-back) tied.born)
         in
-        let whole : whole_objects limits slots (places_in s) ≡ Ok (with_slots (places_in s) limits slots) =
-        rw (born.1, bodied_again s.seen (length s.objects) tied.bodied) refl in
+        let named : names_in born.0 (places_in s) ≡ Ok rows =
+        names_complete s tables list.waits born.0 rows tied counted named
+        (subst (λ (n : ℕ). births_from n [] 0 s.objects ≡ Ok born.0) births-back born.1) listing in
+        let whole : whole_objects limits slots (places_in s) ≡ Ok (with_slots (places_in s) limits slots, rows) =
+        rw (born.1, bodied_again s.seen (length s.objects) tied.bodied, named) refl in
         let read : whole_at limits tables list (objects_text s ++ rest) ≡ Ok (
-          with_slots (places_in s) limits slots,
+          (with_slots (places_in s) limits slots, rows),
           rest,
         ) =
         rw (slots-again, handles-again)
-        (ap (λ (p : Places). whole_objects limits slots p >>= λ (o : ObjectsState). Ok (o, rest)) blocks-again
-        ∙ ap (λ (r : Result ObjectsState TextFault). r >>= λ (o : ObjectsState). Ok (o, rest)) whole) in
-        read ∙ ap (λ (b : ℕ). Ok (with_keeper (places_in s) b (begun_over (shape_of limits) slots), rest)) births-back
+        (ap (λ (p : Places). whole_objects limits slots p >>= λ (o : ObjectsState × Rows). Ok (o, rest)) blocks-again
+        ∙ ap (λ (r : Result (ObjectsState × Rows) TextFault). r >>= λ (o : ObjectsState × Rows). Ok (o, rest)) whole) in
+        read ∙
+        ap (λ (b : ℕ). Ok ((with_keeper (places_in s) b (begun_over (shape_of limits) slots), rows), rest)) births-back
 
     pub objects_again : objects_at limits threads tables list (objects_text s ++ rest) ≡
-        Ok (record s { keeper = begun_over (shape_of limits) (map keeper_slot xs) }, rest)
+        Ok ((record s { keeper = begun_over (shape_of limits) (map keeper_slot xs) }, rows), rest)
     objects_again =
-        let again : ObjectsState × List ℕ =
-        (record s { keeper = begun_over (shape_of limits) (map keeper_slot xs) }, rest) in
-        ap (λ (r : Read ObjectsState). r >>= λ (a : ObjectsState × List ℕ).
-        cond (all_stand limits.max_recursion threads list.waits a.0) (Ok a) (Err Value)) whole-again
+        let again : (ObjectsState × Rows) × List ℕ =
+        ((record s { keeper = begun_over (shape_of limits) (map keeper_slot xs) }, rows), rest) in
+        ap (λ (r : Read (ObjectsState × Rows)). r >>= λ (a : (ObjectsState × Rows) × List ℕ).
+        cond (all_stand limits.max_recursion threads list.waits a.0.0) (Ok a) (Err Value)) whole-again
         ∙ ap (λ (b : Bool). cond b (Ok again) (Err Value))
         (all_taken limits.max_recursion threads s tables list.waits named live quiet)

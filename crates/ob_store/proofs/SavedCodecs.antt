@@ -16,6 +16,7 @@ use Rattle.pin_core.specs.declared.id.Id.{Id}
 use Rattle.pin_core.specs.declared.world.Slot.{Slot}
 use Rattle.pin_core.specs.Worlds.{slot_of}
 use Rattle.ob_body.specs.SpellingLaws.{body_codec}
+use Rattle.ob_name.specs.Listing.{Rows}
 use Rattle.ob_tables.specs.declared.entry.Entry.{Entry}
 use Rattle.ob_waits.specs.Waits.{WaitList}
 use Rattle.ob_waits.specs.declared.wait.Wait.{Wait}
@@ -77,10 +78,10 @@ module _ (n max_gen clock : ℕ) (p : Places) (slots : List Slot) (r : AreRead n
 
 -- what is read is the spelling of the objects that it gives
 whole_take : (limits : Limits) (tables : List (List (Option Entry))) (list : WaitList) (bytes : List ℕ)
-    (s : ObjectsState) (rest : List ℕ) → AreBytes bytes →
-    whole_at limits tables list bytes ≡ Ok (s, rest) → Takes bytes (objects_text s) rest
-whole_take limits tables list bytes s rest are e =
-    let w = whole_steps limits tables list bytes s rest e in
+    (s : ObjectsState) (rows : Rows) (rest : List ℕ) → AreBytes bytes →
+    whole_at limits tables list bytes ≡ Ok ((s, rows), rest) → Takes bytes (objects_text s) rest
+whole_take limits tables list bytes s rows rest are e =
+    let w = whole_steps limits tables list bytes s rows rest e in
     let i = bind_ok (items_at (slot_at limits.max_gen list.clock) limits.slots bytes) (λ (xs : List SavedSlot ×
     List ℕ). Ok (slots_from xs.0, xs.1)) ((w.p, w.slots), rest) w.read in
     let back = ok_is (slots_from i.0.0, i.0.1) ((w.p, w.slots), rest) i.2 in
@@ -102,9 +103,9 @@ whole_take limits tables list bytes s rest are e =
     List ℕ). z.1) back) taken))
 
 pub objects_take : (limits : Limits) (threads : List (Option ℕ)) (tables : List (List (Option Entry)))
-    (list : WaitList) (bytes : List ℕ) (s : ObjectsState) (rest : List ℕ) → AreBytes bytes →
-    objects_at limits threads tables list bytes ≡ Ok (s, rest) → Takes bytes (objects_text s) rest
-objects_take limits threads tables list bytes s rest are e =
-    let a = bind_ok (whole_at limits tables list bytes) _ (s, rest) e in
-    let g = guard_passed (all_stand limits.max_recursion threads list.waits a.0.0) Value a.0 (s, rest) a.2 in
-    whole_take limits tables list bytes s rest are (a.1 ∙ ap (λ (z : ObjectsState × List ℕ). Ok z) g.1)
+    (list : WaitList) (bytes : List ℕ) (s : ObjectsState) (rows : Rows) (rest : List ℕ) → AreBytes bytes →
+    objects_at limits threads tables list bytes ≡ Ok ((s, rows), rest) → Takes bytes (objects_text s) rest
+objects_take limits threads tables list bytes s rows rest are e =
+    let a = bind_ok (whole_at limits tables list bytes) _ ((s, rows), rest) e in
+    let g = guard_passed (all_stand limits.max_recursion threads list.waits a.0.0.0) Value a.0 ((s, rows), rest) a.2 in
+    whole_take limits tables list bytes s rows rest are (a.1 ∙ ap (λ (z : (ObjectsState × Rows) × List ℕ). Ok z) g.1)

@@ -6,11 +6,12 @@ use Rattle.std.proofs.lemmas.List.{get_or-map, length-map}
 use Rattle.std.proofs.lemmas.List.Sums.{AllPass-from_list_all, sum_by-cons}
 use Rattle.ob_codec.specs.declared.fault.TextFault.TheVariants.{Value}
 use Rattle.ob_codec.specs.Reading.{◌>>=◌}
-use Rattle.ob_codec.specs.Steps.{bind_ok, both-true, guard_passed, ok_is, true-both}
+use Rattle.ob_codec.specs.Steps.{bind_ok, both-true, ok_is, true-both}
 use Rattle.pin_core.specs.Holds.{same_id}
 use Rattle.pin_core.specs.declared.id.Id.{Id}
 use Rattle.pin_core.specs.declared.world.Slot.{Slot}
 use Rattle.pin_core.specs.Worlds.{slot_of}
+use Rattle.ob_name.specs.Listing.{Rows}
 use Rattle.ob_tables.proofs.Counting.{one_id}
 use Rattle.ob_tables.specs.declared.entry.Entry.{Entry}
 use Rattle.ob_tables.specs.Counts.{handles_among, slot_handles}
@@ -24,10 +25,11 @@ use Rattle.ob_waits.specs.declared.wait.Wait.{Wait}
 use Rattle.ob_store.specs.declared.limits.Limits.{Limits}
 use Rattle.ob_store.specs.Agreement.{Agrees, IsTied}
 use Rattle.ob_store.specs.Counting.{counting_all, is_its}
-use Rattle.ob_store.specs.Kept.{AreFormed, AreOfLive, IsCounted, IsLive, IsNamed, IsQuiet, IsThere, id_in}
-use Rattle.ob_store.specs.Objects.{Object, ObjectsState, Places}
+use Rattle.ob_store.specs.Kept.{AreFormed, AreOfLive, IsCounted, IsListing, IsLive, IsNamed, IsQuiet, IsThere, id_in}
+use Rattle.ob_store.specs.Objects.{Object, ObjectsState, Places, places_in}
 use Rattle.ob_store.specs.SavedBirths.{Births, births_from}
-use Rattle.ob_store.specs.SavedObjects.{are_bodied, whole_at, whole_objects, with_slots}
+use Rattle.ob_store.specs.SavedNames.{names_in}
+use Rattle.ob_store.specs.SavedObjects.{are_bodied, bodied_names, whole_at, whole_objects, with_slots}
 use Rattle.ob_store.specs.SavedSlots.{slots_at}
 use Rattle.ob_store.specs.SavedWaits.{all_stand, may_wait_for, is_live, is_live_if_some, object_blocks, owner_stands, owners_stand, state_stands, wait_stands, waits_stand, with_blocks}
 use Rattle.ob_store.specs.Agreement.{made_in}
@@ -36,40 +38,58 @@ use Rattle.ob_store.proofs.BySlot.{is_by_slot}
 use Rattle.ob_store.proofs.CountingAgain.{its_id}
 use Rattle.ob_store.proofs.CountingLaws.{its_there}
 use Rattle.ob_store.proofs.NamedLaws.{blocks_are, blocks_vacant, place_counted}
+use Rattle.ob_store.proofs.SavedNameLaws.{names_sound}
 use Rattle.ob_store.proofs.SavedObjectLaws.{entries_read, formed_read, handles_read}
 use Rattle.ob_store.proofs.SavedWaitLaws.{all_at, all_from}
 
 -- the steps in which objects were read
 pub record IsWhole (limits : Limits) (tables : List (List (Option Entry))) (list : WaitList) (bytes : List ℕ)
-    (s : ObjectsState) (rest : List ℕ) : Type 0 where
+    (s : ObjectsState) (rows : Rows) (rest : List ℕ) : Type 0 where
   pub p : Places
   pub q : Places
   pub slots : List Slot
+  pub order : Births
   pub read : slots_at limits.slots limits.max_gen list.clock bytes ≡ Ok ((p, slots), rest)
   pub counted : counting_all p tables ≡ Ok q
+  pub ordered : births_from (sum_by made_in slots) [] 0 q.objects ≡ Ok order
+  pub named : names_in order (with_blocks list.waits q) ≡ Ok rows
   pub is : with_slots (with_blocks list.waits q) limits slots ≡ s
 
+bodied-named : (order : Births) (p : Places) (rows : Rows) → bodied_names order p ≡ Ok rows →
+    names_in order p ≡ Ok rows
+bodied-named order p rows e = by (are_bodied p.seen (length p.objects)) e
+  where
+    by : (b : Bool) → cond b (names_in order p) (Err Value) ≡ Ok rows → names_in order p ≡ Ok rows
+    by true e = e
+    by false e = absurd (cc e)
+
 pub whole_steps : (limits : Limits) (tables : List (List (Option Entry))) (list : WaitList) (bytes : List ℕ)
-    (s : ObjectsState) (rest : List ℕ) → whole_at limits tables list bytes ≡ Ok (s, rest) →
-    IsWhole limits tables list bytes s rest
-whole_steps limits tables list bytes s rest e =
-    let a = bind_ok (slots_at limits.slots limits.max_gen list.clock bytes) _ (s, rest) e in
-    let b = bind_ok (counting_all a.0.0.0 tables) (λ (q : Places). whole_objects limits a.0.0.1
-    (with_blocks list.waits q) >>= λ (o : ObjectsState). Ok (o, a.0.1)) (s, rest) a.2 in
+    (s : ObjectsState) (rows : Rows) (rest : List ℕ) → whole_at limits tables list bytes ≡ Ok ((s, rows), rest) →
+    IsWhole limits tables list bytes s rows rest
+whole_steps limits tables list bytes s rows rest e =
+    let a = bind_ok (slots_at limits.slots limits.max_gen list.clock bytes) _ ((s, rows), rest) e in
+    let slots = a.0.0.1 in
+    let b = bind_ok (counting_all a.0.0.0 tables) (λ (q : Places). whole_objects limits slots
+    (with_blocks list.waits q) >>= λ (o : ObjectsState × Rows). Ok (o, a.0.1)) ((s, rows), rest) a.2 in
     let q = with_blocks list.waits b.0 in
-    let c = bind_ok (whole_objects limits a.0.0.1 q) (λ (o : ObjectsState). Ok (o, a.0.1)) (s, rest) b.2 in
-    let d = bind_ok (births_from (sum_by made_in a.0.0.1) [] 0 q.objects)
-    (λ (order : Births). cond (are_bodied q.seen (length q.objects)) (Ok (with_slots q limits a.0.0.1)) (Err Value))
-    c.0 c.1 in
-    let g = guard_passed (are_bodied q.seen (length q.objects)) Value (with_slots q limits a.0.0.1) c.0 d.2 in
-    let same = ok_is (c.0, a.0.1) (s, rest) c.2 in
+    let c = bind_ok (whole_objects limits slots q) (λ (o : ObjectsState × Rows). Ok (o, a.0.1)) ((s, rows), rest)
+    b.2 in
+    let d = bind_ok (births_from (sum_by made_in slots) [] 0 q.objects)
+    (λ (order : Births). bodied_names order q >>= λ (names : Rows). Ok (with_slots q limits slots, names)) c.0 c.1 in
+    let f = bind_ok (bodied_names d.0 q) (λ (names : Rows). Ok (with_slots q limits slots, names)) c.0 d.2 in
+    let same = ok_is (c.0, a.0.1) ((s, rows), rest) c.2 in
+    let both = ok_is (with_slots q limits slots, f.0) c.0 f.2 ∙
+    ap (λ (z : (ObjectsState × Rows) × List ℕ). z.0) same in
     record {
       p = a.0.0.0;
       q = b.0;
-      slots = a.0.0.1;
-      read = a.1 ∙ ap (λ (z : ObjectsState × List ℕ). Ok ((a.0.0.0, a.0.0.1), z.1)) same;
+      slots = slots;
+      order = d.0;
+      read = a.1 ∙ ap (λ (z : (ObjectsState × Rows) × List ℕ). Ok ((a.0.0.0, slots), z.1)) same;
       counted = b.1;
-      is = g.1 ∙ ap (λ (z : ObjectsState × List ℕ). z.0) same;
+      ordered = d.1;
+      named = bodied-named d.0 q f.0 f.1 ∙ ap (λ (z : ObjectsState × Rows). Ok z.1) both;
+      is = ap (λ (z : ObjectsState × Rows). z.0) both;
     }
 
 -- what waits that can be there keep
@@ -236,9 +256,10 @@ blocks_counted s tables waits tied named =
 
 -- what was read
 module _ (limits : Limits) (tables : List (List (Option Entry))) (list : WaitList) (bytes : List ℕ)
-    (s : ObjectsState) (rest : List ℕ) (read : whole_at limits tables list bytes ≡ Ok (s, rest)) where
-  steps : IsWhole limits tables list bytes s rest
-  steps = whole_steps limits tables list bytes s rest read
+    (s : ObjectsState) (rows : Rows) (rest : List ℕ)
+    (read : whole_at limits tables list bytes ≡ Ok ((s, rows), rest)) where
+  steps : IsWhole limits tables list bytes s rows rest
+  steps = whole_steps limits tables list bytes s rows rest read
 
   pub whole_shape : s.keeper.shape ≡ shape_of limits
   whole_shape = ap (λ (z : ObjectsState). z.keeper.shape) (sym steps.is)
@@ -260,3 +281,10 @@ module _ (limits : Limits) (tables : List (List (Option Entry))) (list : WaitLis
     blocks = subst (λ (z : ObjectsState). z.seen.blocks ≡ map (object_blocks list.waits) z.objects) steps.is refl ∙
         blocks_counted s tables list.waits tied named;
   }
+
+  pub whole_listing : IsTied s → IsCounted s.seen (length s.objects) tables list.waits →
+      IsNamed s.objects tables list.waits → IsListing rows tables s.objects s.births
+  whole_listing tied counted named =
+      names_sound s tables list.waits steps.order rows tied counted named
+      (subst (λ (z : ObjectsState). births_from z.births [] 0 z.objects ≡ Ok steps.order) steps.is steps.ordered)
+      (subst (λ (z : ObjectsState). names_in steps.order (places_in z) ≡ Ok rows) steps.is steps.named)

@@ -1,5 +1,6 @@
--- What a save says of the objects, once what refers to them is counted: bodies, births, and what their keeper says.
-use Rattle.std.specs.Prelude.{ℕ, zero, suc, ◌+◌, nat_lt, ◌&&◌, Bool, true, false, if◌then◌else◌, List, [], ◌∷◌, length, Option, Some, None, Result, Ok, Err, is_none, is_some, map, slice_index_or, sum_by}
+-- What a save says of the objects, once what refers to them is counted: bodies, births, names, and what their keeper
+-- says.
+use Rattle.std.specs.Prelude.{ℕ, zero, suc, ◌+◌, nat_lt, ◌&&◌, Bool, true, false, if◌then◌else◌, List, [], length, Option, Some, None, Result, Ok, Err, is_none, is_some, map, slice_index_or, sum_by}
 use Rattle.std.specs.List.{flat_map, range_with_len}
 use Rattle.ob_codec.specs.declared.fault.TextFault.{TextFault}
 use Rattle.ob_codec.specs.declared.fault.TextFault.TheVariants.{Value}
@@ -10,6 +11,7 @@ use Rattle.pin_core.specs.Opened.{shown_from}
 use Rattle.pin_core.specs.Worlds.{slot_of}
 use Rattle.pin_words.specs.Keepers.{KeeperState, locked}
 use Rattle.ob_body.specs.declared.body.Body.{Body}
+use Rattle.ob_name.specs.Listing.{Rows}
 use Rattle.ob_tables.specs.declared.entry.Entry.{Entry}
 use Rattle.ob_waits.specs.Objects as waits
 use Rattle.ob_waits.specs.Waits.{WaitList}
@@ -19,7 +21,8 @@ use Rattle.ob_store.specs.declared.saved_slot.SavedSlot.{SavedSlot}
 use Rattle.ob_store.specs.Agreement.{made_in}
 use Rattle.ob_store.specs.Counting.{counting_all}
 use Rattle.ob_store.specs.Objects.{Object, ObjectsState, Places, with_keeper}
-use Rattle.ob_store.specs.SavedBirths.{births_from}
+use Rattle.ob_store.specs.SavedBirths.{Births, births_from}
+use Rattle.ob_store.specs.SavedNames.{names_in}
 use Rattle.ob_store.specs.SavedSlots.{slot_text, slots_at}
 use Rattle.ob_store.specs.SavedWaits.{all_stand, with_blocks}
 use Rattle.ob_store.specs.State.{shape_of}
@@ -43,14 +46,20 @@ begun_over shape slots = locked shape slots (shown_from 0 slots) []
 abbrev pub with_slots : Places → Limits → List Slot → ObjectsState
 with_slots p limits slots = with_keeper p (sum_by made_in slots) (begun_over (shape_of limits) slots)
 
--- objects that have bodies just where something refers to them, and distinct births
-abbrev pub whole_objects : Limits → List Slot → Places → Result ObjectsState TextFault
+-- the names of objects that have bodies just where something refers to them
+abbrev pub bodied_names : Births → Places → Result Rows TextFault
+bodied_names order p = if are_bodied p.seen (length p.objects) then names_in order p else Err Value
+
+-- such objects with their names, where their births are distinct
+abbrev pub whole_objects : Limits → List Slot → Places → Result (ObjectsState × Rows) TextFault
 whole_objects limits slots p = do
   order ← births_from (sum_by made_in slots) [] 0 p.objects
-  if are_bodied p.seen (length p.objects) then Ok (with_slots p limits slots) else Err Value
+  names ← bodied_names order p
+  Ok (with_slots p limits slots, names)
 
--- the objects of a save, of which just the entries of these tables are handles, and the places of these waits blocks
-abbrev pub whole_at : Limits → List (List (Option Entry)) → WaitList → List ℕ → Read ObjectsState
+-- the objects of a save with their names: just the entries of these tables are handles, and the places of these waits
+-- blocks
+abbrev pub whole_at : Limits → List (List (Option Entry)) → WaitList → List ℕ → Read (ObjectsState × Rows)
 whole_at limits tables list bytes = do
   read ← slots_at limits.slots limits.max_gen list.clock bytes
   counted ← counting_all read.0.0 tables
@@ -58,9 +67,10 @@ whole_at limits tables list bytes = do
   Ok (objects, read.1)
 
 -- where these waits, and the owners of mutexes, can be there
-abbrev pub objects_at : Limits → List (Option ℕ) → List (List (Option Entry)) → WaitList → List ℕ → Read ObjectsState
+abbrev pub objects_at :
+    Limits → List (Option ℕ) → List (List (Option Entry)) → WaitList → List ℕ → Read (ObjectsState × Rows)
 objects_at limits threads tables list =
-    where_at (all_stand limits.max_recursion threads list.waits) (whole_at limits tables list)
+    where_at (λ read. all_stand limits.max_recursion threads list.waits read.0) (whole_at limits tables list)
 
 -- what a save says of an object with its body, and of a slot
 abbrev pub saved_of : Object → Option Body → SavedObject

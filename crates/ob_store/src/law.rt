@@ -37,21 +37,22 @@ pub fn law_of_whole_objects()
     ensures bodies { (seen : waits.Objects) (slots : ℕ) → HasBodies seen → are_bodied seen slots ≡ true }
 {}
 
-/// Objects that are kept with the tables, the waits and the threads are read again as they were written, over a keeper
-/// that begins with their slots, where each slot fits; and what is read of objects is the spelling of those that it
-/// gives.
+/// Objects that are kept with the tables, the waits and the threads are read again as they were written, with the rows
+/// of their directory, over a keeper that begins with their slots, where each slot fits; and what is read of objects is
+/// the spelling of those that it gives.
 pub fn law_of_spelled_objects()
     ensures again { (s : ObjectsState) → IsTied s → (limits : Limits) (processes limit : ℕ)
-        (threads : List (Option ℕ)) (tables : List (List (Option Entry))) (list : WaitList) (rest : List ℕ)
-        → s.keeper.shape ≡ shape_of limits → IsCounted s.seen (length s.objects) tables list.waits
+        (threads : List (Option ℕ)) (tables : List (List (Option Entry))) (list : WaitList) (rows : Rows)
+        (rest : List ℕ) → s.keeper.shape ≡ shape_of limits → IsCounted s.seen (length s.objects) tables list.waits
         → IsNamed s.objects tables list.waits → AreOfLive threads s.seen.bodies list.waits
-        → IsQuiet limits.max_recursion s.seen.bodies list.waits → IsBounded processes limit tables
+        → IsQuiet limits.max_recursion s.seen.bodies list.waits → IsListing rows tables s.objects s.births
+        → IsBounded processes limit tables
         → AllByRecursion (SlotFits limits.max_gen list.clock) (slots_saved s)
         → objects_at limits threads tables list (objects_text s ++ rest)
-        ≡ Ok (record s { keeper = begun_over (shape_of limits) (map keeper_slot (slots_saved s)) }, rest) }
+        ≡ Ok ((record s { keeper = begun_over (shape_of limits) (map keeper_slot (slots_saved s)) }, rows), rest) }
     ensures takes { (limits : Limits) (threads : List (Option ℕ)) (tables : List (List (Option Entry)))
-        (list : WaitList) (bytes : List ℕ) (s : ObjectsState) (rest : List ℕ) → AreBytes bytes
-        → objects_at limits threads tables list bytes ≡ Ok (s, rest) → Takes bytes (objects_text s) rest }
+        (list : WaitList) (bytes : List ℕ) (s : ObjectsState) (rows : Rows) (rest : List ℕ) → AreBytes bytes
+        → objects_at limits threads tables list bytes ≡ Ok ((s, rows), rest) → Takes bytes (objects_text s) rest }
 {}
 
 /// The names that a load enters, in the order of births, are the directory, and none stands twice there; and those of

@@ -5,12 +5,13 @@ ghost use Rattle.ob_store.specs.Objects.{vacancy};
 ghost use Rattle.ob_store.specs.SavedSlots.{slots_at, with_saved};
 ghost use Rattle.ob_store.specs.SavedObjects.{objects_at, whole_at};
 ghost use Rattle.ob_store.specs.State.{shape_of};
-ghost use Rattle.ob_store.specs.Kept.{AreFormed, AreOfLive, IsCounted, IsNamed, IsQuiet};
+ghost use Rattle.ob_store.specs.Kept.{AreFormed, AreOfLive, IsCounted, IsListing, IsNamed, IsQuiet};
 ghost use Rattle.ob_waits.specs.Spelling.{are_within};
 
 use crate::births::{count_births, order_births};
 use crate::counting::count_tables;
 use crate::limits::Limits;
+use crate::naming::enter_names;
 use crate::objects::Objects;
 use crate::processes::Processes;
 use crate::saved_slot::SavedSlot;
@@ -18,6 +19,7 @@ use crate::saved_waits::{all_stand, count_blocks};
 use crate::seats::Seats;
 use ob_arena::SLOTS_MAX;
 use ob_codec::{Cursor, ReadFault, TextFault};
+use ob_name::Directory;
 use ob_tables::Tables;
 use ob_waits::Waits;
 use pin_core::{Id, Slot};
@@ -67,15 +69,16 @@ pub(crate) fn read_slots(
     Ok((seats, begun))
 }
 
-/// Reads the objects, and counts what refers to them.
+/// Reads the objects, counts what refers to them, and enters the names of those that have handles.
 fn read_whole(
     alloc: Global,
     limits: Limits,
     tables: &Tables,
     waits: &Waits,
     from: &mut Cursor<'_>,
-) -> Result<Objects<LockedPins>, ReadFault>
-    ensures { Gives (λ objects. objects) result (whole_at limits tables.now.tables waits.now from.old) from.new }
+) -> Result<(Objects<LockedPins>, Directory), ReadFault>
+    ensures { Gives (λ read. (read.0, read.1.rows)) result
+        (whole_at limits tables.now.tables waits.now from.old) from.new }
 {
     let (mut seats, slots) = read_slots(
         alloc,
@@ -90,25 +93,27 @@ fn read_whole(
     }
     count_blocks(&mut seats, waits);
     let births = count_births(slots.as_slice());
-    let _order = order_births(alloc, births, &seats)?;
+    let order = order_births(alloc, births, &seats)?;
     if !seats.are_bodied() {
         return Err(ReadFault::Text(TextFault::Value));
     }
+    let names = enter_names(alloc, &order, &seats)?;
     let keeper = LockedPins::with_slots(limits.shape(), slots);
-    Ok(Objects {
+    let objects = Objects {
         seats,
         births,
         keeper,
-    })
+    };
+    Ok((objects, names))
 }
 
 impl Objects<LockedPins> {
-    /// Reads the objects of a save at the moment of its waits, over a keeper that begins with their slots. The handles
-    /// of each are the entries of the tables that name it, and its blocks the places of pending waits.
-    /// [`TextFault::Value`] where a slot can't be so, an entry or a wait names an object that isn't there, two objects
-    /// have one birth, or an object has a body but nothing refers to it, or the other way round; where a wait's thread
-    /// or the owner of a mutex isn't live; and where a pending wait is satisfied, or its thread owns one of its mutexes
-    /// as often as the limit lets.
+    /// Reads the objects of a save at the moment of its waits, over a keeper that begins with their slots, and makes
+    /// the directory of their names. The handles of each are the entries of the tables that name it, and its blocks the
+    /// places of pending waits. [`TextFault::Value`] where a slot can't be so, an entry or a wait names an object that
+    /// isn't there, two objects have one birth, two with handles have one name, or an object has a body but nothing
+    /// refers to it, or the other way round; where a wait's thread or the owner of a mutex isn't live; and where a
+    /// pending wait is satisfied, or its thread owns one of its mutexes as often as the limit lets.
     pub(crate) fn read(
         alloc: Global,
         limits: Limits,
@@ -116,22 +121,24 @@ impl Objects<LockedPins> {
         tables: &Tables,
         waits: &Waits,
         from: &mut Cursor<'_>,
-    ) -> Result<Objects<LockedPins>, ReadFault>
+    ) -> Result<(Objects<LockedPins>, Directory), ReadFault>
         requires { are_within (limits.threads + 1) limits.slots waits.now.waits ≡ true }
-        ensures read { Gives (λ o. o) result
+        ensures read { Gives (λ read. (read.0, read.1.rows)) result
             (objects_at limits processes.now.threads tables.now.tables waits.now from.old) from.new }
-        ensures shape { IfOk result (λ o. o.keeper.shape ≡ shape_of limits) }
-        ensures formed { IfOk result (λ o. AreFormed waits.now.clock o.objects o.seen.bodies) }
-        ensures counted { IfOk result (λ o. IsCounted o.seen (length o.objects) tables.now.tables waits.now.waits) }
-        ensures named { IfOk result (λ o. IsNamed o.objects tables.now.tables waits.now.waits) }
-        ensures of_live { IfOk result (λ o. AreOfLive processes.now.threads o.seen.bodies waits.now.waits) }
-        ensures quiet { IfOk result (λ o. IsQuiet limits.max_recursion o.seen.bodies waits.now.waits) }
+        ensures shape { IfOk result (λ read. read.0.keeper.shape ≡ shape_of limits) }
+        ensures formed { IfOk result (λ read. AreFormed waits.now.clock read.0.objects read.0.seen.bodies) }
+        ensures counted { IfOk result (λ read. IsCounted read.0.seen (length read.0.objects) tables.now.tables
+            waits.now.waits) }
+        ensures named { IfOk result (λ read. IsNamed read.0.objects tables.now.tables waits.now.waits) }
+        ensures of_live { IfOk result (λ read. AreOfLive processes.now.threads read.0.seen.bodies waits.now.waits) }
+        ensures quiet { IfOk result (λ read. IsQuiet limits.max_recursion read.0.seen.bodies waits.now.waits) }
+        ensures listing { IfOk result (λ read. IsListing read.1.rows tables.now.tables read.0.objects read.0.births) }
     {
-        let objects = read_whole(alloc, limits, tables, waits, from)?;
+        let (objects, names) = read_whole(alloc, limits, tables, waits, from)?;
         objects.kept();
         if !all_stand(&objects, limits, processes, waits) {
             return Err(ReadFault::Text(TextFault::Value));
         }
-        Ok(objects)
+        Ok((objects, names))
     }
 }

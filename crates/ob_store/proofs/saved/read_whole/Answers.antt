@@ -35,8 +35,8 @@ with_slots-keeper-requires-clause-long c =
     c.in_ok-seats.slots.items c.read_slots.new.from c.in_ok-seats.ensures
     ∙ sym (ap (λ (z : Shape). z.slots) c.shape.ensures.shape)
 
-pub invariant_of-result : goal.invariant_of-result
-invariant_of-result c =
+pub invariant_of-objects : goal.invariant_of-objects
+invariant_of-objects c =
     let l = c.args.limits in
     let slots = c.in_ok-seats.slots.items in
     let q = c.count_tables.new.seats in
@@ -50,8 +50,8 @@ invariant_of-result c =
     (λ i. (sym blocks i, (sym births i, sym keeper i)))
     (tied_read l c.clock.result c.args.tables.now.tables c.args.from.now c.in_ok-seats.seats q slots
     c.read_slots.new.from c.in_ok-seats.ensures (c.if-not-count_tables.ensures.counted refl)
-    c.in_ok-_order._order.entries
-    (subst (λ (z : ℕ × Places). births_from z.0 [] 0 z.1.objects ≡ Ok c.in_ok-_order._order.entries)
-    (λ i. (births i, blocks i)) c.in_ok-_order.ensures) waits
+    c.in_ok-order.order.entries
+    (subst (λ (z : ℕ × Places). births_from z.0 [] 0 z.1.objects ≡ Ok c.in_ok-order.order.entries)
+    (λ i. (births i, blocks i)) c.in_ok-order.ensures) waits
     (ap (λ (z : Places). are_bodied z.seen (length z.objects)) (sym blocks) ∙ sym c.are_bodied.ensures ∙
     c.if-not-are_bodied.false))
