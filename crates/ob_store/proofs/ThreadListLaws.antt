@@ -1,6 +1,6 @@
 -- The threads of each process, counted and linked, while threads come and end.
-use Rattle.std.proofs.Common.{◌≡◌, ◌≢◌, ℕ, zero, suc, ◌-◌, ◌+◌, ◌<◌, ◌≤◌, List, [], ◌∷◌, ◌++◌, length, Option, Some, None, refl, ap, ◌∙◌, sym, arith, get_or, set, Bool, true, false, cond, inl, inr, eqb}
-use Rattle.std.specs.Prelude.{◌⊎◌, Result, Ok, Err, OnOk, ◌||◌, is_some, count_by, nat_lt}
+use Rattle.std.proofs.Common.{◌≡◌, ◌≢◌, ℕ, zero, suc, ◌-◌, ◌+◌, ◌<◌, ◌≤◌, List, [], ◌∷◌, ◌++◌, length, Option, Some, None, refl, ap, ◌∙◌, sym, subst, arith, get_or, set, Bool, true, false, cond, inl, inr, eqb}
+use Rattle.std.specs.Prelude.{◌⊎◌, IfSome, Result, Ok, Err, OnOk, ◌||◌, is_some, count_by, nat_lt}
 use Rattle.std.specs.Result.{is_err}
 use Rattle.std.specs.List.{list_any}
 use Rattle.std.specs.Option.{option_to_list}
@@ -8,14 +8,14 @@ use Rattle.std.proofs.lemmas.List.{length-set, length-append, get_or_past, get_o
 use Rattle.std.proofs.Math.ListN.{get_or-append}
 use Rattle.std.proofs.Math.Seq.{get_or-append_seam}
 use Rattle.std.proofs.lemmas.List.Sums.{sum_by-set, sum_by-append, sum_by-cons, count_by-le-length}
-use Rattle.std.proofs.lemmas.Bool.{cases_eq, cases_lt}
+use Rattle.std.proofs.lemmas.Bool.{cases_eq, cases_lt, ltb-false, ltb-true}
 use Rattle.std.proofs.lemmas.Bool.Decides.{nat_tests}
 use Rattle.ob_store.specs.declared.limits.Limits.{Limits}
 use Rattle.ob_store.specs.Kept.{ProcessesKept}
 use Rattle.ob_store.specs.declared.thread_lists.ThreadList.{ThreadList}
 use Rattle.ob_store.specs.declared.thread_lists.ThreadLink.{ThreadLink}
 use Rattle.ob_store.specs.Processes.{ProcessesState, is_of, with_process}
-use Rattle.ob_store.specs.ThreadLists.{ThreadListsState, AreThreadLists, IsNewest, IsPopped, list_at, link_at, no_list, no_link, no_lists, with_list, with_link, without_live}
+use Rattle.ob_store.specs.ThreadLists.{ThreadListsState, AreThreadLists, IsNewest, IsPopped, is_empty, link_at, list_at, no_link, no_list, no_lists, with_group, with_link, with_list, with_place, without_live}
 
 -- a list that lost its last element
 pub popped : {A : Type 0} (none : A) (xs ys : List A) (r : Option A) → xs ≡ ys ++ option_to_list r
@@ -89,12 +89,11 @@ threads_none = record {
       ∙ sym (no_live (None ∷ []) p (λ t h. let a = at_none t in cc (a, h)));
   given = λ t p h. absurd (let a = at_none t in cc (a, h));
   next = λ p t u below few mine same since less. absurd (omega (arith, few, less));
-  ending = λ p below. (
+  ending = λ p below some. (
     let a = ap (λ (g : ThreadList). g.last) (at_list p) in
         omega (arith, a),
     ap (λ (x : ThreadLink). x.process) (at_link (list_at no_lists p).last)
         ∙ (omega (arith, below)),
-    (let a = ap (λ (g : ThreadList). g.first) (at_list p) in omega (arith, a)),
   );
   last = λ p t below few mine. omega (arith, few);
 }
@@ -196,17 +195,15 @@ module _ (n : ℕ) (ts : List (Option ℕ)) (m : ThreadListsState) (are : AreThr
       | inr le ↦ absurd (let a = ap (λ (g : ThreadList). g.first) (list_new p (at_last p le below)) in
           omega (arith, a, since, less, small, long_started))
     ];
-    ending = λ p below. elim (cases_lt p n) [
-      | inl old ↦ (let a = list_old p old in let b = ap (λ (g : ThreadList). g.last) a in let c = are.ending p old in
-          let d = ap (λ (g : ThreadList). g.first) a in (
+    ending = λ p below some. elim (cases_lt p n) [
+      | inl old ↦ (let a = list_old p old in let b = ap (λ (g : ThreadList). g.last) a in
+          let d = ap (λ (g : ThreadList). g.first) a in let c = are.ending p old (omega (arith, some, b, d)) in (
             omega (arith, b, c.0, long_started),
             ap (λ i. (link_at born i).process) b
                 ∙ ap (λ (x : ThreadLink). x.process) (link_old (list_at m p).last c.0) ∙ c.1,
-            omega (arith, b, c.2, d),
           ))
       | inr le ↦ (let is = at_last p le below in let a = list_new p is in let b = ap (λ (g : ThreadList). g.last) a in
-          let d = ap (λ (g : ThreadList). g.first) a in
-          (omega (arith, b, long_started), link_new (list_at born p).last b ∙ sym is, omega (arith, b, d)))
+          (omega (arith, b, long_started), link_new (list_at born p).last b ∙ sym is))
     ];
     last = λ p t below small mine. elim (cases_lt p n) [
       | inl old ↦ elim (cases_eq t (length ts)) [
@@ -222,15 +219,49 @@ module _ (n : ℕ) (ts : List (Option ℕ)) (m : ThreadListsState) (are : AreThr
     ];
   }
 
--- the next thread of a process
+-- the next process, without a thread, while only number 0 is given of threads
+module _ (n first : ℕ) (m : ThreadListsState) (are : AreThreadLists n (None ∷ []) m) (past : 0 < first) where
+  abbrev group : ThreadList
+  group = record { live = 0; first = first; last = 0 }
+
+  group_old : (p : ℕ) → p < n → list_at (with_group m first) p ≡ list_at m p
+  group_old p lt = get_or-append m.lists (group ∷ []) no_list p (let long = are.lists_long in omega (arith, lt, long))
+
+  group_new : (p : ℕ) → n ≤ p → p < n + 1 → list_at (with_group m first) p ≡ group
+  group_new p le lt = ap (list_at (with_group m first)) (let long = are.lists_long in
+      let same : p ≡ length m.lists = omega (arith, le, lt, long) in same)
+      ∙ get_or-append_seam m.lists group [] no_list
+
+  none_given : (t p : ℕ) → get_or {A = Option ℕ} (None ∷ []) t None ≡ Some p → ⊥
+  none_given zero p h = cc (h)
+  none_given (suc t) p h = cc (h)
+
+  pub threads_grouped : AreThreadLists (n + 1) (None ∷ []) (with_group m first)
+  threads_grouped = record {
+    lists_long = length-append m.lists (group ∷ []) ∙ ap (λ k. k + 1) are.lists_long;
+    links_long = are.links_long;
+    few = are.few;
+    counted = λ p lt. elim (cases_lt p n) [
+      | inl old ↦ ap (λ (g : ThreadList). g.live) (group_old p old) ∙ are.counted p old
+      | inr le ↦ ap (λ (g : ThreadList). g.live) (group_new p le lt)
+          ∙ sym (no_live (None ∷ []) p (λ t h. none_given t p h))
+    ];
+    given = λ t p h. absurd (none_given t p h);
+    next = λ p t u below small mine same since less. absurd (omega (arith, small, less));
+    ending = λ p below some. elim (cases_lt p n) [
+      | inl old ↦ (let a = group_old p old in let b = ap (λ (g : ThreadList). g.last) a in
+          let d = ap (λ (g : ThreadList). g.first) a in let c = are.ending p old (omega (arith, some, b, d)) in
+          (omega (arith, b, c.0), ap (λ i. (link_at m i).process) b ∙ c.1))
+      | inr le ↦ absurd (let a = group_new p le below in let b = ap (λ (g : ThreadList). g.last) a in
+          let d = ap (λ (g : ThreadList). g.first) a in omega (arith, some, b, d, past))
+    ];
+    last = λ p t below small mine. omega (arith, small);
+  }
+
+-- the next thread of a process, with the first that the process then has and with links of which only those of the
+-- process changed
 module _ (n : ℕ) (ts : List (Option ℕ)) (m : ThreadListsState) (p0 : ℕ) (are : AreThreadLists n ts m) (known : p0 < n)
-    (few : length ts ≤ 65536) where
-  abbrev grown : ThreadListsState
-  grown = with_link m p0
-
-  abbrev last0 : ℕ
-  last0 = (list_at m p0).last
-
+    (few : length ts ≤ 65536) (first1 : ℕ) (links1 : List ThreadLink) where
   abbrev longer : List ThreadLink
   longer = m.links ++ (record { process = p0; next = 0 }) ∷ []
 
@@ -240,150 +271,227 @@ module _ (n : ℕ) (ts : List (Option ℕ)) (m : ThreadListsState) (p0 : ℕ) (a
   long_longer : length longer ≡ length ts + 1
   long_longer = length-append m.links ((record { process = p0; next = 0 }) ∷ []) ∙ ap (λ k. k + 1) are.links_long
 
-  last_below : last0 < length ts
-  last_below = (are.ending p0 known).0
-
-  list_grown : (p : ℕ) → p ≡ p0 → list_at grown p ≡ record (list_at m p0) {
-    live = (list_at m p0).live + 1;
-    last = length ts;
-  }
-  list_grown p same = ap (list_at grown) same
-      ∙ get_or-set_same m.lists p0 (record (list_at m p0) {
-        live = (list_at m p0).live + 1;
-        last = length m.links;
-      }) no_list (let long = are.lists_long in omega (arith, long, known))
-      ∙ λ i. record (list_at m p0) { live = (list_at m p0).live + 1; last = are.links_long i }
-
-  list_stays : (p : ℕ) → p ≢ p0 → list_at grown p ≡ list_at m p
-  list_stays p other = get_or-set_other m.lists p0 p (record (list_at m p0) {
-    live = (list_at m p0).live + 1;
-    last = length m.links;
-  }) no_list other
-
-  first_stays : (p : ℕ) → (list_at grown p).first ≡ (list_at m p).first
-  first_stays p = elim (cases_eq p p0) [
-    | inl same ↦ ap (λ (g : ThreadList). g.first) (list_grown p same) ∙ ap (λ i. (list_at m i).first) (sym same)
-    | inr other ↦ ap (λ (g : ThreadList). g.first) (list_stays p other)
-  ]
-
-  link_linked : (t : ℕ) → t ≡ last0 → link_at grown t ≡ record (get_or longer last0 no_link) { next = length m.links }
-  link_linked t same = ap (link_at grown) same ∙ get_or-set_same longer last0
-      (record (get_or longer last0 no_link) { next = length m.links }) no_link (omega (arith, last_below, long_longer))
-
-  link_stays : (t : ℕ) → t ≢ last0 → link_at grown t ≡ get_or longer t no_link
-  link_stays t other = get_or-set_other longer last0 t (record (get_or longer last0 no_link) {
-    next =
-        length m.links;
-  }) no_link other
-
   longer_at : (t : ℕ) → t < length ts → get_or longer t no_link ≡ link_at m t
   longer_at t lt = get_or-append m.links ((record { process = p0; next = 0 }) ∷ []) no_link t (let long =
       are.links_long in omega (arith, lt, long))
 
-  process_is : (t : ℕ) → (link_at grown t).process ≡ (get_or longer t no_link).process
-  process_is t = elim (cases_eq t last0) [
-    | inl same ↦ ap (λ (x : ThreadLink). x.process) (link_linked t same)
-        ∙ ap (λ i. (get_or longer i no_link).process) (sym same)
-    | inr other ↦ ap (λ (x : ThreadLink). x.process) (link_stays t other)
-  ]
+  abbrev process_of : ℕ → ℕ
+  process_of t = (get_or links1 t no_link).process
 
-  was_of : (t p : ℕ) → t < length ts → (link_at grown t).process ≡ p → (link_at m t).process ≡ p
-  was_of t p lt h = sym (ap (λ (x : ThreadLink). x.process) (longer_at t lt)) ∙ sym (process_is t) ∙ h
+  record IsLinked : Type 0 where
+    long : length links1 ≡ length longer
+    process : (t : ℕ) → process_of t ≡ (get_or longer t no_link).process
+    others : (t : ℕ) → t < length ts → (link_at m t).process ≢ p0
+        → (get_or links1 t no_link).next ≡ (link_at m t).next
+    own : (t u : ℕ) → u < length ts + 1 → process_of t ≡ p0 → process_of u ≡ p0 → first1 ≤ t → t < u
+        → (t < (get_or links1 t no_link).next) × ((get_or links1 t no_link).next ≤ u)
+    since : (t : ℕ) → get_or ts t None ≡ Some p0 → first1 ≤ t
+    within : first1 ≤ length ts
 
-  still_of : (t p : ℕ) → t < length ts → (link_at m t).process ≡ p → (link_at grown t).process ≡ p
-  still_of t p lt h = process_is t ∙ ap (λ (x : ThreadLink). x.process) (longer_at t lt) ∙ h
+  module _ (is : IsLinked) where
+    abbrev list1 : ThreadList
+    list1 = record { live = (list_at m p0).live + 1; first = first1; last = length m.links }
 
-  newest_of : (t : ℕ) → t ≡ length ts → (link_at grown t).process ≡ p0
-  newest_of t same = process_is t ∙ ap (λ i. (get_or longer i no_link).process) (same ∙ sym are.links_long)
-      ∙ ap (λ (x : ThreadLink). x.process) (get_or-append_seam m.links (record { process = p0; next = 0 }) [] no_link)
+    abbrev grown : ThreadListsState
+    grown = record { lists = set m.lists p0 list1; links = links1 }
 
-  next_linked : (t : ℕ) → t ≡ last0 → (link_at grown t).next ≡ length ts
-  next_linked t same = ap (λ (x : ThreadLink). x.next) (link_linked t same) ∙ are.links_long
+    list_grown : (p : ℕ) → p ≡ p0 → list_at grown p ≡ list1
+    list_grown p same = ap (list_at grown) same
+        ∙ get_or-set_same m.lists p0 list1 no_list (let long = are.lists_long in omega (arith, long, known))
 
-  next_stays : (t : ℕ) → t ≢ last0 → t < length ts → (link_at grown t).next ≡ (link_at m t).next
-  next_stays t other lt = ap (λ (x : ThreadLink). x.next) (link_stays t other)
-      ∙ ap (λ (x : ThreadLink). x.next) (longer_at t lt)
+    list_stays : (p : ℕ) → p ≢ p0 → list_at grown p ≡ list_at m p
+    list_stays p other = get_or-set_other m.lists p0 p list1 no_list other
 
-  -- a thread of another process was there before
-  older : (t p : ℕ) → p ≢ p0 → t < length (ts ++ Some p0 ∷ []) → (link_at grown t).process ≡ p → t < length ts
-  older t p other small mine = elim (cases_lt t (length ts)) [
-    | inl lt ↦ lt
-    | inr le ↦ absurd (let is : t ≡ length ts = omega (arith, le, small, long_more) in
-        other (sym mine ∙ newest_of t is))
-  ]
+    last_grown : (p : ℕ) → p ≡ p0 → (list_at grown p).last ≡ length ts
+    last_grown p same = ap (λ (g : ThreadList). g.last) (list_grown p same) ∙ are.links_long
 
-  -- and is not the one that the new one comes behind
-  apart : (t p : ℕ) → p ≢ p0 → t < length ts → (link_at grown t).process ≡ p → t ≢ last0
-  apart t p other lt mine same = other (sym (was_of t p lt mine) ∙ ap (λ i. (link_at m i).process) same
-      ∙ (are.ending p0 known).1)
+    was_of : (t p : ℕ) → t < length ts → process_of t ≡ p → (link_at m t).process ≡ p
+    was_of t p lt h = sym (ap (λ (x : ThreadLink). x.process) (longer_at t lt)) ∙ sym (is.process t) ∙ h
 
-  next_own : (t u : ℕ) → u < length (ts ++ Some p0 ∷ []) → (link_at grown t).process ≡ p0
-      → (link_at grown u).process ≡ p0 → (list_at m p0).first ≤ t → t < u
-      → (t < (link_at grown t).next) × ((link_at grown t).next ≤ u)
-  next_own t u small mine same since less =
-      let before : t < length ts = omega (arith, less, small, long_more) in
-      let at_most = are.last p0 t known before (was_of t p0 before mine) in
-      elim (cases_eq t last0) [
-        | inl is ↦ (let a = next_linked t is in elim (cases_lt u (length ts)) [
-          | inl lt ↦ absurd (let b = are.last p0 u known lt (was_of u p0 lt same) in omega (arith, b, is, less))
-          | inr le ↦ (omega (arith, a, before), omega (arith, a, le))
+    still_of : (t p : ℕ) → t < length ts → (link_at m t).process ≡ p → process_of t ≡ p
+    still_of t p lt h = is.process t ∙ ap (λ (x : ThreadLink). x.process) (longer_at t lt) ∙ h
+
+    newest_of : (t : ℕ) → t ≡ length ts → process_of t ≡ p0
+    newest_of t same = is.process t ∙ ap (λ i. (get_or longer i no_link).process) (same ∙ sym are.links_long)
+        ∙ ap (λ (x : ThreadLink). x.process) (get_or-append_seam m.links (record {
+          process = p0;
+          next = 0;
+        }) [] no_link)
+
+    -- a thread of another process was there before
+    older : (t p : ℕ) → p ≢ p0 → t < length (ts ++ Some p0 ∷ []) → process_of t ≡ p → t < length ts
+    older t p other small mine = elim (cases_lt t (length ts)) [
+      | inl lt ↦ lt
+      | inr le ↦ absurd (let end : t ≡ length ts = omega (arith, le, small, long_more) in
+          other (sym mine ∙ newest_of t end))
+    ]
+
+    threads_linked : AreThreadLists n (ts ++ Some p0 ∷ []) grown
+    threads_linked = record {
+      lists_long = length-set m.lists p0 list1 ∙ are.lists_long;
+      links_long = is.long ∙ long_longer ∙ sym long_more;
+      few = omega (arith, few, long_more);
+      counted = λ p below. (let c = counted_more ts p0 p in let b = are.counted p below in elim (cases_eq p p0) [
+        | inl same ↦ (let a = ap (λ (g : ThreadList). g.live) (list_grown p same) in
+            let d = ap (one_of ts p0) same ∙ one_same ts p0 in let e = ap (λ i. (list_at m i).live) same in
+            omega (arith, a, b, c, d, e))
+        | inr other ↦ (let a = ap (λ (g : ThreadList). g.live) (list_stays p other) in
+            let d = one_other ts p0 p other in omega (arith, a, b, c, d))
+      ]);
+      given = λ t p h. elim (cases_eq p p0) [
+        | inl same ↦ (let f = ap (λ (g : ThreadList). g.first) (list_grown p same) in elim (live_more ts p0 t p h) [
+          | inl old ↦ (let was = are.given t p old.1 in let s = is.since t (old.1 ∙ ap Some same) in
+              (was.0, still_of t p old.0 was.1, omega (arith, f, s)))
+          | inr new ↦ (let w = is.within in
+              (omega (arith, new.1, known), newest_of t new.0 ∙ sym same, omega (arith, f, w, new.0)))
         ])
-        | inr other ↦ (let a = next_stays t other before in elim (cases_lt u (length ts)) [
-          | inl lt ↦ (let b = are.next p0 t u known lt (was_of t p0 before mine) (was_of u p0 lt same) since less in
-              (omega (arith, a, b.0), omega (arith, a, b.1)))
-          | inr le ↦ (let b = are.next p0 t last0 known last_below (was_of t p0 before mine)
-              (are.ending p0 known).1 since (omega (arith, at_most, other)) in
-              (omega (arith, a, b.0), omega (arith, a, b.1, le, last_below)))
-        ])
+        | inr other ↦ (let f = ap (λ (g : ThreadList). g.first) (list_stays p other) in
+            elim (live_more ts p0 t p h) [
+              | inl old ↦ (let was = are.given t p old.1 in
+                  (was.0, still_of t p old.0 was.1, omega (arith, f, was.2)))
+              | inr new ↦ absurd (other new.1)
+            ])
+      ];
+      next = λ p t u below small mine same since less. elim (cases_eq p p0) [
+        | inl here ↦ is.own t u (omega (arith, small, long_more)) (mine ∙ here) (same ∙ here)
+            (let f = ap (λ (g : ThreadList). g.first) (list_grown p here) in omega (arith, f, since)) less
+        | inr other ↦ (let f = ap (λ (g : ThreadList). g.first) (list_stays p other) in
+            let later = older u p other small same in
+            let before : t < length ts = omega (arith, less, later) in
+            let was = was_of t p before mine in
+            let a = is.others t before (λ e. other (sym was ∙ e)) in
+            let b = are.next p t u below later was (was_of u p later same) (omega (arith, f, since)) less in
+            (omega (arith, a, b.0), omega (arith, a, b.1)))
+      ];
+      ending = λ p below some. elim (cases_eq p p0) [
+        | inl same ↦ (let a = last_grown p same in
+            (omega (arith, a, long_more), newest_of (list_at grown p).last a ∙ sym same))
+        | inr other ↦ (let a = list_stays p other in let f = ap (λ (g : ThreadList). g.first) a in
+            let l = ap (λ (g : ThreadList). g.last) a in let e = are.ending p below (omega (arith, f, l, some)) in
+            (omega (arith, l, e.0, long_more), ap process_of l ∙ still_of (list_at m p).last p e.0 e.1))
+      ];
+      last = λ p t below small mine. elim (cases_eq p p0) [
+        | inl same ↦ (let a = last_grown p same in omega (arith, a, small, long_more))
+        | inr other ↦ (let before = older t p other small mine in
+            let a = ap (λ (g : ThreadList). g.last) (list_stays p other) in
+            let b = are.last p t below before (was_of t p before mine) in omega (arith, a, b))
+      ];
+    }
+
+-- the next thread of a process comes behind the last one, or is the first
+module _ (n : ℕ) (ts : List (Option ℕ)) (m : ThreadListsState) (p0 : ℕ) (are : AreThreadLists n ts m) (known : p0 < n)
+    (few : length ts ≤ 65536) where
+  abbrev list0 : ThreadList
+  list0 = list_at m p0
+
+  abbrev pushed : List ThreadLink
+  pushed = m.links ++ (record { process = p0; next = 0 }) ∷ []
+
+  abbrev pushed_at : (t : ℕ) → t < length ts → get_or pushed t no_link ≡ link_at m t
+  pushed_at = longer_at n ts m p0 are known few 0 []
+
+  abbrev Linked : ℕ → List ThreadLink → Type 0
+  Linked = IsLinked n ts m p0 are known few
+
+  first_linked : list0.last < list0.first → Linked (length m.links) pushed
+  first_linked none = record {
+    long = refl;
+    process = λ t. refl;
+    others = λ t lt other. ap (λ (x : ThreadLink). x.next) (pushed_at t lt);
+    own = λ t u small mine same since less. absurd (let a = are.links_long in omega (arith, a, small, since, less));
+    since = λ t h. absurd (let was = are.given t p0 h in let a = are.last p0 t known (there t h) was.1 in
+        let b = was.2 in omega (arith, a, b, none));
+    within = (let a = are.links_long in omega (arith, a));
+  }
+    where
+      there : (t : ℕ) → get_or ts t None ≡ Some p0 → t < length ts
+      there t h = elim (cases_lt t (length ts)) [
+        | inl lt ↦ lt
+        | inr le ↦ absurd (let a = get_or_past ts t None le in cc (a, h))
       ]
 
+  module _ (some : list0.first ≤ list0.last) where
+    abbrev next1 : ThreadLink
+    next1 = record (get_or pushed list0.last no_link) { next = length m.links }
+
+    abbrev behind : List ThreadLink
+    behind = set pushed list0.last next1
+
+    last_below : list0.last < length ts
+    last_below = (are.ending p0 known some).0
+
+    last_of : (link_at m list0.last).process ≡ p0
+    last_of = (are.ending p0 known some).1
+
+    at_last0 : (t : ℕ) → t ≡ list0.last → get_or behind t no_link ≡ next1
+    at_last0 t same = ap (λ i. get_or behind i no_link) same ∙ get_or-set_same pushed list0.last next1 no_link
+        (let a = long_longer n ts m p0 are known few 0 [] in let b = last_below in omega (arith, a, b))
+
+    elsewhere : (t : ℕ) → t ≢ list0.last → get_or behind t no_link ≡ get_or pushed t no_link
+    elsewhere t other = get_or-set_other pushed list0.last t next1 no_link other
+
+    process_same : (t : ℕ) → (get_or behind t no_link).process ≡ (get_or pushed t no_link).process
+    process_same t = elim (cases_eq t list0.last) [
+      | inl same ↦ ap (λ (x : ThreadLink). x.process) (at_last0 t same)
+          ∙ ap (λ i. (get_or pushed i no_link).process) (sym same)
+      | inr other ↦ ap (λ (x : ThreadLink). x.process) (elsewhere t other)
+    ]
+
+    next_stays : (t : ℕ) → t ≢ list0.last → t < length ts → (get_or behind t no_link).next ≡ (link_at m t).next
+    next_stays t other lt = ap (λ (x : ThreadLink). x.next) (elsewhere t other)
+        ∙ ap (λ (x : ThreadLink). x.next) (pushed_at t lt)
+
+    was_own : (t : ℕ) → t < length ts → (get_or behind t no_link).process ≡ p0 → (link_at m t).process ≡ p0
+    was_own t lt h = sym (ap (λ (x : ThreadLink). x.process) (pushed_at t lt)) ∙ sym (process_same t) ∙ h
+
+    next_own : (t u : ℕ) → u < length ts + 1 → (get_or behind t no_link).process ≡ p0
+        → (get_or behind u no_link).process ≡ p0 → list0.first ≤ t → t < u
+        → (t < (get_or behind t no_link).next) × ((get_or behind t no_link).next ≤ u)
+    next_own t u small mine same since less =
+        let before : t < length ts = omega (arith, less, small) in
+        let at_most = are.last p0 t known before (was_own t before mine) in
+        elim (cases_eq t list0.last) [
+          | inl is ↦ (let a : (get_or behind t no_link).next ≡ length ts =
+              ap (λ (x : ThreadLink). x.next) (at_last0 t is) ∙ are.links_long in elim (cases_lt u (length ts)) [
+                | inl lt ↦ absurd (let b = are.last p0 u known lt (was_own u lt same) in omega (arith, b, is, less))
+                | inr le ↦ (omega (arith, a, before), omega (arith, a, le))
+              ])
+          | inr other ↦ (let a = next_stays t other before in elim (cases_lt u (length ts)) [
+            | inl lt ↦ (let b = are.next p0 t u known lt (was_own t before mine) (was_own u lt same) since less in
+                (omega (arith, a, b.0), omega (arith, a, b.1)))
+            | inr le ↦ (let b = are.next p0 t list0.last known last_below (was_own t before mine) last_of since
+                (omega (arith, at_most, other)) in
+                (omega (arith, a, b.0), (let c = last_below in omega (arith, a, b.1, le, c))))
+          ])
+        ]
+
+    next_linked : Linked list0.first behind
+    next_linked = record {
+      long = length-set pushed list0.last next1;
+      process = process_same;
+      others = λ t lt other. next_stays t (λ same. other (ap (λ i. (link_at m i).process) same ∙ last_of)) lt;
+      own = next_own;
+      since = λ t h. (are.given t p0 h).2;
+      within = (let c = last_below in omega (arith, some, c));
+    }
+
   pub threads_grown : AreThreadLists n (ts ++ Some p0 ∷ []) (with_link m p0)
-  threads_grown = record {
-    lists_long = length-set m.lists p0 (record (list_at m p0) { live = (list_at m p0).live + 1; last = length m.links })
-        ∙ are.lists_long;
-    links_long = length-set longer last0 (record (get_or longer last0 no_link) { next = length m.links }) ∙ long_longer
-        ∙ sym long_more;
-    few = omega (arith, few, long_more);
-    counted = λ p below. (let c = counted_more ts p0 p in let b = are.counted p below in elim (cases_eq p p0) [
-      | inl same ↦ (let a = ap (λ (g : ThreadList). g.live) (list_grown p same) in
-          let d = ap (one_of ts p0) same ∙ one_same ts p0 in let e = ap (λ i. (list_at m i).live) same in
-          omega (arith, a, b, c, d, e))
-      | inr other ↦ (let a = ap (λ (g : ThreadList). g.live) (list_stays p other) in let d = one_other ts p0 p other in
-          omega (arith, a, b, c, d))
-    ]);
-    given = λ t p h. (let f = first_stays p in elim (live_more ts p0 t p h) [
-      | inl old ↦ (let was = are.given t p old.1 in (was.0, still_of t p old.0 was.1, omega (arith, f, was.2)))
-      | inr new ↦ (let e = are.ending p0 known in let a = ap (λ i. (list_at m i).first) new.1 in
-          (omega (arith, new.1, known), newest_of t new.0 ∙ sym new.1, omega (arith, f, a, e.0, e.2, new.0)))
-    ]);
-    next = λ p t u below small mine same since less. (let f = first_stays p in elim (cases_eq p p0) [
-      | inl is ↦ next_own t u small (mine ∙ is) (same ∙ is) (let a = ap (λ i. (list_at m i).first) is in
-          omega (arith, f, a, since)) less
-      | inr other ↦
-          let later = older u p other small same in
-          let before : t < length ts = omega (arith, less, later) in
-          let a = next_stays t (apart t p other before mine) before in
-          let b = are.next p t u below later (was_of t p before mine) (was_of u p later same)
-          (omega (arith, f, since)) less in
-          (omega (arith, a, b.0), omega (arith, a, b.1))
-    ]);
-    ending = λ p below. (let f = first_stays p in let e = are.ending p below in elim (cases_eq p p0) [
-      | inl same ↦ (let a = ap (λ (g : ThreadList). g.last) (list_grown p same) in
-          (omega (arith, a, long_more), newest_of (list_at grown p).last a ∙ sym same, omega (arith, a, f, e.0, e.2)))
-      | inr other ↦ (let a = ap (λ (g : ThreadList). g.last) (list_stays p other) in (
-        omega (arith, a, e.0, long_more),
-        ap (λ i. (link_at grown i).process) a
-            ∙ still_of (list_at m p).last p e.0 e.1,
-        omega (arith, a, f, e.2),
-      ))
-    ]);
-    last = λ p t below small mine. elim (cases_eq p p0) [
-      | inl same ↦ (let a = ap (λ (g : ThreadList). g.last) (list_grown p same) in omega (arith, a, small, long_more))
-      | inr other ↦ (let before = older t p other small mine in
-          let a = ap (λ (g : ThreadList). g.last) (list_stays p other) in
-          let b = are.last p t below before (was_of t p before mine) in omega (arith, a, b))
-    ];
-  }
+  threads_grown = by (is_empty list0) refl
+    where
+      by : (b : Bool) → is_empty list0 ≡ b → AreThreadLists n (ts ++ Some p0 ∷ []) (record {
+        lists = set m.lists p0 (record {
+          live = list0.live + 1;
+          first = cond b (length m.links) list0.first;
+          last = length m.links;
+        });
+        links = cond b pushed (set pushed list0.last (record (get_or pushed list0.last no_link) {
+          next = length m.links;
+        }));
+      })
+      by true none = threads_linked n ts m p0 are known few (length m.links) pushed
+          (first_linked (ltb-true list0.last list0.first none))
+      by false some = let there : list0.first ≤ list0.last = ltb-false list0.last list0.first some in
+          threads_linked n ts m p0 are known few list0.first (behind there) (next_linked there)
 
 -- a live thread of a process ends
 module _ (n : ℕ) (ts : List (Option ℕ)) (m : ThreadListsState) (t0 p0 : ℕ) (are : AreThreadLists n ts m)
@@ -451,11 +559,26 @@ module _ (n : ℕ) (ts : List (Option ℕ)) (m : ThreadListsState) (t0 p0 : ℕ)
         (was.0, was.1, omega (arith, f, was.2)));
     next = λ p t u below small mine same since before. are.next p t u below (omega (arith, small, long_ended)) mine same
         (let f = first_kept p in omega (arith, f, since)) before;
-    ending = λ p below. (let e = are.ending p below in let f = first_kept p in let l = last_kept p in
-        (omega (arith, l, e.0, long_ended), ap (λ i. (link_at m i).process) l ∙ e.1, omega (arith, f, l, e.2)));
+    ending = λ p below some. (let f = first_kept p in let l = last_kept p in
+        let e = are.ending p below (omega (arith, f, l, some)) in
+        (omega (arith, l, e.0, long_ended), ap (λ i. (link_at m i).process) l ∙ e.1));
     last = λ p t below small mine. (let a = are.last p t below (omega (arith, small, long_ended)) mine in
         let l = last_kept p in omega (arith, a, l));
   }
+
+-- the next thread number, of a live process or gone
+module _ (n : ℕ) (ts : List (Option ℕ)) (m : ThreadListsState) (are : AreThreadLists n ts m)
+    (few : length ts ≤ 65536) where
+  gone_at_end : (xs : List (Option ℕ)) (p : ℕ) → set (xs ++ Some p ∷ []) (length xs) None ≡ xs ++ None ∷ []
+  gone_at_end [] p = refl
+  gone_at_end (x ∷ xs) p = ap (λ (ys : List (Option ℕ)). x ∷ ys) (gone_at_end xs p)
+
+  pub threads_placed : (x : Option ℕ) → 0 < n → IfSome x (λ p. p < n)
+      → AreThreadLists n (ts ++ x ∷ []) (with_place m x)
+  threads_placed None some known = subst (λ (l : List (Option ℕ)). AreThreadLists n l (with_place m None))
+      (gone_at_end ts 0) (threads_less n (ts ++ Some 0 ∷ []) (with_link m 0) (length ts) 0
+      (threads_grown n ts m 0 are some few) (get_or-append_seam ts (Some 0) [] None))
+  threads_placed (Some p) some known = threads_grown n ts m p are known few
 
 -- a number that is gone already
 pub gone_same : (ts : List (Option ℕ)) (t : ℕ) → get_or ts t None ≡ None → set ts t None ≡ ts
@@ -498,8 +621,8 @@ module _ (n n' : ℕ) (ts ts' : List (Option ℕ)) (m m' : ThreadListsState) (ar
   newest_is = (are.given (length ts') n' (ap (λ (l : List (Option ℕ)). get_or l (length ts') None) is
       ∙ get_or-append_seam ts' (Some n') [] None)).1
 
-  last_back : (p : ℕ) → p < n' → (list_at m p).last < length ts'
-  last_back p below = let e = are.ending p (omega (arith, below, one)) in
+  last_back : (p : ℕ) → p < n' → (list_at m p).first ≤ (list_at m p).last → (list_at m p).last < length ts'
+  last_back p below some = let e = are.ending p (omega (arith, below, one)) some in
       elim (cases_eq (list_at m p).last (length ts')) [
         | inl same ↦ absurd (let a : p ≡ n' = sym e.1 ∙ ap (λ i. (link_at m i).process) same ∙ newest_is in
             omega (arith, a, below))
@@ -529,13 +652,13 @@ module _ (n n' : ℕ) (ts ts' : List (Option ℕ)) (m m' : ThreadListsState) (ar
         let b = are.next p t u (omega (arith, below, one)) (omega (arith, small, long_back)) (of_back t p before mine)
         (of_back u p small same) (omega (arith, f, since)) less in
         (omega (arith, a, b.0), omega (arith, a, b.1)));
-    ending = λ p below. (let e = are.ending p (omega (arith, below, one)) in
-        let f = ap (λ (g : ThreadList). g.first) (list_back p below) in
-        let l = ap (λ (g : ThreadList). g.last) (list_back p below) in let lt = last_back p below in (
+    ending = λ p below some. (let f = ap (λ (g : ThreadList). g.first) (list_back p below) in
+        let l = ap (λ (g : ThreadList). g.last) (list_back p below) in
+        let there : (list_at m p).first ≤ (list_at m p).last = omega (arith, some, f, l) in
+        let e = are.ending p (omega (arith, below, one)) there in let lt = last_back p below there in (
           omega (arith, l, lt),
           ap (λ i. (link_at m' i).process) l
               ∙ ap (λ (x : ThreadLink). x.process) (link_back (list_at m p).last lt) ∙ e.1,
-          omega (arith, f, l, e.2),
         ));
     last = λ p t below small mine. (let l = ap (λ (g : ThreadList). g.last) (list_back p below) in
         let a = are.last p t (omega (arith, below, one)) (omega (arith, small, long_back)) (of_back t p small mine) in

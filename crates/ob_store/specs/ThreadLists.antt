@@ -1,5 +1,5 @@
 -- The threads of each process: how many are live, and those that it was given, by rising number.
-use Rattle.std.specs.Prelude.{◌≡◌, ℕ, ◌+◌, ◌-◌, ◌<◌, ◌≤◌, List, [], ◌∷◌, ◌++◌, Option, Some, None, length, count_by, slice_index_or, slice_set}
+use Rattle.std.specs.Prelude.{◌≡◌, ℕ, ◌+◌, ◌-◌, ◌<◌, ◌≤◌, nat_lt, Bool, if◌then◌else◌, List, [], ◌∷◌, ◌++◌, Option, Some, None, length, count_by, slice_index_or, slice_set}
 use Rattle.ob_store.specs.declared.thread_lists.ThreadList.{ThreadList}
 use Rattle.ob_store.specs.declared.thread_lists.ThreadLink.{ThreadLink}
 use Rattle.ob_store.specs.Processes.{ProcessesState, is_of, with_process}
@@ -30,19 +30,39 @@ with_list m = record {
   links = m.links ++ (record { process = length m.lists; next = 0 }) ∷ [];
 }
 
--- the next thread of a process: it comes behind the one that was the last
+-- a process that was given no thread yet: its first is past each of them
+abbrev pub with_group : ThreadListsState → ℕ → ThreadListsState
+with_group m first = record m { lists = m.lists ++ (record { live = 0; first = first; last = 0 }) ∷ [] }
+
+abbrev pub is_empty : ThreadList → Bool
+is_empty list = nat_lt list.last list.first
+
+-- one more thread, which is live and the last
+abbrev pub with_last : ThreadList → ℕ → ThreadList
+with_last list t = record { live = list.live + 1; first = if is_empty list then t else list.first; last = t }
+
+-- it comes behind the one that was the last, where there is one
 abbrev pub with_next : List ThreadLink → ℕ → ℕ → List ThreadLink
 with_next links t next = slice_set links t (record (slice_index_or links t no_link) { next = next })
 
+abbrev pub linked : List ThreadLink → ThreadList → ℕ → List ThreadLink
+linked links list next = if is_empty list then links else with_next links list.last next
+
+-- the next thread of a process
 abbrev pub with_link : ThreadListsState → ℕ → ThreadListsState
 with_link m p = record {
-  lists = slice_set m.lists p (record (list_at m p) { live = (list_at m p).live + 1; last = length m.links });
-  links = with_next (m.links ++ (record { process = p; next = 0 }) ∷ []) (list_at m p).last (length m.links);
+  lists = slice_set m.lists p (with_last (list_at m p) (length m.links));
+  links = linked (m.links ++ (record { process = p; next = 0 }) ∷ []) (list_at m p) (length m.links);
 }
 
 -- a live thread of a process ends
 abbrev pub without_live : ThreadListsState → ℕ → ThreadListsState
 without_live m p = record m { lists = slice_set m.lists p (record (list_at m p) { live = (list_at m p).live - 1 }) }
+
+-- the next thread number: one that is gone comes to process 0, over whose threads nobody walks
+abbrev pub with_place : ThreadListsState → Option ℕ → ThreadListsState
+with_place m None = without_live (with_link m 0) 0
+with_place m (Some p) = with_link m p
 
 -- what the counts and links are worth, beside the process of each live thread
 pub record AreThreadLists (processes : ℕ) (threads : List (Option ℕ)) (m : ThreadListsState) : Type 0 where
@@ -56,9 +76,9 @@ pub record AreThreadLists (processes : ℕ) (threads : List (Option ℕ)) (m : T
   -- none of them is between one and the next
   pub next : (p t u : ℕ) → p < processes → u < length threads → (link_at m t).process ≡ p → (link_at m u).process ≡ p
       → (list_at m p).first ≤ t → t < u → (t < (link_at m t).next) × ((link_at m t).next ≤ u)
-  -- the last is one of them, and past it is none
-  pub ending : (p : ℕ) → p < processes → ((list_at m p).last < length threads)
-      × ((link_at m (list_at m p).last).process ≡ p) × ((list_at m p).first ≤ (list_at m p).last)
+  -- the last is one of them, where there is one, and past it is none
+  pub ending : (p : ℕ) → p < processes → (list_at m p).first ≤ (list_at m p).last
+      → ((list_at m p).last < length threads) × ((link_at m (list_at m p).last).process ≡ p)
   pub last : (p t : ℕ) → p < processes → t < length threads → (link_at m t).process ≡ p → t ≤ (list_at m p).last
 
 -- without its last element

@@ -1,16 +1,38 @@
 ghost use Rattle.std.specs.Prelude.{◌≡◌, ◌<◌, ◌≤◌, IfOk, OnOk, OnErr, length, nat_lt};
-ghost use Rattle.ob_store.specs.ThreadLists.{IsPopped, list_at, link_at, no_list, no_link, no_lists, with_list};
-ghost use Rattle.ob_store.specs.ThreadLists.{with_link, without_live};
+ghost use Rattle.ob_store.specs.ThreadLists.{IsPopped, is_empty, link_at, linked, list_at, no_link, no_list, no_lists};
+ghost use Rattle.ob_store.specs.ThreadLists.{with_group, with_last, with_link, with_list, with_place, without_live};
 
 use std::alloc::{AllocError, Global};
 use std::marker::Model;
 
-/// What a process has of threads: how many are live, and the first and the last that it was given.
+/// What a process has of threads: how many are live, and the first and the last that it was given. Where it was given
+/// none, the first is past the last.
 #[derive(Clone, Copy)]
 pub(crate) struct ThreadList {
     pub(crate) live: u32,
     pub(crate) first: u32,
     pub(crate) last: u32,
+}
+
+impl ThreadList {
+    /// Whether the process was given no thread.
+    fn is_empty(self) -> bool
+        ensures { result ≡ is_empty self }
+    {
+        self.last < self.first
+    }
+
+    /// With one more thread, which is live and the last.
+    fn with_last(self, thread: u32) -> ThreadList
+        requires { self.live ≤ 65537 }
+        ensures { result ≡ with_last self thread }
+    {
+        ThreadList {
+            live: self.live + 1,
+            first: if self.is_empty() { thread } else { self.first },
+            last: thread,
+        }
+    }
 }
 
 /// The process of a thread, which stays when the thread ends, and the next thread that the process was given; 0 at its
@@ -19,6 +41,16 @@ pub(crate) struct ThreadList {
 pub(crate) struct ThreadLink {
     pub(crate) process: u32,
     pub(crate) next: u32,
+}
+
+/// Links a thread behind the last one of its process, if there is one.
+fn link_last(links: &mut Vec<ThreadLink>, list: ThreadList, thread: u32)
+    requires { list.first ≤ list.last → list.last < length links.old.items }
+    ensures { links.new.items ≡ linked links.old.items list thread }
+{
+    if !list.is_empty() {
+        links[list.last as usize].next = thread;
+    }
 }
 
 /// The threads of each process: how many are live, and those that it was given, by rising number.
@@ -77,11 +109,25 @@ impl ThreadLists {
         Ok(())
     }
 
+    /// The next process, without a thread: its first is one that no thread has.
+    pub(crate) fn add_group(&mut self, first: u32) -> Result<(), AllocError>
+        ensures ok { OnOk result (self.new ≡ with_group self.old first) }
+        ensures err { OnErr result (self.new ≡ self.old) }
+    {
+        self.lists.push(ThreadList {
+            live: 0,
+            first,
+            last: 0,
+        })?;
+        Ok(())
+    }
+
     /// The next thread, of a process.
     pub(crate) fn add_thread(&mut self, process: u32) -> Result<(), AllocError>
         requires process { process < length self.old.lists }
         requires count { (list_at self.old process).live ≤ 65537 }
-        requires last { (list_at self.old process).last < length self.old.links }
+        requires last { (list_at self.old process).first ≤ (list_at self.old process).last
+            → (list_at self.old process).last < length self.old.links }
         requires links { length self.old.links ≤ 65536 }
         ensures ok { OnOk result (self.new ≡ with_link self.old process) }
         ensures err { OnErr result (self.new ≡ self.old) }
@@ -89,12 +135,8 @@ impl ThreadLists {
         let thread = self.links.len() as u32;
         self.links.push(ThreadLink { process, next: 0 })?;
         let list = self.lists[process as usize];
-        self.links[list.last as usize].next = thread;
-        self.lists[process as usize] = ThreadList {
-            live: list.live + 1,
-            first: list.first,
-            last: thread,
-        };
+        link_last(&mut self.links, list, thread);
+        self.lists[process as usize] = list.with_last(thread);
         Ok(())
     }
 
