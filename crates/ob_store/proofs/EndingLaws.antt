@@ -44,6 +44,7 @@ use Rattle.ob_store.proofs.KeptLaws.{sound_rested, state_rested}
 use Rattle.ob_store.proofs.LeftLaws.{left_blocks, left_more, room_left_at}
 use Rattle.ob_store.proofs.ListingLaws.{listing_counts}
 use Rattle.ob_store.proofs.NamedLaws.{named_fewer, sum_none}
+use Rattle.ob_store.proofs.Places.{from_one_less}
 use Rattle.ob_store.proofs.SeatLaws.{read}
 
 left_mapped : (t : ℕ) (bodies after : List (Option Body)) → AreLeft bodies after
@@ -196,6 +197,8 @@ module _ (p : PartsState) (q r : ObjectsState) (a : SignaledState) (t : ℕ)
           few_processes = way.sound.processes_kept.few_processes;
           few_threads = (let x = length-set p.processes.threads t None in
               let y = way.sound.processes_kept.few_threads in omega (arith, x, y));
+          processes_from_one = way.sound.processes_kept.processes_from_one;
+          threads_from_one = from_one_less p.processes.threads t way.sound.processes_kept.threads_from_one;
           tabled = way.sound.processes_kept.tabled;
           live = λ u n h. way.sound.processes_kept.live u n (live_before p.processes.threads t u n h);
         })
@@ -297,6 +300,9 @@ module _ (first : KeeperState) (p : PartsState) (s : State) (process : ℕ)
           few_processes = (let a = length-set p.processes.processes process None in
               let b = way.sound.processes_kept.few_processes in omega (arith, a, b));
           few_threads = way.sound.processes_kept.few_threads;
+          processes_from_one = from_one_less p.processes.processes process
+              way.sound.processes_kept.processes_from_one;
+          threads_from_one = way.sound.processes_kept.threads_from_one;
           tabled = length-set p.tables.tables process [] ∙ way.sound.processes_kept.tabled
               ∙ sym (length-set p.processes.processes process None);
           live = λ t r h. live_still p.processes.processes process r (λ same. alone t (h ∙ ap Some same))

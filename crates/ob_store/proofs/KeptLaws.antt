@@ -28,6 +28,7 @@ use Rattle.ob_store.proofs.CountedLaws.{handles_at, handles_few, counted_flags, 
 use Rattle.ob_store.proofs.NamedLaws.{there_within, named_flags, named_placed, named_process}
 use Rattle.ob_store.proofs.BodyLaws.{of_live_more}
 use Rattle.ob_store.proofs.ListingLaws.{listing_flags, listing_process, listing_placed}
+use Rattle.ob_store.proofs.Places.{from_one_more}
 use Rattle.ob_store.proofs.SettledLaws.{settled_still}
 
 -- as many tables as there are processes
@@ -227,6 +228,10 @@ kept_process p session kept processes threads = record {
     processes_kept = record {
       few_processes = simp length-append (omega arith);
       few_threads = simp length-append (omega arith);
+      processes_from_one = from_one_more p.processes.processes (Some session)
+          kept.sound.processes_kept.processes_from_one;
+      threads_from_one = from_one_more p.processes.threads (Some (length p.processes.processes))
+          kept.sound.processes_kept.threads_from_one;
       tabled = (let a = length-append p.processes.processes (Some session ∷ []) in
           let b = length-append p.tables.tables ([] ∷ []) in let c = kept.sound.processes_kept.tabled in
           omega (arith, a, b, c));
@@ -268,6 +273,8 @@ kept_thread p process kept threads live =
         processes_kept = record {
           few_processes = sound.processes_kept.few_processes;
           few_threads = simp length-append (omega arith);
+          processes_from_one = sound.processes_kept.processes_from_one;
+          threads_from_one = from_one_more l.threads (Some process) sound.processes_kept.threads_from_one;
           tabled = sound.processes_kept.tabled;
           live = λ t q h. elim (pushed_at l.threads process t q h) [
             | inl old ↦

@@ -37,6 +37,7 @@ pub mod SavedBirthLaws
 pub mod SavedOrderLaws
 pub mod SavedNameLaws
 pub mod SavedObjectLaws
+pub mod SavedProcessLaws
 pub mod SavingLaws
 pub mod SavedKeptLaws
 pub mod SavedCodecs

@@ -70,6 +70,8 @@ module _ (limits : Limits) (keeper : KeeperState) (fresh : IsFresh keeper (shape
       processes_kept = record {
         few_processes = omega arith;
         few_threads = omega arith;
+        processes_from_one = record { some = omega arith; none = refl };
+        threads_from_one = record { some = omega arith; none = refl };
         tabled = refl;
         live = λ t p h. absurd (let none = one_none ℕ t in cc (none, h));
       };

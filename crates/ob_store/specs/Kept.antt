@@ -16,7 +16,7 @@ use Rattle.ob_waits.specs.Form.{Form, IsAfter, form_of, slot_due, slot_owner}
 use Rattle.ob_waits.specs.Rules.{IsSettled, WaitsHaveRoom, thread_of}
 use Rattle.ob_waits.specs.Waits.{blocks_among, slot_blocks}
 use Rattle.ob_store.specs.declared.limits.Limits.{Limits}
-use Rattle.ob_store.specs.Processes.{ProcessesState}
+use Rattle.ob_store.specs.Processes.{IsFromOne, ProcessesState}
 use Rattle.ob_store.specs.Objects.{Object}
 use Rattle.ob_store.specs.Parts.{PartsState}
 use Rattle.ob_store.specs.State.{by_slot, shape_of}
@@ -33,10 +33,13 @@ pub record AreLimited (limits : Limits) (processes handles waits : ℕ) (shape :
 abbrev pub IsLive : List (Option ℕ) → ℕ → Type 0
 IsLive numbers n = IsSome (slice_index_or numbers n None)
 
--- no more numbers than the limits let; each process number has a table; a live thread's process is live
+-- no more numbers than the limits let, and 0 is nobody's; each process number has a table; a live thread's process is
+-- live
 pub record ProcessesKept (limits : Limits) (p : ProcessesState) (tables : ℕ) : Type 0 where
   pub few_processes : length p.processes ≤ limits.processes + 1
   pub few_threads : length p.threads ≤ limits.threads + 1
+  pub processes_from_one : IsFromOne p.processes
+  pub threads_from_one : IsFromOne p.threads
   pub tabled : tables ≡ length p.processes
   pub live : (thread process : ℕ) → slice_index_or p.threads thread None ≡ Some process → IsLive p.processes process
 

@@ -21,6 +21,7 @@ pub mod Meetings
 pub mod Signaled
 pub mod Consistent
 pub mod Stored
+pub mod SavedProcesses
 pub mod SavedSlots
 pub mod Counting
 pub mod SavedWaits

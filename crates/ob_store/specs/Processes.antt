@@ -1,11 +1,16 @@
 -- The live processes and threads. A number is a place of a list; place 0 has nothing, since number 0 is never given,
 -- and the
 -- next number is the length.
-use Rattle.std.specs.Prelude.{ℕ, ◌==◌, Bool, false, List, [], ◌∷◌, ◌++◌, Option, Some, None, length}
+use Rattle.std.specs.Prelude.{◌≡◌, ℕ, ◌==◌, ◌<◌, Bool, false, List, [], ◌∷◌, ◌++◌, Option, Some, None, length, slice_index_or}
 
 pub record ProcessesState : Type 0 where
   pub processes : List (Option ℕ)  -- the session of each live process
   pub threads : List (Option ℕ)  -- the process of each live thread
+
+-- number 0 is there, and is never given
+pub record IsFromOne (numbers : List (Option ℕ)) : Type 0 where
+  pub some : 0 < length numbers
+  pub none : slice_index_or numbers 0 None ≡ None
 
 abbrev pub no_processes : ProcessesState
 no_processes = record { processes = None ∷ []; threads = None ∷ [] }

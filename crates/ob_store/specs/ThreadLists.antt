@@ -60,6 +60,10 @@ abbrev pub without_live : ThreadListsState → ℕ → ThreadListsState
 without_live m p = record m { lists = slice_set m.lists p (record (list_at m p) { live = (list_at m p).live - 1 }) }
 
 -- the next thread number: one that is gone comes to process 0, over whose threads nobody walks
+abbrev pub place_of : Option ℕ → ℕ
+place_of None = 0
+place_of (Some p) = p
+
 abbrev pub with_place : ThreadListsState → Option ℕ → ThreadListsState
 with_place m None = without_live (with_link m 0) 0
 with_place m (Some p) = with_link m p

@@ -18,6 +18,9 @@ ghost use Rattle.ob_store.specs.SavedBirths.{Births, births_from};
 ghost use Rattle.ob_store.specs.SavedObjects.{are_bodied, objects_at, objects_text, slots_saved};
 ghost use Rattle.ob_store.specs.SavedNames.{names_in};
 ghost use Rattle.ob_store.specs.SavedObjects.{begun_over};
+ghost use Rattle.ob_store.specs.Kept.{ProcessesKept};
+ghost use Rattle.ob_store.specs.Processes.{ProcessesState};
+ghost use Rattle.ob_store.specs.SavedProcesses.{ListsFit, ProcessesFit, processes_at, processes_text};
 ghost use Rattle.ob_store.specs.SavedSlots.{SlotFits, keeper_slot};
 ghost use Rattle.ob_store.specs.State.{shape_of};
 
@@ -35,6 +38,18 @@ pub fn law_of_whole_objects()
     ensures births { (objects : List (Option Object)) (births : ℕ) → AreBorn objects births
         → (order : Births) × (births_from births [] 0 objects ≡ Ok order) }
     ensures bodies { (seen : waits.Objects) (slots : ℕ) → HasBodies seen → are_bodied seen slots ≡ true }
+{}
+
+/// Processes and threads that were written are read again, whatever stands behind them, and what is read was written
+/// so. What is kept within limits, and has a spelling, fits.
+pub fn law_of_spelled_processes()
+    ensures again { (processes threads : ℕ) (l : ProcessesState) (rest : List ℕ) → ProcessesFit processes threads l
+        → processes_at processes threads (processes_text l ++ rest) ≡ Ok (l, rest) }
+    ensures takes { (processes threads : ℕ) (bytes : List ℕ) (l : ProcessesState) (rest : List ℕ) → AreBytes bytes
+        → processes_at processes threads bytes ≡ Ok (l, rest)
+        → Takes bytes (processes_text l) rest × ProcessesFit processes threads l }
+    ensures fits { (limits : Limits) (l : ProcessesState) (tables : ℕ) → ProcessesKept limits l tables → ListsFit l
+        → ProcessesFit limits.processes limits.threads l }
 {}
 
 /// Objects that are kept with the tables, the waits and the threads are read again as they were written, with the rows

@@ -42,6 +42,7 @@ mod pins;
 mod processes;
 mod reclaiming;
 mod saved;
+mod saved_processes;
 mod saved_slot;
 mod saved_waits;
 mod saving;
@@ -63,7 +64,8 @@ pub use creation::Creation;
 pub use found::Found;
 pub use label::Label;
 pub use law::{
-    law_of_counting, law_of_entered_names, law_of_spelled_objects, law_of_whole_objects,
+    law_of_counting, law_of_entered_names, law_of_spelled_objects, law_of_spelled_processes,
+    law_of_whole_objects,
 };
 pub use limits::Limits;
 pub use ob_waits::LAST_MOMENT;

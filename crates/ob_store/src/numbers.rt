@@ -1,10 +1,20 @@
 ghost use Rattle.std.specs.Prelude.{ℕ, List, Option, [], ◌∷◌, ◌++◌, ◌≡◌, ◌+◌, ◌<◌, ◌≤◌, None, Some, IfOk, OnOk, OnErr};
-ghost use Rattle.std.specs.Prelude.{is_some, length, slice_index_or, slice_set};
+ghost use Rattle.std.specs.Prelude.{is_some, length, slice_index_or, slice_set, true};
 ghost use Rattle.least_free.specs.From.{IsLeastFrom};
+ghost use Rattle.ob_codec.specs.Reading.{Gives};
+ghost use Rattle.ob_store.specs.SavedProcesses.{NumbersFit, are_numbers, numbers_at, numbers_text};
 
 use crate::finding::next_place;
+use ob_codec::{Cursor, ReadFault, TextFault, read_list, write_list};
 use std::alloc::{AllocError, Global};
 use std::marker::Model;
+
+/// Whether numbers can be so: no more than the limit are given, and 0 is nobody's.
+fn are_numbers(limit: u32, places: &[Option<u32>]) -> bool
+    ensures { result ≡ are_numbers limit places.now }
+{
+    !places.is_empty() && places.len() <= limit as usize + 1 && places[0].is_none()
+}
 
 /// What stands at each number that was given, from 1 on; `None` where the number is gone.
 #[derive(Drop)]
@@ -30,6 +40,34 @@ impl Numbers {
         let mut places = Vec::new(alloc);
         places.push(None)?;
         Ok(Numbers { places })
+    }
+
+    /// Writes what stands at each number, from 0 on.
+    pub fn write(&self, out: &mut Vec<u8>) -> Result<(), AllocError>
+        ensures text { OnOk result (out.new.items ≡ out.old.items ++ numbers_text self.now) }
+        ensures fits { OnOk result (NumbersFit self.now) }
+    {
+        write_list(out, self.places.as_slice())
+    }
+
+    /// Reads the same. [`TextFault::Value`] where more numbers are given than the limit lets, or 0 is.
+    pub fn read(alloc: Global, limit: u32, from: &mut Cursor<'_>) -> Result<Numbers, ReadFault>
+        requires { limit ≤ 65536 }
+        ensures read { Gives (λ numbers. numbers) result (numbers_at limit from.old) from.new }
+        ensures within { IfOk result (λ numbers. are_numbers limit numbers ≡ true) }
+    {
+        let places = read_list::<Option<u32>>(alloc, from)?;
+        if !are_numbers(limit, places.as_slice()) {
+            return Err(ReadFault::Text(TextFault::Value));
+        }
+        Ok(Numbers { places })
+    }
+
+    /// What stands at each number, from 0 on.
+    pub fn places(&self) -> &[Option<u32>]
+        ensures { result.now ≡ self.now }
+    {
+        self.places.as_slice()
     }
 
     /// The next number.

@@ -1,12 +1,18 @@
-ghost use Rattle.std.specs.Prelude.{ℕ, ◌≡◌, ◌+◌, ◌<◌, ◌≤◌, None, Some, IfOk, OnOk, OnErr, is_some, length};
+ghost use Rattle.std.specs.Prelude.{ℕ, ◌≡◌, ◌+◌, ◌++◌, ◌<◌, ◌≤◌, None, Some, IfOk, OnOk, OnErr, is_some, length};
 ghost use Rattle.std.specs.Prelude.{slice_index_or, slice_set};
 ghost use Rattle.std.specs.List.{list_any};
 ghost use Rattle.least_free.specs.From.{IsLeastFrom};
+ghost use Rattle.ob_codec.specs.Reading.{Gives};
+ghost use Rattle.ob_store.specs.declared.limits.Limits.{Limits};
+ghost use Rattle.ob_store.specs.Kept.{ProcessesKept};
 ghost use Rattle.ob_store.specs.Processes.{ProcessesState, is_of, no_processes, with_process, with_thread};
+ghost use Rattle.ob_store.specs.SavedProcesses.{ListsFit, processes_at, processes_text};
 ghost use Rattle.ob_store.specs.ThreadLists.{IsNewest};
 
 use crate::numbers::Numbers;
+use crate::saved_processes::{are_of_live, link_threads};
 use crate::thread_lists::ThreadLists;
+use ob_codec::{Cursor, ReadFault, TextFault};
 use std::alloc::{AllocError, Global};
 use std::marker::Model;
 
@@ -42,6 +48,42 @@ impl Processes {
         Ok(Processes {
             processes,
             threads,
+            lists,
+        })
+    }
+
+    /// Writes the live processes and threads behind some bytes, without their limits.
+    pub(crate) fn write(&self, out: &mut Vec<u8>) -> Result<(), AllocError>
+        ensures text { OnOk result (out.new.items ≡ out.old.items ++ processes_text self.now) }
+        ensures fits { OnOk result (ListsFit self.now) }
+    {
+        self.processes.write(out)?;
+        self.threads.write(out)
+    }
+
+    /// Reads processes and threads of at most so many numbers. [`TextFault::Value`] where there are more, where number
+    /// 0 is somebody's, or where a live thread is of a process that isn't live.
+    pub(crate) fn read(
+        alloc: Global,
+        processes: u32,
+        threads: u32,
+        from: &mut Cursor<'_>,
+    ) -> Result<Processes, ReadFault>
+        requires few_processes { processes ≤ 65536 }
+        requires few_threads { threads ≤ 65536 }
+        ensures read { Gives (λ l. l) result (processes_at processes threads from.old) from.new }
+        ensures kept { IfOk result (λ l. (limits : Limits) → limits.processes ≡ processes → limits.threads ≡ threads
+            → ProcessesKept limits l (length l.processes)) }
+    {
+        let sessions = Numbers::read(alloc, processes, from)?;
+        let owners = Numbers::read(alloc, threads, from)?;
+        if !are_of_live(&sessions, &owners) {
+            return Err(ReadFault::Text(TextFault::Value));
+        }
+        let lists = link_threads(alloc, sessions.next(), owners.places())?;
+        Ok(Processes {
+            processes: sessions,
+            threads: owners,
             lists,
         })
     }

@@ -1,5 +1,6 @@
 ghost use Rattle.std.specs.Prelude.{◌≡◌, ◌<◌, ◌≤◌, IfOk, OnOk, OnErr, length, nat_lt};
 ghost use Rattle.ob_store.specs.ThreadLists.{IsPopped, is_empty, link_at, linked, list_at, no_link, no_list, no_lists};
+ghost use Rattle.ob_store.specs.ThreadLists.{place_of};
 ghost use Rattle.ob_store.specs.ThreadLists.{with_group, with_last, with_link, with_list, with_place, without_live};
 
 use std::alloc::{AllocError, Global};
@@ -138,6 +139,25 @@ impl ThreadLists {
         link_last(&mut self.links, list, thread);
         self.lists[process as usize] = list.with_last(thread);
         Ok(())
+    }
+
+    /// The next thread number, which a process has, or which is gone.
+    pub(crate) fn add_place(&mut self, place: Option<u32>) -> Result<(), AllocError>
+        requires process { place_of place < length self.old.lists }
+        requires count { (list_at self.old (place_of place)).live ≤ 65537 }
+        requires last { (list_at self.old (place_of place)).first ≤ (list_at self.old (place_of place)).last
+            → (list_at self.old (place_of place)).last < length self.old.links }
+        requires links { length self.old.links ≤ 65536 }
+        ensures { OnOk result (self.new ≡ with_place self.old place) }
+    {
+        match place {
+            Some(process) => self.add_thread(process),
+            None => {
+                self.add_thread(0)?;
+                self.end_thread(0);
+                Ok(())
+            }
+        }
     }
 
     /// Takes back the process that was added last, with its first thread.

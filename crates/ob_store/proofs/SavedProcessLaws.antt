@@ -1,0 +1,99 @@
+-- Processes and threads are read as they were spelled, and what is read is kept.
+use Rattle.std.proofs.Common.{◌≡◌, ℕ, zero, suc, ◌<◌, ◌≤◌, ◌+◌, ◌∷◌, ◌&&◌, Bool, List, [], None, Option, Some, ap, arith, get_or, leb, length, refl, subst, true}
+use Rattle.std.specs.Prelude.{IfSome, is_some, not}
+use Rattle.std.proofs.lemmas.Bool.{le-leb, leb-true}
+use Rattle.ob_codec.specs.Codecs.{as_codec, both_codec, list_codec, option_codec, u32_codec, where_codec}
+use Rattle.ob_codec.specs.Laws.{IsCodec}
+use Rattle.ob_codec.specs.Steps.{both-true, true-both}
+use Rattle.ob_store.specs.declared.limits.Limits.{Limits}
+use Rattle.ob_store.specs.Kept.{IsLive, ProcessesKept}
+use Rattle.ob_store.specs.Processes.{IsFromOne, ProcessesState}
+use Rattle.ob_store.specs.SavedProcesses.{AreWithin, ListsFit, ProcessesFit, are_numbers, are_of_live, is_of_live, lists_of, numbers_at, numbers_text, processes_at, processes_of, processes_text}
+use Rattle.ob_store.proofs.PlacedLaws.{live_within}
+
+pub numbers_codec : (limit : ℕ) → IsCodec numbers_text (numbers_at limit) (AreWithin limit)
+numbers_codec limit = where_codec (list_codec (option_codec u32_codec)) (are_numbers limit)
+
+pub processes_codec : (processes threads : ℕ)
+    → IsCodec processes_text (processes_at processes threads) (ProcessesFit processes threads)
+processes_codec processes threads = as_codec processes_of lists_of (λ _. refl) (λ _. refl)
+    (where_codec (both_codec (numbers_codec processes) (numbers_codec threads)) are_of_live)
+
+-- what the tests say of numbers
+none_not : (x : Option ℕ) → not (is_some x) ≡ true → x ≡ None
+none_not None e = refl
+none_not (Some p) e = absurd cc
+
+module _ (limit : ℕ) (xs : List (Option ℕ)) where
+  abbrev some : Bool
+  some = leb 1 (length xs)
+
+  abbrev few : Bool
+  few = leb (length xs) (limit + 1)
+
+  abbrev none : Bool
+  none = not (is_some (get_or xs 0 None))
+
+  pub few_numbers : are_numbers limit xs ≡ true → length xs ≤ limit + 1
+  few_numbers e = leb-true (length xs) (limit + 1) (both-true some few (both-true (some && few) none e).0).1
+
+  pub from_one : are_numbers limit xs ≡ true → IsFromOne xs
+  from_one e = let b = both-true (some && few) none e in record {
+    some = (let le = leb-true 1 (length xs) (both-true some few b.0).0 in omega (arith, le));
+    none = none_not (get_or xs 0 None) b.1;
+  }
+
+  numbers_pass : length xs ≤ limit + 1 → IsFromOne xs → are_numbers limit xs ≡ true
+  numbers_pass most is = true-both (some && few) none
+      (true-both some few (le-leb 1 (length xs) (let s = is.some in omega (arith, s)))
+      (le-leb (length xs) (limit + 1) most)) (ap (λ (x : Option ℕ). not (is_some x)) is.none)
+
+-- what they say of threads
+module _ (ps : List (Option ℕ)) where
+  pub live_read : (ts : List (Option ℕ)) → are_of_live (ps, ts) ≡ true → (t p : ℕ) → get_or ts t None ≡ Some p
+      → IsLive ps p
+  live_read [] e t p h = absurd cc
+  live_read (x ∷ ts) e zero p h = subst (λ (y : Option ℕ). is_of_live ps y ≡ true) h
+      (both-true (is_of_live ps x) (are_of_live (ps, ts)) e).0
+  live_read (x ∷ ts) e (suc t) p h = live_read ts (both-true (is_of_live ps x) (are_of_live (ps, ts)) e).1 t p h
+
+  live_pass : (ts : List (Option ℕ)) → ((t p : ℕ) → get_or ts t None ≡ Some p → IsLive ps p)
+      → are_of_live (ps, ts) ≡ true
+  live_pass [] each = refl
+  live_pass (x ∷ ts) each = true-both (is_of_live ps x) (are_of_live (ps, ts)) (here x (each 0))
+      (live_pass ts (λ t. each (suc t)))
+    where
+      here : (x : Option ℕ) → ((p : ℕ) → x ≡ Some p → IsLive ps p) → is_of_live ps x ≡ true
+      here None first = refl
+      here (Some p) first = first p refl
+
+  pub known_read : (ts : List (Option ℕ)) → are_of_live (ps, ts) ≡ true → (t : ℕ)
+      → IfSome (get_or ts t None) (λ p. p < length ps)
+  known_read ts e t = by (get_or ts t None) refl
+    where
+      by : (x : Option ℕ) → get_or ts t None ≡ x → IfSome x (λ p. p < length ps)
+      by None is = tt
+      by (Some p) is = live_within ps p (live_read ts e t p is)
+
+-- what passes the tests is kept, and what is kept passes them
+pub kept_read : (limits : Limits) (l : ProcessesState) → are_numbers limits.processes l.processes ≡ true
+    → are_numbers limits.threads l.threads ≡ true → are_of_live (lists_of l) ≡ true
+    → ProcessesKept limits l (length l.processes)
+kept_read limits l processes threads live = record {
+  few_processes = few_numbers limits.processes l.processes processes;
+  few_threads = few_numbers limits.threads l.threads threads;
+  processes_from_one = from_one limits.processes l.processes processes;
+  threads_from_one = from_one limits.threads l.threads threads;
+  tabled = refl;
+  live = live_read l.processes l.threads live;
+}
+
+pub kept_fits : (limits : Limits) (l : ProcessesState) (tables : ℕ) → ProcessesKept limits l tables → ListsFit l
+    → ProcessesFit limits.processes limits.threads l
+kept_fits limits l tables kept fits = (
+  (
+    (fits.0, numbers_pass limits.processes l.processes kept.few_processes kept.processes_from_one),
+    (fits.1, numbers_pass limits.threads l.threads kept.few_threads kept.threads_from_one),
+  ),
+  live_pass l.processes l.threads kept.live,
+)

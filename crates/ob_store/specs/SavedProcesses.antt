@@ -1,0 +1,57 @@
+-- Processes and threads as bytes: the session of each process number, then the process of each thread number.
+use Rattle.std.specs.Prelude.{◌≡◌, ℕ, ◌+◌, ◌<◌, ◌^◌, nat_le, ◌&&◌, not, Bool, true, List, length, Option, Some, None, is_some, slice_index_or}
+use Rattle.std.specs.Int.{w32, to_le_bytes}
+use Rattle.std.specs.List.{list_all}
+use Rattle.ob_codec.specs.Reading.{Read, as_at, both_at, list_at, number_at, option_at, where_at}
+use Rattle.ob_codec.specs.Spelling.{BothFit, ListFits, OptionFits, both, list, option}
+use Rattle.ob_store.specs.Processes.{ProcessesState}
+
+-- what stands at each number, that of number 0 first, or nothing where it is gone
+abbrev pub numbers_text : List (Option ℕ) → List ℕ
+numbers_text = list (option (to_le_bytes w32))
+
+-- whether there are no more numbers than the limit, and 0 is nobody's
+abbrev pub are_numbers : ℕ → List (Option ℕ) → Bool
+are_numbers limit numbers = (nat_le 1 (length numbers) && nat_le (length numbers) (limit + 1))
+    && not (is_some (slice_index_or numbers 0 None))
+
+abbrev pub numbers_at : ℕ → List ℕ → Read (List (Option ℕ))
+numbers_at limit = where_at (are_numbers limit) (list_at (option_at (number_at w32)))
+
+-- numbers that have a spelling, and those that are within a limit as well
+abbrev pub NumbersFit : List (Option ℕ) → Type 0
+NumbersFit = ListFits (OptionFits (λ n. n < 2 ^ 32))
+
+abbrev pub AreWithin : ℕ → List (Option ℕ) → Type 0
+AreWithin limit numbers = NumbersFit numbers × (are_numbers limit numbers ≡ true)
+
+-- whether a thread, if it is live, is of a live process
+abbrev pub is_of_live : List (Option ℕ) → Option ℕ → Bool
+is_of_live processes None = true
+is_of_live processes (Some process) = is_some (slice_index_or processes process None)
+
+abbrev pub are_of_live : List (Option ℕ) × List (Option ℕ) → Bool
+are_of_live p = list_all (is_of_live p.0) p.1
+
+abbrev pub processes_of : List (Option ℕ) × List (Option ℕ) → ProcessesState
+processes_of p = record { processes = p.0; threads = p.1 }
+
+abbrev pub lists_of : ProcessesState → List (Option ℕ) × List (Option ℕ)
+lists_of l = (l.processes, l.threads)
+
+-- the processes, then the threads; their limits stand elsewhere
+abbrev pub processes_text : ProcessesState → List ℕ
+processes_text l = both numbers_text numbers_text (lists_of l)
+
+abbrev pub processes_at : ℕ → ℕ → List ℕ → Read ProcessesState
+processes_at processes threads =
+    as_at processes_of (where_at are_of_live (both_at (numbers_at processes) (numbers_at threads)))
+
+-- processes and threads that have a spelling, and those that are within their limits as well, each live thread with a
+-- live process
+abbrev pub ListsFit : ProcessesState → Type 0
+ListsFit l = BothFit NumbersFit NumbersFit (lists_of l)
+
+abbrev pub ProcessesFit : ℕ → ℕ → ProcessesState → Type 0
+ProcessesFit processes threads l = BothFit (AreWithin processes) (AreWithin threads) (lists_of l)
+    × (are_of_live (lists_of l) ≡ true)

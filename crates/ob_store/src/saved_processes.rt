@@ -1,0 +1,67 @@
+// The threads of each process are counted and linked again, of the process of each live thread.
+ghost use Rattle.std.specs.Prelude.{◌≡◌, ◌+◌, ◌<◌, ◌≤◌, ℕ, IfOk, IfSome, None, OnOk, Some, [], ◌∷◌, length, slice_index_or, take};
+ghost use Rattle.ob_store.specs.Processes.{IsFromOne};
+ghost use Rattle.ob_store.specs.SavedProcesses.{are_of_live};
+ghost use Rattle.ob_store.specs.ThreadLists.{AreThreadLists};
+
+use crate::numbers::Numbers;
+use crate::thread_lists::ThreadLists;
+use std::alloc::{AllocError, Global};
+
+/// Whether each live thread is of a live process.
+pub(crate) fn are_of_live(processes: &Numbers, threads: &Numbers) -> bool
+    ensures { result ≡ are_of_live (processes.now, threads.now) }
+{
+    threads.places().iter().all(|place| match place {
+        Some(process) => processes.get(*process).is_some(),
+        None => true,
+    })
+}
+
+/// So many processes, number 0 among them, without threads.
+fn group(alloc: Global, processes: u32) -> Result<ThreadLists, AllocError>
+    requires { 0 < processes }
+    ensures { IfOk result (λ lists. AreThreadLists processes (None ∷ []) lists) }
+{
+    let mut lists = ThreadLists::new(alloc)?;
+    for _ in 1..processes {
+        lists.add_group(u32::MAX)?;
+    }
+    Ok(lists)
+}
+
+/// The next thread number comes.
+fn link_next(
+    lists: &mut ThreadLists,
+    processes: u32,
+    threads: &[Option<u32>],
+    thread: usize,
+) -> Result<(), AllocError>
+    requires some { 0 < processes }
+    requires few { length threads.now ≤ 65537 }
+    requires thread { thread < length threads.now }
+    requires process { IfSome (slice_index_or threads.now thread None) (λ process. process < processes) }
+    requires so_far { AreThreadLists processes (take thread threads.now) lists.old }
+    ensures { OnOk result (AreThreadLists processes (take (thread + 1) threads.now) lists.new) }
+{
+    lists.add_place(threads[thread])
+}
+
+/// The threads of so many processes, which the live ones are of.
+pub(crate) fn link_threads(
+    alloc: Global,
+    processes: u32,
+    threads: &[Option<u32>],
+) -> Result<ThreadLists, AllocError>
+    requires some { 0 < processes }
+    requires few { length threads.now ≤ 65537 }
+    requires from_one { IsFromOne threads.now }
+    requires known { (t : ℕ) → IfSome (slice_index_or threads.now t None) (λ process. process < processes) }
+    ensures { IfOk result (λ lists. AreThreadLists processes threads.now lists) }
+{
+    let mut lists = group(alloc, processes)?;
+    for thread in 1..threads.len() {
+        link_next(&mut lists, processes, threads, thread)?;
+    }
+    Ok(lists)
+}
