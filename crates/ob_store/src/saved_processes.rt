@@ -1,5 +1,6 @@
 // The threads of each process are counted and linked again, of the process of each live thread.
-ghost use Rattle.std.specs.Prelude.{◌≡◌, ◌+◌, ◌<◌, ◌≤◌, ℕ, IfOk, IfSome, None, OnOk, Some, [], ◌∷◌, length, slice_index_or, take};
+ghost use Rattle.std.specs.Prelude.{◌≡◌, ◌∷◌, ◌+◌, ◌<◌, ◌≤◌, ℕ, [], IfOk, IfSome, None, OnOk, length};
+ghost use Rattle.std.specs.Prelude.{slice_index_or, take};
 ghost use Rattle.ob_store.specs.Processes.{IsFromOne};
 ghost use Rattle.ob_store.specs.SavedProcesses.{are_of_live};
 ghost use Rattle.ob_store.specs.ThreadLists.{AreThreadLists};

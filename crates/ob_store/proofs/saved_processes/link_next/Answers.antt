@@ -13,7 +13,8 @@ returns c =
     let long : length (take at ts) ≤ 65536 =
     (let a = length-take-le at ts in let b = c.requires.thread in let d = c.requires.few in omega (arith, a, b, d)) in
     on_ok_weaker c.add_place.result (λ is.
-    subst (λ (l : List (Option ℕ)). AreThreadLists n l c.add_place.new.self) (sym (take_more ts at None c.requires.thread))
+    subst (λ (l : List (Option ℕ)). AreThreadLists n l c.add_place.new.self)
+    (sym (take_more ts at None c.requires.thread))
     (subst (λ (m : ThreadListsState). AreThreadLists n (take at ts ++ get_or ts at None ∷ []) m) (sym is)
     (threads_placed n (take at ts) c.args.lists.now c.requires.so_far long (get_or ts at None) c.requires.some
     c.requires.process)))
