@@ -1,5 +1,5 @@
 -- Lists of what stands at each place.
-use Rattle.std.proofs.Common.{◌≡◌, ◌≢◌, ◌∙◌, ap, arith, inl, inr, length, None, set, sym, ℕ, zero, suc, List, [], ◌∷◌, ◌++◌, Option, get_or}
+use Rattle.std.proofs.Common.{◌≡◌, ◌∙◌, ap, arith, inl, inr, None, set, sym, ℕ, zero, suc, List, [], ◌∷◌, ◌++◌, Option, get_or}
 use Rattle.std.proofs.lemmas.Bool.{cases_eq}
 use Rattle.std.proofs.lemmas.List.{get_or-set_other, get_or-set_same, length-append, length-set, same_from_push}
 use Rattle.std.proofs.Math.ListN.{get_or-append}

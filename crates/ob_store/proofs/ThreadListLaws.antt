@@ -15,7 +15,7 @@ use Rattle.ob_store.specs.Kept.{ProcessesKept}
 use Rattle.ob_store.specs.declared.thread_lists.ThreadList.{ThreadList}
 use Rattle.ob_store.specs.declared.thread_lists.ThreadLink.{ThreadLink}
 use Rattle.ob_store.specs.Processes.{ProcessesState, is_of, with_process}
-use Rattle.ob_store.specs.ThreadLists.{ThreadListsState, AreThreadLists, IsNewest, IsPopped, is_empty, link_at, list_at, no_link, no_list, no_lists, with_group, with_link, with_list, with_place, without_live}
+use Rattle.ob_store.specs.ThreadLists.{ThreadListsState, AreThreadLists, IsNewest, IsPopped, is_empty, link_at, list_at, no_link, no_list, no_lists, with_empty, with_link, with_list, with_place, without_live}
 
 -- a list that lost its last element
 pub popped : {A : Type 0} (none : A) (xs ys : List A) (r : Option A) → xs ≡ ys ++ option_to_list r
@@ -221,38 +221,38 @@ module _ (n : ℕ) (ts : List (Option ℕ)) (m : ThreadListsState) (are : AreThr
 
 -- the next process, without a thread, while only number 0 is given of threads
 module _ (n first : ℕ) (m : ThreadListsState) (are : AreThreadLists n (None ∷ []) m) (past : 0 < first) where
-  abbrev group : ThreadList
-  group = record { live = 0; first = first; last = 0 }
+  abbrev empty : ThreadList
+  empty = record { live = 0; first = first; last = 0 }
 
-  group_old : (p : ℕ) → p < n → list_at (with_group m first) p ≡ list_at m p
-  group_old p lt = get_or-append m.lists (group ∷ []) no_list p (let long = are.lists_long in omega (arith, lt, long))
+  empty_old : (p : ℕ) → p < n → list_at (with_empty m first) p ≡ list_at m p
+  empty_old p lt = get_or-append m.lists (empty ∷ []) no_list p (let long = are.lists_long in omega (arith, lt, long))
 
-  group_new : (p : ℕ) → n ≤ p → p < n + 1 → list_at (with_group m first) p ≡ group
-  group_new p le lt = ap (list_at (with_group m first)) (let long = are.lists_long in
+  empty_new : (p : ℕ) → n ≤ p → p < n + 1 → list_at (with_empty m first) p ≡ empty
+  empty_new p le lt = ap (list_at (with_empty m first)) (let long = are.lists_long in
       let same : p ≡ length m.lists = omega (arith, le, lt, long) in same)
-      ∙ get_or-append_seam m.lists group [] no_list
+      ∙ get_or-append_seam m.lists empty [] no_list
 
   none_given : (t p : ℕ) → get_or {A = Option ℕ} (None ∷ []) t None ≡ Some p → ⊥
   none_given zero p h = cc (h)
   none_given (suc t) p h = cc (h)
 
-  pub threads_grouped : AreThreadLists (n + 1) (None ∷ []) (with_group m first)
-  threads_grouped = record {
-    lists_long = length-append m.lists (group ∷ []) ∙ ap (λ k. k + 1) are.lists_long;
+  pub threads_with_empty : AreThreadLists (n + 1) (None ∷ []) (with_empty m first)
+  threads_with_empty = record {
+    lists_long = length-append m.lists (empty ∷ []) ∙ ap (λ k. k + 1) are.lists_long;
     links_long = are.links_long;
     few = are.few;
     counted = λ p lt. elim (cases_lt p n) [
-      | inl old ↦ ap (λ (g : ThreadList). g.live) (group_old p old) ∙ are.counted p old
-      | inr le ↦ ap (λ (g : ThreadList). g.live) (group_new p le lt)
+      | inl old ↦ ap (λ (g : ThreadList). g.live) (empty_old p old) ∙ are.counted p old
+      | inr le ↦ ap (λ (g : ThreadList). g.live) (empty_new p le lt)
           ∙ sym (no_live (None ∷ []) p (λ t h. none_given t p h))
     ];
     given = λ t p h. absurd (none_given t p h);
     next = λ p t u below small mine same since less. absurd (omega (arith, small, less));
     ending = λ p below some. elim (cases_lt p n) [
-      | inl old ↦ (let a = group_old p old in let b = ap (λ (g : ThreadList). g.last) a in
+      | inl old ↦ (let a = empty_old p old in let b = ap (λ (g : ThreadList). g.last) a in
           let d = ap (λ (g : ThreadList). g.first) a in let c = are.ending p old (omega (arith, some, b, d)) in
           (omega (arith, b, c.0), ap (λ i. (link_at m i).process) b ∙ c.1))
-      | inr le ↦ absurd (let a = group_new p le below in let b = ap (λ (g : ThreadList). g.last) a in
+      | inr le ↦ absurd (let a = empty_new p le below in let b = ap (λ (g : ThreadList). g.last) a in
           let d = ap (λ (g : ThreadList). g.first) a in omega (arith, some, b, d, past))
     ];
     last = λ p t below small mine. omega (arith, small);

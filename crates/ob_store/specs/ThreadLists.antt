@@ -30,9 +30,9 @@ with_list m = record {
   links = m.links ++ (record { process = length m.lists; next = 0 }) ∷ [];
 }
 
--- a process that was given no thread yet: its first is past each of them
-abbrev pub with_group : ThreadListsState → ℕ → ThreadListsState
-with_group m first = record m { lists = m.lists ++ (record { live = 0; first = first; last = 0 }) ∷ [] }
+-- the next process, without a thread: its first is past each that is there
+abbrev pub with_empty : ThreadListsState → ℕ → ThreadListsState
+with_empty m first = record m { lists = m.lists ++ (record { live = 0; first = first; last = 0 }) ∷ [] }
 
 abbrev pub is_empty : ThreadList → Bool
 is_empty list = nat_lt list.last list.first
@@ -59,11 +59,12 @@ with_link m p = record {
 abbrev pub without_live : ThreadListsState → ℕ → ThreadListsState
 without_live m p = record m { lists = slice_set m.lists p (record (list_at m p) { live = (list_at m p).live - 1 }) }
 
--- the next thread number: one that is gone comes to process 0, over whose threads nobody walks
-abbrev pub place_of : Option ℕ → ℕ
-place_of None = 0
-place_of (Some p) = p
+-- whose a thread number is: one that is gone comes to process 0, over whose threads nobody walks
+abbrev pub process_of : Option ℕ → ℕ
+process_of None = 0
+process_of (Some p) = p
 
+-- the next thread number
 abbrev pub with_place : ThreadListsState → Option ℕ → ThreadListsState
 with_place m None = without_live (with_link m 0) 0
 with_place m (Some p) = with_link m p

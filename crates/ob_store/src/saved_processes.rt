@@ -1,4 +1,4 @@
-// The threads of each process are counted and linked again, of the process of each live thread.
+// The threads of each process are counted and linked again, from the process of each live thread.
 ghost use Rattle.std.specs.Prelude.{◌≡◌, ◌∷◌, ◌+◌, ◌<◌, ◌≤◌, ℕ, [], IfOk, IfSome, None, OnOk, length};
 ghost use Rattle.std.specs.Prelude.{slice_index_or, take};
 ghost use Rattle.ob_store.specs.Processes.{IsFromOne};
@@ -19,19 +19,19 @@ pub(crate) fn are_of_live(processes: &Numbers, threads: &Numbers) -> bool
     })
 }
 
-/// So many processes, number 0 among them, without threads.
-fn group(alloc: Global, processes: u32) -> Result<ThreadLists, AllocError>
+/// So many processes without threads, but for number 0, which has thread 0. Each other begins past every thread.
+fn empty_lists(alloc: Global, processes: u32) -> Result<ThreadLists, AllocError>
     requires { 0 < processes }
     ensures { IfOk result (λ lists. AreThreadLists processes (None ∷ []) lists) }
 {
     let mut lists = ThreadLists::new(alloc)?;
     for _ in 1..processes {
-        lists.add_group(u32::MAX)?;
+        lists.add_empty(u32::MAX)?;
     }
     Ok(lists)
 }
 
-/// The next thread number comes.
+/// The next of the thread numbers comes to its process.
 fn link_next(
     lists: &mut ThreadLists,
     processes: u32,
@@ -48,7 +48,7 @@ fn link_next(
     lists.add_place(threads[thread])
 }
 
-/// The threads of so many processes, which the live ones are of.
+/// The threads of so many processes, from the process of each live thread.
 pub(crate) fn link_threads(
     alloc: Global,
     processes: u32,
@@ -60,7 +60,7 @@ pub(crate) fn link_threads(
     requires known { (t : ℕ) → IfSome (slice_index_or threads.now t None) (λ process. process < processes) }
     ensures { IfOk result (λ lists. AreThreadLists processes threads.now lists) }
 {
-    let mut lists = group(alloc, processes)?;
+    let mut lists = empty_lists(alloc, processes)?;
     for thread in 1..threads.len() {
         link_next(&mut lists, processes, threads, thread)?;
     }

@@ -1,7 +1,7 @@
 ghost use Rattle.std.specs.Prelude.{◌≡◌, ◌<◌, ◌≤◌, IfOk, OnOk, OnErr, length, nat_lt};
 ghost use Rattle.ob_store.specs.ThreadLists.{IsPopped, is_empty, link_at, linked, list_at, no_link, no_list, no_lists};
-ghost use Rattle.ob_store.specs.ThreadLists.{place_of};
-ghost use Rattle.ob_store.specs.ThreadLists.{with_group, with_last, with_link, with_list, with_place, without_live};
+ghost use Rattle.ob_store.specs.ThreadLists.{process_of, with_empty, with_last, with_link, with_list, with_place};
+ghost use Rattle.ob_store.specs.ThreadLists.{without_live};
 
 use std::alloc::{AllocError, Global};
 use std::marker::Model;
@@ -110,9 +110,9 @@ impl ThreadLists {
         Ok(())
     }
 
-    /// The next process, without a thread: its first is one that no thread has.
-    pub(crate) fn add_group(&mut self, first: u32) -> Result<(), AllocError>
-        ensures ok { OnOk result (self.new ≡ with_group self.old first) }
+    /// The next process, without a thread. Its first is to be a number that no thread has.
+    pub(crate) fn add_empty(&mut self, first: u32) -> Result<(), AllocError>
+        ensures ok { OnOk result (self.new ≡ with_empty self.old first) }
         ensures err { OnErr result (self.new ≡ self.old) }
     {
         self.lists.push(ThreadList {
@@ -141,12 +141,12 @@ impl ThreadLists {
         Ok(())
     }
 
-    /// The next thread number, which a process has, or which is gone.
+    /// The next thread number, which is a process's, or gone.
     pub(crate) fn add_place(&mut self, place: Option<u32>) -> Result<(), AllocError>
-        requires process { place_of place < length self.old.lists }
-        requires count { (list_at self.old (place_of place)).live ≤ 65537 }
-        requires last { (list_at self.old (place_of place)).first ≤ (list_at self.old (place_of place)).last
-            → (list_at self.old (place_of place)).last < length self.old.links }
+        requires process { process_of place < length self.old.lists }
+        requires count { (list_at self.old (process_of place)).live ≤ 65537 }
+        requires last { (list_at self.old (process_of place)).first ≤ (list_at self.old (process_of place)).last
+            → (list_at self.old (process_of place)).last < length self.old.links }
         requires links { length self.old.links ≤ 65536 }
         ensures { OnOk result (self.new ≡ with_place self.old place) }
     {
