@@ -40,6 +40,7 @@ pub mod SavedObjectLaws
 pub mod SavedProcessLaws
 pub mod SavingLaws
 pub mod SavedKeptLaws
+pub mod FittingLaws
 pub mod SavedCodecs
 pub mod CountingAgain
 pub mod WholeAgain

@@ -94,10 +94,12 @@ slot_stands max_gen clock x =
 abbrev pub slot_at : ℕ → ℕ → List ℕ → Read SavedSlot
 slot_at max_gen clock = where_at (slot_stands max_gen clock) any_slot_at
 
+-- a slot that has a spelling, and one that may be so too
+abbrev pub AnySlotFits : SavedSlot → Type 0
+AnySlotFits x = BothFit (λ n. n < 2 ^ 32) (BothFit Any (OptionFits ObjectFits)) (slot_parts x)
+
 abbrev pub SlotFits : ℕ → ℕ → SavedSlot → Type 0
-SlotFits max_gen clock x =
-    BothFit (λ n. n < 2 ^ 32) (BothFit Any (OptionFits ObjectFits)) (slot_parts x) × (slot_stands max_gen clock x ≡
-    true)
+SlotFits max_gen clock x = AnySlotFits x × (slot_stands max_gen clock x ≡ true)
 
 -- what it is in a store: the object
 abbrev pub stored_object : Id → SavedObject → Object

@@ -1,11 +1,13 @@
-ghost use Rattle.std.specs.Prelude.{◌≡◌, ◌<◌, ◌++◌, IfSome, None, OnOk, if◌then◌else◌};
+ghost use Rattle.std.specs.Prelude.{◌≡◌, ◌<◌, ◌++◌, ℕ, IfSome, None, OnOk, if◌then◌else◌};
+ghost use Rattle.std.specs.List.{AllByRecursion};
 ghost use Rattle.std.specs.Option.{option_map};
-ghost use Rattle.ob_codec.specs.Spelling.{option};
-ghost use Rattle.ob_name.specs.Spelling.{name_text};
+ghost use Rattle.ob_codec.specs.Spelling.{OptionFits, option};
+ghost use Rattle.ob_name.specs.Spelling.{NameFits, name_text};
 ghost use Rattle.pin_core.specs.Descrs.{IsGiven};
+ghost use Rattle.ob_store.specs.Kept.{AreFormed};
 ghost use Rattle.ob_store.specs.Objects.{object_of, tag_of};
-ghost use Rattle.ob_store.specs.SavedObjects.{objects_text, saved_of, slot_saved};
-ghost use Rattle.ob_store.specs.SavedSlots.{object_text, slot_text};
+ghost use Rattle.ob_store.specs.SavedObjects.{objects_text, saved_of, slot_saved, slots_saved};
+ghost use Rattle.ob_store.specs.SavedSlots.{AnySlotFits, ObjectFits, SlotFits, object_text, slot_text};
 
 use crate::found::Found;
 use crate::label::Label;
@@ -19,8 +21,9 @@ use std::alloc::AllocError;
 
 /// Writes a name, if there is one.
 fn write_name(out: &mut Vec<u8>, is_named: bool, name: &Option<Name>) -> Result<(), AllocError>
-    ensures { OnOk result (out.new.items
+    ensures text { OnOk result (out.new.items
         ≡ out.old.items ++ option name_text (if is_named then name.now else None)) }
+    ensures fits { OnOk result (OptionFits NameFits (if is_named then name.now else None)) }
 {
     if is_named {
         return name.write(out);
@@ -37,7 +40,9 @@ fn write_object(
     name: &Option<Name>,
 ) -> Result<(), AllocError>
     requires { IsGiven label.now.descr }
-    ensures { OnOk result (out.new.items ≡ out.old.items ++ object_text
+    ensures text { OnOk result (out.new.items ≡ out.old.items ++ object_text
+        (saved_of (object_of seat.now (tag_of label.now name.now)) seat.now.body)) }
+    ensures fits { OnOk result (ObjectFits
         (saved_of (object_of seat.now (tag_of label.now name.now)) seat.now.body)) }
 {
     label.birth.write(out)?;
@@ -50,7 +55,10 @@ fn write_object(
 /// Writes a flag, and an object where there is one.
 fn write_found(out: &mut Vec<u8>, found: Option<Found<'_>>) -> Result<(), AllocError>
     requires { IfSome found (λ found. IsGiven found.label.now.descr) }
-    ensures { OnOk result (out.new.items ≡ out.old.items ++ option object_text
+    ensures text { OnOk result (out.new.items ≡ out.old.items ++ option object_text
+        (option_map (λ found. saved_of (object_of found.seat.now (tag_of found.label.now found.name.now))
+        found.seat.now.body) found.entry)) }
+    ensures fits { OnOk result (OptionFits ObjectFits
         (option_map (λ found. saved_of (object_of found.seat.now (tag_of found.label.now found.name.now))
         found.seat.now.body) found.entry)) }
 {
@@ -70,7 +78,8 @@ impl<K: PinKeeper> Objects<K> {
     /// Writes a slot with its object.
     fn write_slot(&self, out: &mut Vec<u8>, slot: u32) -> Result<(), AllocError>
         requires { slot < self.now.keeper.shape.slots }
-        ensures { OnOk result (out.new.items ≡ out.old.items ++ slot_text (slot_saved self.now slot)) }
+        ensures text { OnOk result (out.new.items ≡ out.old.items ++ slot_text (slot_saved self.now slot)) }
+        ensures fits { OnOk result (AnySlotFits (slot_saved self.now slot)) }
     {
         let retired = self.keeper.phase(slot) == Phase::Retired;
         self.keeper.generation(slot).write(out)?;
@@ -81,8 +90,11 @@ impl<K: PinKeeper> Objects<K> {
     /// Writes the slots with their objects behind some bytes, as [`read`](Objects::read) reads them. Pins aren't
     /// written. Where memory was wanting, part of it may stand there.
     pub fn write(&self, out: &mut Vec<u8>) -> Result<(), AllocError>
-        ensures { OnOk result (out.new.items ≡ out.old.items ++ objects_text self.now) }
+        ensures text { OnOk result (out.new.items ≡ out.old.items ++ objects_text self.now) }
+        ensures fits { OnOk result ((clock : ℕ) → AreFormed clock self.now.objects self.now.seen.bodies
+            → AllByRecursion (SlotFits self.now.keeper.shape.max_gen clock) (slots_saved self.now)) }
     {
+        self.kept();
         for slot in 0..self.slots() {
             self.write_slot(out, slot)?;
         }

@@ -9,11 +9,16 @@ use Rattle.ob_rights.specs.Spelling.{rights_text}
 use Rattle.ob_store.proofs.SavingLaws.{five_behind}
 use Rattle.ob_store.proofs.saving.write_object.Goals as goal
 
-pub returns : goal.returns
-returns c = on_ok_weaker c.write_name.result (λ t. five_behind c.args.out.now.items
+pub returns-clause-text : goal.returns-clause-text
+returns-clause-text c = on_ok_weaker c.write_name.result (λ t. five_behind c.args.out.now.items
     (to_le_bytes w64 c.args.label.now.birth) (descr_text c.args.label.now.descr) (rights_text c.args.seat.now.grant)
     (option body_text c.args.seat.now.body)
     (option name_text (cond c.args.label.now.is_named c.args.name.now None)) c.write.new.out.items
     c.write_descr.new.out.items c.write-2.new.out.items c.write-3.new.out.items c.write_name.new.out.items
     c.in_ok-write.ensures.text c.in_ok-write_descr.ensures c.in_ok-write-2.ensures.text c.in_ok-write-3.ensures.text t)
-    c.write_name.ensures
+    c.write_name.ensures.text
+
+pub returns-clause-fits : goal.returns-clause-fits
+returns-clause-fits c = on_ok_weaker c.write_name.result
+    (λ t. (c.in_ok-write.ensures.fits, (c.requires, (c.in_ok-write-2.ensures.fits, (c.in_ok-write-3.ensures.fits, t)))))
+    c.write_name.ensures.fits

@@ -1,17 +1,33 @@
-use Rattle.std.proofs.Common.{◌∙◌, ◌++◌, List, ℕ, ap, map, sym, arith}
+use Rattle.std.proofs.Common.{◌≡◌, ◌∙◌, ◌++◌, ◌<◌, List, ℕ, ap, map, subst, sym, arith, inl, inr}
 use Rattle.std.specs.List.{flat_map, range_with_len}
+use Rattle.std.proofs.lemmas.Bool.{cases_lt}
 use Rattle.std.proofs.lemmas.List.{flat_map_more}
 use Rattle.std.proofs.lemmas.List.FromFn.{map-range_with_len_more}
 use Rattle.ob_store.specs.declared.saved_slot.SavedSlot.{SavedSlot}
 use Rattle.ob_store.specs.SavedObjects.{slot_saved}
-use Rattle.ob_store.specs.SavedSlots.{slot_text}
+use Rattle.ob_store.specs.SavedSlots.{AnySlotFits, slot_text}
+use Rattle.ob_store.proofs.FittingLaws.{all_fit}
 use Rattle.ob_store.proofs.objects.Objects.write.Goals as goal
 
 pub loop-slot-preserved : goal.loop-slot-preserved
 loop-slot-preserved g c =
     let s = c.args.self.now in
     let k = c.loop-slot.slot in
-    c.in_ok-write_slot.ensures ∙ ap (λ (t : List ℕ). t ++ slot_text (slot_saved s k)) c.loop-slot.invariant
-    ∙ flat_map_more slot_text c.args.out.now.items (map (slot_saved s) (range_with_len 0 k)) (slot_saved s k)
-    ∙ ap (λ (xs : List SavedSlot). c.args.out.now.items ++ flat_map slot_text xs)
-    (sym (map-range_with_len_more (slot_saved s) 0 k k (omega arith)))
+    record {
+      text =
+          c.in_ok-write_slot.ensures.text
+              ∙ ap (λ (t : List ℕ). t ++ slot_text (slot_saved s k)) c.loop-slot.invariant.text
+              ∙ flat_map_more slot_text c.args.out.now.items (map (slot_saved s) (range_with_len 0 k)) (slot_saved s k)
+              ∙ ap (λ (xs : List SavedSlot). c.args.out.now.items ++ flat_map slot_text xs)
+              (sym (map-range_with_len_more (slot_saved s) 0 k k (omega arith)));
+      fits = λ j lt. elim (cases_lt j k) [
+        | inl below ↦ c.loop-slot.invariant.fits j below
+        | inr above ↦ (let e : k ≡ j = omega (arith, lt, above) in
+            subst (λ (i : ℕ). AnySlotFits (slot_saved s i)) e c.in_ok-write_slot.ensures.fits)
+      ];
+    }
+
+pub returns-clause-fits : goal.returns-clause-fits
+returns-clause-fits g c clock formed =
+    all_fit c.args.self.now c.kept.ensures clock formed
+    (λ k lt. c.loop-slot.invariant.fits k (omega (arith, lt, c.loop-slot-test.false)))
