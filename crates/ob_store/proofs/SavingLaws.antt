@@ -14,14 +14,30 @@ pub three_behind : (o a b c x y z : List ℕ) → x ≡ o ++ a → y ≡ x ++ b 
 three_behind o a b c x y z p q r =
     two_behind o (a ++ b) y z (two_behind o a x y p b q) c r ∙ ap (λ (t : List ℕ). o ++ t) (append_assoc a b c)
 
-pub five_behind : (o a b c d e v w x y z : List ℕ) → v ≡ o ++ a → w ≡ v ++ b → x ≡ w ++ c → y ≡ x ++ d → z ≡ y ++ e →
-    z ≡ o ++ (a ++ (b ++ (c ++ (d ++ e))))
-five_behind o a b c d e v w x y z p q r s t =
-    two_behind o (a ++ (b ++ (c ++ d))) y z
-    (two_behind o (a ++ (b ++ c)) x y (three_behind o a b c v w x p q r) d s ∙
-    ap (λ (l : List ℕ). o ++ l) (append_assoc a (b ++ c) d ∙ ap (λ (l : List ℕ). a ++ l) (append_assoc b c d))) e t
-    ∙ ap (λ (l : List ℕ). o ++ l) (append_assoc a (b ++ (c ++ d)) e ∙
-    ap (λ (l : List ℕ). a ++ l) (append_assoc b (c ++ d) e ∙ ap (λ (l : List ℕ). b ++ l) (append_assoc c d e)))
+pub four_behind : (o a b c d w x y z : List ℕ) → w ≡ o ++ a → x ≡ w ++ b → y ≡ x ++ c → z ≡ y ++ d
+    → z ≡ o ++ (a ++ (b ++ (c ++ d)))
+four_behind o a b c d w x y z p q r s =
+    two_behind o (a ++ (b ++ c)) y z (three_behind o a b c w x y p q r) d s
+    ∙ ap (λ (l : List ℕ). o ++ l) (append_assoc a (b ++ c) d ∙ ap (λ (l : List ℕ). a ++ l) (append_assoc b c d))
+
+-- some parts behind four
+four_before : (o a b c d e y z : List ℕ) → y ≡ o ++ (a ++ (b ++ (c ++ d))) → z ≡ y ++ e
+    → z ≡ o ++ (a ++ (b ++ (c ++ (d ++ e))))
+four_before o a b c d e y z p q =
+    two_behind o (a ++ (b ++ (c ++ d))) y z p e q
+    ∙ ap (λ (l : List ℕ). o ++ l) (append_assoc a (b ++ (c ++ d)) e
+    ∙ ap (λ (l : List ℕ). a ++ l) (append_assoc b (c ++ d) e ∙ ap (λ (l : List ℕ). b ++ l) (append_assoc c d e)))
+
+pub five_behind : (o a b c d e v w x y z : List ℕ) → v ≡ o ++ a → w ≡ v ++ b → x ≡ w ++ c → y ≡ x ++ d → z ≡ y ++ e
+    → z ≡ o ++ (a ++ (b ++ (c ++ (d ++ e))))
+five_behind o a b c d e v w x y z p q r s t = four_before o a b c d e y z (four_behind o a b c d v w x y p q r s) t
+
+pub eight_behind : (o a b c d e f g h s t u v w x y z : List ℕ) → s ≡ o ++ a → t ≡ s ++ b → u ≡ t ++ c → v ≡ u ++ d
+    → w ≡ v ++ e → x ≡ w ++ f → y ≡ x ++ g → z ≡ y ++ h
+    → z ≡ o ++ (a ++ (b ++ (c ++ (d ++ (e ++ (f ++ (g ++ h)))))))
+eight_behind o a b c d e f g h s t u v w x y z p1 p2 p3 p4 p5 p6 p7 p8 =
+    four_before o a b c d (e ++ (f ++ (g ++ h))) v z (four_behind o a b c d s t u v p1 p2 p3 p4)
+    (four_behind v e f g h w x y z p5 p6 p7 p8)
 
 -- an object that was looked up is what is saved
 pub looked_saved : {F : Type 0} (found : Option F) (object : Option Object) (body : Option Body) (to_object : F →

@@ -22,6 +22,7 @@ pub mod Signaled
 pub mod Consistent
 pub mod Stored
 pub mod SavedProcesses
+pub mod SavedLimits
 pub mod SavedSlots
 pub mod Counting
 pub mod SavedWaits

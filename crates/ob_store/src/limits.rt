@@ -1,8 +1,10 @@
 ghost use Rattle.std.specs.Prelude.{◌≡◌, ◌↔◌, IsOk, IfErr, IfOk};
 ghost use Rattle.ob_store.specs.Limits.{AreInRange};
 
+use ob_codec::{Cursor, ReadFault, Spelled, TextFault};
 use ob_rights::Fault;
 use pin_core::Shape;
+use std::alloc::{AllocError, Global};
 
 /// How much a manager may hold. The ranges and the defaults are this project's own (*profile*).
 #[derive(Clone, Copy, Debug, PartialEq, Eq)]
@@ -97,6 +99,55 @@ impl Limits {
             max_gen: self.max_gen,
         }
     }
+}
+
+/// Eight numbers of four bytes, in the order of the fields; [`TextFault::Value`] where one is out of its range.
+impl Spelled for Limits {
+    ghost use Rattle.ob_codec.specs.Spelling.{Any};
+    ghost use Rattle.ob_store.specs.SavedLimits.{limits_at, limits_codec, limits_text};
+
+    ghost spell = { limits_text };
+
+    ghost read_at = { limits_at };
+
+    ghost Fits = { Any };
+
+    fn write(&self, out: &mut Vec<u8>) -> Result<(), AllocError> {
+        self.slots.write(out)?;
+        self.processes.write(out)?;
+        self.threads.write(out)?;
+        self.handles.write(out)?;
+        self.waits.write(out)?;
+        self.max_pins.write(out)?;
+        self.max_gen.write(out)?;
+        self.max_recursion.write(out)
+    }
+
+    fn read(_alloc: Global, from: &mut Cursor<'_>) -> Result<Limits, ReadFault> {
+        let slots = from.four()?;
+        let processes = from.four()?;
+        let threads = from.four()?;
+        let handles = from.four()?;
+        let waits = from.four()?;
+        let max_pins = from.four()?;
+        let max_gen = from.four()?;
+        let max_recursion = from.four()?;
+        match Limits::checked(
+            slots,
+            processes,
+            threads,
+            handles,
+            waits,
+            max_pins,
+            max_gen,
+            max_recursion,
+        ) {
+            Ok(limits) => Ok(limits),
+            Err(_) => Err(ReadFault::Text(TextFault::Value)),
+        }
+    }
+
+    ghost codec = { limits_codec };
 }
 
 impl Default for Limits {
