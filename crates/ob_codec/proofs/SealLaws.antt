@@ -14,7 +14,7 @@ use Rattle.ob_codec.specs.Sealing.{loaded, sealed, with_digest, unsealed}
 use Rattle.ob_codec.specs.Spelling.{AreBytes}
 use Rattle.ob_codec.specs.Steps.{bind_ok, bytes-take, guard_passed}
 
-unsealed_again : (text : List ℕ) → unsealed (sealed text) ≡ Ok text
+pub unsealed_again : (text : List ℕ) → unsealed (sealed text) ≡ Ok text
 unsealed_again text =
     let long : length (sealed text) ≡ length text + 32 =
     length-append text (sha256 text) ∙ ap (λ (n : ℕ). length text + n) (length-sha256 text) in
@@ -26,7 +26,7 @@ unsealed_again text =
     drop_at text (sha256 text) (length (sealed text) - 32) at in
     rw (enough, front, back, (bytes_eq-Decides (sha256 text) (sha256 text)).1 refl) refl
 
-unsealed_takes : (bytes text : List ℕ) → unsealed bytes ≡ Ok text → bytes ≡ sealed text
+pub unsealed_takes : (bytes text : List ℕ) → unsealed bytes ≡ Ok text → bytes ≡ sealed text
 unsealed_takes bytes text e = by (ltb (length bytes) 32) e
   where
     front : List ℕ
@@ -43,7 +43,7 @@ unsealed_takes bytes text e = by (ltb (length bytes) 32) e
         ∙ (ap (λ (d : List ℕ). front ++ d) (sym ((bytes_eq-Decides (sha256 front) back).0 g.0)) ∙ ap sealed g.1)
 
 -- what stands before a text's digest is bytes
-front-fits : (bytes text : List ℕ) → AreBytes bytes → bytes ≡ sealed text → AreBytes text
+pub front-fits : (bytes text : List ℕ) → AreBytes bytes → bytes ≡ sealed text → AreBytes text
 front-fits bytes text fits is =
     subst AreBytes (ap (take (length text)) is ∙ take_at text (sha256 text) (length text) refl)
     (bytes-take (length text) bytes fits)

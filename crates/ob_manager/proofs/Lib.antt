@@ -6,3 +6,4 @@ pub mod LimitLaws
 pub mod Waited
 pub mod Rising
 pub mod OwnParts
+pub mod SavestateLaws

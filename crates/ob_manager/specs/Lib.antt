@@ -12,6 +12,7 @@ pub mod Counting
 pub mod States
 pub mod Ending
 pub mod Reaping
+pub mod Savestates
 pub mod Rising
 pub mod Waiting
 pub mod Steps

@@ -68,6 +68,13 @@ impl<K: PinKeeper> Manager<K> {
         }
     }
 
+    /// What it may hold at most.
+    pub fn limits(&self) -> Limits
+        ensures { result ≡ self.now.state.limits }
+    {
+        self.store.limits()
+    }
+
     /// What holds whenever no call is under way: each slot is empty or holds one object, which has a body exactly where
     /// entries or pending waits refer to it; each of these refers to an object that is there; no name stands twice; and
     /// no pending wait is ready.

@@ -1,7 +1,6 @@
 -- Slots that are kept may be so, and those that have a spelling fit.
-use Rattle.std.proofs.Common.{◌≡◌, ℕ, zero, suc, ◌+◌, ◌<◌, ◌≤◌, ◌&&◌, eqb, leb, Bool, true, false, List, [], ◌∷◌, length, get_or, map, Option, Some, None, refl, sym, ap, ◌∙◌, subst, arith}
-use Rattle.std.specs.Prelude.{is_none}
-use Rattle.std.specs.List.{AllByRecursion, range_with_len}
+use Rattle.std.proofs.Common.{◌≡◌, ℕ, suc, ◌<◌, ◌&&◌, eqb, leb, Bool, true, false, List, [], ◌∷◌, length, get_or, Option, Some, None, refl, sym, ap, ◌∙◌, subst, arith}
+use Rattle.std.specs.List.{AllByRecursion}
 use Rattle.std.proofs.lemmas.Bool.{eq-eqb, le-leb, lt-ltb}
 use Rattle.std.proofs.lemmas.List.FromFn.{get_or-map-range_with_len, length-map-range_with_len}
 use Rattle.ob_codec.specs.Steps.{true-both}
@@ -13,8 +12,7 @@ use Rattle.pin_core.specs.Worlds.{slot_of}
 use Rattle.ob_body.specs.declared.body.Body.{Body}
 use Rattle.ob_body.specs.Body.{due_of}
 use Rattle.ob_waits.specs.Form.{Form, IsAfter, form_of, slot_due}
-use Rattle.ob_store.specs.declared.saved_slot.SavedSlot.{SavedSlot}
-use Rattle.ob_store.specs.Agreement.{Agrees, IsTied, vacant_phase}
+use Rattle.ob_store.specs.Agreement.{Agrees, IsTied}
 use Rattle.ob_store.specs.Kept.{AreFormed, form_in, unset}
 use Rattle.ob_store.specs.Objects.{Object, ObjectsState}
 use Rattle.ob_store.specs.SavedObjects.{object_saved, slot_saved, slots_saved}

@@ -45,6 +45,7 @@ pub mod SavedCodecs
 pub mod CountingAgain
 pub mod WholeAgain
 pub mod SavedAgain
+pub mod SavedStoreLaws
 pub mod TickLaws
 pub mod Yielding
 pub mod OpeningLaws

@@ -32,6 +32,11 @@ pub five_behind : (o a b c d e v w x y z : List ℕ) → v ≡ o ++ a → w ≡ 
     → z ≡ o ++ (a ++ (b ++ (c ++ (d ++ e))))
 five_behind o a b c d e v w x y z p q r s t = four_before o a b c d e y z (four_behind o a b c d v w x y p q r s) t
 
+pub six_behind : (o a b c d e f u v w x y z : List ℕ) → u ≡ o ++ a → v ≡ u ++ b → w ≡ v ++ c → x ≡ w ++ d → y ≡ x ++ e
+    → z ≡ y ++ f → z ≡ o ++ (a ++ (b ++ (c ++ (d ++ (e ++ f)))))
+six_behind o a b c d e f u v w x y z p1 p2 p3 p4 p5 p6 =
+    four_before o a b c d (e ++ f) x z (four_behind o a b c d u v w x p1 p2 p3 p4) (two_behind x e y z p5 f p6)
+
 pub eight_behind : (o a b c d e f g h s t u v w x y z : List ℕ) → s ≡ o ++ a → t ≡ s ++ b → u ≡ t ++ c → v ≡ u ++ d
     → w ≡ v ++ e → x ≡ w ++ f → y ≡ x ++ g → z ≡ y ++ h
     → z ≡ o ++ (a ++ (b ++ (c ++ (d ++ (e ++ (f ++ (g ++ h)))))))

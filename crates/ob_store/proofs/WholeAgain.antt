@@ -48,7 +48,8 @@ from-again births so_far slot (Some x ∷ objects) fresh apart =
     )))
     (λ j k o p is it same. (let e = apart (suc j) (suc k) o p is it same in omega (arith, e))) in
     let may : (ltb x.birth births && is_none (taken so_far x.birth)) ≡ true =
-    true-both (ltb x.birth births) (is_none (taken so_far x.birth)) (lt-ltb x.birth births new.0) (ap is_none new.1) in (
+    true-both (ltb x.birth births) (is_none (taken so_far x.birth)) (lt-ltb x.birth births new.0)
+    (ap is_none new.1) in (
       rest.0,
       ap (λ (b : Bool). cond b (Ok more) (Err Value) >>= λ (m : Births). births_from births m (suc slot) objects)
           may ∙ rest.1,

@@ -29,4 +29,5 @@ pub mod SavedWaits
 pub mod SavedBirths
 pub mod SavedNames
 pub mod SavedObjects
+pub mod SavedStore
 pub mod Giving

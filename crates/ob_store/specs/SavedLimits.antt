@@ -1,5 +1,5 @@
 -- Limits as bytes: eight numbers of four bytes, in the order of the fields.
-use Rattle.std.proofs.Common.{◌≡◌, ℕ, ◌<◌, ◌≤◌, ◌^◌, ◌&&◌, leb, Bool, true, false, List, Option, Some, None, refl, sym, ap, ◌∙◌, subst, arith}
+use Rattle.std.proofs.Common.{◌≡◌, ℕ, ◌<◌, ◌≤◌, ◌^◌, ◌&&◌, leb, Bool, true, false, List, Option, Some, None, refl, sym, ap, subst, arith}
 use Rattle.std.specs.Int.{w32, to_le_bytes}
 use Rattle.std.proofs.Math.Bridge.{le_prop}
 use Rattle.std.proofs.lemmas.Bool.{le-leb, leb-true}
@@ -172,15 +172,31 @@ low : (most n : ℕ) → most ≤ 4294967295 → (1 ≤ n) × (n ≤ most) → n
 low most n le r = omega (arith, le, r.1)
 
 there : (l : Limits) → Any l → (limits_of (numbers_of l) ≡ Some l) × NumbersFit (numbers_of l)
-there l any = (limits_back l, (
-  low 65536 l.slots (omega arith) l.in_range.slots_in_range, (
-  low 65536 l.processes (omega arith) l.in_range.processes_in_range, (
-  low 65536 l.threads (omega arith) l.in_range.threads_in_range, (
-  low 16384 l.handles (omega arith) l.in_range.handles_in_range, (
-  low 4294967295 l.waits (omega arith) l.in_range.waits_in_range, (
-  low 1073741823 l.max_pins (omega arith) l.in_range.max_pins_in_range, (
-  low 4294967295 l.max_gen (omega arith) l.in_range.max_gen_in_range,
-  low 2147483647 l.max_recursion (omega arith) l.in_range.max_recursion_in_range))))))))
+there l any = (
+  limits_back l,
+  (
+    low 65536 l.slots (omega arith) l.in_range.slots_in_range,
+    (
+      low 65536 l.processes (omega arith) l.in_range.processes_in_range,
+      (
+        low 65536 l.threads (omega arith) l.in_range.threads_in_range,
+        (
+          low 16384 l.handles (omega arith) l.in_range.handles_in_range,
+          (
+            low 4294967295 l.waits (omega arith) l.in_range.waits_in_range,
+            (
+              low 1073741823 l.max_pins (omega arith) l.in_range.max_pins_in_range,
+              (
+                low 4294967295 l.max_gen (omega arith) l.in_range.max_gen_in_range,
+                low 2147483647 l.max_recursion (omega arith) l.in_range.max_recursion_in_range,
+              ),
+            ),
+          ),
+        ),
+      ),
+    ),
+  ),
+)
 
 back : (n : Numbers) (l : Limits) → NumbersFit n → limits_of n ≡ Some l → (numbers_of l ≡ n) × Any l
 back n l fits e = (by (are_in_range n) refl e, tt)

@@ -45,6 +45,7 @@ mod saved;
 mod saved_processes;
 mod saved_slot;
 mod saved_waits;
+mod savestate;
 mod saving;
 mod seat;
 mod seats;
@@ -63,10 +64,7 @@ mod walking;
 pub use creation::Creation;
 pub use found::Found;
 pub use label::Label;
-pub use law::{
-    law_of_counting, law_of_entered_names, law_of_spelled_objects, law_of_spelled_processes,
-    law_of_whole_objects,
-};
+pub use law::law_of_saved_stores;
 pub use limits::Limits;
 pub use ob_waits::LAST_MOMENT;
 pub use objects::Objects;

@@ -29,6 +29,7 @@ mod readers;
 mod reading;
 mod reaping;
 mod recording;
+mod saving;
 mod signaling;
 mod status;
 mod timing;

@@ -5,4 +5,4 @@ mod limits;
 mod status;
 
 pub use limits::{Bounds, limits_of};
-pub use status::{SUCCESS, TOO_SMALL};
+pub use status::{INVALID_DATA, SUCCESS, TOO_SMALL};

@@ -5,5 +5,8 @@
 /// The call was answered.
 pub const SUCCESS: u32 = 0;
 
+/// `ERROR_INVALID_DATA`.
+pub const INVALID_DATA: u32 = 13;
+
 /// `ERROR_INSUFFICIENT_BUFFER`.
 pub const TOO_SMALL: u32 = 122;

@@ -1,4 +1,4 @@
-use Rattle.std.proofs.Common.{◌≡◌, ◌∙◌, ◌++◌, ◌<◌, List, ℕ, ap, map, subst, sym, arith, inl, inr}
+use Rattle.std.proofs.Common.{◌≡◌, ◌∙◌, ◌++◌, List, ℕ, ap, map, subst, sym, arith, inl, inr}
 use Rattle.std.specs.List.{flat_map, range_with_len}
 use Rattle.std.proofs.lemmas.Bool.{cases_lt}
 use Rattle.std.proofs.lemmas.List.{flat_map_more}
@@ -16,10 +16,10 @@ loop-slot-preserved g c =
     record {
       text =
           c.in_ok-write_slot.ensures.text
-              ∙ ap (λ (t : List ℕ). t ++ slot_text (slot_saved s k)) c.loop-slot.invariant.text
-              ∙ flat_map_more slot_text c.args.out.now.items (map (slot_saved s) (range_with_len 0 k)) (slot_saved s k)
-              ∙ ap (λ (xs : List SavedSlot). c.args.out.now.items ++ flat_map slot_text xs)
-              (sym (map-range_with_len_more (slot_saved s) 0 k k (omega arith)));
+          ∙ ap (λ (t : List ℕ). t ++ slot_text (slot_saved s k)) c.loop-slot.invariant.text
+          ∙ flat_map_more slot_text c.args.out.now.items (map (slot_saved s) (range_with_len 0 k)) (slot_saved s k)
+          ∙ ap (λ (xs : List SavedSlot). c.args.out.now.items ++ flat_map slot_text xs)
+          (sym (map-range_with_len_more (slot_saved s) 0 k k (omega arith)));
       fits = λ j lt. elim (cases_lt j k) [
         | inl below ↦ c.loop-slot.invariant.fits j below
         | inr above ↦ (let e : k ≡ j = omega (arith, lt, above) in

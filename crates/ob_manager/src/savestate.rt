@@ -1,0 +1,86 @@
+ghost use Rattle.std.specs.Prelude.{◌≡◌, IfOk, Ok};
+ghost use Rattle.ob_codec.specs.Reading.{Gives, GivesAll, number_at, where_at};
+ghost use Rattle.pin_core.specs.Opened.{Opens};
+ghost use Rattle.pin_words.specs.Keepers.{IsFreshWith};
+ghost use Rattle.ob_manager.specs.Savestates.{is_mark, load, saved};
+ghost use Rattle.ob_store.specs.SavedStore.{reopened};
+ghost use Rattle.ob_store.specs.State.{shape_of};
+ghost use Rattle.std.specs.Int.{w64};
+
+use crate::manager::Manager;
+use ob_codec::{Cursor, ReadFault, Spelled, TextFault, seal, unseal};
+use ob_store::Store;
+use pin_core::Slot;
+use pin_words::{LockedPins, PinKeeper};
+use std::alloc::{AllocError, Global};
+
+// The letters OBJS, and the version of the format: 1.
+const MARK: u64 = 0x1_534a_424f;
+
+/// Reads the mark of a savestate of this version.
+fn read_mark(from: &mut Cursor<'_>) -> Result<u64, ReadFault>
+    ensures { Gives (λ mark. mark) result (where_at is_mark (number_at w64) from.old) from.new }
+{
+    let mark = from.eight()?;
+    if mark != MARK {
+        return Err(ReadFault::Text(TextFault::Value));
+    }
+    Ok(mark)
+}
+
+impl<K: PinKeeper> Manager<K> {
+    /// The whole state as bytes, which [`load`](Manager::load) reads again: a mark with the format's version, the
+    /// state, and the SHA-256 digest of both, in the order and the widths of docs/SAVESTATES.md. One state has one
+    /// spelling.
+    ///
+    /// The copies that readers hold aren't part of it, and none of their words is looked at, so readers need not stop.
+    /// Linear in what is there; the refusal is want of memory.
+    pub fn save(&self, alloc: Global) -> Result<Vec<u8>, AllocError>
+        ensures saved { IfOk result (λ bytes. bytes.items ≡ saved self.now) }
+        // What is saved loads to the very same state, whatever that is; its keeper begins with its slots.
+        ensures again { IfOk result (λ bytes. load bytes.items ≡ Ok (reopened self.now)) }
+    {
+        let mut bytes = Vec::new(alloc);
+        MARK.write(&mut bytes)?;
+        self.store.write(&mut bytes)?;
+        seal(&mut bytes)?;
+        Ok(bytes)
+    }
+}
+
+impl Manager<LockedPins> {
+    /// The manager of a savestate, over a keeper under a lock, with all that holds of any other. Nobody holds a copy of
+    /// an Id yet; [`over`](Manager::over) puts it over another keeper.
+    ///
+    /// Refused with the first thing that is wrong with the bytes, the digest before all else, and with want of memory.
+    /// Bytes that lie about a count ask for no more memory than what stands behind it. Linear in the bytes, but that
+    /// objects are ordered by when they were made.
+    pub fn load(alloc: Global, bytes: &[u8]) -> Result<Manager<LockedPins>, ReadFault>
+        ensures { GivesAll (λ manager. manager) result (load bytes.now) }
+    {
+        let text = unseal(bytes)?;
+        let mut from = Cursor::new(text);
+        let _mark = read_mark(&mut from)?;
+        let store = Store::read(alloc, &mut from)?;
+        from.end()?;
+        Ok(Manager { store })
+    }
+
+    /// The slots, with which a keeper has to begin that the manager is to go on over.
+    pub fn slots(&self) -> &[Slot]
+        ensures slots { result.now ≡ self.now.keeper.slots }
+        ensures opens { Opens (shape_of self.now.state.limits) self.now.keeper.slots }
+    {
+        self.store.slots()
+    }
+
+    /// The manager over another keeper, which begins with the slots of this one. It takes no memory.
+    pub fn over<K: PinKeeper>(self, keeper: K) -> Manager<K>
+        requires { IsFreshWith (K.kept keeper) (shape_of self.state.limits) self.keeper.slots }
+        ensures { result ≡ record self { keeper = K.kept keeper } }
+    {
+        Manager {
+            store: self.store.over(keeper),
+        }
+    }
+}

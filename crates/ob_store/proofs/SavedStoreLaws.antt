@@ -1,0 +1,291 @@
+-- A store that is kept is read again as it was written, and what is read of a store was written so.
+use Rattle.std.proofs.Common.{◌≡◌, ℕ, ◌+◌, ◌<◌, ◌≤◌, ◌^◌, ◌&&◌, leb, ltb, Bool, true, List, [], ◌++◌, length, get_or, map, Option, Some, None, Ok, append_assoc, refl, sym, ap, ◌∙◌, subst, arith}
+use Rattle.std.specs.Int.{w64, to_le_bytes}
+use Rattle.std.specs.List.{AllByRecursion}
+use Rattle.std.proofs.lemmas.Bool.{eq-eqb, eqb-true, le-leb, leb-true, lt-ltb}
+use Rattle.std.proofs.lemmas.List.{ext_get_or, get_or-map, length-map}
+use Rattle.std.proofs.lemmas.List.FromFn.{get_or-map-range_with_len, length-map-range_with_len}
+use Rattle.ob_codec.specs.Codecs.{u64_codec, where_codec}
+use Rattle.ob_codec.specs.Laws.{IsCodec, Takes}
+use Rattle.ob_codec.specs.Reading.{list_at, where_at}
+use Rattle.ob_codec.specs.Sparse.{sparse_at}
+use Rattle.ob_codec.specs.Spelling.{AreBytes}
+use Rattle.ob_codec.specs.Steps.{bind_ok, both-true, guard_passed, ok_is, true-both}
+use Rattle.ob_codec.specs.declared.fault.TextFault.TheVariants.{Value}
+use Rattle.pin_core.specs.declared.id.Id.{Id}
+use Rattle.pin_core.specs.declared.shape.Shape.{Shape}
+use Rattle.pin_core.specs.Worlds.{opening_slot}
+use Rattle.ob_tables.specs.Spelling.{TablesFit, are_bounded, is_short, table_at, tables_at, tables_text, with_limits}
+use Rattle.ob_tables.specs.SpellingLaws.{tables_again, tables_take}
+use Rattle.ob_tables.specs.Tables.{HandleTables, IsBounded}
+use Rattle.ob_tables.specs.declared.entry.Entry.{Entry}
+use Rattle.ob_waits.specs.Spelling.{WaitsFit, are_below, are_within, can_be, is_within, wait_at, waits_at, waits_text, with_rest}
+use Rattle.ob_waits.specs.SpellingLaws.{waits_again, waits_take}
+use Rattle.ob_waits.specs.Rules.{thread_of}
+use Rattle.ob_waits.specs.Waits.{WaitList, ids_of, nowhere}
+use Rattle.ob_waits.specs.declared.wait.Wait.{Wait}
+use Rattle.ob_store.specs.declared.limits.Limits.{Limits}
+use Rattle.ob_store.specs.declared.saved_slot.SavedObject.{SavedObject}
+use Rattle.ob_store.specs.declared.saved_slot.SavedSlot.{SavedSlot}
+use Rattle.ob_store.specs.Agreement.{IsTied}
+use Rattle.ob_store.specs.Kept.{IsKept, IsLive, IsSound}
+use Rattle.ob_store.specs.Objects.{ObjectsState}
+use Rattle.ob_store.specs.Parts.{PartsState, state_of, whole_of}
+use Rattle.ob_store.specs.Processes.{ProcessesState}
+use Rattle.ob_store.specs.SavedLimits.{limits_at, limits_codec, limits_text}
+use Rattle.ob_store.specs.SavedObjects.{begun_over, objects_at, objects_text, slot_saved, slots_saved}
+use Rattle.ob_store.specs.SavedProcesses.{ListsFit, processes_at, processes_text}
+use Rattle.ob_store.specs.SavedSlots.{SlotFits, keeper_slot, keeper_slot_with}
+use Rattle.ob_store.specs.SavedStore.{are_tabled, is_moment, moment_at, parts_at, reopened, store_at, store_text, tables_for, whole_with}
+use Rattle.ob_store.specs.State.{Whole, generation_of, shape_of}
+use Rattle.ob_store.proofs.NamedLaws.{place_counted, there_within}
+use Rattle.ob_store.proofs.PlacedLaws.{live_within}
+use Rattle.ob_store.proofs.SavedAgain.{objects_again}
+use Rattle.ob_store.proofs.SavedCodecs.{objects_take}
+use Rattle.ob_store.proofs.SavedProcessLaws.{kept_fits, processes_codec}
+use Rattle.ob_store.proofs.SavedObjectLaws.{none_saved}
+use Rattle.ob_store.proofs.SavedWaitLaws.{all_at, all_from}
+
+-- six texts, and what stands behind them
+behind_six : (a b c d e f rest : List ℕ) → (a ++ (b ++ (c ++ (d ++ (e ++ f))))) ++ rest
+    ≡ a ++ (b ++ (c ++ (d ++ (e ++ (f ++ rest)))))
+behind_six a b c d e f rest =
+    append_assoc a (b ++ (c ++ (d ++ (e ++ f)))) rest ∙ ap (λ (t : List ℕ). a ++ t)
+    (append_assoc b (c ++ (d ++ (e ++ f))) rest ∙ ap (λ (t : List ℕ). b ++ t)
+    (append_assoc c (d ++ (e ++ f)) rest ∙ ap (λ (t : List ℕ). c ++ t)
+    (append_assoc d (e ++ f) rest ∙ ap (λ (t : List ℕ). d ++ t) (append_assoc e f rest))))
+
+moment_codec : IsCodec (to_le_bytes w64) moment_at (λ n. (n < 2 ^ 64) × (is_moment n ≡ true))
+moment_codec = where_codec u64_codec is_moment
+
+-- slots keep their generations
+kept_generation : (generation : ℕ) (retired : Bool) (object : Option SavedObject)
+    → (keeper_slot_with generation retired object).generation ≡ generation
+kept_generation generation retired None = refl
+kept_generation generation retired (Some o) = refl
+
+generations_back : (s : ObjectsState) → length s.keeper.slots ≡ s.keeper.shape.slots
+    → map generation_of (map keeper_slot (slots_saved s)) ≡ map generation_of s.keeper.slots
+generations_back s wide =
+    ext_get_or 0 (map generation_of (map keeper_slot xs)) (map generation_of s.keeper.slots)
+    (length-map (map keeper_slot xs) generation_of ∙ length-map xs keeper_slot ∙ long ∙ sym wide ∙
+    sym (length-map s.keeper.slots generation_of))
+    (λ k lt. (let here : k < n = omega (
+      arith,
+      lt,
+      length-map (map keeper_slot xs) generation_of,
+      length-map xs keeper_slot,
+      long,
+    ) in
+    get_or-map generation_of (map keeper_slot xs) k opening_slot 0
+    (omega (arith, here, length-map xs keeper_slot, long))
+    ∙ ap generation_of (get_or-map keeper_slot xs k none_saved opening_slot (omega (arith, here, long)))
+    ∙ kept_generation (get_or xs k none_saved).generation (get_or xs k none_saved).retired
+    (get_or xs k none_saved).object
+    ∙ ap (λ (x : SavedSlot). x.generation)
+    (get_or-map-range_with_len (slot_saved s) 0 n k k none_saved here (omega arith))
+    ∙ sym (get_or-map generation_of s.keeper.slots k opening_slot 0 (omega (arith, here, wide)))))
+  where
+    n : ℕ
+    n = s.keeper.shape.slots
+
+    xs : List SavedSlot
+    xs = slots_saved s
+
+    long : length xs ≡ n
+    long = length-map-range_with_len (slot_saved s) 0 n
+
+-- tables that fit, within the limits
+tables_bounded : (limits : Limits) (t : HandleTables) → t.process_limit ≡ limits.processes → t.handle_limit ≡
+    limits.handles → TablesFit t → IsBounded t.process_limit t.handle_limit t.tables
+tables_bounded limits t few short fits =
+    let b = both-true (leb 1 (length t.tables) && leb (length t.tables) (t.process_limit + 1)) _ fits.1 in
+    let n = both-true (leb 1 (length t.tables)) (leb (length t.tables) (t.process_limit + 1)) b.0 in
+    record {
+      few_processes = (let most = limits.in_range.processes_in_range.1 in omega (arith, few, most));
+      few_handles = (let most = limits.in_range.handles_in_range.1 in omega (arith, short, most));
+      first = leb-true 1 (length t.tables) n.0;
+      within = leb-true (length t.tables) (t.process_limit + 1) n.1;
+      short = λ process. leb-true (length (get_or t.tables process [])) t.handle_limit
+          (all_at (is_short t.handle_limit) t.tables [] (le-leb 0 t.handle_limit (omega arith)) b.1 process);
+    }
+
+-- the threads and the slots of waits that are kept are within the limits
+module _ (p : PartsState) (kept : IsKept p) (tied : IsTied p.objects) where
+  slots-there : (n : ℕ) → n < length p.waits.waits
+      → are_below p.limits.slots (ids_of (get_or p.waits.waits n None)) ≡ true
+  slots-there n within = all_from (λ (id : Id). ltb id.slot p.limits.slots)
+      (ids_of (get_or p.waits.waits n None)) nowhere
+      (λ i lt. (let id = get_or (ids_of (get_or p.waits.waits n None)) i nowhere in
+      let there = there_within p.objects.objects id (kept.sound.named.blocks id (place_counted p.objects.objects
+      p.tables.tables p.waits.waits kept.sound.named n i within lt)) in
+      lt-ltb id.slot p.limits.slots (omega (
+        arith,
+        there,
+        tied.agreed.long,
+        ap (λ (z : Shape). z.slots) kept.sound.limited.shape_is,
+      ))))
+
+  wait-within : (w : Option Wait) → ((t : ℕ) → thread_of w ≡ Some t → IsLive p.processes.threads t)
+      → are_below p.limits.slots (ids_of w) ≡ true → is_within (p.limits.threads + 1) p.limits.slots w ≡ true
+  wait-within None live below = refl
+  wait-within (Some w) live below = true-both (ltb w.thread (p.limits.threads + 1)) (are_below p.limits.slots _)
+      (lt-ltb w.thread (p.limits.threads + 1) (let lt = live_within p.processes.threads w.thread (live w.thread refl) in
+      let few = kept.sound.processes_kept.few_threads in omega (arith, lt, few)))
+      below
+
+  pub waits_within : are_within (p.limits.threads + 1) p.limits.slots p.waits.waits ≡ true
+  waits_within = all_from (is_within (p.limits.threads + 1) p.limits.slots) p.waits.waits None
+      (λ n lt. wait-within (get_or p.waits.waits n None) (kept.sound.of_live.waiters n) (slots-there n lt))
+
+-- the parts of a store are read again
+module _ (p : PartsState) (kept : IsKept p) (tied : IsTied p.objects) (processes : ListsFit p.processes)
+    (tables : TablesFit p.tables) (waits : WaitsFit p.waits)
+    (objects : AllByRecursion (SlotFits p.objects.keeper.shape.max_gen p.waits.clock) (slots_saved p.objects)) where
+  abbrev sound : IsSound p
+  sound = kept.sound
+
+  abbrev over : ObjectsState
+  over = record p.objects {
+    keeper =
+        begun_over (shape_of p.limits) (map keeper_slot (slots_saved p.objects));
+  }
+
+  processes_again : (rest : List ℕ) → processes_at p.limits.processes p.limits.threads
+      (processes_text p.processes ++ rest) ≡ Ok (p.processes, rest)
+  processes_again rest = (processes_codec p.limits.processes p.limits.threads).again p.processes rest
+      (kept_fits p.limits p.processes (length p.tables.tables) sound.processes_kept processes)
+
+  tables_back : (rest : List ℕ) → tables_for p.limits p.processes
+      (tables_text p.tables.tables ++ rest) ≡ Ok (p.tables, rest)
+  tables_back rest =
+      let read : tables_at p.limits.processes p.limits.handles (tables_text p.tables.tables ++ rest)
+      ≡ Ok (p.tables, rest) = subst (λ (z : ℕ × ℕ). tables_at z.0 z.1 (tables_text p.tables.tables ++ rest)
+      ≡ Ok (p.tables, rest)) (λ i. (sound.limited.processes_are i, sound.limited.handles_are i))
+      (tables_again p.tables rest tables) in
+      rw (read, eq-eqb (length p.tables.tables) (length p.processes.processes) sound.processes_kept.tabled) refl
+
+  waits_back : (rest : List ℕ) → waits_at p.limits.waits p.waits.clock (p.limits.threads + 1) p.limits.slots
+      (waits_text p.waits.waits ++ rest) ≡ Ok (p.waits, rest)
+  waits_back rest = subst (λ (z : ℕ). waits_at z p.waits.clock (p.limits.threads + 1) p.limits.slots
+      (waits_text p.waits.waits ++ rest) ≡ Ok (p.waits, rest)) sound.limited.waits_are
+      (waits_again (p.limits.threads + 1) p.limits.slots p.waits rest waits (waits_within p kept tied))
+
+  same_whole : whole_with p.limits p.processes p.tables p.waits over ≡ reopened (whole_of p)
+  same_whole = λ i. record (reopened (whole_of p)) {
+    state =
+        record (state_of p) { generations = generations_back p.objects tied.agreed.wide i };
+  }
+
+  objects_back : (rest : List ℕ) → objects_at p.limits p.processes.threads p.tables.tables p.waits
+      (objects_text p.objects ++ rest) ≡ Ok ((over, p.rows), rest)
+  objects_back rest = objects_again p.objects tied p.limits p.tables.process_limit p.tables.handle_limit
+      p.processes.threads p.tables.tables p.waits p.rows rest sound.limited.shape_is sound.counted sound.named
+      sound.of_live (record { room = sound.room; settled = kept.settled }) sound.listing
+      (tables_bounded p.limits p.tables sound.limited.processes_are sound.limited.handles_are tables)
+      (subst (λ (k : Shape). AllByRecursion (SlotFits k.max_gen p.waits.clock) (slots_saved p.objects))
+      sound.limited.shape_is objects)
+
+  parts_again : (rest : List ℕ) → parts_at p.limits p.waits.clock (processes_text p.processes
+      ++ (tables_text p.tables.tables ++ (waits_text p.waits.waits ++ (objects_text p.objects ++ rest))))
+      ≡ Ok (reopened (whole_of p), rest)
+  parts_again rest =
+      let e = tables_text p.tables.tables ++ (waits_text p.waits.waits ++ (objects_text p.objects ++ rest)) in
+      let t = waits_text p.waits.waits ++ (objects_text p.objects ++ rest) in
+      let read : parts_at p.limits p.waits.clock (processes_text p.processes ++ e)
+      ≡ Ok (whole_with p.limits p.processes p.tables p.waits over, rest) =
+      rw (processes_again e, tables_back t, waits_back (objects_text p.objects ++ rest), objects_back rest) refl in
+      read ∙ ap (λ (w : Whole). Ok (w, rest)) same_whole
+
+  pub store_again : (moment : p.waits.clock ≤ 9223372036854775807) (rest : List ℕ)
+      → store_at (store_text (whole_of p) ++ rest) ≡ Ok (reopened (whole_of p), rest)
+  store_again moment rest =
+      let a = limits_text p.limits in
+      let b = to_le_bytes w64 p.waits.clock in
+      let c = processes_text p.processes in
+      let d = tables_text p.tables.tables in
+      let e = waits_text p.waits.waits in
+      let f = objects_text p.objects in
+      let r = c ++ (d ++ (e ++ (f ++ rest))) in
+      let limits = limits_codec.again p.limits (b ++ r) tt in
+      let clock = moment_codec.again p.waits.clock r (
+        omega (arith, moment),
+        le-leb p.waits.clock 9223372036854775807 moment,
+      ) in
+      let read : store_at (a ++ (b ++ r)) ≡ Ok (reopened (whole_of p), rest) =
+      rw (limits, clock) (parts_again rest) in
+      ap store_at (behind_six a b c d e f rest) ∙ read
+
+-- tables that were read have the limits that were asked for, and there is one for each process number
+pub tables_read : (limits : Limits) (p : ProcessesState) (bytes : List ℕ) (t : HandleTables) (rest : List ℕ)
+    → tables_for limits p bytes ≡ Ok (t, rest)
+    → (t.process_limit ≡ limits.processes) × ((t.handle_limit ≡ limits.handles)
+    × (length t.tables ≡ length p.processes))
+tables_read limits p bytes t rest e =
+    let a = bind_ok (tables_at limits.processes limits.handles bytes) _ (t, rest) e in
+    let g = guard_passed (are_tabled p a.0.0) Value a.0 (t, rest) a.2 in
+    let x = bind_ok (where_at (are_bounded limits.processes limits.handles) (list_at table_at) bytes)
+    (λ (x : List (List (Option Entry)) × List ℕ). Ok (with_limits limits.processes limits.handles x.0, x.1)) a.0 a.1 in
+    let q : (with_limits limits.processes limits.handles x.0.0, x.0.1) ≡ (t, rest) =
+    ok_is (with_limits limits.processes limits.handles x.0.0, x.0.1) a.0 x.2 ∙ g.1 in (
+      sym (ap (λ (z : HandleTables × List ℕ). z.0.process_limit) q),
+      (
+        sym (ap (λ (z : HandleTables × List ℕ). z.0.handle_limit) q),
+        sym (ap (λ (z : HandleTables × List ℕ). length z.0.tables) g.1)
+            ∙ eqb-true (length a.0.0.tables) (length p.processes) g.0,
+      ),
+    )
+
+-- so were the waits, at the moment that was asked for
+waits_moment : (limit clock threads slots : ℕ) (bytes : List ℕ) (list : WaitList) (rest : List ℕ)
+    → waits_at limit clock threads slots bytes ≡ Ok (list, rest) → list.clock ≡ clock
+waits_moment limit clock threads slots bytes list rest e =
+    let x = bind_ok (where_at (are_within threads slots) (where_at (can_be limit clock) (sparse_at wait_at)) bytes)
+    (λ (x : List (Option Wait) × List ℕ). Ok (with_rest limit clock x.0, x.1)) (list, rest) e in
+    sym (ap (λ (z : WaitList × List ℕ). z.0.clock) (ok_is (with_rest limit clock x.0.0, x.0.1) (list, rest) x.2))
+
+tables_were : (limits : Limits) (p : ProcessesState) (bytes : List ℕ) (t : HandleTables) (rest : List ℕ)
+    → AreBytes bytes → tables_for limits p bytes ≡ Ok (t, rest) → Takes bytes (tables_text t.tables) rest
+tables_were limits p bytes t rest are e =
+    let a = bind_ok (tables_at limits.processes limits.handles bytes) _ (t, rest) e in
+    let g = guard_passed (are_tabled p a.0.0) Value a.0 (t, rest) a.2 in
+    subst (λ (z : HandleTables × List ℕ). Takes bytes (tables_text z.0.tables) z.1) g.1
+    (tables_take limits.processes limits.handles bytes a.0.0 a.0.1 are a.1).0
+
+pub store_takes : (bytes : List ℕ) (w : Whole) (rest : List ℕ) → AreBytes bytes → store_at bytes ≡ Ok (w, rest)
+    → Takes bytes (store_text w) rest
+store_takes bytes w rest are e =
+    let a = bind_ok (limits_at bytes) _ (w, rest) e in
+    let limits = a.0.0 in
+    let la = (limits_codec.takes bytes limits a.0.1 are a.1).0 in
+    let b = bind_ok (moment_at a.0.1) _ (w, rest) a.2 in
+    let lb = (moment_codec.takes a.0.1 b.0.0 b.0.1 la.rest_fits b.1).0 in
+    let c = bind_ok (processes_at limits.processes limits.threads b.0.1) _ (w, rest) b.2 in
+    let p = c.0.0 in
+    let lc = ((processes_codec limits.processes limits.threads).takes b.0.1 p c.0.1 lb.rest_fits c.1).0 in
+    let d = bind_ok (tables_for limits p c.0.1) _ (w, rest) c.2 in
+    let t = d.0.0 in
+    let ld = tables_were limits p c.0.1 t d.0.1 lc.rest_fits d.1 in
+    let f = bind_ok (waits_at limits.waits b.0.0 (limits.threads + 1) limits.slots d.0.1) _ (w, rest) d.2 in
+    let list = f.0.0 in
+    let lf = (waits_take limits.waits b.0.0 (limits.threads + 1) limits.slots d.0.1 list f.0.1 ld.rest_fits f.1).0 in
+    let g = bind_ok (objects_at limits p.threads t.tables list f.0.1) _ (w, rest) f.2 in
+    let o = g.0.0.0 in
+    let lg = objects_take limits p.threads t.tables list f.0.1 o g.0.0.1 g.0.1 lf.rest_fits g.1 in
+    let q : (whole_with limits p t list o, g.0.1) ≡ (w, rest) =
+    ok_is (whole_with limits p t list o, g.0.1) (w, rest) g.2
+    in
+    let moment = waits_moment limits.waits b.0.0 (limits.threads + 1) limits.slots d.0.1 list f.0.1 f.1 in
+    let texts : bytes ≡ limits_text limits ++ (to_le_bytes w64 b.0.0 ++ (processes_text p ++ (tables_text t.tables
+    ++ (waits_text list.waits ++ (objects_text o ++ g.0.1))))) =
+    la.parts ∙ ap (λ (z : List ℕ). limits_text limits ++ z) (lb.parts ∙ ap (λ (z : List ℕ). to_le_bytes w64 b.0.0 ++ z)
+    (lc.parts ∙ ap (λ (z : List ℕ). processes_text p ++ z) (ld.parts ∙ ap (λ (z : List ℕ). tables_text t.tables ++ z)
+    (lf.parts ∙ ap (λ (z : List ℕ). waits_text list.waits ++ z) lg.parts)))) in
+    subst (λ (z : Whole × List ℕ). Takes bytes (store_text z.0) z.1) q (record {
+      parts =
+          subst (λ (n : ℕ). bytes ≡ limits_text limits ++ (to_le_bytes w64 n ++ (processes_text p
+          ++ (tables_text t.tables ++ (waits_text list.waits ++ (objects_text o ++ g.0.1)))))) (sym moment) texts
+          ∙ sym (behind_six (limits_text limits) (to_le_bytes w64 list.clock) (processes_text p)
+          (tables_text t.tables) (waits_text list.waits) (objects_text o) g.0.1);
+      rest_fits = lg.rest_fits;
+    })

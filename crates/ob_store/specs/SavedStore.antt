@@ -1,0 +1,89 @@
+-- A store as bytes: its limits, the moment, processes and threads, handle tables, waits, and slots with their objects.
+use Rattle.std.specs.Prelude.{ℕ, ◌+◌, ◌==◌, nat_le, Bool, List, [], ◌++◌, length, map, Ok}
+use Rattle.std.specs.Int.{w64, to_le_bytes}
+use Rattle.ob_codec.specs.Reading.{◌>>=◌, Read, number_at, where_at}
+use Rattle.ob_tables.specs.Spelling.{tables_at, tables_text}
+use Rattle.ob_tables.specs.Tables.{HandleTables}
+use Rattle.ob_waits.specs.Spelling.{waits_at, waits_text}
+use Rattle.ob_waits.specs.Waits.{WaitList}
+use Rattle.ob_store.specs.declared.limits.Limits.{Limits}
+use Rattle.ob_store.specs.Objects.{ObjectsState}
+use Rattle.ob_store.specs.Processes.{ProcessesState}
+use Rattle.ob_store.specs.SavedLimits.{limits_at, limits_text}
+use Rattle.ob_store.specs.SavedObjects.{begun_over, objects_at, objects_text, slots_saved}
+use Rattle.ob_store.specs.SavedProcesses.{processes_at, processes_text}
+use Rattle.ob_store.specs.SavedSlots.{keeper_slot}
+use Rattle.ob_store.specs.State.{Whole, generation_of, shape_of}
+
+-- the processes and threads, and the objects of a state, of which no count is saved
+abbrev pub processes_in : Whole → ProcessesState
+processes_in w = record { processes = w.state.processes; threads = w.state.threads }
+
+abbrev pub objects_in : Whole → ObjectsState
+objects_in w = record {
+  objects = w.state.objects;
+  seen = record { bodies = w.state.bodies; handles = []; blocks = [] };
+  retired = w.state.retired;
+  births = w.state.births;
+  keeper = w.keeper;
+}
+
+abbrev pub store_text : Whole → List ℕ
+store_text w = limits_text w.state.limits ++ (to_le_bytes w64 w.state.clock ++ (processes_text (processes_in w)
+    ++ (tables_text w.state.tables ++ (waits_text w.state.waits ++ objects_text (objects_in w)))))
+
+-- a moment: none is after the last
+abbrev pub is_moment : ℕ → Bool
+is_moment n = nat_le n 9223372036854775807
+
+abbrev pub moment_at : List ℕ → Read ℕ
+moment_at = where_at is_moment (number_at w64)
+
+-- whether there is a table for each process number
+abbrev pub are_tabled : ProcessesState → HandleTables → Bool
+are_tabled p t = length t.tables == length p.processes
+
+-- the state that the parts say, and what their keeper says
+abbrev pub whole_with : Limits → ProcessesState → HandleTables → WaitList → ObjectsState → Whole
+whole_with limits p t w o = record {
+  state = record {
+    limits = limits;
+    processes = p.processes;
+    threads = p.threads;
+    tables = t.tables;
+    objects = o.objects;
+    bodies = o.seen.bodies;
+    generations = map generation_of o.keeper.slots;
+    retired = o.retired;
+    births = o.births;
+    waits = w.waits;
+    clock = w.clock;
+  };
+  keeper = o.keeper;
+}
+
+-- handle tables, one for each process number
+abbrev pub tables_for : Limits → ProcessesState → List ℕ → Read HandleTables
+tables_for limits p = where_at (are_tabled p) (tables_at limits.processes limits.handles)
+
+-- what stands behind the limits and the moment
+abbrev pub parts_at : Limits → ℕ → List ℕ → Read Whole
+parts_at limits clock bytes = do
+  p ← processes_at limits.processes limits.threads bytes
+  t ← tables_for limits p.0 p.1
+  w ← waits_at limits.waits clock (limits.threads + 1) limits.slots t.1
+  o ← objects_at limits p.0.threads t.0.tables w.0 w.1
+  Ok (whole_with limits p.0 t.0 w.0 o.0.0, o.1)
+
+abbrev pub store_at : List ℕ → Read Whole
+store_at bytes = do
+  limits ← limits_at bytes
+  clock ← moment_at limits.1
+  parts_at limits.0 clock.0 clock.1
+
+-- the same state over a keeper that begins with its slots, of which nobody holds any
+abbrev pub reopened : Whole → Whole
+reopened w = record w {
+  keeper =
+      begun_over (shape_of w.state.limits) (map keeper_slot (slots_saved (objects_in w)));
+}

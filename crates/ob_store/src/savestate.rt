@@ -1,0 +1,115 @@
+ghost use Rattle.std.specs.Prelude.{◌≡◌, ◌≤◌, ◌++◌, ℕ, List, IfOk, Ok, OnOk};
+ghost use Rattle.ob_codec.specs.Reading.{Gives};
+ghost use Rattle.ob_store.specs.Kept.{IsKept};
+ghost use Rattle.ob_store.specs.Parts.{parts_of, whole_of};
+ghost use Rattle.ob_store.specs.SavedStore.{moment_at, parts_at, reopened, store_at, store_text, tables_for};
+
+use crate::limits::Limits;
+use crate::objects::Objects;
+use crate::parts::Parts;
+use crate::processes::Processes;
+use crate::signaled::SignaledSlots;
+use crate::store::Store;
+use ob_codec::{Cursor, ReadFault, Spelled, TextFault};
+use ob_tables::Tables;
+use ob_waits::{LAST_MOMENT, Waits};
+use pin_words::{LockedPins, PinKeeper};
+use std::alloc::{AllocError, Global};
+
+/// Reads a moment. [`TextFault::Value`] where it is after the last.
+fn read_moment(from: &mut Cursor<'_>) -> Result<u64, ReadFault>
+    ensures read { Gives (λ moment. moment) result (moment_at from.old) from.new }
+    ensures last { IfOk result (λ moment. moment ≤ LAST_MOMENT) }
+{
+    let moment = from.eight()?;
+    if moment > LAST_MOMENT {
+        return Err(ReadFault::Text(TextFault::Value));
+    }
+    Ok(moment)
+}
+
+/// Reads handle tables, one for each process number.
+fn read_tables(
+    alloc: Global,
+    limits: Limits,
+    processes: &Processes,
+    from: &mut Cursor<'_>,
+) -> Result<Tables, ReadFault>
+    ensures { Gives (λ tables. tables) result (tables_for limits processes.now from.old) from.new }
+{
+    let tables = Tables::read(alloc, limits.processes, limits.handles, from)?;
+    if tables.given() != processes.next_process() {
+        return Err(ReadFault::Text(TextFault::Value));
+    }
+    Ok(tables)
+}
+
+/// Reads what stands behind the limits and the moment.
+fn read_parts(
+    alloc: Global,
+    limits: Limits,
+    clock: u64,
+    from: &mut Cursor<'_>,
+) -> Result<Parts<LockedPins>, ReadFault>
+    requires { clock ≤ LAST_MOMENT }
+    ensures read { Gives (λ parts. whole_of (parts_of parts)) result (parts_at limits clock from.old) from.new }
+    ensures kept { IfOk result (λ parts. IsKept (parts_of parts)) }
+{
+    let processes = Processes::read(alloc, limits.processes, limits.threads, from)?;
+    let tables = read_tables(alloc, limits, &processes, from)?;
+    let waits = Waits::read(
+        alloc,
+        limits.waits,
+        clock,
+        limits.threads + 1,
+        limits.slots,
+        from,
+    )?;
+    let (objects, names) = Objects::read(alloc, limits, &processes, &tables, &waits, from)?;
+    let signaled = SignaledSlots::new(alloc, limits.slots)?;
+    Ok(Parts {
+        limits,
+        processes,
+        tables,
+        objects,
+        waits,
+        names,
+        signaled,
+    })
+}
+
+impl Store<LockedPins> {
+    /// Reads a store that [`write`](Store::write) wrote, over a keeper under a lock that begins with its slots. Nobody
+    /// holds a copy of an Id. What is read is kept like any other store. Refused with the first thing that is wrong,
+    /// and with want of memory.
+    ///
+    /// Linear in what is there, but that objects are ordered by their births.
+    pub fn read(alloc: Global, from: &mut Cursor<'_>) -> Result<Store<LockedPins>, ReadFault>
+        ensures { Gives (λ store. store) result (store_at from.old) from.new }
+    {
+        let limits = Limits::read(alloc, from)?;
+        let clock = read_moment(from)?;
+        let parts = read_parts(alloc, limits, clock, from)?;
+        Ok(Store { parts, alloc })
+    }
+}
+
+impl<K: PinKeeper> Store<K> {
+    /// Writes the store behind some bytes, but for the copies that are held of its slots, which go with their keeper.
+    /// Where memory was wanting, part of it may stand there. Linear in what is there.
+    pub fn write(&self, out: &mut Vec<u8>) -> Result<(), AllocError>
+        ensures text { OnOk result (out.new.items ≡ out.old.items ++ store_text self.now) }
+        // It is read again as it was, whatever stands behind it.
+        ensures again { OnOk result ((rest : List ℕ) → store_at (store_text self.now ++ rest)
+            ≡ Ok (reopened self.now, rest)) }
+    {
+        let parts = &self.parts;
+        parts.objects.kept();
+        parts.limits.write(out)?;
+        parts.waits.clock().write(out)?;
+        parts.processes.write(out)?;
+        parts.tables.write(out)?;
+        parts.waits.write(out)?;
+        parts.objects.write(out)
+    }
+}
