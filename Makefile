@@ -77,7 +77,7 @@ install: all
 		> $(DESTDIR)$(LIBDIR)/cmake/obman/obman-config-version.cmake
 	mkdir -p $(DESTDIR)$(DATADIR)/docs $(DESTDIR)$(DATADIR)/bindings/rust $(DESTDIR)$(DATADIR)/bindings/python
 	cp -R examples $(DESTDIR)$(DATADIR)/
-	cp docs/C.md docs/EMBEDDING.md docs/FORMATS.md $(DESTDIR)$(DATADIR)/docs/
+	cp docs/C.md docs/EMBEDDING.md docs/FORMATS.md docs/SAVESTATES.md $(DESTDIR)$(DATADIR)/docs/
 	cp bindings/python/*.py $(DESTDIR)$(DATADIR)/bindings/python/
 	cp -R bindings/rust/Cargo.toml bindings/rust/build.rs bindings/rust/src bindings/rust/examples bindings/rust/tests $(DESTDIR)$(DATADIR)/bindings/rust/
 	if [ -x $(PROGRAM) ]; then mkdir -p $(DESTDIR)$(BINDIR) && cp $(PROGRAM) $(DESTDIR)$(BINDIR)/; fi
