@@ -9,8 +9,8 @@
  *
  * - One call at a time. Calls for one manager come from any thread, but one after another: keep a lock of your own around them.
  *   Different managers have nothing in common.
- * - om_new makes a manager and om_free ends it. In between an om_manager may be copied and moved: each copy is the same manager.
- *   A manager that was freed, or that no om_new made, is as a pointer that was freed: passing it is undefined. But om_free of an
+ * - om_new or om_load makes a manager and om_free ends it. In between an om_manager may be copied and moved: each copy is the same manager.
+ *   A manager that was freed, or that neither of them made, is as a pointer that was freed: passing it is undefined. But om_free of an
  *   om_manager of all zeros, and om_reader_free of an om_reader of all zeros, do nothing, so that one way out serves.
  * - A reader (om_reader_new) pins objects on any thread without that lock, beside calls for the manager and for other readers. It is
  *   given to one call at a time, and passed from thread to thread by a lock or a join; om_inspect takes it with the manager that it
@@ -75,6 +75,7 @@ extern "C" {
 #define OM_ERROR_ACCESS_DENIED 5u
 #define OM_ERROR_INVALID_HANDLE 6u
 #define OM_ERROR_NOT_ENOUGH_MEMORY 8u
+#define OM_ERROR_INVALID_DATA 13u
 #define OM_ERROR_INVALID_PARAMETER 87u
 #define OM_ERROR_INSUFFICIENT_BUFFER 122u
 #define OM_ERROR_BUSY 170u
@@ -146,6 +147,7 @@ static inline const char *om_error_name(uint32_t number) {
     case OM_ERROR_ACCESS_DENIED: return "ERROR_ACCESS_DENIED";
     case OM_ERROR_INVALID_HANDLE: return "ERROR_INVALID_HANDLE";
     case OM_ERROR_NOT_ENOUGH_MEMORY: return "ERROR_NOT_ENOUGH_MEMORY";
+    case OM_ERROR_INVALID_DATA: return "ERROR_INVALID_DATA";
     case OM_ERROR_INVALID_PARAMETER: return "ERROR_INVALID_PARAMETER";
     case OM_ERROR_INSUFFICIENT_BUFFER: return "ERROR_INSUFFICIENT_BUFFER";
     case OM_ERROR_BUSY: return "ERROR_BUSY";
@@ -530,6 +532,21 @@ uint32_t om_take_record(om_manager *m, char *lines, size_t capacity, size_t *wri
  * OM_ERROR_INVALID_PARAMETER for a limit out of its range; OM_ERROR_NOT_ENOUGH_MEMORY; OM_ERROR_INSUFFICIENT_BUFFER where the
  * answers don't fit: then *written says how many bytes they need, and nothing else is written. */
 uint32_t om_script(const om_limits *limits, const char *script, size_t length, char *answers, size_t capacity, size_t *written);
+
+/* ---- Savestates ---- */
+
+/* Writes the whole manager as bytes, from which om_load makes it again: limits, processes, handles, objects, names, waits and the time.
+ * What readers pin and what was recorded aren't in them, and readers need not stop. The same state is always the same bytes.
+ * `capacity` bytes stand at `bytes`; *written says how many the savestate has. With a capacity of 0 it says how many it would have.
+ * OM_ERROR_INSUFFICIENT_BUFFER where it doesn't fit: then *written says how many bytes it needs, and nothing else is written;
+ * OM_ERROR_NOT_ENOUGH_MEMORY. */
+uint32_t om_save(om_manager *m, void *bytes, size_t capacity, size_t *written);
+
+/* Makes the manager of a savestate of `length` bytes, and writes it to *m, whatever stood there: it answers each further call as the one
+ * that was saved would, but that nothing is pinned and nothing is recorded. It is ended by om_free. Any bytes may be passed: where they
+ * are no savestate, be it by one bit, they are refused, and they ask for no more memory than they are long.
+ * OM_ERROR_INVALID_DATA where the bytes are no savestate of this version; OM_ERROR_NOT_ENOUGH_MEMORY. */
+uint32_t om_load(const void *bytes, size_t length, om_manager *m);
 
 /* ---- Readers: pins without the manager's lock, on any thread ---- */
 

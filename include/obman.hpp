@@ -7,7 +7,7 @@
 //     for (const om_answer &a : m.answers()) wake(a.thread, a.code);
 //
 // A call gives a `result`: its status, and where that is no error its value. A refusal is no failure of the host but the answer of a
-// guest's call, and many hosts are built without exceptions, so none is thrown but by the making of a manager or a reader and by
+// guest's call, and many hosts are built without exceptions, so none is thrown but by the making of a manager or a reader, by a load and by
 // `value()`, where there is no value.
 #ifndef OBMAN_HPP
 #define OBMAN_HPP
@@ -199,6 +199,15 @@ public:
         return *this;
     }
     ~manager() { om_free(m_); }
+    // The manager of a savestate. Bytes that are none give the error OM_ERROR_INVALID_DATA.
+    static manager load(span<const unsigned char> bytes) {
+        om_manager m{nullptr};
+        const unsigned char none = 0;
+        if (std::uint32_t status = om_load(bytes.size() == 0 ? &none : bytes.data(), bytes.size(), &m); status != OM_SUCCESS) {
+            throw error(status);
+        }
+        return manager(m);
+    }
     om_manager *get() noexcept { return &m_; }
 
     // Processes and threads.
@@ -317,6 +326,13 @@ public:
         std::uint32_t status = om_take_record(&m_, lines.data(), lines.size(), &written);
         return {status, written};
     }
+    // The whole manager as bytes: how many they are, also where they don't fit (OM_ERROR_INSUFFICIENT_BUFFER).
+    result<std::size_t> save(span<unsigned char> bytes) noexcept {
+        std::size_t written = 0;
+        unsigned char none = 0;
+        std::uint32_t status = om_save(&m_, bytes.size() == 0 ? &none : bytes.data(), bytes.size(), &written);
+        return {status, written};
+    }
     std::size_t directory_len() noexcept { return om_directory_len(&m_); }
     result<om_row> directory_at(std::size_t at, span<char> name) noexcept {
         om_row row{};
@@ -339,6 +355,7 @@ public:
     }
 
 private:
+    explicit manager(om_manager m) noexcept : m_(m) {}
     // (no pointer that is passed is null)
     static const char *bytes(std::string_view name) noexcept { return name.empty() ? "" : name.data(); }
     // A call whose last parameter is where its value goes.

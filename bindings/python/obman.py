@@ -51,6 +51,7 @@ ERRORS = {
     5: "ERROR_ACCESS_DENIED",
     6: "ERROR_INVALID_HANDLE",
     8: "ERROR_NOT_ENOUGH_MEMORY",
+    13: "ERROR_INVALID_DATA",
     87: "ERROR_INVALID_PARAMETER",
     122: "ERROR_INSUFFICIENT_BUFFER",
     170: "ERROR_BUSY",
@@ -187,6 +188,8 @@ FUNCTIONS = {
     "om_record": (_U, [_M, _B]),
     "om_take_record": (_U, [_M, POINTER(c_char), _Z, POINTER(_Z)]),
     "om_script": (_U, [POINTER(Limits), ctypes.c_char_p, _Z, POINTER(c_char), _Z, POINTER(_Z)]),
+    "om_save": (_U, [_M, c_void_p, _Z, POINTER(_Z)]),
+    "om_load": (_U, [c_void_p, _Z, _M]),
     "om_reader_new": (_U, [_M, _R]),
     "om_reader_free": (None, [_Reader]),
     "om_reader_pin": (_U, [_R, _U, _U]),
@@ -316,6 +319,15 @@ class Manager(_Owner):
         at = _Manager()
         _done(_c.om_new(limits or default_limits(), at))
         self._at = at
+
+    @classmethod
+    def load(cls, saved):
+        """The manager of a savestate. Other bytes are refused with the error 13."""
+        saved, at, m = bytes(saved), _Manager(), cls.__new__(cls)
+        m._at = None
+        _done(_c.om_load(saved, len(saved), at))
+        m._at = at
+        return m
 
     def spawn(self, session):
         """A guest's process begins in a session, with its first thread."""
@@ -556,6 +568,17 @@ class Manager(_Owner):
             _done(_c.om_take_record(self._at, lines, len(lines), written))
             all_of_them += lines.raw[: written.value]
         return all_of_them
+
+    def save(self):
+        """The whole manager as bytes, from which `load` makes it again; but for what is pinned and recorded."""
+        written, most = c_size_t(), 0
+        while True:
+            saved = ctypes.create_string_buffer(most)
+            status = _c.om_save(self._at, saved, most, written)
+            if status != 122:
+                _done(status)
+                return saved.raw[: written.value]
+            most = written.value
 
     def reader(self):
         """A reader, which pins objects on any thread without this manager."""

@@ -84,6 +84,23 @@ class Calls(unittest.TestCase):
             self.assertEqual(m.recorded(), b"spawn 1\n# p1 t1\nevent t1 auto clear\n# h4 new s0.1\n")
             self.assertEqual(m.recorded(), b"")
 
+    def test_a_savestate_is_loaded_again(self):
+        with obman.Manager() as m:
+            member = m.spawn(1)
+            event = m.create_event(member.thread, name="a")
+            m.wait(member.thread, [event.handle], milliseconds=2)
+            saved = m.save()
+            with obman.Manager.load(saved) as again:
+                self.assertEqual(again.save(), saved)
+                for each in m, again:
+                    each.tick(20_000)
+                    self.assertEqual([(a.wait, a.code) for a in each.answers()], [(1, obman.WAIT_TIMEOUT)])
+                self.assertEqual(again.save(), m.save())
+        for other in b"", saved[:-1], saved + b"\0", saved[:-1] + bytes([saved[-1] ^ 1]):
+            with self.assertRaises(obman.Error) as refused:
+                obman.Manager.load(other)
+            self.assertEqual(refused.exception.number, 13)
+
     def test_a_library_of_this_release(self):
         self.assertEqual(obman.version(), obman.VERSION)
         self.assertEqual([obman.error_name(number) for number in (0, 183, 258, 87, 4)], ["ERROR_SUCCESS", "ERROR_ALREADY_EXISTS", "WAIT_TIMEOUT", "ERROR_INVALID_PARAMETER", "unknown"])

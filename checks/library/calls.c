@@ -568,6 +568,25 @@ static void card(calls *c) {
     fprintf(c->answers, " grant 0x%x\n", made.grant);
 }
 
+/* A savestate has its size whatever room there is, and is loaded as what was saved: that is saved as the same bytes. No line asks for it. */
+static void save(calls *c) {
+    static unsigned char one[1 << 20], other[sizeof one];
+    size_t length, written = 0, again = 0;
+    om_manager loaded;
+    uint32_t status = om_save(&c->m, one, 0, &length);
+    must(status == OM_ERROR_INSUFFICIENT_BUFFER && length > 0, "a savestate fits in no bytes");
+    if (length > sizeof one) {
+        return;
+    }
+    one[length - 1] = (unsigned char)UNTOUCHED;
+    must(om_save(&c->m, one, length - 1, &written) == OM_ERROR_INSUFFICIENT_BUFFER && written == length, "a savestate fits into less");
+    must(one[length - 1] == (unsigned char)UNTOUCHED, "a refusal wrote bytes");
+    must(om_save(&c->m, one, sizeof one, &written) == OM_SUCCESS && written == length, "a savestate has another size");
+    must(om_load(one, length, &loaded) == OM_SUCCESS, "a savestate isn't loaded");
+    must(om_save(&loaded, other, length, &again) == OM_SUCCESS && again == length && memcmp(one, other, length) == 0, "one state, two spellings");
+    om_free(loaded);
+}
+
 void call(calls *c) {
     static void (*const each[])(calls *) = {
         make_event, make_event, make_event, make_mutex, make_mutex, make_semaphore, make_semaphore, make_timer, make_timer, open_object, open_object,
@@ -575,6 +594,9 @@ void call(calls *c) {
         release, release, unlock, unlock, wait_for, wait_for, wait_for, wait_for, result, result, result, expire, count, reap, reap,
         directory, pin, unpin, card, set_timer, set_timer, set_timer, cancel_timer, tick, tick, tick,
     };
+    if (c->saves > 0 && once_in(c, c->saves)) {
+        save(c);
+    }
     if (c->processes == 0 || once_in(c, 500)) {
         spawn(c);
     } else if (once_in(c, 400)) {
@@ -591,7 +613,7 @@ void call(calls *c) {
 }
 
 calls begun(int count, char **words) {
-    calls c = {{NULL}, {NULL}, 0, 0, 0, 0, 0, 0, NULL, NULL};
+    calls c = {{NULL}, {NULL}, 0, 0, 0, 0, 0, 0, 200, NULL, NULL};
     must(count == 5, "COUNT SEED SCRIPT ANSWERS");
     c.seed = 0x9E3779B97F4A7C15ULL * (uint64_t)(1 + atol(words[2]));
     c.script = fopen(words[3], "wb");

@@ -13,6 +13,7 @@ typedef struct calls {
     uint32_t processes, threads, waits; /* numbers given so far */
     uint32_t slots;
     uint64_t now; /* the moment of the last tick */
+    uint32_t saves; /* one call in so many is behind a savestate; 0: none is */
     FILE *script, *answers;
 } calls;
 

@@ -196,7 +196,7 @@ static void make_calls(calls *c) {
 
 int main(int count, char **words) {
     must(count == 2, "SEED");
-    calls c = {{NULL}, {NULL}, 0x9E3779B97F4A7C15ULL * (uint64_t)(1 + atol(words[1])), 0, 0, 0, 0, 0, fopen("/dev/null", "wb"), fopen("/dev/null", "wb")};
+    calls c = {{NULL}, {NULL}, 0x9E3779B97F4A7C15ULL * (uint64_t)(1 + atol(words[1])), 0, 0, 0, 0, 0, 0, fopen("/dev/null", "wb"), fopen("/dev/null", "wb")};
     must(c.script != NULL && c.answers != NULL, "a file can't be written");
     unsigned long fewest = 0, fewest_answered = 0;
     while (fewest < CALLS_DUE || fewest_answered < ANSWERS_DUE) {

@@ -67,6 +67,8 @@ AGAIN(om_open_timer, (om_manager *m, uint32_t t, uint32_t a, bool i, const char 
 AGAIN(om_duplicate, (om_manager *m, uint32_t t, uint32_t s, uint32_t h, uint32_t p, uint32_t a, bool i, uint32_t f, om_opening *o), (m, t, s, h, p, a, i, f, o), o, sizeof *o)
 AGAIN(om_wait, (om_manager *m, uint32_t t, bool a, uint32_t d, const uint32_t *h, size_t n, uint32_t *o), (m, t, a, d, h, n, o), o, sizeof *o)
 AGAIN(om_record, (om_manager *m, bool o), (m, o), m, sizeof *m)
+AGAIN(om_save, (om_manager *m, void *b, size_t c, size_t *o), (m, b, c, o), o, sizeof *o)
+AGAIN(om_load, (const void *b, size_t l, om_manager *m), (b, l, m), m, sizeof *m)
 AGAIN(om_script, (const om_limits *l, const char *s, size_t n, char *a, size_t c, size_t *o), (l, s, n, a, c, o), o, sizeof *o)
 
 /* What was recorded in a run in which no call had no memory. */
@@ -81,7 +83,7 @@ static void look_at_record(calls *c) {
 
 /* One run: the lines of the script, and behind them the answers. The caller frees them. */
 static char *run(long count, bool is_recorded, uint64_t seed, size_t *length, size_t *answers_length) {
-    calls c = {{NULL}, {NULL}, seed, 0, 0, 0, 0, 0, tmpfile(), tmpfile()};
+    calls c = {{NULL}, {NULL}, seed, 0, 0, 0, 0, 0, 300, tmpfile(), tmpfile()};
     char *both;
     must(c.script != NULL && c.answers != NULL, "a file can't be written");
     unsigned long before = lacks;

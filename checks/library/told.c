@@ -198,7 +198,7 @@ static void ask_for_moments(calls *c) {
 }
 
 int main(int count, char **words) {
-    calls c = {{NULL}, {NULL}, 0, 0, 0, 0, 0, 0, NULL, NULL};
+    calls c = {{NULL}, {NULL}, 0, 0, 0, 0, 0, 0, 0, NULL, NULL};
     must(count == 3, "CALLS SEED");
     c.seed = 0x9E3779B97F4A7C15ULL * (uint64_t)(1 + atol(words[2]));
     c.script = c.answers = fopen("/dev/null", "wb");

@@ -109,6 +109,7 @@ errors! {
     AccessDenied = 5, "ERROR_ACCESS_DENIED";
     InvalidHandle = 6, "ERROR_INVALID_HANDLE";
     NotEnoughMemory = 8, "ERROR_NOT_ENOUGH_MEMORY";
+    InvalidData = 13, "ERROR_INVALID_DATA";
     InvalidParameter = 87, "ERROR_INVALID_PARAMETER";
     InsufficientBuffer = 122, "ERROR_INSUFFICIENT_BUFFER";
     Busy = 170, "ERROR_BUSY";
@@ -506,6 +507,13 @@ impl Manager {
         Ok(Manager { m, number: MANAGERS.fetch_add(1, Ordering::Relaxed) })
     }
 
+    /// The manager of a savestate. [`Error::InvalidData`] for other bytes.
+    pub fn load(saved: &[u8]) -> Result<Manager, Error> {
+        let mut m = sys::om_manager { at: std::ptr::null_mut() };
+        done(unsafe { sys::om_load(saved.as_ptr().cast(), saved.len(), &mut m) })?;
+        Ok(Manager { m, number: MANAGERS.fetch_add(1, Ordering::Relaxed) })
+    }
+
     /// A guest's process begins in a session, with its first thread.
     pub fn spawn(&mut self, session: u32) -> Result<Member, Error> {
         told(|member| unsafe { sys::om_spawn(&mut self.m, session, member) })
@@ -835,6 +843,21 @@ impl Manager {
             if count == 0 {
                 return all;
             }
+        }
+    }
+
+    /// The whole manager as bytes, from which [`load`](Manager::load) makes it again; but for what is pinned and recorded.
+    pub fn save(&mut self) -> Result<Vec<u8>, Error> {
+        let mut saved = Vec::new();
+        loop {
+            let mut written = 0;
+            let status = unsafe { sys::om_save(&mut self.m, saved.as_mut_ptr().cast(), saved.len(), &mut written) };
+            if status == Error::InsufficientBuffer.number() {
+                saved.resize(written, 0u8);
+                continue;
+            }
+            done(status)?;
+            return Ok(saved);
         }
     }
 

@@ -220,6 +220,8 @@ extern "C" {
         capacity: usize,
         written: *mut usize,
     ) -> u32;
+    pub fn om_save(m: *mut om_manager, bytes: *mut c_void, capacity: usize, written: *mut usize) -> u32;
+    pub fn om_load(bytes: *const c_void, length: usize, m: *mut om_manager) -> u32;
     pub fn om_reader_new(m: *mut om_manager, r: *mut om_reader) -> u32;
     pub fn om_reader_free(r: om_reader);
     pub fn om_reader_pin(r: *mut om_reader, slot: u32, generation: u32) -> u32;

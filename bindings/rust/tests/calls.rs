@@ -147,6 +147,25 @@ fn a_record_is_a_script() -> Result<(), Error> {
 }
 
 #[test]
+fn a_savestate_is_loaded_again() -> Result<(), Error> {
+    let mut m = Manager::new(&Limits::default())?;
+    let member = m.spawn(1)?;
+    let event = m.create_event(member.thread, &Create::default(), false, false)?.opening();
+    m.wait(member.thread, false, 2, &[event.handle])?;
+    let saved = m.save()?;
+    let mut again = Manager::load(&saved)?;
+    assert_eq!(again.save()?, saved);
+    for each in [&mut m, &mut again] {
+        each.tick(20_000)?;
+    }
+    assert_ne!(m.save()?, saved);
+    assert_eq!(again.save()?, m.save()?);
+    assert_eq!(Manager::load(&saved[1..]).err(), Some(Error::InvalidData));
+    assert_eq!(Manager::load(&[]).err(), Some(Error::InvalidData));
+    Ok(())
+}
+
+#[test]
 fn threads_share_a_manager_behind_a_lock() -> Result<(), Error> {
     let m = Arc::new(Mutex::new(Manager::new(&Limits::default())?));
     let threads: Vec<_> = (0..4)
