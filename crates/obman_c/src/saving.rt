@@ -29,11 +29,12 @@ pub extern "C" fn om_save(
     let Ok(saved) = owner.lend().manager.save(alloc) else {
         return code_of(Fault::Memory);
     };
+    let text = saved.as_slice();
     *written = saved.len();
     if saved.len() > bytes.len() {
         return TOO_SMALL;
     }
-    bytes[..saved.len()].copy_from_slice(saved.as_slice());
+    bytes[..saved.len()].copy_from_slice(text);
     SUCCESS
 }
 
