@@ -134,7 +134,8 @@ static void use(calls *c, om_manager *m) {
     om_reaping ended[4];
     size_t taken;
     for (int i = 0; i < 8; i++) {
-        uint32_t thread = om_next_thread(m, om_next_process(m, below(c, 2)), below(c, 3)), handles[2] = {4 + 4 * below(c, 4), 4 + 4 * below(c, 6)}, code;
+        uint32_t thread = om_next_thread(m, om_next_process(m, below(c, 2)), below(c, 3)), code;
+        uint32_t handles[2] = {4 + 4 * below(c, 4), 4 + 4 * below(c, 6)};
         om_create_event(m, thread, &making, "", 0, false, true, &opening);
         om_wait(m, thread, below(c, 2) == 0, below(c, 3), handles, 2, &code);
         om_set_event(m, om_next_thread(m, om_next_process(m, 1), 0), handles[0]);

@@ -848,12 +848,12 @@ impl Manager {
 
     /// The whole manager as bytes, from which [`load`](Manager::load) makes it again; but for what is pinned and recorded.
     pub fn save(&mut self) -> Result<Vec<u8>, Error> {
-        let mut saved = Vec::new();
+        let mut saved: Vec<u8> = Vec::new();
         loop {
             let mut written = 0;
             let status = unsafe { sys::om_save(&mut self.m, saved.as_mut_ptr().cast(), saved.len(), &mut written) };
             if status == Error::InsufficientBuffer.number() {
-                saved.resize(written, 0u8);
+                saved.resize(written, 0);
                 continue;
             }
             done(status)?;
