@@ -1,31 +1,311 @@
-use crate::tests::same;
-use ob_store::{Limits, Store};
-use pin_words::{LockedPins, Pins};
+//! Savestates: a manager that is saved and loaded goes on as it was, and bytes that are none are refused.
+ghost use Rattle.std.specs.Prelude.{◌≡◌, IfOk};
+ghost use Rattle.pin_words.specs.Keepers.{IsFreshWith, state_of};
+ghost use Rattle.ob_store.specs.State.{shape_of};
+
+use super::playing::answers;
+use super::{FIRST, NAMED_E, NAMED_S, SECOND, THIRD, holds};
+use call_tables::{Line, PLAIN, locked_manager};
+use ob_codec::ReadFault;
+use ob_manager::CallOf::{
+    Child, CloseHandle, Counts, EndThread, Exit, Expire, GetFlags, MakeEvent, MakeMutex,
+    MakeSemaphore, MakeTimer, OpenNamed, Reap, ReleaseMutex, SetEvent, SetFlags, SetTimer, Spawn,
+    StartThread, Tick, WaitFor, WaitResult,
+};
+use ob_manager::Reply::{
+    Closed, Code, CountsAre, Done, Ended, Exited, Expired, Flags, Made, Opened, Pending, Reaped,
+    Refused, Spawned, Started, Ticked,
+};
+use ob_manager::Timeout::{Infinite, Millis, Zero};
+use ob_manager::{Limits, Make, Manager, Mode};
+use ob_rights::{Fault, Kind, Rights};
+use pin_core::Id;
+use pin_words::{Keeper, LockedPins, PinKeeper, Pins, Reclaim};
+use std::alloc::{AllocError, Global};
+use std::process::Abort;
 use std::test::Fail;
 
-fn limits() -> Option<Limits> {
-    Limits::checked(3, 2, 2, 4, 2, 9, 5, 7).ok()
+const ANY: Mode = Mode::Any;
+
+const ALL: Mode = Mode::All;
+
+/// The fourth object to the ninth.
+const FOURTH: Id = Id {
+    slot: 3,
+    generation: 1,
+};
+
+const FIFTH: Id = Id {
+    slot: 4,
+    generation: 1,
+};
+
+const SIXTH: Id = Id {
+    slot: 5,
+    generation: 1,
+};
+
+const SEVENTH: Id = Id {
+    slot: 6,
+    generation: 1,
+};
+
+const EIGHTH: Id = Id {
+    slot: 7,
+    generation: 1,
+};
+
+const NINTH: Id = Id {
+    slot: 8,
+    generation: 1,
+};
+
+/// The second object of the seventh slot, and of the eighth.
+const SEVENTH_AGAIN: Id = Id {
+    slot: 6,
+    generation: 2,
+};
+
+const EIGHTH_AGAIN: Id = Id {
+    slot: 7,
+    generation: 2,
+};
+
+const INHERITED_M: Make<'static> = Make {
+    name: Some(b"Global\\M"),
+    inherit: true,
+    access: None,
+    grant: None,
+};
+
+/// Processes of two sessions, one of which ended, as did a thread; objects of each kind, named and nameless; a mutex
+/// that is owned twice over, and an abandoned one; a timer that is set; a protected handle, and an inherited one; a
+/// slot that waits to be taken back, one that was, and one that is given no more; a wait for all with a deadline, one
+/// for any, and an answer that nobody took.
+#[rattlefmt::skip]
+const BEFORE: &[Line<'static>] = &[
+    (Spawn { session: 1 }, Spawned { process: 1, thread: 1 }),
+    (Spawn { session: 2 }, Spawned { process: 2, thread: 2 }),
+    (Spawn { session: 1 }, Spawned { process: 3, thread: 3 }),
+    (StartThread { process: 1 }, Started { thread: 4 }),
+    (StartThread { process: 1 }, Started { thread: 5 }),
+    (StartThread { process: 2 }, Started { thread: 6 }),
+    (StartThread { process: 2 }, Started { thread: 7 }),
+    (MakeEvent { thread: 1, make: NAMED_E, manual: false, set: false }, Made { handle: 4, id: FIRST }),
+    (MakeEvent { thread: 1, make: PLAIN, manual: true, set: true }, Made { handle: 8, id: SECOND }),
+    (SetFlags { thread: 1, handle: 8, mask: 2, flags: 2 }, Done),
+    (MakeMutex { thread: 1, make: INHERITED_M, owned: true }, Made { handle: 12, id: THIRD }),
+    (WaitFor { thread: 1, mode: ANY, timeout: Zero, handles: &[12] }, Code { code: 0 }),
+    (MakeMutex { thread: 4, make: PLAIN, owned: true }, Made { handle: 16, id: FOURTH }),
+    (EndThread { thread: 4 }, Ended { thread: 4 }),
+    (MakeSemaphore { thread: 1, make: NAMED_S, initial: 1, max: 2 }, Made { handle: 20, id: FIFTH }),
+    (Tick { now: 100 }, Ticked { now: 100 }),
+    (MakeTimer { thread: 1, make: PLAIN, manual: false }, Made { handle: 24, id: SIXTH }),
+    (SetTimer { thread: 1, handle: 24, due: -50_000 }, Done),
+    (MakeEvent { thread: 2, make: PLAIN, manual: false, set: true }, Made { handle: 4, id: SEVENTH }),
+    (MakeEvent { thread: 3, make: PLAIN, manual: false, set: false }, Made { handle: 4, id: EIGHTH }),
+    (CloseHandle { thread: 2, handle: 4 }, Closed),
+    (Exit { process: 3 }, Exited { process: 3 }),
+    (Reap { slot: 7 }, Reaped { id: EIGHTH, outcome: Reclaim::Freed }),
+    (MakeEvent { thread: 2, make: PLAIN, manual: false, set: false }, Made { handle: 4, id: EIGHTH_AGAIN }),
+    (CloseHandle { thread: 2, handle: 4 }, Closed),
+    (Reap { slot: 7 }, Reaped { id: EIGHTH_AGAIN, outcome: Reclaim::Retired }),
+    (MakeEvent { thread: 2, make: PLAIN, manual: false, set: false }, Made { handle: 4, id: NINTH }),
+    (OpenNamed { thread: 2, kind: Kind::Mutex, mask: Rights::SYNCHRONIZE, inherit: false, text: b"Global\\M" },
+        Opened { handle: 8, id: THIRD }),
+    (WaitFor { thread: 5, mode: ALL, timeout: Millis(20), handles: &[4, 20] }, Pending { wait: 1 }),
+    (WaitFor { thread: 6, mode: ANY, timeout: Infinite, handles: &[8] }, Pending { wait: 2 }),
+    (WaitFor { thread: 7, mode: ANY, timeout: Infinite, handles: &[4] }, Pending { wait: 3 }),
+    (SetEvent { thread: 2, handle: 4 }, Done),
+    (WaitFor { thread: 2, mode: ANY, timeout: Millis(1), handles: &[4] }, Pending { wait: 4 }),
+    (Expire { wait: 4 }, Expired { wait: 4 }),
+    (WaitResult { wait: 4 }, Code { code: 258 }),
+];
+
+/// Calls whose replies depend on each of these.
+#[rattlefmt::skip]
+const BEHIND: &[Line<'static>] = &[
+    (Counts { id: FIRST }, CountsAre { handles: 1, waits: 1, hold: 0 }),
+    (Counts { id: THIRD }, CountsAre { handles: 2, waits: 1, hold: 0 }),
+    (Counts { id: SEVENTH }, CountsAre { handles: 0, waits: 0, hold: 1 }),
+    (WaitResult { wait: 3 }, Code { code: 0 }),
+    (WaitResult { wait: 3 }, Refused(Fault::Parameter)),
+    (WaitResult { wait: 1 }, Pending { wait: 1 }),
+    (SetEvent { thread: 5, handle: 4 }, Refused(Fault::Busy)),
+    (SetEvent { thread: 3, handle: 4 }, Refused(Fault::Parameter)),
+    (GetFlags { thread: 1, handle: 8 }, Flags { bits: 2 }),
+    (GetFlags { thread: 1, handle: 12 }, Flags { bits: 1 }),
+    (CloseHandle { thread: 1, handle: 8 }, Refused(Fault::Handle)),
+    (WaitFor { thread: 1, mode: ANY, timeout: Zero, handles: &[8] }, Code { code: 0 }),
+    (ReleaseMutex { thread: 1, handle: 12 }, Done),
+    (WaitResult { wait: 2 }, Pending { wait: 2 }),
+    (ReleaseMutex { thread: 1, handle: 12 }, Done),
+    (WaitResult { wait: 2 }, Code { code: 0 }),
+    (WaitFor { thread: 1, mode: ANY, timeout: Zero, handles: &[16] }, Code { code: 128 }),
+    (WaitFor { thread: 7, mode: ANY, timeout: Infinite, handles: &[4] }, Pending { wait: 5 }),
+    (WaitFor { thread: 1, mode: ANY, timeout: Zero, handles: &[24] }, Code { code: 258 }),
+    (Tick { now: 99 }, Refused(Fault::Parameter)),
+    (Tick { now: 50_100 }, Ticked { now: 50_100 }),
+    (WaitFor { thread: 1, mode: ANY, timeout: Zero, handles: &[24] }, Code { code: 0 }),
+    (Tick { now: 200_099 }, Ticked { now: 200_099 }),
+    (WaitResult { wait: 1 }, Pending { wait: 1 }),
+    (Tick { now: 200_100 }, Ticked { now: 200_100 }),
+    (WaitResult { wait: 1 }, Code { code: 258 }),
+    (SetEvent { thread: 1, handle: 4 }, Done),
+    (WaitFor { thread: 5, mode: ALL, timeout: Zero, handles: &[4, 20] }, Code { code: 0 }),
+    (WaitFor { thread: 5, mode: ANY, timeout: Zero, handles: &[20] }, Code { code: 258 }),
+    (Reap { slot: 6 }, Reaped { id: SEVENTH, outcome: Reclaim::Freed }),
+    (Reap { slot: 7 }, Refused(Fault::Handle)),
+    (MakeMutex { thread: 1, make: NAMED_E, owned: false }, Refused(Fault::Handle)),
+    (MakeEvent { thread: 1, make: PLAIN, manual: false, set: false }, Made { handle: 28, id: SEVENTH_AGAIN }),
+    (OpenNamed { thread: 2, kind: Kind::Event, mask: Rights::SYNCHRONIZE, inherit: false, text: b"E" },
+        Refused(Fault::NotFound)),
+    (Child { thread: 1, inherit: true }, Spawned { process: 4, thread: 8 }),
+    (GetFlags { thread: 8, handle: 12 }, Flags { bits: 1 }),
+    (Spawn { session: 1 }, Refused(Fault::Limit)),
+];
+
+/// What a manager is saved as. Asked for again where memory was wanting.
+fn saved<K: PinKeeper>(alloc: Global, manager: &Manager<K>) -> Result<Vec<u8>, AllocError> {
+    match manager.save(alloc) {
+        Ok(bytes) => Ok(bytes),
+        Err(_) => manager.save(alloc),
+    }
 }
 
-/// A store goes on over a keeper without a lock that begins with its slots.
+/// The manager of a savestate. Asked for again where memory was wanting.
+fn loaded(alloc: Global, bytes: &[u8]) -> Result<Manager<LockedPins>, ReadFault> {
+    match Manager::load(alloc, bytes) {
+        Ok(manager) => Ok(manager),
+        Err(ReadFault::Memory) => Manager::load(alloc, bytes),
+        Err(fault) => Err(fault),
+    }
+}
+
+/// Asserts that a manager is saved as these bytes.
+fn is_saved_as<K: PinKeeper>(
+    rt: &impl Abort,
+    alloc: Global,
+    manager: &Manager<K>,
+    bytes: &[u8],
+) -> Result<(), AllocError> {
+    let again = saved(alloc, manager)?;
+    holds(rt, again.as_slice() == bytes);
+    Ok(())
+}
+
+/// Some calls, what a manager is saved as before them, and what behind.
+#[derive(Drop)]
+struct Course<'a> {
+    before: &'a [u8],
+    calls: &'a [Line<'a>],
+    behind: &'a [u8],
+}
+
+/// Asserts that a manager that was loaded goes the same course as the one that was saved.
+fn goes_on<K: PinKeeper>(
+    rt: &impl Abort,
+    alloc: Global,
+    manager: &mut Manager<K>,
+    course: &Course<'_>,
+) -> Result<(), Fault> {
+    is_saved_as(rt, alloc, manager, course.before)?;
+    answers(rt, alloc, manager, course.calls)?;
+    is_saved_as(rt, alloc, manager, course.behind)?;
+    Ok(())
+}
+
+/// The same over the keeper under a lock with which it was loaded.
+fn goes_on_locked(rt: &impl Abort, alloc: Global, course: &Course<'_>) -> Result<(), Fault> {
+    let Ok(mut manager) = loaded(alloc, course.before) else {
+        return Err(Fault::Memory);
+    };
+    let gone = goes_on(rt, alloc, &mut manager, course);
+    drop(manager);
+    gone
+}
+
+/// A keeper without a lock that begins with the slots of a manager.
+fn keeper_once(alloc: Global, manager: &Manager<LockedPins>) -> Result<Keeper, Fault>
+    ensures { IfOk result (λ keeper. IsFreshWith (state_of keeper) (shape_of manager.now.state.limits)
+        manager.now.keeper.slots) }
+{
+    let slots = Vec::from_slice(alloc, manager.slots())?;
+    let (pins, opening) = Pins::with_slots(alloc, manager.limits().shape(), slots)?;
+    match opening.start(&pins) {
+        Ok((keeper, _)) => Ok(keeper),
+        Err(_) => Err(Fault::Memory),
+    }
+}
+
+/// The same, asked for again where memory was wanting.
+fn keeper_for(alloc: Global, manager: &Manager<LockedPins>) -> Result<Keeper, Fault>
+    ensures { IfOk result (λ keeper. IsFreshWith (state_of keeper) (shape_of manager.now.state.limits)
+        manager.now.keeper.slots) }
+{
+    match keeper_once(alloc, manager) {
+        Ok(keeper) => Ok(keeper),
+        Err(_) => keeper_once(alloc, manager),
+    }
+}
+
+/// The same over a keeper without a lock.
+fn goes_on_in_words(rt: &impl Abort, alloc: Global, course: &Course<'_>) -> Result<(), Fault> {
+    let Ok(manager) = loaded(alloc, course.before) else {
+        return Err(Fault::Memory);
+    };
+    let keeper = keeper_for(alloc, &manager)?;
+    let mut manager = manager.over(keeper);
+    let gone = goes_on(rt, alloc, &mut manager, course);
+    drop(manager);
+    gone
+}
+
+/// Plays calls, saves the manager, and plays further calls over it and over those that were loaded.
+fn all_go_on(
+    rt: &impl Abort,
+    alloc: Global,
+    manager: &mut Manager<LockedPins>,
+    first: &[Line<'_>],
+    calls: &[Line<'_>],
+) -> Result<(), Fault> {
+    answers(rt, alloc, manager, first)?;
+    let before = saved(alloc, manager)?;
+    answers(rt, alloc, manager, calls)?;
+    let behind = saved(alloc, manager)?;
+    let course = Course {
+        before: before.as_slice(),
+        calls,
+        behind: behind.as_slice(),
+    };
+    goes_on_locked(rt, alloc, &course)?;
+    goes_on_in_words(rt, alloc, &course)
+}
+
+/// The same, from the beginning on.
+fn saves_and_loads(
+    rt: &impl Abort,
+    alloc: Global,
+    limits: Limits,
+    first: &[Line<'_>],
+    calls: &[Line<'_>],
+) -> Result<(), Fault> {
+    let mut manager = locked_manager(alloc, limits)?;
+    let gone = all_go_on(rt, alloc, &mut manager, first, calls);
+    drop(manager);
+    gone
+}
+
 #[test]
-fn a_store_goes_on_over_another_keeper(rt: HostRuntime) -> Result<(), Fail> {
-    let alloc = rt.alloc();
-    let Some(limits) = limits() else {
-        panic!(rt; "limits")
-    };
-    let Ok(keeper) = LockedPins::new(alloc, limits.shape()) else {
-        panic!(rt; "no memory")
-    };
-    let Ok(store) = Store::new(alloc, limits, keeper) else {
-        panic!(rt; "no memory")
-    };
-    let slots = Vec::from_slice(alloc, store.slots())?;
-    let (pins, opening) = Pins::with_slots(alloc, limits.shape(), slots)?;
-    let Ok((keeper, _reader)) = opening.start(&pins) else {
-        panic!(rt; "no memory")
-    };
-    let store = store.over(keeper);
-    same(&rt, store.vacant(), Some(0));
+fn a_manager_is_saved_and_loaded(rt: HostRuntime) -> Result<(), Fail> {
+    let limits = Limits::checked(16, 4, 8, 8, 8, 4, 2, 4)?;
+    saves_and_loads(&rt, rt.alloc(), limits, BEFORE, BEHIND)?;
+    Ok(())
+}
+
+#[test]
+fn an_empty_manager_is_saved_and_loaded(rt: HostRuntime) -> Result<(), Fail> {
+    let limits = Limits::checked(16, 4, 8, 8, 8, 4, 2, 4)?;
+    saves_and_loads(&rt, rt.alloc(), limits, &[], BEFORE)?;
     Ok(())
 }
