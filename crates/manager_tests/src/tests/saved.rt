@@ -4,9 +4,9 @@ ghost use Rattle.pin_words.specs.Keepers.{IsFreshWith, state_of};
 ghost use Rattle.ob_store.specs.State.{shape_of};
 
 use super::playing::answers;
-use super::{FIRST, NAMED_E, NAMED_S, SECOND, THIRD, holds};
+use super::{FIRST, NAMED_A, NAMED_E, NAMED_S, SECOND, THIRD, holds, same, same_at};
 use call_tables::{Line, PLAIN, locked_manager};
-use ob_codec::ReadFault;
+use ob_codec::{ReadFault, TextFault, seal, unseal};
 use ob_manager::CallOf::{
     Child, CloseHandle, Counts, EndThread, Exit, Expire, GetFlags, MakeEvent, MakeMutex,
     MakeSemaphore, MakeTimer, OpenNamed, Reap, ReleaseMutex, SetEvent, SetFlags, SetTimer, Spawn,
@@ -182,6 +182,21 @@ fn loaded(alloc: Global, bytes: &[u8]) -> Result<Manager<LockedPins>, ReadFault>
     }
 }
 
+/// The manager of a savestate, which can be refused for want of memory alone.
+fn loaded_again(
+    rt: &impl Abort,
+    alloc: Global,
+    bytes: &[u8],
+) -> Result<Manager<LockedPins>, Fault> {
+    match loaded(alloc, bytes) {
+        Ok(manager) => Ok(manager),
+        Err(fault) => {
+            same(rt, fault, ReadFault::Memory);
+            Err(Fault::Memory)
+        }
+    }
+}
+
 /// Asserts that a manager is saved as these bytes.
 fn is_saved_as<K: PinKeeper>(
     rt: &impl Abort,
@@ -217,9 +232,7 @@ fn goes_on<K: PinKeeper>(
 
 /// The same over the keeper under a lock with which it was loaded.
 fn goes_on_locked(rt: &impl Abort, alloc: Global, course: &Course<'_>) -> Result<(), Fault> {
-    let Ok(mut manager) = loaded(alloc, course.before) else {
-        return Err(Fault::Memory);
-    };
+    let mut manager = loaded_again(rt, alloc, course.before)?;
     let gone = goes_on(rt, alloc, &mut manager, course);
     drop(manager);
     gone
@@ -251,9 +264,7 @@ fn keeper_for(alloc: Global, manager: &Manager<LockedPins>) -> Result<Keeper, Fa
 
 /// The same over a keeper without a lock.
 fn goes_on_in_words(rt: &impl Abort, alloc: Global, course: &Course<'_>) -> Result<(), Fault> {
-    let Ok(manager) = loaded(alloc, course.before) else {
-        return Err(Fault::Memory);
-    };
+    let manager = loaded_again(rt, alloc, course.before)?;
     let keeper = keeper_for(alloc, &manager)?;
     let mut manager = manager.over(keeper);
     let gone = goes_on(rt, alloc, &mut manager, course);
@@ -307,5 +318,160 @@ fn a_manager_is_saved_and_loaded(rt: HostRuntime) -> Result<(), Fail> {
 fn an_empty_manager_is_saved_and_loaded(rt: HostRuntime) -> Result<(), Fail> {
     let limits = Limits::checked(16, 4, 8, 8, 8, 4, 2, 4)?;
     saves_and_loads(&rt, rt.alloc(), limits, &[], BEFORE)?;
+    Ok(())
+}
+
+/// A mutex that thread 1 owns, an event that thread 2 waits for, and a slot that is free.
+#[rattlefmt::skip]
+const SMALL: &[Line<'static>] = &[
+    (Spawn { session: 1 }, Spawned { process: 1, thread: 1 }),
+    (StartThread { process: 1 }, Started { thread: 2 }),
+    (MakeMutex { thread: 1, make: NAMED_A, owned: true }, Made { handle: 4, id: FIRST }),
+    (MakeEvent { thread: 1, make: NAMED_E, manual: false, set: false }, Made { handle: 8, id: SECOND }),
+    (WaitFor { thread: 2, mode: ANY, timeout: Infinite, handles: &[8] }, Pending { wait: 1 }),
+];
+
+/// A place of a text, the bytes that stand there, other bytes for them, and the fault of the text with these, if it
+/// has one.
+type Edit<'a> = (usize, &'a [u8], &'a [u8], Option<TextFault>);
+
+/// Edits of what was saved behind these calls.
+#[rattlefmt::skip]
+const EDITS: &[Edit<'static>] = &[
+    // another mark, another version, no slot, and a moment after the last
+    (0, b"OBJS", b"OBJT", Some(TextFault::Value)),
+    (4, &[1, 0], &[2, 0], Some(TextFault::Value)),
+    (8, &[3, 0], &[0, 0], Some(TextFault::Value)),
+    (46, &[0, 0], &[0, 255], Some(TextFault::Value)),
+    // thread 2 of a process that isn't there
+    (69, &[1, 0], &[2, 0], Some(TextFault::Value)),
+    // a table too many
+    (73, &[2, 0, 0, 0], &[3, 0, 0, 0, 0, 0, 0, 0], Some(TextFault::Value)),
+    // entries of a free slot, and of a generation that isn't there
+    (86, &[0, 0, 0, 0, 1, 0, 0, 0], &[2, 0, 0, 0, 1, 0, 0, 0], Some(TextFault::Value)),
+    (86, &[0, 0, 0, 0, 1, 0, 0, 0], &[0, 0, 0, 0, 2, 0, 0, 0], Some(TextFault::Value)),
+    // a wait of a thread that isn't there, and for an object that isn't
+    (131, &[2, 0], &[3, 0], Some(TextFault::Value)),
+    (141, &[1, 0, 0, 0, 1, 0, 0, 0], &[1, 0, 0, 0, 2, 0, 0, 0], Some(TextFault::Value)),
+    // owners: one that isn't live, and another that is
+    (177, &[1, 1, 0], &[1, 3, 0], Some(TextFault::Value)),
+    (177, &[1, 1, 0], &[1, 2, 0], None),
+    // names: one that two have, and another
+    (196, b"A", b"E", Some(TextFault::Value)),
+    (196, b"A", b"B", None),
+    // the event is set, so that the wait for it is satisfied
+    (224, &[0, 0, 0], &[0, 0, 1], Some(TextFault::Value)),
+    // a flag that says nothing, a byte too few, and one too many
+    (241, &[0, 0], &[2, 0], Some(TextFault::Tag)),
+    (241, &[0, 0], &[0], Some(TextFault::Short)),
+    (241, &[0, 0], &[0, 0, 0], Some(TextFault::Trailing)),
+];
+
+/// A text with other bytes at a place, and behind it its digest.
+fn edited(
+    rt: &impl Abort,
+    alloc: Global,
+    text: &[u8],
+    edit: &Edit<'_>,
+) -> Result<Vec<u8>, AllocError> {
+    let (at, old, new, _) = *edit;
+    holds(rt, at <= text.len());
+    let (front, rest) = text.split_at(at);
+    holds(rt, old.len() <= rest.len());
+    let (found, back) = rest.split_at(old.len());
+    holds(rt, found == old);
+    let mut bytes = Vec::from_slice(alloc, front)?;
+    bytes.extend_from_slice(new)?;
+    bytes.extend_from_slice(back)?;
+    seal(&mut bytes)?;
+    Ok(bytes)
+}
+
+/// Why bytes aren't loaded, if they aren't.
+fn load_fault(alloc: Global, bytes: &[u8]) -> Option<ReadFault> {
+    match loaded(alloc, bytes) {
+        Ok(manager) => {
+            drop(manager);
+            None
+        }
+        Err(fault) => Some(fault),
+    }
+}
+
+/// A fault of a text as that of a load.
+fn due(fault: Option<TextFault>) -> Option<ReadFault> {
+    Some(ReadFault::Text(fault?))
+}
+
+/// Asserts of each edit of a text that its fault is told.
+fn edits_are_told(
+    rt: &impl Abort,
+    alloc: Global,
+    text: &[u8],
+    edits: &[Edit<'_>],
+) -> Result<(), AllocError> {
+    for (place, edit) in edits.iter().enumerate() {
+        let bytes = edited(rt, alloc, text, edit)?;
+        same_at(rt, load_fault(alloc, bytes.as_slice()), due(edit.3), place);
+    }
+    Ok(())
+}
+
+/// Asserts that bytes are refused in which one is another, and those before it alone.
+fn changes_are_refused(rt: &impl Abort, alloc: Global, bytes: &mut Vec<u8>) {
+    for at in 0..bytes.len() {
+        let cut = if at < 32 {
+            TextFault::Short
+        } else {
+            TextFault::Digest
+        };
+        same_at(rt, load_fault(alloc, &bytes[..at]), due(Some(cut)), at);
+        bytes[at] ^= 1;
+        same_at(
+            rt,
+            load_fault(alloc, bytes.as_slice()),
+            due(Some(TextFault::Digest)),
+            at,
+        );
+        bytes[at] ^= 1;
+    }
+}
+
+/// The same of the text in a savestate.
+fn edits_are_refused(rt: &impl Abort, alloc: Global, bytes: &[u8]) -> Result<(), AllocError> {
+    let Ok(text) = unseal(bytes) else {
+        panic!(rt; "no savestate")
+    };
+    same(rt, text.len(), 243);
+    edits_are_told(rt, alloc, text, EDITS)
+}
+
+/// Plays the calls, and tries what is saved then, cut, changed and edited.
+fn tries_edits(
+    rt: &impl Abort,
+    alloc: Global,
+    manager: &mut Manager<LockedPins>,
+) -> Result<(), Fault> {
+    answers(rt, alloc, manager, SMALL)?;
+    let mut bytes = saved(alloc, manager)?;
+    edits_are_refused(rt, alloc, bytes.as_slice())?;
+    changes_are_refused(rt, alloc, &mut bytes);
+    same(rt, load_fault(alloc, bytes.as_slice()), None);
+    bytes.push(0)?;
+    same(
+        rt,
+        load_fault(alloc, bytes.as_slice()),
+        due(Some(TextFault::Digest)),
+    );
+    Ok(())
+}
+
+#[test]
+fn what_is_no_savestate_is_refused(rt: HostRuntime) -> Result<(), Fail> {
+    let limits = Limits::checked(3, 4, 4, 4, 4, 4, 4, 4)?;
+    let mut manager = locked_manager(rt.alloc(), limits)?;
+    let tried = tries_edits(&rt, rt.alloc(), &mut manager);
+    drop(manager);
+    tried?;
     Ok(())
 }
