@@ -331,6 +331,15 @@ const SMALL: &[Line<'static>] = &[
     (WaitFor { thread: 2, mode: ANY, timeout: Infinite, handles: &[8] }, Pending { wait: 1 }),
 ];
 
+/// Where memory is wanting for a save or a load, nothing else is told, and asked again it does all. `checks/run`
+/// refuses each request in a run of its own.
+#[test]
+fn want_of_memory_loads_no_part(rt: HostRuntime) -> Result<(), Fail> {
+    let limits = Limits::checked(3, 4, 4, 4, 4, 4, 4, 4)?;
+    saves_and_loads(&rt, rt.alloc(), limits, SMALL, &[])?;
+    Ok(())
+}
+
 /// A place of a text, the bytes that stand there, other bytes for them, and the fault of the text with these, if it
 /// has one.
 type Edit<'a> = (usize, &'a [u8], &'a [u8], Option<TextFault>);
