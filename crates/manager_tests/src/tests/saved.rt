@@ -331,15 +331,6 @@ const SMALL: &[Line<'static>] = &[
     (WaitFor { thread: 2, mode: ANY, timeout: Infinite, handles: &[8] }, Pending { wait: 1 }),
 ];
 
-/// Where memory is wanting for a save or a load, nothing else is told, and asked again it does all. `checks/run`
-/// refuses each request in a run of its own.
-#[test]
-fn want_of_memory_loads_no_part(rt: HostRuntime) -> Result<(), Fail> {
-    let limits = Limits::checked(3, 4, 4, 4, 4, 4, 4, 4)?;
-    saves_and_loads(&rt, rt.alloc(), limits, SMALL, &[])?;
-    Ok(())
-}
-
 /// A place of a text, the bytes that stand there, other bytes for them, and the fault of the text with these, if it
 /// has one.
 type Edit<'a> = (usize, &'a [u8], &'a [u8], Option<TextFault>);
@@ -359,6 +350,9 @@ const EDITS: &[Edit<'static>] = &[
     // entries of a free slot, and of a generation that isn't there
     (86, &[0, 0, 0, 0, 1, 0, 0, 0], &[2, 0, 0, 0, 1, 0, 0, 0], Some(TextFault::Value)),
     (86, &[0, 0, 0, 0, 1, 0, 0, 0], &[0, 0, 0, 0, 2, 0, 0, 0], Some(TextFault::Value)),
+    // more wait numbers than the limit lets, and one past the last
+    (119, &[1, 0, 0, 0], &[5, 0, 0, 0], Some(TextFault::Value)),
+    (127, &[1, 0, 0, 0], &[2, 0, 0, 0], Some(TextFault::Value)),
     // a wait of a thread that isn't there, and for an object that isn't
     (131, &[2, 0], &[3, 0], Some(TextFault::Value)),
     (141, &[1, 0, 0, 0, 1, 0, 0, 0], &[1, 0, 0, 0, 2, 0, 0, 0], Some(TextFault::Value)),
@@ -370,6 +364,12 @@ const EDITS: &[Edit<'static>] = &[
     (196, b"A", b"B", None),
     // the event is set, so that the wait for it is satisfied
     (224, &[0, 0, 0], &[0, 0, 1], Some(TextFault::Value)),
+    // the free slot: of generation 0, past the last, of another, and retired before the last
+    (237, &[1, 0, 0, 0], &[0, 0, 0, 0], Some(TextFault::Value)),
+    (237, &[1, 0, 0, 0], &[5, 0, 0, 0], Some(TextFault::Value)),
+    (237, &[1, 0, 0, 0], &[2, 0, 0, 0], None),
+    (237, &[1, 0, 0, 0, 0], &[1, 0, 0, 0, 1], Some(TextFault::Value)),
+    (237, &[1, 0, 0, 0, 0], &[4, 0, 0, 0, 1], None),
     // a flag that says nothing, a byte too few, and one too many
     (241, &[0, 0], &[2, 0], Some(TextFault::Tag)),
     (241, &[0, 0], &[0], Some(TextFault::Short)),
