@@ -65,8 +65,8 @@
 extern "C" {
 #endif
 
-/* Which release this header is of, 1.0.0: two decimal digits each for the second number and the third. */
-#define OM_VERSION 10000u
+/* Which release this header is of, 1.1.0: two decimal digits each for the second number and the third. */
+#define OM_VERSION 10100u
 
 /* What a call answers: the numbers of the Win32 system error codes. */
 #define OM_SUCCESS 0u

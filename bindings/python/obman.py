@@ -23,8 +23,8 @@ import pathlib
 from collections import namedtuple
 from ctypes import POINTER, Structure, c_bool, c_char, c_int32, c_int64, c_size_t, c_uint32, c_uint64, c_void_p
 
-# Which release this module is of, 1.0.0: two decimal digits each for the second number and the third.
-VERSION = 10000
+# Which release this module is of, 1.1.0: two decimal digits each for the second number and the third.
+VERSION = 10100
 
 MODIFY_STATE = 0x2
 DELETE = 0x10000

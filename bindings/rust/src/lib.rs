@@ -65,8 +65,8 @@ pub const DUPLICATE_SAME_ACCESS: u32 = 2;
 pub const INFINITE: u32 = u32::MAX;
 /// The most bytes of a recorded line, with its line feed.
 pub const LINE_MOST: u32 = 4098;
-/// Which release this binding is of, 1.0.0: two decimal digits each for the second number and the third.
-pub const VERSION: u32 = 10000;
+/// Which release this binding is of, 1.1.0: two decimal digits each for the second number and the third.
+pub const VERSION: u32 = 10100;
 
 /// Which release the library is of, as [`VERSION`] says it of this binding.
 pub fn version() -> u32 {
