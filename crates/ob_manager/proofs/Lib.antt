@@ -7,3 +7,4 @@ pub mod Waited
 pub mod Rising
 pub mod OwnParts
 pub mod SavestateLaws
+pub mod AlikeLaws
