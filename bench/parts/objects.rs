@@ -69,6 +69,21 @@ impl Objects {
         self.slots[slot].phase = Phase::Live;
     }
 
+    /// A slot as a savestate says it.
+    #[allow(dead_code)]
+    pub fn restore(&mut self, slot: u32, generation: u32, phase: Phase, descr: u64, object: Option<Object>) {
+        let at = slot as usize;
+        let code = match phase {
+            Phase::Free => 0,
+            Phase::Live => LIVE,
+            Phase::Closing => CLOSING,
+            Phase::Retired => 2 << 30,
+        };
+        self.words[self.slots.len() + at] = AtomicU64::new(descr);
+        self.words[at] = AtomicU64::new(u64::from(generation) << 32 | code);
+        self.slots[at] = Slot { generation, phase, object };
+    }
+
     /// A closing slot is free at the next generation, or retired, unless it is pinned; then how often.
     pub fn reclaim(&mut self, slot: u32, max_gen: u32) -> Result<Phase, u32> {
         let place = &mut self.slots[slot as usize];

@@ -147,6 +147,15 @@ pub fn try_now(objects: &mut Objects, thread: u32, mode: Mode, ids: &[Id]) -> Op
     }
 }
 
+/// A wait as a savestate says it: what it is pending for, or the code that it is answered with.
+#[allow(dead_code)]
+pub struct Shown {
+    pub number: u32,
+    pub thread: u32,
+    pub pending: Option<(Mode, Vec<Id>)>,
+    pub code: u32,
+}
+
 /// The waits of all threads. Their numbers rise from 1.
 pub struct Waits {
     limit: u32,
@@ -185,6 +194,39 @@ impl Waits {
         self.waits[at] = Some(Wait { number, state: State::Pending(mode, places) });
         self.threads.insert(number, thread);
         Ok(number)
+    }
+
+    #[allow(dead_code)]
+    pub fn given(&self) -> u32 {
+        self.given
+    }
+
+    #[allow(dead_code)]
+    pub fn shown(&self) -> Vec<Shown> {
+        let ids = |places: &Places| places.as_slice().iter().map(|place| self.blocks.pool[*place as usize].id).collect();
+        let shown = |(thread, wait): (usize, &Wait)| match &wait.state {
+            State::Pending(mode, places) => Shown { number: wait.number, thread: thread as u32, pending: Some((*mode, ids(places))), code: 0 },
+            State::Answered(code) => Shown { number: wait.number, thread: thread as u32, pending: None, code: *code },
+        };
+        self.waits.iter().enumerate().filter_map(|(thread, wait)| Some((thread, wait.as_ref()?))).map(shown).collect()
+    }
+
+    /// The numbers up to this one are given to nobody.
+    #[allow(dead_code)]
+    pub fn skip_to(&mut self, number: u32) {
+        self.given = number;
+    }
+
+    #[allow(dead_code)]
+    pub fn add_answered(&mut self, thread: u32, code: u32) {
+        self.given += 1;
+        let at = thread as usize;
+        if self.waits.len() <= at {
+            self.waits.resize_with(at + 1, || None);
+        }
+        self.waits[at] = Some(Wait { number: self.given, state: State::Answered(code) });
+        self.threads.insert(self.given, thread);
+        self.note_answer(self.given);
     }
 
     fn note_answer(&mut self, number: u32) {
