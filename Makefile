@@ -91,6 +91,7 @@ dist: all
 	$(MAKE) install-strip PREFIX= LIBDIR=/lib INCLUDEDIR=/include MANDIR=/share/man DATADIR=/share/obman BINDIR=/bin DESTDIR=$(abspath build/$(DIST))
 	cp examples/README.md build/$(DIST)/
 	tar -C build --sort=name --owner=0 --group=0 -czf build/$(DIST).tar.gz $(DIST)
+	rm -rf build/$(DIST)
 
 examples: all
 	$(CC) -std=c99 -Iinclude -o build/guests examples/c/guests.c build/libobman.a
