@@ -31,6 +31,11 @@ impl Ids {
         requires { length ids.now ≤ MAXIMUM_WAIT_OBJECTS }
         ensures { IfOk result (λ s. s ≡ ids.now) }
     {
+        if let [id] = ids {
+            return Ok(Ids {
+                list: SmallVec::from_buf(alloc, [*id]),
+            });
+        }
         Ok(Ids {
             list: SmallVec::from_slice(alloc, ids)?,
         })

@@ -144,18 +144,26 @@ impl Numbers {
         self.start = 0;
     }
 
-    /// Drops them all where it is due: once there are eight more than twice as many as were left the last time, so
-    /// that it costs constant time for each number, over all calls.
-    #[tactic(auto, using(crate::proofs::NumberLaws::thins_none))]
-    pub(crate) fn thin_if_due(&mut self, live: &Live)
+    /// Drops all numbers of waits that are not pending.
+    #[inline(never)]
+    fn thin_all(&mut self, live: &Live)
         ensures { Thins live.now self.old self.new }
     {
-        if self.numbers.len() < self.due {
-            return;
-        }
         let count = self.numbers.len() - self.start;
         self.thin(live, count);
         self.pack();
         self.due = self.numbers.len().saturating_mul(2).saturating_add(8);
+    }
+
+    /// The same where it is due: once there are eight more than twice as many as were left the last time, so that it
+    /// costs constant time for each number, over all calls.
+    #[inline]
+    #[tactic(auto, using(crate::proofs::NumberLaws::thins_none))]
+    pub(crate) fn thin_if_due(&mut self, live: &Live)
+        ensures { Thins live.now self.old self.new }
+    {
+        if self.numbers.len() >= self.due {
+            self.thin_all(live);
+        }
     }
 }

@@ -32,8 +32,8 @@ impl PerThread {
         }
     }
 
-    /// Makes room for a thread.
-    pub(crate) fn make_room(&mut self, thread: u32) -> Result<(), AllocError>
+    #[inline(never)]
+    fn grow(&mut self, thread: u32) -> Result<(), AllocError>
         ensures room { OnOk result (thread < length self.new) }
         ensures same { (t : ℕ) → slice_index_or self.new t None ≡ slice_index_or self.old t None }
         ensures longer { length self.old ≤ length self.new }
@@ -42,6 +42,19 @@ impl PerThread {
             self.dues.push()?;
         }
         Ok(())
+    }
+
+    /// Makes room for a thread.
+    #[inline]
+    pub(crate) fn make_room(&mut self, thread: u32) -> Result<(), AllocError>
+        ensures room { OnOk result (thread < length self.new) }
+        ensures same { (t : ℕ) → slice_index_or self.new t None ≡ slice_index_or self.old t None }
+        ensures longer { length self.old ≤ length self.new }
+    {
+        if (thread as usize) < self.dues.len() {
+            return Ok(());
+        }
+        self.grow(thread)
     }
 
     /// What a thread has.

@@ -1,5 +1,5 @@
 use Rattle.std.proofs.Common.{◌≡◌, ◌≤◌, ◌-◌, ◌+◌, ℕ, None, length, slice_index_or}
-use Rattle.ob_waits.proofs.per_thread.PerThread.make_room.Given as goal
+use Rattle.ob_waits.proofs.per_thread.PerThread.grow.Given as goal
 
 abbrev pub invariant-loop-self : goal.invariant-loop-self
 invariant-loop-self l = record {
