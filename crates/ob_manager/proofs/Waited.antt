@@ -1,11 +1,15 @@
 -- What a wait's tests say of its objects.
 use Rattle.std.proofs.Common.{◌≡◌, ℕ, zero, suc, ◌<◌, ◌≤◌, List, [], ◌∷◌, ◌++◌, length, drop, Option, Some, None, Result, Ok, Err, refl, ap, ◌∙◌, sym, subst, arith, get_or, map, Bool, true, false, cond}
-use Rattle.std.specs.Prelude.{◌||◌}
+use Rattle.std.specs.Prelude.{◌||◌, not, nat_lt}
+use Rattle.std.specs.Cmp.Derive.{both_true}
 use Rattle.std.specs.List.{list_any}
 use Rattle.std.proofs.lemmas.List.{append_assoc, append-nil, drop_all}
 use Rattle.std.proofs.lemmas.List.Folds.{list_any_at}
 use Rattle.pin_core.specs.Holds.{same_id}
 use Rattle.pin_core.specs.declared.id.Id.{Id}
+use Rattle.ob_body.specs.declared.body.Body.{Body}
+use Rattle.ob_body.specs.declared.body.Body.TheVariants.{Event, Mutex, Semaphore, Timer}
+use Rattle.ob_body.specs.Mutex.{is_owner}
 use Rattle.ob_rights.specs.declared.fault.Fault.{Fault}
 use Rattle.ob_rights.specs.declared.fault.Fault.TheVariants as fault
 use Rattle.ob_tables.specs.declared.entry.Entry.{Entry}
@@ -14,14 +18,17 @@ use Rattle.ob_tables.specs.Tables.{table_of}
 use Rattle.ob_tables.proofs.Counting.{found_counts, same_id-same}
 use Rattle.ob_waits.specs.declared.wait.Mode.{Mode}
 use Rattle.ob_waits.specs.declared.wait.Mode.TheVariants.{Any, All}
+use Rattle.ob_waits.specs.Form.{slot_owner}
+use Rattle.ob_waits.specs.Objects.{slot_room}
 use Rattle.ob_waits.specs.Rules.{IsDistinct, IsWaitable}
 use Rattle.ob_waits.specs.Waits.{nowhere}
 use Rattle.ob_store.specs.Kept.{IsNamed}
+use Rattle.ob_store.specs.Owners.{owns_at}
 use Rattle.ob_store.specs.State.{State, handles_of}
 use Rattle.ob_store.proofs.NamedLaws.{one_there}
 use Rattle.ob_manager.specs.Checks.{found}
 use Rattle.ob_manager.specs.Outcomes.{◌>>=◌, or_refuse, refuse_if}
-use Rattle.ob_manager.specs.Waiting.{all_found, has_twice, id_of, is_for_one_twice, lacks_synchronize, objects_of}
+use Rattle.ob_manager.specs.Waiting.{all_found, has_twice, have_room, id_of, is_for_one_twice, lacks_synchronize, objects_of}
 
 -- the objects of handles one by one, after those that were collected
 abbrev pub objects_from : State → ℕ → List Id → Bool → List ℕ → Result (List Id) Fault
@@ -197,3 +204,18 @@ waitable s All ids named there some few none = record {
   few = few;
   once = λ e. slots_apart s ids named there none;
 }
+
+-- a thread that owns no mutex may take each
+one_unowned : (limit t : ℕ) (x : Option Body) → is_owner t (slot_owner x) ≡ false → slot_room limit t x ≡ true
+one_unowned limit t None none = refl
+one_unowned limit t (Some (Event e)) none = refl
+one_unowned limit t (Some (Mutex m)) none = ap (λ (b : Bool). not b || nat_lt m.recursion limit) none
+one_unowned limit t (Some (Semaphore x)) none = refl
+one_unowned limit t (Some (Timer x)) none = refl
+
+pub room_unowned : (s : State) (t : ℕ) (ids : List Id) → ((k : ℕ) → owns_at t s.bodies k ≡ false)
+    → have_room s t ids ≡ true
+room_unowned s t [] none = refl
+room_unowned s t (id ∷ ids) none =
+    both_true (one_unowned s.limits.max_recursion t (get_or s.bodies id.slot None) (none id.slot))
+    (room_unowned s t ids none)

@@ -219,7 +219,8 @@ fn is_for_one_twice(mode: Mode, ids: &[Id]) -> bool
 }
 
 /// Whether no object is a mutex that the thread owns as often as the limit lets.
-fn have_room<K: PinKeeper>(store: &Store<K>, thread: u32, ids: &[Id]) -> bool
+#[inline(never)]
+fn each_has_room<K: PinKeeper>(store: &Store<K>, thread: u32, ids: &[Id]) -> bool
     ensures { result ≡ have_room store.now.state thread ids.now }
 {
     for id in ids {
@@ -230,6 +231,18 @@ fn have_room<K: PinKeeper>(store: &Store<K>, thread: u32, ids: &[Id]) -> bool
         }
     }
     true
+}
+
+/// The same. Most threads own no mutex, and then no object is looked at.
+#[inline(always)]
+#[tactic(auto, using(crate::proofs::Waited::room_unowned))]
+fn have_room<K: PinKeeper>(store: &Store<K>, thread: u32, ids: &[Id]) -> bool
+    ensures { result ≡ have_room store.now.state thread ids.now }
+{
+    if store.owns_none(thread) {
+        return true;
+    }
+    each_has_room(store, thread, ids)
 }
 
 /// Whether a wait never becomes pending.

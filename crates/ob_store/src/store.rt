@@ -1,5 +1,5 @@
-ghost use Rattle.std.specs.Prelude.{◌≡◌, ◌<◌, ◌≤◌, true, IfOk, IfErr, IfSome, IsSome, OnSome, None, length, is_some};
-ghost use Rattle.std.specs.Prelude.{slice_get, slice_index_or};
+ghost use Rattle.std.specs.Prelude.{◌≡◌, ◌<◌, ◌≤◌, ℕ, false, true, IfOk, IfErr, IfSome, IsSome, IsTrue, OnSome, None};
+ghost use Rattle.std.specs.Prelude.{is_some, length, slice_get, slice_index_or};
 ghost use Rattle.std.specs.Option.{option_map};
 ghost use Rattle.pin_words.specs.Keepers.{IsFresh};
 ghost use Rattle.ob_arena.specs.Slots.{is_vacant_at, least_vacant};
@@ -9,6 +9,7 @@ ghost use Rattle.ob_tables.specs.Table.{entry_at};
 ghost use Rattle.ob_tables.specs.Tables.{table_of};
 ghost use Rattle.ob_waits.specs.Waits.{number_of};
 ghost use Rattle.ob_store.specs.Objects.{object_of, tag_of};
+ghost use Rattle.ob_store.specs.Owners.{owns_at};
 ghost use Rattle.ob_store.specs.State.{handles_of, blocks_of, id_at, is_full, opening, shape_of, vacancy};
 ghost use Rattle.ob_store.specs.Consistent.{IsConsistent};
 ghost use Rattle.ob_store.specs.Directory.{directory_of};
@@ -195,6 +196,13 @@ impl<K: PinKeeper> Store<K> {
         ensures { result ≡ slice_index_or self.now.state.bodies id.slot None }
     {
         self.parts.objects.body(id)
+    }
+
+    /// Whether it is known that a thread owns no mutex.
+    pub fn owns_none(&self, thread: u32) -> bool
+        ensures { IsTrue result → (k : ℕ) → owns_at thread self.now.state.bodies k ≡ false }
+    {
+        self.parts.objects.owns_none(thread)
     }
 
     /// The object of a name. It has a handle.
