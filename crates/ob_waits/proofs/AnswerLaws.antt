@@ -310,6 +310,14 @@ above_all (x ∷ ns) m last r k w =
     let lt : get_or (x ∷ ns) (length ns) 0 < m = subst (λ i. get_or (x ∷ ns) i 0 < m) end (last (omega arith)) in
     omega (arith, last_most k x ns r w, lt)
 
+-- the first of numbers that rise is the least of them
+pub first_least : (ns : List ℕ) (d : ℕ) → IsRising ns → (k : ℕ) → Within k ns → get_or ns 0 d ≤ k
+first_least [] d r k w = absurd w
+first_least (x ∷ ns) d r k w = elim w [
+  | inl same ↦ omega (arith, same)
+  | inr later ↦ let lt = r.0 k later in omega (arith, lt)
+]
+
 -- a number that is answered is above one that is not below it and isn't
 pub next_one : (k n : ℕ) (ws : List (Option Wait)) → n ≤ k → is_answered (get_or ws k None) ≡ true
     → is_answered (get_or ws n None) ≡ false → n < k

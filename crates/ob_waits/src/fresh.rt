@@ -35,6 +35,25 @@ fn is_above(numbers: &[u32], number: u32) -> bool
     }
 }
 
+/// The least number above one whose wait is answered, by halving.
+#[inline(never)]
+fn search_above(numbers: &[u32], waits: &Numbered, after: u32) -> Option<u32>
+    requires { IsRising numbers.now }
+    ensures answered { IfSome result (λ n. is_answered (slice_index_or waits.now n None) ≡ true) }
+    ensures above { IfSome result (λ n. after < n) }
+    ensures least { (k : ℕ) → Within k numbers.now → after < k → is_answered (slice_index_or waits.now k None) ≡ true
+        → IsAtMost result k }
+{
+    let mut last = after;
+    while let Some(number) = next_of(numbers, last) {
+        if waits.is_answered(number) {
+            return Some(number);
+        }
+        last = number;
+    }
+    None
+}
+
 impl Fresh {
     pub(crate) fn new(alloc: Global) -> Fresh
         ensures { result ≡ [] }
@@ -93,7 +112,9 @@ impl Fresh {
         }
     }
 
-    /// The least number above one whose wait is answered.
+    /// The least number above one whose wait is answered. Mostly there is none, or it is the first.
+    #[inline]
+    #[tactic(auto, using(crate::proofs::AnswerLaws::first_least))]
     pub(crate) fn next_above(&self, waits: &Numbered, after: u32) -> Option<u32>
         requires { IsRising self.now }
         ensures answered { IfSome result (λ n. is_answered (slice_index_or waits.now n None) ≡ true) }
@@ -101,13 +122,14 @@ impl Fresh {
         ensures least { (k : ℕ) → Within k self.now → after < k → is_answered (slice_index_or waits.now k None) ≡ true
             → IsAtMost result k }
     {
-        let mut last = after;
-        while let Some(number) = next_of(self.as_slice(), last) {
-            if waits.is_answered(number) {
-                return Some(number);
-            }
-            last = number;
+        let numbers = self.as_slice();
+        if numbers.is_empty() {
+            return None;
         }
-        None
+        let first = numbers[0];
+        if first > after && waits.is_answered(first) {
+            return Some(first);
+        }
+        search_above(numbers, waits, after)
     }
 }

@@ -1,12 +1,12 @@
 use Rattle.std.proofs.Common.{◌≡◌, ◌≤◌, ◌<◌, ◌-◌, ℕ, None, true, get_or}
 use Rattle.ob_waits.specs.Answers.{is_answered}
 use Rattle.ob_waits.specs.Rules.{Within}
-use Rattle.ob_waits.proofs.fresh.Fresh.next_above.Given as goal
+use Rattle.ob_waits.proofs.fresh.search_above.Given as goal
 
 abbrev pub invariant-loop-number : goal.invariant-loop-number
 invariant-loop-number l = record {
   later : l.after ≤ l.last;
-  least : (k : ℕ) → Within k l.self → l.after < k → is_answered (get_or l.waits k None) ≡ true → l.last < k;
+  least : (k : ℕ) → Within k l.numbers → l.after < k → is_answered (get_or l.waits k None) ≡ true → l.last < k;
 }
 
 abbrev pub decreases-loop-number : goal.decreases-loop-number
