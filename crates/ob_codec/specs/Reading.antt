@@ -119,6 +119,10 @@ abbrev pub end_of : List ℕ → Result (Unit {0}) TextFault
 end_of [] = Ok tt
 end_of (b ∷ bytes) = Err Trailing
 
+-- so many bytes at least
+abbrev pub has_at : ℕ → List ℕ → Result (Unit {0}) TextFault
+has_at n bytes = if nat_lt (length bytes) n then Err Short else Ok tt
+
 -- a value, and nothing behind it
 abbrev pub whole_at : {A : Type 0} → (List ℕ → Read A) → List ℕ → Result A TextFault
 whole_at read bytes = do

@@ -1,5 +1,5 @@
 ghost use Rattle.std.specs.Int.{w32, w64};
-ghost use Rattle.ob_codec.specs.Reading.{Gives, GivesAll, byte_at, bytes_at, end_of, number_at, string_at};
+ghost use Rattle.ob_codec.specs.Reading.{Gives, GivesAll, byte_at, bytes_at, end_of, has_at, number_at, string_at};
 
 use crate::fault::{ReadFault, TextFault};
 use std::marker::Model;
@@ -39,6 +39,17 @@ impl<'a> Cursor<'a> {
         let (front, rest) = self.rest.split_at(n);
         self.rest = rest;
         Ok(front)
+    }
+
+    /// Whether so many bytes are left: [`TextFault::Short`] where there are fewer. Whoever takes memory for items that
+    /// are still to be read asks first whether they can be there.
+    pub fn has(&self, n: usize) -> Result<(), ReadFault>
+        ensures { GivesAll (λ nothing. nothing) result (has_at n self.now) }
+    {
+        if self.rest.len() < n {
+            return Err(ReadFault::Text(TextFault::Short));
+        }
+        Ok(())
     }
 
     /// A byte.

@@ -1,17 +1,18 @@
 -- A store that is kept is read again as it was written, and what is read of a store was written so.
-use Rattle.std.proofs.Common.{◌≡◌, ℕ, ◌+◌, ◌<◌, ◌≤◌, ◌^◌, ◌&&◌, leb, ltb, Bool, true, List, [], ◌++◌, length, get_or, map, Option, Some, None, Ok, append_assoc, refl, sym, ap, ◌∙◌, subst, arith}
-use Rattle.std.specs.Int.{w64, to_le_bytes}
-use Rattle.std.specs.List.{AllByRecursion}
-use Rattle.std.proofs.lemmas.Bool.{eq-eqb, eqb-true, le-leb, leb-true, lt-ltb}
-use Rattle.std.proofs.lemmas.List.{ext_get_or, get_or-map, length-map}
+use Rattle.std.proofs.Common.{◌≡◌, ℕ, suc, ◌+◌, ◌*◌, ◌<◌, ◌≤◌, ◌^◌, ◌&&◌, leb, ltb, Bool, true, false, cond, List, [], ◌∷◌, ◌++◌, length, get_or, map, Option, Some, None, Ok, Err, append_assoc, refl, sym, ap, ◌∙◌, subst, arith}
+use Rattle.std.specs.Int.{w32, w64, to_le_bytes}
+use Rattle.std.specs.List.{AllByRecursion, flat_map}
+use Rattle.std.proofs.lemmas.Bool.{eq-eqb, eqb-true, le-leb, le-ltb, leb-true, lt-ltb}
+use Rattle.std.proofs.lemmas.List.{ext_get_or, get_or-map, length-append, length-map}
+use Rattle.std.proofs.lemmas.List.Concat.{flat_map-cons}
 use Rattle.std.proofs.lemmas.List.FromFn.{get_or-map-range_with_len, length-map-range_with_len}
 use Rattle.ob_codec.specs.Codecs.{u64_codec, where_codec}
 use Rattle.ob_codec.specs.Laws.{IsCodec, Takes}
-use Rattle.ob_codec.specs.Reading.{list_at, where_at}
+use Rattle.ob_codec.specs.Reading.{has_at, list_at, where_at}
 use Rattle.ob_codec.specs.Sparse.{sparse_at}
-use Rattle.ob_codec.specs.Spelling.{AreBytes}
+use Rattle.ob_codec.specs.Spelling.{AreBytes, flag, option}
 use Rattle.ob_codec.specs.Steps.{bind_ok, both-true, guard_passed, ok_is, true-both}
-use Rattle.ob_codec.specs.declared.fault.TextFault.TheVariants.{Value}
+use Rattle.ob_codec.specs.declared.fault.TextFault.TheVariants.{Short, Value}
 use Rattle.pin_core.specs.declared.id.Id.{Id}
 use Rattle.pin_core.specs.declared.shape.Shape.{Shape}
 use Rattle.pin_core.specs.Worlds.{opening_slot}
@@ -35,8 +36,8 @@ use Rattle.ob_store.specs.Processes.{ProcessesState}
 use Rattle.ob_store.specs.SavedLimits.{limits_at, limits_codec, limits_text}
 use Rattle.ob_store.specs.SavedObjects.{begun_over, objects_at, objects_text, slot_saved, slots_saved}
 use Rattle.ob_store.specs.SavedProcesses.{ListsFit, processes_at, processes_text}
-use Rattle.ob_store.specs.SavedSlots.{SlotFits, keeper_slot, keeper_slot_with}
-use Rattle.ob_store.specs.SavedStore.{are_tabled, is_moment, moment_at, parts_at, reopened, store_at, store_text, tables_for, whole_with}
+use Rattle.ob_store.specs.SavedSlots.{SlotFits, keeper_slot, keeper_slot_with, object_text, slot_text}
+use Rattle.ob_store.specs.SavedStore.{are_tabled, is_moment, moment_at, parts_at, reopened, slot_bytes, store_at, store_text, tables_for, whole_with}
 use Rattle.ob_store.specs.State.{Whole, generation_of, shape_of}
 use Rattle.ob_store.proofs.NamedLaws.{place_counted, there_within}
 use Rattle.ob_store.proofs.PlacedLaws.{live_within}
@@ -127,16 +128,61 @@ module _ (p : PartsState) (kept : IsKept p) (tied : IsTied p.objects) where
       ))))
 
   wait-within : (w : Option Wait) → ((t : ℕ) → thread_of w ≡ Some t → IsLive p.processes.threads t)
-      → are_below p.limits.slots (ids_of w) ≡ true → is_within (p.limits.threads + 1) p.limits.slots w ≡ true
+      → are_below p.limits.slots (ids_of w) ≡ true → is_within (length p.processes.threads) p.limits.slots w ≡ true
   wait-within None live below = refl
-  wait-within (Some w) live below = true-both (ltb w.thread (p.limits.threads + 1)) (are_below p.limits.slots _)
-      (lt-ltb w.thread (p.limits.threads + 1) (let lt = live_within p.processes.threads w.thread (live w.thread refl) in
-      let few = kept.sound.processes_kept.few_threads in omega (arith, lt, few)))
+  wait-within (Some w) live below = true-both (ltb w.thread (length p.processes.threads)) (are_below p.limits.slots _)
+      (lt-ltb w.thread (length p.processes.threads) (live_within p.processes.threads w.thread (live w.thread refl)))
       below
 
-  pub waits_within : are_within (p.limits.threads + 1) p.limits.slots p.waits.waits ≡ true
-  waits_within = all_from (is_within (p.limits.threads + 1) p.limits.slots) p.waits.waits None
+  pub waits_within : are_within (length p.processes.threads) p.limits.slots p.waits.waits ≡ true
+  waits_within = all_from (is_within (length p.processes.threads) p.limits.slots) p.waits.waits None
       (λ n lt. wait-within (get_or p.waits.waits n None) (kept.sound.of_live.waiters n) (slots-there n lt))
+
+flag-long : (b : Bool) → length (flag b) ≡ 1
+flag-long true = refl
+flag-long false = refl
+
+option-long : {A : Type 0} (spell : A → List ℕ) (o : Option A) → 1 ≤ length (option spell o)
+option-long spell None = omega arith
+option-long spell (Some x) = omega arith
+
+slot-long : (x : SavedSlot) → slot_bytes ≤ length (slot_text x)
+slot-long x =
+    let number : List ℕ = to_le_bytes w32 x.generation in
+    let retired : List ℕ = flag x.retired in
+    let object : List ℕ = option object_text x.object in
+    let four : length number ≡ 4 = refl in
+    omega (
+      arith,
+      four,
+      length-append number (retired ++ object),
+      length-append retired object,
+      flag-long x.retired,
+      option-long object_text x.object,
+    )
+
+slots-long : (xs : List SavedSlot) → length xs * slot_bytes ≤ length (flat_map slot_text xs)
+slots-long [] = omega arith
+slots-long (x ∷ xs) = let text : List ℕ = flat_map slot_text xs in
+    subst (λ (bytes : List ℕ). suc (length xs) * slot_bytes ≤ length bytes) (sym (flat_map-cons slot_text x xs))
+    (omega (arith, length-append (slot_text x) text, slot-long x, slots-long xs))
+
+-- three texts before the slots, and what stands behind them, have as many bytes as the slots have at least
+slots_there : (n : ℕ) (xs : List SavedSlot) (a b c rest : List ℕ) → length xs ≡ n
+    → has_at (n * slot_bytes) (a ++ (b ++ (c ++ (flat_map slot_text xs ++ rest)))) ≡ Ok tt
+slots_there n xs a b c rest long =
+    let text : List ℕ = flat_map slot_text xs in
+    let enough : ltb (length (a ++ (b ++ (c ++ (text ++ rest))))) (n * slot_bytes) ≡ false =
+    le-ltb _ _ (omega (
+      arith,
+      long,
+      length-append a (b ++ (c ++ (text ++ rest))),
+      length-append b (c ++ (text ++ rest)),
+      length-append c (text ++ rest),
+      length-append text rest,
+      slots-long xs,
+    )) in
+    ap (λ (short : Bool). cond short (Err Short) (Ok tt)) enough
 
 -- the parts of a store are read again
 module _ (p : PartsState) (kept : IsKept p) (tied : IsTied p.objects) (processes : ListsFit p.processes)
@@ -165,11 +211,11 @@ module _ (p : PartsState) (kept : IsKept p) (tied : IsTied p.objects) (processes
       (tables_again p.tables rest tables) in
       rw (read, eq-eqb (length p.tables.tables) (length p.processes.processes) sound.processes_kept.tabled) refl
 
-  waits_back : (rest : List ℕ) → waits_at p.limits.waits p.waits.clock (p.limits.threads + 1) p.limits.slots
+  waits_back : (rest : List ℕ) → waits_at p.limits.waits p.waits.clock (length p.processes.threads) p.limits.slots
       (waits_text p.waits.waits ++ rest) ≡ Ok (p.waits, rest)
-  waits_back rest = subst (λ (z : ℕ). waits_at z p.waits.clock (p.limits.threads + 1) p.limits.slots
+  waits_back rest = subst (λ (z : ℕ). waits_at z p.waits.clock (length p.processes.threads) p.limits.slots
       (waits_text p.waits.waits ++ rest) ≡ Ok (p.waits, rest)) sound.limited.waits_are
-      (waits_again (p.limits.threads + 1) p.limits.slots p.waits rest waits (waits_within p kept tied))
+      (waits_again (length p.processes.threads) p.limits.slots p.waits rest waits (waits_within p kept tied))
 
   same_whole : whole_with p.limits p.processes p.tables p.waits over ≡ reopened (whole_of p)
   same_whole = λ i. record (reopened (whole_of p)) {
@@ -186,6 +232,10 @@ module _ (p : PartsState) (kept : IsKept p) (tied : IsTied p.objects) (processes
       (subst (λ (k : Shape). AllByRecursion (SlotFits k.max_gen p.waits.clock) (slots_saved p.objects))
       sound.limited.shape_is objects)
 
+  xs-long : length (slots_saved p.objects) ≡ p.limits.slots
+  xs-long = length-map-range_with_len (slot_saved p.objects) 0 p.objects.keeper.shape.slots
+      ∙ ap (λ (z : Shape). z.slots) sound.limited.shape_is
+
   parts_again : (rest : List ℕ) → parts_at p.limits p.waits.clock (processes_text p.processes
       ++ (tables_text p.tables.tables ++ (waits_text p.waits.waits ++ (objects_text p.objects ++ rest))))
       ≡ Ok (reopened (whole_of p), rest)
@@ -194,7 +244,14 @@ module _ (p : PartsState) (kept : IsKept p) (tied : IsTied p.objects) (processes
       let t = waits_text p.waits.waits ++ (objects_text p.objects ++ rest) in
       let read : parts_at p.limits p.waits.clock (processes_text p.processes ++ e)
       ≡ Ok (whole_with p.limits p.processes p.tables p.waits over, rest) =
-      rw (processes_again e, tables_back t, waits_back (objects_text p.objects ++ rest), objects_back rest) refl in
+      rw (
+        slots_there p.limits.slots (slots_saved p.objects) (processes_text p.processes) (tables_text p.tables.tables)
+            (waits_text p.waits.waits) rest xs-long,
+        processes_again e,
+        tables_back t,
+        waits_back (objects_text p.objects ++ rest),
+        objects_back rest,
+      ) refl in
       read ∙ ap (λ (w : Whole). Ok (w, rest)) same_whole
 
   pub store_again : (moment : p.waits.clock ≤ 9223372036854775807) (rest : List ℕ)
@@ -260,22 +317,23 @@ store_takes bytes w rest are e =
     let la = (limits_codec.takes bytes limits a.0.1 are a.1).0 in
     let b = bind_ok (moment_at a.0.1) _ (w, rest) a.2 in
     let lb = (moment_codec.takes a.0.1 b.0.0 b.0.1 la.rest_fits b.1).0 in
-    let c = bind_ok (processes_at limits.processes limits.threads b.0.1) _ (w, rest) b.2 in
+    let h = bind_ok (has_at (limits.slots * slot_bytes) b.0.1) _ (w, rest) b.2 in
+    let c = bind_ok (processes_at limits.processes limits.threads b.0.1) _ (w, rest) h.2 in
     let p = c.0.0 in
     let lc = ((processes_codec limits.processes limits.threads).takes b.0.1 p c.0.1 lb.rest_fits c.1).0 in
     let d = bind_ok (tables_for limits p c.0.1) _ (w, rest) c.2 in
     let t = d.0.0 in
     let ld = tables_were limits p c.0.1 t d.0.1 lc.rest_fits d.1 in
-    let f = bind_ok (waits_at limits.waits b.0.0 (limits.threads + 1) limits.slots d.0.1) _ (w, rest) d.2 in
+    let f = bind_ok (waits_at limits.waits b.0.0 (length p.threads) limits.slots d.0.1) _ (w, rest) d.2 in
     let list = f.0.0 in
-    let lf = (waits_take limits.waits b.0.0 (limits.threads + 1) limits.slots d.0.1 list f.0.1 ld.rest_fits f.1).0 in
+    let lf = (waits_take limits.waits b.0.0 (length p.threads) limits.slots d.0.1 list f.0.1 ld.rest_fits f.1).0 in
     let g = bind_ok (objects_at limits p.threads t.tables list f.0.1) _ (w, rest) f.2 in
     let o = g.0.0.0 in
     let lg = objects_take limits p.threads t.tables list f.0.1 o g.0.0.1 g.0.1 lf.rest_fits g.1 in
     let q : (whole_with limits p t list o, g.0.1) ≡ (w, rest) =
     ok_is (whole_with limits p t list o, g.0.1) (w, rest) g.2
     in
-    let moment = waits_moment limits.waits b.0.0 (limits.threads + 1) limits.slots d.0.1 list f.0.1 f.1 in
+    let moment = waits_moment limits.waits b.0.0 (length p.threads) limits.slots d.0.1 list f.0.1 f.1 in
     let texts : bytes ≡ limits_text limits ++ (to_le_bytes w64 b.0.0 ++ (processes_text p ++ (tables_text t.tables
     ++ (waits_text list.waits ++ (objects_text o ++ g.0.1))))) =
     la.parts ∙ ap (λ (z : List ℕ). limits_text limits ++ z) (lb.parts ∙ ap (λ (z : List ℕ). to_le_bytes w64 b.0.0 ++ z)

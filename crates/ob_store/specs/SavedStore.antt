@@ -1,7 +1,7 @@
 -- A store as bytes: its limits, the moment, processes and threads, handle tables, waits, and slots with their objects.
-use Rattle.std.specs.Prelude.{ℕ, ◌+◌, ◌==◌, nat_le, Bool, List, [], ◌++◌, length, map, Ok}
+use Rattle.std.specs.Prelude.{ℕ, ◌*◌, ◌==◌, nat_le, Bool, List, [], ◌++◌, length, map, Ok}
 use Rattle.std.specs.Int.{w64, to_le_bytes}
-use Rattle.ob_codec.specs.Reading.{◌>>=◌, Read, number_at, where_at}
+use Rattle.ob_codec.specs.Reading.{◌>>=◌, Read, has_at, number_at, where_at}
 use Rattle.ob_tables.specs.Spelling.{tables_at, tables_text}
 use Rattle.ob_tables.specs.Tables.{HandleTables}
 use Rattle.ob_waits.specs.Spelling.{waits_at, waits_text}
@@ -66,12 +66,18 @@ whole_with limits p t w o = record {
 abbrev pub tables_for : Limits → ProcessesState → List ℕ → Read HandleTables
 tables_for limits p = where_at (are_tabled p) (tables_at limits.processes limits.handles)
 
--- what stands behind the limits and the moment
+-- how many bytes a slot has at least: its generation, and two flags
+abbrev pub slot_bytes : ℕ
+slot_bytes = 6
+
+-- What stands behind the limits and the moment: so many bytes at least as the slots have, so that no room is made for
+-- slots that aren't there.
 abbrev pub parts_at : Limits → ℕ → List ℕ → Read Whole
 parts_at limits clock bytes = do
+  there ← has_at (limits.slots * slot_bytes) bytes
   p ← processes_at limits.processes limits.threads bytes
   t ← tables_for limits p.0 p.1
-  w ← waits_at limits.waits clock (limits.threads + 1) limits.slots t.1
+  w ← waits_at limits.waits clock (length p.0.threads) limits.slots t.1
   o ← objects_at limits p.0.threads t.0.tables w.0 w.1
   Ok (whole_with limits p.0 t.0 w.0 o.0.0, o.1)
 

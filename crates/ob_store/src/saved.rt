@@ -122,7 +122,7 @@ impl Objects<LockedPins> {
         waits: &Waits,
         from: &mut Cursor<'_>,
     ) -> Result<(Objects<LockedPins>, Directory), ReadFault>
-        requires { are_within (limits.threads + 1) limits.slots waits.now.waits ≡ true }
+        requires { are_within (length processes.now.threads) limits.slots waits.now.waits ≡ true }
         ensures read { Gives (λ read. (read.0, read.1.rows)) result
             (objects_at limits processes.now.threads tables.now.tables waits.now from.old) from.new }
         ensures shape { IfOk result (λ read. read.0.keeper.shape ≡ shape_of limits) }

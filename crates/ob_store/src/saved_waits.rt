@@ -1,4 +1,4 @@
-ghost use Rattle.std.specs.Prelude.{◌≡◌, ◌+◌, length, true};
+ghost use Rattle.std.specs.Prelude.{◌≡◌, length, true};
 ghost use Rattle.std.specs.List.{list_all};
 ghost use Rattle.ob_waits.specs.Spelling.{are_within};
 ghost use Rattle.ob_waits.specs.declared.wait.State.TheVariants.{Pending};
@@ -87,19 +87,19 @@ fn wait_stands(
     }
 }
 
-/// Whether all waits can be there. It looks for the wait of each thread number that may be given.
+/// Whether all waits can be there: those of each thread number that was given.
 fn waits_stand(
     objects: &Objects<LockedPins>,
     limits: Limits,
     processes: &Processes,
     waits: &Waits,
 ) -> bool
-    requires { are_within (limits.threads + 1) limits.slots waits.now.waits ≡ true }
+    requires { are_within (length processes.now.threads) limits.slots waits.now.waits ≡ true }
     ensures { result ≡ waits_stand limits.max_recursion processes.now.threads waits.now.waits objects.now }
 {
     // It tells the proof that a thread has one wait.
     let _ = waits.wait_of(0);
-    for thread in 0..limits.threads + 1 {
+    for thread in 0..processes.next_thread() {
         if !wait_stands(objects, limits.max_recursion, processes, waits, thread) {
             return false;
         }
@@ -137,7 +137,7 @@ pub(crate) fn all_stand(
     processes: &Processes,
     waits: &Waits,
 ) -> bool
-    requires { are_within (limits.threads + 1) limits.slots waits.now.waits ≡ true }
+    requires { are_within (length processes.now.threads) limits.slots waits.now.waits ≡ true }
     ensures { result ≡ all_stand limits.max_recursion processes.now.threads waits.now.waits objects.now }
 {
     waits_stand(objects, limits, processes, waits) && owners_stand(objects, processes)

@@ -16,6 +16,9 @@ use ob_waits::{LAST_MOMENT, Waits};
 use pin_words::{LockedPins, PinKeeper};
 use std::alloc::{AllocError, Global};
 
+/// How many bytes a slot has at least: its generation, and two flags.
+const SLOT_BYTES: usize = 6;
+
 /// Reads a moment. [`TextFault::Value`] where it is after the last.
 fn read_moment(from: &mut Cursor<'_>) -> Result<u64, ReadFault>
     ensures read { Gives (λ moment. moment) result (moment_at from.old) from.new }
@@ -55,13 +58,14 @@ fn read_parts(
     ensures read { Gives (λ parts. whole_of (parts_of parts)) result (parts_at limits clock from.old) from.new }
     ensures kept { IfOk result (λ parts. IsKept (parts_of parts)) }
 {
+    from.has(limits.slots as usize * SLOT_BYTES)?;
     let processes = Processes::read(alloc, limits.processes, limits.threads, from)?;
     let tables = read_tables(alloc, limits, &processes, from)?;
     let waits = Waits::read(
         alloc,
         limits.waits,
         clock,
-        limits.threads + 1,
+        processes.next_thread(),
         limits.slots,
         from,
     )?;
@@ -83,7 +87,9 @@ impl Store<LockedPins> {
     /// holds a copy of an Id. What is read is kept like any other store. Refused with the first thing that is wrong,
     /// and with want of memory.
     ///
-    /// Linear in what is there, but that objects are ordered by their births.
+    /// A count asks for no memory before its items are there, nor the slots before so many bytes are as they have at
+    /// least; beside them the store takes 8 bytes for each thread number that its limits let it give. Linear in what is
+    /// there, but that objects are ordered by their births.
     pub fn read(alloc: Global, from: &mut Cursor<'_>) -> Result<Store<LockedPins>, ReadFault>
         ensures { Gives (λ store. store) result (store_at from.old) from.new }
     {

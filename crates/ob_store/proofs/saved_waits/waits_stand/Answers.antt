@@ -1,4 +1,4 @@
-use Rattle.std.proofs.Common.{◌+◌, ◌∙◌, sym, arith}
+use Rattle.std.proofs.Common.{◌∙◌, length, sym, arith}
 use Rattle.ob_store.proofs.SavedWaitLaws.{waits_next, waits_pass}
 use Rattle.ob_store.proofs.saved_waits.waits_stand.Goals as goal
 
@@ -9,5 +9,5 @@ loop-thread-preserved c = waits_next c.args.limits.max_recursion c.args.processe
 
 pub returns : goal.returns
 returns c = sym (waits_pass c.args.limits.max_recursion c.args.processes.now.threads c.args.objects.now
-    c.args.waits.now.waits (c.args.limits.threads + 1) c.args.limits.slots c.wait_of.ensures.kept c.requires
-    (λ t lt. c.loop-thread.invariant t (omega (arith, lt, c.loop-thread-test.false))))
+    c.args.waits.now.waits (length c.args.processes.now.threads) c.args.limits.slots c.wait_of.ensures.kept c.requires
+    (λ t lt. c.loop-thread.invariant t (omega (arith, lt, c.next_thread-thread-end.ensures, c.loop-thread-test.false))))

@@ -1,7 +1,20 @@
-use Rattle.std.proofs.Common.{refl, subst, sym}
+use Rattle.std.proofs.Common.{◌≡◌, ℕ, refl, subst, sym, true}
+use Rattle.std.proofs.lemmas.Result.{err_from_is_err_and}
+use Rattle.ob_waits.specs.Spelling.{are_within}
 use Rattle.ob_store.specs.Kept.{ProcessesKept}
 use Rattle.ob_store.proofs.SavedStoreLaws.{tables_read}
 use Rattle.ob_store.proofs.savestate.read_parts.Goals as goal
+
+-- a thread that was given is one of those of the list
+pub read-requires-3 : goal.read-requires-3
+read-requires-3 c =
+    subst (λ (threads : ℕ). are_within threads c.args.limits.slots c.in_ok-waits.waits.waits ≡ true)
+    c.next_thread.ensures c.in_ok-waits.ensures.within
+
+pub returns-in_err-signaled-clause-read : goal.returns-in_err-signaled-clause-read
+returns-in_err-signaled-clause-read c =
+    let p = err_from_is_err_and c.from_residual-in_err-signaled.result c.from_residual-in_err-signaled.ensures.1 in
+    rw (p.1, p.2) tt
 
 pub returns-clause-kept : goal.returns-clause-kept
 returns-clause-kept c =
