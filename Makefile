@@ -22,7 +22,7 @@ CARGO ?= cargo
 PYTHON ?= python3
 
 KIT = $(dir $(shell rt doc))
-PROVED = crates/obman_c/out/libobman_c.a crates/obman_c_script/out/libobman_c_script.a
+PROVED = $(foreach part,obman_c obman_c_savestates obman_c_script,crates/$(part)/out/lib$(part).a)
 SOURCES = $(shell find crates.txt crates/*/src crates/*/specs crates/*/proofs -type f)
 PROGRAM = crates/obman/out/obman
 # A program that was linked with a shared library runs with each later one of the same first number.

@@ -8,16 +8,11 @@ use Rattle.ob_manager.specs.declared.call.CallOf.TheVariants as calls
 use Rattle.ob_manager.specs.declared.reply.Reply.{Reply}
 use Rattle.ob_manager.specs.Reaping.{IfReaped}
 use Rattle.ob_manager.specs.Steps.{Step}
-use Rattle.ob_record.specs.Recording.{Notes, Recording}
-use Rattle.ob_record.specs.Telling.{text_for}
-use Rattle.obman_c.specs.declared.owned.OwnedManager.{OwnedManager}
+use Rattle.obman_c_base.specs.Noted.{IsNoted}
+use Rattle.obman_c_base.specs.declared.owned.OwnedManager.{OwnedManager}
 use Rattle.obman_c.specs.declared.values.Reaping.{Reaping}
 use Rattle.obman_c.specs.Reaping.{ReapsTold}
-use Rattle.obman_c.specs.Telling.{IsNoted, Tells, TellsAs, reaping_in, status_of}
-
-pub notes : {old new : Recording} {call : Call} {reply : Reply} → Notes old (text_for call reply) new
-    → IsNoted old call reply new
-notes lines = record { lines = lines }
+use Rattle.obman_c.specs.Telling.{Tells, TellsAs, reaping_in, status_of}
 
 stepped : {old lent : OwnedManager} {left now : Whole} {call : Call} {reply : Reply} → lent ≡ old
     → Step lent.manager call reply left → now ≡ left → Step old.manager call reply now

@@ -1,13 +1,13 @@
 -- How a manager comes to be at a place.
-use Rattle.std.specs.Prelude.{◌≡◌, ℕ, false, [], Option, Some}
+use Rattle.std.specs.Prelude.{◌≡◌, ℕ, Option, Some}
 use Rattle.pin_core.specs.declared.shape.Shape.{Shape}
 use Rattle.pin_words.specs.Keepers.{state_of}
 use Rattle.pin_words.specs.Seats.{KeeperSeat, TableState}
 use Rattle.pin_words.specs.Views.{keeper_gave, opening_keeper}
 use Rattle.ob_store.specs.declared.limits.Limits.{Limits}
 use Rattle.ob_store.specs.State.{Whole, opening, shape_of}
-use Rattle.ob_record.specs.Recording.{recording}
-use Rattle.obman_c.specs.declared.owned.OwnedManager.{OwnedManager}
+use Rattle.obman_c_base.specs.Owned.{unrecorded}
+use Rattle.obman_c_base.specs.declared.owned.OwnedManager.{OwnedManager}
 use Rattle.obman_c_base.specs.declared.limits.Bounds.{Bounds}
 use Rattle.obman_c_base.specs.Allowed.{AreAllowed, AreAs}
 
@@ -21,7 +21,7 @@ new_manager limits t = record { state = opening limits; keeper = state_of (new_k
 
 -- and nothing is recorded
 abbrev pub new_owned : Limits → TableState → OwnedManager
-new_owned limits t = record { manager = new_manager limits t; recorder = recording [] false }
+new_owned limits t = unrecorded (new_manager limits t)
 
 -- A place gets a new manager with these limits, over words of its own, and 0 is told; or it stays as it is, and 87 is
 -- told where a

@@ -10,10 +10,11 @@ use Rattle.ob_manager.specs.declared.reply.Reply.{Reply}
 use Rattle.ob_manager.specs.declared.reply.Reply.TheVariants.{Reaped}
 use Rattle.ob_manager.specs.Reaping.{IfReaped}
 use Rattle.ob_manager.specs.Steps.{Step}
-use Rattle.obman_c.specs.declared.owned.OwnedManager.{OwnedManager}
+use Rattle.obman_c_base.specs.declared.owned.OwnedManager.{OwnedManager}
 use Rattle.obman_c.specs.declared.values.Reaping.{Reaping}
 use Rattle.obman_c.specs.Chains.{Chain}
-use Rattle.obman_c.specs.Telling.{IsNoted, reaping_in, status_of}
+use Rattle.obman_c.specs.Telling.{reaping_in, status_of}
+use Rattle.obman_c_base.specs.Noted.{IsNoted}
 
 -- as any call, and the slot is held just by the pins that its word has, as the exchange found it
 pub record ReapsTold (slot : ℕ) (old : OwnedManager) (status : ℕ) (new : OwnedManager)

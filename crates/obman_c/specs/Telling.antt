@@ -8,9 +8,8 @@ use Rattle.ob_manager.specs.Calls.{Call}
 use Rattle.ob_manager.specs.declared.reply.Reply.{Reply}
 use Rattle.ob_manager.specs.declared.reply.Reply.TheVariants.{Spawned, Started, Made, Exists, Opened, Duplicated, Closed, Done, Flags, Previous, Code, Pending, Expired, Ended, Exited, Reaped, CountsAre, Ticked, Refused}
 use Rattle.ob_manager.specs.Steps.{Step}
-use Rattle.ob_record.specs.Recording.{Notes, Recording}
-use Rattle.ob_record.specs.Telling.{text_for}
-use Rattle.obman_c.specs.declared.owned.OwnedManager.{OwnedManager}
+use Rattle.obman_c_base.specs.Noted.{IsNoted}
+use Rattle.obman_c_base.specs.declared.owned.OwnedManager.{OwnedManager}
 use Rattle.obman_c.specs.declared.values.Member.{Member}
 use Rattle.obman_c.specs.declared.values.Object.{Object}
 use Rattle.obman_c.specs.declared.values.Opening.{Opening}
@@ -39,10 +38,6 @@ status_of (Exited process) = 0
 status_of (Reaped id outcome) = 0
 status_of (CountsAre handles waits hold) = 0
 status_of (Ticked now) = 0
-
--- where calls are recorded, one is, with its reply
-pub record IsNoted (old : Recording) (call : Call) (reply : Reply) (new : Recording) : Type 0 where
-  pub lines : Notes old (text_for call reply) new
 
 -- From a state a call gives some reply and goes on as the manager does, this number is told of the reply, and where
 -- calls are recorded this one is, with the reply.

@@ -3,15 +3,12 @@ ghost use Rattle.std.specs.Prelude.{◌≡◌, IfErr, IfOk};
 ghost use Rattle.pin_core.specs.Shapes.{IsWithinLimits};
 ghost use Rattle.pin_words.specs.Seats.{TableState};
 ghost use Rattle.ob_store.specs.State.{shape_of};
-ghost use Rattle.obman_c.specs.declared.owned.OwnedManager.{OwnedManager};
+ghost use Rattle.obman_c_base.specs.declared.owned.OwnedManager.{OwnedManager};
 ghost use Rattle.obman_c.specs.Opening.{Opens, new_keeper, new_owned};
 
-use crate::owned::OwnedManager;
-use crate::owner::{Ending, Place};
 use ob_manager::{Limits, Manager};
-use ob_record::Recorder;
 use ob_rights::{Fault, code_of};
-use obman_c_base::{Bounds, SUCCESS, limits_of};
+use obman_c_base::{Bounds, Ending, OwnedManager, Place, SUCCESS, limits_of};
 use pin_core::Shape;
 use pin_words::{Keeper, Pins};
 use std::alloc::Global;
@@ -50,13 +47,7 @@ fn held(alloc: Global, limits: Limits) -> Result<Box<OwnedManager>, Fault>
 {
     let keeper = keeper(alloc, limits.shape())?;
     match Manager::new(alloc, limits, keeper) {
-        Ok(manager) => Ok(Box::new(
-            alloc,
-            OwnedManager {
-                manager,
-                recorder: Recorder::new(alloc),
-            },
-        )?),
+        Ok(manager) => Ok(OwnedManager::boxed(alloc, manager)?),
         Err(_) => Err(Fault::Memory),
     }
 }

@@ -3,9 +3,8 @@ ghost use Rattle.std.specs.Prelude.{◌≡◌};
 ghost use Rattle.ob_record.specs.Recording.{TakesLines};
 ghost use Rattle.obman_c.specs.Noting.{RecordTold, TakeTold};
 
-use crate::owner::Owner;
 use ob_rights::{Fault, code_of};
-use obman_c_base::{SUCCESS, TOO_SMALL};
+use obman_c_base::{Owner, SUCCESS, TOO_SMALL};
 
 /// [`Recorder::start`](ob_record::Recorder::start), or [`Recorder::stop`](ob_record::Recorder::stop): 0 or 8.
 #[unsafe(no_mangle)]

@@ -1,1 +1,7 @@
 pub mod Allowed
+pub mod Noted
+pub mod Owned
+pub mod Owning
+pub mod Lending
+pub mod ReaderOwning
+pub mod ReaderLending

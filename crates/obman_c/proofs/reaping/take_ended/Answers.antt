@@ -6,7 +6,7 @@ use Rattle.ob_manager.specs.declared.reply.Reply.TheVariants.{Reaped}
 use Rattle.ob_manager.specs.Reaping.{IfReaped}
 use Rattle.ob_manager.specs.Steps.{Step, reclaim_in}
 use Rattle.ob_store.specs.State.{Whole}
-use Rattle.obman_c.specs.Telling.{IsNoted}
+use Rattle.obman_c_base.specs.Noted.{IsNoted}
 use Rattle.obman_c.specs.Reaping.{ReapsNext}
 use Rattle.obman_c.proofs.Chains.{chain_set, rest_set}
 use Rattle.obman_c.proofs.Taking.{reaped, told_as}

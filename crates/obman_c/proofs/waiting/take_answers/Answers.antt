@@ -5,7 +5,7 @@ use Rattle.ob_manager.specs.declared.reply.Reply.TheVariants.{Code}
 use Rattle.ob_manager.specs.Steps.{Step}
 use Rattle.obman_c.specs.declared.waiting.Answered.{Answered}
 use Rattle.ob_store.specs.State.{Whole}
-use Rattle.obman_c.specs.Telling.{IsNoted}
+use Rattle.obman_c_base.specs.Noted.{IsNoted}
 use Rattle.obman_c.specs.Waiting.{TakesNext}
 use Rattle.obman_c.proofs.Chains.{chain_set, rest_set}
 use Rattle.obman_c.proofs.Taking.{answered}

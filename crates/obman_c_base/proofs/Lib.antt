@@ -1,0 +1,4 @@
+pub mod Walks
+pub mod Sending
+pub mod Endings
+pub mod Noted

@@ -1,0 +1,4 @@
+//! Savestates for C, beside the calls: a static library of its own, so that what a load calls too is still inlined in them.
+#![tactic(auto)]
+
+mod savestates;
