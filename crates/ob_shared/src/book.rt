@@ -1,14 +1,15 @@
-ghost use Rattle.std.specs.Prelude.{◌≡◌, ◌↔◌, ◌<◌, [], ◌∷◌, ◌++◌, IfNone, IfOk, IfErr, IfSome, IsTrue, None};
+ghost use Rattle.std.specs.Prelude.{◌≡◌, ◌↔◌, ◌<◌, [], ◌∷◌, ◌++◌, IfNone, IfOk, IfErr, IfSome, IsTrue, None, Ok};
 ghost use Rattle.std.specs.Prelude.{slice_index_or, vec_len, vec_capacity};
 ghost use Rattle.ob_rights.specs.declared.fault.Fault.TheVariants.{Memory};
 ghost use Rattle.ob_waits.specs.Waits.{is_pending};
 ghost use Rattle.ob_store.specs.Consistent.{IsConsistent};
-ghost use Rattle.ob_store.specs.State.{opening};
+ghost use Rattle.ob_store.specs.State.{Whole, opening};
 ghost use Rattle.ob_store.specs.Stored.{MatchesState};
 ghost use Rattle.ob_manager.specs.Counting.{card};
+ghost use Rattle.ob_manager.specs.Savestates.{load};
 ghost use Rattle.ob_manager.specs.Steps.{Step};
 ghost use Rattle.ob_shared.specs.Closing.{AreWhole, IsCause};
-ghost use Rattle.ob_shared.specs.Journal.{IsHistory, replay};
+ghost use Rattle.ob_shared.specs.Journal.{Continues, origin, replay};
 
 use crate::asked::Asked;
 use crate::closing::{CloseCause, cause_of};
@@ -112,22 +113,28 @@ impl Entered {
     }
 }
 
-/// A manager, with the journal of its calls.
+/// A manager, with the journal of its calls, and the savestate with which it began, of no bytes where it began as a new
+/// one: together a whole history.
 #[derive(Drop)]
 pub struct Book<K: PinKeeper> {
+    saved: Vec<u8>,
     manager: Manager<K>,
     journal: Vec<Entry>,
     alloc: Global,
 }
 
 impl<K: PinKeeper> Model for Book<K> {
-    ghost use Rattle.ob_shared.specs.Journal.{BookState, IsHistory};
+    ghost use Rattle.ob_shared.specs.Journal.{BookState, Continues};
 
     ghost Value = { BookState };
 
-    ghost view = { λ book. record { manager = book.manager; journal = book.journal.items } };
+    ghost view = { λ book. record {
+      saved = book.saved.items;
+      manager = book.manager;
+      journal = book.journal.items;
+    } };
 
-    ghost invariant = { λ book. IsHistory book.journal.items book.manager };
+    ghost invariant = { λ book. Continues book.saved.items book.journal.items book.manager };
 }
 
 impl<K: PinKeeper> Book<K> {
@@ -135,10 +142,27 @@ impl<K: PinKeeper> Book<K> {
     #[tactic(auto, using(crate::proofs::Journals::history_opens))]
     pub fn new(alloc: Global, manager: Manager<K>) -> Book<K>
         requires { manager.state ≡ opening manager.state.limits }
-        ensures { result ≡ record { manager = manager; journal = [] } }
+        ensures { result ≡ record { saved = []; manager = manager; journal = [] } }
     {
         manager.kept();
         Book {
+            saved: Vec::new(alloc),
+            manager,
+            journal: Vec::new(alloc),
+            alloc,
+        }
+    }
+
+    /// A manager that goes on from a savestate, which [`Manager::load`] gave or [`Manager::save`] wrote of it, with the
+    /// savestate, and an empty journal: what follows is a history from there.
+    #[tactic(auto, using(crate::proofs::Journals::history_opens))]
+    pub fn resume(alloc: Global, saved: Vec<u8>, manager: Manager<K>) -> Book<K>
+        requires { (w : Whole) × (load saved.items ≡ Ok w) × (w.state ≡ manager.state) }
+        ensures { result ≡ record { saved = saved.items; manager = manager; journal = [] } }
+    {
+        manager.kept();
+        Book {
+            saved,
             manager,
             journal: Vec::new(alloc),
             alloc,
@@ -151,6 +175,7 @@ impl<K: PinKeeper> Book<K> {
         ensures entered { IfOk result (λ receipt. self.new.journal ≡ self.old.journal ++ receipt ∷ []) }
         ensures entry { IfOk result (λ receipt. (receipt.lane ≡ lane) × (receipt.call ≡ call)) }
         ensures step { IfOk result (λ receipt. Step self.old.manager call receipt.reply self.new.manager) }
+        ensures saved { self.new.saved ≡ self.old.saved }
         ensures memory { IfErr result (λ fault. (fault ≡ Memory) × (self.new ≡ self.old)) }
     {
         let copy = call.copy(self.alloc)?;
@@ -166,6 +191,7 @@ impl<K: PinKeeper> Book<K> {
         ensures entered { IfOk result (λ entered. self.new.journal ≡ self.old.journal ++ entered ∷ []) }
         ensures entry { IfOk result (λ entered. (entered.lane ≡ lane) × (entered.call ≡ call.now)) }
         ensures step { IfOk result (λ entered. Step self.old.manager call.now entered.reply self.new.manager) }
+        ensures saved { self.new.saved ≡ self.old.saved }
         ensures memory { IfErr result (λ fault. (fault ≡ Memory) × (self.new ≡ self.old)) }
     {
         self.journal.reserve(1)?;
@@ -197,13 +223,14 @@ impl<K: PinKeeper> Book<K> {
         self.manager.card(id)
     }
 
-    /// What holds of a book: the manager is kept, its journal has all calls since it was made, each of them a step to a
+    /// What holds of a book: the manager is kept, its journal has all calls since it began, each of them a step to a
     /// manager that is kept, and its state is the one after them.
     #[tactic(auto, using(crate::proofs::Journals::history_state))]
     pub fn replays(&self)
         ensures kept { IsConsistent self.now.manager }
-        ensures history { IsHistory self.now.journal self.now.manager }
-        ensures state { self.now.manager.state ≡ replay (opening self.now.manager.state.limits) self.now.journal }
+        ensures history { Continues self.now.saved self.now.journal self.now.manager }
+        ensures state { self.now.manager.state
+            ≡ replay (origin self.now.manager.state.limits self.now.saved) self.now.journal }
     {
         let _ = &self.journal;
         self.manager.kept();
@@ -233,10 +260,17 @@ impl<K: PinKeeper> Book<K> {
         self.journal.as_slice()
     }
 
+    /// The savestate with which the manager began, of no bytes where it began as a new one.
+    pub fn saved(&self) -> &[u8]
+        ensures { result.now ≡ self.now.saved }
+    {
+        self.saved.as_slice()
+    }
+
     /// The manager and the journal.
     pub fn into_parts(self) -> (Manager<K>, Vec<Entry>)
         ensures parts { (result.0 ≡ self.manager) × (result.1.items ≡ self.journal) }
-        ensures history { IsHistory self.journal self.manager }
+        ensures history { Continues self.saved self.journal self.manager }
     {
         (self.manager, self.journal)
     }

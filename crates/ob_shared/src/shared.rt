@@ -22,7 +22,7 @@ const LOOKS: u32 = 3;
 /// other is.
 const PAUSES: u32 = 8;
 
-/// What lies under the lock.
+/// What lies under the lock: a book that began with a new manager.
 #[derive(Drop)]
 struct Held {
     book: Book<Keeper>,
@@ -30,15 +30,76 @@ struct Held {
     waiting: u32,
 }
 
+impl Model for Held {
+    ghost use Rattle.std.specs.Prelude.{◌≡◌, []};
+    ghost use Rattle.ob_shared.specs.Journal.{BookState};
+
+    ghost Value = { BookState };
+
+    ghost view = { λ held. held.book };
+
+    ghost invariant = { λ held. held.book.saved ≡ [] };
+}
+
 impl Held {
-    ghost use Rattle.std.specs.Prelude.{None, slice_index_or};
+    ghost use Rattle.std.specs.Prelude.{None, IfOk, IfErr, [], slice_index_or};
+    ghost use Rattle.ob_rights.specs.declared.fault.Fault.TheVariants.{Memory};
     ghost use Rattle.ob_waits.specs.Waits.{is_pending};
+    ghost use Rattle.ob_manager.specs.Counting.{card};
+    ghost use Rattle.ob_manager.specs.Steps.{Step};
+
+    fn new(book: Book<Keeper>) -> Held
+        requires { book.saved ≡ [] }
+        ensures { result ≡ book }
+    {
+        Held { book, waiting: 0 }
+    }
 
     /// Whether the manager says that a wait is pending.
     fn is_pending(&self, wait: u32) -> bool
-        ensures { result ≡ is_pending (slice_index_or self.now.book.manager.state.waits wait None) }
+        ensures { result ≡ is_pending (slice_index_or self.now.manager.state.waits wait None) }
     {
         self.book.is_pending(wait)
+    }
+
+    /// [`Book::enter`], and how many callers wait for the book to change.
+    #[inline(always)]
+    fn enter(&mut self, lane: u32, call: &Call, copy: Call) -> (Result<Entered, Fault>, u32)
+        requires { copy ≡ call.now }
+        ensures entry { IfOk result.0 (λ entered. (entered.lane ≡ lane) × (entered.call ≡ call.now)) }
+        ensures step { IfOk result.0 (λ entered. Step self.old.manager call.now entered.reply self.new.manager) }
+        ensures memory { IfErr result.0 (λ fault. fault ≡ Memory) }
+    {
+        let entered = self.book.enter(lane, call, copy);
+        (entered, self.waiting)
+    }
+
+    /// One caller more waits for the book to change.
+    fn comes(&mut self)
+        ensures { self.new ≡ self.old }
+    {
+        self.waiting = self.waiting.saturating_add(1);
+    }
+
+    /// One caller less waits for it.
+    fn goes(&mut self)
+        ensures { self.new ≡ self.old }
+    {
+        self.waiting = self.waiting.saturating_sub(1);
+    }
+
+    /// [`Book::card`].
+    fn card(&self, id: Id) -> Option<Card>
+        ensures { result ≡ card self.now.manager.state id }
+    {
+        self.book.card(id)
+    }
+
+    fn into_book(self) -> Book<Keeper>
+        ensures book { result ≡ self }
+        ensures new { result.saved ≡ [] }
+    {
+        self.book
     }
 }
 
@@ -83,7 +144,7 @@ impl Shared {
     {
         let book = Book::new(alloc, manager);
         Shared {
-            held: Mutex::new(Held { book, waiting: 0 }),
+            held: Mutex::new(Held::new(book)),
             changed: Condvar::new(),
             alloc,
             lanes: 0,
@@ -185,8 +246,7 @@ impl Shared {
         ensures memory { IfErr result (λ fault. fault ≡ Memory) }
     {
         let mut held = self.lock(rt);
-        let answer = held.book.enter(lane, call, copy);
-        let waiting = held.waiting;
+        let (answer, waiting) = held.enter(lane, call, copy);
         drop(held);
         self.tell(waiting);
         answer
@@ -203,20 +263,19 @@ impl Shared {
             return Reply::Refused(Fault::Memory);
         }
         let mut held = self.lock(rt);
-        held.waiting = held.waiting.saturating_add(1);
+        held.comes();
         let mut held = self.changed.wait_while(
             rt,
             held,
             |held| -> bool
-                ensures { (result ≡ is_pending (slice_index_or held.entry.now.book.manager.state.waits wait None))
+                ensures { (result ≡ is_pending (slice_index_or held.entry.now.manager.state.waits wait None))
                     × (held.exit.now ≡ held.entry.now) }
             { held.is_pending(wait) },
         );
-        held.waiting = held.waiting.saturating_sub(1);
+        held.goes();
         let ask = Call::WaitResult { wait };
         let copy = Call::WaitResult { wait };
-        let answer = held.book.enter(lane.number, &ask, copy);
-        let waiting = held.waiting;
+        let (answer, waiting) = held.enter(lane.number, &ask, copy);
         drop(held);
         self.tell(waiting);
         match answer {
@@ -241,7 +300,7 @@ impl Shared {
         ensures { IfSome result (λ card. card.id ≡ id) }
     {
         let _ = reader.slot_of_held(id);
-        self.lock(rt).book.card(id)
+        self.lock(rt).card(id)
     }
 
     /// The manager and its journal, where the lanes that are handed in are whole: they have the numbers that were
@@ -264,7 +323,7 @@ impl Shared {
             alloc,
             lanes: given,
         } = self;
-        let book = held.into_inner().book;
+        let book = held.into_inner().into_book();
         // (for its clauses: they are those of the manager and the journal that are handed out)
         book.replays();
         match book.cause(given, lanes.as_slice()) {
@@ -274,7 +333,7 @@ impl Shared {
             }
             Some(cause) => Err(NotClosed {
                 shared: Shared {
-                    held: Mutex::new(Held { book, waiting: 0 }),
+                    held: Mutex::new(Held::new(book)),
                     changed,
                     alloc,
                     lanes: given,
