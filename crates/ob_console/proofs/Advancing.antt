@@ -5,13 +5,12 @@ use Rattle.std.specs.List.{concat}
 use Rattle.std.proofs.lemmas.List.{append_assoc, append-nil, length-append}
 use Rattle.std.proofs.lemmas.List.Folds.{concat-append}
 use Rattle.pin_core.specs.declared.shape.Shape.{Shape}
-use Rattle.ob_store.specs.declared.limits.Limits.{Limits}
 use Rattle.ob_script.specs.Acts.{Act}
 use Rattle.ob_script.specs.Grammar.{act_of}
 use Rattle.ob_output.specs.Printed.{line_end}
-use Rattle.ob_console.specs.Runs.{Prints, Run, Splits, IsWithin, AnswersLines, AnswersAll, AnswersPart, IsOpening, last_line}
+use Rattle.ob_console.specs.Runs.{Point, Prints, Run, Splits, IsWithin, AnswersLines, AnswersTo, AnswersPart, last_line}
 use Rattle.ob_script.specs.Held.{capped, more_held, act_of_held}
-use Rattle.ob_console.specs.Sessions.{ConsoleState, Session, Advances, Finishes}
+use Rattle.ob_console.specs.Sessions.{ConsoleState, IsReady, Session, Advances, Finishes}
 use Rattle.ob_script.proofs.Texts.{act_of_capped, more_capped}
 use Rattle.ob_console.proofs.Lines.{has_lines, splits_more, splits_nothing, splits_on, splits_one}
 use Rattle.ob_console.proofs.Going.{run-append, run_shape, runs_some}
@@ -37,7 +36,7 @@ concat-push outputs output = concat-append outputs (output ∷ [])
 pub line_advances : (old new : ConsoleState) (act : Act) (bytes output : List ℕ) → IsWithin bytes
     → act ≡ act_of_held (more_held old.held bytes) → Prints old.point (old.lines + 1) act output new.point
     → new.lines ≡ old.lines + 1 → new.held ≡ Some [] → Advances old (bytes ++ line_end) output new
-line_advances old new act bytes output within is prints counted held limits input before session =
+line_advances old new act bytes output within is prints counted held first input before session =
     let line = session.rest ++ bytes in
     let of_line : Prints old.point (1 + length session.lines) (act_of line) output new.point =
     subst (λ a. Prints old.point (1 + length session.lines) a output new.point) (is
@@ -48,11 +47,10 @@ line_advances old new act bytes output within is prints counted held limits inpu
     record {
       lines = session.lines ++ line ∷ [];
       rest = [];
-      first = session.first;
-      opens = session.opens;
+      pins = session.pins;
       outputs = session.outputs ++ output ∷ [];
       splits = splits_on input session.lines session.rest (bytes ++ line_end) (line ∷ []) [] session.splits one;
-      run = run-append session.first 1 session.lines session.outputs old.point (line ∷ [])
+      run = run-append first 1 session.lines session.outputs old.point (line ∷ [])
           (output ∷ []) new.point session.run (new.point, of_line, refl);
       whole = ap (λ front. front ++ output) session.whole ∙ sym (concat-push session.outputs output);
       counted = omega (arith, counted, session.counted, length-append session.lines (line ∷ []));
@@ -62,79 +60,67 @@ line_advances old new act bytes output within is prints counted held limits inpu
 -- a part of a line comes
 pub part_advances : (old new : ConsoleState) (bytes : List ℕ) → IsWithin bytes → new.point ≡ old.point
     → new.lines ≡ old.lines → new.held ≡ more_held old.held bytes → Advances old bytes [] new
-part_advances old new bytes within state_is lines_is held_is limits input before session = record {
+part_advances old new bytes within state_is lines_is held_is first input before session = record {
   lines = session.lines;
   rest = session.rest ++ bytes;
-  first = session.first;
-  opens = session.opens;
+  pins = session.pins;
   outputs = session.outputs;
   splits = splits_more input session.lines session.rest bytes within session.splits;
-  run = subst (λ t. Run session.first 1 session.lines session.outputs t) (sym state_is) session.run;
+  run = subst (λ t. Run first 1 session.lines session.outputs t) (sym state_is) session.run;
   whole = append-nil before ∙ session.whole;
   counted = lines_is ∙ session.counted;
   held = held_is ∙ ap (λ held. more_held held bytes) session.held ∙ more_capped session.rest bytes;
 }
 
 -- one advance after another
-pub advances_on : (a b c : ConsoleState) (first second output more : List ℕ) → Advances a first output b
-    → Advances b second more c → Advances a (first ++ second) (output ++ more) c
-advances_on a b c first second output more one two limits input before session =
-    subst (λ bytes. Session limits bytes (before ++ (output ++ more)) c) (append_assoc input first second)
-    (subst (λ written. Session limits (input ++ first ++ second) written c) (append_assoc before output more)
-    (two limits (input ++ first) (before ++ output) (one limits input before session)))
+pub advances_on : (a b c : ConsoleState) (bytes second output more : List ℕ) → Advances a bytes output b
+    → Advances b second more c → Advances a (bytes ++ second) (output ++ more) c
+advances_on a b c bytes second output more one two first input before session =
+    subst (λ given. Session first given (before ++ (output ++ more)) c) (append_assoc input bytes second)
+    (subst (λ written. Session first (input ++ bytes ++ second) written c) (append_assoc before output more)
+    (two first (input ++ bytes) (before ++ output) (one first input before session)))
 
 -- nothing comes
 pub advances_none : (a : ConsoleState) → Advances a [] [] a
-advances_none a limits input before session =
-    subst (λ bytes. Session limits bytes (before ++ []) a) (sym (append-nil input))
-    (subst (λ written. Session limits input written a) (sym (append-nil before)) session)
+advances_none a first input before session =
+    subst (λ bytes. Session first bytes (before ++ []) a) (sym (append-nil input))
+    (subst (λ written. Session first input written a) (sym (append-nil before)) session)
 
--- the opening console
-pub opens : (limits : Limits) (console : ConsoleState) → IsOpening limits console.point → console.lines ≡ 0
-    → console.held ≡ Some [] → Session limits [] [] console
-opens limits console opening lines_is held_is = record {
+-- a console of which no line has come
+pub session_begins : (console : ConsoleState) → IsReady console → Session console.point [] [] console
+session_begins console ready = record {
   lines = [];
   rest = [];
   outputs = [];
   splits = splits_nothing;
-  first = console.point;
-  opens = opening;
+  pins = ready.pins;
   run = refl;
   whole = refl;
-  counted = lines_is;
-  held = held_is;
+  counted = ready.lines;
+  held = ready.held;
 }
 
 -- the complete lines are answered
-pub answers_lines : (limits : Limits) (input output : List ℕ) (console : ConsoleState)
-    → Session limits input output console → AnswersLines limits input output
-answers_lines limits input output console session = record {
+pub answers_lines : (first : Point) (input output : List ℕ) (console : ConsoleState)
+    → Session first input output console → AnswersLines first input output
+answers_lines first input output console session = record {
   lines = session.lines;
   rest = session.rest;
   splits = session.splits;
-  answers = record {
-    first = session.first;
-    opens = session.opens;
-    outputs = session.outputs;
-    last = console.point;
-    run = session.run;
-    whole = session.whole;
-  };
+  last = console.point;
+  answers = record { outputs = session.outputs; run = session.run; whole = session.whole };
 }
 
 -- where nothing is held, the whole input is answered
-pub answers_all : (limits : Limits) (input output : List ℕ) (console : ConsoleState) → console.held ≡ Some []
-    → Session limits input output console → AnswersAll limits input output
-answers_all limits input output console held session = record {
+pub answers_all : (first : Point) (input output : List ℕ) (console : ConsoleState) → console.held ≡ Some []
+    → Session first input output console → AnswersTo first input output console.point
+answers_all first input output console held session = record {
   lines = session.lines;
   rest = session.rest;
   splits = session.splits;
   answers = record {
-    first = session.first;
-    opens = session.opens;
     outputs = session.outputs;
-    last = console.point;
-    run = subst (λ lines. Run session.first 1 lines session.outputs console.point)
+    run = subst (λ lines. Run first 1 lines session.outputs console.point)
         (sym (no_last session.rest (sym session.held ∙ held))) session.run;
     whole = session.whole;
   };
@@ -145,10 +131,10 @@ answers_all limits input output console held session = record {
     no_last (byte ∷ rest) is = absurd (not_empty byte rest is)
 
 -- a last line without a line feed
-pub last_answered : (limits : Limits) (input before output : List ℕ) (old new : ConsoleState) → (old.held ≡ Some [] → ⊥)
-    → Prints old.point (old.lines + 1) (act_of_held old.held) output new.point → Session limits input before old
-    → AnswersAll limits input (before ++ output)
-last_answered limits input before output old new some prints session =
+pub last_answered : (first : Point) (input before output : List ℕ) (old new : ConsoleState) → (old.held ≡ Some [] → ⊥)
+    → Prints old.point (old.lines + 1) (act_of_held old.held) output new.point → Session first input before old
+    → AnswersTo first input (before ++ output) new.point
+last_answered first input before output old new some prints session =
     let of_line : Prints old.point (1 + length session.lines) (act_of session.rest) output new.point =
     subst (λ a. Prints old.point (1 + length session.lines) a output new.point) (ap act_of_held session.held
     ∙ act_of_capped session.rest)
@@ -158,13 +144,10 @@ last_answered limits input before output old new some prints session =
       rest = session.rest;
       splits = session.splits;
       answers = record {
-        first = session.first;
-        opens = session.opens;
         outputs = session.outputs ++ output ∷ [];
-        last = new.point;
-        run = subst (λ last. Run session.first 1 (session.lines ++ last) (session.outputs ++ output ∷ []) new.point)
+        run = subst (λ last. Run first 1 (session.lines ++ last) (session.outputs ++ output ∷ []) new.point)
             (is_last session.rest session.held)
-            (run-append session.first 1 session.lines session.outputs old.point (session.rest ∷ [])
+            (run-append first 1 session.lines session.outputs old.point (session.rest ∷ [])
             (output ∷ []) new.point session.run (new.point, of_line, refl));
         whole = ap (λ front. front ++ output) session.whole ∙ sym (concat-push session.outputs output);
       };
@@ -175,30 +158,27 @@ last_answered limits input before output old new some prints session =
     is_last (byte ∷ rest) is = refl
 
 -- whatever comes, the output is the beginning of an answer
-pub answers_part : (limits : Limits) (input output done missing more : List ℕ) (console : ConsoleState)
-    → done ++ missing ≡ output → Session limits input output console → AnswersPart limits (input ++ more) done
-answers_part limits input output done missing more console part session =
+pub answers_part : (first : Point) (input output done missing more : List ℕ) (console : ConsoleState)
+    → done ++ missing ≡ output → Session first input output console → AnswersPart first (input ++ more) done
+answers_part first input output done missing more console part session =
     let behind = has_lines (session.rest ++ more) in
     let later = behind.lines ++ last_line behind.rest in
     let pins : 0 < console.point.whole.keeper.shape.max_pins =
     subst (λ (shape : Shape). 0 < shape.max_pins) (sym
-    (run_shape session.first 1 session.lines session.outputs console.point session.run
-    ∙ session.opens.keeper.shape_is)) limits.in_range.max_pins_in_range.0 in
+    (run_shape first 1 session.lines session.outputs console.point session.run)) session.pins in
     let on = runs_some console.point (1 + length session.lines) later pins in
     record {
       missing = missing ++ concat on.outputs;
+      last = on.last;
       answers = record {
         lines = session.lines ++ behind.lines;
         rest = behind.rest;
         splits = splits_on input session.lines session.rest more behind.lines behind.rest session.splits behind.splits;
         answers = record {
-          first = session.first;
-          opens = session.opens;
           outputs = session.outputs ++ on.outputs;
-          last = on.last;
-          run = subst (λ lines. Run session.first 1 lines (session.outputs ++ on.outputs) on.last)
+          run = subst (λ lines. Run first 1 lines (session.outputs ++ on.outputs) on.last)
               (sym (append_assoc session.lines behind.lines (last_line behind.rest)))
-              (run-append session.first 1 session.lines session.outputs console.point later on.outputs on.last
+              (run-append first 1 session.lines session.outputs console.point later on.outputs on.last
               session.run on.run);
           whole = sym (append_assoc done missing (concat on.outputs))
               ∙ ap (λ front. front ++ concat on.outputs) (part ∙ session.whole)
@@ -208,29 +188,28 @@ answers_part limits input output done missing more console part session =
     }
 
 -- the same, as what a console finishes with
-pub finishes_empty : (console : ConsoleState) → console.held ≡ Some [] → Finishes console []
-finishes_empty console held limits input before session =
-    subst (λ written. AnswersAll limits input written) (sym (append-nil before))
-    (answers_all limits input before console held session)
+pub finishes_empty : (console : ConsoleState) → console.held ≡ Some [] → Finishes console [] console.point
+finishes_empty console held first input before session =
+    subst (λ written. AnswersTo first input written console.point) (sym (append-nil before))
+    (answers_all first input before console held session)
 
 pub finishes_line : (old new : ConsoleState) (output : List ℕ) → (old.held ≡ Some [] → ⊥)
-    → Prints old.point (old.lines + 1) (act_of_held old.held) output new.point → Finishes old output
-finishes_line old new output some prints limits input before session =
-    last_answered limits input before output old new some prints session
+    → Prints old.point (old.lines + 1) (act_of_held old.held) output new.point → Finishes old output new.point
+finishes_line old new output some prints first input before session =
+    last_answered first input before output old new some prints session
 
 -- what is pending is apart from what was answered
 pub advances_apart : (old mid new : ConsoleState) (bytes output : List ℕ) → new.point ≡ mid.point → new.held ≡ mid.held
     → new.lines ≡ mid.lines → Advances old bytes output mid → Advances old bytes output new
-advances_apart old mid new bytes output state_is held_is lines_is advances limits input before session =
-    let after = advances limits input before session in
+advances_apart old mid new bytes output state_is held_is lines_is advances first input before session =
+    let after = advances first input before session in
     record {
       lines = after.lines;
       rest = after.rest;
       outputs = after.outputs;
       splits = after.splits;
-      first = after.first;
-      opens = after.opens;
-      run = subst (λ t. Run after.first 1 after.lines after.outputs t) (sym state_is) after.run;
+      pins = after.pins;
+      run = subst (λ t. Run first 1 after.lines after.outputs t) (sym state_is) after.run;
       whole = after.whole;
       counted = lines_is ∙ after.counted;
       held = held_is ∙ after.held;

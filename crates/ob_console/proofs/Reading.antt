@@ -1,21 +1,24 @@
 -- A run between two reads, and how it ends.
-use Rattle.std.proofs.Common.{◌≡◌, ℕ, ◌≤◌, List, [], ◌++◌, length, take, drop, ap, refl, sym, subst, ◌∙◌}
+use Rattle.std.proofs.Common.{◌≡◌, ℕ, ◌≤◌, List, [], ◌++◌, length, take, drop, Result, Ok, Err, ap, refl, sym, subst, ◌∙◌}
+use Rattle.std.specs.Prelude.{IsErrOf}
 use Rattle.std.proofs.Math.Seq.{take-append_seam}
 use Rattle.std.proofs.lemmas.List.{append_assoc, append-nil}
 use Rattle.ob_store.specs.declared.limits.Limits.{Limits}
-use Rattle.ob_console.specs.Runs.{AnswersAll, AnswersLines, AnswersPart}
+use Rattle.ob_console.specs.declared.script.RunFault.{RunFault}
+use Rattle.ob_console.specs.declared.script.RunFault.TheVariants.{Memory, Read, Write}
+use Rattle.ob_console.specs.Runs.{Point, AnswersTo, AnswersLines, AnswersPart, IsCut, IsEnded, IsOpening, IsWholeEnded}
 use Rattle.ob_output.specs.Devices.{Writes, Begins}
-use Rattle.ob_console.specs.Sessions.{ConsoleState, Session, IsFed, IsCutShort, Finishes}
-use Rattle.ob_console.proofs.Advancing.{answers_lines, answers_part}
+use Rattle.ob_console.specs.Sessions.{ConsoleState, IsReady, Session, IsFed, IsCutShort, Finishes, Ends}
+use Rattle.ob_console.proofs.Advancing.{answers_lines, answers_part, session_begins}
 
 -- what was read is answered line by line, and the answers are written
-pub record IsReading (limits : Limits) (console : ConsoleState)
+pub record IsReading (first : Point) (console : ConsoleState)
     (given_before given taken_before taken : List ℕ) : Type 0 where
   pub input : List ℕ
   pub output : List ℕ
   pub read : given ≡ given_before ++ input
   pub wrote : taken ≡ taken_before ++ output
-  pub session : Session limits input output console
+  pub session : Session first input output console
 
 -- what a run did of its input and output
 pub record HasRun (P : List ℕ → List ℕ → Type 0) (given_before given taken_before taken : List ℕ) : Type 0 where
@@ -25,10 +28,15 @@ pub record HasRun (P : List ℕ → List ℕ → Type 0) (given_before given tak
   pub wrote : taken ≡ taken_before ++ output
   pub answers : P input output
 
-pub reading_begins : (limits : Limits) (console : ConsoleState) (given taken : List ℕ) → Session limits [] [] console
-    → IsReading limits console given given taken taken
-reading_begins limits console given taken session =
-    record { input = []; output = []; read = sym (append-nil given); wrote = sym (append-nil taken); session = session }
+pub reading_begins : (console : ConsoleState) (given taken : List ℕ) → IsReady console
+    → IsReading console.point console given given taken taken
+reading_begins console given taken ready = record {
+  input = [];
+  output = [];
+  read = sym (append-nil given);
+  wrote = sym (append-nil taken);
+  session = session_begins console ready;
+}
 
 -- more was read
 read_more : (given_before given more input block : List ℕ) → given ≡ given_before ++ input → more ≡ given ++ block
@@ -37,12 +45,12 @@ read_more given_before given more input block before now = now ∙ ap (λ front.
     ∙ append_assoc given_before input block
 
 -- a read gave a block, which is answered
-pub reading_on : (limits : Limits) (old new : ConsoleState)
+pub reading_on : (first : Point) (old new : ConsoleState)
     (given_before given more block taken_before taken later : List ℕ)
-    → IsReading limits old given_before given taken_before taken → more ≡ given ++ block →
+    → IsReading first old given_before given taken_before taken → more ≡ given ++ block →
     old.pending.bytes ≡ [] → new.pending.bytes ≡ [] → IsFed old new block [] taken later
-    → IsReading limits new given_before more taken_before later
-reading_on limits old new given_before given more block taken_before taken later reading read empty done fed = record {
+    → IsReading first new given_before more taken_before later
+reading_on first old new given_before given more block taken_before taken later reading read empty done fed = record {
   input = reading.input ++ block;
   output = reading.output ++ fed.printed;
   read = read_more given_before given more reading.input block reading.read read;
@@ -50,16 +58,16 @@ reading_on limits old new given_before given more block taken_before taken later
       (fed.written.grown ∙ ap (λ back. taken ++ back) (sym (append-nil fed.written.done)
       ∙ ap (λ pending. fed.written.done ++ pending) (sym done) ∙ fed.written.part
       ∙ ap (λ pending. pending ++ fed.printed) empty));
-  session = subst (λ bytes. Session limits bytes (reading.output ++ fed.printed) new)
+  session = subst (λ bytes. Session first bytes (reading.output ++ fed.printed) new)
       (ap (λ front. reading.input ++ front) (sym (append-nil fed.front) ∙ fed.whole))
-      (fed.advances limits reading.input reading.output reading.session);
+      (fed.advances first reading.input reading.output reading.session);
 }
 
 -- a read gave nothing
-pub reading_same : (limits : Limits) (console : ConsoleState) (given_before given more taken_before taken : List ℕ)
-    → IsReading limits console given_before given taken_before taken → more ≡ given ++ []
-    → IsReading limits console given_before more taken_before taken
-reading_same limits console given_before given more taken_before taken reading read =
+pub reading_same : (first : Point) (console : ConsoleState) (given_before given more taken_before taken : List ℕ)
+    → IsReading first console given_before given taken_before taken → more ≡ given ++ []
+    → IsReading first console given_before more taken_before taken
+reading_same first console given_before given more taken_before taken reading read =
     record {
       input = reading.input;
       output = reading.output;
@@ -69,26 +77,26 @@ reading_same limits console given_before given more taken_before taken reading r
     }
 
 -- reading ends by a fault
-pub reading_fails : (limits : Limits) (console : ConsoleState) (given_before given taken_before taken : List ℕ)
-    → IsReading limits console given_before given taken_before taken
-    → HasRun (AnswersLines limits) given_before given taken_before taken
-reading_fails limits console given_before given taken_before taken reading = record {
+pub reading_fails : (first : Point) (console : ConsoleState) (given_before given taken_before taken : List ℕ)
+    → IsReading first console given_before given taken_before taken
+    → HasRun (AnswersLines first) given_before given taken_before taken
+reading_fails first console given_before given taken_before taken reading = record {
   input = reading.input;
   output = reading.output;
   read = reading.read;
   wrote = reading.wrote;
-  answers = answers_lines limits reading.input reading.output console reading.session;
+  answers = answers_lines first reading.input reading.output console reading.session;
 }
 
 -- writing fails in a block
-pub writing_fails : (limits : Limits) (old new : ConsoleState)
+pub writing_fails : (first : Point) (old new : ConsoleState)
     (given_before given more block taken_before taken later : List ℕ)
-    → IsReading limits old given_before given taken_before taken → more ≡ given ++ block →
+    → IsReading first old given_before given taken_before taken → more ≡ given ++ block →
     old.pending.bytes ≡ [] → IsCutShort old new block taken later
-    → HasRun (AnswersPart limits) given_before more taken_before later
-writing_fails limits old new given_before given more block taken_before taken later reading read empty short =
+    → HasRun (AnswersPart first) given_before more taken_before later
+writing_fails first old new given_before given more block taken_before taken later reading read empty short =
     let begins = short.written in
-    let session = short.advances limits reading.input reading.output reading.session in
+    let session = short.advances first reading.input reading.output reading.session in
     let part : (reading.output ++ begins.1.done) ++ begins.0 ≡ reading.output ++ short.printed =
     append_assoc reading.output begins.1.done begins.0
     ∙ ap (λ back. reading.output ++ back) (begins.1.part ∙ ap (λ pending. pending ++ short.printed) empty) in
@@ -99,17 +107,18 @@ writing_fails limits old new given_before given more block taken_before taken la
           ∙ ap (λ back. given_before ++ back) (ap (λ back. reading.input ++ back) (sym short.whole)
           ∙ sym (append_assoc reading.input short.front short.rest));
       wrote = read_more taken_before taken later reading.output begins.1.done reading.wrote begins.1.grown;
-      answers = answers_part limits (reading.input ++ short.front) (reading.output ++ short.printed) (reading.output
+      answers = answers_part first (reading.input ++ short.front) (reading.output ++ short.printed) (reading.output
           ++ begins.1.done) begins.0 short.rest new part session;
     }
 
 -- the input ends
-pub reading_ends : (limits : Limits) (console : ConsoleState)
-    (given_before given more taken_before taken later printed : List ℕ)
-    → IsReading limits console given_before given taken_before taken → more ≡ given ++ [] →
-    console.pending.bytes ≡ [] → Finishes console printed → Writes taken later (console.pending.bytes ++ printed) []
-    → HasRun (AnswersAll limits) given_before more taken_before later
-reading_ends limits console given_before given more taken_before taken later printed reading read empty finishes
+pub reading_ends : (first : Point) (console : ConsoleState)
+    (given_before given more taken_before taken later printed : List ℕ) (last : Point)
+    → IsReading first console given_before given taken_before taken → more ≡ given ++ [] →
+    console.pending.bytes ≡ [] → Finishes console printed last
+    → Writes taken later (console.pending.bytes ++ printed) []
+    → HasRun (λ input output. AnswersTo first input output last) given_before more taken_before later
+reading_ends first console given_before given more taken_before taken later printed last reading read empty finishes
     writes = record {
       input = reading.input;
       output = reading.output ++ printed;
@@ -117,16 +126,17 @@ reading_ends limits console given_before given more taken_before taken later pri
       wrote = read_more taken_before taken later reading.output printed reading.wrote
           (writes.grown ∙ ap (λ back. taken ++ back) (sym (append-nil writes.done) ∙ writes.part
           ∙ ap (λ pending. pending ++ printed) empty));
-      answers = finishes limits reading.input reading.output reading.session;
+      answers = finishes first reading.input reading.output reading.session;
     }
 
 -- writing fails at the end
-pub ending_fails : (limits : Limits) (console : ConsoleState)
-    (given_before given more taken_before taken later printed : List ℕ)
-    → IsReading limits console given_before given taken_before taken → more ≡ given ++ [] →
-    console.pending.bytes ≡ [] → Finishes console printed → Begins taken later (console.pending.bytes ++ printed)
-    → HasRun (AnswersPart limits) given_before more taken_before later
-ending_fails limits console given_before given more taken_before taken later printed reading read empty finishes
+pub ending_fails : (first : Point) (console : ConsoleState)
+    (given_before given more taken_before taken later printed : List ℕ) (last : Point)
+    → IsReading first console given_before given taken_before taken → more ≡ given ++ [] →
+    console.pending.bytes ≡ [] → Finishes console printed last
+    → Begins taken later (console.pending.bytes ++ printed)
+    → HasRun (AnswersPart first) given_before more taken_before later
+ending_fails first console given_before given more taken_before taken later printed last reading read empty finishes
     begins = record {
       input = reading.input;
       output = reading.output ++ begins.1.done;
@@ -134,10 +144,11 @@ ending_fails limits console given_before given more taken_before taken later pri
       wrote = read_more taken_before taken later reading.output begins.1.done reading.wrote begins.1.grown;
       answers = record {
         missing = begins.0;
-        answers = subst (λ written. AnswersAll limits reading.input written)
+        last = last;
+        answers = subst (λ written. AnswersTo first reading.input written last)
             (sym (append_assoc reading.output begins.1.done begins.0
             ∙ ap (λ back. reading.output ++ back) (begins.1.part ∙ ap (λ pending. pending ++ printed) empty)))
-            (finishes limits reading.input reading.output reading.session);
+            (finishes first reading.input reading.output reading.session);
       };
     }
 
@@ -149,12 +160,11 @@ read_front block items len count within whole =
     ∙ take-append_seam block (drop (length block) items))
 
 -- a whole script came as one block
-pub reading_whole : (limits : Limits) (old new : ConsoleState) (script taken later : List ℕ) → Session limits [] [] old
-    → old.pending.bytes ≡ [] → new.pending.bytes ≡ [] → IsFed old new script [] taken later
-    → IsReading limits new [] script taken later
-reading_whole limits old new script taken later session empty done fed =
-    reading_on limits old new [] [] script script taken taken later
-    (reading_begins limits old [] taken session) refl empty done fed
+pub reading_whole : (old new : ConsoleState) (script taken later : List ℕ) → IsReady old → new.pending.bytes ≡ []
+    → IsFed old new script [] taken later → IsReading old.point new [] script taken later
+reading_whole old new script taken later ready done fed =
+    reading_on old.point old new [] [] script script taken taken later (reading_begins old [] taken ready) refl
+    ready.pending done fed
 
 -- it is answered, or the beginning of its answers is written
 pub record HasAnswered (P : List ℕ → List ℕ → Type 0) (script taken_before taken : List ℕ) : Type 0 where
@@ -169,3 +179,24 @@ answered P script taken_before taken run = record {
   wrote = run.wrote;
   answers = subst (λ input. P input run.output) (sym run.read) run.answers;
 }
+
+-- a run that is cut short, by how it began
+pub cut_from : (fault : RunFault) (Begins : Point → Type 0) (first last : Point) (input output : List ℕ)
+    → Begins first → Ends (Err fault) first input output last → IsCut fault Begins input output
+cut_from Read Begins first last input output begins ends = (first, begins, ends)
+cut_from Write Begins first last input output begins ends = (first, begins, ends)
+cut_from Memory Begins first last input output begins ends = absurd ends
+
+pub run_ended : (r : Result (Unit {0}) RunFault) (limits : Limits) (first last : Point) (input output : List ℕ)
+    → IsOpening limits first → Ends r first input output last → IsEnded r limits input output
+run_ended (Ok unit) limits first last input output opens ends = (first, last, opens, ends)
+run_ended (Err fault) limits first last input output opens ends =
+    cut_from fault (IsOpening limits) first last input output opens ends
+
+pub whole_ended : (r : Result (Unit {0}) RunFault) (limits : Limits) (first last : Point) (input output : List ℕ)
+    → (IsErrOf r Read → ⊥) → IsOpening limits first → Ends r first input output last
+    → IsWholeEnded r limits input output
+whole_ended (Ok unit) limits first last input output none opens ends = (first, last, opens, ends)
+whole_ended (Err Read) limits first last input output none opens ends = absurd (none refl)
+whole_ended (Err Write) limits first last input output none opens ends = (first, opens, ends)
+whole_ended (Err Memory) limits first last input output none opens ends = absurd ends

@@ -4,7 +4,7 @@ use Rattle.std.specs.List.{concat, flat_map}
 use Rattle.pin_core.specs.declared.id.Id.{Id}
 use Rattle.pin_core.specs.declared.descr.Descr.{Descr}
 use Rattle.pin_words.specs.declared.fault.PinFault.{PinFault}
-use Rattle.pin_words.specs.Keepers.{IsFresh}
+use Rattle.pin_words.specs.Keepers.{IsFresh, IsFreshWith}
 use Rattle.ob_store.specs.declared.limits.Limits.{Limits}
 use Rattle.ob_store.specs.State.{Whole, opening, shape_of}
 use Rattle.ob_store.specs.Directory.{directory_of}
@@ -31,6 +31,12 @@ point whole held = record { whole = whole; held = held }
 pub record IsOpening (limits : Limits) (p : Point) : Type 0 where
   pub state : p.whole.state ≡ opening limits
   pub keeper : IsFresh p.whole.keeper (shape_of limits)
+  pub held : p.held ≡ []
+
+-- before any line of a script that goes on over this manager: its keeper begins with the slots, and nothing is held
+pub record Reopens (before : Whole) (p : Point) : Type 0 where
+  pub state : p.whole.state ≡ before.state
+  pub keeper : IsFreshWith p.whole.keeper (shape_of before.state.limits) before.keeper.slots
   pub held : p.held ≡ []
 
 -- a slot that is reaped is not taken back while something is held there
@@ -80,46 +86,57 @@ abbrev pub last_line : List ℕ → List (List ℕ)
 last_line [] = []
 last_line (byte ∷ bytes) = (byte ∷ bytes) ∷ []
 
--- the output is what a run over these lines prints, from a new manager with these limits and a new reader
-pub record IsOutput (limits : Limits) (lines : List (List ℕ)) (output : List ℕ) : Type 0 where
-  pub first : Point
-  pub opens : IsOpening limits first
+-- from the one point to the other a run over these lines prints this output
+pub record IsOutput (first : Point) (lines : List (List ℕ)) (output : List ℕ) (last : Point) : Type 0 where
   pub outputs : List (List ℕ)
-  pub last : Point
   pub run : Run first 1 lines outputs last
   pub whole : output ≡ concat outputs
 
--- each complete line of the input is answered, and nothing else
-pub record AnswersLines (limits : Limits) (input output : List ℕ) : Type 0 where
+-- from this point each complete line of the input is answered, and nothing else
+pub record AnswersLines (first : Point) (input output : List ℕ) : Type 0 where
   pub lines : List (List ℕ)
   pub rest : List ℕ
   pub splits : Splits input lines rest
-  pub answers : IsOutput limits lines output
+  pub last : Point
+  pub answers : IsOutput first lines output last
 
--- the whole input is answered, a last line without a line feed too
-pub record AnswersAll (limits : Limits) (input output : List ℕ) : Type 0 where
+-- from the one point to the other the whole input is answered, a last line without a line feed too
+pub record AnswersTo (first : Point) (input output : List ℕ) (last : Point) : Type 0 where
   pub lines : List (List ℕ)
   pub rest : List ℕ
   pub splits : Splits input lines rest
-  pub answers : IsOutput limits (lines ++ last_line rest) output
+  pub answers : IsOutput first (lines ++ last_line rest) output last
 
 -- the output is the beginning of an answer to the whole input
-pub record AnswersPart (limits : Limits) (input output : List ℕ) : Type 0 where
+pub record AnswersPart (first : Point) (input output : List ℕ) : Type 0 where
   pub missing : List ℕ
-  pub answers : AnswersAll limits input (output ++ missing)
+  pub last : Point
+  pub answers : AnswersTo first input (output ++ missing) last
 
--- how a run ended: the whole input is answered; after a read fault its complete lines are; after a write fault the
--- answer to it
--- is begun; and where memory was wanting nothing was read or written
+-- the whole input is answered, from a new manager with these limits and a new reader
+abbrev pub AnswersAll : Limits → List ℕ → List ℕ → Type 0
+AnswersAll limits input output = (first last : Point) × IsOpening limits first × AnswersTo first input output last
+
+-- how a run is cut short that begins so: after a read fault its complete lines are answered; after a write fault the
+-- answer to the input is begun; and where memory was wanting nothing was read or written
+abbrev pub IsCut : RunFault → (Point → Type 0) → List ℕ → List ℕ → Type 0
+IsCut Read Begins input output = (first : Point) × Begins first × AnswersLines first input output
+IsCut Write Begins input output = (first : Point) × Begins first × AnswersPart first input output
+IsCut Memory Begins input output = (input ≡ []) × (output ≡ [])
+
+-- how a run over a new manager ended
 abbrev pub IsEnded : Result (Unit {0}) RunFault → Limits → List ℕ → List ℕ → Type 0
 IsEnded (Ok unit) limits input output = AnswersAll limits input output
-IsEnded (Err Read) limits input output = AnswersLines limits input output
-IsEnded (Err Write) limits input output = AnswersPart limits input output
-IsEnded (Err Memory) limits input output = (input ≡ []) × (output ≡ [])
+IsEnded (Err fault) limits input output = IsCut fault (IsOpening limits) input output
 
 -- the same of a script that is in memory as a whole, so that no read can fail
 abbrev pub IsWholeEnded : Result (Unit {0}) RunFault → Limits → List ℕ → List ℕ → Type 0
 IsWholeEnded (Ok unit) limits input output = AnswersAll limits input output
 IsWholeEnded (Err Read) limits input output = ⊥
-IsWholeEnded (Err Write) limits input output = AnswersPart limits input output
+IsWholeEnded (Err Write) limits input output = IsCut Write (IsOpening limits) input output
 IsWholeEnded (Err Memory) limits input output = output ≡ []
+
+-- the whole input is answered, from a manager to what it has become
+abbrev pub GoesOn : Whole → List ℕ → List ℕ → Whole → Type 0
+GoesOn before input output after = (first last : Point) × Reopens before first
+    × AnswersTo first input output last × (after ≡ last.whole)

@@ -106,7 +106,7 @@ impl Console {
     /// Answers a last line without a line feed.
     fn last_line<W: Sink>(&mut self, sink: &mut W) -> Result<(), NotWritten>
         requires { self.old.lines < 2 ^ 127 }
-        ensures finishes { (printed : List ℕ) × Finishes self.old printed
+        ensures finishes { (printed : List ℕ) × Finishes self.old printed self.new.point
             × IsWritten result (W.taken sink.old) (W.taken sink.new) (self.old.pending.bytes
             ++ printed) self.new.pending.bytes }
         ensures sink { UsesSink W.calls W.faults result sink.old sink.new self.old.pending self.new.pending }
@@ -120,7 +120,7 @@ impl Console {
     /// The input ends: answers a last line without a line feed, and writes what is printed.
     pub fn finish<W: Sink>(&mut self, sink: &mut W) -> Result<(), NotWritten>
         requires { self.old.lines < 2 ^ 127 }
-        ensures finishes { (printed : List ℕ) × Finishes self.old printed
+        ensures finishes { (printed : List ℕ) × Finishes self.old printed self.new.point
             × IsWritten result (W.taken sink.old) (W.taken sink.new) (self.old.pending.bytes ++ printed) [] }
         ensures sink { UsesSink W.calls W.faults result sink.old sink.new self.old.pending self.new.pending }
     {
@@ -128,5 +128,12 @@ impl Console {
             Ok(()) => self.evaluator.flush(sink),
             Err(fault) => Err(fault),
         }
+    }
+
+    /// The manager, as the script left it. What the reader holds is let go of by nobody.
+    pub fn into_manager(self) -> Manager<Keeper>
+        ensures { result ≡ self.point.whole }
+    {
+        self.evaluator.into_manager()
     }
 }

@@ -174,6 +174,13 @@ impl Evaluator {
     {
         self.output.flush(sink)
     }
+
+    /// The manager alone.
+    pub fn into_manager(self) -> Manager<Keeper>
+        ensures { result ≡ self.point.whole }
+    {
+        self.manager
+    }
 }
 
 /// Prints the names of objects.

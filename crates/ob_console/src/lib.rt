@@ -22,4 +22,4 @@ mod script;
 
 pub use ob_output::{Account, Sink, Source, Trouble, Wired};
 pub use options::{Options, OptionsFault, read_options};
-pub use script::{CALLS_MOST, RunFault, run, run_bounded, run_whole};
+pub use script::{CALLS_MOST, RunFault, run, run_bounded, run_over, run_whole};

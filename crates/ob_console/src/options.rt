@@ -7,12 +7,16 @@ use std::alloc::{AllocError, Global};
 use thiserror::Error;
 
 /// What the command line decides.
-#[derive(Clone, Copy, Debug, PartialEq, Eq)]
+#[derive(Debug, Drop, PartialEq, Eq)]
 pub struct Options {
     /// How much the manager may hold: each limit as its option says, or at its default.
     pub limits: Limits,
     /// How many lanes a script has beside lane 0, at most 64, or 0 where all its lines are answered one after another.
     pub lanes: u32,
+    /// The path of the savestate that the script begins with, and none where it begins with a new manager.
+    pub load: Option<String>,
+    /// The path to which the state behind the script is saved, if it is.
+    pub save: Option<String>,
 }
 
 /// How many lanes the option gives at most.
@@ -21,7 +25,8 @@ const LANES_MOST: u32 = 64;
 /// Why a command line gives no options.
 #[derive(Debug, Drop, Error)]
 pub enum OptionsFault {
-    /// An argument that is no option, an option twice or without a value, or a value that is no number in its range.
+    /// An argument that is no option, an option twice or without a value, a value that is no number in its range, or
+    /// two options that don't stand beside one another.
     #[error("bad command line")]
     BadLine,
     /// Memory was wanting.
@@ -40,7 +45,8 @@ impl From<AllocError> for OptionsFault {
 
 /// Reads the arguments after the program's name, by the habits of `clap`: `--slots 4` or `--slots=4`, in any order,
 /// each option at most once, and `--help` or `-h`. The options are the *profile*'s: one for each limit of [`Limits`],
-/// and `--lanes`.
+/// `--lanes`, `--load` and `--save`. A savestate has limits of its own, and lanes go over new managers alone: beside
+/// `--load` stands no limit, and beside `--load` and `--save` no `--lanes`.
 pub fn read_options(alloc: Global, args: Vec<String>) -> Result<Options, OptionsFault>
     ensures lanes { IfOk result (λ options. options.lanes ≤ LANES_MOST) }
 {
@@ -48,12 +54,14 @@ pub fn read_options(alloc: Global, args: Vec<String>) -> Result<Options, Options
         Ok(matches) => Ok(Options {
             limits: limits_of(&matches)?,
             lanes: lanes_of(&matches)?,
+            load: path_of(alloc, &matches, "load")?,
+            save: path_of(alloc, &matches, "save")?,
         }),
         Err(error) => Err(fault_of(alloc, &error)),
     }
 }
 
-/// The command, with an option for each limit.
+/// The command, with an option for each limit, one for lanes and two for savestates.
 fn command<'a>(alloc: Global) -> Result<Command<'a>, AllocError> {
     Command::new(alloc, "obman")
         .no_binary_name(true)
@@ -64,57 +72,78 @@ fn command<'a>(alloc: Global) -> Result<Command<'a>, AllocError> {
             alloc,
             "slots",
             "Slots for objects: 1 to 65536, default 64. A creation that finds none free answers 1450",
-        ))?
+        )?)?
         .arg(number(
             alloc,
             "processes",
             "Process numbers ever given: 1 to 65536, default 64. A start of one more answers 1450",
-        ))?
+        )?)?
         .arg(number(
             alloc,
             "threads",
             "Thread numbers ever given: 1 to 65536, default 256. A start of one more answers 1450",
-        ))?
+        )?)?
         .arg(number(
             alloc,
             "handles",
             "Handles of one process: 1 to 16384, default 1024. A call that would give one more answers 1450",
-        ))?
+        )?)?
         .arg(number(
             alloc,
             "waits",
             "Wait numbers ever given: 1 to 4294967295, default 1000000. A wait that would need one more answers 1450",
-        ))?
+        )?)?
         .arg(number(
             alloc,
             "max-pins",
             "Pins of one slot: 1 to 1073741823, the default. One more is refused",
-        ))?
+        )?)?
         .arg(number(
             alloc,
             "max-gen",
             "Generations of one slot: 1 to 4294967295, the default. After the last the slot is retired",
-        ))?
+        )?)?
         .arg(number(
             alloc,
             "max-recursion",
             "Recursion of a mutex: 1 to 2147483647, the default. A wait of its owner at it answers 1450",
-        ))?
+        )?)?
         .arg(number(
             alloc,
             "lanes",
             "Lanes of the script, each on a thread: 0 to 64, default 0. A line `@2 ..` is lane 2's, lines before the first of these come before all lanes, and answers are printed lane by lane",
+        )?
+        .conflicts_with("save")?)?
+        .arg(path(
+            alloc,
+            "load",
+            "Savestate that the script begins with, in place of a new manager. It has limits of its own, so no limit and no --lanes beside it",
+        ))?
+        .arg(path(
+            alloc,
+            "save",
+            "Where the state is saved once the script is answered to its end. No --lanes beside it",
         ))
 }
 
-/// The option of one number. Its range is tested where it is used.
-fn number<'a>(alloc: Global, name: &'a str, help: &'a str) -> Arg<'a> {
+/// The option of one number, which doesn't stand beside `--load`. Its range is tested where it is used.
+fn number<'a>(alloc: Global, name: &'a str, help: &'a str) -> Result<Arg<'a>, AllocError> {
     Arg::new(alloc, name)
         .long(name)
         .value_name("NUMBER")
         .help(help)
         .action(ArgAction::Set)
         .value_parser(value_parser!(u32))
+        .conflicts_with("load")
+}
+
+/// The option of one path.
+fn path<'a>(alloc: Global, name: &'a str, help: &'a str) -> Arg<'a> {
+    Arg::new(alloc, name)
+        .long(name)
+        .value_name("FILE")
+        .help(help)
+        .action(ArgAction::Set)
 }
 
 /// The limits that were given, each other one at its default.
@@ -147,6 +176,18 @@ fn lanes_of(matches: &ArgMatches<'_>) -> Result<u32, OptionsFault>
 /// The number that was given for an option, or else the usual one.
 fn given(matches: &ArgMatches<'_>, name: &str, usual: u32) -> u32 {
     matches.get_one::<u32>(name).unwrap_or(usual)
+}
+
+/// The path that was given for an option, if one was.
+fn path_of(
+    alloc: Global,
+    matches: &ArgMatches<'_>,
+    name: &str,
+) -> Result<Option<String>, AllocError> {
+    match matches.get_str(name) {
+        Some(text) => Ok(Some(String::from_str(alloc, text)?)),
+        None => Ok(None),
+    }
 }
 
 /// What an answer of the parser without matches is to the caller.

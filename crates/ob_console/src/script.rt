@@ -1,14 +1,14 @@
-ghost use Rattle.std.specs.Prelude.{◌≡◌, ◌+◌, ◌<◌, ◌≤◌, ◌++◌, ◌⊎◌, [], List, ℕ, IfOk, IfSome, OnOk, IsErrOf, Some};
+ghost use Rattle.std.specs.Prelude.{◌≡◌, ◌+◌, ◌<◌, ◌≤◌, ◌++◌, ◌⊎◌, [], List, ℕ, IfErr, IfOk, IfSome, OnOk, IsErrOf, Some};
 ghost use Rattle.std.specs.Prelude.{length, vec_len};
-ghost use Rattle.ob_store.specs.declared.limits.Limits.{Limits};
+ghost use Rattle.pin_words.specs.Keepers.{IsFreshWith, state_of};
 ghost use Rattle.ob_store.specs.State.{shape_of};
-ghost use Rattle.ob_console.specs.Sessions.{Session};
-ghost use Rattle.ob_console.specs.Runs.{IsEnded, IsOpening, IsWholeEnded};
+ghost use Rattle.ob_console.specs.Runs.{GoesOn, IsCut, IsEnded, IsOpening, IsWholeEnded, Reopens};
+ghost use Rattle.ob_console.specs.Sessions.{Ends, IsReady};
 
 use crate::console::Console;
 use ob_manager::{Limits, Manager};
 use ob_output::{Output, Sink, Source, Trouble};
-use pin_words::{Opening, Pins};
+use pin_words::{Keeper, LockedPins, Opening, Pins, Reader};
 use std::alloc::{AllocError, Global};
 use thiserror::Error;
 
@@ -120,17 +120,56 @@ pub fn run_whole<W: Sink>(
     answered
 }
 
+/// Runs a script as [`run`] does, over a manager that was loaded or made before, and gives it back as the script left
+/// it: over words of its own now, where what the script's reader holds at the end is held for good. A savestate
+/// ([`Manager::save`](ob_manager::Manager::save)) has none of that.
+pub fn run_over<R: Source, W: Sink>(
+    alloc: Global,
+    manager: Manager<LockedPins>,
+    reader: &mut R,
+    writer: &mut W,
+) -> Result<Manager<Keeper>, RunFault>
+    ensures ok { IfOk result (λ after. (input output : List ℕ) × (R.given reader.new ≡ R.given reader.old ++ input)
+        × (W.taken writer.new ≡ W.taken writer.old ++ output)
+        × GoesOn manager input output after) }
+    ensures err { IfErr result (λ fault. (input output : List ℕ) × (R.given reader.new ≡ R.given reader.old ++ input)
+        × (W.taken writer.new ≡ W.taken writer.old ++ output)
+        × IsCut fault (Reopens manager) input output) }
+    ensures ended { OnOk result (R.HasEnded reader.new) }
+    ensures memory { IsErrOf result RunFault.Memory → (R.calls reader.new ≡ R.calls reader.old)
+        × (W.calls writer.new ≡ W.calls writer.old) }
+    ensures read { IsErrOf result RunFault.Read → (R.faults reader.old < R.faults reader.new)
+        ⊎ (R.calls reader.new ≡ R.calls reader.old + CALLS_MOST) }
+    ensures write { IsErrOf result RunFault.Write → (W.faults writer.old < W.faults writer.new)
+        ⊎ (W.calls writer.new ≡ W.calls writer.old + CALLS_MOST) }
+    ensures reads { R.calls reader.new ≤ R.calls reader.old + CALLS_MOST }
+    ensures writes { W.calls writer.new ≤ W.calls writer.old + CALLS_MOST }
+{
+    let Ok(mut block) = zeros(alloc, BLOCK) else {
+        return Err(RunFault::Memory);
+    };
+    let Some(mut console) = reopened(alloc, manager, CALLS_MOST) else {
+        return Err(RunFault::Memory);
+    };
+    match answer_all(&mut console, &mut block, CALLS_MOST, reader, writer) {
+        Ok(()) => Ok(console.into_manager()),
+        Err(fault) => {
+            drop(console);
+            Err(fault)
+        }
+    }
+}
+
 /// Answers a script as one block, from a console of which no line has come.
 fn answer_whole<W: Sink>(
     console: &mut Console,
     script: &[u8],
     writer: &mut W,
 ) -> Result<(), RunFault>
-    requires lines { console.old.lines ≡ 0 }
-    requires pending { console.old.pending.bytes ≡ [] }
-    ensures answers { (limits : Limits) → Session limits [] [] console.old →
-        (output : List ℕ) × (W.taken writer.new ≡ W.taken writer.old ++ output)
-        × IsWholeEnded result limits script.now output }
+    requires ready { IsReady console.old }
+    ensures answers { (output : List ℕ) × (W.taken writer.new ≡ W.taken writer.old ++ output)
+        × Ends result console.old.point script.now output console.new.point }
+    ensures read { IsErrOf result RunFault.Read → ⊥ }
     ensures memory { IsErrOf result RunFault.Memory → ⊥ }
     ensures write { IsErrOf result RunFault.Write → (W.faults writer.old < W.faults writer.new)
         ⊎ (console.new.pending.writes_left ≡ 0) }
@@ -148,8 +187,8 @@ fn answer_whole<W: Sink>(
     }
 }
 
-/// A console of which no line has come, over a manager with no process and a reader that holds nothing; none where
-/// memory is wanting.
+/// A console of which no line has come, over a new manager and a reader that holds nothing; none where memory is
+/// wanting.
 fn opened(
     alloc: Global,
     limits: Limits,
@@ -160,9 +199,8 @@ fn opened(
     requires same { opening ≡ pins.now }
     requires shape { opening.shape ≡ shape_of limits }
     ensures opens { IfSome result (λ console. IsOpening limits console.point) }
-    ensures lines { IfSome result (λ console. console.lines ≡ 0) }
-    ensures held { IfSome result (λ console. console.held ≡ Some []) }
-    ensures pending { IfSome result (λ console. console.pending ≡ record { bytes = []; writes_left = writes }) }
+    ensures ready { IfSome result (λ console. IsReady console) }
+    ensures writes { IfSome result (λ console. console.pending.writes_left ≡ writes) }
 {
     let Ok(output) = Output::new(alloc, writes) else {
         return None;
@@ -176,6 +214,40 @@ fn opened(
     }
 }
 
+/// A console of which no line has come, over a manager that goes on over words, and a reader of these that holds
+/// nothing; none where memory is wanting.
+fn reopened(alloc: Global, manager: Manager<LockedPins>, writes: u64) -> Option<Console>
+    ensures reopens { IfSome result (λ console. Reopens manager console.point) }
+    ensures ready { IfSome result (λ console. IsReady console) }
+    ensures writes { IfSome result (λ console. console.pending.writes_left ≡ writes) }
+{
+    let Ok(output) = Output::new(alloc, writes) else {
+        return None;
+    };
+    let Ok((keeper, reader)) = words_for(alloc, &manager) else {
+        return None;
+    };
+    Some(Console::new(manager.over(keeper), reader, output))
+}
+
+/// A keeper over words that begins with the slots of a manager, and a reader.
+fn words_for(alloc: Global, manager: &Manager<LockedPins>) -> Result<(Keeper, Reader), AllocError>
+    ensures begins { IfOk result (λ parts. IsFreshWith (state_of parts.0) (shape_of manager.now.state.limits)
+        manager.now.keeper.slots) }
+    ensures same { IfOk result (λ parts. parts.1.table ≡ parts.0.table) }
+    ensures held { IfOk result (λ parts. parts.1.view.held ≡ []) }
+{
+    let slots = Vec::from_slice(alloc, manager.slots())?;
+    let Ok((pins, opening)) = Pins::with_slots(alloc, manager.limits().shape(), slots) else {
+        return Err(AllocError);
+    };
+    match opening.start(&pins) {
+        Ok(parts) => Ok(parts),
+        Err(_) => Err(AllocError),
+    }
+}
+
+#[tactic(auto, using(crate::proofs::Reading::reading_begins))]
 /// Answers a script block by block, from a console of which no line has come, with at most so many reads.
 fn answer_all<R: Source, W: Sink>(
     console: &mut Console,
@@ -184,13 +256,11 @@ fn answer_all<R: Source, W: Sink>(
     reader: &mut R,
     writer: &mut W,
 ) -> Result<(), RunFault>
-    requires lines { console.old.lines ≡ 0 }
-    requires pending { console.old.pending.bytes ≡ [] }
+    requires ready { IsReady console.old }
     requires block { length block.old ≡ BLOCK }
-    ensures answers { (limits : Limits) → Session limits [] [] console.old →
-        (input output : List ℕ) × (R.given reader.new ≡ R.given reader.old ++ input)
+    ensures answers { (input output : List ℕ) × (R.given reader.new ≡ R.given reader.old ++ input)
         × (W.taken writer.new ≡ W.taken writer.old ++ output)
-        × IsEnded result limits input output }
+        × Ends result console.old.point input output console.new.point }
     ensures ended { OnOk result (R.HasEnded reader.new) }
     ensures memory { IsErrOf result RunFault.Memory → ⊥ }
     ensures read { IsErrOf result RunFault.Read → (R.faults reader.old < R.faults reader.new)

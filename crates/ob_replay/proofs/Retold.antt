@@ -28,7 +28,7 @@ use Rattle.ob_script.specs.Writing.{as_said, line_of}
 use Rattle.ob_script.proofs.Alike.{answered_alike}
 use Rattle.ob_script.proofs.Lineless.{lineless_is_refused}
 use Rattle.ob_script.proofs.ReadBack.{line_is_read}
-use Rattle.ob_console.specs.Runs.{AnswersAll, Point, Prints, Run, last_line, with_ends}
+use Rattle.ob_console.specs.Runs.{AnswersAll, AnswersTo, IsOutput, Point, Prints, Run, last_line, with_ends}
 use Rattle.ob_record.specs.Telling.{asking, comment, is_held, is_held_slot, is_repeatable, lines_for, text_for}
 use Rattle.ob_replay.specs.Retelling.{Departs, FitsEntry, Retells, answer, is_line, script_of}
 use Rattle.ob_replay.proofs.Ends.{lines_in, lines_within, one_cut}
@@ -253,18 +253,22 @@ text_is (entry ∷ entries) =
 pub history_retold : (journal : List Entry) (w : Whole) (output : List ℕ) → IsHistory journal w → All FitsEntry journal
     → AnswersAll w.state.limits (script_of journal) output → Retells journal output
 history_retold journal w output history fits answers =
-    subst (Retells journal) (sym answers.answers.whole)
-    (retold journal history.first w answers.answers.first answers.answers.last 1 answers.answers.outputs history.kept
-    history.replays fits
-    (answers.answers.opens.state ∙ sym history.opens)
-    (subst (λ lines. Run answers.answers.first 1 lines answers.answers.outputs answers.answers.last) lines
-    answers.answers.run))
+    subst (Retells journal) (sym run.whole)
+    (retold journal history.first w answers.0 answers.1 1 run.outputs history.kept history.replays fits
+    (answers.2.state ∙ sym history.opens)
+    (subst (λ lines. Run answers.0 1 lines run.outputs answers.1) lines run.run))
   where
-    cut : (answers.lines ≡ lines_in journal) × (answers.rest ≡ [])
-    cut =
-        one_cut (lines_in journal) answers.lines answers.rest
-        (lines_within journal) answers.splits.each answers.splits.open_ended
-        (sym (text_is journal) ∙ answers.splits.whole)
+    whole : AnswersTo answers.0 (script_of journal) output answers.1
+    whole = answers.3
 
-    lines : answers.lines ++ last_line answers.rest ≡ lines_in journal
-    lines = ap (λ rest. answers.lines ++ last_line rest) cut.1 ∙ append-nil answers.lines ∙ cut.0
+    run : IsOutput answers.0 (whole.lines ++ last_line whole.rest) output answers.1
+    run = whole.answers
+
+    cut : (whole.lines ≡ lines_in journal) × (whole.rest ≡ [])
+    cut =
+        one_cut (lines_in journal) whole.lines whole.rest
+        (lines_within journal) whole.splits.each whole.splits.open_ended
+        (sym (text_is journal) ∙ whole.splits.whole)
+
+    lines : whole.lines ++ last_line whole.rest ≡ lines_in journal
+    lines = ap (λ rest. whole.lines ++ last_line rest) cut.1 ∙ append-nil whole.lines ∙ cut.0

@@ -1,8 +1,12 @@
-//! The program: reads a script from standard input, and prints its answers to standard output.
+//! The program: reads a script from standard input, and prints its answers to standard output. A script may begin with
+//! a savestate in a file, and its own state be saved in one.
 #![tactic(auto)]
 
 ghost use Rattle.std.specs.Prelude.{◌≤◌, IfOk};
 
+mod states;
+
+use crate::states::run_states;
 use ob_console::{Options, OptionsFault, RunFault, read_options, run};
 use ob_lanes::run_lanes;
 use ob_output::Wired;
@@ -25,6 +29,10 @@ fn main(rt: HostRuntime) -> ExitCode {
     let (alloc, limits) = (rt.alloc(), options.limits);
     if options.lanes > 0 {
         let answered = run_lanes(&rt, alloc, limits, options.lanes, &mut source, &mut sink);
+        return ended_by(&rt, answered);
+    }
+    if options.load.is_some() || options.save.is_some() {
+        let answered = run_states(&rt, &options, &mut source, &mut sink);
         return ended_by(&rt, answered);
     }
     ended_by(&rt, run(alloc, limits, &mut source, &mut sink))

@@ -1,7 +1,9 @@
 use crate::tests::{Failing, Interrupted, Page, Pieces, add, repeated, same};
-use ob_console::{RunFault, run, run_bounded};
-use ob_manager::Limits;
+use ob_console::{RunFault, run, run_bounded, run_over};
+use ob_manager::{Limits, Manager};
 use ob_output::{Source, Wired};
+use ob_rights::Fault;
+use pin_words::LockedPins;
 use std::alloc::{AllocError, Global};
 use std::process::Abort;
 use std::test::Fail;
@@ -59,6 +61,64 @@ fn ends_within<R: Abort, I: Source>(
 /// A script is answered to its end with this.
 fn gives<R: Abort>(rt: &R, alloc: Global, script: &[u8], due: &[u8]) {
     ends(rt, alloc, &mut Wired::new(script), Ok(()), due);
+}
+
+/// A new manager.
+fn made(alloc: Global, limits: Limits) -> Result<Manager<LockedPins>, Fault> {
+    match Manager::new(alloc, limits, LockedPins::new(alloc, limits.shape())?) {
+        Ok(manager) => Ok(manager),
+        Err(_) => Err(Fault::Memory),
+    }
+}
+
+/// A script is answered to its end with this, over a manager, which is then saved as these bytes.
+fn saved_behind<R: Abort>(
+    rt: &R,
+    alloc: Global,
+    manager: Manager<LockedPins>,
+    script: &[u8],
+    due: &[u8],
+) -> Result<Vec<u8>, Fault> {
+    let mut written = Vec::new(alloc);
+    let ended = run_over(
+        alloc,
+        manager,
+        &mut Wired::new(script),
+        &mut Wired::new(&mut written),
+    );
+    let Ok(after) = ended else {
+        return Err(Fault::Memory);
+    };
+    same(rt, written.as_slice(), due);
+    drop(written);
+    let saved = after.save(alloc);
+    drop(after);
+    Ok(saved?)
+}
+
+/// The same over the manager of a savestate.
+fn saved_behind_loaded<R: Abort>(
+    rt: &R,
+    alloc: Global,
+    bytes: &[u8],
+    script: &[u8],
+    due: &[u8],
+) -> Result<Vec<u8>, Fault> {
+    match Manager::load(alloc, bytes) {
+        Ok(manager) => saved_behind(rt, alloc, manager, script, due),
+        Err(_) => Err(Fault::Memory),
+    }
+}
+
+#[test]
+fn a_script_goes_on_over_what_was_saved(rt: HostRuntime) -> Result<(), Fail> {
+    let limits = Limits::default();
+    let (alloc, front) = (rt.alloc(), made(rt.alloc(), limits)?);
+    let half = saved_behind(&rt, alloc, front, &SCRIPT[..35], &ANSWERS[..18])?;
+    let last = saved_behind_loaded(&rt, alloc, &half, &SCRIPT[35..], &ANSWERS[18..])?;
+    let whole = saved_behind(&rt, alloc, made(alloc, limits)?, SCRIPT, ANSWERS)?;
+    same(&rt, last.as_slice(), whole.as_slice());
+    Ok(())
 }
 
 #[test]

@@ -58,6 +58,17 @@ fn lanes_read(alloc: Global, words: &[&str]) -> Result<Option<u32>, AllocError> 
     }
 }
 
+/// The paths that are read of these arguments: that of what is loaded, and that of what is saved.
+fn paths_read(
+    alloc: Global,
+    words: &[&str],
+) -> Result<Option<(Option<String>, Option<String>)>, AllocError> {
+    match read(alloc, words)? {
+        Ok(options) => Ok(Some((options.load, options.save))),
+        Err(_) => Ok(None),
+    }
+}
+
 /// The help that is read of these arguments.
 fn help_read(alloc: Global, words: &[&str]) -> Result<Option<String>, AllocError> {
     match read(alloc, words)? {
@@ -174,6 +185,50 @@ fn lanes_are_none_by_default_and_at_most_64(rt: HostRuntime) -> Result<(), Fail>
         same(&rt, joined_lanes(rt.alloc(), lanes)?, Some(lanes));
     }
     are_bad(&rt, rt.alloc(), &NO_LANES)?;
+    Ok(())
+}
+
+/// Asserts that these paths are read.
+fn has_paths<R: Abort>(
+    rt: &R,
+    alloc: Global,
+    words: &[&str],
+    load: Option<&str>,
+    save: Option<&str>,
+) -> Result<(), AllocError> {
+    let Some(paths) = paths_read(alloc, words)? else {
+        panic!(rt; "a bad command line")
+    };
+    same(rt, paths.0.as_deref(), load);
+    same(rt, paths.1.as_deref(), save);
+    Ok(())
+}
+
+const NO_PATHS: [&[&str]; 8] = [
+    &["--load"],
+    &["--save"],
+    &["--load=a", "--load=a"],
+    &["--save", "a", "--save", "b"],
+    &["--load=a", "--slots=64"],
+    &["--max-recursion=2", "--save=b", "--load=a"],
+    &["--load=a", "--lanes=0"],
+    &["--lanes=2", "--save=a"],
+];
+
+#[test]
+fn what_is_loaded_stands_beside_no_limit_and_no_lanes(rt: HostRuntime) -> Result<(), Fail> {
+    let alloc = rt.alloc();
+    has_paths(&rt, alloc, &["--slots=4"], None, None)?;
+    has_paths(&rt, alloc, &["--load", "a b"], Some("a b"), None)?;
+    has_paths(&rt, alloc, &["--save=a", "--handles", "2"], None, Some("a"))?;
+    has_paths(
+        &rt,
+        alloc,
+        &["--save", "a", "--load=a"],
+        Some("a"),
+        Some("a"),
+    )?;
+    are_bad(&rt, alloc, &NO_PATHS)?;
     Ok(())
 }
 

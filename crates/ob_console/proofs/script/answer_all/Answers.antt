@@ -7,43 +7,43 @@ use Rattle.ob_console.proofs.script.answer_all.Goals as goal
 use Rattle.ob_console.proofs.script.answer_all.Goals.{in-Ok+in-Ok-take, in-Err-Interrupted}
 
 pub returns-in-Ok-finish-clause-answers : goal.returns-in-Ok-finish-clause-answers
-returns-in-Ok-finish-clause-answers g c limits session =
+returns-in-Ok-finish-clause-answers g c =
     let ends = c.in-Ok-finish.ensures.finishes in
-    let run = reading_ends limits c.loop-i.console (g.R.Source.given c.args.reader.now)
+    let run = reading_ends c.args.console.now.point c.loop-i.console (g.R.Source.given c.args.reader.now)
     (g.R.Source.given c.loop-i.reader) (g.R.Source.given c.read.new.self) (g.W.Sink.taken c.args.writer.now)
-    (g.W.Sink.taken c.loop-i.writer) (g.W.Sink.taken c.finish.new.sink) ends.0
-    (c.loop-i.invariant.reading limits session) (c.in-Ok-eq0.ensures.given
+    (g.W.Sink.taken c.loop-i.writer) (g.W.Sink.taken c.finish.new.sink) ends.0 c.finish.new.self.point
+    c.loop-i.invariant.reading (c.in-Ok-eq0.ensures.given
     ∙ ap (λ count. g.R.Source.given c.loop-i.reader ++ take count c.read.new.block) c.in-Ok-eq0.field-0-test)
     c.loop-i.invariant.written ends.1 ends.2 in
     (run.input, run.output, run.read, run.wrote, run.answers)
 
 pub returns-in-Err-clause-answers : goal.returns-in-Err-clause-answers
-returns-in-Err-clause-answers g c limits session =
+returns-in-Err-clause-answers g c =
     let ends = c.in-Err.ensures.finishes in
-    let run = ending_fails limits c.loop-i.console (g.R.Source.given c.args.reader.now)
+    let run = ending_fails c.args.console.now.point c.loop-i.console (g.R.Source.given c.args.reader.now)
     (g.R.Source.given c.loop-i.reader) (g.R.Source.given c.read.new.self) (g.W.Sink.taken c.args.writer.now)
-    (g.W.Sink.taken c.loop-i.writer) (g.W.Sink.taken c.finish.new.sink) ends.0
-    (c.loop-i.invariant.reading limits session) (c.in-Ok-eq0.ensures.given
+    (g.W.Sink.taken c.loop-i.writer) (g.W.Sink.taken c.finish.new.sink) ends.0 c.finish.new.self.point
+    c.loop-i.invariant.reading (c.in-Ok-eq0.ensures.given
     ∙ ap (λ count. g.R.Source.given c.loop-i.reader ++ take count c.read.new.block) c.in-Ok-eq0.field-0-test)
     c.loop-i.invariant.written ends.1 ends.2 in
     (run.input, run.output, run.read, run.wrote, run.answers)
 
 pub returns-in-Err-take-clause-answers : goal.returns-in-Err-take-clause-answers
-returns-in-Err-take-clause-answers g c limits session =
-    let run = writing_fails limits c.loop-i.console c.take.new.self (g.R.Source.given c.args.reader.now)
+returns-in-Err-take-clause-answers g c =
+    let run = writing_fails c.args.console.now.point c.loop-i.console c.take.new.self (g.R.Source.given c.args.reader.now)
     (g.R.Source.given c.loop-i.reader) (g.R.Source.given c.read.new.self) (take c.in-Ok.count c.read.new.block)
     (g.W.Sink.taken c.args.writer.now) (g.W.Sink.taken c.loop-i.writer) (g.W.Sink.taken c.take.new.sink)
-    (c.loop-i.invariant.reading limits session) c.in-Ok.ensures.given c.loop-i.invariant.written
+    c.loop-i.invariant.reading c.in-Ok.ensures.given c.loop-i.invariant.written
     c.in-Err-take.ensures.err in
     (run.input, run.output, run.read, run.wrote, run.answers)
 
 pub returns-in-Err-Failed-clause-answers : goal.returns-in-Err-Failed-clause-answers
-returns-in-Err-Failed-clause-answers g c limits session =
-    let run = reading_fails limits c.loop-i.console (g.R.Source.given c.args.reader.now)
+returns-in-Err-Failed-clause-answers g c =
+    let run = reading_fails c.args.console.now.point c.loop-i.console (g.R.Source.given c.args.reader.now)
     (g.R.Source.given c.read.new.self) (g.W.Sink.taken c.args.writer.now) (g.W.Sink.taken c.loop-i.writer)
-    (reading_same limits c.loop-i.console (g.R.Source.given c.args.reader.now) (g.R.Source.given c.loop-i.reader)
+    (reading_same c.args.console.now.point c.loop-i.console (g.R.Source.given c.args.reader.now) (g.R.Source.given c.loop-i.reader)
     (g.R.Source.given c.read.new.self) (g.W.Sink.taken c.args.writer.now) (g.W.Sink.taken c.loop-i.writer)
-    (c.loop-i.invariant.reading limits session) c.in-Err-Failed.ensures.given) in
+    c.loop-i.invariant.reading c.in-Err-Failed.ensures.given) in
     (run.input, run.output, run.read, run.wrote, run.answers)
 
 pub loop-i-preserved : goal.loop-i-preserved
@@ -51,11 +51,11 @@ loop-i-preserved g c = elim c.match-read.branch [
   | in-Ok+in-Ok-take w ↦
       let taken = w.in-Ok-take.ensures in
       rw (w.writer-is, w.console-is) (record {
-        reading = λ limits session. reading_on limits c.loop-i.console w.take.new.self
+        reading = reading_on c.args.console.now.point c.loop-i.console w.take.new.self
             (g.R.Source.given c.args.reader.now) (g.R.Source.given c.loop-i.reader) (g.R.Source.given c.read.new.self)
             (take w.in-Ok.count c.read.new.block)
             (g.W.Sink.taken c.args.writer.now) (g.W.Sink.taken c.loop-i.writer) (g.W.Sink.taken w.take.new.sink)
-            (c.loop-i.invariant.reading limits session) w.in-Ok.ensures.given c.loop-i.invariant.written taken.written
+            c.loop-i.invariant.reading w.in-Ok.ensures.given c.loop-i.invariant.written taken.written
             taken.ok;
         block = c.read.auto.block ∙ c.loop-i.invariant.block;
         written = taken.written;
@@ -77,10 +77,10 @@ loop-i-preserved g c = elim c.match-read.branch [
       })
   | in-Err-Interrupted w ↦
       rw (w.writer-is, w.console-is) (record {
-        reading = λ limits session. reading_same limits c.loop-i.console (g.R.Source.given c.args.reader.now)
+        reading = reading_same c.args.console.now.point c.loop-i.console (g.R.Source.given c.args.reader.now)
             (g.R.Source.given c.loop-i.reader) (g.R.Source.given c.read.new.self) (g.W.Sink.taken c.args.writer.now)
             (g.W.Sink.taken c.loop-i.writer)
-            (c.loop-i.invariant.reading limits session) w.in-Err-Interrupted.ensures.given;
+            c.loop-i.invariant.reading w.in-Err-Interrupted.ensures.given;
         block = c.read.auto.block ∙ c.loop-i.invariant.block;
         written = c.loop-i.invariant.written;
         lines = omega (arith, c.loop-i.invariant.lines);
@@ -96,8 +96,8 @@ loop-i-preserved g c = elim c.match-read.branch [
 ]
 
 pub returns-clause-answers : goal.returns-clause-answers
-returns-clause-answers g c limits session =
-    let run = reading_fails limits c.loop-i.console (g.R.Source.given c.args.reader.now)
+returns-clause-answers g c =
+    let run = reading_fails c.args.console.now.point c.loop-i.console (g.R.Source.given c.args.reader.now)
     (g.R.Source.given c.loop-i.reader) (g.W.Sink.taken c.args.writer.now) (g.W.Sink.taken c.loop-i.writer)
-    (c.loop-i.invariant.reading limits session) in
+    c.loop-i.invariant.reading in
     (run.input, run.output, run.read, run.wrote, run.answers)

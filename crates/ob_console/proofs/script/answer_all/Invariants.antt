@@ -1,15 +1,12 @@
 use Rattle.std.proofs.Common.{◌≡◌, ◌+◌, ◌*◌, ◌≤◌, [], length}
-use Rattle.ob_store.specs.declared.limits.Limits.{Limits}
 use Rattle.ob_output.specs.Pending.{Spends}
-use Rattle.ob_console.specs.Sessions.{Session}
 use Rattle.ob_console.proofs.Reading.{IsReading}
 use Rattle.ob_console.proofs.script.answer_all.Given as goal
 
 abbrev pub invariant-loop-i : goal.invariant-loop-i
 invariant-loop-i g l = record {
-  reading : (limits : Limits) → Session limits [] [] l.fn.console
-      → IsReading limits l.console (g.R.Source.given l.fn.reader) (g.R.Source.given l.reader)
-      (g.W.Sink.taken l.fn.writer) (g.W.Sink.taken l.writer);
+  reading : IsReading l.fn.console.point l.console (g.R.Source.given l.fn.reader)
+      (g.R.Source.given l.reader) (g.W.Sink.taken l.fn.writer) (g.W.Sink.taken l.writer);
   block : length l.block ≡ 65536;
   written : l.console.pending.bytes ≡ [];
   lines : l.console.lines ≤ 65536 * l.i;

@@ -1,13 +1,17 @@
-use Rattle.std.proofs.Common.{ap, inl, inr, arith}
-use Rattle.ob_output.specs.Pending.{Pending}
-use Rattle.ob_console.proofs.Advancing.{opens}
+use Rattle.std.proofs.Common.{inl, inr, arith}
+use Rattle.ob_console.proofs.Reading.{run_ended}
 use Rattle.ob_console.proofs.script.run_bounded.Goals as goal
 
 pub returns-clause-answers : goal.returns-clause-answers
 returns-clause-answers g c =
-    let is = c.in-Some.ensures in
-    c.answer_all-answered.ensures.answers c.args.limits
-    (opens c.args.limits c.in-Some.console is.opens is.lines is.held)
+    let run = c.answer_all-answered.ensures.answers in (
+      run.0,
+      run.1,
+      run.2,
+      run.3,
+      run_ended c.answer_all-answered.result c.args.limits c.in-Some.console.point
+          c.answer_all-answered.new.console.point run.0 run.1 c.in-Some.ensures.opens run.4,
+    )
 
 pub returns-clause-write : goal.returns-clause-write
 returns-clause-write g c is = elim (c.answer_all-answered.ensures.write is) [
@@ -16,6 +20,6 @@ returns-clause-write g c is = elim (c.answer_all-answered.ensures.write is) [
     arith,
     none,
     c.answer_all-answered.ensures.writes,
-    ap (λ (pending : Pending). pending.writes_left) c.in-Some.ensures.pending,
+    c.in-Some.ensures.writes,
   ))
 ]

@@ -32,7 +32,8 @@ returns-clause-finishes g c =
       lines = c.answer_held.new.self.lines;
     } in
     let prints = c.answer_held.ensures.prints in
-    subst (λ (old : ConsoleState). (printed : List ℕ) × Finishes old printed
+    subst (λ (old : ConsoleState). (printed : List ℕ)
+    × Finishes old printed c.answer_held.new.self.point
     × IsWritten c.answer_held.result (g.W.Sink.taken c.args.sink.now) (g.W.Sink.taken c.answer_held.new.sink)
     (old.pending.bytes ++ printed) c.answer_held.new.self.pending.bytes)
     c.self.view_is (

@@ -1,0 +1,79 @@
+use ob_codec::ReadFault;
+use ob_console::{Options, RunFault, run_over};
+use ob_manager::{Limits, Manager};
+use ob_output::{Sink, Source};
+use pin_words::{Keeper, LockedPins};
+use std::alloc::Global;
+use std::fs;
+use std::io::{self, ErrorKind};
+use thiserror::Error;
+
+/// Why a script that begins with a savestate, or ends with one, wasn't answered to its end, or its state not saved.
+#[derive(Clone, Copy, Debug, Error)]
+pub enum StateFault {
+    /// A file that can't be read or written, or that is no savestate.
+    #[error("no such state")]
+    State,
+    /// The script ended so, or memory was wanting for its state.
+    #[error("{0}")]
+    Run(RunFault),
+}
+
+/// Runs a script over the manager of a savestate, or a new one, and saves it behind the script's end, as the options
+/// say. What is loaded is read before the script. Where the script isn't answered to its end nothing is saved.
+pub fn run_states<I: Source, O: Sink>(
+    rt: &HostRuntime,
+    options: &Options,
+    reader: &mut I,
+    writer: &mut O,
+) -> Result<(), StateFault> {
+    let manager = match &options.load {
+        Some(path) => loaded(rt, path.as_str())?,
+        None => made(rt.alloc(), options.limits)?,
+    };
+    let after = match run_over(rt.alloc(), manager, reader, writer) {
+        Ok(after) => after,
+        Err(fault) => return Err(StateFault::Run(fault)),
+    };
+    match &options.save {
+        Some(path) => save(rt, path.as_str(), &after),
+        None => Ok(()),
+    }
+}
+
+/// The manager of a savestate.
+fn loaded(rt: &HostRuntime, path: &str) -> Result<Manager<LockedPins>, StateFault> {
+    let bytes = fs::read(rt, path).map_err(|error| fault_of(&error))?;
+    match Manager::load(rt.alloc(), bytes.as_slice()) {
+        Ok(manager) => Ok(manager),
+        Err(ReadFault::Memory) => Err(StateFault::Run(RunFault::Memory)),
+        Err(ReadFault::Text(_)) => Err(StateFault::State),
+    }
+}
+
+/// A new manager.
+fn made(alloc: Global, limits: Limits) -> Result<Manager<LockedPins>, StateFault> {
+    let Ok(keeper) = LockedPins::new(alloc, limits.shape()) else {
+        return Err(StateFault::Run(RunFault::Memory));
+    };
+    match Manager::new(alloc, limits, keeper) {
+        Ok(manager) => Ok(manager),
+        Err(_) => Err(StateFault::Run(RunFault::Memory)),
+    }
+}
+
+/// Writes what a manager is saved as. What stood in the file is gone, also where it can't be written to its end.
+fn save(rt: &HostRuntime, path: &str, manager: &Manager<Keeper>) -> Result<(), StateFault> {
+    let Ok(bytes) = manager.save(rt.alloc()) else {
+        return Err(StateFault::Run(RunFault::Memory));
+    };
+    fs::write(rt, path, bytes.as_slice()).map_err(|error| fault_of(&error))
+}
+
+/// Why a file can't be read or written.
+fn fault_of(error: &io::Error) -> StateFault {
+    match error.kind() {
+        ErrorKind::OutOfMemory => StateFault::Run(RunFault::Memory),
+        _ => StateFault::State,
+    }
+}
