@@ -7,6 +7,8 @@
 #     make install-strip         the same without symbols for a debugger
 #     make dist                  all that as a tarball in build/, for machines without the kit, wherever it is unpacked
 #     make examples              builds and runs the examples in C, C++, Rust and Python
+#     make windows               builds examples/windows: Windows programs, and a host that runs them, in build/windows; it needs
+#                                mingw-w64 and Unicorn
 #
 # It needs the Rattle kit, which proves the library and builds it, a C compiler and ar.
 PREFIX ?= /usr/local
@@ -20,6 +22,7 @@ STRIP ?= strip
 CXX ?= c++
 CARGO ?= cargo
 PYTHON ?= python3
+MINGW ?= x86_64-w64-mingw32-gcc
 
 KIT = $(dir $(shell rt doc))
 PROVED = $(foreach part,obman_c obman_c_savestates obman_c_script,crates/$(part)/out/lib$(part).a)
@@ -33,7 +36,9 @@ DIST = obman-$(RELEASE)-x86_64-linux
 # What is installed finds the rest from where it lies.
 HEADERS = $(shell realpath -ms --relative-to=$(LIBDIR) $(INCLUDEDIR))
 
-.PHONY: all install install-strip dist examples clean
+GUESTS = $(patsubst examples/windows/guests/%.c,build/windows/%.exe,$(wildcard examples/windows/guests/*.c))
+
+.PHONY: all install install-strip dist examples windows clean
 
 all: build/libobman.a build/libobman.so
 
@@ -104,6 +109,17 @@ examples: all
 	build/host
 	cd bindings/rust && OBMAN_LIB=$(abspath build) CARGO_TARGET_DIR=$(abspath build/cargo) $(CARGO) run --offline --example host
 	OBMAN=build/libobman.so $(PYTHON) examples/python/host.py
+
+windows: build/windows/host $(GUESTS)
+
+build/windows/host: $(wildcard examples/windows/host/*) include/obman.h build/libobman.a
+	mkdir -p $(@D)
+	$(CC) -std=c11 -O2 -Iinclude -o $@ $(filter %.c,$^) build/libobman.a -lunicorn
+
+# Windows programs that need kernel32 alone, and no C library.
+build/windows/%.exe: examples/windows/guests/%.c $(wildcard examples/windows/guests/*.h)
+	mkdir -p $(@D)
+	$(MINGW) -std=c11 -O2 -nostdlib -ffreestanding -mno-stack-arg-probe -e start -o $@ $< -lkernel32
 
 clean:
 	rm -rf build

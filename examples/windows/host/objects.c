@@ -1,0 +1,358 @@
+/* The calls for events, mutexes, semaphores, timers, names, handles and waits. Most are one call of the library. */
+#include "host.h"
+
+#include <string.h>
+
+enum { GENERIC_ALL = 1 << 28, GENERIC_EXECUTE = 1 << 29, GENERIC_WRITE = 1 << 30, MAXIMUM_ALLOWED = 1 << 25 };
+#define GENERIC_READ 0x80000000u
+#define WAIT_FAILED 0xFFFFFFFFu
+
+/* A guest's handle as the library's. What has more than 32 bits names nothing, nor does what stands for the caller itself. */
+uint32_t handle_of(uint64_t guest) {
+    return guest > UINT32_MAX ? 0 : (uint32_t)guest;
+}
+
+static uint32_t first_handle(const call *c) {
+    return handle_of(argument(c, 0));
+}
+
+/* ---- Names and rights ---- */
+
+typedef struct asked {
+    om_making making;
+    size_t length;
+    char name[OM_NAME_MOST + 32]; /* what has no room is too long for the library too */
+} asked;
+
+/* What a create asks for. An empty name is none. */
+static asked asked_by(const call *c, uint64_t attributes, uint64_t at) {
+    asked a = {.making.inherit = inherits(c, attributes)};
+    if (at != 0) {
+        a.length = name(c, at, a.name, sizeof a.name);
+        a.making.named = a.length > 0;
+    }
+    return a;
+}
+
+/* Rights as the library has them: the generic ones stand for those of the kind. */
+static uint32_t rights_of(uint32_t access, uint32_t all) {
+    uint32_t rights = access & 0x01FFFFFFu;
+    if (access & (GENERIC_ALL | MAXIMUM_ALLOWED)) {
+        rights |= all;
+    }
+    if (access & GENERIC_READ) {
+        rights |= OM_READ_CONTROL;
+    }
+    if (access & GENERIC_WRITE) {
+        rights |= (OM_MODIFY_STATE & all) | OM_READ_CONTROL;
+    }
+    if (access & GENERIC_EXECUTE) {
+        rights |= OM_SYNCHRONIZE | OM_READ_CONTROL;
+    }
+    return rights;
+}
+
+/* ---- Creating and opening ---- */
+
+static void created(call *c, uint32_t status, const om_opening *made) {
+    c->result = status == OM_SUCCESS || status == OM_ERROR_ALREADY_EXISTS ? made->handle : 0;
+    set_error(c, status);
+}
+
+void create_event(call *c) {
+    om_opening made;
+    asked a = asked_by(c, argument(c, 0), argument(c, 3));
+    bool manual = (uint32_t)argument(c, 1) != 0, set = (uint32_t)argument(c, 2) != 0;
+    uint32_t status = om_create_event(&om, c->by->number, &a.making, a.name, a.length, manual, set, &made);
+    created(c, status, &made);
+}
+
+void create_mutex(call *c) {
+    om_opening made;
+    asked a = asked_by(c, argument(c, 0), argument(c, 2));
+    uint32_t status = om_create_mutex(&om, c->by->number, &a.making, a.name, a.length, (uint32_t)argument(c, 1) != 0, &made);
+    created(c, status, &made);
+}
+
+void create_semaphore(call *c) {
+    om_opening made;
+    asked a = asked_by(c, argument(c, 0), argument(c, 3));
+    int32_t initial = (int32_t)argument(c, 1), most = (int32_t)argument(c, 2);
+    uint32_t status = om_create_semaphore(&om, c->by->number, &a.making, a.name, a.length, initial, most, &made);
+    created(c, status, &made);
+}
+
+void create_timer(call *c) {
+    om_opening made;
+    asked a = asked_by(c, argument(c, 0), argument(c, 2));
+    uint32_t status = om_create_timer(&om, c->by->number, &a.making, a.name, a.length, (uint32_t)argument(c, 1) != 0, &made);
+    created(c, status, &made);
+}
+
+typedef uint32_t (*opener)(om_manager *m, uint32_t thread, uint32_t access, bool inherit, const char *name, size_t length, om_opening *opening);
+
+static void open_named(call *c, opener by, uint32_t all) {
+    om_opening opened;
+    asked a = asked_by(c, 0, argument(c, 2));
+    uint32_t status = OM_ERROR_INVALID_PARAMETER;
+    if (argument(c, 2) != 0) {
+        uint32_t access = rights_of((uint32_t)argument(c, 0), all);
+        status = by(&om, c->by->number, access, (uint32_t)argument(c, 1) != 0, a.name, a.length, &opened);
+    }
+    done(c, status);
+    c->result = status == OM_SUCCESS ? opened.handle : 0;
+}
+
+void open_event(call *c) {
+    open_named(c, om_open_event, OM_EVENT_ALL_ACCESS);
+}
+
+void open_mutex(call *c) {
+    open_named(c, om_open_mutex, OM_MUTEX_ALL_ACCESS);
+}
+
+void open_semaphore(call *c) {
+    open_named(c, om_open_semaphore, OM_SEMAPHORE_ALL_ACCESS);
+}
+
+void open_timer(call *c) {
+    open_named(c, om_open_timer, OM_TIMER_ALL_ACCESS);
+}
+
+/* ---- Signals ---- */
+
+/* An event that stands for a thread, a process or a file is none to a guest. */
+static bool is_event(const call *c) {
+    return standin_of(c->of, first_handle(c)) == NULL;
+}
+
+void set_event(call *c) {
+    done(c, is_event(c) ? om_set_event(&om, c->by->number, first_handle(c)) : OM_ERROR_INVALID_HANDLE);
+}
+
+void reset_event(call *c) {
+    done(c, is_event(c) ? om_reset_event(&om, c->by->number, first_handle(c)) : OM_ERROR_INVALID_HANDLE);
+}
+
+void release_mutex(call *c) {
+    done(c, om_release_mutex(&om, c->by->number, first_handle(c)));
+}
+
+void release_semaphore(call *c) {
+    uint32_t before, status = om_release_semaphore(&om, c->by->number, first_handle(c), (int32_t)argument(c, 1), &before);
+    if (status == OM_SUCCESS) {
+        put(c, argument(c, 2), before, 4);
+    }
+    done(c, status);
+}
+
+/* ---- Timers ---- */
+
+static bool is_same(om_object one, om_object other) {
+    return one.slot == other.slot && one.generation == other.generation;
+}
+
+static void end_period(period *p) {
+    must(om_close(&om, machine.host.thread, p->handle), "the end of a period");
+    p->handle = 0;
+}
+
+/* A timer comes no more again. */
+static void stop_period(om_object timer) {
+    for (period *p = machine.periods; p < machine.periods + PERIODS; p++) {
+        if (p->handle != 0 && is_same(p->object, timer)) {
+            end_period(p);
+        }
+    }
+}
+
+/* A timer comes again, so much behind its first moment: the host needs a handle of its own for that. */
+static void begin_period(const call *c, uint32_t handle, uint64_t next, uint64_t length) {
+    om_opening own;
+    period *p = machine.periods;
+    while (p < machine.periods + PERIODS && p->handle != 0) {
+        p++;
+    }
+    if (p == machine.periods + PERIODS) {
+        stop("%s: too many timers have periods", c->name);
+    }
+    must(om_duplicate(&om, machine.host.thread, c->of->number, handle, machine.host.process, OM_MODIFY_STATE, false, 0, &own), "a period");
+    *p = (period){.object = own.object, .handle = own.handle, .next = next, .length = length};
+}
+
+/* A timer that nobody has but the host comes no more again. */
+void end_periods(void) {
+    om_references all;
+    for (period *p = machine.periods; p < machine.periods + PERIODS; p++) {
+        if (p->handle != 0 && om_counts(&om, p->object.slot, p->object.generation, &all) == OM_SUCCESS && all.handles == 1 && all.waits == 0) {
+            end_period(p);
+        }
+    }
+}
+
+/* The next moment at which a timer comes again. */
+uint64_t next_period(void) {
+    uint64_t least = UINT64_MAX;
+    for (const period *p = machine.periods; p < machine.periods + PERIODS; p++) {
+        if (p->handle != 0 && p->next < least) {
+            least = p->next;
+        }
+    }
+    return least;
+}
+
+/* Signals the timers that come again by now: a timer that is set to what is over signals at once. */
+void signal_periods(void) {
+    for (period *p = machine.periods; p < machine.periods + PERIODS; p++) {
+        if (p->handle != 0 && p->next <= om_now(&om)) {
+            must(om_set_timer(&om, machine.host.thread, p->handle, (int64_t)p->next), "a period");
+            p->next += (om_now(&om) - p->next) / p->length * p->length + p->length;
+        }
+    }
+}
+
+/* A moment of the guest's is from now where it is below 0, and else since 1601. */
+void set_timer(call *c) {
+    int64_t due = (int64_t)fetch(c, argument(c, 1), 8);
+    uint32_t handle = first_handle(c);
+    uint64_t length = (uint32_t)argument(c, 2) * (uint64_t)10000, first;
+    om_object timer;
+    if (argument(c, 3) != 0) {
+        stop("%s with a routine isn't served", c->name);
+    }
+    tell_time();
+    if (due >= 0) {
+        due = due < (int64_t)BEGAN ? 0 : due - (int64_t)BEGAN;
+    }
+    uint32_t status = om_set_timer(&om, c->by->number, handle, due);
+    if (status == OM_SUCCESS && om_resolve(&om, c->of->number, handle, &timer) == OM_SUCCESS) {
+        first = due < 0 ? om_now(&om) - (uint64_t)due : (uint64_t)due < om_now(&om) ? om_now(&om) : (uint64_t)due;
+        stop_period(timer);
+        if (length > 0) {
+            begin_period(c, handle, first + length, length);
+        }
+    }
+    done(c, status);
+}
+
+void cancel_timer(call *c) {
+    om_object timer;
+    uint32_t status = om_cancel_timer(&om, c->by->number, first_handle(c));
+    if (status == OM_SUCCESS && om_resolve(&om, c->of->number, first_handle(c), &timer) == OM_SUCCESS) {
+        stop_period(timer);
+    }
+    done(c, status);
+}
+
+/* ---- Waits ---- */
+
+/* A wait that is pending stops its thread, whose call is answered by `look_round`. */
+static void begin_wait(call *c, bool all, uint32_t milliseconds, const uint32_t *handles, size_t count) {
+    uint32_t answer;
+    if (milliseconds == 0 || milliseconds == OM_INFINITE) {
+        tell_due();
+    } else {
+        tell_time(); /* from which the milliseconds count */
+    }
+    uint32_t status = om_wait(&om, c->by->number, all, milliseconds, handles, count, &answer);
+    c->by->waits = status == OM_ERROR_IO_PENDING;
+    c->result = status == OM_SUCCESS ? answer : WAIT_FAILED;
+    if (status != OM_SUCCESS && status != OM_ERROR_IO_PENDING) {
+        set_error(c, status);
+    }
+}
+
+/* A handle that is waited for. */
+static uint32_t waited_for(const call *c, uint64_t guest) {
+    if (guest == THIS_PROCESS || guest == THIS_THREAD) {
+        stop("%s for the caller itself isn't served", c->name);
+    }
+    return handle_of(guest);
+}
+
+void wait_for_one(call *c) {
+    uint32_t handle = waited_for(c, argument(c, 0));
+    begin_wait(c, false, (uint32_t)argument(c, 1), &handle, 1);
+}
+
+void wait_for_several(call *c) {
+    uint32_t handles[OM_MAXIMUM_WAIT_OBJECTS], count = (uint32_t)argument(c, 0);
+    if (count > OM_MAXIMUM_WAIT_OBJECTS) {
+        done(c, OM_ERROR_INVALID_PARAMETER);
+        c->result = WAIT_FAILED;
+        return;
+    }
+    for (uint32_t i = 0; i < count; i++) {
+        handles[i] = waited_for(c, fetch(c, argument(c, 1) + 8 * i, 8));
+    }
+    begin_wait(c, (uint32_t)argument(c, 2) != 0, (uint32_t)argument(c, 3), handles, count);
+}
+
+/* Without time it is another thread's turn. */
+void sleep_for(call *c) {
+    uint32_t milliseconds = (uint32_t)argument(c, 0);
+    c->ends_turn = true;
+    if (milliseconds > 0) {
+        begin_wait(c, false, milliseconds, &c->of->never, 1);
+    }
+}
+
+/* ---- Handles ---- */
+
+void close_handle(call *c) {
+    uint64_t guest = argument(c, 0);
+    done(c, guest == THIS_PROCESS || guest == THIS_THREAD ? OM_SUCCESS : om_close(&om, c->by->number, handle_of(guest)));
+}
+
+void handle_flags(call *c) {
+    uint32_t flags, status = om_handle_flags(&om, c->by->number, first_handle(c), &flags);
+    if (status == OM_SUCCESS) {
+        put(c, argument(c, 1), flags, 4);
+    }
+    done(c, status);
+}
+
+void set_handle_flags(call *c) {
+    done(c, om_set_handle_flags(&om, c->by->number, first_handle(c), (uint32_t)argument(c, 1), (uint32_t)argument(c, 2)));
+}
+
+/* The number of a process that a handle stands for, or 0. */
+static uint32_t process_by(const call *c, uint64_t guest) {
+    const standin *s = standin_of(c->of, handle_of(guest));
+    return guest == THIS_PROCESS ? c->of->number : s != NULL && s->is_for == A_PROCESS ? s->number : 0;
+}
+
+/* What a duplicate may do to what its source names, as the library has it. What stands for another thing can be waited for. */
+static uint32_t rights_to(uint32_t source, uint32_t handle, uint32_t access) {
+    static const uint32_t all[] = {OM_EVENT_ALL_ACCESS, OM_MUTEX_ALL_ACCESS, OM_SEMAPHORE_ALL_ACCESS, OM_TIMER_ALL_ACCESS};
+    om_object object;
+    om_description as;
+    if (om_resolve(&om, source, handle, &object) != OM_SUCCESS || om_card(&om, object.slot, object.generation, &as) != OM_SUCCESS) {
+        return access;
+    }
+    return as.grant == OM_SYNCHRONIZE ? OM_SYNCHRONIZE : rights_of(access, all[as.kind]);
+}
+
+void duplicate_handle(call *c) {
+    uint64_t guest = argument(c, 1);
+    uint32_t source = process_by(c, argument(c, 0)), target = process_by(c, argument(c, 2)), handle = handle_of(guest);
+    uint32_t options = (uint32_t)argument(c, 6);
+    om_opening made = {0};
+    put(c, argument(c, 3), 0, 8);
+    if (source == 0 || (target == 0 && argument(c, 2) != 0)) {
+        done(c, OM_ERROR_INVALID_HANDLE);
+        return;
+    }
+    if (guest == THIS_PROCESS || guest == THIS_THREAD) {
+        const standin *s = guest == THIS_PROCESS ? standin_numbered(A_PROCESS, source) : standin_numbered(A_THREAD, c->by->number);
+        handle = s == NULL ? 0 : s->handle;
+        source = machine.host.process;
+        options = 0;
+    }
+    uint32_t access = rights_to(source, handle, (uint32_t)argument(c, 4));
+    uint32_t status = om_duplicate(&om, c->by->number, source, handle, target, access, (uint32_t)argument(c, 5) != 0, options, &made);
+    if (status == OM_SUCCESS) {
+        put(c, argument(c, 3), made.handle, 8);
+    }
+    done(c, status);
+}

@@ -1,0 +1,300 @@
+/* Threads, whose turns have so many instructions, and the clock. A thread runs in its process's processor until its turn is over or it
+ * calls an import; all that it has of the processor is then in `machine`, and the next one's is put there. */
+#include "host.h"
+
+#include <stdio.h>
+#include <string.h>
+
+machine_state machine;
+om_manager om;
+uint64_t save_at;
+
+static uint64_t stopped_at; /* the block before which the processor stopped */
+static FILE *trace;
+
+/* ---- Registers ---- */
+
+typedef uc_err (*mover)(uc_engine *engine, int which, void *value);
+
+static uc_err put_register(uc_engine *engine, int which, void *value) {
+    return uc_reg_write(engine, which, value);
+}
+
+/* Takes all that a thread has of the processor from there, or puts it there. */
+static void move_registers(uc_engine *engine, registers *r, mover by) {
+    static const int whole[WHOLE] = {UC_X86_REG_RAX, UC_X86_REG_RBX, UC_X86_REG_RCX, UC_X86_REG_RDX, UC_X86_REG_RSI, UC_X86_REG_RDI,
+                                     UC_X86_REG_RBP, UC_X86_REG_RSP, UC_X86_REG_R8, UC_X86_REG_R9, UC_X86_REG_R10, UC_X86_REG_R11, UC_X86_REG_R12,
+                                     UC_X86_REG_R13, UC_X86_REG_R14, UC_X86_REG_R15, UC_X86_REG_RIP, UC_X86_REG_EFLAGS, UC_X86_REG_GS_BASE};
+    for (int i = 0; i < WHOLE; i++) {
+        by(engine, whole[i], &r->whole[i]);
+    }
+    by(engine, UC_X86_REG_FPSW, &r->float_status); /* before the numbers, whose places it tells */
+    by(engine, UC_X86_REG_FPCW, &r->float_control);
+    by(engine, UC_X86_REG_FPTAG, &r->float_tags);
+    by(engine, UC_X86_REG_MXCSR, &r->vector_control);
+    for (int i = 0; i < 16; i++) {
+        by(engine, UC_X86_REG_XMM0 + i, r->vectors[i]);
+    }
+    for (int i = 0; i < 8; i++) {
+        by(engine, UC_X86_REG_FP0 + i, r->floats[i]);
+    }
+}
+
+/* ---- The clock ---- */
+
+/* The guests' time in units of 100 ns: it passes with instructions, and goes on to what is due next where none can run. */
+uint64_t now(void) {
+    return machine.idle + machine.instructions / PER_UNIT;
+}
+
+static uint64_t next_moment(void) {
+    uint64_t moment, period = next_period();
+    return om_next_due(&om, &moment) == OM_SUCCESS && moment < period ? moment : period;
+}
+
+/* Tells the library each moment at which something was due by now, one after another, so that what comes first is served first. */
+void tell_due(void) {
+    for (uint64_t moment; (moment = next_moment()) <= now();) {
+        must(om_tick(&om, moment), "a tick");
+        signal_periods();
+        look_round();
+    }
+}
+
+/* Tells the library the time. */
+void tell_time(void) {
+    tell_due();
+    if (om_now(&om) < now()) {
+        must(om_tick(&om, now()), "a tick");
+    }
+}
+
+/* ---- What comes of a call ---- */
+
+static void write_trace(void) {
+    char lines[4 * OM_LINE_MOST];
+    size_t written;
+    while (trace != NULL && om_take_record(&om, lines, sizeof lines, &written) == OM_SUCCESS && written > 0) {
+        fwrite(lines, 1, written, trace);
+    }
+}
+
+/* Behind each call: whose waits were answered can go on, and what has ended stands for nothing any more. */
+void look_round(void) {
+    om_answer answers[16];
+    om_reaping ended[16];
+    size_t count;
+    do {
+        om_take_answered(&om, answers, 16, &count);
+        for (size_t i = 0; i < count; i++) {
+            thread *of = thread_numbered(answers[i].thread);
+            of->waits = false;
+            of->now.whole[RAX] = answers[i].code;
+        }
+    } while (count == 16);
+    end_periods();
+    do {
+        om_take_ended(&om, ended, 16, &count);
+        for (size_t i = 0; i < count; i++) {
+            forget(ended[i].object);
+        }
+    } while (count == 16);
+    write_trace();
+}
+
+void begin_trace(const char *path) {
+    om_limits limits = LIMITS;
+    trace = fopen(path, "wb");
+    if (trace == NULL) {
+        stop("%s can't be written", path);
+    }
+    fprintf(trace, "# obman --slots=%u --processes=%u --threads=%u --handles=%u --waits=%u\n", limits.slots, limits.processes, limits.threads,
+            limits.handles, limits.waits);
+    must(om_record(&om, true), "a record");
+}
+
+void end_trace(void) {
+    write_trace();
+    if (trace != NULL && fclose(trace) != 0) {
+        stop("the trace can't be written");
+    }
+}
+
+/* ---- Threads ---- */
+
+/* The thread of a number, or NULL. */
+thread *thread_numbered(uint32_t number) {
+    thread *t = machine.threads;
+    while (t < machine.threads + THREADS && t->number != number) {
+        t++;
+    }
+    return t == machine.threads + THREADS ? NULL : t;
+}
+
+static bool has_place(uint32_t process, uint32_t place) {
+    for (thread *t = machine.threads; t < machine.threads + THREADS; t++) {
+        if (t->number != 0 && t->process == process && t->place == place) {
+            return false;
+        }
+    }
+    return place < PLACES;
+}
+
+/* Zeros for a thread's block or stack, which another thread may have had before. */
+static uint8_t *zeros(process *of, uint64_t address, uint64_t size) {
+    uint8_t *bytes = guest_at(of, address, size);
+    if (bytes == NULL) {
+        bytes = map(of, address, size, UC_PROT_READ | UC_PROT_WRITE);
+    }
+    return bytes == NULL ? NULL : memset(bytes, 0, size);
+}
+
+/* A thread that runs from an entry on, as if that had been called with one argument; its return is ExitThread. NULL where there is no
+ * room for one. */
+thread *begin_thread(process *of, uint32_t number, uint64_t entry, uint64_t with) {
+    thread *made = thread_numbered(0);
+    uint32_t process = (uint32_t)(of - machine.processes), place = 0;
+    while (place < PLACES && !has_place(process, place)) {
+        place++;
+    }
+    uint64_t block = PLACE + place * (uint64_t)PLACE_SIZE, low = block + 2 * PAGE, top = low + STACK, stack = top - 0x48;
+    uint8_t *bytes = made == NULL || place == PLACES ? NULL : zeros(of, block, PAGE);
+    if (bytes == NULL || zeros(of, low, STACK) == NULL) {
+        return NULL;
+    }
+    const uint64_t words[][2] = {{0x08, top}, {0x10, low}, {0x30, block}, {0x40, 4 * of->number}, {0x48, 4 * number}, {0x60, ENVIRONMENT}};
+    for (size_t i = 0; i < sizeof words / sizeof *words; i++) {
+        memcpy(bytes + words[i][0], &words[i][1], 8);
+    }
+    memcpy(guest_at(of, stack, 8), &(uint64_t){STUBS}, 8);
+    memset(made, 0, sizeof *made);
+    made->number = number;
+    made->process = process;
+    made->place = place;
+    made->now.whole[RSP] = stack;
+    made->now.whole[RIP] = entry;
+    made->now.whole[RCX] = with;
+    made->now.whole[FLAGS] = 0x202;
+    made->now.whole[GS] = block;
+    made->now.vector_control = 0x1F80;
+    made->now.float_control = 0x27F;
+    made->now.float_tags = 0xFFFF;
+    return made;
+}
+
+/* ---- Turns ---- */
+
+static uint32_t chance(void) {
+    machine.seed = machine.seed * 6364136223846793005u + 1442695040888963407u;
+    return (uint32_t)(machine.seed >> 33);
+}
+
+static bool can_run(const thread *t) {
+    return t->number != 0 && !t->waits;
+}
+
+/* Gives one of the threads that can run a turn: mostly a short one, of 1 to 4,096 instructions. Whether there is one. */
+static bool choose(void) {
+    uint32_t ready[THREADS], count = 0;
+    for (uint32_t i = 0; i < THREADS; i++) {
+        if (can_run(&machine.threads[i])) {
+            ready[count++] = i;
+        }
+    }
+    if (count == 0) {
+        return false;
+    }
+    machine.current = ready[chance() % count];
+    uint32_t most = 1u << chance() % 13;
+    machine.left = 1 + chance() % most;
+    return true;
+}
+
+/* How many instructions a block has. A processor is asked once. */
+static uint32_t length_of(uc_engine *engine, memory *m, uint64_t address) {
+    block *b = &m->blocks[address % 1024];
+    if (b->count == 0 || b->address != address) {
+        uc_tb known;
+        if (uc_ctl_request_cache(engine, address, &known) != UC_ERR_OK) {
+            stop("no block at %llx", (unsigned long long)address);
+        }
+        *b = (block){.address = address, .count = known.icount};
+    }
+    return b->count;
+}
+
+/* Before each block: an import is served outside of here, and a turn that is over ends. */
+void on_block(uc_engine *engine, uint64_t address, uint32_t size, void *of) {
+    (void)size;
+    if (machine.left == 0 || machine.instructions >= save_at || (STUBS <= address && address < NAMES)) {
+        stopped_at = address;
+        uc_emu_stop(engine);
+        return;
+    }
+    uint32_t count = length_of(engine, of, address);
+    machine.instructions += count;
+    machine.left -= count < machine.left ? count : machine.left;
+}
+
+/* Runs the thread whose turn it is, until the turn is over or it calls an import. */
+static void run_current(void) {
+    thread *t = &machine.threads[machine.current];
+    uc_engine *engine = memories[t->process].engine;
+    move_registers(engine, &t->now, put_register);
+    stopped_at = 0;
+    uc_err error = uc_emu_start(engine, t->now.whole[RIP], UINT64_MAX, 0, 0);
+    move_registers(engine, &t->now, uc_reg_read);
+    if (error != UC_ERR_OK || stopped_at == 0) {
+        stop("thread %u at %llx: %s", t->number, (unsigned long long)t->now.whole[RIP], error != UC_ERR_OK ? uc_strerror(error) : "it halts");
+    }
+    t->now.whole[RIP] = stopped_at; /* the processor's own is that of an earlier block */
+    if (STUBS <= stopped_at && stopped_at < NAMES) {
+        serve(t, stopped_at);
+        look_round();
+    }
+}
+
+/* Says of each thread that waits for what it does. */
+static void tell_waits(void) {
+    static const char *const kinds[] = {"event", "mutex", "semaphore", "timer"};
+    for (thread *t = machine.threads; t < machine.threads + THREADS; t++) {
+        om_object objects[OM_MAXIMUM_WAIT_OBJECTS];
+        om_object_state state;
+        om_pending pending;
+        size_t count;
+        if (t->number == 0 || om_objects_waited_for(&om, om_wait_of(&om, t->number), &pending, objects, OM_MAXIMUM_WAIT_OBJECTS, &count) != OM_SUCCESS) {
+            continue;
+        }
+        fprintf(stderr, "host: thread %u of process %u waits for %s of:", t->number, machine.processes[t->process].number, pending.all ? "all" : "any");
+        for (size_t i = 0; i < count && om_state(&om, objects[i].slot, objects[i].generation, &state) == OM_SUCCESS; i++) {
+            fprintf(stderr, " %s s%u.%u", kinds[state.kind], objects[i].slot, objects[i].generation);
+            if (state.owner != 0) {
+                fprintf(stderr, " of thread %u", state.owner);
+            }
+        }
+        fputc('\n', stderr);
+    }
+}
+
+/* Runs all threads until each has ended, or to where a savestate is wanted. Whether all have ended. */
+bool run(void) {
+    while (machine.instructions < save_at) {
+        if (machine.left == 0 || !can_run(&machine.threads[machine.current])) {
+            tell_due();
+            if (om_next_process(&om, machine.host.process) == 0) {
+                return true;
+            }
+            if (!choose()) {
+                if (next_moment() == UINT64_MAX) {
+                    tell_waits();
+                    stop("no thread can go on");
+                }
+                machine.left = 0;
+                machine.idle += next_moment() - now();
+                continue;
+            }
+        }
+        run_current();
+    }
+    return false;
+}
