@@ -8,7 +8,7 @@
 #     make dist                  all that as a tarball in build/, for machines without the kit, wherever it is unpacked
 #     make examples              builds and runs the examples in C, C++, Rust and Python
 #     make windows               builds examples/windows: Windows programs, and a host that runs them, in build/windows; it needs
-#                                mingw-w64 and Unicorn
+#                                mingw-w64 and Unicorn (docs/WINDOWS.md)
 #
 # It needs the Rattle kit, which proves the library and builds it, a C compiler and ar.
 PREFIX ?= /usr/local
@@ -82,7 +82,7 @@ install: all
 		> $(DESTDIR)$(LIBDIR)/cmake/obman/obman-config-version.cmake
 	mkdir -p $(DESTDIR)$(DATADIR)/docs $(DESTDIR)$(DATADIR)/bindings/rust $(DESTDIR)$(DATADIR)/bindings/python
 	cp -R examples $(DESTDIR)$(DATADIR)/
-	cp docs/C.md docs/EMBEDDING.md docs/FORMATS.md docs/SAVESTATES.md $(DESTDIR)$(DATADIR)/docs/
+	cp docs/C.md docs/EMBEDDING.md docs/FORMATS.md docs/SAVESTATES.md docs/WINDOWS.md $(DESTDIR)$(DATADIR)/docs/
 	cp bindings/python/*.py $(DESTDIR)$(DATADIR)/bindings/python/
 	cp -R bindings/rust/Cargo.toml bindings/rust/build.rs bindings/rust/src bindings/rust/examples bindings/rust/tests $(DESTDIR)$(DATADIR)/bindings/rust/
 	if [ -x $(PROGRAM) ]; then mkdir -p $(DESTDIR)$(BINDIR) && cp $(PROGRAM) $(DESTDIR)$(BINDIR)/; fi
