@@ -4,7 +4,9 @@
 enum { BY_HAND, BY_ITSELF, MUTEX, SEMAPHORE, TIMER, THREAD, PROCESS, KINDS };
 
 static HANDLE objects[KINDS], second;
-static const char *const names[KINDS] = {"the event that is reset by hand", "the event that resets itself", "the mutex", "the semaphore", "the timer", "the thread", "the process"};
+static const char *const names[KINDS] = {
+    "the event that is reset by hand", "the event that resets itself", "the mutex", "the semaphore", "the timer", "the thread", "the process",
+};
 
 static void any(DWORD milliseconds) {
     DWORD code = WaitForMultipleObjects(KINDS, objects, FALSE, milliseconds);

@@ -20,7 +20,8 @@ static DWORD WINAPI breaks_off(void *unused) {
 }
 
 static void child(void) {
-    HANDLE named = OpenMutexA(SYNCHRONIZE, FALSE, "obman owner"), told_child = OpenSemaphoreW(SEMAPHORE_MODIFY_STATE, FALSE, L"obman told");
+    HANDLE named = OpenMutexA(SYNCHRONIZE, FALSE, "obman owner");
+    HANDLE told_child = OpenSemaphoreW(SEMAPHORE_MODIFY_STATE, FALSE, L"obman told");
     must(named && told_child, "the child finds both");
     take(named);
     must(ReleaseSemaphore(told_child, 2, NULL), "the child has the mutex");
@@ -28,7 +29,12 @@ static void child(void) {
 }
 
 static const char *how(DWORD code) {
-    return code == WAIT_ABANDONED_0 ? "abandoned" : code == WAIT_OBJECT_0 ? "signaled" : code == WAIT_TIMEOUT ? "not signaled" : "something else";
+    switch (code) {
+    case WAIT_OBJECT_0: return "signaled";
+    case WAIT_ABANDONED_0: return "abandoned";
+    case WAIT_TIMEOUT: return "not signaled";
+    default: return "something else";
+    }
 }
 
 static void threads(void) {

@@ -9,7 +9,8 @@
  * processes.c  the calls for threads and processes, and the objects that stand for them
  * save.c       all of it in a file
  *
- * All that the host knows is `machine`, which has no pointer in it, `memories`, and the manager `om`. */
+ * All that the host knows is `machine`, `memories`, and the manager `om`. The first is what a savestate has of it as it stands: no
+ * pointer is in it, and between its parts no gap. */
 #ifndef HOST_H
 #define HOST_H
 
@@ -204,7 +205,7 @@ void close_handle(call *c), duplicate_handle(call *c), handle_flags(call *c), se
 void begin_host(void);
 void begin_first(const char *name, const char *command);
 const standin *standin_of(const process *of, uint32_t handle);
-const standin *standin_numbered(stands is_for, uint32_t number);
+standin *standin_numbered(stands is_for, uint32_t number);
 void forget(om_object object);
 void end_process(process *of, uint32_t code);
 void end_thread(thread *of, uint32_t code);

@@ -223,7 +223,8 @@ static const served *served_by(const char *import) {
     }
     for (const served *s = all; s < all + sizeof all / sizeof *all; s++) {
         size_t length = strlen(s->name);
-        if (strncmp(name, s->name, length) == 0 && (s->has_text ? strcmp(name + length, "A") == 0 || strcmp(name + length, "W") == 0 : name[length] == 0)) {
+        const char *rest = name + length;
+        if (strncmp(name, s->name, length) == 0 && (s->has_text ? strcmp(rest, "A") == 0 || strcmp(rest, "W") == 0 : *rest == 0)) {
             return s;
         }
     }

@@ -43,7 +43,10 @@ void must(uint32_t status, const char *what) {
 }
 
 _Noreturn static void refuse(void) {
-    fputs("host: bad command line; the first lines of main.c say what there is\n", stderr);
+    fputs("host: bad command line\n"
+          "host [--seed N] [--trace FILE] [--save FILE --at N] [--figures] PROGRAM [WORD ..]\n"
+          "host --load FILE [--seed N] [--save FILE --at N] [--figures]\n",
+          stderr);
     exit(2);
 }
 
@@ -60,7 +63,9 @@ static uint64_t number_of(const char *word) {
 static int take_options(int count, char **words) {
     const struct {
         const char *name, **value;
-    } all[] = {{"--seed", &options.seed}, {"--trace", &options.trace}, {"--save", &options.save}, {"--at", &options.at}, {"--load", &options.load}};
+    } all[] = {
+        {"--seed", &options.seed}, {"--trace", &options.trace}, {"--save", &options.save}, {"--at", &options.at}, {"--load", &options.load},
+    };
     int at = 1;
     while (at < count && strncmp(words[at], "--", 2) == 0) {
         size_t i = 0;
@@ -77,7 +82,8 @@ static int take_options(int count, char **words) {
             refuse();
         }
     }
-    if ((options.save == NULL) != (options.at == NULL) || (options.load != NULL && options.trace != NULL) || (options.load != NULL) != (at == count)) {
+    bool begins = at < count, loads = options.load != NULL;
+    if ((options.save == NULL) != (options.at == NULL) || (loads && options.trace != NULL) || begins == loads) {
         refuse();
     }
     return at;
@@ -109,9 +115,9 @@ static void begin(int count, char **words) {
 }
 
 static void tell_figures(void) {
+    unsigned long long instructions = machine.instructions, calls = machine.calls, milliseconds = now() / 10000;
     if (options.figures) {
-        fprintf(stderr, "host: %llu instructions, %llu calls, %llu ms\n", (unsigned long long)machine.instructions, (unsigned long long)machine.calls,
-                (unsigned long long)(now() / 10000));
+        fprintf(stderr, "host: %llu instructions, %llu calls, %llu ms\n", instructions, calls, milliseconds);
     }
 }
 

@@ -89,7 +89,8 @@ void create_timer(call *c) {
     created(c, status, &made);
 }
 
-typedef uint32_t (*opener)(om_manager *m, uint32_t thread, uint32_t access, bool inherit, const char *name, size_t length, om_opening *opening);
+typedef uint32_t (*opener)(om_manager *m, uint32_t thread, uint32_t access, bool inherit, const char *name, size_t length,
+                           om_opening *opening);
 
 static void open_named(call *c, opener by, uint32_t all) {
     om_opening opened;
@@ -176,16 +177,20 @@ static void begin_period(const call *c, uint32_t handle, uint64_t next, uint64_t
     if (p == machine.periods + PERIODS) {
         stop("%s: too many timers have periods", c->name);
     }
-    must(om_duplicate(&om, machine.host.thread, c->of->number, handle, machine.host.process, OM_MODIFY_STATE, false, 0, &own), "a period");
+    uint32_t host = machine.host.process;
+    must(om_duplicate(&om, machine.host.thread, c->of->number, handle, host, OM_MODIFY_STATE, false, 0, &own), "a period");
     *p = (period){.object = own.object, .handle = own.handle, .next = next, .length = length};
 }
 
 /* A timer that nobody has but the host comes no more again. */
 void end_periods(void) {
-    om_references all;
     for (period *p = machine.periods; p < machine.periods + PERIODS; p++) {
-        if (p->handle != 0 && om_counts(&om, p->object.slot, p->object.generation, &all) == OM_SUCCESS && all.handles == 1 && all.waits == 0) {
-            end_period(p);
+        om_references all;
+        if (p->handle != 0) {
+            must(om_counts(&om, p->object.slot, p->object.generation, &all), "a period");
+            if (all.handles == 1 && all.waits == 0) {
+                end_period(p);
+            }
         }
     }
 }

@@ -25,8 +25,8 @@ const standin *standin_of(const process *of, uint32_t handle) {
 }
 
 /* What stands for a thread or a process, as long as somebody has a handle to it; or NULL. */
-const standin *standin_numbered(stands is_for, uint32_t number) {
-    for (const standin *s = machine.standins; s < machine.standins + STANDINS; s++) {
+standin *standin_numbered(stands is_for, uint32_t number) {
+    for (standin *s = machine.standins; s < machine.standins + STANDINS; s++) {
         if (s->is_for == (uint32_t)is_for && s->number == number) {
             return s;
         }
@@ -67,13 +67,14 @@ static uint32_t stand_in(stands is_for, uint32_t number) {
 /* Gives a process a handle to an event of the host's. */
 static uint32_t give(const process *to, uint32_t handle, bool inherit) {
     om_opening given;
-    must(om_duplicate(&om, machine.host.thread, machine.host.process, handle, to->number, OM_SYNCHRONIZE, inherit, 0, &given), "a handle for a guest");
+    uint32_t host = machine.host.process;
+    must(om_duplicate(&om, machine.host.thread, host, handle, to->number, OM_SYNCHRONIZE, inherit, 0, &given), "a handle for a guest");
     return given.handle;
 }
 
 /* A thread or process has ended: who waits for it is answered, and its code is kept as long as there is a handle to it. */
 static void over(stands is_for, uint32_t number, uint32_t code) {
-    standin *s = (standin *)standin_numbered(is_for, number);
+    standin *s = standin_numbered(is_for, number);
     uint32_t handle = s->handle;
     s->code = code;
     s->handle = 0;
@@ -99,7 +100,8 @@ static void furnish(process *of, uint32_t thread, const char *command, size_t le
         of->standard[file - INPUT] = give(of, standin_numbered((stands)file, 0)->handle, false);
     }
     of->never = give(of, machine.never, false);
-    must(om_set_handle_flags(&om, thread, of->never, OM_HANDLE_FLAG_PROTECT_FROM_CLOSE, OM_HANDLE_FLAG_PROTECT_FROM_CLOSE), "a protected handle");
+    uint32_t protected = OM_HANDLE_FLAG_PROTECT_FROM_CLOSE;
+    must(om_set_handle_flags(&om, thread, of->never, protected, protected), "a protected handle");
     for (size_t i = 0; i < length; i++) {
         narrow[i] = (uint8_t)command[i];
         wide[2 * i] = (uint8_t)command[i];

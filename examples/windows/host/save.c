@@ -1,5 +1,5 @@
 /* All that there is in a file, and a run that goes on from there: the machine, what of the guests' memory isn't zeros, the library's
- * savestate, and a digest of it all. A file is for the host that wrote it, and for no other build of it. */
+ * savestate, and a digest of it all, which finds what was cut or changed by accident. A file is for the build of the host that wrote it. */
 #include "host.h"
 
 #include <stdio.h>
@@ -13,7 +13,7 @@ static struct {
     uint64_t digest;
 } file;
 
-static const char mark[16] = "a guest's state";
+static const char mark[24] = "host of guests, state 1";
 
 static void part(void *bytes, size_t size) {
     size_t moved = file.is_written ? fwrite(bytes, 1, size, file.at) : fread(bytes, 1, size, file.at);
@@ -117,7 +117,7 @@ static bool is_whole(const char *path) {
     }
     long left = ftell(file.at) - (long)sizeof digest;
     rewind(file.at);
-    for (; left > 0; left -= PAGE) {
+    for (; left > 0 && file.is_good; left -= PAGE) {
         part(bytes, left < PAGE ? (size_t)left : PAGE);
     }
     digest = file.digest;

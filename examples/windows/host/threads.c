@@ -22,9 +22,11 @@ static uc_err put_register(uc_engine *engine, int which, void *value) {
 
 /* Takes all that a thread has of the processor from there, or puts it there. */
 static void move_registers(uc_engine *engine, registers *r, mover by) {
-    static const int whole[WHOLE] = {UC_X86_REG_RAX, UC_X86_REG_RBX, UC_X86_REG_RCX, UC_X86_REG_RDX, UC_X86_REG_RSI, UC_X86_REG_RDI,
-                                     UC_X86_REG_RBP, UC_X86_REG_RSP, UC_X86_REG_R8, UC_X86_REG_R9, UC_X86_REG_R10, UC_X86_REG_R11, UC_X86_REG_R12,
-                                     UC_X86_REG_R13, UC_X86_REG_R14, UC_X86_REG_R15, UC_X86_REG_RIP, UC_X86_REG_EFLAGS, UC_X86_REG_GS_BASE};
+    static const int whole[WHOLE] = {
+        UC_X86_REG_RAX, UC_X86_REG_RBX, UC_X86_REG_RCX, UC_X86_REG_RDX, UC_X86_REG_RSI,    UC_X86_REG_RDI,    UC_X86_REG_RBP,
+        UC_X86_REG_RSP, UC_X86_REG_R8,  UC_X86_REG_R9,  UC_X86_REG_R10, UC_X86_REG_R11,    UC_X86_REG_R12,    UC_X86_REG_R13,
+        UC_X86_REG_R14, UC_X86_REG_R15, UC_X86_REG_RIP, UC_X86_REG_EFLAGS, UC_X86_REG_GS_BASE,
+    };
     for (int i = 0; i < WHOLE; i++) {
         by(engine, whole[i], &r->whole[i]);
     }
@@ -108,8 +110,8 @@ void begin_trace(const char *path) {
     if (trace == NULL) {
         stop("%s can't be written", path);
     }
-    fprintf(trace, "# obman --slots=%u --processes=%u --threads=%u --handles=%u --waits=%u\n", limits.slots, limits.processes, limits.threads,
-            limits.handles, limits.waits);
+    fprintf(trace, "# obman --slots=%u --processes=%u --threads=%u", limits.slots, limits.processes, limits.threads);
+    fprintf(trace, " --handles=%u --waits=%u\n", limits.handles, limits.waits);
     must(om_record(&om, true), "a record");
 }
 
@@ -162,7 +164,9 @@ thread *begin_thread(process *of, uint32_t number, uint64_t entry, uint64_t with
     if (bytes == NULL || zeros(of, low, STACK) == NULL) {
         return NULL;
     }
-    const uint64_t words[][2] = {{0x08, top}, {0x10, low}, {0x30, block}, {0x40, 4 * of->number}, {0x48, 4 * number}, {0x60, ENVIRONMENT}};
+    const uint64_t words[][2] = {
+        {0x08, top}, {0x10, low}, {0x30, block}, {0x40, 4 * of->number}, {0x48, 4 * number}, {0x60, ENVIRONMENT},
+    };
     for (size_t i = 0; i < sizeof words / sizeof *words; i++) {
         memcpy(bytes + words[i][0], &words[i][1], 8);
     }
@@ -201,6 +205,7 @@ static bool choose(void) {
             ready[count++] = i;
         }
     }
+    machine.left = 0;
     if (count == 0) {
         return false;
     }
@@ -245,7 +250,8 @@ static void run_current(void) {
     uc_err error = uc_emu_start(engine, t->now.whole[RIP], UINT64_MAX, 0, 0);
     move_registers(engine, &t->now, uc_reg_read);
     if (error != UC_ERR_OK || stopped_at == 0) {
-        stop("thread %u at %llx: %s", t->number, (unsigned long long)t->now.whole[RIP], error != UC_ERR_OK ? uc_strerror(error) : "it halts");
+        unsigned long long at = t->now.whole[RIP];
+        stop("thread %u at %llx: %s", t->number, at, error != UC_ERR_OK ? uc_strerror(error) : "it halts");
     }
     t->now.whole[RIP] = stopped_at; /* the processor's own is that of an earlier block */
     if (STUBS <= stopped_at && stopped_at < NAMES) {
@@ -254,47 +260,60 @@ static void run_current(void) {
     }
 }
 
-/* Says of each thread that waits for what it does. */
-static void tell_waits(void) {
+/* Says for what a thread waits, and who owns it. */
+static void tell_wait(const thread *t) {
     static const char *const kinds[] = {"event", "mutex", "semaphore", "timer"};
-    for (thread *t = machine.threads; t < machine.threads + THREADS; t++) {
-        om_object objects[OM_MAXIMUM_WAIT_OBJECTS];
-        om_object_state state;
-        om_pending pending;
-        size_t count;
-        if (t->number == 0 || om_objects_waited_for(&om, om_wait_of(&om, t->number), &pending, objects, OM_MAXIMUM_WAIT_OBJECTS, &count) != OM_SUCCESS) {
-            continue;
-        }
-        fprintf(stderr, "host: thread %u of process %u waits for %s of:", t->number, machine.processes[t->process].number, pending.all ? "all" : "any");
-        for (size_t i = 0; i < count && om_state(&om, objects[i].slot, objects[i].generation, &state) == OM_SUCCESS; i++) {
-            fprintf(stderr, " %s s%u.%u", kinds[state.kind], objects[i].slot, objects[i].generation);
-            if (state.owner != 0) {
-                fprintf(stderr, " of thread %u", state.owner);
-            }
-        }
-        fputc('\n', stderr);
+    om_object objects[OM_MAXIMUM_WAIT_OBJECTS];
+    om_object_state state;
+    om_pending pending;
+    size_t count;
+    uint32_t number = om_wait_of(&om, t->number), process = machine.processes[t->process].number;
+    if (om_objects_waited_for(&om, number, &pending, objects, OM_MAXIMUM_WAIT_OBJECTS, &count) != OM_SUCCESS) {
+        return;
     }
+    fprintf(stderr, "host: thread %u of process %u waits for %s of:", t->number, process, pending.all ? "all" : "any");
+    for (size_t i = 0; i < count && om_state(&om, objects[i].slot, objects[i].generation, &state) == OM_SUCCESS; i++) {
+        fprintf(stderr, " %s s%u.%u", kinds[state.kind], objects[i].slot, objects[i].generation);
+        if (state.owner != 0) {
+            fprintf(stderr, " of thread %u", state.owner);
+        }
+    }
+    fputc('\n', stderr);
+}
+
+_Noreturn static void stop_stuck(void) {
+    fflush(stdout);
+    for (const thread *t = machine.threads; t < machine.threads + THREADS; t++) {
+        if (t->number != 0) {
+            tell_wait(t);
+        }
+    }
+    stop("no thread can go on");
+}
+
+/* Begins the next turn, or has the time go on where no thread can run. Whether a thread is left. */
+static bool next_turn(void) {
+    tell_due();
+    if (om_next_process(&om, machine.host.process) == 0) {
+        return false;
+    }
+    if (!choose()) {
+        if (next_moment() == UINT64_MAX) {
+            stop_stuck();
+        }
+        machine.idle += next_moment() - now();
+    }
+    return true;
 }
 
 /* Runs all threads until each has ended, or to where a savestate is wanted. Whether all have ended. */
 bool run(void) {
     while (machine.instructions < save_at) {
-        if (machine.left == 0 || !can_run(&machine.threads[machine.current])) {
-            tell_due();
-            if (om_next_process(&om, machine.host.process) == 0) {
-                return true;
-            }
-            if (!choose()) {
-                if (next_moment() == UINT64_MAX) {
-                    tell_waits();
-                    stop("no thread can go on");
-                }
-                machine.left = 0;
-                machine.idle += next_moment() - now();
-                continue;
-            }
+        if (machine.left > 0 && can_run(&machine.threads[machine.current])) {
+            run_current();
+        } else if (!next_turn()) {
+            return true;
         }
-        run_current();
     }
     return false;
 }
