@@ -13,6 +13,7 @@
  * The status is 125 where the host itself can't go on, and 2 for a bad command line. */
 #include "host.h"
 
+#include <errno.h>
 #include <stdarg.h>
 #include <stdio.h>
 #include <stdlib.h>
@@ -52,8 +53,9 @@ _Noreturn static void refuse(void) {
 
 static uint64_t number_of(const char *word) {
     char *end;
+    errno = 0;
     uint64_t number = strtoull(word, &end, 10);
-    if (*word < '0' || *word > '9' || *end != 0) {
+    if (*word < '0' || *word > '9' || *end != 0 || errno != 0) {
         refuse();
     }
     return number;

@@ -117,7 +117,8 @@ void begin_trace(const char *path) {
 
 void end_trace(void) {
     write_trace();
-    if (trace != NULL && fclose(trace) != 0) {
+    bool is_bad = trace != NULL && ferror(trace) != 0;
+    if (trace != NULL && (fclose(trace) != 0 || is_bad)) {
         stop("the trace can't be written");
     }
 }
