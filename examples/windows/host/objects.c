@@ -36,7 +36,7 @@ static asked asked_by(const call *c, uint64_t attributes, uint64_t at) {
 
 /* Rights as the library has them: the generic ones stand for those of the kind. */
 static uint32_t rights_of(uint32_t access, uint32_t all) {
-    uint32_t rights = access & 0x01FFFFFFu;
+    uint32_t rights = access & ~(GENERIC_READ | GENERIC_WRITE | GENERIC_EXECUTE | GENERIC_ALL | MAXIMUM_ALLOWED);
     if (access & (GENERIC_ALL | MAXIMUM_ALLOWED)) {
         rights |= all;
     }
