@@ -6,7 +6,7 @@
  * --seed N          the turns of the threads come from this number, 1 if none is told: the same number, the same run
  * --trace FILE      writes the calls that reach the library as a script for obman, each with its answer behind #
  * --save FILE       writes all of it to a file, and ends, once
- * --at N            N instructions have run; a run that ends before writes none
+ * --at N            N instructions have run, and those to the end of a block; a run that ends before writes none
  * --load FILE       goes on from there, as if nothing had been; with --seed N by other turns from there on
  * --figures         says at the end how many instructions and calls there were, and how much of the guests' time has passed
  *
