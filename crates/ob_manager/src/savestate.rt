@@ -53,9 +53,8 @@ impl Manager<LockedPins> {
     /// an Id yet; [`over`](Manager::over) puts it over another keeper.
     ///
     /// Refused with the first thing that is wrong with the bytes, the digest before all else, and with want of memory.
-    /// Bytes that lie about a count ask for no more memory than what stands behind it, and those of a few slots for 8
-    /// bytes for each thread number that their limits let be given. Linear in the bytes, but that objects are ordered by
-    /// when they were made.
+    /// Bytes that lie about a count ask for no more memory than what stands behind it, but for 8 bytes for each thread
+    /// number that their limits let be given. Linear in the bytes, but that objects are ordered by when they were made.
     pub fn load(alloc: Global, bytes: &[u8]) -> Result<Manager<LockedPins>, ReadFault>
         ensures { GivesAll (λ manager. manager) result (load bytes.now) }
     {

@@ -1,5 +1,5 @@
-//! What the parts of the C library share: what C's pointers lead to, the limits of a manager as C gives them, and numbers
-//! that C is told.
+//! What the parts of the C library share: what C's pointers lead to, the limits of a manager as C gives them, and
+//! numbers that C is told.
 #![tactic(auto)]
 
 mod limits;

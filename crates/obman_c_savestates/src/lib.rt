@@ -1,4 +1,5 @@
-//! Savestates for C, beside the calls: a static library of its own, so that what a load calls too is still inlined in them.
+//! Savestates for C, beside the calls: a static library of its own, so that what a load calls too is still inlined in
+//! these.
 #![tactic(auto)]
 
 mod savestates;
