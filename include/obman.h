@@ -512,7 +512,8 @@ uint32_t om_take_ended(om_manager *m, om_reaping *reapings, size_t capacity, siz
 
 /* A row of the directory, which has the names in the order in which their objects were made. The name is written without its
  * prefix and with no zero byte behind it; `capacity` bytes stand at `name`, and OM_NAME_MOST are always enough.
- * OM_ERROR_NO_MORE_ITEMS behind the last row; OM_ERROR_INSUFFICIENT_BUFFER where the name doesn't fit, and the row is written. */
+ * OM_ERROR_NO_MORE_ITEMS behind the last row; OM_ERROR_INSUFFICIENT_BUFFER where the name doesn't fit, and the row is written. Constant
+ * time, but for the first call behind the removal of a name, which takes a time that grows with the number of names. */
 uint32_t om_directory_at(om_manager *m, size_t at, char *name, size_t capacity, om_row *row);
 
 /* Records each call from now on, or no more: what changes something or may be refused, and each wait and slot that om_take_answered and

@@ -498,10 +498,21 @@ impl<K: PinKeeper> Manager<K> {
     }
 
     /// The name at a place of the directory, from 0, with its object, in the order in which the objects were made.
+    ///
+    /// Constant time, but behind the removal of a name one that grows with the number of names, until
+    /// [`close_holes`](Manager::close_holes).
     pub fn directory_at(&self, at: usize) -> Option<(NameRef<'_>, Id)>
         ensures { option_map row_at result ≡ slice_get (directory_of self.now.state) at }
     {
         self.store.name_at(at)
+    }
+
+    /// Has [`directory_at`](Manager::directory_at) take constant time until a name goes. This takes a time that grows with
+    /// the number of names where one went, and no memory.
+    pub fn close_holes(&mut self)
+        ensures { self.new ≡ self.old }
+    {
+        self.store.close_holes();
     }
 
     /// The names with their objects, in the order in which the objects were made. A walk over all of them takes a time

@@ -84,7 +84,7 @@ impl Directory {
         ensures refused { IfErr result (λ fault. fault ≡ Memory) }
     {
         if self.order.len() == self.order.capacity() && self.count <= self.order.len() / 2 {
-            self.settle();
+            self.close_holes();
         }
         let copy = Name::new(*self.ids.allocator(), name)?;
         self.ids.reserve(1)?;
@@ -113,7 +113,7 @@ impl Directory {
     {
         let id = self.take_out(name);
         if self.count < self.order.len() / 2 {
-            self.settle();
+            self.close_holes();
         }
         id
     }
@@ -131,12 +131,17 @@ impl Directory {
         Some(entered.id)
     }
 
-    /// Closes the holes that removed names left, in a time that grows with the number of names.
-    fn settle(&mut self)
+    /// Closes the holes that removed names left, so that [`row`] takes constant time until the next name goes. It takes
+    /// no memory, and a time that grows with the number of names where there is a hole.
+    ///
+    /// [`row`]: Directory::row
+    pub fn close_holes(&mut self)
         ensures rows { self.new.rows ≡ self.old.rows }
         ensures spare { self.old.spare ≤ self.new.spare }
     {
-        close_up(&mut self.ids, &mut self.order);
+        if self.count < self.order.len() {
+            close_up(&mut self.ids, &mut self.order);
+        }
     }
 
     /// The number of names.
@@ -151,9 +156,10 @@ impl Directory {
 
     /// The name at a place, with its Id. Places are numbers from 0, in the order of entry.
     ///
-    /// After a removal it may take a time that grows with the number of names; [`rows`] walks over all of them in such
-    /// a time.
+    /// After a removal it takes a time that grows with the number of names, until [`close_holes`]; [`rows`] walks over
+    /// all of them in such a time.
     ///
+    /// [`close_holes`]: Directory::close_holes
     /// [`rows`]: Directory::rows
     pub fn row(&self, at: usize) -> Option<(NameRef<'_>, Id)>
         ensures { option_map row_at result ≡ slice_get self.now.rows at }

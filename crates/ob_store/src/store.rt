@@ -228,6 +228,14 @@ impl<K: PinKeeper> Store<K> {
         self.parts.names.row(at)
     }
 
+    /// Closes the holes that removed names left in the directory, so that [`name_at`](Store::name_at) takes constant time
+    /// until the next name goes.
+    pub fn close_holes(&mut self)
+        ensures { self.new ≡ self.old }
+    {
+        self.parts.names.close_holes();
+    }
+
     /// The names with their Ids, in the order in which the objects were made.
     pub fn rows(&self) -> Rows<'_>
         ensures { result ≡ directory_of self.now.state }

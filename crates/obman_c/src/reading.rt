@@ -32,7 +32,7 @@ pub extern "C" fn om_directory_len(owner: &mut Owner) -> usize
 }
 
 /// [`Manager::directory_at`](ob_manager::Manager::directory_at): 0, 259 behind the last row, or 122 where the name
-/// doesn't fit; the row then says how long it is.
+/// doesn't fit; the row then says how long it is. A loop over all places is linear.
 #[unsafe(no_mangle)]
 pub extern "C" fn om_directory_at(
     owner: &mut Owner,
@@ -40,10 +40,13 @@ pub extern "C" fn om_directory_at(
     name: &mut [u8],
     row: &mut Row,
 ) -> u32
-    ensures row { RowTold (slice_get (directory_of owner.old.value.manager.state) at) result row.old row.new name.old name.new }
+    ensures row { RowTold (slice_get (directory_of owner.old.value.manager.state) at) result row.old row.new
+        name.old name.new }
     ensures same { owner.new.value ≡ owner.old.value }
 {
-    match owner.lend().manager.directory_at(at) {
+    let owned = owner.lend();
+    owned.manager.close_holes();
+    match owned.manager.directory_at(at) {
         Some((found, id)) => tell_row(found, id, name, row),
         None => NO_MORE,
     }
