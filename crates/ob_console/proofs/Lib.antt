@@ -7,7 +7,6 @@ pub mod Advancing
 pub mod Listed
 pub mod Feeding
 pub mod Reading
-pub mod StepLaws
 pub mod Found
 pub mod Attempting
 pub mod Sparing

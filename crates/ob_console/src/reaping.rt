@@ -12,7 +12,7 @@ use pin_core::Id;
 use pin_words::{Keeper, Reader};
 
 /// [`Manager::reap`], and a meeting where the reader holds something at the slot: that slot isn't taken back.
-#[tactic(auto, using(crate::proofs::StepLaws::step_table, crate::proofs::Sparing::spares_none))]
+#[tactic(auto, using(ob_manager::proofs::TableLaws::step_table, crate::proofs::Sparing::spares_none))]
 pub fn reap(manager: &mut Manager<Keeper>, reader: &mut Reader, slot: u32) -> Reply
     requires { manager.old.keeper.table ≡ Some reader.old.table }
     ensures step { Step manager.old (Call.Reap slot) result manager.new }

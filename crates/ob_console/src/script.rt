@@ -1,6 +1,5 @@
 ghost use Rattle.std.specs.Prelude.{◌≡◌, ◌+◌, ◌<◌, ◌≤◌, ◌++◌, ◌⊎◌, [], List, ℕ, IfErr, IfOk, IfSome, OnOk, IsErrOf};
 ghost use Rattle.std.specs.Prelude.{Some, length, vec_len};
-ghost use Rattle.pin_words.specs.Keepers.{IsFreshWith, state_of};
 ghost use Rattle.ob_store.specs.State.{shape_of};
 ghost use Rattle.ob_console.specs.Runs.{GoesOn, IsCut, IsEnded, IsOpening, IsWholeEnded, Reopens};
 ghost use Rattle.ob_console.specs.Sessions.{Ends, IsReady};
@@ -8,7 +7,7 @@ ghost use Rattle.ob_console.specs.Sessions.{Ends, IsReady};
 use crate::console::Console;
 use ob_manager::{Limits, Manager};
 use ob_output::{Output, Sink, Source, Trouble};
-use pin_words::{Keeper, LockedPins, Opening, Pins, Reader};
+use pin_words::{Keeper, LockedPins, Opening, Pins};
 use std::alloc::{AllocError, Global};
 use thiserror::Error;
 
@@ -224,27 +223,10 @@ fn reopened(alloc: Global, manager: Manager<LockedPins>, writes: u64) -> Option<
     let Ok(output) = Output::new(alloc, writes) else {
         return None;
     };
-    let Ok((keeper, reader)) = words_for(alloc, &manager) else {
+    let Ok((keeper, reader)) = manager.words(alloc) else {
         return None;
     };
     Some(Console::new(manager.over(keeper), reader, output))
-}
-
-/// A keeper over words that begins with the slots of a manager, and a reader.
-fn words_for(alloc: Global, manager: &Manager<LockedPins>) -> Result<(Keeper, Reader), AllocError>
-    ensures begins { IfOk result (λ parts. IsFreshWith (state_of parts.0) (shape_of manager.now.state.limits)
-        manager.now.keeper.slots) }
-    ensures same { IfOk result (λ parts. parts.1.table ≡ parts.0.table) }
-    ensures held { IfOk result (λ parts. parts.1.view.held ≡ []) }
-{
-    let slots = Vec::from_slice(alloc, manager.slots())?;
-    let Ok((pins, opening)) = Pins::with_slots(alloc, manager.limits().shape(), slots) else {
-        return Err(AllocError);
-    };
-    match opening.start(&pins) {
-        Ok(parts) => Ok(parts),
-        Err(_) => Err(AllocError),
-    }
 }
 
 #[tactic(auto, using(crate::proofs::Reading::reading_begins))]

@@ -8,3 +8,4 @@ pub mod Rising
 pub mod OwnParts
 pub mod SavestateLaws
 pub mod AlikeLaws
+pub mod TableLaws

@@ -1,7 +1,8 @@
-ghost use Rattle.std.specs.Prelude.{◌≡◌, IfOk, Ok};
+ghost use Rattle.std.specs.Prelude.{◌≡◌, [], IfErr, IfOk, Ok};
 ghost use Rattle.ob_codec.specs.Reading.{Gives, GivesAll, number_at, where_at};
 ghost use Rattle.pin_core.specs.Opened.{Opens};
-ghost use Rattle.pin_words.specs.Keepers.{IsFreshWith};
+ghost use Rattle.pin_words.specs.Keepers.{IsFreshWith, state_of};
+ghost use Rattle.pin_words.specs.Views.{keeper_gave, keeper_with_slots};
 ghost use Rattle.ob_manager.specs.Savestates.{is_mark, load, saved};
 ghost use Rattle.ob_store.specs.SavedStore.{reopened};
 ghost use Rattle.ob_store.specs.State.{shape_of};
@@ -9,9 +10,10 @@ ghost use Rattle.std.specs.Int.{w64};
 
 use crate::manager::Manager;
 use ob_codec::{Cursor, ReadFault, Spelled, TextFault, seal, unseal};
+use ob_rights::Fault;
 use ob_store::Store;
 use pin_core::Slot;
-use pin_words::{LockedPins, PinKeeper};
+use pin_words::{Keeper, LockedPins, PinKeeper, Pins, Reader};
 use std::alloc::{AllocError, Global};
 
 // The letters OBJS, and the version of the format: 1.
@@ -72,6 +74,27 @@ impl Manager<LockedPins> {
         ensures opens { Opens (shape_of self.now.state.limits) self.now.keeper.slots }
     {
         self.store.slots()
+    }
+
+    /// A keeper over new words, which begins with the slots of this manager, for [`over`](Manager::over), and a reader
+    /// of these words, which holds nothing.
+    ///
+    /// Linear in the slots; the refusal is want of memory (8).
+    pub fn words(&self, alloc: Global) -> Result<(Keeper, Reader), Fault>
+        ensures begins { IfOk result (λ parts. IsFreshWith (state_of parts.0) (shape_of self.now.state.limits)
+            self.now.keeper.slots) }
+        ensures view { IfOk result (λ parts. parts.0.view
+            ≡ keeper_gave (keeper_with_slots (shape_of self.now.state.limits) self.now.keeper.slots)) }
+        ensures same { IfOk result (λ parts. parts.1.table ≡ parts.0.table) }
+        ensures held { IfOk result (λ parts. parts.1.view.held ≡ []) }
+        ensures memory { IfErr result (λ fault. fault ≡ Fault.Memory) }
+    {
+        let slots = Vec::from_slice(alloc, self.slots())?;
+        let (pins, opening) = Pins::with_slots(alloc, self.limits().shape(), slots)?;
+        match opening.start(&pins) {
+            Ok(parts) => Ok(parts),
+            Err(_) => Err(Fault::Memory),
+        }
     }
 
     /// The manager over another keeper, which begins with the slots of this one. It takes no memory.

@@ -136,7 +136,8 @@ pub extern "C" fn om_reader_describe(
     generation: u32,
     descriptor: &mut Descriptor,
 ) -> u32
-    ensures told { DescribeTold (id_at slot generation) owner.old.value.reader result owner.new.value.reader descriptor.old descriptor.new }
+    ensures told { DescribeTold (id_at slot generation) owner.old.value.reader result owner.new.value.reader
+        descriptor.old descriptor.new }
     ensures table { owner.new.value.reader.table ≡ owner.old.value.reader.table }
 {
     let id = id_at(slot, generation);
@@ -174,7 +175,7 @@ pub extern "C" fn om_inspect(
 }
 
 /// A reader of a manager's words stays one, whatever call is made.
-#[tactic(auto, using(crate::proofs::Homes::stays))]
+#[tactic(auto, using(ob_manager::proofs::TableLaws::step_table))]
 fn law_of_readers()
     ensures { (old new : Whole) (call : Call) (reply : Reply) (r : ReaderState) → Step old call reply new
         → AreOfOne old r → AreOfOne new r }

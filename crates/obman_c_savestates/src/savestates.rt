@@ -1,14 +1,13 @@
 //! Savestates.
 ghost use Rattle.std.specs.Prelude.{◌≡◌, IfErr, IfOk};
 ghost use Rattle.pin_words.specs.Seats.{TableState};
-ghost use Rattle.ob_store.specs.State.{shape_of};
-ghost use Rattle.obman_c_savestates.specs.Savestates.{Loads, Saves, keeper_over, loaded_owned};
+ghost use Rattle.obman_c_savestates.specs.Savestates.{Loads, Saves, loaded_owned};
 
 use ob_codec::ReadFault;
 use ob_manager::Manager;
 use ob_rights::{Fault, code_of};
 use obman_c_base::{INVALID_DATA, OwnedManager, Owner, Place, SUCCESS, TOO_SMALL};
-use pin_words::{Keeper, LockedPins, Pins};
+use pin_words::LockedPins;
 use std::alloc::Global;
 
 /// [`Manager::save`](ob_manager::Manager::save): 0 with how many bytes were written, 122 with how many it takes where
@@ -59,21 +58,6 @@ fn held(alloc: Global, manager: Manager<LockedPins>) -> Result<Box<OwnedManager>
     ensures loaded { IfOk result (λ held. (t : TableState) × (held.value ≡ loaded_owned manager t)) }
     ensures memory { IfErr result (λ fault. fault ≡ Fault.Memory) }
 {
-    let keeper = keeper(alloc, &manager)?;
+    let (keeper, _) = manager.words(alloc)?;
     Ok(OwnedManager::boxed(alloc, manager.over(keeper))?)
-}
-
-/// A keeper over words of its own that begins with the slots of a manager.
-fn keeper(alloc: Global, manager: &Manager<LockedPins>) -> Result<Keeper, Fault>
-    ensures over { IfOk result (λ keeper. (t : TableState)
-        × (keeper ≡ keeper_over (shape_of manager.now.state.limits) manager.now.keeper.slots t)) }
-    ensures memory { IfErr result (λ fault. fault ≡ Fault.Memory) }
-{
-    let mut slots = Vec::new(alloc);
-    slots.extend_from_slice(manager.slots())?;
-    let (pins, opening) = Pins::with_slots(alloc, manager.limits().shape(), slots)?;
-    match opening.start(&pins) {
-        Ok((keeper, _)) => Ok(keeper),
-        Err(_) => Err(Fault::Memory),
-    }
 }

@@ -20,7 +20,7 @@ use ob_manager::Timeout::{Infinite, Millis, Zero};
 use ob_manager::{Limits, Make, Manager, Mode};
 use ob_rights::{Fault, Kind, Rights};
 use pin_core::Id;
-use pin_words::{Keeper, LockedPins, PinKeeper, Pins, Reclaim};
+use pin_words::{Keeper, LockedPins, PinKeeper, Reclaim};
 use std::alloc::{AllocError, Global};
 use std::process::Abort;
 use std::test::Fail;
@@ -238,28 +238,16 @@ fn goes_on_locked(rt: &impl Abort, alloc: Global, course: &Course<'_>) -> Result
     gone
 }
 
-/// A keeper without a lock that begins with the slots of a manager.
-fn keeper_once(alloc: Global, manager: &Manager<LockedPins>) -> Result<Keeper, Fault>
-    ensures { IfOk result (λ keeper. IsFreshWith (state_of keeper) (shape_of manager.now.state.limits)
-        manager.now.keeper.slots) }
-{
-    let slots = Vec::from_slice(alloc, manager.slots())?;
-    let (pins, opening) = Pins::with_slots(alloc, manager.limits().shape(), slots)?;
-    match opening.start(&pins) {
-        Ok((keeper, _)) => Ok(keeper),
-        Err(_) => Err(Fault::Memory),
-    }
-}
-
-/// The same, asked for again where memory was wanting.
+/// A keeper without a lock that begins with the slots of a manager, asked for again where memory was wanting.
 fn keeper_for(alloc: Global, manager: &Manager<LockedPins>) -> Result<Keeper, Fault>
     ensures { IfOk result (λ keeper. IsFreshWith (state_of keeper) (shape_of manager.now.state.limits)
         manager.now.keeper.slots) }
 {
-    match keeper_once(alloc, manager) {
-        Ok(keeper) => Ok(keeper),
-        Err(_) => keeper_once(alloc, manager),
-    }
+    let (keeper, _) = match manager.words(alloc) {
+        Ok(parts) => parts,
+        Err(_) => manager.words(alloc)?,
+    };
+    Ok(keeper)
 }
 
 /// The same over a keeper without a lock.
