@@ -8,7 +8,7 @@ use Rattle.ob_manager.specs.Steps.{Step}
 use Rattle.ob_manager.proofs.LimitLaws.{step_limits}
 use Rattle.ob_manager.proofs.StepLaws.{step_next}
 use Rattle.ob_shared.specs.declared.book.Entry.{Entry}
-use Rattle.ob_shared.specs.Journal.{Continues, Replays, origin, replay, state_or}
+use Rattle.ob_shared.specs.Journal.{IsOrigin, Continues, Replays, replay}
 
 replays_next : (w u v : Whole) (entries : List Entry) (entry : Entry) → Replays w entries u
     → Step u entry.call entry.reply v → IsConsistent v → Replays w (entries ++ entry ∷ []) v
@@ -26,8 +26,8 @@ pub history_next : (saved : List ℕ) (journal : List Entry) (w v : Whole) (entr
     → Step w entry.call entry.reply v → IsConsistent v → Continues saved (journal ++ entry ∷ []) v
 history_next saved journal w v entry h step kept = record {
   first = h.first;
-  opens = h.opens
-      ∙ ap (λ (limits : Limits). origin limits saved) (sym (step_limits w v entry.call entry.reply step));
+  opens = subst (λ (limits : Limits). IsOrigin limits saved h.first.state)
+      (sym (step_limits w v entry.call entry.reply step)) h.opens;
   kept = h.kept;
   replays = replays_next h.first w v journal entry h.replays step kept;
 }
@@ -39,16 +39,16 @@ replays_state w v (e ∷ entries) replays = replays_state replays.0 v entries re
 
 -- the state is the one after the calls
 pub history_state : (saved : List ℕ) (journal : List Entry) (w : Whole) → Continues saved journal w
-    → w.state ≡ replay (origin w.state.limits saved) journal
-history_state saved journal w h =
-    replays_state h.first w journal h.replays ∙ ap (λ (s : State). replay s journal) h.opens
+    → (first : State) × IsOrigin w.state.limits saved first × (w.state ≡ replay first journal)
+history_state saved journal w h = (h.first.state, h.opens, replays_state h.first w journal h.replays)
 
 -- a manager as it begins
-pub history_opens : (saved : List ℕ) (w : Whole) → w.state ≡ origin w.state.limits saved → IsConsistent w
+pub history_opens : (saved : List ℕ) (w : Whole) → IsOrigin w.state.limits saved w.state → IsConsistent w
     → Continues saved [] w
 history_opens saved w opens kept = record { first = w; opens = opens; kept = kept; replays = refl }
 
 -- what a savestate gives is what a manager begins with: no bytes are none
-pub origin_loads : (limits : Limits) (bytes : List ℕ) (w : Whole) → load bytes ≡ Ok w → w.state ≡ origin limits bytes
-origin_loads limits [] w is = absurd cc
-origin_loads limits (byte ∷ bytes) w is = ap (state_or (opening limits)) (sym is)
+pub origin_loads : (limits : Limits) (bytes : List ℕ) (w : Whole) (s : State) → load bytes ≡ Ok w → w.state ≡ s
+    → IsOrigin limits bytes s
+origin_loads limits [] w s is same = absurd cc
+origin_loads limits (byte ∷ bytes) w s is same = (w, is, sym same)

@@ -1,6 +1,5 @@
 -- A journal, and what it means that a manager is the one after it.
-use Rattle.std.specs.Prelude.{◌≡◌, ℕ, List, [], ◌∷◌, Result, Ok, Err}
-use Rattle.ob_codec.specs.declared.fault.TextFault.{TextFault}
+use Rattle.std.specs.Prelude.{◌≡◌, ℕ, List, [], ◌∷◌, Ok}
 use Rattle.ob_store.specs.declared.limits.Limits.{Limits}
 use Rattle.ob_store.specs.Consistent.{IsConsistent}
 use Rattle.ob_store.specs.State.{State, Whole, opening}
@@ -25,20 +24,15 @@ abbrev pub replay : State → List Entry → State
 replay s [] = s
 replay s (entry ∷ entries) = replay (next s entry.call entry.reply) entries
 
--- the state of what was loaded, or another where nothing was
-abbrev pub state_or : State → Result Whole TextFault → State
-state_or s (Ok w) = w.state
-state_or s (Err fault) = s
-
--- the state with which a manager began: that of the savestate, and without one that of a new manager
-abbrev pub origin : Limits → List ℕ → State
-origin limits [] = opening limits
-origin limits (byte ∷ bytes) = state_or (opening limits) (load (byte ∷ bytes))
+-- the state with which a manager began: that of a savestate, or of a new manager where there are no bytes
+abbrev pub IsOrigin : Limits → List ℕ → State → Type 0
+IsOrigin limits [] s = s ≡ opening limits
+IsOrigin limits (byte ∷ bytes) s = (w : Whole) × (load (byte ∷ bytes) ≡ Ok w) × (s ≡ w.state)
 
 -- a journal of all calls since the manager began with a savestate
 pub record Continues (saved : List ℕ) (journal : List Entry) (w : Whole) : Type 0 where
   pub first : Whole
-  pub opens : first.state ≡ origin w.state.limits saved
+  pub opens : IsOrigin w.state.limits saved first.state
   pub kept : IsConsistent first
   pub replays : Replays first journal w
 

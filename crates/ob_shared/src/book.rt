@@ -3,13 +3,13 @@ ghost use Rattle.std.specs.Prelude.{slice_index_or, vec_len, vec_capacity};
 ghost use Rattle.ob_rights.specs.declared.fault.Fault.TheVariants.{Memory};
 ghost use Rattle.ob_waits.specs.Waits.{is_pending};
 ghost use Rattle.ob_store.specs.Consistent.{IsConsistent};
-ghost use Rattle.ob_store.specs.State.{Whole, opening};
+ghost use Rattle.ob_store.specs.State.{State, Whole, opening};
 ghost use Rattle.ob_store.specs.Stored.{MatchesState};
 ghost use Rattle.ob_manager.specs.Counting.{card};
 ghost use Rattle.ob_manager.specs.Savestates.{load};
 ghost use Rattle.ob_manager.specs.Steps.{Step};
 ghost use Rattle.ob_shared.specs.Closing.{AreWhole, IsCause};
-ghost use Rattle.ob_shared.specs.Journal.{Continues, origin, replay};
+ghost use Rattle.ob_shared.specs.Journal.{IsOrigin, Continues, replay};
 
 use crate::asked::Asked;
 use crate::closing::{CloseCause, cause_of};
@@ -224,13 +224,13 @@ impl<K: PinKeeper> Book<K> {
     }
 
     /// What holds of a book: the manager is kept, its journal has all calls since it began, each of them a step to a
-    /// manager that is kept, and its state is the one after them.
+    /// manager that is kept, and its state is the one after them, from that of the savestate or of a new manager.
     #[tactic(auto, using(crate::proofs::Journals::history_state))]
     pub fn replays(&self)
         ensures kept { IsConsistent self.now.manager }
         ensures history { Continues self.now.saved self.now.journal self.now.manager }
-        ensures state { self.now.manager.state
-            ≡ replay (origin self.now.manager.state.limits self.now.saved) self.now.journal }
+        ensures state { (first : State) × IsOrigin self.now.manager.state.limits self.now.saved first
+            × (self.now.manager.state ≡ replay first self.now.journal) }
     {
         let _ = &self.journal;
         self.manager.kept();

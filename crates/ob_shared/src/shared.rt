@@ -42,10 +42,8 @@ impl Model for Held {
 }
 
 impl Held {
-    ghost use Rattle.std.specs.Prelude.{None, IfOk, IfErr, [], slice_index_or};
+    ghost use Rattle.std.specs.Prelude.{IfOk, IfErr, []};
     ghost use Rattle.ob_rights.specs.declared.fault.Fault.TheVariants.{Memory};
-    ghost use Rattle.ob_waits.specs.Waits.{is_pending};
-    ghost use Rattle.ob_manager.specs.Counting.{card};
     ghost use Rattle.ob_manager.specs.Steps.{Step};
 
     fn new(book: Book<Keeper>) -> Held
@@ -55,11 +53,10 @@ impl Held {
         Held { book, waiting: 0 }
     }
 
-    /// Whether the manager says that a wait is pending.
-    fn is_pending(&self, wait: u32) -> bool
-        ensures { result ≡ is_pending (slice_index_or self.now.manager.state.waits wait None) }
+    fn book(&self) -> &Book<Keeper>
+        ensures { result.now ≡ self.now }
     {
-        self.book.is_pending(wait)
+        &self.book
     }
 
     /// [`Book::enter`], and how many callers wait for the book to change.
@@ -75,24 +72,17 @@ impl Held {
     }
 
     /// One caller more waits for the book to change.
-    fn comes(&mut self)
+    fn one_more_waits(&mut self)
         ensures { self.new ≡ self.old }
     {
         self.waiting = self.waiting.saturating_add(1);
     }
 
     /// One caller less waits for it.
-    fn goes(&mut self)
+    fn one_fewer_waits(&mut self)
         ensures { self.new ≡ self.old }
     {
         self.waiting = self.waiting.saturating_sub(1);
-    }
-
-    /// [`Book::card`].
-    fn card(&self, id: Id) -> Option<Card>
-        ensures { result ≡ card self.now.manager.state id }
-    {
-        self.book.card(id)
     }
 
     fn into_book(self) -> Book<Keeper>
@@ -263,16 +253,16 @@ impl Shared {
             return Reply::Refused(Fault::Memory);
         }
         let mut held = self.lock(rt);
-        held.comes();
+        held.one_more_waits();
         let mut held = self.changed.wait_while(
             rt,
             held,
             |held| -> bool
                 ensures { (result ≡ is_pending (slice_index_or held.entry.now.manager.state.waits wait None))
                     × (held.exit.now ≡ held.entry.now) }
-            { held.is_pending(wait) },
+            { held.book().is_pending(wait) },
         );
-        held.goes();
+        held.one_fewer_waits();
         let ask = Call::WaitResult { wait };
         let copy = Call::WaitResult { wait };
         let (answer, waiting) = held.enter(lane.number, &ask, copy);
@@ -300,7 +290,7 @@ impl Shared {
         ensures { IfSome result (λ card. card.id ≡ id) }
     {
         let _ = reader.slot_of_held(id);
-        self.lock(rt).card(id)
+        self.lock(rt).book().card(id)
     }
 
     /// The manager and its journal, where the lanes that are handed in are whole: they have the numbers that were

@@ -1,6 +1,7 @@
 ghost use Rattle.std.specs.Prelude.{◌≡◌, true};
 
 mod blocking;
+mod books;
 mod closing;
 mod crowd;
 mod holding;
