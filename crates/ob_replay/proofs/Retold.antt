@@ -30,7 +30,7 @@ use Rattle.ob_script.proofs.Lineless.{lineless_is_refused}
 use Rattle.ob_script.proofs.ReadBack.{line_is_read}
 use Rattle.ob_console.specs.Runs.{AnswersAll, AnswersTo, IsOutput, Point, Prints, Run, last_line, with_ends}
 use Rattle.ob_record.specs.Telling.{asking, comment, is_held, is_held_slot, is_repeatable, lines_for, text_for}
-use Rattle.ob_replay.specs.Retelling.{Departs, FitsEntry, Retells, answer, is_line, script_of}
+use Rattle.ob_replay.specs.Retelling.{AnswersOtherwise, FitsEntry, Retells, answer, is_line, script_of}
 use Rattle.ob_replay.proofs.Ends.{lines_in, lines_within, one_cut}
 
 -- a comment is nothing
@@ -155,7 +155,7 @@ module _ (w u : Whole) (p q : Point) (number : ℕ) (entry : Entry) (output : Li
     (at : p.whole.state ≡ w.state) where
   -- the entry's first line is answered as the entry, and leads to the state that the entry led to; or it isn't
   abbrev First : Type 0
-  First = ((output ≡ answer entry) × (q.whole.state ≡ u.state)) ⊎ Departs entry output
+  First = ((output ≡ answer entry) × (q.whole.state ≡ u.state)) ⊎ AnswersOtherwise entry output
 
   silent : u.state ≡ w.state → is_line entry ≡ false → (output ≡ []) × (q ≡ p) → First
   silent same none prints =
@@ -232,7 +232,7 @@ retold (entry ∷ entries) w v p q number (output ∷ silence ∷ outputs) kept 
     second = subst (λ (act : Act). Prints run.0 (number + 1) act silence run.2.0)
         (comment_is_nothing (printed_reply entry.reply)) run.2.1
 
-    by : ((output ≡ answer entry) × (run.0.whole.state ≡ replays.0.state)) ⊎ Departs entry output
+    by : ((output ≡ answer entry) × (run.0.whole.state ≡ replays.0.state)) ⊎ AnswersOtherwise entry output
         → (run.0.whole.state ≡ replays.0.state → Retells entries (concat outputs))
         → Retells (entry ∷ entries) (output ++ (silence ++ concat outputs))
     by (inl same) rest = (

@@ -25,15 +25,15 @@ abbrev pub answer : Entry → List ℕ
 answer entry = if is_line entry then printed entry.reply else []
 
 -- memory was wanting; or a slot that the journal took back is held, or was freed in place of retired or the other way
-abbrev pub IsOther : Entry → List ℕ → Type 0
-IsOther entry output =
+abbrev pub IsOtherAnswer : Entry → List ℕ → Type 0
+IsOtherAnswer entry output =
     (output ≡ printed (Refused Memory))
     ⊎ ((slot : ℕ) × (entry.call ≡ Reap slot) × (found : Reply) × (output ≡ printed found)
     × (reclaim_in found ≢ reclaim_in entry.reply))
 
 -- a line is answered otherwise than its entry was
-abbrev pub Departs : Entry → List ℕ → Type 0
-Departs entry output = (is_line entry ≡ true) × IsOther entry output
+abbrev pub AnswersOtherwise : Entry → List ℕ → Type 0
+AnswersOtherwise entry output = (is_line entry ≡ true) × IsOtherAnswer entry output
 
 -- Entry by entry an output is what the entries are answered, up to the first line that is answered otherwise; behind
 -- that nothing is said.
@@ -41,7 +41,7 @@ abbrev pub Retells : List Entry → List ℕ → Type 0
 Retells [] output = output ≡ []
 Retells (entry ∷ entries) output =
     (first rest : List ℕ) × (output ≡ first ++ rest)
-    × (((first ≡ answer entry) × Retells entries rest) ⊎ Departs entry first)
+    × (((first ≡ answer entry) × Retells entries rest) ⊎ AnswersOtherwise entry first)
 
 -- the numbers of an entry's call fit their types
 abbrev pub FitsEntry : Entry → Type 0
