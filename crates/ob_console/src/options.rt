@@ -111,13 +111,15 @@ fn command<'a>(alloc: Global) -> Result<Command<'a>, AllocError> {
         .arg(number(
             alloc,
             "lanes",
-            "Lanes of the script, each on a thread: 0 to 64, default 0. A line `@2 ..` is lane 2's, lines before the first of these come before all lanes, and answers are printed lane by lane",
+            "Lanes of the script, each on a thread: 0 to 64, default 0. A line `@2 ..` is lane 2's, lines before \
+             the first of these come before all lanes, and answers are printed lane by lane",
         )?
         .conflicts_with("save")?)?
         .arg(path(
             alloc,
             "load",
-            "Savestate that the script begins with, in place of a new manager. It has limits of its own, so no limit and no --lanes beside it",
+            "Savestate that the script begins with, in place of a new manager. It has limits of its own, so no \
+             limit and no --lanes beside it",
         ))?
         .arg(path(
             alloc,

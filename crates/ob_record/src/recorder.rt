@@ -126,8 +126,8 @@ impl Recorder {
         self.block = None;
     }
 
-    /// Takes whole lines, as many as there is room for, which are put at its front: how many bytes. A line with its line
-    /// feed has at most 4,098.
+    /// Takes whole lines, as many as there is room for, which are put at its front: how many bytes. A line with its
+    /// line feed has at most 4,098.
     pub fn take(&mut self, room: &mut [u8]) -> usize
         ensures lines { TakesLines self.old.text room.old result self.new.text room.new }
         ensures same { self.new.is_on ≡ self.old.is_on }

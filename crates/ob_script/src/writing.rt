@@ -569,7 +569,8 @@ impl Line {
 
 /// The line of a script that asks for a call, without its line feed; none where no line does: for a name with a line
 /// feed, for what takes a line of more than 4,096 bytes, for a duplicate with options beyond 3, and for a tick past the
-/// last moment. Each of these calls is refused by every manager, since names have 260 bytes and waits 64 handles at most.
+/// last moment. Each of these calls is refused by every manager, since names have 260 bytes and waits 64 handles at
+/// most.
 ///
 /// What the grammar reads in the line is this call, but that a wait of no time is one of 0 milliseconds, and that a
 /// duplicate with the rights of its source asks for no mask, which it has no use for. The refusal is want of memory.

@@ -2,9 +2,9 @@
 //! top of the repository declares them.
 //!
 //! C holds a pointer that tells it nothing. To a contract it is an [`Owner`](obman_c_base::Owner) with the manager's
-//! state as its value, so each function's contract is that of the manager's call: the same step from the state before to
-//! the state after, and the same answer, told by a number (0, or a Win32 error code) and by what is written where C asks
-//! for it.
+//! state as its value, so each function's contract is that of the manager's call: the same step from the state before
+//! to the state after, and the same answer, told by a number (0, or a Win32 error code) and by what is written where C
+//! asks for it.
 //!
 //! ```text
 //! om_manager m;

@@ -176,7 +176,8 @@ pub extern "C" fn om_handle(
     handle: u32,
     entry: &mut HandleEntry,
 ) -> u32
-    ensures finds { FindsEntry handle (entry_of owner.old.value.manager.state process handle) result entry.old entry.new }
+    ensures finds { FindsEntry handle (entry_of owner.old.value.manager.state process handle) result
+        entry.old entry.new }
     ensures same { owner.new.value ≡ owner.old.value }
 {
     match owner.lend().manager.handle(process, handle) {
@@ -257,7 +258,8 @@ pub extern "C" fn om_process_of(owner: &mut Owner, thread: u32) -> u32
 /// [`Manager::session_of`](ob_manager::Manager::session_of): 0, or 87 where the process isn't live.
 #[unsafe(no_mangle)]
 pub extern "C" fn om_session_of(owner: &mut Owner, process: u32, session: &mut u32) -> u32
-    ensures session { SessionTold (slice_index_or owner.old.value.manager.state.processes process None) result session.old session.new }
+    ensures session { SessionTold (slice_index_or owner.old.value.manager.state.processes process None) result
+        session.old session.new }
     ensures same { owner.new.value ≡ owner.old.value }
 {
     match owner.lend().manager.session_of(process) {

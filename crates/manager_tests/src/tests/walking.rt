@@ -197,7 +197,9 @@ const STATES: &[Scene<'static>] = &[
 /// The processes with their threads and handles, whose numbers go as they end.
 #[rattlefmt::skip]
 const WALKS: &[Scene<'static>] = &[
-    (&[], &[Ask::Process(0, None), Ask::Thread(0, 0, None), Ask::Thread(1, 0, None), Ask::Handle(1, 0, None), Ask::Now(0)]),
+    (&[], &[
+        Ask::Process(0, None), Ask::Thread(0, 0, None), Ask::Thread(1, 0, None), Ask::Handle(1, 0, None), Ask::Now(0),
+    ]),
     (&[
         (Spawn { session: 3 }, Spawned { process: 1, thread: 1 }),
         (Spawn { session: 4 }, Spawned { process: 2, thread: 2 }),

@@ -10,7 +10,8 @@ use std::test::Fail;
 
 /// An event by two handles, which is set once and waited for.
 const SCRIPT: &[u8] =
-    b"spawn 1\nevent t1 auto clear name A\nevent t1 manual set name A\nwait t1 any 0 h8\nset t1 h4\nwait t1 any 0 h8\nwait t1 any 0 h4\ncount s0.1\n";
+    b"spawn 1\nevent t1 auto clear name A\nevent t1 manual set name A\nwait t1 any 0 h8\n\
+     set t1 h4\nwait t1 any 0 h8\nwait t1 any 0 h4\ncount s0.1\n";
 
 const ANSWERS: &[u8] =
     b"p1 t1\nh4 new s0.1\nh8 exists s0.1\ncode 258\ndone\ncode 0\ncode 258\nhandles 2 waits 0 hold 0\n";
@@ -217,7 +218,8 @@ fn add_lines_of_many_lengths(text: &mut Vec<u8>) -> Result<(), AllocError> {
         text.extend_from_slice(b"\r\n")?;
     }
     text.extend_from_slice(
-        b"\n#\n \nspawn 1 \nspawn 4294967296\nspawn 00000000001\nspawn 0000000001\nevent t1 auto  clear\ncount s0.1.1\nclose t1 h\nspawn 1\xff\nclose t1 h4\r",
+        b"\n#\n \nspawn 1 \nspawn 4294967296\nspawn 00000000001\nspawn 0000000001\n\
+         event t1 auto  clear\ncount s0.1.1\nclose t1 h\nspawn 1\xff\nclose t1 h4\r",
     )?;
     Ok(())
 }
@@ -230,7 +232,8 @@ fn lines_are_bad_or_nothing_by_their_length(rt: HostRuntime) -> Result<(), Fail>
         &rt,
         rt.alloc(),
         &text,
-        b"bad line 2\nbad line 5\nbad line 6\nbad line 7\nbad line 8\np1 t1\nbad line 10\nbad line 11\nbad line 12\nbad line 13\nerror 6\n",
+        b"bad line 2\nbad line 5\nbad line 6\nbad line 7\nbad line 8\np1 t1\nbad line 10\n\
+         bad line 11\nbad line 12\nbad line 13\nerror 6\n",
     );
     Ok(())
 }
@@ -258,7 +261,10 @@ fn pins_are_printed_by_kind(rt: HostRuntime) {
     gives(
         &rt,
         rt.alloc(),
-        b"spawn 1\nmutex t1 free\nevent t1 manual set grant 0x0\npin s00.001\npin s1.1\ncard s1.1\nunpin s1.2\npin s4294967295.1\ncard s4294967295.1\npin s2.1\npin s0\nunpin s0.1 \ncard\n",
-        b"p1 t1\nh4 new s0.1\nh8 new s1.1\npinned s0.1 mutex\npinned s1.1 event manual\ncard s1.1 event manual grant 0x0\nnot held\nno slot\nnot held\nunborn\nbad line 11\nbad line 12\nbad line 13\n",
+        b"spawn 1\nmutex t1 free\nevent t1 manual set grant 0x0\npin s00.001\npin s1.1\ncard s1.1\n\
+         unpin s1.2\npin s4294967295.1\ncard s4294967295.1\npin s2.1\npin s0\nunpin s0.1 \ncard\n",
+        b"p1 t1\nh4 new s0.1\nh8 new s1.1\npinned s0.1 mutex\npinned s1.1 event manual\n\
+         card s1.1 event manual grant 0x0\nnot held\nno slot\nnot held\nunborn\nbad line 11\n\
+         bad line 12\nbad line 13\n",
     );
 }

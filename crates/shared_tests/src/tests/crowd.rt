@@ -58,7 +58,10 @@ fn acts_of(caller: u32, waiter: u32, id: Id, slot: u32) -> [Deed<'static>; ROUND
         Deed::Ask(MakeMutex { thread: caller, make: PLAIN, owned: true }),
         Deed::Ask(Counts { id }),
         Deed::Ask(ReleaseMutex { thread: caller, handle: 16 }),
-        Deed::Ask(Duplicate { thread: caller, source: caller, handle: 4, target: Some(caller), mask: Rights(0), inherit: false, options: 2 }),
+        Deed::Ask(Duplicate {
+            thread: caller, source: caller, handle: 4, target: Some(caller),
+            mask: Rights(0), inherit: false, options: 2,
+        }),
         Deed::Unpin(id),
         Deed::Ask(CloseHandle { thread: caller, handle: 20 }),
         Deed::Ask(CloseHandle { thread: caller, handle: 16 }),

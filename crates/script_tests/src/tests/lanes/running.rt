@@ -24,10 +24,14 @@ fn a_lane_waits_for_another(rt: HostRuntime) {
 }
 
 const PINS: &[u8] =
-    b"spawn 1\n@1 event t1 auto clear\n@1 pin s64.1\n@1 pin s0.2\n@1 pin s1.1\n@1 pin s0.1\n@1 close t1 h4\n@1 card s0.1\n@1 reap s0\n@1 pin s0.1\n@1 unpin s0.1\n@1 unpin s0.1\n@1 card s0.1\n@1 reap s0\n@1 event t1 manual clear\n@1 pin s0.1\n@1 pin s0.2\n";
+    b"spawn 1\n@1 event t1 auto clear\n@1 pin s64.1\n@1 pin s0.2\n@1 pin s1.1\n@1 pin s0.1\n\
+     @1 close t1 h4\n@1 card s0.1\n@1 reap s0\n@1 pin s0.1\n@1 unpin s0.1\n@1 unpin s0.1\n\
+     @1 card s0.1\n@1 reap s0\n@1 event t1 manual clear\n@1 pin s0.1\n@1 pin s0.2\n";
 
 const PINNED: &[u8] =
-    b"lane 0\np1 t1\nlane 1\nh4 new s0.1\nno slot\nunborn\nunborn\npinned s0.1 event auto\nclosed\ncard s0.1 event auto grant 0x1f0003\ns0.1 held 1\nstale\nunpinned s0.1\nnot held\nnot held\ns0.1 freed\nh4 new s0.2\nstale\npinned s0.2 event manual\nclosed 6\n";
+    b"lane 0\np1 t1\nlane 1\nh4 new s0.1\nno slot\nunborn\nunborn\npinned s0.1 event auto\nclosed\n\
+     card s0.1 event auto grant 0x1f0003\ns0.1 held 1\nstale\nunpinned s0.1\nnot held\nnot held\n\
+     s0.1 freed\nh4 new s0.2\nstale\npinned s0.2 event manual\nclosed 6\n";
 
 #[test]
 fn pins_are_a_lane_s_own(rt: HostRuntime) {
@@ -37,7 +41,8 @@ fn pins_are_a_lane_s_own(rt: HostRuntime) {
         rt.alloc(),
         2,
         b"spawn 1\nevent t1 auto clear\npin s0.1\nclose t1 h4\n@1 unpin s0.1\n@1 card s0.1\n@1 reap s0\n",
-        b"lane 0\np1 t1\nh4 new s0.1\npinned s0.1 event auto\nclosed\nlane 1\nnot held\nnot held\ns0.1 held 1\nlane 2\nclosed 4\n",
+        b"lane 0\np1 t1\nh4 new s0.1\npinned s0.1 event auto\nclosed\nlane 1\nnot held\nnot held\n\
+         s0.1 held 1\nlane 2\nclosed 4\n",
     );
 }
 
@@ -95,8 +100,11 @@ fn a_block_takes_the_last_pending_wait_of_its_lane(rt: HostRuntime) {
         &rt,
         rt.alloc(),
         1,
-        b"spawn 1\nthread p1\nthread p1\nevent t1 manual clear\nwait t3 any inf h4\n@1 block\n@1 wait t2 any inf h4\n@1 result w1\n@1 set t1 h4\n@1 set t1 h4\n@1 block\n@1 block\n@1 result w1\n",
-        b"lane 0\np1 t1\nt2\nt3\nh4 new s0.1\npending w1\nlane 1\nnone\npending w2\npending w1\ndone\ndone\ncode 0\nnone\ncode 0\nclosed 11\n",
+        b"spawn 1\nthread p1\nthread p1\nevent t1 manual clear\nwait t3 any inf h4\n@1 block\n\
+         @1 wait t2 any inf h4\n@1 result w1\n@1 set t1 h4\n@1 set t1 h4\n@1 block\n@1 block\n\
+         @1 result w1\n",
+        b"lane 0\np1 t1\nt2\nt3\nh4 new s0.1\npending w1\nlane 1\nnone\npending w2\npending w1\n\
+         done\ndone\ncode 0\nnone\ncode 0\nclosed 11\n",
     );
 }
 
@@ -131,7 +139,10 @@ fn names_are_shared_by_all_lanes(rt: HostRuntime) {
         &rt,
         rt.alloc(),
         2,
-        b"spawn 1\nevent t1 manual set name A b\nthread p1\nmutex t1 owned grant 0x100000 name M\nsemaphore t1 1 2 inherit access 0x1f0003 name S\n@1 open t1 event 0x100000 name A b\n@2 open t2 mutex 0x100001 name M\n",
-        b"lane 0\np1 t1\nh4 new s0.1\nt2\nh8 new s1.1\nh12 new s2.1\nlane 1\nh16 opened s0.1\nlane 2\nerror 5\nclosed 7\n",
+        b"spawn 1\nevent t1 manual set name A b\nthread p1\nmutex t1 owned grant 0x100000 name M\n\
+         semaphore t1 1 2 inherit access 0x1f0003 name S\n@1 open t1 event 0x100000 name A b\n\
+         @2 open t2 mutex 0x100001 name M\n",
+        b"lane 0\np1 t1\nh4 new s0.1\nt2\nh8 new s1.1\nh12 new s2.1\nlane 1\nh16 opened s0.1\n\
+         lane 2\nerror 5\nclosed 7\n",
     );
 }
