@@ -1,7 +1,7 @@
 -- Runs go on.
 use Rattle.std.proofs.Common.{◌≡◌, ℕ, ◌+◌, ◌<◌, List, [], ◌∷◌, ◌++◌, length, if◌then◌else◌, refl, ap, subst, sym, ◌∙◌, arith}
 use Rattle.pin_core.specs.declared.shape.Shape.{Shape}
-use Rattle.pin_core.specs.Holds.{drop_first, same_id}
+use Rattle.pin_core.specs.Holds.{drop_last, same_id}
 use Rattle.ob_store.specs.State.{Whole}
 use Rattle.ob_store.specs.Directory.{directory_of}
 use Rattle.ob_console.specs.Pinning.{is_held, shown_of}
@@ -78,7 +78,7 @@ prints_some s n (Pin id) pins =
     }
 prints_some s n (Unpin id) pins = record {
   output = printed_unpin id (is_held id s.held) ++ line_end;
-  next = point s.whole (if is_held id s.held then drop_first (same_id id) s.held else s.held);
+  next = point s.whole (if is_held id s.held then drop_last (same_id id) s.held else s.held);
   prints = (is_held id s.held, (refl, refl), refl, refl);
 }
 prints_some s n (ShowCard id) pins = record {

@@ -6,7 +6,7 @@ use Rattle.pin_core.specs.declared.id.Id.{Id}
 use Rattle.pin_core.specs.declared.descr.Descr.{Descr}
 use Rattle.pin_core.specs.declared.word.Word.{Word}
 use Rattle.pin_core.specs.declared.word.Phase.{Phase}
-use Rattle.pin_core.specs.Holds.{tally, drop_first, same_id}
+use Rattle.pin_core.specs.Holds.{tally, drop_last, same_id}
 use Rattle.pin_words.specs.declared.fault.Verdict.{Verdict}
 use Rattle.pin_words.specs.declared.fault.Verdict.TheVariants.{Unborn, Stale, PinsFull, Go}
 use Rattle.pin_words.specs.declared.fault.PinFault.{PinFault}
@@ -72,10 +72,10 @@ pub record Pins (s : State) (held : List Id) (id : Id) (res : Result Descr PinFa
   pub tried : id.slot < s.limits.slots → length held < 16
       → (w : Word) × IsWord s held id.slot w × Judged (verdict_of s.limits.max_pins id w) s held id res held'
 
--- an unpin: whether the Id is held, and then one copy less
+-- an unpin: whether the Id is held, and then its last copy less
 abbrev pub Unpins : List Id → Id → Bool → List Id → Type 0
 Unpins held id done held' = (done ≡ is_held id held)
-    × (held' ≡ (if is_held id held then drop_first (same_id id) held else held))
+    × (held' ≡ (if is_held id held then drop_last (same_id id) held else held))
 
 -- the card of an Id that is held
 abbrev pub shown_of : State → List Id → Id → Option Card

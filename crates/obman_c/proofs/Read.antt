@@ -3,8 +3,8 @@ use Rattle.std.proofs.Common.{◌≡◌, ℕ, ◌<◌, true, List, [], ◌∷◌
 use Rattle.std.specs.Prelude.{Ok, Err}
 use Rattle.pin_core.specs.declared.id.Id.{Id}
 use Rattle.pin_core.specs.declared.descr.Descr.{Descr}
-use Rattle.pin_core.specs.Holds.{drop_first, same_id, tally, weight}
-use Rattle.pin_core.proofs.Counts.{count-drop}
+use Rattle.pin_core.specs.Holds.{drop_last, same_id, tally, weight}
+use Rattle.pin_core.proofs.Counts.{count-drop_last}
 use Rattle.pin_words.specs.declared.fault.PinFault.{PinFault}
 use Rattle.pin_words.specs.Plays.{Show}
 use Rattle.pin_words.specs.Seats.{ReaderState}
@@ -85,9 +85,9 @@ every (x ∷ held) = let e = every held in omega arith
 
 -- with a copy less there are fewer
 pub fewer : (id : Id) (held : List Id) → 0 < tally (same_id id) held
-    → length (drop_first (same_id id) held) < length held
+    → length (drop_last (same_id id) held) < length held
 fewer id held some =
-    let less = count-drop (λ _. true) (same_id id) true held (λ x e. refl) some in
+    let less = count-drop_last (λ _. true) (same_id id) true held (λ x e. refl) some in
     let all = every held in
-    let left = every (drop_first (same_id id) held) in
+    let left = every (drop_last (same_id id) held) in
     omega arith

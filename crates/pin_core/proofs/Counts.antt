@@ -1,10 +1,11 @@
 -- Counts over a list that gains or loses one element.
-use Rattle.std.proofs.Common.{nat_lt, get_or, ◌≡◌, ℕ, ◌+◌, ◌<◌, ◌≤◌, Bool, true, false, Some, None, zero, suc, length, cond, List, [], ◌∷◌, ◌++◌, sym, refl, ap, ◌∙◌, arith}
+use Rattle.std.proofs.Common.{nat_lt, get_or, ◌≡◌, ℕ, ◌+◌, ◌<◌, ◌≤◌, Bool, true, false, Some, None, zero, suc, length, cond, List, [], ◌∷◌, ◌++◌, reverse, sym, refl, ap, ◌∙◌, arith}
 use Rattle.std.specs.List.{count_by, position, position_or_len, remove}
 use Rattle.std.proofs.lemmas.Grind.{common_steps}
+use Rattle.std.proofs.lemmas.List.{append-nil, reverse-append, reverse-reverse}
 use Rattle.std.proofs.lemmas.List.Recursion.{is_count_by}
 use Rattle.std.proofs.lemmas.List.Quantifiers.{position-Some}
-use Rattle.pin_core.specs.Holds.{drop_first, tally, weight, with_hold}
+use Rattle.pin_core.specs.Holds.{drop_first, drop_last, tally, weight, with_hold}
 use Rattle.pin_core.specs.declared.holders.Hold.{Hold}
 
 weight-le : (a b : Bool) → (a ≡ true → b ≡ true) → weight a ≤ weight b
@@ -77,6 +78,58 @@ module _ {X : Type 0} where
       cases true e ih = absurd (omega arith)
       cases false e ih = ap (λ (z : List X). x ∷ z) (ih (omega arith))
 
+  tally-reverse : (p : X → Bool) (xs : List X) → tally p (reverse xs) ≡ tally p xs
+  tally-reverse p [] = refl
+  tally-reverse p (x ∷ xs) = let ih = tally-reverse p xs in let back = ap (tally p) (reverse-append (x ∷ []) xs) in
+      let more = count-snoc p (reverse xs) x in omega arith
+
+  pub count-drop_last-le : (p q : X → Bool) (xs : List X) → tally p (drop_last q xs) ≤ tally p xs
+  count-drop_last-le p q xs = let le = count-drop-le p q (reverse xs) in
+      let left = tally-reverse p (drop_first q (reverse xs)) in let all = tally-reverse p xs in omega arith
+
+  -- where what goes is counted as b
+  pub count-drop_last : (p q : X → Bool) (b : Bool) (xs : List X) → ((x : X) → q x ≡ true → p x ≡ b) → 0 < tally q xs
+      → tally p (drop_last q xs) + weight b ≡ tally p xs
+  count-drop_last p q b xs h some =
+      let less = count-drop p q b (reverse xs) h (let same = tally-reverse q xs in omega arith) in
+      let left = tally-reverse p (drop_first q (reverse xs)) in let all = tally-reverse p xs in omega arith
+
+  pub drop_last-absent : (p : X → Bool) (xs : List X) → tally p xs ≡ 0 → drop_last p xs ≡ xs
+  drop_last-absent p xs none = ap reverse (drop-absent p (reverse xs) (tally-reverse p xs ∙ none)) ∙ reverse-reverse xs
+
+  -- by places: none passes, or one does
+  pub none-at : (p : X → Bool) (xs : List X) (d : X) → ((k : ℕ) → k < length xs → p (get_or xs k d) ≡ false)
+      → tally p xs ≡ 0
+  none-at p [] d fails = refl
+  none-at p (x ∷ xs) d fails = let later = none-at p xs d (λ k within. fails (suc k) (omega arith)) in
+      let here : weight (p x) ≡ 0 = ap weight (fails 0 (omega arith)) in omega arith
+
+  pub some-at : (p : X → Bool) (xs : List X) (i : ℕ) (d : X) → i < length xs → p (get_or xs i d) ≡ true
+      → 0 < tally p xs
+  some-at p [] i d h e = absurd (omega arith)
+  some-at p (x ∷ xs) zero d h e = let one : weight (p x) ≡ 1 = ap weight e in omega arith
+  some-at p (x ∷ xs) (suc i) d h e = let ih = some-at p xs i d (omega arith) e in omega arith
+
+  -- what is removed where the last one that passes stands
+  pub remove-last : (p : X → Bool) (xs : List X) (i : ℕ) (d : X) → i < length xs → p (get_or xs i d) ≡ true
+      → ((k : ℕ) → i < k → k < length xs → p (get_or xs k d) ≡ false) → remove xs i ≡ drop_last p xs
+  remove-last p [] i d inside here after = absurd (omega arith)
+  remove-last p (x ∷ xs) zero d inside here after =
+      let later : tally p (reverse xs) ≡ 0 = tally-reverse p xs
+      ∙ none-at p xs d (λ k within. after (suc k) (omega arith) (omega arith)) in
+      sym (ap (λ (z : List X). reverse (drop_first p z)) (reverse-append (x ∷ []) xs)
+      ∙ (ap reverse (drop-in-later p (reverse xs) (x ∷ []) later)
+      ∙ (ap (λ b. reverse (reverse xs ++ cond b [] (x ∷ []))) here
+      ∙ (ap reverse (append-nil (reverse xs)) ∙ reverse-reverse xs))))
+  remove-last p (x ∷ xs) (suc i) d inside here after =
+      let some : 0 < tally p (reverse xs) = let have = some-at p xs i d (omega arith) here in
+      let same = tally-reverse p xs in omega arith in
+      ap (λ (z : List X). x ∷ z) (remove-last p xs i d (omega arith) here
+      (λ k behind within. after (suc k) (omega arith) (omega arith)))
+      ∙ sym (ap (λ (z : List X). reverse (drop_first p z)) (reverse-append (x ∷ []) xs)
+      ∙ (ap reverse (drop-in-first p (reverse xs) (x ∷ []) some)
+      ∙ reverse-append (drop_first p (reverse xs)) (x ∷ [])))
+
   -- the count of a chain of iterators
   pub tally-count : (p : X → Bool) (xs : List X) → count_by p xs ≡ tally p xs
   tally-count p xs = sym (is_count_by (tally p) p refl (λ x ys. cases (p x) (tally p ys)) xs)
@@ -132,12 +185,6 @@ count-with_hold p t (h ∷ hs) = cases (nat_lt t.id.slot h.id.slot) (count-with_
         → tally p (cond b (t ∷ h ∷ hs) (h ∷ with_hold t hs)) ≡ tally p (h ∷ hs) + weight (p t)
     cases true ih = omega arith
     cases false ih = omega arith
-
-some-at : {X : Type 0} (p : X → Bool) (xs : List X) (i : ℕ) (d : X) → i < length xs → p (get_or xs i d) ≡ true
-    → 0 < tally p xs
-some-at p [] i d h e = absurd (omega arith)
-some-at p (x ∷ xs) zero d h e = let one : weight (p x) ≡ 1 = ap weight e in omega arith
-some-at p (x ∷ xs) (suc i) d h e = let ih = some-at p xs i d (omega arith) e in omega arith
 
 -- what is removed where `position` found it
 pub found-some : {X : Type 0} (p : X → Bool) (xs : List X) (n : ℕ) (d : X) → position p xs ≡ Some n

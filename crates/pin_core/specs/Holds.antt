@@ -1,5 +1,5 @@
 -- Who holds what: triples of a reader, an Id and a copy number.
-use Rattle.std.specs.Prelude.{ℕ, ◌+◌, ◌==◌, ◌&&◌, nat_lt, Bool, true, false, if◌then◌else◌, List, [], ◌∷◌}
+use Rattle.std.specs.Prelude.{ℕ, ◌+◌, ◌==◌, ◌&&◌, nat_lt, Bool, true, false, if◌then◌else◌, List, [], ◌∷◌, reverse}
 use Rattle.pin_core.specs.declared.id.Id.{Id}
 use Rattle.pin_core.specs.declared.holders.Hold.{Hold}
 
@@ -39,6 +39,10 @@ with_hold t (h ∷ hs) = if nat_lt t.id.slot h.id.slot then (t ∷ h ∷ hs) els
 abbrev pub drop_first : {X : Type 0} → (X → Bool) → List X → List X
 drop_first p [] = []
 drop_first p (x ∷ xs) = if p x then xs else (x ∷ drop_first p xs)
+
+-- the list without its last element that passes the test
+abbrev pub drop_last : {X : Type 0} → (X → Bool) → List X → List X
+drop_last p xs = reverse (drop_first p (reverse xs))
 
 -- the set of triples over this many slots
 pub record Holding : Type 0 where

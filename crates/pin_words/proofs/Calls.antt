@@ -15,10 +15,10 @@ use Rattle.pin_core.specs.declared.shape.Shape.{Shape}
 use Rattle.pin_core.specs.declared.world.Slot.{Slot}
 use Rattle.pin_core.specs.Words.{decoded}
 use Rattle.pin_core.specs.Descrs as descr_code
-use Rattle.pin_core.specs.Holds.{tally, weight, drop_first, same_id}
+use Rattle.pin_core.specs.Holds.{tally, weight, drop_last, same_id}
 use Rattle.pin_core.specs.Worlds.{opening_slot, slot_of}
 use Rattle.pin_core.specs.Safety.{rank_of}
-use Rattle.pin_core.proofs.Counts.{count-snoc, count-drop-le}
+use Rattle.pin_core.proofs.Counts.{count-snoc, count-drop_last-le}
 use Rattle.pin_words.specs.declared.view.Look.{Look}
 use Rattle.pin_words.specs.declared.view.KeeperView.{KeeperView}
 use Rattle.pin_words.specs.declared.view.ReaderView.{ReaderView}
@@ -129,8 +129,8 @@ inside-more n id xs lt all x have = cases (same_id x id) refl
         all x (omega arith)
 
 pub inside-less : (n : ℕ) (id : Id) (xs : List Id) → ((x : Id) → 0 < tally (same_id x) xs → x.slot < n) → (x : Id)
-    → 0 < tally (same_id x) (drop_first (same_id id) xs) → x.slot < n
-inside-less n id xs all x have = let le = count-drop-le (same_id x) (same_id id) xs in all x (omega arith)
+    → 0 < tally (same_id x) (drop_last (same_id id) xs) → x.slot < n
+inside-less n id xs all x have = let le = count-drop_last-le (same_id x) (same_id id) xs in all x (omega arith)
 
 pub id-inside : (n : ℕ) (id : Id) (xs ys : List Id) → ys ≡ xs → 0 < tally (same_id id) ys
     → ((x : Id) → 0 < tally (same_id x) xs → x.slot < n) → id.slot < n

@@ -1,17 +1,15 @@
 -- What a reader holds, in the set of the world and in its own list.
-use Rattle.std.proofs.Common.{◌≡◌, ◌≢◌, ℕ, ◌+◌, ◌<◌, ◌≤◌, ◌&&◌, ◌==◌, nat_lt, eq-eqb, ne_eqb, Bool, true, false, cond, List, [], ◌∷◌, ◌++◌, length, get_or, zero, suc, Option, Some, None, ◌↔◌, IsTrue, is_some, sym, refl, ap, ◌∙◌, arith}
+use Rattle.std.proofs.Common.{◌≡◌, ◌≢◌, ℕ, ◌+◌, ◌<◌, ◌≤◌, ◌&&◌, ◌==◌, nat_lt, eq-eqb, ne_eqb, Bool, true, false, cond, List, [], ◌∷◌, ◌++◌, sym, refl, ap, ◌∙◌, arith}
 use native.Mathlib.Decide.{ℕ_discrete}
 use mathlib.Core.Logic.{dite}
 use Rattle.std.proofs.lemmas.Grind.{common_steps}
-use Rattle.std.proofs.lemmas.List.Quantifiers.{position-Some}
-use Rattle.std.specs.List.{position}
 use Rattle.pin_core.specs.declared.id.Id.{Id}
 use Rattle.pin_core.specs.declared.descr.Descr.{Descr}
 use Rattle.pin_core.specs.Descrs.{same_descr}
-use Rattle.pin_core.specs.Holds.{tally, weight, same_id, is_copy, is_hold, hold_of, with_hold, drop_first}
+use Rattle.pin_core.specs.Holds.{tally, weight, same_id, is_copy, is_hold, hold_of, with_hold, drop_first, drop_last}
 use Rattle.pin_core.specs.Worlds.{WorldState, at, id_at, pins, copies, last_copy, is_of, is_with, given_as}
 use Rattle.pin_core.specs.Safety.{IsSafe}
-use Rattle.pin_core.proofs.Counts.{count-snoc, count-drop, count-with_hold, none-found}
+use Rattle.pin_core.proofs.Counts.{count-snoc, count-drop_last, count-with_hold}
 use Rattle.pin_core.proofs.Moves.{same_of_test, same_of_descr, copies-le-pins}
 use Rattle.pin_core.proofs.Holding.{release-count}
 use Rattle.pin_words.specs.declared.view.Note.{Note}
@@ -52,12 +50,12 @@ holds-same-more w q r id k n x = let c = count-with_hold (is_copy q x) (hold_of 
 -- a copy less
 pub holds-less : (w : WorldState) (r : ℕ) (held : List Id) (id : Id) → IsSafe w → HoldsJust w r held → 0 < copies w r id
     → (x : Id) → tally (is_copy r x) (drop_first (is_hold (last_copy w r id)) w.holders)
-    ≡ tally (same_id x) (drop_first (same_id id) held)
+    ≡ tally (same_id x) (drop_last (same_id id) held)
 holds-less w r held id safe h have x = let c = release-count w r id safe have (is_copy r x) in
     let same : weight (is_copy r x (last_copy w r id)) ≡ weight (same_id x id) =
     ap weight (own_copy r id (copies w r id) x) in
     let some_there : 0 < tally (same_id id) held = (let e = h id in omega arith) in
-    let d = count-drop (same_id x) (same_id id) (same_id x id) held
+    let d = count-drop_last (same_id x) (same_id id) (same_id x id) held
     (λ y e. ap (same_id x) (same_of_id id y e)) some_there in
     let e = h x in omega arith
 
@@ -135,16 +133,3 @@ one-descr w id d e safe a b = cases (same_descr d e) refl
 pub got-held : (id : Id) (held : List Id) → 0 < tally (same_id id) (held ++ id ∷ [])
 got-held id held = let c = count-snoc (same_id id) held id in
     let one : weight (same_id id id) ≡ 1 = ap weight (is_itself id) in omega arith
-
--- where a test finds a place, an element passes it
-pub found-there : {X : Type 0} (p : X → Bool) (xs : List X) (n : ℕ) (d : X) → position p xs ≡ Some n → 0 < tally p xs
-found-there {X = X} p xs n d e = let at = position-Some p xs n d e in some-at xs n at.0 at.1
-  where
-    some-at : (ys : List X) (i : ℕ) → i < length ys → p (get_or ys i d) ≡ true → 0 < tally p ys
-    some-at [] i h e = absurd (omega arith)
-    some-at (y ∷ ys) zero h e = let one : weight (p y) ≡ 1 = ap weight e in omega arith
-    some-at (y ∷ ys) (suc i) h e = let ih = some-at ys i (omega arith) e in omega arith
-
-pub found-where : {X : Type 0} (p : X → Bool) (xs : List X) (d : X) (o : Option ℕ) → position p xs ≡ o → IsTrue (is_some o) ↔ (0 < tally p xs)
-found-where p xs d None e = ((λ bad. absurd (let x : false ≡ true = bad in cc)), (λ have. absurd (let none = none-found p xs e in omega arith)))
-found-where p xs d (Some n) e = ((λ _. found-there p xs n d e), (λ _. refl))

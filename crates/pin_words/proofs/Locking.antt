@@ -2,8 +2,8 @@
 use Rattle.std.proofs.Common.{◌≡◌, ◌≢◌, ℕ, ◌≤◌, Bool, true, false, inl, List, [], ◌∷◌, ◌++◌, sym, refl, ap, ◌∙◌, arith}
 use Rattle.std.proofs.lemmas.Grind.{common_steps}
 use Rattle.pin_core.specs.declared.id.Id.{Id}
-use Rattle.pin_core.specs.Holds.{tally, weight, drop_first, same_id}
-use Rattle.pin_core.proofs.Counts.{count-snoc, count-drop-le}
+use Rattle.pin_core.specs.Holds.{tally, weight, drop_last, same_id}
+use Rattle.pin_core.proofs.Counts.{count-snoc, count-drop_last-le}
 use Rattle.pin_words.specs.declared.pin_keeper.Reclaim.{Reclaim}
 use Rattle.pin_words.specs.declared.pin_keeper.Reclaim.TheVariants.{Freed, Retired, Held}
 use Rattle.pin_words.specs.Views.{sits}
@@ -25,8 +25,8 @@ room-more most held id room free s = cases (sits s id) refl
         let le = room s in omega arith
 
 pub room-less : (most : ℕ) (held : List Id) (id : Id) → ((s : ℕ) → tally (sits s) held ≤ most) → (s : ℕ)
-    → tally (sits s) (drop_first (same_id id) held) ≤ most
-room-less most held id room s = let le = count-drop-le (sits s) (same_id id) held in let o = room s in omega arith
+    → tally (sits s) (drop_last (same_id id) held) ≤ most
+room-less most held id room s = let le = count-drop_last-le (sits s) (same_id id) held in let o = room s in omega arith
 
 -- what a reclaim under a lock answers is what one of any keeper does
 pub as-any : (k k' : KeeperState) (s : ℕ) (r : Reclaim) → ReclaimsLocked k s r k' → Reclaims k s r k'

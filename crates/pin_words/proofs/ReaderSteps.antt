@@ -16,7 +16,7 @@ use Rattle.pin_core.specs.declared.holders.Hold.{Hold}
 use Rattle.pin_core.specs.declared.event.Event.TheVariants.{Pin, Release}
 use Rattle.pin_core.specs.Words.{encoded, decoded}
 use Rattle.pin_core.specs.Descrs as descr_code
-use Rattle.pin_core.specs.Holds.{tally, weight, sits_at, is_copy, is_hold, with_hold, drop_first, same_id}
+use Rattle.pin_core.specs.Holds.{tally, weight, sits_at, is_copy, is_hold, with_hold, drop_first, drop_last, same_id}
 use Rattle.pin_core.specs.Worlds.{WorldState, at, id_at, pins, copies, last_copy, next_copy, word_at, given, given_as}
 use Rattle.pin_core.specs.Events.{refusal, after, with_holders}
 use Rattle.pin_core.specs.Safety.{IsSafe, may_be_held}
@@ -273,7 +273,7 @@ reader-releases k s W sh id v r x seated at-reader inside have =
     let owned : 0 < copies W r.number x = has-copies W r x mine.held have in
     let can = may_release W r.number x (in-shape k s W sh i inside) owned in
     let hs = drop_first (is_hold (last_copy W r.number x)) W.holders in
-    let held = drop_first (same_id x) r.held in
+    let held = drop_last (same_id x) r.held in
     let less : (j : ℕ) → tally (sits_at j) hs + weight (i == j) ≡ pins W j =
     λ j. release-count W r.number x sh.safe owned (sits_at j) in
     let old : get_or s.words (place_of i) 0 ≡ encoded (word_at W i) = sh.words i inside in

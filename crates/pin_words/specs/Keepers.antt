@@ -7,7 +7,7 @@ use Rattle.pin_core.specs.declared.word.Phase.TheVariants.{Live, Closing}
 use Rattle.pin_core.specs.declared.shape.Shape.{Shape}
 use Rattle.pin_core.specs.declared.world.Slot.{Slot}
 use Rattle.pin_core.specs.Words.{decoded}
-use Rattle.pin_core.specs.Holds.{tally, drop_first, same_id}
+use Rattle.pin_core.specs.Holds.{tally, drop_last, same_id}
 use Rattle.pin_core.specs.Opened.{shown_from}
 use Rattle.pin_core.specs.Worlds.{opening_slot, slot_of}
 use Rattle.pin_core.specs.Events.{in_phase, with_descr, reclaimed}
@@ -182,4 +182,4 @@ ReclaimsLocked k s Retired k' = (k' ≡ opened_again k s) × (k.shape.max_gen �
 ReclaimsLocked k s (Held n) k' = (k' ≡ k) × (0 < n) × (n ≡ tally (sits s) k.held) × (n ≤ k.shape.max_pins)
 
 abbrev pub released : KeeperState → Id → KeeperState
-released k id = with_held k (drop_first (same_id id) k.held)
+released k id = with_held k (drop_last (same_id id) k.held)

@@ -8,7 +8,7 @@ use Rattle.pin_core.specs.declared.shape.Shape.{Shape}
 use Rattle.pin_core.specs.declared.world.Slot.{Slot}
 use Rattle.pin_core.specs.Opened.{shown_from}
 use Rattle.pin_core.specs.Words.{decoded}
-use Rattle.pin_core.specs.Holds.{tally, same_id, drop_first}
+use Rattle.pin_core.specs.Holds.{tally, same_id, drop_last}
 use Rattle.pin_core.specs.Worlds.{opening_slot, slot_of}
 use Rattle.pin_core.specs.Events.{in_phase, with_descr, reclaimed}
 use Rattle.pin_words.specs.declared.view.Look.{Look}
@@ -66,10 +66,10 @@ reader_looked r s n = reader_with r r.held r.notes (look s n ∷ r.looks)
 abbrev pub reader_got : ReaderView → Id → ℕ → ReaderView
 reader_got r id n = reader_with r (r.held ++ id ∷ []) r.notes (look id.slot n ∷ r.looks)
 
--- a copy less, and with the last the notes
+-- the last copy of the Id less, and where it was the only one the notes
 abbrev pub reader_released : ReaderView → Id → ReaderView
-reader_released r id = reader_with r (drop_first (same_id id) r.held)
-    (notes_of (drop_first (same_id id) r.held) r.notes) r.looks
+reader_released r id = reader_with r (drop_last (same_id id) r.held)
+    (notes_of (drop_last (same_id id) r.held) r.notes) r.looks
 
 abbrev pub reader_noted : ReaderView → Id → Descr → ReaderView
 reader_noted r id d = reader_with r r.held (note id d ∷ r.notes) r.looks

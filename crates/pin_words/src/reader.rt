@@ -1,8 +1,8 @@
-ghost use Rattle.std.specs.Prelude.{◌≡◌, ◌*◌, ◌<◌, ◌≤◌, ◌↔◌, false, length, position, IsTrue};
+ghost use Rattle.std.specs.Prelude.{◌≡◌, ◌*◌, ◌<◌, ◌≤◌, ◌↔◌, false, length, is_some, IfSome, IsTrue};
 ghost use Rattle.std.specs.List.{remove};
 ghost use Rattle.std.specs.Arc.{arc_value};
 ghost use Rattle.pin_core.specs.declared.id.Id.{Id};
-ghost use Rattle.pin_core.specs.Holds.{tally, drop_first, same_id};
+ghost use Rattle.pin_core.specs.Holds.{tally, drop_last, same_id};
 ghost use Rattle.pin_words.specs.Places.{words_a_slot};
 ghost use Rattle.pin_words.specs.Views.{IsReaders, reader_of};
 
@@ -19,10 +19,13 @@ use std::hint::spin_loop;
 use std::marker::Model;
 use std::sync::{Arc, Wait};
 
+// Where the last copy of the Id stands.
 fn found_at(held: &[Id], id: Id) -> Option<usize>
-    ensures { result ≡ position (same_id id) held.now }
+    ensures found { IsTrue (is_some result) ↔ (0 < tally (same_id id) held.now) }
+    ensures within { IfSome result (λ place. place < length held.now) }
+    ensures last { IfSome result (λ place. remove held.now place ≡ drop_last (same_id id) held.now) }
 {
-    held.iter().position(|h| same_id(id, *h))
+    held.iter().rposition(|h| same_id(id, *h))
 }
 
 pub(crate) fn is_among(held: &[Id], id: Id) -> bool
@@ -32,7 +35,7 @@ pub(crate) fn is_among(held: &[Id], id: Id) -> bool
 }
 
 pub(crate) fn forget(held: &mut ArrayVec<Id, 16>, id: Id)
-    ensures { held.new.items ≡ drop_first (same_id id) held.old.items }
+    ensures { held.new.items ≡ drop_last (same_id id) held.old.items }
 {
     if let Some(place) = found_at(held.as_slice(), id) {
         take_out(held, place);
@@ -100,12 +103,13 @@ impl Model for Reader {
 }
 
 impl Reader {
-    ghost use Rattle.std.specs.Prelude.{◌≡◌, ◌≢◌, ◌*◌, ◌<◌, ◌≤◌, ◌↔◌, false, [], length, position, IsTrue, OnOk, Err};
+    ghost use Rattle.std.specs.Prelude.{◌≡◌, ◌≢◌, ◌*◌, ◌<◌, ◌≤◌, ◌↔◌, false, [], length, is_some, IfSome, IsTrue, OnOk, Err};
+    ghost use Rattle.std.specs.List.{remove};
     ghost use Rattle.std.specs.Arc.{arc_value};
     ghost use Rattle.pin_core.specs.declared.word.Word.{Word};
     ghost use Rattle.pin_core.specs.declared.shape.Shape.{Shape};
     ghost use Rattle.pin_core.specs.Words.{decoded};
-    ghost use Rattle.pin_core.specs.Holds.{tally, same_id};
+    ghost use Rattle.pin_core.specs.Holds.{tally, drop_last, same_id};
     ghost use Rattle.pin_words.specs.declared.view.ReaderView.{ReaderView};
     ghost use Rattle.pin_words.specs.declared.fault.Verdict.TheVariants as verdict;
     ghost use Rattle.pin_words.specs.declared.fault.PinFault.TheVariants as fault;
@@ -144,9 +148,12 @@ impl Reader {
             .load::<Looks>(&mut self.seat, place_of(slot))
     }
 
-    // Where it lists a copy of the Id.
+    // Where it lists the last copy of the Id.
     fn found(&self, id: Id) -> Option<usize>
-        ensures { result ≡ position (same_id id) self.now.view.held }
+        ensures found { IsTrue (is_some result) ↔ (0 < tally (same_id id) self.now.view.held) }
+        ensures within { IfSome result (λ place. place < length self.now.view.held) }
+        ensures last { IfSome result (λ place. remove self.now.view.held place
+            ≡ drop_last (same_id id) self.now.view.held) }
     {
         found_at(self.held.as_slice(), id)
     }

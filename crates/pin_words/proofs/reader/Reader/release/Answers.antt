@@ -1,7 +1,7 @@
 use Rattle.std.proofs.Common.{rules, ◌≡◌, ◌∙◌, sym, ap, subst, ◌<◌, List, arith}
 use Rattle.pin_core.specs.declared.shape.Shape.{Shape}
 use Rattle.pin_core.specs.declared.id.Id.{Id}
-use Rattle.pin_core.specs.Holds.{tally, drop_first, same_id}
+use Rattle.pin_core.specs.Holds.{tally, drop_last, same_id}
 use Rattle.pin_words.specs.declared.view.ReaderView.{ReaderView}
 use Rattle.pin_words.specs.Views.{reader_of, reader_released}
 use Rattle.pin_words.proofs.ReaderSteps.{releases-step}
@@ -41,7 +41,7 @@ invariant_of-self-inside c = let view : reader_of c.self.inside.seat.me.0 ≡ c.
             (
               ap (λ r. r.shape) one.1 ∙ c.self.inside.shaped,
               (
-                ap (λ r. r.held) one.1 ∙ (ap (drop_first (same_id c.args.id)) c.self.inside.holds
+                ap (λ r. r.held) one.1 ∙ (ap (drop_last (same_id c.args.id)) c.self.inside.holds
                     ∙ sym c.forget.ensures),
                 (
                   (λ x have. inside-less _ c.args.id c.self.inside.held.items c.self.inside.inside x
