@@ -81,6 +81,8 @@ pub struct Reader {
     shape: Shape,
     pub(crate) seat: Seat<(), View>,
     held: ArrayVec<Id, 16>,
+    // A cache line, so that what is written in `held` and the next reader of a `Vec` don't share one.
+    _apart: [u64; 8],
     ghost keyed: { (arc_value words).shared.key.shape ≡ shape },
     ghost wide: { (arc_value words).shared.table_id.words ≡ shape.slots * words_a_slot },
     ghost seated: { seat.table_id ≡ (arc_value words).shared.table_id },
@@ -133,6 +135,7 @@ impl Reader {
             shape,
             seat,
             held: ArrayVec::new(),
+            _apart: [0; 8],
         }
     }
 
