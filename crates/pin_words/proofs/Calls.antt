@@ -1,5 +1,5 @@
 -- What the calls of readers and of the keeper need of the steps.
-use Rattle.std.proofs.Common.{◌≡◌, ◌≢◌, ◌⊎◌, inl, inr, ⊎_elim, ℕ, ◌+◌, ◌*◌, ◌<◌, ◌≤◌, nat_lt, Bool, true, false, List, [], ◌∷◌, ◌++◌, length, get_or, zero, suc, Some, None, sym, refl, ap, ◌∙◌, subst, arith}
+use Rattle.std.proofs.Common.{◌≡◌, ◌≢◌, ◌⊎◌, inl, inr, ⊎_elim, ℕ, ◌+◌, ◌*◌, ◌<◌, ◌≤◌, nat_lt, Bool, true, false, List, [], ◌∷◌, ◌++◌, length, length-set, get_or, set, zero, suc, Some, None, sym, refl, ap, ◌∙◌, subst, arith}
 use Rattle.std.proofs.lemmas.Grind.{common_steps}
 use Rattle.std.proofs.lemmas.List.{append_assoc}
 use native.Mathlib.Decide.{ℕ_discrete}
@@ -24,7 +24,7 @@ use Rattle.pin_words.specs.declared.view.KeeperView.{KeeperView}
 use Rattle.pin_words.specs.declared.view.ReaderView.{ReaderView}
 use Rattle.pin_words.specs.declared.view.View.{View}
 use Rattle.pin_words.specs.Places.{place_of, descr_place}
-use Rattle.pin_words.specs.Views.{M, Of, on, view, look, id_in, reader_with, reader_looked, reader_got, reader_released, keeper_stored, reader_of, keeper_of, IsReaders, IsKeepers}
+use Rattle.pin_words.specs.Views.{M, Of, on, view, look, id_in, reader_with, reader_looked, reader_got, reader_released, keeper_with, keeper_stored, reader_of, keeper_of, IsReaders, IsKeepers}
 use Rattle.pin_words.specs.Shown.{Shown}
 use Rattle.pin_words.specs.Plays.{NoLater, Behind, Tells, got_view, released, noted, stored}
 use Rattle.pin_words.specs.declared.fault.Verdict.TheVariants.{Unborn, Stale, PinsFull, Go}
@@ -49,6 +49,18 @@ slot-known xs ys i y same inside is = is ∙ (get_or_any ys i y opening_slot ins
     get_or_any [] i a b h = absurd (omega arith)
     get_or_any (z ∷ zs) zero a b h = refl
     get_or_any (z ∷ zs) (suc i) a b h = get_or_any zs i a b (omega arith)
+
+-- what is left where a step changes one of the keeper's slots, and so does its list
+pub slot-changed : (v v' : KeeperView) (ps : List (Id × Descr)) (ls : List Look) (k : Shape) (xs : List Slot) (s : ℕ)
+    (was : Slot) (f : Slot → Slot) → v' ≡ keeper_with v (set v.slots s (f (slot_of v.slots s))) ps ls → v.shape ≡ k
+    → v.slots ≡ xs → length xs ≡ k.slots → s < k.slots → was ≡ get_or xs s was
+    → (v'.shape ≡ k) × (v'.slots ≡ set xs s (f was)) × (length (set xs s (f was)) ≡ k.slots)
+slot-changed v v' ps ls k xs s was f now shape knows long inside is = (
+  ap (λ (z : KeeperView). z.shape) now ∙ shape,
+  ap (λ (z : KeeperView). z.slots) now
+      ∙ (λ i. set (knows i) s (f (sym (slot-known v.slots xs s was knows (omega arith) is) i))),
+  length-set xs s (f was) ∙ long,
+)
 
 pub released-one : (n p : ℕ) (m m' : M) (id : Id) → p ≡ place_of id.slot → IsReaders m
     → released (step 0 p 1 0 none) m n m' → 0 < tally (same_id id) (reader_of m.0).held
@@ -131,10 +143,6 @@ inside-more n id xs lt all x have = cases (same_id x id) refl
 pub inside-less : (n : ℕ) (id : Id) (xs : List Id) → ((x : Id) → 0 < tally (same_id x) xs → x.slot < n) → (x : Id)
     → 0 < tally (same_id x) (drop_last (same_id id) xs) → x.slot < n
 inside-less n id xs all x have = let le = count-drop_last-le (same_id x) (same_id id) xs in all x (omega arith)
-
-pub id-inside : (n : ℕ) (id : Id) (xs ys : List Id) → ys ≡ xs → 0 < tally (same_id id) ys
-    → ((x : Id) → 0 < tally (same_id x) xs → x.slot < n) → id.slot < n
-id-inside n id xs ys same have all = all id (subst (λ (z : List Id). 0 < tally (same_id id) z) same have)
 
 age-stale : (max : ℕ) (id : Id) (g n : ℕ) (p : Phase) (b : Word)
     → g * 4 + rank_of p ≤ b.generation * 4 + rank_of b.phase → (p ≡ Retired → b.phase ≡ Retired)

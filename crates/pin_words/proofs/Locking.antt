@@ -7,7 +7,7 @@ use Rattle.pin_core.proofs.Counts.{count-snoc, count-drop_last-le}
 use Rattle.pin_words.specs.declared.pin_keeper.Reclaim.{Reclaim}
 use Rattle.pin_words.specs.declared.pin_keeper.Reclaim.TheVariants.{Freed, Retired, Held}
 use Rattle.pin_words.specs.Views.{sits}
-use Rattle.pin_words.specs.Keepers.{KeeperState, with_looks, opened_again, Reclaims, ReclaimsLocked}
+use Rattle.pin_words.specs.Keepers.{KeeperState, with_looks, Reclaims, ReclaimsLocked}
 
 sits-else : (s : ℕ) (id : Id) → sits s id ≡ true → id.slot ≡ s
 sits-else s id e = grind (arith, common_steps)
@@ -28,23 +28,11 @@ pub room-less : (most : ℕ) (held : List Id) (id : Id) → ((s : ℕ) → tally
     → tally (sits s) (drop_last (same_id id) held) ≤ most
 room-less most held id room s = let le = count-drop_last-le (sits s) (same_id id) held in let o = room s in omega arith
 
+same-looks : (k k' : KeeperState) → k' ≡ k → k' ≡ with_looks k k'.looks
+same-looks k k' same = same ∙ ap (λ (z : KeeperState). with_looks k z.looks) (sym same)
+
 -- what a reclaim under a lock answers is what one of any keeper does
 pub as-any : (k k' : KeeperState) (s : ℕ) (r : Reclaim) → ReclaimsLocked k s r k' → Reclaims k s r k'
-as-any k k' s Freed h = (
-  h.0 ∙ ap (λ (z : KeeperState). with_looks (opened_again k s) z.looks) (sym h.0),
-  h.1,
-  h.2,
-  inl (ap (λ (z : KeeperState). z.looks) h.0),
-)
-as-any k k' s Retired h = (
-  h.0 ∙ ap (λ (z : KeeperState). with_looks (opened_again k s) z.looks) (sym h.0),
-  h.1,
-  h.2,
-  inl (ap (λ (z : KeeperState). z.looks) h.0),
-)
-as-any k k' s (Held n) h = (
-  h.0 ∙ ap (λ (z : KeeperState). with_looks k z.looks) (sym h.0),
-  h.1,
-  h.3,
-  inl (ap (λ (z : KeeperState). z.looks) h.0),
-)
+as-any k k' s Freed h = (same-looks _ k' h.0, h.1, h.2, inl (ap (λ (z : KeeperState). z.looks) h.0))
+as-any k k' s Retired h = (same-looks _ k' h.0, h.1, h.2, inl (ap (λ (z : KeeperState). z.looks) h.0))
+as-any k k' s (Held n) h = (same-looks k k' h.0, h.1, h.3, inl (ap (λ (z : KeeperState). z.looks) h.0))

@@ -30,16 +30,13 @@ join_seat-requires c = let kv = keeper_of c.self.inside.seat.me.0 in let rv = re
     )
 
 pub load-requires : goal.load-requires
-load-requires c = let shape : c.args.self.now.view.shape ≡ c.self.inside.shape =
-    ap (λ w. w.view.shape) (sym c.self.view_is) ∙ c.self.inside.shaped in
-    let lt : c.args.slot < c.self.inside.shape.slots =
-    subst (λ (k : Shape). c.args.slot < k.slots) shape c.requires.slot in (
-      search rules,
-      (let wide = wide_at c.deref-3.ensures c.self.inside.wide in let at = c.place_of.ensures in
-          omega arith),
-      loads _ _ _ _ _ _ c.place_of.ensures
-          (subst (λ (k : Shape). c.args.slot < k.slots) (sym (key_at c.deref-3.ensures c.self.inside.keyed)) lt),
-    )
+load-requires c = let lt : c.args.slot < c.self.inside.shape.slots = search rules in (
+  search rules,
+  (let wide = wide_at c.deref-3.ensures c.self.inside.wide in let at = c.place_of.ensures in
+      omega arith),
+  loads _ _ _ _ _ _ c.place_of.ensures
+      (subst (λ (k : Shape). c.args.slot < k.slots) (sym (key_at c.deref-3.ensures c.self.inside.keyed)) lt),
+)
 
 pub split_seat-requires : goal.split_seat-requires
 split_seat-requires c = let kv = keeper_of c.self.inside.seat.me.0 in let rv = reader_of c.reader.inside.seat.me.0 in

@@ -1,27 +1,20 @@
-use Rattle.std.proofs.Common.{rules, sym, ap, subst, ◌<◌, ◌≡◌, ◌∙◌, length-set, set, arith}
+use Rattle.std.proofs.Common.{rules, sym, ap, subst, ◌<◌, ◌≡◌, ◌∙◌, arith}
 use Rattle.pin_core.specs.declared.shape.Shape.{Shape}
 use Rattle.pin_core.specs.declared.world.Slot.{Slot}
-use Rattle.pin_core.specs.declared.word.Phase.TheVariants.{Closing}
 use native.Mathlib.Decide.{ℕ_discrete}
 use mathlib.Core.Logic.{dite}
 use Rattle.pin_core.specs.declared.word.Word.{Word}
 use Rattle.pin_core.specs.Words.{code_of, decoded, packed}
 use Rattle.pin_core.specs.Events.{reclaimed}
 use Rattle.pin_core.specs.Worlds.{slot_of}
-use Rattle.pin_words.specs.declared.view.KeeperView.{KeeperView}
 use Rattle.pin_words.specs.Views.{keeper_of, keeper_reclaimed}
 use Rattle.pin_words.proofs.KeeperSteps.{reclaims-step, word_closing, word_reclaimed}
-use Rattle.pin_words.proofs.Calls.{kept-one, slot-known}
+use Rattle.pin_words.proofs.Calls.{kept-one, slot-known, slot-changed}
 use Rattle.pin_words.proofs.Owned.{key_at, wide_at}
 use Rattle.pin_words.proofs.keeper.Keeper.reclaim.Goals as goal
 
 pub compare_exchange-found-requires : goal.compare_exchange-found-requires
-compare_exchange-found-requires c = let view : keeper_of c.self.inside.seat.me.0 ≡ c.args.self.now.view =
-    ap (λ w. w.view) c.self.view_is in
-    let shape : c.args.self.now.view.shape ≡ c.self.inside.shape = ap (λ w. w.shape) (sym view) ∙ c.self.inside.shaped
-    in
-    let lt : c.args.slot < c.self.inside.shape.slots =
-    subst (λ (k : Shape). c.args.slot < k.slots) shape c.requires.slot in
+compare_exchange-found-requires c = let lt : c.args.slot < c.self.inside.shape.slots = search rules in
     let was : c.index-was.result.now ≡ slot_of (keeper_of c.self.inside.seat.me.0).slots c.args.slot =
     slot-known _ c.self.inside.slots.items c.args.slot c.index-was.result.now c.self.inside.knows (let long =
     c.self.inside.long in omega arith) c.index-was.ensures in (
@@ -30,7 +23,7 @@ compare_exchange-found-requires c = let view : keeper_of c.self.inside.seat.me.0
       reclaims-step _ _ _ _ _ _ _ _ (keeper_of c.self.inside.seat.me.0) c.place_of.ensures
           (ap (λ m. m.0.keeper) c.self.inside.keeps)
           (subst (λ (k : Shape). c.args.slot < k.slots) (sym (key_at c.deref.ensures c.self.inside.keyed)) lt)
-          (subst (λ (z : KeeperView). (slot_of z.slots c.args.slot).phase ≡ Closing) (sym view) c.requires.closing)
+          (search rules)
           (c.encode.ensures ∙ ap word_closing was)
           (c.encode-2.ensures ∙ (ap (λ (y : Slot). packed y.generation (code_of y.phase) 0) c.reclaimed-next.ensures
           ∙ λ k. word_reclaimed (ap (λ (z : Shape). z.max_gen) (sym (key_at c.deref.ensures c.self.inside.keyed)) k)
@@ -54,38 +47,13 @@ invariant_of-self-inside-2 c = let played = c.compare_exchange-found.ensures.2 c
     ap (λ (w : Word). w.pins) c.decode-pins.ensures in let none = c.if-pins-gt0.false in omega arith)) in
     let one = kept-one (λ k. keeper_reclaimed k c.args.slot c.compare_exchange-found.result) c.self.inside.seat.me
     c.compare_exchange-found.new.seat.me c.self.inside.keeps (played.0 hit) in
-    let was : c.index-was.result.now ≡ slot_of (keeper_of c.self.inside.seat.me.0).slots c.args.slot =
-    slot-known _ c.self.inside.slots.items c.args.slot c.index-was.result.now c.self.inside.knows (let long =
-    c.self.inside.long in let shape : c.args.self.now.view.shape ≡ c.self.inside.shape =
-    ap (λ w. w.view.shape) (sym c.self.view_is) ∙ c.self.inside.shaped in
-    let lt : c.args.slot < c.self.inside.shape.slots =
-    subst (λ (k : Shape). c.args.slot < k.slots) shape c.requires.slot in omega arith) c.index-was.ensures in (
-      c.self.inside.keyed,
-      (
-        c.self.inside.wide,
-        (
-          c.self.inside.some,
-          (
-            c.compare_exchange-found.ensures.0 ∙ c.self.inside.seated,
-            (
-              one.0,
-              (
-                ap (λ k. k.shape) one.1 ∙ c.self.inside.shaped,
-                (
-                  ap (λ k. k.slots) one.1 ∙ ((λ i. set (c.self.inside.knows i) c.args.slot
-                      (reclaimed (c.self.inside.shaped i).max_gen (sym was i)))
-                      ∙ ap (set c.self.inside.slots.items c.args.slot) (sym c.reclaimed-next.ensures)),
-                  (
-                    length-set c.self.inside.slots.items c.args.slot _ ∙ c.self.inside.long,
-                    tt,
-                  ),
-                ),
-              ),
-            ),
-          ),
-        ),
-      ),
-    )
+    let max : c.self.inside.shape.max_gen ≡ (keeper_of c.self.inside.seat.me.0).shape.max_gen =
+    ap (λ (k : Shape). k.max_gen) (sym c.self.inside.shaped) in
+    let next : c.reclaimed-next.result ≡ reclaimed (keeper_of c.self.inside.seat.me.0).shape.max_gen
+    c.index-was.result.now = c.reclaimed-next.ensures ∙ ap (λ n. reclaimed n c.index-was.result.now) max in
+    let changed = slot-changed (keeper_of c.self.inside.seat.me.0) _ _ _ _ _ c.args.slot c.index-was.result.now
+    (reclaimed (keeper_of c.self.inside.seat.me.0).shape.max_gen) one.1 c.self.inside.shaped c.self.inside.knows
+    c.self.inside.long (search rules) c.index-was.ensures in search rules
 
 pub returns-clause-reclaims : goal.returns-clause-reclaims
 returns-clause-reclaims c = let played = c.compare_exchange-found.ensures.2 c.args.slot c.place_of.ensures in

@@ -1,6 +1,5 @@
-use Rattle.std.proofs.Common.{◌≡◌, ◌≢◌, ap, sym, subst, List, ◌<◌, ◌≤◌, arith}
-use Rattle.pin_core.specs.declared.id.Id.{Id}
-use Rattle.pin_core.specs.Holds.{tally, same_id}
+use Rattle.std.proofs.Common.{rules, ◌≡◌, ◌≢◌, ap, sym, arith}
+use Rattle.pin_core.specs.Holds.{tally}
 use Rattle.pin_words.specs.Views.{sits}
 use Rattle.pin_words.proofs.Calls.{inside-more}
 use Rattle.pin_words.proofs.Locking.{room-more}
@@ -14,18 +13,5 @@ invariant_of-self-inside c = let i = c.self.inside in
     ap (λ w. tally (sits c.args.id.slot) w.held) (sym c.self.view_is) in
     let few = c.requires.few in let slot = c.requires.slot in
     let free : tally (sits c.args.id.slot) i.held.items ≢ i.shape.max_pins = λ e. omega arith in
-    let inside : c.args.id.slot < i.shape.slots = omega arith in (
-      i.within,
-      (
-        i.long,
-        (
-          (λ s. subst (λ (z : List Id). tally (sits s) z ≤ i.shape.max_pins) (sym c.push.ensures.items)
-              (room-more i.shape.max_pins i.held.items c.args.id i.room free s)),
-          (
-            (λ x have. inside-more i.shape.slots c.args.id i.held.items inside i.inside x
-                (subst (λ (z : List Id). 0 < tally (same_id x) z) c.push.ensures.items have)),
-            tt,
-          ),
-        ),
-      ),
-    )
+    let room = room-more i.shape.max_pins i.held.items c.args.id i.room free in
+    let more = inside-more i.shape.slots c.args.id i.held.items (omega arith) i.inside in search rules

@@ -1,19 +1,17 @@
-use Rattle.std.proofs.Common.{rules, ◌≡◌, ◌∙◌, sym, ap, subst, ◌<◌, arith}
+use Rattle.std.proofs.Common.{rules, sym, subst, ◌<◌, arith}
 use Rattle.pin_core.specs.declared.shape.Shape.{Shape}
 use Rattle.pin_words.proofs.ReaderSteps.{loads}
 use Rattle.pin_words.proofs.Owned.{key_at, wide_at}
 use Rattle.pin_words.proofs.reader.Reader.look.Goals as goal
 
 pub load-requires : goal.load-requires
-load-requires c = let shape : c.args.self.now.view.shape ≡ c.self.inside.shape =
-    ap (λ w. w.view.shape) (sym c.self.view_is) ∙ c.self.inside.shaped in
-    let lt : c.args.slot < c.self.inside.shape.slots = subst (λ (k : Shape). c.args.slot < k.slots) shape c.requires in (
-      search rules,
-      (let wide = wide_at c.deref.ensures c.self.inside.wide in let at = c.place_of.ensures in
-          omega arith),
-      loads _ _ _ _ _ _ c.place_of.ensures
-          (subst (λ (k : Shape). c.args.slot < k.slots) (sym (key_at c.deref.ensures c.self.inside.keyed)) lt),
-    )
+load-requires c = let lt : c.args.slot < c.self.inside.shape.slots = search rules in (
+  search rules,
+  (let wide = wide_at c.deref.ensures c.self.inside.wide in let at = c.place_of.ensures in
+      omega arith),
+  loads _ _ _ _ _ _ c.place_of.ensures
+      (subst (λ (k : Shape). c.args.slot < k.slots) (sym (key_at c.deref.ensures c.self.inside.keyed)) lt),
+)
 
 pub invariant_of-self-inside : goal.invariant_of-self-inside
 invariant_of-self-inside c = let played = c.load.ensures.2 c.args.slot c.place_of.ensures in search rules
