@@ -7,10 +7,10 @@ use Rattle.std.proofs.lemmas.List.{take_at, drop_at, take-append-drop, length-ap
 use Rattle.std.proofs.lemmas.List.Concat.{flat_map-cons}
 use Rattle.std.proofs.lemmas.Nat.{le_bytes_4, le_bytes_8, from_le_bytes-to_le_bytes_4, from_le_bytes-to_le_bytes_8}
 use Rattle.ob_codec.specs.declared.fault.TextFault.TheVariants.{Short, Value}
-use Rattle.ob_codec.specs.Reading.{◌>>=◌, Read, bytes_at, number_at, flag_at, option_at, items_at, list_at, string_at, both_at, as_at, where_at, given_at, some_at, tagged_at, end_of, whole_at}
+use Rattle.ob_codec.specs.Reading.{◌>>=◌, Read, bytes_at, number_at, flag_at, option_at, items_at, list_at, string_at, both_at, as_at, where_at, given_at, some_at, tagged_at, whole_at}
 use Rattle.ob_codec.specs.Spelling.{flag, option, list, string, both, Any, OptionFits, ListFits, BothFit, AreBytes, StringFits}
 use Rattle.ob_codec.specs.Laws.{Takes, ReadsAgain, TakesSpelled, IsCodec, IsVariant}
-use Rattle.ob_codec.specs.Steps.{bytes-drop, bytes-take, bytes-rest, bind_ok, guard_ok, guard_passed, ok_is, takes-then}
+use Rattle.ob_codec.specs.Steps.{bytes-drop, bytes-take, bytes-rest, bind_ok, guard_ok, guard_passed, ok_is, takes-then, whole_ok}
 
 -- ---- numbers
 
@@ -245,23 +245,13 @@ module _ {A : Type 0} {spell : A → List ℕ} {read : List ℕ → Read A} {Fit
     takes = where_takes test;
   }
 
-  whole_end : (x : A) (rest : List ℕ) (y : A) → (end_of rest >>= λ (nothing : Unit {0}). Ok x) ≡ Ok y
-      → (rest ≡ []) × (x ≡ y)
-  whole_end x [] y e = (refl, ok_is x y e)
-  whole_end x (b ∷ rest) y e = absurd cc
-
   -- a value that is a whole text
   pub whole_again : (x : A) → Fits x → whole_at read (spell x) ≡ Ok x
   whole_again x fits = ap (whole_at read) (sym (append-nil (spell x))) ∙ rw (is.again x [] fits) refl
 
   pub whole_takes : (bytes : List ℕ) (x : A) → AreBytes bytes → whole_at read bytes ≡ Ok x → (bytes ≡ spell x) × Fits x
   whole_takes bytes x fits e =
-      let a = bind_ok (read bytes) (λ (a : A × List ℕ). end_of a.1 >>= λ (nothing : Unit {0}). Ok a.0) x e in
-      let g = whole_end a.0.0 a.0.1 x a.2 in
-      let t = is.takes bytes a.0.0 a.0.1 fits a.1 in
-      let whole : bytes ≡ spell a.0.0 = t.0.parts ∙ ap (λ (r : List ℕ). spell a.0.0 ++ r) g.0 ∙ append-nil (spell a.0.0)
-      in
-      subst (λ (z : A). (bytes ≡ spell z) × Fits z) g.1 (whole, t.1)
+      let t = is.takes bytes x [] fits (whole_ok read bytes x e) in (t.0.parts ∙ append-nil (spell x), t.1)
 
 -- ---- values of another type
 
@@ -335,6 +325,19 @@ module _ {A B : Type 0} {sa : A → List ℕ} {ra : List ℕ → Read A} {FA : A
           (takes-then bytes (sa x.0.0) x.0.1 (sb y.0.0) y.0.1 first.0 second.0, (first.1, second.1))
 
 -- ---- a value behind the byte that says which form it has
+
+-- what is read of one form
+pub form_takes : {A B : Type 0} {spell : A → List ℕ} {read : List ℕ → Read A} {Fits : A → Type 0} (tag : B → ℕ)
+    (body : B → List ℕ) (FitsB : B → Type 0) → IsCodec spell read Fits → (t : ℕ) (to : A → B)
+    → ((a : A) → body (to a) ≡ spell a) → ((a : A) → Fits a → FitsB (to a)) → ((a : A) → tag (to a) ≡ t)
+    → (bytes : List ℕ) (x : B) (rest : List ℕ) → AreBytes bytes → as_at to read bytes ≡ Ok (x, rest)
+    → Takes bytes (body x) rest × FitsB x × (tag x ≡ t)
+form_takes {A = A} {B = B} {read = read} tag body FitsB is t to text can tagged bytes x rest fits e =
+    let b = bind_ok (read bytes) (λ (y : A × List ℕ). Ok (to y.0, y.1)) (x, rest) e in
+    let k = is.takes bytes b.0.0 b.0.1 fits b.1 in
+    subst (λ (z : B × List ℕ). Takes bytes (body z.0) z.1 × FitsB z.0 × (tag z.0 ≡ t))
+    (ok_is (to b.0.0, b.0.1) (x, rest) b.2)
+    (subst (λ (w : List ℕ). Takes bytes w b.0.1) (sym (text b.0.0)) k.0, can b.0.0 k.1, tagged b.0.0)
 
 module _ {A : Type 0} (tag : A → ℕ) (body : A → List ℕ) (pick : ℕ → List ℕ → Read A) (Fits : A → Type 0) (each : (t : ℕ)
     → IsVariant t tag body (pick t) Fits) where
