@@ -1,11 +1,10 @@
 -- Bodies are read as they were spelled.
-use Rattle.std.proofs.Common.{◌≡◌, ℕ, zero, suc, ◌<◌, ◌^◌, ◌&&◌, not, Bool, true, false, cond, leb, ltb, List, ◌++◌, Option, Some, None, Ok, refl, sym, ap, subst, arith, eq-eqb}
+use Rattle.std.proofs.Common.{◌≡◌, ℕ, zero, suc, ◌<◌, ◌^◌, ◌&&◌, not, Bool, true, false, cond, leb, ltb, List, ◌++◌, Option, Some, None, Ok, refl, ap, subst, arith, eq-eqb}
 use Rattle.std.proofs.lemmas.Bool.{eqb-true, le-leb, leb-true, lt-ltb, ltb-true}
-use Rattle.ob_codec.specs.Codecs.{as_codec, both_codec, flag_codec, option_codec, some_codec, tagged_codec, u32_codec, u64_codec}
+use Rattle.ob_codec.specs.Codecs.{as_codec, both_codec, flag_codec, form_takes, option_codec, some_codec, tagged_codec, u32_codec, u64_codec}
 use Rattle.ob_codec.specs.Laws.{IsCodec, Takes}
-use Rattle.ob_codec.specs.Reading.{Read, as_at}
 use Rattle.ob_codec.specs.Spelling.{Any, AreBytes, BothFit, OptionFits}
-use Rattle.ob_codec.specs.Steps.{bind_ok, both-true, guard-some, ok_is, true-both}
+use Rattle.ob_codec.specs.Steps.{both-true, guard-some, true-both}
 use Rattle.ob_body.specs.declared.body.Body.{Body}
 use Rattle.ob_body.specs.declared.body.Body.TheVariants.{Event, Mutex, Semaphore, Timer}
 use Rattle.ob_body.specs.MutexState.{MutexState}
@@ -95,19 +94,6 @@ pub mutex_codec : IsCodec mutex_text mutex_at MutexFits
 mutex_codec = some_codec mutex_of mutex_parts MutexFits mutex-there mutex-back
     (both_codec (option_codec u32_codec) (both_codec u32_codec flag_codec))
 
--- what is read of one kind
-takes-one : {A : Type 0} {spell : A → List ℕ} {read : List ℕ → Read A} {Fits : A → Type 0} → IsCodec spell read Fits
-    → (t : ℕ) (to : A → Body)
-    → ((a : A) → parts_text (to a) ≡ spell a) → ((a : A) → Fits a → BodyFits (to a)) → ((a : A) → tag_of (to a) ≡ t)
-    → (bytes : List ℕ) (x : Body) (rest : List ℕ) → AreBytes bytes → as_at to read bytes ≡ Ok (x, rest)
-    → Takes bytes (parts_text x) rest × BodyFits x × (tag_of x ≡ t)
-takes-one {A = A} {read = read} is t to text can tag bytes x rest fits e =
-    let b = bind_ok (read bytes) (λ (y : A × List ℕ). Ok (to y.0, y.1)) (x, rest) e in
-    let k = is.takes bytes b.0.0 b.0.1 fits b.1 in
-    subst (λ (z : Body × List ℕ). Takes bytes (parts_text z.0) z.1 × BodyFits z.0
-    × (tag_of z.0 ≡ t)) (ok_is (to b.0.0, b.0.1) (x, rest) b.2)
-    (subst (λ (w : List ℕ). Takes bytes w b.0.1) (sym (text b.0.0)) k.0, can b.0.0 k.1, tag b.0.0)
-
 one-again : (t : ℕ) (x : Body) (rest : List ℕ) → tag_of x ≡ t → BodyFits x
     → body_in t (parts_text x ++ rest) ≡ Ok (x, rest)
 unfolding body_in
@@ -123,10 +109,12 @@ one-again t (Timer d) rest is fits = subst (λ (n : ℕ). body_in n (timer_text 
 one-takes : (t : ℕ) (bytes : List ℕ) (x : Body) (rest : List ℕ) → AreBytes bytes → body_in t bytes ≡ Ok (x, rest)
     → Takes bytes (parts_text x) rest × BodyFits x × (tag_of x ≡ t)
 unfolding body_in
-one-takes zero = takes-one event_codec 0 Event (λ _. refl) (λ _ fits. fits) (λ _. refl)
-one-takes (suc zero) = takes-one mutex_codec 1 Mutex (λ _. refl) (λ _ fits. fits) (λ _. refl)
-one-takes (suc (suc zero)) = takes-one semaphore_codec 2 Semaphore (λ _. refl) (λ _ fits. fits) (λ _. refl)
-one-takes (suc (suc (suc zero))) = takes-one timer_codec 3 Timer (λ _. refl) (λ _ fits. fits) (λ _. refl)
+one-takes zero = form_takes tag_of parts_text BodyFits event_codec 0 Event (λ _. refl) (λ _ fits. fits) (λ _. refl)
+one-takes (suc zero) = form_takes tag_of parts_text BodyFits mutex_codec 1 Mutex (λ _. refl) (λ _ fits. fits) (λ _. refl)
+one-takes (suc (suc zero)) = form_takes tag_of parts_text BodyFits semaphore_codec 2 Semaphore (λ _. refl)
+    (λ _ fits. fits) (λ _. refl)
+one-takes (suc (suc (suc zero))) = form_takes tag_of parts_text BodyFits timer_codec 3 Timer (λ _. refl)
+    (λ _ fits. fits) (λ _. refl)
 one-takes (suc (suc (suc (suc t)))) = λ bytes x rest fits e. absurd cc
 
 pub body_codec : IsCodec body_text body_at BodyFits
