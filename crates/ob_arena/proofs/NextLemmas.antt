@@ -1,18 +1,14 @@
 -- The next slot with a body, by the slots that are in use.
 use Rattle.std.proofs.Common.{◌≡◌, ◌∙◌, sym, ap, refl, ℕ, ◌+◌, ◌<◌, ◌≤◌, List, length, map, get_or, Option, Some, None, Bool, true, false, arith, ⊎_elim}
 use Rattle.std.proofs.Math.ListN.{get_or-map}
-use Rattle.std.proofs.lemmas.Bool.{cases_eq, cases_lt}
-use Rattle.std.proofs.lemmas.List.{get_or_past}
+use Rattle.std.proofs.lemmas.Bool.{cases_eq, cases_lt, true≢false}
+use Rattle.std.proofs.lemmas.List.{get_or_default, get_or_past}
 use Rattle.least_free.specs.From.{IsAtMost, IsLeastFrom}
 use Rattle.least_free.specs.Taken.{is_taken}
 use Rattle.least_free.proofs.NextLemmas.{first_found, none_found}
 use Rattle.ob_arena.specs.declared.phase.Phase.{Phase}
 use Rattle.ob_arena.specs.declared.phase.Phase.TheVariants.{Vacant, Occupied, Retired}
 use Rattle.ob_arena.specs.Phases.{is_occupied, is_in_use}
-use Rattle.ob_arena.proofs.Phasing.{same_default}
-
-differ : true ≡ false → ⊥
-differ h = cc
 
 module _ (ps : List Phase) (taken : List Bool) (used : taken ≡ map is_in_use ps) where
   taken_at : (k : ℕ) → is_taken taken k ≡ is_in_use (get_or ps k Vacant)
@@ -21,7 +17,7 @@ module _ (ps : List Phase) (taken : List Bool) (used : taken ≡ map is_in_use p
   -- a slot that is in use is one of them
   pub taken_within : (k : ℕ) → is_taken taken k ≡ true → k < length ps
   taken_within k is = ⊎_elim (λ (lt : k < length ps). lt)
-      (λ (le : length ps ≤ k). absurd (differ (sym is ∙ taken_at k ∙ ap is_in_use (get_or_past ps k Vacant le))))
+      (λ (le : length ps ≤ k). absurd (true≢false (sym is ∙ taken_at k ∙ ap is_in_use (get_or_past ps k Vacant le))))
       (cases_lt k (length ps))
 
   module _ (at : ℕ) (r : Option ℕ) (is : IsLeastFrom at (is_taken taken) r) where
@@ -41,7 +37,7 @@ module _ (ps : List Phase) (taken : List Bool) (used : taken ≡ map is_in_use p
         (λ (high : at ≤ k). idle at (Some slot) is k high (λ (le : slot ≤ k). omega (arith, le, lt))) (cases_lt k at)
 
     phase_is : (p : Phase) → p ≡ get_or ps slot p → is_occupied (get_or ps slot Vacant) ≡ is_occupied p
-    phase_is p read = ap is_occupied (sym (read ∙ same_default ps slot p Vacant (taken_within slot is.passes)))
+    phase_is p read = ap is_occupied (sym (read ∙ get_or_default ps slot p Vacant (taken_within slot is.passes)))
 
     pub body_found : (p : Phase) → p ≡ get_or ps slot p → is_occupied p ≡ true
         → IsLeastFrom from (λ k. is_occupied (get_or ps k Vacant)) (Some slot)

@@ -1,31 +1,21 @@
 -- What the phases say of the slots, and what a change of one slot does to them.
-use Rattle.std.proofs.Common.{◌≡◌, ◌∙◌, sym, ap, refl, subst, ℕ, zero, suc, ◌<◌, ◌≤◌, List, [], ◌∷◌, length, map, replicate, get_or, set, Option, Some, None, Bool, true, false, ltb, arith, inl, inr, lt-ltb, zero-add}
+use Rattle.std.proofs.Common.{◌≡◌, ◌∙◌, sym, ap, refl, subst, ℕ, zero, suc, ◌<◌, ◌≤◌, List, ◌∷◌, length, map, replicate, get_or, set, Option, Some, None, Bool, true, false, ltb, arith, inl, inr, lt-ltb, zero-add}
 use Rattle.std.specs.Prelude.{is_some, is_none, not, ◌&&◌, slice_get, IsSome}
 use Rattle.std.specs.List.{range_with_len, position_or_len}
 use Rattle.std.proofs.Math.ListN.{get_or-map}
 use Rattle.std.proofs.Math.Seq.{map-set_same}
-use Rattle.std.proofs.lemmas.Bool.{cases_lt}
-use Rattle.std.proofs.lemmas.Bool.Decides.{nat_tests}
+use Rattle.std.proofs.lemmas.Bool.{and_parts, cases_lt, ltb-true}
 use Rattle.std.proofs.lemmas.List.Sums.{prefix_len-le-length, position_or_len_is, fails_before_first, passes_at_first}
 use Rattle.std.proofs.lemmas.List.FromFn.{get_or-range_with_len, length-range_with_len}
 use Rattle.std.proofs.lemmas.List.Folds.{find_at}
-use Rattle.std.proofs.lemmas.List.{ext_get_or, get_or-replicate, get_or-set_same, get_or_past, map-set, length-map, length-set, length-replicate}
-use Rattle.std.proofs.lemmas.Option.{slice_get-get_or, slice_get_past}
+use Rattle.std.proofs.lemmas.List.{ext_get_or, get_or_default, get_or-replicate, get_or-set_same, get_or_past, map-set, length-map, length-set, length-replicate}
+use Rattle.std.proofs.lemmas.Option.{none-some, slice_get-get_or, slice_get_past}
 use Rattle.least_free.specs.Taken.{least_free}
 use Rattle.ob_arena.specs.declared.phase.Phase.{Phase}
 use Rattle.ob_arena.specs.declared.phase.Phase.TheVariants.{Vacant, Occupied, Retired}
 use Rattle.ob_arena.specs.Phases.{is_vacant, is_occupied, is_retired, is_in_use}
 use Rattle.ob_arena.specs.Slots.{Slots, IsFilled, is_vacant_at, least_vacant, with_body, without_body, with_retired, vacant_slots}
 use Rattle.ob_arena.specs.Arena.{slots_shown, IsTied}
-
--- a read of a list within it does not look at the default
-pub same_default : {A : Type 0} (xs : List A) (i : ℕ) (d e : A) → i < length xs → get_or xs i d ≡ get_or xs i e
-same_default [] i d e lt = absurd (omega arith)
-same_default (x ∷ xs) zero d e lt = refl
-same_default (x ∷ xs) (suc i) d e lt = same_default xs i d e (omega arith)
-
-lt_of : (a b : ℕ) → ltb a b ≡ true → a < b
-lt_of a b h = grind (arith, nat_tests)
 
 module _ {B : Type 0} (ss : List (Option B)) (ps : List Phase) (taken : List Bool) (tied : IsTied ss ps taken) where
   pub length-phases : length ps ≡ length ss
@@ -55,13 +45,13 @@ module _ {B : Type 0} (ss : List (Option B)) (ps : List Phase) (taken : List Boo
 
   pub vacant_within : (k : ℕ) (p : Phase) → k < length ps → p ≡ get_or ps k p
       → is_vacant p ≡ is_vacant_at (slots_shown ss ps) k
-  vacant_within k p lt read = ap is_vacant (read ∙ same_default ps k p Vacant lt)
+  vacant_within k p lt read = ap is_vacant (read ∙ get_or_default ps k p Vacant lt)
       ∙ sym (vacant_phase k ∙ ap (λ (b : Bool). b && is_vacant (get_or ps k Vacant))
       (lt-ltb k (length ss) (let n = length-phases in omega arith)))
 
   pub occupied_within : (k : ℕ) (p : Phase) → k < length ps → p ≡ get_or ps k p
       → is_occupied p ≡ is_some (get_or ss k None)
-  occupied_within k p lt read = ap is_occupied (read ∙ same_default ps k p Vacant lt) ∙ occupied_at k
+  occupied_within k p lt read = ap is_occupied (read ∙ get_or_default ps k p Vacant lt) ∙ occupied_at k
 
   -- what is known of a vacant slot
   pub record IsFree (k : ℕ) : Type 0 where
@@ -83,14 +73,10 @@ module _ {B : Type 0} (ss : List (Option B)) (ps : List Phase) (taken : List Boo
   free_at k lt = slice_get-get_or taken k false (let n = length-taken in omega arith)
       ∙ ap Some (ap (λ (l : List Bool). get_or l k false) tied.in_use ∙ get_or-map is_in_use ps k Vacant)
 
-  both_of : (a b : Bool) → (a && b) ≡ true → (a ≡ true) × (b ≡ true)
-  both_of true b h = (refl, h)
-  both_of false b h = cc
-
   pub free_slot : (k : ℕ) → is_vacant_at (slots_shown ss ps) k ≡ true → IsFree k
   free_slot k h =
-      let both = both_of (ltb k (length ss)) (is_vacant (get_or ps k Vacant)) (sym (vacant_phase k) ∙ h) in
-      let lt : k < length ss = lt_of k (length ss) both.0 in
+      let both = and_parts (ltb k (length ss)) (is_vacant (get_or ps k Vacant)) (sym (vacant_phase k) ∙ h) in
+      let lt : k < length ss = ltb-true k (length ss) both.0 in
       let phase = vacant_is (get_or ps k Vacant) both.1 in
       record {
         within = lt;
@@ -118,11 +104,8 @@ module _ {B : Type 0} (ss : List (Option B)) (ps : List Phase) (taken : List Boo
   within_of k x e = elim (cases_lt k (length ss)) [
     | inl lt ↦ lt
     | inr ge ↦
-        absurd (never (sym (get_or_past ss k None ge) ∙ e))
+        absurd (none-some x (sym (get_or_past ss k None ge) ∙ e))
   ]
-    where
-      never : None ≡ Some x → ⊥
-      never h = cc
 
   pub held_slot : (k : ℕ) → IsSome (get_or ss k None) → IsHeld k
   held_slot k h =

@@ -1,10 +1,11 @@
 -- Bodies are read as they were spelled.
-use Rattle.std.proofs.Common.{◌≡◌, ℕ, zero, suc, ◌<◌, ◌^◌, ◌&&◌, not, Bool, true, false, cond, leb, ltb, List, ◌++◌, Option, Some, None, Ok, refl, ap, subst, arith, eq-eqb}
-use Rattle.std.proofs.lemmas.Bool.{eqb-true, le-leb, leb-true, lt-ltb, ltb-true}
+use Rattle.std.proofs.Common.{◌≡◌, ℕ, zero, suc, ◌<◌, ◌^◌, ◌&&◌, not, Bool, true, cond, leb, ltb, List, ◌++◌, Option, Some, None, Ok, refl, ap, subst, arith, eq-eqb}
+use Rattle.std.proofs.lemmas.Bool.{eqb-true, le-leb, leb-true, lt-ltb, ltb-true, not-true}
+use Rattle.std.proofs.lemmas.Option.{cond_some}
 use Rattle.ob_codec.specs.Codecs.{as_codec, both_codec, flag_codec, form_takes, option_codec, some_codec, tagged_codec, u32_codec, u64_codec}
 use Rattle.ob_codec.specs.Laws.{IsCodec, Takes}
 use Rattle.ob_codec.specs.Spelling.{Any, AreBytes, BothFit, OptionFits}
-use Rattle.ob_codec.specs.Steps.{both-true, guard-some, true-both}
+use Rattle.ob_codec.specs.Steps.{both-true, true-both}
 use Rattle.ob_body.specs.declared.body.Body.{Body}
 use Rattle.ob_body.specs.declared.body.Body.TheVariants.{Event, Mutex, Semaphore, Timer}
 use Rattle.ob_body.specs.MutexState.{MutexState}
@@ -33,7 +34,7 @@ semaphore-back : (p : ℕ × ℕ) (s : SemaphoreState) → BothFit is_four is_fo
     → (semaphore_parts s ≡ p) × SemaphoreFits s
 semaphore-back p s fits e =
     let made : SemaphoreState = record { count = p.0; maximum = p.1 } in
-    let g = guard-some (may_count p.0 p.1) made s e in
+    let g = cond_some (may_count p.0 p.1) made s e in
     let a = both-true (ltb 0 p.1) (leb p.0 p.1 && leb p.1 2147483647) g.0 in
     let b = both-true (leb p.0 p.1) (leb p.1 2147483647) a.1 in
     subst (λ (z : SemaphoreState). (semaphore_parts z ≡ p)
@@ -57,17 +58,13 @@ own-true (Some owner) recursion abandoned can =
     true-both (ltb 0 recursion) (leb recursion 2147483647 && not abandoned) (lt-ltb _ _ can.0)
     (true-both (leb recursion 2147483647) (not abandoned) (le-leb _ _ can.1) (ap not can.2))
 
-not-false : (b : Bool) → not b ≡ true → b ≡ false
-not-false true e = absurd cc
-not-false false e = refl
-
 own-possible : (owner : Option ℕ) (recursion : ℕ) (abandoned : Bool) → may_own owner recursion abandoned ≡ true
     → mutex.IsPossible owner recursion abandoned
 own-possible None recursion abandoned e = eqb-true recursion 0 e
 own-possible (Some owner) recursion abandoned e =
     let a = both-true (ltb 0 recursion) (leb recursion 2147483647 && not abandoned) e in
     let b = both-true (leb recursion 2147483647) (not abandoned) a.1 in
-    (ltb-true _ _ a.0, leb-true _ _ b.0, not-false abandoned b.1)
+    (ltb-true _ _ a.0, leb-true _ _ b.0, not-true abandoned b.1)
 
 own-small : (owner : Option ℕ) (recursion : ℕ) (abandoned : Bool) → mutex.IsPossible owner recursion abandoned
     → recursion < 2 ^ 32
@@ -87,7 +84,7 @@ mutex-back : (p : Option ℕ × (ℕ × Bool)) (m : MutexState) → PartsFit p �
     → (mutex_parts m ≡ p) × MutexFits m
 mutex-back p m fits e =
     let made : MutexState = record { owner = p.0; recursion = p.1.0; abandoned = p.1.1 } in
-    let g = guard-some (may_own p.0 p.1.0 p.1.1) made m e in
+    let g = cond_some (may_own p.0 p.1.0 p.1.1) made m e in
     subst (λ (z : MutexState). (mutex_parts z ≡ p) × MutexFits z) g.1 (refl, (fits.0, own-possible p.0 p.1.0 p.1.1 g.0))
 
 pub mutex_codec : IsCodec mutex_text mutex_at MutexFits

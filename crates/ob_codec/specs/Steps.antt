@@ -1,5 +1,5 @@
 -- Steps of reading that met no fault.
-use Rattle.std.proofs.Common.{◌≡◌, ℕ, suc, ◌+◌, ◌&&◌, Bool, true, false, cond, List, [], ◌∷◌, ◌++◌, take, drop, Some, None, Result, Ok, Err, refl, sym, ap, ◌∙◌, append_assoc, arith, inl, inr}
+use Rattle.std.proofs.Common.{◌≡◌, ℕ, suc, ◌+◌, ◌&&◌, Bool, true, false, cond, List, [], ◌∷◌, ◌++◌, take, drop, Result, Ok, Err, refl, sym, ap, ◌∙◌, append_assoc, arith, inl, inr}
 use Rattle.std.proofs.lemmas.Bool.{cases_lt}
 use Rattle.std.proofs.lemmas.List.{length-take, get_or-drop, get_or-take, get_or_past}
 use Rattle.ob_codec.specs.declared.fault.TextFault.{TextFault}
@@ -36,17 +36,13 @@ pub guard_passed : {A : Type 0} (b : Bool) (d : TextFault) (x y : A) → cond b 
 guard_passed true d x y e = (refl, cc)
 guard_passed false d x y e = absurd cc
 
--- a test of two parts, and what is given where a test holds
+-- a test of two parts
 pub both-true : (a b : Bool) → (a && b) ≡ true → (a ≡ true) × (b ≡ true)
 both-true true b e = (refl, e)
 both-true false b e = absurd cc
 
 pub true-both : (a b : Bool) → a ≡ true → b ≡ true → (a && b) ≡ true
 true-both a b e f = ap (λ (z : Bool). z && b) e ∙ f
-
-pub guard-some : {A : Type 0} (b : Bool) (x y : A) → cond b (Some x) None ≡ Some y → (b ≡ true) × (x ≡ y)
-guard-some true x y e = (refl, cc)
-guard-some false x y e = absurd cc
 
 abbrev done : {A : Type 0} → A → Result A TextFault
 done x = Ok x

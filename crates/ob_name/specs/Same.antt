@@ -1,18 +1,14 @@
 -- Names that are the same by test are one.
-use Rattle.std.proofs.Common.{◌≡◌, ℕ, ◌&&◌, Bool, true, false, refl, ap, sym}
+use Rattle.std.proofs.Common.{◌≡◌, ℕ, true, refl, ap, sym}
 use Rattle.std.specs.Bool.{Decides}
 use Rattle.std.specs.Str.{bytes_eq}
 use Rattle.std.specs.Cmp.{IsEquivalence, IsPartialEquivalence, partial_equiv_from_equiv, both_ways}
+use Rattle.std.proofs.lemmas.Bool.{and_parts}
 use Rattle.std.proofs.lemmas.Bool.Decides.{Decides-eqb}
 use Rattle.std.proofs.lemmas.Slice.Eq.{bytes_eq-Decides}
 use Rattle.ob_name.specs.Names.{Namespace, ObjectName, Global, Session}
 use Rattle.ob_name.specs.Keys.{fed_name}
 use Rattle.ob_name.specs.Listing.{same_name, same_space}
-
-both : (a b : Bool) → a && b ≡ true → (a ≡ true) × (b ≡ true)
-both true true passes = (refl, refl)
-both true false passes = absurd cc
-both false b passes = absurd cc
 
 same_space-Decides : (a b : Namespace) → Decides (same_space a b) (a ≡ b)
 same_space-Decides Global Global = (λ _. refl, λ _. refl)
@@ -29,7 +25,7 @@ same_space-Decides (Session m) (Session n) = (
 pub same_name-Decides : (a b : ObjectName) → Decides (same_name a b) (a ≡ b)
 same_name-Decides a b = (
   λ is.
-      let parts = both (same_space a.space b.space) (bytes_eq a.base b.base) is in
+      let parts = and_parts (same_space a.space b.space) (bytes_eq a.base b.base) is in
       let space : a.space ≡ b.space = (same_space-Decides a.space b.space).0 parts.0 in
       let base : a.base ≡ b.base = (bytes_eq-Decides a.base b.base).0 parts.1 in
       λ i. record { space = space i; base = base i },

@@ -1,10 +1,10 @@
 -- Names are read as they were spelled.
 use Rattle.std.proofs.Common.{◌≡◌, ℕ, zero, suc, ◌<◌, ◌^◌, Bool, cond, leb, List, length, Some, None, refl, sym, ap, ◌∙◌, subst, arith}
 use Rattle.std.proofs.lemmas.Bool.{le-leb, leb-true}
+use Rattle.std.proofs.lemmas.Option.{cond_some}
 use Rattle.ob_codec.specs.Codecs.{both_codec, some_codec, string_codec, u32_codec}
 use Rattle.ob_codec.specs.Laws.{IsCodec}
 use Rattle.ob_codec.specs.Spelling.{BothFit, StringFits}
-use Rattle.ob_codec.specs.Steps.{guard-some}
 use Rattle.ob_name.specs.Keys.{space_number}
 use Rattle.ob_name.specs.Names.{Namespace, ObjectName, home}
 use Rattle.ob_name.specs.Spelling.{NameFits, name_in_session, name_parts, name_text, name_text_at, short_name}
@@ -27,7 +27,7 @@ there name fits =
 back : (p : ℕ × List ℕ) (name : ObjectName) → PartsFit p → short_name p ≡ Some name
     → (name_parts name ≡ p) × NameFits name
 back p name fits e =
-    let g = guard-some (leb (length p.1) 260) (name_in_session p) name e in
+    let g = cond_some (leb (length p.1) 260) (name_in_session p) name e in
     subst (λ (z : ObjectName). (name_parts z ≡ p) × NameFits z) g.1 (
       (λ i. (number-home p.0 i, p.1)),
       record {

@@ -1,5 +1,5 @@
 -- Tables within their limits pass the tests of what is read.
-use Rattle.std.proofs.Common.{◌≡◌, ℕ, suc, ◌+◌, ◌≤◌, ◌&&◌, Bool, true, leb, List, [], ◌∷◌, length, Option, refl, ap, ◌∙◌}
+use Rattle.std.proofs.Common.{◌≡◌, ℕ, suc, ◌+◌, ◌≤◌, ◌&&◌, true, leb, List, [], ◌∷◌, length, Option, refl}
 use Rattle.std.proofs.lemmas.Bool.{le-leb}
 use Rattle.std.specs.List.{list_all}
 use Rattle.ob_codec.specs.Steps.{true-both}

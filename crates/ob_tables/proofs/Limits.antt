@@ -2,8 +2,8 @@
 use Rattle.std.proofs.Common.{◌≡◌, ℕ, zero, suc, ◌<◌, ◌≤◌, List, [], ◌∷◌, ◌++◌, length, Option, Some, None, refl, ap, ◌∙◌, arith, get_or, set, ⊎_elim, cond, true, leb, ◌↔◌}
 use Rattle.std.specs.Prelude.{is_some}
 use Rattle.std.proofs.lemmas.Bool.{cases_lt, le-leb, leb-true}
-use Rattle.std.proofs.lemmas.List.{length-append, length-set}
-use Rattle.std.proofs.lemmas.List.Sums.{sum_by-cons}
+use Rattle.std.proofs.lemmas.List.{get_or_default, length-append, length-set}
+use Rattle.std.proofs.lemmas.List.Sums.{count_by-le-length, sum_by-cons}
 use Rattle.ob_tables.specs.declared.entry.Entry.{Entry}
 use Rattle.ob_tables.specs.Table.{free_place, with_entry}
 use Rattle.ob_tables.specs.Counts.{entries_in}
@@ -18,9 +18,7 @@ entries_in-none t = omega (arith, sum_by-cons (λ y. cond (is_some y) 1 0) None 
 
 -- there are as many entries as places, or fewer
 pub entries_in-le : (t : List (Option Entry)) → entries_in t ≤ length t
-entries_in-le [] = omega arith
-entries_in-le (None ∷ t) = omega (arith, entries_in-none t, entries_in-le t)
-entries_in-le (Some x ∷ t) = omega (arith, entries_in-some x t, entries_in-le t)
+entries_in-le = count_by-le-length is_some
 
 -- a table without a free place has as many
 pub full_entries : (t : List (Option Entry)) → length t ≤ free_place t → entries_in t ≡ length t
@@ -39,15 +37,9 @@ free_place-le [] = omega arith
 free_place-le (None ∷ t) = omega arith
 free_place-le (Some x ∷ t) = omega (arith, free_place-le t)
 
--- a read of a list within it does not look at the default
-same_default : {A : Type 0} (xs : List A) (i : ℕ) (d e : A) → i < length xs → get_or xs i d ≡ get_or xs i e
-same_default [] i d e lt = absurd (omega arith)
-same_default (x ∷ xs) zero d e lt = refl
-same_default (x ∷ xs) (suc i) d e lt = same_default xs i d e (omega arith)
-
 pub table_is : (ts : List (List (Option Entry))) (p : ℕ) (t : List (Option Entry)) → p < length ts → t ≡ get_or ts p t
     → t ≡ table_of ts p
-table_is ts p t lt is = is ∙ same_default ts p t [] lt
+table_is ts p t lt is = is ∙ get_or_default ts p t [] lt
 
 -- each table of the list is within the limit
 pub record AreShort (ts : List (List (Option Entry))) (m : ℕ) : Type 0 where
