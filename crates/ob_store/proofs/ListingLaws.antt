@@ -11,6 +11,7 @@ use Rattle.std.proofs.lemmas.Map.Entries.{none_past_head}
 use Rattle.std.proofs.lemmas.Map.Keys.{IsDistinct-push, IsDistinct-tail}
 use Rattle.std.proofs.lemmas.Map.Made.{IsDistinct-keys_filter, is_some-lookup}
 use Rattle.std.proofs.lemmas.Map.Views.{Contains-from_lookup, lookup-from_Contains}
+use Rattle.std.proofs.lemmas.Option.{none-some}
 use Rattle.ob_rights.specs.declared.handle_flags.HandleFlags.{HandleFlags}
 use Rattle.pin_core.specs.declared.id.Id.{Id}
 use Rattle.pin_core.specs.Holds.{same_id}
@@ -23,7 +24,7 @@ use Rattle.ob_tables.specs.declared.entry.Entry.{Entry}
 use Rattle.ob_tables.specs.Counts.{handles_among, handles_in}
 use Rattle.ob_tables.specs.Table.{entry_at}
 use Rattle.ob_tables.specs.Tables.{table_of, with_child, with_entry_of, with_flags_of, with_process, without_entry_of}
-use Rattle.ob_tables.proofs.Counting.{found_counts, handles_among-with_child, handles_among-with_entry, handles_among-with_flags, handles_among-with_process, handles_among-without_entry, handles_in-among, handles_in-inherited, none_some, one_id, one_of, one_of-same, same_id-same, some_within}
+use Rattle.ob_tables.proofs.Counting.{found_counts, handles_among-with_child, handles_among-with_entry, handles_among-with_flags, handles_among-with_process, handles_among-without_entry, handles_in-among, handles_in-inherited, one_id, one_of, one_of-same, same_id-same, some_within}
 use Rattle.ob_store.specs.Objects.{Object, ObjectsState}
 use Rattle.pin_core.specs.Worlds.{slot_of}
 use Rattle.ob_store.specs.Agreement.{Agrees, AreBorn, IsAgreed}
@@ -93,7 +94,7 @@ others_have : (ts : Tables) (objects : ObjectSlots) (p : ℕ) (e : Entry) (k : �
     → has_handles o.id (with_entry_of ts p e) ≡ has_handles o.id ts
 others_have ts objects p e k o true placed table empty at is =
     let slot : k ≡ e.id.slot = sym (placed k o at) ∙ ap (λ (i : Id). i.slot) (one_id o.id e.id is) in
-    absurd (none_some o (sym empty ∙ ap (λ j. get_or objects j None) (sym slot) ∙ at))
+    absurd (none-some o (sym empty ∙ ap (λ j. get_or objects j None) (sym slot) ∙ at))
 others_have ts objects p e k o false placed table empty at is =
     let sum = handles_among-with_entry o.id ts p e table in
     let nothing = other_one o.id e is in
@@ -282,7 +283,7 @@ module _ (rows : Rows) (ts : Tables) (objects : ObjectSlots) (births : ℕ)
       where
         apart : (row : Row) → IsRow ts objects row → same_id row.1 e.id ≡ false
         apart row is = false_from_ne_true (same_id row.1 e.id)
-            (λ one. none_some row.0 (sym nameless ∙ row_names ts objects o row placed (here objects e o at own) is
+            (λ one. none-some row.0 (sym nameless ∙ row_names ts objects o row placed (here objects e o at own) is
             (one_id row.1 e.id one ∙ sym own)))
 
         others : All (λ (row : Row). same_id row.1 e.id ≡ false) (rows_of ts objects births)

@@ -1,17 +1,17 @@
 -- How the handles of the object in a slot change with each change of the tables.
-use Rattle.std.proofs.Common.{◌≡◌, ◌≢◌, ℕ, ◌+◌, ◌*◌, ◌<◌, ◌≤◌, List, [], ◌∷◌, length, Option, Some, None, refl, ap, ◌∙◌, sym, arith, map, zero, suc, Bool, true, false, cond, eqb}
+use Rattle.std.proofs.Common.{◌≡◌, ◌≢◌, ℕ, ◌+◌, ◌*◌, ◌<◌, ◌≤◌, List, [], ◌∷◌, length, Option, Some, None, refl, ap, ◌∙◌, sym, arith, zero, suc, Bool, true, false, cond, eqb}
 use Rattle.std.proofs.lemmas.Bool.Decides.{nat_tests}
-use Rattle.std.proofs.lemmas.List.Sums.{sum_by-set, sum_by-le, sum_by-cons, sum_by-le-sum_by, sum_by-append, count_by-le-length}
+use Rattle.std.proofs.lemmas.List.Sums.{sum_by-le, sum_by-cons, sum_by-le-sum_by, count_by-le-length}
 use Rattle.std.proofs.lemmas.List.Elements.{All-from_get_or}
 use Rattle.pin_core.specs.Holds.{same_id}
 use Rattle.pin_core.specs.declared.id.Id.{Id}
 use Rattle.ob_rights.specs.declared.handle_flags.HandleFlags.{HandleFlags}
 use Rattle.ob_tables.specs.declared.entry.Entry.{Entry}
-use Rattle.ob_tables.specs.Table.{at, entry_at, with_entry, without_entry, with_flags}
-use Rattle.ob_tables.specs.Inheritance.{inheritable, inherited}
+use Rattle.ob_tables.specs.Table.{at, entry_at}
+use Rattle.ob_tables.specs.Inheritance.{inherited}
 use Rattle.ob_tables.specs.Counts.{names, names_slot, handles_in, handles_among, slot_handles_in, slot_handles}
 use Rattle.ob_tables.specs.Tables.{table_of, with_process, with_child, with_entry_of, without_entry_of, with_flags_of, without_entries, IsBounded}
-use Rattle.ob_tables.proofs.Counting.{count_by-with_entry, count_by-without_entry, count_by-with_flags, count_by-trimmed, count_by-inheritable, inheritable_falls, found_table, same_id-same}
+use Rattle.ob_tables.proofs.Counting.{counted-with_child, counted-with_entry, counted-with_flags, counted-with_process, counted-without_entries, counted-without_entry, same_id-same}
 
 -- 1 for an entry of the object in the slot, and else 0
 abbrev pub one_in : ℕ → Entry → ℕ
@@ -31,57 +31,30 @@ one_in-other e slot other = let apart : eqb e.id.slot slot ≡ false = by (eqb e
 
 pub slot_handles-with_entry : (slot : ℕ) (ts : List (List (Option Entry))) (p : ℕ) (e : Entry) → p < length ts
     → slot_handles slot (with_entry_of ts p e) ≡ slot_handles slot ts + one_in slot e
-slot_handles-with_entry slot ts p e h = omega (
-  arith,
-  sum_by-set (slot_handles_in slot) ts p (with_entry (table_of ts p) e) [] h,
-  count_by-with_entry (names_slot slot) refl (table_of ts p) e,
-)
+slot_handles-with_entry slot = counted-with_entry (names_slot slot) refl
 
 pub slot_handles-without_entry : (slot : ℕ) (ts : List (List (Option Entry))) (p value : ℕ) (e : Entry)
     → entry_at (table_of ts p) value ≡ Some e → slot_handles slot (without_entry_of ts p value) + one_in slot e
     ≡ slot_handles slot ts
-slot_handles-without_entry slot ts p value e is =
-    omega (
-      arith,
-      sum_by-set (slot_handles_in slot) ts p (without_entry (table_of ts p) value) []
-          (found_table ts p value e is),
-      count_by-without_entry (names_slot slot) refl (table_of ts p) value e is,
-    )
+slot_handles-without_entry slot = counted-without_entry (names_slot slot) refl
 
 pub slot_handles-with_flags : (slot : ℕ) (ts : List (List (Option Entry))) (p value : ℕ) (e : Entry)
     (flags : HandleFlags) → entry_at (table_of ts p) value ≡ Some e
     → slot_handles slot (with_flags_of ts p value flags) ≡ slot_handles slot ts
-slot_handles-with_flags slot ts p value e flags is =
-    omega (
-      arith,
-      sum_by-set (slot_handles_in slot) ts p (with_flags (table_of ts p) value flags) []
-          (found_table ts p value e is),
-      count_by-with_flags (names_slot slot) (λ _ _. refl)
-          (table_of ts p) value e flags is,
-    )
+slot_handles-with_flags slot = counted-with_flags (names_slot slot) refl (λ _ _. refl)
 
 pub slot_handles-with_process : (slot : ℕ) (ts : List (List (Option Entry)))
     → slot_handles slot (with_process ts) ≡ slot_handles slot ts
-slot_handles-with_process slot ts = sum_by-append (slot_handles_in slot) ts ([] ∷ []) ∙ omega arith
+slot_handles-with_process slot = counted-with_process (names_slot slot) refl
 
 pub slot_handles-with_child : (slot : ℕ) (ts : List (List (Option Entry))) (from : ℕ)
     → slot_handles slot (with_child ts from) ≡ slot_handles slot ts
     + slot_handles_in slot (inherited (table_of ts from))
-slot_handles-with_child slot ts from = sum_by-append (slot_handles_in slot) ts (inherited (table_of ts from) ∷ [])
-    ∙ omega (arith, sum_by-cons (slot_handles_in slot) (inherited (table_of ts from)) [])
+slot_handles-with_child slot = counted-with_child (names_slot slot) refl
 
 pub slot_handles-without_entries : (slot : ℕ) (ts : List (List (Option Entry))) (p : ℕ) → p < length ts
     → slot_handles slot (without_entries ts p) + slot_handles_in slot (table_of ts p) ≡ slot_handles slot ts
-slot_handles-without_entries slot ts p h = omega (arith, sum_by-set (slot_handles_in slot) ts p [] [] h)
-
--- a child's handles of a slot are among its parent's
-pub slot_handles_in-inherited : (slot : ℕ) (t : List (Option Entry))
-    → slot_handles_in slot (inherited t) ≤ slot_handles_in slot t
-slot_handles_in-inherited slot t = omega (
-  arith,
-  count_by-trimmed (names_slot slot) refl (map inheritable t),
-  count_by-inheritable (names_slot slot) (inheritable_falls (names_slot slot) refl) t,
-)
+slot_handles-without_entries slot = counted-without_entries (names_slot slot) refl
 
 -- no slot has more handles than the tables have places
 pub slot_handles-few : (slot processes handles : ℕ) (ts : List (List (Option Entry))) → IsBounded processes handles ts
