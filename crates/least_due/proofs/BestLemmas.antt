@@ -106,26 +106,12 @@ unwritten dues best place is but n = elim (cases_eq n place) [
   | inr ne ↦ but n ne
 ]
 
--- a moment is written at a place
-pub due_written : (dues best : List (Option ℕ)) (place : ℕ) (due : Option ℕ) → IsBest dues best
-    → IsBestBut place (set dues place due) best
-due_written dues best place due all n ne = all n ∙ ap
-    (λ x. sooner x (sooner (due_at best (2 * n + 1)) (due_at best (2 * n + 2))))
-    (sym (get_or-set_other dues place n due None ne))
-
 -- a place with no moment more
 pub no_more : (xs : List (Option ℕ)) (k : ℕ) → due_at (xs ++ None ∷ []) k ≡ due_at xs k
 no_more [] zero = refl
 no_more [] (suc k) = refl
 no_more (x ∷ xs) zero = refl
 no_more (x ∷ xs) (suc k) = no_more xs k
-
-pub same_best : (dues best dues' best' : List (Option ℕ)) → ((k : ℕ) → due_at dues' k ≡ due_at dues k)
-    → ((k : ℕ) → due_at best' k ≡ due_at best k) → IsBest dues best → IsBest dues' best'
-same_best dues best dues' best' ds bs all n = bs n ∙ all n
-    ∙ sym (ap (λ x. sooner x (sooner (due_at best' (2 * n + 1)) (due_at best' (2 * n + 2)))) (ds n)
-    ∙ ap (λ x. sooner (due_at dues n) (sooner x (due_at best' (2 * n + 2)))) (bs (2 * n + 1))
-    ∙ ap (λ x. sooner (due_at dues n) (sooner (due_at best (2 * n + 1)) x)) (bs (2 * n + 2)))
 
 -- a place that has a moment is there
 pub is_there : (xs : List (Option ℕ)) (k : ℕ) → IsSome (due_at xs k) → k < length xs
@@ -173,9 +159,6 @@ pub record IsLeastAmong (from count : ℕ) (dues : List (Option ℕ)) (least : O
   pub first : (place moment : ℕ) → place < count → due_at dues place ≡ Some moment → from ≤ moment
       → NotAfter least moment
 
-pub among_none : (from : ℕ) (dues : List (Option ℕ)) → IsLeastAmong from 0 dues None
-among_none from dues = record { stands = tt; from_on = tt; first = λ place moment lt is le. absurd (omega (arith, lt)) }
-
 since_stands : (from place : ℕ) (dues : List (Option ℕ)) (x : Option ℕ) → due_at dues place ≡ x
     → Stands dues (since from x) × IfSome (since from x) (λ moment. from ≤ moment)
 since_stands from place dues None is = (tt, tt)
@@ -217,24 +200,3 @@ among_more from count dues least among = record {
     here : Stands dues (since from (due_at dues count))
         × IfSome (since from (due_at dues count)) (λ moment. from ≤ moment)
     here = since_stands from count dues (due_at dues count) refl
-
-pub among_all : (from count : ℕ) (dues : List (Option ℕ)) (least : Option ℕ) → length dues ≤ count
-    → IsLeastAmong from count dues least → IsLeastSince from dues least
-among_all from count dues least all among = record {
-  stands = among.stands;
-  from_on = among.from_on;
-  first = λ place moment is le. among.first place moment (let there =
-      is_there dues place (subst (λ o. IsSome o) (sym is) refl) in omega (arith, there, all)) is le;
-}
-
--- where the least of all isn't before a moment, it is the least from there on; and where there is none, there is none
-pub from_least : (from : ℕ) (dues : List (Option ℕ)) (least : ℕ) → IsLeast dues (Some least) → from ≤ least
-    → IsLeastSince from dues (Some least)
-from_least from dues least is le = record {
-  stands = is.stands;
-  from_on = le;
-  first = λ place moment at after. is.first place moment at;
-}
-
-pub from_none : (from : ℕ) (dues : List (Option ℕ)) → IsLeast dues None → IsLeastSince from dues None
-from_none from dues is = record { stands = tt; from_on = tt; first = λ place moment at after. is.first place moment at }

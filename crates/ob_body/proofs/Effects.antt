@@ -7,7 +7,7 @@ use Rattle.ob_body.specs.declared.body.Body.{Body}
 use Rattle.ob_body.specs.declared.body.Body.TheVariants.{Event, Mutex, Semaphore, Timer}
 use Rattle.ob_body.specs.Mutex as mutex
 use Rattle.ob_body.specs.MutexState.{MutexState}
-use Rattle.ob_body.specs.Body.{is_signaled, has_room, after_acquire, after_set, after_reset, after_post, after_unlock, after_abandon, after_clear_owner, after_arm, after_disarm, after_fire}
+use Rattle.ob_body.specs.Body.{is_signaled, has_room, after_acquire, after_set, after_reset, after_post, after_unlock, after_abandon, after_fire}
 
 -- what is so of each mutex without an owner and of each with one is so of each
 pub by_owner : (P : MutexState → Type 0)
@@ -77,13 +77,6 @@ room_after_abandon limit u t (Mutex m) h = by_owner
 room_after_abandon limit u t (Semaphore s) h = h
 room_after_abandon limit u t (Timer m) h = h
 
-pub room_after_clear_owner : (limit t : ℕ) (b : Body) → has_room limit t b ≡ true
-    → has_room limit t (after_clear_owner b) ≡ true
-room_after_clear_owner limit t (Event e) h = h
-room_after_clear_owner limit t (Mutex m) h = refl
-room_after_clear_owner limit t (Semaphore s) h = h
-room_after_clear_owner limit t (Timer m) h = h
-
 -- room below a limit is room below a greater one
 pub room_at_more : (limit more t : ℕ) (b : Body) → limit ≤ more → has_room limit t b ≡ true → has_room more t b ≡ true
 room_at_more limit more t (Event e) le h = h
@@ -93,20 +86,7 @@ room_at_more limit more t (Mutex m) le h = by_owner
 room_at_more limit more t (Semaphore s) le h = h
 room_at_more limit more t (Timer m) le h = h
 
--- time leaves the room of all threads
-pub room_after_arm : (limit t due now : ℕ) (b : Body) → has_room limit t b ≡ true
-    → has_room limit t (after_arm due now b) ≡ true
-room_after_arm limit t due now (Event e) h = h
-room_after_arm limit t due now (Mutex m) h = h
-room_after_arm limit t due now (Semaphore s) h = h
-room_after_arm limit t due now (Timer m) h = refl
-
-pub room_after_disarm : (limit t : ℕ) (b : Body) → has_room limit t b ≡ true → has_room limit t (after_disarm b) ≡ true
-room_after_disarm limit t (Event e) h = h
-room_after_disarm limit t (Mutex m) h = h
-room_after_disarm limit t (Semaphore s) h = h
-room_after_disarm limit t (Timer m) h = refl
-
+-- firing leaves the room of all threads
 pub room_after_fire : (limit t now : ℕ) (b : Body) → has_room limit t b ≡ true
     → has_room limit t (after_fire now b) ≡ true
 room_after_fire limit t now (Event e) h = h

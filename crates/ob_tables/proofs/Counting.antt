@@ -1,12 +1,11 @@
 -- How the number of entries, and of those that name an object, changes with each change of the tables.
-use Rattle.std.proofs.Common.{◌≡◌, ℕ, zero, suc, ◌+◌, ◌*◌, ◌<◌, ◌≤◌, List, [], ◌∷◌, length, Option, Some, None, refl, ap, ◌∙◌, sym, arith, get_or, set, map, Bool, true, false, cond, ltb, inl, inr}
-use Rattle.std.specs.Prelude.{count_by, is_some, sum_by}
+use Rattle.std.proofs.Common.{◌≡◌, ℕ, zero, suc, ◌+◌, ◌<◌, ◌≤◌, List, [], ◌∷◌, length, Option, Some, None, refl, ap, ◌∙◌, sym, arith, get_or, set, map, Bool, true, false, cond, ltb, inl, inr}
+use Rattle.std.specs.Prelude.{count_by, sum_by}
 use Rattle.std.proofs.lemmas.Bool.{cases_lt}
 use Rattle.std.proofs.lemmas.Bool.Decides.{nat_tests}
 use Rattle.std.proofs.lemmas.List.{get_or_past}
 use Rattle.std.proofs.lemmas.Option.{none-some}
-use Rattle.std.proofs.lemmas.List.Sums.{sum_by-cons, sum_by-append, sum_by-set, get_or-le-sum_by, sum_by-le-sum_by, sum_by-le}
-use Rattle.std.proofs.lemmas.List.Elements.{All-from_get_or}
+use Rattle.std.proofs.lemmas.List.Sums.{sum_by-cons, sum_by-append, sum_by-set, get_or-le-sum_by}
 use Rattle.pin_core.specs.Holds.{same_id}
 use Rattle.ob_rights.specs.declared.handle_flags.HandleFlags.{HandleFlags}
 use Rattle.ob_rights.specs.Rights.{within}
@@ -14,7 +13,7 @@ use Rattle.pin_core.specs.declared.id.Id.{Id}
 use Rattle.ob_tables.specs.declared.entry.Entry.{Entry}
 use Rattle.ob_tables.specs.Table.{place_of, entry_at, with_entry, without_entry, flagged, with_flags}
 use Rattle.ob_tables.specs.Inheritance.{before, trimmed, inheritable, inherited}
-use Rattle.ob_tables.specs.Counts.{names, handles_in, handles_among, entries_in}
+use Rattle.ob_tables.specs.Counts.{names, handles_in, handles_among}
 use Rattle.ob_tables.specs.Tables.{table_of, with_entry_of, without_entry_of, with_flags_of, with_process, with_child, without_entries}
 
 -- 1 for an entry of the object, and else 0
@@ -188,21 +187,6 @@ module _ (p : Option Entry → Bool) (none : p None ≡ false) where
   pub count_by-inherited : (t : List (Option Entry)) → count_by p (inherited t) ≤ count_by p t
   count_by-inherited t = omega (arith, count_by-trimmed (map inheritable t), count_by-inheritable t)
 
--- entries of one table
-pub entries_in-with_entry : (t : List (Option Entry)) (e : Entry) → entries_in (with_entry t e) ≡ entries_in t + 1
-entries_in-with_entry = count_by-with_entry is_some refl
-
-pub entries_in-without_entry : (t : List (Option Entry)) (value : ℕ) (e : Entry) → entry_at t value ≡ Some e
-    → entries_in (without_entry t value) + 1 ≡ entries_in t
-entries_in-without_entry = count_by-without_entry is_some refl
-
-pub entries_in-with_flags : (t : List (Option Entry)) (value : ℕ) (e : Entry) (flags : HandleFlags)
-    → entry_at t value ≡ Some e → entries_in (with_flags t value flags) ≡ entries_in t
-entries_in-with_flags = count_by-with_flags is_some refl (λ _ _. refl)
-
-pub entries_in-inherited : (t : List (Option Entry)) → entries_in (inherited t) ≤ entries_in t
-entries_in-inherited = count_by-inherited is_some refl
-
 -- handles of an object, over all tables
 pub handles_among-with_entry : (id : Id) (ts : List (List (Option Entry))) (p : ℕ) (e : Entry) → p < length ts
     → handles_among id (with_entry_of ts p e) ≡ handles_among id ts + one_of id e
@@ -242,17 +226,3 @@ found_counts ts p value e is = omega (arith, handles_among-without_entry e.id ts
 pub handles_in-among : (id : Id) (ts : List (List (Option Entry))) (p : ℕ) → p < length ts
     → handles_in id (table_of ts p) ≤ handles_among id ts
 handles_in-among id ts p h = get_or-le-sum_by (handles_in id) ts p [] h
-
--- no object has more handles than there are entries
-named_is_some : (id : Id) (x : Option Entry) → cond (names id x) 1 0 ≤ cond (is_some x) 1 0
-named_is_some id None = omega arith
-named_is_some id (Some e) = elim (same_id e.id id) as (λ b. cond b 1 0 ≤ 1) [ true ↦ omega arith | false ↦ omega arith ]
-
-pub handles_in-le : (id : Id) (t : List (Option Entry)) → handles_in id t ≤ entries_in t
-handles_in-le id t = sum_by-le-sum_by (λ x. cond (names id x) 1 0) (λ x. cond (is_some x) 1 0) t
-    (λ x. named_is_some id x)
-
-pub handles_among-le : (id : Id) (ts : List (List (Option Entry))) (m : ℕ) → ((p : ℕ) → entries_in (table_of ts p) ≤ m)
-    → handles_among id ts ≤ length ts * m
-handles_among-le id ts m each = sum_by-le (handles_in id) m ts
-    (All-from_get_or (λ t. handles_in id t ≤ m) ts [] (λ p h. omega (arith, handles_in-le id (get_or ts p []), each p)))

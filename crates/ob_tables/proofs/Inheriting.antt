@@ -1,11 +1,10 @@
 -- Laws of the table that a child inherits.
-use Rattle.std.proofs.Common.{drop, set, length-take, add-one, ◌≡◌, ℕ, zero, suc, ◌+◌, ◌<◌, ◌≤◌, List, [], ◌∷◌, ◌++◌, length, length-take-le, map, take, Option, Some, None, refl, ap, ◌∙◌, sym, arith, get_or, true, false, cond, ltb}
+use Rattle.std.proofs.Common.{drop, set, length-take, add-one, ◌≡◌, ℕ, zero, suc, ◌+◌, ◌<◌, ◌≤◌, List, [], ◌∷◌, ◌++◌, length, length-take-le, map, take, Option, Some, None, refl, ap, ◌∙◌, sym, arith, get_or, true, false}
 use Rattle.std.specs.List.{take-map}
 use Rattle.std.specs.Prelude.{is_some}
 use Rattle.std.proofs.lemmas.List.{map-append, length-map, length-append, take_more, take_all, drop_all, append-nil}
 use Rattle.ob_tables.specs.declared.entry.Entry.{Entry}
-use Rattle.std.proofs.Math.ListN.{get_or-map}
-use Rattle.ob_tables.specs.Table.{at, place_of, entry_at}
+use Rattle.ob_tables.specs.Table.{at}
 use Rattle.ob_tables.specs.Inheritance.{before, trimmed, inheritable, inherited}
 
 before_some : (x : Option Entry) (t : List (Option Entry)) (e : Entry)
@@ -100,16 +99,6 @@ inherited_end t j lt some =
     ap (λ (s : List (Option Entry)). length (inherited s)) (take_more t j None lt)
     ∙ inherited_some (take j t) (get_or t j None) found.0 found.1
     ∙ ap (λ (n : ℕ). n + 1) (length-take-le j t (omega arith))
-
--- a child's handle has the entry of its parent's, where that is inheritable, and none else
-pub entry_at-inherited : (t : List (Option Entry)) (value : ℕ)
-    → entry_at (inherited t) value ≡ inheritable (entry_at t value)
-entry_at-inherited t value = elim (ltb value 4) as
-    (λ b. cond b None (at (inherited t) (place_of value)) ≡ inheritable (cond b None (at t (place_of value)))) [
-      | true ↦ refl
-      | false ↦ at-trimmed (map inheritable t) (place_of value)
-          ∙ get_or-map inheritable t (place_of value) None
-    ]
 
 -- one more place of a copy has only what is inherited
 copied_suc : (base : List (Option Entry)) (i : ℕ) → i < length base

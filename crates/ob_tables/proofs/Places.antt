@@ -2,7 +2,7 @@
 use Rattle.std.proofs.Common.{◌≡◌, ℕ, zero, suc, ◌+◌, ◌-◌, ◌<◌, ◌≤◌, List, [], ◌∷◌, ◌++◌, length, map, replicate, append_assoc, Option, Some, None, refl, ap, ◌∙◌, sym, subst, arith, get_or, set, Bool, true, false, cond, ltb}
 use Rattle.std.specs.Prelude.{is_some, IsSome, slice_get}
 use Rattle.std.proofs.Math.ListN.{get_or-map}
-use Rattle.std.proofs.lemmas.List.{map-set, map-append, length-map, length-set, length-append, append-nil, set-get_or, set_at}
+use Rattle.std.proofs.lemmas.List.{map-set, map-append, length-map, length-set, set-get_or, set_at}
 use Rattle.std.proofs.lemmas.Option.{slice_get-get_or, get_or_from_slice_get}
 use Rattle.std.proofs.Math.Seq.{map-set_same}
 use Rattle.least_free.specs.Taken.{least_free}
@@ -69,15 +69,6 @@ kept_changed taken t k x kept is = record {
   same = kept.same ∙ sym (map-set_same is_some t k x None is);
 }
 
--- an entry comes at the end
-pub kept_pushed : (taken taken' : List Bool) (t t' : List (Option Entry)) (e : Entry) → IsKept taken t
-    → length t < 16384 → taken' ≡ taken ++ true ∷ [] → t' ≡ t ++ Some e ∷ [] → IsKept taken' t'
-kept_pushed taken taken' t t' e kept short is is' = record {
-  few = let n = ap length is' ∙ length-append t (Some e ∷ []) in omega arith;
-  same = is ∙ ap (λ (s : List Bool). s ++ true ∷ []) kept.same
-      ∙ sym (ap (map is_some) is' ∙ map-append is_some t (Some e ∷ []));
-}
-
 is_some_of : {A : Type 0} (x : Option A) → IsSome x → is_some x ≡ true
 is_some_of None h = cc
 is_some_of (Some a) h = refl
@@ -141,8 +132,3 @@ one_more_place taken taken' t x i len lt long is is' =
     ∙ set_at (map is_some t) true rest (is_some x) i (length-is_some t i long)
     ∙ sym (append_assoc (map is_some t) (is_some x ∷ []) rest)
     ∙ ap (λ (s : List Bool). s ++ rest) (sym (map-append is_some t (x ∷ [])))
-
-pub all_placed : (taken : List Bool) (t : List (Option Entry)) (i len : ℕ) → len ≤ i
-    → taken ≡ map is_some t ++ replicate (len - i) true → taken ≡ map is_some t
-all_placed taken t i len past is = let e : len - i ≡ 0 = omega arith in
-    is ∙ ap (λ (n : ℕ). map is_some t ++ replicate n true) e ∙ append-nil (map is_some t)

@@ -117,22 +117,6 @@ told_answered ws n code u pending told = record {
     fade : Fade ws (set ws n (answered (get_or ws n None) code))
     fade = fade_answered ws n code pending
 
-pub now_answered : (ws : List (Option Wait)) (n code : ℕ) → is_pending (get_or ws n None) ≡ true
-    → is_answered (get_or (set ws n (answered (get_or ws n None) code)) n None) ≡ true
-now_answered ws n code pending = ap is_answered (get_or-set_same ws n (answered (get_or ws n None) code) None within)
-    ∙ by (get_or ws n None) pending
-  where
-    within : n < length ws
-    within = elim (cases_lt n (length ws)) [
-      | inl lt ↦ lt
-      | inr past ↦
-          absurd (let e = ap is_pending (get_or_past ws n None past) in cc (e, pending))
-    ]
-
-    by : (w : Option Wait) → is_pending w ≡ true → is_answered (answered w code) ≡ true
-    by None h = absurd (cc (h))
-    by (Some w) h = refl
-
 -- and its number is put at the end of the list, or at its thread
 pub told_fresh : (ws : List (Option Wait)) (n : ℕ) (u u' : Untaken) → u'.fresh ≡ u.fresh ++ n ∷ [] → u'.late ≡ u.late
     → IsRising u'.fresh → AreToldBut (Some n) ws u → AreTold ws u'
@@ -244,24 +228,6 @@ told_dropped ws u u' drops late told = record {
   ];
   placed = λ t n own. subst (λ (l : List (Option ℕ)). t < length l) (sym late) (told.placed t n own);
 }
-
-pub drops_none : (ws : List (Option Wait)) (ns : List ℕ) → Drops ws ns ns
-drops_none ws ns = record { rising = λ r. r; keeps = λ k p w. w }
-
-pub drops_both : (ws : List (Option Wait)) (a b c : List ℕ) → Drops ws a b → Drops ws b c → Drops ws a c
-drops_both ws a b c x y = record { rising = λ r. y.rising (x.rising r); keeps = λ k p w. y.keeps k p (x.keeps k p w) }
-
-pub drops_first : (ws : List (Option Wait)) (ns : List ℕ) (i : ℕ) → i < length ns
-    → is_answered (get_or ws (get_or ns i 0) None) ≡ false → Drops ws (drop i ns) (drop (i + 1) ns)
-drops_first ws ns i lt over = subst (λ (old : List ℕ). Drops ws old (drop (i + 1) ns)) (sym (drop_more ns i 0 lt))
-    (record {
-      rising = λ r. r.1;
-      keeps = λ k passes w. elim w [
-        | inl same ↦ absurd (let e : is_answered (get_or ws k None) ≡ false = ap (λ n. is_answered (get_or ws n None)) same
-            ∙ over in cc (e, passes))
-        | inr later ↦ later
-      ];
-    })
 
 -- the lesser of the two that are least is the least of all
 answered_thread : (w : Option Wait) → is_answered w ≡ true → (t : ℕ) × IsAnswered t w

@@ -109,14 +109,3 @@ ready_at_change bodies waits k x settled = record {
       (get_or-set_other bodies k j x None (λ same. let e : eqb j k ≡ true = grind (arith, nat_tests, same) in
       cc (e, out)))) ∙ signaled;
 }
-
--- some slots changed
-pub ready_at_changes : (bodies after : List (Option Body)) (waits : List (Option Wait)) (ids : List Id) →
-    ((k : ℕ) → ((i : ℕ) → i < length ids → (get_or ids i nowhere).slot ≡ k → ⊥)
-    → get_or after k None ≡ get_or bodies k None) → IsSettled bodies waits → IsReadyAtOne ids after waits
-ready_at_changes bodies after waits ids same settled = record {
-  before = bodies;
-  settled = settled;
-  less = λ t k out signaled. sym (ap (slot_signaled t) (same k (λ i lt at. let some : has_slot ids k ≡ true =
-      subst (λ j. has_slot ids j ≡ true) at (named_at ids i lt) in cc (some, out)))) ∙ signaled;
-}

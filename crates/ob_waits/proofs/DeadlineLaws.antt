@@ -146,31 +146,6 @@ undue_after : (now : ℕ) (d : Option ℕ) → is_due now d ≡ false → IsAfte
 undue_after now None h = tt
 undue_after now (Some due) h = grind (arith, nat_tests, h)
 
-pub timely_passed : (clock now : ℕ) (ws : List (Option Wait)) (dues : List (Option ℕ)) → now ≤ 9223372036854775807
-    → ((n : ℕ) → is_overdue now (get_or ws n None) ≡ false) → AreTimely clock ws dues → AreTimely now ws dues
-timely_passed clock now ws dues last none timely =
-    record {
-      moment = last;
-      ahead = record { each = λ n. undue_after now (deadline_of (get_or ws n None)) (none n) };
-      listed = timely.listed;
-    }
-
--- a deadline that is listed, but not of a pending wait, is dropped
-pub listed_cleared : (now : ℕ) (ws : List (Option Wait)) (dues : List (Option ℕ)) (t : ℕ)
-    → is_due now (get_or dues t None) ≡ true → ((n : ℕ) → thread_of (get_or ws n None) ≡ Some t
-    → is_overdue now (get_or ws n None) ≡ false)
-    → AreListed ws dues → AreListed ws (set dues t None)
-listed_cleared now ws dues t due idle listed = record {
-  each = λ n u d own is. elim (cases_eq u t) [
-    | inl same ↦ absurd (let stands : get_or dues t None ≡ Some d = ap (λ v. get_or dues v None) (sym same)
-        ∙ listed.each n u d own is in
-        let yes : is_due now (Some d) ≡ true = ap (is_due now) (sym stands) ∙ due in
-        let no : is_due now (Some d) ≡ false = ap (is_due now) (sym is) ∙ idle n (own ∙ ap Some same) in
-        cc (yes, no))
-    | inr other ↦ get_or-set_other dues t u None None other ∙ listed.each n u d own is
-  ];
-}
-
 -- with each that is dropped one fewer is due
 fewer : (p : Option ℕ → Bool) (dues : List (Option ℕ)) (t : ℕ) → p None ≡ false → p (get_or dues t None) ≡ true
     → count_by p (set dues t None) < count_by p dues
@@ -186,18 +161,6 @@ fewer p dues t none due =
       | inl lt ↦ lt
       | inr past ↦ absurd (let e = ap p (get_or_past dues t None past) in cc (e, none, due))
     ]
-
-pub fewer_listed : (now : ℕ) (dues : List (Option ℕ)) (t : ℕ) → is_due now (get_or dues t None) ≡ true
-    → count_by (is_due now) (set dues t None) < count_by (is_due now) dues
-fewer_listed now dues t due = fewer (is_due now) dues t refl due
-
-due_some : (now : ℕ) (x : Option ℕ) → is_due now x ≡ true → is_some x ≡ true
-due_some now None due = absurd (cc (due))
-due_some now (Some moment) due = refl
-
-pub fewer_moments : (now : ℕ) (dues : List (Option ℕ)) (t : ℕ) → is_due now (get_or dues t None) ≡ true
-    → count_by is_some (set dues t None) < count_by is_some dues
-fewer_moments now dues t due = fewer is_some dues t refl (due_some now (get_or dues t None) due)
 
 -- where none that is listed is due, no wait is overdue
 pub none_overdue : (now : ℕ) (ws : List (Option Wait)) (dues : List (Option ℕ))
@@ -281,11 +244,3 @@ pub least_overdue : (ws : List (Option Wait)) (dues : List (Option ℕ)) (n : Op
     → IsLeast (map deadline_of ws) (Some due)
 least_overdue ws dues None due listed is some over = absurd (cc (some))
 least_overdue ws dues (Some n) due listed is some over = least_deadline ws dues n due listed is over
-
--- the least that is listed is due at its moment
-pub least_is_due : (dues : List (Option ℕ)) (due : ℕ) → IsLeast dues (Some due)
-    → ((t : ℕ) → is_due due (get_or dues t None) ≡ false) → ⊥
-least_is_due dues due is none =
-    let at : is_due due (Some due) ≡ false = ap (is_due due) (sym is.stands.1) ∙ none is.stands.0 in
-    let yes : is_due due (Some due) ≡ true = grind (arith, nat_tests) in
-    cc (at, yes)

@@ -42,17 +42,6 @@ pub list_read : (lists : List (List ℕ)) (k : ℕ) (x : List ℕ) → x ≡ get
     → x ≡ numbers_of lists k
 list_read lists k x is lt = is ∙ get_or_default lists k x [] lt
 
-pub list_at_end : (lists : List (List ℕ)) (s : ℕ) → numbers_of (lists ++ [] ∷ []) s ≡ numbers_of lists s
-list_at_end lists s = elim (cases_lt s (length lists)) [
-  | inl lt ↦ get_or_append_left lists ([] ∷ []) [] s lt
-  | inr past ↦ elim (cases_eq s (length lists)) [
-    | inl same ↦ ap (λ i. get_or (lists ++ [] ∷ []) i []) same ∙ get_or_push lists [] [] (length lists) refl
-        ∙ sym (get_or_past lists s [] past)
-    | inr other ↦ get_or_past (lists ++ [] ∷ []) s [] (omega (arith, length_push lists []))
-        ∙ sym (get_or_past lists s [] past)
-  ]
-]
-
 pub thins_each_none : (waits : List (Option Wait)) (lists : List (List ℕ)) → ThinsEach waits lists lists
 thins_each_none waits lists = record { each = λ s. thins_none waits (numbers_of lists s) }
 

@@ -49,16 +49,6 @@ pub none_lapsed : (now : ℕ) (ws : List (Option Wait)) → ((n : ℕ) → is_ov
 none_lapsed now ws none = ext_get_or None (map (lapsed now) ws) ws (length-map ws (lapsed now))
     (λ n lt. at_lapsed now ws n ∙ lapsed_idle now (get_or ws n None) (none n))
 
--- only a pending wait is overdue
-pub overdue_pending : (now : ℕ) (w : Option Wait) → is_overdue now w ≡ true → is_pending w ≡ true
-overdue_pending now None over = absurd (cc)
-overdue_pending now (Some w) over = by w.state over
-  where
-    by : (s : State) → is_due now (state_deadline w.deadline s) ≡ true
-        → is_pending (Some (record w { state = s })) ≡ true
-    by (Pending mode ids) h = refl
-    by (Answered code) h = absurd (cc)
-
 -- with each that is answered one fewer is overdue
 pub fewer_overdue : (now : ℕ) (ws : List (Option Wait)) (n : ℕ) → is_overdue now (get_or ws n None) ≡ true
     → count_by (is_overdue now) (set ws n (answered (get_or ws n None) 258)) < count_by (is_overdue now) ws

@@ -19,17 +19,3 @@ pub taken_now : (mode : Mode) (t : ℕ) (objects : Objects) (ids : List Id) → 
     → objects_now mode t objects ids ≡ record objects { bodies = bodies_after mode t objects.bodies ids }
 taken_now mode t objects ids ready = ap (λ b. cond b
     (record objects { bodies = bodies_after mode t objects.bodies ids }) objects) ready
-
--- none: it was not, and nothing changed
-pub unready_now : (mode : Mode) (t : ℕ) (bodies : List (Option Body)) (ids : List Id)
-    → None ≡ code_now mode t bodies ids → list_ready mode t bodies ids ≡ false
-unready_now mode t bodies ids h = by (list_ready mode t bodies ids) h
-  where
-    by : (b : Bool) → ◌≡◌ {A = Option ℕ} None (cond b (Some (code_of mode t bodies ids)) None) → b ≡ false
-    by true h = absurd (cc)
-    by false h = refl
-
-pub same_now : (mode : Mode) (t : ℕ) (objects : Objects) (ids : List Id) → list_ready mode t objects.bodies ids ≡ false
-    → objects_now mode t objects ids ≡ objects
-same_now mode t objects ids unready = ap (λ b. cond b
-    (record objects { bodies = bodies_after mode t objects.bodies ids }) objects) unready

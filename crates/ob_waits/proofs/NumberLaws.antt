@@ -139,14 +139,6 @@ pub record IsSifted (p : ℕ → Bool) (xs : List ℕ) (end at to : ℕ) (ys : L
   pub rest : drop to ys ≡ filter p (take (end - at) (drop at xs)) ++ drop end xs
 
 module _ (p : ℕ → Bool) (xs : List ℕ) (end : ℕ) where
-  pub sift_none : IsSifted p xs end end end xs
-  sift_none = record {
-    long = refl;
-    same = λ i lt. refl;
-    rest = let none : end - end ≡ 0 = omega arith in
-        ap (λ n. filter p (take n (drop end xs)) ++ drop end xs) (sym none);
-  }
-
   -- one more place
   next : (b : Bool) (j : ℕ) → j < end → end ≤ length xs → p (get_or xs j 0) ≡ b
       → filter p (take (end - j) (drop j xs)) ≡ cond b

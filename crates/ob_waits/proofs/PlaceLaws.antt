@@ -264,12 +264,6 @@ pub record Spreads (count mask : ℕ) (from to : List (Option Entry)) : Type 0 w
       → (home mask entry.number ≡ i) × ((j : ℕ) × (j < count) × (get_or from j None ≡ Some entry))
 
 module _ (mask : ℕ) (from to : List (Option Entry)) where
-  pub spreads_none : ((i : ℕ) → get_or to i None ≡ None) → Spreads 0 mask from to
-  spreads_none free = record {
-    all = λ i e lt is. absurd (omega arith);
-    only = λ i e is. absurd (none-some e (sym (free i) ∙ is));
-  }
-
   pub spreads_all : (count : ℕ) → length from ≤ count → Spreads count mask from to → IsSpread mask from to
   spreads_all count le s = record {
     all = λ i e is. elim (cases_lt i count) [

@@ -139,11 +139,3 @@ rooms_at_more limit more bodies ws le r = record { each = λ n. by (get_or ws n 
       each = λ i lt. slot_at_more limit more w.thread
           (get_or bodies (get_or (ids_of (Some w)) i nowhere).slot None) le (room.each i lt);
     }
-
-pub list_room_at_more : (limit more t : ℕ) (bodies : List (Option Body)) (ids : List Id) → limit ≤ more
-    → HasRoom limit t bodies ids → HasRoom more t bodies ids
-list_room_at_more limit more t bodies ids le room =
-    record {
-      each = λ i lt. slot_at_more limit more t (get_or bodies (get_or ids i nowhere).slot None) le
-          (room.each i lt);
-    }

@@ -77,13 +77,6 @@ pub record Written (last count : ℕ) (out before : List ℕ) (ws : List (Option
   pub many : count + length (rows_behind last ws) ≡ length (entries_from 0 ws)
   pub fits : AllByRecursion RowFits (rows_behind last ws) → AllByRecursion RowFits (entries_from 0 ws)
 
-pub written_none : (out : List ℕ) (ws : List (Option Wait)) → get_or ws 0 None ≡ None → Written 0 0 out out ws
-written_none out ws none = record {
-  text = ap (λ (rows : List (ℕ × Wait)). out ++ flat_map row_text rows) (sym (rows_all ws none));
-  many = let e = ap length (rows_all ws none) in omega (arith, e);
-  fits = λ all. subst (λ (rows : List (ℕ × Wait)). AllByRecursion RowFits rows) (sym (rows_all ws none)) all;
-}
-
 pub written_next : (last n count more : ℕ) (out out' before : List ℕ) (ws : List (Option Wait)) → last < n
     → ((k : ℕ) → is_some (get_or ws k None) ≡ true → last < k → n ≤ k)
     → out' ≡ out ++ flat_map row_text (row_of n (get_or ws n None)) → more ≡ length (row_of n (get_or ws n None))
