@@ -1,7 +1,7 @@
 -- The answered waits are known in order while waits come, are answered and go.
-use Rattle.std.proofs.Common.{◌≡◌, ◌≢◌, ◌⊎◌, ℕ, ◌+◌, ◌<◌, ◌≤◌, List, [], ◌∷◌, ◌++◌, ◌-◌, length, Option, Some, None, refl, ap, ◌∙◌, sym, subst, arith, get_or, set, true, false, inl, inr, drop}
+use Rattle.std.proofs.Common.{◌≡◌, ◌≢◌, ◌⊎◌, ℕ, ◌+◌, ◌<◌, ◌≤◌, List, [], ◌∷◌, ◌++◌, ◌-◌, length, Option, Some, None, refl, ap, ◌∙◌, sym, subst, arith, get_or, set, true, false, inl, inr}
 use Rattle.std.specs.Prelude.{IfSome}
-use Rattle.std.proofs.lemmas.List.{drop_more, length-set, get_or_past, get_or_push, get_or-set_same, get_or-set_other}
+use Rattle.std.proofs.lemmas.List.{length-set, get_or_past, get_or_push, get_or-set_same, get_or-set_other}
 use Rattle.std.proofs.lemmas.Bool.{cases_eq, cases_lt}
 use Rattle.least_free.specs.From.{IsAtMost, IsLeastFrom}
 use Rattle.ob_waits.specs.declared.wait.Wait.{Wait}

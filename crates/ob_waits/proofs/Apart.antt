@@ -1,6 +1,6 @@
 -- A wait is ready or not by the bodies of the slots that it names; so after a change in some slots, only waits that
 -- name one can become ready.
-use Rattle.std.proofs.Common.{◌≡◌, ℕ, zero, suc, ◌<◌, List, [], ◌∷◌, length, Option, Some, None, refl, ap, ◌∙◌, sym, subst, arith, get_or, set, Bool, true, false, eqb, ltb}
+use Rattle.std.proofs.Common.{◌≡◌, ℕ, zero, suc, ◌<◌, List, [], ◌∷◌, length, Option, Some, None, refl, ap, ◌∙◌, sym, arith, get_or, set, Bool, true, false, eqb, ltb}
 use Rattle.std.specs.List.{position_or_len, list_any, list_all}
 use Rattle.std.proofs.lemmas.Bool.Decides.{nat_tests}
 use Rattle.std.proofs.lemmas.List.{get_or-set_other}
@@ -12,8 +12,8 @@ use Rattle.ob_waits.specs.declared.wait.Wait.{Wait}
 use Rattle.ob_waits.specs.declared.wait.State.{State}
 use Rattle.ob_waits.specs.declared.wait.State.TheVariants.{Pending, Answered}
 use Rattle.ob_waits.specs.Objects.{slot_signaled}
-use Rattle.ob_waits.specs.Rules.{IsSettled, IsReadyAt, IsReadyAtOne}
-use Rattle.ob_waits.specs.Waits.{nowhere, is_ready, state_ready, list_ready, is_signaled, first_signaled, has_slot, names_slot, state_ids}
+use Rattle.ob_waits.specs.Rules.{IsSettled, IsReadyAt}
+use Rattle.ob_waits.specs.Waits.{nowhere, is_ready, state_ready, list_ready, is_signaled, first_signaled, names_slot, state_ids}
 
 abbrev pub in_slot : ℕ → Id → Bool
 in_slot k id = eqb id.slot k

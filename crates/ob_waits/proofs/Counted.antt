@@ -6,7 +6,7 @@ use Rattle.std.proofs.lemmas.List.{length-set, length-map, get_or_past, get_or-s
 use Rattle.std.proofs.lemmas.List.Elements.{All-from_get_or}
 use Rattle.std.proofs.lemmas.List.Quantifiers.{position-Some}
 use Rattle.std.proofs.lemmas.List.Sums.{sum_by-cons, sum_by-set, sum_by-append, sum_by-le, get_or-le-sum_by, count_by-le-length}
-use Rattle.std.proofs.lemmas.Bool.{cases_eq, cases_lt}
+use Rattle.std.proofs.lemmas.Bool.{cases_eq, cases_lt, false_from_ne_true}
 use Rattle.std.proofs.lemmas.Bool.Decides.{nat_tests}
 use Rattle.pin_core.specs.Holds.{same_id}
 use Rattle.pin_core.specs.declared.id.Id.{Id}
@@ -16,7 +16,7 @@ use Rattle.ob_waits.specs.declared.wait.State.{State}
 use Rattle.ob_waits.specs.declared.wait.State.TheVariants.{Pending, Answered}
 use Rattle.ob_waits.specs.Rules.{thread_of, IsKept, WaitWaitable, StateWaitable}
 use Rattle.ob_waits.specs.Waits.{nowhere, new_wait, answered, ids_of, state_ids, names_slot, slot_places, slot_blocks, blocks_in, blocks_among, code_at, state_code, Scene, is_ready, effect, settled, answered_wait, number_of, numbered_ids, thread_ids, is_waits_of, unless_of}
-use Rattle.ob_waits.proofs.Settling.{not_true, answers, settled_by_effects}
+use Rattle.ob_waits.proofs.Settling.{answers, settled_by_effects}
 use Rattle.ob_waits.proofs.TrackedLaws.{thread_waits, waits_thread, no_number}
 
 -- a sum over the waits
@@ -96,14 +96,14 @@ dropped_found ws t n kept found =
           (thread_waits t (get_or ws i None) (ap (λ j. thread_of (get_or ws j None)) same ∙ own))
           ∙ sym (ap (λ j. get_or (set ws n None) j None) same ∙ get_or-set_same ws n None None at.0)
       | inr other ↦ unless_other t (get_or ws i None)
-          (not_true _ (λ h. other (kept.one_each i n t (waits_thread t (get_or ws i None) h) own)))
+          (false_from_ne_true _ (λ h. other (kept.one_each i n t (waits_thread t (get_or ws i None) h) own)))
           ∙ sym (get_or-set_other ws n i None None other)
     ])
 
 pub dropped_missing : (ws : List (Option Wait)) (t : ℕ) → number_of t ws ≡ None → map (unless_of t) ws ≡ ws
 dropped_missing ws t none = ext_get_or None (map (unless_of t) ws) ws (length-map ws (unless_of t))
     (λ i lt. get_or-map (unless_of t) ws i None None (omega (arith, length-map ws (unless_of t)))
-    ∙ unless_other t (get_or ws i None) (not_true _
+    ∙ unless_other t (get_or ws i None) (false_from_ne_true _
     (λ h. no_number t ws i none (waits_thread t (get_or ws i None) h))))
 
 sum_dropped : (f : Option Wait → ℕ) (g : List Id → ℕ) → ((w : Option Wait) → f w ≡ g (ids_of w)) → g [] ≡ 0

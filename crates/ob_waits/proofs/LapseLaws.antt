@@ -8,15 +8,12 @@ use Rattle.std.proofs.lemmas.Bool.{cases_lt}
 use Rattle.std.proofs.lemmas.Bool.Decides.{nat_tests}
 use Rattle.pin_core.specs.declared.id.Id.{Id}
 use Rattle.ob_body.specs.declared.body.Body.{Body}
-use Rattle.ob_body.specs.Timer.{is_due}
 use Rattle.ob_waits.specs.declared.wait.Wait.{Wait}
-use Rattle.ob_waits.specs.declared.wait.State.{State}
-use Rattle.ob_waits.specs.declared.wait.State.TheVariants.{Pending, Answered}
-use Rattle.ob_waits.specs.Deadlines.{is_overdue, lapsed, state_deadline}
+use Rattle.ob_waits.specs.Deadlines.{is_overdue, lapsed}
 use Rattle.ob_waits.specs.Ends.{ended, slot_ended}
 use Rattle.ob_waits.specs.Objects.{Objects}
 use Rattle.ob_waits.specs.Rules.{IsSettled}
-use Rattle.ob_waits.specs.Waits.{answered, blocks_among, blocks_in, ids_of, is_pending, is_ready, slot_blocks, slot_places}
+use Rattle.ob_waits.specs.Waits.{answered, blocks_among, blocks_in, ids_of, is_ready, slot_blocks, slot_places}
 use Rattle.ob_waits.proofs.EndsLast.{ended_at, is_ended, length-ended}
 
 -- a wait that is answered has no deadline

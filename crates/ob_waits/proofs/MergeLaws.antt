@@ -4,7 +4,7 @@ use Rattle.std.specs.List.Sorted.{IsPartitionedBy, IsPartitionPoint}
 use Rattle.std.proofs.lemmas.List.{get_or_default}
 use Rattle.std.proofs.lemmas.List.Sorted.{IsPartitionedBy-leb}
 use Rattle.std.proofs.lemmas.Bool.Decides.{nat_tests}
-use Rattle.std.proofs.lemmas.Bool.{cases_eq, cases_lt}
+use Rattle.std.proofs.lemmas.Bool.{cases_eq, cases_lt, false_from_ne_true}
 use Rattle.pin_core.specs.declared.id.Id.{Id}
 use Rattle.least_free.specs.From.{IsAtMost}
 use Rattle.ob_waits.specs.Numbers.{IsNext, IsNextOf, numbers_of}
@@ -13,7 +13,7 @@ use Rattle.ob_waits.specs.Rules.{Within, IsRising, IsReadyAtOne, IsReadyBy, IsSe
 use Rattle.ob_waits.specs.Roster.{AreIndexed}
 use Rattle.ob_waits.specs.Waits.{nowhere, Scene, has_slot, ids_of, is_ready, names_slot, passed, settled}
 use Rattle.ob_waits.proofs.Keeping.{passed_fades}
-use Rattle.ob_waits.proofs.Settling.{not_true, ready_pending}
+use Rattle.ob_waits.proofs.Settling.{ready_pending}
 use Rattle.ob_waits.proofs.PassLaws.{any_from, by_passed, steps, unready}
 use Rattle.ob_waits.proofs.AddedLaws.{any_at}
 use Rattle.ob_waits.proofs.NumberLaws.{within_at}
@@ -98,7 +98,7 @@ module _ (last : ℕ) (lists : List (List ℕ)) (ids : List Id) (s : Scene) (r :
   -- nothing that is ready is below the next number
   not_below : (next : Option ℕ) → IsNextOf last lists s ids next → (k : ℕ) → (IsAtMost next k → ⊥)
       → is_ready s.objects.bodies (get_or s.waits k None) ≡ false
-  not_below next is k below = not_true _ (λ ready.
+  not_below next is k below = false_from_ne_true _ (λ ready.
       let w = get_or s.waits k None in
       let un = unready (has_slot ids) s.objects.bodies s.waits r.by k (λ t i own lt changed.
       let slot = (get_or (ids_of w) i nowhere).slot in

@@ -4,7 +4,7 @@ use Rattle.std.proofs.Common.{◌≡◌, ℕ, zero, suc, ◌+◌, ◌<◌, ◌�
 use Rattle.std.specs.List.{list_any}
 use Rattle.std.proofs.lemmas.List.{drop_all, drop_more}
 use Rattle.std.proofs.lemmas.List.Sums.{count_by-le-length, passes_at_first}
-use Rattle.std.proofs.lemmas.Bool.{cases_eq, cases_lt}
+use Rattle.std.proofs.lemmas.Bool.{cases_eq, cases_lt, false_from_ne_true}
 use Rattle.pin_core.specs.declared.id.Id.{Id}
 use Rattle.ob_body.specs.declared.body.Body.{Body}
 use Rattle.ob_waits.specs.declared.wait.Wait.{Wait}
@@ -13,12 +13,12 @@ use Rattle.ob_waits.specs.Objects.{Objects, slot_signaled}
 use Rattle.ob_waits.specs.Roster.{AreIndexed}
 use Rattle.ob_waits.specs.Rules.{Covers, IsReadyAt, IsReadyBy, IsRising, IsSettled, IsSpent, Within, thread_of}
 use Rattle.ob_waits.specs.Waits.{nowhere, Scene, is_ready, is_pending, ids_of, first_ready, effect, passed, settled, settled_within, answered_wait}
-use Rattle.ob_waits.proofs.Settling.{pending_count, not_true, ready_within, ready_counted, ready_pending, ready_where, fewer, was_ready, answers, settled_at_end, settled_none, settled_same, settled_first, first_is}
+use Rattle.ob_waits.proofs.Settling.{pending_count, ready_within, ready_counted, ready_pending, ready_where, fewer, was_ready, answers, settled_at_end, settled_none, settled_same, settled_first, first_is}
 use Rattle.ob_waits.proofs.Settled.{settled_replaced}
 
 -- it makes no difference how often a wait may take effect, once that is often enough
 nothing_pending : (s : Scene) → pending_count s.waits ≤ 0 → IsSettled s.objects.bodies s.waits
-nothing_pending s few = record { each = λ k. not_true _ (λ ready. omega (arith, few, ready_counted s k ready)) }
+nothing_pending s few = record { each = λ k. false_from_ne_true _ (λ ready. omega (arith, few, ready_counted s k ready)) }
 
 settled_fuel : (f g : ℕ) (s : Scene) → pending_count s.waits ≤ f → pending_count s.waits ≤ g
     → settled_within f s ≡ settled_within g s
@@ -57,7 +57,7 @@ steps m s least = by (is_ready s.objects.bodies (get_or s.waits m None)) refl
   where
     by : (b : Bool) → is_ready s.objects.bodies (get_or s.waits m None) ≡ b → Steps m s (passed (m ∷ []) s)
     by true ready = rw ready (record {
-      same = settled_next s m ready (λ k below. not_true _ (λ h. omega (arith, below, least k h)));
+      same = settled_next s m ready (λ k below. false_from_ne_true _ (λ h. omega (arith, below, least k h)));
       later = λ k after. let w = was_ready s m k ready after in
           (w.before, (let le = least k w.before in let other = w.other in omega (arith, le, other)));
     })
@@ -106,7 +106,7 @@ steps_on ns i s lt rising covers =
 pub covered_all : (ns : List ℕ) (i : ℕ) (s : Scene) → length ns ≤ i → Covers (drop i ns) s → settled s ≡ s
 covered_all ns i s past covers = settled_same s (record {
   each =
-      λ k. not_true _ (λ ready. subst (λ (xs : List ℕ). Within k xs) (drop_all i ns past) (covers.each k ready));
+      λ k. false_from_ne_true _ (λ ready. subst (λ (xs : List ℕ). Within k xs) (drop_all i ns past) (covers.each k ready));
 })
 
 -- some element passes
@@ -128,7 +128,7 @@ module _ (changed : ℕ → Bool) (bodies : List (Option Body)) (ws : List (Opti
       → changed (get_or (ids_of (get_or ws n None)) i nowhere).slot ≡ true
       → slot_signaled t (get_or bodies (get_or (ids_of (get_or ws n None)) i nowhere).slot None) ≡ false)
       → is_ready bodies (get_or ws n None) ≡ false
-  unready n none = not_true _ (λ ready.
+  unready n none = false_from_ne_true _ (λ ready.
       let w = get_or ws n None in
       let before : is_ready by.before w ≡ true = ready_where by.before bodies w (λ t own i lt signaled.
       let k = (get_or (ids_of w) i nowhere).slot in
@@ -152,7 +152,7 @@ module _ (changed : ℕ → Bool) (bodies : List (Option Body)) (ws : List (Opti
   -- where no changed slot has anything for who waits, all is settled
   pub settled_spent : ((k : ℕ) → changed k ≡ true → IsSpent bodies ws k) → IsSettled bodies ws
   settled_spent spent = record {
-    each = λ n. not_true _ (λ ready.
+    each = λ n. false_from_ne_true _ (λ ready.
         let un = unready n (λ t i own lt is. spent _ is n t own (ready_pending bodies (get_or ws n None) ready)) in
         cc (un, ready));
   }

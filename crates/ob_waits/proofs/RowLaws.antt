@@ -1,6 +1,6 @@
 -- Waits that are built one after another are those that the rows stand for; and which rows come next of those that are
 -- written.
-use Rattle.std.proofs.Common.{◌≡◌, ℕ, zero, suc, ◌+◌, ◌-◌, ◌<◌, ◌≤◌, ◌&&◌, ◌||◌, not, Bool, true, false, cond, eqb, leb, ltb, List, [], ◌∷◌, ◌++◌, length, replicate, Option, Some, None, Result, Ok, Err, refl, ap, ◌∙◌, sym, subst, arith, append_assoc, eq-eqb, ne_eqb, get_or}
+use Rattle.std.proofs.Common.{◌≡◌, ℕ, zero, suc, ◌+◌, ◌-◌, ◌<◌, ◌≤◌, ◌&&◌, ◌||◌, not, Bool, true, false, cond, leb, ltb, List, [], ◌∷◌, ◌++◌, length, replicate, Option, Some, None, Result, Ok, Err, refl, ap, ◌∙◌, sym, subst, arith, append_assoc, eq-eqb, ne_eqb, get_or}
 use Rattle.std.specs.List.{list_all, list_any}
 use Rattle.std.specs.Prelude.{is_some}
 use Rattle.std.proofs.lemmas.Bool.{le-leb, le-ltb, leb-false, leb-true, lt-leb, lt-ltb}
@@ -13,6 +13,7 @@ use Rattle.ob_codec.specs.declared.fault.TextFault.{TextFault}
 use Rattle.ob_codec.specs.declared.fault.TextFault.TheVariants.{Value}
 use Rattle.ob_codec.specs.Reading.{Fails}
 use Rattle.ob_codec.specs.Sparse.{fits_from, spread, spread_from}
+use Rattle.ob_codec.specs.SparseLaws.{length-spread}
 use Rattle.ob_codec.specs.Steps.{both-true, guard_passed}
 use Rattle.ob_waits.specs.Rows.{come, may_come, tested, with_row}
 use Rattle.ob_waits.specs.Rules.{thread_of}
@@ -328,16 +329,6 @@ ends (Text f) last list held ps total fails goes = by (may_come last list held) 
         ∙ left_refused list.limit list.clock last held.number list.waits held.wait ps goes.some is ∙ e
 
 -- so are all, where the last number is above the limit
-length-spread : (k n : ℕ) (ps : List (ℕ × Wait)) → length (spread_from k n ps) ≡ n
-length-spread k zero ps = refl
-length-spread k (suc n) [] = ap suc (length-spread (suc k) n [])
-length-spread k (suc n) (p ∷ ps) = by (eqb p.0 k) (length-spread (suc k) n ps) (length-spread (suc k) n (p ∷ ps))
-  where
-    by : (b : Bool) → length (spread_from (suc k) n ps) ≡ n → length (spread_from (suc k) n (p ∷ ps)) ≡ n
-        → length (cond b (Some p.1 ∷ spread_from (suc k) n ps) (None ∷ spread_from (suc k) n (p ∷ ps))) ≡ suc n
-    by true x y = ap suc x
-    by false x y = ap suc y
-
 pub too_many : (limit clock last : ℕ) (ps : List (ℕ × Wait)) → limit < last
     → tested limit clock (spread (last, ps)) ≡ Err Value
 too_many limit clock last ps lt = by (fits_from 0 (suc last) ps)

@@ -1,14 +1,14 @@
 -- A settled state stays settled while no body changes and no wait that is ready comes.
 use Rattle.std.proofs.Common.{◌≡◌, ℕ, List, [], ◌∷◌, ◌++◌, length, Option, Some, None, refl, ap, ◌∙◌, arith, get_or, set, Bool, true, false, inl, inr, map}
 use Rattle.std.proofs.lemmas.List.{length-set, length-map, get_or-map, get_or_past, get_or-set_same, get_or-set_other}
-use Rattle.std.proofs.lemmas.Bool.{cases_eq, cases_lt}
+use Rattle.std.proofs.lemmas.Bool.{cases_eq, cases_lt, false_from_ne_true}
 use Rattle.ob_body.specs.declared.body.Body.{Body}
 use Rattle.pin_core.specs.declared.id.Id.{Id}
 use Rattle.ob_waits.specs.declared.wait.Mode.{Mode}
 use Rattle.ob_waits.specs.declared.wait.Wait.{Wait}
 use Rattle.ob_waits.specs.Rules.{IsSettled}
 use Rattle.ob_waits.specs.Waits.{new_wait, is_ready, list_ready, answered, unless_of, is_waits_of, bodies_after, slot_blocks}
-use Rattle.ob_waits.proofs.Settling.{not_true, IsLess, less_after, ready_less}
+use Rattle.ob_waits.proofs.Settling.{IsLess, less_after, ready_less}
 use Rattle.ob_waits.proofs.Apart.{ready_named}
 use Rattle.ob_waits.proofs.Counted.{named_counts}
 use Rattle.ob_waits.proofs.AddedLaws.{by_number}
@@ -27,7 +27,7 @@ settled_added bodies ws t mode ids d unready s = record {
 pub settled_less : (bodies after : List (Option Body)) (ws : List (Option Wait)) → IsLess bodies after
     → IsSettled bodies ws → IsSettled after ws
 settled_less bodies after ws less s = record {
-  each = λ n. not_true _ (λ ready.
+  each = λ n. false_from_ne_true _ (λ ready.
       let before = ready_less bodies after less (get_or ws n None) ready in
       let q = s.each n in cc (before, q));
 }
@@ -42,7 +42,7 @@ settled_now mode t bodies ids ws s = settled_less bodies (bodies_after mode t bo
 pub settled_unnamed : (bodies : List (Option Body)) (ws : List (Option Wait)) (k : ℕ) (x : Option Body)
     → slot_blocks k ws ≡ 0 → IsSettled bodies ws → IsSettled (set bodies k x) ws
 settled_unnamed bodies ws k x unnamed s = record {
-  each = λ n. not_true _ (λ ready.
+  each = λ n. false_from_ne_true _ (λ ready.
       let named = named_counts k n ws (ready_named bodies ws k x s n ready) in
       omega (arith, named, unnamed));
 }

@@ -3,7 +3,7 @@ use Rattle.std.proofs.Common.{◌≡◌, ℕ, zero, suc, ◌+◌, ◌<◌, ◌�
 use Rattle.std.specs.Prelude.{count_by, sum_by}
 use Rattle.std.specs.List.{position_or_len, list_all}
 use Rattle.std.proofs.lemmas.List.{length-set, get_or_past, get_or-set_same, get_or-set_other}
-use Rattle.std.proofs.lemmas.Bool.{cases_eq, cases_lt, lt-ltb, le-ltb}
+use Rattle.std.proofs.lemmas.Bool.{cases_eq, cases_lt, false_from_ne_true, le-ltb, lt-ltb}
 use Rattle.std.proofs.lemmas.Bool.Decides.{nat_tests}
 use Rattle.std.proofs.lemmas.List.Sums.{sum_by-set, count_by-le-length, get_or-le-sum_by, fails_before_first, passes_at_first, position_or_len_is}
 use Rattle.pin_core.specs.declared.id.Id.{Id}
@@ -198,10 +198,6 @@ room_left limit u (id ∷ ids) objects = room_both limit u objects.bodies (witho
 abbrev pub pending_count : List (Option Wait) → ℕ
 pending_count waits = count_by is_pending waits
 
-pub not_true : (b : Bool) → (b ≡ true → ⊥) → b ≡ false
-not_true true h = absurd (h refl)
-not_true false h = refl
-
 state_ready_pending : (t : ℕ) (bodies : List (Option Body)) (st : State) → state_ready t bodies st ≡ true
     → state_pending st ≡ true
 state_ready_pending t bodies (Pending mode ids) k = refl
@@ -308,7 +304,7 @@ settled_by_effects R same both one scene = within (length scene.waits) scene
 
 settled_enough : (n : ℕ) (scene : Scene) → pending_count scene.waits ≤ n
     → IsSettled (settled_within n scene).objects.bodies (settled_within n scene).waits
-settled_enough zero scene few = record { each = λ k. not_true _ (λ ready. omega (arith, ready_counted scene k ready)) }
+settled_enough zero scene few = record { each = λ k. false_from_ne_true _ (λ ready. omega (arith, ready_counted scene k ready)) }
 settled_enough (suc n) scene few = settled_step (λ s. IsSettled s.objects.bodies s.waits) n scene
     (λ k lt ready. settled_enough n (effect scene k) (omega (arith, fewer scene k lt ready)))
     (settled_at_end scene)

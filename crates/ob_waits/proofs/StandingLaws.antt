@@ -2,7 +2,7 @@
 use Rattle.std.proofs.Common.{◌≡◌, ℕ, zero, suc, ◌+◌, ◌<◌, ◌≤◌, ◌&&◌, ◌||◌, not, Bool, true, false, leb, ltb, List, [], ◌∷◌, length, Option, Some, None, refl, ap, ◌∙◌, sym, arith, get_or}
 use Rattle.std.specs.List.{list_all, list_any}
 use Rattle.std.specs.Prelude.{is_some, ◌==◌}
-use Rattle.std.proofs.lemmas.Bool.{le-leb, lt-leb, lt-ltb, ltb-true}
+use Rattle.std.proofs.lemmas.Bool.{false_from_ne_true, le-leb, lt-leb, lt-ltb, ltb-true}
 use Rattle.std.proofs.lemmas.Bool.Decides.{nat_tests}
 use Rattle.std.proofs.lemmas.List.Folds.{list_any_at}
 use Rattle.ob_body.specs.Timer.{is_due}
@@ -20,7 +20,6 @@ use Rattle.ob_waits.specs.declared.wait.State.{State}
 use Rattle.ob_waits.specs.declared.wait.State.TheVariants.{Pending, Answered}
 use Rattle.ob_waits.specs.declared.wait.Wait.{Wait}
 use Rattle.ob_waits.proofs.AddedLaws.{any_at}
-use Rattle.ob_waits.proofs.Settling.{not_true}
 use Rattle.ob_waits.proofs.TrackedLaws.{waits_thread}
 
 or-false : (a b : Bool) → (a || b) ≡ false → (a ≡ false) × (b ≡ false)
@@ -47,7 +46,7 @@ test-distinct : (ids : List Id)
     → names_twice ids ≡ false
 test-distinct [] apart = refl
 test-distinct (id ∷ ids) apart =
-    ap (λ (b : Bool). b || names_twice ids) (not_true (has_slot ids id.slot) (λ has.
+    ap (λ (b : Bool). b || names_twice ids) (false_from_ne_true (has_slot ids id.slot) (λ has.
     let found = any_at (λ (x : Id). x.slot == id.slot) nowhere ids has in
     let same : (get_or ids found.0 nowhere).slot ≡ id.slot = grind (arith, nat_tests, found.2) in
     let lt = found.1 in
@@ -103,7 +102,7 @@ ones : (ws : List (Option Wait))
 ones [] alone = refl
 ones (None ∷ ws) alone = ones ws (λ n m t p q. let e = alone (suc n) (suc m) t p q in omega (arith, e))
 ones (Some w ∷ ws) alone = true-both (not (list_any (is_waits_of w.thread) ws)) (one_each ws)
-    (ap not (not_true (list_any (is_waits_of w.thread) ws) (λ has.
+    (ap not (false_from_ne_true (list_any (is_waits_of w.thread) ws) (λ has.
     let found = any_at (is_waits_of w.thread) None ws has in
     let own = waits_thread w.thread (get_or ws found.0 None) found.2 in
     let e : zero ≡ suc found.0 = alone zero (suc found.0) w.thread refl own in

@@ -4,7 +4,7 @@ use Rattle.std.specs.List.{position_or_len}
 use Rattle.std.proofs.lemmas.List.{length-set, get_or_past, get_or-set_same, get_or-set_other}
 use Rattle.std.proofs.lemmas.List.Quantifiers.{position-Some}
 use Rattle.std.proofs.lemmas.List.Sums.{position_or_len_is, fails_before_first}
-use Rattle.std.proofs.lemmas.Bool.{cases_eq, cases_lt, lt-ltb, le-ltb}
+use Rattle.std.proofs.lemmas.Bool.{cases_eq, cases_lt, false_from_ne_true, le-ltb, lt-ltb}
 use Rattle.std.proofs.lemmas.Bool.Decides.{nat_tests}
 use Rattle.ob_waits.specs.declared.wait.Wait.{Wait}
 use Rattle.ob_waits.specs.Rules.{thread_of, WaitWaitable}
@@ -48,10 +48,6 @@ pub thread_waits : (t : ℕ) (w : Option Wait) → thread_of w ≡ Some t → is
 thread_waits t None h = absurd (cc)
 thread_waits t (Some w) h = let e : w.thread ≡ t = cc in grind (arith, nat_tests, e)
 
-false_of : (b : Bool) → (b ≡ true → ⊥) → b ≡ false
-false_of true h = absurd (h refl)
-false_of false h = refl
-
 pub has_wait : (ws : List (Option Wait)) (n t : ℕ) → thread_of (get_or ws n None) ≡ Some t → n < length ws
 has_wait ws n t h = elim (cases_lt n (length ws)) [
   | inl lt ↦ lt
@@ -81,7 +77,7 @@ pub number_is : (ws : List (Option Wait)) (t n : ℕ) → thread_of (get_or ws n
 number_is ws t n own alone =
     let lt : n < length ws = has_wait ws n t own in
     let first : position_or_len (is_waits_of t) ws ≡ n = position_or_len_is (is_waits_of t) ws n None (omega arith)
-    (λ k below. false_of _ (λ h. let e = alone k (waits_thread t (get_or ws k None) h) in omega (arith, e)))
+    (λ k below. false_from_ne_true _ (λ h. let e = alone k (waits_thread t (get_or ws k None) h) in omega (arith, e)))
     (λ l. thread_waits t (get_or ws n None) own) in
     ap (λ k. cond (ltb k (length ws)) (Some k) None) first ∙ ap (λ b. cond b (Some n) None) (lt-ltb n (length ws) lt)
 
@@ -90,7 +86,7 @@ pub number_none : (ws : List (Option Wait)) (t : ℕ) → ((m : ℕ) → thread_
 number_none ws t none =
     let first : position_or_len (is_waits_of t) ws ≡ length ws =
     position_or_len_is (is_waits_of t) ws (length ws) None (omega arith)
-    (λ k below. false_of _ (λ h. none k (waits_thread t (get_or ws k None) h))) (λ l. absurd (omega arith)) in
+    (λ k below. false_from_ne_true _ (λ h. none k (waits_thread t (get_or ws k None) h))) (λ l. absurd (omega arith)) in
     ap (λ k. cond (ltb k (length ws)) (Some k) None) first
     ∙ ap (λ b. cond b (Some (length ws)) None) (le-ltb (length ws) (length ws) (omega arith))
 

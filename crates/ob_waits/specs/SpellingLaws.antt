@@ -1,8 +1,8 @@
 -- Waits are read as they were spelled.
-use Rattle.std.proofs.Common.{◌≡◌, ℕ, zero, suc, true, List, ◌++◌, Option, Ok, refl, subst, sym}
-use Rattle.ob_codec.specs.Codecs.{as_codec, both_codec, list_codec, option_codec, tagged_codec, u32_codec, u64_codec, where_codec}
+use Rattle.std.proofs.Common.{◌≡◌, ℕ, zero, suc, true, List, ◌++◌, Option, Ok, refl, subst}
+use Rattle.ob_codec.specs.Codecs.{as_codec, both_codec, form_takes, list_codec, option_codec, tagged_codec, u32_codec, u64_codec, where_codec}
 use Rattle.ob_codec.specs.Laws.{IsCodec, Takes}
-use Rattle.ob_codec.specs.Reading.{Read, as_at, where_at}
+use Rattle.ob_codec.specs.Reading.{Read, where_at}
 use Rattle.ob_codec.specs.Sparse.{SparseFits, sparse_at}
 use Rattle.ob_codec.specs.SparseLaws.{sparse_codec}
 use Rattle.ob_codec.specs.Spelling.{AreBytes}
@@ -17,19 +17,6 @@ use Rattle.ob_waits.specs.declared.wait.Wait.{Wait}
 
 pub ids_codec : IsCodec ids_text ids_at IdsFit
 ids_codec = where_codec (list_codec id_codec) are_few
-
--- what is read of one form
-takes-one : {A : Type 0} {spell : A → List ℕ} {read : List ℕ → Read A} {Fits : A → Type 0} → IsCodec spell read Fits
-    → (t : ℕ) (to : A → State)
-    → ((a : A) → parts_text (to a) ≡ spell a) → ((a : A) → Fits a → StateFits (to a)) → ((a : A) → tag_of (to a) ≡ t)
-    → (bytes : List ℕ) (x : State) (rest : List ℕ) → AreBytes bytes → as_at to read bytes ≡ Ok (x, rest)
-    → Takes bytes (parts_text x) rest × StateFits x × (tag_of x ≡ t)
-takes-one {A = A} {read = read} is t to text can tag bytes x rest fits e =
-    let b = bind_ok (read bytes) (λ (y : A × List ℕ). Ok (to y.0, y.1)) (x, rest) e in
-    let k = is.takes bytes b.0.0 b.0.1 fits b.1 in
-    subst (λ (z : State × List ℕ). Takes bytes (parts_text z.0) z.1 × StateFits z.0 × (tag_of z.0 ≡ t))
-    (ok_is (to b.0.0, b.0.1) (x, rest) b.2)
-    (subst (λ (w : List ℕ). Takes bytes w b.0.1) (sym (text b.0.0)) k.0, can b.0.0 k.1, tag b.0.0)
 
 one-again : (t : ℕ) (x : State) (rest : List ℕ) → tag_of x ≡ t → StateFits x
     → state_in t (parts_text x ++ rest) ≡ Ok (x, rest)
@@ -47,9 +34,9 @@ one-again t (Answered code) rest is fits = subst
 one-takes : (t : ℕ) (bytes : List ℕ) (x : State) (rest : List ℕ) → AreBytes bytes → state_in t bytes ≡ Ok (x, rest)
     → Takes bytes (parts_text x) rest × StateFits x × (tag_of x ≡ t)
 unfolding state_in
-one-takes zero = takes-one ids_codec 0 (Pending Any) (λ _. refl) (λ _ fits. fits) (λ _. refl)
-one-takes (suc zero) = takes-one ids_codec 1 (Pending All) (λ _. refl) (λ _ fits. fits) (λ _. refl)
-one-takes (suc (suc zero)) = takes-one u32_codec 2 Answered (λ _. refl) (λ _ fits. fits) (λ _. refl)
+one-takes zero = form_takes tag_of parts_text StateFits ids_codec 0 (Pending Any) (λ _. refl) (λ _ fits. fits) (λ _. refl)
+one-takes (suc zero) = form_takes tag_of parts_text StateFits ids_codec 1 (Pending All) (λ _. refl) (λ _ fits. fits) (λ _. refl)
+one-takes (suc (suc zero)) = form_takes tag_of parts_text StateFits u32_codec 2 Answered (λ _. refl) (λ _ fits. fits) (λ _. refl)
 one-takes (suc (suc (suc t))) = λ bytes x rest fits e. absurd cc
 
 pub state_codec : IsCodec state_text state_at StateFits
