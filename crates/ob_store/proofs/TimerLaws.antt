@@ -1,10 +1,9 @@
 -- The due moments of slots, while bodies change, and the least of them.
-use Rattle.std.proofs.Common.{◌≡◌, ℕ, zero, suc, [], ◌∷◌, ◌<◌, ◌≤◌, List, length, Option, Some, None, refl, ap, ◌∙◌, sym, subst, arith, get_or, set, map, replicate, Bool, true, false, cond}
+use Rattle.std.proofs.Common.{◌≡◌, ℕ, zero, suc, [], ◌∷◌, ◌<◌, List, length, Option, Some, None, refl, ap, ◌∙◌, sym, subst, arith, get_or, set, map, replicate, Bool, true, false, cond}
 use Rattle.std.specs.Prelude.{IfNone, IfSome}
 use Rattle.std.proofs.Math.Seq.{map-set_same}
 use Rattle.std.proofs.lemmas.List.{length-map, map-set}
-use Rattle.std.proofs.lemmas.Bool.Decides.{nat_tests}
-use Rattle.least_due.specs.Dues.{IsLeast, NotAfter}
+use Rattle.least_due.specs.Dues.{IsLeast}
 use Rattle.ob_body.specs.declared.body.Body.{Body}
 use Rattle.ob_body.specs.declared.body.Body.TheVariants.{Event, Mutex, Semaphore, Timer}
 use Rattle.ob_body.specs.Timer.{is_due}
@@ -16,25 +15,6 @@ use Rattle.ob_store.specs.Ticks.{slot_is_due}
 use Rattle.ob_store.specs.Timers.{seat_due, due_left}
 use Rattle.ob_store.proofs.SeatLaws.{read}
 use Rattle.ob_store.proofs.OwnerLaws.{some_there}
-
--- a moment after none is due where the least isn't
-undue : (now : ℕ) (least x : Option ℕ) → is_due now least ≡ false
-    → ((moment : ℕ) → x ≡ Some moment → NotAfter least moment) → is_due now x ≡ false
-undue now least None none first = refl
-undue now None (Some moment) none first = absurd (first moment refl)
-undue now (Some least) (Some moment) none first = let before : least ≤ moment = first moment refl in
-    grind (arith, nat_tests, none, before)
-
-pub none_due : (now : ℕ) (dues : List (Option ℕ)) (least : Option ℕ) → IsLeast dues least → is_due now least ≡ false
-    → (k : ℕ) → is_due now (get_or dues k None) ≡ false
-none_due now dues least is none k = undue now least (get_or dues k None) none (λ moment at. is.first k moment at)
-
--- what isn't after the least is due where the least is
-pub due_too : (now due : ℕ) (dues : List (Option ℕ)) (x : Option ℕ) → IsLeast dues (Some due) → due ≤ now
-    → IsLeast dues x → is_due now x ≡ true
-due_too now due dues None is soon other = absurd (other.first is.stands.0 due is.stands.1)
-due_too now due dues (Some moment) is soon other = let before : moment ≤ due =
-    other.first is.stands.0 due is.stands.1 in grind (arith, nat_tests, before, soon)
 
 -- the due moment of a slot
 pub due_read : (xs : List (Option Seat)) (k : ℕ) →

@@ -1,6 +1,6 @@
 use Rattle.std.proofs.Common.{◌∙◌, ℕ, List, Option, None, ap, sym, arith, get_or}
 use Rattle.ob_body.specs.Timer.{is_due}
-use Rattle.ob_store.proofs.TimerLaws.{due_too}
+use Rattle.ob_waits.proofs.DeadlineLaws.{due_too}
 use Rattle.ob_store.proofs.timers.Timers.next_due.Goals as goal
 
 pub returns-clause-some : goal.returns-clause-some
