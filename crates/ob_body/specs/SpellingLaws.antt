@@ -106,12 +106,10 @@ one-again t (Timer d) rest is fits = subst (λ (n : ℕ). body_in n (timer_text 
 one-takes : (t : ℕ) (bytes : List ℕ) (x : Body) (rest : List ℕ) → AreBytes bytes → body_in t bytes ≡ Ok (x, rest)
     → Takes bytes (parts_text x) rest × BodyFits x × (tag_of x ≡ t)
 unfolding body_in
-one-takes zero = form_takes tag_of parts_text BodyFits event_codec 0 Event (λ _. refl) (λ _ fits. fits) (λ _. refl)
-one-takes (suc zero) = form_takes tag_of parts_text BodyFits mutex_codec 1 Mutex (λ _. refl) (λ _ fits. fits) (λ _. refl)
-one-takes (suc (suc zero)) = form_takes tag_of parts_text BodyFits semaphore_codec 2 Semaphore (λ _. refl)
-    (λ _ fits. fits) (λ _. refl)
-one-takes (suc (suc (suc zero))) = form_takes tag_of parts_text BodyFits timer_codec 3 Timer (λ _. refl)
-    (λ _ fits. fits) (λ _. refl)
+one-takes zero = form_takes _ _ _ event_codec 0 Event (λ _. refl) (λ _ fits. fits) (λ _. refl)
+one-takes (suc zero) = form_takes _ _ _ mutex_codec 1 Mutex (λ _. refl) (λ _ fits. fits) (λ _. refl)
+one-takes (suc (suc zero)) = form_takes _ _ _ semaphore_codec 2 Semaphore (λ _. refl) (λ _ fits. fits) (λ _. refl)
+one-takes (suc (suc (suc zero))) = form_takes _ _ _ timer_codec 3 Timer (λ _. refl) (λ _ fits. fits) (λ _. refl)
 one-takes (suc (suc (suc (suc t)))) = λ bytes x rest fits e. absurd cc
 
 pub body_codec : IsCodec body_text body_at BodyFits

@@ -25,10 +25,10 @@ told_none = record {
 }
 
 -- the same waits, and more room
-pub told_room : (ws : List (Option Wait)) (u u' : Untaken) → u'.fresh ≡ u.fresh
+pub told_room : {ws : List (Option Wait)} {u u' : Untaken} → u'.fresh ≡ u.fresh
     → ((t : ℕ) → get_or u'.late t None ≡ get_or u.late t None) → length u.late ≤ length u'.late → AreTold ws u
     → AreTold ws u'
-told_room ws u u' fresh late longer told = record {
+told_room {u = u} {u' = u'} fresh late longer told = record {
   rising = subst IsRising (sym fresh) told.rising;
   late = λ t n h. told.late t n (sym (late t) ∙ h);
   each = λ t n apart own. elim (told.each t n apart own) [

@@ -16,7 +16,7 @@ list_changed P lists k new lt here others s = elim (cases_eq s k) [
   | inr apart ↦ subst (λ r. P (numbers_of lists s) r) (sym (get_or-set_other lists k s new [] apart)) (others s)
 ]
 
-pub thins_changed : (waits : List (Option Wait)) (lists : List (List ℕ)) (k : ℕ) (new : List ℕ) → k < length lists
+thins_changed : (waits : List (Option Wait)) (lists : List (List ℕ)) (k : ℕ) (new : List ℕ) → k < length lists
     → Thins waits (numbers_of lists k) new → ThinsEach waits lists (set lists k new)
 thins_changed waits lists k new lt t = record {
   each =
@@ -41,6 +41,14 @@ lists_changed n lists k new lt numbers all = record {
 pub list_read : (lists : List (List ℕ)) (k : ℕ) (x : List ℕ) → x ≡ get_or lists k x → k < length lists
     → x ≡ numbers_of lists k
 list_read lists k x is lt = is ∙ get_or_default lists k x [] lt
+
+-- a list was read, thinned and written back
+pub thins_there : {waits : List (Option Wait)} {lists seen : List (List ℕ)} {old new : List ℕ} (k : ℕ)
+    → lists ≡ seen → old ≡ get_or lists k old → Thins waits old new → k < length lists
+    → ThinsEach waits seen (set lists k new)
+thins_there {waits = waits} {lists = lists} {old = old} {new = new} k same is thins lt =
+    subst (λ (from : List (List ℕ)). ThinsEach waits from (set lists k new)) same
+    (thins_changed waits lists k new lt (subst (λ r. Thins waits r new) (list_read lists k old is lt) thins))
 
 pub thins_each_none : (waits : List (Option Wait)) (lists : List (List ℕ)) → ThinsEach waits lists lists
 thins_each_none waits lists = record { each = λ s. thins_none waits (numbers_of lists s) }

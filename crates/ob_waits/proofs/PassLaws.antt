@@ -18,7 +18,9 @@ use Rattle.ob_waits.proofs.Settled.{settled_replaced}
 
 -- it makes no difference how often a wait may take effect, once that is often enough
 nothing_pending : (s : Scene) → pending_count s.waits ≤ 0 → IsSettled s.objects.bodies s.waits
-nothing_pending s few = record { each = λ k. false_from_ne_true _ (λ ready. omega (arith, few, ready_counted s k ready)) }
+nothing_pending s few = record {
+  each = λ k. false_from_ne_true _ (λ ready. omega (arith, few, ready_counted s k ready));
+}
 
 settled_fuel : (f g : ℕ) (s : Scene) → pending_count s.waits ≤ f → pending_count s.waits ≤ g
     → settled_within f s ≡ settled_within g s
@@ -106,7 +108,8 @@ steps_on ns i s lt rising covers =
 pub covered_all : (ns : List ℕ) (i : ℕ) (s : Scene) → length ns ≤ i → Covers (drop i ns) s → settled s ≡ s
 covered_all ns i s past covers = settled_same s (record {
   each =
-      λ k. false_from_ne_true _ (λ ready. subst (λ (xs : List ℕ). Within k xs) (drop_all i ns past) (covers.each k ready));
+      λ k. false_from_ne_true _ (λ ready. subst (λ (xs : List ℕ). Within k xs) (drop_all i ns past)
+      (covers.each k ready));
 })
 
 -- some element passes

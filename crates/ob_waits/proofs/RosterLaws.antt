@@ -40,49 +40,39 @@ pub right_left : (waits : List (Option Wait)) (old new : Roster) → Leaves wait
     → IsRight waits new
 right_left waits old new l r = lists_thinned waits old.order new.order old.index new.index l.order l.index r
 
--- lists that grew have what they had
-pub order_grown : (waits : List (Option Wait)) (order order' : List ℕ) (index : List (List ℕ))
-    → IsOrdered (length waits) order' → ((k : ℕ) → Within k order → Within k order') → AreIndexed waits order index
-    → AreIndexed waits order' index
-order_grown waits order order' index numbers keeps a =
-    record {
-      order_rises = numbers;
-      order_all = record { each = λ n h. keeps n (a.order_all.each n h) };
-      index_rises = a.index_rises;
-      index_all = a.index_all;
-    }
+-- a wait is to come, whose number enters the order, and the lists of its slots, once these were thinned
+module _ {waits : List (Option Wait)} {n : ℕ} {seen : Roster} {order : List ℕ} {index : List (List ℕ)}
+    (same : ◌≡◌ {A = Roster} (record { order = order; index = index }) seen) (right : IsRight waits seen)
+    (next : length waits ≡ n) where
+  was : AreIndexed waits order index
+  was = subst (λ (r : Roster). IsRight waits r) (sym same) right
 
-pub index_grown : (waits : List (Option Wait)) (order : List ℕ) (index index' : List (List ℕ))
-    → AreOrdered (length waits) index' → Keeps index index' → AreIndexed waits order index
-    → AreIndexed waits order index'
-index_grown waits order index index' lists keeps a =
-    record {
-      order_rises = a.order_rises;
-      order_all = a.order_all;
-      index_rises = lists;
-      index_all = λ s. record { each = λ n h. keeps.each s n ((a.index_all s).each n h) };
-    }
+  pub order_thinned : {thin : List ℕ} → Thins waits order thin → IsOrdered n thin
+  order_thinned {thin = thin} t = subst (λ m. IsOrdered m thin) next
+      (ordered_thinned (length waits) waits order thin t was.order_rises)
 
-pub order_thinned : (waits : List (Option Wait)) (order order' : List ℕ) (index : List (List ℕ))
-    → Thins waits order order' → AreIndexed waits order index → AreIndexed waits order' index
-order_thinned waits order order' index t a = lists_thinned waits order order' index index t
-    (thins_each_none waits index) a
+  pub index_thinned : {thin : List (List ℕ)} → ThinsEach waits index thin → AreOrdered n thin
+  index_thinned {thin = thin} ts = subst (λ m. AreOrdered m thin) next
+      (lists_thinned waits order order index thin (thins_none waits order) ts was).index_rises
 
-pub index_thinned : (waits : List (Option Wait)) (order : List ℕ) (index index' : List (List ℕ))
-    → ThinsEach waits index index' → AreIndexed waits order index → AreIndexed waits order index'
-index_thinned waits order index index' ts a = lists_thinned waits order order index index' (thins_none waits order) ts a
+  pub order_ready : {thin new : List ℕ} → Thins waits order thin → IsOrdered n new
+      → ((k : ℕ) → Within k thin → Within k new) → AreIndexed waits new index
+  order_ready {thin = thin} {new = new} t numbers keeps =
+      let a = lists_thinned waits order thin index index t (thins_each_none waits index) was in
+      record {
+        order_rises = subst (λ m. IsOrdered m new) (sym next) numbers;
+        order_all = record { each = λ k h. keeps k (a.order_all.each k h) };
+        index_rises = a.index_rises;
+        index_all = a.index_all;
+      }
 
--- the two lists of a wait to come, one after another: thinned, then with its number
-pub order_ready : (waits : List (Option Wait)) (n : ℕ) (order thin new : List ℕ) (index : List (List ℕ))
-    → length waits ≡ n → Thins waits order thin → IsOrdered n new → ((k : ℕ) → Within k thin → Within k new)
-    → AreIndexed waits order index → AreIndexed waits new index
-order_ready waits n order thin new index next t numbers keeps a =
-    order_grown waits thin new index (subst (λ m. IsOrdered m new) (sym next) numbers) keeps
-    (order_thinned waits order thin index t a)
-
-pub index_ready : (waits : List (Option Wait)) (n : ℕ) (order : List ℕ) (index thin new : List (List ℕ))
-    → length waits ≡ n → ThinsEach waits index thin → AreOrdered n new → Keeps thin new → AreIndexed waits order index
-    → AreIndexed waits order new
-index_ready waits n order index thin new next t lists keeps a =
-    index_grown waits order thin new (subst (λ m. AreOrdered m new) (sym next) lists) keeps
-    (index_thinned waits order index thin t a)
+  pub index_ready : {entered : List ℕ} {thin new : List (List ℕ)} → AreIndexed waits entered index
+      → ThinsEach waits index thin → AreOrdered n new → Keeps thin new → AreIndexed waits entered new
+  index_ready {entered = entered} {thin = thin} {new = new} indexed ts lists keeps =
+      let a = lists_thinned waits entered entered index thin (thins_none waits entered) ts indexed in
+      record {
+        order_rises = a.order_rises;
+        order_all = a.order_all;
+        index_rises = subst (λ m. AreOrdered m new) (sym next) lists;
+        index_all = λ s. record { each = λ k h. keeps.each s k ((a.index_all s).each k h) };
+      }

@@ -1,5 +1,5 @@
 -- What each way of settling answers for, once its scene is the settled one.
-use Rattle.std.proofs.Common.{◌≡◌, ℕ, List, Option, sym, subst}
+use Rattle.std.proofs.Common.{◌≡◌, ◌∙◌, ℕ, List, Option, ap, sym, subst}
 use Rattle.ob_waits.specs.declared.wait.Wait.{Wait}
 use Rattle.ob_waits.specs.Deadlines.{AreTimely}
 use Rattle.ob_waits.specs.Objects.{Objects}
@@ -17,9 +17,9 @@ module _ (before after : Objects) (ws ws' : List (Option Wait))
   abbrev first : Scene
   first = record { objects = before; waits = ws }
 
-  pub kept_after : (limit clock : ℕ) (r r' : Roster) (dues : List (Option ℕ)) → Leaves ws' r r'
+  pub kept_after : {limit clock : ℕ} {r r' : Roster} {dues : List (Option ℕ)} → Leaves ws' r r'
       → IsTracked limit ws r × AreTimely clock ws dues → IsTracked limit ws' r' × AreTimely clock ws' dues
-  kept_after limit clock r r' dues leaves k =
+  kept_after {limit = limit} {clock = clock} {r = r} {r' = r'} {dues = dues} leaves k =
       let fade : Fade ws ws' = subst (λ (s : Scene). Fade ws s.waits) (sym value) (settled_fades first) in (
         tracked_left limit ws' r r' leaves (tracked_faded limit ws ws' r fade k.0),
         timely_settled clock before after ws ws' dues value k.1,
@@ -28,7 +28,15 @@ module _ (before after : Objects) (ws ws' : List (Option Wait))
   pub settled_after : IsSettled after.bodies ws'
   settled_after = subst (λ (s : Scene). IsSettled s.objects.bodies s.waits) (sym value) (settled_is_settled first)
 
-  pub room_settled : (limit : ℕ) → IsKept ws → WaitsHaveRoom limit before.bodies ws
+  pub room_settled : {seen : List (Option Wait)} (limit : ℕ) → IsKept ws → ws ≡ seen
+      → WaitsHaveRoom limit before.bodies seen
       → WaitsHaveRoom limit after.bodies ws'
-  room_settled limit kept room = subst (λ (s : Scene). WaitsHaveRoom limit s.objects.bodies s.waits) (sym value)
-      (settled_fits limit first (record { kept = kept; room = room })).room
+  room_settled limit kept same room = subst (λ (s : Scene). WaitsHaveRoom limit s.objects.bodies s.waits) (sym value)
+      (settled_fits limit first (record {
+        kept = kept;
+        room = subst (WaitsHaveRoom limit before.bodies) (sym same) room;
+      })).room
+
+  pub value_seen : {seen : List (Option Wait)} → ws ≡ seen → ◌≡◌ {A = Scene} (record { objects = after; waits = ws' })
+      (settled (record { objects = before; waits = seen }))
+  value_seen same = value ∙ ap (λ (list : List (Option Wait)). settled (record { objects = before; waits = list })) same

@@ -304,7 +304,9 @@ settled_by_effects R same both one scene = within (length scene.waits) scene
 
 settled_enough : (n : ℕ) (scene : Scene) → pending_count scene.waits ≤ n
     → IsSettled (settled_within n scene).objects.bodies (settled_within n scene).waits
-settled_enough zero scene few = record { each = λ k. false_from_ne_true _ (λ ready. omega (arith, ready_counted scene k ready)) }
+settled_enough zero scene few = record {
+  each = λ k. false_from_ne_true _ (λ ready. omega (arith, ready_counted scene k ready));
+}
 settled_enough (suc n) scene few = settled_step (λ s. IsSettled s.objects.bodies s.waits) n scene
     (λ k lt ready. settled_enough n (effect scene k) (omega (arith, fewer scene k lt ready)))
     (settled_at_end scene)

@@ -34,9 +34,9 @@ one-again t (Answered code) rest is fits = subst
 one-takes : (t : ℕ) (bytes : List ℕ) (x : State) (rest : List ℕ) → AreBytes bytes → state_in t bytes ≡ Ok (x, rest)
     → Takes bytes (parts_text x) rest × StateFits x × (tag_of x ≡ t)
 unfolding state_in
-one-takes zero = form_takes tag_of parts_text StateFits ids_codec 0 (Pending Any) (λ _. refl) (λ _ fits. fits) (λ _. refl)
-one-takes (suc zero) = form_takes tag_of parts_text StateFits ids_codec 1 (Pending All) (λ _. refl) (λ _ fits. fits) (λ _. refl)
-one-takes (suc (suc zero)) = form_takes tag_of parts_text StateFits u32_codec 2 Answered (λ _. refl) (λ _ fits. fits) (λ _. refl)
+one-takes zero = form_takes _ _ _ ids_codec 0 (Pending Any) (λ _. refl) (λ _ fits. fits) (λ _. refl)
+one-takes (suc zero) = form_takes _ _ _ ids_codec 1 (Pending All) (λ _. refl) (λ _ fits. fits) (λ _. refl)
+one-takes (suc (suc zero)) = form_takes _ _ _ u32_codec 2 Answered (λ _. refl) (λ _ fits. fits) (λ _. refl)
 one-takes (suc (suc (suc t))) = λ bytes x rest fits e. absurd cc
 
 pub state_codec : IsCodec state_text state_at StateFits

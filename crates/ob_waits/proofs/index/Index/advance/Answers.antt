@@ -1,15 +1,7 @@
-use Rattle.std.proofs.Common.{List, ℕ, ◌<◌, length, set, subst, rules}
-use Rattle.ob_waits.specs.Numbers.{Thins, ThinsEach}
-use Rattle.ob_waits.proofs.IndexLaws.{thins_changed, list_read}
+use Rattle.std.proofs.Common.{rules}
+use Rattle.ob_waits.proofs.IndexLaws.{thins_there}
 use Rattle.ob_waits.proofs.index.Index.advance.Goals as goal
 
 pub returns-then-at-len : goal.returns-then-at-len
-returns-then-at-len c =
-    let lists : List (List ℕ) = c.self.inside.lists.items in
-    let lt : c.args.slot < length lists = search rules in
-    subst (λ (rs : List (List ℕ)). ThinsEach c.args.live.now rs (set lists c.args.slot c.advance.new.self))
-    c.self.view_is
-    (thins_changed c.args.live.now lists c.args.slot c.advance.new.self lt
-    (subst (λ (r : List ℕ). Thins c.args.live.now r c.advance.new.self)
-    (list_read lists c.args.slot c.index_mut-numbers.result.now c.index_mut-numbers.ensures.value lt)
-    c.advance.ensures))
+returns-then-at-len c = thins_there c.args.slot c.self.view_is c.index_mut-numbers.ensures.value c.advance.ensures
+    (search rules)

@@ -2,27 +2,24 @@ use Rattle.std.proofs.Common.{◌≡◌, ◌++◌, ◌∷◌, [], List, Option, 
 use Rattle.std.proofs.lemmas.List.{length_push}
 use Rattle.ob_waits.specs.declared.wait.Wait.{Wait}
 use Rattle.ob_waits.specs.Answers.{AreTold, AreToldBut}
-use Rattle.ob_waits.proofs.AnswerLaws.{told_came, told_room}
+use Rattle.ob_waits.proofs.AnswerLaws.{told_came}
 use Rattle.ob_waits.proofs.live.Live.push_answered.Goals as goal
 
 pub invariant_of-self : goal.invariant_of-self
-invariant_of-self c = told_room c.self.inside.waits c.self.inside.untaken c.make_room.new.self c.make_room.ensures.fresh
-    c.make_room.ensures.late c.make_room.ensures.longer c.self.invariant
+invariant_of-self c = c.make_room.ensures.told c.self.inside.waits c.self.invariant
 
 pub invariant_of-self-in_err-push : goal.invariant_of-self-in_err-push
 invariant_of-self-in_err-push c =
-    let told = told_room c.self.inside.waits c.self.inside.untaken c.make_room.new.self c.make_room.ensures.fresh
-    c.make_room.ensures.late c.make_room.ensures.longer c.self.invariant in
-    subst (λ (ws : List (Option Wait)). AreTold ws c.make_room.new.self) (sym c.in_err-push.ensures.err) told
+    subst (λ (ws : List (Option Wait)). AreTold ws c.make_room.new.self) (sym c.in_err-push.ensures.err)
+    (c.make_room.ensures.told c.self.inside.waits c.self.invariant)
 
 pub came-requires-clause-told : goal.came-requires-clause-told
 came-requires-clause-told c =
     let ws = c.self.inside.waits in
-    let told = told_room ws c.self.inside.untaken c.make_room.new.self c.make_room.ensures.fresh
-    c.make_room.ensures.late c.make_room.ensures.longer c.self.invariant in
     let more : c.push.new.self ≡ ws ++ Some c.args.wait ∷ [] = c.in_ok-push.ensures.ok in
     let number : length ws ≡ c.given-number.result = let g = c.given-number.ensures in let l = ap length more in omega
     (arith, g, l, length_push ws (Some c.args.wait)) in
     subst (λ i. AreToldBut (Some i) c.push.new.self c.make_room.new.self) number
     (subst (λ (l : List (Option Wait)). AreToldBut (Some (length ws)) l c.make_room.new.self) (sym more)
-    (told_came ws c.args.wait c.make_room.new.self c.in_ok-make_room.ensures.room told))
+    (told_came ws c.args.wait c.make_room.new.self c.in_ok-make_room.ensures.room
+    (c.make_room.ensures.told ws c.self.invariant)))
