@@ -20,6 +20,7 @@ pub mod OneByOne
 pub mod TimerLaws
 pub mod WalkingLaws
 pub mod ClosingLaws
+pub mod NotedLaws
 pub mod ThreadListLaws
 pub mod LeftLaws
 pub mod UnderWayLaws

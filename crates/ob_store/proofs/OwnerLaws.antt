@@ -13,7 +13,7 @@ use Rattle.ob_arena.proofs.SlotLemmas.{vacant_empty, vacant_within}
 use Rattle.ob_waits.specs.Form.{slot_owner}
 use Rattle.ob_store.specs.declared.seat.Seat.{Seat}
 use Rattle.ob_store.specs.Ends.{slot_left_by}
-use Rattle.ob_store.specs.Objects.{Tag, object_at, objects_in, no_tag, places_of, seat_body, vacancy}
+use Rattle.ob_store.specs.Objects.{Places, Tag, object_at, objects_in, no_tag, places_of, seat_body, vacancy}
 use Rattle.ob_store.specs.State.{by_slot}
 use Rattle.ob_store.specs.Owners.{seat_owner, is_seat_of, owned_left, owned_came, owned_moved, IsOwned}
 use Rattle.ob_store.proofs.LabelLaws.{object_read, objects_length}
@@ -212,20 +212,20 @@ left_twice t (Some (Mutex m)) = ap (λ z. Some (Mutex z)) (by (is_owner t m.owne
     by false is = ap (λ b. cond b (free_mutex true) m) is
 
 -- a vacant slot has no seat
-pub vacant_seat : (s : Slots Seat) (labels : List Tag) (k : ℕ) → is_vacant_at (vacancy (places_of s labels)) k ≡ true
-    → (k < length s.bodies) × (get_or s.bodies k None ≡ None)
-vacant_seat s labels k vacant = (
-  within,
-  by (get_or s.bodies k None) (get_or labels k no_tag)
-      (sym (object_read s.bodies labels k) ∙ vacant_empty (vacancy (places_of s labels)) k vacant),
+pub vacant_seat : (s : Slots Seat) (tags : List Tag) (p : Places) (k : ℕ) → places_of s tags ≡ p
+    → is_vacant_at (vacancy p) k ≡ true → (k < length s.bodies) × (get_or s.bodies k None ≡ None)
+vacant_seat s tags p k view is = (
+  omega (arith, vacant_within (vacancy (places_of s tags)) k vacant, objects_length s.bodies tags),
+  by (get_or s.bodies k None) (get_or tags k no_tag)
+      (sym (object_read s.bodies tags k) ∙ vacant_empty (vacancy (places_of s tags)) k vacant),
 )
   where
-    within : k < length s.bodies
-    within = omega (arith, vacant_within (vacancy (places_of s labels)) k vacant, objects_length s.bodies labels)
+    vacant : is_vacant_at (vacancy (places_of s tags)) k ≡ true
+    vacant = ap (λ (q : Places). is_vacant_at (vacancy q) k) view ∙ is
 
-    by : (x : Option Seat) (label : Tag) → object_at x label ≡ None → x ≡ None
-    by None label none = refl
-    by (Some x) label none = absurd (cc)
+    by : (x : Option Seat) (tag : Tag) → object_at x tag ≡ None → x ≡ None
+    by None tag none = refl
+    by (Some x) tag none = absurd (cc)
 
 -- a slot with an object is there
 pub object_within : (s : Slots Seat) (labels : List Tag) (k : ℕ) → IsSome (get_or (objects_in s.bodies labels) k None)

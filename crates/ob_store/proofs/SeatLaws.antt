@@ -1,6 +1,6 @@
 -- One seat changed: what becomes of the lists that are read off the seats.
-use Rattle.std.proofs.Common.{◌≡◌, ℕ, zero, suc, ◌∷◌, ◌-◌, ◌+◌, ◌<◌, List, length, Option, Some, None, refl, ap, ◌∙◌, sym, arith, get_or, set, map, replicate, Bool, true, false, cond, inl, inr, eqb, ltb}
-use Rattle.std.specs.Prelude.{is_none, is_some, find, not, ◌&&◌, IfSome}
+use Rattle.std.proofs.Common.{◌≡◌, ℕ, zero, suc, ◌∷◌, ◌-◌, ◌+◌, ◌<◌, List, length, Option, Some, None, refl, ap, ◌∙◌, sym, subst, arith, get_or, set, map, replicate, Bool, true, false, cond, inl, inr, eqb, ltb}
+use Rattle.std.specs.Prelude.{is_none, is_some, find, not, ◌&&◌, IfSome, IsSome}
 use Rattle.std.specs.List.{range_with_len}
 use Rattle.std.proofs.Math.Seq.{map-set_same}
 use Rattle.std.proofs.lemmas.List.{length-map, get_or-map, get_or_past, get_or-set_same, map-set, set-get_or}
@@ -8,12 +8,12 @@ use Rattle.std.proofs.lemmas.Bool.{cases_lt}
 use Rattle.pin_core.specs.declared.id.Id.{Id}
 use Rattle.ob_body.specs.declared.body.Body.{Body}
 use Rattle.ob_arena.specs.Slots.{Slots, is_vacant_at, least_vacant}
-use Rattle.ob_arena.proofs.SlotLemmas.{vacant_least, vacant_within}
+use Rattle.ob_arena.proofs.SlotLemmas.{vacant_least}
 use Rattle.ob_waits.specs.Objects.{slot_acquired, without_block}
 use Rattle.ob_store.specs.declared.seat.Seat.{Seat}
 use Rattle.ob_store.specs.SavedWaits.{with_blocks_at}
 use Rattle.ob_store.specs.Objects.{Object, Places, places_of, rest_of, seen_in, Tag, object_at, object_of, objects_in, no_tag, seat_body, seat_handles, seat_blocks, seat_handle_left, seat_block_left, vacancy, vacant_places, with_seated, with_handle, without_handle, with_block, without_seat, is_last_handle}
-use Rattle.ob_store.proofs.LabelLaws.{none_object, object_read, objects_kept, objects_length, objects_none, objects_out, objects_put}
+use Rattle.ob_store.proofs.LabelLaws.{none_object, object_read, objects_kept, objects_length, objects_none, objects_out, objects_put, seat_there}
 
 -- what a list that is read off another has at a place
 pub read : {A B : Type 0} (f : Option A → B) (xs : List (Option A)) (k : ℕ)
@@ -162,6 +162,12 @@ module _ (xs : List (Option Seat)) (k : ℕ) (x : Seat) (is : get_or xs k None �
       retired = retired;
     }
 
+-- a slot with an object has a seat
+pub seat_of : (s : Slots Seat) (ls : List Tag) (p : Places) (k : ℕ) → places_of s ls ≡ p
+    → IsSome (get_or p.objects k None) → IsSome (get_or s.bodies k None)
+seat_of s ls p k view there = seat_there s.bodies ls k
+    (subst (λ (q : Places). IsSome (get_or q.objects k None)) (sym view) there)
+
 -- vacancy is that of the arena
 pub vacant_same : (s : Slots Seat) (ls : List Tag) (k : ℕ)
     → is_vacant_at (vacancy (places_of s ls)) k ≡ is_vacant_at s k
@@ -195,17 +201,11 @@ places_added s ls k y m body handles within has counts none = λ i. record {
   retired = s.retired;
 }
 
--- it has one handle
-pub added_handle : (s : Slots Seat) (ls : List Tag) (k : ℕ) (y : Seat) → y.handles ≡ 1
-    → is_vacant_at (vacancy (places_of s ls)) k ≡ true → get_or (map seat_handles (set s.bodies k (Some y))) k 0 ≡ 1
-added_handle s ls k y one vacant =
-    let within : k < length s.bodies = omega (
-      arith,
-      vacant_within (vacancy (places_of s ls)) k vacant,
-      objects_length s.bodies ls,
-    ) in
-    read seat_handles (set s.bodies k (Some y)) k ∙ ap seat_handles (get_or-set_same s.bodies k (Some y) None within)
-    ∙ one
+-- and its handles
+pub added_handle : (xs : List (Option Seat)) (k : ℕ) (y : Seat) → k < length xs
+    → get_or (map seat_handles (set xs k (Some y))) k 0 ≡ y.handles
+added_handle xs k y within = read seat_handles (set xs k (Some y)) k
+    ∙ ap seat_handles (get_or-set_same xs k (Some y) None within)
 
 -- an object that leaves
 pub places_removed : (s : Slots Seat) (ls : List Tag) (k : ℕ)

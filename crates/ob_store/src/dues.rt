@@ -3,7 +3,6 @@ ghost use Rattle.least_due.specs.Dues.{IsLeast};
 ghost use Rattle.ob_waits.specs.Form.{slot_due};
 ghost use Rattle.ob_store.specs.Dues.{dues_of};
 
-use crate::objects::Objects;
 use crate::seats::Seats;
 use crate::store::Store;
 use crate::timers::Timers;
@@ -26,14 +25,6 @@ impl Seats {
     }
 }
 
-impl<K: PinKeeper> Objects<K> {
-    fn least_due(&self) -> Option<u64>
-        ensures { IsLeast (map slot_due self.now.seen.bodies) result }
-    {
-        self.seats.least_due()
-    }
-}
-
 impl<K: PinKeeper> Store<K> {
     /// The least moment at which a timer or a pending wait's deadline is due, or none where there is neither. It is
     /// known at once, but that the deadline of a wait that was answered before it came is dropped here, once.
@@ -41,7 +32,7 @@ impl<K: PinKeeper> Store<K> {
         ensures least { IsLeast (dues_of self.old.state) result }
         ensures same { self.new ≡ self.old }
     {
-        let timers = self.parts.objects.least_due();
+        let timers = self.parts.objects.seats.least_due();
         let waits = self.parts.waits.next_due();
         sooner(timers, waits)
     }

@@ -143,7 +143,8 @@ impl<K: PinKeeper> Objects<K> {
             (record { descr = descr; grant = grant; name = name }) body }
     {
         let id = self.id_at(slot);
-        self.seats.add(id, self.births, descr, grant, name, body);
+        self.seats
+            .add(id, self.births, descr, grant, name, Some(body), 1);
         self.births += 1;
         self.keeper.store_descr(slot, descr);
         self.keeper.publish(slot);
@@ -241,28 +242,6 @@ impl<K: PinKeeper> Objects<K> {
         ensures { IsTrue result → (k : ℕ) → owns_at thread self.now.seen.bodies k ≡ false }
     {
         self.seats.owns_none(thread)
-    }
-
-    /// A slot whose timer is due. Where none is, that is known at once.
-    pub(crate) fn next_due(&self, now: u64) -> Option<u32>
-        ensures some { IfSome result (λ slot. slot_is_due now (slice_index_or self.now.seen.bodies slot None) ≡ true) }
-        ensures none { IfNone result ((k : ℕ) → slot_is_due now (slice_index_or self.now.seen.bodies k None) ≡ false) }
-    {
-        self.seats.next_due(now)
-    }
-
-    /// The least slot whose object ended, from one on.
-    pub(crate) fn next_closing(&self, from: u32) -> Option<u32>
-        ensures { IsLeastFrom from (is_closing_in self.now.objects self.now.seen.bodies) result }
-    {
-        self.seats.next_closing(from)
-    }
-
-    /// The least slot with an object, from one on.
-    pub(crate) fn next_object(&self, from: u32) -> Option<u32>
-        ensures { IsLeastFrom from (λ slot. is_some (slice_index_or self.now.objects slot None)) result }
-    {
-        self.seats.next_object(from)
     }
 
     /// The timer in a slot fires, if it is due.

@@ -14,7 +14,7 @@ use crate::limits::Limits;
 use crate::naming::enter_names;
 use crate::objects::Objects;
 use crate::processes::Processes;
-use crate::saved_slot::SavedSlot;
+use crate::saved_slot::{SavedObject, SavedSlot};
 use crate::saved_waits::{all_stand, count_blocks};
 use crate::seats::Seats;
 use ob_arena::SLOTS_MAX;
@@ -37,7 +37,16 @@ fn restore(seats: &mut Seats, slot: u32, saved: SavedSlot)
         object,
     } = saved;
     match object {
-        Some(object) => seats.put_back(Id { slot, generation }, object),
+        Some(object) => {
+            let SavedObject {
+                birth,
+                descr,
+                grant,
+                body,
+                name,
+            } = object;
+            seats.add(Id { slot, generation }, birth, descr, grant, name, body, 0);
+        }
         None => {
             if retired {
                 seats.retire(slot);

@@ -40,20 +40,6 @@ pub(crate) struct Was {
 }
 
 impl Seat {
-    /// A new object with one handle.
-    #[inline(always)]
-    pub(crate) fn new(id: Id, grant: Rights, body: Body) -> Seat
-        ensures { result ≡ record { id = id; grant = grant; handles = 1; blocks = 0; body = Some body } }
-    {
-        Seat {
-            id,
-            handles: 1,
-            grant,
-            blocks: 0,
-            body: Some(body),
-        }
-    }
-
     /// Replaces the body. The answer says which thread owned the old one, and when it was due.
     #[inline(always)]
     pub(crate) fn put(&mut self, body: Body) -> Was

@@ -9,10 +9,9 @@ ghost use Rattle.ob_waits.specs.Waits.{is_abandoned, is_signaled, with_acquired}
 ghost use Rattle.ob_store.specs.Closing.{is_closing_in};
 ghost use Rattle.ob_store.specs.Owners.{owns_at};
 ghost use Rattle.ob_store.specs.Ticks.{slot_is_due};
-ghost use Rattle.ob_store.specs.Objects.{object_of, tag_of, tags_in, rest_of, vacant_places, vacancy, with_seat};
+ghost use Rattle.ob_store.specs.Objects.{object_of, tag_of, tags_in, rest_of, vacant_places, vacancy};
 ghost use Rattle.ob_store.specs.Objects.{with_handle, without_handle, is_last_handle, with_block, is_last_block};
 ghost use Rattle.ob_store.specs.Objects.{without_seat, with_retired, with_seated};
-ghost use Rattle.ob_store.specs.SavedSlots.{stored_object};
 ghost use Rattle.ob_store.specs.Counting.{counting_one, may_count};
 ghost use Rattle.ob_store.specs.SavedObjects.{are_bodied, is_bodied};
 ghost use Rattle.ob_store.specs.SavedWaits.{object_blocks, with_blocks_at};
@@ -22,7 +21,6 @@ use crate::closing::ClosingSlots;
 use crate::found::Found;
 use crate::label::Label;
 use crate::owners::Owners;
-use crate::saved_slot::SavedObject;
 use crate::seat::Seat;
 use crate::timers::Timers;
 use ob_arena::{Arena, SLOTS_MAX};
@@ -221,7 +219,7 @@ impl Seats {
         self.arena.get(slot).blocks
     }
 
-    /// Puts an object with one handle into the vacant slot of its Id.
+    /// Puts an object with so many handles and no block into the vacant slot of its Id.
     #[inline(always)]
     pub(crate) fn add(
         &mut self,
@@ -230,41 +228,17 @@ impl Seats {
         descr: Descr,
         grant: Rights,
         name: Option<Name>,
-        body: Body,
+        body: Option<Body>,
+        handles: u32,
     )
         requires { is_vacant_at (vacancy self.old) id.slot ≡ true }
-        ensures value { self.new ≡ with_seat self.old id.slot
-            (record { id = id; birth = birth; descr = descr; grant = grant; name = name }) body }
-        ensures handle { slice_index_or self.new.seen.handles id.slot 0 ≡ 1 }
+        ensures value { self.new ≡ with_seated self.old id.slot
+            (record { id = id; birth = birth; descr = descr; grant = grant; name = name }) body handles }
+        ensures handles { slice_index_or self.new.seen.handles id.slot 0 ≡ handles }
     {
-        self.arena.put(id.slot, Seat::new(id, grant, body));
-        relabel(
-            &mut self.labels,
-            &mut self.names,
-            id.slot,
-            birth,
-            descr,
-            name,
-        );
-        self.owners.came(id.slot, body.owner());
-        self.timers.moved(id.slot, None, body.due());
-    }
-
-    /// Puts what a save says of an object into the vacant slot of its Id. Nothing that refers to it is counted yet.
-    pub(crate) fn put_back(&mut self, id: Id, object: SavedObject)
-        requires { is_vacant_at (vacancy self.old) id.slot ≡ true }
-        ensures { self.new ≡ with_seated self.old id.slot (stored_object id object) object.body 0 }
-    {
-        let SavedObject {
-            birth,
-            descr,
-            grant,
-            body,
-            name,
-        } = object;
         let seat = Seat {
             id,
-            handles: 0,
+            handles,
             grant,
             blocks: 0,
             body,

@@ -32,7 +32,7 @@ impl<K: PinKeeper> Store<K> {
         ensures least { IsLeastFrom from (is_closing_at self.now.state) (option_map (λ id. id.slot) result) }
         ensures object { IfSome result (λ id. IsThere self.now.state.objects id) }
     {
-        let slot = self.parts.objects.next_closing(from)?;
+        let slot = self.parts.objects.seats.next_closing(from)?;
         let Some(found) = self.parts.objects.look(slot) else {
             unreachable!()
         };
@@ -44,7 +44,7 @@ impl<K: PinKeeper> Store<K> {
         ensures least { IsLeastFrom from (is_object_at self.now.state) (option_map (λ id. id.slot) result) }
         ensures object { IfSome result (λ id. IsThere self.now.state.objects id) }
     {
-        let slot = self.parts.objects.next_object(from)?;
+        let slot = self.parts.objects.seats.next_object(from)?;
         let Some(found) = self.parts.objects.look(slot) else {
             unreachable!()
         };

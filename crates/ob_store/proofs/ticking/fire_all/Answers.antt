@@ -1,5 +1,6 @@
-use Rattle.std.proofs.Common.{◌∙◌, None, get_or}
-use Rattle.ob_store.specs.Ticks.{slot_fired}
+use Rattle.std.proofs.Common.{◌≡◌, ◌∙◌, None, false, get_or, subst}
+use Rattle.ob_store.specs.Objects.{ObjectsState}
+use Rattle.ob_store.specs.Ticks.{slot_fired, slot_is_due}
 use Rattle.ob_store.proofs.EnoughLaws.{enough_added}
 use Rattle.ob_store.proofs.OneByOne.{all_done, one_before}
 use Rattle.ob_store.proofs.TickLaws.{fired_other, fired_twice}
@@ -18,5 +19,7 @@ loop-slot-preserved g c = record {
 
 pub returns-clause-seen : goal.returns-clause-seen
 returns-clause-seen g c = all_done (slot_fired c.args.now) c.args.objects.now.seen c.loop-slot.objects.seen
-    (λ k. fired_other c.args.now (get_or c.loop-slot.objects.seen.bodies k None) (c.in_default.ensures.none k))
+    (λ k. fired_other c.args.now (get_or c.loop-slot.objects.seen.bodies k None)
+    (subst (λ (o : ObjectsState). slot_is_due c.args.now (get_or o.seen.bodies k None) ≡ false) c.objects.view_is
+    (c.in_default.ensures.none k)))
     c.loop-slot.invariant.seen

@@ -31,7 +31,7 @@ invariant_of-self g c =
     let keeper : g.K.PinKeeper.kept c.publish.new.self ≡ published (stored s.keeper slot head.descr) slot =
     c.publish.ensures ∙ ap (λ (z : KeeperState). published z slot) c.store_descr.ensures in
     let one : get_or (with_seat c.self.inside.seats slot (object_in s slot head) c.args.body).seen.handles slot 0 ≡ 1 =
-    sym (ap (λ (z : Places × Id). get_or z.0.seen.handles z.1.slot 0) (λ i. (seats i, id i))) ∙ c.add.ensures.handle
+    sym (ap (λ (z : Places × Id). get_or z.0.seen.handles z.1.slot 0) (λ i. (seats i, id i))) ∙ c.add.ensures.handles
     in
     tied_added s (with_keeper c.add.new.self (s.births + 1) (g.K.PinKeeper.kept c.publish.new.self)) slot head
     c.args.body (λ i. with_keeper (seats i) (s.births + 1) (keeper i))

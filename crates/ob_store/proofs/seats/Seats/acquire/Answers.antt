@@ -1,13 +1,13 @@
-use Rattle.std.proofs.lemmas.List.{length-set}
-use Rattle.std.proofs.Common.{is_some, ◌∙◌, ap, set, Some, sym}
+use Rattle.std.proofs.Common.{is_some, ◌∙◌, ap, set, Some}
 use Rattle.ob_waits.specs.Waits.{with_acquired}
 use Rattle.ob_store.specs.declared.seat.Seat.{Seat}
 use Rattle.ob_store.specs.Objects.{tags_in, Places, rest_of, object_of, seen_in}
 use Rattle.ob_store.proofs.SeatLaws.{rest_same, seen_acquired}
-use Rattle.ob_store.proofs.OwnerLaws.{owned_few, owned_set}
+use Rattle.ob_store.proofs.OwnerLaws.{owned_few}
 use Rattle.ob_waits.specs.Form.{slot_due}
 use Rattle.ob_store.proofs.TimerLaws.{due_taken, timed_stays}
-use Rattle.ob_store.proofs.ClosingLaws.{body_stays, opened_stays}
+use Rattle.ob_store.proofs.ClosingLaws.{body_stays}
+use Rattle.ob_store.proofs.NotedLaws.{noted_moved}
 use Rattle.ob_store.proofs.seats.Seats.acquire.Goals as goal
 
 pub returns-clause-objects : goal.returns-clause-objects
@@ -29,21 +29,12 @@ pub moved-requires : goal.moved-requires
 moved-requires c = owned_few c.self.inside.arena.bodies c.self.inside.owners c.self.invariant.owned
 
 pub invariant_of-self : goal.invariant_of-self
-invariant_of-self c = record {
-  owned = rw c.moved.ensures (owned_set c.self.inside.arena.bodies c.self.inside.owners c.args.id.slot
-      c.get_mut.result.now c.acquire-acquired.new.self c.acquire-acquired.result.before c.acquire-acquired.result.after
-      c.self.invariant.owned
-      c.get_mut.ensures.value c.acquire-acquired.ensures.before c.acquire-acquired.ensures.after);
-  timed = timed_stays c.self.inside.arena.bodies c.self.inside.timers c.args.id.slot c.get_mut.result.now
-      c.acquire-acquired.new.self c.self.invariant.timed c.get_mut.ensures.value
-      (ap (λ (x : Seat). slot_due x.body) c.acquire-acquired.ensures.value
-      ∙ due_taken c.args.thread c.get_mut.result.now.body);
-  opened = opened_stays c.self.inside.arena.bodies c.self.inside.closing c.args.id.slot c.get_mut.result.now
-      c.acquire-acquired.new.self c.self.invariant.opened c.get_mut.ensures.value
-      (ap (λ (x : Seat). is_some x.body) c.acquire-acquired.ensures.value
-      ∙ body_stays c.args.thread c.get_mut.result.now.body);
-  labelled = c.self.invariant.labelled ∙ sym (length-set c.self.inside.arena.bodies c.args.id.slot
-      (Some c.acquire-acquired.new.self));
-  named = c.self.invariant.named ∙ sym (length-set c.self.inside.arena.bodies c.args.id.slot
-      (Some c.acquire-acquired.new.self));
-}
+invariant_of-self c = rw c.moved.ensures (noted_moved _ _ _ _ _ _ c.self.invariant c.args.id.slot c.get_mut.result.now
+    c.acquire-acquired.new.self c.get_mut.ensures.value c.acquire-acquired.result.before
+    c.acquire-acquired.result.after _ c.acquire-acquired.ensures.before c.acquire-acquired.ensures.after
+    (timed_stays c.self.inside.arena.bodies c.self.inside.timers c.args.id.slot c.get_mut.result.now
+    c.acquire-acquired.new.self c.self.invariant.timed c.get_mut.ensures.value
+    (ap (λ (x : Seat). slot_due x.body) c.acquire-acquired.ensures.value
+    ∙ due_taken c.args.thread c.get_mut.result.now.body))
+    (ap (λ (x : Seat). is_some x.body) c.acquire-acquired.ensures.value
+    ∙ body_stays c.args.thread c.get_mut.result.now.body))

@@ -1,16 +1,14 @@
-use Rattle.std.proofs.Common.{◌≡◌, ◌∙◌, ap, refl, sym, subst, set, get_or, length, map, ◌<◌, arith, true, None, Some}
-use Rattle.std.proofs.lemmas.List.{length-set}
+use Rattle.std.proofs.Common.{◌∙◌, ap, refl, sym, subst, get_or, length, map, ◌<◌, arith}
 use Rattle.ob_arena.specs.Slots.{Slots, is_vacant_at}
 use Rattle.ob_store.specs.declared.seat.Seat.{Seat}
-use Rattle.ob_store.specs.Objects.{Tag, tags_in, Object, Places, places_of, seat_handles, vacancy, with_seat}
+use Rattle.ob_store.specs.Objects.{Tag, tags_in, Object, Places, places_of, seat_handles, vacancy, with_seated}
+use Rattle.ob_store.specs.Timers.{AreNoted}
 use Rattle.ob_store.proofs.LabelLaws.{tags_length}
 use Rattle.ob_store.proofs.SeatLaws.{places_added, added_handle, vacant_same}
-use Rattle.ob_store.specs.Owners.{IsOwned, seat_owner}
-use Rattle.ob_store.proofs.OwnerLaws.{moved_owned, owned_few, vacant_seat}
-use Rattle.ob_store.specs.Closing.{is_open}
-use Rattle.ob_store.specs.Timers.{seat_due}
-use Rattle.ob_store.proofs.TimerLaws.{timed_set, timed_vacant, timed_within}
-use Rattle.ob_store.proofs.ClosingLaws.{opened_same}
+use Rattle.ob_store.proofs.OwnerLaws.{owned_few, vacant_seat}
+use Rattle.ob_store.proofs.TimerLaws.{timed_vacant, timed_within}
+use Rattle.ob_store.proofs.ClosingLaws.{vacant_open}
+use Rattle.ob_store.proofs.NotedLaws.{noted_came}
 use Rattle.ob_store.proofs.seats.Seats.add.Goals as goal
 
 pub put-requires : goal.put-requires
@@ -18,22 +16,47 @@ put-requires c = sym (vacant_same c.self.inside.arena
     (tags_in c.self.inside.labels.items c.self.inside.names.items) c.args.id.slot)
     ∙ ap (λ (p : Places). is_vacant_at (vacancy p) c.args.id.slot) c.self.view_is ∙ c.requires
 
+pub came-requires : goal.came-requires
+came-requires c = owned_few c.self.inside.arena.bodies c.self.inside.owners c.self.invariant.owned
+
 pub relabel-requires-clause-labelled : goal.relabel-requires-clause-labelled
-relabel-requires-clause-labelled c =
-    let vacant = vacant_seat c.self.inside.arena (tags_in c.self.inside.labels.items c.self.inside.names.items)
-    c.args.id.slot (subst (λ (p : Places). is_vacant_at (vacancy p) c.args.id.slot ≡ true)
-    (sym c.self.view_is) c.requires) in
-    omega (arith, vacant.0, c.self.invariant.labelled)
+relabel-requires-clause-labelled c = omega (
+  arith,
+  (vacant_seat c.self.inside.arena
+      (tags_in c.self.inside.labels.items c.self.inside.names.items) _ c.args.id.slot c.self.view_is c.requires).0,
+  c.self.invariant.labelled,
+)
 
 pub relabel-requires-clause-named : goal.relabel-requires-clause-named
-relabel-requires-clause-named c =
-    let vacant = vacant_seat c.self.inside.arena (tags_in c.self.inside.labels.items c.self.inside.names.items)
-    c.args.id.slot (subst (λ (p : Places). is_vacant_at (vacancy p) c.args.id.slot ≡ true)
-    (sym c.self.view_is) c.requires) in
-    omega (arith, vacant.0, c.self.invariant.named)
+relabel-requires-clause-named c = omega (
+  arith,
+  (vacant_seat c.self.inside.arena
+      (tags_in c.self.inside.labels.items c.self.inside.names.items) _ c.args.id.slot c.self.view_is c.requires).0,
+  c.self.invariant.named,
+)
+
+pub moved-requires-clause-within : goal.moved-requires-clause-within
+moved-requires-clause-within c = timed_within c.self.inside.arena.bodies c.self.inside.timers c.args.id.slot
+    c.self.invariant.timed (vacant_seat c.self.inside.arena
+    (tags_in c.self.inside.labels.items c.self.inside.names.items) _ c.args.id.slot c.self.view_is c.requires).0
+
+pub moved-requires-clause-before : goal.moved-requires-clause-before
+moved-requires-clause-before c = timed_vacant c.self.inside.arena.bodies c.self.inside.timers c.args.id.slot
+    c.self.invariant.timed (vacant_seat c.self.inside.arena
+    (tags_in c.self.inside.labels.items c.self.inside.names.items) _ c.args.id.slot c.self.view_is c.requires).1
+
+pub came-requires-2 : goal.came-requires-2
+came-requires-2 c = λ ended.
+    let vacant = (vacant_seat c.self.inside.arena
+    (tags_in c.self.inside.labels.items c.self.inside.names.items) _ c.args.id.slot c.self.view_is c.requires) in
+    vacant_open c.self.inside.arena.bodies c.self.inside.closing c.args.id.slot
+    c.self.invariant.opened vacant.0 vacant.1
 
 pub returns-clause-value : goal.returns-clause-value
 returns-clause-value c =
+    let i = c.self.inside in
+    let tags = tags_in i.labels.items i.names.items in
+    let tag : Tag = record { birth = c.args.birth; descr = c.args.descr; name = c.args.name } in
     let object : Object = record {
       id = c.args.id;
       birth = c.args.birth;
@@ -41,96 +64,30 @@ returns-clause-value c =
       grant = c.args.grant;
       name = c.args.name;
     } in
-    let tag : Tag = record { birth = c.args.birth; descr = c.args.descr; name = c.args.name } in
-    let seat : Seat = record { id = c.args.id; grant = c.args.grant; handles = 1; blocks = 0; body = Some c.args.body }
-    in
-    let vacant = vacant_seat c.self.inside.arena (tags_in c.self.inside.labels.items c.self.inside.names.items)
-    c.args.id.slot (subst (λ (p : Places). is_vacant_at (vacancy p) c.args.id.slot ≡ true)
-    (sym c.self.view_is) c.requires) in
-    let within : c.args.id.slot < length (tags_in c.self.inside.labels.items c.self.inside.names.items) =
+    let within : c.args.id.slot < length tags =
     omega (
       arith,
-      vacant.0,
+      (vacant_seat c.self.inside.arena
+          (tags_in c.self.inside.labels.items c.self.inside.names.items) _ c.args.id.slot c.self.view_is c.requires).0,
       c.self.invariant.labelled,
-      tags_length c.self.inside.labels.items c.self.inside.names.items,
+      tags_length i.labels.items i.names.items,
     ) in
-    let arena : c.put.new.self ≡ record c.self.inside.arena {
-      bodies =
-          set c.self.inside.arena.bodies c.args.id.slot (Some seat);
-    } =
-    c.put.ensures ∙ ap (λ (x : Seat). record c.self.inside.arena {
-      bodies =
-          set c.self.inside.arena.bodies c.args.id.slot (Some x);
-    }) c.new.ensures in
-    (λ i. places_of (arena i) (c.relabel.ensures.value i))
-    ∙ places_added c.self.inside.arena (tags_in c.self.inside.labels.items c.self.inside.names.items) c.args.id.slot
-    seat tag (Some c.args.body) 1 within refl refl refl
-    ∙ ap (λ (p : Places). with_seat p c.args.id.slot object c.args.body) c.self.view_is
+    (λ j. places_of (c.put.ensures j) (c.relabel.ensures.value j))
+    ∙ places_added i.arena tags c.args.id.slot _ tag c.args.body c.args.handles within refl refl refl
+    ∙ ap (λ (p : Places). with_seated p c.args.id.slot object c.args.body c.args.handles) c.self.view_is
 
-pub returns-clause-handle : goal.returns-clause-handle
-returns-clause-handle c =
-    let seat : Seat = record { id = c.args.id; grant = c.args.grant; handles = 1; blocks = 0; body = Some c.args.body }
-    in
-    let arena : c.put.new.self ≡ record c.self.inside.arena {
-      bodies =
-          set c.self.inside.arena.bodies c.args.id.slot (Some seat);
-    } =
-    c.put.ensures ∙ ap (λ (x : Seat). record c.self.inside.arena {
-      bodies =
-          set c.self.inside.arena.bodies c.args.id.slot (Some x);
-    }) c.new.ensures in
-    ap (λ (s : Slots Seat). get_or (map seat_handles s.bodies) c.args.id.slot 0) arena
-    ∙ added_handle c.self.inside.arena (tags_in c.self.inside.labels.items c.self.inside.names.items) c.args.id.slot
-    seat refl (subst (λ (p : Places). is_vacant_at (vacancy p) c.args.id.slot ≡ true)
-    (sym c.self.view_is) c.requires)
-
-pub came-requires : goal.came-requires
-came-requires c = owned_few c.self.inside.arena.bodies c.self.inside.owners c.self.invariant.owned
+pub returns-clause-handles : goal.returns-clause-handles
+returns-clause-handles c =
+    ap (λ (s : Slots Seat). get_or (map seat_handles s.bodies) c.args.id.slot 0) c.put.ensures
+    ∙ added_handle c.self.inside.arena.bodies c.args.id.slot _ (vacant_seat c.self.inside.arena
+    (tags_in c.self.inside.labels.items c.self.inside.names.items) _ c.args.id.slot c.self.view_is c.requires).0
 
 pub invariant_of-self : goal.invariant_of-self
 invariant_of-self c =
-    let seat : Seat = record { id = c.args.id; grant = c.args.grant; handles = 1; blocks = 0; body = Some c.args.body }
-    in
-    let arena : c.put.new.self ≡ record c.self.inside.arena {
-      bodies =
-          set c.self.inside.arena.bodies c.args.id.slot (Some seat);
-    } =
-    c.put.ensures ∙ ap (λ (x : Seat). record c.self.inside.arena {
-      bodies =
-          set c.self.inside.arena.bodies c.args.id.slot (Some x);
-    }) c.new.ensures in
-    let vacant = vacant_seat c.self.inside.arena (tags_in c.self.inside.labels.items c.self.inside.names.items)
-    c.args.id.slot (subst (λ (p : Places). is_vacant_at (vacancy p) c.args.id.slot ≡ true)
-    (sym c.self.view_is) c.requires) in
-    record {
-      labelled = c.relabel.ensures.labels ∙ c.self.invariant.labelled
-          ∙ sym (ap (λ (s : Slots Seat). length s.bodies) arena
-          ∙ length-set c.self.inside.arena.bodies c.args.id.slot (Some seat));
-      named = c.relabel.ensures.names ∙ c.self.invariant.named
-          ∙ sym (ap (λ (s : Slots Seat). length s.bodies) arena
-          ∙ length-set c.self.inside.arena.bodies c.args.id.slot (Some seat));
-      owned = subst (λ (s : Slots Seat). IsOwned s.bodies c.came.new.self) (sym arena)
-          (rw c.came.ensures (moved_owned c.self.inside.arena.bodies c.self.inside.owners c.args.id.slot
-          (Some seat) None c.owner.result c.self.invariant.owned
-          vacant.0 (ap seat_owner (sym vacant.1)) c.owner.ensures.owner));
-      opened = subst (λ (s : Slots Seat). c.self.inside.closing ≡ map is_open s.bodies) (sym arena)
-          (opened_same c.self.inside.arena.bodies c.self.inside.closing c.args.id.slot
-          (Some seat) c.self.invariant.opened (ap is_open (sym vacant.1)));
-      timed = subst (λ (s : Slots Seat). c.moved.new.self ≡ map seat_due s.bodies) (sym arena)
-          (rw c.moved.ensures (timed_set c.self.inside.arena.bodies c.self.inside.timers c.args.id.slot
-          (Some seat) c.due.result c.self.invariant.timed c.due.ensures));
-    }
-
-pub moved-requires-clause-within : goal.moved-requires-clause-within
-moved-requires-clause-within c =
-    let vacant = vacant_seat c.self.inside.arena (tags_in c.self.inside.labels.items c.self.inside.names.items)
-    c.args.id.slot (subst (λ (p : Places). is_vacant_at (vacancy p) c.args.id.slot ≡ true)
-    (sym c.self.view_is) c.requires) in
-    timed_within c.self.inside.arena.bodies c.self.inside.timers c.args.id.slot c.self.invariant.timed vacant.0
-
-pub moved-requires-clause-before : goal.moved-requires-clause-before
-moved-requires-clause-before c =
-    let vacant = vacant_seat c.self.inside.arena (tags_in c.self.inside.labels.items c.self.inside.names.items)
-    c.args.id.slot (subst (λ (p : Places). is_vacant_at (vacancy p) c.args.id.slot ≡ true)
-    (sym c.self.view_is) c.requires) in
-    timed_vacant c.self.inside.arena.bodies c.self.inside.timers c.args.id.slot c.self.invariant.timed vacant.1
+    let vacant = (vacant_seat c.self.inside.arena
+    (tags_in c.self.inside.labels.items c.self.inside.names.items) _ c.args.id.slot c.self.view_is c.requires) in
+    subst (λ (s : Slots Seat). AreNoted s.bodies c.came.new.self c.moved.new.self c.came-2.new.self
+    c.relabel.new.labels.items c.relabel.new.names.items) (sym c.put.ensures)
+    (rw c.came.ensures (rw c.owner_of.ensures (rw c.moved.ensures (rw c.due_of.ensures (rw c.came-2.ensures
+    (noted_came _ _ _ _ _ _ c.self.invariant c.args.id.slot _ c.is_none.result _ _ vacant.0 vacant.1
+    c.is_none.ensures c.relabel.ensures.labels c.relabel.ensures.names))))))

@@ -1,12 +1,10 @@
-use Rattle.std.proofs.lemmas.List.{length-set}
 use Rattle.std.proofs.Common.{◌∙◌, ap, sym, set, get_or, Some, None}
 use Rattle.ob_waits.specs.Objects.{without_block}
 use Rattle.ob_store.specs.declared.seat.Seat.{Seat}
 use Rattle.ob_store.specs.Objects.{tags_in, Places, rest_of, seen_in, object_of}
 use Rattle.ob_store.proofs.SeatLaws.{seen_block_left, seen_absent, rest_same, none_of}
-use Rattle.ob_store.proofs.OwnerLaws.{owned_left_at}
-use Rattle.ob_store.proofs.TimerLaws.{timed_left_at}
-use Rattle.ob_store.proofs.ClosingLaws.{gone_was_there, opened_left_at}
+use Rattle.ob_store.proofs.ClosingLaws.{gone_was_there}
+use Rattle.ob_store.proofs.NotedLaws.{noted_left}
 use Rattle.ob_store.proofs.seats.Seats.block_left.Goals as goal
 
 pub returns-clause-objects : goal.returns-clause-objects
@@ -33,27 +31,11 @@ returns-then-not-is_occupied-clause-objects c =
     ∙ ap (λ (p : Places). without_block p.seen c.args.id) c.self.view_is
 
 pub invariant_of-self : goal.invariant_of-self
-invariant_of-self c = record {
-  owned = rw c.left.ensures (rw c.owner_of.ensures
-      (owned_left_at c.self.inside.arena.bodies c.self.inside.owners c.args.id.slot c.get_mut.result.now
-      c.block_left-gone.new.self _ c.block_left-gone.result c.self.invariant.owned
-      c.get_mut.ensures.value c.block_left-gone.ensures.gone
-      (ap (λ (x : Seat). x.body) c.block_left-gone.ensures.value)));
-  timed = rw c.left-2.ensures (rw c.due_of.ensures
-      (timed_left_at c.self.inside.arena.bodies c.self.inside.timers c.args.id.slot c.get_mut.result.now
-      c.block_left-gone.new.self _ c.block_left-gone.result c.self.invariant.timed
-      c.get_mut.ensures.value c.block_left-gone.ensures.gone
-      (ap (λ (x : Seat). x.body) c.block_left-gone.ensures.value)));
-  opened = rw c.came.ensures (rw c.is_some.ensures
-      (opened_left_at c.self.inside.arena.bodies c.self.inside.closing c.args.id.slot c.get_mut.result.now
-      c.block_left-gone.new.self _ c.block_left-gone.result c.self.invariant.opened
-      c.get_mut.ensures.value c.block_left-gone.ensures.gone
-      (ap (λ (x : Seat). x.body) c.block_left-gone.ensures.value)));
-  labelled = c.self.invariant.labelled ∙ sym (length-set c.self.inside.arena.bodies c.args.id.slot
-      (Some c.block_left-gone.new.self));
-  named = c.self.invariant.named ∙ sym (length-set c.self.inside.arena.bodies c.args.id.slot
-      (Some c.block_left-gone.new.self));
-}
+invariant_of-self c = rw c.left.ensures (rw c.owner_of.ensures (rw c.left-2.ensures (rw c.due_of.ensures
+    (rw c.came.ensures (rw c.is_some.ensures
+    (noted_left _ _ _ _ _ _ c.self.invariant c.args.id.slot c.get_mut.result.now
+    c.block_left-gone.new.self c.get_mut.ensures.value _ c.block_left-gone.result c.block_left-gone.ensures.gone
+    (ap (λ (x : Seat). x.body) c.block_left-gone.ensures.value)))))))
 
 pub came-requires : goal.came-requires
 came-requires c = λ some. gone_was_there c.self.inside.arena.bodies c.self.inside.closing c.args.id.slot

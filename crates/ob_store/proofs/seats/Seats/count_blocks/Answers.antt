@@ -1,12 +1,9 @@
 use Rattle.std.proofs.Common.{◌≡◌, ◌∙◌, ap, refl, get_or, subst, sym, None}
-use Rattle.std.proofs.lemmas.List.{length-set}
 use Rattle.ob_store.specs.Objects.{tags_in, Places}
 use Rattle.ob_store.specs.SavedWaits.{object_blocks, with_blocks_at}
 use Rattle.ob_store.proofs.SavedWaitLaws.{blocks_seated, blocks_vacant}
 use Rattle.ob_store.proofs.SeatLaws.{none_of, places_blocks}
-use Rattle.ob_store.proofs.OwnerLaws.{owned_stays}
-use Rattle.ob_store.proofs.TimerLaws.{timed_stays}
-use Rattle.ob_store.proofs.ClosingLaws.{opened_stays}
+use Rattle.ob_store.proofs.NotedLaws.{noted_counts}
 use Rattle.ob_store.proofs.seats.Seats.count_blocks.Goals as goal
 
 pub returns-then-not-is_occupied : goal.returns-then-not-is_occupied
@@ -31,13 +28,5 @@ returns c =
     c.self.view_is
 
 pub invariant_of-self : goal.invariant_of-self
-invariant_of-self c = record {
-  owned = owned_stays c.self.inside.arena.bodies c.self.inside.owners c.args.slot c.get_mut.result.now _
-      c.self.invariant.owned c.get_mut.ensures.value refl;
-  timed = timed_stays c.self.inside.arena.bodies c.self.inside.timers c.args.slot c.get_mut.result.now _
-      c.self.invariant.timed c.get_mut.ensures.value refl;
-  opened = opened_stays c.self.inside.arena.bodies c.self.inside.closing c.args.slot c.get_mut.result.now _
-      c.self.invariant.opened c.get_mut.ensures.value refl;
-  labelled = c.self.invariant.labelled ∙ sym (length-set c.self.inside.arena.bodies c.args.slot _);
-  named = c.self.invariant.named ∙ sym (length-set c.self.inside.arena.bodies c.args.slot _);
-}
+invariant_of-self c = noted_counts _ _ _ _ _ _ c.self.invariant c.args.slot c.get_mut.result.now _
+    c.get_mut.ensures.value refl

@@ -1,11 +1,9 @@
-use Rattle.std.proofs.lemmas.List.{length-set}
 use Rattle.std.proofs.Common.{◌∙◌, ap, set, Some, sym}
 use Rattle.ob_store.specs.declared.seat.Seat.{Seat}
 use Rattle.ob_store.specs.Objects.{tags_in, Places, places_of, without_handle}
 use Rattle.ob_store.proofs.SeatLaws.{places_handle_left}
-use Rattle.ob_store.proofs.OwnerLaws.{owned_left_at}
-use Rattle.ob_store.proofs.TimerLaws.{timed_left_at}
-use Rattle.ob_store.proofs.ClosingLaws.{gone_was_there, opened_left_at}
+use Rattle.ob_store.proofs.ClosingLaws.{gone_was_there}
+use Rattle.ob_store.proofs.NotedLaws.{noted_left}
 use Rattle.ob_store.proofs.seats.Seats.handle_left.Goals as goal
 
 pub returns-clause-value : goal.returns-clause-value
@@ -20,27 +18,11 @@ returns-clause-value c =
     ∙ ap (λ (p : Places). without_handle p c.args.slot) c.self.view_is
 
 pub invariant_of-self : goal.invariant_of-self
-invariant_of-self c = record {
-  owned = rw c.left.ensures (rw c.owner_of.ensures
-      (owned_left_at c.self.inside.arena.bodies c.self.inside.owners c.args.slot c.get_mut.result.now
-      c.handle_left-gone.new.self _ c.handle_left-gone.result c.self.invariant.owned
-      c.get_mut.ensures.value c.handle_left-gone.ensures.gone
-      (ap (λ (x : Seat). x.body) c.handle_left-gone.ensures.value)));
-  timed = rw c.left-2.ensures (rw c.due_of.ensures
-      (timed_left_at c.self.inside.arena.bodies c.self.inside.timers c.args.slot c.get_mut.result.now
-      c.handle_left-gone.new.self _ c.handle_left-gone.result c.self.invariant.timed
-      c.get_mut.ensures.value c.handle_left-gone.ensures.gone
-      (ap (λ (x : Seat). x.body) c.handle_left-gone.ensures.value)));
-  opened = rw c.came.ensures (rw c.is_some.ensures
-      (opened_left_at c.self.inside.arena.bodies c.self.inside.closing c.args.slot c.get_mut.result.now
-      c.handle_left-gone.new.self _ c.handle_left-gone.result c.self.invariant.opened
-      c.get_mut.ensures.value c.handle_left-gone.ensures.gone
-      (ap (λ (x : Seat). x.body) c.handle_left-gone.ensures.value)));
-  labelled = c.self.invariant.labelled ∙ sym (length-set c.self.inside.arena.bodies c.args.slot
-      (Some c.handle_left-gone.new.self));
-  named = c.self.invariant.named ∙ sym (length-set c.self.inside.arena.bodies c.args.slot
-      (Some c.handle_left-gone.new.self));
-}
+invariant_of-self c = rw c.left.ensures (rw c.owner_of.ensures (rw c.left-2.ensures (rw c.due_of.ensures
+    (rw c.came.ensures (rw c.is_some.ensures
+    (noted_left _ _ _ _ _ _ c.self.invariant c.args.slot c.get_mut.result.now
+    c.handle_left-gone.new.self c.get_mut.ensures.value _ c.handle_left-gone.result c.handle_left-gone.ensures.gone
+    (ap (λ (x : Seat). x.body) c.handle_left-gone.ensures.value)))))))
 
 pub came-requires : goal.came-requires
 came-requires c = λ some. gone_was_there c.self.inside.arena.bodies c.self.inside.closing c.args.slot

@@ -1,13 +1,13 @@
 use Rattle.std.specs.Prelude.{IsSome}
-use Rattle.std.proofs.lemmas.List.{length-set}
 use Rattle.std.proofs.Common.{is_some, get_or, subst, None, ◌∙◌, ap, sym, set, Some}
 use Rattle.ob_waits.specs.Form.{slot_due, slot_owner}
 use Rattle.ob_store.specs.declared.seat.Seat.{Seat}
 use Rattle.ob_store.specs.Objects.{tags_in, Places, rest_of, object_of, seen_in}
 use Rattle.ob_store.proofs.SeatLaws.{seen_put, rest_same}
-use Rattle.ob_store.proofs.OwnerLaws.{owned_few, owned_set}
+use Rattle.ob_store.proofs.OwnerLaws.{owned_few}
 use Rattle.ob_store.proofs.TimerLaws.{timed_set}
-use Rattle.ob_store.proofs.ClosingLaws.{bodied, opened_stays}
+use Rattle.ob_store.proofs.ClosingLaws.{bodied}
+use Rattle.ob_store.proofs.NotedLaws.{noted_moved}
 use Rattle.ob_store.proofs.seats.Seats.put.Goals as goal
 
 pub returns-clause-objects : goal.returns-clause-objects
@@ -31,20 +31,13 @@ pub moved-requires : goal.moved-requires
 moved-requires c = owned_few c.self.inside.arena.bodies c.self.inside.owners c.self.invariant.owned
 
 pub invariant_of-self : goal.invariant_of-self
-invariant_of-self c = record {
-  owned = rw c.moved.ensures (owned_set c.self.inside.arena.bodies c.self.inside.owners c.args.slot c.get_mut.result.now
-      c.put-was.new.self c.put-was.result.owner c.owner-owner.result c.self.invariant.owned
-      c.get_mut.ensures.value c.put-was.ensures.owner (c.owner-owner.ensures.owner
-      ∙ ap (λ (x : Seat). slot_owner x.body) (sym c.put-was.ensures.value)));
-  timed = rw c.moved-2.ensures (timed_set c.self.inside.arena.bodies c.self.inside.timers c.args.slot
-      (Some c.put-was.new.self) c.due-due.result c.self.invariant.timed (c.due-due.ensures
-      ∙ ap (λ (x : Seat). slot_due x.body) (sym c.put-was.ensures.value)));
-  opened = opened_stays c.self.inside.arena.bodies c.self.inside.closing c.args.slot c.get_mut.result.now
-      c.put-was.new.self c.self.invariant.opened c.get_mut.ensures.value
-      (ap (λ (x : Seat). is_some x.body) c.put-was.ensures.value
-      ∙ sym (bodied c.self.inside.arena.bodies c.args.slot c.get_mut.result.now c.get_mut.ensures.value
-      (subst (λ (p : Places). IsSome (get_or p.seen.bodies c.args.slot None)) (sym c.self.view_is) c.requires)));
-  labelled = c.self.invariant.labelled ∙ sym (length-set c.self.inside.arena.bodies c.args.slot
-      (Some c.put-was.new.self));
-  named = c.self.invariant.named ∙ sym (length-set c.self.inside.arena.bodies c.args.slot (Some c.put-was.new.self));
-}
+invariant_of-self c =
+    rw c.moved.ensures (rw c.moved-2.ensures (noted_moved _ _ _ _ _ _ c.self.invariant c.args.slot c.get_mut.result.now
+    c.put-was.new.self c.get_mut.ensures.value c.put-was.result.owner c.owner-owner.result _ c.put-was.ensures.owner
+    (c.owner-owner.ensures.owner ∙ ap (λ (x : Seat). slot_owner x.body) (sym c.put-was.ensures.value))
+    (timed_set c.self.inside.arena.bodies c.self.inside.timers c.args.slot (Some c.put-was.new.self) c.due-due.result
+    c.self.invariant.timed
+    (c.due-due.ensures ∙ ap (λ (x : Seat). slot_due x.body) (sym c.put-was.ensures.value)))
+    (ap (λ (x : Seat). is_some x.body) c.put-was.ensures.value
+    ∙ sym (bodied c.self.inside.arena.bodies c.args.slot c.get_mut.result.now c.get_mut.ensures.value
+    (subst (λ (p : Places). IsSome (get_or p.seen.bodies c.args.slot None)) (sym c.self.view_is) c.requires)))))

@@ -1,8 +1,7 @@
 use Rattle.std.proofs.Common.{true, ◌≡◌, ◌∙◌, ap, refl, sym, subst, get_or, length, map, None}
 use Rattle.std.proofs.lemmas.List.{length-set}
 use Rattle.ob_store.specs.Objects.{tags_in, Places, places_of, without_seat}
-use Rattle.ob_store.proofs.LabelLaws.{seat_there}
-use Rattle.ob_store.proofs.SeatLaws.{places_removed, vacant_same}
+use Rattle.ob_store.proofs.SeatLaws.{seat_of, places_removed, vacant_same}
 use Rattle.std.specs.Prelude.{IsSome}
 use Rattle.ob_arena.specs.Slots.{Slots}
 use Rattle.ob_store.specs.declared.seat.Seat.{Seat}
@@ -15,9 +14,8 @@ use Rattle.ob_store.proofs.ClosingLaws.{ended_here, opened_set}
 use Rattle.ob_store.proofs.seats.Seats.remove.Goals as goal
 
 pub take-requires : goal.take-requires
-take-requires c = seat_there c.self.inside.arena.bodies
-    (tags_in c.self.inside.labels.items c.self.inside.names.items) c.args.slot
-    (subst (λ (p : Places). IsSome (get_or p.objects c.args.slot None)) (sym c.self.view_is) c.requires.object)
+take-requires c = seat_of c.self.inside.arena (tags_in c.self.inside.labels.items c.self.inside.names.items) _
+    c.args.slot c.self.view_is c.requires.object
 
 pub returns-clause-vacant : goal.returns-clause-vacant
 returns-clause-vacant c = vacant_same c.take.new.self

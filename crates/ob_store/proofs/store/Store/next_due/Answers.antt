@@ -1,4 +1,4 @@
-use Rattle.std.proofs.Common.{◌++◌, Option, ℕ, map, subst, sym}
+use Rattle.std.proofs.Common.{◌++◌, map, subst}
 use Rattle.least_due.specs.Dues.{IsLeast}
 use Rattle.least_due.proofs.BestLemmas.{least_joined}
 use Rattle.ob_waits.specs.Deadlines.{deadline_of}
@@ -9,9 +9,8 @@ use Rattle.ob_store.proofs.store.Store.next_due.Goals as goal
 
 pub returns-clause-least : goal.returns-clause-least
 returns-clause-least g c =
-    let timers = map slot_due c.self.inside.parts.objects.seen.bodies in
-    let waits = map deadline_of c.self.inside.parts.waits.waits in
     subst (λ (w : Whole). IsLeast (dues_of w.state) c.sooner.result) c.self.view_is
-    (subst (λ (x : Option ℕ). IsLeast (timers ++ waits) x) (sym c.sooner.ensures)
-    (least_joined timers waits c.least_due-timers.result c.next_due-waits.result c.least_due-timers.ensures
-    c.next_due-waits.ensures.least))
+    (subst (λ s. IsLeast (map slot_due s.parts.objects.seen.bodies ++ map deadline_of s.parts.waits.waits)
+    c.sooner.result) c.self-inside.view_is
+    (rw c.sooner.ensures
+    (least_joined _ _ _ _ c.least_due-timers.ensures c.next_due-waits.ensures.least)))
