@@ -1,6 +1,7 @@
-ghost use Rattle.std.specs.Prelude.{◌≡◌, ◌*◌, ◌≤◌, length};
+ghost use Rattle.std.specs.Prelude.{◌≡◌, ◌*◌, ◌≤◌, [], ◌∷◌, length};
 ghost use Rattle.std.specs.Arc.{arc_value};
 ghost use Rattle.pin_words.specs.Places.{words_a_slot};
+ghost use Rattle.pin_words.specs.Plays.{spent};
 ghost use Rattle.pin_words.specs.Views.{IsKeepers, keeper_of};
 
 use crate::pin_keeper::{PinKeeper, Reclaim};
@@ -9,7 +10,7 @@ use crate::places::{descr_place, place_of};
 use crate::plays::{Apart, Blank, Closes, Gives, Looks, Publishing, Reclaiming, Storing, Together};
 use crate::reader::Reader;
 use crate::view::View;
-use atomic_table::Seat;
+use atomic_table::{Badge, Seat};
 use pin_core::{CLOSING_BIT, Descr, LIVE_BIT, Phase, Shape, Slot, Word};
 use std::alloc::Global;
 use std::marker::Model;
@@ -22,12 +23,15 @@ pub struct Keeper {
     words: Arc<Words, Global>,
     shape: Shape,
     seat: Seat<(), View>,
+    // A seat that knows nothing, to stand in for a reader's while that is joined.
+    spare: Badge<View>,
     slots: Vec<Slot>,
     ghost keyed: { (arc_value words).shared.key.shape ≡ shape },
     ghost wide: { (arc_value words).shared.table_id.words ≡ shape.slots * words_a_slot },
     ghost some: { 1 ≤ shape.slots },
     ghost seated: { seat.table_id ≡ (arc_value words).shared.table_id },
     ghost keeps: { IsKeepers seat.me },
+    ghost spares: { spare.views ≡ spent ∷ [] },
     ghost shaped: { (keeper_of seat.me.0).shape ≡ shape },
     ghost knows: { (keeper_of seat.me.0).slots ≡ slots.items },
     ghost long: { length slots.items ≡ shape.slots },
@@ -63,7 +67,7 @@ impl Keeper {
     pub(crate) fn of_parts(
         words: Arc<Words, Global>,
         shape: Shape,
-        seat: Seat<(), View>,
+        mut seat: Seat<(), View>,
         slots: Vec<Slot>,
     ) -> Keeper
         requires keyed { (arc_value words).shared.key.shape ≡ shape }
@@ -76,10 +80,12 @@ impl Keeper {
         requires long { length slots.items ≡ shape.slots }
         ensures { result ≡ record { table = record { id = seat.table_id; shape = shape }; view = keeper_of seat.me.0 } }
     {
+        let spare = words.shared.split_seat::<Blank>(&mut seat).into_badge();
         Keeper {
             words,
             shape,
             seat,
+            spare,
             slots,
         }
     }
@@ -207,7 +213,7 @@ impl Keeper {
 
     /// One look at the slot for a reader of the same pins, whose seat is joined to the keeper's meanwhile: what
     /// the reader holds there is the keeper's present slot, and the notes are of what was published. Beside the
-    /// look there are three more loads, by which the seats are joined and parted.
+    /// look there are two more loads, by which the seats are joined and parted.
     pub fn meet(&mut self, reader: &mut Reader, slot: u32)
         requires slot { slot < self.old.view.shape.slots }
         requires same { reader.old.table ≡ self.old.table }
@@ -221,7 +227,7 @@ impl Keeper {
         ensures view { self.new.view ≡ self.old.view }
         ensures table { (self.new.table ≡ self.old.table) × (reader.new.table ≡ reader.old.table) }
     {
-        let blank = self.words.shared.split_seat::<Blank>(&mut self.seat);
+        let blank = mem::replace(&mut self.spare, Badge::blank()).into_seat();
         let seat = mem::replace(&mut reader.seat, blank);
         self.words
             .shared
@@ -229,7 +235,8 @@ impl Keeper {
         self.words
             .shared
             .load::<Looks>(&mut self.seat, place_of(slot));
-        reader.seat = self.words.shared.split_seat::<Apart>(&mut self.seat);
+        let parted = self.words.shared.split_seat::<Apart>(&mut self.seat);
+        self.spare = mem::replace(&mut reader.seat, parted).into_badge();
     }
 
     /// A further reader, of the next number, which holds nothing. [`None`] where 2^63 readers are.

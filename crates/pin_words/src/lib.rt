@@ -2,9 +2,9 @@
 //!
 //! A [`Reader`] pins an Id by one look at the slot's word and one exchange, so that the object stays where it
 //! is until the reader releases it; the [`Keeper`] gives a slot up, and reclaims it once nobody holds it. A try to
-//! pin is one look and at most one exchange, [`Keeper::meet`] makes four loads, of which one is a look, and each
-//! other call is at most one atomic step. A step is one event of `pin_core`, or leaves the world as it is where it
-//! only gives, joins or parts seats: [`law_of_steps`] ties them.
+//! pin is one look and at most one exchange, [`Keeper::meet`] makes three loads, of which one is a look, a
+//! start two, and each other call is at most one atomic step. A step is one event of `pin_core`, or leaves the
+//! world as it is where it only gives, joins or parts seats: [`law_of_steps`] ties them.
 //! [`LockedPins`] is the same for one holder under a lock, with plain counts, and [`PinKeeper`] what is said of
 //! both keepers.
 //!

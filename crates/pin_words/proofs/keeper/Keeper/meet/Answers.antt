@@ -3,17 +3,9 @@ use Rattle.pin_core.specs.declared.shape.Shape.{Shape}
 use Rattle.pin_words.specs.Views.{keeper_of, reader_of, reader_looked, view}
 use Rattle.pin_words.specs.Plays.{looked_view, joined}
 use Rattle.pin_words.proofs.ReaderSteps.{loads}
-use Rattle.pin_words.proofs.Reseated.{blanks, joins-any, parts-any}
+use Rattle.pin_words.proofs.Reseated.{joins-any, parts-any}
 use Rattle.pin_words.proofs.Owned.{key_at, wide_at, id_at}
 use Rattle.pin_words.proofs.keeper.Keeper.meet.Goals as goal
-
-pub split_seat-blank-requires : goal.split_seat-blank-requires
-split_seat-blank-requires c = (
-  search rules,
-  (let wide = wide_at c.deref.ensures c.self.inside.wide in
-      let some = c.self.inside.some in omega arith),
-  blanks _ _ _,
-)
 
 pub join_seat-requires : goal.join_seat-requires
 join_seat-requires c = let kv = keeper_of c.self.inside.seat.me.0 in let rv = reader_of c.reader.inside.seat.me.0 in
@@ -22,32 +14,30 @@ join_seat-requires c = let kv = keeper_of c.self.inside.seat.me.0 in let rv = re
     ap (λ w. w.table.id) c.reader.view_is ∙ (ap (λ t. t.id) c.requires.same
     ∙ ap (λ w. w.table.id) (sym c.self.view_is)) in (
       search rules,
-      ap (λ z. z.table_id) seat ∙ (same ∙ c.self.inside.seated ∙ sym (id_at c.deref-2.ensures)),
+      ap (λ z. z.table_id) seat ∙ (same ∙ c.self.inside.seated ∙ sym (id_at c.deref.ensures)),
       ap (λ z. z.me.1) seat ∙ ap (λ m. m.1) c.reader.inside.reads,
-      (let wide = wide_at c.deref-2.ensures c.self.inside.wide in let some = c.self.inside.some in omega arith),
-      joins-any _ _ _ _ _ kv rv (ap (λ m. m.0) c.split_seat-blank.ensures.2
-          ∙ ap (λ m. m.0) c.self.inside.keeps) (ap (λ z. z.me.0) seat ∙ ap (λ m. m.0) c.reader.inside.reads),
+      (let wide = wide_at c.deref.ensures c.self.inside.wide in let some = c.self.inside.some in omega arith),
+      joins-any _ _ _ _ _ kv rv (ap (λ m. m.0) c.self.inside.keeps) (ap (λ z. z.me.0) seat ∙ ap (λ m. m.0) c.reader.inside.reads),
     )
 
 pub load-requires : goal.load-requires
 load-requires c = let lt : c.args.slot < c.self.inside.shape.slots = search rules in (
   search rules,
-  (let wide = wide_at c.deref-3.ensures c.self.inside.wide in let at = c.place_of.ensures in
+  (let wide = wide_at c.deref-2.ensures c.self.inside.wide in let at = c.place_of.ensures in
       omega arith),
   loads _ _ _ _ _ _ c.place_of.ensures
-      (subst (λ (k : Shape). c.args.slot < k.slots) (sym (key_at c.deref-3.ensures c.self.inside.keyed)) lt),
+      (subst (λ (k : Shape). c.args.slot < k.slots) (sym (key_at c.deref-2.ensures c.self.inside.keyed)) lt),
 )
 
-pub split_seat-requires : goal.split_seat-requires
-split_seat-requires c = let kv = keeper_of c.self.inside.seat.me.0 in let rv = reader_of c.reader.inside.seat.me.0 in
-    let kept : c.split_seat-blank.new.seat.me.0 ≡ view (Some kv) None = ap (λ m. m.0) c.split_seat-blank.ensures.2
-    ∙ ap (λ m. m.0) c.self.inside.keeps in
+pub split_seat-parted-requires : goal.split_seat-parted-requires
+split_seat-parted-requires c = let kv = keeper_of c.self.inside.seat.me.0 in let rv = reader_of c.reader.inside.seat.me.0 in
+    let kept : c.self.inside.seat.me.0 ≡ view (Some kv) None = ap (λ m. m.0) c.self.inside.keeps in
     let read : c.replace-seat.result.me.0 ≡ view None (Some rv) = ap (λ z. z.me.0) c.replace-seat.ensures.value
     ∙ ap (λ m. m.0) c.reader.inside.reads in
     let both : c.join_seat.new.seat.me.0 ≡ view (Some kv) (Some rv) =
     ap (λ m. m.0) c.join_seat.ensures.2 ∙ λ i. joined (kept i) (read i) in (
       search rules,
-      (let wide = wide_at c.deref-4.ensures c.self.inside.wide in let some = c.self.inside.some in omega arith),
+      (let wide = wide_at c.deref-3.ensures c.self.inside.wide in let some = c.self.inside.some in omega arith),
       parts-any _ _ _ kv (reader_looked rv c.args.slot c.load.result)
           (ap (λ m. m.0) (c.load.ensures.2 c.args.slot c.place_of.ensures).0
           ∙ ap (λ z. looked_view z c.args.slot c.load.result) both),
