@@ -17,20 +17,21 @@ join_seat-requires c = let kv = keeper_of c.self.inside.seat.me.0 in let rv = re
       ap (λ z. z.table_id) seat ∙ (same ∙ c.self.inside.seated ∙ sym (id_at c.deref.ensures)),
       ap (λ z. z.me.1) seat ∙ ap (λ m. m.1) c.reader.inside.reads,
       (let wide = wide_at c.deref.ensures c.self.inside.wide in let some = c.self.inside.some in omega arith),
-      joins-any _ _ _ _ _ kv rv (ap (λ m. m.0) c.self.inside.keeps) (ap (λ z. z.me.0) seat ∙ ap (λ m. m.0) c.reader.inside.reads),
+      joins-any _ _ _ _ _ kv rv (ap (λ m. m.0) c.self.inside.keeps)
+          (ap (λ z. z.me.0) seat ∙ ap (λ m. m.0) c.reader.inside.reads),
     )
 
 pub load-requires : goal.load-requires
 load-requires c = let lt : c.args.slot < c.self.inside.shape.slots = search rules in (
   search rules,
-  (let wide = wide_at c.deref-2.ensures c.self.inside.wide in let at = c.place_of.ensures in
-      omega arith),
+  (let wide = wide_at c.deref-2.ensures c.self.inside.wide in let at = c.place_of.ensures in omega arith),
   loads _ _ _ _ _ _ c.place_of.ensures
       (subst (λ (k : Shape). c.args.slot < k.slots) (sym (key_at c.deref-2.ensures c.self.inside.keyed)) lt),
 )
 
 pub split_seat-parted-requires : goal.split_seat-parted-requires
-split_seat-parted-requires c = let kv = keeper_of c.self.inside.seat.me.0 in let rv = reader_of c.reader.inside.seat.me.0 in
+split_seat-parted-requires c = let kv = keeper_of c.self.inside.seat.me.0 in
+    let rv = reader_of c.reader.inside.seat.me.0 in
     let kept : c.self.inside.seat.me.0 ≡ view (Some kv) None = ap (λ m. m.0) c.self.inside.keeps in
     let read : c.replace-seat.result.me.0 ≡ view None (Some rv) = ap (λ z. z.me.0) c.replace-seat.ensures.value
     ∙ ap (λ m. m.0) c.reader.inside.reads in
