@@ -64,19 +64,3 @@ pub head_begun : (rows : Rows) (a c first : List ℕ) → Begins a c (first ++ p
 head_begun rows a c first begins =
     subst (λ back. Begins a c back) (append_assoc first (printed_count (length rows)) (flat_map printed_row rows))
     (begins_more a c (first ++ printed_count (length rows)) (flat_map printed_row rows) begins)
-
--- the first line is written or pending
-pub head_written : (rows : Rows) (a c first rest : List ℕ) → Writes a c (first ++ printed_count (length rows)) rest
-    → IsListed rows rows a c first rest
-head_written rows a c first rest writes = record {
-  done = [];
-  whole = refl;
-  written = subst (λ back. Writes a c (first ++ back) rest) (sym (append-nil (printed_count (length rows)))) writes;
-}
-
--- no row is left
-pub all_written : (rows : Rows) (a c first rest : List ℕ) → IsListed rows [] a c first rest
-    → Writes a c (first ++ printed_names rows) rest
-all_written rows a c first rest one =
-    subst (λ done. Writes a c (first ++ printed_first rows done) rest) (sym (append-nil one.done)
-    ∙ one.whole) one.written

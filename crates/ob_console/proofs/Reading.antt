@@ -152,13 +152,6 @@ ending_fails first console given_before given more taken_before taken later prin
       };
     }
 
--- the front of a block, seen again behind the reader
-pub read_front : (block items : List ℕ) (len count : ℕ) → count ≤ length block → length block ≡ len
-    → take count (take len (block ++ drop (length block) items)) ≡ take count block
-read_front block items len count within whole =
-    ap (take count) (ap (λ n. take n (block ++ drop (length block) items)) (sym whole)
-    ∙ take-append_seam block (drop (length block) items))
-
 -- a whole script came as one block
 pub reading_whole : (old new : ConsoleState) (script taken later : List ℕ) → IsReady old → new.pending.bytes ≡ []
     → IsFed old new script [] taken later → IsReading old.point new [] script taken later

@@ -58,10 +58,6 @@ then_state : {A : Type 0} (l : Limits) (r : Result A Fault) (f : A → Result St
 then_state l (Ok x) f h = h x
 then_state l (Err e) f h = tt
 
-cond_keeps : (l : Limits) (b : Bool) (r q : Result Outcome Fault) → Keeps l r → Keeps l q → Keeps l (cond b r q)
-cond_keeps l true r q h k = h
-cond_keeps l false r q h k = k
-
 cond_limits : (b : Bool) (s t : State) (l : Limits) → s.limits ≡ l → t.limits ≡ l → (cond b s t).limits ≡ l
 cond_limits true s t l h k = h
 cond_limits false s t l h k = k

@@ -206,9 +206,6 @@ pub reads_closing : (is_so : Bool) → closing_of (word_if is_so (codes "close")
 reads_closing true = refl
 reads_closing false = refl
 
-abbrev pub said_mask : ℕ → Rights → Rights
-said_mask options mask = if keeps_rights options then record { 0 = 0 } else mask
-
 pub reads_access : (same : Bool) (mask : Rights) → mask.0 ≤ 4294967295
     → access_of (if same then codes "same" else mask_word mask) ≡ Some (
       if same then record { 0 = 0 } else mask,
