@@ -10,7 +10,7 @@ use Rattle.ob_codec.specs.Reading.{◌>>=◌, both_at, number_at, whole_at, wher
 use Rattle.ob_codec.specs.Sealing.{sealed, unsealed}
 use Rattle.ob_codec.specs.Spelling.{AreBytes}
 use Rattle.ob_codec.specs.Steps.{bind_ok, ok_is, whole_ok}
-use Rattle.ob_store.specs.SavedStore.{reopened, store_at, store_text}
+use Rattle.ob_store.specs.SavedStore.{begun_again, store_at, store_text}
 use Rattle.ob_store.specs.State.{Whole}
 use Rattle.ob_store.proofs.SavedStoreLaws.{store_takes}
 use Rattle.ob_manager.specs.Savestates.{behind_mark, is_mark, load, mark, marked_at, saved}
@@ -18,13 +18,14 @@ use Rattle.ob_manager.specs.Savestates.{behind_mark, is_mark, load, mark, marked
 mark_codec : IsCodec (to_le_bytes w64) (where_at is_mark (number_at w64)) (λ n. (n < 2 ^ 64) × (is_mark n ≡ true))
 mark_codec = where_codec u64_codec is_mark
 
-whole_again : (w : Whole) → store_at (store_text w ++ []) ≡ Ok (reopened w, [])
-    → whole_at marked_at (to_le_bytes w64 mark ++ store_text w) ≡ Ok (reopened w)
+whole_again : (w : Whole) → store_at (store_text w ++ []) ≡ Ok (begun_again w, [])
+    → whole_at marked_at (to_le_bytes w64 mark ++ store_text w) ≡ Ok (begun_again w)
 whole_again w again =
     ap (λ (t : List ℕ). whole_at marked_at (to_le_bytes w64 mark ++ t)) (sym (append-nil (store_text w)))
     ∙ rw (mark_codec.again mark (store_text w ++ []) (omega arith, refl), again) refl
 
-pub loads_again : (w : Whole) → store_at (store_text w ++ []) ≡ Ok (reopened w, []) → load (saved w) ≡ Ok (reopened w)
+pub loads_again : (w : Whole) → store_at (store_text w ++ []) ≡ Ok (begun_again w, [])
+    → load (saved w) ≡ Ok (begun_again w)
 loads_again w again = rw (unsealed_again (to_le_bytes w64 mark ++ store_text w)) (whole_again w again)
 
 pub loads_takes : (bytes : List ℕ) (w : Whole) → AreBytes bytes → load bytes ≡ Ok w → bytes ≡ saved w

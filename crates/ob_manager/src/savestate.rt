@@ -4,7 +4,7 @@ ghost use Rattle.pin_core.specs.Opened.{Opens};
 ghost use Rattle.pin_words.specs.Keepers.{IsFreshWith, state_of};
 ghost use Rattle.pin_words.specs.Views.{keeper_gave, keeper_with_slots};
 ghost use Rattle.ob_manager.specs.Savestates.{is_mark, load, saved};
-ghost use Rattle.ob_store.specs.SavedStore.{reopened};
+ghost use Rattle.ob_store.specs.SavedStore.{begun_again};
 ghost use Rattle.ob_store.specs.State.{shape_of};
 ghost use Rattle.std.specs.Int.{w64};
 
@@ -40,7 +40,7 @@ impl<K: PinKeeper> Manager<K> {
     pub fn save(&self, alloc: Global) -> Result<Vec<u8>, AllocError>
         ensures saved { IfOk result (λ bytes. bytes.items ≡ saved self.now) }
         // What is saved loads to the very same state, whatever that is; its keeper begins with its slots.
-        ensures again { IfOk result (λ bytes. load bytes.items ≡ Ok (reopened self.now)) }
+        ensures again { IfOk result (λ bytes. load bytes.items ≡ Ok (begun_again self.now)) }
     {
         let mut bytes = Vec::new(alloc);
         MARK.write(&mut bytes)?;

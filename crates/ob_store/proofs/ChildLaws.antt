@@ -10,7 +10,7 @@ use Rattle.ob_tables.specs.declared.entry.Entry.{Entry}
 use Rattle.ob_tables.specs.Counts.{slot_handles, slot_handles_in}
 use Rattle.ob_tables.specs.Inheritance.{inheritable, inherited}
 use Rattle.ob_tables.specs.Tables as tables
-use Rattle.ob_tables.specs.Tables.{IsBounded, table_of}
+use Rattle.ob_tables.specs.Tables.{HandleTables, IsBounded, table_of}
 use Rattle.ob_tables.proofs.Counting.{handles_among-with_child, handles_in-inherited, handles_in-among}
 use Rattle.ob_tables.proofs.Inheriting.{at-trimmed}
 use Rattle.ob_tables.proofs.SlotCounts.{one_in, slot_handles-with_child, slot_handles-few}
@@ -45,7 +45,7 @@ inheritable_own (Some y) e is = by (within 1 y.flags.0) is
     by false same = absurd (cc)
 
 -- it comes last
-pub last_table : (ts : List (List (Option Entry))) (p : ℕ)
+last_table : (ts : List (List (Option Entry))) (p : ℕ)
     → table_of (tables.with_child ts p) (length ts) ≡ inherited (table_of ts p)
 last_table ts p = get_or-append_seam ts (inherited (table_of ts p)) [] []
 
@@ -79,18 +79,28 @@ handles_counted (Some e ∷ places) s k lt =
     sum_by-cons _ (Some e) places in
     omega (arith, rest, first, sum)
 
-module _ (p : PartsState) (kept : IsKept p) (parent : ℕ) (table : parent < length p.tables.tables) where
+module _ (p : PartsState) (kept : IsKept p) (parent : ℕ) (w : Whole) (view : whole_of p ≡ w)
+    (table : parent < length w.state.tables) where
   abbrev pub child_table : List (Option Entry)
   child_table = inherited (table_of p.tables.tables parent)
 
   abbrev ts : List (List (Option Entry))
   ts = p.tables.tables
 
+  -- what is read of the new table
+  pub child_read : (places : List (Option Entry)) (t : HandleTables) (child : ℕ) → places ≡ table_of t.tables child
+      → child ≡ length p.tables.tables
+      → t ≡ record p.tables { tables = tables.with_child p.tables.tables parent }
+      → places ≡ inherited (table_of p.tables.tables parent)
+  child_read places t child read last copied =
+      read ∙ (λ i. table_of (copied i).tables (last i)) ∙ last_table ts parent
+
   -- what a child inherits has a body
-  pub inherited_live : IsTied p.objects → (i : ℕ) →
-      IfSome (get_or (inherited (table_of p.tables.tables parent)) i None)
-      (λ e. IsSome (get_or p.objects.seen.bodies e.id.slot None))
-  inherited_live tied i = by (get_or child_table i None) refl
+  pub inherited_live : IsTied p.objects → (places : List (Option Entry)) → places ≡ child_table → (i : ℕ) →
+      IfSome (get_or places i None) (λ e. IsSome (get_or p.objects.seen.bodies e.id.slot None))
+  inherited_live tied places same i = subst (λ (t : List (Option Entry)).
+      IfSome (get_or t i None) (λ e. IsSome (get_or p.objects.seen.bodies e.id.slot None))) (sym same)
+      (by (get_or child_table i None) refl)
     where
       by : (x : Option Entry) → get_or child_table i None ≡ x
           → IfSome x (λ e. IsSome (get_or p.objects.seen.bodies e.id.slot None))
@@ -128,7 +138,8 @@ module _ (p : PartsState) (kept : IsKept p) (parent : ℕ) (table : parent < len
     entries = λ id h. kept.sound.named.entries id
         (let sum = handles_among-with_child id ts parent in
         let fewer = handles_in-inherited id (table_of ts parent) in
-        let among = handles_in-among id ts parent table in
+        let among = handles_in-among id ts parent
+        (subst (λ (w : Whole). parent < length w.state.tables) (sym view) table) in
         omega (arith, sum, fewer, among, h));
     blocks = kept.sound.named.blocks;
   }
@@ -149,11 +160,11 @@ module _ (p : PartsState) (kept : IsKept p) (parent : ℕ) (table : parent < len
     };
   }
 
-  pub kept_child : (session : ℕ) → length p.processes.processes ≤ p.limits.processes
-      → length p.processes.threads ≤ p.limits.threads
+  pub kept_child : (session : ℕ) → length w.state.processes ≤ w.state.limits.processes
+      → length w.state.threads ≤ w.state.limits.threads
       → IsKept (with_child session (with_handles_of p.objects (inherited (table_of p.tables.tables parent))))
   kept_child session processes threads =
-      let plain = (kept_process p session kept processes threads).sound in
+      let plain = (kept_process p session w view kept processes threads).sound in
       let long : length (tables.with_child ts parent) ≡ length (tables.with_process ts) =
       length-append ts (child_table ∷ []) ∙ sym (length-append ts ([] ∷ [])) in
       let is : IsKept (with_child session counted) = record {

@@ -1,5 +1,5 @@
 -- Slots that are kept may be so, and those that have a spelling fit.
-use Rattle.std.proofs.Common.{◌≡◌, ℕ, suc, ◌<◌, ◌&&◌, eqb, leb, Bool, true, false, List, [], ◌∷◌, length, get_or, Option, Some, None, refl, sym, ap, ◌∙◌, subst, arith}
+use Rattle.std.proofs.Common.{◌≡◌, ℕ, ◌<◌, ◌&&◌, eqb, leb, Bool, true, false, Option, Some, None, refl, sym, ap, ◌∙◌, subst, arith}
 use Rattle.std.specs.List.{AllByRecursion}
 use Rattle.std.proofs.lemmas.Bool.{eq-eqb, le-leb, lt-ltb}
 use Rattle.std.proofs.lemmas.List.FromFn.{get_or-map-range_with_len, length-map-range_with_len}
@@ -17,13 +17,8 @@ use Rattle.ob_store.specs.Kept.{AreFormed, form_in, unset}
 use Rattle.ob_store.specs.Objects.{Object, ObjectsState}
 use Rattle.ob_store.specs.SavedObjects.{object_saved, slot_saved, slots_saved}
 use Rattle.ob_store.specs.SavedSlots.{AnySlotFits, SlotFits, body_stands, descr_of, is_after, may_retire, object_stands, slot_stands}
+use Rattle.ob_store.proofs.ByPlace.{all_by_place}
 use Rattle.ob_store.proofs.SavedObjectLaws.{none_saved}
-
-pub all_by_place : {A : Type 0} (P : A → Type 0) (d : A) (xs : List A) → ((k : ℕ) → k < length xs → P (get_or xs k d))
-    → AllByRecursion P xs
-all_by_place P d [] each = tt
-all_by_place P d (x ∷ xs) each =
-    (each 0 (omega arith), all_by_place P d xs (λ k lt. each (suc k) (omega (arith, lt))))
 
 is-later : (clock : ℕ) (due : Option ℕ) → IsAfter clock due → is_after clock due ≡ true
 is-later clock None after = refl

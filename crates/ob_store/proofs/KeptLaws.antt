@@ -220,14 +220,19 @@ with_process p session = record p {
   tables = record p.tables { tables = tables.with_process p.tables.tables };
 }
 
-pub kept_process : (p : PartsState) (session : ℕ) → IsKept p → length p.processes.processes ≤ p.limits.processes
-    → length p.processes.threads ≤ p.limits.threads → IsKept (with_process p session)
-kept_process p session kept processes threads = record {
+pub kept_process : (p : PartsState) (session : ℕ) (w : Whole) → whole_of p ≡ w → IsKept p
+    → length w.state.processes ≤ w.state.limits.processes → length w.state.threads ≤ w.state.limits.threads
+    → IsKept (with_process p session)
+kept_process p session w view kept processes threads = record {
   sound = record {
     limited = kept.sound.limited;
     processes_kept = record {
-      few_processes = simp length-append (omega arith);
-      few_threads = simp length-append (omega arith);
+      few_processes = (let a : length p.processes.processes ≤ p.limits.processes =
+          subst (λ (w : Whole). length w.state.processes ≤ w.state.limits.processes) (sym view) processes in
+          simp length-append (omega arith));
+      few_threads = (let a : length p.processes.threads ≤ p.limits.threads =
+          subst (λ (w : Whole). length w.state.threads ≤ w.state.limits.threads) (sym view) threads in
+          simp length-append (omega arith));
       processes_from_one = from_one_more p.processes.processes (Some session)
           kept.sound.processes_kept.processes_from_one;
       threads_from_one = from_one_more p.processes.threads (Some (length p.processes.processes))

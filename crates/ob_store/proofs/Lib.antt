@@ -7,6 +7,7 @@ pub mod MeetingLaws
 pub mod ListLaws
 pub mod TiedLaws
 pub mod BySlot
+pub mod ByPlace
 pub mod Places
 pub mod CountedLaws
 pub mod NamedLaws

@@ -1,5 +1,5 @@
 -- What holds of objects that were read, with their tables, waits and threads, and that such objects are taken.
-use Rattle.std.proofs.Common.{◌≡◌, ℕ, zero, suc, ◌+◌, ◌<◌, not, Bool, true, false, cond, List, [], ◌∷◌, length, get_or, map, Option, Some, None, Ok, Err, refl, sym, ap, ◌∙◌, subst, arith}
+use Rattle.std.proofs.Common.{◌≡◌, ℕ, zero, suc, ◌+◌, ◌<◌, is_some, not, Bool, true, false, cond, List, [], ◌∷◌, length, get_or, map, Option, Some, None, Ok, Err, refl, sym, ap, ◌∙◌, subst, arith}
 use Rattle.std.specs.List.{list_all}
 use Rattle.std.specs.Prelude.{count_by, sum_by}
 use Rattle.std.proofs.lemmas.List.{get_or-map, length-map}
@@ -31,7 +31,7 @@ use Rattle.ob_store.specs.SavedBirths.{Births, births_from}
 use Rattle.ob_store.specs.SavedNames.{names_in}
 use Rattle.ob_store.specs.SavedObjects.{are_bodied, bodied_names, whole_at, whole_objects, with_slots}
 use Rattle.ob_store.specs.SavedSlots.{slots_at}
-use Rattle.ob_store.specs.SavedWaits.{all_stand, may_wait_for, is_live, is_live_if_some, object_blocks, owner_stands, owners_stand, state_stands, wait_stands, waits_stand, with_blocks}
+use Rattle.ob_store.specs.SavedWaits.{all_stand, may_wait_for, object_blocks, owner_stands, owners_stand, state_stands, wait_stands, waits_stand, with_blocks}
 use Rattle.ob_store.specs.Agreement.{made_in}
 use Rattle.ob_store.specs.State.{by_slot, shape_of}
 use Rattle.ob_store.proofs.BySlot.{is_by_slot}
@@ -40,7 +40,8 @@ use Rattle.ob_store.proofs.CountingLaws.{its_there}
 use Rattle.ob_store.proofs.NamedLaws.{blocks_are, blocks_vacant, place_counted}
 use Rattle.ob_store.proofs.SavedNameLaws.{names_sound}
 use Rattle.ob_store.proofs.SavedObjectLaws.{entries_read, formed_read, handles_read}
-use Rattle.ob_store.proofs.SavedWaitLaws.{all_at, all_from}
+use Rattle.ob_store.proofs.ByPlace.{all_at, all_from}
+use Rattle.ob_store.proofs.SavedProcessLaws.{live_at, live_from}
 
 -- the steps in which objects were read
 pub record IsWhole (limits : Limits) (tables : List (List (Option Entry))) (list : WaitList) (bytes : List ℕ)
@@ -122,7 +123,7 @@ module _ (limit : ℕ) (threads : List (Option ℕ)) (s : ObjectsState) where
   wait-there : (id : Id) (w : Option Wait) → stands w ≡ true → 0 < blocks_in id w → IsThere s.objects id
   wait-there id None e some = absurd (omega (arith, some))
   wait-there id (Some w) e some =
-      state-there w.thread id w.state (both-true (is_live threads w.thread) _ e).1 some
+      state-there w.thread id w.state (both-true (is_some (get_or threads w.thread None)) _ e).1 some
 
   pub waits_there : (waits : List (Option Wait)) → waits_stand limit threads waits s ≡ true → (id : Id) →
       0 < blocks_among id waits → IsThere s.objects id
@@ -148,7 +149,7 @@ module _ (limit : ℕ) (threads : List (Option ℕ)) (s : ObjectsState) where
 
   wait-room : (w : Option Wait) → stands w ≡ true → WaitHasRoom limit s.seen.bodies w
   wait-room None e = tt
-  wait-room (Some w) e = state-room w.thread w.state (both-true (is_live threads w.thread) _ e).1
+  wait-room (Some w) e = state-room w.thread w.state (both-true (is_some (get_or threads w.thread None)) _ e).1
 
   state-unready : (t : ℕ) (x : State) → state_stands limit s t x ≡ true → state_ready t s.seen.bodies x ≡ false
   state-unready t (Pending mode ids) e =
@@ -161,18 +162,13 @@ module _ (limit : ℕ) (threads : List (Option ℕ)) (s : ObjectsState) where
 
   wait-unready : (w : Option Wait) → stands w ≡ true → is_ready s.seen.bodies w ≡ false
   wait-unready None e = refl
-  wait-unready (Some w) e = state-unready w.thread w.state (both-true (is_live threads w.thread) _ e).1
+  wait-unready (Some w) e = state-unready w.thread w.state (both-true (is_some (get_or threads w.thread None)) _ e).1
 
   wait-live : (t : ℕ) (w : Option Wait) → stands w ≡ true → thread_of w ≡ Some t → IsLive threads t
   wait-live t None e own = absurd (cc own)
   wait-live t (Some w) e own =
       let same : w.thread ≡ t = cc own in
-      subst (IsLive threads) same (both-true (is_live threads w.thread) _ e).0
-
-  owner-live : (t : ℕ) (o : Option ℕ) → is_live_if_some threads o ≡ true → o ≡ Some t → IsLive threads t
-  owner-live t None e own = absurd (cc own)
-  owner-live t (Some u) e own =
-      let same : u ≡ t = cc own in subst (IsLive threads) same e
+      subst (IsLive threads) same (both-true (is_some (get_or threads w.thread None)) _ e).0
 
   -- a wait that is kept so is one that can be there
   state-taken : (t : ℕ) (x : State) →
@@ -192,12 +188,8 @@ module _ (limit : ℕ) (threads : List (Option ℕ)) (s : ObjectsState) where
       WaitHasRoom limit s.seen.bodies w → is_ready s.seen.bodies w ≡ false → stands w ≡ true
   wait-taken None live there room unready = refl
   wait-taken (Some w) live there room unready =
-      true-both (is_live threads w.thread) (state_stands limit s w.thread w.state)
+      true-both (is_some (get_or threads w.thread None)) (state_stands limit s w.thread w.state)
       (live w.thread refl) (state-taken w.thread w.state there room unready)
-
-  owner-taken : (o : Option ℕ) → ((t : ℕ) → o ≡ Some t → IsLive threads t) → is_live_if_some threads o ≡ true
-  owner-taken None live = refl
-  owner-taken (Some t) live = live t refl
 
   module _ (waits : List (Option Wait)) (all : all_stand limit threads waits s ≡ true) where
     fits : waits_stand limit threads waits s ≡ true
@@ -211,7 +203,7 @@ module _ (limit : ℕ) (threads : List (Option ℕ)) (s : ObjectsState) where
 
     pub stands_live : AreOfLive threads s.seen.bodies waits
     stands_live = record {
-      owners = λ k t. owner-live t (slot_owner (get_or s.seen.bodies k None))
+      owners = λ k. live_at threads (slot_owner (get_or s.seen.bodies k None))
           (all_at (owner_stands threads) s.seen.bodies None refl
           (both-true (waits_stand limit threads waits s) (owners_stand threads s) all).1 k);
       waiters = λ n t. wait-live t (get_or waits n None) (each-fits n);
@@ -232,7 +224,7 @@ module _ (limit : ℕ) (threads : List (Option ℕ)) (s : ObjectsState) where
       (λ i in'. named.blocks _ (place_counted s.objects tables waits named n i lt in'))
       (quiet.room.each n) (quiet.settled.each n)))
       (all_from (owner_stands threads) s.seen.bodies None
-      (λ k lt. owner-taken (slot_owner (get_or s.seen.bodies k None)) (live.owners k)))
+      (λ k lt. live_from threads (slot_owner (get_or s.seen.bodies k None)) (live.owners k)))
 
 -- blocks that were counted by objects are counted by slots
 pub blocks_counted : (s : ObjectsState) (tables : List (List (Option Entry))) (waits : List (Option Wait)) →

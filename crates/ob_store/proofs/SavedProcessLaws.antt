@@ -1,5 +1,5 @@
 -- Processes and threads are read as they were spelled, and what is read is kept.
-use Rattle.std.proofs.Common.{◌≡◌, ℕ, zero, suc, ◌<◌, ◌≤◌, ◌+◌, ◌∷◌, ◌&&◌, Bool, List, [], None, Option, Some, ap, arith, get_or, leb, length, refl, subst, true}
+use Rattle.std.proofs.Common.{◌≡◌, ℕ, ◌<◌, ◌≤◌, ◌+◌, ◌&&◌, Bool, List, None, Option, Some, ap, arith, get_or, leb, length, refl, subst, true}
 use Rattle.std.specs.Prelude.{IfSome, is_some, not}
 use Rattle.std.proofs.lemmas.Bool.{le-leb, leb-true}
 use Rattle.ob_codec.specs.Codecs.{as_codec, both_codec, list_codec, option_codec, u32_codec, where_codec}
@@ -9,6 +9,7 @@ use Rattle.ob_store.specs.declared.limits.Limits.{Limits}
 use Rattle.ob_store.specs.Kept.{IsLive, ProcessesKept}
 use Rattle.ob_store.specs.Processes.{IsFromOne, ProcessesState}
 use Rattle.ob_store.specs.SavedProcesses.{AreWithin, ListsFit, ProcessesFit, are_numbers, are_of_live, is_of_live, lists_of, numbers_at, numbers_text, processes_at, processes_of, processes_text}
+use Rattle.ob_store.proofs.ByPlace.{all_at, all_from}
 use Rattle.ob_store.proofs.PlacedLaws.{live_within}
 
 pub numbers_codec : (limit : ℕ) → IsCodec numbers_text (numbers_at limit) (AreWithin limit)
@@ -50,22 +51,20 @@ module _ (limit : ℕ) (xs : List (Option ℕ)) where
 
 -- what they say of threads
 module _ (ps : List (Option ℕ)) where
+  pub live_at : (o : Option ℕ) → is_of_live ps o ≡ true → (p : ℕ) → o ≡ Some p → IsLive ps p
+  live_at o e p is = subst (λ (y : Option ℕ). is_of_live ps y ≡ true) is e
+
+  pub live_from : (o : Option ℕ) → ((p : ℕ) → o ≡ Some p → IsLive ps p) → is_of_live ps o ≡ true
+  live_from None each = refl
+  live_from (Some p) each = each p refl
+
   pub live_read : (ts : List (Option ℕ)) → are_of_live (ps, ts) ≡ true → (t p : ℕ) → get_or ts t None ≡ Some p
       → IsLive ps p
-  live_read [] e t p h = absurd cc
-  live_read (x ∷ ts) e zero p h = subst (λ (y : Option ℕ). is_of_live ps y ≡ true) h
-      (both-true (is_of_live ps x) (are_of_live (ps, ts)) e).0
-  live_read (x ∷ ts) e (suc t) p h = live_read ts (both-true (is_of_live ps x) (are_of_live (ps, ts)) e).1 t p h
+  live_read ts e t = live_at (get_or ts t None) (all_at (is_of_live ps) ts None refl e t)
 
   live_pass : (ts : List (Option ℕ)) → ((t p : ℕ) → get_or ts t None ≡ Some p → IsLive ps p)
       → are_of_live (ps, ts) ≡ true
-  live_pass [] each = refl
-  live_pass (x ∷ ts) each = true-both (is_of_live ps x) (are_of_live (ps, ts)) (here x (each 0))
-      (live_pass ts (λ t. each (suc t)))
-    where
-      here : (x : Option ℕ) → ((p : ℕ) → x ≡ Some p → IsLive ps p) → is_of_live ps x ≡ true
-      here None first = refl
-      here (Some p) first = first p refl
+  live_pass ts each = all_from (is_of_live ps) ts None (λ t lt. live_from (get_or ts t None) (each t))
 
   pub known_read : (ts : List (Option ℕ)) → are_of_live (ps, ts) ≡ true → (t : ℕ)
       → IfSome (get_or ts t None) (λ p. p < length ps)

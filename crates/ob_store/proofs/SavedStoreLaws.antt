@@ -33,11 +33,12 @@ use Rattle.ob_store.specs.Kept.{IsKept, IsLive, IsSound}
 use Rattle.ob_store.specs.Objects.{ObjectsState}
 use Rattle.ob_store.specs.Parts.{PartsState, state_of, whole_of}
 use Rattle.ob_store.specs.Processes.{ProcessesState}
-use Rattle.ob_store.specs.SavedLimits.{limits_at, limits_codec, limits_text}
+use Rattle.ob_store.specs.SavedLimits.{limits_at, limits_text}
+use Rattle.ob_store.specs.SavedLimitLaws.{limits_codec}
 use Rattle.ob_store.specs.SavedObjects.{begun_over, objects_at, objects_text, slot_saved, slots_saved}
 use Rattle.ob_store.specs.SavedProcesses.{ListsFit, processes_at, processes_text}
 use Rattle.ob_store.specs.SavedSlots.{SlotFits, keeper_slot, keeper_slot_with, object_text, slot_text}
-use Rattle.ob_store.specs.SavedStore.{are_tabled, is_moment, moment_at, parts_at, reopened, slot_bytes, store_at, store_text, tables_for, whole_with}
+use Rattle.ob_store.specs.SavedStore.{are_tabled, is_moment, moment_at, parts_at, begun_again, slot_bytes, store_at, store_text, tables_for, whole_with}
 use Rattle.ob_store.specs.State.{Whole, generation_of, shape_of}
 use Rattle.ob_store.proofs.NamedLaws.{place_counted, there_within}
 use Rattle.ob_store.proofs.PlacedLaws.{live_within}
@@ -45,7 +46,7 @@ use Rattle.ob_store.proofs.SavedAgain.{objects_again}
 use Rattle.ob_store.proofs.SavedCodecs.{objects_take}
 use Rattle.ob_store.proofs.SavedProcessLaws.{kept_fits, processes_codec}
 use Rattle.ob_store.proofs.SavedObjectLaws.{none_saved}
-use Rattle.ob_store.proofs.SavedWaitLaws.{all_at, all_from}
+use Rattle.ob_store.proofs.ByPlace.{all_at, all_from}
 
 -- six texts, and what stands behind them
 behind_six : (a b c d e f rest : List ℕ) → (a ++ (b ++ (c ++ (d ++ (e ++ f))))) ++ rest
@@ -217,8 +218,8 @@ module _ (p : PartsState) (kept : IsKept p) (tied : IsTied p.objects) (processes
       (waits_text p.waits.waits ++ rest) ≡ Ok (p.waits, rest)) sound.limited.waits_are
       (waits_again (length p.processes.threads) p.limits.slots p.waits rest waits (waits_within p kept tied))
 
-  same_whole : whole_with p.limits p.processes p.tables p.waits over ≡ reopened (whole_of p)
-  same_whole = λ i. record (reopened (whole_of p)) {
+  same_whole : whole_with p.limits p.processes p.tables p.waits over ≡ begun_again (whole_of p)
+  same_whole = λ i. record (begun_again (whole_of p)) {
     state =
         record (state_of p) { generations = generations_back p.objects tied.agreed.wide i };
   }
@@ -238,7 +239,7 @@ module _ (p : PartsState) (kept : IsKept p) (tied : IsTied p.objects) (processes
 
   parts_again : (rest : List ℕ) → parts_at p.limits p.waits.clock (processes_text p.processes
       ++ (tables_text p.tables.tables ++ (waits_text p.waits.waits ++ (objects_text p.objects ++ rest))))
-      ≡ Ok (reopened (whole_of p), rest)
+      ≡ Ok (begun_again (whole_of p), rest)
   parts_again rest =
       let e = tables_text p.tables.tables ++ (waits_text p.waits.waits ++ (objects_text p.objects ++ rest)) in
       let t = waits_text p.waits.waits ++ (objects_text p.objects ++ rest) in
@@ -255,7 +256,7 @@ module _ (p : PartsState) (kept : IsKept p) (tied : IsTied p.objects) (processes
       read ∙ ap (λ (w : Whole). Ok (w, rest)) same_whole
 
   pub store_again : (moment : p.waits.clock ≤ 9223372036854775807) (rest : List ℕ)
-      → store_at (store_text (whole_of p) ++ rest) ≡ Ok (reopened (whole_of p), rest)
+      → store_at (store_text (whole_of p) ++ rest) ≡ Ok (begun_again (whole_of p), rest)
   store_again moment rest =
       let a = limits_text p.limits in
       let b = to_le_bytes w64 p.waits.clock in
@@ -269,7 +270,7 @@ module _ (p : PartsState) (kept : IsKept p) (tied : IsTied p.objects) (processes
         omega (arith, moment),
         le-leb p.waits.clock 9223372036854775807 moment,
       ) in
-      let read : store_at (a ++ (b ++ r)) ≡ Ok (reopened (whole_of p), rest) =
+      let read : store_at (a ++ (b ++ r)) ≡ Ok (begun_again (whole_of p), rest) =
       rw (limits, clock) (parts_again rest) in
       ap store_at (behind_six a b c d e f rest) ∙ read
 

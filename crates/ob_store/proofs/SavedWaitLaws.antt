@@ -1,11 +1,11 @@
 -- The blocks that are counted of objects that were read, and the tests of their waits and owners.
 use Rattle.std.proofs.Common.{◌≡◌, ℕ, zero, suc, ◌+◌, ◌<◌, ◌≤◌, ◌&&◌, Bool, true, false, List, [], ◌∷◌, length, get_or, set, map, Option, Some, None, refl, sym, ap, ◌∙◌, subst, arith, inl, inr}
-use Rattle.std.specs.List.{list_all}
+use Rattle.std.specs.Prelude.{is_some}
 use Rattle.std.proofs.lemmas.Bool.{cases_eq, ltb-true}
 use Rattle.std.proofs.lemmas.List.{ext_get_or, get_or-map, get_or-set_other, get_or-set_same, length-map, length-set, set-get_or}
 use Rattle.std.proofs.lemmas.List.Quantifiers.{position-Some}
 use Rattle.ob_arena.specs.Slots.{Slots}
-use Rattle.ob_codec.specs.Steps.{both-true, true-both}
+use Rattle.ob_codec.specs.Steps.{both-true}
 use Rattle.pin_core.specs.declared.id.Id.{Id}
 use Rattle.ob_waits.specs.Rules.{IsKept, thread_of}
 use Rattle.ob_waits.specs.Spelling.{are_within, is_within}
@@ -16,30 +16,11 @@ use Rattle.ob_waits.specs.declared.wait.State.TheVariants.{Pending, Answered}
 use Rattle.ob_waits.specs.declared.wait.Wait.{Wait}
 use Rattle.ob_waits.proofs.TrackedLaws.{no_number, waits_thread}
 use Rattle.ob_store.specs.declared.seat.Seat.{Seat}
+use Rattle.ob_store.specs.Kept.{IsLive}
 use Rattle.ob_store.specs.Objects.{ObjectsState, Places, Tag, no_tag, object_at, places_of, seat_blocks}
-use Rattle.ob_store.specs.SavedWaits.{is_live, numbered, object_blocks, state_stands, wait_of, wait_stands, waits_stand, with_blocks, with_blocks_at}
+use Rattle.ob_store.specs.SavedWaits.{numbered, object_blocks, state_stands, wait_of, wait_stands, waits_stand, with_blocks, with_blocks_at}
 use Rattle.ob_store.proofs.LabelLaws.{object_read}
-
--- a test that each element passes, and that holds of what stands for none
-pub all_at : {A : Type 0} (p : A → Bool) (xs : List A) (none : A) → p none ≡ true → list_all p xs ≡ true →
-    (n : ℕ) → p (get_or xs n none) ≡ true
-all_at p [] none past all n = past
-all_at p (x ∷ xs) none past all zero = (both-true (p x) (list_all p xs) all).0
-all_at p (x ∷ xs) none past all (suc n) = all_at p xs none past (both-true (p x) (list_all p xs) all).1 n
-
-pub all_from : {A : Type 0} (p : A → Bool) (xs : List A) (none : A) →
-    ((n : ℕ) → n < length xs → p (get_or xs n none) ≡ true) → list_all p xs ≡ true
-all_from p [] none each = refl
-all_from p (x ∷ xs) none each =
-    true-both (p x) (list_all p xs) (each 0 (omega arith)) (all_from p xs none (λ n lt. each (suc n) (omega arith)))
-
-pub not_all : {A : Type 0} (p : A → Bool) (xs : List A) (none : A) (n : ℕ) → p none ≡ true →
-    p (get_or xs n none) ≡ false → list_all p xs ≡ false
-not_all p xs none n past fails = by (list_all p xs) refl
-  where
-    by : (b : Bool) → list_all p xs ≡ b → list_all p xs ≡ false
-    by true is = absurd (let e = all_at p xs none past is n in cc (e, fails))
-    by false is = is
+use Rattle.ob_store.proofs.ByPlace.{all_at, all_from, not_all}
 
 -- a slot without an object has no blocks
 no-blocks : (xs : List (Option Seat)) (k : ℕ) → get_or xs k None ≡ None → get_or (map seat_blocks xs) k 0 ≡ 0
@@ -112,7 +93,7 @@ module _ (limit : ℕ) (threads : List (Option ℕ)) (s : ObjectsState) (waits :
   found-of t n found = waits_thread t (get_or waits n None) (position-Some (is_waits_of t) waits n None found).1
 
   -- the wait of a thread that isn't live
-  pub dead_wait : (t n : ℕ) → number_of t waits ≡ Some n → is_live threads t ≡ false →
+  pub dead_wait : (t n : ℕ) → number_of t waits ≡ Some n → is_some (get_or threads t None) ≡ false →
       stands (wait_of t waits) ≡ false
   dead_wait t n found dead =
       ap (λ (o : Option ℕ). stands (numbered waits o)) found ∙ by (get_or waits n None) (found-of t n found)
@@ -122,20 +103,20 @@ module _ (limit : ℕ) (threads : List (Option ℕ)) (s : ObjectsState) (waits :
       by (Some w) own =
           let same : w.thread ≡ t = cc own in
           ap (λ (b : Bool). b && state_stands limit s w.thread w.state)
-          (ap (is_live threads) same ∙ dead)
+          (ap (λ (v : ℕ). is_some (get_or threads v None)) same ∙ dead)
 
   -- that of one that is, pending or answered
   pub pending_wait : (t n u : ℕ) (mode : Mode) (ids : List Id) (deadline : Option ℕ) → number_of t waits ≡ Some n →
-      is_live threads t ≡ true → get_or waits n None ≡ Some (new_wait u mode ids deadline) →
+      IsLive threads t → get_or waits n None ≡ Some (new_wait u mode ids deadline) →
       stands (wait_of t waits) ≡ state_stands limit s t (Pending mode ids)
   pending_wait t n u mode ids deadline found live is =
       let own = found-of t n found in
       let same : u ≡ t = (let e : Some u ≡ Some t = sym (ap thread_of is) ∙ own in cc e) in
       ap (λ (o : Option ℕ). stands (numbered waits o)) found ∙ ap (λ (w : Option Wait). stands w) is ∙
-      ap (λ (v : ℕ). is_live threads v && state_stands limit s v (Pending mode ids)) same ∙
+      ap (λ (v : ℕ). is_some (get_or threads v None) && state_stands limit s v (Pending mode ids)) same ∙
       ap (λ (b : Bool). b && state_stands limit s t (Pending mode ids)) live
 
-  pub answered_wait : (t n : ℕ) → number_of t waits ≡ Some n → is_live threads t ≡ true →
+  pub answered_wait : (t n : ℕ) → number_of t waits ≡ Some n → IsLive threads t →
       is_pending (get_or waits n None) ≡ false → stands (wait_of t waits) ≡ true
   answered_wait t n found live over =
       ap (λ (o : Option ℕ). stands (numbered waits o)) found ∙ by (get_or waits n None) (found-of t n found) over
@@ -150,7 +131,7 @@ module _ (limit : ℕ) (threads : List (Option ℕ)) (s : ObjectsState) (waits :
       by (Some w) own over =
           let same : w.thread ≡ t = cc own in
           ap (λ (b : Bool). b && state_stands limit s w.thread w.state)
-          (ap (is_live threads) same ∙ live) ∙
+          (ap (λ (v : ℕ). is_some (get_or threads v None)) same ∙ live) ∙
           state w.thread w.state over
 
   -- a wait of a thread that can't be there is one of the waits

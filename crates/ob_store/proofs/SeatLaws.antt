@@ -154,13 +154,13 @@ module _ (xs : List (Option Seat)) (k : ℕ) (x : Seat) (is : get_or xs k None �
     }
 
     -- what waits leave as it is
-    pub rest_same : (y : Seat) → ((l : Tag) → object_of y l ≡ object_of x l) → y.handles ≡ x.handles
+    pub rest_same : (y z : Seat) → y ≡ z → ((l : Tag) → object_of z l ≡ object_of x l) → z.handles ≡ x.handles
         → rest_of (after y) ≡ rest_of before
-    rest_same y object handles = λ i. record {
-      objects = objects_same ls y object i;
-      handles = handles_same y handles i;
+    rest_same y z is object handles = ap (λ (s : Seat). rest_of (after s)) is ∙ (λ i. record {
+      objects = objects_same ls z object i;
+      handles = handles_same z handles i;
       retired = retired;
-    }
+    })
 
 -- a slot with an object has a seat
 pub seat_of : (s : Slots Seat) (ls : List Tag) (p : Places) (k : ℕ) → places_of s ls ≡ p

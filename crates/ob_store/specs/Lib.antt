@@ -23,6 +23,7 @@ pub mod Consistent
 pub mod Stored
 pub mod SavedProcesses
 pub mod SavedLimits
+pub mod SavedLimitLaws
 pub mod SavedSlots
 pub mod Counting
 pub mod SavedWaits

@@ -1,13 +1,10 @@
 -- Limits as bytes: eight numbers of four bytes, in the order of the fields.
-use Rattle.std.proofs.Common.{◌≡◌, ℕ, ◌<◌, ◌≤◌, ◌^◌, ◌&&◌, leb, Bool, true, false, List, Option, Some, None, refl, sym, ap, subst, arith}
+use Rattle.std.proofs.Common.{◌≡◌, ℕ, ◌≤◌, ◌&&◌, leb, Bool, true, false, List, Option, Some, None, refl}
 use Rattle.std.specs.Int.{w32, to_le_bytes}
-use Rattle.std.proofs.Math.Bridge.{le_prop}
-use Rattle.std.proofs.lemmas.Bool.{le-leb, leb-true}
-use Rattle.ob_codec.specs.Codecs.{both_codec, some_codec, u32_codec}
-use Rattle.ob_codec.specs.Laws.{IsCodec}
+use Rattle.std.proofs.lemmas.Bool.{leb-true}
 use Rattle.ob_codec.specs.Reading.{Read, both_at, number_at, some_at}
-use Rattle.ob_codec.specs.Spelling.{Any, BothFit, both}
-use Rattle.ob_codec.specs.Steps.{both-true, true-both}
+use Rattle.ob_codec.specs.Spelling.{both}
+use Rattle.ob_codec.specs.Steps.{both-true}
 use Rattle.ob_store.specs.declared.limits.Limits.{Limits}
 use Rattle.ob_store.specs.Limits.{AreInRange}
 
@@ -42,9 +39,6 @@ InRange n = AreInRange n.0 n.1.0 n.1.1.0 n.1.1.1.0 n.1.1.1.1.0 n.1.1.1.1.1.0 n.1
 up_to : (most n : ℕ) → is_up_to most n ≡ true → (1 ≤ n) × (n ≤ most)
 up_to most n e = let b = both-true (leb 1 n) (leb n most) e in (leb-true 1 n b.0, leb-true n most b.1)
 
-to_up : (most n : ℕ) → (1 ≤ n) × (n ≤ most) → is_up_to most n ≡ true
-to_up most n r = true-both (leb 1 n) (leb n most) (le-leb 1 n r.0) (le-leb n most r.1)
-
 pub in_range : (n : Numbers) → are_in_range n ≡ true → InRange n
 in_range n e =
     let first = both-true (is_up_to 65536 n.0 && is_up_to 65536 n.1.0) _ e in
@@ -64,19 +58,6 @@ in_range n e =
       max_gen_in_range = up_to 4294967295 n.1.1.1.1.1.1.0 d.0;
       max_recursion_in_range = up_to 2147483647 n.1.1.1.1.1.1.1 d.1;
     }
-
-range_in : (n : Numbers) → InRange n → are_in_range n ≡ true
-range_in n r =
-    true-both (is_up_to 65536 n.0 && is_up_to 65536 n.1.0) _
-    (true-both (is_up_to 65536 n.0) _ (to_up 65536 n.0 r.slots_in_range) (to_up 65536 n.1.0 r.processes_in_range))
-    (true-both (is_up_to 65536 n.1.1.0 && is_up_to 16384 n.1.1.1.0) _
-    (true-both (is_up_to 65536 n.1.1.0) _ (to_up 65536 n.1.1.0 r.threads_in_range)
-    (to_up 16384 n.1.1.1.0 r.handles_in_range))
-    (true-both (is_up_to 4294967295 n.1.1.1.1.0 && is_up_to 1073741823 n.1.1.1.1.1.0) _
-    (true-both (is_up_to 4294967295 n.1.1.1.1.0) _ (to_up 4294967295 n.1.1.1.1.0 r.waits_in_range)
-    (to_up 1073741823 n.1.1.1.1.1.0 r.max_pins_in_range))
-    (true-both (is_up_to 4294967295 n.1.1.1.1.1.1.0) _ (to_up 4294967295 n.1.1.1.1.1.1.0 r.max_gen_in_range)
-    (to_up 2147483647 n.1.1.1.1.1.1.1 r.max_recursion_in_range))))
 
 -- the limits of some numbers, where each is within its range
 abbrev pub limits_with : (n : Numbers) → InRange n → Limits
@@ -106,107 +87,3 @@ numbers_at =
 
 abbrev pub limits_at : List ℕ → Read Limits
 limits_at = some_at limits_of numbers_at
-
--- a range holds in one way
-same_range : (n : Numbers) (r s : InRange n) → r ≡ s
-same_range n r s = λ i. record {
-  slots_in_range = (le_prop r.slots_in_range.0 s.slots_in_range.0 i, le_prop r.slots_in_range.1 s.slots_in_range.1 i);
-  processes_in_range = (
-    le_prop r.processes_in_range.0 s.processes_in_range.0 i,
-    le_prop r.processes_in_range.1 s.processes_in_range.1 i,
-  );
-  threads_in_range = (
-    le_prop r.threads_in_range.0 s.threads_in_range.0 i,
-    le_prop r.threads_in_range.1 s.threads_in_range.1 i,
-  );
-  handles_in_range = (
-    le_prop r.handles_in_range.0 s.handles_in_range.0 i,
-    le_prop r.handles_in_range.1 s.handles_in_range.1 i,
-  );
-  waits_in_range = (le_prop r.waits_in_range.0 s.waits_in_range.0 i, le_prop r.waits_in_range.1 s.waits_in_range.1 i);
-  max_pins_in_range = (
-    le_prop r.max_pins_in_range.0 s.max_pins_in_range.0 i,
-    le_prop r.max_pins_in_range.1 s.max_pins_in_range.1 i,
-  );
-  max_gen_in_range = (
-    le_prop r.max_gen_in_range.0 s.max_gen_in_range.0 i,
-    le_prop r.max_gen_in_range.1 s.max_gen_in_range.1 i,
-  );
-  max_recursion_in_range = (
-    le_prop r.max_recursion_in_range.0 s.max_recursion_in_range.0 i,
-    le_prop r.max_recursion_in_range.1 s.max_recursion_in_range.1 i,
-  );
-}
-
--- limits are those of their numbers
-pub limits_back : (l : Limits) → limits_of (numbers_of l) ≡ Some l
-limits_back l = by (are_in_range (numbers_of l)) refl (range_in (numbers_of l) l.in_range)
-  where
-    by : (b : Bool) (e : are_in_range (numbers_of l) ≡ b) → b ≡ true → limits_where (numbers_of l) b e ≡ Some l
-    by true e is = ap (λ (r : InRange (numbers_of l)). Some (limits_with (numbers_of l) r))
-        (same_range (numbers_of l) (in_range (numbers_of l) e) l.in_range)
-    by false e is = absurd (cc is)
-
-pub limits_are : (l : Limits) (n : Numbers) → numbers_of l ≡ n → limits_of n ≡ Some l
-limits_are l n e = subst (λ (z : Numbers). limits_of z ≡ Some l) e (limits_back l)
-
--- and numbers that aren't within their ranges are those of none
-pub limits_none : (n : Numbers) → (InRange n → false ≡ true) → limits_of n ≡ None
-limits_none n out = by (are_in_range n) refl
-  where
-    by : (b : Bool) (e : are_in_range n ≡ b) → limits_where n b e ≡ None
-    by true e = absurd (cc (out (in_range n e)))
-    by false e = refl
-
-abbrev NumbersFit : Numbers → Type 0
-NumbersFit = BothFit (λ n. n < 2 ^ 32) (BothFit (λ n. n < 2 ^ 32) (BothFit (λ n. n < 2 ^ 32) (BothFit (λ n. n < 2 ^ 32)
-    (BothFit (λ n. n < 2 ^ 32) (BothFit (λ n. n < 2 ^ 32) (BothFit (λ n. n < 2 ^ 32) (λ n. n < 2 ^ 32)))))))
-
-numbers_codec : IsCodec (both (to_le_bytes w32) (both (to_le_bytes w32) (both (to_le_bytes w32)
-    (both (to_le_bytes w32) (both (to_le_bytes w32) (both (to_le_bytes w32)
-    (both (to_le_bytes w32) (to_le_bytes w32)))))))) numbers_at NumbersFit
-numbers_codec = both_codec u32_codec (both_codec u32_codec (both_codec u32_codec (both_codec u32_codec
-    (both_codec u32_codec (both_codec u32_codec (both_codec u32_codec u32_codec))))))
-
-low : (most n : ℕ) → most ≤ 4294967295 → (1 ≤ n) × (n ≤ most) → n < 2 ^ 32
-low most n le r = omega (arith, le, r.1)
-
-there : (l : Limits) → Any l → (limits_of (numbers_of l) ≡ Some l) × NumbersFit (numbers_of l)
-there l any = (
-  limits_back l,
-  (
-    low 65536 l.slots (omega arith) l.in_range.slots_in_range,
-    (
-      low 65536 l.processes (omega arith) l.in_range.processes_in_range,
-      (
-        low 65536 l.threads (omega arith) l.in_range.threads_in_range,
-        (
-          low 16384 l.handles (omega arith) l.in_range.handles_in_range,
-          (
-            low 4294967295 l.waits (omega arith) l.in_range.waits_in_range,
-            (
-              low 1073741823 l.max_pins (omega arith) l.in_range.max_pins_in_range,
-              (
-                low 4294967295 l.max_gen (omega arith) l.in_range.max_gen_in_range,
-                low 2147483647 l.max_recursion (omega arith) l.in_range.max_recursion_in_range,
-              ),
-            ),
-          ),
-        ),
-      ),
-    ),
-  ),
-)
-
-back : (n : Numbers) (l : Limits) → NumbersFit n → limits_of n ≡ Some l → (numbers_of l ≡ n) × Any l
-back n l fits e = (by (are_in_range n) refl e, tt)
-  where
-    some_is : (a b : Limits) → Some a ≡ Some b → a ≡ b
-    some_is a b e = cc
-
-    by : (b : Bool) (e : are_in_range n ≡ b) → limits_where n b e ≡ Some l → numbers_of l ≡ n
-    by true e is = sym (ap numbers_of (some_is (limits_with n (in_range n e)) l is))
-    by false e is = absurd cc
-
-pub limits_codec : IsCodec limits_text limits_at Any
-limits_codec = some_codec limits_of numbers_of Any there back numbers_codec

@@ -25,10 +25,10 @@ NumbersFit = ListFits (OptionFits (λ n. n < 2 ^ 32))
 abbrev pub AreWithin : ℕ → List (Option ℕ) → Type 0
 AreWithin limit numbers = NumbersFit numbers × (are_numbers limit numbers ≡ true)
 
--- whether a thread, if it is live, is of a live process
+-- whether a number, if there is one, is live: the process of a thread, or the thread that owns a mutex
 abbrev pub is_of_live : List (Option ℕ) → Option ℕ → Bool
-is_of_live processes None = true
-is_of_live processes (Some process) = is_some (slice_index_or processes process None)
+is_of_live numbers None = true
+is_of_live numbers (Some number) = is_some (slice_index_or numbers number None)
 
 abbrev pub are_of_live : List (Option ℕ) × List (Option ℕ) → Bool
 are_of_live p = list_all (is_of_live p.0) p.1

@@ -88,8 +88,8 @@ store_at bytes = do
   parts_at limits.0 clock.0 clock.1
 
 -- the same state over a keeper that begins with its slots, of which nobody holds any
-abbrev pub reopened : Whole → Whole
-reopened w = record w {
+abbrev pub begun_again : Whole → Whole
+begun_again w = record w {
   keeper =
       begun_over (shape_of w.state.limits) (map keeper_slot (slots_saved (objects_in w)));
 }

@@ -11,6 +11,7 @@ use Rattle.ob_waits.specs.declared.wait.State.TheVariants.{Pending, Answered}
 use Rattle.ob_waits.specs.declared.wait.Wait.{Wait}
 use Rattle.ob_store.specs.Counting.{is_its}
 use Rattle.ob_store.specs.Objects.{Object, ObjectsState, Places}
+use Rattle.ob_store.specs.SavedProcesses.{is_of_live}
 
 -- how many places of pending waits name an object
 abbrev pub object_blocks : List (Option Wait) → Option Object → ℕ
@@ -27,10 +28,6 @@ with_blocks_at p slot blocks = record p {
   seen = record p.seen { blocks = slice_set p.seen.blocks slot blocks };
 }
 
--- whether a thread is live
-abbrev pub is_live : List (Option ℕ) → ℕ → Bool
-is_live threads thread = is_some (slice_index_or threads thread None)
-
 -- whether a thread may wait for the object of an Id: it is there, and has room for the thread
 abbrev pub may_wait_for : ℕ → ObjectsState → ℕ → Id → Bool
 may_wait_for limit s thread id =
@@ -45,18 +42,15 @@ state_stands limit s thread (Answered code) = true
 -- whether a wait can be there: its thread is live
 abbrev pub wait_stands : ℕ → List (Option ℕ) → ObjectsState → Option Wait → Bool
 wait_stands limit threads s None = true
-wait_stands limit threads s (Some wait) = is_live threads wait.thread && state_stands limit s wait.thread wait.state
+wait_stands limit threads s (Some wait) =
+    is_some (slice_index_or threads wait.thread None) && state_stands limit s wait.thread wait.state
 
 abbrev pub waits_stand : ℕ → List (Option ℕ) → List (Option Wait) → ObjectsState → Bool
 waits_stand limit threads waits s = list_all (wait_stands limit threads s) waits
 
 -- whether a mutex has no owner, or a live one
-abbrev pub is_live_if_some : List (Option ℕ) → Option ℕ → Bool
-is_live_if_some threads None = true
-is_live_if_some threads (Some thread) = is_live threads thread
-
 abbrev pub owner_stands : List (Option ℕ) → Option Body → Bool
-owner_stands threads body = is_live_if_some threads (slot_owner body)
+owner_stands threads body = is_of_live threads (slot_owner body)
 
 abbrev pub owners_stand : List (Option ℕ) → ObjectsState → Bool
 owners_stand threads s = list_all (owner_stands threads) s.seen.bodies

@@ -1,9 +1,11 @@
-ghost use Rattle.std.specs.Prelude.{◌≡◌, Err, IsTrue, Ok, false};
+ghost use Rattle.std.specs.Prelude.{◌≡◌, Err, IsTrue, Ok, false, length};
 ghost use Rattle.ob_codec.specs.declared.fault.TextFault.TheVariants.{Value};
 ghost use Rattle.ob_store.specs.Counting.{counting, counting_all, counting_in};
+ghost use Rattle.ob_store.specs.SavedWaits.{with_blocks};
 
 use crate::seats::Seats;
 use ob_tables::{Entry, Tables};
+use ob_waits::Waits;
 
 /// Counts a handle where a place has an entry; whether the object that it names is there.
 fn count_place(seats: &mut Seats, place: Option<Entry>) -> bool
@@ -40,4 +42,14 @@ pub(crate) fn count_tables(seats: &mut Seats, tables: &Tables) -> bool
         }
     }
     true
+}
+
+/// Counts the blocks of all objects.
+pub(crate) fn count_blocks(seats: &mut Seats, waits: &Waits)
+    requires { length seats.old.seen.blocks ≡ length seats.old.objects }
+    ensures { seats.new ≡ with_blocks waits.now.waits seats.old }
+{
+    for slot in 0..seats.len() {
+        seats.count_blocks(slot, waits);
+    }
 }

@@ -18,6 +18,7 @@
 
 mod answers;
 mod births;
+mod checking_waits;
 mod closing;
 mod counting;
 mod creation;
@@ -30,6 +31,7 @@ mod keepers;
 mod label;
 mod law;
 mod limits;
+mod linking_threads;
 mod links;
 mod meeting;
 mod naming;
@@ -40,13 +42,10 @@ mod parts;
 mod pinning;
 mod pins;
 mod processes;
+mod reading_objects;
 mod reclaiming;
-mod saved;
-mod saved_processes;
 mod saved_slot;
-mod saved_waits;
 mod savestate;
-mod saving;
 mod seat;
 mod seats;
 mod settling;
@@ -60,6 +59,7 @@ mod ticking;
 mod timers;
 mod waiting;
 mod walking;
+mod writing_objects;
 
 pub use creation::Creation;
 pub use found::Found;

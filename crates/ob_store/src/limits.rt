@@ -104,7 +104,8 @@ impl Limits {
 /// Eight numbers of four bytes, in the order of the fields; [`TextFault::Value`] where one is out of its range.
 impl Spelled for Limits {
     ghost use Rattle.ob_codec.specs.Spelling.{Any};
-    ghost use Rattle.ob_store.specs.SavedLimits.{limits_at, limits_codec, limits_text};
+    ghost use Rattle.ob_store.specs.SavedLimits.{limits_at, limits_text};
+    ghost use Rattle.ob_store.specs.SavedLimitLaws.{limits_codec};
 
     ghost spell = { limits_text };
 

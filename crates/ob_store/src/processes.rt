@@ -9,8 +9,8 @@ ghost use Rattle.ob_store.specs.Processes.{ProcessesState, is_of, no_processes, 
 ghost use Rattle.ob_store.specs.SavedProcesses.{ListsFit, processes_at, processes_text};
 ghost use Rattle.ob_store.specs.ThreadLists.{IsNewest};
 
+use crate::linking_threads::{are_of_live, link_threads};
 use crate::numbers::Numbers;
-use crate::saved_processes::{are_of_live, link_threads};
 use crate::thread_lists::ThreadLists;
 use ob_codec::{Cursor, ReadFault, TextFault};
 use std::alloc::{AllocError, Global};

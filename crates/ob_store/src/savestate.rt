@@ -2,7 +2,7 @@ ghost use Rattle.std.specs.Prelude.{◌≡◌, ◌≤◌, ◌++◌, ℕ, List, I
 ghost use Rattle.ob_codec.specs.Reading.{Gives};
 ghost use Rattle.ob_store.specs.Kept.{IsKept};
 ghost use Rattle.ob_store.specs.Parts.{parts_of, whole_of};
-ghost use Rattle.ob_store.specs.SavedStore.{moment_at, parts_at, reopened, store_at, store_text, tables_for};
+ghost use Rattle.ob_store.specs.SavedStore.{moment_at, parts_at, begun_again, store_at, store_text, tables_for};
 
 use crate::limits::Limits;
 use crate::objects::Objects;
@@ -107,7 +107,7 @@ impl<K: PinKeeper> Store<K> {
         ensures text { OnOk result (out.new.items ≡ out.old.items ++ store_text self.now) }
         // It is read again as it was, whatever stands behind it.
         ensures again { OnOk result ((rest : List ℕ) → store_at (store_text self.now ++ rest)
-            ≡ Ok (reopened self.now, rest)) }
+            ≡ Ok (begun_again self.now, rest)) }
     {
         let parts = &self.parts;
         parts.objects.kept();

@@ -33,10 +33,7 @@ impl<K: PinKeeper> Store<K> {
         ensures object { IfSome result (λ id. IsThere self.now.state.objects id) }
     {
         let slot = self.parts.objects.seats.next_closing(from)?;
-        let Some(found) = self.parts.objects.look(slot) else {
-            unreachable!()
-        };
-        Some(found.seat.id)
+        Some(self.parts.objects.look(slot)?.seat.id)
     }
 
     /// The object in the least slot with one, from one on.
@@ -45,10 +42,7 @@ impl<K: PinKeeper> Store<K> {
         ensures object { IfSome result (λ id. IsThere self.now.state.objects id) }
     {
         let slot = self.parts.objects.seats.next_object(from)?;
-        let Some(found) = self.parts.objects.look(slot) else {
-            unreachable!()
-        };
-        Some(found.seat.id)
+        Some(self.parts.objects.look(slot)?.seat.id)
     }
 
     /// The least live process behind a number.

@@ -1,7 +1,7 @@
 use Rattle.std.proofs.Common.{ap, Option}
 use Rattle.ob_codec.specs.Reading.{given_at}
 use Rattle.ob_store.specs.declared.limits.Limits.{Limits}
-use Rattle.ob_store.specs.SavedLimits.{limits_are, limits_none}
+use Rattle.ob_store.specs.SavedLimitLaws.{limits_are, limits_none}
 use Rattle.ob_store.proofs.limits.LimitsSpelled.read.Goals as goal
 
 pub returns-in-Ok : goal.returns-in-Ok

@@ -1,7 +1,7 @@
-use Rattle.std.proofs.Common.{is_some, ◌∙◌, ap, set, Some}
+use Rattle.std.proofs.Common.{refl, is_some, ◌∙◌, ap, set, Some}
 use Rattle.ob_waits.specs.Waits.{with_acquired}
 use Rattle.ob_store.specs.declared.seat.Seat.{Seat}
-use Rattle.ob_store.specs.Objects.{tags_in, Places, rest_of, object_of, seen_in}
+use Rattle.ob_store.specs.Objects.{tags_in, Places, rest_of, seen_in}
 use Rattle.ob_store.proofs.SeatLaws.{rest_same, seen_acquired}
 use Rattle.ob_store.proofs.OwnerLaws.{owned_few}
 use Rattle.ob_waits.specs.Form.{slot_due}
@@ -20,9 +20,7 @@ pub returns-clause-rest : goal.returns-clause-rest
 returns-clause-rest c =
     rest_same c.self.inside.arena.bodies c.args.id.slot c.get_mut.result.now c.get_mut.ensures.value
     c.self.inside.arena.retired (tags_in c.self.inside.labels.items c.self.inside.names.items)
-    c.acquire-acquired.new.self
-    (λ l. ap (λ (x : Seat). object_of x l) c.acquire-acquired.ensures.value)
-    (ap (λ (x : Seat). x.handles) c.acquire-acquired.ensures.value)
+    c.acquire-acquired.new.self _ c.acquire-acquired.ensures.value (λ l. refl) refl
     ∙ ap rest_of c.self.view_is
 
 pub moved-requires : goal.moved-requires

@@ -1,7 +1,7 @@
-use Rattle.std.proofs.Common.{◌∙◌, ap, sym, set, get_or, Some, None}
+use Rattle.std.proofs.Common.{refl, ◌∙◌, ap, sym, set, get_or, Some, None}
 use Rattle.ob_waits.specs.Objects.{without_block}
 use Rattle.ob_store.specs.declared.seat.Seat.{Seat}
-use Rattle.ob_store.specs.Objects.{tags_in, Places, rest_of, seen_in, object_of}
+use Rattle.ob_store.specs.Objects.{tags_in, Places, rest_of, seen_in}
 use Rattle.ob_store.proofs.SeatLaws.{seen_block_left, seen_absent, rest_same, none_of}
 use Rattle.ob_store.proofs.ClosingLaws.{gone_was_there}
 use Rattle.ob_store.proofs.NotedLaws.{noted_left}
@@ -17,9 +17,7 @@ pub returns-clause-rest : goal.returns-clause-rest
 returns-clause-rest c =
     rest_same c.self.inside.arena.bodies c.args.id.slot c.get_mut.result.now c.get_mut.ensures.value
     c.self.inside.arena.retired (tags_in c.self.inside.labels.items c.self.inside.names.items)
-    c.block_left-gone.new.self
-    (λ l. ap (λ (x : Seat). object_of x l) c.block_left-gone.ensures.value)
-    (ap (λ (x : Seat). x.handles) c.block_left-gone.ensures.value)
+    c.block_left-gone.new.self _ c.block_left-gone.ensures.value (λ l. refl) refl
     ∙ ap rest_of c.self.view_is
 
 pub returns-then-not-is_occupied-clause-objects : goal.returns-then-not-is_occupied-clause-objects

@@ -1,8 +1,8 @@
 use Rattle.std.specs.Prelude.{IsSome}
-use Rattle.std.proofs.Common.{is_some, get_or, subst, None, ◌∙◌, ap, sym, set, Some}
+use Rattle.std.proofs.Common.{refl, is_some, get_or, subst, None, ◌∙◌, ap, sym, set, Some}
 use Rattle.ob_waits.specs.Form.{slot_due, slot_owner}
 use Rattle.ob_store.specs.declared.seat.Seat.{Seat}
-use Rattle.ob_store.specs.Objects.{tags_in, Places, rest_of, object_of, seen_in}
+use Rattle.ob_store.specs.Objects.{tags_in, Places, rest_of, seen_in}
 use Rattle.ob_store.proofs.SeatLaws.{seen_put, rest_same}
 use Rattle.ob_store.proofs.OwnerLaws.{owned_few}
 use Rattle.ob_store.proofs.TimerLaws.{timed_set}
@@ -22,9 +22,8 @@ returns-clause-objects c =
 pub returns-clause-rest : goal.returns-clause-rest
 returns-clause-rest c =
     rest_same c.self.inside.arena.bodies c.args.slot c.get_mut.result.now c.get_mut.ensures.value
-    c.self.inside.arena.retired (tags_in c.self.inside.labels.items c.self.inside.names.items) c.put-was.new.self
-    (λ l. ap (λ (x : Seat). object_of x l) c.put-was.ensures.value)
-    (ap (λ (x : Seat). x.handles) c.put-was.ensures.value)
+    c.self.inside.arena.retired (tags_in c.self.inside.labels.items c.self.inside.names.items)
+    c.put-was.new.self _ c.put-was.ensures.value (λ l. refl) refl
     ∙ ap rest_of c.self.view_is
 
 pub moved-requires : goal.moved-requires

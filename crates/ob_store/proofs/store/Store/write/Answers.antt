@@ -7,7 +7,7 @@ use Rattle.ob_store.specs.Parts.{parts_of}
 use Rattle.ob_store.specs.SavedLimits.{limits_text}
 use Rattle.ob_store.specs.SavedObjects.{objects_text}
 use Rattle.ob_store.specs.SavedProcesses.{processes_text}
-use Rattle.ob_store.specs.SavedStore.{reopened, store_at, store_text}
+use Rattle.ob_store.specs.SavedStore.{begun_again, store_at, store_text}
 use Rattle.ob_store.specs.State.{Whole}
 use Rattle.ob_store.proofs.SavedStoreLaws.{store_again}
 use Rattle.ob_store.proofs.SavingLaws.{six_behind}
@@ -31,7 +31,7 @@ pub returns-clause-again : goal.returns-clause-again
 returns-clause-again g c =
     let p = parts_of c.self.inside.parts in
     on_ok_weaker c.write-6.result (λ fits. subst (λ (w : Whole). (rest : List ℕ) → store_at (store_text w ++ rest)
-    ≡ Ok (reopened w, rest)) c.self.view_is
+    ≡ Ok (begun_again w, rest)) c.self.view_is
     (store_again p c.self.invariant c.kept.ensures c.in_ok-write-3.ensures.fits c.in_ok-write-4.ensures.fits
     c.in_ok-write-5.ensures.fits (fits p.waits.clock c.self.invariant.sound.formed)
     (subst (λ (n : ℕ). n ≤ 9223372036854775807) c.clock.ensures.moment c.clock.ensures.last)))

@@ -1,0 +1,31 @@
+-- What holds of each element of a list, and of what stands past its end, holds at each place.
+use Rattle.std.proofs.Common.{◌≡◌, ℕ, zero, suc, ◌<◌, Bool, true, false, List, [], ◌∷◌, length, get_or, refl, arith}
+use Rattle.std.specs.List.{AllByRecursion, list_all}
+use Rattle.std.proofs.lemmas.List.Elements.{All-from_get_or}
+use Rattle.std.proofs.lemmas.List.Sums.{list_all-from_AllPass}
+use Rattle.ob_codec.specs.Steps.{both-true}
+
+-- a test that each element passes, and that holds of what stands for none
+pub all_at : {A : Type 0} (p : A → Bool) (xs : List A) (none : A) → p none ≡ true → list_all p xs ≡ true →
+    (n : ℕ) → p (get_or xs n none) ≡ true
+all_at p [] none past all n = past
+all_at p (x ∷ xs) none past all zero = (both-true (p x) (list_all p xs) all).0
+all_at p (x ∷ xs) none past all (suc n) = all_at p xs none past (both-true (p x) (list_all p xs) all).1 n
+
+pub all_from : {A : Type 0} (p : A → Bool) (xs : List A) (none : A) →
+    ((n : ℕ) → n < length xs → p (get_or xs n none) ≡ true) → list_all p xs ≡ true
+all_from p xs none each = list_all-from_AllPass p xs (All-from_get_or (λ x. p x ≡ true) xs none each)
+
+pub not_all : {A : Type 0} (p : A → Bool) (xs : List A) (none : A) (n : ℕ) → p none ≡ true →
+    p (get_or xs n none) ≡ false → list_all p xs ≡ false
+not_all p xs none n past fails = by (list_all p xs) refl
+  where
+    by : (b : Bool) → list_all p xs ≡ b → list_all p xs ≡ false
+    by true is = absurd (let e = all_at p xs none past is n in cc (e, fails))
+    by false is = is
+
+pub all_by_place : {A : Type 0} (P : A → Type 0) (d : A) (xs : List A) → ((k : ℕ) → k < length xs → P (get_or xs k d))
+    → AllByRecursion P xs
+all_by_place P d [] each = tt
+all_by_place P d (x ∷ xs) each =
+    (each 0 (omega arith), all_by_place P d xs (λ k lt. each (suc k) (omega (arith, lt))))

@@ -1,5 +1,0 @@
-use Rattle.ob_store.proofs.SavedWaitLaws.{HasCounted}
-use Rattle.ob_store.proofs.saved_waits.count_blocks.Given as goal
-
-abbrev pub invariant-loop-slot : goal.invariant-loop-slot
-invariant-loop-slot l = HasCounted l.waits.waits l.fn.seats l.slot l.seats

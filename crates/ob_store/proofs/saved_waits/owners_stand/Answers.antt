@@ -1,9 +1,0 @@
-use Rattle.std.proofs.Common.{None, sym, arith}
-use Rattle.ob_store.specs.SavedWaits.{owner_stands}
-use Rattle.ob_store.proofs.SavedWaitLaws.{all_from}
-use Rattle.ob_store.proofs.saved_waits.owners_stand.Goals as goal
-
-pub returns : goal.returns
-returns c = sym (all_from (owner_stands c.args.processes.now.threads) c.args.objects.now.seen.bodies None
-    (λ k lt. c.loop-slot.invariant k
-    (omega (arith, lt, c.loop-slot-test.false, c.slots-slot-end.ensures, c.kept.ensures.agreed.bodied))))

@@ -1,7 +1,0 @@
-use Rattle.std.proofs.Common.{◌≡◌, ℕ, ◌<◌, true}
-use Rattle.ob_store.specs.SavedWaits.{wait_of, wait_stands}
-use Rattle.ob_store.proofs.saved_waits.waits_stand.Given as goal
-
-abbrev pub invariant-loop-thread : goal.invariant-loop-thread
-invariant-loop-thread l = (t : ℕ) → t < l.thread →
-    wait_stands l.limits.max_recursion l.processes.threads l.objects (wait_of t l.waits.waits) ≡ true

@@ -1,0 +1,16 @@
+use Rattle.std.proofs.Common.{◌∷◌, []}
+use Rattle.std.proofs.lemmas.Result.{on_ok_weaker}
+use Rattle.ob_store.specs.Objects.{object_of, tag_of}
+use Rattle.ob_store.specs.SavedObjects.{saved_of}
+use Rattle.ob_store.specs.SavedSlots.{object_text}
+use Rattle.ob_store.proofs.SavingLaws.{two_behind}
+use Rattle.ob_store.proofs.writing_objects.write_found.Goals as goal
+
+pub returns-in_ok-push-in-Some-clause-text : goal.returns-in_ok-push-in-Some-clause-text
+returns-in_ok-push-in-Some-clause-text c =
+    let f = c.in-Some.found in
+    rw c.in-Some.is (on_ok_weaker c.write_object.result
+    (λ t. two_behind c.args.out.now.items (1 ∷ []) c.push.new.self.items c.write_object.new.out.items
+    c.in_ok-push-in-Some.ensures.items
+    (object_text (saved_of (object_of f.seat.now (tag_of f.label.now f.name.now)) f.seat.now.body)) t)
+    c.write_object.ensures.text)
