@@ -507,8 +507,8 @@ impl<K: PinKeeper> Manager<K> {
         self.store.name_at(at)
     }
 
-    /// Has [`directory_at`](Manager::directory_at) take constant time until a name goes. This takes a time that grows with
-    /// the number of names where one went, and no memory.
+    /// Has [`directory_at`](Manager::directory_at) take constant time until a name goes. This takes a time that grows
+    /// with the number of names where one went, and no memory.
     pub fn close_holes(&mut self)
         ensures { self.new ≡ self.old }
     {

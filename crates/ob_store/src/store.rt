@@ -228,8 +228,8 @@ impl<K: PinKeeper> Store<K> {
         self.parts.names.row(at)
     }
 
-    /// Closes the holes that removed names left in the directory, so that [`name_at`](Store::name_at) takes constant time
-    /// until the next name goes.
+    /// Closes the holes that removed names left in the directory, so that [`name_at`](Store::name_at) takes constant
+    /// time until the next name goes.
     pub fn close_holes(&mut self)
         ensures { self.new ≡ self.old }
     {

@@ -105,7 +105,8 @@ impl Model for Reader {
 }
 
 impl Reader {
-    ghost use Rattle.std.specs.Prelude.{◌≡◌, ◌≢◌, ◌*◌, ◌<◌, ◌≤◌, ◌↔◌, false, [], length, is_some, IfSome, IsTrue, OnOk, Err};
+    ghost use Rattle.std.specs.Prelude.{◌≡◌, ◌≢◌, ◌*◌, ◌<◌, ◌≤◌, ◌↔◌, false, [], length, is_some, IfSome, IsTrue};
+    ghost use Rattle.std.specs.Prelude.{OnOk, Err};
     ghost use Rattle.std.specs.List.{remove};
     ghost use Rattle.std.specs.Arc.{arc_value};
     ghost use Rattle.pin_core.specs.declared.word.Word.{Word};
