@@ -1,5 +1,6 @@
 -- In a list that rises nothing stands twice.
 use Rattle.std.proofs.Common.{◌≡◌, ℕ, ◌+◌, ◌<◌, ◌≤◌, List, [], ◌∷◌, refl, ap, arith, Bool, true, false, ltb}
+use Rattle.std.proofs.lemmas.Bool.{and_parts}
 use Rattle.std.specs.Prelude.{◌&&◌}
 use Rattle.std.specs.List.{list_any}
 use Rattle.std.proofs.lemmas.Bool.Decides.{nat_tests}
@@ -9,17 +10,13 @@ use Rattle.ob_tables.proofs.Counting.{one_id}
 use Rattle.ob_manager.specs.Rising.{place_of_handle, place_of_object, rise}
 use Rattle.ob_manager.specs.Waiting.{has_twice, same_handle}
 
-both : (a b : Bool) → a && b ≡ true → (a ≡ true) × (b ≡ true)
-both true b h = (refl, h)
-both false b h = absurd (cc h)
-
 module _ {A : Type 0} (same : A → A → Bool) (place : A → ℕ) (one : (x y : A) → same x y ≡ true
     → place x ≡ place y) where
   -- what is below a list that rises isn't in it
   not_in : (x : A) (xs : List A) (last : ℕ) → place x ≤ last → rise place last xs ≡ true → list_any (same x) xs ≡ false
   not_in x [] last low up = refl
   not_in x (y ∷ ys) last low up =
-      let is = both (ltb last (place y)) (rise place (place y) ys) up in
+      let is = and_parts (ltb last (place y)) (rise place (place y) ys) up in
       let above : last < place y = grind (arith, nat_tests, is.0) in
       by (same x y) refl above (not_in x ys (place y) (omega (arith, low, above)) is.1)
     where
@@ -31,7 +28,7 @@ module _ {A : Type 0} (same : A → A → Bool) (place : A → ℕ) (one : (x y 
   apart : (xs : List A) (last : ℕ) → rise place last xs ≡ true → has_twice same xs ≡ false
   apart [] last up = refl
   apart (x ∷ xs) last up =
-      let is = both (ltb last (place x)) (rise place (place x) xs) up in
+      let is = and_parts (ltb last (place x)) (rise place (place x) xs) up in
       let none = not_in x xs (place x) (omega arith) is.1 in
       let rest = apart xs (place x) is.1 in
       grind (arith, none, rest)

@@ -1,5 +1,6 @@
 -- What a wait's tests say of its objects.
 use Rattle.std.proofs.Common.{◌≡◌, ℕ, zero, suc, ◌<◌, ◌≤◌, List, [], ◌∷◌, ◌++◌, length, drop, Option, Some, None, Result, Ok, Err, refl, ap, ◌∙◌, sym, subst, arith, get_or, map, Bool, true, false, cond}
+use Rattle.std.proofs.lemmas.Bool.{or_parts}
 use Rattle.std.specs.Prelude.{◌||◌, not, nat_lt}
 use Rattle.std.specs.Cmp.Derive.{both_true}
 use Rattle.std.specs.List.{list_any}
@@ -166,19 +167,15 @@ twice_not x xs none i lt = by (same_id x (get_or xs i nowhere)) refl
     by true is = absurd (let yes = list_any_at (same_id x) xs i nowhere lt is in cc (yes, none))
     by false is = is
 
-or_none : (a b : Bool) → a || b ≡ false → (a ≡ false) × (b ≡ false)
-or_none true b h = absurd (cc)
-or_none false b h = (refl, h)
-
 apart : (ids : List Id) → has_twice same_id ids ≡ false → (i j : ℕ) → i < j → j < length ids
     → same_id (get_or ids i nowhere) (get_or ids j nowhere) ≡ false
 apart [] none i j lt in' = absurd (omega (arith, in'))
 apart (x ∷ xs) none zero zero lt in' = absurd (omega (arith, lt))
 apart (x ∷ xs) none zero (suc j) lt in' = twice_not x xs
-    (or_none (list_any (same_id x) xs) (has_twice same_id xs) none).0 j (omega (arith, in'))
+    (or_parts (list_any (same_id x) xs) (has_twice same_id xs) none).0 j (omega (arith, in'))
 apart (x ∷ xs) none (suc i) zero lt in' = absurd (omega (arith, lt))
 apart (x ∷ xs) none (suc i) (suc j) lt in' = apart xs
-    (or_none (list_any (same_id x) xs) (has_twice same_id xs) none).1 i j (omega (arith, lt)) (omega (arith, in'))
+    (or_parts (list_any (same_id x) xs) (has_twice same_id xs) none).1 i j (omega (arith, lt)) (omega (arith, in'))
 
 -- are in slots of their own
 slots_apart : (s : State) (ids : List Id) → IsNamed s.objects s.tables s.waits

@@ -1,5 +1,6 @@
 -- No line of a call and its answer has a line feed.
 use Rattle.std.proofs.Common.{◌≡◌, ℕ, zero, suc, ◌/◌, ◌%◌, arith, refl, ◌∙◌, List, [], ◌∷◌, ◌++◌, length, take, Bool, true, false, not, ◌&&◌, ◌==◌, Some, None, codes, decimal, nat_lt, if◌then◌else◌}
+use Rattle.std.proofs.lemmas.Bool.{and_from, and_parts}
 use Rattle.std.specs.Prelude.{slice_index, ◌-◌}
 use Rattle.std.specs.Fmt.{digit_glyph, digits, digits_onto}
 use Rattle.std.specs.List.{list_all}
@@ -15,7 +16,6 @@ use Rattle.ob_manager.specs.declared.reply.Reply.TheVariants.{Spawned, Started, 
 use Rattle.ob_output.specs.Printed.{printed_handle, printed_id, printed_reclaim, printed_reply}
 use Rattle.ob_script.specs.Writing.{can_be_said, ended, is_line, line_of, text_for}
 use Rattle.ob_script.proofs.Short.{no_feed}
-use Rattle.ob_script.proofs.Spaces.{both, second_of_both}
 use Rattle.ob_record.specs.Telling.{asking, comment}
 
 abbrev pub HasNone : List ℕ → Type 0
@@ -23,7 +23,7 @@ HasNone text = list_all no_feed text ≡ true
 
 join : (front back : List ℕ) → HasNone front → HasNone back → HasNone (front ++ back)
 join front back front_has back_has = list_all-append no_feed front back
-    ∙ both (list_all no_feed front) (list_all no_feed back) front_has back_has
+    ∙ and_from (list_all no_feed front) (list_all no_feed back) front_has back_has
 
 -- digits
 glyph : (d : ℕ) → no_feed (digit_glyph false d) ≡ true
@@ -34,7 +34,7 @@ onto zero base n acc has = has
 onto (suc k) base n acc has = by (n / base == 0) (onto k base (n / base) (digit_glyph false (n % base) ∷ acc) one)
   where
     one : HasNone (digit_glyph false (n % base) ∷ acc)
-    one = both (no_feed (digit_glyph false (n % base))) (list_all no_feed acc) (glyph (n % base)) has
+    one = and_from (no_feed (digit_glyph false (n % base))) (list_all no_feed acc) (glyph (n % base)) has
 
     by : (b : Bool) → HasNone (digits_onto k base false (n / base) (digit_glyph false (n % base) ∷ acc))
         → HasNone (if b then digit_glyph false (n % base)
@@ -121,7 +121,7 @@ asking_has again call = by (can_be_said call) (is_line (text_for call)) again re
     by false is again same = refl
     by true false again same = refl
     by true true again same = line again (ended_has (text_for call)
-        (second_of_both (not (nat_lt 4096 (length (text_for call)))) (list_all no_feed (text_for call)) same))
+        (and_parts (not (nat_lt 4096 (length (text_for call)))) (list_all no_feed (text_for call)) same).1)
       where
         line : (b : Bool) → HasNone (ended (text_for call)) → HasNone (asking b (Some (ended (text_for call))))
         line true has = has

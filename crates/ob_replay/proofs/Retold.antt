@@ -1,5 +1,6 @@
 -- A run of a journal's script prints what its entries were answered.
 use Rattle.std.proofs.Common.{◌≡◌, ◌⊎◌, inl, inr, ℕ, suc, ◌+◌, ◌-◌, ◌≤◌, arith, refl, ap, sym, subst, ◌∙◌, List, [], ◌∷◌, ◌++◌, length, take, length-take, All, Bool, true, false, not, ◌&&◌, ◌||◌, ◌==◌, Option, Some, None, IfSome, Result, Ok, Err, if◌then◌else◌, is_some, append-nil, codes, true≢false}
+use Rattle.std.proofs.lemmas.Bool.{not-true, or_parts}
 use Rattle.std.specs.Prelude.{◌≢◌, slice_index, slice_index_or, nat_le}
 use Rattle.std.specs.List.{concat}
 use Rattle.std.proofs.lemmas.Bool.Decides.{nat_tests}
@@ -123,11 +124,6 @@ unrepeatable w v call reply still never step = by (is_lack reply) (is_held call 
     by false false lack_is held_is said = absurd (true≢false
         (sym (ap (λ b. not (b || is_held call reply)) lack_is ∙ ap not held_is) ∙ never))
 
-none_of : (a b : Bool) → not (a || b) ≡ true → (a ≡ false) × (b ≡ false)
-none_of true b none = absurd (true≢false (sym none))
-none_of false true none = absurd (true≢false (sym none))
-none_of false false none = (refl, refl)
-
 -- what becomes of a slot is the same, or it isn't
 slots : (found due : Reclaim) → is_held_slot due ≡ false → (found ≡ due) ⊎ (found ≢ due)
 slots Freed Freed free = inl refl
@@ -170,7 +166,8 @@ module _ (w u : Whole) (p q : Point) (number : ℕ) (entry : Entry) (output : Li
       (told w u entry.call entry.reply step)
     where
       neither : (is_lack entry.reply ≡ false) × (is_held entry.call entry.reply ≡ false)
-      neither = none_of (is_lack entry.reply) (is_held entry.call entry.reply) again
+      neither = or_parts (is_lack entry.reply) (is_held entry.call entry.reply)
+          (not-true (is_lack entry.reply || is_held entry.call entry.reply) again)
 
       by : (found ≡ Refused fault.Memory) ⊎ (final p.whole.state (outcome_of p.whole.state entry.call found)
           ≡ record { reply = found; state = q.whole.state })

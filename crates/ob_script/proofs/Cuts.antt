@@ -1,5 +1,6 @@
 -- Where a byte is first found, in the words of lists.
 use Rattle.std.proofs.Common.{◌≡◌, ◌≢◌, Option, ℕ, ◌+◌, ◌-◌, ◌<◌, List, [], ◌∷◌, length, take, drop, Some, None, Bool, true, false, arith, refl, ap, sym, subst, ◌∙◌}
+use Rattle.std.proofs.lemmas.Bool.{false_from_ne_true}
 use Rattle.std.specs.Prelude.{MatchOption}
 use Rattle.std.specs.Borrow.{Bor}
 use Rattle.std.specs.List.{position_or_len, before_first, after_first}
@@ -11,16 +12,12 @@ use Rattle.memchr.specs.Find.{IsFirstByte, is_byte}
 use Rattle.ob_script.specs.Words.{words_of, joined}
 use Rattle.ob_script.specs.WordsLeft.{words_left}
 
-not_true : (b : Bool) → (b ≡ true → ⊥) → b ≡ false
-not_true true h = absurd (h refl)
-not_true false h = refl
-
 -- the place that is found is the first
 pub first_place : (byte : ℕ) (text : List ℕ) (at : ℕ) → IsFirstByte (is_byte byte) text (Some at)
     → (position_or_len (is_byte byte) text ≡ at) × (at < length text)
 first_place byte text at found = (
   position_or_len_is (is_byte byte) text at 0 (omega (arith, found.0.high))
-      (λ k before. not_true _ (found.0.before k (omega arith) before)) (λ within. found.1),
+      (λ k before. false_from_ne_true _ (found.0.before k (omega arith) before)) (λ within. found.1),
   found.0.high,
 )
 
@@ -29,7 +26,7 @@ pub no_place : (byte : ℕ) (text : List ℕ) → IsFirstByte (is_byte byte) tex
     → position_or_len (is_byte byte) text ≡ length text
 no_place byte text none =
     position_or_len_is (is_byte byte) text (length text) 0 (omega arith)
-    (λ k before. not_true _ (none k (omega arith) before)) (λ past. absurd (omega arith))
+    (λ k before. false_from_ne_true _ (none k (omega arith) before)) (λ past. absurd (omega arith))
 
 -- what is behind the first place
 pub behind_first : (byte : ℕ) (text rest : List ℕ) (at : ℕ) → IsFirstByte (is_byte byte) text (Some at)

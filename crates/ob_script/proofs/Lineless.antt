@@ -1,5 +1,6 @@
 -- A call without a line is refused, and changes nothing.
 use Rattle.std.proofs.Common.{◌≡◌, ℕ, ◌≤◌, arith, refl, ap, sym, subst, ◌∙◌, List, [], ◌∷◌, ◌++◌, length, length-append, Bool, true, false, not, ◌&&◌, ◌||◌, ◌==◌, Option, Some, None, Result, Ok, Err, codes, decimal, nat_lt, nat_le, if◌then◌else◌, is_ok, true≢false}
+use Rattle.std.proofs.lemmas.Bool.{or_right}
 use Rattle.std.specs.Fmt.{signed_decimal}
 use Rattle.std.specs.List.{list_all}
 use Rattle.std.proofs.lemmas.Bool.Decides.{nat_tests}
@@ -195,10 +196,6 @@ open_fails s thread kind mask inherit text fits mask_fits none = by (is_nameable
     by true good = absurd (lined (name_short text good))
     by false bad = nameless_fails s thread kind mask inherit text (λ process. nameless s process text bad)
 
-or_true : (b : Bool) → (b || true) ≡ true
-or_true true = refl
-or_true false = refl
-
 misshapen_fails : (s : State) (thread : ℕ) (mode : Mode) (timeout : Timeout) (handles : List ℕ)
     → is_misshapen handles ≡ true → is_ok (wait s thread mode timeout handles) ≡ false
 misshapen_fails s thread mode timeout handles bad =
@@ -233,7 +230,8 @@ wait_fails s thread mode timeout handles fits timeout_fits handles_fit none = by
 
     by : (b : Bool) → nat_lt 64 (length handles) ≡ b → is_ok (wait s thread mode timeout handles) ≡ false
     by true many = misshapen_fails s thread mode timeout handles
-        (ap (λ b. (length handles == 0) || (b || has_twice same_handle handles)) many ∙ or_true (length handles == 0))
+        (ap (λ b. (length handles == 0) || (b || has_twice same_handle handles)) many
+        ∙ or_right (length handles == 0) true refl)
     by false few = absurd (lined (grind (arith, nat_tests)))
 
 wrong_fails : (s : State) (thread source handle : ℕ) (target : Option ℕ) (mask : Rights) (inherit : Bool) (options : ℕ)
@@ -312,7 +310,7 @@ tick_fails s now none = by (nat_le now 9223372036854775807) refl
         (λ _. Ok (record { reply = Ticked now; state = ticked now s })))) (past late)
       where
         past : nat_le now 9223372036854775807 ≡ false → (nat_lt now s.clock || nat_lt last_moment now) ≡ true
-        past late = ap (λ b. nat_lt now s.clock || b) (after late) ∙ or_true (nat_lt now s.clock)
+        past late = ap (λ b. nat_lt now s.clock || b) (after late) ∙ or_right (nat_lt now s.clock) true refl
           where
             after : nat_le now 9223372036854775807 ≡ false → nat_lt last_moment now ≡ true
             after late = grind (arith, nat_tests)

@@ -1,5 +1,6 @@
 -- A call whose name and handles are few enough has a line.
 use Rattle.std.proofs.Common.{◌≡◌, ℕ, suc, ◌+◌, ◌*◌, ◌^◌, ◌<◌, ◌≤◌, arith, refl, ◌∙◌, List, [], ◌∷◌, ◌++◌, length, Bool, true, false, not, ◌&&◌, ◌==◌, Option, Some, None, decimal, map, codes, nat_lt, if◌then◌else◌, ℤ, pos, negsuc, length-append}
+use Rattle.std.proofs.lemmas.Bool.{and_from}
 use Rattle.std.specs.Fmt.{digits, signed_decimal}
 use Rattle.std.specs.Char.{digit_value}
 use Rattle.std.specs.List.{list_all}
@@ -21,7 +22,6 @@ use Rattle.ob_script.specs.Words.{joined}
 use Rattle.ob_script.specs.Fitting.{FitsMask, FitsSign, FitsTarget, FitsTimeout, FitHandles}
 use Rattle.ob_script.specs.Writing.{label, id_word, mask_word, either_word, word_if, mask_words, name_words, make_words, kind_word, mode_word, timeout_word, target_word, ended, words_for, text_for, can_be_said, is_line, line_of}
 use Rattle.ob_script.proofs.Numerals.{hex_few}
-use Rattle.ob_script.proofs.Spaces.{both}
 
 -- a byte that is no line feed
 abbrev pub no_feed : ℕ → Bool
@@ -42,7 +42,7 @@ joined_within most [] are = refl
 joined_within most (word ∷ []) are = are.0.within
 joined_within most (word ∷ next ∷ words) are =
     list_all-append no_feed word (32 ∷ joined (next ∷ words))
-    ∙ both (list_all no_feed word) (list_all no_feed (joined (next ∷ words))) are.0.within
+    ∙ and_from (list_all no_feed word) (list_all no_feed (joined (next ∷ words))) are.0.within
     (joined_within most (next ∷ words) are.1)
 
 joined_len : (most : ℕ) (words : List (List ℕ)) → AreShort most words
@@ -70,7 +70,7 @@ have_line most call can are few none = by (can_be_said call) (is_line (text_for 
     is : is_line (text_for call) ≡ true
     is =
         let short = joined_len most (words_for call) are in
-        both (not (nat_lt 4096 (length (text_for call)))) (list_all no_feed (text_for call)) (grind (arith, nat_tests))
+        and_from (not (nat_lt 4096 (length (text_for call)))) (list_all no_feed (text_for call)) (grind (arith, nat_tests))
         (joined_within most (words_for call) are)
 
     by : (a b : Bool) → a ≡ true → b ≡ true → (if a && b then Some (ended (text_for call)) else None) ≡ None → ⊥
@@ -84,7 +84,7 @@ no_digit c small = grind (arith, nat_tests)
 
 digits_within : (base : ℕ) → base ≤ 16 → (ds : List ℕ) → AllDigits base ds → list_all no_feed ds ≡ true
 digits_within base high [] all = refl
-digits_within base high (c ∷ cs) all = both (no_feed c) (list_all no_feed cs) (no_digit c (omega (arith, high, all.0)))
+digits_within base high (c ∷ cs) all = and_from (no_feed c) (list_all no_feed cs) (no_digit c (omega (arith, high, all.0)))
     (digits_within base high cs all.1)
 
 module _ (most : ℕ) (room : 21 ≤ most) where
@@ -98,7 +98,7 @@ module _ (most : ℕ) (room : 21 ≤ most) where
   pub label_short : (letter n : ℕ) → no_feed letter ≡ true → n ≤ 4294967295 → IsShort most (label letter n)
   label_short letter n is fits = record {
     len = omega (arith, room, length-decimal-le 10 n (omega arith) (omega arith) (omega (arith, fits)));
-    within = both (no_feed letter) (list_all no_feed (decimal n)) is (number_short n (omega (arith, fits))).within;
+    within = and_from (no_feed letter) (list_all no_feed (decimal n)) is (number_short n (omega (arith, fits))).within;
   }
 
   pub id_short : (id : Id) → id.slot ≤ 4294967295 → id.generation ≤ 4294967295 → IsShort (most + most) (id_word id)
@@ -108,7 +108,7 @@ module _ (most : ℕ) (room : 21 ≤ most) where
         len = omega (arith, length-append (label 115 id.slot) (label 46 id.generation), slot.len, generation.len);
         within =
             list_all-append no_feed (label 115 id.slot) (label 46 id.generation)
-            ∙ both (list_all no_feed (label 115 id.slot))
+            ∙ and_from (list_all no_feed (label 115 id.slot))
             (list_all no_feed (label 46 id.generation)) slot.within generation.within;
       }
 

@@ -1,5 +1,6 @@
 -- Words that are joined by spaces are read as they were.
 use Rattle.std.proofs.Common.{◌≡◌, ℕ, ◌<◌, ◌≤◌, arith, refl, ap, sym, ◌∙◌, List, [], ◌∷◌, ◌++◌, Bool, true, false, not, ◌&&◌, ◌==◌, All, decimal, true≢false, ◌^◌, append-nil, map}
+use Rattle.std.proofs.lemmas.Bool.{and_from, and_parts}
 use Rattle.std.specs.Fmt.{digits}
 use Rattle.std.specs.Char.{digit_value}
 use Rattle.std.specs.List.{list_all, flat_map}
@@ -21,17 +22,6 @@ is_word word = list_all (λ byte. not (byte == 32)) word
 abbrev pub AreWords : List (List ℕ) → Type 0
 AreWords [] = Unit {0}
 AreWords (word ∷ words) = (is_word word ≡ true) × AreWords words
-
-pub both : (a b : Bool) → a ≡ true → b ≡ true → (a && b) ≡ true
-both a b a_is b_is = ap (λ x. x && b) a_is ∙ b_is
-
-first_of_both : (a b : Bool) → (a && b) ≡ true → a ≡ true
-first_of_both true b is = refl
-first_of_both false b is = is
-
-pub second_of_both : (a b : Bool) → (a && b) ≡ true → b ≡ true
-second_of_both true b is = is
-second_of_both false b is = absurd (true≢false (sym is))
 
 no_space : (byte : ℕ) → not (byte == 32) ≡ true → is_byte 32 byte ≡ false
 no_space byte is = grind (arith, nat_tests)
@@ -65,7 +55,7 @@ no_digit c small = grind (arith, nat_tests)
 
 digits_word : (base : ℕ) → base ≤ 16 → (ds : List ℕ) → AllDigits base ds → is_word ds ≡ true
 digits_word base high [] all = refl
-digits_word base high (c ∷ cs) all = both (not (c == 32)) (is_word cs) (no_digit c (omega (arith, high, all.0)))
+digits_word base high (c ∷ cs) all = and_from (not (c == 32)) (is_word cs) (no_digit c (omega (arith, high, all.0)))
     (digits_word base high cs all.1)
 
 pub hex_word : (n : ℕ) → n < 2 ^ 64 → is_word (digits 16 false n) ≡ true
@@ -77,13 +67,13 @@ decimal_word n small = digits_word 10 (omega arith) (decimal n)
     (digits_is_IsNumeral 10 false (omega arith) (omega arith) n (omega arith)).0.1
 
 pub label_word : (letter n : ℕ) → not (letter == 32) ≡ true → n < 2 ^ 64 → is_word (letter ∷ decimal n) ≡ true
-label_word letter n is small = both (not (letter == 32)) (is_word (decimal n)) is (decimal_word n small)
+label_word letter n is small = and_from (not (letter == 32)) (is_word (decimal n)) is (decimal_word n small)
 
 pub word_append : (front back : List ℕ) → is_word front ≡ true → is_word back ≡ true → is_word (front ++ back) ≡ true
 word_append [] back front_is back_is = back_is
 word_append (byte ∷ front) back front_is back_is =
-    both (not (byte == 32)) (is_word (front ++ back)) (first_of_both (not (byte == 32)) (is_word front) front_is)
-    (word_append front back (second_of_both (not (byte == 32)) (is_word front) front_is) back_is)
+    and_from (not (byte == 32)) (is_word (front ++ back)) (and_parts (not (byte == 32)) (is_word front) front_is).0
+    (word_append front back (and_parts (not (byte == 32)) (is_word front) front_is).1 back_is)
 
 -- words that each have a space before them
 pub said_joined : (words : List (List ℕ)) → said words ≡ joined words

@@ -1,18 +1,12 @@
 -- Lanes whose numbers rise.
 use Rattle.std.proofs.Common.{◌≡◌, ◌==◌, ◌||◌, ℕ, ◌+◌, ◌<◌, ◌≤◌, Bool, true, false, List, [], ◌∷◌, ◌++◌, length, take, get_or, refl, arith}
+use Rattle.std.proofs.lemmas.Bool.{or_from, or_parts}
 use Rattle.std.specs.List.{list_any}
 use Rattle.std.proofs.lemmas.Bool.Decides.{nat_tests}
 use Rattle.std.proofs.lemmas.List.{take_more}
 use Rattle.std.proofs.lemmas.List.Folds.{list_any-append}
 use Rattle.ob_shared.specs.Closing.{has_number, has_twice}
 use Rattle.ob_shared.specs.Lanes.{LaneState}
-
-or_none : (a b : Bool) → (a || b) ≡ false → (a ≡ false) × (b ≡ false)
-or_none false b none = (refl, none)
-or_none true b none = cc
-
-none_or : (a b : Bool) → a ≡ false → b ≡ false → (a || b) ≡ false
-none_or a b first second = rw (first, second) refl
 
 differ : (m n : ℕ) → (m == n) ≡ false → (n == m) ≡ false
 differ m n no_match = grind (arith, nat_tests)
@@ -21,12 +15,12 @@ apart_more : (xs : List LaneState) (x : LaneState) → has_twice xs ≡ false �
     → has_twice (xs ++ x ∷ []) ≡ false
 apart_more [] x apart none = refl
 apart_more (y ∷ xs) x apart none =
-    let old = or_none (list_any (has_number y.number) xs) (has_twice xs) apart in
-    let other = or_none (y.number == x.number) (list_any (has_number x.number) xs) none in
-    none_or (list_any (has_number y.number) (xs ++ x ∷ [])) (has_twice (xs ++ x ∷ []))
+    let old = or_parts (list_any (has_number y.number) xs) (has_twice xs) apart in
+    let other = or_parts (y.number == x.number) (list_any (has_number x.number) xs) none in
+    or_from (list_any (has_number y.number) (xs ++ x ∷ [])) (has_twice (xs ++ x ∷ []))
     (rw (list_any-append (has_number y.number) xs (x ∷ []))
-    (none_or (list_any (has_number y.number) xs) ((x.number == y.number) || false) old.0
-    (none_or (x.number == y.number) false (differ y.number x.number other.0) refl)))
+    (or_from (list_any (has_number y.number) xs) ((x.number == y.number) || false) old.0
+    (or_from (x.number == y.number) false (differ y.number x.number other.0) refl)))
     (apart_more xs x old.1 other.1)
 
 -- no number is there twice, and none from the least one on
@@ -41,8 +35,8 @@ pub risen_more : (xs : List LaneState) (i : ℕ) (x : LaneState) (least next : �
 risen_more xs i x least next inside at above is old = rw (take_more xs i x inside, ← at) (record {
   apart = apart_more (take i xs) x old.apart (old.below x.number above);
   below = λ n past. rw (list_any-append (has_number n) (take i xs) (x ∷ []))
-      (none_or (list_any (has_number n) (take i xs)) ((x.number == n) || false)
-      (old.below n (omega (arith, above, is, past))) (none_or (x.number == n) false (other n past) refl));
+      (or_from (list_any (has_number n) (take i xs)) ((x.number == n) || false)
+      (old.below n (omega (arith, above, is, past))) (or_from (x.number == n) false (other n past) refl));
 })
   where
     other : (n : ℕ) → next ≤ n → (x.number == n) ≡ false
