@@ -7,11 +7,12 @@ use Rattle.pin_core.specs.Holds.{same_id}
 use Rattle.pin_core.specs.declared.id.Id.{Id}
 use Rattle.ob_waits.specs.declared.wait.Wait.{Wait}
 use Rattle.ob_waits.specs.Waits.{blocks_in, names_slot, ids_of}
-use Rattle.std.proofs.lemmas.List.{length-set, get_or_past, get_or-set_same, get_or-set_other, set_past}
+use Rattle.std.proofs.lemmas.List.{get_or_past, get_or-set_other, set_past}
 use Rattle.std.proofs.lemmas.List.Sums.{sum_by-cons, sum_by-set}
 use Rattle.std.proofs.lemmas.Bool.{cases_eq, cases_lt}
 use Rattle.ob_waits.specs.Rules.{Within, IsRising}
 use Rattle.ob_waits.specs.Numbers.{IsOrdered}
+use Rattle.ob_waits.proofs.Writes.{set_none}
 
 sum_same : (g h : ℕ → ℕ) (ns : List ℕ) → ((k : ℕ) → Within k ns → g k ≡ h k) → sum_by g ns ≡ sum_by h ns
 sum_same g h [] same = refl
@@ -41,10 +42,7 @@ module _ {A : Type 0} (f : Option A → ℕ) (none : f None ≡ 0) where
       apart k i = ap f (sym (get_or-set_other xs m k None None (λ e. let lt = rising.0 k i in omega arith)))
 
       here : f (get_or (set xs m None) m None) ≡ 0
-      here = elim (cases_lt m (length xs)) [
-        | inl lt ↦ ap f (get_or-set_same xs m None None lt) ∙ none
-        | inr past ↦ ap f (get_or_past (set xs m None) m None (omega (arith, length-set xs m None))) ∙ none
-      ]
+      here = ap f (set_none xs m) ∙ none
 
       rest : (n : ℕ) → 0 < f (get_or (set xs m None) n None) → Within n ns
       rest n some = elim (cases_eq n m) [

@@ -1,7 +1,7 @@
 -- Deadlines go on being ahead and listed while waits come, are answered and go, and the code finds those that are over.
 use Rattle.std.proofs.Common.{◌≡◌, ◌⊎◌, ℕ, zero, suc, ◌++◌, ◌∷◌, [], ◌<◌, ◌≤◌, List, length, Option, Some, None, refl, ap, ◌∙◌, sym, subst, arith, get_or, set, Bool, true, false, cond, inl, inr}
 use Rattle.std.specs.Prelude.{IfSome, count_by, is_some, map}
-use Rattle.std.proofs.lemmas.List.{length-map, length-set, get_or_past, get_or-set_same, get_or-set_other, get_or-map}
+use Rattle.std.proofs.lemmas.List.{length-map, get_or_past, get_or-set_same, get_or-set_other, get_or-map}
 use Rattle.std.proofs.lemmas.List.Sums.{sum_by-set}
 use Rattle.std.proofs.lemmas.Bool.{cases_eq, cases_lt}
 use Rattle.std.proofs.lemmas.Bool.Decides.{nat_tests}
@@ -21,6 +21,7 @@ use Rattle.ob_waits.proofs.AddedLaws.{by_number}
 use Rattle.ob_waits.proofs.Keeping.{Fade}
 use Rattle.ob_waits.proofs.Staying.{settled_stays}
 use Rattle.ob_waits.proofs.TrackedLaws.{no_number}
+use Rattle.ob_waits.proofs.Writes.{set_at}
 
 -- a wait is what it was, or has no deadline any more
 abbrev Follows : Option Wait → Option Wait → Type 0
@@ -72,18 +73,8 @@ timely_settled clock before after ws ws' dues value timely =
 -- one went
 pub timely_removed : (clock : ℕ) (ws : List (Option Wait)) (n : ℕ) (dues : List (Option ℕ)) → AreTimely clock ws dues
     → AreTimely clock (set ws n None) dues
-timely_removed clock ws n dues timely = timely_by clock ws (set ws n None) dues (λ m. by m) timely
-  where
-    by : (m : ℕ) → Follows (get_or ws m None) (get_or (set ws n None) m None)
-    by m = elim (cases_eq m n) [
-      | inl same ↦ elim (cases_lt n (length ws)) [
-        | inl lt ↦ inr (ap deadline_of (ap (λ i. get_or (set ws n None) i None) same
-            ∙ get_or-set_same ws n None None lt))
-        | inr past ↦ inr (ap deadline_of (get_or_past (set ws n None) m None
-            (omega (arith, length-set {A = Option Wait} ws n None, same, past))))
-      ]
-      | inr other ↦ inl (get_or-set_other ws n m None None other)
-    ]
+timely_removed clock ws n dues timely = timely_by clock ws (set ws n None) dues
+    (λ m. set_at (Follows (get_or ws m None)) ws n m None None (λ _. inr refl) (inl refl)) timely
 
 -- no waits
 pub timely_none : AreTimely 0 (None ∷ []) []

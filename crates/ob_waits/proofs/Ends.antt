@@ -1,8 +1,7 @@
 -- Objects end where their last block leaves: what that keeps.
-use Rattle.std.proofs.Common.{◌≡◌, ℕ, ◌+◌, ◌-◌, List, [], ◌∷◌, length, Option, Some, None, refl, ap, ◌∙◌, sym, arith, get_or, set, Bool, true, false, cond, inl, inr, eqb, ltb}
+use Rattle.std.proofs.Common.{◌≡◌, ℕ, ◌+◌, ◌-◌, List, [], ◌∷◌, length, Option, Some, None, refl, ap, ◌∙◌, sym, arith, get_or, set, Bool, true, false, cond, eqb, ltb}
 use Rattle.std.specs.Prelude.{is_some}
-use Rattle.std.proofs.lemmas.List.{length-set, get_or_past, get_or-set_same, get_or-set_other}
-use Rattle.std.proofs.lemmas.Bool.{cases_eq, cases_lt}
+use Rattle.std.proofs.lemmas.List.{length-set, get_or-set_other}
 use Rattle.std.proofs.lemmas.Bool.Decides.{nat_tests}
 use Rattle.pin_core.specs.declared.id.Id.{Id}
 use Rattle.ob_body.specs.declared.body.Body.{Body}
@@ -16,6 +15,7 @@ use Rattle.ob_waits.specs.Rules.{HasBodies}
 use Rattle.ob_waits.specs.Waits.{nowhere, first_signaled, with_acquired, with_all_acquired, bodies_after, Scene, effect_of, effect_at, settled}
 use Rattle.ob_waits.proofs.Settling.{settled_by_effects}
 use Rattle.ob_waits.proofs.References.{left_one}
+use Rattle.ob_waits.proofs.Writes.{set_at, set_none}
 
 -- the same slots have a body
 pub record SameSlots (bodies after : List (Option Body)) : Type 0 where
@@ -25,15 +25,8 @@ pub record SameSlots (bodies after : List (Option Body)) : Type 0 where
 pub same_set : (bodies : List (Option Body)) (i : ℕ) (x : Option Body) → is_some x ≡ is_some (get_or bodies i None)
     → SameSlots bodies (set bodies i x)
 same_set bodies i x same = record {
-  each = λ k. elim (cases_eq k i) [
-    | inl here ↦ elim (cases_lt i (length bodies)) [
-      | inl lt ↦ ap (λ j. is_some (get_or (set bodies i x) j None)) here
-          ∙ ap is_some (get_or-set_same bodies i x None lt) ∙ same ∙ ap (λ j. is_some (get_or bodies j None)) (sym here)
-      | inr past ↦ ap is_some (get_or_past (set bodies i x) k None (omega (arith, length-set bodies i x)))
-          ∙ sym (ap is_some (get_or_past bodies k None (omega arith)))
-    ]
-    | inr other ↦ ap is_some (get_or-set_other bodies i k x None other)
-  ];
+  each = λ k. set_at (λ y. is_some y ≡ is_some (get_or bodies k None)) bodies i k x None
+      (λ here. same ∙ ap (λ j. is_some (get_or bodies j None)) (sym here)) refl;
 }
 
 same_slot : (t : ℕ) (x : Option Body) → is_some (slot_acquired t x) ≡ is_some x
@@ -73,12 +66,8 @@ body_left objects id k = by (eqb (get_or objects.handles id.slot 0 + (get_or obj
     count i = eqb (get_or objects.handles i 0 + (get_or objects.blocks i 0 - 1)) 0
 
     at_none : id.slot ≡ k → get_or (set objects.bodies id.slot None) k None ≡ None
-    at_none same = elim (cases_lt id.slot (length objects.bodies)) [
-      | inl lt ↦ ap (λ i. get_or (set objects.bodies id.slot None) i None) (sym same)
-          ∙ get_or-set_same objects.bodies id.slot None None lt
-      | inr past ↦ get_or_past (set objects.bodies id.slot None) k None
-          (omega (arith, length-set objects.bodies id.slot None, same))
-    ]
+    at_none same = ap (λ i. get_or (set objects.bodies id.slot None) i None) (sym same)
+        ∙ set_none objects.bodies id.slot
 
     by : (gone : Bool) → count id.slot ≡ gone → (here : Bool) → eqb id.slot k ≡ here →
         get_or (cond gone (set objects.bodies id.slot None) objects.bodies) k None

@@ -1,40 +1,37 @@
 -- The lists of the slots, where one of them changes.
-use Rattle.std.proofs.Common.{◌≡◌, ℕ, ◌<◌, List, [], length, Option, ◌∙◌, sym, subst, get_or, set, inl, inr}
-use Rattle.std.proofs.lemmas.List.{get_or-set_same, get_or-set_other, get_or_default}
-use Rattle.std.proofs.lemmas.Bool.{cases_eq}
+use Rattle.std.proofs.Common.{◌≡◌, ℕ, ◌<◌, List, [], length, Option, ◌∙◌, sym, subst, get_or, set}
+use Rattle.std.proofs.lemmas.List.{get_or_default}
 use Rattle.ob_waits.specs.declared.wait.Wait.{Wait}
 use Rattle.ob_waits.specs.Rules.{Within}
 use Rattle.ob_waits.specs.Numbers.{IsOrdered, numbers_of, AreOrdered, Keeps, Thins, ThinsEach}
 use Rattle.ob_waits.proofs.NumberLaws.{thins_none, thins_both}
+use Rattle.ob_waits.proofs.Writes.{set_at}
 
-list_changed : (P : List ℕ → List ℕ → Type 0) (lists : List (List ℕ)) (k : ℕ) (new : List ℕ) → k < length lists
+list_changed : (P : List ℕ → List ℕ → Type 0) (lists : List (List ℕ)) (k : ℕ) (new : List ℕ)
     → P (numbers_of lists k) new → ((s : ℕ) → P (numbers_of lists s) (numbers_of lists s)) → (s : ℕ)
     → P (numbers_of lists s) (numbers_of (set lists k new) s)
-list_changed P lists k new lt here others s = elim (cases_eq s k) [
-  | inl same ↦ subst (λ i. P (numbers_of lists i) (numbers_of (set lists k new) i)) (sym same)
-      (subst (λ r. P (numbers_of lists k) r) (sym (get_or-set_same lists k new [] lt)) here)
-  | inr apart ↦ subst (λ r. P (numbers_of lists s) r) (sym (get_or-set_other lists k s new [] apart)) (others s)
-]
+list_changed P lists k new here others s = set_at (P (numbers_of lists s)) lists k s new []
+    (λ same. subst (λ i. P (numbers_of lists i) new) (sym same) here) (others s)
 
-thins_changed : (waits : List (Option Wait)) (lists : List (List ℕ)) (k : ℕ) (new : List ℕ) → k < length lists
+thins_changed : (waits : List (Option Wait)) (lists : List (List ℕ)) (k : ℕ) (new : List ℕ)
     → Thins waits (numbers_of lists k) new → ThinsEach waits lists (set lists k new)
-thins_changed waits lists k new lt t = record {
+thins_changed waits lists k new t = record {
   each =
-      list_changed (λ a b. Thins waits a b) lists k new lt t (λ s. thins_none waits (numbers_of lists s));
+      list_changed (λ a b. Thins waits a b) lists k new t (λ s. thins_none waits (numbers_of lists s));
 }
 
-pub keeps_changed : (lists : List (List ℕ)) (k : ℕ) (new : List ℕ) → k < length lists
+pub keeps_changed : (lists : List (List ℕ)) (k : ℕ) (new : List ℕ)
     → ((j : ℕ) → Within j (numbers_of lists k) → Within j new) → Keeps lists (set lists k new)
-keeps_changed lists k new lt h = record {
+keeps_changed lists k new h = record {
   each = list_changed (λ a b. (j : ℕ) → Within j a
-      → Within j b) lists k new lt h (λ s j i. i);
+      → Within j b) lists k new h (λ s j i. i);
 }
 
-pub lists_changed : (n : ℕ) (lists : List (List ℕ)) (k : ℕ) (new : List ℕ) → k < length lists → IsOrdered n new
+pub lists_changed : (n : ℕ) (lists : List (List ℕ)) (k : ℕ) (new : List ℕ) → IsOrdered n new
     → AreOrdered n lists → AreOrdered n (set lists k new)
-lists_changed n lists k new lt numbers all = record {
+lists_changed n lists k new numbers all = record {
   each =
-      λ s. list_changed (λ a b. IsOrdered n a → IsOrdered n b) lists k new lt (λ h. numbers) (λ s h. h) s (all.each s);
+      λ s. list_changed (λ a b. IsOrdered n a → IsOrdered n b) lists k new (λ h. numbers) (λ s h. h) s (all.each s);
 }
 
 -- the numbers read at an index
@@ -48,7 +45,7 @@ pub thins_there : {waits : List (Option Wait)} {lists seen : List (List ℕ)} {o
     → ThinsEach waits seen (set lists k new)
 thins_there {waits = waits} {lists = lists} {old = old} {new = new} k same is thins lt =
     subst (λ (from : List (List ℕ)). ThinsEach waits from (set lists k new)) same
-    (thins_changed waits lists k new lt (subst (λ r. Thins waits r new) (list_read lists k old is lt) thins))
+    (thins_changed waits lists k new (subst (λ r. Thins waits r new) (list_read lists k old is lt) thins))
 
 pub thins_each_none : (waits : List (Option Wait)) (lists : List (List ℕ)) → ThinsEach waits lists lists
 thins_each_none waits lists = record { each = λ s. thins_none waits (numbers_of lists s) }

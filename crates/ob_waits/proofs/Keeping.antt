@@ -1,12 +1,13 @@
 -- What the waits keep while some of them are answered.
-use Rattle.std.proofs.Common.{◌≡◌, ℕ, ◌<◌, List, [], ◌∷◌, length, Option, Some, None, refl, ap, ◌∙◌, sym, subst, arith, get_or, set, Bool, true, false, inl, inr}
-use Rattle.std.proofs.lemmas.List.{length-set, get_or_past, get_or-set_same, get_or-set_other}
-use Rattle.std.proofs.lemmas.Bool.{cases_eq, cases_lt}
+use Rattle.std.proofs.Common.{◌≡◌, ℕ, List, [], ◌∷◌, length, Option, Some, None, refl, ap, ◌∙◌, sym, subst, arith, get_or, set, Bool, true, false, inl, inr}
+use Rattle.std.proofs.lemmas.List.{length-set, get_or-set_same, get_or-set_other}
+use Rattle.std.proofs.lemmas.Bool.{cases_eq}
 use Rattle.ob_body.specs.declared.body.Body.{Body}
 use Rattle.ob_waits.specs.declared.wait.Wait.{Wait}
 use Rattle.ob_waits.specs.Rules.{WaitWaitable, thread_of, IsKept, WaitHasRoom, WaitsHaveRoom, Fits}
 use Rattle.ob_waits.specs.Waits.{nowhere, is_ready, Scene, answered_wait, effect, passed, settled, is_pending, names_slot, ids_of}
 use Rattle.ob_waits.proofs.Settling.{Answers, answers, ready_within, RoomKept, settled_by_effects}
+use Rattle.ob_waits.proofs.Writes.{set_at}
 
 -- a wait is what it was, or answered
 pub record Fades (old new : Option Wait) : Type 0 where
@@ -53,22 +54,10 @@ pub fade_one : (ws : List (Option Wait)) (n code : ℕ) (w : Wait) → get_or ws
     → Fade ws (set ws n (answered_wait w code))
 fade_one ws n code w own = record {
   len = length-set ws n (answered_wait w code);
-  each = λ m. elim (cases_eq m n) [
-    | inl same ↦ subst (λ i. Fades (get_or ws i None) (get_or (set ws n (answered_wait w code)) i None)) (sym same)
-        (subst (λ x. Fades x (get_or (set ws n (answered_wait w code)) n None)) (sym own)
-        (subst (λ x. Fades (Some w) x) (sym (get_or-set_same ws n (answered_wait w code) None within))
-        (fades_answered w code)))
-    | inr other ↦ subst (λ x. Fades (get_or ws m None) x)
-        (sym (get_or-set_other ws n m (answered_wait w code) None other)) (fades_same (get_or ws m None))
-  ];
+  each = λ m. set_at (Fades (get_or ws m None)) ws n m (answered_wait w code) None
+      (λ same. subst (λ x. Fades x (answered_wait w code)) (sym (ap (λ i. get_or ws i None) same ∙ own))
+      (fades_answered w code)) (fades_same (get_or ws m None));
 }
-  where
-    within : n < length ws
-    within = elim (cases_lt n (length ws)) [
-      | inl lt ↦ lt
-      | inr past ↦
-          absurd (let e = get_or_past ws n None past in cc (e, own))
-    ]
 
 pub effect_fades : (scene : Scene) (n : ℕ) → is_ready scene.objects.bodies (get_or scene.waits n None) ≡ true
     → Fade scene.waits (effect scene n).waits

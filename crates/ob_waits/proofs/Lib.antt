@@ -1,3 +1,4 @@
+pub mod Writes
 pub mod Settling
 pub mod ListedLaws
 pub mod PlaceLaws

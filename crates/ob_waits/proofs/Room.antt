@@ -1,7 +1,7 @@
 -- The room that settling asks of the pending waits, while waits come and go and bodies change.
-use Rattle.std.proofs.Common.{◌≡◌, ℕ, ◌<◌, ◌≤◌, List, [], ◌∷◌, ◌++◌, length, Option, Some, None, refl, ap, ◌∙◌, sym, subst, arith, get_or, set, Bool, true, false, inl, inr, map}
-use Rattle.std.proofs.lemmas.List.{length-set, length-map, get_or-map, get_or_past, get_or-set_same, get_or-set_other}
-use Rattle.std.proofs.lemmas.Bool.{cases_eq, cases_lt}
+use Rattle.std.proofs.Common.{◌≡◌, ℕ, ◌<◌, ◌≤◌, List, [], ◌∷◌, ◌++◌, length, Option, Some, None, refl, sym, subst, arith, get_or, set, Bool, true, false, inl, inr, map}
+use Rattle.std.proofs.lemmas.List.{length-map, get_or-map, get_or_past, get_or-set_other}
+use Rattle.std.proofs.lemmas.Bool.{cases_lt}
 use Rattle.ob_body.specs.declared.body.Body.{Body}
 use Rattle.ob_body.proofs.Effects.{room_at_more}
 use Rattle.pin_core.specs.declared.id.Id.{Id}
@@ -15,6 +15,7 @@ use Rattle.ob_waits.proofs.Keeping.{room_other}
 use Rattle.ob_waits.proofs.TrackedLaws.{no_number}
 use Rattle.ob_waits.proofs.Counted.{unnamed_ids}
 use Rattle.ob_waits.proofs.AddedLaws.{by_number}
+use Rattle.ob_waits.proofs.Writes.{set_at}
 
 -- one more wait, of a thread for which there is room
 pub room_added : (limit : ℕ) (bodies : List (Option Body)) (ws : List (Option Wait)) (t : ℕ) (mode : Mode)
@@ -29,15 +30,7 @@ room_added limit bodies ws t mode ids d room r = record {
 pub room_replaced : (limit : ℕ) (bodies : List (Option Body)) (ws : List (Option Wait)) (n : ℕ) (x : Option Wait)
     → WaitHasRoom limit bodies x → WaitsHaveRoom limit bodies ws → WaitsHaveRoom limit bodies (set ws n x)
 room_replaced limit bodies ws n x room r = record {
-  each = λ m. elim (cases_eq m n) [
-    | inl same ↦ elim (cases_lt n (length ws)) [
-      | inl lt ↦ subst (λ y. WaitHasRoom limit bodies y)
-          (sym (ap (λ i. get_or (set ws n x) i None) same ∙ get_or-set_same ws n x None lt)) room
-      | inr past ↦ subst (λ y. WaitHasRoom limit bodies y)
-          (sym (get_or_past (set ws n x) m None (omega (arith, length-set ws n x)))) tt
-    ]
-    | inr other ↦ subst (λ y. WaitHasRoom limit bodies y) (sym (get_or-set_other ws n m x None other)) (r.each m)
-  ];
+  each = λ m. set_at (WaitHasRoom limit bodies) ws n m x None (λ _. room) (r.each m);
 }
 
 pub room_removed : (limit : ℕ) (bodies : List (Option Body)) (ws : List (Option Wait)) (n : ℕ)
@@ -96,15 +89,9 @@ room_changed limit bodies after ws keeps r = record { each = λ n. by (get_or ws
 pub room_set : (limit : ℕ) (bodies : List (Option Body)) (ws : List (Option Wait)) (k : ℕ) (x : Option Body)
     → ((t : ℕ) → slot_room limit t (get_or bodies k None) ≡ true → slot_room limit t x ≡ true) →
     WaitsHaveRoom limit bodies ws → WaitsHaveRoom limit (set bodies k x) ws
-room_set limit bodies ws k x keeps r = room_changed limit bodies (set bodies k x) ws (λ t i h. elim (cases_eq i k) [
-  | inl same ↦ elim (cases_lt k (length bodies)) [
-    | inl lt ↦ subst (λ y. slot_room limit t y ≡ true)
-        (sym (ap (λ j. get_or (set bodies k x) j None) same ∙ get_or-set_same bodies k x None lt))
-        (keeps t (subst (λ j. slot_room limit t (get_or bodies j None) ≡ true) same h))
-    | inr past ↦ ap (slot_room limit t) (get_or_past (set bodies k x) i None (omega (arith, length-set bodies k x)))
-  ]
-  | inr other ↦ subst (λ y. slot_room limit t y ≡ true) (sym (get_or-set_other bodies k i x None other)) h
-]) r
+room_set limit bodies ws k x keeps r = room_changed limit bodies (set bodies k x) ws (λ t i h.
+    set_at (λ y. slot_room limit t y ≡ true) bodies k i x None
+    (λ same. keeps t (subst (λ j. slot_room limit t (get_or bodies j None) ≡ true) same h)) h) r
 
 -- a body changes in a slot that no pending wait names
 pub room_unnamed : (limit : ℕ) (bodies : List (Option Body)) (ws : List (Option Wait)) (k : ℕ) (x : Option Body)

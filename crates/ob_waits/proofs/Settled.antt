@@ -1,7 +1,7 @@
 -- A settled state stays settled while no body changes and no wait that is ready comes.
 use Rattle.std.proofs.Common.{◌≡◌, ℕ, List, [], ◌∷◌, ◌++◌, length, Option, Some, None, refl, ap, ◌∙◌, arith, get_or, set, Bool, true, false, inl, inr, map}
-use Rattle.std.proofs.lemmas.List.{length-set, length-map, get_or-map, get_or_past, get_or-set_same, get_or-set_other}
-use Rattle.std.proofs.lemmas.Bool.{cases_eq, cases_lt, false_from_ne_true}
+use Rattle.std.proofs.lemmas.List.{length-map, get_or-map, get_or_past}
+use Rattle.std.proofs.lemmas.Bool.{cases_lt, false_from_ne_true}
 use Rattle.ob_body.specs.declared.body.Body.{Body}
 use Rattle.pin_core.specs.declared.id.Id.{Id}
 use Rattle.ob_waits.specs.declared.wait.Mode.{Mode}
@@ -12,6 +12,7 @@ use Rattle.ob_waits.proofs.Settling.{IsLess, less_after, ready_less}
 use Rattle.ob_waits.proofs.Apart.{ready_named}
 use Rattle.ob_waits.proofs.Counted.{named_counts}
 use Rattle.ob_waits.proofs.AddedLaws.{by_number}
+use Rattle.ob_waits.proofs.Writes.{set_at}
 
 -- a wait that isn't ready comes
 pub settled_added : (bodies : List (Option Body)) (ws : List (Option Wait)) (t : ℕ) (mode : Mode) (ids : List Id)
@@ -51,14 +52,7 @@ settled_unnamed bodies ws k x unnamed s = record {
 pub settled_replaced : (bodies : List (Option Body)) (ws : List (Option Wait)) (n : ℕ) (x : Option Wait)
     → is_ready bodies x ≡ false → IsSettled bodies ws → IsSettled bodies (set ws n x)
 settled_replaced bodies ws n x unready s = record {
-  each = λ m. elim (cases_eq m n) [
-    | inl same ↦ elim (cases_lt n (length ws)) [
-      | inl lt ↦ ap (is_ready bodies) (ap (λ i. get_or (set ws n x) i None) same ∙ get_or-set_same ws n x None lt)
-          ∙ unready
-      | inr past ↦ ap (is_ready bodies) (get_or_past (set ws n x) m None (omega (arith, length-set ws n x)))
-    ]
-    | inr other ↦ ap (is_ready bodies) (get_or-set_other ws n m x None other) ∙ s.each m
-  ];
+  each = λ m. set_at (λ w. is_ready bodies w ≡ false) ws n m x None (λ _. unready) (s.each m);
 }
 
 pub settled_removed : (bodies : List (Option Body)) (ws : List (Option Wait)) (n : ℕ) → IsSettled bodies ws

@@ -2,7 +2,7 @@
 use Rattle.std.proofs.Common.{◌≡◌, ℕ, zero, suc, ◌+◌, ◌<◌, ◌≤◌, List, [], ◌∷◌, length, Option, Some, None, refl, ap, ◌∙◌, subst, arith, get_or, set, Bool, true, false, cond, inl, inr, ltb, eqb, ◌-◌}
 use Rattle.std.specs.Prelude.{count_by, sum_by}
 use Rattle.std.specs.List.{position_or_len, list_all}
-use Rattle.std.proofs.lemmas.List.{length-set, get_or_past, get_or-set_same, get_or-set_other}
+use Rattle.std.proofs.lemmas.List.{get_or_past, get_or-set_same, get_or-set_other}
 use Rattle.std.proofs.lemmas.Bool.{cases_eq, cases_lt, false_from_ne_true, le-ltb, lt-ltb}
 use Rattle.std.proofs.lemmas.Bool.Decides.{nat_tests}
 use Rattle.std.proofs.lemmas.List.Sums.{sum_by-set, count_by-le-length, get_or-le-sum_by, fails_before_first, passes_at_first, position_or_len_is}
@@ -17,6 +17,7 @@ use Rattle.ob_waits.specs.declared.wait.State.TheVariants.{Pending, Answered}
 use Rattle.ob_waits.specs.Objects.{Objects, slot_signaled, slot_room, slot_acquired, without_block, without_blocks}
 use Rattle.ob_waits.specs.Rules.{IsSettled, thread_of}
 use Rattle.ob_waits.specs.Waits.{nowhere, is_signaled, first_signaled, list_ready, state_ready, is_ready, first_ready, Scene, with_acquired, with_all_acquired, bodies_after, code_of, answered_wait, effect, effect_of, effect_at, settled_within, settled, ids_of, is_pending, state_ids, state_pending}
+use Rattle.ob_waits.proofs.Writes.{set_at}
 
 -- no object is signaled that was not, for any thread
 pub record IsLess (bodies after : List (Option Body)) : Type 0 where
@@ -31,23 +32,10 @@ less_slot u t (Some b) h = signaled_before u t b h
 
 less_one : (u : ℕ) (bodies : List (Option Body)) (i : Id) → IsLess bodies (with_acquired u bodies i)
 less_one u bodies i = record {
-  each = λ t id h. elim (cases_eq id.slot i.slot) [
-    | inl same ↦ elim (cases_lt i.slot (length bodies)) [
-      | inl lt ↦ rw same (less_slot u t (get_or bodies i.slot None)
-          (rw (same, get_or-set_same bodies i.slot (slot_acquired u (get_or bodies i.slot None)) None lt) at h))
-      | inr le ↦ absurd (beyond t id same le h)
-    ]
-    | inr other ↦ rw (get_or-set_other bodies i.slot id.slot (slot_acquired u (get_or bodies i.slot None)) None other)
-        at h
-  ];
+  each = λ t id. set_at (λ x. slot_signaled t x ≡ true → is_signaled t bodies id ≡ true) bodies i.slot id.slot
+      (slot_acquired u (get_or bodies i.slot None)) None
+      (λ same h. rw same (less_slot u t (get_or bodies i.slot None) h)) (λ h. h);
 }
-  where
-    beyond : (t : ℕ) (id : Id) → id.slot ≡ i.slot → length bodies ≤ i.slot
-        → is_signaled t (with_acquired u bodies i) id ≡ true → ⊥
-    beyond t id same le h =
-        let past : get_or (with_acquired u bodies i) id.slot None ≡ None =
-        get_or_past (with_acquired u bodies i) id.slot None (simp length-set (omega arith)) in
-        let none = ap (slot_signaled t) past in cc (none, h)
 
 less_all : (u : ℕ) (ids : List Id) (bodies : List (Option Body)) → IsLess bodies (with_all_acquired u bodies ids)
 less_all u [] bodies = record { each = λ t id h. h }
@@ -62,17 +50,8 @@ less_after All u bodies ids = less_all u ids bodies
 -- blocks that leave make nothing signaled
 less_none : (bodies : List (Option Body)) (k : ℕ) → IsLess bodies (set bodies k None)
 less_none bodies k = record {
-  each = λ t id h. elim (cases_eq id.slot k) [
-    | inl same ↦ elim (cases_lt k (length bodies)) [
-      | inl lt ↦ (let none : get_or (set bodies k None) id.slot None ≡ None =
-          ap (λ i. get_or (set bodies k None) i None) same ∙ get_or-set_same bodies k None None lt in
-          let unsignaled = ap (slot_signaled t) none in absurd (cc (unsignaled, h)))
-      | inr le ↦ (let past : get_or (set bodies k None) id.slot None ≡ None =
-          get_or_past (set bodies k None) id.slot None (simp length-set (omega arith)) in
-          let unsignaled = ap (slot_signaled t) past in absurd (cc (unsignaled, h)))
-    ]
-    | inr other ↦ rw (get_or-set_other bodies k id.slot None None other) at h
-  ];
+  each = λ t id. set_at (λ x. slot_signaled t x ≡ true → is_signaled t bodies id ≡ true) bodies k id.slot None None
+      (λ same h. absurd (cc (h))) (λ h. h);
 }
 
 pub less_if : (b : Bool) (bodies : List (Option Body)) (k : ℕ) → IsLess bodies (cond b (set bodies k None) bodies)
@@ -143,14 +122,9 @@ room_slot limit u t (Some b) other h = room_after_acquire limit u t b other h
 
 room_one : (limit u : ℕ) (bodies : List (Option Body)) (i : Id) → RoomKept limit u bodies (with_acquired u bodies i)
 room_one limit u bodies i = record {
-  room = λ t other k h. elim (cases_eq k i.slot) [
-    | inl same ↦ elim (cases_lt i.slot (length bodies)) [
-      | inl lt ↦ rw (same, get_or-set_same bodies i.slot (slot_acquired u (get_or bodies i.slot None)) None lt)
-          (room_slot limit u t (get_or bodies i.slot None) other (rw same at h))
-      | inr le ↦ ap (slot_room limit t) (get_or_past (with_acquired u bodies i) k None (simp length-set (omega arith)))
-    ]
-    | inr apart ↦ rw (get_or-set_other bodies i.slot k (slot_acquired u (get_or bodies i.slot None)) None apart) h
-  ];
+  room = λ t other k h. set_at (λ x. slot_room limit t x ≡ true) bodies i.slot k
+      (slot_acquired u (get_or bodies i.slot None)) None
+      (λ same. room_slot limit u t (get_or bodies i.slot None) other (rw same at h)) h;
 }
 
 room_all : (limit u : ℕ) (ids : List Id) (bodies : List (Option Body))
@@ -169,14 +143,7 @@ room_after limit All u bodies ids = room_all limit u ids bodies
 -- nor do blocks that leave take room
 room_none : (limit u : ℕ) (bodies : List (Option Body)) (i : ℕ) → RoomKept limit u bodies (set bodies i None)
 room_none limit u bodies i = record {
-  room = λ t other k h. elim (cases_eq k i) [
-    | inl same ↦ elim (cases_lt i (length bodies)) [
-      | inl lt ↦ ap (slot_room limit t) (ap (λ j. get_or (set bodies i None) j None) same
-          ∙ get_or-set_same bodies i None None lt)
-      | inr le ↦ ap (slot_room limit t) (get_or_past (set bodies i None) k None (simp length-set (omega arith)))
-    ]
-    | inr apart ↦ rw (get_or-set_other bodies i k None None apart) h
-  ];
+  room = λ t other k h. set_at (λ x. slot_room limit t x ≡ true) bodies i k None None (λ same. refl) h;
 }
 
 pub room_if : (limit u : ℕ) (b : Bool) (bodies : List (Option Body)) (i : ℕ)

@@ -1,9 +1,7 @@
 -- What settling leaves as it is: whose wait each is, the waits that stay pending, the forms of bodies, the owners that
 -- are no waiter.
-use Rattle.std.proofs.Common.{◌≡◌, ◌⊎◌, ℕ, ◌+◌, ◌-◌, List, [], ◌∷◌, length, Option, Some, None, refl, ap, ◌∙◌, sym, subst, arith, get_or, set, Bool, true, false, cond, inl, inr, eqb}
+use Rattle.std.proofs.Common.{◌≡◌, ◌⊎◌, ℕ, ◌+◌, ◌-◌, List, [], ◌∷◌, Option, Some, None, refl, ap, ◌∙◌, sym, subst, get_or, set, Bool, true, false, cond, inl, inr, eqb}
 use Rattle.std.specs.Prelude.{is_some}
-use Rattle.std.proofs.lemmas.List.{length-set, get_or_past, get_or-set_same, get_or-set_other}
-use Rattle.std.proofs.lemmas.Bool.{cases_eq, cases_lt}
 use Rattle.pin_core.specs.declared.id.Id.{Id}
 use Rattle.ob_body.specs.declared.body.Body.{Body}
 use Rattle.ob_body.specs.declared.body.Body.TheVariants.{Event, Mutex, Semaphore, Timer}
@@ -19,6 +17,7 @@ use Rattle.ob_waits.specs.Rules.{thread_of}
 use Rattle.ob_waits.specs.Waits.{nowhere, first_signaled, with_acquired, with_all_acquired, bodies_after, is_pending, Scene, effect_of, effect_at, settled}
 use Rattle.ob_waits.proofs.Settling.{settled_by_effects}
 use Rattle.ob_waits.proofs.Keeping.{Fade, fade_none, fade_both, effect_fades}
+use Rattle.ob_waits.proofs.Writes.{set_at}
 
 -- a slot has the body that it had, or one that a waiter took, or none
 pub record Stays (waits : List (Option Wait)) (old new : Option Body) : Type 0 where
@@ -89,17 +88,8 @@ AllStay ws bodies after = (k : ℕ) → Stays ws (get_or bodies k None) (get_or 
 
 all_set : (ws : List (Option Wait)) (bodies : List (Option Body)) (i : ℕ) (x : Option Body)
     → Stays ws (get_or bodies i None) x → AllStay ws bodies (set bodies i x)
-all_set ws bodies i x one k = elim (cases_eq k i) [
-  | inl same ↦ elim (cases_lt i (length bodies)) [
-    | inl lt ↦ subst (λ j. Stays ws (get_or bodies j None) (get_or (set bodies i x) j None)) (sym same)
-        (subst (λ y. Stays ws (get_or bodies i None) y) (sym (get_or-set_same bodies i x None lt)) one)
-    | inr past ↦ subst (λ y. Stays ws (get_or bodies k None) y)
-        (sym (get_or_past (set bodies i x) k None (omega (arith, length-set bodies i x))))
-        (stays_none ws (get_or bodies k None))
-  ]
-  | inr other ↦ subst (λ y. Stays ws (get_or bodies k None) y) (sym (get_or-set_other bodies i k x None other))
-      (stays_same ws (get_or bodies k None))
-]
+all_set ws bodies i x one k = set_at (Stays ws (get_or bodies k None)) bodies i k x None
+    (λ same. subst (λ j. Stays ws (get_or bodies j None) x) (sym same) one) (stays_same ws (get_or bodies k None))
 
 all_both : (ws : List (Option Wait)) (a b c : List (Option Body)) → AllStay ws a b → AllStay ws b c → AllStay ws a c
 all_both ws a b c x y k = stays_both ws ws (λ t h. h) (get_or a k None) (get_or b k None) (get_or c k None) (x k) (y k)

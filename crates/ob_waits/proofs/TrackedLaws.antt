@@ -1,10 +1,10 @@
 -- What the waits keep from call to call.
 use Rattle.std.proofs.Common.{◌≡◌, ℕ, zero, suc, ◌<◌, List, [], ◌∷◌, length, Option, Some, None, refl, ap, ◌∙◌, sym, subst, arith, get_or, set, Bool, true, false, cond, inl, inr, ltb}
 use Rattle.std.specs.List.{position_or_len}
-use Rattle.std.proofs.lemmas.List.{length-set, get_or_past, get_or-set_same, get_or-set_other}
+use Rattle.std.proofs.lemmas.List.{length-set, get_or_past}
 use Rattle.std.proofs.lemmas.List.Quantifiers.{position-Some}
 use Rattle.std.proofs.lemmas.List.Sums.{position_or_len_is, fails_before_first}
-use Rattle.std.proofs.lemmas.Bool.{cases_eq, cases_lt, false_from_ne_true, le-ltb, lt-ltb}
+use Rattle.std.proofs.lemmas.Bool.{cases_lt, false_from_ne_true, le-ltb, lt-ltb}
 use Rattle.std.proofs.lemmas.Bool.Decides.{nat_tests}
 use Rattle.ob_waits.specs.declared.wait.Wait.{Wait}
 use Rattle.ob_waits.specs.Rules.{thread_of, WaitWaitable}
@@ -13,6 +13,7 @@ use Rattle.ob_waits.specs.Waits.{is_pending, names_slot, is_waits_of, number_of,
 use Rattle.ob_waits.specs.Roster.{Roster, AreIndexed, Leaves, IsTracked}
 use Rattle.ob_waits.proofs.Keeping.{Fade, fade_one, kept_faded}
 use Rattle.ob_waits.proofs.RosterLaws.{right_left}
+use Rattle.ob_waits.proofs.Writes.{set_at}
 
 pub no_wait : (n : ℕ) → get_or {A = Option Wait} (None ∷ []) n None ≡ None
 no_wait zero = refl
@@ -134,9 +135,9 @@ fade_answered ws n code pending = by (get_or ws n None) refl pending
     by (Some w) is h = fade_one ws n code w is
 
 -- the wait of a thread goes
-lists_removed : (ws : List (Option Wait)) (n : ℕ) (order : List ℕ) (index : List (List ℕ)) → n < length ws
+lists_removed : (ws : List (Option Wait)) (n : ℕ) (order : List ℕ) (index : List (List ℕ))
     → AreIndexed ws order index → AreIndexed (set ws n None) order index
-lists_removed ws n order index lt a = record {
+lists_removed ws n order index a = record {
   order_rises = subst (λ m. IsOrdered m order) (sym (length-set ws n None)) a.order_rises;
   order_all = record { each = λ m h. a.order_all.each m (was is_pending m refl h) };
   index_rises = subst (λ m. AreOrdered m index) (sym (length-set ws n None)) a.index_rises;
@@ -145,52 +146,22 @@ lists_removed ws n order index lt a = record {
   where
     was : (p : Option Wait → Bool) (m : ℕ) → p None ≡ false → p (get_or (set ws n None) m None) ≡ true
         → p (get_or ws m None) ≡ true
-    was p m none h = elim (cases_eq m n) [
-      | inl same ↦ absurd (let e : p (get_or (set ws n None) m None) ≡ false =
-          ap p (ap (λ i. get_or (set ws n None) i None) same ∙ get_or-set_same ws n None None lt) ∙ none in cc (e, h))
-      | inr other ↦ subst (λ x. p x ≡ true) (get_or-set_other ws n m None None other) h
-    ]
-
-pub given_some : (ws : List (Option Wait)) (n t : ℕ) → get_or ws 0 None ≡ None → thread_of (get_or ws n None) ≡ Some t
-    → 0 < n
-given_some ws n t none own = elim (cases_eq n 0) [
-  | inl same ↦ absurd (let e : thread_of (get_or ws n None) ≡ None = ap (λ i. thread_of (get_or ws i None)) same
-      ∙ ap thread_of none in cc (e, own))
-  | inr other ↦ omega arith
-]
+    was p m none = set_at (λ x. p x ≡ true → p (get_or ws m None) ≡ true) ws n m None None
+        (λ _ h. absurd (cc (none, h))) (λ h. h)
 
 pub tracked_removed : (limit : ℕ) (ws : List (Option Wait)) (r : Roster) (n t : ℕ)
     → thread_of (get_or ws n None) ≡ Some t → IsTracked limit ws r → IsTracked limit (set ws n None) r
 tracked_removed limit ws r n t own k = record {
   limit_fits = k.limit_fits;
   few = let le = k.few in omega (arith, length-set ws n None);
-  zero_has_none = get_or-set_other ws n 0 None None (λ e. let some = given_some ws n t k.zero_has_none own in
-      omega arith) ∙ k.zero_has_none;
+  zero_has_none = set_at (λ w. w ≡ None) ws n 0 None None (λ _. refl) k.zero_has_none;
   kept = record {
-    each = λ m. elim (cases_eq m n) [
-      | inl same ↦ subst WaitWaitable (sym (gone m same)) tt
-      | inr other ↦ subst WaitWaitable (sym (get_or-set_other ws n m None None other)) (k.kept.each m)
-    ];
+    each = λ m. set_at WaitWaitable ws n m None None (λ _. tt) (k.kept.each m);
     one_each = λ i j u p q. k.kept.one_each i j u (was i u p) (was j u q);
   };
-  right = lists_removed ws n r.order r.index lt k.right;
+  right = lists_removed ws n r.order r.index k.right;
 }
   where
-    lt : n < length ws
-    lt = has_wait ws n t own
-
-    gone : (m : ℕ) → m ≡ n → get_or (set ws n None) m None ≡ None
-    gone m same = ap (λ i. get_or (set ws n None) i None) same ∙ get_or-set_same ws n None None lt
-
-    still : (m u : ℕ) → thread_of (get_or (set ws n None) m None) ≡ Some u → m ≡ n → ⊥
-    still m u p same = let e = ap thread_of (gone m same) in cc (e, p)
-
     was : (m u : ℕ) → thread_of (get_or (set ws n None) m None) ≡ Some u → thread_of (get_or ws m None) ≡ Some u
-    was m u p = subst (λ x. thread_of x ≡ Some u) (get_or-set_other ws n m None None (still m u p)) p
-
--- a number whose wait was taken away has none
-pub removed_none : (ws : List (Option Wait)) (n : ℕ) → get_or (set ws n None) n None ≡ None
-removed_none ws n = elim (cases_lt n (length ws)) [
-  | inl lt ↦ get_or-set_same ws n None None lt
-  | inr past ↦ get_or_past (set ws n None) n None (omega (arith, length-set ws n None))
-]
+    was m u = set_at (λ w. thread_of w ≡ Some u → thread_of (get_or ws m None) ≡ Some u) ws n m None None
+        (λ _ h. absurd (cc (h))) (λ h. h)

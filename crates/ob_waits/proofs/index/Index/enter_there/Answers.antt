@@ -17,8 +17,7 @@ enter-requires c =
 pub returns-clause-ordered : goal.returns-clause-ordered
 returns-clause-ordered c =
     let lists : List (List ℕ) = c.self.inside.lists.items in
-    let lt : c.args.slot < length lists = search rules in
-    lists_changed c.args.number lists c.args.slot c.enter.new.self lt c.enter.ensures.ordered
+    lists_changed c.args.number lists c.args.slot c.enter.new.self c.enter.ensures.ordered
     (subst (λ (rs : List (List ℕ)). AreOrdered c.args.number rs) (sym c.self.view_is) c.requires.ordered)
 
 pub returns-clause-keeps : goal.returns-clause-keeps
@@ -28,5 +27,5 @@ returns-clause-keeps c =
     let read : c.index_mut-numbers.result.now ≡ numbers_of lists c.args.slot =
     list_read lists c.args.slot c.index_mut-numbers.result.now c.index_mut-numbers.ensures.value lt in
     subst (λ (rs : List (List ℕ)). Keeps rs (set lists c.args.slot c.enter.new.self)) c.self.view_is
-    (keeps_changed lists c.args.slot c.enter.new.self lt (subst (λ (r : List ℕ). (j : ℕ) → Within j r
+    (keeps_changed lists c.args.slot c.enter.new.self (subst (λ (r : List ℕ). (j : ℕ) → Within j r
     → Within j c.enter.new.self) read c.enter.ensures.keeps))
