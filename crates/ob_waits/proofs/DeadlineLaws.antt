@@ -1,8 +1,7 @@
 -- Deadlines go on being ahead and listed while waits come, are answered and go, and the code finds those that are over.
-use Rattle.std.proofs.Common.{◌≡◌, ◌⊎◌, ℕ, zero, suc, ◌++◌, ◌∷◌, [], ◌<◌, ◌≤◌, List, length, Option, Some, None, refl, ap, ◌∙◌, sym, subst, arith, get_or, set, Bool, true, false, cond, inl, inr}
-use Rattle.std.specs.Prelude.{IfSome, count_by, is_some, map}
+use Rattle.std.proofs.Common.{◌≡◌, ◌⊎◌, ℕ, zero, suc, ◌++◌, ◌∷◌, [], ◌<◌, ◌≤◌, List, length, Option, Some, None, refl, ap, ◌∙◌, sym, subst, arith, get_or, set, Bool, true, false, inl, inr}
+use Rattle.std.specs.Prelude.{IfSome, is_some, map}
 use Rattle.std.proofs.lemmas.List.{length-map, get_or_past, get_or-set_same, get_or-set_other, get_or-map}
-use Rattle.std.proofs.lemmas.List.Sums.{sum_by-set}
 use Rattle.std.proofs.lemmas.Bool.{cases_eq, cases_lt}
 use Rattle.std.proofs.lemmas.Bool.Decides.{nat_tests}
 use Rattle.least_due.specs.Dues.{IsLeast, NotAfter}
@@ -132,27 +131,6 @@ timely_answered clock ws t code d dues alone timely =
     timely_came clock ws (record { thread = t; deadline = d; state = Answered code }) dues dues alone tt
     (λ u other. refl) (λ e due. absurd (cc)) timely
 
--- the clock goes on, where no wait's time is up
-undue_after : (now : ℕ) (d : Option ℕ) → is_due now d ≡ false → IsAfter now d
-undue_after now None h = tt
-undue_after now (Some due) h = grind (arith, nat_tests, h)
-
--- with each that is dropped one fewer is due
-fewer : (p : Option ℕ → Bool) (dues : List (Option ℕ)) (t : ℕ) → p None ≡ false → p (get_or dues t None) ≡ true
-    → count_by p (set dues t None) < count_by p dues
-fewer p dues t none due =
-    let f : Option ℕ → ℕ = λ x. cond (p x) 1 0 in
-    let a = sum_by-set f dues t None None within in
-    let one : f (get_or dues t None) ≡ 1 = ap {B = ℕ} (λ b. cond b 1 0) due in
-    let zero : f None ≡ 0 = ap {B = ℕ} (λ b. cond b 1 0) none in
-    omega (arith, a, one, zero)
-  where
-    within : t < length dues
-    within = elim (cases_lt t (length dues)) [
-      | inl lt ↦ lt
-      | inr past ↦ absurd (let e = ap p (get_or_past dues t None past) in cc (e, none, due))
-    ]
-
 -- where none that is listed is due, no wait is overdue
 pub none_overdue : (now : ℕ) (ws : List (Option Wait)) (dues : List (Option ℕ))
     → ((t : ℕ) → is_due now (get_or dues t None) ≡ false) → AreListed ws dues → (n : ℕ)
@@ -168,18 +146,7 @@ none_overdue now ws dues none listed n = by (get_or ws n None) refl
         due (Some d) is = ap (is_due now) (sym (listed.each n w.thread d (ap thread_of at) (ap deadline_of at ∙ is)))
             ∙ none w.thread
 
--- the least that is listed
-undue : (now : ℕ) (least x : Option ℕ) → is_due now least ≡ false
-    → ((moment : ℕ) → x ≡ Some moment → NotAfter least moment) → is_due now x ≡ false
-undue now least None none first = refl
-undue now None (Some moment) none first = absurd (first moment refl)
-undue now (Some least) (Some moment) none first = let before : least ≤ moment = first moment refl in
-    grind (arith, nat_tests, none, before)
-
-pub none_due : (now : ℕ) (dues : List (Option ℕ)) (least : Option ℕ) → IsLeast dues least → is_due now least ≡ false
-    → (k : ℕ) → is_due now (get_or dues k None) ≡ false
-none_due now dues least is none k = undue now least (get_or dues k None) none (λ moment at. is.first k moment at)
-
+-- what isn't after the least is due where the least is
 pub due_too : (now due : ℕ) (dues : List (Option ℕ)) (x : Option ℕ) → IsLeast dues (Some due) → due ≤ now
     → IsLeast dues x → is_due now x ≡ true
 due_too now due dues None is soon other = absurd (other.first is.stands.0 due is.stands.1)

@@ -19,9 +19,6 @@ pub no_wait : (n : ℕ) → get_or {A = Option Wait} (None ∷ []) n None ≡ No
 no_wait zero = refl
 no_wait (suc n) = refl
 
-no_list : (s : ℕ) → get_or {A = List ℕ} [] s [] ≡ []
-no_list s = refl
-
 -- at first nothing is there
 pub tracked_none : (limit : ℕ) → limit < 4294967296 → IsTracked limit (None ∷ []) (record { order = []; index = [] })
 tracked_none limit fits = record {
