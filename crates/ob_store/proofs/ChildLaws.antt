@@ -26,7 +26,7 @@ use Rattle.ob_store.proofs.CameLaws.{came_one}
 use Rattle.ob_store.proofs.CountedLaws.{handles_at, handles_long}
 use Rattle.ob_store.proofs.NamedLaws.{entry_counted}
 use Rattle.ob_store.proofs.ListingLaws.{listing_child}
-use Rattle.ob_store.proofs.KeptLaws.{whole_kept, handled, kept_process, processes_same}
+use Rattle.ob_store.proofs.KeptLaws.{handled, kept_process, processes_same}
 
 -- a place of a child's table has what its parent's has there
 inherited_at : (t : List (Option Entry)) (i : ℕ) → get_or (inherited t) i None ≡ inheritable (get_or t i None)
@@ -183,15 +183,12 @@ module _ (p : PartsState) (kept : IsKept p) (parent : ℕ) (w : Whole) (view : w
       } in
       subst (λ (o : ObjectsState). IsKept (with_child session o)) (sym (handles_stay child_table p.objects)) is
 
-  pub whole_child : (session : ℕ) → IsKept (with_child session
-      (with_handles_of p.objects (inherited (table_of p.tables.tables parent))))
-      → IsTied (with_handles_of p.objects (inherited (table_of p.tables.tables parent)))
-      → whole_of (with_child session (with_handles_of p.objects (inherited (table_of p.tables.tables parent))))
-      ≡ record (whole_of p) { state = settled (state.with_child (state_of p) parent session) }
-  whole_child session after tied =
-      let stays = handles_stay child_table p.objects in
-      whole_kept (with_child session (with_handles_of p.objects child_table)) after tied
-      ∙ ap {B = Whole} (λ (o : ObjectsState). record {
-        state = settled (state_of (with_child session o));
-        keeper = o.keeper;
-      }) stays
+  pub settled_child : (session : ℕ) → ◌≡◌ {A = Whole} (record {
+    state = settled
+        (state_of (with_child session (with_handles_of p.objects (inherited (table_of p.tables.tables parent)))));
+    keeper = (with_handles_of p.objects (inherited (table_of p.tables.tables parent))).keeper;
+  }) (record (whole_of p) { state = settled (state.with_child (state_of p) parent session) })
+  settled_child session = ap {B = Whole} (λ (o : ObjectsState). record {
+    state = settled (state_of (with_child session o));
+    keeper = o.keeper;
+  }) (handles_stay child_table p.objects)

@@ -16,9 +16,9 @@ use Rattle.ob_waits.proofs.Settling.{settled_same}
 use Rattle.ob_store.specs.Agreement.{IsTied}
 use Rattle.ob_store.specs.Kept.{AreFormed, AreOfLive, IsKept, IsNamed, IsSound, Yields}
 use Rattle.ob_store.specs.Objects.{ObjectsState, KeptRest, kept_rest}
-use Rattle.ob_store.specs.Parts.{PartsState, state_of}
+use Rattle.ob_store.specs.Parts.{PartsState, state_of, whole_of}
 use Rattle.ob_store.specs.Signaled.{SignaledState}
-use Rattle.ob_store.specs.State.{State, objects_of, settled, with_body, with_scene}
+use Rattle.ob_store.specs.State.{State, Whole, objects_of, settled, with_body, with_scene}
 use Rattle.ob_store.specs.UnderWay.{AreLeft, IsEnding, IsUnderWay}
 use Rattle.ob_store.proofs.AgreeLaws.{body_within}
 use Rattle.ob_store.proofs.BodyLaws.{formed_put, formed_settled, less_put, of_live_put, of_live_settled, room_put}
@@ -110,11 +110,17 @@ way_still first p s way quiet = way_state p p.objects p.waits way.sound
 
 -- a call changed a body
 module _ (p : PartsState) (q : ObjectsState) (id : Id) (old new : Body)
-    (kept : IsKept p)
-    (there : get_or p.objects.seen.bodies id.slot None ≡ Some old)
-    (yields : Yields p.waits.clock old new)
+    (kept : IsKept p) (w : Whole) (view : whole_of p ≡ w)
+    (bodied : get_or w.state.bodies id.slot None ≡ Some old)
+    (yielding : Yields w.state.clock old new)
     (put : q.seen ≡ record p.objects.seen { bodies = set p.objects.seen.bodies id.slot (Some new) })
     (rest : kept_rest q ≡ kept_rest p.objects) where
+  there : get_or p.objects.seen.bodies id.slot None ≡ Some old
+  there = subst (λ (v : Whole). get_or v.state.bodies id.slot None ≡ Some old) (sym view) bodied
+
+  yields : Yields p.waits.clock old new
+  yields = subst (λ (v : Whole). Yields v.state.clock old new) (sym view) yielding
+
   abbrev bodies : List (Option Body)
   bodies = set p.objects.seen.bodies id.slot (Some new)
 

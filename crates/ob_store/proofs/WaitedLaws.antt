@@ -1,6 +1,6 @@
 -- What is kept as a thread takes what it waits for, and as waits come, are answered and go.
 use Rattle.std.proofs.Common.{◌≡◌, ℕ, suc, ◌+◌, ◌<◌, ◌≤◌, List, [], ◌∷◌, ◌++◌, length, Option, Some, None, refl, ap, ◌∙◌, sym, subst, arith, get_or, set, Bool, true, false, cond, inl, inr}
-use Rattle.std.specs.Prelude.{IsSome, count_by}
+use Rattle.std.specs.Prelude.{count_by}
 use Rattle.std.specs.Option.{IfNone, OnSome}
 use Rattle.std.proofs.lemmas.List.{length-set, get_or_past, get_or-set_same, get_or-set_other}
 use Rattle.std.proofs.lemmas.List.Sums.{sum_by-cons}
@@ -37,7 +37,7 @@ use Rattle.ob_store.proofs.BodyLaws.{formed_by}
 use Rattle.ob_store.proofs.BySlot.{recounted, count_few}
 use Rattle.ob_store.proofs.CameLaws.{came_counts, came_long, came_stays}
 use Rattle.ob_store.proofs.CountedLaws.{blocks_at, blocks_long}
-use Rattle.ob_store.proofs.KeptLaws.{handled, settled_kept, sound_rested, state_rested}
+use Rattle.ob_store.proofs.KeptLaws.{settled_kept, sound_rested, state_rested}
 use Rattle.ob_store.proofs.NamedLaws.{named_fewer}
 use Rattle.ob_store.proofs.LeftLaws.{formed_left, left_blocks, less_gone, room_left_at}
 
@@ -122,31 +122,28 @@ module _ (p : PartsState) (q : ObjectsState) (t : ℕ) (mode : Mode) (ids : List
         (settled_now mode t p.objects.seen.bodies ids p.waits.waits kept.settled);
   }
 
-  taken_state : IsTied q → state_of (record p { objects = q }) ≡ settled (with_taken (state_of p) t mode ids)
-  taken_state tied = sym (settled_kept (record p { objects = q }) kept_taken tied)
-      ∙ ap settled (state_rested p p.processes q p.waits p.signaled rest
-      ∙ ap (λ (bs : List (Option Body)). record (state_of p) { bodies = bs }) bodies_are)
-
 -- where a thread's wait was satisfied it took, and else nothing changed
 module _ (p : PartsState) (q : ObjectsState) (t : ℕ) (mode : Mode) (ids : List Id)
-    (kept : IsKept p)
     (rest : kept_rest q ≡ kept_rest p.objects)
-    (alone : number_of t p.waits.waits ≡ None)
-    (live : IsLive p.processes.threads t)
     (seen : q.seen ≡ objects_now mode t p.objects.seen ids) where
   took : (code : ℕ) → Some code ≡ code_now mode t p.objects.seen.bodies ids
       → q.seen ≡ record p.objects.seen { bodies = bodies_after mode t p.objects.seen.bodies ids }
   took code is = seen ∙ taken_now mode t p.objects.seen ids (ready_now mode t p.objects.seen.bodies ids code is)
 
-  pub kept_now : (code : Option ℕ) → code ≡ code_now mode t p.objects.seen.bodies ids → IfNone code (q ≡ p.objects)
+  pub kept_now : IsKept p → number_of t p.waits.waits ≡ None → IsLive p.processes.threads t → (code : Option ℕ)
+      → code ≡ code_now mode t p.objects.seen.bodies ids → IfNone code (q ≡ p.objects)
       → IsKept (record p { objects = q })
-  kept_now None is same = subst (λ (z : ObjectsState). IsKept (record p { objects = z })) (sym same) kept
-  kept_now (Some code) is same = kept_taken p q t mode ids kept rest alone live (took code is)
+  kept_now kept alone live None is same = subst (λ (z : ObjectsState). IsKept (record p { objects = z })) (sym same)
+      kept
+  kept_now kept alone live (Some code) is same = kept_taken p q t mode ids kept rest alone live (took code is)
 
-  pub state_now : (code : Option ℕ) → code ≡ code_now mode t p.objects.seen.bodies ids → IsTied q
+  pub state_now : IsKept (record p { objects = q }) → IsTied q → (code : Option ℕ)
+      → code ≡ code_now mode t p.objects.seen.bodies ids
       → OnSome code (state_of (record p { objects = q }) ≡ settled (with_taken (state_of p) t mode ids))
-  state_now None is tied = tt
-  state_now (Some code) is tied = taken_state p q t mode ids kept rest alone live (took code is) tied
+  state_now after tied None is = tt
+  state_now after tied (Some code) is = sym (settled_kept (record p { objects = q }) after tied)
+      ∙ ap settled (state_rested p p.processes q p.waits p.signaled rest
+      ∙ ap (λ (o : Objects). record (state_of p) { bodies = o.bodies }) (took code is))
 
 -- what holds of each of some Ids holds of one that is among them
 among : (P : Id → Type 0) (ids : List Id) → ((i : ℕ) → i < length ids → P (get_or ids i nowhere)) → (id : Id)
@@ -159,24 +156,17 @@ among P (x ∷ ids) each id h = by (same_id id x) refl (among P ids (λ i lt. ea
     by false is rest = let zero_one : cond (same_id id x) 1 0 ≡ 0 = ap {B = ℕ} (λ b. cond b 1 0) is in
         rest (omega (arith, sum_by-cons (λ y. cond (same_id id y) 1 0) x ids, zero_one, h))
 
+-- the counts of blocks have room for one more wait
+pub few_blocks : (p : PartsState) → IsKept p → rules.IsKept p.waits.waits → length p.waits.waits ≤ 4294967296
+    → (k : ℕ) → get_or p.objects.seen.blocks k 0 + 64 ≤ 18446744073709551615
+few_blocks p kept each few k =
+    let all = slot_blocks-few k p.waits.waits each in
+    let most = count_few p.objects.seen.blocks (length p.objects.objects)
+    (λ i. slot_blocks i p.waits.waits) k kept.sound.counted.blocks in
+    omega (arith, few, most, all)
+
 -- a wait that isn't satisfied now became pending
-module _ (p : PartsState) (t : ℕ) (mode : Mode) (ids : List Id) (d : Option ℕ)
-    (kept : IsKept p)
-    (there : (i : ℕ) → i < length ids → 0 < handles_among (get_or ids i nowhere) p.tables.tables) where
-  -- its objects have bodies
-  pub listed_bodies : IsTied p.objects → (i : ℕ) → i < length ids
-      → IsSome (get_or p.objects.seen.bodies (get_or ids i nowhere).slot None)
-  listed_bodies tied i lt = handled p (get_or ids i nowhere) kept.sound tied (there i lt)
-
-  -- and the counts of blocks have room
-  pub few_blocks : rules.IsKept p.waits.waits → length p.waits.waits ≤ 4294967296 → (k : ℕ)
-      → get_or p.objects.seen.blocks k 0 + 64 ≤ 18446744073709551615
-  few_blocks each few k =
-      let all = slot_blocks-few k p.waits.waits each in
-      let most = count_few p.objects.seen.blocks (length p.objects.objects)
-      (λ i. slot_blocks i p.waits.waits) k kept.sound.counted.blocks in
-      omega (arith, few, most, all)
-
+module _ (p : PartsState) (t : ℕ) (mode : Mode) (ids : List Id) (d : Option ℕ) where
   abbrev more : WaitList
   more = waits.with_wait p.waits t mode ids d
 
@@ -189,49 +179,6 @@ module _ (p : PartsState) (t : ℕ) (mode : Mode) (ids : List Id) (d : Option �
   }
   came = came_stays ids p.objects
 
-  counted_after : IsCounted (record p.objects.seen { blocks = (with_blocks_of p.objects ids).seen.blocks })
-      (length p.objects.objects) p.tables.tables (waits.with_wait p.waits t mode ids d).waits
-  counted_after = record {
-    handles = kept.sound.counted.handles;
-    blocks = recounted p.objects.seen.blocks (with_blocks_of p.objects ids).seen.blocks (length p.objects.objects)
-        (λ k. slot_blocks k p.waits.waits) (λ k. slot_blocks k more.waits) kept.sound.counted.blocks
-        (came_long ids p.objects)
-        (λ k lt.
-        let at = blocks_at p.objects.seen (length p.objects.objects) p.tables.tables p.waits.waits kept.sound.counted k
-        lt in
-        let long = blocks_long p.objects.seen (length p.objects.objects) p.tables.tables p.waits.waits
-        kept.sound.counted in
-        let x = came_counts ids p.objects k (omega (arith, long, lt)) in
-        let y = slot_added k p.waits.waits t mode ids d in
-        omega (arith, at, x, y));
-  }
-
-  named_after : IsNamed p.objects.objects p.tables.tables (waits.with_wait p.waits t mode ids d).waits
-  named_after = record {
-    entries = kept.sound.named.entries;
-    blocks = λ id h. elim (cases_lt 0 (count_by (same_id id) ids)) [
-      | inl some ↦ kept.sound.named.entries id (among
-          (λ (x : Id). 0 < handles_among x p.tables.tables) ids there id some)
-      | inr none ↦ (let x = blocks_added id p.waits.waits t mode ids d in
-          kept.sound.named.blocks id (omega (arith, x, h, none)))
-    ];
-  }
-
-  pub kept_waiting : HasRoom p.limits.max_recursion t p.objects.seen.bodies ids → IsLive p.processes.threads t
-      → list_ready mode t p.objects.seen.bodies ids ≡ false → IsKept waiting
-  kept_waiting room live unready = subst (λ (z : ObjectsState). IsKept (record p { objects = z; waits = more }))
-      (sym came) (record {
-        sound = sound_rested p p.processes (record p.objects {
-          seen =
-              record p.objects.seen { blocks = (with_blocks_of p.objects ids).seen.blocks };
-        }) more p.signaled refl kept.sound
-            refl kept.sound.processes_kept counted_after named_after kept.sound.formed
-            (of_live_waiting p.processes.threads p.objects.seen.bodies p.waits.waits t mode ids d live
-            kept.sound.of_live)
-            (room_added p.limits.max_recursion p.objects.seen.bodies p.waits.waits t mode ids d room kept.sound.room);
-        settled = settled_added p.objects.seen.bodies p.waits.waits t mode ids d unready kept.settled;
-      })
-
   pub whole_waiting : IsKept waiting → IsTied (with_blocks_of p.objects ids)
       → whole_of waiting ≡ record (whole_of p) { state = settled (with_wait (state_of p) t mode ids d) }
   whole_waiting after tied =
@@ -239,6 +186,51 @@ module _ (p : PartsState) (t : ℕ) (mode : Mode) (ids : List Id) (d : Option �
       ap (λ (z : ObjectsState). state_of (record p { objects = z; waits = more })) came in
       let is = sym (settled_kept waiting after tied) ∙ ap settled same in
       λ i. record { state = is i; keeper = (came i).keeper }
+
+  module _ (kept : IsKept p)
+      (there : (i : ℕ) → i < length ids → 0 < handles_among (get_or ids i nowhere) p.tables.tables) where
+    counted_after : IsCounted (record p.objects.seen { blocks = (with_blocks_of p.objects ids).seen.blocks })
+        (length p.objects.objects) p.tables.tables (waits.with_wait p.waits t mode ids d).waits
+    counted_after = record {
+      handles = kept.sound.counted.handles;
+      blocks = recounted p.objects.seen.blocks (with_blocks_of p.objects ids).seen.blocks (length p.objects.objects)
+          (λ k. slot_blocks k p.waits.waits) (λ k. slot_blocks k more.waits) kept.sound.counted.blocks
+          (came_long ids p.objects)
+          (λ k lt.
+          let at = blocks_at p.objects.seen (length p.objects.objects) p.tables.tables p.waits.waits kept.sound.counted k
+          lt in
+          let long = blocks_long p.objects.seen (length p.objects.objects) p.tables.tables p.waits.waits
+          kept.sound.counted in
+          let x = came_counts ids p.objects k (omega (arith, long, lt)) in
+          let y = slot_added k p.waits.waits t mode ids d in
+          omega (arith, at, x, y));
+    }
+
+    named_after : IsNamed p.objects.objects p.tables.tables (waits.with_wait p.waits t mode ids d).waits
+    named_after = record {
+      entries = kept.sound.named.entries;
+      blocks = λ id h. elim (cases_lt 0 (count_by (same_id id) ids)) [
+        | inl some ↦ kept.sound.named.entries id (among
+            (λ (x : Id). 0 < handles_among x p.tables.tables) ids there id some)
+        | inr none ↦ (let x = blocks_added id p.waits.waits t mode ids d in
+            kept.sound.named.blocks id (omega (arith, x, h, none)))
+      ];
+    }
+
+    pub kept_waiting : HasRoom p.limits.max_recursion t p.objects.seen.bodies ids → IsLive p.processes.threads t
+        → list_ready mode t p.objects.seen.bodies ids ≡ false → IsKept waiting
+    kept_waiting room live unready = subst (λ (z : ObjectsState). IsKept (record p { objects = z; waits = more }))
+        (sym came) (record {
+          sound = sound_rested p p.processes (record p.objects {
+            seen =
+                record p.objects.seen { blocks = (with_blocks_of p.objects ids).seen.blocks };
+          }) more p.signaled refl kept.sound
+              refl kept.sound.processes_kept counted_after named_after kept.sound.formed
+              (of_live_waiting p.processes.threads p.objects.seen.bodies p.waits.waits t mode ids d live
+              kept.sound.of_live)
+              (room_added p.limits.max_recursion p.objects.seen.bodies p.waits.waits t mode ids d room kept.sound.room);
+          settled = settled_added p.objects.seen.bodies p.waits.waits t mode ids d unready kept.settled;
+        })
 
 answered_thread : (w : Option Wait) (code u : ℕ) → thread_of (answered w code) ≡ Some u → thread_of w ≡ Some u
 answered_thread None code u h = h

@@ -1,11 +1,11 @@
-use Rattle.std.proofs.Common.{◌≡◌, ◌∙◌, ap, subst, length}
+use Rattle.std.proofs.Common.{◌≡◌, ◌∙◌, ap, length}
 use Rattle.ob_tables.specs.Inheritance.{inherited}
 use Rattle.ob_tables.specs.Tables.{table_of}
-use Rattle.ob_store.specs.Agreement.{IsTied}
 use Rattle.ob_store.specs.Objects.{with_handles_of}
 use Rattle.ob_store.specs.Parts.{parts_of}
 use Rattle.ob_store.specs.State.{Whole, settled, with_child}
-use Rattle.ob_store.proofs.ChildLaws.{child_read, kept_child, whole_child, inherited_live, inherited_few}
+use Rattle.ob_store.proofs.ChildLaws.{child_read, kept_child, settled_child, inherited_live, inherited_few}
+use Rattle.ob_store.proofs.KeptLaws.{whole_kept}
 use Rattle.ob_store.proofs.ThreadListLaws.{newest}
 use Rattle.ob_store.proofs.store.Store.add_child.Goals as goal
 
@@ -36,11 +36,13 @@ returns-in-Ok-clause-ok g c =
     let came : c.handles_came.new.self ≡ with_handles_of p.objects (inherited (table_of p.tables.tables c.args.parent))
     = c.handles_came.ensures ∙ ap (with_handles_of p.objects) (child_read p c.self.invariant c.args.parent _
     c.self.view_is c.requires.parent _ _ _ c.entries.ensures.places c.in-Ok.ensures.number c.in-Ok.ensures.ok) in
-    rw (c.in_ok-add_process.ensures.ok, c.in-Ok.ensures.ok, came)
-    (whole_child p c.self.invariant c.args.parent _ c.self.view_is c.requires.parent c.args.session
-    (kept_child p c.self.invariant c.args.parent _ c.self.view_is c.requires.parent c.args.session
-    c.requires.processes c.requires.threads)
-    (subst IsTied came c.kept-in-Ok.ensures))
+    whole_kept (record p {
+      processes = c.add_process.new.self;
+      tables = c.copy_inheritable.new.self;
+      objects = c.handles_came.new.self;
+    }) (invariant_of-self-in-Ok g c) c.kept-in-Ok.ensures
+    ∙ rw (c.in_ok-add_process.ensures.ok, c.in-Ok.ensures.ok, came)
+    (settled_child p c.self.invariant c.args.parent _ c.self.view_is c.requires.parent c.args.session)
     ∙ ap (λ (w : Whole). record w { state = settled (with_child w.state c.args.parent c.args.session) }) c.self.view_is
 
 pub take_back-requires : goal.take_back-requires

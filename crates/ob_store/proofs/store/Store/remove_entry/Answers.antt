@@ -54,12 +54,7 @@ returns g c =
     c.handle_left.ensures c.look.ensures.object c.look.ensures.handles c.leave_directory.ensures c.kept-2.ensures
     s.objects.keeper _ (way_begins (parts_of s) c.self.invariant.sound c.kept.ensures) in
     record {
-      state = rw c.remove.ensures.after (way_still s.objects.keeper _ _ way
-          (settled_less s.objects.seen.bodies c.handle_left.new.self.seen.bodies s.waits.waits
-          (less_gone s.objects.seen.bodies c.handle_left.new.self.seen.bodies
-          (subst (λ (o : ObjectsState). AreLeft s.objects.seen.bodies o.seen.bodies) (sym c.handle_left.ensures)
-          (bodies_left (parts_of s) c.args.process c.args.handle c.args.entry c.self.invariant.sound c.kept.ensures
-          found))) c.self.invariant.settled)) ∙ ap
-          (λ (w : Whole). settled (without_entry w.state c.args.process c.args.handle)) c.self.view_is;
+      state = rw c.remove.ensures.after (way_still s.objects.keeper _ _ way (invariant_of-self g c).settled)
+          ∙ ap (λ (w : Whole). settled (without_entry w.state c.args.process c.args.handle)) c.self.view_is;
       keeper = way.keeper ∙ ap (λ (w : Whole). opened w.keeper) c.self.view_is;
     }

@@ -10,25 +10,18 @@ use Rattle.ob_store.proofs.store.Store.take_now.Goals as goal
 
 pub invariant_of-self : goal.invariant_of-self
 invariant_of-self g c =
-    let s = c.self.inside.parts in
-    let alone : number_of c.args.thread s.waits.waits ≡ None =
-    subst (λ (w : Whole). number_of c.args.thread w.state.waits ≡ None) (sym c.self.view_is) c.requires.alone in
-    let live : IsLive s.processes.threads c.args.thread =
-    subst (λ (w : Whole). IsLive w.state.threads c.args.thread) (sym c.self.view_is) c.requires.live in
-    kept_now (parts_of s) c.try_now-code.new.bodies c.args.thread c.args.mode c.args.ids.now c.self.invariant
-    c.try_now-code.ensures.rest alone live c.try_now-code.ensures.objects
+    kept_now (parts_of c.self.inside.parts) c.try_now-code.new.bodies c.args.thread c.args.mode c.args.ids.now
+    c.try_now-code.ensures.rest c.try_now-code.ensures.objects c.self.invariant
+    (subst (λ (w : Whole). number_of c.args.thread w.state.waits ≡ None) (sym c.self.view_is) c.requires.alone)
+    (subst (λ (w : Whole). IsLive w.state.threads c.args.thread) (sym c.self.view_is) c.requires.live)
     c.try_now-code.result c.try_now-code.ensures.code c.try_now-code.ensures.unready
 
 pub returns-clause-some : goal.returns-clause-some
 returns-clause-some g c =
-    let s = c.self.inside.parts in
-    let alone : number_of c.args.thread s.waits.waits ≡ None =
-    subst (λ (w : Whole). number_of c.args.thread w.state.waits ≡ None) (sym c.self.view_is) c.requires.alone in
-    let live : IsLive s.processes.threads c.args.thread =
-    subst (λ (w : Whole). IsLive w.state.threads c.args.thread) (sym c.self.view_is) c.requires.live in
+    let p = parts_of c.self.inside.parts in
     subst (λ (w : Whole). OnSome c.try_now-code.result
-    (state_of (record (parts_of s) { objects = c.try_now-code.new.bodies })
+    (state_of (record p { objects = c.try_now-code.new.bodies })
     ≡ settled (with_taken w.state c.args.thread c.args.mode c.args.ids.now))) c.self.view_is
-    (state_now (parts_of s) c.try_now-code.new.bodies c.args.thread c.args.mode c.args.ids.now c.self.invariant
-    c.try_now-code.ensures.rest alone live c.try_now-code.ensures.objects
-    c.try_now-code.result c.try_now-code.ensures.code c.kept-2.ensures)
+    (state_now p c.try_now-code.new.bodies c.args.thread c.args.mode c.args.ids.now c.try_now-code.ensures.rest
+    c.try_now-code.ensures.objects (invariant_of-self g c) c.kept-2.ensures c.try_now-code.result
+    c.try_now-code.ensures.code)
