@@ -19,8 +19,8 @@ use Rattle.ob_waits.specs.Rules.{IsSettled, WaitsHaveRoom}
 use Rattle.ob_waits.specs.Waits.{blocks_among}
 use Rattle.ob_store.specs.Objects.{Object, ObjectsState, places_in, with_keeper, without_seat}
 use Rattle.ob_store.specs.Agreement.{IsTied, Reclaimed}
-use Rattle.ob_store.specs.Parts.{PartsState, state_of}
-use Rattle.ob_store.specs.State.{generation_of, freed, given_up}
+use Rattle.ob_store.specs.Parts.{PartsState, state_of, whole_of}
+use Rattle.ob_store.specs.State.{Whole, generation_of, freed, given_up}
 use Rattle.ob_store.specs.Moves.{after_reclaim}
 use Rattle.ob_store.specs.Kept.{IsKept, IsCounted, IsNamed, AreFormed, AreOfLive}
 use Rattle.ob_store.proofs.AgreeLaws.{slot_at}
@@ -59,13 +59,17 @@ formed_fewer clock objects bodies k f = record {
 }
 
 module _ (p : PartsState) (kept : IsKept p) (tied : IsTied p.objects)
-    (k : ℕ) (there : is_some (get_or p.objects.objects k None) ≡ true)
-    (ended : get_or p.objects.seen.bodies k None ≡ None) where
+    (k : ℕ) (w : Whole) (view : whole_of p ≡ w) (there : is_some (get_or w.state.objects k None) ≡ true)
+    (bodiless : get_or w.state.bodies k None ≡ None) where
   abbrev o : ObjectsState
   o = p.objects
 
+  ended : get_or p.objects.seen.bodies k None ≡ None
+  ended = subst (λ (v : Whole). get_or v.state.bodies k None ≡ None) (sym view) bodiless
+
   is_object : (q : Object) × (get_or p.objects.objects k None ≡ Some q)
-  is_object = found (get_or o.objects k None) there
+  is_object = found (get_or o.objects k None)
+      (subst (λ (v : Whole). is_some (get_or v.state.objects k None) ≡ true) (sym view) there)
 
   abbrev object : Object
   object = is_object.0

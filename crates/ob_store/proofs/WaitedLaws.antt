@@ -197,8 +197,8 @@ module _ (p : PartsState) (t : ℕ) (mode : Mode) (ids : List Id) (d : Option �
           (λ k. slot_blocks k p.waits.waits) (λ k. slot_blocks k more.waits) kept.sound.counted.blocks
           (came_long ids p.objects)
           (λ k lt.
-          let at = blocks_at p.objects.seen (length p.objects.objects) p.tables.tables p.waits.waits kept.sound.counted k
-          lt in
+          let at = blocks_at p.objects.seen (length p.objects.objects) p.tables.tables p.waits.waits
+          kept.sound.counted k lt in
           let long = blocks_long p.objects.seen (length p.objects.objects) p.tables.tables p.waits.waits
           kept.sound.counted in
           let x = came_counts ids p.objects k (omega (arith, long, lt)) in

@@ -11,7 +11,8 @@ settle_after-requires g c =
     let s = c.self.inside.parts in
     record {
       sound = (way_put (parts_of s) c.put.new.self c.args.id c.args.old c.args.new c.self.invariant _
-          c.self.view_is c.requires.bodied c.requires.yields c.put.ensures.objects c.put.ensures.rest c.kept-2.ensures).sound;
+          c.self.view_is c.requires.bodied c.requires.yields c.put.ensures.objects c.put.ensures.rest
+          c.kept-2.ensures).sound;
       ready = ready (parts_of s) c.put.new.self c.args.id c.args.old c.args.new c.self.invariant _
           c.self.view_is c.requires.bodied c.requires.yields c.put.ensures.objects c.put.ensures.rest;
     }
@@ -20,7 +21,8 @@ pub returns : goal.returns
 returns g c =
     let s = c.self.inside.parts in
     let way = way_put (parts_of s) c.put.new.self c.args.id c.args.old c.args.new c.self.invariant _
-    c.self.view_is c.requires.bodied c.requires.yields c.put.ensures.objects c.put.ensures.rest c.kept-2.ensures in
+    c.self.view_is c.requires.bodied c.requires.yields c.put.ensures.objects c.put.ensures.rest
+    c.kept-2.ensures in
     record {
       state = c.settle_after.ensures.state s.objects.keeper _ way
           ∙ ap (λ (w : Whole). settled (with_body w.state c.args.id c.args.new)) c.self.view_is;
@@ -32,7 +34,8 @@ invariant_of-self g c =
     let s = c.self.inside.parts in
     record {
       sound = (way_put (parts_of s) c.put.new.self c.args.id c.args.old c.args.new c.self.invariant _
-          c.self.view_is c.requires.bodied c.requires.yields c.put.ensures.objects c.put.ensures.rest c.kept-2.ensures).sound;
+          c.self.view_is c.requires.bodied c.requires.yields c.put.ensures.objects c.put.ensures.rest
+          c.kept-2.ensures).sound;
       settled = settled_unblocked (parts_of s) c.put.new.self c.args.id c.args.old c.args.new c.self.invariant _
           c.self.view_is c.requires.bodied c.requires.yields c.put.ensures.objects c.put.ensures.rest c.kept.ensures
           (sym c.blocks-blocks.ensures ∙ grind (arith, nat_tests, c.if-blocks-eq0.true));
@@ -41,7 +44,8 @@ invariant_of-self g c =
 pub returns-then-blocks-eq0-clause-state : goal.returns-then-blocks-eq0-clause-state
 returns-then-blocks-eq0-clause-state g c =
     let s = c.self.inside.parts in
-    way_still s.objects.keeper _ _ (way_put (parts_of s) c.put.new.self c.args.id c.args.old c.args.new c.self.invariant _
-    c.self.view_is c.requires.bodied c.requires.yields c.put.ensures.objects c.put.ensures.rest c.kept-2.ensures)
+    way_still s.objects.keeper _ _ (way_put (parts_of s) c.put.new.self c.args.id c.args.old c.args.new
+    c.self.invariant _ c.self.view_is c.requires.bodied c.requires.yields c.put.ensures.objects c.put.ensures.rest
+    c.kept-2.ensures)
     (invariant_of-self g c).settled
     ∙ ap (λ (w : Whole). settled (with_body w.state c.args.id c.args.new)) c.self.view_is

@@ -9,7 +9,8 @@ invariant_of-self g c =
     let s = c.self.inside.parts in
     record {
       sound = (way_put (parts_of s) c.put.new.self c.args.id c.args.old c.args.new c.self.invariant _
-          c.self.view_is c.requires.bodied c.requires.yields c.put.ensures.objects c.put.ensures.rest c.kept-2.ensures).sound;
+          c.self.view_is c.requires.bodied c.requires.yields c.put.ensures.objects c.put.ensures.rest
+          c.kept-2.ensures).sound;
       settled = settled_put_less (parts_of s) c.put.new.self c.args.id c.args.old c.args.new c.self.invariant _
           c.self.view_is c.requires.bodied c.requires.yields c.put.ensures.objects c.put.ensures.rest c.requires.less;
     }
@@ -17,7 +18,8 @@ invariant_of-self g c =
 pub returns-clause-state : goal.returns-clause-state
 returns-clause-state g c =
     let s = c.self.inside.parts in
-    way_still s.objects.keeper _ _ (way_put (parts_of s) c.put.new.self c.args.id c.args.old c.args.new c.self.invariant _
-    c.self.view_is c.requires.bodied c.requires.yields c.put.ensures.objects c.put.ensures.rest c.kept-2.ensures)
+    way_still s.objects.keeper _ _ (way_put (parts_of s) c.put.new.self c.args.id c.args.old c.args.new
+    c.self.invariant _ c.self.view_is c.requires.bodied c.requires.yields c.put.ensures.objects c.put.ensures.rest
+    c.kept-2.ensures)
     (invariant_of-self g c).settled
     ∙ ap (λ (w : Whole). settled (with_body w.state c.args.id c.args.new)) c.self.view_is
