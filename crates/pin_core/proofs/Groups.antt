@@ -1,5 +1,6 @@
 -- A set of triples, and the lists in which it is kept slot by slot.
 use Rattle.std.proofs.Common.{◌≡◌, ◌≢◌, ℕ, ◌+◌, ◌<◌, ◌≤◌, nat_lt, Bool, true, false, cond, List, [], ◌∷◌, ◌++◌, length, get_or, set, zero, suc, sym, refl, ap, ◌∙◌, subst, arith, append_assoc, length-set}
+use Rattle.std.proofs.lemmas.Bool.{le-ltb, lt-ltb}
 use Rattle.std.specs.Prelude.{Vec}
 use Rattle.std.specs.Global.{Global}
 use Rattle.std.proofs.lemmas.Grind.{common_steps}
@@ -88,12 +89,6 @@ AllAt-drop_first s p (h ∷ hs) here = cases (p h) (AllAt-drop_first s p hs here
     cases true ih = here.1
     cases false ih = (here.0, ih)
 
-lt_true : (a b : ℕ) → a < b → nat_lt a b ≡ true
-lt_true a b h = grind (arith, common_steps)
-
-lt_false : (a b : ℕ) → b ≤ a → nat_lt a b ≡ false
-lt_false a b h = grind (arith, common_steps)
-
 -- a triple goes before the lists of later slots
 with_hold-before : (n : ℕ) (t : Hold) (vs : List Group) → AreGrouped n vs → t.id.slot < n
     → with_hold t (all_of vs) ≡ t ∷ all_of vs
@@ -104,7 +99,7 @@ with_hold-before n t (v ∷ vs) g lt = cases v.items g.0 (with_hold-before (n + 
         → with_hold t (hs ++ all_of vs) ≡ t ∷ (hs ++ all_of vs)
     cases [] here ih = ih
     cases (h ∷ hs) here ih = let e : nat_lt t.id.slot h.id.slot ≡ true =
-        lt_true t.id.slot h.id.slot (let f = here.0 in omega arith) in
+        lt-ltb t.id.slot h.id.slot (let f = here.0 in omega arith) in
         ap (λ (b : Bool). cond b (t ∷ h ∷ (hs ++ all_of vs)) (h ∷ with_hold t (hs ++ all_of vs))) e
 
 -- and after the list of a slot that isn't later
@@ -112,7 +107,7 @@ with_hold-behind : (n : ℕ) (t : Hold) (hs ys : List Hold) → AllAt n hs → n
     → with_hold t (hs ++ ys) ≡ hs ++ with_hold t ys
 with_hold-behind n t [] ys here le = refl
 with_hold-behind n t (h ∷ hs) ys here le = let e : nat_lt t.id.slot h.id.slot ≡ false =
-    lt_false t.id.slot h.id.slot (let f = here.0 in omega arith) in
+    le-ltb t.id.slot h.id.slot (let f = here.0 in omega arith) in
     ap (λ (b : Bool). cond b (t ∷ h ∷ (hs ++ ys)) (h ∷ with_hold t (hs ++ ys))) e
     ∙ ap (λ (z : List Hold). h ∷ z) (with_hold-behind n t hs ys here.1 le)
 

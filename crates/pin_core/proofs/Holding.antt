@@ -1,5 +1,6 @@
 -- A hold more or less keeps the world safe.
 use Rattle.std.proofs.Common.{◌-◌, ◌≡◌, ℕ, ◌+◌, ◌<◌, ◌≤◌, ◌==◌, ◌&&◌, nat_lt, nat_le, Bool, true, false, sym, refl, ap, ◌∙◌, subst, arith}
+use Rattle.std.proofs.lemmas.Bool.{eqb-true}
 use Rattle.std.proofs.lemmas.Grind.{common_steps}
 use Rattle.pin_core.specs.declared.word.Word.{Word}
 use Rattle.pin_core.specs.declared.id.Id.{Id}
@@ -11,7 +12,7 @@ use Rattle.pin_core.specs.Worlds.{WorldState, at, id_at, pins, copies, times, la
 use Rattle.pin_core.specs.Events.{after}
 use Rattle.pin_core.specs.Safety.{may_be_held, IsSafe}
 use Rattle.pin_core.proofs.Counts.{count-with_hold, count-drop-le, count-drop}
-use Rattle.pin_core.proofs.Moves.{eq_of, same_of_test}
+use Rattle.pin_core.proofs.Moves.{same_of_test}
 
 abbrev IsHeld : WorldState → Id → Type 0
 IsHeld w id = (id.slot < w.shape.slots) × ((at w id.slot).generation ≡ id.generation)
@@ -88,7 +89,7 @@ pin-safe w r s e safe inside live room = record {
     room_more : (x : ℕ) (b : Bool) → (s == x) ≡ b →
         tally (sits_at x) (with_hold (next_copy w r s) w.holders) ≤ w.shape.max_pins
     room_more x true e = let c = count-with_hold (sits_at x) (next_copy w r s) w.holders in
-        let one : weight (s == x) ≡ 1 = ap weight e in let same : s ≡ x = eq_of s x e in
+        let one : weight (s == x) ≡ 1 = ap weight e in let same : s ≡ x = eqb-true s x e in
         let lt : pins w x < w.shape.max_pins = subst (λ (z : ℕ). pins w z < w.shape.max_pins) same room in omega arith
     room_more x false e = let c = count-with_hold (sits_at x) (next_copy w r s) w.holders in
         let zero : weight (s == x) ≡ 0 = ap weight e in let o = safe.room x in omega arith

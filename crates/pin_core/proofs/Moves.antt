@@ -1,5 +1,6 @@
 -- Each event on one slot keeps the world safe.
 use Rattle.std.proofs.Common.{◌≡◌, ◌≢◌, ℕ, ◌+◌, ◌<◌, ◌≤◌, ◌==◌, ◌&&◌, nat_lt, Bool, true, false, cond, List, [], ◌∷◌, ◌++◌, length, set, length-set, get_or-set_same, get_or-set_other, Option, None, sym, refl, ap, ◌∙◌, subst, arith}
+use Rattle.std.proofs.lemmas.Bool.{ltb-true}
 use Rattle.std.proofs.lemmas.Grind.{common_steps}
 use native.Mathlib.Decide.{ℕ_discrete}
 use mathlib.Core.Logic.{dite}
@@ -20,15 +21,6 @@ use Rattle.pin_core.proofs.Counts.{count-snoc, count-le}
 pub passed : (b : Bool) (r : Reason) (next : Option Reason) → check b r next ≡ None → (b ≡ true) × (next ≡ None)
 passed true r next e = (refl, e)
 passed false r next e = cc
-
-pub below_of : (a b : ℕ) → nat_lt a b ≡ true → a < b
-below_of a b e = grind (arith, common_steps)
-
-pub eq_of : (a b : ℕ) → (a == b) ≡ true → a ≡ b
-eq_of a b e = grind (arith, common_steps)
-
-pub zero_of : (n : ℕ) → (n == 0) ≡ true → n ≡ 0
-zero_of n e = grind (arith, common_steps)
 
 pub phase_of_test : (p q : Phase) → is_phase p q ≡ true → p ≡ q
 phase_of_test p q e = grind (arith, common_steps)
@@ -163,7 +155,7 @@ pub reclaim-safe : (w : WorldState) (s : ℕ) → IsSafe w → s < w.shape.slots
       phase = Free;
       descr = (at w s).descr;
     } (in_phase (at w s) Retired)))
-reclaim-safe w s safe inside closing none true e = let lt = below_of (at w s).generation w.shape.max_gen e in
+reclaim-safe w s safe inside closing none true e = let lt = ltb-true (at w s).generation w.shape.max_gen e in
     moved-safe w s record {
       generation = (at w s).generation + 1;
       phase = Free;

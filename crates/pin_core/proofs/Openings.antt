@@ -1,5 +1,6 @@
 -- A world that begins with given slots is safe.
 use Rattle.std.proofs.Common.{◌≡◌, ◌≢◌, ℕ, ◌+◌, ◌<◌, ◌≤◌, ◌==◌, ◌&&◌, Bool, true, false, cond, List, [], ◌∷◌, length, replicate, zero, suc, sym, refl, ap, ◌∙◌, subst, arith, ne_eqb}
+use Rattle.std.proofs.lemmas.Bool.{and_parts, eqb-true}
 use Rattle.std.proofs.lemmas.Grind.{common_steps}
 use Rattle.pin_core.specs.declared.id.Id.{Id}
 use Rattle.pin_core.specs.declared.descr.Descr.{Descr}
@@ -11,7 +12,6 @@ use Rattle.pin_core.specs.Holds.{tally, weight, same_id}
 use Rattle.pin_core.specs.Worlds.{opening_slot, opening_of, slot_of, is_of, is_with}
 use Rattle.pin_core.specs.Safety.{may_be_held, IsSafe}
 use Rattle.pin_core.specs.Opened.{shown_from, opened_with, Opens}
-use Rattle.pin_core.proofs.Moves.{eq_of}
 use Rattle.pin_core.proofs.Schedules.{none_numbered}
 
 abbrev Row : Type 0
@@ -68,10 +68,6 @@ weight-true : (b : Bool) → 0 < weight b → b ≡ true
 weight-true true h = refl
 weight-true false h = absurd (omega arith)
 
-both-true : (a b : Bool) → (a && b) ≡ true → (a ≡ true) × (b ≡ true)
-both-true true b e = (refl, e)
-both-true false b e = absurd cc
-
 id_is_itself : (id : Id) (d : Descr) → is_with id d (id, d) ≡ true
 id_is_itself id d = grind (arith, common_steps)
 
@@ -119,12 +115,12 @@ opened-safe k slots opens = record {
     was-shown : (id : Id) → 0 < tally (is_of id) (shown_from 0 slots)
         → (may_be_held (slot_of slots id.slot).phase ≡ true) × (id.generation ≡ (slot_of slots id.slot).generation)
     was-shown id some = let x = slot_of slots id.slot in
-        let both = both-true (may_be_held x.phase) (is_of id (row id.slot x))
+        let both = and_parts (may_be_held x.phase) (is_of id (row id.slot x))
         (weight-true (may_be_held x.phase && is_of id (row id.slot x))
         (subst (λ (n : ℕ). 0 < n) (given-one slots id) some)) in (
           both.0,
-          sym (eq_of x.generation id.generation
-              (both-true (id.slot == id.slot) (x.generation == id.generation) both.1).1),
+          sym (eqb-true x.generation id.generation
+              (and_parts (id.slot == id.slot) (x.generation == id.generation) both.1).1),
         )
 
 -- slots of which nothing was asked

@@ -1,5 +1,6 @@
 -- Each event that is possible keeps the world safe.
 use Rattle.std.proofs.Common.{◌-◌, take, slice_get, ◌≡◌, ℕ, ◌+◌, ◌<◌, ◌≤◌, ◌==◌, ◌&&◌, nat_lt, nat_le, Bool, true, false, List, [], ◌∷◌, ◌++◌, length, get_or, replicate, zero, suc, Option, Some, None, sym, refl, ap, ◌∙◌, subst, arith}
+use Rattle.std.proofs.lemmas.Bool.{eqb-true, ltb-true}
 use Rattle.std.proofs.lemmas.Grind.{common_steps}
 use Rattle.std.proofs.lemmas.List.{length-replicate}
 use Rattle.pin_core.specs.declared.word.Word.{Word}
@@ -19,27 +20,27 @@ use Rattle.pin_core.specs.Events.{is_phase, same_word, check, refusal, after, af
 use Rattle.pin_core.specs.Safety.{may_be_held, IsSafe, age, reached, AreEvents, StaysGiven}
 use Rattle.std.proofs.lemmas.List.{take_more}
 use Rattle.pin_core.proofs.Counts.{count-le}
-use Rattle.pin_core.proofs.Moves.{passed, below_of, eq_of, zero_of, phase_of_test, same_of_descr, copies-le-pins, store-safe, close-safe, reclaim-safe, publish-safe}
+use Rattle.pin_core.proofs.Moves.{passed, phase_of_test, same_of_descr, copies-le-pins, store-safe, close-safe, reclaim-safe, publish-safe}
 use Rattle.pin_core.proofs.Holding.{pin-safe, release-safe}
 
 pub safe_kept : (w : WorldState) (e : Event) → IsSafe w → refusal w e ≡ None → IsSafe (after w e)
 safe_kept w (Load r s) safe can = safe
 safe_kept w (Pin r s e) safe can = let a = passed _ _ _ can in let b = passed _ _ _ a.1 in let c = passed _ _ _ b.1 in
     let d = passed _ _ _ c.1 in
-    pin-safe w r s e safe (below_of s w.shape.slots a.0) (phase_of_test (at w s).phase Live c.0)
-    (below_of (pins w s) w.shape.max_pins d.0)
+    pin-safe w r s e safe (ltb-true s w.shape.slots a.0) (phase_of_test (at w s).phase Live c.0)
+    (ltb-true (pins w s) w.shape.max_pins d.0)
 safe_kept w (Release r id) safe can = let a = passed _ _ _ can in let b = passed _ _ _ a.1 in
-    release-safe w r id safe (below_of 0 (copies w r id) b.0)
+    release-safe w r id safe (ltb-true 0 (copies w r id) b.0)
 safe_kept w (ReadDescr r id d) safe can = safe
 safe_kept w (StoreDescr s d) safe can = let a = passed _ _ _ can in let b = passed _ _ _ a.1 in
-    store-safe w s d safe (below_of s w.shape.slots a.0) (phase_of_test (at w s).phase Free b.0)
+    store-safe w s d safe (ltb-true s w.shape.slots a.0) (phase_of_test (at w s).phase Free b.0)
 safe_kept w (Publish s) safe can = let a = passed _ _ _ can in let b = passed _ _ _ a.1 in
-    publish-safe w s safe (below_of s w.shape.slots a.0) (phase_of_test (at w s).phase Free b.0)
+    publish-safe w s safe (ltb-true s w.shape.slots a.0) (phase_of_test (at w s).phase Free b.0)
 safe_kept w (CloseSlot s) safe can = let a = passed _ _ _ can in let b = passed _ _ _ a.1 in
-    close-safe w s safe (below_of s w.shape.slots a.0) (phase_of_test (at w s).phase Live b.0)
+    close-safe w s safe (ltb-true s w.shape.slots a.0) (phase_of_test (at w s).phase Live b.0)
 safe_kept w (Reclaim s) safe can = let a = passed _ _ _ can in let b = passed _ _ _ a.1 in let c = passed _ _ _ b.1 in
-    reclaim-safe w s safe (below_of s w.shape.slots a.0) (phase_of_test (at w s).phase Closing b.0)
-    (zero_of (pins w s) c.0) (nat_lt (at w s).generation w.shape.max_gen) refl
+    reclaim-safe w s safe (ltb-true s w.shape.slots a.0) (phase_of_test (at w s).phase Closing b.0)
+    (eqb-true (pins w s) 0 c.0) (nat_lt (at w s).generation w.shape.max_gen) refl
 
 all_kept : (w : WorldState) (es : List Event) → IsSafe w → IsSchedule w es → IsSafe (after_all w es)
 all_kept w [] safe can = safe
@@ -71,7 +72,7 @@ reached-safe k es h = all_kept (opening_of k) es (opening-safe k h.0) h.1
 pub reclaim_needs : (w : WorldState) (s : ℕ) → refusal w (Reclaim s) ≡ None
     → (s < w.shape.slots) × ((at w s).phase ≡ Closing) × (pins w s ≡ 0)
 reclaim_needs w s can = let a = passed _ _ _ can in let b = passed _ _ _ a.1 in let c = passed _ _ _ b.1 in
-    (below_of s w.shape.slots a.0, phase_of_test (at w s).phase Closing b.0, zero_of (pins w s) c.0)
+    (ltb-true s w.shape.slots a.0, phase_of_test (at w s).phase Closing b.0, eqb-true (pins w s) 0 c.0)
 
 pub times-le-copies : (w : WorldState) (t : Hold) → times w t ≤ copies w t.reader t.id
 times-le-copies w t = count-le (is_hold t) (is_copy t.reader t.id) w.holders (λ h e. grind (arith, common_steps))
@@ -103,7 +104,7 @@ some_hold s (x ∷ xs) some = here (sits_at s x) refl some (some_hold s xs)
         → (h : Hold) × (h.id.slot ≡ s) × (0 < tally (is_copy h.reader h.id) (x ∷ xs))
     here true e some ih = (
       x,
-      eq_of x.id.slot s e,
+      eqb-true x.id.slot s e,
       let one : weight (is_copy x.reader x.id x) ≡ 1 =
           ap weight (is_own_copy x) in omega arith,
     )
@@ -118,12 +119,12 @@ nobody_at w safe s inside off = let no : ¬ (0 < pins w s) = λ some. let t = so
 
 pub publish_alone : (w : WorldState) → IsSafe w → (s : ℕ) → refusal w (Publish s) ≡ None → pins w s ≡ 0
 publish_alone w safe s can = let a = passed _ _ _ can in let b = passed _ _ _ a.1 in
-    nobody_at w safe s (below_of s w.shape.slots a.0) (ap may_be_held (phase_of_test (at w s).phase Free b.0))
+    nobody_at w safe s (ltb-true s w.shape.slots a.0) (ap may_be_held (phase_of_test (at w s).phase Free b.0))
 
 pub read_shown : (w : WorldState) → IsSafe w → (r : ℕ) (id : Id) (d : Descr) → refusal w (ReadDescr r id d) ≡ None
     → given_as w id d ≡ 1
 read_shown w safe r id d can = let a = passed _ _ _ can in let b = passed _ _ _ a.1 in let c = passed _ _ _ b.1 in
-    let h = safe.held r id (below_of 0 (copies w r id) b.0) in let one = (safe.slots id.slot h.0).shown h.2 in
+    let h = safe.held r id (ltb-true 0 (copies w r id) b.0) in let one = (safe.slots id.slot h.0).shown h.2 in
     subst (λ (z : ℕ × Descr). given_as w record { slot = id.slot; generation = z.0 } z.1 ≡ 1)
     (λ k. (h.1 k, same_of_descr (at w id.slot).descr d c.0 k)) one
 
