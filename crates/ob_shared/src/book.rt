@@ -225,7 +225,6 @@ impl<K: PinKeeper> Book<K> {
 
     /// What holds of a book: the manager is kept, its journal has all calls since it began, each of them a step to a
     /// manager that is kept, and its state is the one after them, from that of the savestate or of a new manager.
-    #[tactic(auto, using(crate::proofs::Journals::history_state))]
     pub fn replays(&self)
         ensures kept { IsConsistent self.now.manager }
         ensures history { Continues self.now.saved self.now.journal self.now.manager }

@@ -13,6 +13,7 @@ invariant_of-self-2 g c =
     let step = subst (λ (call : Call). Step c.self.inside.manager call c.apply-reply.result c.apply-reply.new.self)
     (sym c.requires) c.apply-reply.ensures.step in
     subst (λ (entries : List Entry). Continues saved entries c.apply-reply.new.self)
-    (sym (c.push_reserved.ensures.items ∙ ap (λ entries. entries ++ entry ∷ []) c.reserve.ensures.items))
+    (sym (c.push_reserved.ensures.items
+    ∙ ap (λ (entries : List Entry). entries ++ entry ∷ []) c.reserve.ensures.items))
     (history_next saved c.self.inside.journal.items c.self.inside.manager c.apply-reply.new.self entry c.self.invariant
     step c.kept.ensures)
