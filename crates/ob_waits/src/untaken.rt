@@ -43,6 +43,10 @@ impl Untaken {
     /// Takes the memory that the answer of a thread's wait needs.
     pub(crate) fn make_room(&mut self, thread: u32) -> Result<(), AllocError>
         ensures room { OnOk result (thread < length self.new.late) }
+        ensures fresh { self.new.fresh ≡ self.old.fresh }
+        ensures late { (t : ℕ) → slice_index_or self.new.late t None ≡ slice_index_or self.old.late t None }
+        ensures longer { length self.old.late ≤ length self.new.late }
+        // So what was told still is, whatever the waits are.
         ensures told { (waits : List (Option Wait)) → AreTold waits self.old → AreTold waits self.new }
     {
         self.fresh.make_room(thread)?;
