@@ -119,6 +119,9 @@ fn enter_and_remove_any(
         if directory.find(&name).is_some() {
             let mark = marked(alloc)?;
             let _id = directory.remove(&name);
+            if turn % 8 == 0 {
+                directory.close_holes();
+            }
             drop(mark);
         } else if let Ok(copy) = directory.reserve(&name) {
             let mark = marked(alloc)?;
