@@ -134,10 +134,6 @@ owned_none slots threads few = record {
     none t zero = refl
     none t (suc n) = omega (arith, sum_by-cons (λ x. cond (is_seat_of t x) 1 0) None (replicate n None), none t n)
 
--- a seat that is there
-pub seat_within : (xs : List (Option Seat)) (k : ℕ) (x : Seat) → get_or xs k None ≡ Some x → k < length xs
-seat_within xs k x is = some_there xs k x is
-
 -- a seat changed, with its owner or not
 pub owned_set : (xs : List (Option Seat)) (counts : List ℕ) (k : ℕ) (x y : Seat) (before after : Option ℕ)
     → IsOwned xs counts → get_or xs k None ≡ Some x → before ≡ slot_owner x.body → after ≡ slot_owner y.body

@@ -129,9 +129,6 @@ module _ (s : State) (now n : ℕ) (named : IsNamed s.objects s.tables s.waits) 
         | inr none ↦ ap (slot_is_due now) none
       ]
 
-  pub clock_step : (settled (with_answer s n 258)).clock ≡ s.clock
-  clock_step = refl
-
   -- and one wait fewer is overdue
   pub fewer_step : count_by (is_overdue now) (settled (with_answer s n 258)).waits < count_by (is_overdue now) s.waits
   fewer_step =
