@@ -14,9 +14,9 @@ use calling::{CALLS, callers_of, lanes_call, prepares};
 use driven::{driven, members_of};
 use ob_manager::{Limits, Manager};
 use ob_shared::{Lane, Shared};
-use pin_words::{Keeper, Opening, Pins, Reader};
+use pin_words::{Opening, Pins, Reader};
 use pinning::{PAIRS, pinners_of, readers_pin};
-use std::alloc::{AllocError, Global};
+use std::alloc::Global;
 use std::io;
 use std::sync::Wait;
 use std::sync::atomic::AtomicU64;
@@ -102,28 +102,6 @@ fn over_shared<R: Threads + Wait + Clock + Sync>(
     time
 }
 
-/// So many readers, of which the first is given.
-fn readers_of(
-    alloc: Global,
-    keeper: &mut Keeper,
-    first: Reader,
-    count: u64,
-) -> Result<Vec<Reader>, AllocError>
-    ensures slots { keeper.new.view.slots ≡ keeper.old.view.slots }
-    ensures published { keeper.new.view.published ≡ keeper.old.view.published }
-    ensures shape { keeper.new.view.shape ≡ keeper.old.view.shape }
-{
-    let mut readers = Vec::new(alloc);
-    readers.push(first)?;
-    for _ in 1..count {
-        let Some(reader) = keeper.reader() else {
-            return Err(AllocError);
-        };
-        readers.push(reader)?;
-    }
-    Ok(readers)
-}
-
 /// A manager behind its lock, and so many readers.
 fn shared_with(
     alloc: Global,
@@ -138,7 +116,7 @@ fn shared_with(
     let Ok((mut keeper, first)) = opening.start(pins) else {
         return None;
     };
-    match readers_of(alloc, &mut keeper, first, count) {
+    match keeper.readers(alloc, first, count as usize) {
         Ok(readers) => match Manager::new(alloc, limits, keeper) {
             Ok(manager) => Some((Shared::new(alloc, manager), readers)),
             Err(refused) => {

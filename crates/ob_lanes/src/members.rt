@@ -5,7 +5,7 @@ ghost use Rattle.ob_shared.specs.Members.{IsNew};
 use crate::scripts::Script;
 use ob_manager::{Limits, Manager};
 use ob_shared::{Lane, Member, OpenGate, Shared, drive};
-use pin_words::{Keeper, Opening, Pins, Reader};
+use pin_words::{Opening, Pins, Reader};
 use std::alloc::{AllocError, Global};
 use std::sync::Wait;
 use std::thread::Threads;
@@ -28,38 +28,13 @@ pub fn started(
     let Ok((mut keeper, first)) = opening.start(pins) else {
         return None;
     };
-    let Ok(readers) = readers_of(alloc, &mut keeper, first, count) else {
+    let Ok(readers) = keeper.readers(alloc, first, count) else {
         return None;
     };
     match Manager::new(alloc, limits, keeper) {
         Ok(manager) => Some((Shared::new(alloc, manager), readers)),
         Err(_) => None,
     }
-}
-
-/// So many readers of a keeper's pins, of which the first is given.
-fn readers_of(
-    alloc: Global,
-    keeper: &mut Keeper,
-    first: Reader,
-    count: usize,
-) -> Result<Vec<Reader>, AllocError>
-    requires { 1 ≤ count }
-    ensures slots { keeper.new.view.slots ≡ keeper.old.view.slots }
-    ensures published { keeper.new.view.published ≡ keeper.old.view.published }
-    ensures shape { keeper.new.view.shape ≡ keeper.old.view.shape }
-    ensures count { IfOk result (λ readers. vec_len readers ≡ count) }
-{
-    let mut readers = Vec::new(alloc);
-    readers.push(first)?;
-    for number in 1..count {
-        let _number = number;
-        let Some(reader) = keeper.reader() else {
-            return Err(AllocError);
-        };
-        readers.push(reader)?;
-    }
-    Ok(readers)
 }
 
 /// A member of the next lane, which does what the script says.

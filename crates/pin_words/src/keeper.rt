@@ -11,6 +11,7 @@ use crate::plays::{Apart, Blank, Closes, Gives, Looks, Publishing, Reclaiming, S
 use crate::reader::Reader;
 use crate::view::View;
 use atomic_table::{Badge, Seat};
+use ob_rights::Fault;
 use pin_core::{CLOSING_BIT, Descr, LIVE_BIT, Phase, Shape, Slot, Word};
 use std::alloc::Global;
 use std::marker::Model;
@@ -50,8 +51,10 @@ impl Model for Keeper {
 }
 
 impl Keeper {
-    ghost use Rattle.std.specs.Prelude.{◌≡◌, ◌*◌, ◌<◌, ◌≤◌, true, length, IfSome, IsNone, OnSome};
+    ghost use Rattle.std.specs.Prelude.{◌≡◌, ◌*◌, ◌<◌, ◌≤◌, [], true, All, length, vec_len, IfErr, IfOk, IfSome};
+    ghost use Rattle.std.specs.Prelude.{IsNone, OnSome};
     ghost use Rattle.std.specs.Arc.{arc_value};
+    ghost use Rattle.ob_rights.specs.declared.fault.Fault.TheVariants.{Memory};
     ghost use Rattle.pin_core.specs.declared.id.Id.{Id};
     ghost use Rattle.pin_core.specs.declared.word.Phase.TheVariants.{Free, Live, Closing};
     ghost use Rattle.pin_core.specs.Descrs.{IsGiven};
@@ -250,6 +253,37 @@ impl Keeper {
             return None;
         };
         Some(self.give(words))
+    }
+
+    /// So many readers in all, of which the first is there; the others are of the next numbers.
+    ///
+    /// [`Fault::Memory`] (8) where memory ran out or 2^63 readers are; then the first is gone too.
+    pub fn readers(
+        &mut self,
+        alloc: Global,
+        first: Reader,
+        count: usize,
+    ) -> Result<Vec<Reader>, Fault>
+        requires same { first.table ≡ self.old.table }
+        requires free { first.view.held ≡ [] }
+        ensures count { IfOk result (λ readers. 1 ≤ count → vec_len readers ≡ count) }
+        ensures each { IfOk result (λ readers. All (λ r. (r.table ≡ self.old.table) × (r.view.held ≡ [])) readers.items) }
+        ensures memory { IfErr result (λ fault. fault ≡ Memory) }
+        ensures slots { self.new.view.slots ≡ self.old.view.slots }
+        ensures published { self.new.view.published ≡ self.old.view.published }
+        ensures shape { self.new.view.shape ≡ self.old.view.shape }
+        ensures table { self.new.table ≡ self.old.table }
+    {
+        let mut readers = Vec::new(alloc);
+        readers.push(first)?;
+        for number in 1..count {
+            let _number = number;
+            let Some(reader) = self.reader() else {
+                return Err(Fault::Memory);
+            };
+            readers.push(reader)?;
+        }
+        Ok(readers)
     }
 
     pub(crate) fn give(&mut self, words: Arc<Words, Global>) -> Reader

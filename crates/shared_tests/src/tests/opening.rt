@@ -64,31 +64,6 @@ impl Scene<'_> {
     }
 }
 
-/// So many readers of a keeper's pins, of which the first is given.
-fn readers_of(
-    alloc: Global,
-    keeper: &mut Keeper,
-    first: Reader,
-    count: usize,
-) -> Result<Vec<Reader>, Fault>
-    ensures slots { keeper.new.view.slots ≡ keeper.old.view.slots }
-    ensures published { keeper.new.view.published ≡ keeper.old.view.published }
-    ensures shape { keeper.new.view.shape ≡ keeper.old.view.shape }
-{
-    let mut readers = Vec::new(alloc);
-    if readers.reserve(count).is_err() {
-        readers.reserve(count)?;
-    }
-    readers.push(first)?;
-    for _ in 1..count {
-        let Some(reader) = keeper.reader() else {
-            return Err(Fault::Memory);
-        };
-        readers.push(reader)?;
-    }
-    Ok(readers)
-}
-
 /// A manager behind its lock, and so many readers.
 pub(super) fn shared_with(
     alloc: Global,
@@ -101,7 +76,7 @@ pub(super) fn shared_with(
     requires shape { pins.now.shape ≡ shape_of limits }
 {
     let (mut keeper, first) = started(opening, pins)?;
-    match readers_of(alloc, &mut keeper, first, count) {
+    match keeper.readers(alloc, first, count) {
         Ok(readers) => match manager_over(alloc, limits, keeper) {
             Ok(manager) => Ok((Shared::new(alloc, manager), readers)),
             Err(fault) => {
