@@ -1,11 +1,10 @@
 -- Bodies are read as they were spelled.
 use Rattle.std.proofs.Common.{◌≡◌, ℕ, zero, suc, ◌<◌, ◌^◌, ◌&&◌, not, Bool, true, cond, leb, ltb, List, ◌++◌, Option, Some, None, Ok, refl, ap, subst, arith, eq-eqb}
-use Rattle.std.proofs.lemmas.Bool.{eqb-true, le-leb, leb-true, lt-ltb, ltb-true, not-true}
+use Rattle.std.proofs.lemmas.Bool.{and_from, and_parts, eqb-true, le-leb, leb-true, lt-ltb, ltb-true, not-true}
 use Rattle.std.proofs.lemmas.Option.{cond_some}
 use Rattle.ob_codec.specs.Codecs.{as_codec, both_codec, flag_codec, form_takes, option_codec, some_codec, tagged_codec, u32_codec, u64_codec}
 use Rattle.ob_codec.specs.Laws.{IsCodec, Takes}
 use Rattle.ob_codec.specs.Spelling.{Any, AreBytes, BothFit, OptionFits}
-use Rattle.ob_codec.specs.Steps.{both-true, true-both}
 use Rattle.ob_body.specs.declared.body.Body.{Body}
 use Rattle.ob_body.specs.declared.body.Body.TheVariants.{Event, Mutex, Semaphore, Timer}
 use Rattle.ob_body.specs.MutexState.{MutexState}
@@ -24,8 +23,8 @@ semaphore-there : (s : SemaphoreState) → SemaphoreFits s
     → (semaphore_of (semaphore_parts s) ≡ Some s) × BothFit is_four is_four (semaphore_parts s)
 semaphore-there s fits =
     let can : may_count s.count s.maximum ≡ true =
-    true-both (ltb 0 s.maximum) (leb s.count s.maximum && leb s.maximum 2147483647) (lt-ltb _ _ fits.some)
-    (true-both (leb s.count s.maximum) (leb s.maximum 2147483647) (le-leb _ _ fits.within)
+    and_from (ltb 0 s.maximum) (leb s.count s.maximum && leb s.maximum 2147483647) (lt-ltb _ _ fits.some)
+    (and_from (leb s.count s.maximum) (leb s.maximum 2147483647) (le-leb _ _ fits.within)
     (le-leb _ _ fits.countable)) in
     let below = fits.countable in let within = fits.within in
     (ap (λ (b : Bool). cond b (Some s) None) can, (omega arith, omega arith))
@@ -35,8 +34,8 @@ semaphore-back : (p : ℕ × ℕ) (s : SemaphoreState) → BothFit is_four is_fo
 semaphore-back p s fits e =
     let made : SemaphoreState = record { count = p.0; maximum = p.1 } in
     let g = cond_some (may_count p.0 p.1) made s e in
-    let a = both-true (ltb 0 p.1) (leb p.0 p.1 && leb p.1 2147483647) g.0 in
-    let b = both-true (leb p.0 p.1) (leb p.1 2147483647) a.1 in
+    let a = and_parts (ltb 0 p.1) (leb p.0 p.1 && leb p.1 2147483647) g.0 in
+    let b = and_parts (leb p.0 p.1) (leb p.1 2147483647) a.1 in
     subst (λ (z : SemaphoreState). (semaphore_parts z ≡ p)
     × SemaphoreFits z) g.1 (
       refl,
@@ -55,15 +54,15 @@ own-true : (owner : Option ℕ) (recursion : ℕ) (abandoned : Bool) → mutex.I
     → may_own owner recursion abandoned ≡ true
 own-true None recursion abandoned can = eq-eqb recursion 0 can
 own-true (Some owner) recursion abandoned can =
-    true-both (ltb 0 recursion) (leb recursion 2147483647 && not abandoned) (lt-ltb _ _ can.0)
-    (true-both (leb recursion 2147483647) (not abandoned) (le-leb _ _ can.1) (ap not can.2))
+    and_from (ltb 0 recursion) (leb recursion 2147483647 && not abandoned) (lt-ltb _ _ can.0)
+    (and_from (leb recursion 2147483647) (not abandoned) (le-leb _ _ can.1) (ap not can.2))
 
 own-possible : (owner : Option ℕ) (recursion : ℕ) (abandoned : Bool) → may_own owner recursion abandoned ≡ true
     → mutex.IsPossible owner recursion abandoned
 own-possible None recursion abandoned e = eqb-true recursion 0 e
 own-possible (Some owner) recursion abandoned e =
-    let a = both-true (ltb 0 recursion) (leb recursion 2147483647 && not abandoned) e in
-    let b = both-true (leb recursion 2147483647) (not abandoned) a.1 in
+    let a = and_parts (ltb 0 recursion) (leb recursion 2147483647 && not abandoned) e in
+    let b = and_parts (leb recursion 2147483647) (not abandoned) a.1 in
     (ltb-true _ _ a.0, leb-true _ _ b.0, not-true abandoned b.1)
 
 own-small : (owner : Option ℕ) (recursion : ℕ) (abandoned : Bool) → mutex.IsPossible owner recursion abandoned

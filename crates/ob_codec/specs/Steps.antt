@@ -36,14 +36,6 @@ pub guard_passed : {A : Type 0} (b : Bool) (d : TextFault) (x y : A) → cond b 
 guard_passed true d x y e = (refl, cc)
 guard_passed false d x y e = absurd cc
 
--- a test of two parts
-pub both-true : (a b : Bool) → (a && b) ≡ true → (a ≡ true) × (b ≡ true)
-both-true true b e = (refl, e)
-both-true false b e = absurd cc
-
-pub true-both : (a b : Bool) → a ≡ true → b ≡ true → (a && b) ≡ true
-true-both a b e f = ap (λ (z : Bool). z && b) e ∙ f
-
 abbrev done : {A : Type 0} → A → Result A TextFault
 done x = Ok x
 

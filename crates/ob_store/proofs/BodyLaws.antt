@@ -1,5 +1,6 @@
 -- What holds of bodies goes on so: their forms, their owners, the room that waits have, and that none is ready.
 use Rattle.std.proofs.Common.{◌≡◌, ◌⊎◌, ℕ, ◌<◌, List, length, Option, Some, None, refl, ap, ◌∙◌, sym, subst, arith, get_or, set, Bool, true, false, cond, inl, inr}
+use Rattle.std.proofs.lemmas.Option.{same_Some}
 use Rattle.std.specs.Prelude.{is_some}
 use Rattle.std.proofs.lemmas.List.{length-set, get_or_past, get_or-set_same, get_or-set_other}
 use Rattle.std.proofs.lemmas.Bool.{cases_eq, cases_lt}
@@ -126,9 +127,6 @@ module _ (c : Bool) (bodies : List (Option Body)) (i : ℕ) where
             absurd (let e = ap slot_owner none in cc (e, h))
       ]) (λ n. refl) l
 
-some_same : {A : Type 0} {x y : A} → Some x ≡ Some y → x ≡ y
-some_same h = cc
-
 -- a new object's body comes to a slot that no wait names
 module _ (bodies : List (Option Body)) (k : ℕ) (b : Body) where
   pub formed_added : (clock : ℕ) (objects : List (Option Object)) (o : Object) → k < length objects → k < length bodies
@@ -137,9 +135,9 @@ module _ (bodies : List (Option Body)) (k : ℕ) (b : Body) where
   formed_added clock objects o within bodied form f = record {
     each = λ j p c there is. elim (cases_eq j k) [
       | inl same ↦
-          (let e : b ≡ c = some_same (sym (ap (λ i. get_or (set bodies k (Some b)) i None) same
+          (let e : b ≡ c = same_Some _ _ (sym (ap (λ i. get_or (set bodies k (Some b)) i None) same
           ∙ get_or-set_same bodies k (Some b) None bodied) ∙ is) in
-          let d : o ≡ p = some_same (sym (ap (λ i. get_or (set objects k (Some o)) i None) same
+          let d : o ≡ p = same_Some _ _ (sym (ap (λ i. get_or (set objects k (Some o)) i None) same
           ∙ get_or-set_same objects k (Some o) None within) ∙ there) in
           ap unset (ap form_of (sym e) ∙ form) ∙ ap (λ (x : Object). form_in x.descr) d)
       | inr other ↦ f.each j p c (sym (get_or-set_other objects k j (Some o) None other)
@@ -172,7 +170,7 @@ module _ (bodies : List (Option Body)) (k : ℕ) (old new : Body) (clock : ℕ) 
   formed_put objects f = record {
     each = λ j o b is here. elim (at_set bodies k j (Some new)) [
       | inl same ↦ f.each j o b is (sym same ∙ here)
-      | inr put ↦ (let e : b ≡ new = some_same (sym here ∙ put.2) in
+      | inr put ↦ (let e : b ≡ new = same_Some _ _ (sym here ∙ put.2) in
           ap (λ (x : Body). unset (form_of x)) e ∙ yields.form
           ∙ f.each j o old is (ap (λ i. get_or bodies i None) put.0 ∙ there))
     ];

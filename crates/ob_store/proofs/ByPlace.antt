@@ -1,16 +1,17 @@
 -- What holds of each element of a list, and of what stands past its end, holds at each place.
-use Rattle.std.proofs.Common.{◌≡◌, ℕ, zero, suc, ◌<◌, Bool, true, false, List, [], ◌∷◌, length, get_or, refl, arith}
+use Rattle.std.proofs.Common.{◌≡◌, ℕ, zero, suc, ◌<◌, Bool, true, false, List, [], ◌∷◌, length, get_or, inl, inr, refl, replicate, arith}
+use Rattle.std.proofs.lemmas.List.{get_or-replicate, get_or_past, length-replicate}
+use Rattle.std.proofs.lemmas.Bool.{and_parts, cases_lt}
 use Rattle.std.specs.List.{AllByRecursion, list_all}
 use Rattle.std.proofs.lemmas.List.Elements.{All-from_get_or}
 use Rattle.std.proofs.lemmas.List.Sums.{list_all-from_AllPass}
-use Rattle.ob_codec.specs.Steps.{both-true}
 
 -- a test that each element passes, and that holds of what stands for none
 pub all_at : {A : Type 0} (p : A → Bool) (xs : List A) (none : A) → p none ≡ true → list_all p xs ≡ true →
     (n : ℕ) → p (get_or xs n none) ≡ true
 all_at p [] none past all n = past
-all_at p (x ∷ xs) none past all zero = (both-true (p x) (list_all p xs) all).0
-all_at p (x ∷ xs) none past all (suc n) = all_at p xs none past (both-true (p x) (list_all p xs) all).1 n
+all_at p (x ∷ xs) none past all zero = (and_parts (p x) (list_all p xs) all).0
+all_at p (x ∷ xs) none past all (suc n) = all_at p xs none past (and_parts (p x) (list_all p xs) all).1 n
 
 pub all_from : {A : Type 0} (p : A → Bool) (xs : List A) (none : A) →
     ((n : ℕ) → n < length xs → p (get_or xs n none) ≡ true) → list_all p xs ≡ true
@@ -29,3 +30,10 @@ pub all_by_place : {A : Type 0} (P : A → Type 0) (d : A) (xs : List A) → ((k
 all_by_place P d [] each = tt
 all_by_place P d (x ∷ xs) each =
     (each 0 (omega arith), all_by_place P d xs (λ k lt. each (suc k) (omega (arith, lt))))
+
+-- a list of what stands for none
+pub replicate_at : {A : Type 0} (n k : ℕ) (none : A) → get_or (replicate n none) k none ≡ none
+replicate_at n k none = elim (cases_lt k n) [
+  | inl lt ↦ get_or-replicate n k none none lt
+  | inr le ↦ get_or_past (replicate n none) k none (omega (arith, length-replicate n none, le))
+]

@@ -1,14 +1,14 @@
 -- What is counted in a store that is kept is counted again, so that what it saves isn't refused.
 use Rattle.std.proofs.Common.{◌≡◌, ℕ, ◌+◌, ◌<◌, ◌≤◌, ltb, Bool, true, cond, List, [], ◌∷◌, length, get_or, Option, Some, None, Ok, Err, refl, sym, ap, ◌∙◌, subst, arith, inl, inr}
+use Rattle.ob_store.proofs.ByPlace.{replicate_at}
 use Rattle.std.specs.Prelude.{replicate}
-use Rattle.std.proofs.lemmas.Bool.{cases_lt, lt-ltb}
+use Rattle.std.proofs.lemmas.Bool.{and_from, cases_lt, lt-ltb}
 use Rattle.std.proofs.lemmas.List.{ext_get_or, get_or-replicate, get_or_past, length-replicate}
 use Rattle.std.proofs.lemmas.List.Sums.{sum_by-cons}
 use Rattle.pin_core.specs.declared.id.Id.{Id}
 use Rattle.pin_core.specs.Holds.{same_id}
 use Rattle.ob_codec.specs.declared.fault.TextFault.TheVariants.{Value}
 use Rattle.ob_codec.specs.Reading.{◌>>=◌}
-use Rattle.ob_codec.specs.Steps.{true-both}
 use Rattle.ob_tables.specs.declared.entry.Entry.{Entry}
 use Rattle.ob_tables.specs.Counts.{names, names_slot, handles_in, handles_among, slot_handles_in, slot_handles}
 use Rattle.ob_tables.proofs.Counting.{same_id-same}
@@ -34,7 +34,7 @@ its_id (Some o) id e = ap (λ (z : Id). same_id z id) (some-is o.id id e) ∙ sa
 
 may-again : (p : Places) (id : Id) → IsThere p.objects id → handles_at p id.slot < 4294967295 → may_count p id ≡ true
 may-again p id there room =
-    true-both (is_its id (get_or p.objects id.slot None)) (ltb (handles_at p id.slot) 4294967295)
+    and_from (is_its id (get_or p.objects id.slot None)) (ltb (handles_at p id.slot) 4294967295)
     (its_id (get_or p.objects id.slot None) id there) (lt-ltb (handles_at p id.slot) 4294967295 room)
 
 in-again : (p : Places) (places : List (Option Entry)) → IsWide p →
@@ -83,12 +83,6 @@ all-again p (table ∷ tables) wide few named =
     (named id (let s = sum_by-cons (handles_in id) table tables in omega (arith, s, h)))) in
     (rest.0, ap (λ r. r >>= λ (z : Places). counting_all z tables) a.1 ∙ rest.1)
 
-zero-at : (n k : ℕ) → get_or {A = ℕ} (replicate n 0) k 0 ≡ 0
-zero-at n k = elim (cases_lt k n) [
-  | inl lt ↦ get_or-replicate {A = ℕ} n k 0 0 lt
-  | inr le ↦ get_or_past (replicate {A = ℕ} n 0) k 0 (omega (arith, length-replicate {A = ℕ} n 0, le))
-]
-
 pub counting_again : (p : Places) (processes limit : ℕ) (tables : List (List (Option Entry)))
     (waits : List (Option Wait)) →
     IsCounted p.seen (length p.objects) tables waits → IsNamed p.objects tables waits →
@@ -98,14 +92,14 @@ counting_again p processes limit tables waits counted named bounded =
     let n = length p.objects in
     let wide : IsWide (uncounted p) = sym (length-replicate {A = ℕ} n 0) in
     let a = all-again (uncounted p) tables wide
-    (λ k. (let z = zero-at n k in let f = slot_handles-few k processes limit tables bounded in
+    (λ k. (let z = replicate_at {A = ℕ} n k 0 in let f = slot_handles-few k processes limit tables bounded in
     omega (arith, z, f))) named.entries in
     let c = tables_count (uncounted p) a.0 tables wide a.1 in
     let long : length p.seen.handles ≡ n = handles_long p.seen n tables waits counted in
     let same : a.0.seen.handles ≡ p.seen.handles =
     ext_get_or 0 a.0.seen.handles p.seen.handles (c.long ∙ sym wide ∙ sym long)
     (λ k lt. (let x = c.handles k in
-    let z = zero-at n k in
+    let z = replicate_at {A = ℕ} n k 0 in
     let within : k < n = omega (
       arith,
       lt,

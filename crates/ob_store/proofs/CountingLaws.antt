@@ -1,11 +1,11 @@
 -- What counting leaves: all is as it was but for the handles, which are more by the entries that name a slot.
 use Rattle.std.proofs.Common.{◌≡◌, ℕ, zero, suc, ◌+◌, ◌<◌, Bool, true, false, cond, List, [], ◌∷◌, length, get_or, set, Option, Some, None, Ok, refl, sym, ap, ◌∙◌, subst, arith, inl, inr}
-use Rattle.std.proofs.lemmas.Bool.{cases_eq}
+use Rattle.std.proofs.lemmas.Bool.{and_parts, cases_eq}
 use Rattle.std.proofs.lemmas.List.{length-set, get_or-set_same, get_or-set_other}
 use Rattle.std.proofs.lemmas.List.Sums.{sum_by-cons}
 use Rattle.pin_core.specs.declared.id.Id.{Id}
 use Rattle.ob_codec.specs.declared.fault.TextFault.TheVariants.{Value}
-use Rattle.ob_codec.specs.Steps.{bind_ok, both-true, guard_passed, ok_is}
+use Rattle.ob_codec.specs.Steps.{bind_ok, guard_passed, ok_is}
 use Rattle.ob_tables.specs.declared.entry.Entry.{Entry}
 use Rattle.ob_tables.specs.Counts.{names, names_slot, handles_in, handles_among, slot_handles_in, slot_handles}
 use Rattle.ob_tables.proofs.Counting.{one_id}
@@ -50,7 +50,7 @@ pub one_counts : (p : Places) (e : Entry) → IsWide p → may_count p e.id ≡ 
     Counts p (with_handle p e.id.slot) (λ k. cond (names_slot k (Some e)) 1 0) (λ id. names id (Some e) ≡ true)
 one_counts p e wide may =
     let there : IsThere p.objects e.id =
-    its_there (get_or p.objects e.id.slot None) e.id (both-true (is_its e.id (get_or p.objects e.id.slot None)) _ may).0
+    its_there (get_or p.objects e.id.slot None) e.id (and_parts (is_its e.id (get_or p.objects e.id.slot None)) _ may).0
     in
     let within : e.id.slot < length p.seen.handles = omega (arith, there_within p.objects e.id there, wide) in
     record {

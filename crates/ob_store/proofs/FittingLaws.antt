@@ -1,9 +1,8 @@
 -- Slots that are kept may be so, and those that have a spelling fit.
 use Rattle.std.proofs.Common.{◌≡◌, ℕ, ◌<◌, ◌&&◌, eqb, leb, Bool, true, false, Option, Some, None, refl, sym, ap, ◌∙◌, subst, arith}
 use Rattle.std.specs.List.{AllByRecursion}
-use Rattle.std.proofs.lemmas.Bool.{eq-eqb, le-leb, lt-ltb}
+use Rattle.std.proofs.lemmas.Bool.{and_from, eq-eqb, le-leb, lt-ltb}
 use Rattle.std.proofs.lemmas.List.FromFn.{get_or-map-range_with_len, length-map-range_with_len}
-use Rattle.ob_codec.specs.Steps.{true-both}
 use Rattle.pin_core.specs.declared.descr.Descr.{Descr}
 use Rattle.pin_core.specs.declared.word.Phase.TheVariants.{Retired}
 use Rattle.pin_core.specs.declared.world.Slot.{Slot}
@@ -35,7 +34,7 @@ body-may : (clock : ℕ) (o : Object) (b : Option Body)
     → ((c : Body) → b ≡ Some c → unset (form_of c) ≡ form_in o.descr) → IsAfter clock (slot_due b)
     → body_stands clock o.descr b ≡ true
 body-may clock o None formed later = refl
-body-may clock o (Some b) formed later = true-both (same_descr (descr_of b) o.descr) (is_after clock (due_of b))
+body-may clock o (Some b) formed later = and_from (same_descr (descr_of b) o.descr) (is_after clock (due_of b))
     (ap (λ (d : Descr). same_descr d o.descr) (described b o.descr (formed b refl)) ∙ same-descr o.descr)
     (is-later clock (due_of b) later)
 
@@ -49,7 +48,7 @@ object-may clock (Some o) b formed later = body-may clock o b (λ c is. formed o
 retired-may : (max_gen k : ℕ) (x : Option Object) (b : Option Body) (r : Bool) (y : Slot) → Agrees k x b r y
     → (y.phase ≡ Retired → y.generation ≡ max_gen)
     → may_retire max_gen (record { generation = y.generation; retired = r; object = object_saved x b }) ≡ true
-retired-may max_gen k None b true y a last = true-both (eqb y.generation max_gen) true
+retired-may max_gen k None b true y a last = and_from (eqb y.generation max_gen) true
     (eq-eqb y.generation max_gen (last a.1)) refl
 retired-may max_gen k None b false y a last = refl
 retired-may max_gen k (Some o) b true y a last = absurd (cc a.3)
@@ -62,11 +61,11 @@ module _ (s : ObjectsState) (tied : IsTied s) (clock : ℕ) (formed : AreFormed 
       let x = slot_saved s k in
       let max_gen = s.keeper.shape.max_gen in
       let aged = tied.aged k lt in
-      true-both (leb 1 x.generation && leb x.generation max_gen)
+      and_from (leb 1 x.generation && leb x.generation max_gen)
       (may_retire max_gen x && object_stands clock x.object)
-      (true-both (leb 1 x.generation) (leb x.generation max_gen) (le-leb 1 x.generation aged.0)
+      (and_from (leb 1 x.generation) (leb x.generation max_gen) (le-leb 1 x.generation aged.0)
       (le-leb x.generation max_gen aged.1))
-      (true-both (may_retire max_gen x) (object_stands clock x.object)
+      (and_from (may_retire max_gen x) (object_stands clock x.object)
       (retired-may max_gen k _ _ _ y (tied.agreed.each k lt) (tied.opens.each k lt).last)
       (object-may clock _ _ (λ o c. formed.each k o c) (formed.later k)))
 

@@ -1,5 +1,6 @@
 -- The entry of a handle leaves: what is sound stays so, and is on its way to the settled state.
 use Rattle.std.proofs.Common.{◌≡◌, ℕ, ◌<◌, List, length, Option, Some, None, refl, ap, ◌∙◌, sym, subst, arith, get_or, Bool, true, false, cond, eqb}
+use Rattle.std.proofs.lemmas.Option.{same_Some}
 use Rattle.std.specs.Prelude.{is_some, IsSome, IfSome}
 use Rattle.std.specs.Option.{option_map}
 use Rattle.std.proofs.lemmas.List.{length-set}
@@ -37,9 +38,6 @@ live_slot : (k : ℕ) (x : Option Object) (b : Option Body) (r : Bool) (s : Slot
 live_slot k None b r s there has a = absurd (cc)
 live_slot k (Some o) None r s there has a = absurd (cc)
 live_slot k (Some o) (Some b) r s there has a = a.2
-
-some_same : {A : Type 0} {x y : A} → Some x ≡ Some y → x ≡ y
-some_same h = cc
 
 module _ (p : PartsState) (process value : ℕ) (e : Entry)
     (sound : IsSound p)
@@ -166,7 +164,7 @@ module _ (p : PartsState) (process value : ℕ) (e : Entry)
         by None at count = absurd (let none = ap is_some at in let some = seated in cc (none, some))
         by (Some s) at count =
             let x = there_some o.objects e.id there in
-            let same : x.0 ≡ object_of s = some_same (sym x.1 ∙ at) in
+            let same : x.0 ≡ object_of s = same_Some _ _ (sym x.1 ∙ at) in
             left (handles_of s) (object_of s) (ap (λ (z : Object). z.id) (sym same) ∙ x.2) at (sym count
             ∙ ap (λ (z : ObjectsState). get_or z.seen.handles e.id.slot 0) is
             ∙ handles_left) (eqb (handles_of s) 0) refl

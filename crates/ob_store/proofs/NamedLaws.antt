@@ -1,5 +1,6 @@
 -- Each Id that is named goes on being that of an object; and what a slot counts is what its object's Id counts.
 use Rattle.std.proofs.Common.{◌≡◌, ◌≢◌, ℕ, suc, ◌<◌, ◌≤◌, List, [], ◌∷◌, length, Option, Some, None, refl, ap, ◌∙◌, sym, subst, arith, get_or, set, Bool, true, false, cond, inl, inr, eqb}
+use Rattle.std.proofs.lemmas.Option.{same_Some}
 use Rattle.std.specs.Prelude.{sum_by}
 use Rattle.std.proofs.lemmas.List.{get_or_past, get_or-set_same, get_or-set_other}
 use Rattle.std.proofs.lemmas.List.Sums.{sum_by-cons, get_or-le-sum_by}
@@ -36,10 +37,7 @@ there_within objects id h = let o = there_some objects id h in some_within objec
 -- a slot has one object
 pub one_there : (objects : List (Option Object)) (a b : Id) → IsThere objects a → IsThere objects b → a.slot ≡ b.slot
     → a ≡ b
-one_there objects a b ha hb same = let x = ap (λ k. id_in (get_or objects k None)) same in some_same (sym ha ∙ x ∙ hb)
-  where
-    some_same : Some a ≡ Some b → a ≡ b
-    some_same h = cc
+one_there objects a b ha hb same = let x = ap (λ k. id_in (get_or objects k None)) same in same_Some a b (sym ha ∙ x ∙ hb)
 
 -- a table that has an entry is there
 table_within : (ts : List (List (Option Entry))) (p i : ℕ) (e : Entry) → at (table_of ts p) i ≡ Some e → p < length ts

@@ -1,5 +1,7 @@
 -- The state before any call is kept.
 use Rattle.std.proofs.Common.{◌≡◌, ℕ, zero, suc, ◌≤◌, length, false, List, [], ◌∷◌, Option, None, refl, ap, ◌∙◌, sym, subst, arith, get_or, map, inl, inr}
+use Rattle.ob_store.proofs.SeatLaws.{map-replicate}
+use Rattle.ob_store.proofs.ByPlace.{replicate_at}
 use Rattle.std.specs.Prelude.{replicate, sum_by}
 use Rattle.std.proofs.lemmas.List.{length-replicate, get_or_past, get_or-replicate}
 use Rattle.std.proofs.lemmas.List.Sums.{sum_by-cons}
@@ -26,21 +28,9 @@ use Rattle.ob_store.proofs.CountedLaws.{counted_opening}
 use Rattle.ob_store.proofs.NamedLaws.{named_opening}
 use Rattle.ob_store.proofs.ListingLaws.{listing_opening}
 
--- none of n places has anything
-none_at : (A : Type 0) (n k : ℕ) → get_or {A = Option A} (replicate n None) k None ≡ None
-none_at A n k = elim (cases_lt k n) [
-  | inl lt ↦ get_or-replicate {A = Option A} n k None None lt
-  | inr le ↦ (let long = length-replicate {A = Option A} n None in
-      get_or_past (replicate {A = Option A} n None) k None (omega (arith, long, le)))
-]
-
 -- nor has the one place of a list
 one_none : (A : Type 0) (k : ℕ) → get_or {A = Option A} (None ∷ []) k None ≡ None
 one_none A k = elim k as (λ k. get_or {A = Option A} (None ∷ []) k None ≡ None) [ zero ↦ refl | suc k ↦ refl ]
-
-map_replicate : {A B : Type 0} (f : A → B) (n : ℕ) (x : A) → map f (replicate n x) ≡ replicate n (f x)
-map_replicate f zero x = refl
-map_replicate {A} {B} f (suc n) x = ap (λ (t : List B). f x ∷ t) (map_replicate f n x)
 
 abbrev pub no_tables : Limits → HandleTables
 no_tables limits = record { process_limit = limits.processes; handle_limit = limits.handles; tables = [] ∷ [] }
@@ -79,11 +69,14 @@ module _ (limits : Limits) (keeper : KeeperState) (fresh : IsFresh keeper (shape
           (sym (length-replicate {A = Option Object} limits.slots None)) (counted_opening limits.slots);
       named = named_opening no_objects.objects;
       formed = record {
-        each = λ k o b there is. absurd (let none = none_at Object limits.slots k in cc (none, there));
-        later = λ k. subst (λ (x : Option Body). IsAfter 0 (slot_due x)) (sym (none_at Body limits.slots k)) tt;
+        each = λ k o b there is. absurd (
+            let none = replicate_at {A = Option Object} limits.slots k None in cc (none, there));
+        later = λ k. subst (λ (x : Option Body). IsAfter 0 (slot_due x))
+            (sym (replicate_at {A = Option Body} limits.slots k None)) tt;
       };
       of_live = record {
-        owners = λ k t h. absurd (let none = ap slot_owner (none_at Body limits.slots k) in cc (none, h));
+        owners = λ k t h. absurd (
+            let none = ap slot_owner (replicate_at {A = Option Body} limits.slots k None) in cc (none, h));
         waiters = λ n t h. absurd (let none = ap thread_of (one_none Wait n) in cc (none, h));
       };
       room = record {
@@ -99,27 +92,12 @@ module _ (limits : Limits) (keeper : KeeperState) (fresh : IsFresh keeper (shape
   pub opening_is : ◌≡◌ {A = Whole} (whole_of no_parts) (record { state = opening limits; keeper = keeper })
   opening_is =
       let ages : map generation_of keeper.slots ≡ replicate limits.slots 1 =
-      ap (map generation_of) fresh.slots_are ∙ map_replicate generation_of limits.slots opening_slot in
+      ap (map generation_of) fresh.slots_are ∙ map-replicate generation_of opening_slot limits.slots in
       λ i. record { state = record (opening limits) { generations = ages i }; keeper = keeper }
 
 -- objects that no slot has yet, and their keeper
 slot_opening : (slots : List Slot) (n k : ℕ) → slots ≡ replicate n opening_slot → slot_of slots k ≡ opening_slot
-slot_opening slots n k are = ap (λ (xs : List Slot). slot_of xs k) are ∙ elim (cases_lt k n) [
-  | inl lt ↦ get_or-replicate n k opening_slot opening_slot lt
-  | inr le ↦ get_or_past (replicate n opening_slot) k opening_slot (omega (arith, length-replicate n opening_slot, le))
-]
-
-false_at : (n k : ℕ) → get_or (replicate n false) k false ≡ false
-false_at n k = elim (cases_lt k n) [
-  | inl lt ↦ get_or-replicate n k false false lt
-  | inr le ↦ get_or_past (replicate n false) k false (omega (arith, length-replicate n false, le))
-]
-
-zero_at : (n k : ℕ) → get_or {A = ℕ} (replicate n 0) k 0 ≡ 0
-zero_at n k = elim (cases_lt k n) [
-  | inl lt ↦ get_or-replicate {A = ℕ} n k 0 0 lt
-  | inr le ↦ get_or_past (replicate {A = ℕ} n 0) k 0 (omega (arith, length-replicate {A = ℕ} n 0, le))
-]
+slot_opening slots n k are = ap (λ (xs : List Slot). slot_of xs k) are ∙ replicate_at n k opening_slot
 
 none_made : (n : ℕ) → sum_by made_in (replicate n opening_slot) ≡ 0
 none_made zero = refl
@@ -135,22 +113,22 @@ tied_opening n k fresh same few first last = record {
     bodied = length-replicate {A = Option Body} n None ∙ same;
     marked = length-replicate n false ∙ same;
     each = λ j lt. rw (
-      none_at Object n j,
-      none_at Body n j,
-      false_at n j,
+      replicate_at {A = Option Object} n j None,
+      replicate_at {A = Option Body} n j None,
+      replicate_at n j false,
       slot_opening k.slots k.shape.slots j fresh.slots_are,
     ) (refl, refl);
   };
-  listed = record { each = λ j. rw (none_at Object n j) tt };
+  listed = record { each = λ j. rw (replicate_at {A = Option Object} n j None) tt };
   opens = record {
     wide = ap length fresh.slots_are ∙ length-replicate k.shape.slots opening_slot;
     each = λ j lt. subst (SlotOpens k.shape.max_gen) (sym (slot_opening k.slots k.shape.slots j fresh.slots_are))
         (record { given = (omega arith, refl); bounded = first; last = λ e. absurd cc });
   };
-  bodied = record { each = λ j. rw (none_at Body n j, zero_at n j) refl };
+  bodied = record { each = λ j. rw (replicate_at {A = Option Body} n j None, replicate_at {A = ℕ} n j 0) refl };
   born = record {
-    below = λ j o is. absurd (let none = none_at Object n j in cc (none, is));
-    apart = λ i j o p is at e. absurd (let none = none_at Object n i in cc (none, is));
+    below = λ j o is. absurd (let none = replicate_at {A = Option Object} n j None in cc (none, is));
+    apart = λ i j o p is at e. absurd (let none = replicate_at {A = Option Object} n i None in cc (none, is));
   };
   aged = λ j lt. rw (slot_opening k.slots k.shape.slots j fresh.slots_are) (omega arith, first);
   last = last;

@@ -7,10 +7,10 @@ use Rattle.std.specs.Map.{lookup}
 use Rattle.std.specs.declared.cmp.Ordering.{Ordering}
 use Rattle.std.specs.declared.cmp.Ordering.TheVariants.{Less, Equal, Greater}
 use Rattle.std.specs.Ordering.{is_eq, match_ordering, nat_cmp}
-use Rattle.std.proofs.lemmas.Bool.{eqb-true, ltb-true}
+use Rattle.std.proofs.lemmas.Bool.{and_parts, eqb-true, ltb-true}
 use Rattle.std.proofs.lemmas.Bool.Decides.{nat_tests}
 use Rattle.ob_codec.specs.declared.fault.TextFault.TheVariants.{Value}
-use Rattle.ob_codec.specs.Steps.{bind_ok, both-true, guard_passed}
+use Rattle.ob_codec.specs.Steps.{bind_ok, guard_passed}
 use Rattle.ob_store.specs.Agreement.{AreBorn}
 use Rattle.ob_store.specs.Objects.{Object}
 use Rattle.ob_store.specs.SavedBirths.{Births, births_from, with_birth}
@@ -109,7 +109,7 @@ module _ (births : ℕ) (order : Births) where
       (λ (more : Births). births_from births more (suc slot) objects) order e in
       let g = guard_passed (ltb x.birth births && is_none (taken so_far x.birth)) Value
       (insert_entry nat_cmp so_far x.birth slot) b.0 b.1 in
-      let new = both-true (ltb x.birth births) (is_none (taken so_far x.birth)) g.0 in (
+      let new = and_parts (ltb x.birth births) (is_none (taken so_far x.birth)) g.0 in (
         ltb-true x.birth births new.0,
         none-is (taken so_far x.birth) new.1,
         ap (λ (more : Births). births_from births more (suc slot) objects) g.1 ∙ b.2,

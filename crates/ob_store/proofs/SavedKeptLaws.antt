@@ -1,12 +1,13 @@
 -- What holds of objects that were read, with their tables, waits and threads, and that such objects are taken.
 use Rattle.std.proofs.Common.{◌≡◌, ℕ, zero, suc, ◌+◌, ◌<◌, is_some, not, Bool, true, false, cond, List, [], ◌∷◌, length, get_or, map, Option, Some, None, Ok, Err, refl, sym, ap, ◌∙◌, subst, arith}
+use Rattle.std.proofs.lemmas.Bool.{and_from, and_parts}
 use Rattle.std.specs.List.{list_all}
 use Rattle.std.specs.Prelude.{count_by, sum_by}
 use Rattle.std.proofs.lemmas.List.{get_or-map, length-map}
 use Rattle.std.proofs.lemmas.List.Sums.{AllPass-from_list_all, sum_by-cons}
 use Rattle.ob_codec.specs.declared.fault.TextFault.TheVariants.{Value}
 use Rattle.ob_codec.specs.Reading.{◌>>=◌}
-use Rattle.ob_codec.specs.Steps.{bind_ok, both-true, ok_is, true-both}
+use Rattle.ob_codec.specs.Steps.{bind_ok, ok_is}
 use Rattle.pin_core.specs.Holds.{same_id}
 use Rattle.pin_core.specs.declared.id.Id.{Id}
 use Rattle.pin_core.specs.declared.world.Slot.{Slot}
@@ -102,9 +103,9 @@ module _ (limit : ℕ) (threads : List (Option ℕ)) (s : ObjectsState) where
       0 < count_by (same_id id) ids → IsThere s.objects id
   ids-there t id [] all some = absurd (omega (arith, some))
   ids-there t id (x ∷ ids) all some =
-      let a = both-true (may_wait_for limit s t x) (list_all (may_wait_for limit s t) ids) all in
+      let a = and_parts (may_wait_for limit s t x) (list_all (may_wait_for limit s t) ids) all in
       let here : IsThere s.objects x =
-      its_there (get_or s.objects x.slot None) x (both-true (is_its x (get_or s.objects x.slot None)) _ a.0).0 in
+      its_there (get_or s.objects x.slot None) x (and_parts (is_its x (get_or s.objects x.slot None)) _ a.0).0 in
       by (same_id id x) refl here (λ later. ids-there t id ids a.1 later)
       (subst (λ (n : ℕ). 0 < n) (sum_by-cons (λ (y : Id). cond (same_id id y) 1 0) x ids) some)
     where
@@ -117,19 +118,19 @@ module _ (limit : ℕ) (threads : List (Option ℕ)) (s : ObjectsState) where
   state-there : (t : ℕ) (id : Id) (x : State) → state_stands limit s t x ≡ true →
       0 < count_by (same_id id) (state_ids x) → IsThere s.objects id
   state-there t id (Pending mode ids) e some =
-      ids-there t id ids (both-true (list_all (may_wait_for limit s t) ids) _ e).0 some
+      ids-there t id ids (and_parts (list_all (may_wait_for limit s t) ids) _ e).0 some
   state-there t id (Answered code) e some = absurd (omega (arith, some))
 
   wait-there : (id : Id) (w : Option Wait) → stands w ≡ true → 0 < blocks_in id w → IsThere s.objects id
   wait-there id None e some = absurd (omega (arith, some))
   wait-there id (Some w) e some =
-      state-there w.thread id w.state (both-true (is_some (get_or threads w.thread None)) _ e).1 some
+      state-there w.thread id w.state (and_parts (is_some (get_or threads w.thread None)) _ e).1 some
 
   pub waits_there : (waits : List (Option Wait)) → waits_stand limit threads waits s ≡ true → (id : Id) →
       0 < blocks_among id waits → IsThere s.objects id
   waits_there [] all id some = absurd (omega (arith, some))
   waits_there (w ∷ waits) all id some =
-      let a = both-true (stands w) (waits_stand limit threads waits s) all in
+      let a = and_parts (stands w) (waits_stand limit threads waits s) all in
       by (blocks_in id w) refl (wait-there id w a.0) (waits_there waits a.1 id)
       (subst (λ (n : ℕ). 0 < n) (sum_by-cons (blocks_in id) w waits) some)
     where
@@ -141,19 +142,19 @@ module _ (limit : ℕ) (threads : List (Option ℕ)) (s : ObjectsState) where
   state-room : (t : ℕ) (x : State) → state_stands limit s t x ≡ true →
       HasRoom limit t s.seen.bodies (state_ids x)
   state-room t (Pending mode ids) e = record {
-    each = λ i lt. (both-true (is_its (get_or ids i nowhere) _) _
+    each = λ i lt. (and_parts (is_its (get_or ids i nowhere) _) _
         (AllPass-from_list_all (may_wait_for limit s t) ids
-        (both-true (list_all (may_wait_for limit s t) ids) _ e).0 i nowhere lt)).1;
+        (and_parts (list_all (may_wait_for limit s t) ids) _ e).0 i nowhere lt)).1;
   }
   state-room t (Answered code) e = record { each = λ i lt. absurd (omega (arith, lt)) }
 
   wait-room : (w : Option Wait) → stands w ≡ true → WaitHasRoom limit s.seen.bodies w
   wait-room None e = tt
-  wait-room (Some w) e = state-room w.thread w.state (both-true (is_some (get_or threads w.thread None)) _ e).1
+  wait-room (Some w) e = state-room w.thread w.state (and_parts (is_some (get_or threads w.thread None)) _ e).1
 
   state-unready : (t : ℕ) (x : State) → state_stands limit s t x ≡ true → state_ready t s.seen.bodies x ≡ false
   state-unready t (Pending mode ids) e =
-      by (list_ready mode t s.seen.bodies ids) (both-true (list_all (may_wait_for limit s t) ids) _ e).1
+      by (list_ready mode t s.seen.bodies ids) (and_parts (list_all (may_wait_for limit s t) ids) _ e).1
     where
       by : (b : Bool) → not b ≡ true → b ≡ false
       by true e = absurd (cc e)
@@ -162,13 +163,13 @@ module _ (limit : ℕ) (threads : List (Option ℕ)) (s : ObjectsState) where
 
   wait-unready : (w : Option Wait) → stands w ≡ true → is_ready s.seen.bodies w ≡ false
   wait-unready None e = refl
-  wait-unready (Some w) e = state-unready w.thread w.state (both-true (is_some (get_or threads w.thread None)) _ e).1
+  wait-unready (Some w) e = state-unready w.thread w.state (and_parts (is_some (get_or threads w.thread None)) _ e).1
 
   wait-live : (t : ℕ) (w : Option Wait) → stands w ≡ true → thread_of w ≡ Some t → IsLive threads t
   wait-live t None e own = absurd (cc own)
   wait-live t (Some w) e own =
       let same : w.thread ≡ t = cc own in
-      subst (IsLive threads) same (both-true (is_some (get_or threads w.thread None)) _ e).0
+      subst (IsLive threads) same (and_parts (is_some (get_or threads w.thread None)) _ e).0
 
   -- a wait that is kept so is one that can be there
   state-taken : (t : ℕ) (x : State) →
@@ -176,9 +177,9 @@ module _ (limit : ℕ) (threads : List (Option ℕ)) (s : ObjectsState) where
       HasRoom limit t s.seen.bodies (state_ids x) → state_ready t s.seen.bodies x ≡ false →
       state_stands limit s t x ≡ true
   state-taken t (Pending mode ids) there room unready =
-      true-both (list_all (may_wait_for limit s t) ids) (not (list_ready mode t s.seen.bodies ids))
+      and_from (list_all (may_wait_for limit s t) ids) (not (list_ready mode t s.seen.bodies ids))
       (all_from (may_wait_for limit s t) ids nowhere (λ i lt. (let id = get_or ids i nowhere in
-      true-both (is_its id (get_or s.objects id.slot None)) (slot_room limit t (get_or s.seen.bodies id.slot None))
+      and_from (is_its id (get_or s.objects id.slot None)) (slot_room limit t (get_or s.seen.bodies id.slot None))
       (its_id (get_or s.objects id.slot None) id (there i lt)) (room.each i lt))))
       (ap not unready)
   state-taken t (Answered code) there room unready = refl
@@ -188,12 +189,12 @@ module _ (limit : ℕ) (threads : List (Option ℕ)) (s : ObjectsState) where
       WaitHasRoom limit s.seen.bodies w → is_ready s.seen.bodies w ≡ false → stands w ≡ true
   wait-taken None live there room unready = refl
   wait-taken (Some w) live there room unready =
-      true-both (is_some (get_or threads w.thread None)) (state_stands limit s w.thread w.state)
+      and_from (is_some (get_or threads w.thread None)) (state_stands limit s w.thread w.state)
       (live w.thread refl) (state-taken w.thread w.state there room unready)
 
   module _ (waits : List (Option Wait)) (all : all_stand limit threads waits s ≡ true) where
     fits : waits_stand limit threads waits s ≡ true
-    fits = (both-true (waits_stand limit threads waits s) (owners_stand threads s) all).0
+    fits = (and_parts (waits_stand limit threads waits s) (owners_stand threads s) all).0
 
     each-fits : (n : ℕ) → stands (get_or waits n None) ≡ true
     each-fits n = all_at (λ (w : Option Wait). stands w) waits None refl fits n
@@ -205,7 +206,7 @@ module _ (limit : ℕ) (threads : List (Option ℕ)) (s : ObjectsState) where
     stands_live = record {
       owners = λ k. live_at threads (slot_owner (get_or s.seen.bodies k None))
           (all_at (owner_stands threads) s.seen.bodies None refl
-          (both-true (waits_stand limit threads waits s) (owners_stand threads s) all).1 k);
+          (and_parts (waits_stand limit threads waits s) (owners_stand threads s) all).1 k);
       waiters = λ n t. wait-live t (get_or waits n None) (each-fits n);
     }
 
@@ -219,7 +220,7 @@ module _ (limit : ℕ) (threads : List (Option ℕ)) (s : ObjectsState) where
       IsNamed s.objects tables waits → AreOfLive threads s.seen.bodies waits → IsQuiet limit s.seen.bodies waits →
       all_stand limit threads waits s ≡ true
   all_taken tables waits named live quiet =
-      true-both (waits_stand limit threads waits s) (owners_stand threads s)
+      and_from (waits_stand limit threads waits s) (owners_stand threads s)
       (all_from (λ (w : Option Wait). stands w) waits None (λ n lt. wait-taken (get_or waits n None) (live.waiters n)
       (λ i in'. named.blocks _ (place_counted s.objects tables waits named n i lt in'))
       (quiet.room.each n) (quiet.settled.each n)))

@@ -1,14 +1,14 @@
 -- Slots that are read one after the other.
 use Rattle.std.proofs.Common.{◌≡◌, ℕ, zero, suc, ◌+◌, ◌-◌, ◌<◌, ◌≤◌, ◌&&◌, not, Bool, true, false, ltb, List, [], ◌∷◌, ◌++◌, length, get_or, set, map, Option, Some, None, Ok, Err, refl, sym, ap, ◌∙◌, subst, append_assoc, arith, length-append}
 use Rattle.std.specs.Prelude.{is_none, replicate}
-use Rattle.std.proofs.lemmas.Bool.{lt-ltb}
+use Rattle.std.proofs.lemmas.Bool.{and_from, and_parts, lt-ltb}
 use Rattle.std.proofs.lemmas.List.{set_at, map-append, length-map, append-nil, set-get_or, get_or-replicate, length-replicate}
 use Rattle.ob_arena.specs.Slots.{is_vacant_at}
 use Rattle.ob_codec.specs.declared.fault.ReadFault.{ReadFault}
 use Rattle.ob_codec.specs.declared.fault.ReadFault.TheVariants.{Memory, Text}
 use Rattle.ob_codec.specs.declared.fault.TextFault.TheVariants.{Value}
 use Rattle.ob_codec.specs.Reading.{◌>>=◌, Fails, Read, items_at}
-use Rattle.ob_codec.specs.Steps.{bind_ok, both-true, guard_passed, true-both}
+use Rattle.ob_codec.specs.Steps.{bind_ok, guard_passed}
 use Rattle.ob_codec.proofs.Loop.{with_front, goes_on, ends, is_done}
 use Rattle.pin_core.specs.declared.world.Slot.{Slot}
 use Rattle.ob_store.specs.declared.saved_slot.SavedObject.{SavedObject}
@@ -141,9 +141,9 @@ module _ (n i : ℕ) (xs : List SavedSlot) (long : length xs ≡ i) (lt : i < n)
       let objects = begun None n i (objects_from 0 xs) in
       let retired = begun false n i (map is_retired xs) in
       let wide : length objects ≡ n = length-begun None n i (objects_from 0 xs) objects-are (omega arith) in
-      true-both (ltb i (length objects)) (is_none (get_or objects i None) && not (get_or retired i false))
+      and_from (ltb i (length objects)) (is_none (get_or objects i None) && not (get_or retired i false))
       (lt-ltb i (length objects) (omega arith))
-      (true-both (is_none (get_or objects i None)) (not (get_or retired i false)) (ap is_none empty-at.object)
+      (and_from (is_none (get_or objects i None)) (not (get_or retired i false)) (ap is_none empty-at.object)
       (ap not empty-at.retired))
 
   pub written-next : (x : SavedSlot) → written (so_far n i xs) i x ≡ so_far n (i + 1) (xs ++ x ∷ [])
@@ -172,10 +172,10 @@ slot-stands max_gen clock bytes after x e =
 pub retired-apart : (max_gen clock : ℕ) (x : SavedSlot) → slot_stands max_gen clock x ≡ true → x.retired ≡ true →
     is_none x.object ≡ true
 retired-apart max_gen clock x e is =
-    by x.retired is (both-true (may_retire max_gen x) (object_stands clock x.object) (both-true _ _ e).1).0
+    by x.retired is (and_parts (may_retire max_gen x) (object_stands clock x.object) (and_parts _ _ e).1).0
   where
     by : (b : Bool) → b ≡ true → may_retire max_gen (record x { retired = b }) ≡ true → is_none x.object ≡ true
-    by true is e = (both-true _ (is_none x.object) e).1
+    by true is e = (and_parts _ (is_none x.object) e).1
     by false is e = absurd (cc is)
 
 -- what a loop has read of n slots once it stands at the slot i

@@ -1,5 +1,6 @@
 -- The names that a load enters are the directory, where no name stands twice.
 use Rattle.std.proofs.Common.{◌≡◌, ◌≢◌, ℕ, zero, suc, ◌+◌, ◌≤◌, ◌&&◌, Bool, true, false, cond, ltb, List, [], ◌∷◌, ◌++◌, length, get_or, is_none, Option, Some, None, Ok, Err, refl, sym, ap, ◌∙◌, subst, arith, inl, inr, eq-eqb}
+use Rattle.std.proofs.lemmas.Option.{same_Some}
 use Rattle.std.specs.BTreeMap.{is_at}
 use Rattle.std.specs.List.{AllByRecursion, IsDistinct, cons_option, filter_map}
 use Rattle.std.specs.Map.{keys_of, values_of}
@@ -31,9 +32,6 @@ use Rattle.ob_store.proofs.NamedLaws.{handles_are}
 use Rattle.ob_store.proofs.SavedBirthLaws.{at_other, at_same, taken}
 use Rattle.ob_store.proofs.SavedOrderLaws.{IsOrder, Rises, is_order, none_below}
 
-some-same : (j k : ℕ) → ◌≡◌ {A = Option ℕ} (Some j) (Some k) → j ≡ k
-some-same j k e = cc
-
 cons_end : {A : Type 0} (xs ys : List A) (o : Option A) → xs ++ cons_option o [] ++ ys ≡ xs ++ cons_option o ys
 cons_end xs ys None = ap (λ l. l ++ ys) (append-nil xs)
 cons_end xs ys (Some a) = append_assoc xs (a ∷ []) ys
@@ -64,7 +62,7 @@ module _ (ts : Tables) (p : Places) (births : ℕ) (order : Births) (is : IsOrde
       let own = is.own b k at in
       picks_only (row_of ts b) p.objects k (some_within p.objects k own.0 own.1) refl
       (λ j other. none-other b j (get_or p.objects j None) refl
-      (λ o there born. other (some-same j k (sym (is.each j o there) ∙ ap (taken order) born ∙ at)))) ∙
+      (λ o there born. other (same_Some j k (sym (is.each j o there) ∙ ap (taken order) born ∙ at)))) ∙
       ap (λ r. cons_option r []) (one-row b k own.0 own.1 own.2)
 
   -- the rows of one birth come behind those of the ones before it

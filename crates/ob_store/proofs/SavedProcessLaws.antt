@@ -1,10 +1,9 @@
 -- Processes and threads are read as they were spelled, and what is read is kept.
 use Rattle.std.proofs.Common.{◌≡◌, ℕ, ◌<◌, ◌≤◌, ◌+◌, ◌&&◌, Bool, List, None, Option, Some, ap, arith, get_or, leb, length, refl, subst, true}
 use Rattle.std.specs.Prelude.{IfSome, is_some, not}
-use Rattle.std.proofs.lemmas.Bool.{le-leb, leb-true}
+use Rattle.std.proofs.lemmas.Bool.{and_from, and_parts, le-leb, leb-true}
 use Rattle.ob_codec.specs.Codecs.{as_codec, both_codec, list_codec, option_codec, u32_codec, where_codec}
 use Rattle.ob_codec.specs.Laws.{IsCodec}
-use Rattle.ob_codec.specs.Steps.{both-true, true-both}
 use Rattle.ob_store.specs.declared.limits.Limits.{Limits}
 use Rattle.ob_store.specs.Kept.{IsLive, ProcessesKept}
 use Rattle.ob_store.specs.Processes.{IsFromOne, ProcessesState}
@@ -36,17 +35,17 @@ module _ (limit : ℕ) (xs : List (Option ℕ)) where
   none = not (is_some (get_or xs 0 None))
 
   pub few_numbers : are_numbers limit xs ≡ true → length xs ≤ limit + 1
-  few_numbers e = leb-true (length xs) (limit + 1) (both-true some few (both-true (some && few) none e).0).1
+  few_numbers e = leb-true (length xs) (limit + 1) (and_parts some few (and_parts (some && few) none e).0).1
 
   pub from_one : are_numbers limit xs ≡ true → IsFromOne xs
-  from_one e = let b = both-true (some && few) none e in record {
-    some = (let le = leb-true 1 (length xs) (both-true some few b.0).0 in omega (arith, le));
+  from_one e = let b = and_parts (some && few) none e in record {
+    some = (let le = leb-true 1 (length xs) (and_parts some few b.0).0 in omega (arith, le));
     none = none_not (get_or xs 0 None) b.1;
   }
 
   numbers_pass : length xs ≤ limit + 1 → IsFromOne xs → are_numbers limit xs ≡ true
-  numbers_pass most is = true-both (some && few) none
-      (true-both some few (le-leb 1 (length xs) (let s = is.some in omega (arith, s)))
+  numbers_pass most is = and_from (some && few) none
+      (and_from some few (le-leb 1 (length xs) (let s = is.some in omega (arith, s)))
       (le-leb (length xs) (limit + 1) most)) (ap (λ (x : Option ℕ). not (is_some x)) is.none)
 
 -- what they say of threads
@@ -73,19 +72,6 @@ module _ (ps : List (Option ℕ)) where
       by : (x : Option ℕ) → get_or ts t None ≡ x → IfSome x (λ p. p < length ps)
       by None is = tt
       by (Some p) is = live_within ps p (live_read ts e t p is)
-
--- what passes the tests is kept, and what is kept passes them
-pub kept_read : (limits : Limits) (l : ProcessesState) → are_numbers limits.processes l.processes ≡ true
-    → are_numbers limits.threads l.threads ≡ true → are_of_live (lists_of l) ≡ true
-    → ProcessesKept limits l (length l.processes)
-kept_read limits l processes threads live = record {
-  few_processes = few_numbers limits.processes l.processes processes;
-  few_threads = few_numbers limits.threads l.threads threads;
-  processes_from_one = from_one limits.processes l.processes processes;
-  threads_from_one = from_one limits.threads l.threads threads;
-  tabled = refl;
-  live = live_read l.processes l.threads live;
-}
 
 pub kept_fits : (limits : Limits) (l : ProcessesState) (tables : ℕ) → ProcessesKept limits l tables → ListsFit l
     → ProcessesFit limits.processes limits.threads l

@@ -1,12 +1,12 @@
 -- What is known of slots that were read.
 use Rattle.std.proofs.Common.{◌≡◌, ℕ, zero, suc, ◌<◌, ◌≤◌, ◌&&◌, Bool, true, false, eqb, leb, List, [], ◌∷◌, length, get_or, Option, Some, None, Ok, refl, sym, ap, ◌∙◌, subst, arith}
 use Rattle.std.specs.Prelude.{is_none}
-use Rattle.std.proofs.lemmas.Bool.{eqb-true, leb-true, ltb-true}
+use Rattle.std.proofs.lemmas.Bool.{and_parts, eqb-true, leb-true, ltb-true}
 use Rattle.std.proofs.lemmas.Grind.{common_steps}
 use Rattle.ob_codec.specs.declared.fault.TextFault.TheVariants.{Value}
 use Rattle.ob_codec.specs.Reading.{◌>>=◌, Read, as_at, both_at, given_at, items_at, number_at, option_at, some_at}
 use Rattle.ob_codec.specs.Reading as reading
-use Rattle.ob_codec.specs.Steps.{bind_ok, both-true, guard_passed, ok_is}
+use Rattle.ob_codec.specs.Steps.{bind_ok, guard_passed, ok_is}
 use Rattle.std.specs.Int.{w32, w64}
 use Rattle.ob_name.specs.Names.{ObjectName}
 use Rattle.ob_name.specs.Spelling.{name_text_at}
@@ -154,7 +154,7 @@ retired-bare max_gen x e is = by x.retired is e
   where
     by : (b : Bool) → b ≡ true → may_retire max_gen (record x { retired = b }) ≡ true → (x.generation ≡ max_gen) ×
         (is_none x.object ≡ true)
-    by true is e = let t = both-true (eqb x.generation max_gen) (is_none x.object) e in
+    by true is e = let t = and_parts (eqb x.generation max_gen) (is_none x.object) e in
         (eqb-true x.generation max_gen t.0, t.1)
     by false is e = absurd (cc is)
 
@@ -163,17 +163,17 @@ module _ (max_gen clock : ℕ) (x : SavedSlot) (sound : IsSound max_gen clock x)
   rest = may_retire max_gen x && object_stands clock x.object
 
   parts : ((leb 1 x.generation && leb x.generation max_gen) ≡ true) × (rest ≡ true)
-  parts = both-true (leb 1 x.generation && leb x.generation max_gen) rest sound.stands
+  parts = and_parts (leb 1 x.generation && leb x.generation max_gen) rest sound.stands
 
   pub slot_aged : (1 ≤ x.generation) × (x.generation ≤ max_gen)
-  slot_aged = let a = both-true (leb 1 x.generation) (leb x.generation max_gen) parts.0 in
+  slot_aged = let a = and_parts (leb 1 x.generation) (leb x.generation max_gen) parts.0 in
       (leb-true 1 x.generation a.0, leb-true x.generation max_gen a.1)
 
   pub slot_retires : x.retired ≡ true → (x.generation ≡ max_gen) × (is_none x.object ≡ true)
-  slot_retires = retired-bare max_gen x (both-true (may_retire max_gen x) (object_stands clock x.object) parts.1).0
+  slot_retires = retired-bare max_gen x (and_parts (may_retire max_gen x) (object_stands clock x.object) parts.1).0
 
   stands : object_stands clock x.object ≡ true
-  stands = (both-true (may_retire max_gen x) (object_stands clock x.object) parts.1).1
+  stands = (and_parts (may_retire max_gen x) (object_stands clock x.object) parts.1).1
 
   pub slot_agrees : (k : ℕ) → Agrees k (object_from k x) (body_from x) x.retired (keeper_slot x)
   slot_agrees k = by x.object x.retired (λ r. (slot_retires r).1)
@@ -211,7 +211,7 @@ module _ (max_gen clock : ℕ) (x : SavedSlot) (sound : IsSound max_gen clock x)
   body-formed : (d : Descr) (b : Body) → body_stands clock d (Some b) ≡ true → (unset (form_of b) ≡ form_in d) ×
       IsAfter clock (due_of b)
   body-formed d b e =
-      let t = both-true (same_descr (descr_of b) d) (is_after clock (due_of b)) e in
+      let t = and_parts (same_descr (descr_of b) d) (is_after clock (due_of b)) e in
       (ap form_in (same_of_descr (descr_of b) d t.0), later (due_of b) t.1)
     where
       later : (due : Option ℕ) → is_after clock due ≡ true → IsAfter clock due

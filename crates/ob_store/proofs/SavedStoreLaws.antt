@@ -2,7 +2,7 @@
 use Rattle.std.proofs.Common.{◌≡◌, ℕ, suc, ◌+◌, ◌*◌, ◌<◌, ◌≤◌, ◌^◌, ◌&&◌, leb, ltb, Bool, true, false, cond, List, [], ◌∷◌, ◌++◌, length, get_or, map, Option, Some, None, Ok, Err, append_assoc, refl, sym, ap, ◌∙◌, subst, arith}
 use Rattle.std.specs.Int.{w32, w64, to_le_bytes}
 use Rattle.std.specs.List.{AllByRecursion, flat_map}
-use Rattle.std.proofs.lemmas.Bool.{eq-eqb, eqb-true, le-leb, le-ltb, leb-true, lt-ltb}
+use Rattle.std.proofs.lemmas.Bool.{and_from, and_parts, eq-eqb, eqb-true, le-leb, le-ltb, leb-true, lt-ltb}
 use Rattle.std.proofs.lemmas.List.{ext_get_or, get_or-map, length-append, length-map}
 use Rattle.std.proofs.lemmas.List.Concat.{flat_map-cons}
 use Rattle.std.proofs.lemmas.List.FromFn.{get_or-map-range_with_len, length-map-range_with_len}
@@ -11,7 +11,7 @@ use Rattle.ob_codec.specs.Laws.{IsCodec, Takes}
 use Rattle.ob_codec.specs.Reading.{has_at, list_at, where_at}
 use Rattle.ob_codec.specs.Sparse.{sparse_at}
 use Rattle.ob_codec.specs.Spelling.{AreBytes, flag, option}
-use Rattle.ob_codec.specs.Steps.{bind_ok, both-true, guard_passed, ok_is, true-both}
+use Rattle.ob_codec.specs.Steps.{bind_ok, guard_passed, ok_is}
 use Rattle.ob_codec.specs.declared.fault.TextFault.TheVariants.{Short, Value}
 use Rattle.pin_core.specs.declared.id.Id.{Id}
 use Rattle.pin_core.specs.declared.shape.Shape.{Shape}
@@ -101,8 +101,8 @@ generations_back s wide =
 tables_bounded : (limits : Limits) (t : HandleTables) → t.process_limit ≡ limits.processes → t.handle_limit ≡
     limits.handles → TablesFit t → IsBounded t.process_limit t.handle_limit t.tables
 tables_bounded limits t few short fits =
-    let b = both-true (leb 1 (length t.tables) && leb (length t.tables) (t.process_limit + 1)) _ fits.1 in
-    let n = both-true (leb 1 (length t.tables)) (leb (length t.tables) (t.process_limit + 1)) b.0 in
+    let b = and_parts (leb 1 (length t.tables) && leb (length t.tables) (t.process_limit + 1)) _ fits.1 in
+    let n = and_parts (leb 1 (length t.tables)) (leb (length t.tables) (t.process_limit + 1)) b.0 in
     record {
       few_processes = (let most = limits.in_range.processes_in_range.1 in omega (arith, few, most));
       few_handles = (let most = limits.in_range.handles_in_range.1 in omega (arith, short, most));
@@ -131,7 +131,7 @@ module _ (p : PartsState) (kept : IsKept p) (tied : IsTied p.objects) where
   wait-within : (w : Option Wait) → ((t : ℕ) → thread_of w ≡ Some t → IsLive p.processes.threads t)
       → are_below p.limits.slots (ids_of w) ≡ true → is_within (length p.processes.threads) p.limits.slots w ≡ true
   wait-within None live below = refl
-  wait-within (Some w) live below = true-both (ltb w.thread (length p.processes.threads)) (are_below p.limits.slots _)
+  wait-within (Some w) live below = and_from (ltb w.thread (length p.processes.threads)) (are_below p.limits.slots _)
       (lt-ltb w.thread (length p.processes.threads) (live_within p.processes.threads w.thread (live w.thread refl)))
       below
 

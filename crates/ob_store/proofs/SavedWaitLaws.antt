@@ -1,11 +1,10 @@
 -- The blocks that are counted of objects that were read, and the tests of their waits and owners.
 use Rattle.std.proofs.Common.{◌≡◌, ℕ, zero, suc, ◌+◌, ◌<◌, ◌≤◌, ◌&&◌, Bool, true, false, List, [], ◌∷◌, length, get_or, set, map, Option, Some, None, refl, sym, ap, ◌∙◌, subst, arith, inl, inr}
 use Rattle.std.specs.Prelude.{is_some}
-use Rattle.std.proofs.lemmas.Bool.{cases_eq, ltb-true}
+use Rattle.std.proofs.lemmas.Bool.{and_parts, cases_eq, ltb-true}
 use Rattle.std.proofs.lemmas.List.{ext_get_or, get_or-map, get_or-set_other, get_or-set_same, length-map, length-set, set-get_or}
 use Rattle.std.proofs.lemmas.List.Quantifiers.{position-Some}
 use Rattle.ob_arena.specs.Slots.{Slots}
-use Rattle.ob_codec.specs.Steps.{both-true}
 use Rattle.pin_core.specs.declared.id.Id.{Id}
 use Rattle.ob_waits.specs.Rules.{IsKept, thread_of}
 use Rattle.ob_waits.specs.Spelling.{are_within, is_within}
@@ -171,4 +170,4 @@ module _ (limit : ℕ) (threads : List (Option ℕ)) (s : ObjectsState) (waits :
           subst (λ (x : Option Wait). is_within bound slots x ≡ true) is
           (all_at (is_within bound slots) waits None refl within n) in
           ap (λ (x : Option Wait). stands x) (sym (its-wait kept n w is)) ∙
-          each w.thread (ltb-true w.thread bound (both-true _ _ here).0)
+          each w.thread (ltb-true w.thread bound (and_parts _ _ here).0)

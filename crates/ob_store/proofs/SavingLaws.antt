@@ -43,13 +43,3 @@ pub eight_behind : (o a b c d e f g h s t u v w x y z : List ℕ) → s ≡ o ++
 eight_behind o a b c d e f g h s t u v w x y z p1 p2 p3 p4 p5 p6 p7 p8 =
     four_before o a b c d (e ++ (f ++ (g ++ h))) v z (four_behind o a b c d s t u v p1 p2 p3 p4)
     (four_behind v e f g h w x y z p5 p6 p7 p8)
-
--- an object that was looked up is what is saved
-pub looked_saved : {F : Type 0} (found : Option F) (object : Option Object) (body : Option Body) (to_object : F →
-    Object) (to_body : F → Option Body) →
-    object ≡ option_map to_object found → IfSome found (λ f. body ≡ to_body f) →
-    option_map (λ f. saved_of (to_object f) (to_body f)) found ≡ object_saved object body
-looked_saved None object body to_object to_body is has = sym (ap (λ (o : Option Object). object_saved o body) is)
-looked_saved (Some f) object body to_object to_body is has =
-    ap (λ (b : Option Body). Some (saved_of (to_object f) b)) (sym has) ∙
-    sym (ap (λ (o : Option Object). object_saved o body) is)

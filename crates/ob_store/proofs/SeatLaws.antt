@@ -242,7 +242,7 @@ seen_absent xs id none =
       blocks = (sym (set-get_or (map seat_blocks xs) id.slot 0) ∙ ap (set (map seat_blocks xs) id.slot) less) i;
     }
 
-map-replicate : {A B : Type 0} (f : A → B) (x : A) (n : ℕ) → map f (replicate n x) ≡ replicate n (f x)
+pub map-replicate : {A B : Type 0} (f : A → B) (x : A) (n : ℕ) → map f (replicate n x) ≡ replicate n (f x)
 map-replicate f x zero = refl
 map-replicate f x (suc n) = ap (λ t. f x ∷ t) (map-replicate f x n)
 

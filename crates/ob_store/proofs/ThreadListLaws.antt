@@ -79,37 +79,6 @@ no_live (x ∷ ts) p none = let a = sum_by-cons (one_in p) x ts in let b = no_li
     here None other = refl
     here (Some q) other = one_other [] q p (λ same. other (ap Some (sym same)))
 
--- number 0 alone
-pub threads_none : AreThreadLists 1 (None ∷ []) no_lists
-threads_none = record {
-  lists_long = refl;
-  links_long = refl;
-  few = omega arith;
-  counted = λ p lt. ap (λ (g : ThreadList). g.live) (at_list p)
-      ∙ sym (no_live (None ∷ []) p (λ t h. let a = at_none t in cc (a, h)));
-  given = λ t p h. absurd (let a = at_none t in cc (a, h));
-  next = λ p t u below few mine same since less. absurd (omega (arith, few, less));
-  ending = λ p below some. (
-    let a = ap (λ (g : ThreadList). g.last) (at_list p) in
-        omega (arith, a),
-    ap (λ (x : ThreadLink). x.process) (at_link (list_at no_lists p).last)
-        ∙ (omega (arith, below)),
-  );
-  last = λ p t below few mine. omega (arith, few);
-}
-  where
-    at_none : (t : ℕ) → get_or {A = Option ℕ} (None ∷ []) t None ≡ None
-    at_none zero = refl
-    at_none (suc t) = refl
-
-    at_list : (p : ℕ) → list_at no_lists p ≡ no_list
-    at_list zero = refl
-    at_list (suc p) = refl
-
-    at_link : (t : ℕ) → link_at no_lists t ≡ no_link
-    at_link zero = refl
-    at_link (suc t) = refl
-
 -- the next process, with the next thread
 module _ (n : ℕ) (ts : List (Option ℕ)) (m : ThreadListsState) (are : AreThreadLists n ts m)
     (few : length ts ≤ 65536) where
@@ -579,10 +548,6 @@ module _ (n : ℕ) (ts : List (Option ℕ)) (m : ThreadListsState) (are : AreThr
       (gone_at_end ts 0) (threads_less n (ts ++ Some 0 ∷ []) (with_link m 0) (length ts) 0
       (threads_grown n ts m 0 are some few) (get_or-append_seam ts (Some 0) [] None))
   threads_placed (Some p) some known = threads_grown n ts m p are known few
-
--- a number that is gone already
-pub gone_same : (ts : List (Option ℕ)) (t : ℕ) → get_or ts t None ≡ None → set ts t None ≡ ts
-gone_same ts t none = ap (set ts t) (sym none) ∙ set-get_or ts t None
 
 -- the process that was added last is taken back, with its thread
 module _ (n n' : ℕ) (ts ts' : List (Option ℕ)) (m m' : ThreadListsState) (are : AreThreadLists n ts m)

@@ -79,19 +79,6 @@ due_within now bodies k due = elim (cases_lt k (length bodies)) [
   | inr past ↦ absurd (let none = ap (slot_is_due now) (get_or_past bodies k None past) in cc (none, due))
 ]
 
-pub fewer_due : (now k : ℕ) (o p : Objects) → p ≡ changed_at o k (slot_fired now)
-    → slot_is_due now (get_or o.bodies k None) ≡ true
-    → count_by (slot_is_due now) p.bodies < count_by (slot_is_due now) o.bodies
-fewer_due now k o p is due =
-    let f : Option Body → ℕ = λ x. cond (slot_is_due now x) 1 0 in
-    let y = slot_fired now (get_or o.bodies k None) in
-    let a = sum_by-set f o.bodies k y None (due_within now o.bodies k due) in
-    let one : f (get_or o.bodies k None) ≡ 1 = ap {B = ℕ} (λ b. cond b 1 0) due in
-    let zero : f y ≡ 0 = ap {B = ℕ} (λ b. cond b 1 0) (fired_done now (get_or o.bodies k None)) in
-    let same : count_by (slot_is_due now) p.bodies ≡ count_by (slot_is_due now) (set o.bodies k y) =
-    ap (λ (z : Objects). count_by (slot_is_due now) z.bodies) is in
-    omega (arith, a, one, zero, same)
-
 -- what holds of a body holds of it once it fired
 unset_fired : (now : ℕ) (b : Body) → unset (form_of (after_fire now b)) ≡ unset (form_of b)
 unset_fired now (Event e) = refl

@@ -1,5 +1,6 @@
 -- What holds of objects and their keeper holds after each change.
 use Rattle.std.proofs.Common.{◌≡◌, ◌≢◌, ℕ, ◌+◌, ◌<◌, ◌≤◌, List, length, Option, Some, None, refl, ap, ◌∙◌, sym, subst, arith, get_or, set, Bool, true, false, cond, ltb}
+use Rattle.std.proofs.lemmas.Bool.{and_parts}
 use Rattle.std.specs.Prelude.{is_some, ◌&&◌}
 use Rattle.std.proofs.lemmas.List.{length-set, get_or-set_same, get_or-set_other, set-get_or}
 use Rattle.std.proofs.lemmas.Bool.Decides.{nat_tests}
@@ -73,16 +74,12 @@ births_few s h =
     (subst (λ (n : ℕ). AreAged n s.keeper.shape.max_gen s.keeper.slots) (sym wide) h.aged) in
     omega (arith, h.made, bound)
 
-pub both : (a b : Bool) → a && b ≡ true → (a ≡ true) × (b ≡ true)
-both true b h = (refl, h)
-both false b h = absurd (cc h)
-
 -- the last handle of an object leaves
 pub tied_handle_left : (s : ObjectsState) (k : ℕ) → 0 < get_or s.seen.handles k 0
     → is_some (body_at s k) && is_last_handle (places_in s) k ≡ true → IsTied s
     → IsTied (with_keeper (without_handle (places_in s) k) s.births (closed s.keeper k))
 tied_handle_left s k some ends h =
-    let is = both (is_some (body_at s k)) (is_last_handle (places_in s) k) ends in
+    let is = and_parts (is_some (body_at s k)) (is_last_handle (places_in s) k) ends in
     tied_ended s (without_handle (places_in s) k).seen k
     (ap (λ b. cond b (set s.seen.bodies k None) s.seen.bodies) is.1) is.0
     (bodied_handle_left (places_in s) k some h.bodied) h
@@ -105,7 +102,7 @@ module _ (s : ObjectsState) (q : Places) (id : Id) (seen : q.seen ≡ without_bl
   pub tied_block_ended : is_some (body_at s id.slot) && is_last_block (places_in s) id.slot ≡ true
       → IsTied (with_keeper q s.births (closed s.keeper id.slot))
   tied_block_ended ends =
-      let is = both (is_some (body_at s id.slot)) (is_last_block (places_in s) id.slot) ends in
+      let is = and_parts (is_some (body_at s id.slot)) (is_last_block (places_in s) id.slot) ends in
       subst (λ (p : Places). IsTied (with_keeper p s.births (closed s.keeper id.slot))) (sym left)
       (tied_ended s (without_block s.seen id) id.slot
       (ap (λ b. cond b (set s.seen.bodies id.slot None) s.seen.bodies) is.1) is.0 (ends_left id s.seen h.bodied) h)

@@ -144,23 +144,6 @@ time_out_last s now still none =
     ∙ ap (λ (ws : List (Option Wait)). settled (record s { clock = now; waits = ws }))
     (sym (none_lapsed now s.waits none))
 
--- what is kept is kept at a later moment, before which nothing is due
-pub kept_passed : (p : PartsState) (now : ℕ) → ((k : ℕ) → slot_is_due now (get_or p.objects.seen.bodies k None) ≡ false)
-    → IsKept p → IsKept (record p { waits = record p.waits { clock = now } })
-kept_passed p now undue kept = record {
-  sound = record {
-    limited = kept.sound.limited;
-    processes_kept = kept.sound.processes_kept;
-    counted = kept.sound.counted;
-    named = kept.sound.named;
-    formed = formed_now p.waits.clock now p.objects.objects p.objects.seen.bodies undue kept.sound.formed;
-    of_live = kept.sound.of_live;
-    room = kept.sound.room;
-    listing = kept.sound.listing;
-  };
-  settled = kept.settled;
-}
-
 -- settling makes no timer due
 pub undue_settled : (first : Scene) (after : Objects) (ws' : List (Option Wait)) (now : ℕ)
     → ◌≡◌ {A = Scene} (record { objects = after; waits = ws' }) (waits.settled first)

@@ -43,20 +43,10 @@ pub timed_stays : (xs : List (Option Seat)) (dues : List (Option ℕ)) (k : ℕ)
     → get_or xs k None ≡ Some x → slot_due y.body ≡ slot_due x.body → dues ≡ map seat_due (set xs k (Some y))
 timed_stays xs dues k x y timed there same = timed_same xs dues k (Some y) timed (same ∙ sym (ap seat_due there))
 
--- what a seat has, where it is
-pub timed_at : (xs : List (Option Seat)) (dues : List (Option ℕ)) (k : ℕ) (x : Seat) → dues ≡ map seat_due xs
-    → get_or xs k None ≡ Some x → get_or dues k None ≡ slot_due x.body
-timed_at xs dues k x timed there = ap (λ (z : List (Option ℕ)). get_or z k None) timed ∙ read seat_due xs k
-    ∙ ap seat_due there
-
 pub timed_within : (xs : List (Option Seat)) (dues : List (Option ℕ)) (k : ℕ) → dues ≡ map seat_due xs → k < length xs
     → k < length dues
 timed_within xs dues k timed lt = let a : length dues ≡ length (map seat_due xs) =
     ap (λ (z : List (Option ℕ)). length z) timed in let b = length-map xs seat_due in omega (arith, a, b, lt)
-
-pub seated_within : (xs : List (Option Seat)) (dues : List (Option ℕ)) (k : ℕ) (x : Seat) → dues ≡ map seat_due xs
-    → get_or xs k None ≡ Some x → k < length dues
-seated_within xs dues k x timed there = timed_within xs dues k timed (some_there xs k x there)
 
 -- a body goes, or stays
 pub timed_left_at : (xs : List (Option Seat)) (dues : List (Option ℕ)) (k : ℕ) (x y : Seat) (b : Bool) (o : Option Body)

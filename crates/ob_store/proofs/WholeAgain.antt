@@ -3,10 +3,9 @@ use Rattle.std.proofs.Common.{◌≡◌, ◌≢◌, ℕ, zero, suc, ◌+◌, ◌
 use Rattle.std.specs.Prelude.{is_none, is_some}
 use Rattle.std.specs.BTreeMap.{insert_entry, is_at}
 use Rattle.std.specs.Ordering.{nat_cmp}
-use Rattle.std.proofs.lemmas.Bool.{lt-ltb}
+use Rattle.std.proofs.lemmas.Bool.{and_from, lt-ltb}
 use Rattle.ob_codec.specs.declared.fault.TextFault.TheVariants.{Value}
 use Rattle.ob_codec.specs.Reading.{◌>>=◌}
-use Rattle.ob_codec.specs.Steps.{true-both}
 use Rattle.ob_body.specs.declared.body.Body.{Body}
 use Rattle.ob_waits.specs.Objects as waits
 use Rattle.ob_waits.specs.Rules.{HasBodies}
@@ -48,7 +47,7 @@ from-again births so_far slot (Some x ∷ objects) fresh apart =
     )))
     (λ j k o p is it same. (let e = apart (suc j) (suc k) o p is it same in omega (arith, e))) in
     let may : (ltb x.birth births && is_none (taken so_far x.birth)) ≡ true =
-    true-both (ltb x.birth births) (is_none (taken so_far x.birth)) (lt-ltb x.birth births new.0)
+    and_from (ltb x.birth births) (is_none (taken so_far x.birth)) (lt-ltb x.birth births new.0)
     (ap is_none new.1) in (
       rest.0,
       ap (λ (b : Bool). cond b (Ok more) (Err Value) >>= λ (m : Births). births_from births m (suc slot) objects)
@@ -63,7 +62,7 @@ births_again objects births born = from-again births [] 0 objects (λ k o is. (b
 pub bodied_again : (o : waits.Objects) (n : ℕ) → HasBodies o → are_bodied o n ≡ true
 bodied_again o zero has = refl
 bodied_again o (suc n) has =
-    true-both (are_bodied o n) (is_bodied o n) (bodied_again o n has)
+    and_from (are_bodied o n) (is_bodied o n) (bodied_again o n has)
     (by (ltb 0 (get_or o.handles n 0 + get_or o.blocks n 0)) (get_or o.bodies n None) (has.each n))
   where
     by : (referred : Bool) (body : Option Body) → is_some body ≡ referred →

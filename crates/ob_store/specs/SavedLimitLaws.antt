@@ -2,28 +2,27 @@
 use Rattle.std.proofs.Common.{◌≡◌, ℕ, ◌<◌, ◌≤◌, ◌^◌, ◌&&◌, leb, Bool, true, false, Some, None, refl, sym, ap, subst, arith}
 use Rattle.std.specs.Int.{w32, to_le_bytes}
 use Rattle.std.proofs.Math.Bridge.{le_prop}
-use Rattle.std.proofs.lemmas.Bool.{le-leb}
+use Rattle.std.proofs.lemmas.Bool.{and_from, le-leb}
 use Rattle.ob_codec.specs.Codecs.{both_codec, some_codec, u32_codec}
 use Rattle.ob_codec.specs.Laws.{IsCodec}
 use Rattle.ob_codec.specs.Spelling.{Any, BothFit, both}
-use Rattle.ob_codec.specs.Steps.{true-both}
 use Rattle.ob_store.specs.declared.limits.Limits.{Limits}
 use Rattle.ob_store.specs.SavedLimits.{InRange, Numbers, are_in_range, in_range, is_up_to, limits_at, limits_of, limits_text, limits_where, limits_with, numbers_at, numbers_of}
 
 to_up : (most n : ℕ) → (1 ≤ n) × (n ≤ most) → is_up_to most n ≡ true
-to_up most n r = true-both (leb 1 n) (leb n most) (le-leb 1 n r.0) (le-leb n most r.1)
+to_up most n r = and_from (leb 1 n) (leb n most) (le-leb 1 n r.0) (le-leb n most r.1)
 
 range_in : (n : Numbers) → InRange n → are_in_range n ≡ true
 range_in n r =
-    true-both (is_up_to 65536 n.0 && is_up_to 65536 n.1.0) _
-    (true-both (is_up_to 65536 n.0) _ (to_up 65536 n.0 r.slots_in_range) (to_up 65536 n.1.0 r.processes_in_range))
-    (true-both (is_up_to 65536 n.1.1.0 && is_up_to 16384 n.1.1.1.0) _
-    (true-both (is_up_to 65536 n.1.1.0) _ (to_up 65536 n.1.1.0 r.threads_in_range)
+    and_from (is_up_to 65536 n.0 && is_up_to 65536 n.1.0) _
+    (and_from (is_up_to 65536 n.0) _ (to_up 65536 n.0 r.slots_in_range) (to_up 65536 n.1.0 r.processes_in_range))
+    (and_from (is_up_to 65536 n.1.1.0 && is_up_to 16384 n.1.1.1.0) _
+    (and_from (is_up_to 65536 n.1.1.0) _ (to_up 65536 n.1.1.0 r.threads_in_range)
     (to_up 16384 n.1.1.1.0 r.handles_in_range))
-    (true-both (is_up_to 4294967295 n.1.1.1.1.0 && is_up_to 1073741823 n.1.1.1.1.1.0) _
-    (true-both (is_up_to 4294967295 n.1.1.1.1.0) _ (to_up 4294967295 n.1.1.1.1.0 r.waits_in_range)
+    (and_from (is_up_to 4294967295 n.1.1.1.1.0 && is_up_to 1073741823 n.1.1.1.1.1.0) _
+    (and_from (is_up_to 4294967295 n.1.1.1.1.0) _ (to_up 4294967295 n.1.1.1.1.0 r.waits_in_range)
     (to_up 1073741823 n.1.1.1.1.1.0 r.max_pins_in_range))
-    (true-both (is_up_to 4294967295 n.1.1.1.1.1.1.0) _ (to_up 4294967295 n.1.1.1.1.1.1.0 r.max_gen_in_range)
+    (and_from (is_up_to 4294967295 n.1.1.1.1.1.1.0) _ (to_up 4294967295 n.1.1.1.1.1.1.0 r.max_gen_in_range)
     (to_up 2147483647 n.1.1.1.1.1.1.1 r.max_recursion_in_range))))
 
 -- a range holds in one way

@@ -1,10 +1,9 @@
 -- Limits as bytes: eight numbers of four bytes, in the order of the fields.
 use Rattle.std.proofs.Common.{◌≡◌, ℕ, ◌≤◌, ◌&&◌, leb, Bool, true, false, List, Option, Some, None, refl}
 use Rattle.std.specs.Int.{w32, to_le_bytes}
-use Rattle.std.proofs.lemmas.Bool.{leb-true}
+use Rattle.std.proofs.lemmas.Bool.{and_parts, leb-true}
 use Rattle.ob_codec.specs.Reading.{Read, both_at, number_at, some_at}
 use Rattle.ob_codec.specs.Spelling.{both}
-use Rattle.ob_codec.specs.Steps.{both-true}
 use Rattle.ob_store.specs.declared.limits.Limits.{Limits}
 use Rattle.ob_store.specs.Limits.{AreInRange}
 
@@ -37,17 +36,17 @@ abbrev pub InRange : Numbers → Type 0
 InRange n = AreInRange n.0 n.1.0 n.1.1.0 n.1.1.1.0 n.1.1.1.1.0 n.1.1.1.1.1.0 n.1.1.1.1.1.1.0 n.1.1.1.1.1.1.1
 
 up_to : (most n : ℕ) → is_up_to most n ≡ true → (1 ≤ n) × (n ≤ most)
-up_to most n e = let b = both-true (leb 1 n) (leb n most) e in (leb-true 1 n b.0, leb-true n most b.1)
+up_to most n e = let b = and_parts (leb 1 n) (leb n most) e in (leb-true 1 n b.0, leb-true n most b.1)
 
 pub in_range : (n : Numbers) → are_in_range n ≡ true → InRange n
 in_range n e =
-    let first = both-true (is_up_to 65536 n.0 && is_up_to 65536 n.1.0) _ e in
-    let second = both-true (is_up_to 65536 n.1.1.0 && is_up_to 16384 n.1.1.1.0) _ first.1 in
-    let third = both-true (is_up_to 4294967295 n.1.1.1.1.0 && is_up_to 1073741823 n.1.1.1.1.1.0) _ second.1 in
-    let a = both-true (is_up_to 65536 n.0) (is_up_to 65536 n.1.0) first.0 in
-    let b = both-true (is_up_to 65536 n.1.1.0) (is_up_to 16384 n.1.1.1.0) second.0 in
-    let c = both-true (is_up_to 4294967295 n.1.1.1.1.0) (is_up_to 1073741823 n.1.1.1.1.1.0) third.0 in
-    let d = both-true (is_up_to 4294967295 n.1.1.1.1.1.1.0) (is_up_to 2147483647 n.1.1.1.1.1.1.1) third.1 in
+    let first = and_parts (is_up_to 65536 n.0 && is_up_to 65536 n.1.0) _ e in
+    let second = and_parts (is_up_to 65536 n.1.1.0 && is_up_to 16384 n.1.1.1.0) _ first.1 in
+    let third = and_parts (is_up_to 4294967295 n.1.1.1.1.0 && is_up_to 1073741823 n.1.1.1.1.1.0) _ second.1 in
+    let a = and_parts (is_up_to 65536 n.0) (is_up_to 65536 n.1.0) first.0 in
+    let b = and_parts (is_up_to 65536 n.1.1.0) (is_up_to 16384 n.1.1.1.0) second.0 in
+    let c = and_parts (is_up_to 4294967295 n.1.1.1.1.0) (is_up_to 1073741823 n.1.1.1.1.1.0) third.0 in
+    let d = and_parts (is_up_to 4294967295 n.1.1.1.1.1.1.0) (is_up_to 2147483647 n.1.1.1.1.1.1.1) third.1 in
     record {
       slots_in_range = up_to 65536 n.0 a.0;
       processes_in_range = up_to 65536 n.1.0 a.1;

@@ -1,8 +1,7 @@
 -- Tables within their limits pass the tests of what is read.
 use Rattle.std.proofs.Common.{◌≡◌, ℕ, suc, ◌+◌, ◌≤◌, ◌&&◌, true, leb, List, [], ◌∷◌, length, Option, refl}
-use Rattle.std.proofs.lemmas.Bool.{le-leb}
+use Rattle.std.proofs.lemmas.Bool.{and_from, le-leb}
 use Rattle.std.specs.List.{list_all}
-use Rattle.ob_codec.specs.Steps.{true-both}
 use Rattle.ob_tables.specs.declared.entry.Entry.{Entry}
 use Rattle.ob_tables.specs.Spelling.{are_bounded, is_short}
 use Rattle.ob_tables.specs.Tables.{IsBounded, table_of}
@@ -11,13 +10,13 @@ all-short : (handles : ℕ) (tables : List (List (Option Entry)))
     → ((process : ℕ) → length (table_of tables process) ≤ handles) → list_all (is_short handles) tables ≡ true
 all-short handles [] short = refl
 all-short handles (table ∷ tables) short =
-    true-both (leb (length table) handles) (list_all (is_short handles) tables) (le-leb _ _ (short 0))
+    and_from (leb (length table) handles) (list_all (is_short handles) tables) (le-leb _ _ (short 0))
     (all-short handles tables (λ process. short (suc process)))
 
 pub bounded : (processes handles : ℕ) (tables : List (List (Option Entry))) → IsBounded processes handles tables
     → are_bounded processes handles tables ≡ true
 bounded processes handles tables is =
-    true-both (leb 1 (length tables) && leb (length tables) (processes + 1)) (list_all (is_short handles) tables)
-    (true-both (leb 1 (length tables)) (leb (length tables) (processes + 1)) (le-leb _ _ is.first)
+    and_from (leb 1 (length tables) && leb (length tables) (processes + 1)) (list_all (is_short handles) tables)
+    (and_from (leb 1 (length tables)) (leb (length tables) (processes + 1)) (le-leb _ _ is.first)
     (le-leb _ _ is.within))
     (all-short handles tables is.short)

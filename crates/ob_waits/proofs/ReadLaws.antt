@@ -2,14 +2,14 @@
 use Rattle.std.proofs.Common.{◌≡◌, Global, Vec, ℕ, zero, suc, Bool, true, false, cond, ◌&&◌, eqb, leb, ltb, eq-eqb, arith, ◌+◌, List, [], ◌∷◌, map, Option, Some, None, Result, Ok, Err, refl, ap, ◌∙◌, subst, sym}
 use Rattle.std.specs.Int.{w32}
 use Rattle.std.specs.List.{list_all}
-use Rattle.std.proofs.lemmas.Bool.{eqb-true, le-leb, leb-true, ltb-true}
+use Rattle.std.proofs.lemmas.Bool.{and_from, and_parts, eqb-true, le-leb, leb-true, ltb-true}
 use Rattle.ob_codec.specs.declared.fault.ReadFault.{ReadFault}
 use Rattle.ob_codec.specs.declared.fault.ReadFault.TheVariants.{Memory, Text}
 use Rattle.ob_codec.specs.declared.fault.TextFault.{TextFault}
 use Rattle.ob_codec.specs.declared.fault.TextFault.TheVariants.{Value}
 use Rattle.ob_codec.specs.Reading.{◌>>=◌, Fails, Gives, Read, given_at, items_at, list_at, number_at, where_at}
 use Rattle.ob_codec.specs.Sparse.{fits_from, sparse_at, spread, spread_from}
-use Rattle.ob_codec.specs.Steps.{bind_ok, both-true, guard_passed, ok_is, true-both}
+use Rattle.ob_codec.specs.Steps.{bind_ok, guard_passed, ok_is}
 use Rattle.ob_waits.specs.Rows.{built, rows_within, tested}
 use Rattle.ob_waits.specs.Spelling.{are_within, can_be, held_at, held_of, held_parts, is_within, row_at, wait_at, waits_at, with_rest}
 use Rattle.ob_waits.specs.Waits.{WaitList}
@@ -102,9 +102,9 @@ module _ (threads slots : ℕ) where
       → are_within threads slots (spread_from k n ps) ≡ list_all (row_within threads slots) ps
   places_pass k zero end [] is fits = refl
   places_pass k zero end (p ∷ ps) is fits =
-      let b = both-true (leb k p.0) (ltb p.0 end && fits_from (suc p.0) end ps) fits in
+      let b = and_parts (leb k p.0) (ltb p.0 end && fits_from (suc p.0) end ps) fits in
       let low = leb-true k p.0 b.0 in
-      let high = ltb-true p.0 end (both-true (ltb p.0 end) (fits_from (suc p.0) end ps) b.1).0 in
+      let high = ltb-true p.0 end (and_parts (ltb p.0 end) (fits_from (suc p.0) end ps) b.1).0 in
       absurd (omega (arith, is, low, high))
   places_pass k (suc n) end [] is fits = places_pass (suc k) n end [] (omega (arith, is)) refl
   places_pass k (suc n) end (p ∷ ps) is fits =
@@ -113,7 +113,7 @@ module _ (threads slots : ℕ) where
       (λ later. places_pass (suc k) n end (p ∷ ps) (omega (arith, is)) later)
     where
       b : (leb k p.0 ≡ true) × ((ltb p.0 end && fits_from (suc p.0) end ps) ≡ true)
-      b = both-true (leb k p.0) (ltb p.0 end && fits_from (suc p.0) end ps) fits
+      b = and_parts (leb k p.0) (ltb p.0 end && fits_from (suc p.0) end ps) fits
 
       by : (t : Bool) → eqb p.0 k ≡ t
           → (fits_from (suc k) end ps ≡ true
@@ -124,14 +124,14 @@ module _ (threads slots : ℕ) where
           (None ∷ spread_from (suc k) n (p ∷ ps)))
           ≡ list_all (row_within threads slots) (p ∷ ps)
       by true same one more =
-          let all : fits_from (suc p.0) end ps ≡ true = (both-true (ltb p.0 end) (fits_from (suc p.0) end ps) b.1).1 in
+          let all : fits_from (suc p.0) end ps ≡ true = (and_parts (ltb p.0 end) (fits_from (suc p.0) end ps) b.1).1 in
           let later = subst (λ (z : ℕ). fits_from (suc z) end ps ≡ true) (eqb-true p.0 k same) all in
           ap (λ (z : Bool). row_within threads slots p && z) (one later)
       by false apart one more =
           let low = leb-true k p.0 b.0 in
           let other : p.0 ≡ k → ⊥ = λ q. (let t = sym (eq-eqb p.0 k q) ∙ apart in absurd cc) in
           let above = le-leb (suc k) p.0 (omega (arith, low, other)) in
-          more (true-both (leb (suc k) p.0) (ltb p.0 end && fits_from (suc p.0) end ps) above b.1)
+          more (and_from (leb (suc k) p.0) (ltb p.0 end && fits_from (suc p.0) end ps) above b.1)
 
   pass_in_parts : (rows : List Held) → list_all (row_within threads slots) (map held_parts rows)
       ≡ rows_within threads slots rows

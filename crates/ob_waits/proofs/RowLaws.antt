@@ -3,7 +3,7 @@
 use Rattle.std.proofs.Common.{◌≡◌, ℕ, zero, suc, ◌+◌, ◌-◌, ◌<◌, ◌≤◌, ◌&&◌, ◌||◌, not, Bool, true, false, cond, leb, ltb, List, [], ◌∷◌, ◌++◌, length, replicate, Option, Some, None, Result, Ok, Err, refl, ap, ◌∙◌, sym, subst, arith, append_assoc, eq-eqb, ne_eqb, get_or}
 use Rattle.std.specs.List.{list_all, list_any}
 use Rattle.std.specs.Prelude.{is_some}
-use Rattle.std.proofs.lemmas.Bool.{le-leb, le-ltb, leb-false, leb-true, lt-leb, lt-ltb}
+use Rattle.std.proofs.lemmas.Bool.{and_parts, le-leb, le-ltb, leb-false, leb-true, lt-leb, lt-ltb}
 use Rattle.std.proofs.lemmas.Bool.Decides.{nat_tests}
 use Rattle.std.proofs.lemmas.List.{length_push}
 use Rattle.std.proofs.lemmas.List.Folds.{list_all-append}
@@ -14,7 +14,7 @@ use Rattle.ob_codec.specs.declared.fault.TextFault.TheVariants.{Value}
 use Rattle.ob_codec.specs.Reading.{Fails}
 use Rattle.ob_codec.specs.Sparse.{fits_from, spread, spread_from}
 use Rattle.ob_codec.specs.SparseLaws.{length-spread}
-use Rattle.ob_codec.specs.Steps.{both-true, guard_passed}
+use Rattle.ob_codec.specs.Steps.{guard_passed}
 use Rattle.ob_waits.specs.Rows.{come, may_come, tested, with_row}
 use Rattle.ob_waits.specs.Rules.{thread_of}
 use Rattle.ob_waits.specs.Spelling.{can_be, held_parts, may_stand, one_each}
@@ -143,9 +143,9 @@ left_all limit clock last ps = ap
 stands : (clock : ℕ) (w : Wait) (front back : List (Option Wait))
     → list_all (may_stand clock) (front ++ Some w ∷ back) ≡ true → may_stand clock (Some w) ≡ true
 stands clock w front back all =
-    let parts = both-true (list_all (may_stand clock) front) (list_all (may_stand clock) (Some w ∷ back))
+    let parts = and_parts (list_all (may_stand clock) front) (list_all (may_stand clock) (Some w ∷ back))
     (sym (list_all-append (may_stand clock) front (Some w ∷ back)) ∙ all) in
-    (both-true (may_stand clock (Some w)) (list_all (may_stand clock) back) parts.1).0
+    (and_parts (may_stand clock (Some w)) (list_all (may_stand clock) back) parts.1).0
 
 has_one : (t : ℕ) (w : Wait) (front back : List (Option Wait)) → t ≡ w.thread
     → list_any (is_waits_of t) (front ++ Some w ∷ back) ≡ true
@@ -163,14 +163,14 @@ alone w [] back one m own = cc (own)
 alone w (None ∷ front) back one zero own = cc (own)
 alone w (None ∷ front) back one (suc m) own = alone w front back one m own
 alone w (Some a ∷ front) back one zero own =
-    let parts = both-true (not (list_any (is_waits_of a.thread) (front ++ Some w ∷ back)))
+    let parts = and_parts (not (list_any (is_waits_of a.thread) (front ++ Some w ∷ back)))
     (one_each (front ++ Some w ∷ back)) one in
     let same : a.thread ≡ w.thread = cc (own) in
     let has = has_one a.thread w front back same in
     let none = parts.0 in
     cc (has, none)
 alone w (Some a ∷ front) back one (suc m) own =
-    alone w front back (both-true (not (list_any (is_waits_of a.thread) (front ++ Some w ∷ back)))
+    alone w front back (and_parts (not (list_any (is_waits_of a.thread) (front ++ Some w ∷ back)))
     (one_each (front ++ Some w ∷ back)) one).1 m own
 
 -- a wait among waits that can be
@@ -184,8 +184,8 @@ there limit clock n ws w back can = by (number_of w.thread ws) refl
 
     parts : (list_all (may_stand clock) (skipped n ws ++ Some w ∷ back) ≡ true)
         × (one_each (skipped n ws ++ Some w ∷ back) ≡ true)
-    parts = both-true (list_all (may_stand clock) all) (one_each all)
-        (both-true (leb (length all) (limit + 1) && not (is_some (get_or all 0 None)))
+    parts = and_parts (list_all (may_stand clock) all) (one_each all)
+        (and_parts (leb (length all) (limit + 1) && not (is_some (get_or all 0 None)))
         (list_all (may_stand clock) all && one_each all) can).1
 
     by : (o : Option ℕ) → number_of w.thread ws ≡ o → (may_stand clock (Some w) && not (is_some o)) ≡ true
@@ -256,14 +256,14 @@ comes last list held may = record {
   where
     parts : ((leb (length list.waits) held.number && leb held.number last) ≡ true)
         × ((may_stand list.clock (Some held.wait) && not (is_some (number_of held.wait.thread list.waits))) ≡ true)
-    parts = both-true (leb (length list.waits) held.number && leb held.number last)
+    parts = and_parts (leb (length list.waits) held.number && leb held.number last)
         (may_stand list.clock (Some held.wait) && not (is_some (number_of held.wait.thread list.waits))) may
 
     bounds : (leb (length list.waits) held.number ≡ true) × (leb held.number last ≡ true)
-    bounds = both-true (leb (length list.waits) held.number) (leb held.number last) parts.0
+    bounds = and_parts (leb (length list.waits) held.number) (leb held.number last) parts.0
 
     free : not (is_some (number_of held.wait.thread list.waits)) ≡ true
-    free = (both-true (may_stand list.clock (Some held.wait))
+    free = (and_parts (may_stand list.clock (Some held.wait))
         (not (is_some (number_of held.wait.thread list.waits))) parts.1).1
 
     by : (o : Option ℕ) → not (is_some o) ≡ true → o ≡ None

@@ -2,11 +2,10 @@
 use Rattle.std.proofs.Common.{◌≡◌, ℕ, zero, suc, ◌+◌, ◌<◌, ◌≤◌, ◌&&◌, ◌||◌, not, Bool, true, false, leb, ltb, List, [], ◌∷◌, length, Option, Some, None, refl, ap, ◌∙◌, sym, arith, get_or}
 use Rattle.std.specs.List.{list_all, list_any}
 use Rattle.std.specs.Prelude.{is_some, ◌==◌}
-use Rattle.std.proofs.lemmas.Bool.{false_from_ne_true, le-leb, lt-leb, lt-ltb, ltb-true}
+use Rattle.std.proofs.lemmas.Bool.{and_from, and_parts, false_from_ne_true, le-leb, lt-leb, lt-ltb, ltb-true}
 use Rattle.std.proofs.lemmas.Bool.Decides.{nat_tests}
 use Rattle.std.proofs.lemmas.List.Folds.{list_any_at}
 use Rattle.ob_body.specs.Timer.{is_due}
-use Rattle.ob_codec.specs.Steps.{both-true, true-both}
 use Rattle.pin_core.specs.declared.id.Id.{Id}
 use Rattle.ob_waits.specs.Deadlines.{AreTimely, deadline_of, state_deadline}
 use Rattle.ob_waits.specs.Form.{IsAfter}
@@ -57,7 +56,7 @@ test-distinct (id ∷ ids) apart =
 pub waitable : (mode : Mode) (ids : List Id) → may_list mode ids ≡ true → length ids ≤ 64 → IsWaitable mode ids
 waitable Any ids may few = record { some = ltb-true 0 (length ids) may; few = few; once = λ e. absurd (cc (e)) }
 waitable All ids may few =
-    let b = both-true (ltb 0 (length ids)) (not (names_twice ids)) may in
+    let b = and_parts (ltb 0 (length ids)) (not (names_twice ids)) may in
     record {
       some = ltb-true 0
           (length ids) b.0;
@@ -71,7 +70,7 @@ waitable All ids may few =
 
 may-wait : (mode : Mode) (ids : List Id) → IsWaitable mode ids → may_list mode ids ≡ true
 may-wait Any ids w = lt-ltb 0 (length ids) w.some
-may-wait All ids w = true-both (ltb 0 (length ids)) (not (names_twice ids)) (lt-ltb 0 (length ids) w.some)
+may-wait All ids w = and_from (ltb 0 (length ids)) (not (names_twice ids)) (lt-ltb 0 (length ids) w.some)
     (ap not (test-distinct ids (w.once refl).apart))
 
 -- a deadline that is ahead
@@ -86,14 +85,14 @@ standing clock (Some w) can ahead = by w.state can ahead
   where
     by : (s : State) → WaitWaitable (Some (record w { state = s })) → IsAfter clock (state_deadline w.deadline s)
         → may_stand clock (Some (record w { state = s })) ≡ true
-    by (Pending mode ids) can ahead = true-both (may_list mode ids) (not (is_due clock w.deadline))
+    by (Pending mode ids) can ahead = and_from (may_list mode ids) (not (is_due clock w.deadline))
         (may-wait mode ids can) (ap not (undue clock w.deadline ahead))
     by (Answered code) can ahead = refl
 
 all-stand : (clock : ℕ) (ws : List (Option Wait)) → ((n : ℕ) → may_stand clock (get_or ws n None) ≡ true)
     → list_all (may_stand clock) ws ≡ true
 all-stand clock [] each = refl
-all-stand clock (w ∷ ws) each = true-both (may_stand clock w) (list_all (may_stand clock) ws) (each 0)
+all-stand clock (w ∷ ws) each = and_from (may_stand clock w) (list_all (may_stand clock) ws) (each 0)
     (all-stand clock ws (λ n. each (suc n)))
 
 ones : (ws : List (Option Wait))
@@ -101,7 +100,7 @@ ones : (ws : List (Option Wait))
     → one_each ws ≡ true
 ones [] alone = refl
 ones (None ∷ ws) alone = ones ws (λ n m t p q. let e = alone (suc n) (suc m) t p q in omega (arith, e))
-ones (Some w ∷ ws) alone = true-both (not (list_any (is_waits_of w.thread) ws)) (one_each ws)
+ones (Some w ∷ ws) alone = and_from (not (list_any (is_waits_of w.thread) ws)) (one_each ws)
     (ap not (false_from_ne_true (list_any (is_waits_of w.thread) ws) (λ has.
     let found = any_at (is_waits_of w.thread) None ws has in
     let own = waits_thread w.thread (get_or ws found.0 None) found.2 in
@@ -113,10 +112,10 @@ ones (Some w ∷ ws) alone = true-both (not (list_any (is_waits_of w.thread) ws)
 pub kept_can_be : (limit clock : ℕ) (ws : List (Option Wait)) (roster : Roster) (dues : List (Option ℕ))
     → IsTracked limit ws roster → AreTimely clock ws dues → can_be limit clock ws ≡ true
 kept_can_be limit clock ws roster dues tracked timely =
-    true-both (leb (length ws) (limit + 1) && not (is_some (get_or ws 0 None)))
+    and_from (leb (length ws) (limit + 1) && not (is_some (get_or ws 0 None)))
     (list_all (may_stand clock) ws && one_each ws)
-    (true-both (leb (length ws) (limit + 1)) (not (is_some (get_or ws 0 None))) (le-leb _ _ tracked.few)
+    (and_from (leb (length ws) (limit + 1)) (not (is_some (get_or ws 0 None))) (le-leb _ _ tracked.few)
     (ap (λ (w : Option Wait). not (is_some w)) tracked.zero_has_none))
-    (true-both (list_all (may_stand clock) ws) (one_each ws)
+    (and_from (list_all (may_stand clock) ws) (one_each ws)
     (all-stand clock ws (λ n. standing clock (get_or ws n None) (tracked.kept.each n) (timely.ahead.each n)))
     (ones ws tracked.kept.one_each))

@@ -1,5 +1,5 @@
 use Rattle.std.proofs.Common.{◌≡◌, not, true, List, Some, ap, sym, subst, ◌∙◌}
-use Rattle.ob_codec.specs.Steps.{both-true}
+use Rattle.std.proofs.lemmas.Bool.{and_parts}
 use Rattle.pin_core.specs.declared.id.Id.{Id}
 use Rattle.ob_waits.specs.Deadlines.{is_overdue}
 use Rattle.ob_waits.specs.Spelling.{state_may}
@@ -10,7 +10,7 @@ use Rattle.ob_waits.proofs.reading.put_wait.Goals as goal
 pub admit-requires-clause-waitable : goal.admit-requires-clause-waitable
 admit-requires-clause-waitable c =
     let wait = c.args.wait.now in
-    let may = both-true (state_may wait.state)
+    let may = and_parts (state_may wait.state)
     (not (is_overdue c.args.waits.now.clock (Some wait))) c.requires.stands in
     waitable c.in-Pending.mode c.as_slice.result.now
     (subst (λ (ids : List Id). state_may (Pending c.in-Pending.mode ids) ≡ true) (sym c.as_slice.ensures.value)

@@ -1,10 +1,11 @@
 use Rattle.std.proofs.Common.{◌≡◌, ◌∙◌, ap, sym, subst, true}
+use Rattle.std.proofs.lemmas.Bool.{and_parts}
 use Rattle.std.specs.Prelude.{is_some}
 use Rattle.pin_words.specs.Keepers.{KeeperState}
 use Rattle.ob_store.specs.Objects.{ObjectsState, with_keeper, kept_rest, opened}
 use Rattle.ob_store.specs.Agreement.{IsTied}
 use Rattle.ob_store.proofs.AgreeLaws.{body_at, opened_closed, live_at, body_within}
-use Rattle.ob_store.proofs.TiedLaws.{both, tied_block_ended, tied_block_left}
+use Rattle.ob_store.proofs.TiedLaws.{tied_block_ended, tied_block_left}
 use Rattle.ob_store.proofs.objects.ObjectsBodies.block_left.Goals as goal
 
 pub invariant_of-self : goal.invariant_of-self
@@ -27,7 +28,7 @@ returns-then-block_left-clause-rest g c =
     let s : ObjectsState = with_keeper c.self.inside.seats c.self.inside.births
     (g.K.PinKeeper.kept c.self.inside.keeper) in
     let there : is_some (body_at s c.args.id.slot) ≡ true =
-    (both _ _ (sym c.block_left.ensures.ended ∙ c.if-block_left.true)).0 in
+    (and_parts _ _ (sym c.block_left.ensures.ended ∙ c.if-block_left.true)).0 in
     let keeper : opened (g.K.PinKeeper.kept c.close_slot.new.self) ≡ opened s.keeper =
     ap opened c.close_slot.ensures ∙ opened_closed s.keeper c.args.id.slot
     (live_at s c.args.id.slot there c.self.invariant.agreed
