@@ -6,8 +6,7 @@ use mir.Syntax.{w64}
 use Rattle.std.proofs.Math.Nat.{div-div-eq-div-mul}
 use Rattle.std.proofs.lemmas.Nat.{pow-add}
 use Rattle.std.proofs.lemmas.Nat.Bits.{bit_at-lt, bit_at_not}
-use Rattle.std.proofs.lemmas.Bool.{cases_lt}
-use Rattle.std.proofs.lemmas.Bool.Decides.{nat_tests}
+use Rattle.std.proofs.lemmas.Bool.{cases_lt, eq-eqb, eqb-true, le-ltb, true≢false}
 use Rattle.std.proofs.lemmas.List.{get_or_past}
 use Rattle.least_free.specs.Bits.{bit}
 use Rattle.least_free.specs.From.{IsAtMost, IsLeastFrom}
@@ -15,24 +14,21 @@ use Rattle.least_free.specs.Levels.{taken_in, SumsUp}
 use Rattle.least_free.specs.Taken.{is_free_within, is_taken}
 use Rattle.least_free.proofs.LevelLemmas.{get_or-taken_in, leads_back, length-taken_in}
 
-differ : true ≡ false → ⊥
-differ h = cc
-
 -- a number that passes, and none before it does
 pub first_found : (test : ℕ → Bool) (from n : ℕ) → from ≤ n → test n ≡ true
     → ((k : ℕ) → from ≤ k → k < n → test k ≡ false) → IsLeastFrom from test (Some n)
 first_found test from n above here none = record {
   passes = here;
   above = above;
-  least = λ k after passes. ⊎_elim (λ (lt : k < n). absurd (differ (sym passes ∙ none k after lt))) (λ (le : n ≤ k). le)
-      (cases_lt k n);
+  least = λ k after passes. ⊎_elim (λ (lt : k < n). absurd (true≢false (sym passes ∙ none k after lt)))
+      (λ (le : n ≤ k). le) (cases_lt k n);
 }
 
 pub none_found : (test : ℕ → Bool) (from : ℕ) → ((k : ℕ) → from ≤ k → test k ≡ false) → IsLeastFrom from test None
 none_found test from none = record {
   passes = tt;
   above = tt;
-  least = λ k after passes. absurd (differ (sym passes ∙ none k after));
+  least = λ k after passes. absurd (true≢false (sym passes ∙ none k after));
 }
 
 -- another test that says the same
@@ -49,20 +45,14 @@ bit_at_shifted n k i = ap (λ (x : ℕ). x % 2) (div-div-eq-div-mul n (2 ^ k) (2
 pub bit_at_from : (n k i : ℕ) → k ≤ i → bit_at n i ≡ bit_at (n / 2 ^ k) (i - k)
 bit_at_from n k i le = let e : k + (i - k) ≡ i = omega arith in sym (bit_at_shifted n k (i - k) ∙ ap (bit_at n) e)
 
-pub set_is : (x : ℕ) → (x == 1) ≡ true → x ≡ 1
-set_is x h = grind (arith, nat_tests)
-
-pub is_set : (x : ℕ) → x ≡ 1 → (x == 1) ≡ true
-is_set x h = grind (arith, nat_tests)
-
 -- the rest of the word has a bit
 pub in_word : (lo : List ℕ) (from n : ℕ) → bit lo n ≡ 1 → from ≤ n → n < 64 * (from / 64 + 1)
     → ((k : ℕ) → from ≤ k → k < 64 * (from / 64 + 1) → bit lo k ≡ 1 → n ≤ k)
     → IsLeastFrom from (λ k. bit lo k == 1) (Some n)
 in_word lo from n here above within least = record {
-  passes = is_set (bit lo n) here;
+  passes = eq-eqb (bit lo n) 1 here;
   above = above;
-  least = λ k after passes. ⊎_elim (λ (lt : k < 64 * (from / 64 + 1)). least k after lt (set_is (bit lo k) passes))
+  least = λ k after passes. ⊎_elim (λ (lt : k < 64 * (from / 64 + 1)). least k after lt (eqb-true (bit lo k) 1 passes))
       (λ (le : 64 * (from / 64 + 1) ≤ k). omega (arith, le, within)) (cases_lt k (64 * (from / 64 + 1)));
 }
 
@@ -76,12 +66,12 @@ module _ (bits : ℕ → ℕ) (lo : List ℕ) (from : ℕ) (sums : SumsUp bits l
   pub in_next_word : (w n : ℕ) → IsLeastFrom (from / 64 + 1) (λ j. bits j == 1) (Some w) → n / 64 ≡ w → bit lo n ≡ 1
       → ((k : ℕ) → 64 * w ≤ k → k < n → bit lo k ≡ 0) → IsLeastFrom from (λ k. bit lo k == 1) (Some n)
   in_next_word w n up in_it here below = let over : from / 64 + 1 ≤ w = up.above in record {
-    passes = is_set (bit lo n) here;
+    passes = eq-eqb (bit lo n) 1 here;
     above = omega (arith, over, in_it);
     least = λ k after passes.
-        let set_k : bit lo k ≡ 1 = set_is (bit lo k) passes in
+        let set_k : bit lo k ≡ 1 = eqb-true (bit lo k) 1 passes in
         let led : w ≤ k / 64 = up.least (k / 64) (above_it k after set_k)
-        (is_set (bits (k / 64)) (leads_back bits lo k sums set_k)) in
+        (eq-eqb (bits (k / 64)) 1 (leads_back bits lo k sums set_k)) in
         ⊎_elim (λ (lt : k < n). let clear = below k (omega (arith, led)) lt in
         absurd (omega (arith, clear, set_k))) (λ (le : n ≤ k). le) (cases_lt k n);
   }
@@ -90,8 +80,8 @@ module _ (bits : ℕ → ℕ) (lo : List ℕ) (from : ℕ) (sums : SumsUp bits l
   in_no_word up = record {
     passes = tt;
     above = tt;
-    least = λ k after passes. let set_k : bit lo k ≡ 1 = set_is (bit lo k) passes in
-        up.least (k / 64) (above_it k after set_k) (is_set (bits (k / 64)) (leads_back bits lo k sums set_k));
+    least = λ k after passes. let set_k : bit lo k ≡ 1 = eqb-true (bit lo k) 1 passes in
+        up.least (k / 64) (above_it k after set_k) (eq-eqb (bits (k / 64)) 1 (leads_back bits lo k sums set_k));
   }
 
 not_zero : (x : ℕ) → x < 2 → not (x == 0) ≡ (x == 1)
@@ -118,17 +108,16 @@ module _ (word k : ℕ) (r : Option ℕ) (fits : word < 2 ^ 64)
           → IfSome r (λ i. bit_at word i ≡ 0)
       by None within passes = tt
       by (Some i) within passes = let e = bit_at_not w64 word i fits within in
-          let f = set_is (bit_at (bit_not w64 word) i) passes in omega (arith, e, f)
+          let f = eqb-true (bit_at (bit_not w64 word) i) 1 passes in omega (arith, e, f)
 
   pub clear_least : (i : ℕ) → k ≤ i → i < 64 → bit_at word i ≡ 0 → IsAtMost r i
-  clear_least i above within clear = is.least i above (is_set (bit_at (bit_not w64 word) i) (let e =
+  clear_least i above within clear = is.least i above (eq-eqb (bit_at (bit_not w64 word) i) 1 (let e =
       bit_at_not w64 word i fits within in omega (arith, e, clear)))
 
 -- the numbers that are taken are those below the length whose bit is clear
 pub taken_test : (ws : List ℕ) (n k : ℕ) → ltb k n && (bit ws k == 0) ≡ is_taken (taken_in ws n) k
 taken_test ws n k = ⊎_elim
     (λ (lt : k < n). ap (λ (b : Bool). b && (bit ws k == 0)) (lt-ltb k n lt) ∙ sym (get_or-taken_in ws n k false lt))
-    (λ (le : n ≤ k). let past : ltb k n ≡ false = grind (arith, nat_tests, le) in
-    ap (λ (b : Bool). b && (bit ws k == 0)) past
+    (λ (le : n ≤ k). ap (λ (b : Bool). b && (bit ws k == 0)) (le-ltb k n le)
     ∙ sym (get_or_past (taken_in ws n) k false (omega (arith, le, length-taken_in ws n))))
     (cases_lt k n)

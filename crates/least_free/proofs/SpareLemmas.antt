@@ -2,20 +2,11 @@
 use Rattle.std.proofs.Common.{◌≡◌, ◌≢◌, ◌∙◌, sym, ap, subst, refl, ℕ, zero, suc, ◌<◌, List, [], ◌∷◌, ◌++◌, length, min, Bool, true, false, eqb, Option, Some, None, set, arith}
 use Rattle.std.specs.Prelude.{slice_get}
 use Rattle.std.specs.Option.{option_eq}
-use Rattle.std.proofs.lemmas.Bool.Decides.{nat_tests}
+use Rattle.std.proofs.lemmas.Bool.{eqb-false, eqb-true, ne_eqb, true≢false}
 use Rattle.std.proofs.lemmas.List.{set-set, set_comm, set-append_left, set-get_or}
-use Rattle.std.proofs.lemmas.Option.{slice_get_within, get_or_from_slice_get}
+use Rattle.std.proofs.lemmas.Option.{same_Some, slice_get_within, get_or_from_slice_get}
 use Rattle.least_free.specs.Taken.{least_free}
 use Rattle.least_free.specs.Spare.{with_spare, IsSpare}
-
-same_of : (s n : ℕ) → eqb s n ≡ true → s ≡ n
-same_of s n h = grind (arith, nat_tests)
-
-other_of : (s n : ℕ) → eqb s n ≡ false → s ≢ n
-other_of s n h e = grind (arith, nat_tests)
-
-other_is : (s n : ℕ) → s ≢ n → eqb s n ≡ false
-other_is s n ne = grind (arith, nat_tests)
 
 -- one more free number
 least_set : (taken : List Bool) (n : ℕ) → n < length taken → least_free (set taken n false) ≡ min n (least_free taken)
@@ -51,37 +42,34 @@ pub spare_taken : (taken : List Bool) (spare : Option ℕ) (n : ℕ) → IsSpare
     → option_eq eqb spare (Some n) ≡ true → taken ≡ set (with_spare taken spare) n true
 spare_taken taken None n is e = cc
 spare_taken taken (Some x) n is e =
-    sym (ap (λ (k : ℕ). set (set taken x false) k true) (sym (same_of x n e)) ∙ set-set taken x false true
+    sym (ap (λ (k : ℕ). set (set taken x false) k true) (sym (eqb-true x n e)) ∙ set-set taken x false true
     ∙ ap (set taken x) (sym (get_or_from_slice_get taken x true true is)) ∙ set-get_or taken x true)
 
 -- another number than the spare
 pub free_in_levels : (taken : List Bool) (spare : Option ℕ) (n : ℕ) → option_eq eqb spare (Some n) ≡ false
     → slice_get (with_spare taken spare) n ≡ Some false → slice_get taken n ≡ Some false
 free_in_levels taken None n other free = free
-free_in_levels taken (Some x) n other free = sym (get-set_other taken x n false (other_of x n other)) ∙ free
+free_in_levels taken (Some x) n other free = sym (get-set_other taken x n false (eqb-false x n other)) ∙ free
 
 pub still_spare : (taken : List Bool) (spare : Option ℕ) (n : ℕ) (b : Bool) → option_eq eqb spare (Some n) ≡ false
     → IsSpare taken spare → IsSpare (set taken n b) spare
 still_spare taken None n b other is = is
-still_spare taken (Some x) n b other is = get-set_other taken n x b (λ e. other_of x n other (sym e)) ∙ is
+still_spare taken (Some x) n b other is = get-set_other taken n x b (λ e. eqb-false x n other (sym e)) ∙ is
 
 pub with_spare-set : (taken : List Bool) (spare : Option ℕ) (n : ℕ) (b : Bool) → option_eq eqb spare (Some n) ≡ false
     → with_spare (set taken n b) spare ≡ set (with_spare taken spare) n b
 with_spare-set taken None n b other = refl
-with_spare-set taken (Some x) n b other = set_comm taken n x b false (λ e. other_of x n other (sym e))
+with_spare-set taken (Some x) n b other = set_comm taken n x b false (λ e. eqb-false x n other (sym e))
 
 -- a number that is taken is another
 pub other_than_spare : (taken : List Bool) (spare : Option ℕ) (n : ℕ) → IsSpare taken spare
     → slice_get (with_spare taken spare) n ≡ Some true → option_eq eqb spare (Some n) ≡ false
 other_than_spare taken None n is held = refl
-other_than_spare taken (Some x) n is held = other_is x n (λ e.
+other_than_spare taken (Some x) n is held = ne_eqb x n (λ e.
     let free : slice_get (set taken x false) n ≡ Some false =
     subst (λ (k : ℕ). slice_get (set taken x false) k ≡ Some false) e
     (get-set_same taken x false (slice_get_within taken x true is)) in
-    differ (sym held ∙ free))
-  where
-    differ : Some true ≡ Some false → ⊥
-    differ h = cc
+    true≢false (same_Some true false (sym held ∙ free)))
 
 -- one more number
 pub with_spare-grown : (taken : List Bool) (spare : Option ℕ) → IsSpare taken spare

@@ -1,8 +1,7 @@
 -- What the callers of a set of numbers need of its least free number, and of the numbers that are taken.
-use Rattle.std.proofs.Common.{◌≡◌, ◌≢◌, ◌∙◌, sym, ap, subst, ℕ, ◌+◌, ◌-◌, ◌<◌, ◌≤◌, List, Bool, true, false, length, get_or, set, Option, Some, None, eqb, refl, arith, ⊎_elim}
+use Rattle.std.proofs.Common.{◌≡◌, ◌≢◌, ◌∙◌, sym, ap, subst, ℕ, ◌+◌, ◌-◌, ◌<◌, ◌≤◌, List, Bool, true, false, length, get_or, set, Option, Some, None, eqb, arith, ⊎_elim}
 use Rattle.std.specs.Prelude.{not, slice_get}
-use Rattle.std.proofs.lemmas.Bool.{cases_eq, cases_lt}
-use Rattle.std.proofs.lemmas.Bool.Decides.{nat_tests}
+use Rattle.std.proofs.lemmas.Bool.{cases_eq, cases_lt, eq-eqb, eqb-true, not-true, true_from_ne_false}
 use Rattle.std.proofs.lemmas.List.{get_or_past}
 use Rattle.std.proofs.lemmas.List.Sums.{passes_at_first}
 use Rattle.std.proofs.lemmas.Option.{slice_get-get_or}
@@ -11,15 +10,11 @@ use Rattle.least_free.specs.From.{IsLeastFrom}
 use Rattle.least_free.specs.Taken.{is_free_within, least_free}
 use Rattle.least_free.proofs.SpareLemmas.{get-set_same, get-set_other}
 
-not_taken : (b : Bool) → not b ≡ true → b ≡ false
-not_taken true h = sym h
-not_taken false h = refl
-
 -- the least free number that is below the length can be taken
 pub slice_get_least_free : (taken : List Bool) → least_free taken < length taken
     → slice_get taken (least_free taken) ≡ Some false
 slice_get_least_free taken lt = slice_get-get_or taken (least_free taken) true lt
-    ∙ ap Some (not_taken (get_or taken (least_free taken) true) (passes_at_first not taken true lt))
+    ∙ ap Some (not-true (get_or taken (least_free taken) true) (passes_at_first not taken true lt))
 
 -- all numbers below n are taken
 pub record AreTaken (taken : List Bool) (n : ℕ) : Type 0 where
@@ -49,23 +44,20 @@ pub found_free : (taken : List Bool) (n : ℕ) (r : Option ℕ) → IsLeastFrom 
     → option_eq eqb r (Some n) ≡ true → slice_get taken n ≡ Some false
 found_free taken n None is same = cc
 found_free taken n (Some m) is same =
-    let e : m ≡ n = grind (arith, nat_tests, same) in
+    let e = eqb-true m n same in
     let free : is_free_within taken n ≡ true = subst (λ (k : ℕ). is_free_within taken k ≡ true) e is.passes in
-    let clear : get_or taken n true ≡ false = not_taken (get_or taken n true) free in
+    let clear : get_or taken n true ≡ false = not-true (get_or taken n true) free in
     ⊎_elim (λ (lt : n < length taken). slice_get-get_or taken n true lt
     ∙ ap Some clear) (λ (le : length taken ≤ n). let past : get_or taken n true ≡ true =
     get_or_past taken n true le in cc) (cases_lt n (length taken))
 
 pub found_taken : (taken : List Bool) (n : ℕ) (r : Option ℕ) → IsLeastFrom n (is_free_within taken) r
     → option_eq eqb r (Some n) ≡ false → n < length taken → slice_get taken n ≡ Some true
-found_taken taken n r is other lt = slice_get-get_or taken n true lt ∙ ap Some (by (get_or taken n true) refl)
+found_taken taken n r is other lt = slice_get-get_or taken n true lt ∙ ap Some (true_from_ne_false (get_or taken n true)
+    (λ clear. first r is other (ap not clear)))
   where
     first : (r : Option ℕ) → IsLeastFrom n (is_free_within taken) r → option_eq eqb r (Some n) ≡ false
         → is_free_within taken n ≡ true → ⊥
     first None is other free = is.least n (omega arith) free
     first (Some m) is other free = let a : n ≤ m = is.above in let b : m ≤ n = is.least n (omega arith) free in
-        let e : eqb m n ≡ true = grind (arith, nat_tests, a, b) in cc
-
-    by : (b : Bool) → get_or taken n true ≡ b → b ≡ true
-    by true is-2 = refl
-    by false is-2 = absurd (first r is other (ap not is-2))
+        let e = eq-eqb m n (omega (arith, a, b)) in cc

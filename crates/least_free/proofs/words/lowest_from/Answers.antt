@@ -1,9 +1,9 @@
 use Rattle.std.proofs.Common.{rules, arith, ◌≡◌, ◌∙◌, ap, ◌-◌, ◌+◌, ◌<◌, ◌≤◌, ℕ, Bool, ⊎_elim}
 use Rattle.std.specs.Prelude.{◌==◌}
 use Rattle.std.specs.Int.{bit_at}
-use Rattle.std.proofs.lemmas.Bool.{cases_lt}
+use Rattle.std.proofs.lemmas.Bool.{cases_lt, eq-eqb}
 use Rattle.std.proofs.lemmas.Nat.Bits.{bit_at_above, bit_at-zero}
-use Rattle.least_free.proofs.NextLemmas.{bit_at_from, bit_at_shifted, first_found, is_set, none_found}
+use Rattle.least_free.proofs.NextLemmas.{bit_at_from, bit_at_shifted, first_found, none_found}
 use Rattle.least_free.proofs.words.lowest_from.Goals as goal
 
 pub returns-then-k-ge64-clause-least : goal.returns-then-k-ge64-clause-least
@@ -21,7 +21,7 @@ returns-clause-least c =
     let k = c.args.k in
     let r = c.lowest.result in
     first_found (λ i. bit_at c.args.word i == 1) k (k + r) (omega arith)
-    (is_set (bit_at c.args.word (k + r)) (let e = bit_at_shifted c.args.word k r in let f = c.lowest.ensures.set in
+    (eq-eqb (bit_at c.args.word (k + r)) 1 (let e = bit_at_shifted c.args.word k r in let f = c.lowest.ensures.set in
     omega (arith, e, f)))
     (λ i le lt. ap {B = Bool} (λ (x : ℕ). x == 1) (bit_at_from c.args.word k i le
     ∙ c.lowest.ensures.least (i - k) (omega (arith, le, lt))))
