@@ -1,6 +1,7 @@
 -- Texts that are compared in parts, of which two may overlap.
 use Rattle.std.proofs.Common.{◌≡◌, ℕ, ◌+◌, ◌-◌, ◌≤◌, ◌&&◌, Bool, true, false, List, [], drop, length, refl, ap, sym, ◌∙◌, arith}
 use Rattle.std.specs.Str.{bytes_eq}
+use Rattle.std.proofs.lemmas.Bool.{both_ways}
 use Rattle.std.proofs.lemmas.List.{drop-drop, drop_all}
 use Rattle.std.proofs.lemmas.Slice.Eq.{bytes_eq-Decides}
 
@@ -18,12 +19,8 @@ last_decides x y m n l same low all whole last = by l last
     ends = ap (λ (z : List ℕ). bytes_eq z (drop (n + 8) y)) (drop_all (n + 8) x (omega (arith, all)))
         ∙ ap (λ (z : List ℕ). bytes_eq [] z) (drop_all (n + 8) y (omega (arith, all, same)))
 
-    not_both : (b : Bool) → b ≡ true → b ≡ false → ⊥
-    not_both true yes' no' = cc
-    not_both false yes' no' = cc
-
     other : (b : Bool) → bytes_eq x y ≡ b → bytes_eq (drop n x) (drop n y) ≡ false → false ≡ b
-    other true is fails = absurd (not_both (bytes_eq (drop n x) (drop n y)) (left_same n x y is) fails)
+    other true is fails = absurd (both_ways (bytes_eq (drop n x) (drop n y)) fails (left_same n x y is))
     other false is fails = refl
 
     by : (l : Bool) → bytes_eq (drop n x) (drop n y) ≡ (l && bytes_eq (drop (n + 8) x) (drop (n + 8) y))

@@ -4,12 +4,12 @@ use Rattle.std.specs.List.{All, Contains, cons_option, filter, filter_map}
 use Rattle.std.proofs.lemmas.Bool.{and_right, cases_eq, ne_eqb}
 use Rattle.std.proofs.lemmas.List.{get_or-set_other, get_or-set_same, length-set, set-get_or, set-set}
 use Rattle.std.proofs.lemmas.List.Elements.{All-append, All-cons, All-nil, All-tail, Contains-append_left, Contains-append_right, filter-append}
+use Rattle.std.proofs.lemmas.Option.{same_Some}
 use Rattle.pin_core.specs.declared.id.Id.{Id}
 use Rattle.pin_core.specs.Holds.{same_id}
 use Rattle.ob_name.specs.Names.{ObjectName}
 use Rattle.ob_name.specs.Listing.{Rows}
 use Rattle.ob_name.specs.Order.{Row}
-use Rattle.ob_name.proofs.Ordered.{some_is}
 use Rattle.ob_tables.specs.declared.entry.Entry.{Entry}
 use Rattle.ob_tables.specs.Counts.{handles_among}
 use Rattle.ob_store.specs.Objects.{Object}
@@ -79,7 +79,7 @@ module _ {A B : Type 0} (f : Option A → Option B) where
   -- and what is picked of a slot is there
   picked_first : (o : Option B) (ys : List B) (y : B) → o ≡ Some y → Contains (cons_option o ys) y
   picked_first None ys y is = absurd cc
-  picked_first (Some z) ys y is = (0, omega arith, some_is z y is)
+  picked_first (Some z) ys y is = (0, omega arith, same_Some z y is)
 
   picked_later : (o : Option B) (ys : List B) (y : B) → Contains ys y → Contains (cons_option o ys) y
   picked_later None ys y there = there
@@ -236,7 +236,7 @@ row_is ts xs k b row (Some o) at is = by (eqb o.birth b) (has_handles o.id ts) o
     by true false m has named got = absurd cc
     by true true None has named got = absurd cc
     by true true (Some name) has named got =
-        let one : (name, o.id) ≡ row = some_is (name, o.id) row got in
+        let one : (name, o.id) ≡ row = same_Some (name, o.id) row got in
         record {
           place = k;
           object = o;

@@ -11,14 +11,13 @@ use Rattle.std.proofs.lemmas.Map.Entries.{none_past_head}
 use Rattle.std.proofs.lemmas.Map.Keys.{IsDistinct-push, IsDistinct-tail}
 use Rattle.std.proofs.lemmas.Map.Made.{IsDistinct-keys_filter, is_some-lookup}
 use Rattle.std.proofs.lemmas.Map.Views.{Contains-from_lookup, lookup-from_Contains}
-use Rattle.std.proofs.lemmas.Option.{none-some}
+use Rattle.std.proofs.lemmas.Option.{none-some, same_Some}
 use Rattle.ob_rights.specs.declared.handle_flags.HandleFlags.{HandleFlags}
 use Rattle.pin_core.specs.declared.id.Id.{Id}
 use Rattle.pin_core.specs.Holds.{same_id}
 use Rattle.ob_name.specs.Names.{ObjectName}
 use Rattle.ob_name.specs.Listing.{AreDistinct, Rows, find_name, same_name, without_name}
 use Rattle.ob_name.specs.Order.{Row}
-use Rattle.ob_name.proofs.Ordered.{some_is}
 use Rattle.ob_name.specs.Same.{same_name-Decides, same_name_equiv}
 use Rattle.ob_tables.specs.declared.entry.Entry.{Entry}
 use Rattle.ob_tables.specs.Counts.{handles_among, handles_in}
@@ -149,7 +148,7 @@ row_names : (ts : Tables) (objects : ObjectSlots) (o : Object) (row : Row) → A
 row_names ts objects o row placed at is one =
     let slot : is.place ≡ o.id.slot = sym (placed is.place is.object is.there)
     ∙ ap (λ (i : Id). i.slot) (is.its_id ∙ one) in
-    let object : is.object ≡ o = some_is is.object o (sym is.there ∙ ap (λ k. get_or objects k None) slot ∙ at) in
+    let object : is.object ≡ o = same_Some is.object o (sym is.there ∙ ap (λ k. get_or objects k None) slot ∙ at) in
     ap (λ (q : Object). q.name) (sym object) ∙ is.its_name
 
 -- and where names are distinct, a row with its name has its Id
@@ -160,7 +159,7 @@ row_alike ts objects rows o name row distinct placed at named there also is =
     both_ways (same_id row.1 o.id) (same_name name row.0) up down
   where
     up : same_id row.1 o.id ≡ true → same_name name row.0 ≡ true
-    up one = (same_name-Decides name row.0).1 (some_is name row.0 (sym named
+    up one = (same_name-Decides name row.0).1 (same_Some name row.0 (sym named
         ∙ row_names ts objects o row placed at is (one_id row.1 o.id one)))
 
     down : same_name name row.0 ≡ true → same_id row.1 o.id ≡ true
@@ -169,7 +168,7 @@ row_alike ts objects rows o name row distinct placed at named there also is =
         in
         let other : find_name row.0 rows ≡ Some row.1 =
         lookup-from_Contains same_name_equiv row.0 row.1 rows distinct also in
-        let same : row.1 ≡ o.id = some_is row.1 o.id (sym other
+        let same : row.1 ≡ o.id = same_Some row.1 o.id (sym other
         ∙ ap (λ (n : ObjectName). find_name n rows) (sym ((same_name-Decides name row.0).0 one)) ∙ own) in
         ap (λ (i : Id). same_id i o.id) same ∙ same_id-same o.id
 
