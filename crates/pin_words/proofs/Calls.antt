@@ -1,5 +1,6 @@
 -- What the calls of readers and of the keeper need of the steps.
-use Rattle.std.proofs.Common.{◌≡◌, ◌≢◌, ◌⊎◌, inl, inr, ⊎_elim, ℕ, ◌+◌, ◌*◌, ◌<◌, ◌≤◌, nat_lt, Bool, true, false, List, [], ◌∷◌, ◌++◌, length, length-set, get_or, set, zero, suc, Some, None, sym, refl, ap, ◌∙◌, subst, arith}
+use Rattle.std.proofs.Common.{◌≡◌, ◌≢◌, ◌⊎◌, inl, inr, ⊎_elim, ℕ, ◌+◌, ◌*◌, ◌<◌, ◌≤◌, Bool, true, false, List, [], ◌∷◌, ◌++◌, length, length-set, get_or, set, zero, suc, Some, None, sym, refl, ap, ◌∙◌, subst, arith}
+use Rattle.std.proofs.lemmas.Bool.{cases_lt}
 use Rattle.std.proofs.lemmas.Grind.{common_steps}
 use Rattle.std.proofs.lemmas.List.{append_assoc}
 use native.Mathlib.Decide.{ℕ_discrete}
@@ -161,25 +162,17 @@ stays-stale max id (l ∷ ls) n h b = ⊎_elim (λ (t : (l.slot ≡ id.slot)
     (decoded l.word).phase (decoded n) (b.0 t.0).0 (b.0 t.0).1 t.1)
     (λ (t : WasStale max id ls). stays-stale max id ls n t b.1) h
 
--- a number is at least another, or below it
-at-least : (m n : ℕ) → (m ≤ n) ⊎ (n < m)
-at-least m n = cases (nat_lt n m) refl
-  where
-    cases : (b : Bool) → nat_lt n m ≡ b → (m ≤ n) ⊎ (n < m)
-    cases true e = inr (let h : n < m = grind (arith, common_steps) in h)
-    cases false e = inl (let h : m ≤ n = grind (arith, common_steps) in h)
-
 -- what a try that lost its exchange found
 pub lost-onward : (r r' : ReaderView) (id : Id) (seen : Word) → Tries r id (Err (fault.Busy seen)) r'
     → (n : ℕ) × (m : ℕ) × (r' ≡ reader_looked (reader_looked r id.slot n) id.slot m) × (seen ≡ decoded m) × NoLater n m
 lost-onward r r' id seen t = ⊎_elim
-    (λ (out : r.shape.slots ≤ id.slot). absurd (let e = (t.no_slot out).0 in cc))
     (λ (inside : id.slot < r.shape.slots). ⊎_elim
-    (λ (full : 16 ≤ length r.held). absurd (let e = (t.full inside full).0 in cc))
     (λ (room : length r.held < 16). let tried = t.tried inside room in
     answer (verdict_of r.shape.max_pins id (decoded tried.0)) tried.0 tried.2)
-    (at-least 16 (length r.held)))
-    (at-least r.shape.slots id.slot)
+    (λ (full : 16 ≤ length r.held). absurd (let e = (t.full inside full).0 in cc))
+    (cases_lt (length r.held) 16))
+    (λ (out : r.shape.slots ≤ id.slot). absurd (let e = (t.no_slot out).0 in cc))
+    (cases_lt id.slot r.shape.slots)
   where
     answer : (v : Verdict) (n : ℕ) → Answers v r id n (Err (fault.Busy seen)) r'
         → (n : ℕ) × (m : ℕ) × (r' ≡ reader_looked (reader_looked r id.slot n) id.slot m) × (seen ≡ decoded m)
@@ -207,11 +200,11 @@ pub stale-answers : (r r' : ReaderView) (id : Id) (res : Result (Unit {0}) PinFa
     → id.slot < r.shape.slots → WasStale r.shape.max_pins id r.looks
     → (res ≡ Err fault.Stale) ⊎ (res ≡ Err fault.HeldFull)
 stale-answers r r' id res t inside was = ⊎_elim
-    (λ (full : 16 ≤ length r.held). inr (t.full inside full).0)
     (λ (room : length r.held < 16). let tried = t.tried inside room in
     inl (answer (verdict_of r.shape.max_pins id (decoded tried.0))
     (stays-stale r.shape.max_pins id r.looks tried.0 was tried.1.looks) tried.0 tried.2))
-    (at-least 16 (length r.held))
+    (λ (full : 16 ≤ length r.held). inr (t.full inside full).0)
+    (cases_lt (length r.held) 16)
   where
     answer : (v : Verdict) → v ≡ Stale → (n : ℕ) → Answers v r id n res r' → res ≡ Err fault.Stale
     answer Unborn e n a = absurd (let x : Unborn ≡ Stale = e in cc)

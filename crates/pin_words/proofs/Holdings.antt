@@ -1,7 +1,7 @@
 -- What a reader holds, in the set of the world and in its own list.
-use Rattle.std.proofs.Common.{◌≡◌, ◌≢◌, ℕ, ◌+◌, ◌<◌, ◌≤◌, ◌&&◌, ◌==◌, nat_lt, eq-eqb, ne_eqb, Bool, true, false, cond, List, [], ◌∷◌, ◌++◌, sym, refl, ap, ◌∙◌, arith}
-use native.Mathlib.Decide.{ℕ_discrete}
-use mathlib.Core.Logic.{dite}
+use Rattle.std.proofs.Common.{◌≡◌, ◌≢◌, ℕ, ◌+◌, ◌<◌, ◌≤◌, ◌&&◌, nat_lt, eq-eqb, ne_eqb, Bool, true, false, cond, List, [], ◌∷◌, ◌++◌, sym, refl, ap, ◌∙◌, arith}
+use Rattle.std.proofs.lemmas.Bool.{eqb-true}
+use Rattle.std.proofs.lemmas.Cmp.{nat_eq_equiv}
 use Rattle.std.proofs.lemmas.Grind.{common_steps}
 use Rattle.pin_core.specs.declared.id.Id.{Id}
 use Rattle.pin_core.specs.declared.descr.Descr.{Descr}
@@ -18,11 +18,7 @@ use Rattle.pin_words.specs.Views.{sits, notes_of}
 use Rattle.pin_words.specs.Shown.{HoldsJust, AreNoted}
 
 same_turned : (a b : Id) → same_id a b ≡ same_id b a
-same_turned a b = λ k. turned a.slot b.slot k && turned a.generation b.generation k
-  where
-    turned : (m n : ℕ) → (m == n) ≡ (n == m)
-    turned m n = dite (ℕ_discrete m n) (λ e. eq-eqb m n e ∙ sym (eq-eqb n m (sym e))) (λ ne. ne_eqb m n ne
-        ∙ sym (ne_eqb n m (λ e. ne (sym e))))
+same_turned a b = λ k. nat_eq_equiv.symm a.slot b.slot k && nat_eq_equiv.symm a.generation b.generation k
 
 pub own_copy : (r : ℕ) (id : Id) (k : ℕ) (x : Id) → is_copy r x (hold_of r id k) ≡ same_id x id
 own_copy r id k x = ap (λ (b : Bool). b && same_id id x) (eq-eqb r r refl) ∙ same_turned id x
@@ -79,9 +75,6 @@ count-in p q (y ∷ ys) h = let ih = count-in p q ys (λ x have. h x (omega arit
     step true true e = omega arith
     step true false e = let bad = e refl in cc
 
-sits-slot : (s : ℕ) (x : Id) → sits s x ≡ true → x.slot ≡ s
-sits-slot s x e = grind (arith, common_steps)
-
 is-there : (s g : ℕ) (x : Id) → x.slot ≡ s → g ≡ x.generation → same_id record { slot = s; generation = g } x ≡ true
 is-there s g x a b = grind (arith, common_steps)
 
@@ -90,7 +83,7 @@ pub held-le-pins : (w : WorldState) (r s : ℕ) (held : List Id) → IsSafe w �
     → tally (sits s) held ≤ pins w s
 held-le-pins w r s held safe h =
     let all : tally (sits s) held ≤ tally (same_id (id_at w s)) held = count-in (sits s) (same_id (id_at w s)) held
-    (λ x have e. let there = sits-slot s x e in let known = safe.held r x (let c = h x in omega arith) in
+    (λ x have e. let there = eqb-true x.slot s e in let known = safe.held r x (let c = h x in omega arith) in
     is-there s (at w s).generation x there (ap (λ (z : ℕ). (at w z).generation) (sym there) ∙ known.1)) in
     let own = h (id_at w s) in let le = copies-le-pins w r (id_at w s) in omega arith
 

@@ -1,5 +1,6 @@
 -- The steps of the keeper keep the rule of the table.
 use Rattle.std.proofs.Common.{◌≡◌, ◌≢◌, inl, ℕ, ◌+◌, ◌<◌, ◌≤◌, nat_lt, eqb, Bool, true, false, cond, List, [], ◌∷◌, ◌++◌, length, get_or, set, get_or-set_same, get_or-set_other, Option, Some, None, sym, refl, ap, ◌∙◌, subst, arith}
+use Rattle.std.proofs.lemmas.Option.{same_Some}
 use mathlib.Core.Option.{none, some}
 use native.Mathlib.Decide.{ℕ_discrete}
 use mathlib.Core.Logic.{dite}
@@ -29,11 +30,11 @@ use Rattle.pin_words.specs.declared.view.KeeperView.{KeeperView}
 use Rattle.pin_words.specs.declared.view.ReaderView.{ReaderView}
 use Rattle.pin_words.specs.declared.view.View.{View}
 use Rattle.pin_words.specs.Places.{place_of, descr_place}
-use Rattle.pin_words.specs.Views.{M, Of, on, view, keeper_looked, keeper_stored, keeper_published, keeper_closed, keeper_reclaimed, unwrap}
+use Rattle.pin_words.specs.Views.{M, Of, on, view, keeper_looked, keeper_stored, keeper_published, keeper_closed, keeper_reclaimed}
 use Rattle.pin_words.specs.Shown.{Table, NotAhead, OfKeeper, OfReader, IsShown, Shown}
 use Rattle.pin_words.specs.Plays.{TellsSlot, stored, PublishedAt, published, ClosedAt, closed, ReclaimedAt, reclaiming}
 use Rattle.pin_words.proofs.Bits.{publish-or, close-or}
-use Rattle.pin_words.proofs.Steps.{of-map, of-here, of-on, some-same, step-shown, still-shown, few-pins, found-is, past-here, in-shape, turn-keeper, turn-keeper-to, looks-stay, notes-stay, at-slot}
+use Rattle.pin_words.proofs.Steps.{of-map, of-here, of-on, step-shown, still-shown, few-pins, found-is, past-here, in-shape, turn-keeper, turn-keeper-to, looks-stay, notes-stay, at-slot}
 use Rattle.pin_words.proofs.Bits.{descr-decoded}
 
 -- a keeper's step at the slot i, to x and to the list ps; what is left is that the words are those of the new world
@@ -333,8 +334,7 @@ keeper-stores k s W sh id i v kv d seated is inside free descr-given =
 -- two descriptors of one word are the same
 same-decoded : (d e : Descr) → descr_code.IsGiven d → descr_code.IsGiven e → descr_code.encoded d ≡ descr_code.encoded e
     → d ≡ e
-same-decoded d e a b is = let both : Some d ≡ Some e =
-    sym (descr-decoded d a) ∙ (ap descr_code.decoded is ∙ descr-decoded e b) in ap (unwrap d) both
+same-decoded d e a b is = same_Some d e (sym (descr-decoded d a) ∙ (ap descr_code.decoded is ∙ descr-decoded e b))
 
 pub stores-step : (k : Shape) (slots id i x : ℕ) (me : M) (v : KeeperView) (d : Descr) → me.0.keeper ≡ Some v
     → i < k.slots → (slot_of v.slots i).phase ≡ Free → descr_code.IsGiven d → x ≡ descr_code.encoded d
@@ -354,7 +354,7 @@ stores-step k slots id i x me v d is inside free descr-given x-is s (W, sh) deep
             (sym x-is)
             (keeper-stores k s W sh id i me.0 v d seated is inside free descr-given),
       ),
-      λ v' i' d' is' word given' x-is'. let same = some-same me.0.keeper v v' is is' in
+      λ v' i' d' is' word given' x-is'. let same = same_Some v v' (sym is ∙ is') in
           let index : i ≡ i' = omega arith in
           let one : d ≡ d' = same-decoded d d' descr-given given' (sym x-is ∙ x-is') in
           λ c. (view (Some (keeper_stored (same c) (index c) (one c))) me.0.reader, me.1),

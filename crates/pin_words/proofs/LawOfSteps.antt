@@ -1,6 +1,7 @@
 -- The law of the steps.
 use Rattle.std.proofs.Common.{nat_le, ◌≡◌, ◌≢◌, ⊎_elim, ℕ, ◌+◌, ◌-◌, ◌<◌, ◌≤◌, ◌&&◌, nat_lt, List, [], ◌∷◌, ◌++◌, get_or, set, replicate, false, Option, Some, None, sym, refl, ap, ◌∙◌, subst, arith}
 use Rattle.std.proofs.lemmas.Grind.{common_steps}
+use Rattle.std.proofs.lemmas.Option.{same_Some}
 use Rattle.std.specs.Prelude.{bit_or}
 use Rattle.pin_core.specs.declared.word.Word.{Word}
 use Rattle.pin_core.specs.declared.id.Id.{Id}
@@ -30,7 +31,7 @@ use Rattle.pin_words.specs.Plays.{Behind, Tells, AreListed, Show, Meets, MeetsBo
 use Rattle.pin_words.specs.Plays as play
 use Rattle.pin_words.proofs.Holdings.{has-copies}
 use Rattle.pin_words.specs.Laws.{ReaderAt, KeeperAt, StepsBy, stepped, with_views, closing_word, next_word, ArePublished, ShowsOpening}
-use Rattle.pin_words.proofs.Steps.{of-here, some-same, found-is, in-shape}
+use Rattle.pin_words.proofs.Steps.{of-here, found-is, in-shape}
 use Rattle.pin_words.proofs.ReaderSteps.{looks-shown, may_pin_found, reader-pins, reader-releases, reader-notes, descr_found}
 use Rattle.pin_words.proofs.KeeperSteps.{keeper-at, keeper-publishes, keeper-closes, keeper-reclaims, keeper-looks, keeper-stores, pinned-still, none-pinned}
 use Rattle.pin_words.proofs.Reseated.{gives-shown}
@@ -113,9 +114,9 @@ pub law-read : (k : Shape) (s : Table) (w : WorldState) (j : ℕ) (v : View) (r 
     → StepsBy k w (ReadDescr r.number id d) (stepped s (descr_place id.slot) (get_or s.words (descr_place id.slot) 0) j
     (view v.keeper (Some (reader_noted r id d))))
 law-read k s w j v r id d sh here have is = let known = held-inside k s w sh j v r id here have in
-    let same : (at w id.slot).descr ≡ d = some-same (descr_code.decoded (get_or s.words (descr_place id.slot) 0))
-    (at w id.slot).descr d (descr_found (at w id.slot).descr (get_or s.words (descr_place id.slot) 0)
-    (sh.given id.slot known.0) (sh.descrs id.slot known.0)) is in record {
+    let same : (at w id.slot).descr ≡ d = same_Some (at w id.slot).descr d
+    (sym (descr_found (at w id.slot).descr (get_or s.words (descr_place id.slot) 0)
+    (sh.given id.slot known.0) (sh.descrs id.slot known.0)) ∙ is) in record {
       can = can-by w (ReadDescr r.number id d) (subst (λ (z : Descr). refusal w (ReadDescr r.number id z) ≡ None) same
           (may_read w r.number id (in-shape k s w sh id.slot known.0) known.1));
       shown = subst (λ (z : Descr). IsShown k (stepped s (descr_place id.slot)

@@ -9,5 +9,4 @@ pub mod Locking
 pub mod LawOfSteps
 pub mod Fieldless
 pub mod Owned
-pub mod Laying
 pub mod Showing

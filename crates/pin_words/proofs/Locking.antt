@@ -1,6 +1,6 @@
 -- What the calls under a lock need.
 use Rattle.std.proofs.Common.{◌≡◌, ◌≢◌, ℕ, ◌≤◌, Bool, true, false, inl, List, [], ◌∷◌, ◌++◌, sym, refl, ap, ◌∙◌, arith}
-use Rattle.std.proofs.lemmas.Grind.{common_steps}
+use Rattle.std.proofs.lemmas.Bool.{eqb-true}
 use Rattle.pin_core.specs.declared.id.Id.{Id}
 use Rattle.pin_core.specs.Holds.{tally, weight, drop_last, same_id}
 use Rattle.pin_core.proofs.Counts.{count-snoc, count-drop_last-le}
@@ -9,9 +9,6 @@ use Rattle.pin_words.specs.declared.pin_keeper.Reclaim.TheVariants.{Freed, Retir
 use Rattle.pin_words.specs.Views.{sits}
 use Rattle.pin_words.specs.Keepers.{KeeperState, with_looks, Reclaims, ReclaimsLocked}
 
-sits-else : (s : ℕ) (id : Id) → sits s id ≡ true → id.slot ≡ s
-sits-else s id e = grind (arith, common_steps)
-
 pub room-more : (most : ℕ) (held : List Id) (id : Id) → ((s : ℕ) → tally (sits s) held ≤ most)
     → tally (sits id.slot) held ≢ most → (s : ℕ) → tally (sits s) (held ++ id ∷ []) ≤ most
 room-more most held id room free s = cases (sits s id) refl
@@ -19,7 +16,7 @@ room-more most held id room free s = cases (sits s id) refl
     cases : (b : Bool) → sits s id ≡ b → tally (sits s) (held ++ id ∷ []) ≤ most
     cases true e = let c = count-snoc (sits s) held id in let one : weight (sits s id) ≡ 1 = ap weight e in
         let here : tally (sits id.slot) held ≡ tally (sits s) held =
-        ap (λ (z : ℕ). tally (sits z) held) (sits-else s id e) in
+        ap (λ (z : ℕ). tally (sits z) held) (eqb-true id.slot s e) in
         let le = room s in let ne : tally (sits s) held ≢ most = λ x. free (here ∙ x) in omega arith
     cases false e = let c = count-snoc (sits s) held id in let off : weight (sits s id) ≡ 0 = ap weight e in
         let le = room s in omega arith

@@ -1,5 +1,6 @@
 -- The steps of a reader keep the rule of the table.
 use Rattle.std.proofs.Common.{◌≡◌, ◌≢◌, inl, inr, ℕ, ◌+◌, ◌-◌, ◌%◌, ◌^◌, ◌<◌, ◌==◌, eqb, eq-eqb, ne_eqb, true, List, [], ◌∷◌, ◌++◌, get_or, set, get_or-set_same, get_or-set_other, Option, Some, None, sym, refl, ap, ◌∙◌, subst, arith}
+use Rattle.std.proofs.lemmas.Option.{same_Some}
 use mathlib.Core.Option.{none, some}
 use native.Mathlib.Decide.{ℕ_discrete}
 use mathlib.Core.Logic.{dite}
@@ -34,7 +35,7 @@ use Rattle.pin_words.specs.Shown.{Table, NotAhead, AreNoted, OfKeeper, OfReader,
 use Rattle.pin_words.specs.Plays.{Tells, looked_view, got_view, released_view, LookedAt, looked, PinnedAt, pinned, ReleasedAt, released, noted}
 use Rattle.pin_words.proofs.Bits.{sub_one}
 use Rattle.pin_words.proofs.Holdings.{holds-more, holds-same-more, holds-less, holds-same-less, has-copies, noted-left}
-use Rattle.pin_words.proofs.Steps.{of-map, of-here, some-same, in-list, step-shown, still-shown, found-is, in-shape, told, met, reader-looks, turn-reader, turn-to, looks-agree, looks-stay, notes-stay, keeper-stays, reader-stays, behind, at-slot}
+use Rattle.pin_words.proofs.Steps.{of-map, of-here, in-list, step-shown, still-shown, found-is, in-shape, told, met, reader-looks, turn-reader, turn-to, looks-agree, looks-stay, notes-stay, keeper-stays, reader-stays, behind, at-slot}
 use Rattle.pin_words.proofs.Bits.{descr-decoded}
 
 -- the words where the holds change at the slot i alone
@@ -384,7 +385,7 @@ notes-step k slots id i me r y is here inside have s (W, sh) deep seated small =
       keeps,
       tt,
       (W, reader-notes k s W sh id me.0 r x seated is inside have'),
-      λ r' y' is' have'' word. let same = some-same me.0.reader r r' is is' in
+      λ r' y' is' have'' word. let same = same_Some r r' (sym is ∙ is') in
           let index : i ≡ y'.slot = omega arith in
           let known' = held-is W sh.next sh.owner id r y' sh.safe mine
           (subst (λ (z : ReaderView). 0 < tally (same_id y') z.held) (sym same) have'') in (

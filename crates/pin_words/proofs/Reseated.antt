@@ -5,6 +5,7 @@ use native.Mathlib.Decide.{ℕ_discrete}
 use mathlib.Core.Logic.{dite}
 use lib.ListN.{get_elem?}
 use Rattle.std.proofs.lemmas.List.{length-replicate}
+use Rattle.std.proofs.lemmas.Option.{same_Some}
 use Rattle.atomic_table.specs.Table.{Splits, Joins, opening}
 use Rattle.atomic_table.proofs.Lists.{at_set, set_here, set_else, set_again, at_longer, at_last}
 use Rattle.pin_core.specs.declared.shape.Shape.{Shape}
@@ -22,7 +23,7 @@ use Rattle.pin_words.specs.Views.{on, view, keeper_gave, reader_given, opening_k
 use Rattle.pin_words.specs.Shown.{Table, HoldsJust, OfKeeper, OfReader, Agrees, HasKeeper, HasReader, IsShown, Shown}
 use Rattle.pin_words.specs.Plays.{Behind, Tells, AreListed, Show, Meets, MeetsBoth, looked_view, got_view, released_view, looked, pinned, released, noted, stored, published, closed, reclaiming, gave, reader_from, spent, or_else, joined, keeper_part, reader_part}
 use Rattle.pin_words.specs.Plays as play
-use Rattle.pin_words.proofs.Steps.{Turns, of-map, of-here, of-put, some-same, in-list, has-keeper, has-reader, turn-keeper}
+use Rattle.pin_words.proofs.Steps.{Turns, of-map, of-here, of-put, in-list, has-keeper, has-reader, turn-keeper}
 
 at-last : {A : Type 0} (l : List A) (a b : A) (j : ℕ) → get_elem? (l ++ a ∷ []) j ≡ some b
     → (get_elem? l j ≡ some b) ⊎ ((j ≡ length l) × (a ≡ b))
@@ -298,7 +299,7 @@ joins-shown k s W sh id other kv rv seated apart seated' =
     let not-other : sh.owner r ≢ other = λ q. ne (sym h.4
     ∙ (let same : h.0 ≡ view None (Some rv) = some-injective h.0 (view None (Some rv)) (sym h.2
     ∙ (ap (get_elem? s.views) q ∙ (sym (set_else s.views id other (view (Some kv) (Some rv)) apart) ∙ seated'))) in
-    ap (λ (z : ReaderView). z.number) (some-same h.0.reader h.1 rv h.3 (ap (λ (z : View). z.reader) same)))) in
+    ap (λ (z : ReaderView). z.number) (same_Some h.1 rv (sym h.3 ∙ ap (λ (z : View). z.reader) same)))) in
     let not-id : sh.owner r ≢ id = λ q. (let same : h.0 ≡ view (Some kv) None =
     some-injective h.0 (view (Some kv) None) (sym h.2 ∙ (ap (get_elem? s.views) q ∙ seated)) in
     let gone : None ≡ Some h.1 = sym (ap (λ (z : View). z.reader) same) ∙ h.3 in cc) in (
@@ -369,7 +370,7 @@ parts-shown k s W sh id kv rv seated =
     (λ ne. let not-id : sh.owner r ≢ id = λ q. ne (sym h.4
     ∙ (let same : h.0 ≡ view (Some kv) (Some rv) =
     some-injective h.0 (view (Some kv) (Some rv)) (sym h.2 ∙ (ap (get_elem? s.views) q ∙ seated)) in
-    ap (λ (z : ReaderView). z.number) (some-same h.0.reader h.1 rv h.3 (ap (λ (z : View). z.reader) same)))) in
+    ap (λ (z : ReaderView). z.number) (same_Some h.1 rv (sym h.3 ∙ ap (λ (z : View). z.reader) same)))) in
     subst (λ (z : ℕ). HasReader (set s.views id (view (Some kv) None) ++ view None (Some rv) ∷ []) z r)
     (sym (moved-old rv.number last sh.owner r ne))
     (longer-reader (set s.views id (view (Some kv) None)) (view None (Some rv) ∷ []) (sh.owner r) r (

@@ -5,6 +5,7 @@ use native.Mathlib.Decide.{ℕ_discrete}
 use mathlib.Core.Logic.{dite}
 use lib.ListN.{get_elem?}
 use lib.Seq.{set-get_or}
+use Rattle.std.proofs.lemmas.Option.{same_Some}
 use Rattle.atomic_table.proofs.Lists.{at_set, set_here, set_else}
 use Rattle.pin_core.specs.declared.word.Word.{Word}
 use Rattle.pin_core.specs.declared.id.Id.{Id}
@@ -26,7 +27,7 @@ use Rattle.pin_words.specs.declared.view.KeeperView.{KeeperView}
 use Rattle.pin_words.specs.declared.view.ReaderView.{ReaderView}
 use Rattle.pin_words.specs.declared.view.View.{View}
 use Rattle.pin_words.specs.Places.{place_of, descr_place, AtSlot}
-use Rattle.pin_words.specs.Views.{Of, on, view, look, reader_looked, unwrap}
+use Rattle.pin_words.specs.Views.{Of, on, view, look, reader_looked}
 use Rattle.pin_words.specs.Shown.{Table, word_age, IsPast, NotAhead, AreNoted, HoldsJust, OfKeeper, OfReader, Agrees, HasKeeper, HasReader, IsShown}
 use Rattle.pin_words.specs.Plays.{Behind, Tells, AreListed, Show, MeetsBoth, looked_view}
 use Rattle.pin_words.proofs.Bits.{decoded-encoded}
@@ -38,9 +39,6 @@ of-map P Q (Some a) f h = f a h
 
 pub of-here : {A : Type 0} (P : A → Type 0) (x : Option A) (a : A) → x ≡ Some a → Of x P → P a
 of-here {A = A} P x a is h = subst (λ (z : Option A). Of z P) is h
-
-pub some-same : {A : Type 0} (o : Option A) (a b : A) → o ≡ Some a → o ≡ Some b → a ≡ b
-some-same o a b p q = let r : Some a ≡ Some b = sym p ∙ q in ap (unwrap a) r
 
 pub of-put : {A : Type 0} (P : A → Type 0) (x : Option A) (a : A) → x ≡ Some a → P a → Of x P
 of-put {A = A} P x a is h = subst (λ (z : Option A). Of z P) (sym is) h
@@ -222,7 +220,8 @@ met k s W sh id i v inside a = cases v.keeper v.reader a.0 a.1
           given = λ on. subst (λ (z : Slot × List (Id × Descr)). 0
               < tally (is_with record { slot = i; generation = z.0.generation } z.0.descr) z.1)
               (λ j. (here j, sym a.published j))
-              (let one = (sh.safe.slots i (in-shape k s W sh i inside)).shown (ap (λ (z : Slot). may_be_held z.phase) here
+              (let one = (sh.safe.slots i (in-shape k s W sh i inside)).shown
+              (ap (λ (z : Slot). may_be_held z.phase) here
               ∙ on) in omega arith);
           notes = listed W x.published y.notes a.published b.notes;
           shown = λ on. subst (λ (z : Slot). Show record { slot = i; generation = z.generation } z.descr y.notes) here
@@ -271,7 +270,7 @@ pub turn-to : (v : View) (r r' : ReaderView) → v.reader ≡ Some r → r'.numb
     → Turns v (view v.keeper (Some r'))
 turn-to v r r' is same = record {
   keeper = λ k e. (k, e);
-  reader = λ x e. (r', refl, same ∙ ap (λ (z : ReaderView). z.number) (some-same v.reader r x is e));
+  reader = λ x e. (r', refl, same ∙ ap (λ (z : ReaderView). z.number) (same_Some r x (sym is ∙ e)));
 }
 
 pub turn-keeper-to : (v : View) (k' : KeeperView) → Turns v (view (Some k') v.reader)

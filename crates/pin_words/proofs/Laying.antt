@@ -1,1 +1,0 @@
--- The words of one slot more are laid.
