@@ -1,15 +1,12 @@
 -- Lanes whose numbers rise.
-use Rattle.std.proofs.Common.{◌≡◌, ◌==◌, ◌||◌, ℕ, ◌+◌, ◌<◌, ◌≤◌, Bool, true, false, List, [], ◌∷◌, ◌++◌, length, take, get_or, refl, arith}
-use Rattle.std.proofs.lemmas.Bool.{or_from, or_parts}
+use Rattle.std.proofs.Common.{◌≡◌, ◌==◌, ◌||◌, ℕ, ◌+◌, ◌<◌, ◌≤◌, Bool, true, false, List, [], ◌∷◌, ◌++◌, length, take, get_or, refl, ◌∙◌, arith}
+use Rattle.std.proofs.lemmas.Bool.{ne_eqb, or_from, or_parts}
+use Rattle.std.proofs.lemmas.Cmp.{nat_eq_equiv}
 use Rattle.std.specs.List.{list_any}
-use Rattle.std.proofs.lemmas.Bool.Decides.{nat_tests}
 use Rattle.std.proofs.lemmas.List.{take_more}
 use Rattle.std.proofs.lemmas.List.Folds.{list_any-append}
 use Rattle.ob_shared.specs.Closing.{has_number, has_twice}
 use Rattle.ob_shared.specs.Lanes.{LaneState}
-
-differ : (m n : ℕ) → (m == n) ≡ false → (n == m) ≡ false
-differ m n no_match = grind (arith, nat_tests)
 
 apart_more : (xs : List LaneState) (x : LaneState) → has_twice xs ≡ false → list_any (has_number x.number) xs ≡ false
     → has_twice (xs ++ x ∷ []) ≡ false
@@ -20,7 +17,7 @@ apart_more (y ∷ xs) x apart none =
     or_from (list_any (has_number y.number) (xs ++ x ∷ [])) (has_twice (xs ++ x ∷ []))
     (rw (list_any-append (has_number y.number) xs (x ∷ []))
     (or_from (list_any (has_number y.number) xs) ((x.number == y.number) || false) old.0
-    (or_from (x.number == y.number) false (differ y.number x.number other.0) refl)))
+    (or_from (x.number == y.number) false (nat_eq_equiv.symm x.number y.number ∙ other.0) refl)))
     (apart_more xs x old.1 other.1)
 
 -- no number is there twice, and none from the least one on
@@ -36,8 +33,6 @@ risen_more xs i x least next inside at above is old = rw (take_more xs i x insid
   apart = apart_more (take i xs) x old.apart (old.below x.number above);
   below = λ n past. rw (list_any-append (has_number n) (take i xs) (x ∷ []))
       (or_from (list_any (has_number n) (take i xs)) ((x.number == n) || false)
-      (old.below n (omega (arith, above, is, past))) (or_from (x.number == n) false (other n past) refl));
+      (old.below n (omega (arith, above, is, past)))
+      (or_from (x.number == n) false (ne_eqb x.number n (λ same. omega (arith, is, past, same))) refl));
 })
-  where
-    other : (n : ℕ) → next ≤ n → (x.number == n) ≡ false
-    other n past = grind (arith, nat_tests)
