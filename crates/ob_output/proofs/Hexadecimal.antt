@@ -1,7 +1,7 @@
 -- Hexadecimal digits, one behind those of the quotient.
 use Rattle.std.proofs.Common.{◌≡◌, ℕ, zero, suc, ◌-◌, ◌/◌, ◌%◌, ◌^◌, ◌<◌, ◌≤◌, Bool, true, false, List, [], ◌∷◌, ◌++◌, cond, eqb, refl, ap, sym, subst, ◌∙◌, arith}
 use Rattle.std.proofs.Math.Nat.{pow-suc}
-use Rattle.std.proofs.lemmas.Bool.Decides.{nat_tests}
+use Rattle.std.proofs.lemmas.Bool.{eqb-false, ne_eqb}
 use Rattle.std.proofs.lemmas.Fmt.{hex_one_digit}
 use Rattle.std.proofs.lemmas.List.{append_assoc}
 use Rattle.std.specs.Fmt.{digit_glyph, digits, digits_onto}
@@ -44,8 +44,7 @@ more_room zero n acc small = by (eqb (n / 16) 0) refl
     by : (b : Bool) → eqb (n / 16) 0 ≡ b → cond b (g ∷ acc) (digits_onto 1 16 false (n / 16) (g ∷ acc))
         ≡ cond b (g ∷ acc) (digits_onto 0 16 false (n / 16) (g ∷ acc))
     by true is = refl
-    by false is = let one : n / 16 ≡ 0 = omega (arith, pow-suc 16 0) in
-        let same : eqb (n / 16) 0 ≡ true = ap (λ m. eqb m 0) one in absurd (cc)
+    by false is = absurd (eqb-false (n / 16) 0 is (omega (arith, pow-suc 16 0)))
 more_room (suc k) n acc small = by (eqb (n / 16) 0) (more_room k (n / 16) (g ∷ acc) (let more = pow-suc 16 (suc k) in
     omega arith))
   where
@@ -59,13 +58,11 @@ more_room (suc k) n acc small = by (eqb (n / 16) 0) (more_room k (n / 16) (g ∷
     by true same = refl
     by false same = same
 
-not_zero : (n : ℕ) → 0 < n → eqb n 0 ≡ false
-not_zero n some = grind (arith, nat_tests)
-
 onto_step : (k n : ℕ) → 0 < n / 16 → digits_onto (suc k) 16 false n []
     ≡ digits_onto k 16 false (n / 16) (digit_glyph false (n % 16) ∷ [])
 onto_step k n large = ap (λ (b : Bool). cond b (digit_glyph false (n % 16) ∷ [])
-    (digits_onto k 16 false (n / 16) (digit_glyph false (n % 16) ∷ []))) (not_zero (n / 16) large)
+    (digits_onto k 16 false (n / 16) (digit_glyph false (n % 16) ∷ [])))
+    (ne_eqb (n / 16) 0 (λ none. omega (arith, large, none)))
 
 digits_are : (n : ℕ) → digits_onto 64 16 false n [] ≡ digits 16 false n
 unfolding digits
