@@ -1,10 +1,11 @@
 -- The digits with which a text begins, and the word that they are.
 use Rattle.std.proofs.Common.{◌≡◌, ◌≢◌, ℕ, suc, ◌+◌, ◌-◌, ◌*◌, ◌<◌, ◌≤◌, List, ◌++◌, ◌&&◌, [], ◌∷◌, Option, Some, None, true, false, length, take, drop, get_or, arith, refl, ap, sym, subst, ◌∙◌}
-use Rattle.std.specs.Prelude.{IfSome, ◌==◌}
+use Rattle.std.specs.Prelude.{IfSome}
 use Rattle.std.specs.Borrow.{Bor}
 use Rattle.std.specs.List.{list_all, onto_first, position_or_len}
 use Rattle.std.specs.Char.{is_ascii_digit}
 use Rattle.std.proofs.Math.Seq.{take-suc}
+use Rattle.std.proofs.lemmas.Bool.{ne_eqb}
 use Rattle.std.proofs.lemmas.Bool.Decides.{nat_tests}
 use Rattle.std.proofs.lemmas.List.{get_or-take, length-take, take_all, take_rest}
 use Rattle.std.proofs.lemmas.List.Elements.{All-get_or}
@@ -80,9 +81,6 @@ number_first text n value digits is within blank some few small =
     )
 
 -- and so it is behind a letter, which is no blank
-not_equal : (a b : ℕ) → a ≢ b → (a == b) ≡ false
-not_equal a b apart = grind (arith, nat_tests)
-
 labelled_is : (letter : ℕ) (word : List ℕ) (value : ℕ) → number_of word ≡ Some value
     → labelled letter (letter ∷ word) ≡ Some value
 labelled_is letter word value number = grind (arith, nat_tests)
@@ -98,6 +96,6 @@ behind_letter letter (first ∷ more) digits None dark some is number rest = num
 behind_letter letter (first ∷ more) digits (Some found) dark some is (word, number, words) rest = (
   letter ∷ word,
   labelled_is letter word found.0 number,
-  slice_split-cons_no (is_byte 32) first more (ap (is_byte 32) is ∙ not_equal letter 32 dark)
+  slice_split-cons_no (is_byte 32) first more (ap (is_byte 32) is ∙ ne_eqb letter 32 dark)
       ∙ ap (onto_first first) (sym (ap words_of rest) ∙ words) ∙ ap (λ byte. (byte ∷ word) ∷ words_left found.1) is,
 )

@@ -1,6 +1,6 @@
 -- A call without a line is refused, and changes nothing.
 use Rattle.std.proofs.Common.{◌≡◌, ℕ, ◌≤◌, arith, refl, ap, sym, subst, ◌∙◌, List, [], ◌∷◌, ◌++◌, length, length-append, Bool, true, false, not, ◌&&◌, ◌||◌, ◌==◌, Option, Some, None, Result, Ok, Err, codes, decimal, nat_lt, nat_le, if◌then◌else◌, is_ok, true≢false}
-use Rattle.std.proofs.lemmas.Bool.{or_right}
+use Rattle.std.proofs.lemmas.Bool.{and_right, or_right}
 use Rattle.std.specs.Fmt.{signed_decimal}
 use Rattle.std.specs.List.{list_all}
 use Rattle.std.proofs.lemmas.Bool.Decides.{nat_tests}
@@ -49,16 +49,13 @@ unprintable : (text : List ℕ) → list_all no_feed text ≡ false → list_all
 unprintable [] is = absurd (true≢false is)
 unprintable (byte ∷ bytes) is = by (no_feed byte) refl (unprintable bytes)
   where
-    later : (b : Bool) → list_all is_printable bytes ≡ false → (b && list_all is_printable bytes) ≡ false
-    later true none = none
-    later false none = refl
-
     unprinted : no_feed byte ≡ false → is_printable byte ≡ false
     unprinted feed = grind (arith, nat_tests)
 
     by : (b : Bool) → no_feed byte ≡ b → (list_all no_feed bytes ≡ false → list_all is_printable bytes ≡ false)
         → (is_printable byte && list_all is_printable bytes) ≡ false
-    by true good rest = later (is_printable byte) (rest (sym (ap (λ b. b && list_all no_feed bytes) good) ∙ is))
+    by true good rest = and_right (is_printable byte) (list_all is_printable bytes)
+        (rest (sym (ap (λ b. b && list_all no_feed bytes) good) ∙ is))
     by false feed rest = ap (λ b. b && list_all is_printable bytes) (unprinted feed)
 
 unnamed : (text : List ℕ) (session : ℕ) → is_nameable text ≡ false → is_ok (name_of text session) ≡ false

@@ -6,6 +6,7 @@ use Rattle.std.specs.Fmt.{digits, digits_onto, digit_glyph, signed_decimal}
 use Rattle.std.specs.Char.{digit_value, is_ascii_digit, is_ascii_hexdigit}
 use Rattle.std.specs.List.{list_all}
 use Rattle.std.specs.Str.Parse.{AllDigits, IsNumeral, digits_value, digits_value_after}
+use Rattle.std.proofs.lemmas.Bool.{and_from, cond_both}
 use Rattle.std.proofs.lemmas.Bool.Decides.{nat_tests}
 use Rattle.std.proofs.lemmas.Fmt.{digits_is_IsNumeral, decimal_is_IsNumeral, length-decimal-le}
 use Rattle.ob_script.specs.Fitting.{FitsSign}
@@ -21,10 +22,12 @@ digit_is c small = (low, high, grind (arith, nat_tests))
     high : c ≤ 57
     high = grind (arith, nat_tests)
 
-all_digits : (ds : List ℕ) → AllDigits 10 ds → list_all is_ascii_digit ds ≡ true
-all_digits [] all = refl
-all_digits (c ∷ cs) all =
-    let d = digit_is c all.0 in let rest = all_digits cs all.1 in grind (arith, nat_tests)
+-- digits pass a test that each digit of the base passes
+pub digits_pass : (test : ℕ → Bool) (base : ℕ) → ((c : ℕ) → digit_value c < base → test c ≡ true) → (ds : List ℕ)
+    → AllDigits base ds → list_all test ds ≡ true
+digits_pass test base each [] all = refl
+digits_pass test base each (c ∷ cs) all =
+    and_from (test c) (list_all test cs) (each c all.0) (digits_pass test base each cs all.1)
 
 value_same : (n : ℕ) (ds : List ℕ) → AllDigits 10 ds → value_after n ds ≡ digits_value_after 10 n ds
 value_same n [] all = refl
@@ -39,7 +42,8 @@ module _ (n : ℕ) (small : n < 2 ^ 64) where
   value_is = value_same 0 (decimal n) numeral.0.1 ∙ numeral.1
 
   are_digits : list_all is_ascii_digit (decimal n) ≡ true
-  are_digits = all_digits (decimal n) numeral.0.1
+  are_digits = digits_pass is_ascii_digit 10
+      (λ c small. let d = digit_is c small in grind (arith, nat_tests)) (decimal n) numeral.0.1
 
 pub reads_number : (n : ℕ) → n ≤ 4294967295 → number_of (decimal n) ≡ Some n
 reads_number n fits =
@@ -88,17 +92,9 @@ reads_due (negsuc n) fits =
 hex_is : (c : ℕ) → digit_value c < 16 → is_ascii_hexdigit c ≡ true
 hex_is c small = grind (arith, nat_tests)
 
-all_hex : (ds : List ℕ) → AllDigits 16 ds → list_all is_ascii_hexdigit ds ≡ true
-all_hex [] all = refl
-all_hex (c ∷ cs) all = let d = hex_is c all.0 in let rest = all_hex cs all.1 in grind (arith, nat_tests)
-
 hex_same : (n : ℕ) (ds : List ℕ) → hex_after n ds ≡ digits_value_after 16 n ds
 hex_same n [] = refl
 hex_same n (c ∷ cs) = hex_same (n * 16 + digit_value c) cs
-
-either : (b : Bool) (xs ys : List ℕ) (most : ℕ) → length xs ≤ most → length ys ≤ most → length (cond b xs ys) ≤ most
-either true xs ys most p q = p
-either false xs ys most p q = q
 
 -- the digits of n < 16 ^ j are at most j
 hex_length : (k j n : ℕ) (acc : List ℕ) → n < 16 ^ suc j → length (digits_onto k 16 false n acc) ≤ suc j + length acc
@@ -108,8 +104,8 @@ hex_length (suc k) zero n acc fits =
     (digits_onto k 16 false (n / 16) (digit_glyph false (n % 16) ∷ acc))) ≤ 1 + length acc)
     (sym (eq-eqb (n / 16) 0 (omega (arith, fits)))) (omega arith)
 hex_length (suc k) (suc i) n acc fits =
-    either (eqb (n / 16) 0) _ _ (suc (suc i) + length acc) (omega arith)
-    (omega (
+    cond_both (eqb (n / 16) 0) _ _ (λ ds. length ds ≤ suc (suc i) + length acc) (λ _. omega arith)
+    (λ _. omega (
       arith,
       hex_length k i (n / 16) (digit_glyph false (n % 16) ∷ acc)
           (omega (arith, fits, pow-suc 16 (suc i))),
@@ -123,7 +119,8 @@ pub reads_mask : (n : ℕ) → n ≤ 4294967295 → mask_of (48 ∷ 120 ∷ digi
 reads_mask n fits =
     let is = digits_is_IsNumeral 16 false (omega arith) (omega arith) n (omega arith) in
     let few = hex_few n fits in
-    let all : list_all is_ascii_hexdigit (digits 16 false n) ≡ true = all_hex (digits 16 false n) is.0.1 in
+    let all : list_all is_ascii_hexdigit (digits 16 false n) ≡ true =
+    digits_pass is_ascii_hexdigit 16 hex_is (digits 16 false n) is.0.1 in
     let value : hex_after 0 (digits 16 false n) ≡ n = hex_same 0 (digits 16 false n) ∙ is.1 in
     let some : 0 < length (digits 16 false n) = is.0.0 in
     grind (arith, nat_tests)

@@ -21,7 +21,7 @@ use Rattle.ob_manager.specs.Calls.{Call}
 use Rattle.ob_script.specs.Words.{joined}
 use Rattle.ob_script.specs.Fitting.{FitsMask, FitsSign, FitsTarget, FitsTimeout, FitHandles}
 use Rattle.ob_script.specs.Writing.{label, id_word, mask_word, either_word, word_if, mask_words, name_words, make_words, kind_word, mode_word, timeout_word, target_word, ended, words_for, text_for, can_be_said, is_line, line_of}
-use Rattle.ob_script.proofs.Numerals.{hex_few}
+use Rattle.ob_script.proofs.Numerals.{digits_pass, hex_few}
 
 -- a byte that is no line feed
 abbrev pub no_feed : ℕ → Bool
@@ -70,8 +70,8 @@ have_line most call can are few none = by (can_be_said call) (is_line (text_for 
     is : is_line (text_for call) ≡ true
     is =
         let short = joined_len most (words_for call) are in
-        and_from (not (nat_lt 4096 (length (text_for call)))) (list_all no_feed (text_for call)) (grind (arith, nat_tests))
-        (joined_within most (words_for call) are)
+        and_from (not (nat_lt 4096 (length (text_for call)))) (list_all no_feed (text_for call))
+        (grind (arith, nat_tests)) (joined_within most (words_for call) are)
 
     by : (a b : Bool) → a ≡ true → b ≡ true → (if a && b then Some (ended (text_for call)) else None) ≡ None → ⊥
     by true true can is none = cc
@@ -83,9 +83,7 @@ no_digit : (c : ℕ) → digit_value c < 16 → no_feed c ≡ true
 no_digit c small = grind (arith, nat_tests)
 
 digits_within : (base : ℕ) → base ≤ 16 → (ds : List ℕ) → AllDigits base ds → list_all no_feed ds ≡ true
-digits_within base high [] all = refl
-digits_within base high (c ∷ cs) all = and_from (no_feed c) (list_all no_feed cs) (no_digit c (omega (arith, high, all.0)))
-    (digits_within base high cs all.1)
+digits_within base high = digits_pass no_feed base (λ c small. no_digit c (omega (arith, high, small)))
 
 module _ (most : ℕ) (room : 21 ≤ most) where
   pub number_short : (n : ℕ) → n < 2 ^ 64 → IsShort most (decimal n)

@@ -1,10 +1,10 @@
 -- Words that are joined by spaces are read as they were.
-use Rattle.std.proofs.Common.{◌≡◌, ℕ, ◌<◌, ◌≤◌, arith, refl, ap, sym, ◌∙◌, List, [], ◌∷◌, ◌++◌, Bool, true, false, not, ◌&&◌, ◌==◌, All, decimal, true≢false, ◌^◌, append-nil, map}
-use Rattle.std.proofs.lemmas.Bool.{and_from, and_parts}
+use Rattle.std.proofs.Common.{◌≡◌, ℕ, ◌<◌, ◌≤◌, arith, refl, ap, sym, ◌∙◌, List, [], ◌∷◌, ◌++◌, Bool, true, false, not, ◌==◌, All, decimal, ◌^◌, append-nil, map}
+use Rattle.std.proofs.lemmas.Bool.{and_from, not-true}
 use Rattle.std.specs.Fmt.{digits}
 use Rattle.std.specs.Char.{digit_value}
 use Rattle.std.specs.List.{list_all, flat_map}
-use Rattle.std.proofs.lemmas.List.Folds.{flat_map-map}
+use Rattle.std.proofs.lemmas.List.Folds.{flat_map-map, list_all-append}
 use Rattle.std.specs.Str.Parse.{AllDigits}
 use Rattle.std.proofs.lemmas.Bool.Decides.{nat_tests}
 use Rattle.std.proofs.lemmas.Fmt.{digits_is_IsNumeral}
@@ -13,6 +13,7 @@ use Rattle.std.proofs.lemmas.List.Sums.{AllPass-from_list_all}
 use Rattle.memchr.specs.Find.{is_byte}
 use Rattle.ob_script.specs.Words.{words_of, joined}
 use Rattle.ob_script.specs.Writing.{said, behind_spaces, label}
+use Rattle.ob_script.proofs.Numerals.{digits_pass}
 
 -- whether a word has no space
 abbrev pub is_word : List ℕ → Bool
@@ -23,11 +24,8 @@ abbrev pub AreWords : List (List ℕ) → Type 0
 AreWords [] = Unit {0}
 AreWords (word ∷ words) = (is_word word ≡ true) × AreWords words
 
-no_space : (byte : ℕ) → not (byte == 32) ≡ true → is_byte 32 byte ≡ false
-no_space byte is = grind (arith, nat_tests)
-
 no_spaces : (word : List ℕ) → is_word word ≡ true → All (λ byte. is_byte 32 byte ≡ false) word
-no_spaces word is = λ k d within. no_space _ (AllPass-from_list_all (λ byte. not (byte == 32)) word is k d within)
+no_spaces word is = λ k d within. not-true _ (AllPass-from_list_all (λ byte. not (byte == 32)) word is k d within)
 
 -- the words of a text that some words are
 abbrev pub read_words : List (List ℕ) → List (List ℕ)
@@ -54,9 +52,7 @@ no_digit : (c : ℕ) → digit_value c < 16 → not (c == 32) ≡ true
 no_digit c small = grind (arith, nat_tests)
 
 digits_word : (base : ℕ) → base ≤ 16 → (ds : List ℕ) → AllDigits base ds → is_word ds ≡ true
-digits_word base high [] all = refl
-digits_word base high (c ∷ cs) all = and_from (not (c == 32)) (is_word cs) (no_digit c (omega (arith, high, all.0)))
-    (digits_word base high cs all.1)
+digits_word base high = digits_pass (λ c. not (c == 32)) base (λ c small. no_digit c (omega (arith, high, small)))
 
 pub hex_word : (n : ℕ) → n < 2 ^ 64 → is_word (digits 16 false n) ≡ true
 hex_word n small = digits_word 16 (omega arith) (digits 16 false n)
@@ -70,10 +66,8 @@ pub label_word : (letter n : ℕ) → not (letter == 32) ≡ true → n < 2 ^ 64
 label_word letter n is small = and_from (not (letter == 32)) (is_word (decimal n)) is (decimal_word n small)
 
 pub word_append : (front back : List ℕ) → is_word front ≡ true → is_word back ≡ true → is_word (front ++ back) ≡ true
-word_append [] back front_is back_is = back_is
-word_append (byte ∷ front) back front_is back_is =
-    and_from (not (byte == 32)) (is_word (front ++ back)) (and_parts (not (byte == 32)) (is_word front) front_is).0
-    (word_append front back (and_parts (not (byte == 32)) (is_word front) front_is).1 back_is)
+word_append front back front_is back_is = list_all-append (λ byte. not (byte == 32)) front back
+    ∙ and_from (is_word front) (is_word back) front_is back_is
 
 -- words that each have a space before them
 pub said_joined : (words : List (List ℕ)) → said words ≡ joined words
