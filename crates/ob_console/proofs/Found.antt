@@ -1,5 +1,5 @@
 -- What a meeting tells of a slot: its object, where the reader holds something there.
-use Rattle.std.proofs.Common.{◌≡◌, ℕ, ◌<◌, true, List, Option, Some, None, slice_index_or, sym, refl, ap, subst, ◌∙◌, arith}
+use Rattle.std.proofs.Common.{◌≡◌, ℕ, ◌<◌, true, List, Option, Some, None, slice_index_or, sym, refl, ap, subst, ◌∙◌}
 use Rattle.pin_core.specs.declared.id.Id.{Id}
 use Rattle.pin_core.specs.declared.shape.Shape.{Shape}
 use Rattle.pin_core.specs.declared.world.Slot.{Slot}
@@ -9,6 +9,7 @@ use Rattle.pin_core.specs.Worlds.{slot_of}
 use Rattle.pin_words.specs.declared.view.ReaderView.{ReaderView}
 use Rattle.pin_words.specs.Plays.{Show}
 use Rattle.pin_words.specs.Views.{id_of}
+use Rattle.ob_tables.proofs.Counting.{same_id-same}
 use Rattle.ob_store.specs.Consistent.{IsConsistent}
 use Rattle.ob_store.specs.Meetings.{IsFound, IsMet}
 use Rattle.ob_store.specs.Objects.{Object}
@@ -48,8 +49,5 @@ pub card_found : (s : State) (r : ReaderView) (id : Id) (found : IsFound id r (s
     → card s id ≡ Some (card_of found.object)
 card_found s r id found = ap (λ (x : Option Object). carded (if_id id x)) found.is ∙ this
   where
-    same : (x : Id) → same_id x x ≡ true
-    same x = grind arith
-
     this : carded (if_id id (Some found.object)) ≡ Some (card_of found.object)
-    this = rw (ap (λ (x : Id). same_id x id) found.named ∙ same id) refl
+    this = rw (ap (λ (x : Id). same_id x id) found.named ∙ same_id-same id) refl

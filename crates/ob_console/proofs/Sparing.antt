@@ -1,7 +1,8 @@
 -- A slot of which something is held isn't taken back.
-use Rattle.std.proofs.Common.{◌≡◌, ℕ, zero, suc, ◌<◌, true, List, [], ◌∷◌, Option, Some, None, Result, Ok, Err, length, get_or, position, set, slice_index_or, sym, refl, ap, subst, ◌∙◌, arith}
+use Rattle.std.proofs.Common.{◌≡◌, ℕ, zero, suc, ◌<◌, List, [], ◌∷◌, Option, Some, None, Result, Ok, Err, length, get_or, position, set, slice_index_or, sym, refl, ap, subst, ◌∙◌, arith}
 use Rattle.std.proofs.lemmas.Grind.{common_steps}
 use Rattle.std.proofs.lemmas.List.Quantifiers.{position-Some}
+use Rattle.std.proofs.lemmas.Option.{none-some}
 use Rattle.ob_rights.specs.declared.fault.Fault.{Fault}
 use Rattle.pin_core.specs.declared.id.Id.{Id}
 use Rattle.pin_core.specs.Holds.{tally, weight, same_id}
@@ -10,6 +11,7 @@ use Rattle.pin_words.specs.declared.pin_keeper.Reclaim.{Reclaim}
 use Rattle.pin_words.specs.declared.pin_keeper.Reclaim.TheVariants.{Freed, Retired, Held}
 use Rattle.pin_words.specs.declared.view.ReaderView.{ReaderView}
 use Rattle.pin_words.specs.Views.{sits}
+use Rattle.ob_tables.proofs.Counting.{same_id-same}
 use Rattle.ob_store.specs.Consistent.{IsConsistent}
 use Rattle.ob_store.specs.Meetings.{IsMet}
 use Rattle.ob_store.specs.Moves.{after_reclaim}
@@ -25,12 +27,9 @@ use Rattle.ob_console.specs.Pinning.{SparesHeld}
 use Rattle.ob_console.proofs.Found.{met_found}
 
 -- the element at the place of a copy is that of some Id, which is counted
-same : (id : Id) → same_id id id ≡ true
-same id = grind arith
-
 counted : (held : List Id) (at : ℕ) (d : Id) → at < length held → 0 < tally (same_id (get_or held at d)) held
 counted [] at d inside = absurd (let c : ⊥ = omega arith in c)
-counted (x ∷ held) zero d inside = let one : weight (same_id x x) ≡ 1 = ap weight (same x) in omega arith
+counted (x ∷ held) zero d inside = let one : weight (same_id x x) ≡ 1 = ap weight (same_id-same x) in omega arith
 counted (x ∷ held) (suc at) d inside = let more = counted held at d (omega arith) in omega arith
 
 pub there : (slot : ℕ) (held : List Id) (at : ℕ) (d : Id) → position (sits slot) held ≡ Some at
@@ -69,15 +68,12 @@ emptied [] i = refl
 emptied (x ∷ xs) zero = refl
 emptied (x ∷ xs) (suc i) = emptied xs i
 
-is_not_none : (o : Object) → Some o ≡ None → ⊥
-is_not_none o is = cc
-
 -- so who meets the keeper there holds nothing of it
 vacant : (v : Whole) (r r' : ReaderView) (id : Id) → IsConsistent v → id.slot < v.state.limits.slots
     → 0 < tally (same_id id) r.held → IsMet v.keeper r id.slot r' → slice_index_or v.state.objects id.slot None ≡ None
     → ⊥
 vacant v r r' id consistent inside held met none = let found = met_found v r r' id consistent inside held met in
-    is_not_none found.object (sym found.is ∙ none)
+    none-some found.object (sym none ∙ found.is)
 
 spared : (w v : Whole) (r r' : ReaderView) (id named : Id) (outcome : Reclaim)
     → Step w (calls.Reap id.slot) (Reaped named outcome) v → IsConsistent v → id.slot < v.state.limits.slots
