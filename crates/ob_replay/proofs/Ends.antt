@@ -1,10 +1,10 @@
 -- The lines of a journal's script are those into which its text is cut.
-use Rattle.std.proofs.Common.{◌≡◌, ℕ, suc, arith, refl, ap, sym, subst, ◌∙◌, List, [], ◌∷◌, ◌++◌, length, length-append, drop, get_or, All, true}
+use Rattle.std.proofs.Common.{◌≡◌, ℕ, arith, refl, ap, sym, subst, ◌∙◌, List, [], ◌∷◌, ◌++◌, length, length-append, drop, get_or, All}
 use Rattle.std.specs.Prelude.{◌≢◌}
 use Rattle.std.specs.List.{flat_map}
-use Rattle.std.proofs.lemmas.Bool.Decides.{nat_tests}
+use Rattle.std.proofs.lemmas.Bool.{eqb-false, not-true}
 use Rattle.std.proofs.lemmas.List.{append_assoc}
-use Rattle.std.proofs.lemmas.List.Elements.{All-cons}
+use Rattle.std.proofs.lemmas.List.Elements.{All-cons, All-tail}
 use Rattle.std.proofs.lemmas.List.Sums.{AllPass-from_list_all}
 use Rattle.ob_console.specs.Runs.{IsWithin, with_ends}
 use Rattle.ob_output.specs.Printed.{printed_reply}
@@ -18,14 +18,9 @@ use Rattle.ob_record.proofs.Within.{HasNone, asking_has, comment_has, reply_has}
 abbrev pub lines_in : List Entry → List (List ℕ)
 lines_in journal = flat_map (λ (entry : Entry). lines_for entry.call entry.reply) journal
 
-rest_of : {A : Type 0} (P : A → Type 0) (x : A) (xs : List A) → All P (x ∷ xs) → All P xs
-rest_of P x xs all = λ k d within. all (suc k) d (omega (arith, within))
-
 is_within : (line : List ℕ) → HasNone line → IsWithin line
-is_within line has = λ k d within. no_end (get_or line k d) (AllPass-from_list_all no_feed line has k d within)
-  where
-    no_end : (byte : ℕ) → no_feed byte ≡ true → byte ≢ 10
-    no_end byte is = λ same. grind (arith, nat_tests)
+is_within line has = λ k d within.
+    eqb-false (get_or line k d) 10 (not-true _ (AllPass-from_list_all no_feed line has k d within))
 
 pub lines_within : (journal : List Entry) → All IsWithin (lines_in journal)
 lines_within [] = λ k d within. absurd (omega (arith, within))
@@ -43,14 +38,14 @@ lines_within (entry ∷ entries) =
 
 no_end : (front back : List ℕ) → IsWithin (front ++ 10 ∷ back) → ⊥
 no_end [] back within = within 0 0 (omega arith) refl
-no_end (byte ∷ front) back within = no_end front back (rest_of (λ byte. byte ≢ 10) byte (front ++ 10 ∷ back) within)
+no_end (byte ∷ front) back within = no_end front back (All-tail (λ byte. byte ≢ 10) byte (front ++ 10 ∷ back) within)
 
 cut : (x y a b : List ℕ) → IsWithin x → IsWithin y → x ++ 10 ∷ a ≡ y ++ 10 ∷ b → (x ≡ y) × (a ≡ b)
 cut [] [] a b x_in y_in same = (refl, ap (drop 1) same)
 cut [] (c ∷ y) a b x_in y_in same = absurd (y_in 0 0 (omega arith) (sym (ap (λ l. get_or l 0 0) same)))
 cut (c ∷ x) [] a b x_in y_in same = absurd (x_in 0 0 (omega arith) (ap (λ l. get_or l 0 0) same))
 cut (c ∷ x) (e ∷ y) a b x_in y_in same =
-    let rest = cut x y a b (rest_of (λ byte. byte ≢ 10) c x x_in) (rest_of (λ byte. byte ≢ 10) e y y_in)
+    let rest = cut x y a b (All-tail (λ byte. byte ≢ 10) c x x_in) (All-tail (λ byte. byte ≢ 10) e y y_in)
     (ap (drop 1) same) in
     (ap (λ h. h ∷ x) (ap (λ l. get_or l 0 0) same) ∙ ap (λ t. e ∷ t) rest.0, rest.1)
 
@@ -73,6 +68,6 @@ one_cut (x ∷ ours) (y ∷ theirs) rest ours_in theirs_in within same =
     (theirs_in 0 [] (omega arith))
     (sym (append_assoc x (10 ∷ []) (with_ends ours)) ∙ same ∙ append_assoc (y ++ 10 ∷ []) (with_ends theirs) rest
     ∙ append_assoc y (10 ∷ []) (with_ends theirs ++ rest)) in
-    let more = one_cut ours theirs rest (rest_of IsWithin x ours ours_in)
-    (rest_of IsWithin y theirs theirs_in) within split.1 in
+    let more = one_cut ours theirs rest (All-tail IsWithin x ours ours_in)
+    (All-tail IsWithin y theirs theirs_in) within split.1 in
     (ap (λ h. h ∷ theirs) (sym split.0) ∙ ap (λ t. x ∷ t) more.0, more.1)

@@ -1,6 +1,6 @@
 -- A run of a journal's script prints what its entries were answered.
 use Rattle.std.proofs.Common.{◌≡◌, ◌⊎◌, inl, inr, ℕ, suc, ◌+◌, ◌-◌, ◌≤◌, arith, refl, ap, sym, subst, ◌∙◌, List, [], ◌∷◌, ◌++◌, length, take, length-take, All, Bool, true, false, not, ◌&&◌, ◌||◌, ◌==◌, Option, Some, None, IfSome, Result, Ok, Err, if◌then◌else◌, is_some, append-nil, codes, true≢false}
-use Rattle.std.proofs.lemmas.Bool.{not-true, or_parts}
+use Rattle.std.proofs.lemmas.Bool.{and_right, not-true, or_parts}
 use Rattle.std.specs.Prelude.{◌≢◌, slice_index, slice_index_or, nat_le}
 use Rattle.std.specs.List.{concat}
 use Rattle.std.proofs.lemmas.Bool.Decides.{nat_tests}
@@ -192,13 +192,9 @@ module _ (w u : Whole) (p q : Point) (number : ℕ) (entry : Entry) (output : Li
       by None again none is prints =
           silent (ap (λ (x : Whole). x.state) (lineless_is_refused w u entry.call entry.reply fits none step).0)
           (ap (λ line. is_repeatable entry.call entry.reply && is_some line) none
-          ∙ never (is_repeatable entry.call entry.reply))
+          ∙ and_right (is_repeatable entry.call entry.reply) false refl)
           (subst (λ (act : Act). Prints p number act output q)
           (comment_is_nothing (codes "a call that no line asks for")) prints)
-        where
-          never : (b : Bool) → (b && false) ≡ false
-          never true = refl
-          never false = refl
       by (Some line) false some is prints =
           silent (unrepeatable w u entry.call entry.reply kept.still is step)
           (ap (λ b. b && is_some (line_of entry.call)) is)
