@@ -71,14 +71,6 @@ fired_done now (Some b) = body_done now b
 pub fired_twice : (now : ℕ) (x : Option Body) → slot_fired now (slot_fired now x) ≡ slot_fired now x
 fired_twice now x = fired_other now (slot_fired now x) (fired_done now x)
 
--- with each that fires one fewer is due
-due_within : (now : ℕ) (bodies : List (Option Body)) (k : ℕ) → slot_is_due now (get_or bodies k None) ≡ true
-    → k < length bodies
-due_within now bodies k due = elim (cases_lt k (length bodies)) [
-  | inl lt ↦ lt
-  | inr past ↦ absurd (let none = ap (slot_is_due now) (get_or_past bodies k None past) in cc (none, due))
-]
-
 -- what holds of a body holds of it once it fired
 unset_fired : (now : ℕ) (b : Body) → unset (form_of (after_fire now b)) ≡ unset (form_of b)
 unset_fired now (Event e) = refl
