@@ -1,8 +1,10 @@
 /* The rounds of crates/bench_calls that make, close, reap, set, wait for, count, resolve and duplicate events, through the header.
  * Then pins by a reader; the rounds of time, which these don't have, among as many timers that are set for later and waits with a
- * deadline; and the turns of a host, of whose waiting guests each wakes the next.
+ * deadline; the turns of a host, of whose waiting guests each wakes the next; and pins by readers on threads of their own, alone and
+ * beside a thread that calls, in the time that the readers have a processor: more threads than processors share them.
  * Prints a line `CASE, EVENTS: ROUNDS in NANOSECONDS` for each case, as that program and bench/calls.rs do with `measure`. */
 #include <obman.h>
+#include <pthread.h>
 #include <stdio.h>
 #include <stdlib.h>
 #include <string.h>
@@ -20,6 +22,9 @@
 /* The most timers that are set, and as many waits have a deadline, while time passes. */
 #define TIMERS 10000u
 #define MOMENTS 100000u
+/* How many readers there are at most, and pins of each. */
+#define READERS 4
+#define PINS 10000000u
 
 typedef struct event {
     uint32_t process, thread, handle;
@@ -34,10 +39,14 @@ typedef struct scene {
     uint32_t count;
 } scene;
 
-static uint64_t now(void) {
+static uint64_t nanoseconds(clockid_t clock) {
     struct timespec t;
-    clock_gettime(CLOCK_MONOTONIC, &t);
+    clock_gettime(clock, &t);
     return (uint64_t)t.tv_sec * 1000000000u + (uint64_t)t.tv_nsec;
+}
+
+static uint64_t now(void) {
+    return nanoseconds(CLOCK_MONOTONIC);
 }
 
 static void must(uint32_t status, uint32_t due) {
@@ -312,6 +321,60 @@ static void take_turns(crowd *c) {
     printf("set, answer, wait again, %u: %u in %llu\n", (unsigned)c->count, ROUNDS, (unsigned long long)(now() - started));
 }
 
+/* A reader on a thread of its own, which pins one object again and again. */
+typedef struct pinner {
+    om_reader r;
+    om_object object;
+    pthread_t thread;
+    uint64_t taken;
+} pinner;
+
+/* How many of them aren't done. */
+static uint32_t pinning;
+
+static void *pin_all(void *given) {
+    pinner *p = given;
+    uint64_t started = nanoseconds(CLOCK_THREAD_CPUTIME_ID);
+    for (uint32_t i = 0; i < PINS; i++) {
+        must(om_reader_pin(&p->r, p->object.slot, p->object.generation), OM_SUCCESS);
+        must(om_reader_unpin(&p->r, p->object.slot, p->object.generation), OM_SUCCESS);
+    }
+    p->taken = nanoseconds(CLOCK_THREAD_CPUTIME_ID) - started;
+    __atomic_fetch_sub(&pinning, 1, __ATOMIC_SEQ_CST);
+    return NULL;
+}
+
+/* Signals what the readers pin, and has an object come and go beside them. */
+static void call_beside(scene *s, uint32_t i) {
+    om_opening o;
+    om_reaping r;
+    (void)set_and_reset(s, &s->events[i % READERS]);
+    o = made(s, s->events[0].thread, NULL);
+    must(om_close(&s->m, s->events[0].thread, o.handle), OM_SUCCESS);
+    must(om_reap(&s->m, o.object.slot, &r), OM_SUCCESS);
+}
+
+/* So many readers pin objects whose slots are neighbours, alone or beside calls: the time that they have a processor. */
+static void pin_beside(scene *s, uint32_t readers, bool is_alone) {
+    pinner pinners[READERS];
+    uint64_t taken = 0;
+    pinning = readers;
+    for (uint32_t i = 0; i < readers; i++) {
+        must(om_reader_new(&s->m, &pinners[i].r), OM_SUCCESS);
+        pinners[i].object = s->events[i].object;
+        must((uint32_t)pthread_create(&pinners[i].thread, NULL, pin_all, &pinners[i]), 0);
+    }
+    for (uint32_t i = 0; !is_alone && __atomic_load_n(&pinning, __ATOMIC_SEQ_CST) > 0; i++) {
+        call_beside(s, i);
+    }
+    for (uint32_t i = 0; i < readers; i++) {
+        must((uint32_t)pthread_join(pinners[i].thread, NULL), 0);
+        taken += pinners[i].taken;
+        om_reader_free(pinners[i].r);
+    }
+    printf("pins of %u %s: %u in %llu\n", (unsigned)readers, is_alone ? "alone" : "beside calls", (unsigned)(readers * PINS), (unsigned long long)taken);
+}
+
 int main(int argc, char **argv) {
     static const uint32_t each[] = {16, 1000, 60000};
     are_apart = argc > 2 && strcmp(argv[2], "apart") == 0;
@@ -349,5 +412,12 @@ int main(int argc, char **argv) {
         om_free(c.m);
         free(c.hosts);
     }
+    scene beside = new_scene(16);
+    for (uint32_t readers = 1; readers <= READERS && !are_apart; readers++) {
+        pin_beside(&beside, readers, true);
+        pin_beside(&beside, readers, false);
+    }
+    om_free(beside.m);
+    free(beside.events);
     return 0;
 }

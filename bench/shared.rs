@@ -1,5 +1,5 @@
-//! A manager by hand in plain Rust behind a lock, with the journal of its calls and a list of them for each lane; and pins beside
-//! its calls, and members that make the calls of their scripts at once.
+//! A manager by hand in plain Rust behind a lock, with the journal of its calls and a list of them for each lane; and members that
+//! make the calls of their scripts at once.
 
 #[path = "parts/answers.rs"]
 mod answers;
@@ -25,8 +25,6 @@ mod lives;
 mod manager;
 #[path = "parts/objects.rs"]
 mod objects;
-#[path = "parts/pins.rs"]
-mod pins;
 #[path = "parts/spans.rs"]
 mod spans;
 #[path = "parts/table.rs"]
@@ -37,23 +35,14 @@ mod waiting;
 use answers::{Limits, Reply};
 use journal::{Call, Lane, Making, Shared};
 use manager::Manager;
-use pins::Words;
 use spans::{Span, Start, measure, on_threads, time_of};
-use std::sync::atomic::{AtomicU64, Ordering::SeqCst};
-use std::thread;
 use std::time::Instant;
 
 /// Calls of each lane in a run.
 const CALLS: u64 = 20_000;
 
-/// Pins of each reader in a run: enough that threads which share a processor all come to work.
-const PAIRS: u64 = 1_000_000;
-
-/// How many events there are. Their slots' words take several cache lines.
+/// How many events there are.
 const EVENTS: u32 = 64;
-
-/// So far from each other are the slots that two readers pin, so that they share no cache line.
-const APART: u32 = 16;
 
 const LIMITS: Limits = Limits {
     slots: 64,
@@ -104,30 +93,6 @@ fn lanes_call(count: u64) -> Option<u128> {
     time_of(&on_threads(&mut lanes, |lane| calls(&start, &shared, lane)))
 }
 
-fn pins(start: &Start, words: &Words, ended: &AtomicU64, slot: u32) -> Span {
-    let began = start.begin();
-    words.spin(slot, PAIRS);
-    let span = start.end(began);
-    ended.fetch_add(1, SeqCst);
-    span
-}
-
-/// The readers pin while a lane sets an event again and again.
-fn readers_pin(count: u64) -> Option<u128> {
-    let (shared, mut lane) = prepared();
-    let (words, ended, start) = (Words::new(64, 1073741823), AtomicU64::new(0), Start::new(count + 1));
-    (0..EVENTS).for_each(|slot| words.publish(slot));
-    let mut slots: Vec<u32> = (0..count as u32).map(|number| number * APART % 64).collect();
-    thread::scope(|scope| {
-        let readers = scope.spawn(|| on_threads(&mut slots, |slot| pins(&start, &words, &ended, *slot)));
-        start.begin();
-        while ended.load(SeqCst) < count {
-            shared.call(&mut lane, set(0));
-        }
-        time_of(&readers.join().unwrap())
-    })
-}
-
 /// Who makes the calls of a script, each of which it keeps, and its answers.
 struct Member {
     lane: Lane,
@@ -161,9 +126,6 @@ fn main() {
     measure("set, one lane", CALLS, || lanes_call(1));
     measure("set, two lanes", 2 * CALLS, || lanes_call(2));
     measure("set, four lanes", 4 * CALLS, || lanes_call(4));
-    measure("pins of one beside calls", PAIRS, || readers_pin(1));
-    measure("pins of two beside calls", 2 * PAIRS, || readers_pin(2));
-    measure("pins of four beside calls", 4 * PAIRS, || readers_pin(4));
     measure("set, one member", CALLS, || driven(1));
     measure("set, two members", 2 * CALLS, || driven(2));
     measure("set, four members", 4 * CALLS, || driven(4));

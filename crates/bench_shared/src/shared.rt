@@ -1,4 +1,4 @@
-//! Calls behind the lock, pins beside them, and members that are driven.
+//! Calls behind the lock, and members that are driven.
 //!
 //! Each lane sets an event of its own, in a thread of its own, and each run has a manager and a journal of its own,
 //! which are made and dropped outside of what is timed.
@@ -7,7 +7,6 @@ ghost use Rattle.ob_store.specs.State.{shape_of};
 
 mod calling;
 mod driven;
-mod pinning;
 
 use crate::spans::{RUNS, Start, report, time_of};
 use calling::{CALLS, callers_of, lanes_call, prepares};
@@ -15,7 +14,6 @@ use driven::{driven, members_of};
 use ob_manager::{Limits, Manager};
 use ob_shared::{Lane, Shared};
 use pin_words::{Opening, Pins, Reader};
-use pinning::{PAIRS, pinners_of, readers_pin};
 use std::alloc::Global;
 use std::io;
 use std::sync::Wait;
@@ -23,21 +21,25 @@ use std::sync::atomic::AtomicU64;
 use std::thread::Threads;
 use std::time::{Clock, Instant};
 
-/// How many lanes make calls at once, how many readers pin beside one lane, or how many members are driven.
+/// How many lanes make calls at once, or how many members are driven.
 #[derive(Clone, Copy)]
 enum Case {
     Lanes(u64),
-    Readers(u64),
     Members(u64),
 }
 
 fn time_lanes<R: Threads + Wait + Clock + Sync>(
     rt: &R,
     alloc: Global,
-    start: Start<'_>,
     shared: &mut Shared,
     count: u64,
 ) -> Option<u128> {
+    let ready = AtomicU64::new(0);
+    let start = Start {
+        ready: &ready,
+        threads: count,
+        origin: Instant::now(rt).ok()?,
+    };
     let mut callers = callers_of(alloc, shared, count)?;
     let span = lanes_call(rt, start, shared, &mut callers);
     drop(callers);
@@ -66,24 +68,8 @@ fn over_lane<R: Threads + Wait + Clock + Sync>(
     readers: &mut Vec<Reader>,
 ) -> Option<u128> {
     prepares(rt, alloc, shared, lane);
-    let ready = AtomicU64::new(0);
-    let threads = match case {
-        Case::Lanes(count) | Case::Members(count) => count,
-        Case::Readers(count) => count % 64 + 1,
-    };
-    let start = Start {
-        ready: &ready,
-        threads,
-        origin: Instant::now(rt).ok()?,
-    };
     match case {
-        Case::Lanes(count) => time_lanes(rt, alloc, start, shared, count),
-        Case::Readers(_) => {
-            let mut pinners = pinners_of(alloc, readers)?;
-            let span = readers_pin(rt, start, shared, lane, &mut pinners);
-            drop(pinners);
-            Some(time_of(span))
-        }
+        Case::Lanes(count) => time_lanes(rt, alloc, shared, count),
         Case::Members(_) => time_members(rt, alloc, shared, readers),
     }
 }
@@ -145,7 +131,7 @@ fn over_pins<R: Threads + Wait + Clock + Sync>(
 {
     let count = match case {
         Case::Lanes(_) => 1,
-        Case::Readers(count) | Case::Members(count) => count,
+        Case::Members(count) => count,
     };
     let (mut shared, mut readers) = shared_with(alloc, limits, opening, pins, count)?;
     let time = over_shared(rt, alloc, case, &mut shared, &mut readers);
@@ -177,13 +163,10 @@ fn measure<R: Threads + Wait + Clock + Print + Sync>(
 }
 
 /// A name, what is done, and how many rounds it is.
-const CASES: [(&str, Case, u64); 10] = [
+const CASES: [(&str, Case, u64); 7] = [
     ("set, one lane", Case::Lanes(1), CALLS),
     ("set, two lanes", Case::Lanes(2), 2 * CALLS),
     ("set, four lanes", Case::Lanes(4), 4 * CALLS),
-    ("pins of one beside calls", Case::Readers(1), PAIRS),
-    ("pins of two beside calls", Case::Readers(2), 2 * PAIRS),
-    ("pins of four beside calls", Case::Readers(4), 4 * PAIRS),
     ("set, one member", Case::Members(1), CALLS),
     ("set, two members", Case::Members(2), 2 * CALLS),
     ("set, four members", Case::Members(4), 4 * CALLS),
@@ -195,7 +178,7 @@ pub fn measure_all<R: Threads + Wait + Clock + Print + Sync>(
     rt: &R,
     alloc: Global,
 ) -> io::Result<()> {
-    for i in 0..10 {
+    for i in 0..7 {
         let (name, case, rounds) = CASES[i];
         measure(rt, alloc, name, case, rounds)?;
     }
