@@ -16,7 +16,7 @@ pub const PLAIN: Make<'static> = Make {
     grant: None,
 };
 
-/// Whether a call may take memory where it is answered so.
+/// Whether a call that has this reply may take memory.
 pub fn takes_memory(ask: &Ask<'_>, reply: Reply) -> bool {
     match ask {
         Ask::Spawn { .. }
@@ -33,7 +33,7 @@ pub fn takes_memory(ask: &Ask<'_>, reply: Reply) -> bool {
     }
 }
 
-/// The call, with a name or handles of its own. The refusal is want of memory, twice.
+/// The call, with a name or handles of its own. It is tried twice, and refused where memory was wanting both times.
 pub fn to_call(ask: &Ask<'_>, alloc: Global) -> Result<Call, AllocError>
     ensures { IfOk result (λ call. call ≡ with_parts making_of (λ text. text.now) (λ handles. handles.now) ask.now) }
 {

@@ -2,10 +2,10 @@
 //!
 //! A [`Line`] is a call, with its name or its handles borrowed, and the reply that is due, so that a table is a
 //! constant: plain data, which costs a proof next to nothing however long it is. [`to_call`] makes the call that is
-//! played, and [`asked`] plays it over a manager: the one function of the tests with a call of any keeper's manager in
-//! it, which is dear to prove.
+//! played, and [`asked`] plays it over a manager: the only function of the tests that calls a manager over any keeper,
+//! since such a function takes long to prove.
 //!
-//! What tests make beforehand is here too, each asked for again where memory was wanting: it then comes back as it was.
+//! What tests make beforehand is here too. Each thing is asked for once more where memory was wanting.
 #![tactic(auto)]
 
 mod ask;

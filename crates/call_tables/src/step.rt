@@ -3,7 +3,7 @@ use ob_manager::Card;
 use ob_rights::Fault;
 use pin_core::Id;
 
-/// Calls that are made, or what is read of a manager beside them and is due.
+/// What a test does with a manager: it makes calls, or reads something, and compares it with what is due.
 #[derive(Clone, Copy)]
 pub enum Step<'a> {
     /// Calls, one after another.

@@ -4,12 +4,12 @@ use Rattle.std.specs.Prelude.{◌⊎◌, IfSome, IsSome}
 use Rattle.std.proofs.lemmas.Bool.{cases_eq, cases_lt, le-leb}
 use Rattle.std.proofs.lemmas.List.{get_or_past, get_or-set_same, get_or-set_other, get_or_append_left, get_or-append-add}
 use Rattle.std.proofs.lemmas.Option.{none-some}
-use Rattle.least_due.specs.Dues.{due_at, since, NotAfter, IsLeast, IsLeastSince}
+use Rattle.least_due.specs.Dues.{due_at, since, NotAfter, IsLeast}
 use Rattle.least_due.specs.Best.{sooner, best_below, IsBest, IsBestBut}
 
--- it stands at a place
-abbrev Stands : List (Option ℕ) → Option ℕ → Type 0
-Stands dues x = IfSome x (λ moment. (place : ℕ) × (due_at dues place ≡ Some moment))
+-- the moment, if there is one, is that of some place
+abbrev IsOfSomePlace : List (Option ℕ) → Option ℕ → Type 0
+IsOfSomePlace dues x = IfSome x (λ moment. (place : ℕ) × (due_at dues place ≡ Some moment))
 
 sooner_first : (x y : Option ℕ) (m : ℕ) → NotAfter x m → NotAfter (sooner x y) m
 sooner_first None y m h = absurd h
@@ -128,8 +128,8 @@ pub least_joined : (xs ys : List (Option ℕ)) (x y : Option ℕ) → IsLeast xs
     → IsLeast (xs ++ ys) (sooner x y)
 least_joined xs ys x y a b = record {
   stands = elim (sooner_either x y) [
-    | inl e ↦ subst (λ z. Stands (xs ++ ys) z) (sym e) (left x a.stands)
-    | inr e ↦ subst (λ z. Stands (xs ++ ys) z) (sym e) (right y b.stands)
+    | inl e ↦ subst (λ z. IsOfSomePlace (xs ++ ys) z) (sym e) (left x a.stands)
+    | inr e ↦ subst (λ z. IsOfSomePlace (xs ++ ys) z) (sym e) (right y b.stands)
   ];
   first = λ place moment is. elim (cases_lt place (length xs)) [
     | inl lt ↦ sooner_first x y moment (a.first place moment (sym (get_or_append_left xs ys None place lt) ∙ is))
@@ -140,7 +140,7 @@ least_joined xs ys x y a b = record {
   ];
 }
   where
-    left : (z : Option ℕ) → Stands xs z → Stands (xs ++ ys) z
+    left : (z : Option ℕ) → IsOfSomePlace xs z → IsOfSomePlace (xs ++ ys) z
     left None h = tt
     left (Some m) h = (
       h.0,
@@ -148,23 +148,23 @@ least_joined xs ys x y a b = record {
           ∙ h.1,
     )
 
-    right : (z : Option ℕ) → Stands ys z → Stands (xs ++ ys) z
+    right : (z : Option ℕ) → IsOfSomePlace ys z → IsOfSomePlace (xs ++ ys) z
     right None h = tt
     right (Some m) h = (length xs + h.0, get_or-append-add xs ys h.0 None ∙ h.1)
 
 -- the least moment from one on of the first places, so many
 pub record IsLeastAmong (from count : ℕ) (dues : List (Option ℕ)) (least : Option ℕ) : Type 0 where
-  pub stands : Stands dues least
+  pub stands : IsOfSomePlace dues least
   pub from_on : IfSome least (λ moment. from ≤ moment)
   pub first : (place moment : ℕ) → place < count → due_at dues place ≡ Some moment → from ≤ moment
       → NotAfter least moment
 
 since_stands : (from place : ℕ) (dues : List (Option ℕ)) (x : Option ℕ) → due_at dues place ≡ x
-    → Stands dues (since from x) × IfSome (since from x) (λ moment. from ≤ moment)
+    → IsOfSomePlace dues (since from x) × IfSome (since from x) (λ moment. from ≤ moment)
 since_stands from place dues None is = (tt, tt)
 since_stands from place dues (Some m) is = by (leb from m) refl
   where
-    by : (b : Bool) → leb from m ≡ b → Stands dues (cond b (Some m) None)
+    by : (b : Bool) → leb from m ≡ b → IsOfSomePlace dues (cond b (Some m) None)
         × IfSome (cond b (Some m) None) (λ moment. from ≤ moment)
     by true le = ((place, is), leb-true from m le)
     by false le = (tt, tt)
@@ -176,9 +176,9 @@ pub among_more : (from count : ℕ) (dues : List (Option ℕ)) (least : Option �
     → IsLeastAmong from (count + 1) dues (sooner least (since from (due_at dues count)))
 among_more from count dues least among = record {
   stands = elim (sooner_either least own) [
-    | inl e ↦ subst (λ z. Stands dues z) (sym e) among.stands
+    | inl e ↦ subst (λ z. IsOfSomePlace dues z) (sym e) among.stands
     | inr e ↦
-        subst (λ z. Stands dues z) (sym e) here.0
+        subst (λ z. IsOfSomePlace dues z) (sym e) here.0
   ];
   from_on = elim (sooner_either least own) [
     | inl e ↦
@@ -197,6 +197,6 @@ among_more from count dues least among = record {
     own : Option ℕ
     own = since from (due_at dues count)
 
-    here : Stands dues (since from (due_at dues count))
+    here : IsOfSomePlace dues (since from (due_at dues count))
         × IfSome (since from (due_at dues count)) (λ moment. from ≤ moment)
     here = since_stands from count dues (due_at dues count) refl

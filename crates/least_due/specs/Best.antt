@@ -25,5 +25,5 @@ IsBestBut but dues best = (place : ℕ) → place ≢ but → due_at best place 
 -- a tree with a place for each of the list, and at most one more
 pub record IsWhole (dues best : List (Option ℕ)) : Type 0 where
   pub room : length dues ≤ length best
-  pub few : length best ≤ 4294967296
+  pub at_most : length best ≤ 4294967296
   pub each : IsBest dues best

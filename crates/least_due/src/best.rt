@@ -71,7 +71,7 @@ fn best_below(dues: &Vec<Option<u64>>, best: &Vec<Option<u64>>, place: usize) ->
 /// Writes the least moment at or below a place. Whether the place above it has to be written too.
 fn renew(dues: &Vec<Option<u64>>, best: &mut Vec<Option<u64>>, place: usize) -> bool
     requires within { place < length best.old.items }
-    requires few { length best.old.items ≤ PLACES_MAX }
+    requires at_most { length best.old.items ≤ PLACES_MAX }
     requires others { IsBestBut place dues.now.items best.old.items }
     ensures done { result ≡ false → IsBest dues.now.items best.new.items }
     ensures more { result ≡ true → (0 < place) × IsBestBut ((place - 1) / 2) dues.now.items best.new.items }
@@ -88,7 +88,7 @@ fn renew(dues: &Vec<Option<u64>>, best: &mut Vec<Option<u64>>, place: usize) -> 
 /// Writes the least moments at or below a place whose moment has changed, and those above it.
 pub(crate) fn raise(dues: &Vec<Option<u64>>, best: &mut Vec<Option<u64>>, place: usize)
     requires within { place < length best.old.items }
-    requires few { length best.old.items ≤ PLACES_MAX }
+    requires at_most { length best.old.items ≤ PLACES_MAX }
     requires others { IsBestBut place dues.now.items best.old.items }
     ensures all { IsBest dues.now.items best.new.items }
     ensures len { length best.new.items ≡ length best.old.items }
@@ -117,8 +117,8 @@ fn lower(best: &Vec<Option<u64>>, place: usize, least: Option<u64>) -> usize
 
 /// A place whose moment is the least.
 pub(crate) fn place_of_least(dues: &Vec<Option<u64>>, best: &Vec<Option<u64>>) -> usize
-    requires some { IsSome (due_at best.now.items 0) }
-    requires few { length best.now.items ≤ PLACES_MAX }
+    requires is_due { IsSome (due_at best.now.items 0) }
+    requires at_most { length best.now.items ≤ PLACES_MAX }
     requires all { IsBest dues.now.items best.now.items }
     ensures { due_at dues.now.items result ≡ due_at best.now.items 0 }
 {
@@ -135,10 +135,10 @@ pub(crate) fn place_of_least(dues: &Vec<Option<u64>>, best: &Vec<Option<u64>>) -
 pub(crate) fn cover(dues: &Vec<Option<u64>>, best: &mut Vec<Option<u64>>) -> Result<(), AllocError>
     requires places { length dues.now.items < PLACES_MAX }
     requires room { length dues.now.items ≤ length best.old.items }
-    requires few { length best.old.items ≤ PLACES_MAX }
+    requires at_most { length best.old.items ≤ PLACES_MAX }
     ensures longer { OnOk result (length dues.now.items < length best.new.items) }
     ensures room { length dues.now.items ≤ length best.new.items }
-    ensures few { length best.new.items ≤ PLACES_MAX }
+    ensures at_most { length best.new.items ≤ PLACES_MAX }
     ensures same { (place : ℕ) → due_at best.new.items place ≡ due_at best.old.items place }
 {
     if best.len() <= dues.len() {

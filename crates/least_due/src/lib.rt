@@ -107,7 +107,7 @@ impl Dues {
     /// A place whose moment is the least, or none where no place has one.
     pub fn least_place(&self) -> Option<usize>
         ensures place { IfSome result (λ place. place < length self.now) }
-        ensures some { IfSome result (λ place. IsSome (due_at self.now place)) }
+        ensures found { IfSome result (λ place. IsSome (due_at self.now place)) }
         ensures least { IfSome result (λ place. IsLeast self.now (due_at self.now place)) }
         ensures none { IfNone result (IsLeast self.now None) }
     {

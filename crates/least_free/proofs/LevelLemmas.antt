@@ -29,11 +29,7 @@ bit_of_empty ws n e = ap (λ (x : ℕ). bit_at x (n % 64)) e ∙ bit_at-zero (n 
 pub some_of_bit : (ws : List ℕ) (n : ℕ) → bit ws n ≡ 1 → 0 < slice_index ws (n / 64)
 some_of_bit ws n e = grind (arith, bit_of_empty ws n)
 
--- a bit of the level above leads to a word that has a bit
-pub leads : (bits : ℕ → ℕ) (lo : List ℕ) (w : ℕ) → SumsUp bits lo → bits w ≡ 1 → 0 < slice_index lo w
-leads bits lo w sums e = let h = sums w in omega arith
-
--- and from a bit one comes back to the bit above
+-- a bit that is set has a bit above it
 pub leads_back : (bits : ℕ → ℕ) (lo : List ℕ) (n : ℕ) → SumsUp bits lo → bit lo n ≡ 1 → bits (n / 64) ≡ 1
 leads_back bits lo n sums e = let h = sums (n / 64) in let f = some_of_bit lo n e in omega arith
 

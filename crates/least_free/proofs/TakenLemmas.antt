@@ -39,6 +39,9 @@ one_fewer_taken taken n some all = record {
   each = λ k lt. get-set_other taken (n - 1) k false (omega arith) ∙ all.each k (omega arith);
 }
 
+-- what filling a set and draining it needs
+pub ruleset filled_and_drained = (slice_get_least_free, none_taken, one_more_taken, one_fewer_taken)
+
 -- a number that is found to be free, and one that isn't
 pub found_free : (taken : List Bool) (n : ℕ) (r : Option ℕ) → IsLeastFrom n (is_free_within taken) r
     → option_eq eqb r (Some n) ≡ true → slice_get taken n ≡ Some false

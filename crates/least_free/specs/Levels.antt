@@ -14,7 +14,7 @@ SumsUp bits words = (w : ℕ) → bits w ≡ min 1 (slice_index words w)
 
 -- there are words for n numbers, no bit is set past them, and each level is summed up by the one above it
 pub record IsSummedUp (top : ℕ) (middle leaves : List ℕ) (n : ℕ) : Type 0 where
-  pub few : n ≤ 65536
+  pub at_most : n ≤ 65536
   pub few_leaves : length leaves ≤ 1024
   pub few_middle : length middle ≤ 16
   pub room : n ≤ 64 * length leaves

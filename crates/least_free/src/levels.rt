@@ -29,8 +29,8 @@ pub(crate) struct Levels {
 #[inline(never)]
 fn raised(top: u64, middle: &mut Vec<u64>, n: usize) -> u64
     requires within { n / 64 < length middle.old.items }
-    requires few { length middle.old.items ≤ 16 }
-    ensures here { bit middle.new.items n ≡ 1 }
+    requires at_most { length middle.old.items ≤ 16 }
+    ensures bit_is { bit middle.new.items n ≡ 1 }
     ensures others { (k : ℕ) → k ≢ n → bit middle.new.items k ≡ bit middle.old.items k }
     ensures len { length middle.new.items ≡ length middle.old.items }
     ensures above { SumsUp (bit_at top) middle.old.items → SumsUp (bit_at result) middle.new.items }
@@ -43,7 +43,7 @@ fn raised(top: u64, middle: &mut Vec<u64>, n: usize) -> u64
 
 /// The least bit of the middle level, from one on.
 fn next_word(top: u64, middle: &Vec<u64>, from: usize) -> Option<usize>
-    requires few { length middle.now.items ≤ 16 }
+    requires at_most { length middle.now.items ≤ 16 }
     requires summed { SumsUp (bit_at top) middle.now.items }
     ensures { IsLeastFrom from (λ w. bit middle.now.items w == 1) result }
 {

@@ -27,8 +27,8 @@ use std::marker::Model;
 /// The greatest length of a set.
 pub const NUMBERS_MAX: usize = 65_536;
 
-/// A set of numbers, of which each is taken or free. From the outside it is the list that says of each number below
-/// its length whether it is taken; the numbers from there on are free.
+/// A set of numbers, of which each is taken or free. From the outside it is the list that says of each number below its
+/// length whether it is taken; the numbers from there on are free.
 // The spare is a free number that the levels still have as taken, so that a number that is given back and taken again
 // changes no level.
 #[derive(Drop)]

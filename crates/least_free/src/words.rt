@@ -33,7 +33,7 @@ pub(crate) fn lowest_from(word: u64, k: usize) -> Option<usize>
 
 pub(crate) fn with_bit(word: u64, k: usize) -> u64
     requires { k < 64 }
-    ensures here { bit_at result k ≡ 1 }
+    ensures bit_is { bit_at result k ≡ 1 }
     ensures others { (i : ℕ) → i ≢ k → bit_at result i ≡ bit_at word i }
 {
     word | 1 << k
@@ -41,7 +41,7 @@ pub(crate) fn with_bit(word: u64, k: usize) -> u64
 
 pub(crate) fn without_bit(word: u64, k: usize) -> u64
     requires { k < 64 }
-    ensures here { bit_at result k ≡ 0 }
+    ensures bit_is { bit_at result k ≡ 0 }
     ensures others { (i : ℕ) → i ≢ k → bit_at result i ≡ bit_at word i }
 {
     word & !(1 << k)
@@ -51,7 +51,7 @@ pub(crate) fn without_bit(word: u64, k: usize) -> u64
 pub(crate) fn lowest_in(words: &Vec<u64>, w: usize) -> usize
     requires w_in_range { w < length words.now.items }
     requires fits { length words.now.items ≤ 1024 }
-    requires some { 0 < slice_index words.now.items w }
+    requires not_zero { 0 < slice_index words.now.items w }
     ensures within { result / 64 ≡ w }
     ensures set { bit words.now.items result ≡ 1 }
     ensures least { (k : ℕ) → 64 * w ≤ k → k < result → bit words.now.items k ≡ 0 }
@@ -88,7 +88,7 @@ fn lowest_clear(word: u64, k: usize) -> Option<usize>
 /// The least number whose bit is clear, by its place in the level, from `from` on in the word where that stands.
 fn rest_clear(words: &Vec<u64>, from: usize) -> Option<usize>
     requires within { from / 64 < length words.now.items }
-    requires few { length words.now.items ≤ 1024 }
+    requires at_most { length words.now.items ≤ 1024 }
     ensures clear { IfSome result (λ n. bit words.now.items n ≡ 0) }
     ensures above { IfSome result (λ n. from ≤ n) }
     ensures within { IfSome result (λ n. n < 64 * (from / 64 + 1)) }
@@ -102,7 +102,7 @@ fn rest_clear(words: &Vec<u64>, from: usize) -> Option<usize>
 /// The least number below `len` whose bit is clear, from one on. It looks at one word after another.
 pub(crate) fn next_clear(words: &Vec<u64>, from: usize, len: usize) -> Option<usize>
     requires room { len ≤ 64 * length words.now.items }
-    requires few { length words.now.items ≤ 1024 }
+    requires at_most { length words.now.items ≤ 1024 }
     ensures least { IsLeastFrom from (λ k. nat_lt k len && bit words.now.items k == 0) result }
     ensures within { IfSome result (λ n. n < len) }
 {
@@ -119,11 +119,11 @@ pub(crate) fn next_clear(words: &Vec<u64>, from: usize, len: usize) -> Option<us
 /// Sets bit `n` of the level, and tells whether its word had no bit before.
 pub(crate) fn set(words: &mut Vec<u64>, n: usize) -> bool
     requires { n / 64 < length words.old.items }
-    ensures here { bit words.new.items n ≡ 1 }
+    ensures bit_is { bit words.new.items n ≡ 1 }
     ensures others { (k : ℕ) → k ≢ n → bit words.new.items k ≡ bit words.old.items k }
     ensures len { length words.new.items ≡ length words.old.items }
     ensures words { (w : ℕ) → w ≢ n / 64 → slice_index words.new.items w ≡ slice_index words.old.items w }
-    ensures some { 0 < slice_index words.new.items (n / 64) }
+    ensures not_zero { 0 < slice_index words.new.items (n / 64) }
     ensures had { result ≡ false → 0 < slice_index words.old.items (n / 64) }
 {
     let word = words[n / 64];
@@ -134,12 +134,12 @@ pub(crate) fn set(words: &mut Vec<u64>, n: usize) -> bool
 /// Clears bit `n` of the level, and tells whether its word has no bit then.
 pub(crate) fn clear(words: &mut Vec<u64>, n: usize) -> bool
     requires { n / 64 < length words.old.items }
-    ensures here { bit words.new.items n ≡ 0 }
+    ensures bit_is { bit words.new.items n ≡ 0 }
     ensures others { (k : ℕ) → k ≢ n → bit words.new.items k ≡ bit words.old.items k }
     ensures len { length words.new.items ≡ length words.old.items }
     ensures words { (w : ℕ) → w ≢ n / 64 → slice_index words.new.items w ≡ slice_index words.old.items w }
     ensures empty { result ≡ true → slice_index words.new.items (n / 64) ≡ 0 }
-    ensures some { result ≡ false → 0 < slice_index words.new.items (n / 64) }
+    ensures not_zero { result ≡ false → 0 < slice_index words.new.items (n / 64) }
 {
     let word = without_bit(words[n / 64], n % 64);
     words[n / 64] = word;

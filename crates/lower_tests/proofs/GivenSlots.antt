@@ -12,8 +12,10 @@ use Rattle.pin_core.specs.Worlds.{opening_slot}
 abbrev pub live_slot : Slot
 live_slot = record { generation = 3; phase = Live; descr = record { kind = Semaphore; manual = false; max = 5 } }
 
-pub live_slots_open : (k : Shape) (slots : List Slot) → 3 ≤ k.max_gen → slots ≡ replicate k.slots live_slot → Opens k slots
+pub live_slots_open : (k : Shape) (slots : List Slot) → 3 ≤ k.max_gen → slots ≡ replicate k.slots live_slot
+    → Opens k slots
 live_slots_open k slots aged are = subst (Opens k) (sym are) (record {
   wide = length-replicate k.slots live_slot;
-  each = λ s h. subst (SlotOpens k.max_gen) (sym (get_or-replicate k.slots s live_slot opening_slot h)) (record { given = (omega arith, refl); bounded = aged; last = λ e. cc });
+  each = λ s h. subst (SlotOpens k.max_gen) (sym (get_or-replicate k.slots s live_slot opening_slot h))
+      (record { given = (omega arith, refl); bounded = aged; last = λ e. cc });
 })

@@ -123,7 +123,7 @@ module _ {B : Type 0} (ss : List (Option B)) (ps : List Phase) (taken : List Boo
   -- a body comes to a vacant slot
   pub tied_put : (k : ℕ) (x : B) → IsFree k → IsTied (set ss k (Some x)) (set ps k Occupied) (set taken k true)
   tied_put k x free = record {
-    few = omega (arith, length-set ss k (Some x), tied.few);
+    at_most = omega (arith, length-set ss k (Some x), tied.at_most);
     occupied = map-set is_occupied ps k Occupied ∙ ap (λ (l : List Bool). set l k true) tied.occupied
         ∙ sym (map-set is_some ss k (Some x));
     in_use = ap (λ (l : List Bool). set l k true) tied.in_use ∙ sym (map-set is_in_use ps k Occupied);
@@ -140,7 +140,7 @@ module _ {B : Type 0} (ss : List (Option B)) (ps : List Phase) (taken : List Boo
   -- a body leaves its slot
   pub tied_take : (k : ℕ) → IsHeld k → IsTied (set ss k None) (set ps k Vacant) (set taken k false)
   tied_take k held = record {
-    few = omega (arith, length-set ss k None, tied.few);
+    at_most = omega (arith, length-set ss k None, tied.at_most);
     occupied = map-set is_occupied ps k Vacant ∙ ap (λ (l : List Bool). set l k false) tied.occupied
         ∙ sym (map-set is_some ss k None);
     in_use = ap (λ (l : List Bool). set l k false) tied.in_use ∙ sym (map-set is_in_use ps k Vacant);
@@ -161,7 +161,7 @@ module _ {B : Type 0} (ss : List (Option B)) (ps : List Phase) (taken : List Boo
   -- a body changes in its slot
   pub tied_changed : (k : ℕ) (x : B) → IsHeld k → IsTied (set ss k (Some x)) ps taken
   tied_changed k x held = record {
-    few = omega (arith, length-set ss k (Some x), tied.few);
+    at_most = omega (arith, length-set ss k (Some x), tied.at_most);
     occupied = tied.occupied ∙ sym (map-set_same is_some ss k (Some x) None (sym (ap is_some held.filled.1)));
     in_use = tied.in_use;
   }
@@ -169,7 +169,7 @@ module _ {B : Type 0} (ss : List (Option B)) (ps : List Phase) (taken : List Boo
   -- a vacant slot is retired
   pub tied_retire : (k : ℕ) → IsFree k → IsTied ss (set ps k Retired) (set taken k true)
   tied_retire k free = record {
-    few = tied.few;
+    at_most = tied.at_most;
     occupied = map-set_same is_occupied ps k Retired Vacant (sym (ap is_occupied free.phase)) ∙ tied.occupied;
     in_use = ap (λ (l : List Bool). set l k true) tied.in_use ∙ sym (map-set is_in_use ps k Retired);
   }
@@ -217,9 +217,9 @@ module _ {B : Type 0} (ss : List (Option B)) (ps : List Phase) (taken : List Boo
       ∙ slice_get_past (range_with_len 0 (length ss)) (least_free taken) (let n = length-range_with_len 0 (length ss) in
       omega arith)
 
-map-replicate : {X Y : Type 0} (f : X → Y) (n : ℕ) (x : X) → map f (replicate n x) ≡ replicate n (f x)
-map-replicate f zero x = refl
-map-replicate f (suc n) x = ap (λ l. f x ∷ l) (map-replicate f n x)
+pub map-replicate : {X Y : Type 0} (f : X → Y) (x : X) (n : ℕ) → map f (replicate n x) ≡ replicate n (f x)
+map-replicate f x zero = refl
+map-replicate f x (suc n) = ap (λ l. f x ∷ l) (map-replicate f x n)
 
 -- a new arena, and what is equal to the parts of one
 module _ {B : Type 0} where
@@ -232,14 +232,14 @@ module _ {B : Type 0} where
 
   pub tied_new : (n : ℕ) → n ≤ 65536 → IsTied {B = B} (replicate n None) (replicate n Vacant) (replicate n false)
   tied_new n few = record {
-    few = let e : length (replicate {A = Option B} n None) ≡ n = length-replicate n None in omega arith;
-    occupied = map-replicate is_occupied n Vacant ∙ sym (map-replicate is_some n None);
-    in_use = sym (map-replicate is_in_use n Vacant);
+    at_most = let e : length (replicate {A = Option B} n None) ≡ n = length-replicate n None in omega arith;
+    occupied = map-replicate is_occupied Vacant n ∙ sym (map-replicate is_some None n);
+    in_use = sym (map-replicate is_in_use Vacant n);
   }
 
   pub shown_new : (n : ℕ) → slots_shown {B = B} (replicate n None) (replicate n Vacant) ≡ vacant_slots n
   shown_new n = ap (λ (retired : List Bool). record { bodies = replicate n None; retired = retired })
-      (map-replicate is_retired n Vacant)
+      (map-replicate is_retired Vacant n)
 
 -- slots that have no body
 pub all_none : {B : Type 0} (ss : List (Option B)) (n : ℕ) → length ss ≡ n → ((k : ℕ) → k < n → get_or ss k None ≡ None)

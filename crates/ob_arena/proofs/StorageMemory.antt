@@ -1,6 +1,5 @@
 -- The storage of slots as memory: a slot is taken out of it, put back, or seen; and what values of no bytes, of one
--- pointer
--- and of three parts are to the machine.
+-- pointer and of three parts are to the machine.
 use Rattle.ob_arena.proofs.Steps.{◌≡◌, refl, sym, ap, subst, ◌∙◌, ℕ, zero, suc, ◌+◌, ◌*◌, ◌<◌, ◌^◌, arith, zero-mul, suc-mul, List, [], ◌∷◌, ◌++◌, length, set, get_or, replicate, Ura, full_share, SProp, ent, sep, emp, ex, guard, via, Fml, Lft, ftrue, fsep, fat, froom, Ty, Args, a_type, ty_array, dcons, dnil, bare, Val, vstruct, vcons, vnil, of_list, capped_is, size, align, capped, size-raw, align-raw, Logic, sem, fact, fact_i, Item, Goal, Seq, Step, step, prop, ‵, raw, some, ◌⊛◌, ◌$◌, ◌∵◌, !, qed, by, move, keep, skip, use0, use1, use2, pick, split, check, show, frame, fsplit, fjoin, fpick, fpack, feq_i, feq_l, rewrite, done, RattleType, Valss, Typed, Is, shows, param, bounded, layout, Laws, param_laws, part_at, Ptr, RawPtr, ptr_val, makes_shadow, nothing, peeks, Shape, Struct, within, shape, Tuple, tuple_type, part_in, part_out, Option, Some, None, type_size, El, R, el_x, elτ, Good, word}
 use denote.Struct.Declared as Declared
 use Rattle.std.proofs.alloc.Calls.{Al}

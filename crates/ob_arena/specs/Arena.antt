@@ -14,7 +14,7 @@ module _ {B : Type 0} where
 
   -- the occupied slots have bodies, and the numbers that are taken are those of the slots that aren't vacant
   pub record IsTied (slots : List (Option B)) (phases : List Phase) (taken : List Bool) : Type 0 where
-    pub few : length slots ≤ 65536
+    pub at_most : length slots ≤ 65536
     pub occupied : map is_occupied phases ≡ map is_some slots
     pub in_use : taken ≡ map is_in_use phases
 

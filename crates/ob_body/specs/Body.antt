@@ -1,6 +1,5 @@
 -- The body of an object: when it is signaled for a thread, and what each call makes of it. A later kind adds a line to
--- each.
--- All are total: on another kind a call's word leaves the body, which no call reaches, by its condition.
+-- each. All are total: on another kind a call's word leaves the body, which no call reaches, by its condition.
 use Rattle.std.specs.Prelude.{ℕ, Bool, true, false, Option, None, Result, Err}
 use Rattle.ob_rights.specs.declared.fault.Fault.{Fault}
 use Rattle.ob_rights.specs.declared.fault.Fault.TheVariants as fault

@@ -23,7 +23,7 @@ semaphore-there : (s : SemaphoreState) → SemaphoreFits s
     → (semaphore_of (semaphore_parts s) ≡ Some s) × BothFit is_four is_four (semaphore_parts s)
 semaphore-there s fits =
     let can : may_count s.count s.maximum ≡ true =
-    and_from (ltb 0 s.maximum) (leb s.count s.maximum && leb s.maximum 2147483647) (lt-ltb _ _ fits.some)
+    and_from (ltb 0 s.maximum) (leb s.count s.maximum && leb s.maximum 2147483647) (lt-ltb _ _ fits.above_zero)
     (and_from (leb s.count s.maximum) (leb s.maximum 2147483647) (le-leb _ _ fits.within)
     (le-leb _ _ fits.countable)) in
     let below = fits.countable in let within = fits.within in
@@ -40,7 +40,7 @@ semaphore-back p s fits e =
     × SemaphoreFits z) g.1 (
       refl,
       record {
-        some = ltb-true _ _ a.0;
+        above_zero = ltb-true _ _ a.0;
         within = leb-true _ _ b.0;
         countable = leb-true _ _ b.1;
       },

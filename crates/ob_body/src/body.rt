@@ -44,7 +44,7 @@ impl Body {
     ///
     /// [CreateSemaphore]: https://learn.microsoft.com/windows/win32/api/winbase/nf-winbase-createsemaphorea
     pub fn new_semaphore(initial: u32, max: u32) -> Body
-        requires some { 0 < max }
+        requires above_zero { 0 < max }
         requires within { initial ≤ max }
         requires countable { max ≤ COUNT_MAX }
         ensures { result ≡ Body.Semaphore (record { count = initial; maximum = max }) }
@@ -52,7 +52,7 @@ impl Body {
         Body::Semaphore(Semaphore::new(initial, max))
     }
 
-    /// A timer that isn't signaled and isn't set, reset by setting it alone or by waits too ([CreateWaitableTimer]).
+    /// A timer that isn't signaled and isn't set, a manual-reset or a synchronization timer ([CreateWaitableTimer]).
     ///
     /// [CreateWaitableTimer]: https://learn.microsoft.com/windows/win32/api/synchapi/nf-synchapi-createwaitabletimerw
     pub fn new_timer(manual: bool) -> Body
@@ -77,8 +77,8 @@ impl Body {
         }
     }
 
-    /// Whether a wait of this thread is satisfied by it ([Wait Functions]): an event that is set, a
-    /// semaphore with a count above 0, a mutex that nobody or this thread owns, a timer that is signaled.
+    /// Whether a wait of this thread is satisfied by it ([Wait Functions]): an event that is set, a semaphore with a
+    /// count above 0, a mutex that nobody or this thread owns, a timer that is signaled.
     ///
     /// [Wait Functions]: https://learn.microsoft.com/windows/win32/sync/wait-functions
     pub fn signaled_for(&self, thread: u32) -> bool
@@ -92,8 +92,8 @@ impl Body {
         }
     }
 
-    /// Whether this thread may acquire it once more: false exactly for a mutex that the thread owns
-    /// `max_recursion` times or more (*profile*).
+    /// Whether this thread may acquire it once more: false exactly for a mutex that the thread owns `max_recursion`
+    /// times or more (*profile*).
     pub fn has_room(&self, thread: u32, max_recursion: u32) -> bool
         ensures { result ≡ spec.has_room max_recursion thread self.now }
     {
@@ -103,9 +103,9 @@ impl Body {
         }
     }
 
-    /// What a satisfied wait of this thread does, and whether it was an abandoned mutex: an event that
-    /// isn't reset by hand and a synchronization timer are reset, a semaphore's count falls by 1, and the
-    /// thread owns a mutex once more, which is no longer abandoned.
+    /// What a satisfied wait of this thread does, and whether it was an abandoned mutex: an event that isn't reset by
+    /// hand and a synchronization timer are reset, a semaphore's count falls by 1, and the thread owns a mutex once
+    /// more, which is no longer abandoned.
     pub fn acquire(&mut self, thread: u32) -> bool
         requires signaled { spec.is_signaled thread self.old ≡ true }
         requires room { spec.has_room RECURSION_MAX thread self.old ≡ true }

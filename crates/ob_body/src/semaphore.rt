@@ -34,7 +34,7 @@ impl Semaphore {
 
     /// A semaphore with a first count and a maximum.
     pub(crate) fn new(initial: u32, maximum: u32) -> Semaphore
-        requires some { 0 < maximum }
+        requires above_zero { 0 < maximum }
         requires within { initial ≤ maximum }
         requires countable { maximum ≤ COUNT_MAX }
         ensures { result ≡ record { count = initial; maximum = maximum } }
@@ -45,7 +45,7 @@ impl Semaphore {
         }
     }
 
-    /// The same, where such a semaphore can be.
+    /// A semaphore with a count and a maximum, where such a one can be.
     fn checked(count: u32, maximum: u32) -> Option<Semaphore>
         ensures { result ≡ semaphore_of (count, maximum) }
     {

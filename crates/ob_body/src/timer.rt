@@ -6,8 +6,8 @@ ghost use Rattle.ob_body.specs.Timer.{after_arm, after_disarm, after_fire, after
 /// [Waitable Timer Objects]: https://learn.microsoft.com/windows/win32/sync/waitable-timer-objects
 #[derive(Clone, Copy, Debug, PartialEq, Eq)]
 pub struct Timer {
-    /// Whether it stays signaled until it is set again; else the wait that it satisfies resets it (a
-    /// synchronization timer).
+    /// Whether it stays signaled until it is set again; else the wait that it satisfies resets it (a synchronization
+    /// timer).
     pub manual: bool,
     /// Whether it is signaled, for every thread.
     pub signaled: bool,

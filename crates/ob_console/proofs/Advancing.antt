@@ -9,7 +9,7 @@ use Rattle.ob_script.specs.Acts.{Act}
 use Rattle.ob_script.specs.Grammar.{act_of}
 use Rattle.ob_output.specs.Printed.{line_end}
 use Rattle.ob_console.specs.Runs.{Point, Prints, Run, Splits, IsWithin, AnswersLines, AnswersTo, AnswersPart, last_line}
-use Rattle.ob_script.specs.Held.{capped, more_held, act_of_held}
+use Rattle.ob_script.specs.HeldLines.{capped, more_held, act_of_held}
 use Rattle.ob_console.specs.Sessions.{ConsoleState, IsReady, Session, Advances, Finishes}
 use Rattle.ob_script.proofs.Texts.{act_of_capped, more_capped}
 use Rattle.ob_console.proofs.Lines.{has_lines, splits_more, splits_nothing, splits_on, splits_one}

@@ -39,7 +39,7 @@ use Rattle.ob_manager.specs.Signaling.{modify_state, set_event, reset_event, rel
 use Rattle.ob_manager.specs.Timing.{set_timer, cancel_timer, tick}
 use Rattle.ob_manager.specs.Counting.{counts, object_of}
 use Rattle.ob_manager.specs.Reaping.{if_ended, reap}
-use Rattle.ob_manager.specs.Steps.{Step, does, lacks, outcome_of, takes_memory, final, Keeps}
+use Rattle.ob_manager.specs.Steps.{Step, does, lacks, outcome_of, takes_memory, final, KeeperAfter}
 use Rattle.ob_console.specs.Runs.{Spares}
 
 -- an answer to a call, by which no slot is taken back where something is held
@@ -55,7 +55,7 @@ SparesAll call = (held : List Id) (reply : Reply) → Spares held call reply
 
 -- a reply of this outcome leaves the keeper as it is
 abbrev Rests : Result Outcome Fault → KeeperState → Type 0
-Rests (Ok outcome) k = Keeps outcome.reply outcome.state k k
+Rests (Ok outcome) k = KeeperAfter outcome.reply outcome.state k k
 Rests (Err fault) k = Unit {0}
 
 rests_behind : {A : Type 0} (k : KeeperState) (r : Result A Fault) (f : A → Result Outcome Fault)

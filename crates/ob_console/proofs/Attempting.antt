@@ -19,11 +19,11 @@ use Rattle.pin_words.specs.declared.fault.PinFault.{PinFault}
 use Rattle.pin_words.specs.declared.fault.PinFault.TheVariants as fault
 use Rattle.pin_words.specs.declared.view.ReaderView.{ReaderView}
 use Rattle.pin_words.specs.declared.view.Look.{Look}
-use Rattle.pin_words.specs.Plays.{Show, Tells, NoLater, Behind}
+use Rattle.pin_words.specs.Plays.{Show, TellsReader, NoLater, Behind}
 use Rattle.pin_words.specs.Shown.{word_age}
-use Rattle.pin_words.specs.Tries.{Answers}
+use Rattle.pin_words.specs.Tries.{FollowsLook}
 use Rattle.pin_words.specs.Verdicts.{verdict_of}
-use Rattle.pin_words.specs.Views.{sits, reader_looked, reader_got, reader_noted}
+use Rattle.pin_words.specs.Views.{is_of_slot, reader_looked, reader_got, reader_noted}
 use Rattle.ob_body.specs.declared.body.Body.{Body}
 use Rattle.ob_store.specs.Agreement.{Agrees}
 use Rattle.ob_store.specs.Consistent.{IsConsistent}
@@ -56,7 +56,7 @@ told_held (Err e) m r id res told = ap (λ (z : ReaderView). z.held) told.1
 
 -- the first look of a try is no later than a word before which the try's looks are
 looked_before : (vd : Verdict) (r : ReaderView) (id : Id) (n k : ℕ) (tried : Result (Unit {0}) PinFault)
-    (m : ReaderView) → Answers vd r id n tried m → Behind m.looks id.slot k → NoLater n k
+    (m : ReaderView) → FollowsLook vd r id n tried m → Behind m.looks id.slot k → NoLater n k
 looked_before Unborn r id n k tried m a b = (subst (λ (z : ReaderView). Behind z.looks id.slot k) a.1 b).0 refl
 looked_before Stale r id n k tried m a b = (subst (λ (z : ReaderView). Behind z.looks id.slot k) a.1 b).0 refl
 looked_before PinsFull r id n k tried m a b = (subst (λ (z : ReaderView). Behind z.looks id.slot k) a.1 b).0 refl
@@ -105,7 +105,7 @@ noted id m r3 d x found is = (subst (λ (r : ReaderView). Show id found.object.d
 
 judged : (vd : Verdict) (w : Whole) (r m r3 r4 : ReaderView) (id : Id) (n : ℕ) (tried : Result (Unit {0}) PinFault)
     (res : Result Descr PinFault)
-    → IsConsistent w → id.slot < w.state.limits.slots → Answers vd r id n tried m → Told tried m id res r3
+    → IsConsistent w → id.slot < w.state.limits.slots → FollowsLook vd r id n tried m → Told tried m id res r3
     → IsMet w.keeper r3 id.slot r4 → Judged vd w.state r.held id res r3.held
 judged Unborn w r m r3 r4 id n tried res consistent inside a told met =
     let t : Told (Err fault.Unborn) m id res r3 = subst (λ z. Told z m id res r3) a.0 told in
@@ -127,7 +127,7 @@ judged Go w r m r3 r4 id n tried res consistent inside a told met = cases (a.0 =
         met_found w r3 r4 id consistent inside holds met in
         record {
           made = record { id = found.object.id; descr = found.object.descr; grant = found.object.grant };
-          there = card_found w.state r3 id found;
+          is_there = card_found w.state r3 id found;
           told = t.1 ∙ ap (λ (d : Descr). let z : Result Descr PinFault = Ok d in
               z) (noted id m r3 t.0 (slice_index_or w.state.objects id.slot None) found t.2);
           more = told_held tried m r3 id res told ∙ ap (λ (z : ReaderView). z.held) got;
@@ -193,8 +193,9 @@ pins w r r1 r3 r4 id res consistent shape inside met1 attempts met2 =
     tried few =
         let t = attempts.tries.tried inside1 (subst (λ (z : List Id). length z < 16) (sym held1) few) in
         let n : ℕ = t.0 in
-        let tells : Tells r1 id.slot n = t.1 in
-        let a : Answers (verdict_of r1.shape.max_pins id (decoded n)) r1 id n attempts.tried attempts.middle = t.2 in
+        let tells : TellsReader r1 id.slot n = t.1 in
+        let a : FollowsLook (verdict_of r1.shape.max_pins id (decoded n)) r1 id n attempts.tried attempts.middle =
+        t.2 in
         let n1 : ℕ = met1.2.0 in
         let n2 : ℕ = met2.2.0 in
         let low : NoLater n1 n = (subst (λ (z : ReaderView). Behind z.looks id.slot n) met1.2.1 tells.looks).0 refl in
@@ -217,7 +218,7 @@ pins w r r1 r3 r4 id res consistent shape inside met1 attempts met2 =
           record {
             generation = both.0 ∙ sym (generation_is w id.slot consistent);
             phase = both.1 ∙ sym phase;
-            pins = subst (λ (z : List Id). tally (sits id.slot) z ≤ (decoded n).pins) held1 tells.pins;
+            pins = subst (λ (z : List Id). tally (is_of_slot id.slot) z ≤ (decoded n).pins) held1 tells.pins;
             room = λ _. subst (λ (z : Shape). (decoded n).pins ≤ z.max_pins) shape1 tells.room;
           },
           subst (λ (z : Shape). Judged (verdict_of z.max_pins id (decoded n)) s r.held id res r3.held) shape1

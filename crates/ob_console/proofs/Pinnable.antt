@@ -11,7 +11,7 @@ use Rattle.pin_words.specs.declared.fault.Verdict.TheVariants.{Unborn, Stale, Pi
 use Rattle.pin_words.specs.declared.fault.PinFault.{PinFault}
 use Rattle.pin_words.specs.declared.fault.PinFault.TheVariants as fault
 use Rattle.pin_words.specs.Verdicts.{verdict_of}
-use Rattle.pin_words.specs.Views.{sits}
+use Rattle.pin_words.specs.Views.{is_of_slot}
 use Rattle.ob_store.specs.State.{State}
 use Rattle.ob_console.specs.Pinning.{Judged, Pins, phase_at}
 
@@ -25,7 +25,7 @@ abbrev some_word : State → List Id → ℕ → Word
 some_word s held slot = record {
   generation = slice_index_or s.generations slot 1;
   phase = phase_at s slot;
-  pins = tally (sits slot) held;
+  pins = tally (is_of_slot slot) held;
 }
 
 record CanJudge (verdict : Verdict) (s : State) (held : List Id) (id : Id) : Type 0 where
@@ -65,7 +65,7 @@ can_pin s held id = by_slot (nat_lt id.slot s.limits.slots) refl
               record {
                 generation = refl;
                 phase = refl;
-                pins = (let c : tally (sits id.slot) held ≤ tally (sits id.slot) held = omega arith in c);
+                pins = (let c : tally (is_of_slot id.slot) held ≤ tally (is_of_slot id.slot) held = omega arith in c);
                 room = λ few. few;
               },
               j.judged,

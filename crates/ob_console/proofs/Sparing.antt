@@ -10,7 +10,7 @@ use Rattle.pin_core.proofs.Counts.{none-found}
 use Rattle.pin_words.specs.declared.pin_keeper.Reclaim.{Reclaim}
 use Rattle.pin_words.specs.declared.pin_keeper.Reclaim.TheVariants.{Freed, Retired, Held}
 use Rattle.pin_words.specs.declared.view.ReaderView.{ReaderView}
-use Rattle.pin_words.specs.Views.{sits}
+use Rattle.pin_words.specs.Views.{is_of_slot}
 use Rattle.ob_tables.proofs.Counting.{same_id-same}
 use Rattle.ob_store.specs.Consistent.{IsConsistent}
 use Rattle.ob_store.specs.Meetings.{IsMet}
@@ -19,7 +19,7 @@ use Rattle.ob_store.specs.Objects.{Object}
 use Rattle.ob_store.specs.State.{State, Whole, settled}
 use Rattle.ob_manager.specs.declared.call.CallOf.TheVariants as calls
 use Rattle.ob_manager.specs.declared.reply.Reply.{Reply}
-use Rattle.ob_manager.specs.declared.reply.Reply.TheVariants.{Spawned, Started, Made, Exists, Opened, Duplicated, Closed, Done, Flags, Previous, Code, Pending, Expired, Ticked, Ended, Exited, Reaped, CountsAre, Refused}
+use Rattle.ob_manager.specs.declared.reply.Reply.TheVariants.{Reaped, Refused}
 use Rattle.ob_manager.specs.Outcomes.{Outcome, ◌>>=◌}
 use Rattle.ob_manager.specs.Reaping.{IfReaped, if_ended}
 use Rattle.ob_manager.specs.Steps.{Step, does, closes, lacks, final}
@@ -32,19 +32,20 @@ counted [] at d inside = absurd (let c : ⊥ = omega arith in c)
 counted (x ∷ held) zero d inside = let one : weight (same_id x x) ≡ 1 = ap weight (same_id-same x) in omega arith
 counted (x ∷ held) (suc at) d inside = let more = counted held at d (omega arith) in omega arith
 
-pub there : (slot : ℕ) (held : List Id) (at : ℕ) (d : Id) → position (sits slot) held ≡ Some at
+pub there : (slot : ℕ) (held : List Id) (at : ℕ) (d : Id) → position (is_of_slot slot) held ≡ Some at
     → ((get_or held at d).slot ≡ slot) × (0 < tally (same_id (get_or held at d)) held)
-there slot held at d found = let found = position-Some (sits slot) held at d found in
+there slot held at d found = let found = position-Some (is_of_slot slot) held at d found in
     (grind (arith, common_steps), counted held at d found.0)
 
-pub nowhere : (slot : ℕ) (held : List Id) → position (sits slot) held ≡ None → tally (sits slot) held ≡ 0
-nowhere slot held none = none-found (sits slot) held none
+pub nowhere : (slot : ℕ) (held : List Id) → position (is_of_slot slot) held ≡ None → tally (is_of_slot slot) held ≡ 0
+nowhere slot held none = none-found (is_of_slot slot) held none
 
--- a slot that was taken back has no object
-abbrev reaped_as : State → ℕ → Reclaim → Result (Unit {0}) Fault → Result Id Fault → Result Outcome Fault
+-- what a reap comes to, by whether there is such a slot and the Id of its ended object
+abbrev pub reaped_as : State → ℕ → Reclaim → Result (Unit {0}) Fault → Result Id Fault → Result Outcome Fault
 reaped_as s slot outcome there ended = there >>= (λ _. ended >>=
     (λ id. Ok (record { reply = Reaped id outcome; state = settled (after_reclaim s slot outcome) })))
 
+-- a slot that was taken back has no object
 became : (s t : State) (slot : ℕ) (id : Id) (outcome : Reclaim) (there : Result (Unit {0}) Fault)
     (ended : Result Id Fault) → final s (reaped_as s slot outcome there ended) ≡ record {
       reply = Reaped id outcome;
@@ -89,55 +90,22 @@ spared w v r r' id named Retired step consistent inside held met =
     (sym (after w v id.slot named Retired step)) (emptied w.state.objects id.slot)))
 spared w v r r' id named (Held pins) step consistent inside held met = tt
 
--- the same of each reply
+-- no reply takes back a slot of which something is held
 pub spares : (w v : Whole) (r r' : ReaderView) (id : Id) (reply : Reply) → Step w (calls.Reap id.slot) reply v
     → IsConsistent v → id.slot < v.state.limits.slots → 0 < tally (same_id id) r.held → IsMet v.keeper r id.slot r'
     → IfReaped reply (SparesHeld r.held id.slot)
 spares w v r r' id (Reaped named outcome) step consistent inside held met =
     spared w v r r' id named outcome step consistent inside held met
-spares w v r r' id (Spawned process thread) step consistent inside held met = tt
-spares w v r r' id (Started thread) step consistent inside held met = tt
-spares w v r r' id (Made handle made) step consistent inside held met = tt
-spares w v r r' id (Exists handle there) step consistent inside held met = tt
-spares w v r r' id (Opened handle there) step consistent inside held met = tt
-spares w v r r' id (Duplicated handle there) step consistent inside held met = tt
-spares w v r r' id Closed step consistent inside held met = tt
-spares w v r r' id Done step consistent inside held met = tt
-spares w v r r' id (Flags bits) step consistent inside held met = tt
-spares w v r r' id (Previous count) step consistent inside held met = tt
-spares w v r r' id (Code code) step consistent inside held met = tt
-spares w v r r' id (Pending number) step consistent inside held met = tt
-spares w v r r' id (Expired number) step consistent inside held met = tt
-spares w v r r' id (Ticked now) step consistent inside held met = tt
-spares w v r r' id (Ended thread) step consistent inside held met = tt
-spares w v r r' id (Exited process) step consistent inside held met = tt
-spares w v r r' id (CountsAre handles waits hold) step consistent inside held met = tt
-spares w v r r' id (Refused fault) step consistent inside held met = tt
+spares w v r r' id reply step consistent inside held met = tt
 
 -- where nothing is held
-unheld : (held : List Id) (slot : ℕ) (outcome : Reclaim) → tally (sits slot) held ≡ 0 → SparesHeld held slot outcome
+unheld : (held : List Id) (slot : ℕ) (outcome : Reclaim) → tally (is_of_slot slot) held ≡ 0
+    → SparesHeld held slot outcome
 unheld held slot Freed none = none
 unheld held slot Retired none = none
 unheld held slot (Held pins) none = tt
 
-pub spares_none : (held : List Id) (slot : ℕ) (reply : Reply) → tally (sits slot) held ≡ 0
+pub spares_none : (held : List Id) (slot : ℕ) (reply : Reply) → tally (is_of_slot slot) held ≡ 0
     → IfReaped reply (SparesHeld held slot)
 spares_none held slot (Reaped named outcome) none = unheld held slot outcome none
-spares_none held slot (Spawned process thread) none = tt
-spares_none held slot (Started thread) none = tt
-spares_none held slot (Made handle made) none = tt
-spares_none held slot (Exists handle there) none = tt
-spares_none held slot (Opened handle there) none = tt
-spares_none held slot (Duplicated handle there) none = tt
-spares_none held slot Closed none = tt
-spares_none held slot Done none = tt
-spares_none held slot (Flags bits) none = tt
-spares_none held slot (Previous count) none = tt
-spares_none held slot (Code code) none = tt
-spares_none held slot (Pending number) none = tt
-spares_none held slot (Expired number) none = tt
-spares_none held slot (Ticked now) none = tt
-spares_none held slot (Ended thread) none = tt
-spares_none held slot (Exited process) none = tt
-spares_none held slot (CountsAre handles waits hold) none = tt
-spares_none held slot (Refused fault) none = tt
+spares_none held slot reply none = tt

@@ -1,6 +1,5 @@
 -- What one thread is answered that has a manager and a reader of the same pins, over the manager's state and the copies
--- that the
--- reader holds.
+-- that the reader holds.
 use Rattle.std.specs.Prelude.{◌≡◌, ◌⊎◌, ℕ, ◌<◌, ◌≤◌, nat_lt, Bool, false, if◌then◌else◌, List, [], ◌∷◌, ◌++◌, length, Option, Some, None, Result, Ok, Err, slice_index_or}
 use Rattle.pin_core.specs.declared.id.Id.{Id}
 use Rattle.pin_core.specs.declared.descr.Descr.{Descr}
@@ -14,7 +13,7 @@ use Rattle.pin_words.specs.declared.fault.PinFault.TheVariants as fault
 use Rattle.pin_words.specs.declared.pin_keeper.Reclaim.{Reclaim}
 use Rattle.pin_words.specs.declared.pin_keeper.Reclaim.TheVariants.{Freed, Retired, Held}
 use Rattle.pin_words.specs.Verdicts.{verdict_of}
-use Rattle.pin_words.specs.Views.{sits}
+use Rattle.pin_words.specs.Views.{is_of_slot}
 use Rattle.ob_body.specs.declared.body.Body.{Body}
 use Rattle.ob_store.specs.Objects.{Object}
 use Rattle.ob_store.specs.Agreement.{phase_of, vacant_phase}
@@ -36,19 +35,18 @@ phase_at s slot = phase_in (slice_index_or s.objects slot None) (slice_index_or 
     (slice_index_or s.retired slot false)
 
 -- a word that the slot may have: its generation, its phase, and among its pins the copies that the reader holds there.
--- It
--- has no more pins than there may be, as the reader has no more copies
+-- It has no more pins than there may be, as the reader has no more copies
 pub record IsWord (s : State) (held : List Id) (slot : ℕ) (w : Word) : Type 0 where
   pub generation : w.generation ≡ slice_index_or s.generations slot 1
   pub phase : w.phase ≡ phase_at s slot
-  pub pins : tally (sits slot) held ≤ w.pins
-  pub room : tally (sits slot) held ≤ s.limits.max_pins → w.pins ≤ s.limits.max_pins
+  pub pins : tally (is_of_slot slot) held ≤ w.pins
+  pub room : tally (is_of_slot slot) held ≤ s.limits.max_pins → w.pins ≤ s.limits.max_pins
 
 -- one copy more is held, and the answer is the object's descriptor
 pub record IsPinned (s : State) (held : List Id) (id : Id) (res : Result Descr PinFault)
     (held' : List Id) : Type 0 where
   pub made : Card
-  pub there : card s id ≡ Some made
+  pub is_there : card s id ≡ Some made
   pub told : res ≡ Ok made.descr
   pub more : held' ≡ held ++ id ∷ []
 
@@ -83,6 +81,6 @@ shown_of s held id = if is_held id held then card s id else None
 
 -- a slot where a copy is held is not taken back
 abbrev pub SparesHeld : List Id → ℕ → Reclaim → Type 0
-SparesHeld held slot Freed = tally (sits slot) held ≡ 0
-SparesHeld held slot Retired = tally (sits slot) held ≡ 0
+SparesHeld held slot Freed = tally (is_of_slot slot) held ≡ 0
+SparesHeld held slot Retired = tally (is_of_slot slot) held ≡ 0
 SparesHeld held slot (Held pins) = Unit {0}

@@ -44,8 +44,7 @@ abbrev pub Spares : List Id → Call → Reply → Type 0
 Spares held call reply = IfReap call (λ slot. IfReaped reply (SparesHeld held slot))
 
 -- From a point, the line of this number may print this and go on: nothing, that the line is bad, the names of objects,
--- the reply
--- of a step, or what the reader is answered.
+-- the reply of a step, or what the reader is answered.
 abbrev pub Prints : Point → ℕ → Act → List ℕ → Point → Type 0
 Prints p number Nothing output q = (output ≡ []) × (q ≡ p)
 Prints p number Bad output q = (output ≡ bad_line number) × (q ≡ p)

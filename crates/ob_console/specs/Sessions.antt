@@ -7,7 +7,7 @@ use Rattle.ob_console.specs.Runs.{Point, Prints, Run, Splits, AnswersLines, Answ
 use Rattle.ob_console.specs.declared.script.RunFault.{RunFault}
 use Rattle.ob_console.specs.declared.script.RunFault.TheVariants.{Memory, Read, Write}
 use Rattle.ob_script.specs.Acts.{Act}
-use Rattle.ob_script.specs.Held.{capped}
+use Rattle.ob_script.specs.HeldLines.{capped}
 use Rattle.ob_output.specs.Devices.{Writes, Begins}
 
 -- what an evaluator has

@@ -12,8 +12,8 @@ use ob_manager::{Manager, Mode, Reply, Timeout};
 use ob_script::{Ask, read_handles};
 use pin_words::{Keeper, Reader};
 
-/// Makes a call. The reader meets the manager where a slot is reaped of which it holds something; the handles of a wait
-/// are read to where those of the last stood.
+/// Makes a call. Where a slot is reaped of which the reader holds something, the two meet. The handles of a wait are
+/// read into `handles`, in place of those that stood there.
 pub fn reply_to(
     manager: &mut Manager<Keeper>,
     reader: &mut Reader,
@@ -38,7 +38,7 @@ pub fn reply_to(
     }
 }
 
-/// Waits for objects. Of a list that is too long no more than its beginning is asked for: the answer is the same.
+/// Waits for objects. Of a list with more than 64 handles the first 65 are asked for: that is refused in the same way.
 fn wait_for(
     manager: &mut Manager<Keeper>,
     handles: &mut ArrayVec<u32, 65>,

@@ -12,7 +12,8 @@ use ob_script::{HeldLine, ScriptLine};
 use pin_words::{Keeper, Reader};
 use std::marker::Model;
 
-/// A manager and a reader of the same pins, and what a script has of them so far.
+/// Answers a script that comes in blocks, over a manager and a reader of the same pins. It keeps the beginning of a
+/// line whose end has not come.
 #[derive(Drop)]
 pub struct Console {
     evaluator: Evaluator,
@@ -33,7 +34,7 @@ impl Model for Console {
 }
 
 impl Console {
-    /// No line has come.
+    /// A console to which no line has come.
     pub fn new(manager: Manager<Keeper>, reader: Reader, output: Output) -> Console
         requires { manager.keeper.table ≡ Some reader.table }
         ensures { result ≡ record {
@@ -49,9 +50,10 @@ impl Console {
         }
     }
 
-    /// A line ends with these bytes, which come before its line feed.
+    /// The line of which a beginning is kept, if one is, ends with these bytes: answers it. They stand before its line
+    /// feed.
     fn line<W: Sink>(&mut self, sink: &mut W, end: &ScriptLine<'_>) -> Result<(), NotWritten>
-        requires few { self.old.lines < 2 ^ 127 }
+        requires at_most { self.old.lines < 2 ^ 127 }
         requires within { IsWithin end.now }
         ensures advances { (printed : List ℕ) × Advances self.old (end.now ++ line_end) printed self.new
             × IsWritten result (W.taken sink.old) (W.taken sink.new) (self.old.pending.bytes
@@ -68,8 +70,8 @@ impl Console {
         answered
     }
 
-    #[tactic(auto, using(crate::proofs::Feeding::fed_nothing, crate::proofs::Feeding::before_within))]
     /// A block of the input comes: answers each line that ends in it, and keeps what comes behind the last.
+    #[tactic(auto, using(crate::proofs::Feeding::fed_nothing, crate::proofs::Feeding::before_within))]
     fn feed<W: Sink>(&mut self, sink: &mut W, block: &[u8]) -> Result<(), NotWritten>
         requires { self.old.lines + length block.now < 2 ^ 127 }
         ensures ok { OnOk result (IsFed self.old self.new block.now [] (W.taken sink.old) (W.taken sink.new)) }
@@ -130,7 +132,7 @@ impl Console {
         }
     }
 
-    /// The manager, as the script left it. What the reader holds is let go of by nobody.
+    /// The manager, as the script left it. What the reader still holds stays pinned.
     pub fn into_manager(self) -> Manager<Keeper>
         ensures { result ≡ self.point.whole }
     {

@@ -2,7 +2,7 @@ ghost use Rattle.std.specs.Prelude.{◌≡◌, ◌+◌, ◌<◌, ◌^◌, ◌++�
 ghost use Rattle.ob_store.specs.Directory.{directory_of};
 ghost use Rattle.ob_script.specs.Acts.{Bad, Pin, Unpin, ShowCard, act_in};
 ghost use Rattle.ob_script.specs.Grammar.{act_of};
-ghost use Rattle.ob_script.specs.Held.{act_of_held};
+ghost use Rattle.ob_script.specs.HeldLines.{act_of_held};
 ghost use Rattle.ob_output.specs.Printed.{printed_names};
 ghost use Rattle.ob_console.specs.Runs.{point};
 ghost use Rattle.ob_console.specs.Sessions.{Enacts};
@@ -19,13 +19,13 @@ use pin_core::Id;
 use pin_words::{Keeper, Reader};
 use std::marker::Model;
 
-/// A manager and a reader of the same pins, and the answers that they gave.
+/// Does what lines ask, over a manager and a reader of the same pins, and prints the answers.
 #[derive(Drop)]
 pub struct Evaluator {
     manager: Manager<Keeper>,
     reader: Reader,
     output: Output,
-    /// Where the handles of a wait are read to: a list of its own would be cleared for each.
+    /// Where the handles of a wait are read to. A new list for each wait would have to be cleared first.
     handles: ArrayVec<u32, 65>,
     lines: u128,
 }
@@ -47,7 +47,7 @@ impl Model for Evaluator {
 }
 
 impl Evaluator {
-    /// No line has come.
+    /// An evaluator to which no line has come.
     pub fn new(manager: Manager<Keeper>, reader: Reader, output: Output) -> Evaluator
         requires { manager.keeper.table ≡ Some reader.table }
         ensures { result ≡ record { point = point manager reader.view.held; pending = output; lines = 0 } }
@@ -73,7 +73,7 @@ impl Evaluator {
         self.enact(sink, &act_of::<0>(line))
     }
 
-    /// The same of a line that is held.
+    /// Does what a held line asks, as [`Evaluator::answer`] does; one that is too long is bad.
     pub fn answer_held<W: Sink>(&mut self, sink: &mut W, held: &HeldLine) -> Result<(), NotWritten>
         requires { self.old.lines < 2 ^ 127 }
         ensures prints { Enacts self.old (self.old.lines + 1) (act_of_held held.now) result (W.taken sink.old)
@@ -175,7 +175,7 @@ impl Evaluator {
         self.output.flush(sink)
     }
 
-    /// The manager alone.
+    /// Hands the manager out; the reader is dropped.
     pub fn into_manager(self) -> Manager<Keeper>
         ensures { result ≡ self.point.whole }
     {

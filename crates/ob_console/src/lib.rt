@@ -20,6 +20,6 @@ mod pinning;
 mod reaping;
 mod script;
 
-pub use ob_output::{Account, Sink, Source, Trouble, Wired};
+pub use ob_output::{Account, CALLS_MOST, Sink, Source, Trouble, Wired};
 pub use options::{Options, OptionsFault, read_options};
-pub use script::{CALLS_MOST, RunFault, run, run_bounded, run_over, run_whole};
+pub use script::{RunFault, run, run_bounded, run_over, run_whole};

@@ -63,11 +63,33 @@ pub fn read_options(alloc: Global, args: Vec<String>) -> Result<Options, Options
 
 /// The command, with an option for each limit, one for lanes and two for savestates.
 fn command<'a>(alloc: Global) -> Result<Command<'a>, AllocError> {
-    Command::new(alloc, "obman")
-        .no_binary_name(true)
-        .about(
-            "Reads a script of object manager calls from standard input and prints their answers.",
-        )
+    let command = Command::new(alloc, "obman").no_binary_name(true).about(
+        "Reads a script of object manager calls from standard input and prints their answers.",
+    );
+    with_limits(alloc, command)?
+        .arg(number(
+            alloc,
+            "lanes",
+            "Lanes of the script, each on a thread: 0 to 64, default 0. A line `@2 ..` is lane 2's, lines before \
+             the first of these come before all lanes, and answers are printed lane by lane",
+        )?
+        .conflicts_with("save")?)?
+        .arg(path(
+            alloc,
+            "load",
+            "Savestate that the script begins with, in place of a new manager. It has limits of its own, so no \
+             limit and no --lanes beside it",
+        ))?
+        .arg(path(
+            alloc,
+            "save",
+            "Where the state is saved once the script is answered to its end. No --lanes beside it",
+        ))
+}
+
+/// A command, with an option for each limit.
+fn with_limits<'a>(alloc: Global, command: Command<'a>) -> Result<Command<'a>, AllocError> {
+    command
         .arg(number(
             alloc,
             "slots",
@@ -107,25 +129,7 @@ fn command<'a>(alloc: Global) -> Result<Command<'a>, AllocError> {
             alloc,
             "max-recursion",
             "Recursion of a mutex: 1 to 2147483647, the default. A wait of its owner at it answers 1450",
-        )?)?
-        .arg(number(
-            alloc,
-            "lanes",
-            "Lanes of the script, each on a thread: 0 to 64, default 0. A line `@2 ..` is lane 2's, lines before \
-             the first of these come before all lanes, and answers are printed lane by lane",
-        )?
-        .conflicts_with("save")?)?
-        .arg(path(
-            alloc,
-            "load",
-            "Savestate that the script begins with, in place of a new manager. It has limits of its own, so no \
-             limit and no --lanes beside it",
-        ))?
-        .arg(path(
-            alloc,
-            "save",
-            "Where the state is saved once the script is answered to its end. No --lanes beside it",
-        ))
+        )?)
 }
 
 /// The option of one number, which doesn't stand beside `--load`. Its range is tested where it is used.

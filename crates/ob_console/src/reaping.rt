@@ -1,7 +1,7 @@
 ghost use Rattle.std.specs.Prelude.{◌≡◌, ◌<◌, IfNone, IfSome, Some, position};
 ghost use Rattle.pin_core.specs.Holds.{tally, same_id};
 ghost use Rattle.pin_words.specs.Keepers.{ReclaimsFound};
-ghost use Rattle.pin_words.specs.Views.{sits};
+ghost use Rattle.pin_words.specs.Views.{is_of_slot};
 ghost use Rattle.ob_manager.specs.Reaping.{IfReaped};
 ghost use Rattle.ob_manager.specs.Steps.{Step};
 ghost use Rattle.ob_manager.specs.declared.call.CallOf.TheVariants as Call;
@@ -35,15 +35,15 @@ pub fn reap(manager: &mut Manager<Keeper>, reader: &mut Reader, slot: u32) -> Re
 /// An Id of this slot of which there is a copy.
 #[tactic(auto, using(crate::proofs::Sparing::there, crate::proofs::Sparing::nowhere))]
 fn held_at(held: &[Id], slot: u32) -> Option<Id>
-    ensures there { IfSome result (λ id. (id.slot ≡ slot) × (0 < tally (same_id id) held.now)) }
-    ensures none { IfNone result (tally (sits slot) held.now ≡ 0) }
+    ensures is_there { IfSome result (λ id. (id.slot ≡ slot) × (0 < tally (same_id id) held.now)) }
+    ensures none { IfNone result (tally (is_of_slot slot) held.now ≡ 0) }
 {
     let place = place_at(held, slot)?;
     Some(held[place])
 }
 
 fn place_at(held: &[Id], slot: u32) -> Option<usize>
-    ensures { result ≡ position (sits slot) held.now }
+    ensures { result ≡ position (is_of_slot slot) held.now }
 {
     held.iter().position(|id| id.slot == slot)
 }

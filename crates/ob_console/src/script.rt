@@ -1,14 +1,16 @@
-ghost use Rattle.std.specs.Prelude.{◌≡◌, ◌+◌, ◌<◌, ◌≤◌, ◌++◌, ◌⊎◌, [], List, ℕ, IfErr, IfOk, IfSome, OnOk, IsErrOf};
-ghost use Rattle.std.specs.Prelude.{Some, length, vec_len};
+ghost use Rattle.std.specs.Prelude.{◌≡◌, ◌+◌, ◌<◌, ◌≤◌, ◌++◌, [], List, ℕ, IfErr, IfOk, IfSome, OnOk, IsErrOf};
+ghost use Rattle.std.specs.Prelude.{Some, length};
 ghost use Rattle.ob_store.specs.State.{shape_of};
+ghost use Rattle.ob_output.specs.Devices.{FailedOrSpent};
+ghost use Rattle.ob_output.specs.Pending.{FailedOrLast};
 ghost use Rattle.ob_console.specs.Runs.{GoesOn, IsCut, IsEnded, IsOpening, IsWholeEnded, Reopens};
 ghost use Rattle.ob_console.specs.Sessions.{Ends, IsReady};
 
 use crate::console::Console;
 use ob_manager::{Limits, Manager};
-use ob_output::{Output, Sink, Source, Trouble};
+use ob_output::{CALLS_MOST, Output, READ_MOST, Sink, Source, Trouble, zeros};
 use pin_words::{Keeper, LockedPins, Opening, Pins};
-use std::alloc::{AllocError, Global};
+use std::alloc::Global;
 use thiserror::Error;
 
 /// Why a run ended before the whole input was answered.
@@ -25,12 +27,6 @@ pub enum RunFault {
     Write,
 }
 
-/// How many bytes are read at once, at most.
-const BLOCK: usize = 65536;
-
-/// How many reads, and how many writes, [`run`] makes at most.
-pub const CALLS_MOST: u64 = 1_000_000_000;
-
 /// Runs a script over a new manager and one reader of its pins: reads blocks to the end of the input, answers each
 /// line, and writes all answers to a block before it reads on. Takes memory only at its start, but for the manager's
 /// calls.
@@ -46,10 +42,8 @@ pub fn run<R: Source, W: Sink>(
     ensures ended { OnOk result (R.HasEnded reader.new) }
     ensures memory { IsErrOf result RunFault.Memory → (R.calls reader.new ≡ R.calls reader.old)
         × (W.calls writer.new ≡ W.calls writer.old) }
-    ensures read { IsErrOf result RunFault.Read → (R.faults reader.old < R.faults reader.new)
-        ⊎ (R.calls reader.new ≡ R.calls reader.old + CALLS_MOST) }
-    ensures write { IsErrOf result RunFault.Write → (W.faults writer.old < W.faults writer.new)
-        ⊎ (W.calls writer.new ≡ W.calls writer.old + CALLS_MOST) }
+    ensures read { IsErrOf result RunFault.Read → FailedOrSpent R.faults R.calls reader.old reader.new CALLS_MOST }
+    ensures write { IsErrOf result RunFault.Write → FailedOrSpent W.faults W.calls writer.old writer.new CALLS_MOST }
     ensures reads { R.calls reader.new ≤ R.calls reader.old + CALLS_MOST }
     ensures writes { W.calls writer.new ≤ W.calls writer.old + CALLS_MOST }
 {
@@ -71,15 +65,13 @@ pub fn run_bounded<R: Source, W: Sink>(
     ensures ended { OnOk result (R.HasEnded reader.new) }
     ensures memory { IsErrOf result RunFault.Memory → (R.calls reader.new ≡ R.calls reader.old)
         × (W.calls writer.new ≡ W.calls writer.old) }
-    ensures read { IsErrOf result RunFault.Read → (R.faults reader.old < R.faults reader.new)
-        ⊎ (R.calls reader.new ≡ R.calls reader.old + reads) }
-    ensures write { IsErrOf result RunFault.Write → (W.faults writer.old < W.faults writer.new)
-        ⊎ (W.calls writer.new ≡ W.calls writer.old + writes) }
+    ensures read { IsErrOf result RunFault.Read → FailedOrSpent R.faults R.calls reader.old reader.new reads }
+    ensures write { IsErrOf result RunFault.Write → FailedOrSpent W.faults W.calls writer.old writer.new writes }
     ensures reads { R.calls reader.new ≤ R.calls reader.old + reads }
     ensures writes { W.calls writer.new ≤ W.calls writer.old + writes }
 {
     // What owns little comes first, so that no more than one path lets the console go.
-    let Ok(mut block) = zeros(alloc, BLOCK) else {
+    let Ok(mut block) = zeros(alloc, READ_MOST) else {
         return Err(RunFault::Memory);
     };
     let Ok((pins, opening)) = Pins::new(alloc, limits.shape()) else {
@@ -104,8 +96,7 @@ pub fn run_whole<W: Sink>(
     ensures answers { (output : List ℕ) × (W.taken writer.new ≡ W.taken writer.old ++ output)
         × IsWholeEnded result limits script.now output }
     ensures memory { IsErrOf result RunFault.Memory → W.calls writer.new ≡ W.calls writer.old }
-    ensures write { IsErrOf result RunFault.Write → (W.faults writer.old < W.faults writer.new)
-        ⊎ (W.calls writer.new ≡ W.calls writer.old + CALLS_MOST) }
+    ensures write { IsErrOf result RunFault.Write → FailedOrSpent W.faults W.calls writer.old writer.new CALLS_MOST }
     ensures writes { W.calls writer.new ≤ W.calls writer.old + CALLS_MOST }
 {
     let Ok((pins, opening)) = Pins::new(alloc, limits.shape()) else {
@@ -137,14 +128,12 @@ pub fn run_over<R: Source, W: Sink>(
     ensures ended { OnOk result (R.HasEnded reader.new) }
     ensures memory { IsErrOf result RunFault.Memory → (R.calls reader.new ≡ R.calls reader.old)
         × (W.calls writer.new ≡ W.calls writer.old) }
-    ensures read { IsErrOf result RunFault.Read → (R.faults reader.old < R.faults reader.new)
-        ⊎ (R.calls reader.new ≡ R.calls reader.old + CALLS_MOST) }
-    ensures write { IsErrOf result RunFault.Write → (W.faults writer.old < W.faults writer.new)
-        ⊎ (W.calls writer.new ≡ W.calls writer.old + CALLS_MOST) }
+    ensures read { IsErrOf result RunFault.Read → FailedOrSpent R.faults R.calls reader.old reader.new CALLS_MOST }
+    ensures write { IsErrOf result RunFault.Write → FailedOrSpent W.faults W.calls writer.old writer.new CALLS_MOST }
     ensures reads { R.calls reader.new ≤ R.calls reader.old + CALLS_MOST }
     ensures writes { W.calls writer.new ≤ W.calls writer.old + CALLS_MOST }
 {
-    let Ok(mut block) = zeros(alloc, BLOCK) else {
+    let Ok(mut block) = zeros(alloc, READ_MOST) else {
         return Err(RunFault::Memory);
     };
     let Some(mut console) = reopened(alloc, manager, CALLS_MOST) else {
@@ -170,8 +159,8 @@ fn answer_whole<W: Sink>(
         × Ends result console.old.point script.now output console.new.point }
     ensures read { IsErrOf result RunFault.Read → ⊥ }
     ensures memory { IsErrOf result RunFault.Memory → ⊥ }
-    ensures write { IsErrOf result RunFault.Write → (W.faults writer.old < W.faults writer.new)
-        ⊎ (console.new.pending.writes_left ≡ 0) }
+    ensures write { IsErrOf result RunFault.Write
+        → FailedOrLast W.faults writer.old writer.new console.new.pending.writes_left }
     ensures writes { W.calls writer.new + console.new.pending.writes_left
         ≡ W.calls writer.old + console.old.pending.writes_left }
 {
@@ -229,8 +218,8 @@ fn reopened(alloc: Global, manager: Manager<LockedPins>, writes: u64) -> Option<
     Some(Console::new(manager.over(keeper), reader, output))
 }
 
-#[tactic(auto, using(crate::proofs::Reading::reading_begins))]
 /// Answers a script block by block, from a console of which no line has come, with at most so many reads.
+#[tactic(auto, using(crate::proofs::Reading::reading_begins))]
 fn answer_all<R: Source, W: Sink>(
     console: &mut Console,
     block: &mut [u8],
@@ -239,16 +228,15 @@ fn answer_all<R: Source, W: Sink>(
     writer: &mut W,
 ) -> Result<(), RunFault>
     requires ready { IsReady console.old }
-    requires block { length block.old ≡ BLOCK }
+    requires block { length block.old ≡ READ_MOST }
     ensures answers { (input output : List ℕ) × (R.given reader.new ≡ R.given reader.old ++ input)
         × (W.taken writer.new ≡ W.taken writer.old ++ output)
         × Ends result console.old.point input output console.new.point }
     ensures ended { OnOk result (R.HasEnded reader.new) }
     ensures memory { IsErrOf result RunFault.Memory → ⊥ }
-    ensures read { IsErrOf result RunFault.Read → (R.faults reader.old < R.faults reader.new)
-        ⊎ (R.calls reader.new ≡ R.calls reader.old + reads) }
-    ensures write { IsErrOf result RunFault.Write → (W.faults writer.old < W.faults writer.new)
-        ⊎ (console.new.pending.writes_left ≡ 0) }
+    ensures read { IsErrOf result RunFault.Read → FailedOrSpent R.faults R.calls reader.old reader.new reads }
+    ensures write { IsErrOf result RunFault.Write
+        → FailedOrLast W.faults writer.old writer.new console.new.pending.writes_left }
     ensures reads { R.calls reader.new ≤ R.calls reader.old + reads }
     ensures writes { W.calls writer.new + console.new.pending.writes_left
         ≡ W.calls writer.old + console.old.pending.writes_left }
@@ -269,11 +257,4 @@ fn answer_all<R: Source, W: Sink>(
         }
     }
     Err(RunFault::Read)
-}
-
-/// So many bytes, each 0.
-fn zeros(alloc: Global, count: usize) -> Result<Vec<u8>, AllocError>
-    ensures { IfOk result (λ bytes. vec_len bytes ≡ count) }
-{
-    vec![in alloc; 0u8; count]
 }

@@ -9,8 +9,7 @@ use Rattle.ob_lanes.specs.declared.line.Request.{Request}
 use Rattle.ob_lanes.specs.declared.line.Request.TheVariants.{Ask, Pin, Unpin, ShowCard, Block}
 
 -- a wait for more than 64 handles is refused, whichever they are: of its list the first 65 are kept. In nothing else
--- does a line of a
--- lane ask otherwise than one without lanes
+-- does a line of a lane ask otherwise than one without lanes
 abbrev pub shortened : Call → Call
 shortened (WaitFor thread mode timeout handles) = WaitFor thread mode timeout (take 65 handles)
 shortened call = call

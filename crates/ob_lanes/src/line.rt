@@ -11,13 +11,13 @@ use pin_core::Id;
 pub enum Request<'a> {
     /// A call.
     Ask(Ask<'a>),
-    /// One copy more of an Id.
+    /// The reader is to hold one copy more of an Id.
     Pin(Id),
-    /// One copy less.
+    /// The reader is to let one copy of an Id go.
     Unpin(Id),
     /// What the object of a held Id was created as.
     ShowCard(Id),
-    /// The end of the lane's last wait.
+    /// The member is to block until its last wait is answered.
     Block,
 }
 
@@ -26,7 +26,7 @@ pub enum Request<'a> {
 pub enum Line<'a> {
     /// An empty line or a comment, which is in no lane.
     Nothing,
-    /// A line that is bad, or that is bad at its place.
+    /// A line outside the grammar, or one that may not stand where it does.
     Bad,
     /// What the member of the lane of this number is to do. The prologue is lane 0.
     Acts(u32, Request<'a>),
@@ -101,7 +101,7 @@ fn with_prefix(lanes: u32, line: &[u8]) -> Line<'_>
 /// The number of a lane behind an @.
 fn lane_of(lanes: u32, word: &[u8]) -> Option<u32>
     ensures value { result ≡ lane_of lanes word.now }
-    ensures few { IfSome result (λ number. number ≤ lanes) }
+    ensures at_most { IfSome result (λ number. number ≤ lanes) }
 {
     let number = labelled(b'@', word)?;
     if number == 0 || number > lanes || word.get(1) == Some(&b'0') {

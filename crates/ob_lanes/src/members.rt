@@ -21,7 +21,7 @@ pub fn started(
 ) -> Option<(Shared, Vec<Reader>)>
     requires opens { opening ≡ pins.now }
     requires shape { pins.now.shape ≡ shape_of limits }
-    requires some { 1 ≤ count }
+    requires above_zero { 1 ≤ count }
     ensures lanes { IfSome result (λ parts. parts.0 ≡ 0) }
     ensures readers { IfSome result (λ parts. vec_len parts.1 ≡ count) }
 {
@@ -63,7 +63,7 @@ pub fn members_of(
     mut readers: Vec<Reader>,
     scripts: Vec<Script>,
 ) -> Result<Vec<Member>, AllocError>
-    requires few { shared.old + vec_len scripts ≤ 65536 }
+    requires at_most { shared.old + vec_len scripts ≤ 65536 }
     requires readers { vec_len readers ≡ vec_len scripts }
     ensures new { IfOk result (λ members. All IsNew members.items) }
     ensures len { IfOk result (λ members. vec_len members ≡ vec_len scripts) }
@@ -85,8 +85,8 @@ pub fn drive_all<R: Threads + Wait + Sync>(
     members: &mut [Member],
 ) -> Result<(), AllocError>
     requires new { All IsNew members.old }
-    requires some { 1 ≤ length members.old }
-    requires few { length members.old ≤ 65 }
+    requires not_empty { 1 ≤ length members.old }
+    requires at_most { length members.old ≤ 65 }
 {
     let (prologue, others) = members.split_at_mut(1);
     let Ok(()) = drive(rt, shared, &OpenGate, prologue) else {
@@ -98,7 +98,7 @@ pub fn drive_all<R: Threads + Wait + Sync>(
     Ok(())
 }
 
-/// No lanes, with room for so many.
+/// An empty list, with room for so many lanes.
 pub fn room_for(alloc: Global, count: usize) -> Result<Vec<Lane>, AllocError>
     ensures none { IfOk result (λ lanes. vec_len lanes ≡ 0) }
     ensures room { IfOk result (λ lanes. count ≤ vec_capacity lanes) }

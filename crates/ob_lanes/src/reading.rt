@@ -1,18 +1,14 @@
-ghost use Rattle.std.specs.Prelude.{◌≡◌, ◌+◌, ◌<◌, ◌≤◌, ◌^◌, ◌⊎◌, IfOk, IsErrOf, OnOk, length};
+ghost use Rattle.std.specs.Prelude.{◌≡◌, ◌+◌, ◌<◌, ◌≤◌, ◌^◌, IfOk, IsErrOf, OnOk, length};
+ghost use Rattle.ob_output.specs.Devices.{FailedOrSpent};
 ghost use Rattle.ob_output.specs.Pending.{Spends};
+ghost use Rattle.ob_lanes.specs.Faults.{WriteHasCause};
 
 use crate::fault::LanesFault;
 use crate::line::is_marked;
 use crate::scripts::Scripts;
-use ob_output::{Answer, Output, Sink, Source, Trouble};
+use ob_output::{Answer, Output, READ_MOST, Sink, Source, Trouble};
 use ob_script::{HeldLine, cut_far};
 use std::alloc::{AllocError, Global};
-
-/// How many bytes are read at once, at most.
-pub const BLOCK: usize = 65536;
-
-/// How many reads, and how many writes, are made at most.
-pub const CALLS_MOST: u64 = 1_000_000_000;
 
 /// The beginning of a line whose end has not come. A line that is too long for any act is not kept, but whether it
 /// begins with an @.
@@ -30,7 +26,7 @@ impl Beginning {
         }
     }
 
-    /// More of the line.
+    /// More of the line has come.
     fn extend(&mut self, part: &[u8]) {
         if self.held.is_empty() {
             self.is_marked = is_marked(part);
@@ -55,8 +51,7 @@ impl Intake {
         ensures lines { self.new.lines ≡ self.old.lines + 1 }
         ensures spends { Spends W.calls W.faults sink.old sink.new self.old.output self.new.output }
         ensures read { IsErrOf result LanesFault.Read → ⊥ }
-        ensures write { IsErrOf result LanesFault.Write → (W.faults sink.old < W.faults sink.new)
-            ⊎ (self.new.output.writes_left ≡ 0) }
+        ensures write { WriteHasCause result W.faults sink.old sink.new self.new.output.writes_left }
     {
         self.lines += 1;
         if self.scripts.take(line)? {
@@ -72,8 +67,7 @@ impl Intake {
         ensures lines { self.new.lines ≡ self.old.lines + 1 }
         ensures spends { Spends W.calls W.faults sink.old sink.new self.old.output self.new.output }
         ensures read { IsErrOf result LanesFault.Read → ⊥ }
-        ensures write { IsErrOf result LanesFault.Write → (W.faults sink.old < W.faults sink.new)
-            ⊎ (self.new.output.writes_left ≡ 0) }
+        ensures write { WriteHasCause result W.faults sink.old sink.new self.new.output.writes_left }
     {
         self.lines += 1;
         if is_marked {
@@ -88,8 +82,7 @@ impl Intake {
         ensures lines { self.new.lines ≡ self.old.lines }
         ensures spends { Spends W.calls W.faults sink.old sink.new self.old.output self.new.output }
         ensures read { IsErrOf result LanesFault.Read → ⊥ }
-        ensures write { IsErrOf result LanesFault.Write → (W.faults sink.old < W.faults sink.new)
-            ⊎ (self.new.output.writes_left ≡ 0) }
+        ensures write { WriteHasCause result W.faults sink.old sink.new self.new.output.writes_left }
     {
         self.output.put(sink, &Answer::BadLine(self.lines))?;
         Ok(())
@@ -104,7 +97,7 @@ pub struct Reading {
 }
 
 impl Reading {
-    /// Nothing is read of a script with so many lanes beside the prologue.
+    /// A script with so many lanes beside the prologue, of which nothing has been read.
     pub fn new(alloc: Global, lanes: u32, writes: u64) -> Result<Reading, AllocError>
         ensures lanes { IfOk result (λ reading. reading.intake.scripts.lanes ≡ lanes) }
         ensures lines { IfOk result (λ reading. reading.intake.lines ≡ 0) }
@@ -120,15 +113,14 @@ impl Reading {
         })
     }
 
-    /// The line whose beginning is kept ends.
+    /// The line of which a beginning is kept ends: takes it.
     fn end_line<W: Sink>(&mut self, sink: &mut W) -> Result<(), LanesFault>
         requires { self.old.intake.lines < 2 ^ 127 }
         ensures lanes { self.new.intake.scripts.lanes ≡ self.old.intake.scripts.lanes }
         ensures lines { self.new.intake.lines ≡ self.old.intake.lines + 1 }
         ensures spends { Spends W.calls W.faults sink.old sink.new self.old.intake.output self.new.intake.output }
         ensures read { IsErrOf result LanesFault.Read → ⊥ }
-        ensures write { IsErrOf result LanesFault.Write → (W.faults sink.old < W.faults sink.new)
-            ⊎ (self.new.intake.output.writes_left ≡ 0) }
+        ensures write { WriteHasCause result W.faults sink.old sink.new self.new.intake.output.writes_left }
     {
         let taken = match self.beginning.held.line() {
             Some(line) => self.intake.take(sink, line),
@@ -138,15 +130,15 @@ impl Reading {
         taken
     }
 
-    /// A line ends with these bytes, which come before its line feed.
+    /// The line of which a beginning is kept, if one is, ends with these bytes: takes it. They stand before its line
+    /// feed.
     fn line<W: Sink>(&mut self, sink: &mut W, end: &[u8]) -> Result<(), LanesFault>
         requires { self.old.intake.lines < 2 ^ 127 }
         ensures lanes { self.new.intake.scripts.lanes ≡ self.old.intake.scripts.lanes }
         ensures lines { self.new.intake.lines ≡ self.old.intake.lines + 1 }
         ensures spends { Spends W.calls W.faults sink.old sink.new self.old.intake.output self.new.intake.output }
         ensures read { IsErrOf result LanesFault.Read → ⊥ }
-        ensures write { IsErrOf result LanesFault.Write → (W.faults sink.old < W.faults sink.new)
-            ⊎ (self.new.intake.output.writes_left ≡ 0) }
+        ensures write { WriteHasCause result W.faults sink.old sink.new self.new.intake.output.writes_left }
     {
         if self.beginning.held.is_empty() {
             return self.intake.take(sink, end);
@@ -162,8 +154,7 @@ impl Reading {
         ensures lines { self.new.intake.lines ≤ self.old.intake.lines + length block.now }
         ensures spends { Spends W.calls W.faults sink.old sink.new self.old.intake.output self.new.intake.output }
         ensures read { IsErrOf result LanesFault.Read → ⊥ }
-        ensures write { IsErrOf result LanesFault.Write → (W.faults sink.old < W.faults sink.new)
-            ⊎ (self.new.intake.output.writes_left ≡ 0) }
+        ensures write { WriteHasCause result W.faults sink.old sink.new self.new.intake.output.writes_left }
     {
         let mut rest = block;
         while let Some((end, behind)) = cut_far(b'\n', rest) {
@@ -183,8 +174,7 @@ impl Reading {
         ensures lines { self.new.intake.lines ≤ self.old.intake.lines + length block.now }
         ensures spends { Spends W.calls W.faults sink.old sink.new self.old.intake.output self.new.intake.output }
         ensures read { IsErrOf result LanesFault.Read → ⊥ }
-        ensures write { IsErrOf result LanesFault.Write → (W.faults sink.old < W.faults sink.new)
-            ⊎ (self.new.intake.output.writes_left ≡ 0) }
+        ensures write { WriteHasCause result W.faults sink.old sink.new self.new.intake.output.writes_left }
     {
         self.feed(sink, block)?;
         self.intake.output.flush(sink)?;
@@ -197,8 +187,7 @@ impl Reading {
         ensures lanes { self.new.intake.scripts.lanes ≡ self.old.intake.scripts.lanes }
         ensures spends { Spends W.calls W.faults sink.old sink.new self.old.intake.output self.new.intake.output }
         ensures read { IsErrOf result LanesFault.Read → ⊥ }
-        ensures write { IsErrOf result LanesFault.Write → (W.faults sink.old < W.faults sink.new)
-            ⊎ (self.new.intake.output.writes_left ≡ 0) }
+        ensures write { WriteHasCause result W.faults sink.old sink.new self.new.intake.output.writes_left }
     {
         if !self.beginning.held.is_empty() {
             self.end_line(sink)?;
@@ -217,13 +206,11 @@ impl Reading {
         writer: &mut W,
     ) -> Result<(), LanesFault>
         requires lines { self.old.intake.lines ≡ 0 }
-        requires block { length block.old ≡ BLOCK }
+        requires block { length block.old ≡ READ_MOST }
         ensures lanes { self.new.intake.scripts.lanes ≡ self.old.intake.scripts.lanes }
         ensures ended { OnOk result (R.HasEnded reader.new) }
-        ensures read { IsErrOf result LanesFault.Read → (R.faults reader.old < R.faults reader.new)
-            ⊎ (R.calls reader.new ≡ R.calls reader.old + reads) }
-        ensures write { IsErrOf result LanesFault.Write → (W.faults writer.old < W.faults writer.new)
-            ⊎ (self.new.intake.output.writes_left ≡ 0) }
+        ensures read { IsErrOf result LanesFault.Read → FailedOrSpent R.faults R.calls reader.old reader.new reads }
+        ensures write { WriteHasCause result W.faults writer.old writer.new self.new.intake.output.writes_left }
         ensures reads { R.calls reader.new ≤ R.calls reader.old + reads }
         ensures spends { Spends W.calls W.faults writer.old writer.new self.old.intake.output self.new.intake.output }
     {

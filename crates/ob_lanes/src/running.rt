@@ -1,22 +1,24 @@
-ghost use Rattle.std.specs.Prelude.{◌≡◌, ◌+◌, ◌<◌, ◌≤◌, ◌⊎◌, IfOk, IsErrOf, OnOk, vec_len};
+ghost use Rattle.std.specs.Prelude.{◌≡◌, ◌+◌, ◌<◌, ◌≤◌, IsErrOf, OnOk, vec_len};
+ghost use Rattle.ob_output.specs.Devices.{FailedOrSpent};
 ghost use Rattle.ob_output.specs.Pending.{Spends};
+ghost use Rattle.ob_lanes.specs.Faults.{WriteHasCause};
 
 use crate::fault::LanesFault;
 use crate::members::{drive_all, lanes_of, members_of, room_for, started};
 use crate::printing::print_members;
-use crate::reading::{BLOCK, CALLS_MOST, Reading};
+use crate::reading::Reading;
 use crate::scripts::Script;
 use ob_manager::Limits;
-use ob_output::{Answer, Output, Sink, Source};
+use ob_output::{Answer, CALLS_MOST, Output, READ_MOST, Sink, Source, zeros};
 use ob_shared::{Lane, Shared};
 use pin_words::{Pins, Reader};
-use std::alloc::{AllocError, Global};
+use std::alloc::Global;
 use std::sync::Wait;
 use std::thread::Threads;
 
 /// Runs a script with so many lanes over a new manager behind its lock: reads the script to its end and prints
 /// meanwhile which lines are bad; makes the calls of the prologue, which is lane 0, and then those of the other lanes
-/// at once; prints the answers lane by lane; and closes the lanes. It may wait forever, since a lane may.
+/// at once; prints the answers lane by lane; and closes the lanes. It never returns where a lane waits forever.
 ///
 /// At most 1,000,000,000 reads and as many writes are made. The answers are those of members:
 /// [`drive`](ob_shared::drive).
@@ -28,18 +30,16 @@ pub fn run_lanes<R: Threads + Wait + Sync, I: Source, O: Sink>(
     reader: &mut I,
     writer: &mut O,
 ) -> Result<(), LanesFault>
-    requires some { 1 ≤ lanes }
-    requires few { lanes ≤ 64 }
+    requires above_zero { 1 ≤ lanes }
+    requires at_most { lanes ≤ 64 }
     ensures ended { OnOk result (I.HasEnded reader.new) }
-    ensures read { IsErrOf result LanesFault.Read → (I.faults reader.old < I.faults reader.new)
-        ⊎ (I.calls reader.new ≡ I.calls reader.old + CALLS_MOST) }
-    ensures write { IsErrOf result LanesFault.Write → (O.faults writer.old < O.faults writer.new)
-        ⊎ (O.calls writer.new ≡ O.calls writer.old + CALLS_MOST) }
+    ensures read { IsErrOf result LanesFault.Read → FailedOrSpent I.faults I.calls reader.old reader.new CALLS_MOST }
+    ensures write { IsErrOf result LanesFault.Write → FailedOrSpent O.faults O.calls writer.old writer.new CALLS_MOST }
     ensures reads { I.calls reader.new ≤ I.calls reader.old + CALLS_MOST }
     ensures writes { O.calls writer.new ≤ O.calls writer.old + CALLS_MOST }
 {
     let mut reading = Reading::new(alloc, lanes, CALLS_MOST)?;
-    let mut block = zeros(alloc, BLOCK)?;
+    let mut block = zeros(alloc, READ_MOST)?;
     reading.read_all(&mut block, CALLS_MOST, reader, writer)?;
     drop(block);
     let (scripts, mut output) = reading.into_parts();
@@ -63,12 +63,11 @@ fn run_scripts<R: Threads + Wait + Sync, O: Sink>(
     output: &mut Output,
     writer: &mut O,
 ) -> Result<(), LanesFault>
-    requires some { 2 ≤ vec_len scripts }
-    requires few { vec_len scripts ≤ 65 }
+    requires two_at_least { 2 ≤ vec_len scripts }
+    requires at_most { vec_len scripts ≤ 65 }
     ensures memory { IsErrOf result LanesFault.Memory → O.calls writer.new ≡ O.calls writer.old }
     ensures read { IsErrOf result LanesFault.Read → ⊥ }
-    ensures write { IsErrOf result LanesFault.Write → (O.faults writer.old < O.faults writer.new)
-        ⊎ (output.new.writes_left ≡ 0) }
+    ensures write { WriteHasCause result O.faults writer.old writer.new output.new.writes_left }
     ensures calls { O.calls writer.new + output.new.writes_left ≡ O.calls writer.old + output.old.writes_left }
 {
     let Ok((pins, opening)) = Pins::new(alloc, limits.shape()) else {
@@ -86,8 +85,8 @@ fn run_scripts<R: Threads + Wait + Sync, O: Sink>(
     }
 }
 
-/// Makes the calls of scripts over a manager behind its lock, by a member for each, and prints the answers. Their
-/// lanes, for which there is room before the first call is made.
+/// Makes the calls of scripts over a manager behind its lock, by a member for each, prints the answers, and hands out
+/// the members' lanes. Room for these is made before the first call is.
 fn answer_scripts<R: Threads + Wait + Sync, O: Sink>(
     rt: &R,
     alloc: Global,
@@ -99,12 +98,11 @@ fn answer_scripts<R: Threads + Wait + Sync, O: Sink>(
 ) -> Result<Vec<Lane>, LanesFault>
     requires fresh { shared.old ≡ 0 }
     requires readers { vec_len readers ≡ vec_len scripts }
-    requires some { 2 ≤ vec_len scripts }
-    requires few { vec_len scripts ≤ 65 }
+    requires two_at_least { 2 ≤ vec_len scripts }
+    requires at_most { vec_len scripts ≤ 65 }
     ensures memory { IsErrOf result LanesFault.Memory → O.calls writer.new ≡ O.calls writer.old }
     ensures read { IsErrOf result LanesFault.Read → ⊥ }
-    ensures write { IsErrOf result LanesFault.Write → (O.faults writer.old < O.faults writer.new)
-        ⊎ (output.new.writes_left ≡ 0) }
+    ensures write { WriteHasCause result O.faults writer.old writer.new output.new.writes_left }
     ensures spends { Spends O.calls O.faults writer.old writer.new output.old output.new }
 {
     let mut members = members_of(alloc, shared, readers, scripts)?;
@@ -123,8 +121,7 @@ fn close<O: Sink>(
 ) -> Result<(), LanesFault>
     ensures memory { IsErrOf result LanesFault.Memory → ⊥ }
     ensures read { IsErrOf result LanesFault.Read → ⊥ }
-    ensures write { IsErrOf result LanesFault.Write → (O.faults writer.old < O.faults writer.new)
-        ⊎ (output.new.writes_left ≡ 0) }
+    ensures write { WriteHasCause result O.faults writer.old writer.new output.new.writes_left }
     ensures spends { Spends O.calls O.faults writer.old writer.new output.old output.new }
 {
     let Some(count) = calls_of(shared, lanes) else {
@@ -136,7 +133,8 @@ fn close<O: Sink>(
     Ok(())
 }
 
-/// How many calls were made, where the lanes are whole. What is closed goes here, and not on each path that prints.
+/// How many calls were made, where the lanes are whole. What was closed is dropped here, so that no path that prints
+/// has to drop it.
 fn calls_of(shared: Shared, lanes: Vec<Lane>) -> Option<usize> {
     match shared.close(lanes) {
         Ok(closed) => {
@@ -149,11 +147,4 @@ fn calls_of(shared: Shared, lanes: Vec<Lane>) -> Option<usize> {
             None
         }
     }
-}
-
-/// So many bytes, each 0.
-fn zeros(alloc: Global, count: usize) -> Result<Vec<u8>, AllocError>
-    ensures { IfOk result (λ bytes. vec_len bytes ≡ count) }
-{
-    vec![in alloc; 0u8; count]
 }

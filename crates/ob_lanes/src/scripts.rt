@@ -73,7 +73,7 @@ impl Model for Scripts {
 }
 
 impl Scripts {
-    /// No line has come. There are so many lanes beside the prologue.
+    /// Empty scripts, for the prologue and so many lanes beside it.
     pub fn new(alloc: Global, lanes: u32) -> Result<Scripts, AllocError>
         ensures { IfOk result (λ scripts. scripts ≡ opening_scripts lanes) }
     {
@@ -91,8 +91,8 @@ impl Scripts {
         })
     }
 
-    /// A line comes, without its line feed. Whether it is good; one that is bad may end the prologue all the same.
-    /// Where memory is wanting nothing has changed.
+    /// Takes a line, without its line feed, and says whether it is good; one that is bad may end the prologue all the
+    /// same. Where memory is wanting nothing has changed.
     pub fn take(&mut self, line: &[u8]) -> Result<bool, AllocError>
         ensures good { IfOk result (λ good. good ≡ is_good self.old line.now) }
         ensures taken { OnOk result (self.new ≡ with_line self.old line.now) }

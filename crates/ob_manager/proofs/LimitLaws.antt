@@ -17,7 +17,7 @@ use Rattle.ob_waits.specs.declared.wait.WaitState.TheVariants.{Pending, Answered
 use Rattle.ob_store.specs.declared.limits.Limits.{Limits}
 use Rattle.ob_store.specs.State.{State, Whole, with_child, with_process}
 use Rattle.ob_store.specs.Directory.{directory_of}
-use Rattle.ob_store.specs.Ends.{thread_ended, threads_ended, process_ended, left}
+use Rattle.ob_store.specs.Ends.{thread_ended, threads_ended, process_ended, after_thread_end}
 use Rattle.ob_store.specs.Processes.{is_of}
 use Rattle.ob_manager.specs.Calls.{Call}
 use Rattle.ob_manager.specs.declared.call.CallOf.TheVariants as calls
@@ -35,21 +35,21 @@ use Rattle.ob_manager.specs.Waiting.{deadline_in, is_zero, pending, satisfied, s
 use Rattle.ob_manager.specs.Steps.{Step, does, closes, lacks, final, outcome_of}
 
 -- whether what a part of a call comes to has these limits
-abbrev Keeps : Limits → Result Outcome Fault → Type 0
-Keeps l (Ok o) = o.state.limits ≡ l
-Keeps l (Err e) = Unit {0}
+abbrev KeepsLimits : Limits → Result Outcome Fault → Type 0
+KeepsLimits l (Ok o) = o.state.limits ≡ l
+KeepsLimits l (Err e) = Unit {0}
 
 abbrev KeepsState : Limits → Result State Fault → Type 0
 KeepsState l (Ok s) = s.limits ≡ l
 KeepsState l (Err e) = Unit {0}
 
-then_keeps : {A : Type 0} (l : Limits) (r : Result A Fault) (f : A → Result Outcome Fault) → ((x : A) → Keeps l (f x))
-    → Keeps l (r >>= f)
+then_keeps : {A : Type 0} (l : Limits) (r : Result A Fault) (f : A → Result Outcome Fault)
+    → ((x : A) → KeepsLimits l (f x)) → KeepsLimits l (r >>= f)
 then_keeps l (Ok x) f h = h x
 then_keeps l (Err e) f h = tt
 
 state_then : (l : Limits) (r : Result State Fault) (f : State → Result Outcome Fault) → KeepsState l r
-    → ((s : State) → s.limits ≡ l → Keeps l (f s)) → Keeps l (r >>= f)
+    → ((s : State) → s.limits ≡ l → KeepsLimits l (f s)) → KeepsLimits l (r >>= f)
 state_then l (Ok s) f k h = h s k
 state_then l (Err e) f k h = tt
 
@@ -68,12 +68,12 @@ threads_limits s p zero = refl
 threads_limits s p (suc n) = cond_limits (is_of p (get_or (threads_ended s p n).threads n None))
     (thread_ended (threads_ended s p n) n) (threads_ended s p n) s.limits (threads_limits s p n) (threads_limits s p n)
 
-left_limits : (s : State) (p t : ℕ) → (left s p t).limits ≡ s.limits
+left_limits : (s : State) (p t : ℕ) → (after_thread_end s p t).limits ≡ s.limits
 left_limits s p t = cond_limits (list_any (is_of p) (thread_ended s t).threads) (thread_ended s t)
     (process_ended (thread_ended s t) p) s.limits refl refl
 
 object_keeps : (s : State) (p : ℕ) (m : Making) (new : New) (name : Option ObjectName)
-    → Keeps s.limits (new_object s p m new name)
+    → KeepsLimits s.limits (new_object s p m new name)
 object_keeps s p m new name = search (then_keeps)
 
 handle_keeps : (s : State) (p : ℕ) (id : Id) (k : Kind) (asked : Rights) (inherit : Bool)
@@ -81,35 +81,36 @@ handle_keeps : (s : State) (p : ℕ) (id : Id) (k : Kind) (asked : Rights) (inhe
 handle_keeps s p id k asked inherit = search (then_state)
 
 named_keeps : (s : State) (p : ℕ) (m : Making) (new : New) (name : ObjectName) (id : Option Id)
-    → Keeps s.limits (named_object s p m new name id)
+    → KeepsLimits s.limits (named_object s p m new name id)
 named_keeps s p m new name None = object_keeps s p m new (Some name)
 named_keeps s p m new name (Some id) = state_then s.limits _ _ (handle_keeps s p id _ _ _) (λ after kept. kept)
 
 created_keeps : (s : State) (p : ℕ) (m : Making) (new : New) (name : Option ObjectName)
-    → Keeps s.limits (created s p m new name)
+    → KeepsLimits s.limits (created s p m new name)
 created_keeps s p m new None = object_keeps s p m new None
 created_keeps s p m new (Some name) = named_keeps s p m new name (find_name name (directory_of s))
 
-create_keeps : (s : State) (t : ℕ) (m : Making) (what : Result New Fault) → Keeps s.limits (create s t m what)
+create_keeps : (s : State) (t : ℕ) (m : Making) (what : Result New Fault) → KeepsLimits s.limits (create s t m what)
 create_keeps s t m what = search (then_keeps, created_keeps)
 
 unsatisfied_keeps : (s : State) (t : ℕ) (mode : Mode) (timeout : Timeout) (ids : List Id)
-    → Keeps s.limits (unsatisfied s t mode timeout ids)
+    → KeepsLimits s.limits (unsatisfied s t mode timeout ids)
 unsatisfied_keeps s t mode timeout ids = by (is_zero timeout)
   where
-    becomes : Keeps s.limits (pending s t mode (deadline_in s.clock timeout) ids)
+    becomes : KeepsLimits s.limits (pending s t mode (deadline_in s.clock timeout) ids)
     becomes = search (then_keeps)
 
-    by : (c : Bool) → Keeps s.limits (cond c (Ok (record { reply = reply.Code 258; state = s }))
+    by : (c : Bool) → KeepsLimits s.limits (cond c (Ok (record { reply = reply.Code 258; state = s }))
         (pending s t mode (deadline_in s.clock timeout) ids))
     by true = refl
     by false = becomes
 
 wait_keeps : (s : State) (t : ℕ) (mode : Mode) (timeout : Timeout) (ids : List Id)
-    → Keeps s.limits (wait_on s t mode timeout ids)
+    → KeepsLimits s.limits (wait_on s t mode timeout ids)
 wait_keeps s t mode timeout ids = search (then_keeps, either_keeps)
   where
-    either_keeps : (b : Bool) → Keeps s.limits (cond b (satisfied s t mode ids) (unsatisfied s t mode timeout ids))
+    either_keeps : (b : Bool)
+        → KeepsLimits s.limits (cond b (satisfied s t mode ids) (unsatisfied s t mode timeout ids))
     either_keeps true = refl
     either_keeps false = unsatisfied_keeps s t mode timeout ids
 
@@ -118,31 +119,28 @@ shown_limits s n Pending = refl
 shown_limits s n (Answered code) = refl
 
 copied_keeps : (s : State) (e : Entry) (target : Option ℕ) (mask : Rights) (inherit : Bool) (options : ℕ)
-    → Keeps s.limits (copied_to s e target mask inherit options)
+    → KeepsLimits s.limits (copied_to s e target mask inherit options)
 copied_keeps s e None mask inherit options = refl
 copied_keeps s e (Some target) mask inherit options = search (then_keeps)
 
-closed_keeps : (c : Bool) (s : State) (source handle : ℕ) (r : Result Outcome Fault) → Keeps s.limits r
-    → Keeps s.limits (cond c (Ok (without_source s source handle r)) (with_source r))
+closed_keeps : (c : Bool) (s : State) (source handle : ℕ) (r : Result Outcome Fault) → KeepsLimits s.limits r
+    → KeepsLimits s.limits (cond c (Ok (without_source s source handle r)) (with_source r))
 closed_keeps true s source handle (Ok o) h = h
 closed_keeps true s source handle (Err e) h = refl
 closed_keeps false s source handle (Ok o) h = h
 closed_keeps false s source handle (Err e) h = tt
 
-reap_keeps : (s : State) (slot : ℕ) (outcome : Reclaim) → Keeps s.limits (reap s slot outcome)
+reap_keeps : (s : State) (slot : ℕ) (outcome : Reclaim) → KeepsLimits s.limits (reap s slot outcome)
 reap_keeps s slot reclaim.Freed = search (then_keeps)
-reap_keeps s slot reclaim.Retired = search (then_keeps)
-reap_keeps s slot (reclaim.Held n) = search (then_keeps)
+reap_keeps s slot outcome = search (then_keeps)
 
 child_limits : (s : State) (p session : ℕ) (inherit : Bool)
     → (cond inherit (with_child s p session) (with_process s session)).limits ≡ s.limits
 child_limits s p session true = refl
 child_limits s p session false = refl
 
-outcome_keeps : (s : State) (call : Call) (reply : Reply) → Keeps s.limits (outcome_of s call reply)
-outcome_keeps s (calls.Spawn session) reply = search (then_keeps)
+outcome_keeps : (s : State) (call : Call) (reply : Reply) → KeepsLimits s.limits (outcome_of s call reply)
 outcome_keeps s (calls.Child t inherit) reply = search (then_keeps, child_limits)
-outcome_keeps s (calls.StartThread process) reply = search (then_keeps)
 outcome_keeps s (calls.MakeEvent t m manual set) reply = create_keeps s t m (Ok (new_event manual set))
 outcome_keeps s (calls.MakeMutex t m owned) reply = create_keeps s t m (Ok (new_mutex t owned))
 outcome_keeps s (calls.MakeSemaphore t m initial max) reply = create_keeps s t m (new_semaphore initial max)
@@ -155,25 +153,15 @@ outcome_keeps s (calls.Duplicate t source h target mask inherit options) reply =
     then_keeps s.limits (found s source h) _ (λ e. then_keeps s.limits (refuse_if (is_stuck target e) fault.Handle) _
     (λ free. closed_keeps (leaves options e) s source h (copied_to s e target mask inherit options)
     (copied_keeps s e target mask inherit options))))))
-outcome_keeps s (calls.CloseHandle t h) reply = search (then_keeps)
-outcome_keeps s (calls.GetFlags t h) reply = search (then_keeps)
-outcome_keeps s (calls.SetFlags t h mask flags) reply = search (then_keeps)
-outcome_keeps s (calls.SetEvent t h) reply = search (then_keeps)
-outcome_keeps s (calls.ResetEvent t h) reply = search (then_keeps)
 outcome_keeps s (calls.ReleaseSemaphore t h count) reply = search (then_keeps) depth 8
-outcome_keeps s (calls.ReleaseMutex t h) reply = search (then_keeps)
-outcome_keeps s (calls.SetTimer t h due) reply = search (then_keeps)
-outcome_keeps s (calls.CancelTimer t h) reply = search (then_keeps)
-outcome_keeps s (calls.Tick now) reply = search (then_keeps)
 outcome_keeps s (calls.WaitFor t mode timeout handles) reply = search (then_keeps, wait_keeps)
 outcome_keeps s (calls.WaitResult n) reply = search (then_keeps, shown_limits)
-outcome_keeps s (calls.Expire n) reply = search (then_keeps)
 outcome_keeps s (calls.EndThread t) reply = search (then_keeps, left_limits)
 outcome_keeps s (calls.Exit p) reply = search (then_keeps, threads_limits)
 outcome_keeps s (calls.Reap slot) reply = reap_keeps s slot _
-outcome_keeps s (calls.Counts id) reply = search (then_keeps)
+outcome_keeps s call reply = search (then_keeps)
 
-final_limits : (s : State) (r : Result Outcome Fault) → Keeps s.limits r → (final s r).state.limits ≡ s.limits
+final_limits : (s : State) (r : Result Outcome Fault) → KeepsLimits s.limits r → (final s r).state.limits ≡ s.limits
 final_limits s (Ok o) h = h
 final_limits s (Err e) h = refl
 

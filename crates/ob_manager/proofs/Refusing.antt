@@ -11,17 +11,8 @@ use Rattle.ob_rights.specs.declared.fault.Fault.TheVariants as fault
 use Rattle.ob_manager.specs.Outcomes.{Refuses}
 
 pub refuses_err : {A : Type 0} (e : Fault) (r : Result A Fault) → e ≢ fault.Memory → r ≡ Err e → Refuses e r
-refuses_err fault.Parameter r other is = is
-refuses_err fault.Busy r other is = is
-refuses_err fault.NameLong r other is = is
-refuses_err fault.NamePath r other is = is
-refuses_err fault.Handle r other is = is
-refuses_err fault.Access r other is = is
-refuses_err fault.NotFound r other is = is
-refuses_err fault.NotOwner r other is = is
-refuses_err fault.Posts r other is = is
-refuses_err fault.Limit r other is = is
 refuses_err fault.Memory r other is = absurd (other refl)
+refuses_err e r other is = is
 
 -- a name is never refused for want of memory
 base_known : (name : ObjectName) (e : Fault) → Err e ≡ checked_base name → e ≢ fault.Memory

@@ -10,7 +10,7 @@ use Rattle.ob_rights.specs.declared.rights.Rights.{Rights}
 use Rattle.ob_rights.specs.Rights.{within}
 use Rattle.ob_tables.specs.declared.entry.Entry.{Entry}
 use Rattle.ob_body.specs.declared.body.Body.{Body}
-use Rattle.ob_body.specs.declared.body.Body.TheVariants.{Event, Mutex, Semaphore, Timer}
+use Rattle.ob_body.specs.declared.body.Body.TheVariants.{Mutex, Semaphore}
 use Rattle.ob_body.specs.Body.{kind_of, post_answer, unlock_answer}
 use Rattle.ob_body.specs.Mutex as mutex
 use Rattle.ob_body.specs.Semaphore as semaphore
@@ -80,24 +80,20 @@ kind_wants k (Some b) = by (same_kind (kind_of b) k)
     by false = refl
 
 post_wants : (n : ℕ) (b : Body) → wants (post_answer n b) ≡ false
-post_wants n (Event e) = refl
-post_wants n (Mutex m) = refl
-post_wants n (Timer t) = refl
 post_wants n (Semaphore s) = by (semaphore.is_past n s)
   where
     by : (c : Bool) → wants (cond c (Err fault.Posts) (Ok s.count)) ≡ false
     by true = refl
     by false = refl
+post_wants n b = refl
 
 unlock_wants : (t : ℕ) (b : Body) → wants (unlock_answer t b) ≡ false
-unlock_wants t (Event e) = refl
-unlock_wants t (Semaphore s) = refl
-unlock_wants t (Timer m) = refl
 unlock_wants t (Mutex m) = by (mutex.is_owner t m.owner)
   where
     by : (c : Bool) → wants {A = Unit {0}} (cond c (Ok (tt {0})) (Err fault.NotOwner)) ≡ false
     by true = refl
     by false = refl
+unlock_wants t b = refl
 
 base_wants : (name : ObjectName) → wants (checked_base name) ≡ false
 base_wants name = by (eqb (length name.base) 0) (list_any is_backslash name.base)
@@ -228,16 +224,11 @@ closed_answers false s source handle (Ok o) h = h
 closed_answers false s source handle (Err e) h = h
 
 outcome_answers : (s : State) (call : Call) (reply : Reply) → answers (outcome_of s call reply) ≡ false
-outcome_answers s (calls.Spawn session) reply = search (andThen, refuse_wants)
-outcome_answers s (calls.Child t inherit) reply = search (andThen, caller_wants, or_wants, refuse_wants)
-outcome_answers s (calls.StartThread process) reply = search (andThen, or_wants, refuse_wants)
 outcome_answers s (calls.MakeEvent t m manual set) reply = create_answers s t m (Ok (new_event manual set)) refl
 outcome_answers s (calls.MakeMutex t m owned) reply = create_answers s t m (Ok (new_mutex t owned)) refl
 outcome_answers s (calls.MakeSemaphore t m initial max) reply =
     create_answers s t m (new_semaphore initial max) (semaphore_wants initial max)
 outcome_answers s (calls.MakeTimer t m manual) reply = create_answers s t m (Ok (new_timer manual)) refl
-outcome_answers s (calls.OpenNamed t k mask inherit text) reply =
-    search (andThen, caller_wants, name_wants, or_wants, handle_wants)
 outcome_answers s (calls.Duplicate t source h target mask inherit options) reply =
     andThen (caller s t) _ (caller_wants s t) (λ p. andThen
     (or_refuse (get_or s.processes source None) fault.Parameter) _ (or_wants _ fault.Parameter refl) (λ session.
@@ -246,25 +237,24 @@ outcome_answers s (calls.Duplicate t source h target mask inherit options) reply
     andThen (refuse_if (is_stuck target e) fault.Handle) _ (refuse_wants _ fault.Handle refl)
     (λ free. closed_answers (leaves options e) s source h (copied_to s e target mask inherit options)
     (copied_answers s e target mask inherit options))))))
-outcome_answers s (calls.CloseHandle t h) reply = search (andThen, caller_wants, found_wants, refuse_wants)
-outcome_answers s (calls.GetFlags t h) reply = search (andThen, caller_wants, found_wants)
-outcome_answers s (calls.SetFlags t h mask flags) reply = search (andThen, caller_wants, refuse_wants, found_wants)
-outcome_answers s (calls.SetEvent t h) reply = search (andThen, caller_wants, found_wants, kind_wants, refuse_wants)
-outcome_answers s (calls.ResetEvent t h) reply = search (andThen, caller_wants, found_wants, kind_wants, refuse_wants)
 outcome_answers s (calls.ReleaseSemaphore t h count) reply =
     search (andThen, caller_wants, or_wants, found_wants, kind_wants, refuse_wants, post_wants) depth 8
-outcome_answers s (calls.ReleaseMutex t h) reply = search (andThen, caller_wants, found_wants, kind_wants, unlock_wants)
-outcome_answers s (calls.SetTimer t h due) reply = search (andThen, caller_wants, found_wants, kind_wants, refuse_wants)
-outcome_answers s (calls.CancelTimer t h) reply = search (andThen, caller_wants, found_wants, kind_wants, refuse_wants)
-outcome_answers s (calls.Tick now) reply = search (andThen, refuse_wants)
-outcome_answers s (calls.WaitFor t mode timeout handles) reply =
-    search (andThen, caller_wants, refuse_wants, objects_wants, wait_answers)
-outcome_answers s (calls.WaitResult n) reply = search (andThen, or_wants, shown_answers)
-outcome_answers s (calls.Expire n) reply = search (andThen, refuse_wants)
-outcome_answers s (calls.EndThread t) reply = search (andThen, or_wants)
-outcome_answers s (calls.Exit p) reply = search (andThen, or_wants)
-outcome_answers s (calls.Reap slot) reply = search (andThen, refuse_wants, ended_wants)
-outcome_answers s (calls.Counts id) reply = search (andThen, refuse_wants, or_wants)
+outcome_answers s call reply =
+    search (
+      andThen,
+      caller_wants,
+      found_wants,
+      kind_wants,
+      refuse_wants,
+      or_wants,
+      unlock_wants,
+      name_wants,
+      handle_wants,
+      objects_wants,
+      wait_answers,
+      shown_answers,
+      ended_wants,
+    )
 
 final_answers : (s : State) (r : Result Outcome Fault) → is_lack (final s r).reply ≡ answers r
 final_answers s (Ok o) = refl

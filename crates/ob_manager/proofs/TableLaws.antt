@@ -10,8 +10,8 @@ use Rattle.ob_store.specs.Objects.{Object}
 use Rattle.ob_store.specs.State.{State, Whole}
 use Rattle.ob_manager.specs.Calls.{Call}
 use Rattle.ob_manager.specs.declared.reply.Reply.{Reply}
-use Rattle.ob_manager.specs.declared.reply.Reply.TheVariants.{Spawned, Started, Made, Exists, Opened, Duplicated, Closed, Done, Flags, Previous, Code, Pending, Expired, Ticked, Ended, Exited, Reaped, CountsAre, Refused}
-use Rattle.ob_manager.specs.Steps.{Step, does, closes, lacks, Keeps, Publishes}
+use Rattle.ob_manager.specs.declared.reply.Reply.TheVariants.{Made, Reaped}
+use Rattle.ob_manager.specs.Steps.{Step, does, closes, lacks, KeeperAfter, Publishes}
 
 -- which table the keeper has, and its shape
 record Table : Type 0 where
@@ -28,29 +28,12 @@ published_alike (Some o) slot k k' keeps = ap table_of keeps
 reclaimed_alike : (k : KeeperState) (slot : ℕ) (outcome : Reclaim) (k' : KeeperState) → Reclaims k slot outcome k'
     → table_of k' ≡ table_of k
 reclaimed_alike k slot reclaim.Freed k' keeps = ap table_of keeps.0
-reclaimed_alike k slot reclaim.Retired k' keeps = ap table_of keeps.0
-reclaimed_alike k slot (reclaim.Held pins) k' keeps = ap table_of keeps.0
+reclaimed_alike k slot outcome k' keeps = ap table_of keeps.0
 
-kept_alike : (reply : Reply) (s : State) (k k' : KeeperState) → Keeps reply s k k' → table_of k' ≡ table_of k
+kept_alike : (reply : Reply) (s : State) (k k' : KeeperState) → KeeperAfter reply s k k' → table_of k' ≡ table_of k
 kept_alike (Made handle id) s k k' keeps = published_alike (slice_index_or s.objects id.slot None) id.slot k k' keeps
 kept_alike (Reaped id outcome) s k k' keeps = reclaimed_alike k id.slot outcome k' keeps
-kept_alike (Spawned process thread) s k k' keeps = ap table_of keeps
-kept_alike (Started thread) s k k' keeps = ap table_of keeps
-kept_alike (Exists handle id) s k k' keeps = ap table_of keeps
-kept_alike (Opened handle id) s k k' keeps = ap table_of keeps
-kept_alike (Duplicated handle id) s k k' keeps = ap table_of keeps
-kept_alike (Flags bits) s k k' keeps = ap table_of keeps
-kept_alike (Code code) s k k' keeps = ap table_of keeps
-kept_alike (Pending number) s k k' keeps = ap table_of keeps
-kept_alike (Expired number) s k k' keeps = ap table_of keeps
-kept_alike (Ticked now) s k k' keeps = ap table_of keeps
-kept_alike (Ended thread) s k k' keeps = ap table_of keeps
-kept_alike (Exited process) s k k' keeps = ap table_of keeps
-kept_alike (CountsAre handles waits hold) s k k' keeps = ap table_of keeps
-kept_alike (Refused fault) s k k' keeps = ap table_of keeps
-kept_alike Closed s k k' keeps = ap table_of keeps
-kept_alike Done s k k' keeps = ap table_of keeps
-kept_alike (Previous count) s k k' keeps = ap table_of keeps
+kept_alike reply s k k' keeps = ap table_of keeps
 
 step_alike : (w v : Whole) (call : Call) (reply : Reply) → Step w call reply v → table_of v.keeper ≡ table_of w.keeper
 step_alike w v call reply (does outcome keeps) = kept_alike reply v.state w.keeper v.keeper keeps
@@ -60,6 +43,10 @@ step_alike w v call reply (lacks takes there fault same) = ap (λ (whole : Whole
 pub step_shape : (w v : Whole) (call : Call) (reply : Reply) → Step w call reply v → v.keeper.shape ≡ w.keeper.shape
 step_shape w v call reply step = ap (λ (h : Table). h.shape) (step_alike w v call reply step)
 
+pub step_same_table : (w v : Whole) (call : Call) (reply : Reply) → Step w call reply v
+    → v.keeper.table ≡ w.keeper.table
+step_same_table w v call reply step = ap (λ (h : Table). h.table) (step_alike w v call reply step)
+
 pub step_table : (w v : Whole) (call : Call) (reply : Reply) (t : TableState) → Step w call reply v
     → w.keeper.table ≡ Some t → v.keeper.table ≡ Some t
-step_table w v call reply t step is = ap (λ (h : Table). h.table) (step_alike w v call reply step) ∙ is
+step_table w v call reply t step is = step_same_table w v call reply step ∙ is

@@ -9,7 +9,7 @@ use Rattle.std.proofs.lemmas.List.Folds.{list_any_at}
 use Rattle.pin_core.specs.Holds.{same_id}
 use Rattle.pin_core.specs.declared.id.Id.{Id}
 use Rattle.ob_body.specs.declared.body.Body.{Body}
-use Rattle.ob_body.specs.declared.body.Body.TheVariants.{Event, Mutex, Semaphore, Timer}
+use Rattle.ob_body.specs.declared.body.Body.TheVariants.{Mutex}
 use Rattle.ob_body.specs.Mutex.{is_owner}
 use Rattle.ob_rights.specs.declared.fault.Fault.{Fault}
 use Rattle.ob_rights.specs.declared.fault.Fault.TheVariants as fault
@@ -88,18 +88,18 @@ module _ (s : State) (p : ℕ) where
   -- as many objects as handles, each of an entry
   pub record AreEntered (hs : List ℕ) (ids : List Id) : Type 0 where
     pub many : length ids ≡ length hs
-    pub there : (i : ℕ) → i < length ids → 0 < handles_of s (get_or ids i nowhere)
+    pub is_there : (i : ℕ) → i < length ids → 0 < handles_of s (get_or ids i nowhere)
 
   entered_one : (h : ℕ) (hs : List ℕ) (e : Entry) (ids : List Id) → found s p h ≡ Ok e → AreEntered hs ids
       → AreEntered (h ∷ hs) (e.id ∷ ids)
   entered_one h hs e ids is more = record {
     many = (let x = more.many in omega (arith, x));
-    there = λ i. elim i as (λ i. i < length (e.id ∷ ids)
+    is_there = λ i. elim i as (λ i. i < length (e.id ∷ ids)
         → 0 < handles_of s (get_or (e.id ∷ ids) i nowhere)) [
           | zero ↦
               λ lt. found_counts s.tables p h e (entry (entry_at (table_of s.tables p) h) is)
           | suc i ↦
-              λ lt. more.there i (omega arith)
+              λ lt. more.is_there i (omega arith)
         ];
   }
     where
@@ -110,7 +110,7 @@ module _ (s : State) (p : ℕ) where
   all_entered : (hs : List ℕ) (es : List Entry) → all_found s p hs ≡ Ok es → AreEntered hs (map id_of es)
   all_entered [] es is = subst (λ (xs : List Entry). AreEntered [] (map id_of xs)) (same is) (record {
     many = refl;
-    there = λ i lt. absurd (omega (arith, lt));
+    is_there = λ i lt. absurd (omega (arith, lt));
   })
     where
       same : ◌≡◌ {A = Result (List Entry) Fault} (Ok []) (Ok es) → [] ≡ es
@@ -195,20 +195,17 @@ slots_apart s ids named there none = record {
 pub waitable : (s : State) (mode : Mode) (ids : List Id) → IsNamed s.objects s.tables s.waits
     → ((i : ℕ) → i < length ids → 0 < handles_of s (get_or ids i nowhere)) → 0 < length ids → length ids ≤ 64
     → is_for_one_twice mode ids ≡ false → IsWaitable mode ids
-waitable s Any ids named there some few none = record { some = some; few = few; once = λ e. absurd (cc) }
+waitable s Any ids named there some few none = record { not_empty = some; at_most = few; once = λ e. absurd (cc) }
 waitable s All ids named there some few none = record {
-  some = some;
-  few = few;
+  not_empty = some;
+  at_most = few;
   once = λ e. slots_apart s ids named there none;
 }
 
 -- a thread that owns no mutex may take each
 one_unowned : (limit t : ℕ) (x : Option Body) → is_owner t (slot_owner x) ≡ false → slot_room limit t x ≡ true
-one_unowned limit t None none = refl
-one_unowned limit t (Some (Event e)) none = refl
 one_unowned limit t (Some (Mutex m)) none = ap (λ (b : Bool). not b || nat_lt m.recursion limit) none
-one_unowned limit t (Some (Semaphore x)) none = refl
-one_unowned limit t (Some (Timer x)) none = refl
+one_unowned limit t x none = refl
 
 pub room_unowned : (s : State) (t : ℕ) (ids : List Id) → ((k : ℕ) → owns_at t s.bodies k ≡ false)
     → have_room s t ids ≡ true

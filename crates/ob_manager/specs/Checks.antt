@@ -31,24 +31,13 @@ caller s thread = do
 abbrev pub found : State → ℕ → ℕ → Result Entry Fault
 found s process handle = or_refuse (entry_at (table_of s.tables process) handle) fault.Handle
 
--- whether two kinds are one
+-- whether two kinds are the same
 abbrev pub same_kind : Kind → Kind → Bool
 same_kind Event Event = true
-same_kind Event Mutex = false
-same_kind Event Semaphore = false
-same_kind Event Timer = false
-same_kind Mutex Event = false
 same_kind Mutex Mutex = true
-same_kind Mutex Semaphore = false
-same_kind Mutex Timer = false
-same_kind Semaphore Event = false
-same_kind Semaphore Mutex = false
 same_kind Semaphore Semaphore = true
-same_kind Semaphore Timer = false
-same_kind Timer Event = false
-same_kind Timer Mutex = false
-same_kind Timer Semaphore = false
 same_kind Timer Timer = true
+same_kind a b = false
 
 -- the body of an object of a kind, else 6
 abbrev pub if_kind : Kind → Option Body → Result Body Fault

@@ -62,8 +62,7 @@ own_name s process (Some text) = do
   Ok (Some name)
 
 -- the slot of a new object, the least that may have one: 5 for a right outside all rights of its kind, 1450 where the
--- process
--- has all its handles or no slot is vacant
+-- process has all its handles or no slot is vacant
 abbrev pub room_for : State → ℕ → Making → Kind → Result ℕ Fault
 room_for s process making kind = do
   _ ← refuse_if (not (within (or_all kind making.access).0 (all_access kind).0)) fault.Access

@@ -25,8 +25,7 @@ handle_flags s thread handle = do
   Ok (record { reply = Flags entry.flags.0; state = s })
 
 -- the flags in the mask become those that are given; a mask with another bit than those of INHERIT, 1, and
--- PROTECT_FROM_CLOSE, 2,
--- is refused with 87
+-- PROTECT_FROM_CLOSE, 2, is refused with 87
 abbrev pub set_handle_flags : State → ℕ → ℕ → ℕ → ℕ → Result Outcome Fault
 set_handle_flags s thread handle mask flags = do
   process ← caller s thread

@@ -5,8 +5,7 @@ use Rattle.ob_rights.specs.declared.rights.Rights.{Rights}
 use Rattle.ob_manager.specs.declared.making.Make.{Make}
 
 -- what a create asks for beside the object's own state: a name, whether the handle has the flag INHERIT, the rights
--- that the
--- handle is to have, and the rights that opens of a new object may get
+-- that the handle is to have, and the rights that opens of a new object may get
 pub record Making : Type 0 where
   pub name : Option (List ℕ)
   pub inherit : Bool

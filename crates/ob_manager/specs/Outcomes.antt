@@ -1,6 +1,5 @@
 -- What a call comes to: a reply and the state after it, or a refusal. Each call has one definition: a line for each
--- refusal in the
--- order of the tests, then the reply and the settled state.
+-- refusal in the order of the tests, then the reply and the settled state.
 use Rattle.std.specs.Prelude.{◌≡◌, Bool, true, false, Option, Some, None, Result, Ok, Err, is_ok}
 use Rattle.ob_rights.specs.declared.fault.Fault.{Fault}
 use Rattle.ob_rights.specs.declared.fault.Fault.TheVariants as fault

@@ -61,8 +61,7 @@ outcome_of s (calls.Reap slot) reply = reap s slot (reclaim_in reply)
 outcome_of s (calls.Counts id) reply = counts s id
 
 -- whether a call takes memory, which may be wanting: a wait only where it becomes pending, and a handle to an object
--- that is
--- there only where no value was given back
+-- that is there only where no value was given back
 abbrev pub takes_memory : State → Call → Bool
 takes_memory s (calls.Spawn session) = true
 takes_memory s (calls.Child thread inherit) = true
@@ -97,44 +96,43 @@ abbrev pub final : State → Result Outcome Fault → Outcome
 final s (Ok outcome) = outcome
 final s (Err fault) = record { reply = Refused fault; state = s }
 
--- what a call does to the keeper, by its reply: a new object is published with its descriptor, a reap asks for the
--- slot, and
--- otherwise slots close at most
+-- a new object is published with its descriptor
 abbrev pub Publishes : Option Object → ℕ → KeeperState → KeeperState → Type 0
 Publishes None slot k k' = ⊥
 Publishes (Some o) slot k k' = k' ≡ published (stored k slot o.descr) slot
 
-abbrev pub Keeps : Reply → State → KeeperState → KeeperState → Type 0
-Keeps (Made handle id) s k k' = Publishes (slice_index_or s.objects id.slot None) id.slot k k'
-Keeps (Reaped id outcome) s k k' = Reclaims k id.slot outcome k'
-Keeps (Spawned process thread) s k k' = k' ≡ k
-Keeps (Started thread) s k k' = k' ≡ k
-Keeps (Exists handle id) s k k' = k' ≡ k
-Keeps (Opened handle id) s k k' = k' ≡ k
-Keeps (Flags bits) s k k' = k' ≡ k
-Keeps (Pending number) s k k' = k' ≡ k
-Keeps (CountsAre handles waits hold) s k k' = k' ≡ k
-Keeps (Refused fault) s k k' = k' ≡ k
-Keeps (Duplicated handle id) s k k' = OnlyCloses k k'
-Keeps Closed s k k' = OnlyCloses k k'
-Keeps Done s k k' = OnlyCloses k k'
-Keeps (Previous count) s k k' = OnlyCloses k k'
-Keeps (Code code) s k k' = OnlyCloses k k'
-Keeps (Expired number) s k k' = OnlyCloses k k'
-Keeps (Ticked now) s k k' = OnlyCloses k k'
-Keeps (Ended thread) s k k' = OnlyCloses k k'
-Keeps (Exited process) s k k' = OnlyCloses k k'
+-- what a call does to the keeper, by its reply: a new object is published, a reap asks for its slot, and otherwise
+-- slots close at most
+abbrev pub KeeperAfter : Reply → State → KeeperState → KeeperState → Type 0
+KeeperAfter (Made handle id) s k k' = Publishes (slice_index_or s.objects id.slot None) id.slot k k'
+KeeperAfter (Reaped id outcome) s k k' = Reclaims k id.slot outcome k'
+KeeperAfter (Spawned process thread) s k k' = k' ≡ k
+KeeperAfter (Started thread) s k k' = k' ≡ k
+KeeperAfter (Exists handle id) s k k' = k' ≡ k
+KeeperAfter (Opened handle id) s k k' = k' ≡ k
+KeeperAfter (Flags bits) s k k' = k' ≡ k
+KeeperAfter (Pending number) s k k' = k' ≡ k
+KeeperAfter (CountsAre handles waits hold) s k k' = k' ≡ k
+KeeperAfter (Refused fault) s k k' = k' ≡ k
+KeeperAfter (Duplicated handle id) s k k' = OnlyCloses k k'
+KeeperAfter Closed s k k' = OnlyCloses k k'
+KeeperAfter Done s k k' = OnlyCloses k k'
+KeeperAfter (Previous count) s k k' = OnlyCloses k k'
+KeeperAfter (Code code) s k k' = OnlyCloses k k'
+KeeperAfter (Expired number) s k k' = OnlyCloses k k'
+KeeperAfter (Ticked now) s k k' = OnlyCloses k k'
+KeeperAfter (Ended thread) s k k' = OnlyCloses k k'
+KeeperAfter (Exited process) s k k' = OnlyCloses k k'
 
 abbrev pub is_duplicate : Call → Bool
 is_duplicate (calls.Duplicate thread source handle target mask inherit options) = true
 is_duplicate call = false
 
 -- From a state and what the keeper says a call gives this reply and goes on: as the model says, or for want of memory,
--- which
--- is answered only by a call that takes memory, and only where nothing else refuses it; it changes nothing.
+-- which is answered only by a call that takes memory, and only where nothing else refuses it; it changes nothing.
 pub data Step (w : Whole) (call : Call) (reply : Reply) (v : Whole) : Type 0 where
   does : final w.state (outcome_of w.state call reply) ≡ record { reply = reply; state = v.state }
-      → Keeps reply v.state w.keeper v.keeper → Step w call reply v
+      → KeeperAfter reply v.state w.keeper v.keeper → Step w call reply v
   -- a duplicate may close its source, also where it is refused after that was found
   closes : is_duplicate call ≡ true → outcome_of w.state call reply ≡ Ok (record { reply = reply; state = v.state })
       → OnlyCloses w.keeper v.keeper → Step w call reply v
@@ -144,16 +142,7 @@ pub data Step (w : Whole) (call : Call) (reply : Reply) (v : Whole) : Type 0 whe
 -- the state after a call with this reply: want of memory leaves it, and otherwise the call comes to it
 abbrev pub is_memory : Fault → Bool
 is_memory fault.Memory = true
-is_memory fault.Parameter = false
-is_memory fault.Busy = false
-is_memory fault.NameLong = false
-is_memory fault.NamePath = false
-is_memory fault.Handle = false
-is_memory fault.Access = false
-is_memory fault.NotFound = false
-is_memory fault.NotOwner = false
-is_memory fault.Posts = false
-is_memory fault.Limit = false
+is_memory fault = false
 
 abbrev pub is_lack : Reply → Bool
 is_lack (Refused fault) = is_memory fault
@@ -165,7 +154,7 @@ next s call reply = if is_lack reply then s else (final s (outcome_of s call rep
 -- what a body answers, against the outcome that it has to have
 abbrev pub Gives : Result Reply Fault → Whole → Whole → Result Outcome Fault → Type 0
 Gives (Ok reply) old new outcome = (outcome ≡ Ok (record { reply = reply; state = new.state }))
-    × Keeps reply new.state old.keeper new.keeper
+    × KeeperAfter reply new.state old.keeper new.keeper
 Gives (Err e) old new outcome = (outcome ≡ Err e) × (new ≡ old)
 
 -- the same of a body that takes memory

@@ -30,10 +30,11 @@ impl<K: PinKeeper> Manager<K> {
     }
 
     /// The least of all moments at which a timer is due or the time of a pending wait is up, in units of 100 ns, as
-    /// [`tick`](Manager::tick) takes them; none where there is no such moment. It is after the moment that it is now.
+    /// [`tick`](Manager::tick) takes them; none where there is no such moment. It is after the present moment.
     ///
-    /// Before it a tick answers no wait and signals no timer. It takes no memory and is known at once, but that the
-    /// deadline of a wait that was answered before it came is dropped by the first call behind it, once.
+    /// A tick to a moment before it answers no wait and signals no timer. It takes no memory and is known at once,
+    /// except that the deadline of a wait that was answered before it came is dropped by the first call behind it,
+    /// once.
     pub fn next_due(&mut self) -> Option<u64>
         ensures least { IsLeast (dues_of self.old.state) result }
         ensures same { self.new ≡ self.old }

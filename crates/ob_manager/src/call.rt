@@ -243,7 +243,7 @@ impl<M, T, H> CallOf<M, T, H> {
         )
     }
 
-    /// The same call with parts of other types, of which a plain one has none.
+    /// The same call as a call whose parts have other types; a plain call has none of these parts.
     #[inline(always)]
     fn plain<N, U, G>(&self) -> CallOf<N, U, G>
         requires { is_plain self.now ≡ true }
@@ -318,8 +318,8 @@ impl<M, T, H> CallOf<M, T, H> {
 }
 
 impl<M: AsMake, T: AsSlice<u8>, H> CallOf<M, T, H> {
-    /// The same call, which is no wait, with a name of its own. The refusal is want of memory, of which a plain call
-    /// takes none.
+    /// The same call, which is no wait, with a name of its own. It is refused for want of memory alone, and a plain
+    /// call takes none.
     pub fn named(&self, alloc: Global) -> Result<Call, AllocError>
         requires { is_wait self.now ≡ false }
         ensures call { (h : H → List ℕ) → IfOk result (λ call. call ≡ with_parts M.making T.items h self.now) }
@@ -386,7 +386,7 @@ impl<M: AsMake, T: AsSlice<u8>, H> CallOf<M, T, H> {
 }
 
 impl<M: AsMake, T: AsSlice<u8>, H: AsSlice<u32>> CallOf<M, T, H> {
-    /// The same call with a name and handles of its own. The refusal is want of memory, of which a plain call takes
+    /// The same call with a name and handles of its own. It is refused for want of memory alone, and a plain call takes
     /// none.
     #[inline(never)]
     pub fn owned(&self, alloc: Global) -> Result<Call, AllocError>
@@ -411,8 +411,8 @@ impl<M: AsMake, T: AsSlice<u8>, H: AsSlice<u32>> CallOf<M, T, H> {
 }
 
 impl Call {
-    /// An equal one: its name or its handles are copied. The refusal is want of memory, of which a plain call takes
-    /// none.
+    /// An equal call: its name or its handles are copied. It is refused for want of memory alone, and a plain call
+    /// takes none.
     #[inline(always)]
     #[tactic(auto, using(crate::proofs::OwnParts::own_parts))]
     pub fn copy(&self, alloc: Global) -> Result<Call, AllocError>
@@ -425,7 +425,7 @@ impl Call {
         self.owned(alloc)
     }
 
-    /// An equal one, which takes no memory: nothing of the call may lie apart ([`CallOf::is_plain`]).
+    /// An equal call, made without memory: nothing of the call may lie apart ([`CallOf::is_plain`]).
     #[inline(never)]
     pub fn plain_copy(&self) -> Call
         requires { is_plain self.now ≡ true }

@@ -27,16 +27,16 @@ pub fn caller<K: PinKeeper>(store: &Store<K>, thread: u32) -> Result<u32, Fault>
     Ok(process)
 }
 
-/// The entry of a handle of a process that has a table, or 6.
+/// The entry of a handle of a process that has a table; refused with 6 where there is no such handle.
 pub fn found<K: PinKeeper>(store: &Store<K>, process: u32, handle: u32) -> Result<Entry, Fault>
     requires { process < length store.now.state.tables }
     ensures value { result ≡ found store.now.state process handle }
-    ensures there { IfOk result (λ entry. entry_at (table_of store.now.state.tables process) handle ≡ Some entry) }
+    ensures is_there { IfOk result (λ entry. entry_at (table_of store.now.state.tables process) handle ≡ Some entry) }
 {
     store.look(process, handle).ok_or(Fault::Handle)
 }
 
-/// Whether two kinds are one.
+/// Whether two kinds are the same.
 pub fn same_kind(a: Kind, b: Kind) -> bool
     ensures { result ≡ same_kind a b }
 {
@@ -49,10 +49,10 @@ pub fn same_kind(a: Kind, b: Kind) -> bool
     }
 }
 
-/// The body of an object of a kind, or 6.
+/// The body of an object; refused with 6 where it isn't of the kind.
 pub fn body_of<K: PinKeeper>(store: &Store<K>, id: Id, kind: Kind) -> Result<Body, Fault>
     ensures value { result ≡ body_of store.now.state id kind }
-    ensures there { IfOk result (λ body. slice_index_or store.now.state.bodies id.slot None ≡ Some body) }
+    ensures is_there { IfOk result (λ body. slice_index_or store.now.state.bodies id.slot None ≡ Some body) }
     ensures kind { IfOk result (λ body. spec.kind_of body ≡ kind) }
 {
     let Some(body) = store.body(id) else {
@@ -81,7 +81,7 @@ pub fn is_allowed(asked: Rights, grant: Rights) -> bool
     asked.0 != 0 && within(asked, grant)
 }
 
-/// A number above 0.
+/// The number, where it is above 0.
 pub fn positive(number: i32) -> Option<u32>
     ensures { result ≡ positive number }
 {
@@ -91,7 +91,7 @@ pub fn positive(number: i32) -> Option<u32>
     None
 }
 
-/// A number that isn't below 0.
+/// The number, where it isn't below 0.
 pub fn natural(number: i32) -> Option<u32>
     ensures { result ≡ natural number }
 {

@@ -8,7 +8,7 @@ use ob_rights::Fault;
 use ob_store::Store;
 use pin_words::PinKeeper;
 
-/// A new process of the session of a thread's, with what it inherits.
+/// Makes a process in the session of the calling thread's process, with the handles that it inherits.
 pub fn child<K: PinKeeper>(store: &mut Store<K>, thread: u32, inherit: bool) -> Result<Reply, Fault>
     ensures { GivesOrLacks result store.old store.new (child store.old.state thread inherit) }
 {

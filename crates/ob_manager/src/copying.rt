@@ -24,14 +24,14 @@ const CLOSE_SOURCE: u32 = 1;
 /// The option `DUPLICATE_SAME_ACCESS`.
 const SAME_ACCESS: u32 = 2;
 
-/// Whether the source is closed.
+/// Whether the options ask for the source to be closed.
 fn closes(options: u32) -> bool
     ensures { result ≡ closes options }
 {
     options & CLOSE_SOURCE == CLOSE_SOURCE
 }
 
-/// Whether the source leaves: it is to be closed, and isn't protected from that.
+/// Whether the source is closed: that is asked for, and the source isn't protected from it.
 fn leaves(options: u32, entry: Entry) -> bool
     ensures { result ≡ leaves options entry }
 {
@@ -52,14 +52,14 @@ fn keeps_rights(options: u32) -> bool
     options & SAME_ACCESS == SAME_ACCESS
 }
 
-/// Whether there is another option, or nothing to do.
+/// Whether a bit is set that is no option, or there is nothing to do: no copy and no close.
 fn is_wrong(options: u32, target: Option<u32>) -> bool
     ensures { result ≡ is_wrong options target }
 {
     options > 3 || (target.is_none() && !closes(options))
 }
 
-/// The rights of a copy, or 5.
+/// The rights of a copy; refused with 5 where it would have one that it may not get.
 fn copy_rights<K: PinKeeper>(
     store: &Store<K>,
     entry: Entry,
@@ -80,7 +80,7 @@ fn copy_rights<K: PinKeeper>(
     Err(Fault::Access)
 }
 
-/// The rights of a copy in a target, or what refuses it.
+/// The rights of a copy in a target process, or why there is no copy.
 fn admitted<K: PinKeeper>(
     store: &Store<K>,
     entry: Entry,
@@ -102,7 +102,7 @@ fn admitted<K: PinKeeper>(
     Ok(rights)
 }
 
-/// A copy of an entry in a target. The outer refusal is want of memory.
+/// Makes a copy of an entry in a target process. The outer error is want of memory.
 fn copied<K: PinKeeper>(
     store: &mut Store<K>,
     entry: Entry,
@@ -133,7 +133,7 @@ fn copied<K: PinKeeper>(
     }
 }
 
-/// The same where there may be no target, and then no copy.
+/// A duplicate with or without a target: without one nothing is copied. The outer error is want of memory.
 fn copied_to<K: PinKeeper>(
     store: &mut Store<K>,
     entry: Entry,

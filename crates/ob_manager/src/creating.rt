@@ -35,18 +35,18 @@ use pin_words::PinKeeper;
 pub struct New {
     /// What it is, for its whole life.
     pub descr: Descr,
-    /// What it is now.
+    /// What state it begins in.
     pub body: Body,
 }
 
-/// The rights that are given, or all of the kind.
+/// The rights that are asked for, or all of the kind where none are named.
 fn or_all(kind: Kind, rights: Option<Rights>) -> Rights
     ensures { result ≡ or_all kind rights }
 {
     rights.unwrap_or(all_access(kind))
 }
 
-/// The flags of a handle.
+/// The flags of a new handle.
 pub fn flags_of(inherit: bool) -> HandleFlags
     ensures { result ≡ flags_of inherit }
 {
@@ -56,7 +56,7 @@ pub fn flags_of(inherit: bool) -> HandleFlags
     HandleFlags(0)
 }
 
-/// A new event.
+/// What a new event is.
 fn new_event(manual: bool, set: bool) -> New
     ensures { result ≡ new_event manual set }
 {
@@ -70,7 +70,7 @@ fn new_event(manual: bool, set: bool) -> New
     }
 }
 
-/// A new mutex, which the thread owns once, or nobody.
+/// What a new mutex is, which the thread owns once, or nobody.
 fn new_mutex(thread: u32, owned: bool) -> New
     ensures { result ≡ new_mutex thread owned }
 {
@@ -85,7 +85,8 @@ fn new_mutex(thread: u32, owned: bool) -> New
     }
 }
 
-/// A new semaphore: refused with 87 for a maximum that isn't above 0, and for a count below 0 or above the maximum.
+/// What a new semaphore is. Refused with 87 for a maximum that isn't above 0, and for a count below 0 or above the
+/// maximum.
 fn new_semaphore(initial: i32, max: i32) -> Result<New, Fault>
     ensures value { result ≡ new_semaphore initial max }
     ensures given { IfOk result (λ new. IsGiven new.descr) }
@@ -111,7 +112,7 @@ fn new_semaphore(initial: i32, max: i32) -> Result<New, Fault>
     })
 }
 
-/// A new timer.
+/// What a new timer is.
 fn new_timer(manual: bool) -> New
     ensures { result ≡ new_timer manual }
 {
@@ -166,7 +167,7 @@ fn room_for<K: PinKeeper>(
     Ok(slot)
 }
 
-/// A new object but for its name, and its first handle.
+/// What a new object and its first handle are, but for the object's name.
 fn creation_of(make: &Make<'_>, new: New) -> Creation
     ensures descr { result.descr ≡ new.descr }
     ensures body { result.body ≡ new.body }
@@ -183,7 +184,7 @@ fn creation_of(make: &Make<'_>, new: New) -> Creation
     }
 }
 
-/// A new object without a name, and a handle to it.
+/// Makes a new object without a name, and a handle to it.
 fn new_nameless<K: PinKeeper>(
     store: &mut Store<K>,
     process: u32,
@@ -203,7 +204,7 @@ fn new_nameless<K: PinKeeper>(
     Ok(Reply::Made { handle, id })
 }
 
-/// A new object with a name that no object has, and a handle to it.
+/// Makes a new object with a name that no object has, and a handle to it.
 fn new_named<K: PinKeeper>(
     store: &mut Store<K>,
     process: u32,
@@ -225,8 +226,8 @@ fn new_named<K: PinKeeper>(
     Ok(Reply::Made { handle, id })
 }
 
-/// A handle to an object by its name: refused with 6 where it is of another kind, and with 5 where its grant doesn't
-/// allow the rights.
+/// Makes a handle to an object that was found by its name: refused with 6 where it is of another kind, and with 5 where
+/// its grant doesn't allow the rights.
 fn new_handle<K: PinKeeper>(
     store: &mut Store<K>,
     process: u32,
@@ -236,7 +237,7 @@ fn new_handle<K: PinKeeper>(
     inherit: bool,
 ) -> Result<u32, Fault>
     requires table { process < length store.old.state.tables }
-    requires there { 0 < handles_of store.old.state id }
+    requires is_there { 0 < handles_of store.old.state id }
     ensures handle { IfOk result (λ handle. handle ≡ next_handle store.old.state process) }
     ensures ok { OnOk result (new_handle store.old.state process id kind rights inherit ≡ Ok store.new.state) }
     ensures keeper { store.new.keeper ≡ store.old.keeper }
@@ -265,7 +266,7 @@ fn new_handle<K: PinKeeper>(
     store.place_entry(process, entry)
 }
 
-/// A handle to an object that has the name already, or a new object.
+/// Makes a handle to the object that has the name already, or a new object of that name.
 fn named_object<K: PinKeeper>(
     store: &mut Store<K>,
     process: u32,
@@ -288,7 +289,7 @@ fn named_object<K: PinKeeper>(
     Ok(Reply::Exists { handle, id })
 }
 
-/// A new object, or a handle to one that has the name already.
+/// Makes a new object, or a handle to the one that has the name already.
 #[inline(always)]
 #[tactic(auto, using(crate::proofs::Refusing::refuses_err))]
 fn create<K: PinKeeper>(
@@ -318,7 +319,7 @@ fn create<K: PinKeeper>(
     named_object(store, process, make, new, &name)
 }
 
-/// A new event, or a handle to the event that has the name already.
+/// Makes a new event, or a handle to the event that has the name already.
 pub fn create_event<K: PinKeeper>(
     store: &mut Store<K>,
     thread: u32,
@@ -332,7 +333,7 @@ pub fn create_event<K: PinKeeper>(
     create(store, thread, make, Ok(new_event(manual, set)))
 }
 
-/// A new mutex, or a handle to the mutex that has the name already.
+/// Makes a new mutex, or a handle to the mutex that has the name already.
 pub fn create_mutex<K: PinKeeper>(
     store: &mut Store<K>,
     thread: u32,
@@ -344,7 +345,7 @@ pub fn create_mutex<K: PinKeeper>(
     create(store, thread, make, Ok(new_mutex(thread, owned)))
 }
 
-/// A new semaphore, or a handle to the semaphore that has the name already.
+/// Makes a new semaphore, or a handle to the semaphore that has the name already.
 pub fn create_semaphore<K: PinKeeper>(
     store: &mut Store<K>,
     thread: u32,
@@ -358,7 +359,7 @@ pub fn create_semaphore<K: PinKeeper>(
     create(store, thread, make, new_semaphore(initial, max))
 }
 
-/// A new timer, or a handle to the timer that has the name already.
+/// Makes a new timer, or a handle to the timer that has the name already.
 pub fn create_timer<K: PinKeeper>(
     store: &mut Store<K>,
     thread: u32,
@@ -371,7 +372,7 @@ pub fn create_timer<K: PinKeeper>(
     create(store, thread, make, Ok(new_timer(manual)))
 }
 
-/// A handle to the object of a name.
+/// Makes a handle to the object of a name.
 #[tactic(auto, using(crate::proofs::Refusing::refuses_err))]
 pub fn open_named<K: PinKeeper>(
     store: &mut Store<K>,

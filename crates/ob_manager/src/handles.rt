@@ -60,7 +60,7 @@ pub fn set_handle_flags<K: PinKeeper>(
     Ok(Reply::Done)
 }
 
-/// What a handle of a process has.
+/// What a handle of a process has: its object, its rights and its flags.
 pub fn entry<K: PinKeeper>(store: &Store<K>, process: u32, handle: u32) -> Result<Entry, Fault>
     ensures { result ≡ entry_of store.now.state process handle }
 {
@@ -70,7 +70,7 @@ pub fn entry<K: PinKeeper>(store: &Store<K>, process: u32, handle: u32) -> Resul
     found(store, process, handle)
 }
 
-/// What a handle names.
+/// The object that a handle of a process names.
 pub fn resolve<K: PinKeeper>(store: &Store<K>, process: u32, handle: u32) -> Result<Id, Fault>
     ensures { result ≡ resolve store.now.state process handle }
 {

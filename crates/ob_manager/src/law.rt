@@ -7,8 +7,8 @@ ghost use Rattle.ob_manager.specs.Steps.{Step, is_lack, next, reclaim_in};
 ghost use Rattle.ob_store.specs.State.{Whole};
 
 /// The state after a call is a function of the state before it, the call and its reply; and no call changes the limits.
-/// Two managers of one state answer a call alike, unless memory is wanting, and come to one state: but that a slot that
-/// is reaped may be held in the one alone.
+/// Two managers of one state answer a call alike and come to one state, unless memory is wanting, or the slot that the
+/// call reaps is held in one of the two alone.
 pub fn law_of_steps()
     ensures next { (w v : Whole) (call : Call) (reply : Reply) → Step w call reply v
         → v.state ≡ next w.state call reply }
@@ -19,7 +19,7 @@ pub fn law_of_steps()
         → v.state.limits ≡ w.state.limits }
 {}
 
-/// What loads is the savestate of the state that it gives, so one state has one savestate.
+/// Bytes that load are the savestate of the state that they give, so a state has just one savestate.
 pub fn law_of_savestates()
     ensures takes { (bytes : List ℕ) (w : Whole) → AreBytes bytes → load bytes ≡ Ok w → bytes ≡ saved w }
 {}

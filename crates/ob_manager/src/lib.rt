@@ -1,7 +1,7 @@
 //! The object manager: processes, threads and their handles, and the objects that the handles name.
 //!
 //! A call of a [`Manager`] is one step of a model (`specs/Steps.antt`): its reply, the state after it, and what the
-//! keeper of the slots is told. Each call is a definition of a line for each refusal, in the order of the tests
+//! keeper of the slots is told. Each call has a definition with a line for each refusal, in the order of the tests
 //! (`specs/Creating.antt` and its neighbours), and a body of the same lines.
 //!
 //! ```text

@@ -28,7 +28,7 @@ impl Model for Text {
 }
 
 impl Text {
-    /// No bytes, which takes no memory.
+    /// A text of no bytes, which takes no memory.
     fn empty(alloc: Global) -> Text
         ensures { result ≡ [] }
     {
@@ -88,7 +88,7 @@ pub struct Make<'a> {
 }
 
 impl Make<'_> {
-    /// The same with a name of its own. The refusal is want of memory, of which a create without a name takes none.
+    /// The same with a copy of the name. It is refused for want of memory alone, and takes none where there is no name.
     pub fn owned(self, alloc: Global) -> Result<Making, AllocError>
         ensures making { IfOk result (λ making. making ≡ making_of self.entry) }
         ensures refusal { IfErr result (λ _. IsSome self.entry.name) }
@@ -132,8 +132,8 @@ impl Model for Making {
 }
 
 impl Making {
-    /// What asks for no name, with the flag INHERIT or without, for rights of the handle and rights that opens of the
-    /// new object may get, as [`Make`] has them.
+    /// What asks for no name, for the flag INHERIT or not, for rights of the handle, and for rights that opens of the
+    /// new object may get, each as [`Make`] has it.
     pub fn unnamed(
         alloc: Global,
         inherit: bool,

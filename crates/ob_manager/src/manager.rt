@@ -403,8 +403,8 @@ impl<K: PinKeeper> Manager<K> {
         reply_of(waiting::wait(&mut self.store, thread, mode, timeout, handles))
     }
 
-    /// Takes the answer of a wait, which is over with it: `Code`, and `Pending` where it isn't answered yet
-    /// (*profile*).
+    /// Takes the code of an answered wait: `Code`. The wait is then over, and its thread may wait again. Where the wait
+    /// isn't answered yet the reply is `Pending` (*profile*).
     ///
     /// Refused with 87 where there is no such wait.
     pub fn wait_result(&mut self, wait: u32) -> Reply
@@ -413,7 +413,7 @@ impl<K: PinKeeper> Manager<K> {
         reply_of(waiting::wait_result(&mut self.store, wait))
     }
 
-    /// Ends a pending wait, as where its time is up: `Expired`, and its answer is 258 (*profile*).
+    /// Ends a pending wait as if its time were up: `Expired`, and the wait's code is 258 (*profile*).
     ///
     /// Refused with 87 where no such wait is pending.
     pub fn expire(&mut self, wait: u32) -> Reply
@@ -499,16 +499,16 @@ impl<K: PinKeeper> Manager<K> {
 
     /// The name at a place of the directory, from 0, with its object, in the order in which the objects were made.
     ///
-    /// Constant time, but behind the removal of a name one that grows with the number of names, until
-    /// [`close_holes`](Manager::close_holes).
+    /// It takes constant time; but once a name has gone, a time that grows with the number of names, until
+    /// [`close_holes`](Manager::close_holes) is called.
     pub fn directory_at(&self, at: usize) -> Option<(NameRef<'_>, Id)>
         ensures { option_map row_at result ≡ slice_get (directory_of self.now.state) at }
     {
         self.store.name_at(at)
     }
 
-    /// Has [`directory_at`](Manager::directory_at) take constant time until a name goes. This takes a time that grows
-    /// with the number of names where one went, and no memory.
+    /// Makes [`directory_at`](Manager::directory_at) take constant time until the next name goes. Where one has gone
+    /// this takes a time that grows with the number of names; it takes no memory.
     pub fn close_holes(&mut self)
         ensures { self.new ≡ self.old }
     {
@@ -626,7 +626,7 @@ impl<K: PinKeeper> Manager<K> {
     }
 }
 
-/// The reply of a body's answer.
+/// The reply that a call's function comes to.
 // It names the parts of most replies, so that these are handed over one by one, and not as bytes that were just written
 // in parts. `Flags`, `Reaped` and `CountsAre` are handed over whole.
 #[inline(always)]

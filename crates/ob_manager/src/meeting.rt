@@ -13,7 +13,7 @@ use pin_core::Id;
 use pin_words::{Keeper, Reader};
 
 impl Manager<Keeper> {
-    /// A reader of the same pins sees as many slots, pins and generations as the limits say.
+    /// Tells a proof that a reader of the same pins sees as many slots, pins and generations as the limits say.
     pub fn same_shape(&self, reader: &Reader)
         requires { self.now.keeper.table ≡ Some reader.now.table }
         ensures { reader.now.view.shape ≡ shape_of self.now.state.limits }
@@ -34,8 +34,8 @@ impl Manager<Keeper> {
     }
 
     /// What the object of an Id that the reader holds was created as, which is what [`card`](Manager::card) answers: an
-    /// object that somebody holds is there, though it may have ended. Where the reader has read the descriptor under
-    /// its pin, it is this one. One look at the slot.
+    /// object that somebody holds is there, though it may have ended. A descriptor that the reader has read under its
+    /// pin is the same as the card's. It takes one look at the slot.
     pub fn inspect(&mut self, reader: &mut Reader, id: Id) -> Card
         requires held { 0 < tally (same_id id) reader.old.view.held }
         requires same { self.old.keeper.table ≡ Some reader.old.table }

@@ -18,7 +18,7 @@ pub enum ObjectState {
     Mutex {
         /// The thread that owns it.
         owner: Option<u32>,
-        /// How many times that thread does: 0 where none does.
+        /// How many times that thread owns it: 0 where none does.
         recursion: u32,
         /// Whether its last owner ended, and nobody acquired it since.
         abandoned: bool,

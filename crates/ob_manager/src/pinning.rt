@@ -1,6 +1,6 @@
 ghost use Rattle.std.specs.Prelude.{◌≡◌, ◌<◌, ◌↔◌, IsTrue, OnOk};
 ghost use Rattle.pin_core.specs.Holds.{tally, same_id};
-ghost use Rattle.pin_words.specs.Keepers.{Tries, released, with_held};
+ghost use Rattle.pin_words.specs.Keepers.{TriesLocked, released, with_held};
 
 use crate::manager::Manager;
 use pin_core::Id;
@@ -10,7 +10,7 @@ impl Manager<LockedPins> {
     /// Pins the slot of an Id once more for the one holder under the lock, which may hold 16 copies. It is refused as
     /// [`LockedPins::try_pin`] is, and never as busy.
     pub fn pin_locked(&mut self, id: Id) -> Result<(), PinFault>
-        ensures tries { Tries self.old.keeper id result self.new.keeper }
+        ensures tries { TriesLocked self.old.keeper id result self.new.keeper }
         ensures rest { self.new ≡ record self.old { keeper = with_held self.old.keeper self.new.keeper.held } }
         ensures held { OnOk result (0 < tally (same_id id) self.new.keeper.held) }
     {

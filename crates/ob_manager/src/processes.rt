@@ -7,7 +7,7 @@ use ob_rights::Fault;
 use ob_store::Store;
 use pin_words::PinKeeper;
 
-/// A new process of a session, with its first thread.
+/// Makes a process of a session, with its first thread.
 pub fn spawn<K: PinKeeper>(store: &mut Store<K>, session: u32) -> Result<Reply, Fault>
     ensures { GivesOrLacks result store.old store.new (spawn store.old.state session) }
 {
@@ -23,7 +23,7 @@ pub fn spawn<K: PinKeeper>(store: &mut Store<K>, session: u32) -> Result<Reply, 
     Ok(Reply::Spawned { process, thread })
 }
 
-/// A new thread of a process.
+/// Makes a thread of a process.
 pub fn thread<K: PinKeeper>(store: &mut Store<K>, process: u32) -> Result<Reply, Fault>
     ensures { GivesOrLacks result store.old store.new (thread store.old.state process) }
 {

@@ -55,8 +55,9 @@ impl Manager<LockedPins> {
     /// an Id yet; [`over`](Manager::over) puts it over another keeper.
     ///
     /// Refused with the first thing that is wrong with the bytes, the digest before all else, and with want of memory.
-    /// Bytes that lie about a count ask for no more memory than what stands behind it, but for 8 bytes for each thread
-    /// number that their limits let be given. Linear in the bytes, but that objects are ordered by when they were made.
+    /// Bytes that lie about a count ask for no more memory than what stands behind it, except for 8 bytes for each
+    /// thread number that their limits let be given. Linear in the bytes, except that objects are ordered by when they
+    /// were made.
     pub fn load(alloc: Global, bytes: &[u8]) -> Result<Manager<LockedPins>, ReadFault>
         ensures { GivesAll (λ manager. manager) result (load bytes.now) }
     {
@@ -68,7 +69,7 @@ impl Manager<LockedPins> {
         Ok(Manager { store })
     }
 
-    /// The slots, with which a keeper has to begin that the manager is to go on over.
+    /// The slots: another keeper has to begin with these, if the manager is to go on over it.
     pub fn slots(&self) -> &[Slot]
         ensures slots { result.now ≡ self.now.keeper.slots }
         ensures opens { Opens (shape_of self.now.state.limits) self.now.keeper.slots }

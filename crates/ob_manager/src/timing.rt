@@ -8,7 +8,7 @@ use ob_rights::{Fault, Kind, Rights};
 use ob_store::{LAST_MOMENT, Store};
 use pin_words::PinKeeper;
 
-/// The moment that a caller means: below 0 so many units after now.
+/// The moment that a caller means: a number below 0 is so many units from now.
 fn moment_of(now: u64, due: i64) -> u64
     requires { now ≤ LAST_MOMENT }
     ensures { result ≡ moment_of now due }
@@ -53,7 +53,7 @@ pub fn cancel_timer<K: PinKeeper>(
     Ok(Reply::Done)
 }
 
-/// It is another moment now.
+/// Sets the clock to a moment that isn't before now.
 pub fn tick<K: PinKeeper>(store: &mut Store<K>, now: u64) -> Result<Reply, Fault>
     ensures { Gives result store.old store.new (tick store.old.state now) }
 {

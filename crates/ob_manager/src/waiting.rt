@@ -31,7 +31,7 @@ use std::marker::Model;
 /// How long a thread waits.
 #[derive(Clone, Copy, Debug, PartialEq, Eq)]
 pub enum Timeout {
-    /// Not at all: the answer is 258, `WAIT_TIMEOUT`, where the wait isn't satisfied at once.
+    /// Not at all: the code is 258, `WAIT_TIMEOUT`, where the wait isn't satisfied at once.
     Zero,
     /// Until the wait is satisfied: `INFINITE`.
     Infinite,
@@ -111,7 +111,7 @@ fn handles_rise(handles: &[u32]) -> bool
     true
 }
 
-/// Whether a handle stands twice in a list.
+/// Whether a handle stands twice in a list of handles.
 #[tactic(auto, using(crate::proofs::Rising::handles_apart))]
 fn has_handle_twice(handles: &[u32]) -> bool
     ensures { result ≡ has_twice same_handle handles.now }
@@ -127,7 +127,7 @@ fn has_handle_twice(handles: &[u32]) -> bool
     false
 }
 
-/// Whether a list of handles is empty, past 64, or has a handle twice.
+/// Whether a list of handles is empty, is longer than 64, or has a handle twice.
 fn is_misshapen(handles: &[u32]) -> bool
     ensures value { result ≡ is_misshapen handles.now }
 {
@@ -141,8 +141,8 @@ fn lacks_synchronize(entry: Entry) -> bool
     !within(Rights::SYNCHRONIZE, entry.rights)
 }
 
-/// Writes the objects of handles into an empty list: refused with 6 where there is no such handle, and where all are
-/// there with 5 where one wasn't granted SYNCHRONIZE.
+/// Writes the objects of handles into an empty list. Refused with 6 where one is no handle of the process, and
+/// otherwise with 5 where one wasn't granted SYNCHRONIZE.
 fn objects_of<K: PinKeeper>(
     store: &Store<K>,
     process: u32,
@@ -150,12 +150,12 @@ fn objects_of<K: PinKeeper>(
     ids: &mut ArrayVec<Id, 64>,
 ) -> Result<(), Fault>
     requires table { process < length store.now.state.tables }
-    requires few { length handles.now ≤ 64 }
+    requires at_most { length handles.now ≤ 64 }
     requires empty { ids.old.items ≡ [] }
     ensures value { collected result ids.new ≡ objects_of store.now.state process handles.now }
     ensures refusal { IfErr result (λ fault. fault ≢ Fault.Memory) }
     ensures many { OnOk result (length ids.new.items ≡ length handles.now) }
-    ensures there { OnOk result ((i : ℕ) → i < length ids.new.items
+    ensures is_there { OnOk result ((i : ℕ) → i < length ids.new.items
         → 0 < handles_of store.now.state (slice_index_or ids.new.items i nowhere)) }
 {
     let mut lacks = false;
@@ -233,7 +233,7 @@ fn each_has_room<K: PinKeeper>(store: &Store<K>, thread: u32, ids: &[Id]) -> boo
     true
 }
 
-/// The same. Most threads own no mutex, and then no object is looked at.
+/// Whether no object is a mutex at its limit; where the thread owns none, no object is looked at.
 #[inline(always)]
 #[tactic(auto, using(crate::proofs::Waited::room_unowned))]
 fn have_room<K: PinKeeper>(store: &Store<K>, thread: u32, ids: &[Id]) -> bool
@@ -267,7 +267,7 @@ fn deadline_in(now: u64, timeout: Timeout) -> Option<u64>
     }
 }
 
-/// A wait for objects.
+/// Waits for objects: takes what satisfies the wait now, or lets it become pending.
 #[inline(always)]
 fn wait_on<K: PinKeeper>(
     store: &mut Store<K>,
@@ -276,11 +276,12 @@ fn wait_on<K: PinKeeper>(
     timeout: Timeout,
     ids: &[Id],
 ) -> Result<Reply, Fault>
-    requires some { 0 < length ids.now }
-    requires few { length ids.now ≤ 64 }
+    requires not_empty { 0 < length ids.now }
+    requires at_most { length ids.now ≤ 64 }
     requires alone { number_of thread store.old.state.waits ≡ None }
     requires live { IsSome (slice_index_or store.old.state.threads thread None) }
-    requires there { (i : ℕ) → i < length ids.now → 0 < handles_of store.old.state (slice_index_or ids.now i nowhere) }
+    requires is_there { (i : ℕ) → i < length ids.now
+        → 0 < handles_of store.old.state (slice_index_or ids.now i nowhere) }
     ensures gives { GivesOrLacks result store.old store.new (wait_on store.old.state thread mode timeout ids.now) }
     ensures memory { result ≡ Err Fault.Memory → becomes_pending (wait_on store.old.state thread mode timeout ids.now)
         ≡ true }
@@ -304,7 +305,7 @@ fn wait_on<K: PinKeeper>(
     Ok(Reply::Pending { wait })
 }
 
-/// A thread waits for the object of one handle. It makes no list.
+/// Has a thread wait for the object of one handle, without making a list.
 #[inline(always)]
 fn wait_for_one<K: PinKeeper>(
     store: &mut Store<K>,
@@ -329,7 +330,7 @@ fn wait_for_one<K: PinKeeper>(
     wait_on(store, thread, mode, timeout, &[entry.id])
 }
 
-/// A thread waits for the objects of some handles.
+/// Has a thread wait for the objects of some handles, of which it makes a list.
 #[inline(never)]
 fn wait_for_some<K: PinKeeper>(
     store: &mut Store<K>,
@@ -355,7 +356,7 @@ fn wait_for_some<K: PinKeeper>(
     wait_on(store, thread, mode, timeout, ids.as_slice())
 }
 
-/// A thread waits for the objects of handles.
+/// Has a thread wait for the objects of handles.
 pub fn wait<K: PinKeeper>(
     store: &mut Store<K>,
     thread: u32,
@@ -374,7 +375,7 @@ pub fn wait<K: PinKeeper>(
     wait_for_some(store, process, thread, mode, timeout, handles)
 }
 
-/// What became of a wait.
+/// Takes the code of a wait that was answered.
 pub fn wait_result<K: PinKeeper>(store: &mut Store<K>, wait: u32) -> Result<Reply, Fault>
     ensures { Gives result store.old store.new (wait_result store.old.state wait) }
 {
@@ -398,7 +399,7 @@ pub fn is_pending<K: PinKeeper>(store: &Store<K>, wait: u32) -> bool
     }
 }
 
-/// Ends a pending wait.
+/// Ends a pending wait as if its time were up.
 pub fn expire<K: PinKeeper>(store: &mut Store<K>, wait: u32) -> Result<Reply, Fault>
     ensures { Gives result store.old store.new (expire store.old.state wait) }
 {

@@ -101,7 +101,7 @@ impl<K: PinKeeper> Manager<K> {
     /// A pending wait as its thread asked for it: the thread, whether one of the objects satisfies it or all together,
     /// until when, and the objects in the order of their handles. None where there is no pending wait of that number.
     pub fn objects_waited_for(&self, wait: u32) -> Option<Pending<'_>>
-        ensures there { is_some result ≡ is_pending (slice_index_or self.now.state.waits wait None) }
+        ensures is_there { is_some result ≡ is_pending (slice_index_or self.now.state.waits wait None) }
         ensures wait { IfSome result (λ p. slice_index_or self.now.state.waits wait None
             ≡ Some (new_wait p.thread p.mode p.ids.now p.deadline)) }
     {

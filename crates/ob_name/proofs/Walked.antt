@@ -4,7 +4,7 @@ use Rattle.std.specs.Option.{option_and_then, option_to_list}
 use Rattle.std.proofs.lemmas.Bool.{cases_lt}
 use Rattle.std.proofs.lemmas.Option.{slice_get_past}
 use Rattle.ob_name.proofs.Counted.{few_rows}
-use Rattle.ob_name.specs.Order.{Entry, Row, row_in, row_on, rows_between, rows_of}
+use Rattle.ob_name.specs.Order.{Named, Row, row_in, row_on, rows_between, rows_of}
 
 onward : (f : ℕ → Option Row) (place n : ℕ) → place < n
     → rows_between f place (n - place) ≡ option_to_list (f place) ++ rows_between f (place + 1) (n - (place + 1))
@@ -47,7 +47,7 @@ full f first (suc n) at k is low eq = by (λ m len less same. full f (suc first)
         ap (λ (o : Option Row). slice_get (option_to_list o ++ rows_between f (suc first) n) (suc m)) some
         ∙ later m (omega (arith, long)) (omega (arith, less)) (omega (arith, same))
 
-pub direct : (entries : List Entry) (order : List ℕ) (at : ℕ) → length (rows_of entries order) ≡ length order
+pub direct : (entries : List Named) (order : List ℕ) (at : ℕ) → length (rows_of entries order) ≡ length order
     → row_on entries order at ≡ slice_get (rows_of entries order) at
 direct entries order at is = elim (cases_lt at (length order)) [
   | inl less ↦ sym (full (row_on entries order) 0 (length order) at at is less (omega arith))

@@ -18,7 +18,7 @@ pub(crate) fn same_bytes(text: &[u8], other: &[u8]) -> bool
     same_eights(text, other, (len - 1) / 8) && same_eight(text, other, len - 8)
 }
 
-/// The same, of some times eight bytes.
+/// Whether two texts have the same first `count` times eight bytes.
 #[inline(always)]
 fn same_eights(text: &[u8], other: &[u8], count: usize) -> bool
     requires text { count * 8 ≤ length text.now }
@@ -34,7 +34,7 @@ fn same_eights(text: &[u8], other: &[u8], count: usize) -> bool
     true
 }
 
-/// The same, of eight bytes from a place on.
+/// Whether two texts have the same eight bytes from a place on.
 #[inline(always)]
 fn same_eight(text: &[u8], other: &[u8], at: usize) -> bool
     requires text { at + 8 ≤ length text.now }
@@ -52,7 +52,7 @@ fn same_eight(text: &[u8], other: &[u8], at: usize) -> bool
         & (text[at + 7] == other[at + 7])
 }
 
-/// The same, of the bytes from a place on.
+/// Whether two texts of one length have the same bytes from a place on.
 #[inline(always)]
 fn same_from(text: &[u8], other: &[u8], from: usize) -> bool
     requires { length text.now ≡ length other.now }

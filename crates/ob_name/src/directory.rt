@@ -118,7 +118,7 @@ impl Directory {
         id
     }
 
-    /// The same, where a hole is left at the name's place.
+    /// Takes a name out, and answers its Id. A hole is left at the name's place.
     fn take_out(&mut self, name: &NameRef<'_>) -> Option<Id>
         ensures id { result ≡ find_name (name_at name.now) self.old.rows }
         ensures rows { self.new.rows ≡ without_name (name_at name.now) self.old.rows }

@@ -11,8 +11,7 @@ use std::marker::Model;
 /// How many bytes a name may have that takes no memory beside itself.
 pub(crate) const INLINE: usize = 16;
 
-/// A name that is borrowed of nobody: one that [`Directory::reserve`] copied, to be entered, or one that an object
-/// keeps.
+/// A name that owns its bytes: one that [`Directory::reserve`] copied, to be entered, or one that an object keeps.
 ///
 /// [`Directory::reserve`]: crate::Directory::reserve
 #[derive(Drop)]

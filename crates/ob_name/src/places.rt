@@ -15,7 +15,7 @@ use crate::owned::Name;
 use indexmap::IndexMap;
 use pin_core::Id;
 
-/// The number of a name's entry. It is not inlined, so that the hash is, here alone.
+/// The number of a name's entry. It isn't inlined, so that the code of the hash stands here alone.
 #[inline(never)]
 pub(crate) fn entry_of(ids: &IndexMap<Name, Entered>, name: &NameRef<'_>) -> Option<usize>
     ensures index { result ≡ position (same_name (name_at name.now)) (keys_of ids.now.entries) }
@@ -77,8 +77,8 @@ pub(crate) fn first_row<'a>(
     None
 }
 
-/// Moves the row at a place down to another, where no row stands from there up to the place. Answers whether there was
-/// a row.
+/// Moves the row at a place down to another place, where no row stands from that one up to the first. Answers whether
+/// there was a row.
 fn move_row(
     ids: &mut IndexMap<Name, Entered>,
     order: &mut Vec<usize>,

@@ -72,3 +72,8 @@ pub put_written : (r : Result (Unit {0}) NotWritten) (a b whole pending : List �
     → OnErr r (Begins a b whole) → IsWritten r a b whole pending
 put_written (Ok unit) a b whole pending writes begins = writes
 put_written (Err fault) a b whole pending writes begins = begins
+
+-- what an answer that is added needs, and what the writes of a block need
+pub ruleset put_laws = (begins_more, writes_pending, writes_flushed)
+
+pub ruleset write_laws = (writes_none, writes_more, writes_all, writes_begun)

@@ -1,5 +1,5 @@
 -- What a source gives and a sink takes in one call.
-use Rattle.std.specs.Prelude.{◌≡◌, ℕ, zero, suc, List, [], ◌++◌, Result, Ok, Err, take}
+use Rattle.std.specs.Prelude.{◌≡◌, ◌+◌, ◌<◌, ◌⊎◌, ℕ, zero, suc, List, [], ◌++◌, Result, Ok, Err, take}
 use Rattle.ob_output.specs.declared.device.Trouble.{Trouble}
 use Rattle.ob_output.specs.declared.device.Trouble.TheVariants.{Interrupted, Failed}
 
@@ -30,3 +30,7 @@ pub record Writes (before after whole missing : List ℕ) : Type 0 where
 -- the beginning of these bytes was written
 abbrev pub Begins : List ℕ → List ℕ → List ℕ → Type 0
 Begins before after whole = (missing : List ℕ) × Writes before after whole missing
+
+-- what stopped the calls of a device: one of them failed, or as many were made as may be
+abbrev pub FailedOrSpent : {D : Type 0} → (D → ℕ) → (D → ℕ) → D → D → ℕ → Type 0
+FailedOrSpent faults calls before after most = (faults before < faults after) ⊎ (calls after ≡ calls before + most)

@@ -17,8 +17,12 @@ pub record Spends {S : Type 0} (calls faults : S → ℕ) (sink sink' : S) (pend
   pub made : calls sink' + pending'.writes_left ≡ calls sink + pending.writes_left
   pub known : faults sink ≤ faults sink'
 
--- The same, and what failed has a cause: the sink failed, or no write was left.
+-- what stopped the writes to a sink: one of them failed, or none was left
+abbrev pub FailedOrLast : {S : Type 0} → (S → ℕ) → S → S → ℕ → Type 0
+FailedOrLast faults sink sink' writes_left = (faults sink < faults sink') ⊎ (writes_left ≡ 0)
+
+-- Each write is known, as `Spends` says, and where some bytes weren't written something stopped the writes.
 pub record UsesSink {S : Type 0} (calls faults : S
     → ℕ) (result : Result (Unit {0}) NotWritten) (sink sink' : S) (pending pending' : Pending) : Type 0 where
   pub spends : Spends calls faults sink sink' pending pending'
-  pub cause : OnErr result ((faults sink < faults sink') ⊎ (pending'.writes_left ≡ 0))
+  pub cause : OnErr result (FailedOrLast faults sink sink' pending'.writes_left)

@@ -30,14 +30,14 @@ pub struct Moved<'a> {
 impl Account {
     ghost use Rattle.ob_output.specs.Accounts.{nothing_moved, and_moved};
 
-    /// No call was made.
+    /// An account of no call.
     pub fn new() -> Account
         ensures { result ≡ nothing_moved }
     {
         Account {}
     }
 
-    /// One call more.
+    /// This account and one call more.
     #[inline(always)]
     pub fn and(&self, _moved: &Moved<'_>) -> Account
         ensures { result ≡ and_moved self.now _moved.now }

@@ -36,7 +36,7 @@ impl Model for Block {
 }
 
 impl Block {
-    /// Nothing yet.
+    /// An empty block.
     pub fn new() -> Block
         ensures { result ≡ [] }
     {
@@ -52,14 +52,14 @@ impl Block {
         self.bytes.as_slice()
     }
 
-    /// Nothing is left.
+    /// Empties the block.
     pub fn clear(&mut self)
         ensures { self.new ≡ [] }
     {
         self.bytes.clear();
     }
 
-    /// Whether the longest answer fits in.
+    /// Whether there is room for the longest answer.
     pub fn has_room(&self) -> bool
         ensures { IsTrue result → length self.now + ANSWER_MOST ≤ BLOCK }
     {
@@ -398,7 +398,7 @@ impl Block {
     #[tactic(auto, using(crate::proofs::Hexadecimal::one_digit, crate::proofs::Hexadecimal::fits))]
     fn hexadecimal(&mut self, number: u32, most: u32)
         requires fits { number < 16 ^ most }
-        requires some { 0 < most }
+        requires above_zero { 0 < most }
         requires room { length self.old + most ≤ BLOCK }
         ensures value { self.new ≡ self.old ++ digits 16 false number }
         ensures len { length self.new ≤ length self.old + most }

@@ -12,7 +12,7 @@ pub struct Collected {
 }
 
 impl Collected {
-    /// Nothing was written yet. It takes no memory.
+    /// A sink to which nothing was written. It takes no memory.
     pub fn new(alloc: Global) -> Collected
         ensures bytes { result.bytes.items ≡ [] }
         ensures calls { result.account.calls ≡ 0 }

@@ -1,5 +1,13 @@
-ghost use Rattle.std.specs.Prelude.{◌≡◌, ◌+◌, ◌<◌, ◌≤◌, ◌++◌, ℕ, List, IfOk, Ok, length};
+ghost use Rattle.std.specs.Prelude.{◌≡◌, ◌+◌, ◌<◌, ◌≤◌, ◌++◌, ℕ, List, IfOk, Ok, length, vec_len};
 ghost use Rattle.ob_output.specs.Devices.{moved, read_faults, write_faults};
+
+use std::alloc::{AllocError, Global};
+
+/// How many reads, and how many writes, a run of a script makes at most.
+pub const CALLS_MOST: u64 = 1_000_000_000;
+
+/// How many bytes are read at once, at most.
+pub const READ_MOST: usize = 65536;
 
 /// Why a call of a device moved no byte.
 #[derive(Clone, Copy, Debug, PartialEq, Eq)]
@@ -50,4 +58,11 @@ pub trait Sink {
         ensures taken { taken self.new ≡ taken self.old ++ moved result bytes.now }
         ensures calls { calls self.new ≡ calls self.old + 1 }
         ensures faults { faults self.new ≡ faults self.old + write_faults result };
+}
+
+/// So many bytes, each 0, which a source reads into.
+pub fn zeros(alloc: Global, count: usize) -> Result<Vec<u8>, AllocError>
+    ensures { IfOk result (λ bytes. vec_len bytes ≡ count) }
+{
+    vec![in alloc; 0u8; count]
 }

@@ -24,6 +24,6 @@ pub use account::Account;
 pub use answer::Answer;
 pub use block::Block;
 pub use collected::Collected;
-pub use device::{Sink, Source, Trouble};
+pub use device::{CALLS_MOST, READ_MOST, Sink, Source, Trouble, zeros};
 pub use output::{NotWritten, Output};
 pub use wired::Wired;

@@ -30,7 +30,7 @@ impl Model for Output {
 }
 
 impl Output {
-    /// Nothing is printed yet. Takes all the memory that it will need.
+    /// An output with nothing printed, which makes at most so many writes. Takes all the memory that it will need.
     pub fn new(alloc: Global, writes: u64) -> Result<Output, AllocError>
         ensures { IfOk result (λ output. output ≡ record { bytes = []; writes_left = writes }) }
     {
@@ -42,7 +42,7 @@ impl Output {
     }
 
     /// Adds an answer; writes first where the block has no room for it.
-    #[tactic(auto, using(crate::proofs::Written::begins_more, crate::proofs::Written::writes_pending, crate::proofs::Written::writes_flushed))]
+    #[tactic(auto, using(crate::proofs::Written::put_laws))]
     pub fn put<W: Sink>(&mut self, sink: &mut W, answer: &Answer<'_>) -> Result<(), NotWritten>
         ensures ok { OnOk result (Writes (W.taken sink.old) (W.taken sink.new)
             (self.old.bytes ++ printed_answer answer.now) self.new.bytes) }
@@ -59,7 +59,7 @@ impl Output {
 
     /// Adds the reply to a call, as [`Output::put`] does an answer.
     #[inline(always)]
-    #[tactic(auto, using(crate::proofs::Written::begins_more, crate::proofs::Written::writes_pending, crate::proofs::Written::writes_flushed))]
+    #[tactic(auto, using(crate::proofs::Written::put_laws))]
     pub fn put_reply<W: Sink>(&mut self, sink: &mut W, reply: &Reply) -> Result<(), NotWritten>
         ensures ok { OnOk result (Writes (W.taken sink.old) (W.taken sink.new)
             (self.old.bytes ++ printed reply.now) self.new.bytes) }
@@ -88,7 +88,7 @@ impl Output {
 }
 
 /// Writes all of some bytes, with at most so many writes.
-#[tactic(auto, using(crate::proofs::Written::writes_none, crate::proofs::Written::writes_more, crate::proofs::Written::writes_all, crate::proofs::Written::writes_begun))]
+#[tactic(auto, using(crate::proofs::Written::write_laws))]
 fn write_all<W: Sink>(sink: &mut W, bytes: &[u8], writes_left: &mut u64) -> Result<(), NotWritten>
     ensures ok { OnOk result (W.taken sink.new ≡ W.taken sink.old ++ bytes.now) }
     ensures err { OnErr result (Begins (W.taken sink.old) (W.taken sink.new) bytes.now) }

@@ -12,7 +12,7 @@ pub struct Wired<D> {
 }
 
 impl<D> Wired<D> {
-    /// No call was made of it yet.
+    /// A device of which no call was made yet.
     pub fn new(device: D) -> Wired<D>
         ensures bytes { result.account.bytes ≡ [] }
         ensures calls { result.account.calls ≡ 0 }

@@ -1,10 +1,8 @@
 -- No line of a call and its answer has a line feed.
-use Rattle.std.proofs.Common.{◌≡◌, ℕ, zero, suc, ◌/◌, ◌%◌, arith, refl, ◌∙◌, List, [], ◌∷◌, ◌++◌, length, take, Bool, true, false, not, ◌&&◌, ◌==◌, Some, None, codes, decimal, nat_lt, if◌then◌else◌}
+use Rattle.std.proofs.Common.{◌≡◌, ℕ, zero, suc, arith, refl, ◌∙◌, List, [], ◌∷◌, ◌++◌, length, take, Bool, true, false, not, ◌&&◌, ◌==◌, Some, None, codes, decimal, nat_lt, if◌then◌else◌}
 use Rattle.std.proofs.lemmas.Bool.{and_from, and_parts}
 use Rattle.std.specs.Prelude.{slice_index, ◌-◌}
-use Rattle.std.specs.Fmt.{digit_glyph, digits, digits_onto}
 use Rattle.std.specs.List.{list_all}
-use Rattle.std.proofs.lemmas.Bool.Decides.{nat_tests}
 use Rattle.std.proofs.lemmas.List.Folds.{list_all-append}
 use Rattle.pin_core.specs.declared.id.Id.{Id}
 use Rattle.pin_words.specs.declared.pin_keeper.Reclaim.{Reclaim}
@@ -15,7 +13,7 @@ use Rattle.ob_manager.specs.declared.reply.Reply.{Reply}
 use Rattle.ob_manager.specs.declared.reply.Reply.TheVariants.{Spawned, Started, Made, Exists, Opened, Duplicated, Closed, Done, Flags, Previous, Code, Pending, Expired, Ticked, Ended, Exited, Reaped, CountsAre, Refused}
 use Rattle.ob_output.specs.Printed.{printed_handle, printed_id, printed_reclaim, printed_reply}
 use Rattle.ob_script.specs.Writing.{can_be_said, ended, is_line, line_of, text_for}
-use Rattle.ob_script.proofs.Short.{no_feed}
+use Rattle.ob_script.proofs.Short.{digits_within, no_feed}
 use Rattle.ob_record.specs.Telling.{asking, comment}
 
 abbrev pub HasNone : List ℕ → Type 0
@@ -25,26 +23,8 @@ join : (front back : List ℕ) → HasNone front → HasNone back → HasNone (f
 join front back front_has back_has = list_all-append no_feed front back
     ∙ and_from (list_all no_feed front) (list_all no_feed back) front_has back_has
 
--- digits
-glyph : (d : ℕ) → no_feed (digit_glyph false d) ≡ true
-glyph d = grind (arith, nat_tests)
-
-onto : (k base n : ℕ) (acc : List ℕ) → HasNone acc → HasNone (digits_onto k base false n acc)
-onto zero base n acc has = has
-onto (suc k) base n acc has = by (n / base == 0) (onto k base (n / base) (digit_glyph false (n % base) ∷ acc) one)
-  where
-    one : HasNone (digit_glyph false (n % base) ∷ acc)
-    one = and_from (no_feed (digit_glyph false (n % base))) (list_all no_feed acc) (glyph (n % base)) has
-
-    by : (b : Bool) → HasNone (digits_onto k base false (n / base) (digit_glyph false (n % base) ∷ acc))
-        → HasNone (if b then digit_glyph false (n % base)
-        ∷ acc else digits_onto k base false (n / base) (digit_glyph false (n % base) ∷ acc))
-    by true more = one
-    by false more = more
-
 number : (n : ℕ) → HasNone (decimal n)
-unfolding digits
-number n = onto 64 10 n [] refl
+number n = digits_within 10 n (omega arith)
 
 known : (word : List ℕ) (n : ℕ) → HasNone word → HasNone (word ++ decimal n)
 known word n has = join word (decimal n) has (number n)

@@ -41,7 +41,7 @@ impl Model for Record {
 }
 
 impl Record {
-    /// No call yet.
+    /// A record of no call.
     pub fn new(alloc: Global) -> Result<Record, AllocError>
         ensures { IfOk result (λ r. r ≡ []) }
     {

@@ -37,7 +37,7 @@ impl Model for Recorder {
 }
 
 impl Recorder {
-    /// Nothing is recorded, which takes no memory.
+    /// A recorder that is off and has no text. It takes no memory.
     pub fn new(alloc: Global) -> Recorder
         ensures { result ≡ recording [] false }
     {
@@ -126,8 +126,8 @@ impl Recorder {
         self.block = None;
     }
 
-    /// Takes whole lines, as many as there is room for, which are put at its front: how many bytes. A line with its
-    /// line feed has at most 4,098.
+    /// Takes as many whole lines out of the record as there is room for, puts them at the room's front, and says how
+    /// many bytes they have. A line with its line feed has at most 4,098.
     pub fn take(&mut self, room: &mut [u8]) -> usize
         ensures lines { TakesLines self.old.text room.old result self.new.text room.new }
         ensures same { self.new.is_on ≡ self.old.is_on }

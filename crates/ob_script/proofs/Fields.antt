@@ -11,7 +11,7 @@ use Rattle.std.proofs.lemmas.Bool.Decides.{nat_tests}
 use Rattle.std.proofs.lemmas.Fmt.{decimal_is_IsNumeral}
 use Rattle.pin_core.specs.declared.id.Id.{Id}
 use Rattle.ob_rights.specs.declared.kind.Kind.{Kind}
-use Rattle.ob_rights.specs.declared.kind.Kind.TheVariants.{Event, Mutex, Semaphore, Timer}
+use Rattle.ob_rights.specs.declared.kind.Kind.TheVariants.{Event}
 use Rattle.ob_rights.specs.declared.rights.Rights.{Rights}
 use Rattle.ob_waits.specs.declared.wait.Mode.{Mode}
 use Rattle.ob_waits.specs.declared.wait.Mode.TheVariants.{Any, All}
@@ -25,7 +25,7 @@ use Rattle.ob_script.specs.Fitting.{FitsMask, FitsMake, FitsTarget, FitsTimeout,
 use Rattle.ob_script.specs.Writing.{label, id_word, mask_word, either_word, word_if, mask_words, text_words, name_words, make_words, kind_word, mode_word, timeout_word, target_word}
 use Rattle.ob_script.proofs.Cuts.{words_joined, words_some}
 use Rattle.ob_script.proofs.Numerals.{reads_number, reads_mask, digit_is}
-use Rattle.ob_script.proofs.Spaces.{is_word, AreWords, read_words, reads_next, reads_front, word_append, decimal_word, hex_word, label_word}
+use Rattle.ob_script.proofs.Spaces.{is_word, AreWords, read_words, reads_next, reads_front, word_append, decimal_word, hex_word}
 
 -- the next value is read, and what is made of it
 pub read_next : {A B : Type 0} (read : Option A) (value : A) (make : A → Option B) → read ≡ Some value
@@ -157,29 +157,25 @@ word_if_is : (is_so : Bool) (word : List ℕ) → is_word word ≡ true → AreW
 word_if_is true word is = (is, tt)
 word_if_is false word is = tt
 
-pub mask_is_word : (mask : Rights) → mask.0 ≤ 4294967295 → is_word (mask_word mask) ≡ true
-mask_is_word mask fits = hex_word mask.0 (omega (arith, fits))
-
-masks_are : (keyword : List ℕ) (mask : Option Rights) → is_word keyword ≡ true → FitsMask mask
-    → AreWords (mask_words keyword mask)
-masks_are keyword None is fits = tt
-masks_are keyword (Some mask) is fits = (is, (mask_is_word mask fits, tt))
+masks_are : (keyword : List ℕ) (mask : Option Rights) → is_word keyword ≡ true → AreWords (mask_words keyword mask)
+masks_are keyword None is = tt
+masks_are keyword (Some mask) is = (is, (hex_word mask.0, tt))
 
 pub reads_name_words : (name : Option (List ℕ)) → read_words (name_words name) ≡ name_read name
 reads_name_words None = refl
 reads_name_words (Some text) = reads_next (codes "name") (text ∷ []) refl
 
-pub reads_make_words : (make : Making) → FitsMake make → read_words (make_words make) ≡ make_read make
-reads_make_words make fits =
+pub reads_make_words : (make : Making) → read_words (make_words make) ≡ make_read make
+reads_make_words make =
     reads_front (word_if make.inherit (codes "inherit")) (mask_words (codes "access") make.access
     ++ (mask_words (codes "grant") make.grant ++ name_words make.name))
     (word_if_is make.inherit (codes "inherit") refl)
     ∙ ap (λ rest. word_if make.inherit (codes "inherit") ++ rest)
     (reads_front (mask_words (codes "access") make.access) (mask_words (codes "grant") make.grant
-    ++ name_words make.name) (masks_are (codes "access") make.access refl fits.access)
+    ++ name_words make.name) (masks_are (codes "access") make.access refl)
     ∙ ap (λ rest. mask_words (codes "access") make.access ++ rest)
     (reads_front (mask_words (codes "grant") make.grant) (name_words make.name)
-    (masks_are (codes "grant") make.grant refl fits.grant)
+    (masks_are (codes "grant") make.grant refl)
     ∙ ap (λ rest. mask_words (codes "grant") make.grant ++ rest) (reads_name_words make.name)))
 
 -- an open's words behind its mask
@@ -227,26 +223,21 @@ reads_target None fits = refl
 reads_target (Some process) fits = read_next (labelled 112 (label 112 process)) process (λ p. Some (Some p))
     (reads_number process fits)
 
-pub target_is_word : (target : Option ℕ) → FitsTarget target → is_word (target_word target) ≡ true
-target_is_word None fits = refl
-target_is_word (Some process) fits = label_word 112 process refl (omega (arith, fits))
+pub target_is_word : (target : Option ℕ) → is_word (target_word target) ≡ true
+target_is_word None = refl
+target_is_word (Some process) = decimal_word process
 
-pub access_is_word : (same : Bool) (mask : Rights) → mask.0 ≤ 4294967295
-    → is_word (if same then codes "same" else mask_word mask) ≡ true
-access_is_word true mask fits = refl
-access_is_word false mask fits = mask_is_word mask fits
+pub access_is_word : (same : Bool) (mask : Rights) → is_word (if same then codes "same" else mask_word mask) ≡ true
+access_is_word true mask = refl
+access_is_word false mask = hex_word mask.0
 
 pub reads_kind : (kind : Kind) → kind_of (kind_word kind) ≡ Some kind
 reads_kind Event = refl
-reads_kind Mutex = refl
-reads_kind Semaphore = refl
-reads_kind Timer = refl
+reads_kind kind = refl
 
 pub kind_is_word : (kind : Kind) → is_word (kind_word kind) ≡ true
 kind_is_word Event = refl
-kind_is_word Mutex = refl
-kind_is_word Semaphore = refl
-kind_is_word Timer = refl
+kind_is_word kind = refl
 
 pub either_is_word : (first second : List ℕ) (is_so : Bool) → is_word first ≡ true → is_word second ≡ true
     → is_word (either_word first second is_so) ≡ true
@@ -283,10 +274,10 @@ reads_timeout Zero fits = reads_millis 0 (omega arith)
 reads_timeout Infinite fits = refl
 reads_timeout (Millis millis) fits = reads_millis millis fits
 
-pub timeout_is_word : (timeout : Timeout) → FitsTimeout timeout → is_word (timeout_word timeout) ≡ true
-timeout_is_word Zero fits = decimal_word 0 (omega arith)
-timeout_is_word Infinite fits = refl
-timeout_is_word (Millis millis) fits = decimal_word millis (omega (arith, fits))
+pub timeout_is_word : (timeout : Timeout) → is_word (timeout_word timeout) ≡ true
+timeout_is_word Zero = decimal_word 0
+timeout_is_word Infinite = refl
+timeout_is_word (Millis millis) = decimal_word millis
 
 pub reads_handles : (handles : List ℕ) → FitHandles handles
     → (are_handles (map (label 104) handles) ≡ true) × (handles_in (map (label 104) handles) ≡ handles)
@@ -298,12 +289,9 @@ reads_handles (handle ∷ handles) fit =
           ∙ ap (λ more. handle ∷ more) rest.1,
     )
 
-pub handles_are_words : (handles : List ℕ) → FitHandles handles → AreWords (map (label 104) handles)
-handles_are_words [] fit = tt
-handles_are_words (handle ∷ handles) fit = (
-  label_word 104 handle refl (omega (arith, fit.0)),
-  handles_are_words handles fit.1,
-)
+pub handles_are_words : (handles : List ℕ) → AreWords (map (label 104) handles)
+handles_are_words [] = tt
+handles_are_words (handle ∷ handles) = (decimal_word handle, handles_are_words handles)
 
 -- an object's slot ends at the full stop
 stop_place : (ds rest : List ℕ) → AllDigits 10 ds → position_or_len (is_byte 46) (ds ++ 46 ∷ rest) ≡ length ds
@@ -340,7 +328,6 @@ reads_id id slot_fits generation_fits =
           (decimal_is_IsNumeral id.slot (omega (arith, slot_fits))).0.1,
     )
 
-pub id_is_word : (id : Id) → id.slot ≤ 4294967295 → id.generation ≤ 4294967295 → is_word (id_word id) ≡ true
-id_is_word id slot_fits generation_fits = word_append (label 115 id.slot) (label 46 id.generation)
-    (label_word 115 id.slot refl (omega (arith, slot_fits)))
-    (label_word 46 id.generation refl (omega (arith, generation_fits)))
+pub id_is_word : (id : Id) → is_word (id_word id) ≡ true
+id_is_word id = word_append (label 115 id.slot) (label 46 id.generation) (decimal_word id.slot)
+    (decimal_word id.generation)

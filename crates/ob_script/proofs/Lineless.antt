@@ -26,7 +26,7 @@ use Rattle.ob_manager.specs.Copying.{closes, duplicate, is_wrong, keeps_rights}
 use Rattle.ob_manager.specs.Creating.{create, name_in, new_event, new_mutex, new_semaphore, new_timer, open_named, own_name}
 use Rattle.ob_manager.specs.Timing.{tick}
 use Rattle.ob_manager.specs.Waiting.{has_twice, is_misshapen, same_handle, wait}
-use Rattle.ob_manager.specs.Steps.{Step, does, closes as closes_source, lacks, Keeps, final, outcome_of}
+use Rattle.ob_manager.specs.Steps.{Step, does, closes as closes_source, lacks, KeeperAfter, final, outcome_of}
 use Rattle.ob_script.specs.Fitting.{Fits, FitsMake, FitsTarget, FitsTimeout, FitHandles}
 use Rattle.ob_script.specs.Writing.{label, mask_word, either_word, word_if, mask_words, name_words, make_words, kind_word, handle_words, words_for, can_be_said, line_of}
 use Rattle.ob_script.proofs.Short.{IsShort, AreShort, no_feed, have_line, number_short, label_short, id_short, signed_short, mask_short, known_short, either_short, kind_short, mode_short, timeout_short, target_short, access_short, handles_short, append_short, if_short, masks_short, if_few, make_few}
@@ -468,12 +468,13 @@ fails s (calls.Counts id) reply fits none =
 
 -- what refuses leaves all as it was
 refused_of : (w v : Whole) (reply : Reply) (r : Result Outcome Fault) → is_ok r ≡ false
-    → final w.state r ≡ record { reply = reply; state = v.state } → Keeps reply v.state w.keeper v.keeper
+    → final w.state r ≡ record { reply = reply; state = v.state } → KeeperAfter reply v.state w.keeper v.keeper
     → (v ≡ w) × (fault : Fault) × (reply ≡ Refused fault)
 refused_of w v reply (Ok outcome) bad is keeps = absurd (true≢false bad)
 refused_of w v reply (Err e) bad is keeps =
     let said : Refused e ≡ reply = ap (λ (o : Outcome). o.reply) is in
-    let kept : v.keeper ≡ w.keeper = subst (λ (r : Reply). Keeps r v.state w.keeper v.keeper) (sym said) keeps in (
+    let kept : v.keeper ≡ w.keeper =
+    subst (λ (r : Reply). KeeperAfter r v.state w.keeper v.keeper) (sym said) keeps in (
       ap (λ (s : State). record { state = s; keeper = v.keeper }) (sym (ap (λ (o : Outcome). o.state) is))
           ∙ ap (λ k. record { state = w.state; keeper = k }) kept,
       e,

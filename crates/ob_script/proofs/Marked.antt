@@ -97,3 +97,6 @@ module _ (text : List ℕ) (long : 32 ≤ length text) where
           let before : word < end = omega (arith, len, within) in
           ap (is_byte 32) (get_or-take end text word 0 before)
           ∙ set_is 32 blanks word are_blanks (omega (arith, both word, first.1, lowest.2 word before)))
+
+-- where a line and its first word end
+pub ruleset near_laws = (line_within, line_ends, word_ends)

@@ -1,6 +1,6 @@
 -- A number is read as it was written.
 use Rattle.std.proofs.Common.{◌≡◌, ℕ, zero, suc, ◌+◌, ◌-◌, ◌*◌, ◌/◌, ◌%◌, ◌^◌, ◌<◌, ◌≤◌, arith, refl, ap, sym, subst, ◌∙◌}
-use Rattle.std.proofs.Common.{List, [], ◌∷◌, length, Bool, true, false, cond, eqb, eq-eqb, pow-suc, Some}
+use Rattle.std.proofs.Common.{List, [], ◌∷◌, length, Bool, true, false, cond, eqb, eq-eqb, mod-lt, pow-suc, Some}
 use Rattle.std.specs.Prelude.{ℤ, pos, negsuc, decimal}
 use Rattle.std.specs.Fmt.{digits, digits_onto, digit_glyph, signed_decimal}
 use Rattle.std.specs.Char.{digit_value, is_ascii_digit, is_ascii_hexdigit}
@@ -10,7 +10,7 @@ use Rattle.std.proofs.lemmas.Bool.{and_from, cond_both}
 use Rattle.std.proofs.lemmas.Bool.Decides.{nat_tests}
 use Rattle.std.proofs.lemmas.Fmt.{digits_is_IsNumeral, decimal_is_IsNumeral, length-decimal-le}
 use Rattle.ob_script.specs.Fitting.{FitsSign}
-use Rattle.ob_script.specs.Words.{number_of, value_of, value_after, signed_of, negated, unless_great, long_of, moment_of, unless_late, due_of, at_moment, from_now, mask_of, hex_after, ◌>>=◌}
+use Rattle.ob_script.specs.Words.{number_of, value_of, value_after, signed_of, up_to, down_to, long_of, moment_of, to_moment, due_of, mask_of, ◌>>=◌}
 
 -- a decimal digit is its value behind the digit 0, and no other byte that has a meaning
 pub digit_is : (c : ℕ) → digit_value c < 10 → (48 ≤ c) × (c ≤ 57) × (c - 48 ≡ digit_value c)
@@ -22,12 +22,21 @@ digit_is c small = (low, high, grind (arith, nat_tests))
     high : c ≤ 57
     high = grind (arith, nat_tests)
 
--- digits pass a test that each digit of the base passes
-pub digits_pass : (test : ℕ → Bool) (base : ℕ) → ((c : ℕ) → digit_value c < base → test c ≡ true) → (ds : List ℕ)
-    → AllDigits base ds → list_all test ds ≡ true
-digits_pass test base each [] all = refl
-digits_pass test base each (c ∷ cs) all =
-    and_from (test c) (list_all test cs) (each c all.0) (digits_pass test base each cs all.1)
+-- the digits of a number pass a test that each digit of the base passes
+module _ (test : ℕ → Bool) (base : ℕ) (positive : 0 < base)
+    (each : (d : ℕ) → d < base → test (digit_glyph false d) ≡ true) where
+  onto_pass : (k n : ℕ) (acc : List ℕ) → list_all test acc ≡ true
+      → list_all test (digits_onto k base false n acc) ≡ true
+  onto_pass zero n acc pass = pass
+  onto_pass (suc k) n acc pass =
+      let more : list_all test (digit_glyph false (n % base) ∷ acc) ≡ true =
+      and_from (test (digit_glyph false (n % base))) (list_all test acc) (each (n % base) (mod-lt n positive)) pass in
+      cond_both (eqb (n / base) 0) _ _ (λ ds. list_all test ds ≡ true) (λ _. more)
+      (λ _. onto_pass k (n / base) (digit_glyph false (n % base) ∷ acc) more)
+
+  pub digits_pass : (n : ℕ) → list_all test (digits base false n) ≡ true
+  unfolding digits
+  digits_pass n = onto_pass 64 n [] refl
 
 value_same : (n : ℕ) (ds : List ℕ) → AllDigits 10 ds → value_after n ds ≡ digits_value_after 10 n ds
 value_same n [] all = refl
@@ -42,8 +51,7 @@ module _ (n : ℕ) (small : n < 2 ^ 64) where
   value_is = value_same 0 (decimal n) numeral.0.1 ∙ numeral.1
 
   are_digits : list_all is_ascii_digit (decimal n) ≡ true
-  are_digits = digits_pass is_ascii_digit 10
-      (λ c small. let d = digit_is c small in grind (arith, nat_tests)) (decimal n) numeral.0.1
+  are_digits = digits_pass is_ascii_digit 10 (omega arith) (λ d small. grind (arith, nat_tests)) n
 
 pub reads_number : (n : ℕ) → n ≤ 4294967295 → number_of (decimal n) ≡ Some n
 reads_number n fits =
@@ -64,37 +72,31 @@ reads_long n fits =
     grind (arith, nat_tests)
 
 pub reads_moment : (n : ℕ) → n ≤ 9223372036854775807 → moment_of (decimal n) ≡ Some n
-reads_moment n fits = ap (λ read. read >>= unless_late) (reads_long n (omega arith)) ∙ grind (arith, nat_tests)
+reads_moment n fits = ap (λ read. read >>= to_moment) (reads_long n (omega arith)) ∙ grind (arith, nat_tests)
 
 -- a digit is no minus, so a text of digits is read as a number that isn't negative
-signed_digits : (ds : List ℕ) → IsNumeral 10 ds → signed_of ds ≡ (number_of ds >>= unless_great)
+signed_digits : (ds : List ℕ) → IsNumeral 10 ds → signed_of ds ≡ (number_of ds >>= up_to 2147483647)
 signed_digits [] is = absurd (omega (arith, is.0))
 signed_digits (c ∷ cs) is = let d = digit_is c is.1.0 in grind (arith, nat_tests)
 
-due_digits : (ds : List ℕ) → IsNumeral 10 ds → due_of ds ≡ (long_of ds >>= at_moment)
+due_digits : (ds : List ℕ) → IsNumeral 10 ds → due_of ds ≡ (long_of ds >>= up_to 9223372036854775807)
 due_digits [] is = absurd (omega (arith, is.0))
 due_digits (c ∷ cs) is = let d = digit_is c is.1.0 in grind (arith, nat_tests)
 
 pub reads_signed : (z : ℤ) → FitsSign 2147483648 z → signed_of (signed_decimal z) ≡ Some z
 reads_signed (pos n) fits =
     signed_digits (decimal n) (decimal_is_IsNumeral n (omega (arith, fits))).0
-    ∙ ap (λ read. read >>= unless_great) (reads_number n (omega (arith, fits))) ∙ grind (arith, nat_tests)
+    ∙ ap (λ read. read >>= up_to 2147483647) (reads_number n (omega (arith, fits))) ∙ grind (arith, nat_tests)
 reads_signed (negsuc n) fits =
-    ap (λ read. read >>= negated) (reads_number (suc n) (omega (arith, fits))) ∙ grind (arith, nat_tests)
+    ap (λ read. read >>= down_to 2147483648) (reads_number (suc n) (omega (arith, fits))) ∙ grind (arith, nat_tests)
 
 pub reads_due : (z : ℤ) → FitsSign 9223372036854775808 z → due_of (signed_decimal z) ≡ Some z
 reads_due (pos n) fits =
     due_digits (decimal n) (decimal_is_IsNumeral n (omega (arith, fits))).0
-    ∙ ap (λ read. read >>= at_moment) (reads_long n (omega (arith, fits))) ∙ grind (arith, nat_tests)
+    ∙ ap (λ read. read >>= up_to 9223372036854775807) (reads_long n (omega (arith, fits))) ∙ grind (arith, nat_tests)
 reads_due (negsuc n) fits =
-    ap (λ read. read >>= from_now) (reads_long (suc n) (omega (arith, fits))) ∙ grind (arith, nat_tests)
-
-hex_is : (c : ℕ) → digit_value c < 16 → is_ascii_hexdigit c ≡ true
-hex_is c small = grind (arith, nat_tests)
-
-hex_same : (n : ℕ) (ds : List ℕ) → hex_after n ds ≡ digits_value_after 16 n ds
-hex_same n [] = refl
-hex_same n (c ∷ cs) = hex_same (n * 16 + digit_value c) cs
+    ap (λ read. read >>= down_to 9223372036854775808) (reads_long (suc n) (omega (arith, fits)))
+    ∙ grind (arith, nat_tests)
 
 -- the digits of n < 16 ^ j are at most j
 hex_length : (k j n : ℕ) (acc : List ℕ) → n < 16 ^ suc j → length (digits_onto k 16 false n acc) ≤ suc j + length acc
@@ -119,8 +121,7 @@ pub reads_mask : (n : ℕ) → n ≤ 4294967295 → mask_of (48 ∷ 120 ∷ digi
 reads_mask n fits =
     let is = digits_is_IsNumeral 16 false (omega arith) (omega arith) n (omega arith) in
     let few = hex_few n fits in
-    let all : list_all is_ascii_hexdigit (digits 16 false n) ≡ true =
-    digits_pass is_ascii_hexdigit 16 hex_is (digits 16 false n) is.0.1 in
-    let value : hex_after 0 (digits 16 false n) ≡ n = hex_same 0 (digits 16 false n) ∙ is.1 in
+    let all = digits_pass is_ascii_hexdigit 16 (omega arith) (λ d small. grind (arith, nat_tests)) n in
+    let value = is.1 in
     let some : 0 < length (digits 16 false n) = is.0.0 in
     grind (arith, nat_tests)

@@ -2,11 +2,9 @@
 use Rattle.std.proofs.Common.{◌≡◌, ℕ, suc, ◌+◌, ◌*◌, ◌^◌, ◌<◌, ◌≤◌, arith, refl, ◌∙◌, List, [], ◌∷◌, ◌++◌, length, Bool, true, false, not, ◌&&◌, ◌==◌, Option, Some, None, decimal, map, codes, nat_lt, if◌then◌else◌, ℤ, pos, negsuc, length-append}
 use Rattle.std.proofs.lemmas.Bool.{and_from}
 use Rattle.std.specs.Fmt.{digits, signed_decimal}
-use Rattle.std.specs.Char.{digit_value}
 use Rattle.std.specs.List.{list_all}
-use Rattle.std.specs.Str.Parse.{AllDigits}
 use Rattle.std.proofs.lemmas.Bool.Decides.{nat_tests}
-use Rattle.std.proofs.lemmas.Fmt.{digits_is_IsNumeral, length-decimal-le}
+use Rattle.std.proofs.lemmas.Fmt.{length-decimal-le}
 use Rattle.std.proofs.lemmas.List.Folds.{list_all-append}
 use Rattle.pin_core.specs.declared.id.Id.{Id}
 use Rattle.ob_rights.specs.declared.kind.Kind.{Kind}
@@ -79,24 +77,20 @@ have_line most call can are few none = by (can_be_said call) (is_line (text_for 
     by false b can is none = cc
 
 -- digits are short, and no line feed
-no_digit : (c : ℕ) → digit_value c < 16 → no_feed c ≡ true
-no_digit c small = grind (arith, nat_tests)
-
-digits_within : (base : ℕ) → base ≤ 16 → (ds : List ℕ) → AllDigits base ds → list_all no_feed ds ≡ true
-digits_within base high = digits_pass no_feed base (λ c small. no_digit c (omega (arith, high, small)))
+pub digits_within : (base n : ℕ) → 0 < base → list_all no_feed (digits base false n) ≡ true
+digits_within base n positive = digits_pass no_feed base positive (λ d small. grind (arith, nat_tests)) n
 
 module _ (most : ℕ) (room : 21 ≤ most) where
   pub number_short : (n : ℕ) → n < 2 ^ 64 → IsShort most (decimal n)
   number_short n small = record {
     len = omega (arith, room, length-decimal-le 20 n (omega arith) (omega arith) small);
-    within = digits_within 10 (omega arith) (decimal n)
-        (digits_is_IsNumeral 10 false (omega arith) (omega arith) n (omega arith)).0.1;
+    within = digits_within 10 n (omega arith);
   }
 
   pub label_short : (letter n : ℕ) → no_feed letter ≡ true → n ≤ 4294967295 → IsShort most (label letter n)
   label_short letter n is fits = record {
     len = omega (arith, room, length-decimal-le 10 n (omega arith) (omega arith) (omega (arith, fits)));
-    within = and_from (no_feed letter) (list_all no_feed (decimal n)) is (number_short n (omega (arith, fits))).within;
+    within = and_from (no_feed letter) (list_all no_feed (decimal n)) is (digits_within 10 n (omega arith));
   }
 
   pub id_short : (id : Id) → id.slot ≤ 4294967295 → id.generation ≤ 4294967295 → IsShort (most + most) (id_word id)
@@ -115,14 +109,13 @@ module _ (most : ℕ) (room : 21 ≤ most) where
   signed_short limit (pos n) low fits = number_short n (omega (arith, fits))
   signed_short limit (negsuc n) low fits = record {
     len = omega (arith, room, length-decimal-le 20 (suc n) (omega arith) (omega (arith, fits)) (omega (arith, fits)));
-    within = (number_short (suc n) (omega (arith, fits))).within;
+    within = digits_within 10 (suc n) (omega arith);
   }
 
   pub mask_short : (mask : Rights) → mask.0 ≤ 4294967295 → IsShort most (mask_word mask)
   mask_short mask fits = record {
     len = omega (arith, room, hex_few mask.0 fits);
-    within = digits_within 16 (omega arith) (digits 16 false mask.0)
-        (digits_is_IsNumeral 16 false (omega arith) (omega arith) mask.0 (omega arith)).0.1;
+    within = digits_within 16 mask.0 (omega arith);
   }
 
   -- a keyword

@@ -1,13 +1,10 @@
 -- Words that are joined by spaces are read as they were.
-use Rattle.std.proofs.Common.{◌≡◌, ℕ, ◌<◌, ◌≤◌, arith, refl, ap, sym, ◌∙◌, List, [], ◌∷◌, ◌++◌, Bool, true, false, not, ◌==◌, All, decimal, ◌^◌, append-nil, map}
+use Rattle.std.proofs.Common.{◌≡◌, ℕ, suc, ℤ, pos, negsuc, arith, refl, ap, sym, ◌∙◌, List, [], ◌∷◌, ◌++◌, Bool, true, false, not, ◌==◌, All, decimal, append-nil, map}
 use Rattle.std.proofs.lemmas.Bool.{and_from, not-true}
-use Rattle.std.specs.Fmt.{digits}
-use Rattle.std.specs.Char.{digit_value}
+use Rattle.std.specs.Fmt.{digits, signed_decimal}
 use Rattle.std.specs.List.{list_all, flat_map}
 use Rattle.std.proofs.lemmas.List.Folds.{flat_map-map, list_all-append}
-use Rattle.std.specs.Str.Parse.{AllDigits}
 use Rattle.std.proofs.lemmas.Bool.Decides.{nat_tests}
-use Rattle.std.proofs.lemmas.Fmt.{digits_is_IsNumeral}
 use Rattle.std.proofs.lemmas.List.Splits.{slice_split_at, slice_split_none}
 use Rattle.std.proofs.lemmas.List.Sums.{AllPass-from_list_all}
 use Rattle.memchr.specs.Find.{is_byte}
@@ -48,22 +45,15 @@ reads_all [] are = refl
 reads_all (word ∷ words) are = reads_next word words are.0 ∙ ap (λ rest. word ∷ rest) (reads_all words are.1)
 
 -- digits have no space
-no_digit : (c : ℕ) → digit_value c < 16 → not (c == 32) ≡ true
-no_digit c small = grind (arith, nat_tests)
+pub hex_word : (n : ℕ) → is_word (digits 16 false n) ≡ true
+hex_word n = digits_pass (λ byte. not (byte == 32)) 16 (omega arith) (λ d small. grind (arith, nat_tests)) n
 
-digits_word : (base : ℕ) → base ≤ 16 → (ds : List ℕ) → AllDigits base ds → is_word ds ≡ true
-digits_word base high = digits_pass (λ c. not (c == 32)) base (λ c small. no_digit c (omega (arith, high, small)))
+pub decimal_word : (n : ℕ) → is_word (decimal n) ≡ true
+decimal_word n = digits_pass (λ byte. not (byte == 32)) 10 (omega arith) (λ d small. grind (arith, nat_tests)) n
 
-pub hex_word : (n : ℕ) → n < 2 ^ 64 → is_word (digits 16 false n) ≡ true
-hex_word n small = digits_word 16 (omega arith) (digits 16 false n)
-    (digits_is_IsNumeral 16 false (omega arith) (omega arith) n (omega arith)).0.1
-
-pub decimal_word : (n : ℕ) → n < 2 ^ 64 → is_word (decimal n) ≡ true
-decimal_word n small = digits_word 10 (omega arith) (decimal n)
-    (digits_is_IsNumeral 10 false (omega arith) (omega arith) n (omega arith)).0.1
-
-pub label_word : (letter n : ℕ) → not (letter == 32) ≡ true → n < 2 ^ 64 → is_word (letter ∷ decimal n) ≡ true
-label_word letter n is small = and_from (not (letter == 32)) (is_word (decimal n)) is (decimal_word n small)
+pub signed_word : (z : ℤ) → is_word (signed_decimal z) ≡ true
+signed_word (pos n) = decimal_word n
+signed_word (negsuc n) = decimal_word (suc n)
 
 pub word_append : (front back : List ℕ) → is_word front ≡ true → is_word back ≡ true → is_word (front ++ back) ≡ true
 word_append front back front_is back_is = list_all-append (λ byte. not (byte == 32)) front back

@@ -5,7 +5,7 @@ use Rattle.std.proofs.lemmas.Bool.{cases_lt}
 use Rattle.std.proofs.lemmas.List.{length-append, length-take}
 use Rattle.ob_script.specs.Acts.{Bad}
 use Rattle.ob_script.specs.Grammar.{act_of, act_of_text, text_of}
-use Rattle.ob_script.specs.Held.{capped, more_held, act_of_held}
+use Rattle.ob_script.specs.HeldLines.{capped, more_held, act_of_held}
 
 -- a text is at most one byte shorter than its line
 text_of-long : (line : List ℕ) → length line ≤ length (text_of line) + 1

@@ -1,4 +1,6 @@
--- The grammar of a script: what each line is.
+-- The grammar of a script: what each line is. T is a thread behind the letter t, P a process behind p, H a handle
+-- behind h, W a wait behind w, K a slot behind s and S an object; M is a mask, N a number, I one with a sign, V a
+-- moment, and D when a timer is due.
 use Rattle.std.specs.Prelude.{ℕ, ◌+◌, ◌-◌, ◌==◌, ◌||◌, nat_lt, List, [], ◌∷◌, Option, Some, None, if◌then◌else◌, length, codes, slice_index, take}
 use Rattle.std.specs.Str.{bytes_eq}
 use Rattle.pin_core.specs.declared.id.Id.{Id}
@@ -46,13 +48,13 @@ make_of words = do
   name ← named grant.1
   Some (record { name = name; inherit = begins_with (codes "inherit") words; access = access.0; grant = grant.0 })
 
--- `spawn N`, behind its first word
-abbrev pub spawn_of : List (List ℕ) → Option Call
-spawn_of [] = None
-spawn_of (session ∷ []) = do
-  session ← number_of session
-  Some (Spawn session)
-spawn_of (session ∷ more ∷ words) = None
+-- `VERB X`, behind its first word: a call by one word, as that is read
+abbrev pub lone_of : {A : Type 0} → (List ℕ → Option A) → (A → Call) → List (List ℕ) → Option Call
+lone_of read call [] = None
+lone_of read call (word ∷ []) = do
+  value ← read word
+  Some (call value)
+lone_of read call (word ∷ more ∷ words) = None
 
 -- `child T inherit|plain`
 abbrev pub child_of : List (List ℕ) → Option Call
@@ -63,14 +65,6 @@ child_of (thread ∷ inherit ∷ []) = do
   inherit ← either_of (codes "plain") (codes "inherit") inherit
   Some (Child thread inherit)
 child_of (thread ∷ inherit ∷ more ∷ words) = None
-
--- `thread P`
-abbrev pub thread_of : List (List ℕ) → Option Call
-thread_of [] = None
-thread_of (process ∷ []) = do
-  process ← labelled 112 process
-  Some (StartThread process)
-thread_of (process ∷ more ∷ words) = None
 
 -- `event T auto|manual clear|set [inherit] [access M] [grant M] [name TEXT]`
 abbrev pub event_of : List (List ℕ) → Option Call
@@ -138,36 +132,11 @@ handle_of (thread ∷ handle ∷ []) = do
   Some (thread, handle)
 handle_of (thread ∷ handle ∷ more ∷ words) = None
 
--- `close T H`, `flags T H`, `set T H`, `reset T H`, `unlock T H`, `cancel T H`
-abbrev pub close_of : List (List ℕ) → Option Call
-close_of words = do
+-- a call by the thread and the handle
+abbrev pub handled : (ℕ → ℕ → Call) → List (List ℕ) → Option Call
+handled call words = do
   named ← handle_of words
-  Some (CloseHandle named.0 named.1)
-
-abbrev pub flags_of : List (List ℕ) → Option Call
-flags_of words = do
-  named ← handle_of words
-  Some (GetFlags named.0 named.1)
-
-abbrev pub set_of : List (List ℕ) → Option Call
-set_of words = do
-  named ← handle_of words
-  Some (SetEvent named.0 named.1)
-
-abbrev pub reset_of : List (List ℕ) → Option Call
-reset_of words = do
-  named ← handle_of words
-  Some (ResetEvent named.0 named.1)
-
-abbrev pub unlock_of : List (List ℕ) → Option Call
-unlock_of words = do
-  named ← handle_of words
-  Some (ReleaseMutex named.0 named.1)
-
-abbrev pub cancel_of : List (List ℕ) → Option Call
-cancel_of words = do
-  named ← handle_of words
-  Some (CancelTimer named.0 named.1)
+  Some (call named.0 named.1)
 
 -- `setflags T H N N`: the mask and the flags
 abbrev pub setflags_of : List (List ℕ) → Option Call
@@ -206,30 +175,6 @@ settimer_of (thread ∷ handle ∷ due ∷ []) = do
   due ← due_of due
   Some (SetTimer thread handle due)
 settimer_of (thread ∷ handle ∷ due ∷ more ∷ words) = None
-
--- `tick V`
-abbrev pub tick_of : List (List ℕ) → Option Call
-tick_of [] = None
-tick_of (moment ∷ []) = do
-  now ← moment_of moment
-  Some (Tick now)
-tick_of (moment ∷ more ∷ words) = None
-
--- `reap K`
-abbrev pub reap_of : List (List ℕ) → Option Call
-reap_of [] = None
-reap_of (slot ∷ []) = do
-  slot ← labelled 115 slot
-  Some (Reap slot)
-reap_of (slot ∷ more ∷ words) = None
-
--- `count S`
-abbrev pub count_of : List (List ℕ) → Option Call
-count_of [] = None
-count_of (object ∷ []) = do
-  id ← id_of object
-  Some (Counts id)
-count_of (object ∷ more ∷ words) = None
 
 -- `P`, or `-` for no target
 abbrev pub target_of : List ℕ → Option (Option ℕ)
@@ -287,65 +232,16 @@ wait_of (thread ∷ mode ∷ timeout ∷ words) = do
   timeout ← timeout_of timeout
   if are_handles words then Some (WaitFor thread mode timeout (handles_in words)) else None
 
--- `endthread T`
-abbrev pub endthread_of : List (List ℕ) → Option Call
-endthread_of [] = None
-endthread_of (thread ∷ []) = do
-  thread ← labelled 116 thread
-  Some (EndThread thread)
-endthread_of (thread ∷ more ∷ words) = None
-
--- `exit P`
-abbrev pub exit_of : List (List ℕ) → Option Call
-exit_of [] = None
-exit_of (process ∷ []) = do
-  process ← labelled 112 process
-  Some (Exit process)
-exit_of (process ∷ more ∷ words) = None
-
--- `result W`
-abbrev pub result_of : List (List ℕ) → Option Call
-result_of [] = None
-result_of (number ∷ []) = do
-  number ← labelled 119 number
-  Some (WaitResult number)
-result_of (number ∷ more ∷ words) = None
-
--- `expire W`
-abbrev pub expire_of : List (List ℕ) → Option Call
-expire_of [] = None
-expire_of (number ∷ []) = do
-  number ← labelled 119 number
-  Some (Expire number)
-expire_of (number ∷ more ∷ words) = None
-
 -- `VERB S`: the object
 abbrev pub object_of : List (List ℕ) → Option Id
 object_of [] = None
 object_of (object ∷ []) = id_of object
 object_of (object ∷ more ∷ words) = None
 
--- `pin S`
-abbrev pub pin_of : List (List ℕ) → Option Act
-pin_of words = do
-  id ← object_of words
-  Some (Pin id)
-
--- `unpin S`
-abbrev pub unpin_of : List (List ℕ) → Option Act
-unpin_of words = do
-  id ← object_of words
-  Some (Unpin id)
-
--- `card S`
-abbrev pub card_of : List (List ℕ) → Option Act
-card_of words = do
-  id ← object_of words
-  Some (ShowCard id)
-
-abbrev pub or_bad : Option Act → Act
-or_bad None = Bad
-or_bad (Some act) = act
+-- what the reader is asked for with the object
+abbrev pub on_object : (Id → Act) → Option Id → Act
+on_object act None = Bad
+on_object act (Some id) = act id
 
 -- a call is asked for, if the words behind its verb are its own
 abbrev pub asked : Option Call → Act
@@ -356,35 +252,35 @@ asked (Some call) = Asks call
 abbrev pub act_of_words : List (List ℕ) → Act
 act_of_words [] = Bad
 act_of_words (verb ∷ words) =
-    if bytes_eq verb (codes "close") then asked (close_of words)
-    else (if bytes_eq verb (codes "set") then asked (set_of words)
+    if bytes_eq verb (codes "close") then asked (handled CloseHandle words)
+    else (if bytes_eq verb (codes "set") then asked (handled SetEvent words)
     else (if bytes_eq verb (codes "wait") then asked (wait_of words)
-    else (if bytes_eq verb (codes "count") then asked (count_of words)
+    else (if bytes_eq verb (codes "count") then asked (lone_of id_of Counts words)
     else (if bytes_eq verb (codes "event") then asked (event_of words)
-    else (if bytes_eq verb (codes "reset") then asked (reset_of words)
+    else (if bytes_eq verb (codes "reset") then asked (handled ResetEvent words)
     else (if bytes_eq verb (codes "release") then asked (release_of words)
-    else (if bytes_eq verb (codes "unlock") then asked (unlock_of words)
+    else (if bytes_eq verb (codes "unlock") then asked (handled ReleaseMutex words)
     else (if bytes_eq verb (codes "open") then asked (open_of words)
     else (if bytes_eq verb (codes "dup") then asked (dup_of words)
-    else (if bytes_eq verb (codes "result") then asked (result_of words)
+    else (if bytes_eq verb (codes "result") then asked (lone_of (labelled 119) WaitResult words)
     else (if bytes_eq verb (codes "mutex") then asked (mutex_of words)
     else (if bytes_eq verb (codes "semaphore") then asked (semaphore_of words)
-    else (if bytes_eq verb (codes "reap") then asked (reap_of words)
-    else (if bytes_eq verb (codes "thread") then asked (thread_of words)
-    else (if bytes_eq verb (codes "spawn") then asked (spawn_of words)
+    else (if bytes_eq verb (codes "reap") then asked (lone_of (labelled 115) Reap words)
+    else (if bytes_eq verb (codes "thread") then asked (lone_of (labelled 112) StartThread words)
+    else (if bytes_eq verb (codes "spawn") then asked (lone_of number_of Spawn words)
     else (if bytes_eq verb (codes "child") then asked (child_of words)
-    else (if bytes_eq verb (codes "expire") then asked (expire_of words)
-    else (if bytes_eq verb (codes "endthread") then asked (endthread_of words)
-    else (if bytes_eq verb (codes "exit") then asked (exit_of words)
-    else (if bytes_eq verb (codes "flags") then asked (flags_of words)
+    else (if bytes_eq verb (codes "expire") then asked (lone_of (labelled 119) Expire words)
+    else (if bytes_eq verb (codes "endthread") then asked (lone_of (labelled 116) EndThread words)
+    else (if bytes_eq verb (codes "exit") then asked (lone_of (labelled 112) Exit words)
+    else (if bytes_eq verb (codes "flags") then asked (handled GetFlags words)
     else (if bytes_eq verb (codes "setflags") then asked (setflags_of words)
     else (if bytes_eq verb (codes "timer") then asked (timer_of words)
     else (if bytes_eq verb (codes "settimer") then asked (settimer_of words)
-    else (if bytes_eq verb (codes "cancel") then asked (cancel_of words)
-    else (if bytes_eq verb (codes "tick") then asked (tick_of words)
-    else (if bytes_eq verb (codes "pin") then or_bad (pin_of words)
-    else (if bytes_eq verb (codes "unpin") then or_bad (unpin_of words)
-    else (if bytes_eq verb (codes "card") then or_bad (card_of words)
+    else (if bytes_eq verb (codes "cancel") then asked (handled CancelTimer words)
+    else (if bytes_eq verb (codes "tick") then asked (lone_of moment_of Tick words)
+    else (if bytes_eq verb (codes "pin") then on_object Pin (object_of words)
+    else (if bytes_eq verb (codes "unpin") then on_object Unpin (object_of words)
+    else (if bytes_eq verb (codes "card") then on_object ShowCard (object_of words)
     else Bad))))))))))))))))))))))))))))
 
 -- the text of a line: one carriage return at its end is dropped

@@ -2,8 +2,9 @@
 use Rattle.std.specs.Prelude.{ℕ, ◌+◌, ◌-◌, ◌*◌, ◌==◌, ◌&&◌, nat_le, Bool, true, false, List, [], ◌∷◌, Option, Some, None, if◌then◌else◌, length, codes, ℤ, pos, neg_ℤ, is_some, map}
 use Rattle.std.specs.List.{slice_split, join_with_byte, list_all, before_first, after_first}
 use Rattle.std.specs.Option.{unwrap_or}
-use Rattle.std.specs.Char.{is_ascii_digit, is_ascii_hexdigit, digit_value}
+use Rattle.std.specs.Char.{is_ascii_digit, is_ascii_hexdigit}
 use Rattle.std.specs.Str.{bytes_eq}
+use Rattle.std.specs.Str.Parse.{digits_value}
 use Rattle.memchr.specs.Find.{is_byte}
 use Rattle.pin_core.specs.declared.id.Id.{Id}
 use Rattle.ob_rights.specs.declared.kind.Kind.{Kind}
@@ -74,51 +75,43 @@ kind_of word =
     else (if bytes_eq word (codes "timer") then Some Timer
     else None)))
 
--- a number that isn't above the greatest of 32 bits with a sign, and the negative of one that isn't below the least
-abbrev pub unless_great : ℕ → Option ℤ
-unless_great n = if nat_le n 2147483647 then Some (pos n) else None
+-- a number up to a limit, and the negative of one that is
+abbrev pub up_to : ℕ → ℕ → Option ℤ
+up_to limit n = if nat_le n limit then Some (pos n) else None
 
-abbrev pub negated : ℕ → Option ℤ
-negated n = if nat_le n 2147483648 then Some (neg_ℤ (pos n)) else None
+abbrev pub down_to : ℕ → ℕ → Option ℤ
+down_to limit n = if nat_le n limit then Some (neg_ℤ (pos n)) else None
 
 -- a signed number: the digits of a number, behind a minus if it is negative, from -2,147,483,648 to 2,147,483,647
 abbrev pub signed_of : List ℕ → Option ℤ
 signed_of [] = None
-signed_of (first ∷ rest) = if first == 45 then number_of rest >>= negated else number_of (first ∷ rest) >>= unless_great
+signed_of (first ∷ rest) =
+    if first == 45 then number_of rest >>= down_to 2147483648 else number_of (first ∷ rest) >>= up_to 2147483647
 
 -- a number of 1 to 19 decimal digits, leading zeros allowed
 abbrev pub long_of : List ℕ → Option ℕ
 long_of word = if nat_le 1 (length word) && nat_le (length word) 19
     && list_all is_ascii_digit word then Some (value_of word) else None
 
--- the same that isn't above the greatest of 64 bits with a sign, and the negative of one that isn't below the least
-abbrev pub unless_late : ℕ → Option ℕ
-unless_late n = if nat_le n 9223372036854775807 then Some n else None
-
-abbrev pub at_moment : ℕ → Option ℤ
-at_moment n = if nat_le n 9223372036854775807 then Some (pos n) else None
-
-abbrev pub from_now : ℕ → Option ℤ
-from_now n = if nat_le n 9223372036854775808 then Some (neg_ℤ (pos n)) else None
+-- a number that a moment may be
+abbrev pub to_moment : ℕ → Option ℕ
+to_moment n = if nat_le n 9223372036854775807 then Some n else None
 
 -- a moment: 1 to 19 digits, at most 9,223,372,036,854,775,807
 abbrev pub moment_of : List ℕ → Option ℕ
-moment_of word = long_of word >>= unless_late
+moment_of word = long_of word >>= to_moment
 
 -- when a timer is due: 1 to 19 digits, behind a minus for so many units from now, from -9,223,372,036,854,775,808 on
 abbrev pub due_of : List ℕ → Option ℤ
 due_of [] = None
-due_of (first ∷ rest) = if first == 45 then long_of rest >>= from_now else long_of (first ∷ rest) >>= at_moment
-
--- the number that hexadecimal digits write behind those of another
-abbrev pub hex_after : ℕ → List ℕ → ℕ
-hex_after value [] = value
-hex_after value (digit ∷ digits) = hex_after (value * 16 + digit_value digit) digits
+due_of (first ∷ rest) =
+    if first == 45 then long_of rest >>= down_to 9223372036854775808
+    else long_of (first ∷ rest) >>= up_to 9223372036854775807
 
 -- 1 to 8 hexadecimal digits of either case
 abbrev pub hex_of : List ℕ → Option Rights
 hex_of digits = if nat_le 1 (length digits) && nat_le (length digits) 8
-    && list_all is_ascii_hexdigit digits then Some (record { 0 = hex_after 0 digits }) else None
+    && list_all is_ascii_hexdigit digits then Some (record { 0 = digits_value 16 digits }) else None
 
 -- a mask: `0x`, and its hexadecimal digits
 abbrev pub mask_of : List ℕ → Option Rights

@@ -159,13 +159,10 @@ abbrev pub line_of : Call → Option (List ℕ)
 line_of call = if can_be_said call && is_line (text_for call) then Some (ended (text_for call)) else None
 
 -- The call as a line asks for it. It is answered alike: a duplicate with the rights of its source has no use for a
--- mask,
--- and a wait of no time is one of 0 milliseconds.
+-- mask, and a wait of no time is one of 0 milliseconds.
 abbrev pub as_said : Call → Call
 as_said (calls.Duplicate thread source handle target mask inherit options) =
-    calls.Duplicate thread source handle target (if keeps_rights options then record {
-      0 =
-          0;
-    } else mask) inherit options
+    calls.Duplicate thread source handle target
+    (if keeps_rights options then record { 0 = 0 } else mask) inherit options
 as_said (calls.WaitFor thread mode Zero handles) = calls.WaitFor thread mode (Millis 0) handles
 as_said call = call

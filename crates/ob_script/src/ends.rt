@@ -5,7 +5,7 @@ ghost use Rattle.ob_script.specs.Marks.{Marks};
 
 use std::simd::prelude::*;
 
-/// A bit for each of 32 bytes, set where it is this one.
+/// A mask with a bit for each of 32 bytes, which is set where they are equal to `byte`.
 #[inline(always)]
 fn marks_of(byte: u8, bytes: u8x32) -> u64
     ensures { Marks (is_byte byte) bytes 32 result }
@@ -13,9 +13,10 @@ fn marks_of(byte: u8, bytes: u8x32) -> u64
     bytes.simd_eq(u8x32::splat(byte)).to_bitmask()
 }
 
-/// Where the first line feed of a text is, and how far it is to a blank or to it, if it is one of the first 32 bytes.
+/// Where the first line feed of a text is, and where the first blank before it, or else the line feed again; none where
+/// no line feed is one of the first 32 bytes.
 #[inline(always)]
-#[tactic(auto, using(crate::proofs::Marked::line_within, crate::proofs::Marked::line_ends, crate::proofs::Marked::word_ends))]
+#[tactic(auto, using(crate::proofs::Marked::near_laws))]
 pub fn near_ends(text: &[u8]) -> Option<(usize, usize)>
     requires { 32 ≤ length text.now }
     ensures within { IfSome result (λ ends. ends.0 < length text.now) }

@@ -68,7 +68,7 @@ fn handles(handles: &[u32])
     each(handles);
 }
 
-/// The numbers of a call are those of their types.
+/// Says of each number of a call that its type has it, as a contract over ℕ and ℤ doesn't know by itself.
 pub(crate) fn fits<M: AsMake, T: AsSlice<u8>, H: AsSlice<u32>>(call: &CallOf<M, T, H>)
     ensures { Fits (with_parts M.making T.items H.items call.now) }
 {

@@ -1,12 +1,11 @@
 ghost use Rattle.std.specs.Prelude.{◌≡◌, ◌≤◌, IfSome, length, nat_lt};
-ghost use Rattle.ob_script.specs.Words.{are_handles, words_of};
-ghost use Rattle.ob_script.specs.Acts.{act_in};
-ghost use Rattle.ob_script.specs.Grammar.{access_of, act_of, asked, cancel_of, card_of, child_of, close_of, closing_of};
-ghost use Rattle.ob_script.specs.Grammar.{count_of, dup_of, endthread_of, event_of, exit_of, expire_of, flags_of};
-ghost use Rattle.ob_script.specs.Grammar.{handle_of, mode_of, mutex_of, object_of, open_of, or_bad, pin_of, reap_of};
-ghost use Rattle.ob_script.specs.Grammar.{release_of, reset_of, result_of, semaphore_of, set_of, setflags_of};
-ghost use Rattle.ob_script.specs.Grammar.{settimer_of, spawn_of, target_of, text_of, thread_of, tick_of, timeout_of};
-ghost use Rattle.ob_script.specs.Grammar.{timer_of, unlock_of, unpin_of, wait_of};
+ghost use Rattle.ob_manager.specs.declared.call.CallOf.TheVariants as calls;
+ghost use Rattle.ob_script.specs.Words.{are_handles, id_of, labelled, moment_of, number_of, words_of};
+ghost use Rattle.ob_script.specs.Acts.{Pin, ShowCard, Unpin, act_in};
+ghost use Rattle.ob_script.specs.Grammar.{access_of, act_of, asked, child_of, closing_of, dup_of, event_of, handle_of};
+ghost use Rattle.ob_script.specs.Grammar.{handled, lone_of, mode_of, mutex_of, object_of, on_object, open_of};
+ghost use Rattle.ob_script.specs.Grammar.{release_of, semaphore_of, setflags_of, settimer_of, target_of, text_of};
+ghost use Rattle.ob_script.specs.Grammar.{timeout_of, timer_of, wait_of};
 
 use crate::act::{Act, Ask};
 use crate::line::ScriptLine;
@@ -18,7 +17,7 @@ use ob_manager::{Mode, Timeout};
 use ob_rights::Rights;
 use pin_core::Id;
 
-/// What is there; without it the line is bad.
+/// The value of an option; the function returns [`Act::Bad`] where there is none.
 macro_rules! wanted {
     ($value:expr) => {
         match $value {
@@ -38,7 +37,8 @@ pub fn is_too_long(text: &[u8]) -> bool
     text.len() > TEXT_MOST
 }
 
-/// What a line is. The number of its reader changes nothing.
+/// What a line is. `READER` changes nothing of that: each crate that reads lines gives a number of its own (the console
+/// 0, lanes 1), and so has a compiled copy of its own.
 //
 // What a line of each verb is stands in this one function when it runs: a function of its own would have a copy of the
 // words that are left, and each of these would be cleared for every line. Each verb makes its act in one step, with no
@@ -161,7 +161,7 @@ pub fn text_of(line: &[u8]) -> &[u8]
 
 #[inline(always)]
 fn spawn_of(mut words: Words<'_>) -> Act<'_>
-    ensures { act_in result ≡ asked (spawn_of words.entry) }
+    ensures { act_in result ≡ asked (lone_of number_of calls.Spawn words.entry) }
 {
     let session = wanted!(words.next());
     wanted!(words.end());
@@ -183,7 +183,7 @@ fn child_of(mut words: Words<'_>) -> Act<'_>
 
 #[inline(always)]
 fn thread_of(mut words: Words<'_>) -> Act<'_>
-    ensures { act_in result ≡ asked (thread_of words.entry) }
+    ensures { act_in result ≡ asked (lone_of (labelled 112) calls.StartThread words.entry) }
 {
     let process = wanted!(words.labelled(b'p'));
     wanted!(words.end());
@@ -309,7 +309,7 @@ fn dup_of(mut words: Words<'_>) -> Act<'_>
     })
 }
 
-/// A process, or a hyphen for none.
+/// The process that a duplicate is for, or a hyphen, for none.
 fn target_of(word: &[u8]) -> Option<Option<u32>>
     ensures { result ≡ target_of word.now }
 {
@@ -323,7 +323,7 @@ fn target_of(word: &[u8]) -> Option<Option<u32>>
 /// The keyword for the option `DUPLICATE_SAME_ACCESS`, 2, or a mask.
 fn access_of(word: &[u8]) -> Option<(Rights, u32)>
     ensures value { result ≡ access_of word.now }
-    ensures few { IfSome result (λ access. access.1 ≤ 2) }
+    ensures at_most { IfSome result (λ access. access.1 ≤ 2) }
 {
     if is(word, b"same") {
         return Some((Rights(0), 2));
@@ -335,7 +335,7 @@ fn access_of(word: &[u8]) -> Option<(Rights, u32)>
 /// The keyword for the option `DUPLICATE_CLOSE_SOURCE`, 1, if it stands there.
 fn closing_of(mut words: Words<'_>) -> Option<u32>
     ensures value { result ≡ closing_of words.entry }
-    ensures few { IfSome result (λ closing. closing ≤ 1) }
+    ensures at_most { IfSome result (λ closing. closing ≤ 1) }
 {
     if words.is_empty() {
         return Some(0);
@@ -347,7 +347,7 @@ fn closing_of(mut words: Words<'_>) -> Option<u32>
     Some(1)
 }
 
-/// A thread and a handle.
+/// A thread and a handle, behind which nothing stands.
 #[inline(always)]
 fn handle_of(mut words: Words<'_>) -> Option<(u32, u32)>
     ensures { result ≡ handle_of words.entry }
@@ -362,7 +362,7 @@ fn handle_of(mut words: Words<'_>) -> Option<(u32, u32)>
 
 #[inline(always)]
 fn close_of(words: Words<'_>) -> Act<'_>
-    ensures { act_in result ≡ asked (close_of words.entry) }
+    ensures { act_in result ≡ asked (handled calls.CloseHandle words.entry) }
 {
     let (thread, handle) = wanted!(handle_of(words));
     Act::Ask(Ask::CloseHandle { thread, handle })
@@ -370,7 +370,7 @@ fn close_of(words: Words<'_>) -> Act<'_>
 
 #[inline(always)]
 fn flags_of(words: Words<'_>) -> Act<'_>
-    ensures { act_in result ≡ asked (flags_of words.entry) }
+    ensures { act_in result ≡ asked (handled calls.GetFlags words.entry) }
 {
     let (thread, handle) = wanted!(handle_of(words));
     Act::Ask(Ask::GetFlags { thread, handle })
@@ -399,7 +399,7 @@ fn setflags_of(mut words: Words<'_>) -> Act<'_>
 
 #[inline(always)]
 fn set_of(words: Words<'_>) -> Act<'_>
-    ensures { act_in result ≡ asked (set_of words.entry) }
+    ensures { act_in result ≡ asked (handled calls.SetEvent words.entry) }
 {
     let (thread, handle) = wanted!(handle_of(words));
     Act::Ask(Ask::SetEvent { thread, handle })
@@ -407,7 +407,7 @@ fn set_of(words: Words<'_>) -> Act<'_>
 
 #[inline(always)]
 fn reset_of(words: Words<'_>) -> Act<'_>
-    ensures { act_in result ≡ asked (reset_of words.entry) }
+    ensures { act_in result ≡ asked (handled calls.ResetEvent words.entry) }
 {
     let (thread, handle) = wanted!(handle_of(words));
     Act::Ask(Ask::ResetEvent { thread, handle })
@@ -415,7 +415,7 @@ fn reset_of(words: Words<'_>) -> Act<'_>
 
 #[inline(always)]
 fn unlock_of(words: Words<'_>) -> Act<'_>
-    ensures { act_in result ≡ asked (unlock_of words.entry) }
+    ensures { act_in result ≡ asked (handled calls.ReleaseMutex words.entry) }
 {
     let (thread, handle) = wanted!(handle_of(words));
     Act::Ask(Ask::ReleaseMutex { thread, handle })
@@ -423,7 +423,7 @@ fn unlock_of(words: Words<'_>) -> Act<'_>
 
 #[inline(always)]
 fn cancel_of(words: Words<'_>) -> Act<'_>
-    ensures { act_in result ≡ asked (cancel_of words.entry) }
+    ensures { act_in result ≡ asked (handled calls.CancelTimer words.entry) }
 {
     let (thread, handle) = wanted!(handle_of(words));
     Act::Ask(Ask::CancelTimer { thread, handle })
@@ -449,7 +449,7 @@ fn settimer_of(mut words: Words<'_>) -> Act<'_>
 
 #[inline(always)]
 fn tick_of(mut words: Words<'_>) -> Act<'_>
-    ensures { act_in result ≡ asked (tick_of words.entry) }
+    ensures { act_in result ≡ asked (lone_of moment_of calls.Tick words.entry) }
 {
     let moment = wanted!(words.next());
     wanted!(words.end());
@@ -519,7 +519,8 @@ fn timeout_of(word: &[u8]) -> Option<Timeout>
     Some(Timeout::Millis(millis))
 }
 
-/// Whether each word is a handle.
+/// Whether each word is a handle. A wait's handles are read again when it is made ([`crate::read_handles`]): an act
+/// with a list of them would be cleared for every line.
 fn are_handles(mut words: Words<'_>) -> bool
     ensures { result ≡ are_handles words.entry }
 {
@@ -533,7 +534,7 @@ fn are_handles(mut words: Words<'_>) -> bool
 
 #[inline(always)]
 fn result_of(mut words: Words<'_>) -> Act<'_>
-    ensures { act_in result ≡ asked (result_of words.entry) }
+    ensures { act_in result ≡ asked (lone_of (labelled 119) calls.WaitResult words.entry) }
 {
     let wait = wanted!(words.labelled(b'w'));
     wanted!(words.end());
@@ -543,7 +544,7 @@ fn result_of(mut words: Words<'_>) -> Act<'_>
 
 #[inline(always)]
 fn expire_of(mut words: Words<'_>) -> Act<'_>
-    ensures { act_in result ≡ asked (expire_of words.entry) }
+    ensures { act_in result ≡ asked (lone_of (labelled 119) calls.Expire words.entry) }
 {
     let wait = wanted!(words.labelled(b'w'));
     wanted!(words.end());
@@ -553,7 +554,7 @@ fn expire_of(mut words: Words<'_>) -> Act<'_>
 
 #[inline(always)]
 fn endthread_of(mut words: Words<'_>) -> Act<'_>
-    ensures { act_in result ≡ asked (endthread_of words.entry) }
+    ensures { act_in result ≡ asked (lone_of (labelled 116) calls.EndThread words.entry) }
 {
     let thread = wanted!(words.labelled(b't'));
     wanted!(words.end());
@@ -563,7 +564,7 @@ fn endthread_of(mut words: Words<'_>) -> Act<'_>
 
 #[inline(always)]
 fn exit_of(mut words: Words<'_>) -> Act<'_>
-    ensures { act_in result ≡ asked (exit_of words.entry) }
+    ensures { act_in result ≡ asked (lone_of (labelled 112) calls.Exit words.entry) }
 {
     let process = wanted!(words.labelled(b'p'));
     wanted!(words.end());
@@ -573,7 +574,7 @@ fn exit_of(mut words: Words<'_>) -> Act<'_>
 
 #[inline(always)]
 fn reap_of(mut words: Words<'_>) -> Act<'_>
-    ensures { act_in result ≡ asked (reap_of words.entry) }
+    ensures { act_in result ≡ asked (lone_of (labelled 115) calls.Reap words.entry) }
 {
     let slot = wanted!(words.labelled(b's'));
     wanted!(words.end());
@@ -583,7 +584,7 @@ fn reap_of(mut words: Words<'_>) -> Act<'_>
 
 #[inline(always)]
 fn count_of(mut words: Words<'_>) -> Act<'_>
-    ensures { act_in result ≡ asked (count_of words.entry) }
+    ensures { act_in result ≡ asked (lone_of id_of calls.Counts words.entry) }
 {
     let object = wanted!(words.next());
     wanted!(words.end());
@@ -595,7 +596,7 @@ fn count_of(mut words: Words<'_>) -> Act<'_>
 
 #[inline(always)]
 fn pin_of(words: Words<'_>) -> Act<'_>
-    ensures { act_in result ≡ or_bad (pin_of words.entry) }
+    ensures { act_in result ≡ on_object Pin (object_of words.entry) }
 {
     let id = wanted!(object_of(words));
     Act::Pin(id)
@@ -603,7 +604,7 @@ fn pin_of(words: Words<'_>) -> Act<'_>
 
 #[inline(always)]
 fn unpin_of(words: Words<'_>) -> Act<'_>
-    ensures { act_in result ≡ or_bad (unpin_of words.entry) }
+    ensures { act_in result ≡ on_object Unpin (object_of words.entry) }
 {
     let id = wanted!(object_of(words));
     Act::Unpin(id)
@@ -611,7 +612,7 @@ fn unpin_of(words: Words<'_>) -> Act<'_>
 
 #[inline(always)]
 fn card_of(words: Words<'_>) -> Act<'_>
-    ensures { act_in result ≡ or_bad (card_of words.entry) }
+    ensures { act_in result ≡ on_object ShowCard (object_of words.entry) }
 {
     let id = wanted!(object_of(words));
     Act::ShowCard(id)

@@ -14,7 +14,7 @@ pub fn handles_of(rest: Option<&[u8]>) -> ArrayVec<u32, 65>
     handles
 }
 
-/// The same, in place of those that were there.
+/// Reads the handles of a wait, or the first 65, into a list that is kept from one wait to the next.
 #[inline(always)]
 pub fn read_handles(rest: Option<&[u8]>, handles: &mut ArrayVec<u32, 65>)
     ensures { handles.new.items ≡ take 65 (handles_in (words_left rest.entry)) }
@@ -23,7 +23,7 @@ pub fn read_handles(rest: Option<&[u8]>, handles: &mut ArrayVec<u32, 65>)
     add_handles(Words::of_rest(rest), handles);
 }
 
-/// The handles that words are, or the first 65.
+/// Adds the handles that words are, or the first 65, to an empty list.
 fn add_handles(mut words: Words<'_>, handles: &mut ArrayVec<u32, 65>)
     requires { handles.old.items ≡ [] }
     ensures { handles.new.items ≡ take 65 (handles_in words.entry) }

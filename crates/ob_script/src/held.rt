@@ -1,5 +1,5 @@
 ghost use Rattle.std.specs.Prelude.{◌≡◌, ◌↔◌, [], None, Some, IsTrue, MatchOption};
-ghost use Rattle.ob_script.specs.Held.{more_held};
+ghost use Rattle.ob_script.specs.HeldLines.{more_held};
 
 use arrayvec::ArrayVec;
 use std::marker::Model;
@@ -13,7 +13,7 @@ pub struct HeldLine {
 
 impl Model for HeldLine {
     ghost use Rattle.std.specs.Prelude.{ℕ, List, Option};
-    ghost use Rattle.ob_script.specs.Held.{held_of};
+    ghost use Rattle.ob_script.specs.HeldLines.{held_of};
 
     ghost Value = { Option (List ℕ) };
 
@@ -21,7 +21,7 @@ impl Model for HeldLine {
 }
 
 impl HeldLine {
-    /// Nothing has come.
+    /// A line of which nothing has come.
     pub fn new() -> HeldLine
         ensures { result ≡ Some [] }
     {
@@ -38,7 +38,7 @@ impl HeldLine {
         !self.is_long && self.bytes.is_empty()
     }
 
-    /// More of the line.
+    /// More of the line has come.
     pub fn extend(&mut self, part: &[u8])
         ensures { self.new ≡ more_held self.old part.now }
     {
@@ -60,7 +60,7 @@ impl HeldLine {
         Some(self.bytes.as_slice())
     }
 
-    /// The next line.
+    /// The line has ended: nothing has come of the next one.
     pub fn clear(&mut self)
         ensures { self.new ≡ Some [] }
     {

@@ -76,7 +76,8 @@ impl<'a> ScriptLine<'a> {
     }
 }
 
-/// Where the first line of a text ends, and how long its first word is. Most lines are short.
+/// Where the first line of a text ends, and how long its first word is. Most lines end in the first 32 bytes, which are
+/// looked at all at once.
 #[inline(always)]
 fn ends_of(text: &[u8]) -> Option<(usize, usize)>
     ensures within { IfSome result (λ ends. ends.0 < length text.now) }

@@ -1,8 +1,8 @@
 ghost use Rattle.std.specs.Prelude.{◌≡◌, ◌≢◌, ◌≤◌, ◌∷◌, ℕ, List, IfSome, Some, codes, length, take, true};
 ghost use Rattle.std.specs.List.{list_all};
 ghost use Rattle.std.specs.Char.{is_ascii_digit};
-ghost use Rattle.ob_script.specs.Words.{at_moment, due_of, from_now, long_of, moment_of, number_of, negated, signed_of};
-ghost use Rattle.ob_script.specs.Words.{unless_great, labelled, id_of, either_of, value_of, words_of};
+ghost use Rattle.ob_script.specs.Words.{down_to, due_of, either_of, id_of, labelled, long_of, moment_of, number_of};
+ghost use Rattle.ob_script.specs.Words.{signed_of, up_to, value_of, words_of};
 ghost use Rattle.ob_script.specs.WordsLeft.{words_left};
 
 use crate::words::{cut, is};
@@ -27,13 +27,14 @@ pub fn signed_of(word: &[u8]) -> Option<i32>
     ensures { result ≡ signed_of word.now }
 {
     match word {
-        [b'-', digits @ ..] => negated(number_of(digits)?),
-        _ => unless_great(number_of(word)?),
+        [b'-', digits @ ..] => negated_i32(number_of(digits)?),
+        _ => to_i32(number_of(word)?),
     }
 }
 
-fn negated(number: u32) -> Option<i32>
-    ensures { result ≡ negated number }
+/// The negative of a number, from -2,147,483,648 on.
+fn negated_i32(number: u32) -> Option<i32>
+    ensures { result ≡ down_to 2147483648 number }
 {
     if number > 2_147_483_648 {
         return None;
@@ -41,8 +42,9 @@ fn negated(number: u32) -> Option<i32>
     Some((-i64::from(number)) as i32)
 }
 
-fn unless_great(number: u32) -> Option<i32>
-    ensures { result ≡ unless_great number }
+/// A number, up to 2,147,483,647.
+fn to_i32(number: u32) -> Option<i32>
+    ensures { result ≡ up_to 2147483647 number }
 {
     if number > 2_147_483_647 {
         return None;
@@ -67,8 +69,8 @@ fn leading_digits(text: &[u8]) -> (u64, usize)
     (value, text.len())
 }
 
-/// The number that the first word of a text is, and what stands behind that word. A word for which there is
-/// nothing has to be read in another way.
+/// The number that the first word of a text is, and what stands behind that word. `None` says nothing of the word:
+/// [`number_of`] then has to read it.
 #[inline(always)]
 #[tactic(auto, using(crate::proofs::Leading::number_last, crate::proofs::Leading::number_first))]
 fn leading_number(text: &[u8]) -> Option<(u32, Option<&[u8]>)>
@@ -88,7 +90,7 @@ fn leading_number(text: &[u8]) -> Option<(u32, Option<&[u8]>)>
     Some((value as u32, Some(&text[count + 1..])))
 }
 
-/// The same of a number behind a letter.
+/// The number behind a letter that the first word of a text is, as [`leading_number`] reads it.
 #[inline(always)]
 pub fn leading_labelled(letter: u8, text: &[u8]) -> Option<(u32, Option<&[u8]>)>
     requires { letter ≢ 32 }
@@ -136,30 +138,32 @@ pub fn due_of(word: &[u8]) -> Option<i64>
     ensures { result ≡ due_of word.now }
 {
     match word {
-        [b'-', digits @ ..] => from_now(long_of(digits)?),
-        _ => at_moment(long_of(word)?),
+        [b'-', digits @ ..] => negated_i64(long_of(digits)?),
+        _ => to_i64(long_of(word)?),
     }
 }
 
-fn from_now(units: u64) -> Option<i64>
-    ensures { result ≡ from_now units }
+/// The negative of a number, from -9,223,372,036,854,775,808 on.
+fn negated_i64(number: u64) -> Option<i64>
+    ensures { result ≡ down_to 9223372036854775808 number }
 {
-    if units > 9_223_372_036_854_775_808 {
+    if number > 9_223_372_036_854_775_808 {
         return None;
     }
-    if units == 9_223_372_036_854_775_808 {
+    if number == 9_223_372_036_854_775_808 {
         return Some(i64::MIN);
     }
-    Some(-(units as i64))
+    Some(-(number as i64))
 }
 
-fn at_moment(moment: u64) -> Option<i64>
-    ensures { result ≡ at_moment moment }
+/// A number, up to 9,223,372,036,854,775,807.
+fn to_i64(number: u64) -> Option<i64>
+    ensures { result ≡ up_to 9223372036854775807 number }
 {
-    if moment > 9_223_372_036_854_775_807 {
+    if number > 9_223_372_036_854_775_807 {
         return None;
     }
-    Some(moment as i64)
+    Some(number as i64)
 }
 
 /// A number behind a letter.

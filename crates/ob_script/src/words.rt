@@ -55,7 +55,7 @@ impl<'a> Words<'a> {
         Some(self.take(rest, place_of(b' ', rest)))
     }
 
-    /// The word that ends where the first blank of what is left is.
+    /// Takes the word that ends at the first blank of what is left, or where there is none all that is left.
     #[inline(always)]
     #[tactic(auto, using(crate::proofs::Cuts::first_word, crate::proofs::Cuts::last_word))]
     fn take(&mut self, rest: &'a [u8], blank: Option<usize>) -> &'a [u8]
@@ -74,8 +74,8 @@ impl<'a> Words<'a> {
         }
     }
 
-    /// The next word, as a number behind a letter; there is none inside where it isn't one. Its digits are read while
-    /// its end is looked for.
+    /// The next word, as a number behind a letter: `None` where no word is left, and `Some(None)` where the word isn't
+    /// one. Its digits are read while its end is looked for.
     #[inline(always)]
     pub fn labelled(&mut self, letter: u8) -> Option<Option<u32>>
         requires { letter ≢ 32 }
@@ -128,7 +128,7 @@ impl<'a> Words<'a> {
         }
     }
 
-    /// Some where no word is left.
+    /// `Some` where no word is left, so that `?` refuses a line with more words.
     pub fn end(self) -> Option<()>
         ensures { IsSome result ↔ (self.entry ≡ []) }
     {
@@ -139,7 +139,8 @@ impl<'a> Words<'a> {
     }
 }
 
-/// Whether a word is this keyword. Where that is known, each of its bytes is tested in place: `==` would be a call.
+/// Whether a word is this keyword. A keyword that the compiler knows is tested byte by byte in place, where `==` would
+/// be a call.
 #[inline(always)]
 pub fn is(word: &[u8], keyword: &[u8]) -> bool
     ensures { result ≡ bytes_eq word.now keyword.now }
@@ -155,14 +156,14 @@ pub fn is(word: &[u8], keyword: &[u8]) -> bool
     true
 }
 
-/// Where such a byte is first, found by a look at one byte after another: words are short.
+/// Where this byte is first in a text, found by a look at one byte after another, since words are short.
 pub fn place_of(byte: u8, text: &[u8]) -> Option<usize>
     ensures { IsFirstByte (is_byte byte) text.now result }
 {
     text.iter().position(|b| *b == byte)
 }
 
-/// The same where it is seldom asked, so that the loop isn't copied to each place that asks.
+/// [`place_of`] as a function that isn't inlined, for callers that seldom ask: its loop isn't copied to each of them.
 #[cold]
 #[inline(never)]
 fn seldom_place_of(byte: u8, text: &[u8]) -> Option<usize>
@@ -171,7 +172,8 @@ fn seldom_place_of(byte: u8, text: &[u8]) -> Option<usize>
     place_of(byte, text)
 }
 
-/// What stands before and behind the first such byte, which is near.
+/// What stands before and behind the first such byte of a text. It looks at one byte after another, so it is meant for
+/// a byte that is near.
 #[tactic(auto, using(crate::proofs::Cuts::first_place, crate::proofs::Cuts::no_place))]
 pub fn cut(byte: u8, text: &[u8]) -> Option<(&[u8], &[u8])>
     ensures within { IfSome result (λ _. position_or_len (is_byte byte) text.now < length text.now) }
@@ -184,7 +186,7 @@ pub fn cut(byte: u8, text: &[u8]) -> Option<(&[u8], &[u8])>
     Some((before, &rest[1..]))
 }
 
-/// What stands before and behind the first such byte, which may be far.
+/// What stands before and behind the first such byte of a text, found by [`memchr`], since it may be far.
 #[inline(always)]
 #[tactic(auto, using(crate::proofs::Cuts::first_place, crate::proofs::Cuts::no_place))]
 pub fn cut_far(byte: u8, text: &[u8]) -> Option<(&[u8], &[u8])>

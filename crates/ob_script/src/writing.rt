@@ -352,7 +352,7 @@ impl Line {
         self.label(b'h', handle)
     }
 
-    /// The same with a number that may be negative.
+    /// A verb with a thread, a handle and a number that may be negative.
     fn counted(
         &mut self,
         verb: &[u8],
@@ -463,7 +463,7 @@ impl Line {
         }
     }
 
-    /// The words of a call.
+    /// Writes the words of a call.
     fn call<M: AsMake, T: AsSlice<u8>, H: AsSlice<u32>>(
         &mut self,
         alloc: Global,
@@ -556,7 +556,7 @@ impl Line {
         }
     }
 
-    /// One more carriage return, where the text ends with one.
+    /// Doubles a carriage return at the end of the text, since whoever reads a line drops one.
     fn end(&mut self) -> Result<(), AllocError>
         ensures { OnOk result (self.new ≡ ended self.old) }
     {

@@ -7,18 +7,18 @@ use Rattle.ob_shared.specs.declared.act.Act.{Act}
 use Rattle.ob_shared.specs.declared.act.Seen.{Seen}
 use Rattle.ob_shared.specs.declared.act.Seen.TheVariants.{Stopped}
 use Rattle.ob_shared.specs.declared.gate.Pass.TheVariants.{Go, Stop}
-use Rattle.ob_shared.specs.Members.{Answers, AreTold, Between, Goes, IsRun, Passes, Tells}
+use Rattle.ob_shared.specs.Members.{ActAnswered, AreTold, Between, Goes, IsRun, Passes, GateTold}
 
 goes_more : (acts : List Act) (xs : List Seen) (a : Act) (x : Seen) (s t u : Between) → Goes acts xs s t
-    → Answers a x t u → Goes (acts ++ a ∷ []) (xs ++ x ∷ []) s u
-goes_more [] [] a x s t u go new = (u, subst (λ (z : Between). Answers a x z u) go new, refl)
+    → ActAnswered a x t u → Goes (acts ++ a ∷ []) (xs ++ x ∷ []) s u
+goes_more [] [] a x s t u go new = (u, subst (λ (z : Between). ActAnswered a x z u) go new, refl)
 goes_more (b ∷ acts) (y ∷ xs) a x s t u go new = (go.0, go.1, goes_more acts xs a x go.0 t u go.2 new)
 goes_more [] (y ∷ xs) a x s t u go new = absurd go
 goes_more (b ∷ acts) [] a x s t u go new = absurd go
 
 -- one act more of the script
 pub goes_on : (script : List Act) (i : ℕ) (a : Act) (xs : List Seen) (x : Seen) (s t u : Between) → i < length script
-    → a ≡ get_or script i a → Goes (take i script) xs s t → Answers a x t u
+    → a ≡ get_or script i a → Goes (take i script) xs s t → ActAnswered a x t u
     → Goes (take (i + 1) script) (xs ++ x ∷ []) s u
 goes_on script i a xs x s t u inside at go new = rw (
   take_more script i a inside,
@@ -32,11 +32,11 @@ passed_more may i before now k inside = elim (cases_lt k i) [
   | inr past ↦ subst (λ (n : ℕ). may n Go) (omega (arith, inside, past)) now
 ]
 
-pub told_none : (told : Tells) → AreTold told []
+pub told_none : (told : GateTold) → AreTold told []
 told_none told = record { at = λ place d inside. absurd (omega (arith, inside)) }
 
 -- the gate was told of one answer more
-pub told_more : (told : Tells) (xs : List Seen) (x : Seen) (i : ℕ) → i ≡ length xs → AreTold told xs → told i x
+pub told_more : (told : GateTold) (xs : List Seen) (x : Seen) (i : ℕ) → i ≡ length xs → AreTold told xs → told i x
     → AreTold told (xs ++ x ∷ [])
 told_more told xs x i ends before now = record { at = at }
   where
@@ -51,7 +51,7 @@ told_more told xs x i ends before now = record { at = at }
           (subst (λ (n : ℕ). told n x) last now)
     ]
 
-pub run_stopped : (may : Passes) (told : Tells) (script : List Act) (i : ℕ) (xs : List Seen) (s t : Between)
+pub run_stopped : (may : Passes) (told : GateTold) (script : List Act) (i : ℕ) (xs : List Seen) (s t : Between)
     → i < length script → ((k : ℕ) → k < i → may k Go) → may i Stop → AreTold told xs
     → Goes (take i script) xs s t → IsRun may told script (xs ++ Stopped ∷ []) s t
 run_stopped may told script i xs s t inside passed stopped tells go =
@@ -66,7 +66,7 @@ run_stopped may told script i xs s t inside passed stopped tells go =
       ends = refl;
     })
 
-pub run_whole : (may : Passes) (told : Tells) (script : List Act) (i : ℕ) (xs : List Seen) (s t : Between)
+pub run_whole : (may : Passes) (told : GateTold) (script : List Act) (i : ℕ) (xs : List Seen) (s t : Between)
     → i ≡ length script → ((k : ℕ) → k < i → may k Go) → AreTold told xs
     → Goes (take i script) xs s t → IsRun may told script xs s t
 run_whole may told script i xs s t ends passed tells go = inl (record {

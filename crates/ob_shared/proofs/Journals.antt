@@ -2,7 +2,7 @@
 use Rattle.std.proofs.Common.{◌≡◌, ℕ, List, [], ◌∷◌, ◌++◌, Ok, refl, ap, sym, subst, ◌∙◌}
 use Rattle.ob_store.specs.declared.limits.Limits.{Limits}
 use Rattle.ob_store.specs.Consistent.{IsConsistent}
-use Rattle.ob_store.specs.State.{State, Whole, opening}
+use Rattle.ob_store.specs.State.{State, Whole}
 use Rattle.ob_manager.specs.Savestates.{load}
 use Rattle.ob_manager.specs.Steps.{Step}
 use Rattle.ob_manager.proofs.LimitLaws.{step_limits}

@@ -8,7 +8,7 @@ use Rattle.std.specs.List.{slice_get, slice_range}
 use Rattle.std.specs.Prelude.{is_some}
 use Rattle.ob_shared.specs.declared.book.Entry.{Entry}
 use Rattle.ob_shared.specs.Closing.{DifferAt, IsPart}
-use Rattle.ob_shared.specs.Comparing.{AreFrom, HaveRead}
+use Rattle.ob_shared.specs.Comparing.{HaveRead}
 use Rattle.ob_shared.specs.Lanes.{LaneState, part}
 
 -- one entry before two lists that are equal
@@ -143,15 +143,6 @@ read_next first lanes js read i at e lane inside found within room is of next ol
       (part_other (first + k) js (get_or lanes k d).list i (get_or read k 0) e inside found
       (λ (q : e.lane ≡ first + k). other (omega (arith, q, is))) (old k d below))
 ]
-
--- all of a journal was gone over, and all of each list was found in it
-pub read_whole : (first : ℕ) (lanes : List LaneState) (js : List Entry) (read : List ℕ) → AreFrom first lanes
-    → HaveRead first lanes js read
-    → ((k : ℕ) (d : LaneState) → k < length lanes → length (get_or lanes k d).list ≡ get_or read k 0)
-    → All (IsPart js) lanes
-read_whole first lanes js read from have ends = λ k d within.
-    sym (take-length (get_or lanes k d).list) ∙ ap (λ (n : ℕ). take n (get_or lanes k d).list) (ends k d within)
-    ∙ have k d within ∙ ap (λ (n : ℕ). part n js) (sym (from k d within))
 
 -- each of some lanes that stand together
 pub range_parts : (js : List Entry) (lanes : List LaneState) (a b : ℕ) → b ≤ length lanes

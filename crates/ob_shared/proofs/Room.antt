@@ -5,6 +5,6 @@ use Rattle.ob_shared.specs.Members.{IsReady, IsSame}
 
 -- the first i members have room, and all are as they were
 pub record HaveRoom (old new : List Member) (i : ℕ) : Type 0 where
-  pub long : length new ≡ length old
+  pub length_is : length new ≡ length old
   pub same : (k : ℕ) (d : Member) → k < length old → IsSame (get_or old k d) (get_or new k d)
   pub ready : (k : ℕ) (d : Member) → k < i → k < length old → IsReady (get_or new k d)

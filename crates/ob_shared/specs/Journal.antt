@@ -7,8 +7,8 @@ use Rattle.ob_manager.specs.Savestates.{load}
 use Rattle.ob_manager.specs.Steps.{Step, next}
 use Rattle.ob_shared.specs.declared.book.Entry.{Entry}
 
--- a manager with the calls that were made since it began, and the savestate with which it began, of no bytes where there
--- was none
+-- a manager with the calls that were made since it began, and the savestate with which it began, of no bytes where
+-- there was none
 pub record BookState : Type 0 where
   pub saved : List ℕ
   pub manager : Whole

@@ -9,8 +9,8 @@ use Rattle.pin_words.specs.declared.view.ReaderView.{ReaderView}
 use Rattle.pin_words.specs.Seats.{ReaderState}
 use Rattle.pin_words.specs.Tries.{TriesUntilSettled}
 use Rattle.pin_words.specs.Views.{reader_noted, reader_released}
-use Rattle.ob_manager.specs.Calls.{Call}
-use Rattle.ob_manager.specs.declared.call.CallOf.TheVariants.{WaitFor, WaitResult}
+use Rattle.ob_manager.specs.Calls.{is_wait}
+use Rattle.ob_manager.specs.declared.call.CallOf.TheVariants.{WaitResult}
 use Rattle.ob_manager.specs.declared.card.Card.{Card}
 use Rattle.ob_manager.specs.declared.reply.Reply.{Reply}
 use Rattle.ob_manager.specs.declared.reply.Reply.TheVariants.{Pending, Refused}
@@ -31,10 +31,6 @@ pub record Between : Type 0 where
 
 abbrev pub between : LaneState → List ℕ → ReaderState → Between
 between lane waits reader = record { lane = lane; waits = waits; reader = reader }
-
-abbrev pub is_wait : Call → Bool
-is_wait (WaitFor thread mode timeout handles) = true
-is_wait call = false
 
 -- a call to wait that is answered with a pending wait leaves one more to block on
 abbrev pub with_wait : Bool → Reply → List ℕ → List ℕ
@@ -70,20 +66,20 @@ abbrev pub IsReading : Between → Between → Type 0
 IsReading s t = (t.lane ≡ s.lane) × (t.waits ≡ s.waits) × (t.reader.table ≡ s.reader.table)
 
 -- the answer of one act, with the member before and after
-abbrev pub Answers : Act → Seen → Between → Between → Type 0
-Answers (Ask call) (sees.Reply reply) s t = Lists s.lane call reply t.lane
+abbrev pub ActAnswered : Act → Seen → Between → Between → Type 0
+ActAnswered (Ask call) (sees.Reply reply) s t = Lists s.lane call reply t.lane
     × (t.waits ≡ with_wait (is_wait call) reply s.waits) × (t.reader ≡ s.reader)
-Answers (Pin id) (sees.Pinned answer) s t = Pins s.reader.view id answer t.reader.view × IsReading s t
-Answers (Unpin id) (sees.Unpinned was_held) s t = Unpins s.reader.view id was_held t.reader.view × IsReading s t
-Answers (ShowCard id) (sees.Shown card) s t = Shows s.reader.view id card × (t ≡ s)
-Answers Block (sees.Blocked (Some reply)) s t = Blocks reply s.lane s.waits t.lane t.waits × (t.reader ≡ s.reader)
-Answers Block (sees.Blocked None) s t = (s.waits ≡ []) × (t ≡ s)
-Answers act answer s t = ⊥
+ActAnswered (Pin id) (sees.Pinned answer) s t = Pins s.reader.view id answer t.reader.view × IsReading s t
+ActAnswered (Unpin id) (sees.Unpinned was_held) s t = Unpins s.reader.view id was_held t.reader.view × IsReading s t
+ActAnswered (ShowCard id) (sees.Shown card) s t = Shows s.reader.view id card × (t ≡ s)
+ActAnswered Block (sees.Blocked (Some reply)) s t = Blocks reply s.lane s.waits t.lane t.waits × (t.reader ≡ s.reader)
+ActAnswered Block (sees.Blocked None) s t = (s.waits ≡ []) × (t ≡ s)
+ActAnswered act answer s t = ⊥
 
 -- each act has its answer, one after another
 abbrev pub Goes : List Act → List Seen → Between → Between → Type 0
 Goes [] [] s t = t ≡ s
-Goes (act ∷ acts) (answer ∷ answers) s t = (u : Between) × Answers act answer s u × Goes acts answers u t
+Goes (act ∷ acts) (answer ∷ answers) s t = (u : Between) × ActAnswered act answer s u × Goes acts answers u t
 Goes [] (answer ∷ answers) s t = ⊥
 Goes (act ∷ acts) [] s t = ⊥
 
@@ -92,25 +88,27 @@ abbrev pub Passes : Type 1
 Passes = ℕ → Pass → Type 0
 
 -- what the gate was told of at each place
-abbrev pub Tells : Type 1
-Tells = ℕ → Seen → Type 0
+abbrev pub GateTold : Type 1
+GateTold = ℕ → Seen → Type 0
 
 -- told of the place, and not of what was seen there
-abbrev pub of_places : (ℕ → ℕ → Type 0) → ℕ → Tells
+abbrev pub of_places : (ℕ → ℕ → Type 0) → ℕ → GateTold
 of_places told lane place seen = told lane place
 
 -- the gate was told of each answer
-pub record AreTold (told : Tells) (seen : List Seen) : Type 0 where
+pub record AreTold (told : GateTold) (seen : List Seen) : Type 0 where
   pub at : (place : ℕ) (d : Seen) → place < length seen → told place (slice_index_or seen place d)
 
 -- each act was let pass, and answered, of which the gate was told
-pub record IsWhole (may : Passes) (told : Tells) (script : List Act) (seen : List Seen) (s t : Between) : Type 0 where
+pub record IsWhole (may : Passes) (told : GateTold) (script : List Act) (seen : List Seen) (s t : Between)
+    : Type 0 where
   pub passed : (place : ℕ) → place < length script → may place Go
   pub goes : Goes script seen s t
   pub tells : AreTold told seen
 
 -- so was each act before a place, and the member was stopped there
-pub record IsStopped (may : Passes) (told : Tells) (script : List Act) (seen : List Seen) (s t : Between) : Type 0 where
+pub record IsStopped (may : Passes) (told : GateTold) (script : List Act) (seen : List Seen) (s t : Between)
+    : Type 0 where
   pub at : ℕ
   pub answers : List Seen
   pub within : at < length script
@@ -120,7 +118,7 @@ pub record IsStopped (may : Passes) (told : Tells) (script : List Act) (seen : L
   pub tells : AreTold told answers
   pub ends : seen ≡ answers ++ sees.Stopped ∷ []
 
-abbrev pub IsRun : Passes → Tells → List Act → List Seen → Between → Between → Type 0
+abbrev pub IsRun : Passes → GateTold → List Act → List Seen → Between → Between → Type 0
 IsRun may told script seen s t = IsWhole may told script seen s t ⊎ IsStopped may told script seen s t
 
 -- it has seen nothing
@@ -137,7 +135,7 @@ IsSame old new = (new.lane ≡ old.lane) × (new.reader ≡ old.reader) × (new.
     × (new.seen.items ≡ old.seen.items)
 
 -- a member without waits was run, where the gate may answer so, and is told of this, in each lane
-pub record IsDriven (may : ℕ → ℕ → Pass → Type 0) (told : ℕ → Tells) (old new : Member) : Type 0 where
+pub record IsDriven (may : ℕ → ℕ → Pass → Type 0) (told : ℕ → GateTold) (old new : Member) : Type 0 where
   pub waits : List ℕ
   pub script : new.script ≡ old.script
   pub number : new.lane.number ≡ old.lane.number

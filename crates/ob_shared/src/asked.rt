@@ -17,7 +17,7 @@ impl Model for Asked {
 }
 
 impl Asked {
-    /// That this call was made.
+    /// Notes that this call was made.
     #[inline(always)]
     pub(crate) fn of(_call: &Call) -> Asked
         ensures { result.call ≡ _call.now }

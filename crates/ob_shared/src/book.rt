@@ -41,8 +41,8 @@ impl Entry {
     }
 }
 
-/// That a call was entered in a journal, with the call. Only what a [`Book`] says of a call that it entered makes one,
-/// and it can't be copied.
+/// Proof that a call was entered in a journal, with the call. Only a [`Book`] makes one, of a call that it entered, and
+/// it can't be copied.
 #[derive(Drop)]
 pub struct Receipt {
     entry: Entry,
@@ -65,9 +65,9 @@ impl Receipt {
     }
 }
 
-/// That a call was entered in a journal, without the call, which its caller still has. Only a [`Book`] that enters a
-/// call makes one, and it can be neither copied nor let go (it isn't `Drop`): whatever was entered for a lane is listed
-/// in one.
+/// Proof that a call was entered in a journal, without the call, which its caller still has. Only a [`Book`] that
+/// enters a call makes one, and it can be neither copied nor let go (it isn't `Drop`): so whatever was entered for a
+/// lane is listed in one.
 pub(crate) struct Entered {
     lane: u32,
     asked: Asked,
@@ -169,7 +169,8 @@ impl<K: PinKeeper> Book<K> {
         }
     }
 
-    /// Makes a call of a lane, and enters it. The refusal is want of memory (8), and has changed nothing.
+    /// Makes a call of a lane, and enters it in the journal. It is refused for want of memory alone (8), and then
+    /// nothing has changed.
     #[inline(always)]
     pub fn enact(&mut self, lane: u32, call: Call) -> Result<Receipt, Fault>
         ensures entered { IfOk result (λ receipt. self.new.journal ≡ self.old.journal ++ receipt ∷ []) }
@@ -183,7 +184,8 @@ impl<K: PinKeeper> Book<K> {
         Ok(entered.receipt(call))
     }
 
-    /// The same with a copy for the journal that was made before. The receipt can be made later.
+    /// Makes a call of a lane, and enters in the journal the copy of it that was made before. The receipt can be made
+    /// later.
     #[inline(always)]
     #[tactic(auto, using(crate::proofs::Journals::history_next))]
     pub(crate) fn enter(&mut self, lane: u32, call: &Call, copy: Call) -> Result<Entered, Fault>
@@ -235,8 +237,9 @@ impl<K: PinKeeper> Book<K> {
         self.manager.kept();
     }
 
-    /// Why lanes aren't whole beside the journal, where so many numbers were given: the first cause in the order of a
-    /// stranger, a number twice, a number that is missing, and a list that differs. There is none where they are whole.
+    /// Why lanes aren't whole beside the journal, where `given` lane numbers were given: the first that applies of a
+    /// lane whose number wasn't given, a number that two lanes have, a number that no lane has, and a list that
+    /// differs. There is none where they are whole.
     pub fn cause(&self, given: u32, lanes: &[Lane]) -> Option<CloseCause>
         ensures whole { IfNone result (AreWhole given lanes.now self.now.journal) }
         ensures cause { IfSome result (λ cause. IsCause given lanes.now self.now.journal cause) }

@@ -37,7 +37,7 @@ fn has_stranger(given: u32, lanes: &[Lane]) -> bool
     lanes.iter().any(|lane| lane.number >= given)
 }
 
-/// Whether the lane at a place has the number.
+/// Whether there is a lane at a place, and it has the number.
 fn is_at(place: usize, lanes: &[Lane], number: u32) -> bool
     ensures { result ≡ true → list_any (has_number number) lanes.now ≡ true }
 {
@@ -65,7 +65,7 @@ fn rise(lanes: &[Lane]) -> bool
     true
 }
 
-/// Whether two lanes have one number. They mostly stand by rising number.
+/// Whether two lanes have one number. They mostly stand by rising number, and then no two have.
 fn has_twice(lanes: &[Lane]) -> bool
     ensures { result ≡ has_twice lanes.now }
 {
@@ -94,16 +94,16 @@ fn misses_entry(lanes: &[Lane], journal: &[Entry]) -> bool
     journal.iter().any(|entry| !has(lanes, entry.lane))
 }
 
-/// Whether one of these is.
+/// Whether a number that was given or that the journal has is no lane's.
 fn misses(given: u32, lanes: &[Lane], journal: &[Entry]) -> bool
     ensures { result ≡ misses given lanes.now journal.now }
 {
     misses_number(given, lanes) || misses_entry(lanes, journal)
 }
 
-/// Why lanes aren't whole beside a journal, when so many numbers are given. Where they stand by their numbers, each
-/// number in the journal is looked up at once, and the lists are compared in one pass over the journal for each 256
-/// lanes. Where they don't, it takes a time that grows with the number of lanes times the length of the journal.
+/// Why lanes aren't whole beside a journal, where `given` numbers were given. Where each lane stands at the place of
+/// its number, each number in the journal is looked up at once, and the lists are compared in one pass over the journal
+/// for each 256 lanes. Otherwise it takes a time that grows with the number of lanes times the length of the journal.
 pub(crate) fn cause_of(given: u32, lanes: &[Lane], journal: &[Entry]) -> Option<CloseCause>
     ensures whole { IfNone result (AreWhole given lanes.now journal.now) }
     ensures cause { IfSome result (λ cause. IsCause given lanes.now journal.now cause) }

@@ -1,4 +1,5 @@
-//! Lanes beside a journal: many in one pass over it where their numbers follow one another, and else one after another.
+//! Compares lanes with a journal: many in one pass over it where their numbers follow one another, and otherwise one
+//! lane after another.
 ghost use Rattle.std.specs.Prelude.{◌≡◌, ◌+◌, ◌<◌, ◌≤◌, ℕ, All, IfNone, IfSome, IsTrue, length, slice_index_or, true};
 ghost use Rattle.ob_shared.specs.Closing.{FirstDiffers, IsPart};
 ghost use Rattle.ob_shared.specs.Comparing.{AreFrom, HaveRead};
@@ -7,10 +8,10 @@ ghost use Rattle.ob_shared.specs.Lanes.{LaneState};
 use crate::book::Entry;
 use crate::lane::Lane;
 
-/// How many lanes are compared in one pass. Each has a number on the stack meanwhile.
+/// How many lanes are compared in one pass. Meanwhile the stack has a number for each: how much of its list was found.
 const AT_ONCE: usize = 256;
 
-/// Whether the lanes have the numbers from the first one on, each one more than the one before.
+/// Whether the lanes have the numbers `first`, `first + 1` and so on.
 fn are_from(first: u32, lanes: &[Lane]) -> bool
     ensures { result ≡ true → AreFrom first lanes.now }
 {
@@ -22,8 +23,8 @@ fn are_from(first: u32, lanes: &[Lane]) -> bool
     true
 }
 
-/// Goes over a journal, and counts what was found of each lane's list. Whether each entry of one of the lanes is the
-/// next one of its list.
+/// Goes over a journal, and counts how much of each lane's list was found. Answers whether each entry of one of these
+/// lanes is the next one of the lane's list.
 fn read_on(first: u32, lanes: &[Lane], journal: &[Entry], read: &mut [usize]) -> bool
     requires from { AreFrom first lanes.now }
     requires room { length lanes.now ≤ length read.old }
@@ -42,7 +43,7 @@ fn read_on(first: u32, lanes: &[Lane], journal: &[Entry], read: &mut [usize]) ->
     true
 }
 
-/// Whether each lane's list has as many entries.
+/// Whether each lane's list has as many entries as were found of it.
 fn have_ended(lanes: &[Lane], read: &[usize]) -> bool
     requires { length lanes.now ≤ length read.now }
     ensures { result ≡ true → ((k : ℕ) (d : LaneState) → k < length lanes.now
@@ -65,7 +66,7 @@ fn are_parts(first: u32, lanes: &[Lane], journal: &[Entry], read: &mut [usize]) 
     are_from(first, lanes) && read_on(first, lanes, journal, read) && have_ended(lanes, read)
 }
 
-/// The same of some lanes, whatever their numbers are.
+/// Whether each of some lanes has its part of a journal, whatever their numbers are.
 fn are_whole(lanes: &[Lane], journal: &[Entry]) -> bool
     ensures { result ≡ true → All (IsPart journal.now) lanes.now }
 {
@@ -77,8 +78,8 @@ fn are_whole(lanes: &[Lane], journal: &[Entry]) -> bool
     }
 }
 
-/// A place up to which the lanes from another place on each have their part of a journal. It is that other place where
-/// one pass didn't find it so.
+/// A place such that each lane from `from` up to it has its part of a journal. It is `from` itself where one pass
+/// didn't find that of all that it compared.
 fn whole_to(from: usize, lanes: &[Lane], journal: &[Entry]) -> usize
     requires { from < length lanes.now }
     ensures { (k : ℕ) (d : LaneState) → from ≤ k → k < result → k < length lanes.now
@@ -94,7 +95,7 @@ fn whole_to(from: usize, lanes: &[Lane], journal: &[Entry]) -> usize
 /// The first lane whose list differs from its part of the journal, and the place.
 pub(crate) fn first_difference(lanes: &[Lane], journal: &[Entry]) -> Option<(u32, usize)>
     ensures none { IfNone result (All (IsPart journal.now) lanes.now) }
-    ensures some { IfSome result (λ found. FirstDiffers lanes.now journal.now found.0 found.1) }
+    ensures found { IfSome result (λ found. FirstDiffers lanes.now journal.now found.0 found.1) }
 {
     let mut whole = 0;
     for (k, lane) in lanes.iter().enumerate() {

@@ -27,7 +27,7 @@ fn reserve(members: &mut [Member]) -> Result<(), Fault>
     Ok(())
 }
 
-/// Drives members that have room for their answers.
+/// Does the acts of members that have room for their answers, as [`drive`] does.
 fn drive_ready<R: Threads + Wait + Sync, G: Gate + Sync>(
     rt: &R,
     shared: &Shared,
@@ -68,7 +68,7 @@ pub fn drive<R: Threads + Wait + Sync, G: Gate + Sync>(
     members: &mut [Member],
 ) -> Result<(), Fault>
     requires new { All IsNew members.old }
-    requires few { length members.old ≤ 64 }
+    requires at_most { length members.old ≤ 64 }
     ensures driven { IfOk result (λ _. (i : ℕ) (d : Member) → i < length members.old
         → IsDriven (G.may_answer gate.now) (of_places (G.is_told gate.now)) (slice_index_or members.old i d)
         (slice_index_or members.new i d)) }

@@ -15,7 +15,7 @@ pub enum Pass {
     Stop,
 }
 
-/// Who lets members pass, one act at a time. A gate may keep a member waiting.
+/// What lets members pass, one act at a time. A gate may keep a member waiting.
 ///
 /// A contract knows of its answers what `may_answer` says: at the number of a lane, and the place of one of its
 /// member's acts. What it was told of is what `is_told` says, which nothing but [`Gate::leave`] gives.
@@ -28,14 +28,14 @@ pub trait Gate {
     fn enter<R: Wait>(&self, rt: &R, lane: u32, place: usize) -> Pass
         ensures { may_answer self.now lane place result };
 
-    /// Told after each answer, with the same. An act at which the member was stopped has none.
+    /// Told after each answer, with the same number and place. An act at which the member was stopped has no answer.
     fn leave<R: Wait>(&self, rt: &R, lane: u32, place: usize)
         requires { may_answer self.now lane place Go }
         ensures { is_told self.now lane place };
 }
 
-/// A gate as the code sees it that does a member's acts: it is told of an answer with the answer, so never before there
-/// is one.
+/// A gate as seen by the code that does a member's acts. It is told of an act with the act's answer, so never before
+/// there is one.
 pub(crate) trait Passage {
     ghost may_answer: { Self → ℕ → ℕ → Pass → Type 0 };
 
@@ -51,7 +51,7 @@ pub(crate) trait Passage {
         ensures { is_told self.now lane place seen };
 }
 
-/// The gate isn't told what the answer is.
+/// A gate that anybody wrote, which isn't told what the answer is.
 impl<G: Gate> Passage for G {
     ghost use Rattle.ob_shared.specs.Members.{of_places};
 

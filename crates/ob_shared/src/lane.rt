@@ -41,14 +41,14 @@ impl Lane {
         self.number
     }
 
-    /// That its calls were entered, in the order in which it made them.
+    /// The receipts of its calls, in the order in which it made them.
     pub fn receipts(&self) -> &[Receipt]
         ensures { result.now ≡ self.now.list }
     {
         self.list.as_slice()
     }
 
-    /// The next place, where the entry stands at a place of its list.
+    /// The place behind `place`, where the entry stands at `place` in its list; none where it doesn't.
     pub(crate) fn next(&self, place: usize, entry: &Entry) -> Option<usize>
         ensures { IfSome result (λ next. (next ≡ place + 1) × (slice_get self.now.list place ≡ Some entry.now)) }
     {
@@ -61,7 +61,7 @@ impl Lane {
     /// The first place where the list differs from the lane's part of a journal.
     pub(crate) fn difference(&self, journal: &[Entry]) -> Option<usize>
         ensures none { IfNone result (IsPart journal.now self.now) }
-        ensures some { IfSome result (λ place. DifferAt self.now.list (part self.now.number journal.now) place) }
+        ensures found { IfSome result (λ place. DifferAt self.now.list (part self.now.number journal.now) place) }
     {
         difference(self.number, self.list.as_slice(), journal)
     }
@@ -74,11 +74,11 @@ fn has_at(list: &[Receipt], place: usize, entry: &Entry) -> bool
     place < list.len() && list[place].entry().is_same(entry)
 }
 
-/// The first place where a list differs from the part of a journal that is a lane's.
+/// The first place where a list differs from a lane's part of a journal: the entries of the lane, in their order.
 #[tactic(auto, using(crate::proofs::Parts::part_whole))]
 fn difference(number: u32, list: &[Receipt], journal: &[Entry]) -> Option<usize>
     ensures none { IfNone result (list.now ≡ part number journal.now) }
-    ensures some { IfSome result (λ place. DifferAt list.now (part number journal.now) place) }
+    ensures found { IfSome result (λ place. DifferAt list.now (part number journal.now) place) }
 {
     let mut place = 0;
     for entry in journal {

@@ -1,7 +1,8 @@
 ghost use Rattle.std.specs.Prelude.{◌≡◌, ◌<◌, false, true, [], IfNone, IfSome, vec_len, vec_capacity};
+ghost use Rattle.ob_manager.specs.Calls.{is_wait};
 ghost use Rattle.ob_shared.specs.declared.gate.Pass.TheVariants.{Go, Stop};
 ghost use Rattle.ob_shared.specs.Lanes.{Lists};
-ghost use Rattle.ob_shared.specs.Members.{Answers, Blocks, IsDriven, IsReady, between, is_wait, with_wait};
+ghost use Rattle.ob_shared.specs.Members.{ActAnswered, Blocks, IsDriven, IsReady, between, with_wait};
 
 use crate::act::{Act, Seen};
 use crate::gate::{Pass, Passage};
@@ -13,7 +14,7 @@ use ob_rights::Fault;
 use pin_words::Reader;
 use std::sync::Wait;
 
-/// Who makes calls of a [`Shared`] on a thread, by a script.
+/// A caller of a [`Shared`] that does the acts of a script on a thread of its own.
 #[derive(Drop)]
 pub struct Member {
     /// Where its calls are listed.
@@ -44,7 +45,8 @@ fn keep(waits: &mut Vec<u32>, waited: bool, reply: Reply)
     }
 }
 
-/// Makes a copy of a call. Without memory the answer is 8.
+/// Makes a copy of a call, and the call by that copy, and keeps the wait that it leaves pending, if any. Where memory
+/// for this is wanting the answer is 8.
 fn ask<R: Wait>(
     rt: &R,
     shared: &Shared,
@@ -67,10 +69,10 @@ fn ask<R: Wait>(
     reply
 }
 
-/// Waits for the last wait, and takes it.
+/// Waits for the last wait that is kept, if there is one, and takes it unless the answer is 8.
 fn block<R: Wait>(rt: &R, shared: &Shared, lane: &mut Lane, waits: &mut Vec<u32>) -> Option<Reply>
     ensures none { IfNone result ((waits.old.items ≡ []) × (waits.new.items ≡ []) × (lane.new ≡ lane.old)) }
-    ensures some { IfSome result (λ reply. Blocks reply lane.old waits.old.items lane.new waits.new.items) }
+    ensures found { IfSome result (λ reply. Blocks reply lane.old waits.old.items lane.new waits.new.items) }
     ensures number { lane.new.number ≡ lane.old.number }
 {
     let wait = waits.pop()?;
@@ -90,7 +92,7 @@ fn answer<R: Wait>(
     waits: &mut Vec<u32>,
     act: &Act,
 ) -> Seen
-    ensures answers { Answers act.now result (between lane.old waits.old.items reader.old)
+    ensures answers { ActAnswered act.now result (between lane.old waits.old.items reader.old)
         (between lane.new waits.new.items reader.new) }
     ensures number { lane.new.number ≡ lane.old.number }
 {

@@ -16,7 +16,7 @@ pub(crate) fn pin_descr<R: Wait>(rt: &R, reader: &mut Reader, id: Id) -> Result<
     Ok(reader.descr(id))
 }
 
-/// Lets a copy of an Id go. Whether it was held.
+/// Lets a copy of an Id go, and answers whether it was held.
 pub(crate) fn unpin(reader: &mut Reader, id: Id) -> bool
     ensures unpins { Unpins reader.old.view id result reader.new.view }
     ensures table { reader.new.table ≡ reader.old.table }

@@ -15,22 +15,21 @@ use std::sync::{Condvar, Mutex, MutexGuard, Wait};
 /// How many lanes there may be.
 const LANES_MOST: u32 = 65536;
 
-/// How often the lock is asked for before a caller waits for it, with a pause behind each.
+/// How many times a caller asks for the lock, with a pause behind each, before it waits for it.
 const LOOKS: u32 = 3;
 
-/// How long the first pause is, in the processor's steps of waiting, and how many times as long as the one before each
-/// other is.
+/// Steps of the first pause; each later pause is this many times as long as the one before it.
 const PAUSES: u32 = 8;
 
 /// What lies under the lock: a book that began with a new manager.
 #[derive(Drop)]
-struct Held {
+struct UnderLock {
     book: Book<Keeper>,
     /// How many callers wait for the book to change, so that a call tells nobody where nobody waits.
     waiting: u32,
 }
 
-impl Model for Held {
+impl Model for UnderLock {
     ghost use Rattle.std.specs.Prelude.{◌≡◌, []};
     ghost use Rattle.ob_shared.specs.Journal.{BookState};
 
@@ -41,16 +40,16 @@ impl Model for Held {
     ghost invariant = { λ held. held.book.saved ≡ [] };
 }
 
-impl Held {
+impl UnderLock {
     ghost use Rattle.std.specs.Prelude.{IfOk, IfErr, []};
     ghost use Rattle.ob_rights.specs.declared.fault.Fault.TheVariants.{Memory};
     ghost use Rattle.ob_manager.specs.Steps.{Step};
 
-    fn new(book: Book<Keeper>) -> Held
+    fn new(book: Book<Keeper>) -> UnderLock
         requires { book.saved ≡ [] }
         ensures { result ≡ book }
     {
-        Held { book, waiting: 0 }
+        UnderLock { book, waiting: 0 }
     }
 
     fn book(&self) -> &Book<Keeper>
@@ -59,7 +58,7 @@ impl Held {
         &self.book
     }
 
-    /// [`Book::enter`], and how many callers wait for the book to change.
+    /// Makes a call by [`Book::enter`], and answers with it how many callers wait for the book to change.
     #[inline(always)]
     fn enter(&mut self, lane: u32, call: &Call, copy: Call) -> (Result<Entered, Fault>, u32)
         requires { copy ≡ call.now }
@@ -71,15 +70,15 @@ impl Held {
         (entered, self.waiting)
     }
 
-    /// One caller more waits for the book to change.
-    fn one_more_waits(&mut self)
+    /// Counts a caller that begins to wait for the book to change.
+    fn begin_wait(&mut self)
         ensures { self.new ≡ self.old }
     {
         self.waiting = self.waiting.saturating_add(1);
     }
 
-    /// One caller less waits for it.
-    fn one_fewer_waits(&mut self)
+    /// Counts a caller that no longer waits for the book to change.
+    fn end_wait(&mut self)
         ensures { self.new ≡ self.old }
     {
         self.waiting = self.waiting.saturating_sub(1);
@@ -97,7 +96,7 @@ impl Held {
 /// journal replays to its state. Calls are made in lanes. A contract sees how many lanes there are.
 #[derive(Drop)]
 pub struct Shared {
-    held: Mutex<Held>,
+    held: Mutex<UnderLock>,
     changed: Condvar,
     alloc: Global,
     lanes: u32,
@@ -134,7 +133,7 @@ impl Shared {
     {
         let book = Book::new(alloc, manager);
         Shared {
-            held: Mutex::new(Held::new(book)),
+            held: Mutex::new(UnderLock::new(book)),
             changed: Condvar::new(),
             alloc,
             lanes: 0,
@@ -145,7 +144,7 @@ impl Shared {
         self.alloc
     }
 
-    /// The next lane, by rising number from 0. It is refused with 1450 after 65,536.
+    /// The next lane: lanes are numbered from 0. It is refused with 1450 after 65,536 lanes.
     pub fn lane(&mut self) -> Result<Lane, Fault>
         ensures ok { IfOk result (λ lane. (self.old < LANES_MOST) × (lane ≡ record { number = self.old; list = [] })
             × (self.new ≡ self.old + 1)) }
@@ -163,7 +162,7 @@ impl Shared {
     /// some times, with a longer pause behind each, before the caller waits for it. Whoever asks takes the lock's word
     /// out of the cache of the one that holds it, so the pauses soon are longer than many calls.
     #[inline(never)]
-    fn lock<R: Wait>(&self, rt: &R) -> MutexGuard<'_, Held> {
+    fn lock<R: Wait>(&self, rt: &R) -> MutexGuard<'_, UnderLock> {
         let mut pauses = PAUSES;
         for _ in 0..LOOKS {
             if let Some(held) = self.held.try_lock() {
@@ -178,8 +177,8 @@ impl Shared {
     }
 
     /// Makes a call, enters it in the journal, and lists it in its lane. Where memory is wanting before the manager is
-    /// asked the answer is 8, and nothing is changed, entered or listed; an 8 of the manager's own is entered and
-    /// listed as each refusal.
+    /// asked, the answer is 8, and nothing is changed, entered or listed; an 8 of the manager's own is entered and
+    /// listed like any other refusal.
     #[inline(always)]
     #[tactic(auto, using(crate::proofs::LaneLists::are_of_more))]
     pub fn call<R: Wait>(&self, rt: &R, lane: &mut Lane, call: Call) -> Reply
@@ -212,7 +211,7 @@ impl Shared {
         self.copy_and_enter(rt, lane, call)
     }
 
-    /// The same of a create, an open or a wait, whose name or handles are copied first.
+    /// Enters a call whose name or handles are copied for the journal first: a create, an open or a wait.
     #[inline(never)]
     fn copy_and_enter<R: Wait>(&self, rt: &R, lane: u32, call: &Call) -> Result<Entered, Fault>
         ensures entry { IfOk result (λ entered. (entered.lane ≡ lane) × (entered.call ≡ call.now)) }
@@ -222,7 +221,7 @@ impl Shared {
         self.enter_with(rt, lane, call, copy)
     }
 
-    /// The same with the copy for the journal.
+    /// Enters a call with the copy made for the journal.
     #[inline(always)]
     fn enter_with<R: Wait>(
         &self,
@@ -253,7 +252,7 @@ impl Shared {
             return Reply::Refused(Fault::Memory);
         }
         let mut held = self.lock(rt);
-        held.one_more_waits();
+        held.begin_wait();
         let mut held = self.changed.wait_while(
             rt,
             held,
@@ -262,7 +261,7 @@ impl Shared {
                     × (held.exit.now ≡ held.entry.now) }
             { held.book().is_pending(wait) },
         );
-        held.one_fewer_waits();
+        held.end_wait();
         let ask = Call::WaitResult { wait };
         let copy = Call::WaitResult { wait };
         let (answer, waiting) = held.enter(lane.number, &ask, copy);
@@ -284,7 +283,7 @@ impl Shared {
         }
     }
 
-    /// What the object of an Id was created as, which the reader holds: as [`Manager::card`] answers it under the lock.
+    /// What the object of an Id that the reader holds was created as: what [`Manager::card`] answers under the lock.
     pub fn inspect<R: Wait>(&self, rt: &R, reader: &Reader, id: Id) -> Option<Card>
         requires { 0 < tally (same_id id) reader.now.view.held }
         ensures { IfSome result (λ card. card.id ≡ id) }
@@ -294,9 +293,9 @@ impl Shared {
     }
 
     /// The manager and its journal, where the lanes that are handed in are whole: they have the numbers that were
-    /// given, each once, each entry of the journal is of one of them, and the list of each is its part of the journal.
-    /// Otherwise all is handed back, with the first cause why not, which is what [`Book::cause`] says of the book under
-    /// the lock.
+    /// given, each once; each entry of the journal is of one of them; and the list of each is its part of the journal.
+    /// Otherwise all is handed back with the first cause why they aren't, which is what [`Book::cause`] says of the
+    /// book under the lock.
     pub fn close(self, lanes: Vec<Lane>) -> Result<Closed, NotClosed>
         ensures kept { IfOk result (λ closed. IsConsistent closed.manager) }
         ensures history { IfOk result (λ closed. IsHistory closed.journal.items closed.manager) }
@@ -323,7 +322,7 @@ impl Shared {
             }
             Some(cause) => Err(NotClosed {
                 shared: Shared {
-                    held: Mutex::new(Held::new(book)),
+                    held: Mutex::new(UnderLock::new(book)),
                     changed,
                     alloc,
                     lanes: given,

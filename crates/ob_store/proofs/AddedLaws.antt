@@ -41,7 +41,7 @@ use Rattle.ob_store.proofs.KeptLaws.{processes_same}
 pub bodiless : (s : ObjectsState) (k : ℕ) → object_at s k ≡ None → k < length s.objects → IsAgreed s
     → body_at s k ≡ None
 bodiless s k none room a =
-    let long = a.long in
+    let long = a.length_is in
     (subst (λ (o : Option Object). Agrees k o (body_at s k) (retired_at s k) (slot_at s k)) none
     (a.each k (omega (arith, room, long)))).0
 
@@ -131,7 +131,7 @@ module _ (p : PartsState) (kept : IsKept p) (tied : IsTied p.objects)
   pub kept_added : (rows : Rows) → IsListing rows (with_entry_of p.tables.tables process entry)
       (with_object p.objects slot head body).objects (p.objects.births + 1) → IsKept (added rows)
   kept_added rows listing =
-      let bodied : slot < length o.seen.bodies = (let a = tied.agreed.long in let b = tied.agreed.bodied in
+      let bodied : slot < length o.seen.bodies = (let a = tied.agreed.length_is in let b = tied.agreed.bodied in
       omega (arith, within, a, b)) in
       let sound = kept.sound in
       record {

@@ -15,7 +15,7 @@ use Rattle.ob_body.specs.declared.body.Body.{Body}
 use Rattle.ob_waits.specs.Objects as waits
 use Rattle.ob_store.specs.Objects.{Object, ObjectsState, Head, object_in, with_object, with_keeper, places_in, without_seat, open_phase, open_slot, opened}
 use Rattle.ob_store.specs.Agreement.{Agrees, IsAgreed, vacant_phase}
-use Rattle.ob_store.proofs.EndLaws.{none_set}
+use Rattle.ob_store.proofs.EndLaws.{gone_set}
 
 abbrev pub object_at : ObjectsState → ℕ → Option Object
 object_at s k = get_or s.objects k None
@@ -39,7 +39,7 @@ agrees_same j o p b c r q x y po cb qr yx h =
 pub record Beside (s t : ObjectsState) (k : ℕ) : Type 0 where
   pub shape : t.keeper.shape ≡ s.keeper.shape
   pub wide : length t.keeper.slots ≡ length s.keeper.slots
-  pub long : length t.objects ≡ length s.objects
+  pub length_is : length t.objects ≡ length s.objects
   pub bodied : length t.seen.bodies ≡ length s.seen.bodies
   pub marked : length t.retired ≡ length s.retired
   pub objects : (j : ℕ) → j ≢ k → object_at t j ≡ object_at s j
@@ -52,9 +52,9 @@ pub agreed_beside : (s t : ObjectsState) (k : ℕ) → Beside s t k → IsAgreed
 agreed_beside s t k b a here =
     let shape : t.keeper.shape.slots ≡ s.keeper.shape.slots = ap (λ (z : Shape). z.slots) b.shape in
     record {
-      few = omega (arith, a.few, shape);
+      at_most = omega (arith, a.at_most, shape);
       wide = omega (arith, a.wide, b.wide, shape);
-      long = omega (arith, a.long, b.long, shape);
+      length_is = omega (arith, a.length_is, b.length_is, shape);
       bodied = omega (arith, a.bodied, b.bodied, shape);
       marked = omega (arith, a.marked, b.marked, shape);
       each = λ j lt. elim (cases_eq j k) [
@@ -71,9 +71,9 @@ agreed_beside s t k b a here =
 pub agreed_stays : (s : ObjectsState) (seen : waits.Objects) → seen.bodies ≡ s.seen.bodies → IsAgreed s
     → IsAgreed (record s { seen = seen })
 agreed_stays s seen bodies a = record {
-  few = a.few;
+  at_most = a.at_most;
   wide = a.wide;
-  long = a.long;
+  length_is = a.length_is;
   bodied = ap length bodies ∙ a.bodied;
   marked = a.marked;
   each = λ k lt. subst (λ (x : Option Body). Agrees k (object_at s k) x (retired_at s k) (slot_at s k))
@@ -89,7 +89,7 @@ agreed_ended s seen k bodies there a =
     agreed_beside s t k (record {
       shape = refl;
       wide = length-set s.keeper.slots k y;
-      long = refl;
+      length_is = refl;
       bodied = ap length bodies ∙ length-set s.seen.bodies k None;
       marked = refl;
       objects = λ j other. refl;
@@ -98,7 +98,7 @@ agreed_ended s seen k bodies there a =
       slots = λ j other. get_or-set_other s.keeper.slots k j y opening_slot other;
     }) a (λ lt. agrees_same k (object_at s k) (object_at s k) None (body_at t k) (retired_at s k) (retired_at s k) y
     (slot_at t k)
-    refl (ap (λ l. get_or l k None) bodies ∙ none_set s.seen.bodies k) refl
+    refl (ap (λ l. get_or l k None) bodies ∙ gone_set s.seen.bodies k None) refl
     (get_or-set_same s.keeper.slots k y opening_slot (omega (arith, lt, a.wide)))
     (ended (object_at s k) (body_at s k) there (a.each k lt)))
   where
@@ -135,7 +135,7 @@ agreed_added s t k head body is none unretired room seats a = subst IsAgreed (sy
   shape = refl;
   wide = length-set stored_slots k (in_phase (slot_of stored_slots k) phase.Live)
       ∙ length-set s.keeper.slots k (with_descr (slot_at s k) head.descr);
-  long = length-set s.objects k (Some (object_in s k head));
+  length_is = length-set s.objects k (Some (object_in s k head));
   bodied = length-set s.seen.bodies k (Some body);
   marked = refl;
   objects = λ j other. get_or-set_other s.objects k j (Some (object_in s k head)) None other;
@@ -167,7 +167,7 @@ agreed_added s t k head body is none unretired room seats a = subst IsAgreed (sy
 pub free_at : (s : ObjectsState) (k : ℕ) → object_at s k ≡ None → retired_at s k ≡ false → k < length s.objects
     → IsAgreed s → (slot_at s k).phase ≡ phase.Free
 free_at s k none unretired room a = by (object_at s k) (retired_at s k) none unretired
-    (a.each k (omega (arith, room, a.long)))
+    (a.each k (omega (arith, room, a.length_is)))
   where
     by : (o : Option Object) (r : Bool) → o ≡ None → r ≡ false → Agrees k o (body_at s k) r (slot_at s k)
         → (slot_at s k).phase ≡ phase.Free
@@ -189,7 +189,7 @@ agreed_vacated s k retired y looks marked others here a =
     agreed_beside s t k (record {
       shape = refl;
       wide = length-set s.keeper.slots k y;
-      long = length-set s.objects k None;
+      length_is = length-set s.objects k None;
       bodied = length-set s.seen.bodies k None;
       marked = marked;
       objects = λ j other. get_or-set_other s.objects k j None None other;
@@ -198,14 +198,14 @@ agreed_vacated s k retired y looks marked others here a =
       slots = λ j other. get_or-set_other s.keeper.slots k j y opening_slot other;
     }) a (λ lt. agrees_same k None (object_at t k) None (body_at t k) (get_or retired k false) (retired_at t k) y
     (slot_at t k)
-    (get_or-set_same s.objects k None None (omega (arith, lt, a.long))) (none_set s.seen.bodies k) refl
+    (get_or-set_same s.objects k None None (omega (arith, lt, a.length_is))) (gone_set s.seen.bodies k None) refl
     (get_or-set_same s.keeper.slots k y opening_slot (omega (arith, lt, a.wide)))
     (refl, here))
 
 -- a slot with an object is one of the keeper's
 pub object_within : (s : ObjectsState) (k : ℕ) → is_some (object_at s k) ≡ true → IsAgreed s → k < s.keeper.shape.slots
 object_within s k there a = elim (cases_lt k (length s.objects)) [
-  | inl lt ↦ omega (arith, lt, a.long)
+  | inl lt ↦ omega (arith, lt, a.length_is)
   | inr le ↦ absurd (let e = ap is_some (get_or_past s.objects k None le) in cc (e, there))
 ]
 

@@ -1,18 +1,19 @@
 -- How many objects were made, slot by slot, and their numbers.
 use Rattle.std.proofs.Common.{◌≡◌, ◌≢◌, ℕ, ◌+◌, ◌<◌, ◌≤◌, List, length, Option, Some, None, ap, ◌∙◌, sym, subst, arith, get_or, set, inl, inr}
 use Rattle.std.specs.Prelude.{sum_by}
-use Rattle.std.proofs.lemmas.List.{length-set, get_or_past, get_or-set_same, get_or-set_other}
+use Rattle.std.proofs.lemmas.List.{length-set, get_or-set_same, get_or-set_other}
 use Rattle.std.proofs.lemmas.List.Elements.{All-from_get_or}
 use Rattle.std.proofs.lemmas.List.Sums.{sum_by-set, sum_by-le}
-use Rattle.std.proofs.lemmas.Bool.{cases_eq, cases_lt}
+use Rattle.std.proofs.lemmas.Bool.{cases_eq}
 use Rattle.pin_core.specs.declared.word.Phase.{Phase}
-use Rattle.pin_core.specs.declared.word.Phase.TheVariants.{Free, Live, Closing, Retired}
+use Rattle.pin_core.specs.declared.word.Phase.TheVariants.{Free}
 use Rattle.pin_core.specs.declared.world.Slot.{Slot}
 use Rattle.pin_core.specs.declared.shape.Shape.{Shape}
 use Rattle.pin_core.specs.Opened.{Opens, SlotOpens}
 use Rattle.pin_core.specs.Worlds.{slot_of, opening_slot}
 use Rattle.ob_store.specs.Objects.{Object}
 use Rattle.ob_store.specs.Agreement.{made_by, made_in, AreBorn}
+use Rattle.ob_store.proofs.EndLaws.{some_set}
 
 -- each generation is from 1 to the last
 abbrev pub AreAged : ℕ → ℕ → List Slot → Type 0
@@ -55,9 +56,7 @@ made_more slots i y within more = let sum = sum_by-set made_in slots i y opening
 
 made_few : (p : Phase) (generation : ℕ) → made_by p generation ≤ generation
 made_few Free generation = omega arith
-made_few Live generation = omega arith
-made_few Closing generation = omega arith
-made_few Retired generation = omega arith
+made_few p generation = omega arith
 
 -- a slot has no more objects than generations, so a count of 64 bits has room
 pub made_bound : (slots : List Slot) (last : ℕ) → length slots ≤ 65536 → last ≤ 4294967295
@@ -73,20 +72,9 @@ made_bound slots last few most aged =
 pub born_gone : (objects : List (Option Object)) (births k : ℕ) → AreBorn objects births
     → AreBorn (set objects k None) births
 born_gone objects births k born = record {
-  below = λ j o is. born.below j o (before j o is);
-  apart = λ i j o p is it same. born.apart i j o p (before i o is) (before j p it) same;
+  below = λ j o is. born.below j o (some_set objects k j o is);
+  apart = λ i j o p is it same. born.apart i j o p (some_set objects k i o is) (some_set objects k j p it) same;
 }
-  where
-    before : (j : ℕ) (o : Object) → get_or (set objects k None) j None ≡ Some o → get_or objects j None ≡ Some o
-    before j o is = elim (cases_eq j k) [
-      | inl here ↦ elim (cases_lt k (length objects)) [
-        | inl lt ↦ absurd (let e = ap (λ i. get_or (set objects k None) i None) here
-            ∙ get_or-set_same objects k None None lt in cc (e, is))
-        | inr le ↦ absurd (let e = get_or_past (set objects k None) j None
-            (omega (arith, length-set objects k None, here)) in cc (e, is))
-      ]
-      | inr other ↦ sym (get_or-set_other objects k j None None other) ∙ is
-    ]
 
 -- a new object, whose number is the count
 pub born_added : (objects : List (Option Object)) (births k : ℕ) (n : Object) → n.birth ≡ births → k < length objects

@@ -5,7 +5,7 @@ use Rattle.std.specs.Prelude.{is_some}
 use Rattle.std.proofs.lemmas.List.{length-set, get_or_past, get_or-set_same, get_or-set_other}
 use Rattle.std.proofs.lemmas.Bool.{cases_eq, cases_lt}
 use Rattle.ob_body.specs.declared.body.Body.{Body}
-use Rattle.ob_body.specs.declared.body.Body.TheVariants.{Event, Mutex, Semaphore, Timer}
+use Rattle.ob_body.specs.declared.body.Body.TheVariants.{Event}
 use Rattle.ob_body.specs.Body.{owner_of, is_signaled}
 use Rattle.ob_waits.specs.declared.wait.Wait.{Wait}
 use Rattle.ob_waits.specs.Objects.{Objects, slot_room, slot_signaled}
@@ -47,9 +47,7 @@ form_due (Some f) = f.due
 due_is : (x : Option Body) → slot_due x ≡ form_due (slot_form x)
 due_is None = refl
 due_is (Some (Event e)) = refl
-due_is (Some (Mutex m)) = refl
-due_is (Some (Semaphore s)) = refl
-due_is (Some (Timer t)) = refl
+due_is x = refl
 
 pub due_same : (x y : Option Body) → slot_form x ≡ slot_form y → slot_due x ≡ slot_due y
 due_same x y same = due_is x ∙ ap form_due same ∙ sym (due_is y)

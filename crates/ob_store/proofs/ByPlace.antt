@@ -1,5 +1,5 @@
 -- What holds of each element of a list, and of what stands past its end, holds at each place.
-use Rattle.std.proofs.Common.{◌≡◌, ℕ, zero, suc, ◌<◌, Bool, true, false, List, [], ◌∷◌, length, get_or, inl, inr, refl, replicate, arith}
+use Rattle.std.proofs.Common.{◌≡◌, ℕ, zero, suc, ◌<◌, Bool, true, List, [], ◌∷◌, length, get_or, inl, inr, replicate, arith}
 use Rattle.std.proofs.lemmas.List.{get_or-replicate, get_or_past, length-replicate}
 use Rattle.std.proofs.lemmas.Bool.{and_parts, cases_lt}
 use Rattle.std.specs.List.{AllByRecursion, list_all}
@@ -16,14 +16,6 @@ all_at p (x ∷ xs) none past all (suc n) = all_at p xs none past (and_parts (p 
 pub all_from : {A : Type 0} (p : A → Bool) (xs : List A) (none : A) →
     ((n : ℕ) → n < length xs → p (get_or xs n none) ≡ true) → list_all p xs ≡ true
 all_from p xs none each = list_all-from_AllPass p xs (All-from_get_or (λ x. p x ≡ true) xs none each)
-
-pub not_all : {A : Type 0} (p : A → Bool) (xs : List A) (none : A) (n : ℕ) → p none ≡ true →
-    p (get_or xs n none) ≡ false → list_all p xs ≡ false
-not_all p xs none n past fails = by (list_all p xs) refl
-  where
-    by : (b : Bool) → list_all p xs ≡ b → list_all p xs ≡ false
-    by true is = absurd (let e = all_at p xs none past is n in cc (e, fails))
-    by false is = is
 
 pub all_by_place : {A : Type 0} (P : A → Type 0) (d : A) (xs : List A) → ((k : ℕ) → k < length xs → P (get_or xs k d))
     → AllByRecursion P xs

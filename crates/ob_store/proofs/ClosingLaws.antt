@@ -1,8 +1,7 @@
 -- The slots whose objects ended, while bodies go and objects leave.
-use Rattle.std.proofs.Common.{◌≡◌, ℕ, zero, suc, ◌∷◌, ◌<◌, List, length, Option, Some, None, refl, ap, ◌∙◌, sym, arith, get_or, set, map, replicate, Bool, true, false, cond}
+use Rattle.std.proofs.Common.{◌≡◌, ℕ, ◌<◌, List, length, Option, Some, None, refl, ap, ◌∙◌, sym, arith, get_or, set, map, Bool, true, false, cond}
 use Rattle.std.specs.Prelude.{IsSome, is_none, is_some, not, slice_get}
-use Rattle.std.proofs.Math.Seq.{map-set_same}
-use Rattle.std.proofs.lemmas.List.{length-map, map-set}
+use Rattle.std.proofs.lemmas.List.{length-map}
 use Rattle.std.proofs.lemmas.Option.{slice_get-get_or}
 use Rattle.least_free.specs.Taken.{is_free_within}
 use Rattle.ob_body.specs.declared.body.Body.{Body}
@@ -12,7 +11,7 @@ use Rattle.ob_store.specs.declared.seat.Seat.{Seat}
 use Rattle.ob_store.specs.Objects.{Tag, no_tag, object_at, objects_in, seat_body}
 use Rattle.ob_store.proofs.LabelLaws.{object_read, seat_there}
 use Rattle.ob_store.proofs.OwnerLaws.{some_there}
-use Rattle.ob_store.proofs.SeatLaws.{read}
+use Rattle.ob_store.proofs.SeatLaws.{read, mapped_same, mapped_set, mapped_stays}
 
 -- the set of numbers has those slots that have an object without a body
 pub closing_read : (xs : List (Option Seat)) (ls : List Tag) (opens : List Bool) (k : ℕ) → opens ≡ map is_open xs
@@ -29,19 +28,6 @@ closing_read xs ls opens k opened =
     by : (x : Option Seat) (l : Tag) → not (is_open x) ≡ is_closing (object_at x l) (seat_body x)
     by None l = refl
     by (Some x) l = ended x.body
-
-pub opened_same : (xs : List (Option Seat)) (opens : List Bool) (k : ℕ) (y : Option Seat) → opens ≡ map is_open xs
-    → is_open y ≡ is_open (get_or xs k None) → opens ≡ map is_open (set xs k y)
-opened_same xs opens k y opened same = opened ∙ sym (map-set_same is_open xs k y None same)
-
--- an object whose body is there, or isn't, as before
-pub opened_stays : (xs : List (Option Seat)) (opens : List Bool) (k : ℕ) (x y : Seat) → opens ≡ map is_open xs
-    → get_or xs k None ≡ Some x → is_some y.body ≡ is_some x.body → opens ≡ map is_open (set xs k (Some y))
-opened_stays xs opens k x y opened there same = opened_same xs opens k (Some y) opened (same ∙ sym (ap is_open there))
-
-pub opened_set : (xs : List (Option Seat)) (opens : List Bool) (k : ℕ) (y : Option Seat) (b : Bool)
-    → opens ≡ map is_open xs → b ≡ is_open y → set opens k b ≡ map is_open (set xs k y)
-opened_set xs opens k y b opened is = (λ i. set (opened i) k (is i)) ∙ sym (map-set is_open xs k y)
 
 -- a slot with an object, by its body
 pub opened_at : (xs : List (Option Seat)) (opens : List Bool) (k : ℕ) (x : Seat) → opens ≡ map is_open xs
@@ -63,11 +49,11 @@ pub opened_left_at : (xs : List (Option Seat)) (opens : List Bool) (k : ℕ) (x 
 opened_left_at xs opens k x y true o opened there went none = by o went
   where
     by : (o : Option Body) → o ≡ x.body → cond (is_some o) (set opens k false) opens ≡ map is_open (set xs k (Some y))
-    by None is = opened_stays xs opens k x y opened there (ap is_some none ∙ ap is_some is)
-    by (Some body) is = opened_set xs opens k (Some y) false opened (sym (ap is_some none))
+    by None is = mapped_stays is_open xs opens k x y opened there (ap is_some none ∙ ap is_some is)
+    by (Some body) is = mapped_set is_open xs opens k (Some y) false opened (sym (ap is_some none))
 opened_left_at xs opens k x y false o opened there went same =
     ap (λ (z : Option Body). cond (is_some z) (set opens k false) opens) went
-    ∙ opened_stays xs opens k x y opened there (ap is_some same)
+    ∙ mapped_stays is_open xs opens k x y opened there (ap is_some same)
 
 -- a body that goes was there
 pub gone_was_there : (xs : List (Option Seat)) (opens : List Bool) (k : ℕ) (x : Seat) (b : Bool) (o : Option Body)
@@ -103,13 +89,9 @@ opened_back xs opens k y ended opened none is = by y.body refl
 
     by : (b : Option Body) → y.body ≡ b → cond ended (set opens k false) opens ≡ map is_open (set xs k (Some y))
     by None none = ap (λ (e : Bool). cond e (set opens k false) opens) (gone ended y.body is ∙ ap is_none none)
-        ∙ opened_set xs opens k (Some y) false opened (sym (ap is_some none))
+        ∙ mapped_set is_open xs opens k (Some y) false opened (sym (ap is_some none))
     by (Some body) some = ap (λ (e : Bool). cond e (set opens k false) opens) (gone ended y.body is ∙ ap is_none some)
-        ∙ opened_same xs opens k (Some y) opened (ap is_some some ∙ sym (ap is_open none))
-
-pub opened_none : (slots : ℕ) → replicate slots true ≡ map is_open (replicate slots None)
-opened_none zero = refl
-opened_none (suc n) = ap (λ (z : List Bool). true ∷ z) (opened_none n)
+        ∙ mapped_same is_open xs opens k (Some y) opened (ap is_some some ∙ sym (ap is_open none))
 
 -- a seat with a body, by the bodies that are read off the seats
 pub bodied : (xs : List (Option Seat)) (k : ℕ) (x : Seat) → get_or xs k None ≡ Some x

@@ -20,7 +20,7 @@ consistent p kept tied waits ahead = record {
   shape = kept.sound.limited.shape_is;
   generations = refl;
   sizes = (let is = ap (λ (x : Shape). x.slots) kept.sound.limited.shape_is in
-      (tied.agreed.long ∙ is, tied.agreed.bodied ∙ is, tied.agreed.marked ∙ is, tied.agreed.wide ∙ is));
+      (tied.agreed.length_is ∙ is, tied.agreed.bodied ∙ is, tied.agreed.marked ∙ is, tied.agreed.wide ∙ is));
   published = tied.listed;
   born = tied.born;
   named = kept.sound.named;

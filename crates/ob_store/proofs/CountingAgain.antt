@@ -1,10 +1,10 @@
 -- What is counted in a store that is kept is counted again, so that what it saves isn't refused.
-use Rattle.std.proofs.Common.{◌≡◌, ℕ, ◌+◌, ◌<◌, ◌≤◌, ltb, Bool, true, cond, List, [], ◌∷◌, length, get_or, Option, Some, None, Ok, Err, refl, sym, ap, ◌∙◌, subst, arith, inl, inr}
+use Rattle.std.proofs.Common.{◌≡◌, ℕ, ◌+◌, ◌<◌, ◌≤◌, ltb, Bool, true, cond, List, [], ◌∷◌, length, get_or, Option, Some, None, Ok, Err, refl, sym, ap, ◌∙◌, subst, arith}
 use Rattle.ob_store.proofs.ByPlace.{replicate_at}
-use Rattle.std.specs.Prelude.{replicate}
-use Rattle.std.proofs.lemmas.Bool.{and_from, cases_lt, lt-ltb}
-use Rattle.std.proofs.lemmas.List.{ext_get_or, get_or-replicate, get_or_past, length-replicate}
+use Rattle.std.proofs.lemmas.Bool.{and_from, lt-ltb}
+use Rattle.std.proofs.lemmas.List.{ext_get_or, length-replicate}
 use Rattle.std.proofs.lemmas.List.Sums.{sum_by-cons}
+use Rattle.std.proofs.lemmas.Option.{same_Some}
 use Rattle.pin_core.specs.declared.id.Id.{Id}
 use Rattle.pin_core.specs.Holds.{same_id}
 use Rattle.ob_codec.specs.declared.fault.TextFault.TheVariants.{Value}
@@ -27,10 +27,7 @@ Again p tables = (q : Places) × (counting_all p tables ≡ Ok q)
 
 pub its_id : (x : Option Object) (id : Id) → id_in x ≡ Some id → is_its id x ≡ true
 its_id None id e = absurd cc
-its_id (Some o) id e = ap (λ (z : Id). same_id z id) (some-is o.id id e) ∙ same_id-same id
-  where
-    some-is : (a b : Id) → Some a ≡ Some b → a ≡ b
-    some-is a b e = cc
+its_id (Some o) id e = ap (λ (z : Id). same_id z id) (same_Some o.id id e) ∙ same_id-same id
 
 may-again : (p : Places) (id : Id) → IsThere p.objects id → handles_at p id.slot < 4294967295 → may_count p id ≡ true
 may-again p id there room =
@@ -97,14 +94,14 @@ counting_again p processes limit tables waits counted named bounded =
     let c = tables_count (uncounted p) a.0 tables wide a.1 in
     let long : length p.seen.handles ≡ n = handles_long p.seen n tables waits counted in
     let same : a.0.seen.handles ≡ p.seen.handles =
-    ext_get_or 0 a.0.seen.handles p.seen.handles (c.long ∙ sym wide ∙ sym long)
+    ext_get_or 0 a.0.seen.handles p.seen.handles (c.length_is ∙ sym wide ∙ sym long)
     (λ k lt. (let x = c.handles k in
     let z = replicate_at {A = ℕ} n k 0 in
     let within : k < n = omega (
       arith,
       lt,
       ap (λ (hs : List ℕ). length hs) (ap (λ (w : Places). w.seen.handles) c.same),
-      c.long,
+      c.length_is,
       wide,
     ) in
     let h = stored.handles_at p.seen n tables waits counted k within in omega (arith, x, z, h))) in

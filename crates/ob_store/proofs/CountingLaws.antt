@@ -21,7 +21,7 @@ handles_at p k = get_or p.seen.handles k 0
 -- so many handles more by slot, and what is named is there
 pub record Counts (p q : Places) (more : ℕ → ℕ) (Named : Id → Type 0) : Type 0 where
   pub same : q ≡ record p { seen = record p.seen { handles = q.seen.handles } }
-  pub long : length q.seen.handles ≡ length p.seen.handles
+  pub length_is : length q.seen.handles ≡ length p.seen.handles
   pub handles : (k : ℕ) → handles_at q k ≡ handles_at p k + more k
   pub named : (id : Id) → Named id → IsThere p.objects id
 
@@ -30,13 +30,13 @@ abbrev pub IsWide : Places → Type 0
 IsWide p = length p.objects ≡ length p.seen.handles
 
 pub still_wide : (p q : Places) (more : ℕ → ℕ) (Named : Id → Type 0) → Counts p q more Named → IsWide p → IsWide q
-still_wide p q more Named c wide = ap (λ (z : Places). length z.objects) c.same ∙ wide ∙ sym c.long
+still_wide p q more Named c wide = ap (λ (z : Places). length z.objects) c.same ∙ wide ∙ sym c.length_is
 
 none_counts : (p : Places) (more : ℕ → ℕ) (Named : Id → Type 0) → ((k : ℕ) → more k ≡ 0) → ((id : Id) → Named id → ⊥) →
     Counts p p more Named
 none_counts p more Named none never = record {
   same = refl;
-  long = refl;
+  length_is = refl;
   handles = λ k. (let z = none k in omega (arith, z));
   named = λ id h. absurd (never id h);
 }
@@ -55,7 +55,7 @@ one_counts p e wide may =
     let within : e.id.slot < length p.seen.handles = omega (arith, there_within p.objects e.id there, wide) in
     record {
       same = refl;
-      long = length-set p.seen.handles e.id.slot _;
+      length_is = length-set p.seen.handles e.id.slot _;
       handles = λ k. elim (cases_eq k e.id.slot) [
         | inl here ↦ (let one : one_in k e ≡ 1 = ap (λ (z : ℕ). one_in z e) here ∙ one_in-same e in
             let now : get_or (set p.seen.handles e.id.slot (handles_at p e.id.slot + 1)) e.id.slot 0 ≡
@@ -92,7 +92,7 @@ then_counts : (p q r : Places) (more more' all : ℕ → ℕ) (Named Named' All 
     Counts p r all All
 then_counts p q r more more' all Named Named' All c d sum either = record {
   same = d.same ∙ ap (λ (z : Places). record z { seen = record z.seen { handles = r.seen.handles } }) c.same;
-  long = d.long ∙ c.long;
+  length_is = d.length_is ∙ c.length_is;
   handles = λ k. (let x = c.handles k in let y = d.handles k in let z = sum k in omega (arith, x, y, z));
   named = λ id h. either id h (c.named id) (λ later. subst (λ (z : Places). IsThere z.objects id) c.same
       (d.named id later));

@@ -220,7 +220,7 @@ rows_added ts xs k o n within empty born has below = λ i. first i ++ last i
 pub record IsRow (ts : Tables) (xs : ObjectSlots) (row : Row) : Type 0 where
   pub place : ℕ
   pub object : Object
-  pub there : get_or xs place None ≡ Some object
+  pub is_there : get_or xs place None ≡ Some object
   pub its_id : object.id ≡ row.1
   pub its_name : object.name ≡ Some row.0
   pub has : has_handles row.1 ts ≡ true
@@ -240,7 +240,7 @@ row_is ts xs k b row (Some o) at is = by (eqb o.birth b) (has_handles o.id ts) o
         record {
           place = k;
           object = o;
-          there = at;
+          is_there = at;
           its_id = ap (λ (r : Row). r.1) one;
           its_name = named ∙ ap (λ (r : Row). Some r.0) one;
           has = ap (λ (r : Row). has_handles r.1 ts) (sym one) ∙ has;

@@ -121,10 +121,10 @@ module _ (p : PartsState) (process : ℕ) (places : List (Option Entry)) (n : �
         → IsEnding first (with_left (record p { objects = q; rows = rows }) process places (n + 1))
         (record s { tables = tables_left p.tables.tables process places (n + 1) })
     next_ending done first s ending = record {
-      way = subst (λ (t : List (List (Option Entry))). IsUnderWay first (after t) (record s { tables = t }))
+      under_way = subst (λ (t : List (List (Option Entry))). IsUnderWay first (after t) (record s { tables = t }))
           (left_some p.tables.tables process places n within e here)
           (way_left before process value e sound tied found seat handles_of object_of q rows is object handles names
-          done first s ending.way);
+          done first s ending.under_way);
       enough = enough_left p.signaled p.objects.seen.bodies q.seen.bodies p.waits.waits
           (subst (λ (x : ObjectsState). AreLeft p.objects.seen.bodies x.seen.bodies) (sym is)
           (bodies_left before process value e sound tied found)) ending.enough;
@@ -138,7 +138,7 @@ same_ending first p s tables is ending = subst (λ (t : List (List (Option Entry
     (record p { tables = record p.tables { tables = t } }) (record s { tables = t })) is
     (subst (λ (x : State). IsEnding first p x) (λ i. record s {
       tables =
-          ap (λ (x : State). x.tables) (sym ending.way.rest) i;
+          ap (λ (x : State). x.tables) (sym ending.under_way.rest) i;
     }) ending)
 
 -- the entries of a process are taken out: before the first of them leaves the tables are what they were

@@ -21,18 +21,19 @@ bodied_beside o q k bodies counts here has = record {
   ];
 }
 
-pub none_set : (bodies : List (Option Body)) (i : ℕ) → get_or (set bodies i None) i None ≡ None
-none_set bodies i = elim (cases_lt i (length bodies)) [
-  | inl lt ↦ get_or-set_same bodies i None None lt
+pub gone_set : {A : Type 0} (xs : List A) (i : ℕ) (none : A) → get_or (set xs i none) i none ≡ none
+gone_set xs i none = elim (cases_lt i (length xs)) [
+  | inl lt ↦ get_or-set_same xs i none none lt
   | inr le ↦
-      get_or_past (set bodies i None) i None (omega (arith, length-set bodies i None))
+      get_or_past (set xs i none) i none (omega (arith, length-set xs i none))
 ]
 
-zero_set : (counts : List ℕ) (i : ℕ) → get_or (set counts i 0) i 0 ≡ 0
-zero_set counts i = elim (cases_lt i (length counts)) [
-  | inl lt ↦ get_or-set_same counts i 0 0 lt
-  | inr le ↦
-      get_or_past (set counts i 0) i 0 (omega (arith, length-set counts i 0))
+-- what is found where one place was emptied was there before
+pub some_set : {A : Type 0} (xs : List (Option A)) (k j : ℕ) (x : A) → get_or (set xs k None) j None ≡ Some x
+    → get_or xs j None ≡ Some x
+some_set xs k j x h = elim (cases_eq j k) [
+  | inl same ↦ absurd (let gone = ap (λ i. get_or (set xs k None) i None) same ∙ gone_set xs k None in cc (gone, h))
+  | inr other ↦ sym (get_or-set_other xs k j None None other) ∙ h
 ]
 
 -- one handle fewer: with the last reference the body goes
@@ -65,7 +66,7 @@ bodied_handle_left p k some has =
     here : (gone : Bool) → eqb left 0 ≡ gone → is_some
         (get_or (cond gone (set p.seen.bodies k None) p.seen.bodies) k None) ≡ ltb 0 left
     here true is = let none : left ≡ 0 = grind (arith, nat_tests, is) in
-        ap is_some (none_set p.seen.bodies k) ∙ ap (λ n. ltb 0 n) (sym none)
+        ap is_some (gone_set p.seen.bodies k None) ∙ ap (λ n. ltb 0 n) (sym none)
     here false is = has.each k ∙ grind (arith, nat_tests, is, some)
 
 -- a new object with its one handle
@@ -83,10 +84,10 @@ bodied_added p k o b within one has =
 pub bodied_removed : (p : Places) (k : ℕ) → HasBodies p.seen → HasBodies (without_seat p k).seen
 bodied_removed p k has =
     let t : Objects = (without_seat p k).seen in
-    let x = zero_set p.seen.handles k in
-    let y = zero_set p.seen.blocks k in
+    let x = gone_set p.seen.handles k 0 in
+    let y = gone_set p.seen.blocks k 0 in
     let none : get_or t.handles k 0 + get_or t.blocks k 0 ≡ 0 = omega (arith, x, y) in
     bodied_beside p.seen t k (λ j other. get_or-set_other p.seen.bodies k j None None other)
     (λ j other. let v = get_or-set_other p.seen.handles k j 0 0 other in
     let w = get_or-set_other p.seen.blocks k j 0 0 other in omega (arith, v, w))
-    (ap is_some (none_set p.seen.bodies k) ∙ ap (λ n. ltb 0 n) (sym none)) has
+    (ap is_some (gone_set p.seen.bodies k None) ∙ ap (λ n. ltb 0 n) (sym none)) has

@@ -1,13 +1,12 @@
 -- Threads and processes end: what is sound stays so, and is on its way to the settled state.
 use Rattle.std.proofs.Common.{◌≡◌, ◌≢◌, ℕ, ◌<◌, List, [], length, Option, Some, None, refl, ap, ◌∙◌, sym, subst, arith, get_or, set, map, Bool, true, false, cond, inl, inr, eqb}
 use Rattle.std.specs.Prelude.{IsSome, is_some, sum_by}
-use Rattle.std.proofs.lemmas.List.{length-set, length-map, get_or_past, get_or-set_same, get_or-set_other}
-use Rattle.std.proofs.lemmas.Bool.{cases_eq, cases_lt}
+use Rattle.std.proofs.lemmas.List.{length-set, length-map, get_or-set_other}
 use Rattle.std.proofs.lemmas.Bool.Decides.{nat_tests}
 use Rattle.pin_core.specs.declared.id.Id.{Id}
 use Rattle.pin_words.specs.Keepers.{KeeperState}
 use Rattle.ob_body.specs.declared.body.Body.{Body}
-use Rattle.ob_body.specs.declared.body.Body.TheVariants.{Event, Mutex, Semaphore, Timer}
+use Rattle.ob_body.specs.declared.body.Body.TheVariants.{Event, Mutex}
 use Rattle.ob_body.specs.Mutex as mutex
 use Rattle.ob_body.specs.Body.{owner_of, after_abandon}
 use Rattle.ob_body.proofs.Effects.{room_after_abandon}
@@ -20,7 +19,7 @@ use Rattle.ob_waits.specs.declared.wait.Wait.{Wait}
 use Rattle.ob_waits.specs.Form.{form_of, slot_form, slot_owner}
 use Rattle.ob_waits.specs.Objects.{Objects, slot_room, without_blocks}
 use Rattle.ob_waits.specs.Rules as rules
-use Rattle.ob_waits.specs.Rules.{WaitsHaveRoom, thread_of}
+use Rattle.ob_waits.specs.Rules.{thread_of}
 use Rattle.ob_waits.specs.Waits.{slot_blocks, thread_ids, unless_of, is_waits_of, without_thread}
 use Rattle.ob_waits.proofs.Counted.{slot_dropped, blocks_dropped}
 use Rattle.ob_waits.proofs.Ends.{sizes_left}
@@ -39,6 +38,7 @@ use Rattle.ob_store.specs.UnderWay.{AreLeft, IsEnding, IsUnderWay}
 use Rattle.ob_store.proofs.BodyLaws.{formed_by}
 use Rattle.ob_store.proofs.BySlot.{recounted}
 use Rattle.ob_store.proofs.CountedLaws.{blocks_at}
+use Rattle.ob_store.proofs.EndLaws.{some_set}
 use Rattle.ob_store.proofs.EnoughLaws.{enough_unwaited}
 use Rattle.ob_store.proofs.KeptLaws.{sound_rested, state_rested}
 use Rattle.ob_store.proofs.LeftLaws.{left_blocks, left_more, room_left_at}
@@ -50,7 +50,7 @@ use Rattle.ob_store.proofs.SeatLaws.{read}
 left_mapped : (t : ℕ) (bodies after : List (Option Body)) → AreLeft bodies after
     → AreLeft (map (slot_left_by t) bodies) (map (slot_left_by t) after)
 left_mapped t bodies after l = record {
-  long = length-map after (slot_left_by t) ∙ l.long ∙ sym (length-map bodies (slot_left_by t));
+  length_is = length-map after (slot_left_by t) ∙ l.length_is ∙ sym (length-map bodies (slot_left_by t));
   each = λ k. elim (l.each k) [
     | inl same ↦ inl (read (slot_left_by t) after k ∙ ap (slot_left_by t) same ∙ sym (read (slot_left_by t) bodies k))
     | inr none ↦ inr (read (slot_left_by t) after k ∙ ap (slot_left_by t) none)
@@ -59,9 +59,7 @@ left_mapped t bodies after l = record {
 
 abandon_form : (t : ℕ) (b : Body) → form_of (after_abandon t b) ≡ form_of b
 abandon_form t (Event e) = refl
-abandon_form t (Mutex m) = refl
-abandon_form t (Semaphore s) = refl
-abandon_form t (Timer m) = refl
+abandon_form t b = refl
 
 form_left_by : (t : ℕ) (x : Option Body) → slot_form (slot_left_by t x) ≡ slot_form x
 form_left_by t None = refl
@@ -92,10 +90,8 @@ mutex_owner u t (Some o) recursion abandoned h = by (eqb o u) refl h
     by false is h = (h, λ same. let own : o ≡ t = cc in absurd (grind (arith, nat_tests, is, own, same)))
 
 body_owner : (u t : ℕ) (b : Body) → owner_of (after_abandon u b) ≡ Some t → (owner_of b ≡ Some t) × (t ≢ u)
-body_owner u t (Event e) h = absurd (cc)
 body_owner u t (Mutex m) h = mutex_owner u t m.owner m.recursion m.abandoned h
-body_owner u t (Semaphore s) h = absurd (cc)
-body_owner u t (Timer m) h = absurd (cc)
+body_owner u t b h = absurd (cc)
 
 owner_left_by : (u t : ℕ) (x : Option Body) → slot_owner (slot_left_by u x) ≡ Some t → (slot_owner x ≡ Some t) × (t ≢ u)
 owner_left_by u t None h = absurd (cc)
@@ -115,20 +111,6 @@ waiter_left t u w h = by (is_waits_of t w) refl h
 
 live_still : (threads : List (Option ℕ)) (t u : ℕ) → u ≢ t → IsLive threads u → IsLive (set threads t None) u
 live_still threads t u other live = subst IsSome (sym (get_or-set_other threads t u None None other)) live
-
-live_before : (threads : List (Option ℕ)) (t u p : ℕ) → get_or (set threads t None) u None ≡ Some p
-    → get_or threads u None ≡ Some p
-live_before threads t u p h = elim (cases_eq u t) [
-  | inl same ↦ absurd (none h (elim (cases_lt t (length threads)) [
-    | inl lt ↦ ap (λ i. get_or (set threads t None) i None) same ∙ get_or-set_same threads t None None lt
-    | inr le ↦ ap (λ i. get_or (set threads t None) i None) same
-        ∙ get_or_past (set threads t None) t None (omega (arith, length-set threads t None))
-  ]))
-  | inr other ↦ sym (get_or-set_other threads t u None None other) ∙ h
-]
-  where
-    none : {x : Option ℕ} {p : ℕ} → x ≡ Some p → x ≡ None → ⊥
-    none a b = cc (a, b)
 
 -- a thread ends: its blocks left, which q tells, and then its mutexes are abandoned, which r tells
 module _ (p : PartsState) (q r : ObjectsState) (a : SignaledState) (t : ℕ)
@@ -200,7 +182,7 @@ module _ (p : PartsState) (q r : ObjectsState) (a : SignaledState) (t : ℕ)
           processes_from_one = way.sound.processes_kept.processes_from_one;
           threads_from_one = from_one_less p.processes.threads t way.sound.processes_kept.threads_from_one;
           tabled = way.sound.processes_kept.tabled;
-          live = λ u n h. way.sound.processes_kept.live u n (live_before p.processes.threads t u n h);
+          live = λ u n h. way.sound.processes_kept.live u n (some_set p.processes.threads t u n h);
         })
         counted
         (named_fewer p.objects.objects p.tables.tables p.tables.tables p.waits.waits dropped (λ id. omega arith)
@@ -250,7 +232,7 @@ module _ (p : PartsState) (q r : ObjectsState) (a : SignaledState) (t : ℕ)
   pub ending_thread : IsTied r → KeepsEnough p.signaled q.seen.bodies a r.seen.bodies
       → (first : KeeperState) (s : State) → IsEnding first p s → IsEnding first without (thread_ended s t)
   ending_thread tied more first s ending = record {
-    way = way_thread tied first s ending.way;
+    under_way = way_thread tied first s ending.under_way;
     enough = more dropped (enough_unwaited p.signaled p.objects.seen q.seen p.waits.waits t ids blocks ending.enough);
   }
 
@@ -269,7 +251,7 @@ module _ (first : KeeperState) (p : PartsState) (s : State) (process : ℕ)
   cleared = without_entries p.tables.tables process
 
   abbrev way : IsUnderWay first p s
-  way = ending.way
+  way = ending.under_way
 
   slots_same : (k : ℕ) → slot_handles k (without_entries p.tables.tables process) ≡ slot_handles k p.tables.tables
   slots_same k =
@@ -292,7 +274,7 @@ module _ (first : KeeperState) (p : PartsState) (s : State) (process : ℕ)
   })
       (record s { tables = without_entries p.tables.tables process; processes = set s.processes process None })
   ending_process = record {
-    way = record {
+    under_way = record {
       tied = way.tied;
       sound = record {
         limited = way.sound.limited;

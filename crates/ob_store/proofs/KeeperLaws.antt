@@ -33,7 +33,7 @@ shown_one slots k (Some o) body retired agrees =
 pub all_shown : (s : ObjectsState) → IsAgreed s → IsListed (shown_from 0 s.keeper.slots) s.objects
 all_shown s a = record {
   each = λ k. elim (cases_lt k (length s.objects)) [
-    | inl lt ↦ (let here = a.each k (omega (arith, lt, a.long)) in
+    | inl lt ↦ (let here = a.each k (omega (arith, lt, a.length_is)) in
         shown_one s.keeper.slots k (get_or s.objects k None) (get_or s.seen.bodies k None) _ here)
     | inr le ↦ subst (Listed (shown_from 0 s.keeper.slots)) (sym (get_or_past s.objects k None le)) tt
   ];
@@ -51,9 +51,9 @@ tied_over s k fresh h =
     λ i. (sym fresh.shape_is i, sym fresh.slots_are i) in
     subst (λ (z : Shape × List Slot). IsTied (record s { keeper = alike k z })) same (record {
       agreed = record {
-        few = a.few;
+        at_most = a.at_most;
         wide = a.wide;
-        long = a.long;
+        length_is = a.length_is;
         bodied = a.bodied;
         marked = a.marked;
         each = a.each;

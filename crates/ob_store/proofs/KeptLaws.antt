@@ -1,6 +1,7 @@
 -- What is kept is kept by each change of a store, and the state after it is the settled one.
-use Rattle.std.proofs.Common.{◌≡◌, ◌⊎◌, ℕ, zero, suc, ◌+◌, ◌<◌, ◌≤◌, List, [], ◌∷◌, ◌++◌, length, Option, Some, None, refl, ap, ◌∙◌, sym, subst, arith, get_or, map, true, inl, inr, ltb}
-use Rattle.std.specs.Prelude.{IsSome}
+use Rattle.std.proofs.Common.{◌≡◌, ℕ, zero, suc, ◌+◌, ◌<◌, ◌≤◌, List, [], ◌∷◌, ◌++◌, length, Option, Some, None, refl, ap, ◌∙◌, sym, subst, arith, get_or, map, true, inl, inr, ltb}
+use Rattle.std.specs.Prelude.{IsSome, is_some}
+use Rattle.std.proofs.Math.Seq.{get_or-append_seam}
 use Rattle.std.proofs.lemmas.List.{length-set, length-append}
 use Rattle.std.proofs.lemmas.Bool.Decides.{nat_tests}
 use Rattle.pin_core.specs.declared.id.Id.{Id}
@@ -30,6 +31,7 @@ use Rattle.ob_store.proofs.BodyLaws.{of_live_more}
 use Rattle.ob_store.proofs.ListingLaws.{listing_flags, listing_process, listing_placed}
 use Rattle.ob_store.proofs.Places.{from_one_more}
 use Rattle.ob_store.proofs.SettledLaws.{settled_still}
+use Rattle.ob_store.proofs.ThreadListLaws.{live_more}
 
 -- as many tables as there are processes
 pub processes_same : (limits : Limits) (l : ProcessesState) (n m : ℕ) → m ≡ n → ProcessesKept limits l n
@@ -41,17 +43,6 @@ pub live_pushed : (xs : List (Option ℕ)) (x : Option ℕ) (n : ℕ) → IsLive
 live_pushed [] x n h = absurd (cc)
 live_pushed (y ∷ xs) x n h = elim n as (λ n. IsLive (y ∷ xs) n
     → IsLive (y ∷ xs ++ x ∷ []) n) [ zero ↦ λ h. h | suc n ↦ λ h. live_pushed xs x n h ] h
-
-pushed_at : (xs : List (Option ℕ)) (x n p : ℕ) → get_or (xs ++ Some x ∷ []) n None ≡ Some p
-    → (get_or xs n None ≡ Some p) ⊎ (x ≡ p)
-pushed_at [] x n p h = elim n as (λ n. get_or (Some x ∷ []) n None ≡ Some p
-    → (get_or {A = Option ℕ} [] n None ≡ Some p) ⊎ (x ≡ p)) [ zero ↦ λ h. inr cc | suc n ↦ λ h. absurd (cc) ] h
-pushed_at (y ∷ xs) x n p h = elim n as (λ n. get_or (y ∷ xs ++ Some x ∷ []) n None ≡ Some p
-    → (get_or (y ∷ xs) n None ≡ Some p) ⊎ (x ≡ p)) [ zero ↦ λ h. inl h | suc n ↦ λ h. pushed_at xs x n p h ] h
-
-at_end : (xs : List (Option ℕ)) (x : ℕ) → IsLive (xs ++ Some x ∷ []) (length xs)
-at_end [] x = refl
-at_end (y ∷ xs) x = at_end xs x
 
 -- what is stored is what the state counts
 pub objects_are : (p : PartsState) → IsSound p → p.objects.seen ≡ objects_of (state_of p)
@@ -257,10 +248,10 @@ kept_process p session w view kept processes threads = record {
   where
     live_after : (t q : ℕ) → get_or (p.processes.threads ++ Some (length p.processes.processes) ∷ []) t None ≡ Some q
         → IsLive (p.processes.processes ++ Some session ∷ []) q
-    live_after t q h = elim (pushed_at p.processes.threads (length p.processes.processes) t q h) [
-      | inl old ↦ live_pushed p.processes.processes (Some session) q (kept.sound.processes_kept.live t q old)
-      | inr new ↦ subst (λ (r : ℕ). IsLive (p.processes.processes ++ Some session ∷ []) r) new
-          (at_end p.processes.processes session)
+    live_after t q h = elim (live_more p.processes.threads (length p.processes.processes) t q h) [
+      | inl old ↦ live_pushed p.processes.processes (Some session) q (kept.sound.processes_kept.live t q old.1)
+      | inr new ↦ subst (λ (r : ℕ). IsLive (p.processes.processes ++ Some session ∷ []) r) (sym new.1)
+          (ap is_some (get_or-append_seam p.processes.processes (Some session) [] None))
     ]
 
 -- a thread comes
@@ -281,10 +272,10 @@ kept_thread p process kept threads live =
           processes_from_one = sound.processes_kept.processes_from_one;
           threads_from_one = from_one_more l.threads (Some process) sound.processes_kept.threads_from_one;
           tabled = sound.processes_kept.tabled;
-          live = λ t q h. elim (pushed_at l.threads process t q h) [
+          live = λ t q h. elim (live_more l.threads process t q h) [
             | inl old ↦
-                sound.processes_kept.live t q old
-            | inr new ↦ subst (λ (r : ℕ). IsLive l.processes r) new live
+                sound.processes_kept.live t q old.1
+            | inr new ↦ subst (λ (r : ℕ). IsLive l.processes r) (sym new.1) live
           ];
         };
         counted = sound.counted;

@@ -6,10 +6,8 @@ use Rattle.std.specs.Option.{option_map}
 use Rattle.std.proofs.lemmas.List.{length-set}
 use Rattle.std.proofs.lemmas.Bool.Decides.{nat_tests}
 use Rattle.pin_core.specs.declared.word.Phase.TheVariants as phase
-use Rattle.pin_core.specs.declared.world.Slot.{Slot}
 use Rattle.pin_core.specs.Worlds.{slot_of}
 use Rattle.pin_words.specs.Keepers.{KeeperState, closed}
-use Rattle.ob_body.specs.declared.body.Body.{Body}
 use Rattle.ob_name.specs.Names.{ObjectName}
 use Rattle.ob_name.specs.Listing.{Rows}
 use Rattle.ob_tables.specs.declared.entry.Entry.{Entry}
@@ -18,26 +16,19 @@ use Rattle.ob_tables.specs.Counts.{handles_among}
 use Rattle.ob_tables.specs.Tables.{table_of, without_entry_of}
 use Rattle.ob_waits.proofs.Room.{room_changed}
 use Rattle.ob_store.specs.Objects.{Object, ObjectsState, places_in, is_last_handle, without_handle_of, opened}
-use Rattle.ob_store.specs.Agreement.{Agrees, IsTied}
+use Rattle.ob_store.specs.Agreement.{IsTied}
 use Rattle.ob_store.specs.Kept.{IsThere, IsNamed, IsListing, IsSound}
 use Rattle.ob_store.specs.Moves.{OnlyCloses, rows_left, rows_without}
 use Rattle.ob_store.specs.Parts.{PartsState, state_of}
 use Rattle.ob_store.specs.State.{State}
 use Rattle.ob_store.specs.UnderWay.{AreLeft, IsUnderWay}
-use Rattle.ob_store.proofs.AgreeLaws.{opened_closed}
+use Rattle.ob_store.proofs.AgreeLaws.{opened_closed, live_at}
 use Rattle.ob_store.proofs.CountedLaws.{handles_at, counted_removed, one_less}
 use Rattle.ob_store.proofs.NamedLaws.{there_some, there_within, named_entry, named_removed, handles_are}
 use Rattle.ob_store.proofs.BodyLaws.{of_live_gone}
 use Rattle.ob_store.proofs.LeftLaws.{formed_left, left_gone, left_more, room_left_at}
 use Rattle.ob_store.proofs.ListingLaws.{placed_agreed, listing_removed, listing_removed_last, listing_name_removed}
 use Rattle.ob_store.proofs.KeptLaws.{processes_same, same_generations, same_shape}
-
--- the slot of an object that has a body is live
-live_slot : (k : ℕ) (x : Option Object) (b : Option Body) (r : Bool) (s : Slot) → IsSome x → is_some b ≡ true
-    → Agrees k x b r s → s.phase ≡ phase.Live
-live_slot k None b r s there has a = absurd (cc)
-live_slot k (Some o) None r s there has a = absurd (cc)
-live_slot k (Some o) (Some b) r s there has a = a.2
 
 module _ (p : PartsState) (process value : ℕ) (e : Entry)
     (sound : IsSound p)
@@ -75,9 +66,7 @@ module _ (p : PartsState) (process value : ℕ) (e : Entry)
   only_closes = by (is_last_handle (places_in o) e.id.slot)
     where
       live : (slot_of p.objects.keeper.slots e.id.slot).phase ≡ phase.Live
-      live = live_slot e.id.slot (get_or o.objects e.id.slot None) (get_or o.seen.bodies e.id.slot None)
-          (get_or o.retired e.id.slot false) (slot_of o.keeper.slots e.id.slot) seated has_body
-          (tied.agreed.each e.id.slot (omega (arith, within, tied.agreed.long)))
+      live = live_at o e.id.slot has_body tied.agreed (omega (arith, within, tied.agreed.length_is))
 
       by : (c : Bool) → opened (cond c (closed o.keeper e.id.slot) o.keeper) ≡ opened o.keeper
       by true = opened_closed o.keeper e.id.slot live

@@ -17,11 +17,11 @@ use Rattle.ob_store.specs.UnderWay.{AreLeft}
 use Rattle.ob_store.proofs.BodyLaws.{at_gone, formed_by}
 
 pub left_same : (bodies : List (Option Body)) → AreLeft bodies bodies
-left_same bodies = record { long = refl; each = λ k. inl refl }
+left_same bodies = record { length_is = refl; each = λ k. inl refl }
 
 pub left_more : (a b c : List (Option Body)) → AreLeft a b → AreLeft b c → AreLeft a c
 left_more a b c ab bc = record {
-  long = bc.long ∙ ab.long;
+  length_is = bc.length_is ∙ ab.length_is;
   each = λ k. elim (bc.each k) [
     | inl same ↦ elim (ab.each k) [
       | inl before ↦ inl (same ∙ before)
@@ -33,7 +33,7 @@ left_more a b c ab bc = record {
 }
 
 pub left_gone : (c : Bool) (bodies : List (Option Body)) (i : ℕ) → AreLeft bodies (cond c (set bodies i None) bodies)
-left_gone c bodies i = record { long = by c; each = at_gone c bodies i }
+left_gone c bodies i = record { length_is = by c; each = at_gone c bodies i }
   where
     by : (c : Bool) → length (cond c (set bodies i None) bodies) ≡ length bodies
     by true = length-set bodies i None
@@ -92,6 +92,6 @@ pub ended_gone : (after : Objects) (bodies : List (Option Body)) → HasBodies a
     → ended (record after { bodies = bodies }) ≡ after
 ended_gone after bodies has left =
     let is : after.bodies ≡ (ended (record after { bodies = bodies })).bodies =
-    is_ended (record after { bodies = bodies }) after.bodies left.long
+    is_ended (record after { bodies = bodies }) after.bodies left.length_is
     (λ k. gone_ended after bodies k has (left.each k)) in
     λ i. record { bodies = sym is i; handles = after.handles; blocks = after.blocks }

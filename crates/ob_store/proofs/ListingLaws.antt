@@ -146,9 +146,9 @@ name_goes name id (row ∷ rows) distinct alike =
 row_names : (ts : Tables) (objects : ObjectSlots) (o : Object) (row : Row) → ArePlaced objects
     → get_or objects o.id.slot None ≡ Some o → IsRow ts objects row → row.1 ≡ o.id → o.name ≡ Some row.0
 row_names ts objects o row placed at is one =
-    let slot : is.place ≡ o.id.slot = sym (placed is.place is.object is.there)
+    let slot : is.place ≡ o.id.slot = sym (placed is.place is.object is.is_there)
     ∙ ap (λ (i : Id). i.slot) (is.its_id ∙ one) in
-    let object : is.object ≡ o = same_Some is.object o (sym is.there ∙ ap (λ k. get_or objects k None) slot ∙ at) in
+    let object : is.object ≡ o = same_Some is.object o (sym is.is_there ∙ ap (λ k. get_or objects k None) slot ∙ at) in
     ap (λ (q : Object). q.name) (sym object) ∙ is.its_name
 
 -- and where names are distinct, a row with its name has its Id
@@ -187,7 +187,7 @@ here objects e o at own = ap (λ (i : Id). get_or objects i.slot None) own ∙ a
 -- what is found by its name: an object of that name, which has handles
 pub record IsFound (ts : Tables) (objects : ObjectSlots) (name : ObjectName) (id : Id) : Type 0 where
   pub object : Object
-  pub there : get_or objects id.slot None ≡ Some object
+  pub is_there : get_or objects id.slot None ≡ Some object
   pub its_id : object.id ≡ id
   pub its_name : object.name ≡ Some name
   pub has : 0 < handles_among id ts
@@ -196,8 +196,9 @@ found_row : (ts : Tables) (objects : ObjectSlots) (name : ObjectName) (id : Id) 
     → IsRow ts objects (name, id) → IsFound ts objects name id
 found_row ts objects name id placed is = record {
   object = is.object;
-  there = ap (λ k. get_or objects k None) (ap (λ (i : Id). i.slot) (sym is.its_id) ∙ placed is.place is.object is.there)
-      ∙ is.there;
+  is_there = ap (λ k. get_or objects k None) (ap (λ (i : Id). i.slot) (sym is.its_id)
+      ∙ placed is.place is.object is.is_there)
+      ∙ is.is_there;
   its_id = is.its_id;
   its_name = is.its_name;
   has = ltb-true 0 (handles_among id ts) is.has;
@@ -349,7 +350,7 @@ listing_opening slots = record { same = refl; distinct = tt }
 pub placed_agreed : (s : ObjectsState) → IsAgreed s → ArePlaced s.objects
 placed_agreed s agreed k o at =
     let within : k < length s.objects = some_within s.objects k o at in
-    let long = agreed.long in
+    let long = agreed.length_is in
     let own = subst (λ (x : Option Object). Agrees k x (get_or s.seen.bodies k None) (get_or s.retired k false)
     (slot_of s.keeper.slots k)) at (agreed.each k (omega (arith, within, long))) in
     ap (λ (i : Id). i.slot) own.0

@@ -37,7 +37,8 @@ there_within objects id h = let o = there_some objects id h in some_within objec
 -- a slot has one object
 pub one_there : (objects : List (Option Object)) (a b : Id) → IsThere objects a → IsThere objects b → a.slot ≡ b.slot
     → a ≡ b
-one_there objects a b ha hb same = let x = ap (λ k. id_in (get_or objects k None)) same in same_Some a b (sym ha ∙ x ∙ hb)
+one_there objects a b ha hb same =
+    let x = ap (λ k. id_in (get_or objects k None)) same in same_Some a b (sym ha ∙ x ∙ hb)
 
 -- a table that has an entry is there
 table_within : (ts : List (List (Option Entry))) (p i : ℕ) (e : Entry) → at (table_of ts p) i ≡ Some e → p < length ts

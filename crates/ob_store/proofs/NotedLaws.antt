@@ -9,9 +9,11 @@ use Rattle.ob_store.specs.declared.label.Label.{Label}
 use Rattle.ob_store.specs.declared.seat.Seat.{Seat}
 use Rattle.ob_store.specs.Owners.{owned_came, owned_left, owned_moved, seat_owner}
 use Rattle.ob_store.specs.Timers.{AreNoted, due_left, seat_due}
+use Rattle.ob_store.specs.Closing.{is_open}
 use Rattle.ob_store.proofs.OwnerLaws.{moved_owned, owned_left_at, owned_set, owned_stays}
-use Rattle.ob_store.proofs.TimerLaws.{timed_left_at, timed_set, timed_stays}
-use Rattle.ob_store.proofs.ClosingLaws.{opened_back, opened_left_at, opened_stays}
+use Rattle.ob_store.proofs.TimerLaws.{timed_left_at}
+use Rattle.ob_store.proofs.ClosingLaws.{opened_back, opened_left_at}
+use Rattle.ob_store.proofs.SeatLaws.{mapped_set, mapped_stays}
 
 module _ (xs : List (Option Seat)) (counts : List ℕ) (dues : List (Option ℕ)) (opens : List Bool) (labels : List Label)
     (names : List (Option ObjectName)) (noted : AreNoted xs counts dues opens labels names) (k : ℕ) where
@@ -29,7 +31,7 @@ module _ (xs : List (Option Seat)) (counts : List ℕ) (dues : List (Option ℕ)
   noted_came y ended ls ns within vacant is labelled named = record {
     owned = moved_owned xs counts k (Some y) None (slot_owner y.body) noted.owned within (ap seat_owner (sym vacant))
         refl;
-    timed = timed_set xs dues k (Some y) (slot_due y.body) noted.timed refl;
+    timed = mapped_set seat_due xs dues k (Some y) (slot_due y.body) noted.timed refl;
     opened = opened_back xs opens k y ended noted.opened vacant is;
     labelled = labelled ∙ labelled_set (Some y);
     named = named ∙ named_set (Some y);
@@ -41,8 +43,8 @@ module _ (xs : List (Option Seat)) (counts : List ℕ) (dues : List (Option ℕ)
     pub noted_counts : y.body ≡ x.body → AreNoted (set xs k (Some y)) counts dues opens labels names
     noted_counts same = record {
       owned = owned_stays xs counts k x y noted.owned there same;
-      timed = timed_stays xs dues k x y noted.timed there (ap slot_due same);
-      opened = opened_stays xs opens k x y noted.opened there (ap is_some same);
+      timed = mapped_stays seat_due xs dues k x y noted.timed there (ap slot_due same);
+      opened = mapped_stays is_open xs opens k x y noted.opened there (ap is_some same);
       labelled = labelled_set (Some y);
       named = named_set (Some y);
     }
@@ -66,7 +68,7 @@ module _ (xs : List (Option Seat)) (counts : List ℕ) (dues : List (Option ℕ)
     noted_moved before after moments was now timed same = record {
       owned = owned_set xs counts k x y before after noted.owned there was now;
       timed = timed;
-      opened = opened_stays xs opens k x y noted.opened there same;
+      opened = mapped_stays is_open xs opens k x y noted.opened there same;
       labelled = labelled_set (Some y);
       named = named_set (Some y);
     }

@@ -1,11 +1,10 @@
 -- The state before any call is kept.
-use Rattle.std.proofs.Common.{◌≡◌, ℕ, zero, suc, ◌≤◌, length, false, List, [], ◌∷◌, Option, None, refl, ap, ◌∙◌, sym, subst, arith, get_or, map, inl, inr}
+use Rattle.std.proofs.Common.{◌≡◌, ℕ, zero, suc, ◌≤◌, length, false, List, [], ◌∷◌, Option, None, refl, ap, ◌∙◌, sym, subst, arith, get_or, map}
 use Rattle.ob_store.proofs.SeatLaws.{map-replicate}
 use Rattle.ob_store.proofs.ByPlace.{replicate_at}
 use Rattle.std.specs.Prelude.{replicate, sum_by}
-use Rattle.std.proofs.lemmas.List.{length-replicate, get_or_past, get_or-replicate}
+use Rattle.std.proofs.lemmas.List.{length-replicate}
 use Rattle.std.proofs.lemmas.List.Sums.{sum_by-cons}
-use Rattle.std.proofs.lemmas.Bool.{cases_lt}
 use Rattle.pin_core.specs.declared.world.Slot.{Slot}
 use Rattle.pin_core.specs.Opened.{SlotOpens}
 use Rattle.pin_core.specs.Worlds.{opening_slot, slot_of}
@@ -60,8 +59,8 @@ module _ (limits : Limits) (keeper : KeeperState) (fresh : IsFresh keeper (shape
       processes_kept = record {
         few_processes = omega arith;
         few_threads = omega arith;
-        processes_from_one = record { some = omega arith; none = refl };
-        threads_from_one = record { some = omega arith; none = refl };
+        processes_from_one = record { not_empty = omega arith; none = refl };
+        threads_from_one = record { not_empty = omega arith; none = refl };
         tabled = refl;
         live = λ t p h. absurd (let none = one_none ℕ t in cc (none, h));
       };
@@ -107,9 +106,9 @@ pub tied_opening : (n : ℕ) (k : KeeperState) → IsFresh k k.shape → n ≡ k
     → k.shape.max_gen ≤ 4294967295 → IsTied (with_keeper (vacant_places n) 0 k)
 tied_opening n k fresh same few first last = record {
   agreed = record {
-    few = omega (arith, same, few);
+    at_most = omega (arith, same, few);
     wide = ap length fresh.slots_are ∙ length-replicate k.shape.slots opening_slot;
-    long = length-replicate {A = Option Object} n None ∙ same;
+    length_is = length-replicate {A = Option Object} n None ∙ same;
     bodied = length-replicate {A = Option Body} n None ∙ same;
     marked = length-replicate n false ∙ same;
     each = λ j lt. rw (

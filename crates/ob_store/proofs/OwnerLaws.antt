@@ -6,7 +6,7 @@ use Rattle.std.proofs.lemmas.List.Sums.{sum_by-set, sum_by-cons, get_or-le-sum_b
 use Rattle.std.proofs.lemmas.Bool.{cases_eq, cases_lt}
 use Rattle.std.proofs.lemmas.Bool.Decides.{nat_tests}
 use Rattle.ob_body.specs.declared.body.Body.{Body}
-use Rattle.ob_body.specs.declared.body.Body.TheVariants.{Event, Mutex, Semaphore, Timer}
+use Rattle.ob_body.specs.declared.body.Body.TheVariants.{Mutex}
 use Rattle.ob_body.specs.Mutex.{after_abandon, free_mutex, is_owner}
 use Rattle.ob_arena.specs.Slots.{Slots, is_vacant_at}
 use Rattle.ob_arena.proofs.SlotLemmas.{vacant_empty, vacant_within}
@@ -76,7 +76,7 @@ few_left xs o few t = elim (cases_lt t (length xs)) [
 
 pub owned_few : (xs : List (Option Seat)) (counts : List ℕ) → IsOwned xs counts → (t : ℕ) → get_or counts t 0 ≤ 65536
 owned_few xs counts owned t = let a = count_few counts (length counts) (λ u. count_by (is_seat_of u) xs) t owned.counted
-    in let b = count_by-le-length (is_seat_of t) xs in let c = owned.few in omega (arith, a, b, c)
+    in let b = count_by-le-length (is_seat_of t) xs in let c = owned.at_most in omega (arith, a, b, c)
 
 pub moved_owned : (xs : List (Option Seat)) (counts : List ℕ) (k : ℕ) (y : Option Seat) (before after : Option ℕ)
     → IsOwned xs counts → k < length xs → before ≡ seat_owner (get_or xs k None) → after ≡ seat_owner y
@@ -84,7 +84,7 @@ pub moved_owned : (xs : List (Option Seat)) (counts : List ℕ) (k : ℕ) (y : O
 moved_owned xs counts k y before after owned lt was now = record {
   counted = is_by_slot (owned_moved counts before after) (length (owned_moved counts before after))
       (λ t. count_by (is_seat_of t) (set xs k y)) refl (λ t below. here t (omega (arith, below, same_length)));
-  few = let f = owned.few in omega (arith, f, length-set xs k y);
+  at_most = let f = owned.at_most in omega (arith, f, length-set xs k y);
 }
   where
     same_length : length (owned_moved counts before after) ≡ length counts
@@ -115,7 +115,7 @@ pub same_owned : (xs : List (Option Seat)) (counts : List ℕ) (k : ℕ) (y : Op
     → seat_owner y ≡ seat_owner (get_or xs k None) → k < length xs → IsOwned (set xs k y) counts
 same_owned xs counts k y owned same lt = record {
   counted = owned.counted ∙ ap {A = ℕ → ℕ} (λ f. by_slot (length counts) f) (λ i t. equal t i);
-  few = let f = owned.few in omega (arith, f, length-set xs k y);
+  at_most = let f = owned.at_most in omega (arith, f, length-set xs k y);
 }
   where
     equal : (t : ℕ) → count_by (is_seat_of t) xs ≡ count_by (is_seat_of t) (set xs k y)
@@ -127,7 +127,7 @@ pub owned_none : (slots threads : ℕ) → slots ≤ 65536 → IsOwned (replicat
 owned_none slots threads few = record {
   counted = zero_counts threads (λ t. count_by (is_seat_of t) (replicate slots None)) (λ t. none t slots)
       ∙ ap (λ n. by_slot n (λ t. count_by (is_seat_of t) (replicate slots None))) (sym (length-replicate threads 0));
-  few = omega (arith, few, length-replicate {A = Option Seat} slots None);
+  at_most = omega (arith, few, length-replicate {A = Option Seat} slots None);
 }
   where
     none : (t n : ℕ) → count_by (is_seat_of t) (replicate n None) ≡ 0
@@ -188,24 +188,18 @@ none_owned xs counts t owned lt none k = ap (λ x. is_owner t (slot_owner x)) at
 
 -- what the thread doesn't own stays
 pub left_by_other : (t : ℕ) (x : Option Body) → is_owner t (slot_owner x) ≡ false → slot_left_by t x ≡ x
-left_by_other t None h = refl
-left_by_other t (Some (Event e)) h = refl
 left_by_other t (Some (Mutex m)) h = ap (λ b. Some
     (Mutex (cond b (record { owner = None; recursion = 0; abandoned = true }) m))) h
-left_by_other t (Some (Semaphore s)) h = refl
-left_by_other t (Some (Timer m)) h = refl
+left_by_other t x h = refl
 
 -- what a thread left it doesn't own, so it leaves it again as it is
 pub left_twice : (t : ℕ) (x : Option Body) → slot_left_by t (slot_left_by t x) ≡ slot_left_by t x
-left_twice t None = refl
-left_twice t (Some (Event e)) = refl
-left_twice t (Some (Semaphore s)) = refl
-left_twice t (Some (Timer m)) = refl
 left_twice t (Some (Mutex m)) = ap (λ z. Some (Mutex z)) (by (is_owner t m.owner) refl)
   where
     by : (b : Bool) → is_owner t m.owner ≡ b → after_abandon t (cond b (free_mutex true) m) ≡ cond b (free_mutex true) m
     by true is = refl
     by false is = ap (λ b. cond b (free_mutex true) m) is
+left_twice t x = refl
 
 -- a vacant slot has no seat
 pub vacant_seat : (s : Slots Seat) (tags : List Tag) (p : Places) (k : ℕ) → places_of s tags ≡ p

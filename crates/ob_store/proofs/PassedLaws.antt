@@ -50,7 +50,7 @@ pub ending_passed : (first : KeeperState) (p : PartsState) (s : State) (process 
 ending_passed first p s process a b le none ending =
     subst (λ (x : State). IsEnding first p x)
     (sym (passed_to s process a b le (λ t above below h. none t above below
-    (way_threads first p (threads_ended s process a) t process ending.way h)))) ending
+    (way_threads first p (threads_ended s process a) t process ending.under_way h)))) ending
 
 -- or on their way back
 pub ending_unpassed : (first : KeeperState) (p : PartsState) (s : State) (process a b : ℕ) → a ≤ b

@@ -1,5 +1,5 @@
 -- Lists of what stands at each place.
-use Rattle.std.proofs.Common.{◌≡◌, ◌∙◌, ap, arith, inl, inr, None, set, sym, ℕ, zero, suc, List, [], ◌∷◌, ◌++◌, Option, get_or}
+use Rattle.std.proofs.Common.{◌≡◌, ◌∙◌, ap, arith, inl, inr, None, set, sym, ℕ, List, [], ◌∷◌, ◌++◌, Option, get_or}
 use Rattle.std.proofs.lemmas.Bool.{cases_eq}
 use Rattle.std.proofs.lemmas.List.{get_or-set_other, get_or-set_same, length-append, length-set, same_from_push}
 use Rattle.std.proofs.Math.ListN.{get_or-append}
@@ -12,30 +12,15 @@ same_front xs ys x y same = (same_from_push xs ys x y same).0
 -- number 0 stays nobody's where one more number is given, or one is gone
 pub from_one_more : (xs : List (Option ℕ)) (x : Option ℕ) → IsFromOne xs → IsFromOne (xs ++ x ∷ [])
 from_one_more xs x is = record {
-  some = (let long = length-append xs (x ∷ []) in omega (arith, long));
-  none = get_or-append xs (x ∷ []) None 0 is.some ∙ is.none;
+  not_empty = (let long = length-append xs (x ∷ []) in omega (arith, long));
+  none = get_or-append xs (x ∷ []) None 0 is.not_empty ∙ is.none;
 }
 
 pub from_one_less : (xs : List (Option ℕ)) (n : ℕ) → IsFromOne xs → IsFromOne (set xs n None)
 from_one_less xs n is = record {
-  some = (let long = length-set xs n None in let some = is.some in omega (arith, long, some));
+  not_empty = (let long = length-set xs n None in let some = is.not_empty in omega (arith, long, some));
   none = elim (cases_eq n 0) [
-    | inl same ↦ ap (λ k. get_or (set xs k None) 0 None) same ∙ get_or-set_same xs 0 None None is.some
+    | inl same ↦ ap (λ k. get_or (set xs k None) 0 None) same ∙ get_or-set_same xs 0 None None is.not_empty
     | inr other ↦ get_or-set_other xs n 0 None None (λ same. other (sym same)) ∙ is.none
   ];
 }
-
--- what holds of each place, and of one more
-pub each_pushed : {A : Type 0} (P : A → Type 0) (xs : List A) (y none : A) → P y → P none
-    → ((k : ℕ) → P (get_or xs k none)) → (k : ℕ) → P (get_or (xs ++ y ∷ []) k none)
-each_pushed P [] y none at_y at_none each k = elim k as (λ k. P (get_or (y ∷ []) k none)) [
-  | zero ↦ at_y
-  | suc k ↦
-      at_none
-]
-each_pushed P (x ∷ xs) y none at_y at_none each k =
-    elim k as (λ k. P (get_or (x ∷ xs ++ y ∷ []) k none)) [
-      | zero ↦ each 0
-      | suc k ↦
-          each_pushed P xs y none at_y at_none (λ i. each (suc i)) k
-    ]

@@ -1,10 +1,9 @@
 -- An ended object leaves its slot, to which nothing refers.
-use Rattle.std.proofs.Common.{◌≡◌, ℕ, zero, suc, ◌+◌, ◌<◌, ◌≤◌, List, [], ◌∷◌, length, Option, Some, None, refl, ap, ◌∙◌, sym, subst, arith, get_or, set, map, Bool, true, false, cond, inl, inr, ltb}
+use Rattle.std.proofs.Common.{◌≡◌, ℕ, ◌+◌, ◌<◌, ◌≤◌, List, length, Option, Some, None, refl, ap, ◌∙◌, sym, subst, arith, get_or, set, map, Bool, true, false, cond, ltb}
 use Rattle.std.specs.Prelude.{is_some}
 use Rattle.std.proofs.Math.ListN.{get_or-map}
 use Rattle.std.proofs.Math.Seq.{map-set_same}
-use Rattle.std.proofs.lemmas.List.{length-set, set-get_or, map-set, get_or-set_other}
-use Rattle.std.proofs.lemmas.Bool.{cases_eq}
+use Rattle.std.proofs.lemmas.List.{length-set, set-get_or, map-set}
 use Rattle.std.proofs.lemmas.Bool.Decides.{nat_tests}
 use Rattle.pin_core.specs.declared.world.Slot.{Slot}
 use Rattle.pin_core.specs.declared.word.Phase.TheVariants as phase
@@ -25,6 +24,7 @@ use Rattle.ob_store.specs.Moves.{after_reclaim}
 use Rattle.ob_store.specs.Kept.{IsKept, IsCounted, IsNamed, AreFormed, AreOfLive}
 use Rattle.ob_store.proofs.AgreeLaws.{slot_at}
 use Rattle.ob_store.proofs.CountedLaws.{counted_left}
+use Rattle.ob_store.proofs.EndLaws.{some_set}
 use Rattle.ob_store.proofs.NamedLaws.{named_left}
 use Rattle.ob_store.proofs.ListingLaws.{listing_left, placed_agreed}
 use Rattle.ob_store.proofs.PlacedLaws.{placed_there, own_handles, own_blocks, unreferenced}
@@ -33,21 +33,6 @@ use Rattle.ob_store.proofs.PlacedLaws.{placed_there, own_handles, own_blocks, un
 found : (x : Option Object) → is_some x ≡ true → (o : Object) × (x ≡ Some o)
 found None there = absurd (cc there)
 found (Some o) there = (o, refl)
-
-some_set : (xs : List (Option Object)) (k j : ℕ) (o : Object) → get_or (set xs k None) j None ≡ Some o
-    → get_or xs j None ≡ Some o
-some_set xs k j o h = elim (cases_eq j k) [
-  | inl same ↦ absurd (let gone = ap (λ i. get_or (set xs k None) i None) same ∙ gone_at xs k in cc (gone, h))
-  | inr other ↦ sym (get_or-set_other xs k j None None other) ∙ h
-]
-  where
-    gone_at : (xs : List (Option Object)) (k : ℕ) → get_or (set xs k None) k None ≡ None
-    gone_at [] k = refl
-    gone_at (x ∷ xs) k = elim k as (λ k. get_or (set (x ∷ xs) k None) k None ≡ None) [
-      | zero ↦ refl
-      | suc k ↦
-          gone_at xs k
-    ]
 
 -- fewer objects have bodies of their forms
 formed_fewer : (clock : ℕ) (objects : List (Option Object)) (bodies : List (Option Body)) (k : ℕ)

@@ -67,14 +67,14 @@ module _ (s : ObjectsState) (tied : IsTied s) where
   abbrev xs : List SavedSlot
   xs = slots_saved s
 
-  xs-long : length xs ≡ n
+  pub xs-long : length (slots_saved s) ≡ s.keeper.shape.slots
   xs-long = length-map-range_with_len (slot_saved s) 0 n
 
-  xs-at : (k : ℕ) → k < n → get_or xs k none_saved ≡ slot_saved s k
+  pub xs-at : (k : ℕ) → k < s.keeper.shape.slots → get_or (slots_saved s) k none_saved ≡ slot_saved s k
   xs-at k lt = get_or-map-range_with_len (slot_saved s) 0 n k k none_saved lt (omega arith)
 
   objects-back : objects_from 0 xs ≡ s.objects
-  objects-back = ext_get_or None (objects_from 0 xs) s.objects (objects-long 0 xs ∙ xs-long ∙ sym tied.agreed.long)
+  objects-back = ext_get_or None (objects_from 0 xs) s.objects (objects-long 0 xs ∙ xs-long ∙ sym tied.agreed.length_is)
       (λ k lt. (let within : k < n = omega (arith, lt, objects-long 0 xs, xs-long) in
       object-at 0 k xs (omega (arith, within, xs-long)) ∙
       ap (λ (j : ℕ). object_from j (get_or xs k none_saved)) (let e : 0 + k ≡ k = omega arith in e)
@@ -128,7 +128,7 @@ module _ (s : ObjectsState) (tied : IsTied s) where
     wide = xs-long ∙ ap (λ (z : Shape). z.slots) shape
 
     zeros : replicate {A = ℕ} (length xs) 0 ≡ replicate {A = ℕ} (length s.objects) 0
-    zeros = ap (λ (m : ℕ). replicate {A = ℕ} m 0) (xs-long ∙ sym tied.agreed.long)
+    zeros = ap (λ (m : ℕ). replicate {A = ℕ} m 0) (xs-long ∙ sym tied.agreed.length_is)
 
     places-back : places_from xs ≡ uncounted bare
     places-back = λ i. record {

@@ -9,6 +9,7 @@ use Rattle.std.specs.declared.cmp.Ordering.TheVariants.{Less, Equal, Greater}
 use Rattle.std.specs.Ordering.{is_eq, match_ordering, nat_cmp}
 use Rattle.std.proofs.lemmas.Bool.{and_parts, eqb-true, ltb-true}
 use Rattle.std.proofs.lemmas.Bool.Decides.{nat_tests}
+use Rattle.std.proofs.lemmas.Option.{same_Some}
 use Rattle.ob_codec.specs.declared.fault.TextFault.TheVariants.{Value}
 use Rattle.ob_codec.specs.Steps.{bind_ok, guard_passed}
 use Rattle.ob_store.specs.Agreement.{AreBorn}
@@ -91,12 +92,9 @@ not-taken es b slot c e = by (is_at (nat_cmp c) b) refl (sym (taken_inserted es 
     by false is none =
         (λ same. absurd (let e = sym is ∙ (ap (is_at (nat_cmp c)) (sym same) ∙ at_same c) in cc e), none)
 
-none-is : (x : Option ℕ) → is_none x ≡ true → x ≡ None
+pub none-is : {A : Type 0} (x : Option A) → is_none x ≡ true → x ≡ None
 none-is None e = refl
-none-is (Some n) e = absurd cc
-
-some-is : (o p : Object) → Some o ≡ Some p → o ≡ p
-some-is o p e = cc
+none-is (Some y) e = absurd (cc e)
 
 module _ (births : ℕ) (order : Births) where
   -- one object more
@@ -124,7 +122,7 @@ module _ (births : ℕ) (order : Births) where
   each-new slot so_far (None ∷ objects) e (suc k) o is = each-new (suc slot) so_far objects e k o is
   each-new slot so_far (Some x ∷ objects) e zero o is =
       let s = births_step slot so_far x objects e in
-      subst (λ (z : Object). (z.birth < births) × (taken so_far z.birth ≡ None)) (some-is x o is) (s.0, s.1)
+      subst (λ (z : Object). (z.birth < births) × (taken so_far z.birth ≡ None)) (same_Some x o is) (s.0, s.1)
   each-new slot so_far (Some x ∷ objects) e (suc k) o is =
       let later = each-new (suc slot) (insert_entry nat_cmp so_far x.birth slot) objects
       (births_step slot so_far x objects e).2 k o is in
@@ -151,9 +149,9 @@ module _ (births : ℕ) (order : Births) where
   none-twice slot so_far (Some x ∷ objects) e zero zero o p is it same = refl
   none-twice slot so_far (Some x ∷ objects) e zero (suc k) o p is it same =
       absurd (later-apart slot so_far x objects e k p it (sym same ∙
-      ap (λ (z : Object). z.birth) (sym (some-is x o is))))
+      ap (λ (z : Object). z.birth) (sym (same_Some x o is))))
   none-twice slot so_far (Some x ∷ objects) e (suc j) zero o p is it same =
-      absurd (later-apart slot so_far x objects e j o is (same ∙ ap (λ (z : Object). z.birth) (sym (some-is x p it))))
+      absurd (later-apart slot so_far x objects e j o is (same ∙ ap (λ (z : Object). z.birth) (sym (same_Some x p it))))
   none-twice slot so_far (Some x ∷ objects) e (suc j) (suc k) o p is it same =
       ap suc (none-twice (suc slot) (insert_entry nat_cmp so_far x.birth slot) objects
       (births_step slot so_far x objects e).2 j k o p is it same)

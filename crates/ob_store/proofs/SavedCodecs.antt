@@ -31,7 +31,7 @@ use Rattle.ob_store.specs.Objects.{ObjectsState, Places}
 use Rattle.ob_store.specs.SavedObjects.{object_saved, objects_at, objects_text, slot_saved, slots_saved, whole_at, with_slots}
 use Rattle.ob_store.specs.SavedWaits.{all_stand, with_blocks}
 use Rattle.ob_store.specs.SavedSlots as saved
-use Rattle.ob_store.specs.SavedSlots.{ObjectFits, SlotFits, any_slot_at, object_at, object_parts, object_text, slot_at, slot_parts, slot_stands, slot_text, slots_at, slots_from}
+use Rattle.ob_store.specs.SavedSlots.{ObjectFits, SlotFits, object_at, object_parts, object_text, slot_at, slot_parts, slot_stands, slot_text, slots_from}
 
 pub object_codec : IsCodec object_text object_at ObjectFits
 object_codec = as_codec saved.object_of object_parts (λ _. refl) (λ _. refl)
@@ -57,7 +57,7 @@ module _ (n max_gen clock : ℕ) (p : Places) (slots : List Slot) (r : AreRead n
       let x = get_or r.xs k none_saved in
       let generation : (slot_of slots k).generation ≡ x.generation =
       ap (λ (y : Slot). y.generation) (slot-here n max_gen clock p slots r q more Named counts k lt) ∙
-      slot_generation max_gen clock x (r.sound k lt) in
+      slot_generation x in
       let retired : get_or q.retired k false ≡ x.retired =
       retired-here n max_gen clock p slots r q more Named counts k lt in
       let object : object_saved (get_or q.objects k None) (get_or q.seen.bodies k None) ≡ x.object =
@@ -71,7 +71,7 @@ module _ (n max_gen clock : ℕ) (p : Places) (slots : List Slot) (r : AreRead n
   slots_back waits =
       let s = with_slots (with_blocks waits q) limits slots in
       let long : length (slots_saved s) ≡ limits.slots = length-map-range_with_len (slot_saved s) 0 limits.slots in
-      ext_get_or none_saved (slots_saved s) r.xs (long ∙ sym wide ∙ sym r.long)
+      ext_get_or none_saved (slots_saved s) r.xs (long ∙ sym wide ∙ sym r.length_is)
       (λ k lt. (let within : k < n = omega (arith, lt, long, wide) in
       get_or-map-range_with_len (slot_saved s) 0 limits.slots k k none_saved (omega (arith, within, wide)) (omega arith)
       ∙ slot-back k within))
@@ -89,7 +89,7 @@ whole_take limits tables list bytes s rows rest are e =
     (slot_sound limits.max_gen list.clock) none_saved limits.slots bytes i.0.0 i.0.1 i.1 in
     let r : AreRead limits.slots limits.max_gen list.clock w.p w.slots = record {
       xs = i.0.0;
-      long = all.0;
+      length_is = all.0;
       sound = all.1;
       places = sym (ap (λ (z : (Places × List Slot) × List ℕ). z.0.0) back);
       slots_are = sym (ap (λ (z : (Places × List Slot) × List ℕ). z.0.1) back);

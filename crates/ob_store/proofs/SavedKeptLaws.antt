@@ -235,7 +235,7 @@ blocks_counted s tables waits tied named =
     is_by_slot (map (object_blocks waits) s.objects) (length s.objects) (λ k. slot_blocks k waits)
     (length-map s.objects (object_blocks waits))
     (λ k lt. get_or-map (object_blocks waits) s.objects k None 0 lt ∙
-    by k (get_or s.objects k None) refl (tied.agreed.each k (omega (arith, lt, tied.agreed.long))))
+    by k (get_or s.objects k None) refl (tied.agreed.each k (omega (arith, lt, tied.agreed.length_is))))
   where
     by : (k : ℕ) (x : Option Object) → get_or s.objects k None ≡ x →
         Agrees k x (get_or s.seen.bodies k None) (get_or s.retired k false) (slot_of s.keeper.slots k) →

@@ -1,20 +1,19 @@
 -- Slots that are read one after the other.
-use Rattle.std.proofs.Common.{◌≡◌, ℕ, zero, suc, ◌+◌, ◌-◌, ◌<◌, ◌≤◌, ◌&&◌, not, Bool, true, false, ltb, List, [], ◌∷◌, ◌++◌, length, get_or, set, map, Option, Some, None, Ok, Err, refl, sym, ap, ◌∙◌, subst, append_assoc, arith, length-append}
+use Rattle.std.proofs.Common.{◌≡◌, ℕ, zero, suc, ◌+◌, ◌-◌, ◌<◌, ◌≤◌, ◌&&◌, not, Bool, true, false, ltb, List, [], ◌∷◌, ◌++◌, length, get_or, set, map, Option, Some, None, Ok, Err, refl, sym, ap, ◌∙◌, append_assoc, arith, length-append}
 use Rattle.std.specs.Prelude.{is_none, replicate}
-use Rattle.std.proofs.lemmas.Bool.{and_from, and_parts, lt-ltb}
+use Rattle.std.proofs.lemmas.Bool.{and_from, lt-ltb}
 use Rattle.std.proofs.lemmas.List.{set_at, map-append, length-map, append-nil, set-get_or, get_or-replicate, length-replicate}
 use Rattle.ob_arena.specs.Slots.{is_vacant_at}
 use Rattle.ob_codec.specs.declared.fault.ReadFault.{ReadFault}
 use Rattle.ob_codec.specs.declared.fault.ReadFault.TheVariants.{Memory, Text}
-use Rattle.ob_codec.specs.declared.fault.TextFault.TheVariants.{Value}
 use Rattle.ob_codec.specs.Reading.{◌>>=◌, Fails, Read, items_at}
-use Rattle.ob_codec.specs.Steps.{bind_ok, guard_passed}
 use Rattle.ob_codec.proofs.Loop.{with_front, goes_on, ends, is_done}
 use Rattle.pin_core.specs.declared.world.Slot.{Slot}
 use Rattle.ob_store.specs.declared.saved_slot.SavedObject.{SavedObject}
 use Rattle.ob_store.specs.declared.saved_slot.SavedSlot.{SavedSlot}
 use Rattle.ob_store.specs.Objects.{Object, Places, vacancy, vacant_places}
-use Rattle.ob_store.specs.SavedSlots.{any_slot_at, body_from, is_retired, keeper_slot, may_retire, object_from, object_stands, objects_from, places_from, slot_at, slot_stands, slots_at, slots_from, with_saved}
+use Rattle.ob_store.specs.SavedSlots.{body_from, is_retired, keeper_slot, object_from, objects_from, places_from, slot_at, slots_at, slots_from, with_saved}
+use Rattle.ob_store.proofs.SavedSlotLaws.{slot_retires, slot_sound}
 
 -- a list of which the first places are written
 abbrev pub begun : {A : Type 0} → A → ℕ → ℕ → List A → List A
@@ -161,27 +160,10 @@ module _ (n i : ℕ) (xs : List SavedSlot) (long : length xs ≡ i) (lt : i < n)
         ap (begun false n (i + 1)) (sym (map-append is_retired xs (x ∷ [])))) j;
   }
 
--- what was read passed the test
-pub slot-stands : (max_gen clock : ℕ) (bytes after : List ℕ) (x : SavedSlot) → slot_at max_gen clock bytes ≡
-    Ok (x, after) → slot_stands max_gen clock x ≡ true
-slot-stands max_gen clock bytes after x e =
-    let b = bind_ok (any_slot_at bytes) _ (x, after) e in
-    let g = guard_passed (slot_stands max_gen clock b.0.0) Value b.0 (x, after) b.2 in
-    subst (λ (z : SavedSlot × List ℕ). slot_stands max_gen clock z.0 ≡ true) g.1 g.0
-
-pub retired-apart : (max_gen clock : ℕ) (x : SavedSlot) → slot_stands max_gen clock x ≡ true → x.retired ≡ true →
-    is_none x.object ≡ true
-retired-apart max_gen clock x e is =
-    by x.retired is (and_parts (may_retire max_gen x) (object_stands clock x.object) (and_parts _ _ e).1).0
-  where
-    by : (b : Bool) → b ≡ true → may_retire max_gen (record x { retired = b }) ≡ true → is_none x.object ≡ true
-    by true is e = (and_parts _ (is_none x.object) e).1
-    by false is e = absurd (cc is)
-
 -- what a loop has read of n slots once it stands at the slot i
 pub record HasRead (n max_gen clock i : ℕ) (first from : List ℕ) (p : Places) (slots : List Slot) : Type 0 where
   pub read : List SavedSlot
-  pub long : length read ≡ i
+  pub length_is : length read ≡ i
   pub total : with_front read (items_at (slot_at max_gen clock) (n - i) from) ≡ items_at (slot_at max_gen clock) n first
   pub places : p ≡ so_far n i read
   pub begun_slots : slots ≡ map keeper_slot read
@@ -196,7 +178,7 @@ read_begins n max_gen clock first p slots vacant none =
     let all : n ≡ n - 0 = omega arith in
     record {
       read = [];
-      long = refl;
+      length_is = refl;
       total = front-none (items_at (slot_at max_gen clock) (n - 0) first) ∙
           ap (λ (k : ℕ). items_at (slot_at max_gen clock) k first) (sym all);
       places = vacant ∙ (λ j. record (vacant_places n) {
@@ -211,21 +193,22 @@ read_begins n max_gen clock first p slots vacant none =
 module _ (n max_gen clock i : ℕ) (first from : List ℕ) (p : Places) (slots : List Slot)
     (h : HasRead n max_gen clock i first from p slots) where
   pub vacant_here : i < n → is_vacant_at (vacancy p) i ≡ true
-  vacant_here lt = ap (λ (z : Places). is_vacant_at (vacancy z) i) h.places ∙ vacant-next n i h.read h.long lt
+  vacant_here lt = ap (λ (z : Places). is_vacant_at (vacancy z) i) h.places ∙ vacant-next n i h.read h.length_is lt
 
   pub read_goes_on : (x : SavedSlot) (after : List ℕ) → i < n → slot_at max_gen clock from ≡ Ok (x, after) →
       HasRead n max_gen clock (i + 1) first after (with_saved p i x.generation x.retired x.object) (slots
       ++ keeper_slot x ∷ [])
   read_goes_on x after lt is =
-      let apart = retired-apart max_gen clock x (slot-stands max_gen clock from after x is) in
+      let apart : x.retired ≡ true → is_none x.object ≡ true =
+      λ r. (slot_retires max_gen clock x (slot_sound max_gen clock from after x is) r).1 in
       record {
         read = h.read ++ x ∷ [];
-        long = length-append h.read (x ∷ []) ∙ (let l = h.long in omega (arith, l));
+        length_is = length-append h.read (x ∷ []) ∙ (let l = h.length_is in omega (arith, l));
         total = goes_on (slot_at max_gen clock) h.read n i from x after
             (items_at (slot_at max_gen clock) n first) lt is h.total;
         places = ap (λ (z : Places). with_saved z i x.generation x.retired x.object) h.places
-            ∙ (saved-is (so_far n i h.read) i x.generation x.retired x.object (empty-at n i h.read h.long lt) apart ∙
-            written-next n i h.read h.long lt x);
+            ∙ (saved-is (so_far n i h.read) i x.generation x.retired x.object (empty-at n i h.read h.length_is lt) apart
+            ∙ written-next n i h.read h.length_is lt x);
         begun_slots = ap (λ (z : List Slot). z ++ keeper_slot x ∷ []) h.begun_slots ∙
             sym (map-append keeper_slot h.read (x ∷ []));
       }
@@ -244,7 +227,7 @@ module _ (n max_gen clock i : ℕ) (first from : List ℕ) (p : Places) (slots :
       let done = is_done (slot_at max_gen clock) h.read n i from (items_at (slot_at max_gen clock) n first) le h.total
       in
       let none : n - i ≡ 0 = omega arith in
-      let full : length h.read ≡ n = let l = h.long in omega (arith, l) in
+      let full : length h.read ≡ n = let l = h.length_is in omega (arith, l) in
       let objects : begun None n i (objects_from 0 h.read) ≡ objects_from 0 h.read =
       ap (λ (k : ℕ). objects_from 0 h.read ++ replicate k None) none ∙ append-nil (objects_from 0 h.read) in
       let bodies : begun None n i (map body_from h.read) ≡ map body_from h.read =

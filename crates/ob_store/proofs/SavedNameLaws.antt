@@ -1,5 +1,5 @@
 -- The names that a load enters are the directory, where no name stands twice.
-use Rattle.std.proofs.Common.{◌≡◌, ◌≢◌, ℕ, zero, suc, ◌+◌, ◌≤◌, ◌&&◌, Bool, true, false, cond, ltb, List, [], ◌∷◌, ◌++◌, length, get_or, is_none, Option, Some, None, Ok, Err, refl, sym, ap, ◌∙◌, subst, arith, inl, inr, eq-eqb}
+use Rattle.std.proofs.Common.{◌≡◌, ◌≢◌, ℕ, zero, suc, ◌+◌, ◌≤◌, ◌&&◌, Bool, false, cond, ltb, List, [], ◌∷◌, ◌++◌, length, get_or, is_none, Option, Some, None, Ok, Err, refl, sym, ap, ◌∙◌, subst, arith, inl, inr, eq-eqb}
 use Rattle.std.proofs.lemmas.Option.{same_Some}
 use Rattle.std.specs.BTreeMap.{is_at}
 use Rattle.std.specs.List.{AllByRecursion, IsDistinct, cons_option, filter_map}
@@ -29,7 +29,7 @@ use Rattle.ob_store.proofs.CountedLaws.{handles_at}
 use Rattle.ob_store.proofs.DirectoryLaws.{Tables, has_handles, other_birth, picks_none, picks_only}
 use Rattle.ob_store.proofs.ListingLaws.{distinct_with, placed_agreed}
 use Rattle.ob_store.proofs.NamedLaws.{handles_are}
-use Rattle.ob_store.proofs.SavedBirthLaws.{at_other, at_same, taken}
+use Rattle.ob_store.proofs.SavedBirthLaws.{at_other, at_same, taken, none-is}
 use Rattle.ob_store.proofs.SavedOrderLaws.{IsOrder, Rises, is_order, none_below}
 
 cons_end : {A : Type 0} (xs ys : List A) (o : Option A) → xs ++ cons_option o [] ++ ys ≡ xs ++ cons_option o ys
@@ -137,12 +137,8 @@ module _ (p : Places) where
       let g = guard_passed (is_none (find_name row.0 rows)) Value (rows ++ row ∷ []) more e in (
         g.1,
         λ distinct. subst AreDistinct g.1
-            (distinct_with rows row.0 row.1 distinct (none-found (find_name row.0 rows) g.0)),
+            (distinct_with rows row.0 row.1 distinct (none-is (find_name row.0 rows) g.0)),
       )
-    where
-      none-found : (x : Option Id) → is_none x ≡ true → x ≡ None
-      none-found None e = refl
-      none-found (Some id) e = absurd (cc e)
 
   all-entered : (rows out : Rows) (slots : List ℕ) → named_from p rows slots ≡ Ok out →
       (rows ++ filter_map (slot_row p) slots ≡ out) × (AreDistinct rows → AreDistinct out)

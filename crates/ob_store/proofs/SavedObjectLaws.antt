@@ -88,7 +88,7 @@ object-at j (suc k) (x ∷ xs) lt =
 -- the slots that were read, and what is counted of them
 pub record AreRead (n max_gen clock : ℕ) (p : Places) (slots : List Slot) : Type 0 where
   pub xs : List SavedSlot
-  pub long : length xs ≡ n
+  pub length_is : length xs ≡ n
   pub sound : (k : ℕ) → k < n → IsSound max_gen clock (get_or xs k none_saved)
   pub places : p ≡ places_from xs
   pub slots_are : slots ≡ map keeper_slot xs
@@ -106,7 +106,7 @@ slots-are-read n max_gen clock bytes p slots rest e =
     let q = ok_is (slots_from b.0.0, b.0.1) ((p, slots), rest) b.2 in
     record {
       xs = b.0.0;
-      long = all.0;
+      length_is = all.0;
       sound = all.1;
       places = sym (ap (λ (z : (Places × List Slot) × List ℕ). z.0.0) q);
       slots_are = sym (ap (λ (z : (Places × List Slot) × List ℕ). z.0.1) q);
@@ -128,41 +128,41 @@ module _ (n max_gen clock : ℕ) (p : Places) (slots : List Slot) (r : AreRead n
   retired-are = ap (λ (z : Places). z.retired) counts.same ∙ ap (λ (z : Places). z.retired) r.places
 
   pub objects-long-here : length q.objects ≡ n
-  objects-long-here = ap (λ (z : List (Option Object)). length z) objects-are ∙ objects-long 0 r.xs ∙ r.long
+  objects-long-here = ap (λ (z : List (Option Object)). length z) objects-are ∙ objects-long 0 r.xs ∙ r.length_is
 
   bodies-long : length q.seen.bodies ≡ n
-  bodies-long = ap (λ (z : List (Option Body)). length z) bodies-are ∙ length-map r.xs body_from ∙ r.long
+  bodies-long = ap (λ (z : List (Option Body)). length z) bodies-are ∙ length-map r.xs body_from ∙ r.length_is
 
   retired-long : length q.retired ≡ n
-  retired-long = ap (λ (z : List Bool). length z) retired-are ∙ length-map r.xs is_retired ∙ r.long
+  retired-long = ap (λ (z : List Bool). length z) retired-are ∙ length-map r.xs is_retired ∙ r.length_is
 
   slots-long : length slots ≡ n
-  slots-long = ap (λ (z : List Slot). length z) r.slots_are ∙ length-map r.xs keeper_slot ∙ r.long
+  slots-long = ap (λ (z : List Slot). length z) r.slots_are ∙ length-map r.xs keeper_slot ∙ r.length_is
 
   handles-long : length q.seen.handles ≡ n
-  handles-long = counts.long ∙ ap (λ (z : Places). length z.seen.handles) r.places ∙
-      length-replicate {A = ℕ} (length r.xs) 0 ∙ r.long
+  handles-long = counts.length_is ∙ ap (λ (z : Places). length z.seen.handles) r.places ∙
+      length-replicate {A = ℕ} (length r.xs) 0 ∙ r.length_is
 
   blocks-long : length q.seen.blocks ≡ n
   blocks-long = ap (λ (z : Places). length z.seen.blocks) counts.same ∙
-      ap (λ (z : Places). length z.seen.blocks) r.places ∙ length-replicate {A = ℕ} (length r.xs) 0 ∙ r.long
+      ap (λ (z : Places). length z.seen.blocks) r.places ∙ length-replicate {A = ℕ} (length r.xs) 0 ∙ r.length_is
 
   pub object-here : (k : ℕ) → k < n → get_or q.objects k None ≡ object_from k (at k)
   object-here k lt = ap (λ (z : List (Option Object)). get_or z k None) objects-are
-      ∙ object-at 0 k r.xs (omega (arith, lt, r.long)) ∙ ap (λ (j : ℕ). object_from j (at k)) (let e : 0 + k ≡ k =
+      ∙ object-at 0 k r.xs (omega (arith, lt, r.length_is)) ∙ ap (λ (j : ℕ). object_from j (at k)) (let e : 0 + k ≡ k =
       omega arith in e)
 
   pub body-here : (k : ℕ) → k < n → get_or q.seen.bodies k None ≡ body_from (at k)
   body-here k lt = ap (λ (z : List (Option Body)). get_or z k None) bodies-are ∙
-      get_or-map body_from r.xs k none_saved None (omega (arith, lt, r.long))
+      get_or-map body_from r.xs k none_saved None (omega (arith, lt, r.length_is))
 
   pub retired-here : (k : ℕ) → k < n → get_or q.retired k false ≡ (at k).retired
   retired-here k lt = ap (λ (z : List Bool). get_or z k false) retired-are ∙
-      get_or-map is_retired r.xs k none_saved false (omega (arith, lt, r.long))
+      get_or-map is_retired r.xs k none_saved false (omega (arith, lt, r.length_is))
 
   pub slot-here : (k : ℕ) → k < n → slot_of slots k ≡ keeper_slot (at k)
   slot-here k lt = ap (λ (z : List Slot). slot_of z k) r.slots_are ∙
-      get_or-map keeper_slot r.xs k none_saved opening_slot (omega (arith, lt, r.long))
+      get_or-map keeper_slot r.xs k none_saved opening_slot (omega (arith, lt, r.length_is))
 
   agrees-here : (k : ℕ) → k < n →
       Agrees k (get_or q.objects k None) (get_or q.seen.bodies k None) (get_or q.retired k false) (slot_of slots k)
@@ -194,9 +194,9 @@ module _ (n max_gen clock : ℕ) (p : Places) (slots : List Slot) (r : AreRead n
       (bodied : are_bodied (with_blocks waits q).seen (length q.objects) ≡ true) where
     read_agreed : IsAgreed (with_slots (with_blocks waits q) limits slots)
     read_agreed = record {
-      few = limits.in_range.slots_in_range.1;
+      at_most = limits.in_range.slots_in_range.1;
       wide = slots-long ∙ wide;
-      long = objects-long-here ∙ wide;
+      length_is = objects-long-here ∙ wide;
       bodied = bodies-long ∙ wide;
       marked = retired-long ∙ wide;
       each = λ k lt. agrees-here k (omega (arith, lt, wide));
@@ -221,7 +221,7 @@ module _ (n max_gen clock : ℕ) (p : Places) (slots : List Slot) (r : AreRead n
           let age = slot_aged max_gen clock (at k) (r.sound k within) in
           let is : (slot_of slots k).generation ≡ (at k).generation =
           ap (λ (x : Slot). x.generation) (slot-here k within) ∙
-          slot_generation max_gen clock (at k) (r.sound k within) in
+          slot_generation (at k) in
           (omega (arith, age.0, is), omega (arith, age.1, is, last)));
       last = limits.in_range.max_gen_in_range.1;
       made = refl;
@@ -232,7 +232,7 @@ module _ (n max_gen clock : ℕ) (p : Places) (slots : List Slot) (r : AreRead n
   read_handles = is_by_slot q.seen.handles (length q.objects) more (handles-long ∙ sym objects-long-here)
       (λ k lt. (let c = counts.handles k in
       let z : get_or p.seen.handles k 0 ≡ 0 = ap (λ (y : Places). get_or y.seen.handles k 0) r.places ∙
-      get_or-replicate {A = ℕ} (length r.xs) k 0 0 (omega (arith, lt, objects-long-here, r.long)) in
+      get_or-replicate {A = ℕ} (length r.xs) k 0 0 (omega (arith, lt, objects-long-here, r.length_is)) in
       omega (arith, c, z)))
 
   -- and there is a count of blocks for each object
@@ -243,7 +243,7 @@ pub slots_read : (n max_gen clock : ℕ) (bytes : List ℕ) (p : Places) (slots 
     slots_at n max_gen clock bytes ≡ Ok ((p, slots), rest) → length slots ≡ n
 slots_read n max_gen clock bytes p slots rest e =
     let r = slots-are-read n max_gen clock bytes p slots rest e in
-    ap (λ (z : List Slot). length z) r.slots_are ∙ length-map r.xs keeper_slot ∙ r.long
+    ap (λ (z : List Slot). length z) r.slots_are ∙ length-map r.xs keeper_slot ∙ r.length_is
 
 module _ (limits : Limits) (clock : ℕ) (tables : List (List (Option Entry))) (bytes : List ℕ) (p q : Places)
     (slots : List Slot) (rest : List ℕ)

@@ -1,15 +1,14 @@
 -- Processes and threads are read as they were spelled, and what is read is kept.
-use Rattle.std.proofs.Common.{◌≡◌, ℕ, ◌<◌, ◌≤◌, ◌+◌, ◌&&◌, Bool, List, None, Option, Some, ap, arith, get_or, leb, length, refl, subst, true}
-use Rattle.std.specs.Prelude.{IfSome, is_some, not}
-use Rattle.std.proofs.lemmas.Bool.{and_from, and_parts, le-leb, leb-true}
+use Rattle.std.proofs.Common.{◌≡◌, ℕ, ◌≤◌, ◌+◌, ◌&&◌, Bool, List, None, Option, Some, ap, arith, get_or, leb, length, refl, subst, true}
+use Rattle.std.specs.Prelude.{is_some, not}
+use Rattle.std.proofs.lemmas.Bool.{and_from, le-leb}
 use Rattle.ob_codec.specs.Codecs.{as_codec, both_codec, list_codec, option_codec, u32_codec, where_codec}
 use Rattle.ob_codec.specs.Laws.{IsCodec}
 use Rattle.ob_store.specs.declared.limits.Limits.{Limits}
 use Rattle.ob_store.specs.Kept.{IsLive, ProcessesKept}
 use Rattle.ob_store.specs.Processes.{IsFromOne, ProcessesState}
 use Rattle.ob_store.specs.SavedProcesses.{AreWithin, ListsFit, ProcessesFit, are_numbers, are_of_live, is_of_live, lists_of, numbers_at, numbers_text, processes_at, processes_of, processes_text}
-use Rattle.ob_store.proofs.ByPlace.{all_at, all_from}
-use Rattle.ob_store.proofs.PlacedLaws.{live_within}
+use Rattle.ob_store.proofs.ByPlace.{all_from}
 
 pub numbers_codec : (limit : ℕ) → IsCodec numbers_text (numbers_at limit) (AreWithin limit)
 numbers_codec limit = where_codec (list_codec (option_codec u32_codec)) (are_numbers limit)
@@ -19,33 +18,19 @@ pub processes_codec : (processes threads : ℕ)
 processes_codec processes threads = as_codec processes_of lists_of (λ _. refl) (λ _. refl)
     (where_codec (both_codec (numbers_codec processes) (numbers_codec threads)) are_of_live)
 
--- what the tests say of numbers
-none_not : (x : Option ℕ) → not (is_some x) ≡ true → x ≡ None
-none_not None e = refl
-none_not (Some p) e = absurd cc
-
 module _ (limit : ℕ) (xs : List (Option ℕ)) where
   abbrev some : Bool
   some = leb 1 (length xs)
 
-  abbrev few : Bool
-  few = leb (length xs) (limit + 1)
+  abbrev short : Bool
+  short = leb (length xs) (limit + 1)
 
   abbrev none : Bool
   none = not (is_some (get_or xs 0 None))
 
-  pub few_numbers : are_numbers limit xs ≡ true → length xs ≤ limit + 1
-  few_numbers e = leb-true (length xs) (limit + 1) (and_parts some few (and_parts (some && few) none e).0).1
-
-  pub from_one : are_numbers limit xs ≡ true → IsFromOne xs
-  from_one e = let b = and_parts (some && few) none e in record {
-    some = (let le = leb-true 1 (length xs) (and_parts some few b.0).0 in omega (arith, le));
-    none = none_not (get_or xs 0 None) b.1;
-  }
-
   numbers_pass : length xs ≤ limit + 1 → IsFromOne xs → are_numbers limit xs ≡ true
-  numbers_pass most is = and_from (some && few) none
-      (and_from some few (le-leb 1 (length xs) (let s = is.some in omega (arith, s)))
+  numbers_pass most is = and_from (some && short) none
+      (and_from some short (le-leb 1 (length xs) (let s = is.not_empty in omega (arith, s)))
       (le-leb (length xs) (limit + 1) most)) (ap (λ (x : Option ℕ). not (is_some x)) is.none)
 
 -- what they say of threads
@@ -57,21 +42,9 @@ module _ (ps : List (Option ℕ)) where
   live_from None each = refl
   live_from (Some p) each = each p refl
 
-  pub live_read : (ts : List (Option ℕ)) → are_of_live (ps, ts) ≡ true → (t p : ℕ) → get_or ts t None ≡ Some p
-      → IsLive ps p
-  live_read ts e t = live_at (get_or ts t None) (all_at (is_of_live ps) ts None refl e t)
-
   live_pass : (ts : List (Option ℕ)) → ((t p : ℕ) → get_or ts t None ≡ Some p → IsLive ps p)
       → are_of_live (ps, ts) ≡ true
   live_pass ts each = all_from (is_of_live ps) ts None (λ t lt. live_from (get_or ts t None) (each t))
-
-  pub known_read : (ts : List (Option ℕ)) → are_of_live (ps, ts) ≡ true → (t : ℕ)
-      → IfSome (get_or ts t None) (λ p. p < length ps)
-  known_read ts e t = by (get_or ts t None) refl
-    where
-      by : (x : Option ℕ) → get_or ts t None ≡ x → IfSome x (λ p. p < length ps)
-      by None is = tt
-      by (Some p) is = live_within ps p (live_read ts e t p is)
 
 pub kept_fits : (limits : Limits) (l : ProcessesState) (tables : ℕ) → ProcessesKept limits l tables → ListsFit l
     → ProcessesFit limits.processes limits.threads l

@@ -3,6 +3,7 @@ use Rattle.std.proofs.Common.{◌≡◌, ℕ, zero, suc, ◌<◌, ◌≤◌, ◌
 use Rattle.std.specs.Prelude.{is_none}
 use Rattle.std.proofs.lemmas.Bool.{and_parts, eqb-true, leb-true, ltb-true}
 use Rattle.std.proofs.lemmas.Grind.{common_steps}
+use Rattle.std.proofs.lemmas.Option.{same_Some}
 use Rattle.ob_codec.specs.declared.fault.TextFault.TheVariants.{Value}
 use Rattle.ob_codec.specs.Reading.{◌>>=◌, Read, as_at, both_at, given_at, items_at, number_at, option_at, some_at}
 use Rattle.ob_codec.specs.Reading as reading
@@ -158,6 +159,13 @@ retired-bare max_gen x e is = by x.retired is e
         (eqb-true x.generation max_gen t.0, t.1)
     by false is e = absurd (cc is)
 
+pub slot_generation : (x : SavedSlot) → (keeper_slot x).generation ≡ x.generation
+slot_generation x = by x.object
+  where
+    by : (o : Option SavedObject) → (keeper_slot_with x.generation x.retired o).generation ≡ x.generation
+    by None = refl
+    by (Some o) = refl
+
 module _ (max_gen clock : ℕ) (x : SavedSlot) (sound : IsSound max_gen clock x) where
   abbrev rest : Bool
   rest = may_retire max_gen x && object_stands clock x.object
@@ -188,13 +196,6 @@ module _ (max_gen clock : ℕ) (x : SavedSlot) (sound : IsSound max_gen clock x)
       by (Some o) true bare = absurd (let e = bare refl in cc e)
       by (Some o) false bare = (refl, refl, refl, refl)
 
-  pub slot_generation : (keeper_slot x).generation ≡ x.generation
-  slot_generation = by x.object
-    where
-      by : (o : Option SavedObject) → (keeper_slot_with x.generation x.retired o).generation ≡ x.generation
-      by None = refl
-      by (Some o) = refl
-
   pub slot_opens : SlotOpens max_gen (keeper_slot x)
   slot_opens = by x.object x.retired sound.given (λ r. (slot_retires r).0)
     where
@@ -223,16 +224,13 @@ module _ (max_gen clock : ℕ) (x : SavedSlot) (sound : IsSound max_gen clock x)
       unset (form_of b) ≡ form_in o.descr
   slot_formed k o b is has = by x.object stands is has
     where
-      some-is : {A : Type 0} (a b : A) → Some a ≡ Some b → a ≡ b
-      some-is a b e = cc
-
       by : (s : Option SavedObject) → object_stands clock s ≡ true →
           object_in_slot (record { slot = k; generation = x.generation }) s ≡ Some o → body_in s ≡ Some b →
           unset (form_of b) ≡ form_in o.descr
       by None stands is has = absurd cc
       by (Some s) stands is has =
           let same : s.descr ≡ o.descr =
-          ap (λ (z : Object). z.descr) (some-is (stored_object (record {
+          ap (λ (z : Object). z.descr) (same_Some (stored_object (record {
             slot = k;
             generation =
                 x.generation;

@@ -5,7 +5,6 @@ use Rattle.std.specs.List.{AllByRecursion, flat_map}
 use Rattle.std.proofs.lemmas.Bool.{and_from, and_parts, eq-eqb, eqb-true, le-leb, le-ltb, leb-true, lt-ltb}
 use Rattle.std.proofs.lemmas.List.{ext_get_or, get_or-map, length-append, length-map}
 use Rattle.std.proofs.lemmas.List.Concat.{flat_map-cons}
-use Rattle.std.proofs.lemmas.List.FromFn.{get_or-map-range_with_len, length-map-range_with_len}
 use Rattle.ob_codec.specs.Codecs.{u64_codec, where_codec}
 use Rattle.ob_codec.specs.Laws.{IsCodec, Takes}
 use Rattle.ob_codec.specs.Reading.{has_at, list_at, where_at}
@@ -26,7 +25,6 @@ use Rattle.ob_waits.specs.Rules.{thread_of}
 use Rattle.ob_waits.specs.Waits.{WaitList, ids_of, nowhere}
 use Rattle.ob_waits.specs.declared.wait.Wait.{Wait}
 use Rattle.ob_store.specs.declared.limits.Limits.{Limits}
-use Rattle.ob_store.specs.declared.saved_slot.SavedObject.{SavedObject}
 use Rattle.ob_store.specs.declared.saved_slot.SavedSlot.{SavedSlot}
 use Rattle.ob_store.specs.Agreement.{IsTied}
 use Rattle.ob_store.specs.Kept.{IsKept, IsLive, IsSound}
@@ -35,67 +33,48 @@ use Rattle.ob_store.specs.Parts.{PartsState, state_of, whole_of}
 use Rattle.ob_store.specs.Processes.{ProcessesState}
 use Rattle.ob_store.specs.SavedLimits.{limits_at, limits_text}
 use Rattle.ob_store.specs.SavedLimitLaws.{limits_codec}
-use Rattle.ob_store.specs.SavedObjects.{begun_over, objects_at, objects_text, slot_saved, slots_saved}
+use Rattle.ob_store.specs.SavedObjects.{begun_over, objects_at, objects_text, slots_saved}
 use Rattle.ob_store.specs.SavedProcesses.{ListsFit, processes_at, processes_text}
-use Rattle.ob_store.specs.SavedSlots.{SlotFits, keeper_slot, keeper_slot_with, object_text, slot_text}
+use Rattle.ob_store.specs.SavedSlots.{SlotFits, keeper_slot, object_text, slot_text}
 use Rattle.ob_store.specs.SavedStore.{are_tabled, is_moment, moment_at, parts_at, begun_again, slot_bytes, store_at, store_text, tables_for, whole_with}
 use Rattle.ob_store.specs.State.{Whole, generation_of, shape_of}
 use Rattle.ob_store.proofs.NamedLaws.{place_counted, there_within}
 use Rattle.ob_store.proofs.PlacedLaws.{live_within}
-use Rattle.ob_store.proofs.SavedAgain.{objects_again}
+use Rattle.ob_store.proofs.SavedAgain.{objects_again, xs-at, xs-long}
 use Rattle.ob_store.proofs.SavedCodecs.{objects_take}
 use Rattle.ob_store.proofs.SavedProcessLaws.{kept_fits, processes_codec}
 use Rattle.ob_store.proofs.SavedObjectLaws.{none_saved}
 use Rattle.ob_store.proofs.ByPlace.{all_at, all_from}
+use Rattle.ob_store.proofs.SavedSlotLaws.{slot_generation}
 
 -- six texts, and what stands behind them
 behind_six : (a b c d e f rest : List ℕ) → (a ++ (b ++ (c ++ (d ++ (e ++ f))))) ++ rest
     ≡ a ++ (b ++ (c ++ (d ++ (e ++ (f ++ rest)))))
-behind_six a b c d e f rest =
-    append_assoc a (b ++ (c ++ (d ++ (e ++ f)))) rest ∙ ap (λ (t : List ℕ). a ++ t)
-    (append_assoc b (c ++ (d ++ (e ++ f))) rest ∙ ap (λ (t : List ℕ). b ++ t)
-    (append_assoc c (d ++ (e ++ f)) rest ∙ ap (λ (t : List ℕ). c ++ t)
-    (append_assoc d (e ++ f) rest ∙ ap (λ (t : List ℕ). d ++ t) (append_assoc e f rest))))
+behind_six a b c d e f rest = simp append_assoc
 
 moment_codec : IsCodec (to_le_bytes w64) moment_at (λ n. (n < 2 ^ 64) × (is_moment n ≡ true))
 moment_codec = where_codec u64_codec is_moment
 
 -- slots keep their generations
-kept_generation : (generation : ℕ) (retired : Bool) (object : Option SavedObject)
-    → (keeper_slot_with generation retired object).generation ≡ generation
-kept_generation generation retired None = refl
-kept_generation generation retired (Some o) = refl
-
-generations_back : (s : ObjectsState) → length s.keeper.slots ≡ s.keeper.shape.slots
+generations_back : (s : ObjectsState) → IsTied s
     → map generation_of (map keeper_slot (slots_saved s)) ≡ map generation_of s.keeper.slots
-generations_back s wide =
-    ext_get_or 0 (map generation_of (map keeper_slot xs)) (map generation_of s.keeper.slots)
-    (length-map (map keeper_slot xs) generation_of ∙ length-map xs keeper_slot ∙ long ∙ sym wide ∙
-    sym (length-map s.keeper.slots generation_of))
-    (λ k lt. (let here : k < n = omega (
+generations_back s tied =
+    ext_get_or 0 (map generation_of (map keeper_slot (slots_saved s))) (map generation_of s.keeper.slots)
+    (length-map (map keeper_slot (slots_saved s)) generation_of ∙ length-map (slots_saved s) keeper_slot
+    ∙ xs-long s tied ∙ sym tied.agreed.wide ∙ sym (length-map s.keeper.slots generation_of))
+    (λ k lt. (let here : k < s.keeper.shape.slots = omega (
       arith,
       lt,
-      length-map (map keeper_slot xs) generation_of,
-      length-map xs keeper_slot,
-      long,
+      length-map (map keeper_slot (slots_saved s)) generation_of,
+      length-map (slots_saved s) keeper_slot,
+      xs-long s tied,
     ) in
-    get_or-map generation_of (map keeper_slot xs) k opening_slot 0
-    (omega (arith, here, length-map xs keeper_slot, long))
-    ∙ ap generation_of (get_or-map keeper_slot xs k none_saved opening_slot (omega (arith, here, long)))
-    ∙ kept_generation (get_or xs k none_saved).generation (get_or xs k none_saved).retired
-    (get_or xs k none_saved).object
-    ∙ ap (λ (x : SavedSlot). x.generation)
-    (get_or-map-range_with_len (slot_saved s) 0 n k k none_saved here (omega arith))
-    ∙ sym (get_or-map generation_of s.keeper.slots k opening_slot 0 (omega (arith, here, wide)))))
-  where
-    n : ℕ
-    n = s.keeper.shape.slots
-
-    xs : List SavedSlot
-    xs = slots_saved s
-
-    long : length xs ≡ n
-    long = length-map-range_with_len (slot_saved s) 0 n
+    get_or-map generation_of (map keeper_slot (slots_saved s)) k opening_slot 0
+    (omega (arith, here, length-map (slots_saved s) keeper_slot, xs-long s tied))
+    ∙ ap generation_of (get_or-map keeper_slot (slots_saved s) k none_saved opening_slot
+    (omega (arith, here, xs-long s tied)))
+    ∙ slot_generation (get_or (slots_saved s) k none_saved) ∙ ap (λ (x : SavedSlot). x.generation) (xs-at s tied k here)
+    ∙ sym (get_or-map generation_of s.keeper.slots k opening_slot 0 (omega (arith, here, tied.agreed.wide)))))
 
 -- tables that fit, within the limits
 tables_bounded : (limits : Limits) (t : HandleTables) → t.process_limit ≡ limits.processes → t.handle_limit ≡
@@ -124,7 +103,7 @@ module _ (p : PartsState) (kept : IsKept p) (tied : IsTied p.objects) where
       lt-ltb id.slot p.limits.slots (omega (
         arith,
         there,
-        tied.agreed.long,
+        tied.agreed.length_is,
         ap (λ (z : Shape). z.slots) kept.sound.limited.shape_is,
       ))))
 
@@ -221,7 +200,7 @@ module _ (p : PartsState) (kept : IsKept p) (tied : IsTied p.objects) (processes
   same_whole : whole_with p.limits p.processes p.tables p.waits over ≡ begun_again (whole_of p)
   same_whole = λ i. record (begun_again (whole_of p)) {
     state =
-        record (state_of p) { generations = generations_back p.objects tied.agreed.wide i };
+        record (state_of p) { generations = generations_back p.objects tied i };
   }
 
   objects_back : (rest : List ℕ) → objects_at p.limits p.processes.threads p.tables.tables p.waits
@@ -233,10 +212,6 @@ module _ (p : PartsState) (kept : IsKept p) (tied : IsTied p.objects) (processes
       (subst (λ (k : Shape). AllByRecursion (SlotFits k.max_gen p.waits.clock) (slots_saved p.objects))
       sound.limited.shape_is objects)
 
-  xs-long : length (slots_saved p.objects) ≡ p.limits.slots
-  xs-long = length-map-range_with_len (slot_saved p.objects) 0 p.objects.keeper.shape.slots
-      ∙ ap (λ (z : Shape). z.slots) sound.limited.shape_is
-
   parts_again : (rest : List ℕ) → parts_at p.limits p.waits.clock (processes_text p.processes
       ++ (tables_text p.tables.tables ++ (waits_text p.waits.waits ++ (objects_text p.objects ++ rest))))
       ≡ Ok (begun_again (whole_of p), rest)
@@ -247,7 +222,8 @@ module _ (p : PartsState) (kept : IsKept p) (tied : IsTied p.objects) (processes
       ≡ Ok (whole_with p.limits p.processes p.tables p.waits over, rest) =
       rw (
         slots_there p.limits.slots (slots_saved p.objects) (processes_text p.processes) (tables_text p.tables.tables)
-            (waits_text p.waits.waits) rest xs-long,
+            (waits_text p.waits.waits) rest
+            (xs-long p.objects tied ∙ ap (λ (z : Shape). z.slots) sound.limited.shape_is),
         processes_again e,
         tables_back t,
         waits_back (objects_text p.objects ++ rest),

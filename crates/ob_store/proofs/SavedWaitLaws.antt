@@ -2,7 +2,7 @@
 use Rattle.std.proofs.Common.{◌≡◌, ℕ, zero, suc, ◌+◌, ◌<◌, ◌≤◌, ◌&&◌, Bool, true, false, List, [], ◌∷◌, length, get_or, set, map, Option, Some, None, refl, sym, ap, ◌∙◌, subst, arith, inl, inr}
 use Rattle.std.specs.Prelude.{is_some}
 use Rattle.std.proofs.lemmas.Bool.{and_parts, cases_eq, ltb-true}
-use Rattle.std.proofs.lemmas.List.{ext_get_or, get_or-map, get_or-set_other, get_or-set_same, length-map, length-set, set-get_or}
+use Rattle.std.proofs.lemmas.List.{ext_get_or, get_or-map, length-map, set-get_or}
 use Rattle.std.proofs.lemmas.List.Quantifiers.{position-Some}
 use Rattle.ob_arena.specs.Slots.{Slots}
 use Rattle.pin_core.specs.declared.id.Id.{Id}
@@ -19,7 +19,7 @@ use Rattle.ob_store.specs.Kept.{IsLive}
 use Rattle.ob_store.specs.Objects.{ObjectsState, Places, Tag, no_tag, object_at, places_of, seat_blocks}
 use Rattle.ob_store.specs.SavedWaits.{numbered, object_blocks, state_stands, wait_of, wait_stands, waits_stand, with_blocks, with_blocks_at}
 use Rattle.ob_store.proofs.LabelLaws.{object_read}
-use Rattle.ob_store.proofs.ByPlace.{all_at, all_from, not_all}
+use Rattle.ob_store.proofs.ByPlace.{all_at, all_from}
 
 -- a slot without an object has no blocks
 no-blocks : (xs : List (Option Seat)) (k : ℕ) → get_or xs k None ≡ None → get_or (map seat_blocks xs) k 0 ≡ 0
@@ -50,36 +50,18 @@ module _ (s : Slots Seat) (tags : List Tag) (k : ℕ) (waits : List (Option Wait
 -- the blocks of the slots below one are counted, and all else is as it was
 pub record HasCounted (waits : List (Option Wait)) (p : Places) (slot : ℕ) (q : Places) : Type 0 where
   pub same : q ≡ record p { seen = record p.seen { blocks = q.seen.blocks } }
-  pub long : length q.seen.blocks ≡ length p.objects
+  pub length_is : length q.seen.blocks ≡ length p.objects
   pub done : (k : ℕ) → k < slot → k < length p.objects → get_or q.seen.blocks k 0 ≡
       object_blocks waits (get_or p.objects k None)
 
 module _ (waits : List (Option Wait)) (p q : Places) (slot : ℕ) (h : HasCounted waits p slot q) where
-  pub counts_next : HasCounted waits p (slot + 1) (with_blocks_at q slot
-      (object_blocks waits (get_or q.objects slot None)))
-  counts_next =
-      let n = object_blocks waits (get_or q.objects slot None) in
-      let own : n ≡ object_blocks waits (get_or p.objects slot None) =
-      ap (λ (z : Places). object_blocks waits (get_or z.objects slot None)) h.same in
-      record {
-        same = ap (λ (z : Places). with_blocks_at z slot n) h.same;
-        long = length-set q.seen.blocks slot n ∙ h.long;
-        done = λ k lt within. elim (cases_eq k slot) [
-          | inl here ↦ ap (λ (i : ℕ). get_or (set q.seen.blocks slot n) i 0) here
-              ∙ get_or-set_same q.seen.blocks slot n 0 (omega (arith, within, here, h.long)) ∙ own ∙
-              ap (λ (i : ℕ). object_blocks waits (get_or p.objects i None)) (sym here)
-          | inr apart ↦ get_or-set_other q.seen.blocks slot k n 0 apart ∙
-              h.done k (omega (arith, lt, apart)) within
-        ];
-      }
-
   pub counts_end : length p.objects ≤ slot → q ≡ with_blocks waits p
   counts_end all =
       let long : length (map (object_blocks waits) p.objects) ≡ length p.objects =
       length-map p.objects (object_blocks waits) in
       let same : q.seen.blocks ≡ map (object_blocks waits) p.objects =
-      ext_get_or 0 q.seen.blocks (map (object_blocks waits) p.objects) (h.long ∙ sym long)
-      (λ k lt. (let within : k < length p.objects = omega (arith, lt, h.long) in
+      ext_get_or 0 q.seen.blocks (map (object_blocks waits) p.objects) (h.length_is ∙ sym long)
+      (λ k lt. (let within : k < length p.objects = omega (arith, lt, h.length_is) in
       h.done k (omega (arith, within, all)) within ∙
       sym (get_or-map (object_blocks waits) p.objects k None 0 within))) in
       h.same ∙ ap (λ (blocks : List ℕ). record p { seen = record p.seen { blocks = blocks } }) same
@@ -132,14 +114,6 @@ module _ (limit : ℕ) (threads : List (Option ℕ)) (s : ObjectsState) (waits :
           ap (λ (b : Bool). b && state_stands limit s w.thread w.state)
           (ap (λ (v : ℕ). is_some (get_or threads v None)) same ∙ live) ∙
           state w.thread w.state over
-
-  -- a wait of a thread that can't be there is one of the waits
-  pub wait_fails : (t : ℕ) → stands (wait_of t waits) ≡ false → waits_stand limit threads waits s ≡ false
-  wait_fails t fails = by (number_of t waits) fails
-    where
-      by : (o : Option ℕ) → stands (numbered waits o) ≡ false → waits_stand limit threads waits s ≡ false
-      by None fails = absurd (cc fails)
-      by (Some n) fails = not_all (λ (w : Option Wait). stands w) waits None n refl fails
 
   -- and each wait is that of its thread
   its-wait : IsKept waits → (n : ℕ) (w : Wait) → get_or waits n None ≡ Some w → wait_of w.thread waits ≡ Some w

@@ -23,6 +23,18 @@ read f xs k = elim (cases_lt k (length xs)) [
   | inr le ↦ get_or_past (map f xs) k (f None) (omega (arith, length-map xs f)) ∙ ap f (sym (get_or_past xs k None le))
 ]
 
+-- a list that is read off the seats, where one seat changes
+module _ {B : Type 0} (f : Option Seat → B) (xs : List (Option Seat)) (ys : List B) (k : ℕ) where
+  pub mapped_set : (y : Option Seat) (b : B) → ys ≡ map f xs → b ≡ f y → set ys k b ≡ map f (set xs k y)
+  mapped_set y b is at = (λ i. set (is i) k (at i)) ∙ sym (map-set f xs k y)
+
+  pub mapped_same : (y : Option Seat) → ys ≡ map f xs → f y ≡ f (get_or xs k None) → ys ≡ map f (set xs k y)
+  mapped_same y is same = is ∙ sym (map-set_same f xs k y None same)
+
+  pub mapped_stays : (x y : Seat) → ys ≡ map f xs → get_or xs k None ≡ Some x → f (Some y) ≡ f (Some x)
+      → ys ≡ map f (set xs k (Some y))
+  mapped_stays x y is there same = mapped_same (Some y) is (same ∙ sym (ap f there))
+
 -- a seat in its place, and one that differs from it
 module _ (xs : List (Option Seat)) (k : ℕ) (x : Seat) (is : get_or xs k None ≡ Some x) where
   pub handles_at : get_or (map seat_handles xs) k 0 ≡ x.handles

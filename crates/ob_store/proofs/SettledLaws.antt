@@ -5,7 +5,7 @@ use Rattle.std.proofs.lemmas.Bool.{cases_lt}
 use Rattle.ob_waits.specs.Objects.{Objects}
 use Rattle.ob_waits.specs.Rules.{HasBodies, IsSettled}
 use Rattle.ob_waits.specs.Waits as waits
-use Rattle.ob_waits.specs.Waits.{Scene, blocks_among, slot_blocks}
+use Rattle.ob_waits.specs.Waits.{slot_blocks}
 use Rattle.ob_waits.specs.Ends.{HasBlocks, ended, with_ends}
 use Rattle.ob_waits.proofs.EndsLast.{ends_first, none_to_end}
 use Rattle.ob_waits.proofs.Settling.{settled_same}

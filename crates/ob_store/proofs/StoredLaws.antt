@@ -47,12 +47,12 @@ module _ (p : PartsState) (kept : IsKept p) (tied : IsTied p.objects) where
   row_open : (name : ObjectName) (id : Id) → IsRow p.tables.tables p.objects.objects (name, id)
       → IsOpenByName (state_of p) name id
   row_open name id row =
-      let place : row.place ≡ id.slot = sym (placed_agreed o tied.agreed row.place row.object row.there)
+      let place : row.place ≡ id.slot = sym (placed_agreed o tied.agreed row.place row.object row.is_there)
       ∙ ap (λ (i : Id). i.slot) row.its_id in
       let has : ltb 0 (handles_among id p.tables.tables) ≡ true = row.has in
       record {
         object = row.object;
-        there = ap (λ k. get_or o.objects k None) (sym place) ∙ row.there;
+        is_there = ap (λ k. get_or o.objects k None) (sym place) ∙ row.is_there;
         its_id = row.its_id;
         its_name = row.its_name;
         handled = grind (arith, nat_tests, has);
@@ -65,8 +65,8 @@ module _ (p : PartsState) (kept : IsKept p) (tied : IsTied p.objects) where
       let some : 0 < handles_among id p.tables.tables = x.handled in
       let has : ltb 0 (handles_among id p.tables.tables) ≡ true = grind (arith, nat_tests, some) in
       subst (λ (i : Id). Contains (rows_of p.tables.tables o.objects o.births) (name, i)) x.its_id
-      (row_there p.tables.tables o.objects id.slot x.object name o.births x.there
-      (tied.born.below id.slot x.object x.there) x.its_name (ap (λ (i : Id). has_handles i p.tables.tables) x.its_id
+      (row_there p.tables.tables o.objects id.slot x.object name o.births x.is_there
+      (tied.born.below id.slot x.object x.is_there) x.its_name (ap (λ (i : Id). has_handles i p.tables.tables) x.its_id
       ∙ has))
 
   listed : (name : ObjectName) (id : Id) → Contains (rows_of p.tables.tables p.objects.objects p.objects.births) (
@@ -94,7 +94,7 @@ module _ (p : PartsState) (kept : IsKept p) (tied : IsTied p.objects) where
   })
   matches_state =
       let is = ap (λ (x : Shape). x.slots) kept.sound.limited.shape_is in
-      let long = tied.agreed.long ∙ is in
+      let long = tied.agreed.length_is ∙ is in
       record {
         sizes = (
           long,

@@ -4,10 +4,10 @@ use Rattle.std.specs.Prelude.{◌⊎◌, IfSome, Result, Ok, Err, OnOk, ◌||◌
 use Rattle.std.specs.Result.{is_err}
 use Rattle.std.specs.List.{list_any}
 use Rattle.std.specs.Option.{option_to_list}
-use Rattle.std.proofs.lemmas.List.{length-set, length-append, get_or_past, get_or-set_same, get_or-set_other, set-get_or}
+use Rattle.std.proofs.lemmas.List.{length-set, length-append, get_or_past, get_or-set_same, get_or-set_other}
 use Rattle.std.proofs.Math.ListN.{get_or-append}
 use Rattle.std.proofs.Math.Seq.{get_or-append_seam}
-use Rattle.std.proofs.lemmas.List.Sums.{sum_by-set, sum_by-append, sum_by-cons, count_by-le-length}
+use Rattle.std.proofs.lemmas.List.Sums.{sum_by-set, sum_by-append, sum_by-cons}
 use Rattle.std.proofs.lemmas.Bool.{cases_eq, cases_lt, ltb-false, ltb-true}
 use Rattle.std.proofs.lemmas.Bool.Decides.{nat_tests}
 use Rattle.ob_store.specs.declared.limits.Limits.{Limits}
@@ -15,13 +15,14 @@ use Rattle.ob_store.specs.Kept.{ProcessesKept}
 use Rattle.ob_store.specs.declared.thread_lists.ThreadList.{ThreadList}
 use Rattle.ob_store.specs.declared.thread_lists.ThreadLink.{ThreadLink}
 use Rattle.ob_store.specs.Processes.{ProcessesState, is_of, with_process}
-use Rattle.ob_store.specs.ThreadLists.{ThreadListsState, AreThreadLists, IsNewest, IsPopped, is_empty, link_at, list_at, no_link, no_list, no_lists, with_empty, with_link, with_list, with_place, without_live}
+use Rattle.ob_store.specs.ThreadLists.{ThreadListsState, AreThreadLists, IsNewest, IsPopped, is_empty, link_at, list_at, no_link, no_list, with_empty, with_link, with_list, with_place, without_live}
+use Rattle.ob_store.proofs.EndLaws.{some_set}
 
 -- a list that lost its last element
 pub popped : {A : Type 0} (none : A) (xs ys : List A) (r : Option A) → xs ≡ ys ++ option_to_list r
     → length xs ≡ length ys + 1 → IsPopped none xs ys
 popped none xs ys r is long = record {
-  long = long;
+  length_is = long;
   same = λ k lt. sym (get_or-append ys (option_to_list r) none k lt) ∙ ap (λ l. get_or l k none) (sym is);
 }
 
@@ -54,7 +55,7 @@ module _ (ts : List (Option ℕ)) (n : ℕ) where
       let b = sum_by-cons f (Some n) [] in
       omega (arith, a, b)
 
-  live_more : (t p : ℕ) → get_or (ts ++ Some n ∷ []) t None ≡ Some p
+  pub live_more : (t p : ℕ) → get_or (ts ++ Some n ∷ []) t None ≡ Some p
       → ((t < length ts) × (get_or ts t None ≡ Some p)) ⊎ ((t ≡ length ts) × (p ≡ n))
   live_more t p h = elim (cases_lt t (length ts)) [
     | inl lt ↦ inl (lt, sym (get_or-append ts (Some n ∷ []) None t lt) ∙ h)
@@ -126,7 +127,7 @@ module _ (n : ℕ) (ts : List (Option ℕ)) (m : ThreadListsState) (are : AreThr
         ∙ ap (λ k. k + 1) are.lists_long;
     links_long = length-append m.links ((record { process = length m.lists; next = 0 }) ∷ [])
         ∙ ap (λ k. k + 1) are.links_long ∙ sym long_started;
-    few = omega (arith, few, long_started);
+    at_most = omega (arith, few, long_started);
     counted = λ p lt. elim (cases_lt p n) [
       | inl old ↦ (let a = ap (λ (g : ThreadList). g.live) (list_old p old) in let b = are.counted p old in
           let c = counted_more ts n p in let d = one_other ts n p (omega (arith, old)) in omega (arith, a, b, c, d))
@@ -209,7 +210,7 @@ module _ (n first : ℕ) (m : ThreadListsState) (are : AreThreadLists n (None �
   threads_with_empty = record {
     lists_long = length-append m.lists (empty ∷ []) ∙ ap (λ k. k + 1) are.lists_long;
     links_long = are.links_long;
-    few = are.few;
+    at_most = are.at_most;
     counted = λ p lt. elim (cases_lt p n) [
       | inl old ↦ ap (λ (g : ThreadList). g.live) (empty_old p old) ∙ are.counted p old
       | inr le ↦ ap (λ (g : ThreadList). g.live) (empty_new p le lt)
@@ -248,7 +249,7 @@ module _ (n : ℕ) (ts : List (Option ℕ)) (m : ThreadListsState) (p0 : ℕ) (a
   process_of t = (get_or links1 t no_link).process
 
   record IsLinked : Type 0 where
-    long : length links1 ≡ length longer
+    length_is : length links1 ≡ length longer
     process : (t : ℕ) → process_of t ≡ (get_or longer t no_link).process
     others : (t : ℕ) → t < length ts → (link_at m t).process ≢ p0
         → (get_or links1 t no_link).next ≡ (link_at m t).next
@@ -298,8 +299,8 @@ module _ (n : ℕ) (ts : List (Option ℕ)) (m : ThreadListsState) (p0 : ℕ) (a
     threads_linked : AreThreadLists n (ts ++ Some p0 ∷ []) grown
     threads_linked = record {
       lists_long = length-set m.lists p0 list1 ∙ are.lists_long;
-      links_long = is.long ∙ long_longer ∙ sym long_more;
-      few = omega (arith, few, long_more);
+      links_long = is.length_is ∙ long_longer ∙ sym long_more;
+      at_most = omega (arith, few, long_more);
       counted = λ p below. (let c = counted_more ts p0 p in let b = are.counted p below in elim (cases_eq p p0) [
         | inl same ↦ (let a = ap (λ (g : ThreadList). g.live) (list_grown p same) in
             let d = ap (one_of ts p0) same ∙ one_same ts p0 in let e = ap (λ i. (list_at m i).live) same in
@@ -364,7 +365,7 @@ module _ (n : ℕ) (ts : List (Option ℕ)) (m : ThreadListsState) (p0 : ℕ) (a
 
   first_linked : list0.last < list0.first → Linked (length m.links) pushed
   first_linked none = record {
-    long = refl;
+    length_is = refl;
     process = λ t. refl;
     others = λ t lt other. ap (λ (x : ThreadLink). x.next) (pushed_at t lt);
     own = λ t u small mine same since less. absurd (let a = are.links_long in omega (arith, a, small, since, less));
@@ -436,7 +437,7 @@ module _ (n : ℕ) (ts : List (Option ℕ)) (m : ThreadListsState) (p0 : ℕ) (a
 
     next_linked : Linked list0.first behind
     next_linked = record {
-      long = length-set pushed list0.last next1;
+      length_is = length-set pushed list0.last next1;
       process = process_same;
       others = λ t lt other. next_stays t (λ same. other (ap (λ i. (link_at m i).process) same ∙ last_of)) lt;
       own = next_own;
@@ -501,13 +502,6 @@ module _ (n : ℕ) (ts : List (Option ℕ)) (m : ThreadListsState) (t0 p0 : ℕ)
         absurd (let a = get_or_past ts t0 None le in cc (a, live))
   ]
 
-  live_then : (t p : ℕ) → get_or (set ts t0 None) t None ≡ Some p → get_or ts t None ≡ Some p
-  live_then t p h = elim (cases_eq t t0) [
-    | inl same ↦ absurd (let a = ap (λ i. get_or (set ts t0 None) i None) same ∙ get_or-set_same ts t0 None None there
-        in cc (a, h))
-    | inr other ↦ sym (get_or-set_other ts t0 t None None other) ∙ h
-  ]
-
   counted_less : (p : ℕ) → count_by (is_of p) (set ts t0 None) + one_in p (Some p0) ≡ count_by (is_of p) ts
   counted_less p = let a = sum_by-set (one_in p) ts t0 None None there in let b = ap (one_in p) live in
       omega (arith, a, b)
@@ -516,7 +510,7 @@ module _ (n : ℕ) (ts : List (Option ℕ)) (m : ThreadListsState) (t0 p0 : ℕ)
   threads_less = record {
     lists_long = length-set m.lists p0 (record (list_at m p0) { live = (list_at m p0).live - 1 }) ∙ are.lists_long;
     links_long = are.links_long ∙ sym long_ended;
-    few = (let f = are.few in omega (arith, f, long_ended));
+    at_most = (let f = are.at_most in omega (arith, f, long_ended));
     counted = λ p below. (let c = counted_less p in let b = are.counted p below in elim (cases_eq p p0) [
       | inl same ↦ (let a = ap (λ (g : ThreadList). g.live) (list_less p same) in
           let d = ap (one_of ts p0) same ∙ one_same ts p0 in let e = ap (λ i. (list_at m i).live) same in
@@ -524,7 +518,7 @@ module _ (n : ℕ) (ts : List (Option ℕ)) (m : ThreadListsState) (t0 p0 : ℕ)
       | inr other ↦ (let a = ap (λ (g : ThreadList). g.live) (list_kept p other) in let d = one_other ts p0 p other in
           omega (arith, a, b, c, d))
     ]);
-    given = λ t p h. (let was = are.given t p (live_then t p h) in let f = first_kept p in
+    given = λ t p h. (let was = are.given t p (some_set ts t0 t p h) in let f = first_kept p in
         (was.0, was.1, omega (arith, f, was.2)));
     next = λ p t u below small mine same since before. are.next p t u below (omega (arith, small, long_ended)) mine same
         (let f = first_kept p in omega (arith, f, since)) before;
@@ -558,10 +552,10 @@ module _ (n n' : ℕ) (ts ts' : List (Option ℕ)) (m m' : ThreadListsState) (ar
   long_back = ap (length {A = Option ℕ}) is ∙ length-append ts' (Some n' ∷ [])
 
   lists_back : length m'.lists ≡ n'
-  lists_back = let a = lists.long in let b = are.lists_long in omega (arith, a, b, one)
+  lists_back = let a = lists.length_is in let b = are.lists_long in omega (arith, a, b, one)
 
   links_back : length m'.links ≡ length ts'
-  links_back = let a = links.long in let b = are.links_long in omega (arith, a, b, long_back)
+  links_back = let a = links.length_is in let b = are.links_long in omega (arith, a, b, long_back)
 
   list_back : (p : ℕ) → p < n' → list_at m' p ≡ list_at m p
   list_back p lt = lists.same p (omega (arith, lt, lists_back))
@@ -598,7 +592,7 @@ module _ (n n' : ℕ) (ts ts' : List (Option ℕ)) (m m' : ThreadListsState) (ar
   threads_taken = record {
     lists_long = lists_back;
     links_long = links_back;
-    few = (let f = are.few in omega (arith, f, long_back));
+    at_most = (let f = are.at_most in omega (arith, f, long_back));
     counted = λ p below. (let a = ap (λ (g : ThreadList). g.live) (list_back p below) in
         let b = are.counted p (omega (arith, below, one)) in
         let c = counted_more ts' n' p in let d = one_other ts' n' p (omega (arith, below)) in
@@ -653,9 +647,6 @@ module _ (n : ℕ) (ts : List (Option ℕ)) (m : ThreadListsState) (are : AreThr
 
   pub has_live_is : (p : ℕ) → nat_lt 0 (list_at m p).live ≡ list_any (is_of p) ts
   has_live_is p = ap (nat_lt 0) (live_is p) ∙ any_counted (is_of p) ts
-
-  pub few_live : (p : ℕ) → (list_at m p).live ≤ 65537
-  few_live p = let a = live_is p in let b = count_by-le-length (is_of p) ts in let c = are.few in omega (arith, a, b, c)
 
   pub past_next : (p t u : ℕ) → (link_at m t).process ≡ p → (list_at m p).first ≤ t → get_or ts u None ≡ Some p → t < u
       → (t < (link_at m t).next) × ((link_at m t).next ≤ u)

@@ -1,12 +1,7 @@
 -- Timers fire: what is sound stays so, and is on its way to the settled state; none is due then.
-use Rattle.std.proofs.Common.{◌≡◌, ℕ, ◌<◌, List, length, Option, Some, None, refl, ap, ◌∙◌, sym, subst, arith, get_or, set, map, Bool, true, false, cond, inl, inr}
-use Rattle.std.specs.Prelude.{count_by}
-use Rattle.std.proofs.lemmas.List.{get_or_past}
-use Rattle.std.proofs.lemmas.List.Sums.{sum_by-set}
-use Rattle.std.proofs.lemmas.Bool.{cases_lt}
-use Rattle.std.proofs.lemmas.Bool.Decides.{nat_tests}
+use Rattle.std.proofs.Common.{◌≡◌, ℕ, List, Option, Some, None, refl, ap, ◌∙◌, sym, subst, get_or, map, Bool, true, false, cond}
 use Rattle.ob_body.specs.declared.body.Body.{Body}
-use Rattle.ob_body.specs.declared.body.Body.TheVariants.{Event, Mutex, Semaphore, Timer}
+use Rattle.ob_body.specs.declared.body.Body.TheVariants.{Event, Timer}
 use Rattle.ob_body.specs.declared.timer.Timer.{Timer as TimerBody}
 use Rattle.ob_body.specs.Timer.{is_due}
 use Rattle.ob_body.specs.Timer as timer
@@ -18,7 +13,7 @@ use Rattle.ob_waits.specs.Objects.{Objects, slot_room}
 use Rattle.ob_waits.proofs.Room.{room_changed}
 use Rattle.ob_store.specs.Signaled.{SignaledState}
 use Rattle.ob_store.specs.Agreement.{IsTied}
-use Rattle.ob_store.specs.Objects.{Object, ObjectsState, KeptRest, changed_at, kept_rest}
+use Rattle.ob_store.specs.Objects.{Object, ObjectsState, KeptRest, kept_rest}
 use Rattle.ob_store.specs.Parts.{PartsState, state_of}
 use Rattle.ob_store.specs.Ticks.{slot_fired, slot_is_due}
 use Rattle.ob_store.specs.Kept.{IsKept, AreFormed, form_in, unset}
@@ -32,10 +27,8 @@ timer_fired : (now : ℕ) (t : TimerBody) → is_due now t.due ≡ false → tim
 timer_fired now t none = ap (λ (b : Bool). cond b (record t { signaled = true; due = None }) t) none
 
 body_other : (now : ℕ) (b : Body) → is_due now (due_of b) ≡ false → after_fire now b ≡ b
-body_other now (Event e) h = refl
-body_other now (Mutex m) h = refl
-body_other now (Semaphore s) h = refl
 body_other now (Timer t) h = ap Timer (timer_fired now t h)
+body_other now b h = refl
 
 pub fired_other : (now : ℕ) (x : Option Body) → slot_is_due now x ≡ false → slot_fired now x ≡ x
 fired_other now None h = refl
@@ -43,10 +36,8 @@ fired_other now (Some b) h = ap Some (body_other now b h)
 
 -- nor does what is no timer fire
 pub fired_another : (now : ℕ) (b : Body) → (kind_of b ≡ kind.Timer → ⊥) → after_fire now b ≡ b
-fired_another now (Event e) other = refl
-fired_another now (Mutex m) other = refl
-fired_another now (Semaphore s) other = refl
 fired_another now (Timer t) other = absurd (other refl)
+fired_another now b other = refl
 
 -- one that fired isn't due any more
 timer_done : (now : ℕ) (t : TimerBody) → is_due now (timer.after_fire now t).due ≡ false
@@ -58,10 +49,8 @@ timer_done now t = by (is_due now t.due) refl
     by false is = is
 
 body_done : (now : ℕ) (b : Body) → is_due now (due_of (after_fire now b)) ≡ false
-body_done now (Event e) = refl
-body_done now (Mutex m) = refl
-body_done now (Semaphore s) = refl
 body_done now (Timer t) = timer_done now t
+body_done now b = refl
 
 fired_done : (now : ℕ) (x : Option Body) → slot_is_due now (slot_fired now x) ≡ false
 fired_done now None = refl
@@ -73,15 +62,13 @@ fired_twice now x = fired_other now (slot_fired now x) (fired_done now x)
 
 -- what holds of a body holds of it once it fired
 unset_fired : (now : ℕ) (b : Body) → unset (form_of (after_fire now b)) ≡ unset (form_of b)
-unset_fired now (Event e) = refl
-unset_fired now (Mutex m) = refl
-unset_fired now (Semaphore s) = refl
 unset_fired now (Timer t) = by (is_due now t.due)
   where
     by : (b : Bool) → unset (form_of (Timer (cond b (record t { signaled = true; due = None }) t)))
         ≡ unset (form_of (Timer t))
     by true = refl
     by false = refl
+unset_fired now b = refl
 
 timer_after : (clock now : ℕ) (t : TimerBody) → IsAfter clock t.due → IsAfter clock (timer.after_fire now t).due
 timer_after clock now t h = by (is_due now t.due)
@@ -91,10 +78,8 @@ timer_after clock now t h = by (is_due now t.due)
     by false = h
 
 body_after : (clock now : ℕ) (b : Body) → IsAfter clock (due_of b) → IsAfter clock (due_of (after_fire now b))
-body_after clock now (Event e) h = tt
-body_after clock now (Mutex m) h = tt
-body_after clock now (Semaphore s) h = tt
 body_after clock now (Timer t) h = timer_after clock now t h
+body_after clock now b h = tt
 
 slot_after : (clock now : ℕ) (x : Option Body) → IsAfter clock (slot_due x)
     → IsAfter clock (slot_due (slot_fired now x))
@@ -104,9 +89,7 @@ slot_after clock now (Some b) h = body_after clock now b h
 owner_fired : (now : ℕ) (x : Option Body) → slot_owner (slot_fired now x) ≡ slot_owner x
 owner_fired now None = refl
 owner_fired now (Some (Event e)) = refl
-owner_fired now (Some (Mutex m)) = refl
-owner_fired now (Some (Semaphore s)) = refl
-owner_fired now (Some (Timer t)) = refl
+owner_fired now x = refl
 
 room_fired : (limit t now : ℕ) (x : Option Body) → slot_room limit t x ≡ true
     → slot_room limit t (slot_fired now x) ≡ true
@@ -126,19 +109,6 @@ formed_fired clock now objects bodies f = record {
     by k o b None at there is = absurd (cc)
     by k o b (Some c) at there is = let same : after_fire now c ≡ b = cc in
         ap (λ (z : Body). unset (form_of z)) (sym same) ∙ unset_fired now c ∙ f.each k o c there at
-
--- none is due at a moment: all due moments are after it
-undue_after : (now : ℕ) (d : Option ℕ) → is_due now d ≡ false → IsAfter now d
-undue_after now None h = tt
-undue_after now (Some due) h = grind (arith, nat_tests, h)
-
-pub formed_now : (clock now : ℕ) (objects : List (Option Object)) (bodies : List (Option Body))
-    → ((k : ℕ) → slot_is_due now (get_or bodies k None) ≡ false) → AreFormed clock objects bodies
-    → AreFormed now objects bodies
-formed_now clock now objects bodies none f = record {
-  each = f.each;
-  later = λ k. undue_after now (slot_due (get_or bodies k None)) (none k);
-}
 
 -- a tick begins: the timers that are due have fired, which q tells
 module _ (p : PartsState) (q : ObjectsState) (a : SignaledState) (now : ℕ)

@@ -70,7 +70,7 @@ tied_ended s seen k bodies there has h =
 pub births_few : (s : ObjectsState) → IsTied s → s.births ≤ 281474976645120
 births_few s h =
     let wide = h.agreed.wide in
-    let bound = made_bound s.keeper.slots s.keeper.shape.max_gen (omega (arith, wide, h.agreed.few)) h.last
+    let bound = made_bound s.keeper.slots s.keeper.shape.max_gen (omega (arith, wide, h.agreed.at_most)) h.last
     (subst (λ (n : ℕ). AreAged n s.keeper.shape.max_gen s.keeper.slots) (sym wide) h.aged) in
     omega (arith, h.made, bound)
 
@@ -130,7 +130,7 @@ tied_added s t k head body is vacant one given h =
     let room : k < length s.objects = vacant_within (vacancy (places_in s)) k vacant in
     let unretired : get_or s.retired k false ≡ false = vacant_unretired (vacancy (places_in s)) k vacant in
     let a : IsAgreed s = h.agreed in
-    let inside : k < s.keeper.shape.slots = omega (arith, room, a.long) in
+    let inside : k < s.keeper.shape.slots = omega (arith, room, a.length_is) in
     let within : k < length s.keeper.slots = omega (arith, inside, a.wide) in
     let seats : k < length s.seen.bodies = omega (arith, inside, a.bodied) in
     let y : Slot = with_descr (slot_at s k) head.descr in

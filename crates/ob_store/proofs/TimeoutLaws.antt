@@ -14,14 +14,13 @@ use Rattle.ob_waits.specs.Form.{slot_form}
 use Rattle.ob_waits.specs.Objects.{Objects}
 use Rattle.ob_waits.specs.Rules.{IsSettled}
 use Rattle.ob_waits.specs.Waits as waits
-use Rattle.ob_waits.specs.Waits.{Scene, answered, blocks_among, slot_blocks}
+use Rattle.ob_waits.specs.Waits.{Scene, slot_blocks}
 use Rattle.ob_waits.proofs.Counted.{blocks_answered}
 use Rattle.ob_waits.proofs.EndsLast.{ended_at, length-ended}
-use Rattle.ob_waits.proofs.LapseLaws.{blocks_lapsed, ended_twice, fewer_overdue, lapsed_twice, none_lapsed, settled_lapsed, slot_lapsed}
+use Rattle.ob_waits.proofs.TimedOutLaws.{blocks_lapsed, ended_twice, fewer_overdue, lapsed_twice, none_lapsed, settled_lapsed, slot_lapsed}
 use Rattle.ob_waits.proofs.Settled.{settled_answered, settled_less}
 use Rattle.ob_waits.proofs.Staying.{settled_form}
-use Rattle.ob_store.specs.Kept.{IsKept, IsNamed}
-use Rattle.ob_store.specs.Parts.{PartsState}
+use Rattle.ob_store.specs.Kept.{IsNamed}
 use Rattle.ob_store.specs.State.{State, objects_of, settled}
 use Rattle.ob_store.specs.Ticks.{timed_out, slot_is_due}
 use Rattle.ob_store.specs.UnderWay.{AreLeft}
@@ -31,7 +30,6 @@ use Rattle.ob_store.proofs.BySlot.{get_by_slot, length-by_slot}
 use Rattle.ob_store.proofs.LeftLaws.{less_gone}
 use Rattle.ob_store.proofs.NamedLaws.{named_fewer}
 use Rattle.ob_store.proofs.SettledLaws.{settled_ends}
-use Rattle.ob_store.proofs.TickLaws.{formed_now}
 
 -- what ends is there as it was, or gone
 slot_left : (handles blocks : ℕ) (x : Option Body)
@@ -44,7 +42,7 @@ slot_left handles blocks x = by (eqb (handles + blocks) 0)
 
 ended_left : (o : Objects) → AreLeft o.bodies (ended o).bodies
 ended_left o = record {
-  long = length-ended o;
+  length_is = length-ended o;
   each = λ k. elim (slot_left (get_or o.handles k 0) (get_or o.blocks k 0) (get_or o.bodies k None)) [
     | inl same ↦
         inl (ended_at o k ∙ same)
@@ -89,7 +87,7 @@ module _ (s : State) (now n : ℕ) (named : IsNamed s.objects s.tables s.waits) 
   one_is : settled one ≡ record one { bodies = left }
   one_is = by_ends one one_named one_quiet
 
-  same_waits : map (waits_time.lapsed now) one.waits ≡ map (waits_time.lapsed now) s.waits
+  same_waits : map (waits_time.timed_out now) one.waits ≡ map (waits_time.timed_out now) s.waits
   same_waits = lapsed_twice now s.waits n over
 
   -- and then of the others
@@ -103,7 +101,7 @@ module _ (s : State) (now n : ℕ) (named : IsNamed s.objects s.tables s.waits) 
   fewer_blocks k = elim (cases_lt k (length s.objects)) [
     | inl lt ↦ (let a = get_by_slot (length s.objects) (λ i. slot_blocks i all.waits) k lt in
         let b = get_by_slot (length s.objects) (λ i. slot_blocks i one.waits) k lt in
-        let c : slot_blocks k all.waits ≡ slot_blocks k (map (waits_time.lapsed now) one.waits) =
+        let c : slot_blocks k all.waits ≡ slot_blocks k (map (waits_time.timed_out now) one.waits) =
         ap (slot_blocks k) (sym same_waits) in
         let d = slot_lapsed k now one.waits in omega (arith, a, b, c, d))
     | inr le ↦ (let a = get_or_past (objects_of all).blocks k 0

@@ -1,11 +1,10 @@
 -- The due moments of slots, while bodies change, and the least of them.
-use Rattle.std.proofs.Common.{◌≡◌, ℕ, zero, suc, [], ◌∷◌, ◌<◌, List, length, Option, Some, None, refl, ap, ◌∙◌, sym, subst, arith, get_or, set, map, replicate, Bool, true, false, cond}
+use Rattle.std.proofs.Common.{◌≡◌, ℕ, [], ◌∷◌, ◌<◌, List, length, Option, Some, None, refl, ap, ◌∙◌, sym, subst, arith, get_or, set, map, Bool, true, false, cond}
 use Rattle.std.specs.Prelude.{IfNone, IfSome}
-use Rattle.std.proofs.Math.Seq.{map-set_same}
-use Rattle.std.proofs.lemmas.List.{length-map, map-set}
+use Rattle.std.proofs.lemmas.List.{length-map}
 use Rattle.least_due.specs.Dues.{IsLeast}
 use Rattle.ob_body.specs.declared.body.Body.{Body}
-use Rattle.ob_body.specs.declared.body.Body.TheVariants.{Event, Mutex, Semaphore, Timer}
+use Rattle.ob_body.specs.declared.body.Body.TheVariants.{Event}
 use Rattle.ob_body.specs.Timer.{is_due}
 use Rattle.ob_waits.specs.Form.{slot_due}
 use Rattle.ob_waits.specs.Objects.{slot_acquired}
@@ -13,8 +12,7 @@ use Rattle.ob_store.specs.declared.seat.Seat.{Seat}
 use Rattle.ob_store.specs.Objects.{seat_body}
 use Rattle.ob_store.specs.Ticks.{slot_is_due}
 use Rattle.ob_store.specs.Timers.{seat_due, due_left}
-use Rattle.ob_store.proofs.SeatLaws.{read}
-use Rattle.ob_store.proofs.OwnerLaws.{some_there}
+use Rattle.ob_store.proofs.SeatLaws.{read, mapped_same, mapped_set, mapped_stays}
 
 -- the due moment of a slot
 pub due_read : (xs : List (Option Seat)) (k : ℕ) →
@@ -31,18 +29,6 @@ pub least_of_bodies : (xs : List (Option Seat)) (dues : List (Option ℕ)) (leas
 least_of_bodies xs dues least timed is = subst (λ (ds : List (Option ℕ)). IsLeast ds least) (timed
     ∙ dues_of_bodies xs) is
 
-pub timed_set : (xs : List (Option Seat)) (dues : List (Option ℕ)) (k : ℕ) (y : Option Seat) (due : Option ℕ)
-    → dues ≡ map seat_due xs → due ≡ seat_due y → set dues k due ≡ map seat_due (set xs k y)
-timed_set xs dues k y due timed is = (λ i. set (timed i) k (is i)) ∙ sym (map-set seat_due xs k y)
-
-pub timed_same : (xs : List (Option Seat)) (dues : List (Option ℕ)) (k : ℕ) (y : Option Seat) → dues ≡ map seat_due xs
-    → seat_due y ≡ seat_due (get_or xs k None) → dues ≡ map seat_due (set xs k y)
-timed_same xs dues k y timed same = timed ∙ sym (map-set_same seat_due xs k y None same)
-
-pub timed_stays : (xs : List (Option Seat)) (dues : List (Option ℕ)) (k : ℕ) (x y : Seat) → dues ≡ map seat_due xs
-    → get_or xs k None ≡ Some x → slot_due y.body ≡ slot_due x.body → dues ≡ map seat_due (set xs k (Some y))
-timed_stays xs dues k x y timed there same = timed_same xs dues k (Some y) timed (same ∙ sym (ap seat_due there))
-
 pub timed_within : (xs : List (Option Seat)) (dues : List (Option ℕ)) (k : ℕ) → dues ≡ map seat_due xs → k < length xs
     → k < length dues
 timed_within xs dues k timed lt = let a : length dues ≡ length (map seat_due xs) =
@@ -55,28 +41,23 @@ pub timed_left_at : (xs : List (Option Seat)) (dues : List (Option ℕ)) (k : �
 timed_left_at xs dues k x y true o timed there went none = by (slot_due o) (ap slot_due went)
   where
     by : (d : Option ℕ) → d ≡ slot_due x.body → due_left dues k d ≡ map seat_due (set xs k (Some y))
-    by None is = timed_stays xs dues k x y timed there (ap slot_due none ∙ is)
-    by (Some due) is = timed_set xs dues k (Some y) None timed (sym (ap slot_due none))
+    by None is = mapped_stays seat_due xs dues k x y timed there (ap slot_due none ∙ is)
+    by (Some due) is = mapped_set seat_due xs dues k (Some y) None timed (sym (ap slot_due none))
 timed_left_at xs dues k x y false o timed there went same =
     ap (λ (z : Option Body). due_left dues k (slot_due z)) went
-    ∙ timed_stays xs dues k x y timed there (ap slot_due same)
-
-pub timed_none : (slots : ℕ) → replicate slots None ≡ map seat_due (replicate slots None)
-timed_none zero = refl
-timed_none (suc n) = ap (λ (z : List (Option ℕ)). None ∷ z) (timed_none n)
+    ∙ mapped_stays seat_due xs dues k x y timed there (ap slot_due same)
 
 -- who acquires it leaves a timer's due moment
 pub due_taken : (u : ℕ) (x : Option Body) → slot_due (slot_acquired u x) ≡ slot_due x
 due_taken u None = refl
 due_taken u (Some (Event e)) = refl
-due_taken u (Some (Mutex m)) = refl
-due_taken u (Some (Semaphore s)) = refl
-due_taken u (Some (Timer t)) = refl
+due_taken u x = refl
 
 -- an object without a body leaves
 pub timed_removed : (xs : List (Option Seat)) (dues : List (Option ℕ)) (k : ℕ) → dues ≡ map seat_due xs
     → get_or (map seat_body xs) k None ≡ None → dues ≡ map seat_due (set xs k None)
-timed_removed xs dues k timed ended = timed_same xs dues k None timed (ap slot_due (sym ended ∙ read seat_body xs k))
+timed_removed xs dues k timed ended =
+    mapped_same seat_due xs dues k None timed (ap slot_due (sym ended ∙ read seat_body xs k))
 
 -- a vacant slot has no timer
 pub timed_vacant : (xs : List (Option Seat)) (dues : List (Option ℕ)) (k : ℕ) → dues ≡ map seat_due xs

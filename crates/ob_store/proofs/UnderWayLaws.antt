@@ -43,7 +43,7 @@ way_begins p sound tied = record {
 pub ending_begins : (p : PartsState) (a : SignaledState) → IsKept p → IsTied p.objects
     → IsEnding p.objects.keeper (record p { signaled = a }) (state_of p)
 ending_begins p a kept tied = record {
-  way = record {
+  under_way = record {
     tied = tied;
     sound = sound_rested p p.processes p.objects p.waits a refl kept.sound refl kept.sound.processes_kept
         kept.sound.counted kept.sound.named kept.sound.formed kept.sound.of_live kept.sound.room;
@@ -169,7 +169,8 @@ module _ (p : PartsState) (q : ObjectsState) (id : Id) (old new : Body)
       (settled_unnamed p.objects.seen.bodies p.waits.waits id.slot (Some new) unnamed kept.settled)
     where
       within : id.slot < length p.objects.objects
-      within = let lt = body_within p.objects id.slot (ap is_some there) tied.agreed in let long = tied.agreed.long in
+      within = let lt = body_within p.objects id.slot (ap is_some there) tied.agreed in
+          let long = tied.agreed.length_is in
           omega (arith, lt, long)
 
       unnamed : slot_blocks id.slot p.waits.waits ≡ 0

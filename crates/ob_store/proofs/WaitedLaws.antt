@@ -16,7 +16,7 @@ use Rattle.ob_waits.specs.Form.{slot_owner, HasWait}
 use Rattle.ob_waits.specs.Objects.{Objects, without_blocks}
 use Rattle.ob_waits.specs.Rules.{HasRoom, IsSettled, WaitsHaveRoom, thread_of}
 use Rattle.ob_waits.specs.Rules as rules
-use Rattle.ob_waits.specs.Waits.{nowhere, WaitList, answered, bodies_after, blocks_among, code_at, code_now, ids_of, list_ready, new_wait, number_of, objects_now, slot_blocks, slot_places}
+use Rattle.ob_waits.specs.Waits.{nowhere, WaitList, answered, bodies_after, code_at, code_now, ids_of, list_ready, new_wait, number_of, objects_now, slot_blocks, slot_places}
 use Rattle.ob_waits.specs.Waits as waits
 use Rattle.ob_waits.proofs.AddedLaws.{by_number}
 use Rattle.ob_waits.proofs.Counted.{answered_ids, blocks_added, blocks_answered, blocks_removed, slot_added, slot_answered, slot_removed, slot_blocks-few}

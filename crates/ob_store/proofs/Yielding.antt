@@ -27,15 +27,11 @@ yields_by clock old new form owner room = record {
 
 set_form : (b : Body) → form_of (after_set b) ≡ form_of b
 set_form (Event e) = refl
-set_form (Mutex m) = refl
-set_form (Semaphore s) = refl
-set_form (Timer t) = refl
+set_form b = refl
 
 set_owner : (b : Body) → owner_of (after_set b) ≡ owner_of b
 set_owner (Event e) = refl
-set_owner (Mutex m) = refl
-set_owner (Semaphore s) = refl
-set_owner (Timer t) = refl
+set_owner b = refl
 
 pub set_yields : (clock : ℕ) (b : Body) → Yields clock b (after_set b)
 set_yields clock b = yields_by clock b (after_set b) (set_form b) (λ t h. sym (set_owner b)
@@ -43,15 +39,11 @@ set_yields clock b = yields_by clock b (after_set b) (set_form b) (λ t h. sym (
 
 reset_form : (b : Body) → form_of (after_reset b) ≡ form_of b
 reset_form (Event e) = refl
-reset_form (Mutex m) = refl
-reset_form (Semaphore s) = refl
-reset_form (Timer t) = refl
+reset_form b = refl
 
 reset_owner : (b : Body) → owner_of (after_reset b) ≡ owner_of b
 reset_owner (Event e) = refl
-reset_owner (Mutex m) = refl
-reset_owner (Semaphore s) = refl
-reset_owner (Timer t) = refl
+reset_owner b = refl
 
 pub reset_yields : (clock : ℕ) (b : Body) → Yields clock b (after_reset b)
 reset_yields clock b = yields_by clock b (after_reset b) (reset_form b) (λ t h. sym (reset_owner b)
@@ -60,9 +52,7 @@ reset_yields clock b = yields_by clock b (after_reset b) (reset_form b) (λ t h.
 -- nothing is signaled by a reset
 pub reset_less : (b : Body) (t : ℕ) → is_signaled t (after_reset b) ≡ true → is_signaled t b ≡ true
 reset_less (Event e) t h = absurd (cc)
-reset_less (Mutex m) t h = h
-reset_less (Semaphore s) t h = h
-reset_less (Timer m) t h = h
+reset_less b t h = h
 
 posted_maximum : (count : ℕ) (s : SemaphoreState) → (semaphore.after_post count s).maximum ≡ s.maximum
 posted_maximum count s = by (ltb s.maximum (s.count + count))
@@ -72,17 +62,13 @@ posted_maximum count s = by (ltb s.maximum (s.count + count))
     by false = refl
 
 post_form : (count : ℕ) (b : Body) → form_of (after_post count b) ≡ form_of b
-post_form count (Event e) = refl
-post_form count (Mutex m) = refl
 post_form count (Semaphore s) = ap (λ n. record { kind = kind.Semaphore; manual = false; maximum = n; due = None })
     (posted_maximum count s)
-post_form count (Timer t) = refl
+post_form count b = refl
 
 post_owner : (count : ℕ) (b : Body) → owner_of (after_post count b) ≡ owner_of b
 post_owner count (Event e) = refl
-post_owner count (Mutex m) = refl
-post_owner count (Semaphore s) = refl
-post_owner count (Timer t) = refl
+post_owner count b = refl
 
 pub post_yields : (clock count : ℕ) (b : Body) → Yields clock b (after_post count b)
 post_yields clock count b = yields_by clock b (after_post count b) (post_form count b) (λ t h. sym (post_owner count b)
@@ -90,9 +76,7 @@ post_yields clock count b = yields_by clock b (after_post count b) (post_form co
 
 unlock_form : (u : ℕ) (b : Body) → form_of (after_unlock u b) ≡ form_of b
 unlock_form u (Event e) = refl
-unlock_form u (Mutex m) = refl
-unlock_form u (Semaphore s) = refl
-unlock_form u (Timer t) = refl
+unlock_form u b = refl
 
 unlocked_owner : (u t : ℕ) (m : MutexState) → (mutex.after_unlock u m).owner ≡ Some t → m.owner ≡ Some t
 unlocked_owner u t m h = by (mutex.is_owner u m.owner) (leb m.recursion 1) h
@@ -104,10 +88,8 @@ unlocked_owner u t m h = by (mutex.is_owner u m.owner) (leb m.recursion 1) h
     by false b h = h
 
 unlock_owner : (u t : ℕ) (b : Body) → owner_of (after_unlock u b) ≡ Some t → owner_of b ≡ Some t
-unlock_owner u t (Event e) h = h
 unlock_owner u t (Mutex m) h = unlocked_owner u t m h
-unlock_owner u t (Semaphore s) h = h
-unlock_owner u t (Timer m) h = h
+unlock_owner u t b h = h
 
 pub unlock_yields : (clock u : ℕ) (b : Body) → Yields clock b (after_unlock u b)
 unlock_yields clock u b = yields_by clock b (after_unlock u b) (unlock_form u b) (λ t h. unlock_owner u t b h)
@@ -121,27 +103,24 @@ armed_after due now = by (leb due now) refl
     by true is = tt
     by false is = grind (arith, nat_tests, is)
 
+yields_same : (clock : ℕ) (b : Body) → Yields clock b b
+yields_same clock b = yields_by clock b b refl (λ t h. h) (λ limit t h. h)
+
 pub arm_yields : (clock due : ℕ) (b : Body) → Yields clock b (after_arm due clock b)
-arm_yields clock due (Event e) = yields_by clock (Event e) (Event e) refl (λ t h. h) (λ limit t h. h)
-arm_yields clock due (Mutex m) = yields_by clock (Mutex m) (Mutex m) refl (λ t h. h) (λ limit t h. h)
-arm_yields clock due (Semaphore s) = yields_by clock (Semaphore s) (Semaphore s) refl (λ t h. h) (λ limit t h. h)
 arm_yields clock due (Timer t) = record {
   form = refl;
   due = λ h. armed_after due clock;
   owner = λ u h. h;
   room = λ limit u h. refl;
 }
+arm_yields clock due b = yields_same clock b
 
 -- or cancelled
 pub disarm_yields : (clock : ℕ) (b : Body) → Yields clock b (after_disarm b)
-disarm_yields clock (Event e) = yields_by clock (Event e) (Event e) refl (λ t h. h) (λ limit t h. h)
-disarm_yields clock (Mutex m) = yields_by clock (Mutex m) (Mutex m) refl (λ t h. h) (λ limit t h. h)
-disarm_yields clock (Semaphore s) = yields_by clock (Semaphore s) (Semaphore s) refl (λ t h. h) (λ limit t h. h)
 disarm_yields clock (Timer t) = record { form = refl; due = λ h. tt; owner = λ u h. h; room = λ limit u h. refl }
+disarm_yields clock b = yields_same clock b
 
 -- nothing is signaled by it
 pub disarm_less : (b : Body) (t : ℕ) → is_signaled t (after_disarm b) ≡ true → is_signaled t b ≡ true
 disarm_less (Event e) t h = h
-disarm_less (Mutex m) t h = h
-disarm_less (Semaphore s) t h = h
-disarm_less (Timer m) t h = h
+disarm_less b t h = h

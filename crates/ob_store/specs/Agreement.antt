@@ -31,9 +31,9 @@ Agrees s (Some o) body retired x = (o.id ≡ record { slot = s; generation = x.g
     × (x.phase ≡ phase_of body) × (retired ≡ false)
 
 pub record IsAgreed (s : ObjectsState) : Type 0 where
-  pub few : s.keeper.shape.slots ≤ 65536
+  pub at_most : s.keeper.shape.slots ≤ 65536
   pub wide : length s.keeper.slots ≡ s.keeper.shape.slots
-  pub long : length s.objects ≡ s.keeper.shape.slots
+  pub length_is : length s.objects ≡ s.keeper.shape.slots
   pub bodied : length s.seen.bodies ≡ s.keeper.shape.slots
   pub marked : length s.retired ≡ s.keeper.shape.slots
   pub each : (k : ℕ) → k < s.keeper.shape.slots → Agrees k (slice_index_or s.objects k None)
@@ -50,9 +50,7 @@ pub record IsListed (published : List (Id × Descr)) (objects : List (Option Obj
 -- how many objects a slot had: one in each generation, but none yet in the present one of a free slot
 abbrev pub made_by : Phase → ℕ → ℕ
 made_by Free generation = generation - 1
-made_by Live generation = generation
-made_by Closing generation = generation
-made_by Retired generation = generation
+made_by phase generation = generation
 
 abbrev pub made_in : Slot → ℕ
 made_in x = made_by x.phase x.generation

@@ -44,9 +44,10 @@ process_ended s process = record s {
 abbrev pub exited : State → ℕ → State
 exited s process = process_ended (threads_ended s process (length s.threads)) process
 
--- a process ends with its last thread
+-- a process ends once it has no thread
 abbrev pub unless_threads : State → ℕ → State
 unless_threads s process = if list_any (is_of process) s.threads then s else process_ended s process
 
-abbrev pub left : State → ℕ → ℕ → State
-left s process thread = unless_threads (thread_ended s thread) process
+-- a thread ends, and its process with its last thread
+abbrev pub after_thread_end : State → ℕ → ℕ → State
+after_thread_end s process thread = unless_threads (thread_ended s thread) process

@@ -5,15 +5,7 @@ use Rattle.pin_words.specs.Keepers.{KeeperState}
 
 -- one reader more was given
 abbrev pub with_next : KeeperState → KeeperState
-with_next k = record {
-  table = k.table;
-  shape = k.shape;
-  slots = k.slots;
-  published = k.published;
-  next = k.next + 1;
-  looks = k.looks;
-  held = k.held;
-}
+with_next k = record k { next = k.next + 1 }
 
 -- the reader of the next number, which holds nothing
 abbrev pub given_by : KeeperState → ReaderView

@@ -1,6 +1,5 @@
 -- What holds whenever no call is under way. Each group of facts is about the parts that it reads, so that a change of
--- others
--- leaves it as it is.
+-- others leaves it as it is.
 use Rattle.std.specs.Prelude.{◌≡◌, ℕ, ◌+◌, ◌<◌, ◌≤◌, List, Option, Some, None, length, slice_index_or, IsSome, true}
 use Rattle.pin_core.specs.declared.id.Id.{Id}
 use Rattle.pin_core.specs.declared.descr.Descr.{Descr}
@@ -79,8 +78,7 @@ pub record AreFormed (clock : ℕ) (objects : List (Option Object)) (bodies : Li
   pub later : (k : ℕ) → IsAfter clock (slot_due (slice_index_or bodies k None))
 
 -- a change of a body that takes nothing for a thread: its form stays, but for a due moment that is still to come, no
--- thread comes
--- to own it, and none loses room
+-- thread comes to own it, and none loses room
 pub record Yields (clock : ℕ) (old new : Body) : Type 0 where
   pub form : unset (form_of new) ≡ unset (form_of old)
   pub due : IsAfter clock (due_of old) → IsAfter clock (due_of new)

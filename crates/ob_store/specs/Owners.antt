@@ -31,4 +31,4 @@ owned_moved counts before after = owned_came (owned_left counts before) after
 
 pub record IsOwned (seats : List (Option Seat)) (counts : List ℕ) : Type 0 where
   pub counted : counts ≡ by_slot (length counts) (λ t. count_by (is_seat_of t) seats)
-  pub few : length seats ≤ 65536
+  pub at_most : length seats ≤ 65536

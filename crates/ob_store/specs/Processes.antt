@@ -1,6 +1,5 @@
 -- The live processes and threads. A number is a place of a list; place 0 has nothing, since number 0 is never given,
--- and the
--- next number is the length.
+-- and the next number is the length.
 use Rattle.std.specs.Prelude.{◌≡◌, ℕ, ◌==◌, ◌<◌, Bool, false, List, [], ◌∷◌, ◌++◌, Option, Some, None, length, slice_index_or}
 
 pub record ProcessesState : Type 0 where
@@ -9,7 +8,7 @@ pub record ProcessesState : Type 0 where
 
 -- number 0 is there, and is never given
 pub record IsFromOne (numbers : List (Option ℕ)) : Type 0 where
-  pub some : 0 < length numbers
+  pub not_empty : 0 < length numbers
   pub none : slice_index_or numbers 0 None ≡ None
 
 abbrev pub no_processes : ProcessesState

@@ -3,6 +3,7 @@ use Rattle.std.proofs.Common.{◌≡◌, ℕ, ◌<◌, ◌≤◌, ◌^◌, ◌&&
 use Rattle.std.specs.Int.{w32, to_le_bytes}
 use Rattle.std.proofs.Math.Bridge.{le_prop}
 use Rattle.std.proofs.lemmas.Bool.{and_from, le-leb}
+use Rattle.std.proofs.lemmas.Option.{same_Some}
 use Rattle.ob_codec.specs.Codecs.{both_codec, some_codec, u32_codec}
 use Rattle.ob_codec.specs.Laws.{IsCodec}
 use Rattle.ob_codec.specs.Spelling.{Any, BothFit, both}
@@ -119,11 +120,8 @@ there l any = (
 back : (n : Numbers) (l : Limits) → NumbersFit n → limits_of n ≡ Some l → (numbers_of l ≡ n) × Any l
 back n l fits e = (by (are_in_range n) refl e, tt)
   where
-    some_is : (a b : Limits) → Some a ≡ Some b → a ≡ b
-    some_is a b e = cc
-
     by : (b : Bool) (e : are_in_range n ≡ b) → limits_where n b e ≡ Some l → numbers_of l ≡ n
-    by true e is = sym (ap numbers_of (some_is (limits_with n (in_range n e)) l is))
+    by true e is = sym (ap numbers_of (same_Some (limits_with n (in_range n e)) l is))
     by false e is = absurd cc
 
 pub limits_codec : IsCodec limits_text limits_at Any

@@ -1,6 +1,5 @@
 -- The abstract state of the object manager: plain lists, by number or by slot. It keeps no count and no directory: both
--- are
--- read off the entries, the waits and the objects.
+-- are read off the entries, the waits and the objects.
 use Rattle.std.specs.Prelude.{ℕ, ◌+◌, ◌==◌, Bool, true, false, List, [], ◌∷◌, ◌++◌, Option, Some, None, if◌then◌else◌, slice_index_or, slice_set, length, map, replicate}
 use Rattle.std.specs.List.{range_with_len}
 use Rattle.pin_core.specs.declared.id.Id.{Id}
@@ -22,8 +21,7 @@ use Rattle.ob_store.specs.declared.limits.Limits.{Limits}
 use Rattle.ob_store.specs.Objects.{Object, Head}
 
 -- Numbers of processes, threads and waits are places of lists. Number 0 is never given, so place 0 has nothing, and the
--- next
--- number is the length. A number that is gone has None.
+-- next number is the length. A number that is gone has None.
 pub record State : Type 0 where
   pub limits : Limits
   pub processes : List (Option ℕ)  -- the session of each live process
@@ -76,9 +74,8 @@ abbrev pub with_scene : State → Scene → State
 with_scene s scene = record s { bodies = scene.objects.bodies; waits = scene.waits }
 
 -- as long as a pending wait is ready, the one of least number takes effect; then each object to which nothing refers
--- ends. The code
--- ends an object as soon as its last reference leaves, and settles by the waits of what changed: both come to one state
--- (SettledLaws)
+-- ends. The code ends an object as soon as its last reference leaves, and settles by the waits of what changed: both
+-- come to one state (SettledLaws)
 abbrev pub settled : State → State
 settled s = with_scene s (with_ends (settled_plainly (scene_of s)))
 

@@ -28,7 +28,7 @@ Holds t k o = slice_index_or t.objects k None ≡ Some o
 -- an object of this Id has this name, and a handle
 pub record IsOpenByName (s : State) (name : ObjectName) (id : Id) : Type 0 where
   pub object : Object
-  pub there : slice_index_or s.objects id.slot None ≡ Some object
+  pub is_there : slice_index_or s.objects id.slot None ≡ Some object
   pub its_id : object.id ≡ id
   pub its_name : object.name ≡ Some name
   pub handled : 0 < handles_of s id

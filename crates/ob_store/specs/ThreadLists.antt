@@ -73,7 +73,7 @@ with_place m (Some p) = with_link m p
 pub record AreThreadLists (processes : ℕ) (threads : List (Option ℕ)) (m : ThreadListsState) : Type 0 where
   pub lists_long : length m.lists ≡ processes
   pub links_long : length m.links ≡ length threads
-  pub few : length threads ≤ 65537
+  pub at_most : length threads ≤ 65537
   pub counted : (p : ℕ) → p < processes → (list_at m p).live ≡ count_by (is_of p) threads
   -- a live thread is one that its process was given
   pub given : (t p : ℕ) → slice_index_or threads t None ≡ Some p
@@ -88,7 +88,7 @@ pub record AreThreadLists (processes : ℕ) (threads : List (Option ℕ)) (m : T
 
 -- without its last element
 pub record IsPopped {A : Type 0} (none : A) (xs ys : List A) : Type 0 where
-  pub long : length xs ≡ length ys + 1
+  pub length_is : length xs ≡ length ys + 1
   pub same : (k : ℕ) → k < length ys → slice_index_or ys k none ≡ slice_index_or xs k none
 
 -- the last process was added last, and the last thread is its only live one

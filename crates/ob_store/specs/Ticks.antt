@@ -29,10 +29,9 @@ fired now s = record s { clock = now; bodies = map (slot_fired now) s.bodies }
 
 -- each pending wait whose deadline isn't after the moment is answered with 258
 abbrev pub timed_out : ℕ → State → State
-timed_out now s = record s { clock = now; waits = map (waits.lapsed now) s.waits }
+timed_out now s = record s { clock = now; waits = map (waits.timed_out now) s.waits }
 
 -- it is the moment now: what is due fires, the waits settle, and then each wait whose time is up is answered; so a
--- signal goes
--- before a deadline of the same moment. What lost its last wait ends.
+-- signal goes before a deadline of the same moment. What lost its last wait ends.
 abbrev pub ticked : ℕ → State → State
 ticked now s = settled (timed_out now (settled (fired now s)))

@@ -17,8 +17,7 @@ due_left dues slot None = dues
 due_left dues slot (Some due) = slice_set dues slot None
 
 -- the mutexes of each thread are counted, each slot's due moment is known and whether its object ended, and there is a
--- label and a
--- place for a name for each slot
+-- label and a place for a name for each slot
 pub record AreNoted (seats : List (Option Seat)) (counts : List ℕ) (dues : List (Option ℕ)) (opens : List Bool)
     (labels : List Label) (names : List (Option ObjectName)) : Type 0 where
   pub owned : IsOwned seats counts

@@ -1,6 +1,5 @@
 -- What holds between the changes of a call that makes several: all that is kept, but for waits that are ready. The end
--- of a thread
--- or a process is many such changes, and one settling turns this into what is kept of the settled state.
+-- of a thread or a process is many such changes, and one settling turns this into what is kept of the settled state.
 use Rattle.std.specs.Prelude.{◌≡◌, ◌⊎◌, ℕ, zero, suc, List, [], ◌∷◌, Option, None, length, slice_index_or, slice_set}
 use Rattle.ob_body.specs.declared.body.Body.{Body}
 use Rattle.ob_tables.specs.declared.entry.Entry.{Entry}
@@ -15,7 +14,7 @@ use Rattle.ob_store.specs.State.{State}
 
 -- the same bodies, but for some that went
 pub record AreLeft (bodies after : List (Option Body)) : Type 0 where
-  pub long : length after ≡ length bodies
+  pub length_is : length after ≡ length bodies
   pub each : (k : ℕ) → (slice_index_or after k None ≡ slice_index_or bodies k None)
       ⊎ (slice_index_or after k None ≡ None)
 
@@ -29,7 +28,7 @@ pub record IsUnderWay (first : KeeperState) (p : PartsState) (s : State) : Type 
 
 -- and each wait that is ready then is for a slot that was noted
 pub record IsEnding (first : KeeperState) (p : PartsState) (s : State) : Type 0 where
-  pub way : IsUnderWay first p s
+  pub under_way : IsUnderWay first p s
   pub enough : IsEnough p.signaled p.objects.seen.bodies p.waits.waits
 
 -- the parts are on their way to a change of wherever they were on their way to

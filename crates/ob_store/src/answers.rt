@@ -8,7 +8,7 @@ use ob_waits::Answer;
 use pin_words::PinKeeper;
 
 impl<K: PinKeeper> Store<K> {
-    /// The answer of the least wait number above one, of the waits that are answered and not over.
+    /// The answer of the least wait number above `after`, of the waits whose answer was not taken yet.
     pub fn next_answered(&self, after: u32) -> Option<Answer>
         ensures least { IsLeastFrom (after + 1) (λ n. is_answered (slice_index_or self.now.state.waits n None))
             (option_map (λ a. a.wait) result) }

@@ -10,7 +10,7 @@ use pin_core::{Phase, Slot};
 use std::alloc::Global;
 use std::collections::BTreeMap;
 
-/// How many objects a slot had.
+/// How many objects a slot has had, the present one included.
 fn made_in(slot: Slot) -> u32
     ensures { result ≡ made_in slot }
 {
@@ -20,7 +20,7 @@ fn made_in(slot: Slot) -> u32
     }
 }
 
-/// How many objects all slots had.
+/// How many objects all slots have had.
 pub(crate) fn count_births(slots: &[Slot]) -> u64
     requires { length slots.now ≤ 65536 }
     ensures { result ≡ sum_by made_in slots.now }
@@ -51,7 +51,7 @@ fn note_birth(
     }
 }
 
-/// The same of the object in a slot, if there is one.
+/// Notes the slot of the object in it, if there is one, as [`note_birth`] does.
 fn note_slot(
     order: &mut BTreeMap<u64, u32>,
     births: u64,

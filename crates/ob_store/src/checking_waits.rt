@@ -30,7 +30,7 @@ fn may_wait_for(objects: &Objects<LockedPins>, limit: u32, thread: u32, id: Id) 
     }
 }
 
-/// The same of each of some objects.
+/// Whether a thread may wait for each of some objects.
 fn may_wait_for_all(objects: &Objects<LockedPins>, limit: u32, thread: u32, ids: &[Id]) -> bool
     ensures { result ≡ list_all (may_wait_for limit objects.now thread) ids.now }
 {
@@ -107,7 +107,7 @@ fn owner_stands(processes: &Processes, body: Option<Body>) -> bool
     }
 }
 
-/// The same of all mutexes.
+/// Whether each mutex has no owner, or a live one.
 fn owners_stand(objects: &Objects<LockedPins>, processes: &Processes) -> bool
     ensures { result ≡ owners_stand processes.now.threads objects.now }
 {

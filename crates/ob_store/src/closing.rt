@@ -7,7 +7,7 @@ use least_free::LeastFree;
 use std::alloc::{AllocError, Global};
 use std::marker::Model;
 
-/// The slots whose objects ended. From the outside it is the list that says of each slot that there is no such object.
+/// The slots whose objects ended. A contract sees a list with a place for each slot: `true` where no ended object is.
 // A number of the set is free where the object of its slot ended.
 #[derive(Drop)]
 pub(crate) struct ClosingSlots {
@@ -25,7 +25,7 @@ impl Model for ClosingSlots {
 }
 
 impl ClosingSlots {
-    /// No object ended.
+    /// As many slots as are asked for, none with an ended object.
     pub(crate) fn new(alloc: Global, slots: u32) -> Result<ClosingSlots, AllocError>
         requires { slots ≤ 65536 }
         ensures { IfOk result (λ closing. closing ≡ replicate slots true) }
@@ -43,7 +43,7 @@ impl ClosingSlots {
         self.slots.give_back(slot as usize);
     }
 
-    /// The object of a slot ended, if it did.
+    /// Adds a slot to which an object comes, if that has ended.
     #[inline]
     pub(crate) fn came(&mut self, slot: u32, ended: bool)
         requires { ended ≡ true → slice_get self.old slot ≡ Some true }
@@ -54,7 +54,7 @@ impl ClosingSlots {
         }
     }
 
-    /// An object that ended leaves its slot.
+    /// Takes out a slot which its ended object leaves.
     pub(crate) fn left(&mut self, slot: u32)
         requires { slice_get self.old slot ≡ Some false }
         ensures { self.new ≡ slice_set self.old slot true }

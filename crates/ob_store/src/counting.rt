@@ -7,7 +7,7 @@ use crate::seats::Seats;
 use ob_tables::{Entry, Tables};
 use ob_waits::Waits;
 
-/// Counts a handle where a place has an entry; whether the object that it names is there.
+/// Counts a handle where the place of a table has an entry, and answers whether the object that it names is there.
 fn count_place(seats: &mut Seats, place: Option<Entry>) -> bool
     ensures counted { IsTrue result → counting seats.old place ≡ Ok seats.new }
     ensures refused { result ≡ false → counting seats.old place ≡ Err Value }
@@ -18,7 +18,7 @@ fn count_place(seats: &mut Seats, place: Option<Entry>) -> bool
     }
 }
 
-/// Counts the handles of a table.
+/// Counts the handles of a table, and answers whether each names an object that is there.
 fn count_table(seats: &mut Seats, places: &[Option<Entry>]) -> bool
     ensures counted { IsTrue result → counting_in seats.old places.now ≡ Ok seats.new }
     ensures refused { result ≡ false → counting_in seats.old places.now ≡ Err Value }
@@ -31,7 +31,7 @@ fn count_table(seats: &mut Seats, places: &[Option<Entry>]) -> bool
     true
 }
 
-/// Counts the handles of all tables; whether each names an object that is there.
+/// Counts the handles of all tables, and answers whether each names an object that is there.
 pub(crate) fn count_tables(seats: &mut Seats, tables: &Tables) -> bool
     ensures counted { IsTrue result → counting_all seats.old tables.now.tables ≡ Ok seats.new }
     ensures refused { result ≡ false → counting_all seats.old tables.now.tables ≡ Err Value }

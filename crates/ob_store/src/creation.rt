@@ -21,12 +21,12 @@ use ob_tables::Entry;
 use pin_core::Descr;
 use pin_words::PinKeeper;
 
-/// A new object but for its name, and its first handle.
+/// What a new object and its first handle are, but for the object's name.
 #[derive(Clone, Copy, Debug)]
 pub struct Creation {
-    /// What it is, for its whole life.
+    /// What the object is, for its whole life.
     pub descr: Descr,
-    /// What it is now.
+    /// What state it begins in.
     pub body: Body,
     /// The rights that an open or a duplicate may get (*profile*).
     pub grant: Rights,
@@ -37,7 +37,8 @@ pub struct Creation {
 }
 
 impl<K: PinKeeper> Store<K> {
-    /// A new object without a name in a vacant slot, with a handle at the least free value of a process; the value.
+    /// Makes a new object without a name in a vacant slot, with a handle at the least free value of a process, and
+    /// answers the value.
     ///
     /// Refused with 8 for want of memory.
     pub fn add_nameless(&mut self, process: u32, slot: u32, new: Creation) -> Result<u32, Fault>
@@ -74,7 +75,7 @@ impl<K: PinKeeper> Store<K> {
         }
     }
 
-    /// A new object with a name that no object has, as [`add_nameless`](Store::add_nameless) makes one without.
+    /// Makes a new object with a name that no object has, as [`add_nameless`](Store::add_nameless) makes one without.
     pub fn add_named(
         &mut self,
         process: u32,

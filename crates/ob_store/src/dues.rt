@@ -27,7 +27,8 @@ impl Seats {
 
 impl<K: PinKeeper> Store<K> {
     /// The least moment at which a timer or a pending wait's deadline is due, or none where there is neither. It is
-    /// known at once, but that the deadline of a wait that was answered before it came is dropped here, once.
+    /// known at once, except that the deadlines of waits that were answered before they came are dropped here, each
+    /// once.
     pub fn next_due(&mut self) -> Option<u64>
         ensures least { IsLeast (dues_of self.old.state) result }
         ensures same { self.new ≡ self.old }

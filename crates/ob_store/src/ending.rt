@@ -4,8 +4,8 @@ ghost use Rattle.ob_waits.specs.Objects.{without_blocks};
 ghost use Rattle.ob_waits.specs.Rules.{IsKept as AreWaits};
 ghost use Rattle.ob_store.specs.Signaled.{KeepsEnough};
 ghost use Rattle.ob_waits.specs.Waits.{thread_ids};
-ghost use Rattle.ob_store.specs.Ends.{abandoned_by, exited, left, process_ended, thread_ended, threads_ended};
-ghost use Rattle.ob_store.specs.Ends.{unless_threads};
+ghost use Rattle.ob_store.specs.Ends.{abandoned_by, after_thread_end, exited, process_ended, thread_ended};
+ghost use Rattle.ob_store.specs.Ends.{threads_ended, unless_threads};
 ghost use Rattle.ob_store.specs.Processes.{is_of};
 ghost use Rattle.ob_store.specs.Moves.{OnlyCloses};
 ghost use Rattle.ob_store.specs.Objects.{kept_rest};
@@ -24,7 +24,7 @@ use ob_tables::Entry;
 use ob_waits::{Bodies, Waits, leave_all};
 use pin_words::PinKeeper;
 
-/// The objects of a thread's wait are no longer referred to by it.
+/// Counts the places of a thread's wait no longer among what refers to its objects.
 fn leave_wait<K: PinKeeper>(objects: &mut Objects<K>, waits: &Waits, thread: u32)
     ensures seen { objects.new.seen ≡ without_blocks objects.old.seen (thread_ids thread waits.now.waits) }
     ensures rest { kept_rest objects.new ≡ kept_rest objects.old }
@@ -39,7 +39,7 @@ fn leave_wait<K: PinKeeper>(objects: &mut Objects<K>, waits: &Waits, thread: u32
     leave_all(objects, ids);
 }
 
-/// The mutex in a slot is abandoned and the slot noted, where the thread owns it.
+/// Abandons the mutex in a slot and notes the slot, where the thread owns the mutex.
 fn abandon_at<K: PinKeeper>(
     objects: &mut Objects<K>,
     signaled: &mut SignaledSlots,
@@ -58,7 +58,7 @@ fn abandon_at<K: PinKeeper>(
     }
 }
 
-/// The mutexes of a thread that are listed are abandoned, and their slots noted.
+/// Abandons the mutexes that are listed for a thread, and notes their slots.
 fn abandon_listed<K: PinKeeper>(objects: &mut Objects<K>, signaled: &mut SignaledSlots, thread: u32)
     ensures seen { abandoned_by thread objects.new.seen ≡ abandoned_by thread objects.old.seen }
     ensures rest { kept_rest objects.new ≡ kept_rest objects.old }
@@ -70,8 +70,9 @@ fn abandon_listed<K: PinKeeper>(objects: &mut Objects<K>, signaled: &mut Signale
     }
 }
 
-/// The mutexes that a thread owns are abandoned, and their slots noted. Its list says where they are, but nothing is
-/// proved of the list: so as long as the thread is known to own more, or isn't counted, slot after slot is looked at.
+/// Abandons the mutexes that a thread owns, and notes their slots. The thread's list says where they are, but nothing
+/// is proved of that list: so as long as the thread is known to own more, or its mutexes aren't counted, slot after
+/// slot is looked at.
 fn abandon<K: PinKeeper>(objects: &mut Objects<K>, signaled: &mut SignaledSlots, thread: u32)
     ensures seen { objects.new.seen ≡ abandoned_by thread objects.old.seen }
     ensures rest { kept_rest objects.new ≡ kept_rest objects.old }
@@ -89,7 +90,7 @@ fn abandon<K: PinKeeper>(objects: &mut Objects<K>, signaled: &mut SignaledSlots,
 }
 
 impl<K: PinKeeper> Parts<K> {
-    /// A thread ends, and nothing settles yet: its wait is dropped, then its mutexes are abandoned.
+    /// Ends a thread, without settling yet: its wait is dropped, then its mutexes are abandoned.
     fn end_one(&mut self, thread: u32)
         ensures carries { Carries self.old self.new (λ s. thread_ended s thread) }
         ensures threads { self.new.processes
@@ -116,7 +117,7 @@ impl<K: PinKeeper> Parts<K> {
         }
     }
 
-    /// The threads of a process end, by rising number. It looks at the threads that the process was given.
+    /// Ends the threads of a process, by rising number. It looks at the threads that the process was given.
     fn end_all(&mut self, process: u32)
         ensures carries { Carries self.old self.new (λ s. threads_ended s process (length self.old.processes.threads)) }
         ensures ended { (t : ℕ) → slice_index_or self.new.processes.threads t None ≡ Some process → ⊥ }
@@ -129,7 +130,7 @@ impl<K: PinKeeper> Parts<K> {
         }
     }
 
-    /// The entry of a place leaves, if there is one. Those of the places before it have left.
+    /// Removes the entry of a place, if there is one. Those of the places before it have left.
     fn leave_at(&mut self, process: u32, places: &[Option<Entry>], place: usize)
         requires sound { IsSound (with_left (parts_of self.old) process places.now place) }
         requires table { process < length self.old.tables.tables }
@@ -147,7 +148,7 @@ impl<K: PinKeeper> Parts<K> {
         leave_directory(&mut self.names, self.objects.look(entry.id.slot));
     }
 
-    /// The entries that were taken out of the table of a process leave, by rising value.
+    /// Removes the entries that were taken out of the table of a process, by rising value.
     fn leave_entries(&mut self, process: u32, places: &[Option<Entry>])
         requires sound { IsSound (with_left (parts_of self.old) process places.now 0) }
         requires table { process < length self.old.tables.tables }
@@ -159,7 +160,7 @@ impl<K: PinKeeper> Parts<K> {
         }
     }
 
-    /// A process ends whose threads have ended: its entries leave, and its number is gone.
+    /// Ends a process whose threads have ended: its entries leave, and its number is gone.
     fn end_process(&mut self, process: u32)
         requires sound { IsSound (parts_of self.old) }
         requires table { process < length self.old.tables.tables }
@@ -185,12 +186,12 @@ impl<K: PinKeeper> Parts<K> {
 }
 
 impl<K: PinKeeper> Store<K> {
-    /// A live thread ends, and with the last thread of a process that: the thread's wait is dropped, its mutexes are
+    /// Ends a live thread, and its process with its last thread: the thread's wait is dropped, its mutexes are
     /// abandoned, and the waits settle. It looks at no other thread, at no slot but those of its mutexes and of the
-    /// handles that leave, and of the pending waits at those for the abandoned mutexes alone.
+    /// handles that leave, and of the pending waits only at those for the abandoned mutexes.
     pub fn end_thread(&mut self, thread: u32, process: u32)
         requires live { slice_index_or self.old.state.threads thread None ≡ Some process }
-        ensures state { self.new.state ≡ settled (left self.old.state process thread) }
+        ensures state { self.new.state ≡ settled (after_thread_end self.old.state process thread) }
         ensures keeper { OnlyCloses self.old.keeper self.new.keeper }
     {
         self.parts.objects.kept();
@@ -200,9 +201,9 @@ impl<K: PinKeeper> Store<K> {
         self.parts.settle();
     }
 
-    /// A live process ends: its threads end by rising number, then its entries leave by rising value, and the waits
+    /// Ends a live process: its threads end by rising number, then its entries leave by rising value, and the waits
     /// settle once. It looks at the threads that the process was given, at no slot but those of their mutexes and of
-    /// the handles that leave, and of the pending waits at those for the abandoned mutexes alone.
+    /// the handles that leave, and of the pending waits only at those for the abandoned mutexes.
     pub fn exit(&mut self, process: u32)
         requires live { IsSome (slice_index_or self.old.state.processes process None) }
         ensures state { self.new.state ≡ settled (exited self.old.state process) }

@@ -16,7 +16,7 @@ use ob_tables::Entry;
 use pin_words::PinKeeper;
 
 impl<K: PinKeeper> Store<K> {
-    /// One more entry of an object that has one, at the least free value of a process; the value.
+    /// Gives a process a further handle to an object; answers its value.
     #[inline(always)]
     pub fn place_entry(&mut self, process: u32, entry: Entry) -> Result<u32, Fault>
         requires process { process < length self.old.state.tables }
@@ -47,7 +47,7 @@ impl<K: PinKeeper> Store<K> {
         }
     }
 
-    /// The entry of a handle leaves. With its last handle an object's name leaves the directory, and with the last
+    /// Removes the entry of a handle. With its last handle an object's name leaves the directory, and with the last
     /// reference the object ends.
     pub fn remove_entry(&mut self, process: u32, handle: u32, entry: Entry)
         requires { entry_at (table_of self.old.state.tables process) handle ≡ Some entry }
@@ -64,7 +64,7 @@ impl<K: PinKeeper> Store<K> {
         );
     }
 
-    /// The entry of a handle has other flags.
+    /// Sets the flags of a handle's entry.
     pub fn set_flags(&mut self, process: u32, handle: u32, flags: HandleFlags)
         requires { IsSome (entry_at (table_of self.old.state.tables process) handle) }
         ensures { self.new ≡ record self.old { state = settled (with_flags self.old.state process handle flags) } }
@@ -74,7 +74,7 @@ impl<K: PinKeeper> Store<K> {
     }
 }
 
-/// The name of an object leaves the directory where the object has no handle left.
+/// Removes the name of an object from the directory, where the object has no handle left.
 #[inline(always)]
 pub(crate) fn leave_directory(names: &mut Directory, found: Option<Found<'_>>)
     ensures { names.new.rows ≡ rows_left names.old.rows (option_map (λ f. f.seat.now.handles) found.entry)

@@ -1,7 +1,7 @@
 ghost use Rattle.std.specs.Prelude.{None, is_some, slice_index_or};
 ghost use Rattle.least_free.specs.From.{IsLeastFrom};
 
-/// The least place of a list, from one on, where something stands.
+/// The least place of a list, from `from` on, where something stands.
 pub(crate) fn next_place<T>(places: &[Option<T>], from: usize) -> Option<usize>
     ensures { IsLeastFrom from (λ k. is_some (slice_index_or places.now k None)) result }
 {

@@ -29,7 +29,7 @@ impl Objects<LockedPins> {
 }
 
 impl Store<LockedPins> {
-    /// The slots, with which a keeper has to begin that the store is to go on over.
+    /// The slots: another keeper has to begin with these, if the store is to go on over it.
     pub fn slots(&self) -> &[Slot]
         ensures slots { result.now ≡ self.now.keeper.slots }
         ensures opens { Opens (shape_of self.now.state.limits) self.now.keeper.slots }

@@ -4,7 +4,7 @@ ghost use Rattle.ob_codec.specs.Spelling.{AreBytes};
 ghost use Rattle.ob_store.specs.SavedStore.{store_at, store_text};
 ghost use Rattle.ob_store.specs.State.{Whole};
 
-/// What is read of a store is the spelling of the state that it gives, so one state has one spelling.
+/// The bytes from which a store is read are the spelling of its state, so a state has just one spelling.
 pub fn law_of_saved_stores()
     ensures takes { (bytes : List ℕ) (w : Whole) (rest : List ℕ) → AreBytes bytes
         → store_at bytes ≡ Ok (w, rest) → Takes bytes (store_text w) rest }

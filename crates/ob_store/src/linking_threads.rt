@@ -19,7 +19,8 @@ pub(crate) fn are_of_live(processes: &Numbers, threads: &Numbers) -> bool
     })
 }
 
-/// So many processes without threads, but for number 0, which has thread 0. Each other begins past every thread.
+/// The thread lists of so many processes without threads, but for number 0, which has thread 0. The first thread of
+/// each other is a number past every thread.
 fn empty_lists(alloc: Global, processes: u32) -> Result<ThreadLists, AllocError>
     requires { 0 < processes }
     ensures { IfOk result (λ lists. AreThreadLists processes (None ∷ []) lists) }
@@ -31,15 +32,15 @@ fn empty_lists(alloc: Global, processes: u32) -> Result<ThreadLists, AllocError>
     Ok(lists)
 }
 
-/// The next of the thread numbers comes to its process.
+/// Links the next thread number to its process.
 fn link_next(
     lists: &mut ThreadLists,
     processes: u32,
     threads: &[Option<u32>],
     thread: usize,
 ) -> Result<(), AllocError>
-    requires some { 0 < processes }
-    requires few { length threads.now ≤ 65537 }
+    requires above_zero { 0 < processes }
+    requires at_most { length threads.now ≤ 65537 }
     requires thread { thread < length threads.now }
     requires process { IfSome (slice_index_or threads.now thread None) (λ process. process < processes) }
     requires so_far { AreThreadLists processes (take thread threads.now) lists.old }
@@ -48,14 +49,14 @@ fn link_next(
     lists.add_place(threads[thread])
 }
 
-/// The threads of so many processes, from the process of each live thread.
+/// The thread lists of so many processes, made from the process of each live thread.
 pub(crate) fn link_threads(
     alloc: Global,
     processes: u32,
     threads: &[Option<u32>],
 ) -> Result<ThreadLists, AllocError>
-    requires some { 0 < processes }
-    requires few { length threads.now ≤ 65537 }
+    requires above_zero { 0 < processes }
+    requires at_most { length threads.now ≤ 65537 }
     requires from_one { IsFromOne threads.now }
     requires known { (t : ℕ) → IfSome (slice_index_or threads.now t None) (λ process. process < processes) }
     ensures { IfOk result (λ lists. AreThreadLists processes threads.now lists) }

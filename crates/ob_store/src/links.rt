@@ -10,7 +10,7 @@ struct Link {
     next: u32,
 }
 
-/// A list of slots for each thread, of the threads below a limit. Nothing is promised of what it has: it is a hint.
+/// A list of slots for each thread below a limit. Nothing is promised of what it has: it is a hint.
 #[derive(Drop)]
 pub(crate) struct Links {
     firsts: Vec<u32>,
@@ -18,7 +18,7 @@ pub(crate) struct Links {
 }
 
 impl Links {
-    /// No slot is listed. It takes 8 bytes for each slot and 4 for each thread.
+    /// Lists without a slot. They take 8 bytes for each slot and 4 for each thread.
     pub(crate) fn new(alloc: Global, slots: u32, threads: u32) -> Result<Links, AllocError> {
         let none = Link {
             before: END,
@@ -47,14 +47,14 @@ impl Links {
         }
     }
 
-    /// A slot comes first in a thread's list.
+    /// Puts a slot first in a thread's list.
     pub(crate) fn add(&mut self, thread: u32, slot: u32) {
         let first = self.first(thread);
         self.join(thread, slot, first);
         self.join(thread, END, slot);
     }
 
-    /// A slot leaves a thread's list.
+    /// Takes a slot out of a thread's list.
     pub(crate) fn remove(&mut self, thread: u32, slot: u32) {
         if let Some(link) = self.links.get(slot as usize).copied() {
             self.join(thread, link.before, link.next);

@@ -9,7 +9,7 @@ use ob_codec::{Cursor, ReadFault, TextFault, read_list, write_list};
 use std::alloc::{AllocError, Global};
 use std::marker::Model;
 
-/// Whether numbers can be so: no more than the limit are given, and 0 is nobody's.
+/// Whether numbers may stand so: no more than the limit are given, and 0 is nobody's.
 fn are_numbers(limit: u32, places: &[Option<u32>]) -> bool
     ensures { result ≡ are_numbers limit places.now }
 {
@@ -33,7 +33,7 @@ impl Model for Numbers {
 }
 
 impl Numbers {
-    /// None is given; 0 is never given.
+    /// Numbers of which none is given yet; 0 is never given.
     pub fn new(alloc: Global) -> Result<Numbers, AllocError>
         ensures { IfOk result (λ numbers. numbers ≡ None ∷ []) }
     {
@@ -50,7 +50,8 @@ impl Numbers {
         write_list(out, self.places.as_slice())
     }
 
-    /// Reads the same. [`TextFault::Value`] where more numbers are given than the limit lets, or 0 is.
+    /// Reads what [`write`](Numbers::write) writes. [`TextFault::Value`] where more numbers are given than the limit
+    /// lets, or 0 is.
     pub fn read(alloc: Global, limit: u32, from: &mut Cursor<'_>) -> Result<Numbers, ReadFault>
         requires { limit ≤ 65536 }
         ensures read { Gives (λ numbers. numbers) result (numbers_at limit from.old) from.new }
@@ -90,7 +91,7 @@ impl Numbers {
         }
     }
 
-    /// The least number behind one that isn't gone. It looks at each number from there to the one that it finds.
+    /// The least number above `after` that isn't gone. It looks at each number from there to the one that it finds.
     pub fn next_after(&self, after: u32) -> Option<u32>
         ensures { IsLeastFrom (after + 1) (λ n. is_some (slice_index_or self.now n None)) result }
     {
@@ -110,7 +111,7 @@ impl Numbers {
         Ok(())
     }
 
-    /// A number is gone, for good.
+    /// Takes a number away for good.
     pub fn leave(&mut self, number: u32)
         ensures { self.new ≡ slice_set self.old number None }
     {

@@ -52,7 +52,7 @@ impl<K: PinKeeper> Model for Objects<K> {
 
 impl<K: PinKeeper> Objects<K> {
     /// As many slots as the keeper has, and no object. The keeper comes back where memory is wanting. The mutexes of
-    /// threads below `threads` are counted and listed, so that the end of a thread looks at what it has alone. That
+    /// threads below `threads` are counted and listed, so that the end of a thread looks only at what it has. That
     /// takes 8 bytes for each slot and 8 for each of these threads.
     pub fn new(alloc: Global, slots: u32, threads: u32, keeper: K) -> Result<Objects<K>, K>
         requires fresh { IsFresh (K.kept keeper) (K.kept keeper).shape }
@@ -126,7 +126,8 @@ impl<K: PinKeeper> Objects<K> {
         Id { slot, generation }
     }
 
-    /// A new object in a vacant slot, with one handle; its Id. Its number is how many objects were made before it.
+    /// Puts a new object with one handle into a vacant slot, and answers its Id. Its number is how many objects were
+    /// made before it.
     #[inline(always)]
     pub fn add(
         &mut self,
@@ -151,7 +152,7 @@ impl<K: PinKeeper> Objects<K> {
         id
     }
 
-    /// One handle more of an object that has a body.
+    /// Counts a further handle of an object that has a body.
     pub fn handle_came(&mut self, slot: u32)
         requires live { IsSome (slice_index_or self.old.seen.bodies slot None) }
         requires room { slice_index_or self.old.seen.handles slot 0 < 4294967295 }
@@ -160,7 +161,7 @@ impl<K: PinKeeper> Objects<K> {
         self.seats.handle_came(slot);
     }
 
-    /// One handle more where the place of a table has an entry, of an object that has a body.
+    /// Counts the handle in the place of a table, if an entry is there, which is of an object that has a body.
     fn handle_came_at(&mut self, place: Option<Entry>)
         requires live { IfSome place (λ entry. IsSome (slice_index_or self.old.seen.bodies entry.id.slot None)) }
         requires room { (k : ℕ) → slice_index_or self.old.seen.handles k 0 < 4294967295 }
@@ -174,7 +175,7 @@ impl<K: PinKeeper> Objects<K> {
         }
     }
 
-    /// One handle more for each entry of a table, of objects that have bodies.
+    /// Counts a handle for each entry of a table. Its objects have bodies.
     pub fn handles_came(&mut self, places: &[Option<Entry>])
         requires live { (i : ℕ) → IfSome (slice_index_or places.now i None)
             (λ entry. IsSome (slice_index_or self.old.seen.bodies entry.id.slot None)) }
@@ -187,7 +188,7 @@ impl<K: PinKeeper> Objects<K> {
         }
     }
 
-    /// One handle fewer. The object ends where that was the last reference to it.
+    /// Counts one handle fewer. The object ends where that was the last reference to it.
     #[inline]
     pub fn handle_left(&mut self, slot: u32)
         requires handled { 0 < slice_index_or self.old.seen.handles slot 0 }
@@ -198,7 +199,7 @@ impl<K: PinKeeper> Objects<K> {
         }
     }
 
-    /// One more place of a pending wait names the object, which has a body.
+    /// Counts a further place of a pending wait that names the object, which has a body.
     pub fn block_came(&mut self, slot: u32)
         requires live { IsSome (slice_index_or self.old.seen.bodies slot None) }
         requires room { slice_index_or self.old.seen.blocks slot 0 < 18446744073709551615 }
@@ -207,7 +208,7 @@ impl<K: PinKeeper> Objects<K> {
         self.seats.block_came(slot);
     }
 
-    /// One block more for each place of a list: a wait for the list became pending.
+    /// Counts each place of a wait that became pending.
     pub fn blocks_came(&mut self, ids: &[Id])
         requires live { (i : ℕ) → i < length ids.now
             → IsSome (slice_index_or self.old.seen.bodies (slice_index_or ids.now i nowhere).slot None) }
@@ -220,7 +221,7 @@ impl<K: PinKeeper> Objects<K> {
         }
     }
 
-    /// The mutex in a slot is abandoned, where the thread owns it; whether it did.
+    /// Abandons the mutex in a slot where the thread owns it, and answers whether it did.
     pub fn abandon_at(&mut self, slot: u32, thread: u32) -> bool
         ensures owned { result ≡ owns_at thread self.old.seen.bodies slot }
         ensures seen { self.new.seen ≡ changed_at self.old.seen slot (slot_left_by thread) }
@@ -244,7 +245,7 @@ impl<K: PinKeeper> Objects<K> {
         self.seats.owns_none(thread)
     }
 
-    /// The timer in a slot fires, if it is due.
+    /// Fires the timer in a slot, if it is due.
     #[tactic(auto, using(crate::proofs::TickLaws::fired_another))]
     pub(crate) fn fire_at(&mut self, slot: u32, now: u64)
         ensures seen { self.new.seen ≡ changed_at self.old.seen slot (slot_fired now) }
@@ -260,8 +261,8 @@ impl<K: PinKeeper> Objects<K> {
         self.seats.put(slot, body);
     }
 
-    /// Takes the slot of an ended object back, unless somebody holds it: the object leaves it, and where it was at its
-    /// last generation it is given up for good.
+    /// Takes the slot of an ended object back, unless somebody holds it: the object leaves the slot, and a slot at its
+    /// last generation is given up for good.
     pub fn reclaim(&mut self, slot: u32) -> Reclaim
         requires object { IsSome (slice_index_or self.old.objects slot None) }
         requires ended { slice_index_or self.old.seen.bodies slot None ≡ None }
@@ -287,8 +288,8 @@ impl<K: PinKeeper> Objects<K> {
         self.seats.owned_count(thread)
     }
 
-    /// The slot that is listed first for a thread: that of a mutex that it owns, if the list is right. Past all slots
-    /// where none is listed.
+    /// The slot that is listed first for a thread, or a number past all slots where none is listed. It is a hint: a
+    /// mutex that the thread owns is likely to be there.
     pub fn first_owned(&self, thread: u32) -> u32 {
         self.seats.first_owned(thread)
     }

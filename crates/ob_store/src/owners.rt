@@ -6,7 +6,7 @@ use crate::links::Links;
 use std::alloc::{AllocError, Global};
 use std::marker::Model;
 
-/// How many mutexes each thread owns, of the threads below a limit, and a hint of where they are.
+/// How many mutexes each thread below a limit owns, and a hint of where they are.
 #[derive(Drop)]
 pub(crate) struct Owners {
     counts: Vec<u32>,
@@ -40,7 +40,7 @@ impl Owners {
         at < self.counts.len() && self.counts[at] == 0
     }
 
-    /// How many a thread owns, as far as they are counted.
+    /// How many mutexes a thread owns; 0 for a thread whose mutexes aren't counted.
     pub(crate) fn count(&self, thread: u32) -> u32
         ensures { result ≡ slice_index_or self.now thread 0 }
     {

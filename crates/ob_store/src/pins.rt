@@ -1,6 +1,6 @@
 ghost use Rattle.std.specs.Prelude.{◌≡◌, ◌<◌, ◌↔◌, IsTrue, OnOk};
 ghost use Rattle.pin_core.specs.Holds.{tally, same_id};
-ghost use Rattle.pin_words.specs.Keepers.{Tries, released, with_held};
+ghost use Rattle.pin_words.specs.Keepers.{TriesLocked, released, with_held};
 
 use crate::store::Store;
 use pin_core::Id;
@@ -9,7 +9,7 @@ use pin_words::{LockedPins, PinFault};
 impl Store<LockedPins> {
     /// Pins the slot of an Id once more, for the one holder.
     pub fn try_pin(&mut self, id: Id) -> Result<(), PinFault>
-        ensures tries { Tries self.old.keeper id result self.new.keeper }
+        ensures tries { TriesLocked self.old.keeper id result self.new.keeper }
         ensures rest { self.new ≡ record self.old { keeper = with_held self.old.keeper self.new.keeper.held } }
         ensures held { OnOk result (0 < tally (same_id id) self.new.keeper.held) }
     {

@@ -116,7 +116,7 @@ impl Processes {
         self.threads.get(thread)
     }
 
-    /// A new process of a session, with its first thread.
+    /// Adds a process of a session, with its first thread.
     pub(crate) fn add_process(&mut self, session: u32) -> Result<(), AllocError>
         requires processes { length self.old.processes ≤ 65536 }
         requires threads { length self.old.threads ≤ 65536 }
@@ -154,15 +154,15 @@ impl Processes {
         self.lists.has_live(process)
     }
 
-    /// A number that no live thread of a process is below.
+    /// A number below which the process has no live thread.
     pub(crate) fn first_of(&self, process: u32) -> u32
         ensures { (t : ℕ) → slice_index_or self.now.threads t None ≡ Some process → result ≤ t }
     {
         self.lists.first(process)
     }
 
-    /// A greater number, with no live thread of the process between. Behind a thread of the process it is the next that
-    /// the process was given.
+    /// A greater number, such that no live thread of the process is between. Behind a thread of the process it is the
+    /// next thread that the process was given.
     pub(crate) fn next_of(&self, process: u32, thread: u32) -> u32
         requires { thread < length self.now.threads }
         ensures greater { thread < result }
@@ -178,14 +178,14 @@ impl Processes {
         self.threads.next()
     }
 
-    /// The least live process behind a number.
+    /// The least live process whose number is above `after`.
     pub(crate) fn next_live(&self, after: u32) -> Option<u32>
         ensures { IsLeastFrom (after + 1) (λ process. is_some (slice_index_or self.now.processes process None)) result }
     {
         self.processes.next_after(after)
     }
 
-    /// The least live thread of a process, from a thread of it on.
+    /// The least live thread of a process, from `from` on, which is a thread of it.
     fn live_from(&self, process: u32, from: u32) -> Option<u32>
         ensures { IsLeastFrom from (λ thread. is_of process (slice_index_or self.now.threads thread None)) result }
     {
@@ -200,7 +200,7 @@ impl Processes {
         None
     }
 
-    /// The least live thread of a process behind a number.
+    /// The least live thread of a process whose number is above `after`.
     pub(crate) fn next_live_of(&self, process: u32, after: u32) -> Option<u32>
         ensures { IsLeastFrom (after + 1) (λ thread.
             is_of process (slice_index_or self.now.threads thread None)) result }
@@ -215,7 +215,7 @@ impl Processes {
         self.live_from(process, self.next_of(process, after))
     }
 
-    /// A thread's number is gone.
+    /// Takes away the number of a thread that ends.
     pub(crate) fn end_thread(&mut self, thread: u32)
         ensures { self.new ≡ record self.old { threads = slice_set self.old.threads thread None } }
     {
@@ -226,14 +226,14 @@ impl Processes {
         self.threads.leave(thread);
     }
 
-    /// A process's number is gone.
+    /// Takes away the number of a process that ends.
     pub(crate) fn end_process(&mut self, process: u32)
         ensures { self.new ≡ record self.old { processes = slice_set self.old.processes process None } }
     {
         self.processes.leave(process);
     }
 
-    /// A new thread of a process.
+    /// Adds a thread of a process.
     pub(crate) fn add_thread(&mut self, process: u32) -> Result<(), AllocError>
         requires process { process < length self.old.processes }
         requires threads { length self.old.threads ≤ 65536 }

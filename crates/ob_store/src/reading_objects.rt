@@ -26,7 +26,7 @@ use pin_core::{Id, Slot};
 use pin_words::LockedPins;
 use std::alloc::Global;
 
-/// What a save says of a vacant slot.
+/// Puts into a vacant slot what a savestate says of it.
 fn restore(seats: &mut Seats, slot: u32, saved: SavedSlot)
     requires { is_vacant_at (vacancy seats.old) slot ≡ true }
     ensures { seats.new ≡ with_saved seats.old slot saved.generation saved.retired saved.object }
@@ -117,12 +117,13 @@ fn read_whole(
 }
 
 impl Objects<LockedPins> {
-    /// Reads the objects of a save at the moment of its waits, over a keeper that begins with their slots, and makes
-    /// the directory of their names. The handles of each are the entries of the tables that name it, and its blocks the
-    /// places of pending waits. [`TextFault::Value`] where a slot can't be so, an entry or a wait names an object that
-    /// isn't there, two objects have one birth, two with handles have one name, or an object has a body but nothing
-    /// refers to it, or the other way round; where a wait's thread or the owner of a mutex isn't live; and where a
-    /// pending wait is satisfied, or its thread owns one of its mutexes as often as the limit lets.
+    /// Reads the objects of a savestate at the moment of its waits, over a keeper that begins with their slots, and
+    /// makes the directory of their names. The handles of each object are the entries of the tables that name it, and
+    /// its blocks the places of pending waits that do. [`TextFault::Value`] where no slot can be as one is said to be,
+    /// an entry or a wait names an object that isn't there, two objects have one birth, two with handles have one name,
+    /// or an object has a body but nothing refers to it, or the other way round; where a wait's thread or the owner of
+    /// a mutex isn't live; and where a pending wait is satisfied, or its thread owns one of its mutexes as often as the
+    /// limit lets.
     pub(crate) fn read(
         alloc: Global,
         limits: Limits,

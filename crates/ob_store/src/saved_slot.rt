@@ -10,7 +10,7 @@ use ob_rights::Rights;
 use pin_core::{Descr, Phase, Slot, read_descr};
 use std::alloc::Global;
 
-/// What a save says of an object.
+/// What a savestate says of an object.
 #[derive(Drop)]
 pub(crate) struct SavedObject {
     pub(crate) birth: u64,
@@ -20,7 +20,7 @@ pub(crate) struct SavedObject {
     pub(crate) name: Option<Name>,
 }
 
-/// What a save says of a slot.
+/// What a savestate says of a slot.
 #[derive(Drop)]
 pub(crate) struct SavedSlot {
     pub(crate) generation: u32,
@@ -28,7 +28,7 @@ pub(crate) struct SavedSlot {
     pub(crate) object: Option<SavedObject>,
 }
 
-/// What a body is.
+/// The descriptor that an object with a body has.
 fn descr_of(body: &Body) -> Descr
     ensures { result ≡ descr_of body.now }
 {
@@ -55,7 +55,7 @@ fn is_after(clock: u64, due: Option<u64>) -> bool
     }
 }
 
-/// Whether a body is what its object's descriptor says, and no timer is due yet.
+/// Whether a body, if there is one, is what its object's descriptor says, and is no timer that is due already.
 fn body_stands(clock: u64, descr: Descr, body: Option<Body>) -> bool
     ensures { result ≡ body_stands clock descr body }
 {
@@ -115,9 +115,9 @@ impl SavedSlot {
         })
     }
 
-    /// Reads a slot. [`TextFault::Value`] where it can't be so at this moment: its generation isn't one from 1 to the
-    /// last, it is retired before the last or with an object, its body isn't what the descriptor says, or a timer is
-    /// due.
+    /// Reads a slot. [`TextFault::Value`] where no slot can be so at this moment: its generation isn't one from 1 to
+    /// the last, it is retired before the last generation or with an object, its body isn't what the descriptor says,
+    /// or a timer is due.
     pub(crate) fn read(
         alloc: Global,
         max_gen: u32,
@@ -133,7 +133,7 @@ impl SavedSlot {
         Ok(slot)
     }
 
-    /// Whether its object, if it has one, may be so.
+    /// Whether its object, if it has one, can be so.
     fn object_stands(&self, clock: u64) -> bool
         ensures { result ≡ object_stands clock self.now.object }
     {
@@ -143,7 +143,7 @@ impl SavedSlot {
         }
     }
 
-    /// Whether a slot may be so.
+    /// Whether a slot can be so.
     fn stands(&self, max_gen: u32, clock: u64) -> bool
         ensures { result ≡ slot_stands max_gen clock self.now }
     {

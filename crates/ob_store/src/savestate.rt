@@ -84,12 +84,12 @@ fn read_parts(
 
 impl Store<LockedPins> {
     /// Reads a store that [`write`](Store::write) wrote, over a keeper under a lock that begins with its slots. Nobody
-    /// holds a copy of an Id. What is read is kept like any other store. Refused with the first thing that is wrong,
+    /// holds a copy of an Id. Whatever holds of other stores holds of it. Refused with the first thing that is wrong,
     /// and with want of memory.
     ///
-    /// A count asks for no memory before its items are there, nor the slots before so many bytes are as they have at
-    /// least; beside them the store takes 8 bytes for each thread number that its limits let it give. Linear in what is
-    /// there, but that objects are ordered by their births.
+    /// A count asks for no memory before its items are there, nor the slots before there are as many bytes as they have
+    /// at least; beside them the store takes 8 bytes for each thread number that its limits let it give. Linear in what
+    /// is there, except that objects are ordered by their births.
     pub fn read(alloc: Global, from: &mut Cursor<'_>) -> Result<Store<LockedPins>, ReadFault>
         ensures { Gives (λ store. store) result (store_at from.old) from.new }
     {

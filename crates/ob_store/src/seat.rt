@@ -82,7 +82,7 @@ impl Seat {
         }
     }
 
-    /// Counts one handle less. With the last reference the body goes, and is returned.
+    /// Counts one handle fewer. With the last reference the body goes, and is returned.
     #[inline]
     pub(crate) fn handle_left(&mut self) -> Option<Body>
         requires { 0 < self.old.handles }
@@ -93,7 +93,7 @@ impl Seat {
         self.end_if_free()
     }
 
-    /// Counts one block less, where there is one. With the last reference the body goes, and is returned.
+    /// Counts one block fewer, where there is one. With the last reference the body goes, and is returned.
     pub(crate) fn block_left(&mut self) -> Option<Body>
         ensures value { self.new ≡ seat_block_left self.old }
         ensures gone { result ≡ if self.old.handles + (self.old.blocks - 1) == 0 then self.old.body else None }

@@ -59,7 +59,7 @@ impl Model for Seats {
     ghost invariant = { λ s. AreNoted s.arena.bodies s.owners s.timers s.closing s.labels.items s.names.items };
 }
 
-/// The thread that owns a mutex.
+/// The thread that owns a mutex; none for other objects and where nobody does.
 pub(crate) fn owner_of(body: Option<Body>) -> Option<u32>
     ensures { result ≡ slot_owner body }
 {
@@ -69,7 +69,7 @@ pub(crate) fn owner_of(body: Option<Body>) -> Option<u32>
     }
 }
 
-/// When a timer is due.
+/// When a timer is due; none for other objects and for a timer that isn't set.
 fn due_of(body: Option<Body>) -> Option<u64>
     ensures { result ≡ slot_due body }
 {
@@ -79,12 +79,12 @@ fn due_of(body: Option<Body>) -> Option<u64>
     }
 }
 
-/// No name.
+/// What stands where there is no name.
 fn no_name() -> Option<Name> {
     None
 }
 
-/// A slot gets a label and, if there is one, a name. The name that stood there is let go then.
+/// Gives a slot a label and a name, if there is one. The name that stood there is let go.
 #[inline(always)]
 fn relabel(
     labels: &mut Vec<Label>,
@@ -157,20 +157,20 @@ impl Seats {
 
     /// A slot whose timer is due. Where none is, that is known at once.
     pub(crate) fn next_due(&self, now: u64) -> Option<u32>
-        ensures some { IfSome result (λ slot. slot_is_due now (slice_index_or self.now.seen.bodies slot None) ≡ true) }
+        ensures found { IfSome result (λ slot. slot_is_due now (slice_index_or self.now.seen.bodies slot None) ≡ true) }
         ensures none { IfNone result ((k : ℕ) → slot_is_due now (slice_index_or self.now.seen.bodies k None) ≡ false) }
     {
         self.timers.next_due(now)
     }
 
-    /// The least slot whose object ended, from one on.
+    /// The least slot whose object ended, from `from` on.
     pub(crate) fn next_closing(&self, from: u32) -> Option<u32>
         ensures { IsLeastFrom from (is_closing_in self.now.objects self.now.seen.bodies) result }
     {
         self.closing.next(from)
     }
 
-    /// The least slot with an object, from one on.
+    /// The least slot with an object, from `from` on.
     pub(crate) fn next_object(&self, from: u32) -> Option<u32>
         ensures { IsLeastFrom from (λ slot. is_some (slice_index_or self.now.objects slot None)) result }
     {
@@ -257,7 +257,7 @@ impl Seats {
         self.closing.came(id.slot, body.is_none());
     }
 
-    /// One handle more.
+    /// Counts a further handle.
     pub(crate) fn handle_came(&mut self, slot: u32)
         requires object { IsSome (slice_index_or self.old.objects slot None) }
         requires room { slice_index_or self.old.seen.handles slot 0 < 4294967295 }
@@ -276,7 +276,7 @@ impl Seats {
         }
     }
 
-    /// One handle more of the object of an Id; whether it is there, and its count had room.
+    /// Counts a further handle of the object of an Id, and answers whether the object is there and its count had room.
     pub(crate) fn count_handle(&mut self, id: Id) -> bool
         ensures counted { IsTrue result → counting_one self.old id ≡ Ok self.new }
         ensures refused { result ≡ false → counting_one self.old id ≡ Err Value }
@@ -314,7 +314,7 @@ impl Seats {
         true
     }
 
-    /// One handle fewer; whether the object ended.
+    /// Counts one handle fewer, and answers whether the object ended.
     #[inline]
     pub(crate) fn handle_left(&mut self, slot: u32) -> bool
         requires object { IsSome (slice_index_or self.old.objects slot None) }
@@ -330,7 +330,7 @@ impl Seats {
         gone.is_some()
     }
 
-    /// One more place of a pending wait names the object.
+    /// Counts a further place of a pending wait that names the object.
     pub(crate) fn block_came(&mut self, slot: u32)
         requires object { IsSome (slice_index_or self.old.objects slot None) }
         requires room { slice_index_or self.old.seen.blocks slot 0 < 18446744073709551615 }
@@ -351,7 +351,7 @@ impl Seats {
         self.arena.get_mut(slot).blocks = blocks;
     }
 
-    /// An object without a body leaves the slot, which is vacant then.
+    /// Removes an object without a body from its slot, which is vacant then.
     pub(crate) fn remove(&mut self, slot: u32)
         requires object { IsSome (slice_index_or self.old.objects slot None) }
         requires ended { slice_index_or self.old.seen.bodies slot None ≡ None }
@@ -362,7 +362,7 @@ impl Seats {
         self.closing.left(slot);
     }
 
-    /// A vacant slot is never given again.
+    /// Gives a vacant slot up: it never gets an object again.
     pub(crate) fn retire(&mut self, slot: u32)
         requires { is_vacant_at (vacancy self.old) slot ≡ true }
         ensures { self.new ≡ with_retired self.old slot }
@@ -397,7 +397,7 @@ impl Seats {
         self.timers.moved(slot, was.due, due);
     }
 
-    /// A thread acquires an object that is signaled for it; whether that was an abandoned mutex.
+    /// Has a thread acquire an object that is signaled for it, and answers whether that was an abandoned mutex.
     pub(crate) fn acquire(&mut self, id: Id, thread: u32) -> bool
         requires bodied { IsSome (body_of self.old.seen.bodies id) }
         requires signaled { is_signaled thread self.old.seen.bodies id ≡ true }
@@ -412,7 +412,7 @@ impl Seats {
         acquired.was_abandoned
     }
 
-    /// One block fewer, where there is one; whether the object ended.
+    /// Counts one block fewer, where there is one, and answers whether the object ended.
     pub(crate) fn block_left(&mut self, id: Id) -> bool
         ensures objects { self.new.seen ≡ without_block self.old.seen id }
         ensures rest { rest_of self.new ≡ rest_of self.old }

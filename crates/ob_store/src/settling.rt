@@ -14,8 +14,8 @@ use pin_core::Id;
 use pin_words::PinKeeper;
 
 impl<K: PinKeeper> Parts<K> {
-    /// The waits settle: where all slots that may have been signaled are noted by the waits for these alone, and where
-    /// there are none not at all.
+    /// Settles the waits. Where every slot that may have become signaled is noted, only the waits for those are looked
+    /// at, and none where no slot is noted.
     pub(crate) fn settle(&mut self)
         requires sound { IsSound (parts_of self.old) }
         requires enough { IsEnough self.old.signaled self.old.objects.seen.bodies self.old.waits.waits }
@@ -33,7 +33,7 @@ impl<K: PinKeeper> Parts<K> {
         }
     }
 
-    /// The waits settle, of which those for one object alone may be ready.
+    /// Settles the waits, of which only those for one object may be ready.
     pub(crate) fn settle_after(&mut self, id: Id)
         requires sound { IsSound (parts_of self.old) }
         requires ready { IsReadyAt id.slot self.old.objects.seen.bodies self.old.waits.waits }

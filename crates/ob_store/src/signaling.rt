@@ -13,7 +13,7 @@ use pin_core::Id;
 use pin_words::PinKeeper;
 
 impl<K: PinKeeper> Store<K> {
-    /// An object has another body, and the waits for it settle.
+    /// Gives an object another body, and settles the waits for it.
     #[inline(always)]
     pub(crate) fn put(&mut self, id: Id, old: Body, new: Body)
         requires bodied { slice_index_or self.old.state.bodies id.slot None ≡ Some old }
@@ -45,7 +45,7 @@ impl<K: PinKeeper> Store<K> {
         self.put(id, event, after);
     }
 
-    /// An object has another body, by which nothing is signaled that wasn't: so nothing settles.
+    /// Gives an object another body, by which nothing becomes signaled: so nothing settles.
     #[inline(always)]
     fn put_less(&mut self, id: Id, old: Body, new: Body)
         requires bodied { slice_index_or self.old.state.bodies id.slot None ≡ Some old }
@@ -59,7 +59,7 @@ impl<K: PinKeeper> Store<K> {
         self.parts.objects.kept();
     }
 
-    /// Resets an event: nothing is signaled by it, so nothing settles.
+    /// Resets an event. Nothing becomes signaled by that, so nothing settles.
     #[inline(always)]
     #[tactic(auto, using(crate::proofs::Yielding::reset_less, crate::proofs::Yielding::reset_yields))]
     pub fn reset(&mut self, id: Id, event: Body)
@@ -111,8 +111,8 @@ impl<K: PinKeeper> Store<K> {
         Ok(())
     }
 
-    /// Sets a timer to a moment, in units of 100 ns. One that isn't after now signals it at once, and the waits for it
-    /// settle; else it is nonsignaled until then, and nothing settles.
+    /// Sets a timer to a moment, in units of 100 ns. A moment that isn't after now signals it at once, and the waits
+    /// for it settle; otherwise it is nonsignaled until then, and nothing settles.
     #[tactic(auto, using(crate::proofs::Yielding::arm_yields))]
     pub fn arm(&mut self, id: Id, timer: Body, due: u64)
         requires bodied { slice_index_or self.old.state.bodies id.slot None ≡ Some timer }
@@ -126,7 +126,7 @@ impl<K: PinKeeper> Store<K> {
         self.put(id, timer, after);
     }
 
-    /// Takes a timer's due moment away: nothing is signaled by that, so nothing settles.
+    /// Takes a timer's due moment away. Nothing becomes signaled by that, so nothing settles.
     #[tactic(auto, using(crate::proofs::Yielding::disarm_less, crate::proofs::Yielding::disarm_yields))]
     pub fn disarm(&mut self, id: Id, timer: Body)
         requires bodied { slice_index_or self.old.state.bodies id.slot None ≡ Some timer }

@@ -6,7 +6,7 @@ use pin_words::PinKeeper;
 use std::alloc::AllocError;
 
 impl<K: PinKeeper> Store<K> {
-    /// The next process, of a session, with the next thread.
+    /// Adds the next process number, of a session, with the next thread number.
     pub fn add_process(&mut self, session: u32) -> Result<(), AllocError>
         requires processes { length self.old.state.processes ≤ self.old.state.limits.processes }
         requires threads { length self.old.state.threads ≤ self.old.state.limits.threads }
@@ -27,7 +27,7 @@ impl<K: PinKeeper> Store<K> {
         }
     }
 
-    /// The next thread, of a live process.
+    /// Adds the next thread number, of a live process.
     pub fn add_thread(&mut self, process: u32) -> Result<(), AllocError>
         requires threads { length self.old.state.threads ≤ self.old.state.limits.threads }
         requires live { IsSome (slice_index_or self.old.state.processes process None) }
@@ -39,8 +39,8 @@ impl<K: PinKeeper> Store<K> {
         Ok(())
     }
 
-    /// The next process, of a session, with the next thread and with the inheritable entries of a parent at the same
-    /// values.
+    /// Adds the next process number, of a session, with the next thread number and with the inheritable entries of a
+    /// parent at the same values.
     pub fn add_child(&mut self, parent: u32, session: u32) -> Result<(), AllocError>
         requires processes { length self.old.state.processes ≤ self.old.state.limits.processes }
         requires threads { length self.old.state.threads ≤ self.old.state.limits.threads }

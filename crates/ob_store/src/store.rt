@@ -49,7 +49,7 @@ impl<K: PinKeeper> Model for Store<K> {
 }
 
 impl<K: PinKeeper> Store<K> {
-    /// No process, and no object. The keeper comes back where memory is wanting.
+    /// A store without a process or an object. The keeper comes back where memory is wanting.
     pub fn new(alloc: Global, limits: Limits, keeper: K) -> Result<Store<K>, K>
         requires { IsFresh (K.kept keeper) (shape_of limits) }
         ensures ok { IfOk result (λ store. store ≡ record { state = opening limits; keeper = K.kept keeper }) }
@@ -119,7 +119,7 @@ impl<K: PinKeeper> Store<K> {
         self.parts.processes.next_thread()
     }
 
-    /// The session of a live process, which has a handle table.
+    /// The session of a live process. Such a process has a handle table.
     pub fn session(&self, process: u32) -> Option<u32>
         ensures value { result ≡ slice_index_or self.now.state.processes process None }
         ensures table { OnSome result (process < length self.now.state.tables) }
@@ -127,7 +127,7 @@ impl<K: PinKeeper> Store<K> {
         self.parts.processes.session(process)
     }
 
-    /// The process of a live thread, which has a handle table.
+    /// The process of a live thread. That process has a handle table.
     pub fn process(&self, thread: u32) -> Option<u32>
         ensures value { result ≡ slice_index_or self.now.state.threads thread None }
         ensures live { IfSome result (λ process. IsSome (slice_index_or self.now.state.processes process None)) }
@@ -167,7 +167,7 @@ impl<K: PinKeeper> Store<K> {
         self.parts.objects.least_vacant()
     }
 
-    /// The Id that the next object of a slot has.
+    /// The Id that the next object of a slot will have.
     pub fn id_at(&self, slot: u32) -> Id
         requires { is_vacant_at (vacancy self.now.state) slot ≡ true }
         ensures { result ≡ id_at self.now.state slot }

@@ -23,7 +23,7 @@ impl ThreadList {
         self.last < self.first
     }
 
-    /// With one more thread, which is live and the last.
+    /// The same list with one more thread, which is live and comes last.
     fn with_last(self, thread: u32) -> ThreadList
         requires { self.live ≤ 65537 }
         ensures { result ≡ with_last self thread }
@@ -70,7 +70,7 @@ impl Model for ThreadLists {
 }
 
 impl ThreadLists {
-    /// Number 0 of both, which is never given.
+    /// Lists with number 0 of processes and of threads alone, which is never given.
     pub(crate) fn new(alloc: Global) -> Result<ThreadLists, AllocError>
         ensures { IfOk result (λ links. links ≡ no_lists) }
     {
@@ -88,7 +88,7 @@ impl ThreadLists {
         Ok(ThreadLists { lists, links })
     }
 
-    /// The next process, with the next thread.
+    /// Adds the next process, with the next thread.
     pub(crate) fn add_process(&mut self) -> Result<(), AllocError>
         requires lists { length self.old.lists ≤ 65536 }
         requires links { length self.old.links ≤ 65536 }
@@ -110,7 +110,7 @@ impl ThreadLists {
         Ok(())
     }
 
-    /// The next process, without a thread. Its first is to be a number that no thread has.
+    /// Adds the next process, without a thread. `first` is to be a number that no thread has.
     pub(crate) fn add_empty(&mut self, first: u32) -> Result<(), AllocError>
         ensures ok { OnOk result (self.new ≡ with_empty self.old first) }
         ensures err { OnErr result (self.new ≡ self.old) }
@@ -123,7 +123,7 @@ impl ThreadLists {
         Ok(())
     }
 
-    /// The next thread, of a process.
+    /// Adds the next thread, of a process.
     pub(crate) fn add_thread(&mut self, process: u32) -> Result<(), AllocError>
         requires process { process < length self.old.lists }
         requires count { (list_at self.old process).live ≤ 65537 }
@@ -141,7 +141,7 @@ impl ThreadLists {
         Ok(())
     }
 
-    /// The next thread number, which is a process's, or gone.
+    /// Adds the next thread number: a live thread of a process, or one that is gone.
     pub(crate) fn add_place(&mut self, place: Option<u32>) -> Result<(), AllocError>
         requires process { process_of place < length self.old.lists }
         requires count { (list_at self.old (process_of place)).live ≤ 65537 }
@@ -172,7 +172,7 @@ impl ThreadLists {
         let _ = self.links.pop();
     }
 
-    /// A live thread of a process ends.
+    /// Counts one live thread of a process fewer: it ends.
     pub(crate) fn end_thread(&mut self, process: u32)
         ensures { self.new ≡ without_live self.old process }
     {
@@ -202,7 +202,7 @@ impl ThreadLists {
         }
     }
 
-    /// The process of a thread, and the next thread that it was given.
+    /// The process of a thread, and the next thread that the process was given.
     pub(crate) fn link(&self, thread: u32) -> ThreadLink
         ensures { result ≡ link_at self.now thread }
     {

@@ -12,7 +12,7 @@ use crate::store::Store;
 use ob_waits::LAST_MOMENT;
 use pin_words::PinKeeper;
 
-/// The timers that are due fire, and their slots are noted. It looks at these alone.
+/// Fires the timers that are due, and notes their slots. It looks at no other slot.
 fn fire_all<K: PinKeeper>(objects: &mut Objects<K>, signaled: &mut SignaledSlots, now: u64)
     ensures seen { objects.new.seen ≡ timers_fired now objects.old.seen }
     ensures rest { kept_rest objects.new ≡ kept_rest objects.old }
@@ -26,7 +26,7 @@ fn fire_all<K: PinKeeper>(objects: &mut Objects<K>, signaled: &mut SignaledSlots
 }
 
 impl<K: PinKeeper> Store<K> {
-    /// The timers that are due fire, and the waits settle.
+    /// Fires the timers that are due, and settles the waits.
     fn fire(&mut self, now: u64)
         ensures state { self.new.state ≡ settled
             (record self.old.state { bodies = map (slot_fired now) self.old.state.bodies }) }
@@ -41,7 +41,7 @@ impl<K: PinKeeper> Store<K> {
 
     /// A pending wait whose deadline isn't after a moment.
     fn overdue(&mut self, now: u64) -> Option<u32>
-        ensures some { IfSome result (λ wait. is_overdue now (slice_index_or self.old.state.waits wait None) ≡ true) }
+        ensures found { IfSome result (λ wait. is_overdue now (slice_index_or self.old.state.waits wait None) ≡ true) }
         ensures none { IfNone result ((n : ℕ) → is_overdue now (slice_index_or self.old.state.waits n None) ≡ false) }
         ensures same { self.new ≡ self.old }
     {
@@ -59,8 +59,8 @@ impl<K: PinKeeper> Store<K> {
         self.parts.waits.pass_to(now);
     }
 
-    /// Each pending wait whose deadline isn't after a moment, at which nothing is due, is answered with 258,
-    /// `WAIT_TIMEOUT`.
+    /// Answers each pending wait whose deadline isn't after a moment with 258, `WAIT_TIMEOUT`. No timer is due at the
+    /// moment.
     fn time_out(&mut self, now: u64)
         requires later { self.old.state.clock ≤ now }
         requires last { now ≤ LAST_MOMENT }
@@ -76,10 +76,10 @@ impl<K: PinKeeper> Store<K> {
         self.pass_to(now);
     }
 
-    /// It is a moment now: what is due fires, the waits settle, and then each wait whose time is up is answered. Where
-    /// nothing is due and no time is up, it looks at no timer and no wait that is pending; else it costs by what is,
-    /// and a logarithm. The deadline of a wait that was answered before it came is dropped by the first tick behind it,
-    /// once.
+    /// Sets the clock to a moment: timers that are due fire, the waits settle, and then each wait whose time is up is
+    /// answered. Where nothing is due and no time is up, it looks at no timer and at no pending wait; otherwise it
+    /// takes a time that grows with the number of those that are, times a logarithm. The deadline of a wait that was
+    /// answered before it came is dropped by the first tick behind it, once.
     pub fn tick(&mut self, now: u64)
         requires later { self.old.state.clock ≤ now }
         requires last { now ≤ LAST_MOMENT }

@@ -24,7 +24,7 @@ impl Model for Timers {
 }
 
 impl Timers {
-    /// No timer is set.
+    /// As many slots as are asked for, none with a timer that is set.
     pub(crate) fn new(alloc: Global, slots: u32) -> Result<Timers, AllocError>
         requires { slots ≤ 65536 }
         ensures { IfOk result (λ timers. timers ≡ replicate slots None) }
@@ -36,7 +36,7 @@ impl Timers {
 
     /// A slot whose timer is due. Where none is, that is known at once.
     pub(crate) fn next_due(&self, now: u64) -> Option<u32>
-        ensures some { IfSome result (λ slot. is_due now (slice_index_or self.now slot None) ≡ true) }
+        ensures found { IfSome result (λ slot. is_due now (slice_index_or self.now slot None) ≡ true) }
         ensures none { IfNone result ((k : ℕ) → is_due now (slice_index_or self.now k None) ≡ false) }
     {
         let due = self.dues.least()?;

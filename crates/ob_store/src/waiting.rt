@@ -23,7 +23,7 @@ impl<K: PinKeeper> Store<K> {
         self.parts.waits.look(wait).map(|(state, _)| state)
     }
 
-    /// A thread takes at once what its wait for these objects is satisfied by, and gives the wait's code. Where it
+    /// Has a thread take at once what satisfies its wait for these objects, and answers the wait's code. Where the wait
     /// isn't satisfied now, nothing changes.
     pub fn take_now(&mut self, thread: u32, mode: Mode, ids: &[Id]) -> Option<u32>
         requires waitable { IsWaitable mode ids.now }
@@ -31,7 +31,7 @@ impl<K: PinKeeper> Store<K> {
         requires alone { number_of thread self.old.state.waits ≡ None }
         requires live { IsSome (slice_index_or self.old.state.threads thread None) }
         ensures code { result ≡ code_now mode thread self.old.state.bodies ids.now }
-        ensures some { OnSome result (self.new.state ≡ settled (with_taken self.old.state thread mode ids.now)) }
+        ensures taken { OnSome result (self.new.state ≡ settled (with_taken self.old.state thread mode ids.now)) }
         ensures none { IfNone result (self.new ≡ self.old) }
         ensures keeper { OnlyCloses self.old.keeper self.new.keeper }
     {
@@ -41,8 +41,8 @@ impl<K: PinKeeper> Store<K> {
         code
     }
 
-    /// The wait of a thread that isn't satisfied now becomes pending, until a moment after now or for good; its number.
-    /// It counts among what refers to its objects.
+    /// Makes the wait of a thread, which isn't satisfied now, pending until a moment after now or without end, and
+    /// answers its number. It counts among what refers to its objects.
     ///
     /// Refused with 1450 where each wait number was given, and else with 8 for want of memory.
     pub fn add_wait(
@@ -80,7 +80,7 @@ impl<K: PinKeeper> Store<K> {
         }
     }
 
-    /// A pending wait is answered with 258, `WAIT_TIMEOUT`, and refers to its objects no more.
+    /// Answers a pending wait with 258, `WAIT_TIMEOUT`. It no longer refers to its objects.
     pub fn expire(&mut self, wait: u32)
         requires { is_pending (slice_index_or self.old.state.waits wait None) ≡ true }
         ensures state { self.new.state ≡ settled (with_answer self.old.state wait WAIT_TIMEOUT) }
@@ -95,7 +95,7 @@ impl<K: PinKeeper> Store<K> {
         self.parts.waits.expire(wait);
     }
 
-    /// The code of a wait that is answered, which is over with it: its thread may make calls again.
+    /// Takes the code of an answered wait. The wait is then over, and its thread may wait again.
     pub fn take_result(&mut self, wait: u32) -> u32
         requires { IsSome (code_at (slice_index_or self.old.state.waits wait None)) }
         ensures code { code_at (slice_index_or self.old.state.waits wait None) ≡ Some result }

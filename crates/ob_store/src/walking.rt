@@ -15,7 +15,7 @@ use ob_waits::Pending;
 use pin_core::Id;
 use pin_words::PinKeeper;
 
-/// The entry of least value behind one, with its value.
+/// The entry of least value above `after`, with its value.
 fn next_entry(places: &[Option<Entry>], after: u32) -> Option<(u32, Entry)>
     requires { length places.now ≤ 16384 }
     ensures least { IsLeastFrom (after + 1) (is_value_in places.now) (option_map (λ handle. handle.0) result) }
@@ -27,7 +27,7 @@ fn next_entry(places: &[Option<Entry>], after: u32) -> Option<(u32, Entry)>
 }
 
 impl<K: PinKeeper> Store<K> {
-    /// The object that ended in the least slot with such an object, from one on.
+    /// The ended object in the least slot that has one, from `from` on.
     pub fn next_closing(&self, from: u32) -> Option<Id>
         ensures least { IsLeastFrom from (is_closing_at self.now.state) (option_map (λ id. id.slot) result) }
         ensures object { IfSome result (λ id. IsThere self.now.state.objects id) }
@@ -36,7 +36,7 @@ impl<K: PinKeeper> Store<K> {
         Some(self.parts.objects.look(slot)?.seat.id)
     }
 
-    /// The object in the least slot with one, from one on.
+    /// The object in the least slot that has one, from `from` on.
     pub fn next_object(&self, from: u32) -> Option<Id>
         ensures least { IsLeastFrom from (is_object_at self.now.state) (option_map (λ id. id.slot) result) }
         ensures object { IfSome result (λ id. IsThere self.now.state.objects id) }
@@ -45,21 +45,21 @@ impl<K: PinKeeper> Store<K> {
         Some(self.parts.objects.look(slot)?.seat.id)
     }
 
-    /// The least live process behind a number.
+    /// The least live process whose number is above `after`.
     pub fn next_live(&self, after: u32) -> Option<u32>
         ensures { IsLeastFrom (after + 1) (is_process self.now.state) result }
     {
         self.parts.processes.next_live(after)
     }
 
-    /// The least live thread of a process behind a number.
+    /// The least live thread of a process whose number is above `after`.
     pub fn next_live_of(&self, process: u32, after: u32) -> Option<u32>
         ensures { IsLeastFrom (after + 1) (is_thread_of self.now.state process) result }
     {
         self.parts.processes.next_live_of(process, after)
     }
 
-    /// The handle of least value behind one that a process has, with its entry.
+    /// The handle of a process of least value above `after`, with its entry.
     pub fn next_entry(&self, process: u32, after: u32) -> Option<(u32, Entry)>
         ensures least { IsLeastFrom (after + 1) (is_value_of self.now.state process)
             (option_map (λ handle. handle.0) result) }
@@ -79,9 +79,9 @@ impl<K: PinKeeper> Store<K> {
         self.parts.waits.wait_of(thread)
     }
 
-    /// The wait of a number, where that is pending.
+    /// The wait of a number, where it is pending.
     pub fn pending(&self, wait: u32) -> Option<Pending<'_>>
-        ensures there { is_some result ≡ is_pending (slice_index_or self.now.state.waits wait None) }
+        ensures is_there { is_some result ≡ is_pending (slice_index_or self.now.state.waits wait None) }
         ensures wait { IfSome result (λ p. slice_index_or self.now.state.waits wait None
             ≡ Some (new_wait p.thread p.mode p.ids.now p.deadline)) }
     {

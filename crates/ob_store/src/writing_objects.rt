@@ -52,7 +52,7 @@ fn write_object(
     write_name(out, label.is_named, name)
 }
 
-/// Writes a flag, and an object where there is one.
+/// Writes a flag that says whether there is an object, and the object if there is one.
 fn write_found(out: &mut Vec<u8>, found: Option<Found<'_>>) -> Result<(), AllocError>
     requires { IfSome found (λ found. IsGiven found.label.now.descr) }
     ensures text { OnOk result (out.new.items ≡ out.old.items ++ option object_text

@@ -7,6 +7,7 @@ use Rattle.std.proofs.lemmas.List.{get_or_past}
 use Rattle.std.proofs.lemmas.Option.{none-some}
 use Rattle.std.proofs.lemmas.List.Sums.{sum_by-cons, sum_by-append, sum_by-set, get_or-le-sum_by}
 use Rattle.pin_core.specs.Holds.{same_id}
+pub use Rattle.pin_core.proofs.Moves.{same_id-same}
 use Rattle.ob_rights.specs.declared.handle_flags.HandleFlags.{HandleFlags}
 use Rattle.ob_rights.specs.Rights.{within}
 use Rattle.pin_core.specs.declared.id.Id.{Id}
@@ -19,9 +20,6 @@ use Rattle.ob_tables.specs.Tables.{table_of, with_entry_of, without_entry_of, wi
 -- 1 for an entry of the object, and else 0
 abbrev pub one_of : Id → Entry → ℕ
 one_of id e = cond (same_id e.id id) 1 0
-
-pub same_id-same : (a : Id) → same_id a a ≡ true
-same_id-same a = grind (arith, nat_tests)
 
 pub one_id : (a b : Id) → same_id a b ≡ true → a ≡ b
 one_id a b h = ap (λ (p : ℕ × ℕ). record { slot = p.0; generation = p.1 }) (grind (arith, nat_tests))
@@ -47,14 +45,14 @@ counted p ts = sum_by (count_by p) ts
 pub record IsFound (t : List (Option Entry)) (value : ℕ) (e : Entry) : Type 0 where
   pub high : ltb value 4 ≡ false
   pub within : place_of value < length t
-  pub here : get_or t (place_of value) None ≡ Some e
+  pub held_there : get_or t (place_of value) None ≡ Some e
 
 pub found_place : (t : List (Option Entry)) (value : ℕ) (e : Entry) → entry_at t value ≡ Some e → IsFound t value e
 found_place t value e is = by (ltb value 4) refl is
   where
     by : (b : Bool) → ltb value 4 ≡ b → cond b None (get_or t (place_of value) None) ≡ Some e → IsFound t value e
     by true low h = absurd (none-some e h)
-    by false high h = record { high = high; within = some_within t (place_of value) e h; here = h }
+    by false high h = record { high = high; within = some_within t (place_of value) e h; held_there = h }
 
 -- the table without an entry, where it was
 pub without_found : (t : List (Option Entry)) (value : ℕ) (e : Entry) → entry_at t value ≡ Some e
@@ -83,7 +81,7 @@ module _ (p : Option Entry → Bool) (none : p None ≡ false) where
   -- where an entry stands
   counts_there : (t : List (Option Entry)) (value : ℕ) (e : Entry) → IsFound t value e
       → weight p (get_or t (place_of value) None) ≡ weight p (Some e)
-  counts_there t value e f = ap {B = ℕ} (weight p) f.here
+  counts_there t value e f = ap {B = ℕ} (weight p) f.held_there
 
   -- an entry at the least free place counts once
   pub count_by-with_entry : (t : List (Option Entry)) (e : Entry)

@@ -78,7 +78,7 @@ length-inherited t = omega (arith, length-trimmed (map inheritable t), length-ma
 pub inherited_take : (t : List (Option Entry)) → map inheritable (take (length (inherited t)) t) ≡ inherited t
 inherited_take t = sym (take-map inheritable (length (inherited t)) t) ∙ sym (trimmed_take (map inheritable t))
 
-none_of : {A : Type 0} (x : Option A) → is_some x ≡ false → x ≡ None
+pub none_of : {A : Type 0} (x : Option A) → is_some x ≡ false → x ≡ None
 none_of None h = refl
 none_of (Some a) h = cc
 

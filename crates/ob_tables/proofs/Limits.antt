@@ -1,8 +1,8 @@
 -- When a table is full, and that no table outgrows its limit.
-use Rattle.std.proofs.Common.{◌≡◌, ℕ, zero, suc, ◌<◌, ◌≤◌, List, [], ◌∷◌, ◌++◌, length, Option, Some, None, refl, ap, ◌∙◌, arith, get_or, set, ⊎_elim, cond, true, leb, ◌↔◌}
+use Rattle.std.proofs.Common.{◌≡◌, ℕ, zero, suc, ◌<◌, ◌≤◌, List, [], ◌∷◌, ◌++◌, length, Option, Some, None, refl, ap, arith, get_or, set, ⊎_elim, cond, true, leb, ◌↔◌}
 use Rattle.std.specs.Prelude.{is_some}
 use Rattle.std.proofs.lemmas.Bool.{cases_lt, le-leb, leb-true}
-use Rattle.std.proofs.lemmas.List.{get_or_default, length-append, length-set}
+use Rattle.std.proofs.lemmas.List.{get_or_read, length-append, length-set}
 use Rattle.std.proofs.lemmas.List.Sums.{count_by-le-length, sum_by-cons}
 use Rattle.ob_tables.specs.declared.entry.Entry.{Entry}
 use Rattle.ob_tables.specs.Table.{free_place, with_entry}
@@ -36,10 +36,6 @@ pub free_place-le : (t : List (Option Entry)) → free_place t ≤ length t
 free_place-le [] = omega arith
 free_place-le (None ∷ t) = omega arith
 free_place-le (Some x ∷ t) = omega (arith, free_place-le t)
-
-pub table_is : (ts : List (List (Option Entry))) (p : ℕ) (t : List (Option Entry)) → p < length ts → t ≡ get_or ts p t
-    → t ≡ table_of ts p
-table_is ts p t lt is = is ∙ get_or_default ts p t [] lt
 
 -- each table of the list is within the limit
 pub record AreShort (ts : List (List (Option Entry))) (m : ℕ) : Type 0 where
@@ -76,12 +72,12 @@ full_test ts p m short = (
 -- the same where `t` was read at `p`, and `n` is its least free place
 pub full_at : (ts : List (List (Option Entry))) (p m : ℕ) (t : List (Option Entry)) (n : ℕ) → AreShort ts m
     → p < length ts → t ≡ get_or ts p t → n ≡ free_place t → m ≤ n → entries_in (table_of ts p) ≡ m
-full_at ts p m t n short lt read is at = let same = ap free_place (table_is ts p t lt read) in
+full_at ts p m t n short lt read is at = let same = ap free_place (get_or_read ts p t lt read []) in
     is_full ts p m short (omega (arith, same))
 
 pub room_at : (ts : List (List (Option Entry))) (p m : ℕ) (t : List (Option Entry)) (n : ℕ) → AreShort ts m
     → p < length ts → t ≡ get_or ts p t → n ≡ free_place t → n < m → entries_in (table_of ts p) < m
-room_at ts p m t n short lt read is below = let same = ap free_place (table_is ts p t lt read) in
+room_at ts p m t n short lt read is below = let same = ap free_place (get_or_read ts p t lt read []) in
     has_room ts p m short (omega (arith, same))
 
 -- an entry below the limit keeps a table within it

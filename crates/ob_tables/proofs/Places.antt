@@ -57,7 +57,7 @@ placed_last taken t k e kept is past bound =
 pub kept_set : (taken taken' : List Bool) (t : List (Option Entry)) (k : ℕ) (x : Option Entry) → IsKept taken t
     → taken' ≡ set taken k (is_some x) → IsKept taken' (set t k x)
 kept_set taken taken' t k x kept is = record {
-  few = omega (arith, length-set t k x, kept.few);
+  at_most = omega (arith, length-set t k x, kept.at_most);
   same = is ∙ ap (λ (s : List Bool). set s k (is_some x)) kept.same ∙ sym (map-set is_some t k x);
 }
 
@@ -65,7 +65,7 @@ kept_set taken taken' t k x kept is = record {
 pub kept_changed : (taken : List Bool) (t : List (Option Entry)) (k : ℕ) (x : Option Entry) → IsKept taken t
     → is_some x ≡ is_some (get_or t k None) → IsKept taken (set t k x)
 kept_changed taken t k x kept is = record {
-  few = omega (arith, length-set t k x, kept.few);
+  at_most = omega (arith, length-set t k x, kept.at_most);
   same = kept.same ∙ sym (map-set_same is_some t k x None is);
 }
 
@@ -87,13 +87,7 @@ held_number taken t value e kept is =
     let within : place_of value < length t = found.within in
     ap (λ (s : List Bool). slice_get s (place_of value)) kept.same
     ∙ slice_get-get_or (map is_some t) (place_of value) false (omega (arith, length-map t is_some))
-    ∙ ap Some (get_or-map is_some t (place_of value) None ∙ ap is_some found.here)
-
--- a read of a place within the list
-pub read_at : (t : List (Option Entry)) (k : ℕ) (x : Option Entry) → k < length t → x ≡ get_or t k x → x ≡ at t k
-read_at [] k x lt is = absurd (omega arith)
-read_at (y ∷ t) zero x lt is = is
-read_at (y ∷ t) (suc k) x lt is = read_at t k x (omega arith) is
+    ∙ ap Some (get_or-map is_some t (place_of value) None ∙ ap is_some found.held_there)
 
 -- a number that stays as it is
 pub stays_taken : (taken : List Bool) (k : ℕ) → slice_get taken k ≡ Some true → taken ≡ set taken k true

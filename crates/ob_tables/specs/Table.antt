@@ -51,5 +51,5 @@ with_flags table value flags = slice_set table (place_of value) (flagged (entry_
 
 -- the numbers that are taken are those of the places with an entry, and there are few places
 pub record IsKept (taken : List Bool) (places : List (Option Entry)) : Type 0 where
-  pub few : length places ≤ 16384
+  pub at_most : length places ≤ 16384
   pub same : taken ≡ map is_some places

@@ -70,7 +70,7 @@ impl Table {
     /// The places, each with its entry or with none.
     pub(crate) fn places(&self) -> &[Option<Entry>]
         ensures places { result.now ≡ self.now }
-        ensures few { length result.now ≤ HANDLES_MAX }
+        ensures at_most { length result.now ≤ HANDLES_MAX }
     {
         self.places.as_slice()
     }

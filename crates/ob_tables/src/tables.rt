@@ -255,7 +255,7 @@ impl Tables {
     pub fn entries(&self, process: u32) -> &[Option<Entry>]
         requires { process < length self.now.tables }
         ensures places { result.now ≡ table_of self.now.tables process }
-        ensures few { length result.now ≤ HANDLES_MAX }
+        ensures at_most { length result.now ≤ HANDLES_MAX }
     {
         self.tables[process as usize].places()
     }

@@ -49,7 +49,7 @@ pub tracked_came : (limit : ℕ) (ws : List (Option Wait)) (r r' : Roster) (w : 
     → IsTracked limit (ws ++ Some w ∷ []) r'
 tracked_came limit ws r r' w some below waitable alone k right ordered named = record {
   limit_fits = k.limit_fits;
-  few = omega (arith, length_push ws (Some w));
+  at_most = omega (arith, length_push ws (Some w));
   zero_has_none = get_or_append_left ws (Some w ∷ []) None 0 (omega arith) ∙ k.zero_has_none;
   kept = record {
     each = by_number ws w (λ m x. WaitWaitable x) (λ m lt. k.kept.each m) waitable (λ m past. tt);

@@ -3,6 +3,7 @@ use Rattle.std.proofs.Common.{◌≡◌, ◌≢◌, ◌⊎◌, ℕ, ◌+◌, ◌
 use Rattle.std.specs.Prelude.{IfSome}
 use Rattle.std.proofs.lemmas.List.{length-set, get_or_past, get_or_push, get_or-set_same, get_or-set_other}
 use Rattle.std.proofs.lemmas.Bool.{cases_eq, cases_lt}
+use Rattle.std.proofs.lemmas.Option.{IfSome_then}
 use Rattle.least_free.specs.From.{IsAtMost, IsLeastFrom}
 use Rattle.ob_waits.specs.declared.wait.Wait.{Wait}
 use Rattle.ob_waits.specs.declared.wait.State.{State}
@@ -13,16 +14,7 @@ use Rattle.ob_waits.specs.Waits.{answered, is_pending}
 use Rattle.ob_waits.proofs.AddedLaws.{by_number}
 use Rattle.ob_waits.proofs.Keeping.{Fade}
 use Rattle.ob_waits.proofs.NumberLaws.{last_most, within_left, within_last}
-use Rattle.ob_waits.proofs.TrackedLaws.{fade_answered, no_wait}
-
--- no waits
-pub told_none : AreTold (None ∷ []) (record { fresh = []; late = [] })
-told_none = record {
-  rising = tt;
-  late = λ t n h. absurd (cc (h));
-  each = λ t n apart own. absurd (let e = ap thread_of (no_wait n) in let o = own.0 in cc (e, o));
-  placed = λ t n own. absurd (let e = ap thread_of (no_wait n) in cc (e, own));
-}
+use Rattle.ob_waits.proofs.TrackedLaws.{fade_answered}
 
 -- the same waits, and more room
 pub told_room : {ws : List (Option Wait)} {u u' : Untaken} → u'.fresh ≡ u.fresh
@@ -248,11 +240,10 @@ least_told ws u after first second result told passes above least passes' above'
         (sym e) passes
     | inr e ↦ subst (λ x. IfSome x (λ n. is_answered (get_or ws n None) ≡ true)) (sym e) passes'
   ];
-  above = from result (elim either [
+  above = IfSome_then result (elim either [
     | inl e ↦ subst (λ x. IfSome x (λ n. after < n)) (sym e) above
-    | inr e ↦
-        subst (λ x. IfSome x (λ n. after < n)) (sym e) above'
-  ]);
+    | inr e ↦ subst (λ x. IfSome x (λ n. after < n)) (sym e) above'
+  ]) (λ n h. omega (arith, h));
   least = λ n le own.
       let thread = answered_thread (get_or ws n None) own in
       elim (told.each thread.0 n (λ e. cc (e)) thread.1) [
@@ -262,10 +253,6 @@ least_told ws u after first second result told passes above least passes' above'
             lesser' n (least' thread.0 n at (omega (arith, le)))
       ];
 }
-  where
-    from : (x : Option ℕ) → IfSome x (λ n. after < n) → IfSome x (λ n. after + 1 ≤ n)
-    from None h = tt
-    from (Some n) h = omega (arith, h)
 
 -- what is above the last of numbers that rise is above them all
 pub above_all : (ns : List ℕ) (m : ℕ) → (0 < length ns → get_or ns (length ns - 1) 0 < m) → IsRising ns → (k : ℕ)

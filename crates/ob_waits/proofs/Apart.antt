@@ -1,8 +1,10 @@
 -- A wait is ready or not by the bodies of the slots that it names; so after a change in some slots, only waits that
 -- name one can become ready.
-use Rattle.std.proofs.Common.{◌≡◌, ℕ, zero, suc, ◌<◌, List, [], ◌∷◌, length, Option, Some, None, refl, ap, ◌∙◌, sym, arith, get_or, set, Bool, true, false, eqb, ltb}
+use Rattle.std.proofs.Common.{◌≡◌, ℕ, ◌<◌, List, [], ◌∷◌, length, Option, Some, None, refl, ap, ◌∙◌, sym, arith, get_or, set, Bool, true, eqb, ltb}
 use Rattle.std.specs.List.{position_or_len, list_any, list_all}
+use Rattle.std.proofs.lemmas.Bool.{eq-eqb, true_from_ne_false}
 use Rattle.std.proofs.lemmas.Bool.Decides.{nat_tests}
+use Rattle.std.proofs.lemmas.List.Folds.{list_any_at}
 use Rattle.std.proofs.lemmas.List.{get_or-set_other}
 use Rattle.pin_core.specs.declared.id.Id.{Id}
 use Rattle.ob_body.specs.declared.body.Body.{Body}
@@ -25,9 +27,7 @@ named_later : (k : ℕ) (x : Id) (xs : List Id) → list_any (in_slot k) xs ≡ 
 named_later k x xs h = grind (arith, h)
 
 pub named_at : (ids : List Id) (i : ℕ) → i < length ids → list_any (in_slot (get_or ids i nowhere).slot) ids ≡ true
-named_at [] i lt = absurd (omega arith)
-named_at (x ∷ xs) zero lt = named_first x xs
-named_at (x ∷ xs) (suc i) lt = named_later (get_or xs i nowhere).slot x xs (named_at xs i (omega arith))
+named_at ids i lt = let k = (get_or ids i nowhere).slot in list_any_at (in_slot k) ids i nowhere lt (eq-eqb k k refl)
 
 -- tests that agree on the objects of a list agree on the list
 module _ (p q : Id → Bool) where
@@ -85,15 +85,11 @@ pub ready_same : (bodies after : List (Option Body)) (w : Option Wait)
 ready_same bodies after None same = refl
 ready_same bodies after (Some w) same = state_same bodies after w.thread w.state same
 
-not_false : (b : Bool) → (b ≡ false → ⊥) → b ≡ true
-not_false true h = refl
-not_false false h = absurd (h refl)
-
 -- The theorem: where no wait was ready and one slot changed, each wait that is ready names the slot.
 pub ready_named : (bodies : List (Option Body)) (waits : List (Option Wait)) (k : ℕ) (x : Option Body)
     → IsSettled bodies waits → (n : ℕ) → is_ready (set bodies k x) (get_or waits n None) ≡ true
     → names_slot k (get_or waits n None) ≡ true
-ready_named bodies waits k x settled n ready = not_false _ (λ none.
+ready_named bodies waits k x settled n ready = true_from_ne_false _ (λ none.
     let e = ready_same bodies (set bodies k x) (get_or waits n None)
     (λ j named. get_or-set_other bodies k j x None (λ same. let h : names_slot k (get_or waits n None) ≡ true =
     ap (λ i. names_slot i (get_or waits n None)) (sym same) ∙ named in absurd (cc (h, none)))) in

@@ -24,6 +24,15 @@ module _ {A : Type 0} (f : Option A → ℕ) (none : f None ≡ 0) where
   sum_zero [] h = refl
   sum_zero (x ∷ xs) h = sum_by-cons f x xs ∙ (let a = h 0 in let b = sum_zero xs (λ n. h (suc n)) in omega arith)
 
+  -- an element is replaced by one that counts nothing
+  pub sum_cleared : (xs : List (Option A)) (n : ℕ) (x : Option A) → f x ≡ 0
+      → sum_by f (set xs n x) + f (get_or xs n None) ≡ sum_by f xs
+  sum_cleared xs n x zero = elim (cases_lt n (length xs)) [
+    | inl lt ↦ (let e = sum_by-set f xs n x None lt in omega (arith, e, zero))
+    | inr past ↦ (let e = ap (sum_by f) (set_past xs n x past) in let z = ap f (get_or_past xs n None past) in
+        omega (arith, e, z, none))
+  ]
+
   -- numbers that rise and have each place that counts sum up to the whole
   pub sum_numbers : (ns : List ℕ) (xs : List (Option A)) → IsRising ns
       → ((n : ℕ) → 0 < f (get_or xs n None) → Within n ns) → sum_by (λ n. f (get_or xs n None)) ns ≡ sum_by f xs
@@ -36,7 +45,7 @@ module _ {A : Type 0} (f : Option A → ℕ) (none : f None ≡ 0) where
       sum_by-cons (λ n. f (get_or xs n None)) m ns
       ∙ (let a = sum_same (λ n. f (get_or xs n None)) (λ n. f (get_or (set xs m None) n None)) ns apart in
       let b = sum_numbers ns (set xs m None) rising.1 rest in
-      omega (arith, a, b, without))
+      let c = sum_cleared xs m None none in omega (arith, a, b, c))
     where
       apart : (k : ℕ) → Within k ns → f (get_or xs k None) ≡ f (get_or (set xs m None) k None)
       apart k i = ap f (sym (get_or-set_other xs m k None None (λ e. let lt = rising.0 k i in omega arith)))
@@ -53,13 +62,6 @@ module _ {A : Type 0} (f : Option A → ℕ) (none : f None ≡ 0) where
               | inl same ↦ absurd (other same)
               | inr in' ↦ in'
             ]
-      ]
-
-      without : f (get_or xs m None) + sum_by f (set xs m None) ≡ sum_by f xs
-      without = elim (cases_lt m (length xs)) [
-        | inl lt ↦ (let e = sum_by-set f xs m None None lt in omega (arith, e, none))
-        | inr past ↦ (let e = ap (sum_by f) (set_past xs m None past) in let z = ap f (get_or_past xs m None past) in
-            omega (arith, e, z, none))
       ]
 
 ordered_below : (low m : ℕ) (ns : List ℕ) → IsRising ns → ((k : ℕ) → Within k ns → low ≤ k)

@@ -2,10 +2,10 @@
 use Rattle.std.proofs.Common.{◌≡◌, ℕ, ◌+◌, ◌*◌, ◌<◌, ◌≤◌, List, [], ◌∷◌, ◌++◌, length, Option, Some, None, refl, ap, ◌∙◌, sym, subst, arith, get_or, set, map, Bool, true, false, cond, inl, inr}
 use Rattle.std.specs.Prelude.{count_by, sum_by, ◌==◌}
 use Rattle.std.specs.List.{list_any}
-use Rattle.std.proofs.lemmas.List.{length-set, length-map, get_or_past, get_or-set_same, get_or-set_other, get_or-map, set_past, ext_get_or}
+use Rattle.std.proofs.lemmas.List.{length-set, length-map, get_or_past, get_or-set_same, get_or-set_other, get_or-map, ext_get_or}
 use Rattle.std.proofs.lemmas.List.Elements.{All-from_get_or}
 use Rattle.std.proofs.lemmas.List.Quantifiers.{position-Some}
-use Rattle.std.proofs.lemmas.List.Sums.{sum_by-cons, sum_by-set, sum_by-append, sum_by-le, get_or-le-sum_by, count_by-le-length}
+use Rattle.std.proofs.lemmas.List.Sums.{sum_by-cons, sum_by-append, sum_by-le, get_or-le-sum_by, count_by-le-length}
 use Rattle.std.proofs.lemmas.Bool.{cases_eq, cases_lt, false_from_ne_true}
 use Rattle.std.proofs.lemmas.Bool.Decides.{nat_tests}
 use Rattle.pin_core.specs.Holds.{same_id}
@@ -16,31 +16,23 @@ use Rattle.ob_waits.specs.declared.wait.State.{State}
 use Rattle.ob_waits.specs.declared.wait.State.TheVariants.{Pending, Answered}
 use Rattle.ob_waits.specs.Rules.{thread_of, IsKept, WaitWaitable, StateWaitable}
 use Rattle.ob_waits.specs.Waits.{nowhere, new_wait, answered, ids_of, state_ids, names_slot, slot_places, slot_blocks, blocks_in, blocks_among, code_at, state_code, Scene, is_ready, effect, settled, answered_wait, number_of, numbered_ids, thread_ids, is_waits_of, unless_of}
+use Rattle.ob_waits.proofs.BlockLaws.{sum_cleared}
 use Rattle.ob_waits.proofs.Settling.{answers, settled_by_effects}
 use Rattle.ob_waits.proofs.TrackedLaws.{thread_waits, waits_thread, no_number}
 
 -- a sum over the waits
-module _ (f : Option Wait → ℕ) (none : f None ≡ 0) where
-  sum_added : (ws : List (Option Wait)) (w : Option Wait) → sum_by f (ws ++ w ∷ []) ≡ sum_by f ws + f w
-  sum_added ws w = let a = sum_by-append f ws (w ∷ []) in let b = sum_by-cons f w [] in omega (arith, a, b)
-
-  -- a wait is replaced by one that counts nothing
-  sum_cleared : (ws : List (Option Wait)) (n : ℕ) (x : Option Wait) → f x ≡ 0
-      → sum_by f (set ws n x) + f (get_or ws n None) ≡ sum_by f ws
-  sum_cleared ws n x zero = elim (cases_lt n (length ws)) [
-    | inl lt ↦ (let e = sum_by-set f ws n x None lt in omega (arith, e, zero))
-    | inr past ↦ (let e = ap (sum_by f) (set_past ws n x past) in let z = ap f (get_or_past ws n None past) in
-        omega (arith, e, z, none))
-  ]
+sum_added : (f : Option Wait → ℕ) (ws : List (Option Wait)) (w : Option Wait)
+    → sum_by f (ws ++ w ∷ []) ≡ sum_by f ws + f w
+sum_added f ws w = let a = sum_by-append f ws (w ∷ []) in let b = sum_by-cons f w [] in omega (arith, a, b)
 
 -- a wait becomes pending
 pub slot_added : (k : ℕ) (ws : List (Option Wait)) (t : ℕ) (mode : Mode) (ids : List Id) (d : Option ℕ)
     → slot_blocks k (ws ++ Some (new_wait t mode ids d) ∷ []) ≡ slot_blocks k ws + slot_places k ids
-slot_added k ws t mode ids d = sum_added (λ w. slot_places k (ids_of w)) refl ws (Some (new_wait t mode ids d))
+slot_added k ws t mode ids d = sum_added (λ w. slot_places k (ids_of w)) ws (Some (new_wait t mode ids d))
 
 pub blocks_added : (id : Id) (ws : List (Option Wait)) (t : ℕ) (mode : Mode) (ids : List Id) (d : Option ℕ)
     → blocks_among id (ws ++ Some (new_wait t mode ids d) ∷ []) ≡ blocks_among id ws + count_by (same_id id) ids
-blocks_added id ws t mode ids d = sum_added (blocks_in id) refl ws (Some (new_wait t mode ids d))
+blocks_added id ws t mode ids d = sum_added (blocks_in id) ws (Some (new_wait t mode ids d))
 
 -- a wait is answered without taking anything
 no_ids : (w : Option Wait) (code : ℕ) → ids_of (answered w code) ≡ []
@@ -175,7 +167,7 @@ few_places k (Some w) h = by w.state h
   where
     by : (st : State) → StateWaitable st → slot_places k (state_ids st) ≤ 64
     by (Pending mode ids) waitable = let le = count_by-le-length (λ (id : Id). id.slot == k) ids in
-        let few = waitable.few in omega (arith, le, few)
+        let few = waitable.at_most in omega (arith, le, few)
     by (Answered code) waitable = omega arith
 
 pub slot_blocks-few : (k : ℕ) (ws : List (Option Wait)) → IsKept ws → slot_blocks k ws ≤ length ws * 64

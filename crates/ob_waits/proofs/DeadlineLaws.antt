@@ -1,8 +1,9 @@
 -- Deadlines go on being ahead and listed while waits come, are answered and go, and the code finds those that are over.
-use Rattle.std.proofs.Common.{◌≡◌, ◌⊎◌, ℕ, zero, suc, ◌++◌, ◌∷◌, [], ◌<◌, ◌≤◌, List, length, Option, Some, None, refl, ap, ◌∙◌, sym, subst, arith, get_or, set, Bool, true, false, inl, inr}
+use Rattle.std.proofs.Common.{◌≡◌, ◌⊎◌, ℕ, ◌++◌, ◌∷◌, [], ◌<◌, ◌≤◌, List, length, Option, Some, None, refl, ap, ◌∙◌, sym, subst, arith, get_or, set, Bool, true, false, inl, inr}
 use Rattle.std.specs.Prelude.{IfSome, is_some, map}
-use Rattle.std.proofs.lemmas.List.{length-map, get_or_past, get_or-set_same, get_or-set_other, get_or-map}
-use Rattle.std.proofs.lemmas.Bool.{cases_eq, cases_lt}
+use Rattle.std.proofs.Math.ListN.{get_or-map}
+use Rattle.std.proofs.lemmas.List.{get_or-set_same, get_or-set_other}
+use Rattle.std.proofs.lemmas.Bool.{cases_eq}
 use Rattle.std.proofs.lemmas.Bool.Decides.{nat_tests}
 use Rattle.least_due.specs.Dues.{IsLeast, NotAfter}
 use Rattle.ob_body.specs.Timer.{is_due}
@@ -19,7 +20,7 @@ use Rattle.ob_waits.specs.Waits.{Scene, is_pending, new_wait, number_of, settled
 use Rattle.ob_waits.proofs.AddedLaws.{by_number}
 use Rattle.ob_waits.proofs.Keeping.{Fade}
 use Rattle.ob_waits.proofs.Staying.{settled_stays}
-use Rattle.ob_waits.proofs.TrackedLaws.{no_number}
+use Rattle.ob_waits.proofs.TrackedLaws.{no_number, no_wait}
 use Rattle.ob_waits.proofs.Writes.{set_at}
 
 -- a wait is what it was, or has no deadline any more
@@ -79,12 +80,9 @@ timely_removed clock ws n dues timely = timely_by clock ws (set ws n None) dues
 pub timely_none : AreTimely 0 (None ∷ []) []
 timely_none = record {
   moment = omega arith;
-  ahead = record { each = λ n. subst (λ (w : Option Wait). IsAfter 0 (deadline_of w)) (sym (none n)) tt };
-  listed = record { each = λ n t d own due. absurd (let e = ap thread_of (none n) in cc (e, own)) };
+  ahead = record { each = λ n. subst (λ (w : Option Wait). IsAfter 0 (deadline_of w)) (sym (no_wait n)) tt };
+  listed = record { each = λ n t d own due. absurd (let e = ap thread_of (no_wait n) in cc (e, own)) };
 }
-  where
-    none : (n : ℕ) → get_or {A = Option Wait} (None ∷ []) n None ≡ None
-    none n = elim n as (λ n. get_or {A = Option Wait} (None ∷ []) n None ≡ None) [ zero ↦ refl | suc n ↦ refl ]
 
 -- a wait comes, of a thread that had none, whose deadline is listed where it is pending
 pub timely_came : (clock : ℕ) (ws : List (Option Wait)) (w : Wait) (dues dues' : List (Option ℕ))
@@ -153,14 +151,6 @@ due_too now due dues None is soon other = absurd (other.first is.stands.0 due is
 due_too now due dues (Some moment) is soon other = let before : moment ≤ due =
     other.first is.stands.0 due is.stands.1 in grind (arith, nat_tests, before, soon)
 
--- the least deadline: of the waits, where it is that of a pending one
-deadline_at : (ws : List (Option Wait)) (n : ℕ) → get_or (map deadline_of ws) n None ≡ deadline_of (get_or ws n None)
-deadline_at ws n = elim (cases_lt n (length ws)) [
-  | inl lt ↦ get_or-map deadline_of ws n None None lt
-  | inr past ↦ get_or_past (map deadline_of ws) n None (omega (arith, length-map ws deadline_of, past))
-      ∙ sym (ap deadline_of (get_or_past ws n None past))
-]
-
 -- what is listed for a deadline that some wait has
 listed_at : (ws : List (Option Wait)) (dues : List (Option ℕ)) (n d : ℕ) → AreListed ws dues
     → deadline_of (get_or ws n None) ≡ Some d → (t : ℕ) × (get_or dues t None ≡ Some d)
@@ -172,7 +162,8 @@ listed_at ws dues n d listed is = by (get_or ws n None) refl
 
 not_before_least : (ws : List (Option Wait)) (dues : List (Option ℕ)) (least : Option ℕ) → AreListed ws dues
     → IsLeast dues least → (n d : ℕ) → get_or (map deadline_of ws) n None ≡ Some d → NotAfter least d
-not_before_least ws dues least listed is n d at = let there = listed_at ws dues n d listed (sym (deadline_at ws n) ∙ at)
+not_before_least ws dues least listed is n d at = let there = listed_at ws dues n d listed
+    (sym (get_or-map deadline_of ws n None) ∙ at)
     in is.first there.0 d there.1
 
 pub least_none : (ws : List (Option Wait)) (dues : List (Option ℕ)) → AreListed ws dues → IsLeast dues None
@@ -193,9 +184,10 @@ least_deadline ws dues n due listed is over = record {
     by (Some d) at =
         let soon : is_due due (Some d) ≡ true = ap (is_due due) (sym at) ∙ over in
         let early : d ≤ due = grind (arith, nat_tests, soon) in
-        let late : due ≤ d = not_before_least ws dues (Some due) listed is n d (deadline_at ws n ∙ at) in
+        let late : due ≤ d = not_before_least ws dues (Some due) listed is n d
+        (get_or-map deadline_of ws n None ∙ at) in
         let same : d ≡ due = omega (arith, early, late) in
-        (n, deadline_at ws n ∙ at ∙ ap Some same)
+        (n, get_or-map deadline_of ws n None ∙ at ∙ ap Some same)
 
 pub least_overdue : (ws : List (Option Wait)) (dues : List (Option ℕ)) (n : Option ℕ) (due : ℕ) → AreListed ws dues
     → IsLeast dues (Some due) → is_some n ≡ true → IfSome n (λ m. is_overdue due (get_or ws m None) ≡ true)

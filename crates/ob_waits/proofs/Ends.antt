@@ -14,45 +14,25 @@ use Rattle.ob_waits.specs.Objects.{Objects, slot_acquired, bodies_left, blocks_l
 use Rattle.ob_waits.specs.Rules.{HasBodies}
 use Rattle.ob_waits.specs.Waits.{nowhere, first_signaled, with_acquired, with_all_acquired, bodies_after, Scene, effect_of, effect_at, settled}
 use Rattle.ob_waits.proofs.Settling.{settled_by_effects}
+use Rattle.ob_waits.proofs.EachSlot.{slots-taken}
 use Rattle.ob_waits.proofs.References.{left_one}
-use Rattle.ob_waits.proofs.Writes.{set_at, set_none}
+use Rattle.ob_waits.proofs.Writes.{set_none}
 
--- the same slots have a body
-pub record SameSlots (bodies after : List (Option Body)) : Type 0 where
-  pub each : (k : ℕ) → is_some (get_or after k None) ≡ is_some (get_or bodies k None)
+-- a slot has a body exactly where it had one
+abbrev HasStill : Option Body → Option Body → Type 0
+HasStill x y = is_some y ≡ is_some x
 
--- one body changed
-pub same_set : (bodies : List (Option Body)) (i : ℕ) (x : Option Body) → is_some x ≡ is_some (get_or bodies i None)
-    → SameSlots bodies (set bodies i x)
-same_set bodies i x same = record {
-  each = λ k. set_at (λ y. is_some y ≡ is_some (get_or bodies k None)) bodies i k x None
-      (λ here. same ∙ ap (λ j. is_some (get_or bodies j None)) (sym here)) refl;
-}
-
-same_slot : (t : ℕ) (x : Option Body) → is_some (slot_acquired t x) ≡ is_some x
-same_slot t None = refl
-same_slot t (Some b) = refl
-
-same_one : (t : ℕ) (bodies : List (Option Body)) (id : Id) → SameSlots bodies (with_acquired t bodies id)
-same_one t bodies id = same_set bodies id.slot (slot_acquired t (get_or bodies id.slot None))
-    (same_slot t (get_or bodies id.slot None))
-
-same_all : (t : ℕ) (ids : List Id) (bodies : List (Option Body)) → SameSlots bodies (with_all_acquired t bodies ids)
-same_all t [] bodies = record { each = λ k. refl }
-same_all t (id ∷ ids) bodies =
-    let one = same_one t bodies id in
-    let more = same_all t ids (with_acquired t bodies id) in
-    record { each = λ k. more.each k ∙ one.each k }
+has_still : (t : ℕ) (x : Option Body) → HasStill x (slot_acquired t x)
+has_still t None = refl
+has_still t (Some b) = refl
 
 -- a thread took what it waits for
-pub same_after : (mode : Mode) (t : ℕ) (bodies : List (Option Body)) (ids : List Id)
-    → SameSlots bodies (bodies_after mode t bodies ids)
-same_after Any t bodies ids = same_one t bodies (get_or ids (first_signaled t bodies ids) nowhere)
-same_after All t bodies ids = same_all t ids bodies
-
-pub ends_taken : (objects : Objects) (after : List (Option Body)) → SameSlots objects.bodies after → HasBodies objects
-    → HasBodies (record objects { bodies = after })
-ends_taken objects after same has = record { each = λ k. same.each k ∙ has.each k }
+ends_taken : (mode : Mode) (t : ℕ) (ids : List Id) (objects : Objects) → HasBodies objects
+    → HasBodies (record objects { bodies = bodies_after mode t objects.bodies ids })
+ends_taken mode t ids objects has = record {
+  each = λ k. slots-taken HasStill (λ x. refl) (λ x y z a b. b ∙ a) t (has_still t) mode ids objects.bodies k
+      ∙ has.each k;
+}
 
 -- a block leaves, and with the last one the body
 pub body_left : (objects : Objects) (id : Id) (k : ℕ) →
@@ -125,9 +105,8 @@ ends_all (id ∷ ids) objects has = ends_all ids (without_block objects id) (end
 ends_of : (scene : Scene) (n : ℕ) (w : Wait) (st : State) → HasBodies scene.objects
     → HasBodies (effect_of scene n w st).objects
 ends_of scene n w (Pending mode ids) has =
-    let after = bodies_after mode w.thread scene.objects.bodies ids in
-    ends_all ids (record scene.objects { bodies = after })
-    (ends_taken scene.objects after (same_after mode w.thread scene.objects.bodies ids) has)
+    ends_all ids (record scene.objects { bodies = bodies_after mode w.thread scene.objects.bodies ids })
+    (ends_taken mode w.thread ids scene.objects has)
 ends_of scene n w (Answered code) has = has
 
 ends_at : (scene : Scene) (n : ℕ) (w : Option Wait) → HasBodies scene.objects → HasBodies (effect_at scene n w).objects

@@ -1,9 +1,9 @@
 -- The lists of the slots, where one of them changes.
-use Rattle.std.proofs.Common.{◌≡◌, ℕ, ◌<◌, List, [], length, Option, ◌∙◌, sym, subst, get_or, set}
-use Rattle.std.proofs.lemmas.List.{get_or_default}
+use Rattle.std.proofs.Common.{◌≡◌, ℕ, ◌<◌, List, [], length, Option, sym, subst, get_or, set}
+use Rattle.std.proofs.lemmas.List.{get_or_read}
 use Rattle.ob_waits.specs.declared.wait.Wait.{Wait}
 use Rattle.ob_waits.specs.Rules.{Within}
-use Rattle.ob_waits.specs.Numbers.{IsOrdered, numbers_of, AreOrdered, Keeps, Thins, ThinsEach}
+use Rattle.ob_waits.specs.Numbers.{IsOrdered, numbers_of, AreOrdered, LosesNone, Thins, ThinsEach}
 use Rattle.ob_waits.proofs.NumberLaws.{thins_none, thins_both}
 use Rattle.ob_waits.proofs.Writes.{set_at}
 
@@ -21,7 +21,7 @@ thins_changed waits lists k new t = record {
 }
 
 pub keeps_changed : (lists : List (List ℕ)) (k : ℕ) (new : List ℕ)
-    → ((j : ℕ) → Within j (numbers_of lists k) → Within j new) → Keeps lists (set lists k new)
+    → ((j : ℕ) → Within j (numbers_of lists k) → Within j new) → LosesNone lists (set lists k new)
 keeps_changed lists k new h = record {
   each = list_changed (λ a b. (j : ℕ) → Within j a
       → Within j b) lists k new h (λ s j i. i);
@@ -34,18 +34,13 @@ lists_changed n lists k new numbers all = record {
       λ s. list_changed (λ a b. IsOrdered n a → IsOrdered n b) lists k new (λ h. numbers) (λ s h. h) s (all.each s);
 }
 
--- the numbers read at an index
-pub list_read : (lists : List (List ℕ)) (k : ℕ) (x : List ℕ) → x ≡ get_or lists k x → k < length lists
-    → x ≡ numbers_of lists k
-list_read lists k x is lt = is ∙ get_or_default lists k x [] lt
-
 -- a list was read, thinned and written back
 pub thins_there : {waits : List (Option Wait)} {lists seen : List (List ℕ)} {old new : List ℕ} (k : ℕ)
     → lists ≡ seen → old ≡ get_or lists k old → Thins waits old new → k < length lists
     → ThinsEach waits seen (set lists k new)
 thins_there {waits = waits} {lists = lists} {old = old} {new = new} k same is thins lt =
     subst (λ (from : List (List ℕ)). ThinsEach waits from (set lists k new)) same
-    (thins_changed waits lists k new (subst (λ r. Thins waits r new) (list_read lists k old is lt) thins))
+    (thins_changed waits lists k new (subst (λ r. Thins waits r new) (get_or_read lists k old lt is []) thins))
 
 pub thins_each_none : (waits : List (Option Wait)) (lists : List (List ℕ)) → ThinsEach waits lists lists
 thins_each_none waits lists = record { each = λ s. thins_none waits (numbers_of lists s) }

@@ -150,15 +150,6 @@ pub fits_passed : (limit : ℕ) (ns : List ℕ) (scene after : Scene) → after 
 fits_passed limit ns scene after is k = subst (λ (x : Scene). Fits limit x.objects.bodies x.waits) (sym is)
     (passed_fits limit ns scene k)
 
--- a pass over one number and then over the others
-pub passed_more : (n : ℕ) (ns : List ℕ) (scene : Scene) → passed ns (passed (n ∷ []) scene) ≡ passed (n ∷ ns) scene
-passed_more n ns scene = by (is_ready scene.objects.bodies (get_or scene.waits n None)) refl
-  where
-    by : (b : Bool) → is_ready scene.objects.bodies (get_or scene.waits n None) ≡ b
-        → passed ns (passed (n ∷ []) scene) ≡ passed (n ∷ ns) scene
-    by true ready = rw ready refl
-    by false ready = rw ready refl
-
 -- and so does settling
 pub settled_fits : (limit : ℕ) (scene : Scene) → Fits limit scene.objects.bodies scene.waits
     → Fits limit (settled scene).objects.bodies (settled scene).waits

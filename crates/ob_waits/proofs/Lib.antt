@@ -1,4 +1,5 @@
 pub mod Writes
+pub mod EachSlot
 pub mod Settling
 pub mod ListedLaws
 pub mod PlaceLaws
@@ -23,7 +24,7 @@ pub mod PassLaws
 pub mod MergeLaws
 pub mod SettleLaws
 pub mod DeadlineLaws
-pub mod LapseLaws
+pub mod TimedOutLaws
 pub mod AnswerLaws
 pub mod SkipLaws
 pub mod RowLaws

@@ -1,8 +1,7 @@
 -- What a list that a function gives has at each number, and how it changes with the function.
-use Rattle.std.proofs.Common.{◌≡◌, ℕ, zero, suc, ◌<◌, ◌≤◌, [], ◌∷◌, ◌++◌, length, Option, Some, None, refl, ap, ◌∙◌, sym, subst, arith, get_or, set, Bool, true, false, cond, inl, inr, eqb}
+use Rattle.std.proofs.Common.{◌≡◌, ℕ, zero, suc, ◌<◌, [], ◌∷◌, ◌++◌, length, Option, None, refl, ap, ◌∙◌, sym, arith, get_or, set, cond, inl, inr, eqb}
 use Rattle.std.proofs.lemmas.List.{length-set, length_push, set_past, get_or_past, get_or_push, get_or_append_left, get_or-set_same, get_or-set_other, ext_get_or}
-use Rattle.std.proofs.lemmas.Bool.{cases_eq, cases_lt}
-use Rattle.std.proofs.lemmas.Bool.Decides.{nat_tests}
+use Rattle.std.proofs.lemmas.Bool.{cases_eq, cases_lt, cond-false, cond-true, eq-eqb, ne_eqb}
 use Rattle.ob_waits.specs.Listed.{listed, IsSparse}
 
 module _ {A : Type 0} where
@@ -59,18 +58,10 @@ module _ {A : Type 0} where
   -- a map changed at one key
   apart : (f g : ℕ → Option A) (k : ℕ) (x : Option A) → ((q : ℕ) → g q ≡ cond (eqb k q) x (f q)) → (i : ℕ) → (i ≡ k → ⊥)
       → g i ≡ f i
-  apart f g k x changed i other = changed i ∙ by (eqb k i) refl
-    where
-      by : (b : Bool) → eqb k i ≡ b → cond b x (f i) ≡ f i
-      by true e = absurd (other (grind (arith, nat_tests, e)))
-      by false e = refl
+  apart f g k x changed i other = changed i ∙ cond-false (eqb k i) x (f i) (ne_eqb k i (λ e. other (sym e)))
 
   here : (f g : ℕ → Option A) (k : ℕ) (x : Option A) → ((q : ℕ) → g q ≡ cond (eqb k q) x (f q)) → g k ≡ x
-  here f g k x changed = changed k ∙ by (eqb k k) refl
-    where
-      by : (b : Bool) → eqb k k ≡ b → cond b x (f k) ≡ x
-      by true e = refl
-      by false e = absurd (grind (arith, nat_tests, e))
+  here f g k x changed = changed k ∙ cond-true (eqb k k) x (f k) (eq-eqb k k refl)
 
   pub listed_updated : (n : ℕ) (f g : ℕ → Option A) (k : ℕ) (x : Option A) → k < suc n
       → ((q : ℕ) → g q ≡ cond (eqb k q) x (f q)) → listed (suc n) g ≡ set (listed (suc n) f) k x
@@ -89,14 +80,3 @@ module _ {A : Type 0} where
   listed_inserted n k f g x is changed =
       ap (λ i. listed (suc i) g) is ∙ listed_more n f g x (ap g (sym is)
       ∙ here f g k x changed) (λ i other. apart f g k x changed i (λ e. other (e ∙ is)))
-
-  -- a number that has a value was given
-  pub is_given : (n : ℕ) (f : ℕ → Option A) (k : ℕ) (x : A) → f k ≡ Some x → IsSparse n f → (0 < k) × (k ≤ n)
-  is_given n f k x is s = (
-    elim (cases_eq k 0) [
-      | inl same ↦ absurd (let e : f 0 ≡ Some x = subst (λ i. f i ≡ Some x) same is in
-          let z = s.zero_has_none in cc (e, z))
-      | inr other ↦ omega arith
-    ],
-    elim (cases_lt n k) [ inl past ↦ absurd (let e = s.past_has_none k past in cc (e, is)) | inr le ↦ le ],
-  )

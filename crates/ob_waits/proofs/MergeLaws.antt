@@ -7,6 +7,7 @@ use Rattle.std.proofs.lemmas.Bool.Decides.{nat_tests}
 use Rattle.std.proofs.lemmas.Bool.{cases_eq, cases_lt, false_from_ne_true}
 use Rattle.pin_core.specs.declared.id.Id.{Id}
 use Rattle.least_free.specs.From.{IsAtMost}
+use Rattle.std.proofs.lemmas.List.Folds.{list_any_at}
 use Rattle.ob_waits.specs.Numbers.{IsNext, IsNextOf, numbers_of}
 use Rattle.ob_waits.specs.Objects.{slot_signaled}
 use Rattle.ob_waits.specs.Rules.{Within, IsRising, IsReadyAtOne, IsReadyBy, IsSettled}
@@ -14,7 +15,7 @@ use Rattle.ob_waits.specs.Roster.{AreIndexed}
 use Rattle.ob_waits.specs.Waits.{nowhere, Scene, has_slot, ids_of, is_ready, names_slot, passed, settled}
 use Rattle.ob_waits.proofs.Keeping.{passed_fades}
 use Rattle.ob_waits.proofs.Settling.{ready_pending}
-use Rattle.ob_waits.proofs.PassLaws.{any_from, by_passed, steps, unready}
+use Rattle.ob_waits.proofs.PassLaws.{by_passed, steps, unready}
 use Rattle.ob_waits.proofs.AddedLaws.{any_at}
 use Rattle.ob_waits.proofs.NumberLaws.{within_at}
 
@@ -104,7 +105,7 @@ module _ (last : ℕ) (lists : List (List ℕ)) (ids : List Id) (s : Scene) (r :
       let slot = (get_or (ids_of w) i nowhere).slot in
       let some = any_at (λ (id : Id). eqb id.slot slot) nowhere ids changed in
       let same : (get_or ids some.0 nowhere).slot ≡ slot = grind (arith, nat_tests, some.2) in
-      let named : names_slot slot w ≡ true = any_from (λ (id : Id). eqb id.slot slot) (ids_of w) i lt
+      let named : names_slot slot w ≡ true = list_any_at (λ (id : Id). eqb id.slot slot) (ids_of w) i nowhere lt
       (let e : eqb slot slot ≡ true = grind (arith, nat_tests) in e) in
       elim (is.least some.0 k some.1 (subst (λ j. Within k (numbers_of lists j)) (sym same) (r.listed slot k named))
       (r.above k ready)) [

@@ -134,7 +134,7 @@ module _ (p : ℕ → Bool) where
 
 -- from the end of a part backwards: what passes, of the numbers from a place on, stands before the rest
 pub record IsSifted (p : ℕ → Bool) (xs : List ℕ) (end at to : ℕ) (ys : List ℕ) : Type 0 where
-  pub long : length ys ≡ length xs
+  pub length_is : length ys ≡ length xs
   pub same : (i : ℕ) → i < at → get_or ys i 0 ≡ get_or xs i 0
   pub rest : drop to ys ≡ filter p (take (end - at) (drop at xs)) ++ drop end xs
 
@@ -156,7 +156,7 @@ module _ (p : ℕ → Bool) (xs : List ℕ) (end : ℕ) where
   sift_left j to ys lt le fails s =
       let own : get_or ys j 0 ≡ get_or xs j 0 = s.same j (omega arith) in
       record {
-        long = s.long;
+        length_is = s.length_is;
         same = λ i below. s.same i (omega (arith, below));
         rest = s.rest ∙ ap (λ (zs : List ℕ). zs ++ drop end xs) (sym (next false j lt le (ap p (sym own) ∙ fails)));
       }
@@ -165,10 +165,10 @@ module _ (p : ℕ → Bool) (xs : List ℕ) (end : ℕ) where
       → IsSifted p xs end (j + 1) to ys → IsSifted p xs end j (to - 1) (set ys (to - 1) (get_or ys j 0))
   sift_kept j to ys lt le below within passes s =
       let own : get_or ys j 0 ≡ get_or xs j 0 = s.same j (omega arith) in
-      let place : to - 1 < length ys = let e = s.long in omega (arith, e, below, within, le) in
+      let place : to - 1 < length ys = let e = s.length_is in omega (arith, e, below, within, le) in
       let more : to - 1 + 1 ≡ to = omega (arith, below) in
       record {
-        long = length-set ys (to - 1) (get_or ys j 0) ∙ s.long;
+        length_is = length-set ys (to - 1) (get_or ys j 0) ∙ s.length_is;
         same = λ i under. get_or-set_other ys (to - 1) i (get_or ys j 0) 0 (λ e. omega (arith, e, under, below))
             ∙ s.same i (omega (arith, under));
         rest = drop-set ys (to - 1) (get_or ys j 0) place ∙ ap (λ n. get_or ys j 0 ∷ drop n ys) more

@@ -3,8 +3,9 @@
 use Rattle.std.proofs.Common.{◌≡◌, ℕ, zero, suc, ◌+◌, ◌<◌, ◌≤◌, List, [], ◌∷◌, length, Option, Some, None, refl, ap, ◌∙◌, sym, subst, arith, drop, eqb, get_or, Bool, true, false, inl, inr}
 use Rattle.std.specs.List.{list_any}
 use Rattle.std.proofs.lemmas.List.{drop_all, drop_more}
+use Rattle.std.proofs.lemmas.List.Folds.{list_any_at}
 use Rattle.std.proofs.lemmas.List.Sums.{count_by-le-length, passes_at_first}
-use Rattle.std.proofs.lemmas.Bool.{cases_eq, cases_lt, false_from_ne_true}
+use Rattle.std.proofs.lemmas.Bool.{cases_eq, cases_lt, false_from_ne_true, true_from_ne_false}
 use Rattle.pin_core.specs.declared.id.Id.{Id}
 use Rattle.ob_body.specs.declared.body.Body.{Body}
 use Rattle.ob_waits.specs.declared.wait.Wait.{Wait}
@@ -112,18 +113,6 @@ covered_all ns i s past covers = settled_same s (record {
       (covers.each k ready));
 })
 
--- some element passes
-pub any_from : (p : Id → Bool) (xs : List Id) (i : ℕ) → i < length xs → p (get_or xs i nowhere) ≡ true
-    → list_any p xs ≡ true
-any_from p [] i lt h = absurd (omega arith)
-any_from p (x ∷ xs) zero lt h = grind (arith, h)
-any_from p (x ∷ xs) (suc i) lt h = let later : list_any p xs ≡ true = any_from p xs i (omega (arith, lt)) h in
-    grind (arith, later)
-
-not_false : (b : Bool) → (b ≡ false → ⊥) → b ≡ true
-not_false true h = refl
-not_false false h = absurd (h refl)
-
 module _ (changed : ℕ → Bool) (bodies : List (Option Body)) (ws : List (Option Wait))
     (by : IsReadyBy changed bodies ws) where
   -- a wait isn't ready where each changed slot that it names is signaled for its thread in vain
@@ -147,9 +136,9 @@ module _ (changed : ℕ → Bool) (bodies : List (Option Body)) (ws : List (Opti
   -- one that is ready names a slot that changed
   pub names_changed : (n : ℕ) → is_ready bodies (get_or ws n None) ≡ true
       → list_any (λ (id : Id). changed id.slot) (ids_of (get_or ws n None)) ≡ true
-  names_changed n ready = not_false _ (λ none.
+  names_changed n ready = true_from_ne_false _ (λ none.
       let un = unready n (λ t i own lt is. absurd (let some =
-      any_from (λ (id : Id). changed id.slot) (ids_of (get_or ws n None)) i lt is in cc (some, none))) in
+      list_any_at (λ (id : Id). changed id.slot) (ids_of (get_or ws n None)) i nowhere lt is in cc (some, none))) in
       cc (un, ready))
 
   -- where no changed slot has anything for who waits, all is settled

@@ -11,47 +11,48 @@ use Rattle.ob_codec.specs.Reading.{◌>>=◌, Fails, Gives, Read, given_at, item
 use Rattle.ob_codec.specs.Sparse.{fits_from, sparse_at, spread, spread_from}
 use Rattle.ob_codec.specs.Steps.{bind_ok, guard_passed, ok_is}
 use Rattle.ob_waits.specs.Rows.{built, rows_within, tested}
-use Rattle.ob_waits.specs.Spelling.{are_within, can_be, held_at, held_of, held_parts, is_within, row_at, wait_at, waits_at, with_rest}
+use Rattle.ob_waits.specs.Spelling.{are_within, can_be, numbered_at, numbered_of, numbered_parts, is_within, row_at, wait_at, waits_at, with_rest}
 use Rattle.ob_waits.specs.Waits.{WaitList}
-use Rattle.ob_waits.specs.declared.held.Held.{Held}
+use Rattle.ob_waits.specs.declared.numbered_wait.NumberedWait.{NumberedWait}
 use Rattle.ob_waits.specs.declared.wait.Wait.{Wait}
 
 -- rows that are read as waits with their numbers
-abbrev in_parts : Read (List Held) → Read (List (ℕ × Wait))
-in_parts read = read >>= λ (x : List Held × List ℕ). Ok (map held_parts x.0, x.1)
+abbrev in_parts : Read (List NumberedWait) → Read (List (ℕ × Wait))
+in_parts read = read >>= λ (x : List NumberedWait × List ℕ). Ok (map numbered_parts x.0, x.1)
 
-items_in_parts : (n : ℕ) (bytes : List ℕ) → in_parts (items_at held_at n bytes) ≡ items_at row_at n bytes
+items_in_parts : (n : ℕ) (bytes : List ℕ) → in_parts (items_at numbered_at n bytes) ≡ items_at row_at n bytes
 unfolding items_at
 items_in_parts zero bytes = refl
 items_in_parts (suc n) bytes = by (row_at bytes) (λ (rest : List ℕ). items_in_parts n rest)
   where
-    one : (a : ℕ × Wait) (r : Read (List Held))
-        → in_parts (r >>= λ (o : List Held × List ℕ). Ok (held_of a ∷ o.0, o.1))
+    one : (a : ℕ × Wait) (r : Read (List NumberedWait))
+        → in_parts (r >>= λ (o : List NumberedWait × List ℕ). Ok (numbered_of a ∷ o.0, o.1))
         ≡ (in_parts r >>= λ (o : List (ℕ × Wait) × List ℕ). Ok (a ∷ o.0, o.1))
     one a (Ok o) = refl
     one a (Err f) = refl
 
-    by : (r : Read (ℕ × Wait)) → ((rest : List ℕ) → in_parts (items_at held_at n rest) ≡ items_at row_at n rest)
-        → in_parts ((r >>= λ (a : (ℕ × Wait) × List ℕ). Ok (held_of a.0, a.1)) >>= λ
-        (first : Held × List ℕ). items_at held_at n first.1 >>= λ (o : List Held × List ℕ). Ok (first.0 ∷ o.0, o.1))
+    by : (r : Read (ℕ × Wait)) → ((rest : List ℕ) → in_parts (items_at numbered_at n rest) ≡ items_at row_at n rest)
+        → in_parts ((r >>= λ (a : (ℕ × Wait) × List ℕ). Ok (numbered_of a.0, a.1)) >>= λ
+        (first : NumberedWait × List ℕ). items_at numbered_at n first.1 >>= λ (o : List NumberedWait × List ℕ). Ok
+        (first.0 ∷ o.0, o.1))
         ≡ (r >>= λ (first : (ℕ × Wait) × List ℕ). items_at row_at n first.1 >>= λ (o : List (ℕ × Wait) × List ℕ). Ok
         (first.0 ∷ o.0, o.1))
     by (Err f) later = refl
-    by (Ok a) later = one a.0 (items_at held_at n a.1)
+    by (Ok a) later = one a.0 (items_at numbered_at n a.1)
         ∙ ap (λ (r : Read (List (ℕ × Wait))). r >>= λ (o : List (ℕ × Wait) × List ℕ). Ok (a.0 ∷ o.0, o.1)) (later a.1)
 
-pub list_in_parts : (bytes : List ℕ) → in_parts (list_at held_at bytes) ≡ list_at row_at bytes
+pub list_in_parts : (bytes : List ℕ) → in_parts (list_at numbered_at bytes) ≡ list_at row_at bytes
 unfolding list_at
 list_in_parts bytes = by (number_at w32 bytes)
   where
-    by : (r : Read ℕ) → in_parts (r >>= λ (n : ℕ × List ℕ). items_at held_at n.0 n.1)
+    by : (r : Read ℕ) → in_parts (r >>= λ (n : ℕ × List ℕ). items_at numbered_at n.0 n.1)
         ≡ (r >>= λ (n : ℕ × List ℕ). items_at row_at n.0 n.1)
     by (Err f) = refl
     by (Ok n) = items_in_parts n.0 n.1
 
-pub rows_in_parts : (r : Result (Vec Held Global) ReadFault) (bytes rest : List ℕ)
-    → Gives (λ rows. rows.items) r (list_at held_at bytes) rest
-    → Gives (λ rows. map held_parts rows.items) r (list_at row_at bytes) rest
+pub rows_in_parts : (r : Result (Vec NumberedWait Global) ReadFault) (bytes rest : List ℕ)
+    → Gives (λ rows. rows.items) r (list_at numbered_at bytes) rest
+    → Gives (λ rows. map numbered_parts rows.items) r (list_at row_at bytes) rest
 rows_in_parts (Ok rows) bytes rest is = sym (list_in_parts bytes) ∙ ap in_parts is
 rows_in_parts (Err Memory) bytes rest fails = tt
 rows_in_parts (Err (Text f)) bytes rest fails = sym (list_in_parts bytes) ∙ ap in_parts fails
@@ -133,16 +134,16 @@ module _ (threads slots : ℕ) where
           let above = le-leb (suc k) p.0 (omega (arith, low, other)) in
           more (and_from (leb (suc k) p.0) (ltb p.0 end && fits_from (suc p.0) end ps) above b.1)
 
-  pass_in_parts : (rows : List Held) → list_all (row_within threads slots) (map held_parts rows)
+  pass_in_parts : (rows : List NumberedWait) → list_all (row_within threads slots) (map numbered_parts rows)
       ≡ rows_within threads slots rows
   pass_in_parts [] = refl
   pass_in_parts (h ∷ rows) = ap (λ (z : Bool). is_within threads slots (Some h.wait) && z) (pass_in_parts rows)
 
 -- what comes of rows of which all threads and slots are below, or not
-within_is : (limit clock threads slots last : ℕ) (rows : List Held)
+within_is : (limit clock threads slots last : ℕ) (rows : List NumberedWait)
     → within threads slots (built limit clock last rows) ≡ cond (rows_within threads slots rows)
     (built limit clock last rows) (Err Value)
-within_is limit clock threads slots last rows = by (fits_from 0 (suc last) (map held_parts rows)) refl
+within_is limit clock threads slots last rows = by (fits_from 0 (suc last) (map numbered_parts rows)) refl
   where
     none : (c : Bool) → Err Value ≡ cond {A = Result WaitList TextFault} c (Err Value) (Err Value)
     none true = refl
@@ -155,25 +156,25 @@ within_is limit clock threads slots last rows = by (fits_from 0 (suc last) (map 
         (Err Value)) is
     to ws false c is = none c
 
-    by : (b : Bool) → fits_from 0 (suc last) (map held_parts rows) ≡ b
+    by : (b : Bool) → fits_from 0 (suc last) (map numbered_parts rows) ≡ b
         → within threads slots
-        (tested limit clock (cond b (Some (spread_from 0 (suc last) (map held_parts rows))) None))
+        (tested limit clock (cond b (Some (spread_from 0 (suc last) (map numbered_parts rows))) None))
         ≡ cond (rows_within threads slots rows)
-        (tested limit clock (cond b (Some (spread_from 0 (suc last) (map held_parts rows))) None)) (Err Value)
+        (tested limit clock (cond b (Some (spread_from 0 (suc last) (map numbered_parts rows))) None)) (Err Value)
     by false is = none (rows_within threads slots rows)
     by true is =
-        let ws = spread_from 0 (suc last) (map held_parts rows) in
+        let ws = spread_from 0 (suc last) (map numbered_parts rows) in
         to ws (can_be limit clock ws) (rows_within threads slots rows)
-        (places_pass threads slots 0 (suc last) (suc last) (map held_parts rows) (omega arith) is
+        (places_pass threads slots 0 (suc last) (suc last) (map numbered_parts rows) (omega arith) is
         ∙ pass_in_parts threads slots rows)
 
 -- what is read, so
-pub rows_read : (limit clock threads slots last : ℕ) (bytes between rest : List ℕ) (rows : List Held)
-    → number_at w32 bytes ≡ Ok (last, between) → list_at row_at between ≡ Ok (map held_parts rows, rest)
+pub rows_read : (limit clock threads slots last : ℕ) (bytes between rest : List ℕ) (rows : List NumberedWait)
+    → number_at w32 bytes ≡ Ok (last, between) → list_at row_at between ≡ Ok (map numbered_parts rows, rest)
     → waits_at limit clock threads slots bytes ≡ behind rest
     (cond (rows_within threads slots rows) (built limit clock last rows) (Err Value))
 rows_read limit clock threads slots last bytes between rest rows first second =
-    read_is limit clock threads slots last bytes between rest (map held_parts rows) first second
+    read_is limit clock threads slots last bytes between rest (map numbered_parts rows) first second
     ∙ ap (behind rest) (within_is limit clock threads slots last rows)
 
 -- or why nothing is

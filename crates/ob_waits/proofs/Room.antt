@@ -1,7 +1,7 @@
 -- The room that settling asks of the pending waits, while waits come and go and bodies change.
-use Rattle.std.proofs.Common.{◌≡◌, ℕ, ◌<◌, ◌≤◌, List, [], ◌∷◌, ◌++◌, length, Option, Some, None, refl, sym, subst, arith, get_or, set, Bool, true, false, inl, inr, map}
-use Rattle.std.proofs.lemmas.List.{length-map, get_or-map, get_or_past, get_or-set_other}
-use Rattle.std.proofs.lemmas.Bool.{cases_lt}
+use Rattle.std.proofs.Common.{◌≡◌, ℕ, ◌<◌, ◌≤◌, List, [], ◌∷◌, ◌++◌, length, Option, Some, None, refl, sym, subst, arith, get_or, set, Bool, true, false, map}
+use Rattle.std.proofs.Math.ListN.{get_or-map}
+use Rattle.std.proofs.lemmas.List.{get_or-set_other}
 use Rattle.ob_body.specs.declared.body.Body.{Body}
 use Rattle.ob_body.proofs.Effects.{room_at_more}
 use Rattle.pin_core.specs.declared.id.Id.{Id}
@@ -50,12 +50,8 @@ room_answered limit bodies ws n code r = room_replaced limit bodies ws n (answer
 pub room_dropped : (limit : ℕ) (bodies : List (Option Body)) (ws : List (Option Wait)) (t : ℕ)
     → WaitsHaveRoom limit bodies ws → WaitsHaveRoom limit bodies (map (unless_of t) ws)
 room_dropped limit bodies ws t r = record {
-  each = λ n. elim (cases_lt n (length ws)) [
-    | inl lt ↦ subst (λ y. WaitHasRoom limit bodies y) (sym (get_or-map (unless_of t) ws n None None lt))
-        (by (get_or ws n None) (is_waits_of t (get_or ws n None)) refl (r.each n))
-    | inr past ↦ subst (λ y. WaitHasRoom limit bodies y)
-        (sym (get_or_past (map (unless_of t) ws) n None (omega (arith, length-map ws (unless_of t))))) tt
-  ];
+  each = λ n. subst (WaitHasRoom limit bodies) (sym (get_or-map (unless_of t) ws n None))
+      (by (get_or ws n None) (is_waits_of t (get_or ws n None)) refl (r.each n));
 }
   where
     by : (w : Option Wait) (b : Bool) → is_waits_of t w ≡ b → WaitHasRoom limit bodies w

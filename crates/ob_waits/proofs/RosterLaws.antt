@@ -7,7 +7,7 @@ use Rattle.ob_waits.specs.declared.wait.Wait.{Wait}
 use Rattle.ob_waits.specs.declared.wait.State.{State}
 use Rattle.ob_waits.specs.declared.wait.State.TheVariants.{Pending, Answered}
 use Rattle.ob_waits.specs.Rules.{Within}
-use Rattle.ob_waits.specs.Numbers.{IsOrdered, numbers_of, AreOrdered, Keeps, Thins, ThinsEach}
+use Rattle.ob_waits.specs.Numbers.{IsOrdered, numbers_of, AreOrdered, LosesNone, Thins, ThinsEach}
 use Rattle.ob_waits.specs.Waits.{is_pending, state_pending, names_slot, state_ids}
 use Rattle.ob_waits.specs.Roster.{Roster, AreIndexed, IsRight, Leaves}
 use Rattle.ob_waits.proofs.NumberLaws.{ordered_thinned, all_thinned, thins_none}
@@ -67,7 +67,7 @@ module _ {waits : List (Option Wait)} {n : ℕ} {seen : Roster} {order : List �
       }
 
   pub index_ready : {entered : List ℕ} {thin new : List (List ℕ)} → AreIndexed waits entered index
-      → ThinsEach waits index thin → AreOrdered n new → Keeps thin new → AreIndexed waits entered new
+      → ThinsEach waits index thin → AreOrdered n new → LosesNone thin new → AreIndexed waits entered new
   index_ready {entered = entered} {thin = thin} {new = new} indexed ts lists keeps =
       let a = lists_thinned waits entered entered index thin (thins_none waits entered) ts indexed in
       record {

@@ -17,9 +17,9 @@ use Rattle.ob_codec.specs.SparseLaws.{length-spread}
 use Rattle.ob_codec.specs.Steps.{guard_passed}
 use Rattle.ob_waits.specs.Rows.{come, may_come, tested, with_row}
 use Rattle.ob_waits.specs.Rules.{thread_of}
-use Rattle.ob_waits.specs.Spelling.{can_be, held_parts, may_stand, one_each}
+use Rattle.ob_waits.specs.Spelling.{can_be, numbered_parts, may_stand, one_each}
 use Rattle.ob_waits.specs.Waits.{WaitList, is_full, is_waits_of, number_of, skipped}
-use Rattle.ob_waits.specs.declared.held.Held.{Held}
+use Rattle.ob_waits.specs.declared.numbered_wait.NumberedWait.{NumberedWait}
 use Rattle.ob_waits.specs.declared.wait.Wait.{Wait}
 use Rattle.ob_waits.proofs.SkipLaws.{get_skipped, length-skipped}
 use Rattle.ob_waits.proofs.TrackedLaws.{no_number, number_none, number_own}
@@ -52,9 +52,6 @@ fits_next k n last w ps le most = rw (le-leb k n le, lt-ltb n (suc last) (omega 
 -- a row comes next
 module _ (last n : ℕ) (ws : List (Option Wait)) (w : Wait) (ps : List (ℕ × Wait)) (some : 0 < n) (le : length ws ≤ n)
     (most : n ≤ last) where
-  more : List (Option Wait)
-  more = skipped (n - 1) ws ++ Some w ∷ []
-
   length-more : length (skipped (n - 1) ws ++ Some w ∷ []) ≡ suc n
   length-more = length_push (skipped (n - 1) ws) (Some w)
       ∙ (let l = length-skipped (n - 1) ws (omega (arith, le, some)) in omega (arith, l, some))
@@ -95,49 +92,6 @@ left_none last ws =
     let e : suc last - length ws ≡ last + 1 - length ws = omega arith in
     ap (λ (r : List (Option Wait)). Some (ws ++ r)) (spread_nothing (length ws) (suc last - length ws))
     ∙ ap (λ (j : ℕ). Some (ws ++ replicate j None)) e
-
--- waits of which number 0 has one
-not_first : (limit clock : ℕ) (w : Wait) (ws : List (Option Wait)) → can_be limit clock (Some w ∷ ws) ≡ false
-not_first limit clock w ws = by (leb (length (Some w ∷ ws)) (limit + 1))
-  where
-    by : (b : Bool) → ((b && false) && (list_all (may_stand clock) (Some w ∷ ws) && one_each (Some w ∷ ws))) ≡ false
-    by true = refl
-    by false = refl
-
--- at first no number has been given
-pub left_all : (limit clock last : ℕ) (ps : List (ℕ × Wait))
-    → tested limit clock (left last (None ∷ []) ps) ≡ tested limit clock (spread (last, ps))
-left_all limit clock last ps = ap
-    (λ (j : ℕ). tested limit clock (cond (fits_from 1 (suc last) ps) (Some (None ∷ spread_from 1 j ps)) None))
-    (let e : suc last - 1 ≡ last = omega arith in e) ∙ by ps
-  where
-    by : (ps : List (ℕ × Wait)) → tested limit clock
-        (cond (fits_from 1 (suc last) ps) (Some (None ∷ spread_from 1 last ps)) None) ≡ tested limit clock
-        (spread (last, ps))
-    by [] = refl
-    by ((zero, w) ∷ ps) =
-        to (fits_from 1 (suc last) ps)
-        ∙ sym (ap (λ (z : Bool). tested limit clock
-        (cond (z && fits_from 1 (suc last) ps) (Some (Some w ∷ spread_from 1 last ps)) None))
-        (lt-ltb 0 (suc last) (omega arith)))
-      where
-        to : (b : Bool) → tested limit clock None ≡ tested limit clock
-            (cond b (Some (Some w ∷ spread_from 1 last ps)) None)
-        to true = sym (ap (λ (c : Bool). cond c (Ok (record {
-          limit = limit;
-          waits = Some w ∷ spread_from 1 last ps;
-          clock = clock;
-        })) (Err Value)) (not_first limit clock w (spread_from 1 last ps)))
-        to false = refl
-    by ((suc n, w) ∷ ps) =
-        ap (λ (z : Bool). tested limit clock
-        (cond (z && (ltb (suc n) (suc last) && fits_from (suc (suc n)) (suc last) ps))
-        (Some (None ∷ spread_from 1 last ((suc n, w) ∷ ps))) None))
-        (le-leb 1 (suc n) (omega arith) ∙ sym (le-leb 0 (suc n) (omega arith)))
-        ∙ sym (ap (λ (z : Bool). tested limit clock
-        (cond (fits_from 0 (suc last) ((suc n, w) ∷ ps))
-        (Some (cond z (Some w ∷ spread_from 1 last ps) (None ∷ spread_from 1 last ((suc n, w) ∷ ps)))) None))
-        (ne_eqb (suc n) 0 (λ q. omega (arith, q))))
 
 -- a row that can't come is refused with all that stands behind it
 stands : (clock : ℕ) (w : Wait) (front back : List (Option Wait))
@@ -242,12 +196,12 @@ left_refused limit clock last n ws w ps some not_so = by (leb (length ws) n) (le
         cc (so, e))
 
 -- what is known of a row that can come
-pub record Comes (last : ℕ) (list : WaitList) (held : Held) : Type 0 where
+pub record Comes (last : ℕ) (list : WaitList) (held : NumberedWait) : Type 0 where
   pub above : length list.waits ≤ held.number
   pub most : held.number ≤ last
   pub alone : number_of held.wait.thread list.waits ≡ None
 
-pub comes : (last : ℕ) (list : WaitList) (held : Held) → may_come last list held ≡ true → Comes last list held
+pub comes : (last : ℕ) (list : WaitList) (held : NumberedWait) → may_come last list held ≡ true → Comes last list held
 comes last list held may = record {
   above = leb-true (length list.waits) held.number bounds.0;
   most = leb-true held.number last bounds.1;
@@ -276,7 +230,8 @@ alone_skipped last t ws none = number_none (skipped last ws) t
     (λ m own. no_number t ws m none (ap thread_of (sym (get_skipped last ws m)) ∙ own))
 
 -- a number is left for it
-pub not_full : (last : ℕ) (list : WaitList) (held : Held) → 0 < held.number → last ≤ list.limit → Comes last list held
+pub not_full : (last : ℕ) (list : WaitList) (held : NumberedWait) → 0 < held.number → last ≤ list.limit
+    → Comes last list held
     → is_full (record list { waits = skipped (held.number - 1) list.waits }) ≡ false
 not_full last list held some most c =
     let above = c.above in
@@ -286,17 +241,18 @@ not_full last list held some most c =
 
 -- the step of building: what is left comes to what it came to
 pub record Goes (last : ℕ) (list : WaitList) (ps : List (ℕ × Wait)) (total : Result WaitList TextFault) : Type 0 where
-  pub some : 0 < length list.waits
-  pub few : length list.waits ≤ last + 1
+  pub not_empty : 0 < length list.waits
+  pub at_most : length list.waits ≤ last + 1
   pub most : last ≤ list.limit
   pub rest : tested list.limit list.clock (left last list.waits ps) ≡ total
 
-pub goes_on : (last : ℕ) (list list' : WaitList) (held : Held) (ps : List (ℕ × Wait))
-    (total : Result WaitList TextFault) → come last list held ≡ Ok list' → Goes last list (held_parts held ∷ ps) total
+pub goes_on : (last : ℕ) (list list' : WaitList) (held : NumberedWait) (ps : List (ℕ × Wait))
+    (total : Result WaitList TextFault) → come last list held ≡ Ok list'
+    → Goes last list (numbered_parts held ∷ ps) total
     → Goes last list' ps total
 goes_on last list list' held ps total e goes = subst (λ (l : WaitList). Goes last l ps total) g.1 (record {
-  some = omega (arith, longer);
-  few = omega (arith, longer, most);
+  not_empty = omega (arith, longer);
+  at_most = omega (arith, longer, most);
   most = goes.most;
   rest = ap (tested list.limit list.clock)
       (sym (left_next last held.number list.waits held.wait ps some c.above c.most)) ∙ goes.rest;
@@ -312,13 +268,14 @@ goes_on last list list' held ps total e goes = subst (λ (l : WaitList). Goes la
     most = c.most
 
     some : 0 < held.number
-    some = let a = goes.some in let b = c.above in omega (arith, a, b)
+    some = let a = goes.not_empty in let b = c.above in omega (arith, a, b)
 
     longer : length (with_row list held).waits ≡ suc held.number
     longer = length-more last held.number list.waits held.wait ps some c.above c.most
 
-pub ends : (e : ReadFault) (last : ℕ) (list : WaitList) (held : Held) (ps : List (ℕ × Wait))
-    (total : Result WaitList TextFault) → Fails e (come last list held) → Goes last list (held_parts held ∷ ps) total
+pub ends : (e : ReadFault) (last : ℕ) (list : WaitList) (held : NumberedWait) (ps : List (ℕ × Wait))
+    (total : Result WaitList TextFault) → Fails e (come last list held)
+    → Goes last list (numbered_parts held ∷ ps) total
     → Fails e total
 ends Memory last list held ps total fails goes = tt
 ends (Text f) last list held ps total fails goes = by (may_come last list held) refl fails
@@ -326,7 +283,7 @@ ends (Text f) last list held ps total fails goes = by (may_come last list held) 
     by : (b : Bool) → may_come last list held ≡ b → cond b (Ok (with_row list held)) (Err Value) ≡ Err f → total ≡ Err f
     by true is e = absurd (cc (e))
     by false is e = sym goes.rest
-        ∙ left_refused list.limit list.clock last held.number list.waits held.wait ps goes.some is ∙ e
+        ∙ left_refused list.limit list.clock last held.number list.waits held.wait ps goes.not_empty is ∙ e
 
 -- so are all, where the last number is above the limit
 pub too_many : (limit clock last : ℕ) (ps : List (ℕ × Wait)) → limit < last

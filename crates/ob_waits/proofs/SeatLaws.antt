@@ -3,7 +3,7 @@ use Rattle.std.proofs.Common.{◌≡◌, ◌<◌, ◌≤◌, ◌+◌, ℕ, suc, 
 use Rattle.std.proofs.lemmas.Bool.{cases_eq}
 use Rattle.std.proofs.lemmas.Option.{same_Some, none-some}
 use Rattle.ob_waits.specs.declared.wait.Wait.{Wait}
-use Rattle.ob_waits.specs.declared.held.Held.{Held}
+use Rattle.ob_waits.specs.declared.numbered_wait.NumberedWait.{NumberedWait}
 use Rattle.ob_waits.specs.Listed.{listed, IsSparse}
 use Rattle.ob_waits.specs.Rules.{thread_of}
 use Rattle.ob_waits.specs.Seats.{AreSeated, IsSeated, answered_at, found, number_at, seat_of, wait_at}
@@ -13,17 +13,20 @@ use Rattle.ob_waits.proofs.PlaceLaws.{alike, unlike}
 use Rattle.ob_waits.proofs.TrackedLaws.{no_number, number_is, number_none}
 
 -- what has a number, or a wait, is there
-number_there : (p : Option Held) (n : ℕ) → number_at p ≡ Some n → (h : Held) × (p ≡ Some h) × (h.number ≡ n)
+number_there : (p : Option NumberedWait) (n : ℕ) → number_at p ≡ Some n
+    → (h : NumberedWait) × (p ≡ Some h) × (h.number ≡ n)
 number_there None n is = absurd (none-some n is)
 number_there (Some h) n is = (h, refl, same_Some h.number n is)
 
-wait_there : (p : Option Held) (w : Wait) → wait_at p ≡ Some w → (h : Held) × (p ≡ Some h) × (h.wait ≡ w)
+wait_there : (p : Option NumberedWait) (w : Wait) → wait_at p ≡ Some w
+    → (h : NumberedWait) × (p ≡ Some h) × (h.wait ≡ w)
 wait_there None w is = absurd (none-some w is)
 wait_there (Some h) w is = (h, refl, same_Some h.wait w is)
 
-module _ (given : ℕ) (seats : List (Option Held)) (threads : ℕ → Option ℕ) (s : AreSeated given seats threads) where
+module _ (given : ℕ) (seats : List (Option NumberedWait)) (threads : ℕ → Option ℕ)
+    (s : AreSeated given seats threads) where
   -- what a seat has is found by its number
-  seat_found : (t : ℕ) (h : Held) → get_or seats t None ≡ Some h → found seats threads h.number ≡ Some h.wait
+  seat_found : (t : ℕ) (h : NumberedWait) → get_or seats t None ≡ Some h → found seats threads h.number ≡ Some h.wait
   seat_found t h is = ap (λ o. wait_at (seat_of seats o)) (s.each t h is).known ∙ ap wait_at is
 
   -- what is found by a number stands at its thread
@@ -34,12 +37,12 @@ module _ (given : ℕ) (seats : List (Option Held)) (threads : ℕ → Option �
       by : (o : Option ℕ) → threads n ≡ o → (0 < n) × (n ≤ given) × (number_at (get_or seats w.thread None) ≡ Some n)
       by None e = absurd (none-some w (ap (λ o. wait_at (seat_of seats o)) (sym e) ∙ is))
       by (Some t) e =
-          let number = s.there n t e in
+          let number = s.is_there n t e in
           let at = wait_there (get_or seats t None) w (ap (λ o. wait_at (seat_of seats o)) (sym e) ∙ is) in
           let own = s.each t at.0 at.1 in
           let same : at.0.number ≡ n = same_Some at.0.number n (ap number_at (sym at.1) ∙ number) in
           let thread : w.thread ≡ t = ap (λ (x : Wait). x.thread) (sym at.2) ∙ own.own in (
-            subst (λ i. 0 < i) same own.some,
+            subst (λ i. 0 < i) same own.above_zero,
             subst (λ i. i ≤ given) same own.fits,
             ap (λ i. number_at (get_or seats i None)) thread ∙ number,
           )
@@ -67,11 +70,11 @@ module _ (given : ℕ) (seats : List (Option Held)) (threads : ℕ → Option �
     where
       by : (o : Option ℕ) → threads n ≡ o → o ≡ None
       by None e = refl
-      by (Some t) e = let at = number_there (get_or seats t None) n (s.there n t e) in
+      by (Some t) e = let at = number_there (get_or seats t None) n (s.is_there n t e) in
           let fits = (s.each t at.0 at.1).fits in let same = at.2 in absurd (omega (arith, fits, same, past))
 
   -- the number of a thread's wait is that of the wait at its seat
-  seat_own : (t : ℕ) (h : Held) → get_or seats t None ≡ Some h
+  seat_own : (t : ℕ) (h : NumberedWait) → get_or seats t None ≡ Some h
       → thread_of (get_or (listed (suc given) (found seats threads)) h.number None) ≡ Some t
   seat_own t h is = ap thread_of (number_reads h.number ∙ seat_found t h is) ∙ ap Some (s.each t h is).own
 
@@ -88,7 +91,7 @@ module _ (given : ℕ) (seats : List (Option Held)) (threads : ℕ → Option �
       ≡ number_of t (listed (suc given) (found seats threads))
   number_held_is t = by (get_or seats t None) refl
     where
-      by : (o : Option Held) → get_or seats t None ≡ o
+      by : (o : Option NumberedWait) → get_or seats t None ≡ o
           → number_at o ≡ number_of t (listed (suc given) (found seats threads))
       by None e = sym (number_none (listed (suc given) (found seats threads)) t
           (λ m own. none-some m (sym (ap number_at e) ∙ number_held t m own)))
@@ -99,12 +102,12 @@ module _ (given : ℕ) (seats : List (Option Held)) (threads : ℕ → Option �
   pub free_seat : (t : ℕ) → number_of t (listed (suc given) (found seats threads)) ≡ None → get_or seats t None ≡ None
   free_seat t free = by (get_or seats t None) refl
     where
-      by : (o : Option Held) → get_or seats t None ≡ o → o ≡ None
+      by : (o : Option NumberedWait) → get_or seats t None ≡ o → o ≡ None
       by None e = refl
       by (Some h) e = absurd (no_number t (listed (suc given) (found seats threads)) h.number free (seat_own t h e))
 
 -- seats and threads that read as they did
-module _ (given : ℕ) (seats seats' : List (Option Held)) (threads threads' : ℕ → Option ℕ) (same : (i : ℕ)
+module _ (given : ℕ) (seats seats' : List (Option NumberedWait)) (threads threads' : ℕ → Option ℕ) (same : (i : ℕ)
     → get_or seats' i None ≡ get_or seats i None) (known : (q : ℕ) → threads' q ≡ threads q) where
   pub same_found : (q : ℕ) → found seats' threads' q ≡ found seats threads q
   same_found q = ap (λ o. wait_at (seat_of seats' o)) (known q) ∙ by (threads q)
@@ -116,17 +119,17 @@ module _ (given : ℕ) (seats seats' : List (Option Held)) (threads threads' : �
   pub same_seated : AreSeated given seats threads → AreSeated given seats' threads'
   same_seated s = record {
     each = λ t h is. let old = s.each t h (sym (same t) ∙ is) in
-        record { own = old.own; some = old.some; fits = old.fits; known = known h.number ∙ old.known };
-    there = λ n t is. ap number_at (same t) ∙ s.there n t (sym (known n) ∙ is);
+        record { own = old.own; above_zero = old.above_zero; fits = old.fits; known = known h.number ∙ old.known };
+    is_there = λ n t is. ap number_at (same t) ∙ s.is_there n t (sym (known n) ∙ is);
   }
 
 -- one seat changes, and the thread of one number, whose wait stands or stood there and nowhere else
-module _ (given given' n t : ℕ) (x : Option ℕ) (y : Option Held) (seats seats' : List (Option Held))
+module _ (given given' n t : ℕ) (x : Option ℕ) (y : Option NumberedWait) (seats seats' : List (Option NumberedWait))
     (threads threads' : ℕ → Option ℕ) (s : AreSeated given seats threads) (more : given ≤ given')
     (new : (i : ℕ) → get_or seats' i None ≡ cond (eqb t i) y (get_or seats i None)) (known : (q : ℕ)
     → threads' q ≡ cond (eqb n q) x (threads q))
     (was : (q : ℕ) → threads q ≡ Some t → n ≡ q) (only : (u : ℕ) → threads n ≡ Some u → t ≡ u)
-    (now : (h : Held) → y ≡ Some h → IsSeated given' threads' t h) (stands : (u : ℕ) → x ≡ Some u
+    (now : (h : NumberedWait) → y ≡ Some h → IsSeated given' threads' t h) (stands : (u : ℕ) → x ≡ Some u
     → (t ≡ u) × (number_at y ≡ Some n)) where
   here : (i : ℕ) → t ≡ i → get_or seats' i None ≡ y
   here i same = new i ∙ alike t i y (get_or seats i None) same
@@ -159,35 +162,35 @@ module _ (given given' n t : ℕ) (x : Option ℕ) (y : Option Held) (seats seat
           let fits = old.fits in
           record {
             own = old.own;
-            some = old.some;
+            above_zero = old.above_zero;
             fits = omega (arith, fits, more);
             known = same_thread h.number (λ e. apart (only u (ap threads e ∙ old.known))) ∙ old.known;
           }
     ];
-    there = λ q u is. elim (cases_eq n q) [
+    is_there = λ q u is. elim (cases_eq n q) [
       | inl same ↦ let at = stands u (sym (known q ∙ alike n q x (threads q) same) ∙ is) in
           ap number_at (here u at.0) ∙ at.1 ∙ ap Some same
       | inr apart ↦ let is' : threads q ≡ Some u = sym (same_thread q apart) ∙ is in
-          ap number_at (other u (λ e. apart (was q (is' ∙ ap Some (sym e))))) ∙ s.there q u is'
+          ap number_at (other u (λ e. apart (was q (is' ∙ ap Some (sym e))))) ∙ s.is_there q u is'
     ];
   }
 
 -- a thread takes its seat, with the next number
-module _ (given n : ℕ) (w : Wait) (seats seats' : List (Option Held)) (threads threads' : ℕ
+module _ (given n : ℕ) (w : Wait) (seats seats' : List (Option NumberedWait)) (threads threads' : ℕ
     → Option ℕ) (s : AreSeated given seats threads) (is : n ≡ given + 1) (free : get_or seats w.thread None ≡ None)
     (new : (i : ℕ) → get_or seats' i None ≡ cond (eqb w.thread i) (Some (record { number = n; wait = w }))
     (get_or seats i None)) (known : (q : ℕ) → threads' q ≡ cond (eqb n q) (Some w.thread) (threads q)) where
   was_free : (q : ℕ) → threads q ≡ Some w.thread → n ≡ q
-  was_free q e = absurd (none-some q (ap number_at (sym free) ∙ s.there q w.thread e))
+  was_free q e = absurd (none-some q (ap number_at (sym free) ∙ s.is_there q w.thread e))
 
   was_new : (u : ℕ) → threads n ≡ Some u → w.thread ≡ u
   was_new u e = absurd (none-some u (sym (not_given given seats threads s n (omega arith)) ∙ e))
 
-  sits : (h : Held) → Some (record { number = n; wait = w }) ≡ Some h → IsSeated n threads' w.thread h
+  sits : (h : NumberedWait) → Some (record { number = n; wait = w }) ≡ Some h → IsSeated n threads' w.thread h
   sits h e = subst (IsSeated n threads' w.thread) (same_Some (record { number = n; wait = w }) h e)
       (record {
         own = refl;
-        some = omega arith;
+        above_zero = omega arith;
         fits = omega arith;
         known = known n ∙ alike n n (Some w.thread) (threads n) refl;
       })
@@ -205,10 +208,10 @@ module _ (given n : ℕ) (w : Wait) (seats seats' : List (Option Held)) (threads
       (omega arith) new known was_free was_new sits (λ u e. (same_Some w.thread u e, refl))
 
 -- the wait of a number is answered, or leaves its seat
-module _ (given n t : ℕ) (seats seats' : List (Option Held)) (threads : ℕ
+module _ (given n t : ℕ) (seats seats' : List (Option NumberedWait)) (threads : ℕ
     → Option ℕ) (s : AreSeated given seats threads) (at : threads n ≡ Some t) where
   was_own : (q : ℕ) → threads q ≡ Some t → n ≡ q
-  was_own q e = same_Some n q (sym (s.there n t at) ∙ s.there q t e)
+  was_own q e = same_Some n q (sym (s.is_there n t at) ∙ s.is_there q t e)
 
   was_there : (u : ℕ) → threads n ≡ Some u → t ≡ u
   was_there u e = same_Some t u (sym at ∙ e)
@@ -222,22 +225,22 @@ module _ (given n t : ℕ) (seats seats' : List (Option Held)) (threads : ℕ
       | inr apart ↦ sym (unlike n q (Some t) (threads q) apart)
     ]
 
-    sits_on : (p : Option Held) → get_or seats t None ≡ p → (h : Held) → answered_at code p ≡ Some h
+    sits_on : (p : Option NumberedWait) → get_or seats t None ≡ p → (h : NumberedWait) → answered_at code p ≡ Some h
         → IsSeated given threads t h
     sits_on None is h e = absurd (none-some h e)
     sits_on (Some x) is h e = let old = s.each t x is in
         subst (IsSeated given threads t) (same_Some _ h e) (record {
           own = old.own;
-          some = old.some;
+          above_zero = old.above_zero;
           fits = old.fits;
           known = old.known;
         })
 
-    number_still : (p : Option Held) → number_at (answered_at code p) ≡ number_at p
+    number_still : (p : Option NumberedWait) → number_at (answered_at code p) ≡ number_at p
     number_still None = refl
     number_still (Some h) = refl
 
-    wait_answered : (p : Option Held) → wait_at (answered_at code p) ≡ answered (wait_at p) code
+    wait_answered : (p : Option NumberedWait) → wait_at (answered_at code p) ≡ answered (wait_at p) code
     wait_answered None = refl
     wait_answered (Some h) = refl
 
@@ -246,7 +249,7 @@ module _ (given n t : ℕ) (seats seats' : List (Option Held)) (threads : ℕ
     answered_found q = changed_found given given n t (Some t)
         (answered_at code (get_or seats t None)) seats seats' threads threads s
         (omega arith) new known_still was_own was_there (sits_on (get_or seats t None) refl)
-        (λ u e. (same_Some t u e, number_still (get_or seats t None) ∙ s.there n t at)) q
+        (λ u e. (same_Some t u e, number_still (get_or seats t None) ∙ s.is_there n t at)) q
         ∙ ap (λ (o : Option Wait). cond (eqb n q) o (found seats threads q))
         (ap wait_at (new t ∙ alike t t (answered_at code (get_or seats t None)) (get_or seats t None) refl)
         ∙ wait_answered (get_or seats t None)
@@ -256,7 +259,7 @@ module _ (given n t : ℕ) (seats seats' : List (Option Held)) (threads : ℕ
     answered_seated = changed_seated given given n t (Some t)
         (answered_at code (get_or seats t None)) seats seats' threads threads s
         (omega arith) new known_still was_own was_there (sits_on (get_or seats t None) refl)
-        (λ u e. (same_Some t u e, number_still (get_or seats t None) ∙ s.there n t at))
+        (λ u e. (same_Some t u e, number_still (get_or seats t None) ∙ s.is_there n t at))
 
   module _ (threads' : ℕ → Option ℕ) (new : (i : ℕ)
       → get_or seats' i None ≡ cond (eqb t i) None (get_or seats i None)) (known : (q : ℕ)
@@ -270,13 +273,13 @@ module _ (given n t : ℕ) (seats seats' : List (Option Held)) (threads : ℕ
         (omega arith) new known was_own was_there (λ h e. absurd (none-some h e)) (λ u e. absurd (none-some u e))
 
 -- a thread's wait is answered, if it has one
-pub answer_seated : (given t code : ℕ) (seats seats' : List (Option Held)) (threads : ℕ → Option ℕ)
+pub answer_seated : (given t code : ℕ) (seats seats' : List (Option NumberedWait)) (threads : ℕ → Option ℕ)
     → AreSeated given seats threads
     → ((i : ℕ) → get_or seats' i None ≡ cond (eqb t i) (answered_at code (get_or seats t None)) (get_or seats i None))
     → AreSeated given seats' threads
 answer_seated given t code seats seats' threads s new = by (get_or seats t None) refl
   where
-    by : (p : Option Held) → get_or seats t None ≡ p → AreSeated given seats' threads
+    by : (p : Option NumberedWait) → get_or seats t None ≡ p → AreSeated given seats' threads
     by None is = same_seated given seats seats' threads threads (λ i. elim (cases_eq t i) [
       | inl same ↦ new i ∙ alike t i (answered_at code (get_or seats t None)) (get_or seats i None) same
           ∙ ap (answered_at code) is ∙ sym (ap (λ j. get_or seats j None) (sym same) ∙ is)
@@ -284,7 +287,8 @@ answer_seated given t code seats seats' threads s new = by (get_or seats t None)
     ]) (λ q. refl) s
     by (Some h) is = answered_seated given h.number t seats seats' threads s (s.each t h is).known code new
 
-pub known_held : (given t n : ℕ) (seats : List (Option Held)) (threads : ℕ → Option ℕ) → AreSeated given seats threads
+pub known_held : (given t n : ℕ) (seats : List (Option NumberedWait)) (threads : ℕ → Option ℕ)
+    → AreSeated given seats threads
     → thread_of (get_or (listed (suc given) (found seats threads)) n None) ≡ Some t
     → (threads n ≡ Some t) × (n < suc given)
 known_held given t n seats threads s own =

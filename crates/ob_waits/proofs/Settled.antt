@@ -1,7 +1,7 @@
 -- A settled state stays settled while no body changes and no wait that is ready comes.
-use Rattle.std.proofs.Common.{◌≡◌, ℕ, List, [], ◌∷◌, ◌++◌, length, Option, Some, None, refl, ap, ◌∙◌, arith, get_or, set, Bool, true, false, inl, inr, map}
-use Rattle.std.proofs.lemmas.List.{length-map, get_or-map, get_or_past}
-use Rattle.std.proofs.lemmas.Bool.{cases_lt, false_from_ne_true}
+use Rattle.std.proofs.Common.{◌≡◌, ℕ, List, [], ◌∷◌, ◌++◌, Option, Some, None, refl, ap, ◌∙◌, arith, get_or, set, Bool, true, false, map}
+use Rattle.std.proofs.Math.ListN.{get_or-map}
+use Rattle.std.proofs.lemmas.Bool.{false_from_ne_true}
 use Rattle.ob_body.specs.declared.body.Body.{Body}
 use Rattle.pin_core.specs.declared.id.Id.{Id}
 use Rattle.ob_waits.specs.declared.wait.Mode.{Mode}
@@ -72,12 +72,8 @@ settled_answered bodies ws n code s = settled_replaced bodies ws n (answered (ge
 pub settled_dropped : (bodies : List (Option Body)) (ws : List (Option Wait)) (t : ℕ) → IsSettled bodies ws
     → IsSettled bodies (map (unless_of t) ws)
 settled_dropped bodies ws t s = record {
-  each = λ n. elim (cases_lt n (length ws)) [
-    | inl lt ↦ ap (is_ready bodies) (get_or-map (unless_of t) ws n None None lt)
-        ∙ by (get_or ws n None) (is_waits_of t (get_or ws n None)) refl (s.each n)
-    | inr past ↦ ap (is_ready bodies) (get_or_past (map (unless_of t) ws) n None
-        (omega (arith, length-map ws (unless_of t))))
-  ];
+  each = λ n. ap (is_ready bodies) (get_or-map (unless_of t) ws n None)
+      ∙ by (get_or ws n None) (is_waits_of t (get_or ws n None)) refl (s.each n);
 }
   where
     by : (w : Option Wait) (b : Bool) → is_waits_of t w ≡ b → is_ready bodies w ≡ false

@@ -1,5 +1,5 @@
 -- Taking makes nothing signaled, so a pass over the waits in order settles them, and what it leaves is settled.
-use Rattle.std.proofs.Common.{◌≡◌, ℕ, zero, suc, ◌+◌, ◌<◌, ◌≤◌, List, [], ◌∷◌, length, Option, Some, None, refl, ap, ◌∙◌, subst, arith, get_or, set, Bool, true, false, cond, inl, inr, ltb, eqb, ◌-◌}
+use Rattle.std.proofs.Common.{◌≡◌, ℕ, zero, suc, ◌+◌, ◌<◌, ◌≤◌, List, [], ◌∷◌, length, Option, Some, None, refl, ap, ◌∙◌, subst, arith, get_or, set, Bool, true, false, cond, inl, inr, ltb}
 use Rattle.std.specs.Prelude.{count_by, sum_by}
 use Rattle.std.specs.List.{position_or_len, list_all}
 use Rattle.std.proofs.lemmas.List.{get_or_past, get_or-set_same, get_or-set_other}
@@ -14,55 +14,30 @@ use Rattle.ob_waits.specs.declared.wait.Mode.TheVariants.{Any, All}
 use Rattle.ob_waits.specs.declared.wait.Wait.{Wait}
 use Rattle.ob_waits.specs.declared.wait.State.{State}
 use Rattle.ob_waits.specs.declared.wait.State.TheVariants.{Pending, Answered}
-use Rattle.ob_waits.specs.Objects.{Objects, slot_signaled, slot_room, slot_acquired, without_block, without_blocks}
+use Rattle.ob_waits.specs.Objects.{slot_signaled, slot_room, slot_acquired}
 use Rattle.ob_waits.specs.Rules.{IsSettled, thread_of}
-use Rattle.ob_waits.specs.Waits.{nowhere, is_signaled, first_signaled, list_ready, state_ready, is_ready, first_ready, Scene, with_acquired, with_all_acquired, bodies_after, code_of, answered_wait, effect, effect_of, effect_at, settled_within, settled, ids_of, is_pending, state_ids, state_pending}
-use Rattle.ob_waits.proofs.Writes.{set_at}
+use Rattle.ob_waits.specs.Waits.{nowhere, is_signaled, list_ready, state_ready, is_ready, first_ready, Scene, bodies_after, code_of, answered_wait, effect, effect_of, effect_at, settled_within, settled, ids_of, is_pending, state_ids, state_pending}
+use Rattle.ob_waits.proofs.EachSlot.{slots-satisfied, slots-taken}
 
 -- no object is signaled that was not, for any thread
 pub record IsLess (bodies after : List (Option Body)) : Type 0 where
   pub each : (t : ℕ) (id : Id) → is_signaled t after id ≡ true → is_signaled t bodies id ≡ true
 
-less_trans : (a b c : List (Option Body)) → IsLess a b → IsLess b c → IsLess a c
-less_trans a b c ab bc = record { each = λ t id h. ab.each t id (bc.each t id h) }
+abbrev Less : Option Body → Option Body → Type 0
+Less x y = (t : ℕ) → slot_signaled t y ≡ true → slot_signaled t x ≡ true
 
-less_slot : (u t : ℕ) (x : Option Body) → slot_signaled t (slot_acquired u x) ≡ true → slot_signaled t x ≡ true
-less_slot u t None h = h
-less_slot u t (Some b) h = signaled_before u t b h
+less_both : (x y z : Option Body) → Less x y → Less y z → Less x z
+less_both x y z a b t h = a t (b t h)
 
-less_one : (u : ℕ) (bodies : List (Option Body)) (i : Id) → IsLess bodies (with_acquired u bodies i)
-less_one u bodies i = record {
-  each = λ t id. set_at (λ x. slot_signaled t x ≡ true → is_signaled t bodies id ≡ true) bodies i.slot id.slot
-      (slot_acquired u (get_or bodies i.slot None)) None
-      (λ same h. rw same (less_slot u t (get_or bodies i.slot None) h)) (λ h. h);
-}
-
-less_all : (u : ℕ) (ids : List Id) (bodies : List (Option Body)) → IsLess bodies (with_all_acquired u bodies ids)
-less_all u [] bodies = record { each = λ t id h. h }
-less_all u (i ∷ ids) bodies = less_trans bodies (with_acquired u bodies i) _ (less_one u bodies i)
-    (less_all u ids (with_acquired u bodies i))
+less_taken : (u : ℕ) (x : Option Body) → Less x (slot_acquired u x)
+less_taken u None t h = h
+less_taken u (Some b) t h = signaled_before u t b h
 
 pub less_after : (mode : Mode) (u : ℕ) (bodies : List (Option Body)) (ids : List Id)
     → IsLess bodies (bodies_after mode u bodies ids)
-less_after Any u bodies ids = less_one u bodies (get_or ids (first_signaled u bodies ids) nowhere)
-less_after All u bodies ids = less_all u ids bodies
-
--- blocks that leave make nothing signaled
-less_none : (bodies : List (Option Body)) (k : ℕ) → IsLess bodies (set bodies k None)
-less_none bodies k = record {
-  each = λ t id. set_at (λ x. slot_signaled t x ≡ true → is_signaled t bodies id ≡ true) bodies k id.slot None None
-      (λ same h. absurd (cc (h))) (λ h. h);
+less_after mode u bodies ids = record {
+  each = λ t id. slots-taken Less (λ x t h. h) less_both u (less_taken u) mode ids bodies id.slot t;
 }
-
-pub less_if : (b : Bool) (bodies : List (Option Body)) (k : ℕ) → IsLess bodies (cond b (set bodies k None) bodies)
-less_if true bodies k = less_none bodies k
-less_if false bodies k = record { each = λ t id h. h }
-
-pub less_left : (ids : List Id) (objects : Objects) → IsLess objects.bodies (without_blocks objects ids).bodies
-less_left [] objects = record { each = λ t id h. h }
-less_left (id ∷ ids) objects = less_trans objects.bodies (without_block objects id).bodies _
-    (less_if (eqb (get_or objects.handles id.slot 0 + (get_or objects.blocks id.slot 0 - 1)) 0) objects.bodies id.slot)
-    (less_left ids (without_block objects id))
 
 -- a wait that is ready where less is signaled was ready: it is enough that less is at its places, for its thread
 module _ (p q : Id → Bool) where
@@ -115,52 +90,22 @@ pub record RoomKept (limit u : ℕ) (bodies after : List (Option Body)) : Type 0
   pub room : (t : ℕ) → (t ≡ u → ⊥) → (k : ℕ) → slot_room limit t (get_or bodies k None) ≡ true
       → slot_room limit t (get_or after k None) ≡ true
 
-room_slot : (limit u t : ℕ) (x : Option Body) → (t ≡ u → ⊥) → slot_room limit t x ≡ true
-    → slot_room limit t (slot_acquired u x) ≡ true
-room_slot limit u t None other h = refl
-room_slot limit u t (Some b) other h = room_after_acquire limit u t b other h
+abbrev Room : ℕ → ℕ → Option Body → Option Body → Type 0
+Room limit u x y = (t : ℕ) → (t ≡ u → ⊥) → slot_room limit t x ≡ true → slot_room limit t y ≡ true
 
-room_one : (limit u : ℕ) (bodies : List (Option Body)) (i : Id) → RoomKept limit u bodies (with_acquired u bodies i)
-room_one limit u bodies i = record {
-  room = λ t other k h. set_at (λ x. slot_room limit t x ≡ true) bodies i.slot k
-      (slot_acquired u (get_or bodies i.slot None)) None
-      (λ same. room_slot limit u t (get_or bodies i.slot None) other (rw same at h)) h;
-}
+room_both : (limit u : ℕ) (x y z : Option Body) → Room limit u x y → Room limit u y z → Room limit u x z
+room_both limit u x y z a b t other h = b t other (a t other h)
 
-room_all : (limit u : ℕ) (ids : List Id) (bodies : List (Option Body))
-    → RoomKept limit u bodies (with_all_acquired u bodies ids)
-room_all limit u [] bodies = record { room = λ t other k h. h }
-room_all limit u (i ∷ ids) bodies =
-    let a = room_one limit u bodies i in
-    let b = room_all limit u ids (with_acquired u bodies i) in
-    record { room = λ t other k h. b.room t other k (a.room t other k h) }
+room_taken : (limit u : ℕ) (x : Option Body) → Room limit u x (slot_acquired u x)
+room_taken limit u None t other h = refl
+room_taken limit u (Some b) t other h = room_after_acquire limit u t b other h
 
 pub room_after : (limit : ℕ) (mode : Mode) (u : ℕ) (bodies : List (Option Body)) (ids : List Id)
     → RoomKept limit u bodies (bodies_after mode u bodies ids)
-room_after limit Any u bodies ids = room_one limit u bodies (get_or ids (first_signaled u bodies ids) nowhere)
-room_after limit All u bodies ids = room_all limit u ids bodies
-
--- nor do blocks that leave take room
-room_none : (limit u : ℕ) (bodies : List (Option Body)) (i : ℕ) → RoomKept limit u bodies (set bodies i None)
-room_none limit u bodies i = record {
-  room = λ t other k h. set_at (λ x. slot_room limit t x ≡ true) bodies i k None None (λ same. refl) h;
+room_after limit mode u bodies ids = record {
+  room = λ t other k. slots-taken (Room limit u) (λ x t other h. h) (room_both limit u) u (room_taken limit u) mode ids
+      bodies k t other;
 }
-
-pub room_if : (limit u : ℕ) (b : Bool) (bodies : List (Option Body)) (i : ℕ)
-    → RoomKept limit u bodies (cond b (set bodies i None) bodies)
-room_if limit u true bodies i = room_none limit u bodies i
-room_if limit u false bodies i = record { room = λ t other k h. h }
-
-room_both : (limit u : ℕ) (a b c : List (Option Body)) → RoomKept limit u a b → RoomKept limit u b c
-    → RoomKept limit u a c
-room_both limit u a b c x y = record { room = λ t other k h. y.room t other k (x.room t other k h) }
-
-pub room_left : (limit u : ℕ) (ids : List Id) (objects : Objects)
-    → RoomKept limit u objects.bodies (without_blocks objects ids).bodies
-room_left limit u [] objects = record { room = λ t other k h. h }
-room_left limit u (id ∷ ids) objects = room_both limit u objects.bodies (without_block objects id).bodies _
-    (room_if limit u (eqb (get_or objects.handles id.slot 0 + (get_or objects.blocks id.slot 0 - 1)) 0) objects.bodies
-    id.slot) (room_left limit u ids (without_block objects id))
 
 abbrev pub pending_count : List (Option Wait) → ℕ
 pending_count waits = count_by is_pending waits
@@ -194,18 +139,20 @@ pub record Answers (scene after : Scene) (n : ℕ) : Type 0 where
 
 answered_by : (scene : Scene) (n : ℕ) (w : Wait) (st : State) → get_or scene.waits n None ≡ Some w
     → state_pending st ≡ true → Answers scene (effect_of scene n w st) n
-answered_by scene n w (Pending mode ids) own h =
-    let taken : Objects = record scene.objects { bodies = bodies_after mode w.thread scene.objects.bodies ids } in
-    record {
-      wait = w;
-      code = code_of mode w.thread scene.objects.bodies ids;
-      waits = refl;
-      less = less_trans scene.objects.bodies taken.bodies (without_blocks taken ids).bodies
-          (less_after mode w.thread scene.objects.bodies ids) (less_left ids taken);
-      room = λ limit. room_both limit w.thread scene.objects.bodies taken.bodies (without_blocks taken ids).bodies
-          (room_after limit mode w.thread scene.objects.bodies ids) (room_left limit w.thread ids taken);
-      own = own;
-    }
+answered_by scene n w (Pending mode ids) own h = record {
+  wait = w;
+  code = code_of mode w.thread scene.objects.bodies ids;
+  waits = refl;
+  less = record {
+    each = λ t id. slots-satisfied Less (λ x t h. h) less_both w.thread (less_taken w.thread) (λ x t h. absurd (cc (h)))
+        mode ids scene.objects id.slot t;
+  };
+  room = λ limit. record {
+    room = λ t other k. slots-satisfied (Room limit w.thread) (λ x t other h. h) (room_both limit w.thread) w.thread
+        (room_taken limit w.thread) (λ x t other h. refl) mode ids scene.objects k t other;
+  };
+  own = own;
+}
 answered_by scene n w (Answered code) own h = absurd (cc)
 
 answered_at : (scene : Scene) (n : ℕ) (w : Option Wait) → get_or scene.waits n None ≡ w

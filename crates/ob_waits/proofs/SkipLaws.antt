@@ -46,11 +46,11 @@ seated_skipped given last seats threads le s = record {
   each = λ t held is. let old = s.each t held is in
       record {
         own = old.own;
-        some = old.some;
+        above_zero = old.above_zero;
         fits = let fits = old.fits in omega (arith, fits, le);
         known = old.known;
       };
-  there = s.there;
+  is_there = s.is_there;
 }
 
 module _ (last : ℕ) (ws : List (Option Wait)) where
@@ -73,7 +73,7 @@ module _ (last : ℕ) (ws : List (Option Wait)) where
       → IsTracked limit (skipped last ws) roster
   tracked_skipped limit roster le most t = record {
     limit_fits = t.limit_fits;
-    few = let l = length-skipped last ws le in omega (arith, l, most);
+    at_most = let l = length-skipped last ws le in omega (arith, l, most);
     zero_has_none = at 0 ∙ t.zero_has_none;
     kept = record {
       each = λ i. subst WaitWaitable (sym (at i)) (t.kept.each i);

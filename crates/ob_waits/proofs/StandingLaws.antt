@@ -54,13 +54,18 @@ test-distinct (id ∷ ids) apart =
 
 -- lists that may be waited for
 pub waitable : (mode : Mode) (ids : List Id) → may_list mode ids ≡ true → length ids ≤ 64 → IsWaitable mode ids
-waitable Any ids may few = record { some = ltb-true 0 (length ids) may; few = few; once = λ e. absurd (cc (e)) }
+waitable Any ids may few = record {
+  not_empty = ltb-true 0 (length ids) may;
+  at_most = few;
+  once = λ e. absurd
+      (cc (e));
+}
 waitable All ids may few =
     let b = and_parts (ltb 0 (length ids)) (not (names_twice ids)) may in
     record {
-      some = ltb-true 0
+      not_empty = ltb-true 0
           (length ids) b.0;
-      few = few;
+      at_most = few;
       once = λ e. record { apart = distinct-test ids (by (names_twice ids) b.1) };
     }
   where
@@ -69,8 +74,8 @@ waitable All ids may few =
     by false e = refl
 
 may-wait : (mode : Mode) (ids : List Id) → IsWaitable mode ids → may_list mode ids ≡ true
-may-wait Any ids w = lt-ltb 0 (length ids) w.some
-may-wait All ids w = and_from (ltb 0 (length ids)) (not (names_twice ids)) (lt-ltb 0 (length ids) w.some)
+may-wait Any ids w = lt-ltb 0 (length ids) w.not_empty
+may-wait All ids w = and_from (ltb 0 (length ids)) (not (names_twice ids)) (lt-ltb 0 (length ids) w.not_empty)
     (ap not (test-distinct ids (w.once refl).apart))
 
 -- a deadline that is ahead
@@ -114,7 +119,7 @@ pub kept_can_be : (limit clock : ℕ) (ws : List (Option Wait)) (roster : Roster
 kept_can_be limit clock ws roster dues tracked timely =
     and_from (leb (length ws) (limit + 1) && not (is_some (get_or ws 0 None)))
     (list_all (may_stand clock) ws && one_each ws)
-    (and_from (leb (length ws) (limit + 1)) (not (is_some (get_or ws 0 None))) (le-leb _ _ tracked.few)
+    (and_from (leb (length ws) (limit + 1)) (not (is_some (get_or ws 0 None))) (le-leb _ _ tracked.at_most)
     (ap (λ (w : Option Wait). not (is_some w)) tracked.zero_has_none))
     (and_from (list_all (may_stand clock) ws) (one_each ws)
     (all-stand clock ws (λ n. standing clock (get_or ws n None) (tracked.kept.each n) (timely.ahead.each n)))

@@ -1,23 +1,22 @@
 -- What settling leaves as it is: whose wait each is, the waits that stay pending, the forms of bodies, the owners that
 -- are no waiter.
-use Rattle.std.proofs.Common.{◌≡◌, ◌⊎◌, ℕ, ◌+◌, ◌-◌, List, [], ◌∷◌, Option, Some, None, refl, ap, ◌∙◌, sym, subst, get_or, set, Bool, true, false, cond, inl, inr, eqb}
+use Rattle.std.proofs.Common.{◌≡◌, ◌⊎◌, ℕ, ◌+◌, List, Option, Some, None, refl, ap, ◌∙◌, sym, subst, get_or, Bool, true, false, cond, inl, inr, eqb}
 use Rattle.std.specs.Prelude.{is_some}
 use Rattle.pin_core.specs.declared.id.Id.{Id}
 use Rattle.ob_body.specs.declared.body.Body.{Body}
 use Rattle.ob_body.specs.declared.body.Body.TheVariants.{Event, Mutex, Semaphore, Timer}
 use Rattle.ob_body.specs.Mutex as mutex
 use Rattle.ob_waits.specs.declared.wait.Mode.{Mode}
-use Rattle.ob_waits.specs.declared.wait.Mode.TheVariants.{Any, All}
 use Rattle.ob_waits.specs.declared.wait.Wait.{Wait}
 use Rattle.ob_waits.specs.declared.wait.State.{State}
 use Rattle.ob_waits.specs.declared.wait.State.TheVariants.{Pending, Answered}
-use Rattle.ob_waits.specs.Objects.{Objects, slot_acquired, without_block, without_blocks}
+use Rattle.ob_waits.specs.Objects.{slot_acquired}
 use Rattle.ob_waits.specs.Form.{slot_form, slot_owner, HasWait}
 use Rattle.ob_waits.specs.Rules.{thread_of}
-use Rattle.ob_waits.specs.Waits.{nowhere, first_signaled, with_acquired, with_all_acquired, bodies_after, is_pending, Scene, effect_of, effect_at, settled}
+use Rattle.ob_waits.specs.Waits.{bodies_after, is_pending, Scene, effect_of, effect_at, settled}
 use Rattle.ob_waits.proofs.Settling.{settled_by_effects}
 use Rattle.ob_waits.proofs.Keeping.{Fade, fade_none, fade_both, effect_fades}
-use Rattle.ob_waits.proofs.Writes.{set_at}
+use Rattle.ob_waits.proofs.EachSlot.{EachSlot, slots-satisfied, slots-taken}
 
 -- a slot has the body that it had, or one that a waiter took, or none
 pub record Stays (waits : List (Option Wait)) (old new : Option Body) : Type 0 where
@@ -84,45 +83,14 @@ stays_taken ws u waits x = record {
 
 -- and so do all slots
 abbrev AllStay : List (Option Wait) → List (Option Body) → List (Option Body) → Type 0
-AllStay ws bodies after = (k : ℕ) → Stays ws (get_or bodies k None) (get_or after k None)
+AllStay ws = EachSlot (Stays ws)
 
-all_set : (ws : List (Option Wait)) (bodies : List (Option Body)) (i : ℕ) (x : Option Body)
-    → Stays ws (get_or bodies i None) x → AllStay ws bodies (set bodies i x)
-all_set ws bodies i x one k = set_at (Stays ws (get_or bodies k None)) bodies i k x None
-    (λ same. subst (λ j. Stays ws (get_or bodies j None) x) (sym same) one) (stays_same ws (get_or bodies k None))
-
-all_both : (ws : List (Option Wait)) (a b c : List (Option Body)) → AllStay ws a b → AllStay ws b c → AllStay ws a c
-all_both ws a b c x y k = stays_both ws ws (λ t h. h) (get_or a k None) (get_or b k None) (get_or c k None) (x k) (y k)
-
-one_taken : (ws : List (Option Wait)) (u : ℕ) → HasWait u ws → (bodies : List (Option Body)) (id : Id)
-    → AllStay ws bodies (with_acquired u bodies id)
-one_taken ws u waits bodies id = all_set ws bodies id.slot (slot_acquired u (get_or bodies id.slot None))
-    (stays_taken ws u waits (get_or bodies id.slot None))
-
-all_taken : (ws : List (Option Wait)) (u : ℕ) → HasWait u ws → (ids : List Id) (bodies : List (Option Body))
-    → AllStay ws bodies (with_all_acquired u bodies ids)
-all_taken ws u waits [] bodies = λ k. stays_same ws (get_or bodies k None)
-all_taken ws u waits (id ∷ ids) bodies = all_both ws bodies (with_acquired u bodies id)
-    (with_all_acquired u (with_acquired u bodies id) ids) (one_taken ws u waits bodies id)
-    (all_taken ws u waits ids (with_acquired u bodies id))
+stays_on : (ws : List (Option Wait)) (x y z : Option Body) → Stays ws x y → Stays ws y z → Stays ws x z
+stays_on ws = stays_both ws ws (λ t h. h)
 
 pub taken : (ws : List (Option Wait)) (u : ℕ) → HasWait u ws
     → (mode : Mode) (ids : List Id) (bodies : List (Option Body)) → AllStay ws bodies (bodies_after mode u bodies ids)
-taken ws u waits Any ids bodies = one_taken ws u waits bodies (get_or ids (first_signaled u bodies ids) nowhere)
-taken ws u waits All ids bodies = all_taken ws u waits ids bodies
-
-left_if : (ws : List (Option Wait)) (b : Bool) (bodies : List (Option Body)) (i : ℕ)
-    → AllStay ws bodies (cond b (set bodies i None) bodies)
-left_if ws true bodies i = all_set ws bodies i None (stays_none ws (get_or bodies i None))
-left_if ws false bodies i = λ k. stays_same ws (get_or bodies k None)
-
-left : (ws : List (Option Wait)) (ids : List Id) (objects : Objects)
-    → AllStay ws objects.bodies (without_blocks objects ids).bodies
-left ws [] objects = λ k. stays_same ws (get_or objects.bodies k None)
-left ws (id ∷ ids) objects =
-    all_both ws objects.bodies (without_block objects id).bodies (without_blocks (without_block objects id) ids).bodies
-    (left_if ws (eqb (get_or objects.handles id.slot 0 + (get_or objects.blocks id.slot 0 - 1)) 0) objects.bodies
-    id.slot) (left ws ids (without_block objects id))
+taken ws u waits = slots-taken (Stays ws) (stays_same ws) (stays_on ws) u (stays_taken ws u waits)
 
 -- one wait after another takes effect
 pub record Stay (scene after : Scene) : Type 0 where
@@ -131,12 +99,9 @@ pub record Stay (scene after : Scene) : Type 0 where
 
 stay_of : (scene : Scene) (n : ℕ) (w : Wait) (st : State) → get_or scene.waits n None ≡ Some w
     → AllStay scene.waits scene.objects.bodies (effect_of scene n w st).objects.bodies
-stay_of scene n w (Pending mode ids) own =
-    let after : List (Option Body) = bodies_after mode w.thread scene.objects.bodies ids in
-    all_both scene.waits scene.objects.bodies after
-    (without_blocks (record scene.objects { bodies = after }) ids).bodies
-    (taken scene.waits w.thread (n, ap thread_of own) mode ids scene.objects.bodies)
-    (left scene.waits ids (record scene.objects { bodies = after }))
+stay_of scene n w (Pending mode ids) own = let ws = scene.waits in
+    slots-satisfied (Stays ws) (stays_same ws) (stays_on ws) w.thread (stays_taken ws w.thread (n, ap thread_of own))
+    (stays_none ws) mode ids scene.objects
 stay_of scene n w (Answered code) own = λ k. stays_same scene.waits (get_or scene.objects.bodies k None)
 
 stay_at : (scene : Scene) (n : ℕ) (w : Option Wait) → get_or scene.waits n None ≡ w

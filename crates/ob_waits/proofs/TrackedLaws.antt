@@ -23,7 +23,7 @@ no_wait (suc n) = refl
 pub tracked_none : (limit : ℕ) → limit < 4294967296 → IsTracked limit (None ∷ []) (record { order = []; index = [] })
 tracked_none limit fits = record {
   limit_fits = fits;
-  few = omega arith;
+  at_most = omega arith;
   zero_has_none = refl;
   kept = record {
     each = λ n. subst WaitWaitable (sym (no_wait n)) tt;
@@ -106,7 +106,7 @@ pub tracked_faded : (limit : ℕ) (ws ws' : List (Option Wait)) (r : Roster) →
     → IsTracked limit ws' r
 tracked_faded limit ws ws' r f k = record {
   limit_fits = k.limit_fits;
-  few = let e = f.len in let le = k.few in omega arith;
+  at_most = let e = f.len in let le = k.at_most in omega arith;
   zero_has_none = no_thread (get_or ws' 0 None) ((f.each 0).thread ∙ ap thread_of k.zero_has_none);
   kept = kept_faded ws ws' f k.kept;
   right = lists_faded ws ws' r.order r.index f k.right;
@@ -116,7 +116,7 @@ pub tracked_left : (limit : ℕ) (ws : List (Option Wait)) (r r' : Roster) → L
     → IsTracked limit ws r'
 tracked_left limit ws r r' l k = record {
   limit_fits = k.limit_fits;
-  few = k.few;
+  at_most = k.at_most;
   zero_has_none = k.zero_has_none;
   kept = k.kept;
   right = right_left ws r r' l k.right;
@@ -150,7 +150,7 @@ pub tracked_removed : (limit : ℕ) (ws : List (Option Wait)) (r : Roster) (n t 
     → thread_of (get_or ws n None) ≡ Some t → IsTracked limit ws r → IsTracked limit (set ws n None) r
 tracked_removed limit ws r n t own k = record {
   limit_fits = k.limit_fits;
-  few = let le = k.few in omega (arith, length-set ws n None);
+  at_most = let le = k.at_most in omega (arith, length-set ws n None);
   zero_has_none = set_at (λ w. w ≡ None) ws n 0 None None (λ _. refl) k.zero_has_none;
   kept = record {
     each = λ m. set_at WaitWaitable ws n m None None (λ _. tt) (k.kept.each m);

@@ -102,7 +102,7 @@ pub rows_fit : (ws : List (Option Wait)) (given : ℕ) → get_or ws 0 None ≡ 
     → AllByRecursion RowFits (entries_from 0 ws) → SparseFits WaitFits ws
 rows_fit ws given none len range fits =
     record {
-      some = omega
+      not_empty = omega
           (arith, len);
       each = (
         omega

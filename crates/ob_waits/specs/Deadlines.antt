@@ -22,8 +22,8 @@ abbrev pub is_overdue : ℕ → Option Wait → Bool
 is_overdue now wait = is_due now (deadline_of wait)
 
 -- then it is answered with 258, `WAIT_TIMEOUT`
-abbrev pub lapsed : ℕ → Option Wait → Option Wait
-lapsed now wait = if is_overdue now wait then answered wait 258 else wait
+abbrev pub timed_out : ℕ → Option Wait → Option Wait
+timed_out now wait = if is_overdue now wait then answered wait 258 else wait
 
 -- each deadline of a pending wait is after now
 pub record AreAhead (clock : ℕ) (waits : List (Option Wait)) : Type 0 where

@@ -23,7 +23,7 @@ pub record AreOrdered (last : ℕ) (lists : List (List ℕ)) : Type 0 where
   pub each : (slot : ℕ) → IsOrdered last (numbers_of lists slot)
 
 -- what was there is there
-pub record Keeps (old new : List (List ℕ)) : Type 0 where
+pub record LosesNone (old new : List (List ℕ)) : Type 0 where
   pub each : (slot k : ℕ) → Within k (numbers_of old slot) → Within k (numbers_of new slot)
 
 -- a number above the last, such that none of these is between; and none where none of these is above

@@ -36,7 +36,7 @@ pub record Leaves (waits : List (Option Wait)) (old new : Roster) : Type 0 where
 -- what the waits keep
 pub record IsTracked (limit : ℕ) (waits : List (Option Wait)) (roster : Roster) : Type 0 where
   pub limit_fits : limit < 4294967296
-  pub few : length waits ≤ limit + 1
+  pub at_most : length waits ≤ limit + 1
   pub zero_has_none : slice_index_or waits 0 None ≡ None
   pub kept : IsKept waits
   pub right : IsRight waits roster

@@ -22,8 +22,8 @@ pub record IsDistinct (ids : List Id) : Type 0 where
 
 -- a list that a thread may wait for: 1 to 64 objects; for all of them, each once
 pub record IsWaitable (mode : Mode) (ids : List Id) : Type 0 where
-  pub some : 0 < length ids
-  pub few : length ids ≤ 64
+  pub not_empty : 0 < length ids
+  pub at_most : length ids ≤ 64
   pub once : mode ≡ All → IsDistinct ids
 
 abbrev pub StateWaitable : State → Type 0

@@ -10,7 +10,7 @@ use Rattle.pin_core.specs.Spelling.{IdFits, id_at, id_text}
 use Rattle.pin_core.specs.declared.id.Id.{Id}
 use Rattle.ob_waits.specs.Deadlines.{is_overdue}
 use Rattle.ob_waits.specs.Waits.{WaitList, has_slot, is_waits_of, state_ids}
-use Rattle.ob_waits.specs.declared.held.Held.{Held}
+use Rattle.ob_waits.specs.declared.numbered_wait.NumberedWait.{NumberedWait}
 use Rattle.ob_waits.specs.declared.wait.Mode.{Mode}
 use Rattle.ob_waits.specs.declared.wait.Mode.TheVariants.{Any, All}
 use Rattle.ob_waits.specs.declared.wait.State.{State}
@@ -76,11 +76,11 @@ abbrev pub WaitFits : Wait → Type 0
 WaitFits wait = BothFit is_four (BothFit (OptionFits (λ n. n < 2 ^ 64)) StateFits) (wait_parts wait)
 
 -- a wait behind its number
-abbrev pub held_of : ℕ × Wait → Held
-held_of p = record { number = p.0; wait = p.1 }
+abbrev pub numbered_of : ℕ × Wait → NumberedWait
+numbered_of p = record { number = p.0; wait = p.1 }
 
-abbrev pub held_parts : Held → ℕ × Wait
-held_parts held = (held.number, held.wait)
+abbrev pub numbered_parts : NumberedWait → ℕ × Wait
+numbered_parts held = (held.number, held.wait)
 
 abbrev pub row_text : ℕ × Wait → List ℕ
 row_text = both (to_le_bytes w32) wait_text
@@ -91,14 +91,14 @@ row_at = both_at (number_at w32) wait_at
 abbrev pub RowFits : ℕ × Wait → Type 0
 RowFits = BothFit is_four WaitFits
 
-abbrev pub held_text : Held → List ℕ
-held_text held = row_text (held_parts held)
+abbrev pub numbered_text : NumberedWait → List ℕ
+numbered_text held = row_text (numbered_parts held)
 
-abbrev pub held_at : List ℕ → Read Held
-held_at = as_at held_of row_at
+abbrev pub numbered_at : List ℕ → Read NumberedWait
+numbered_at = as_at numbered_of row_at
 
-abbrev pub HeldFits : Held → Type 0
-HeldFits held = RowFits (held_parts held)
+abbrev pub NumberedFits : NumberedWait → Type 0
+NumberedFits held = RowFits (numbered_parts held)
 
 -- whether two places of a list name one slot
 abbrev pub names_twice : List Id → Bool

@@ -8,7 +8,7 @@ use Rattle.ob_codec.specs.SparseLaws.{sparse_codec}
 use Rattle.ob_codec.specs.Spelling.{AreBytes}
 use Rattle.ob_codec.specs.Steps.{bind_ok, ok_is}
 use Rattle.pin_core.specs.SpellingLaws.{id_codec}
-use Rattle.ob_waits.specs.Spelling.{HeldFits, IdsFit, StateFits, WaitFits, WaitsFit, are_few, are_within, can_be, held_at, held_of, held_parts, held_text, ids_at, ids_text, parts_text, state_at, state_in, state_text, tag_of, wait_at, wait_of, wait_parts, wait_text, waits_at, waits_text, with_rest}
+use Rattle.ob_waits.specs.Spelling.{NumberedFits, IdsFit, StateFits, WaitFits, WaitsFit, are_few, are_within, can_be, numbered_at, numbered_of, numbered_parts, numbered_text, ids_at, ids_text, parts_text, state_at, state_in, state_text, tag_of, wait_at, wait_of, wait_parts, wait_text, waits_at, waits_text, with_rest}
 use Rattle.ob_waits.specs.Waits.{WaitList}
 use Rattle.ob_waits.specs.declared.wait.Mode.TheVariants.{Any, All}
 use Rattle.ob_waits.specs.declared.wait.State.{State}
@@ -47,8 +47,8 @@ pub wait_codec : IsCodec wait_text wait_at WaitFits
 wait_codec = as_codec wait_of wait_parts (λ _. refl) (λ _. refl)
     (both_codec u32_codec (both_codec (option_codec u64_codec) state_codec))
 
-pub held_codec : IsCodec held_text held_at HeldFits
-held_codec = as_codec held_of held_parts (λ _. refl) (λ _. refl) (both_codec u32_codec wait_codec)
+pub numbered_codec : IsCodec numbered_text numbered_at NumberedFits
+numbered_codec = as_codec numbered_of numbered_parts (λ _. refl) (λ _. refl) (both_codec u32_codec wait_codec)
 
 abbrev ListsFit : ℕ → ℕ → ℕ → ℕ → List (Option Wait) → Type 0
 ListsFit limit clock threads slots waits = (SparseFits WaitFits waits × (can_be limit clock waits ≡ true))

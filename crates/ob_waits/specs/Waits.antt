@@ -181,8 +181,7 @@ abbrev pub thread_ids : ℕ → List (Option Wait) → List Id
 thread_ids thread waits = numbered_ids waits (number_of thread waits)
 
 -- the waits by their numbers, from 0, which is never given; how many numbers may be given; and the moment that it is. A
--- wait that is
--- over is none, so the next number is the length of the list
+-- wait that is over is none, so the next number is the length of the list
 pub record WaitList : Type 0 where
   pub limit : ℕ
   pub waits : List (Option Wait)

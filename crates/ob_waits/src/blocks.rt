@@ -29,7 +29,7 @@ fn blocks_at(live: &Live, number: u32, id: Id) -> u64
     }
 }
 
-/// How many places of the waits of these numbers do.
+/// How many places of the waits of these numbers name the object: none where they are not pending.
 pub(crate) fn blocks_of(live: &Live, numbers: &[u32], id: Id) -> u64
     requires { length numbers.now ≤ 4294967297 }
     ensures { result ≡ sum_by (λ n. blocks_in id (slice_index_or live.now n None)) numbers.now }

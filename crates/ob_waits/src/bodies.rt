@@ -7,9 +7,9 @@ use pin_core::Id;
 
 /// The objects that waits are for: the body of each, by its Id.
 ///
-/// What is behind the trait counts the handles and the blocks of each object. It is told each block that
-/// leaves, which is each place of a pending wait's list once the wait is over; where that was the last, and
-/// no handle is left, the object ends: it has no body any more (*profile*).
+/// What is behind the trait counts the handles and the blocks of each object. It is told each block that leaves, which
+/// is each place of a pending wait's list once the wait is over; where that was the last, and no handle is left, the
+/// object ends: it has no body any more (*profile*).
 pub trait Bodies {
     /// The bodies, and how many handles and blocks each slot counts.
     ghost objects: { Self → Objects };
@@ -26,7 +26,7 @@ pub trait Bodies {
 
     /// Changes the body of an object that has one.
     fn put(&mut self, id: Id, body: Body)
-        requires there { IsSome (body_of (objects self.old).bodies id) }
+        requires is_there { IsSome (body_of (objects self.old).bodies id) }
         ensures objects { objects self.new ≡ with_body (objects self.old) id body }
         ensures rest { rest self.new ≡ rest self.old };
 

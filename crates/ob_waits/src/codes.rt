@@ -3,8 +3,8 @@
 /// [WaitForMultipleObjects]: https://learn.microsoft.com/windows/win32/api/synchapi/nf-synchapi-waitformultipleobjects
 pub const MAXIMUM_WAIT_OBJECTS: usize = 64;
 
-/// The least code of a wait that acquired an abandoned mutex ([WaitForMultipleObjects]): the index of the
-/// object is added to it.
+/// The least code of a wait that acquired an abandoned mutex ([WaitForMultipleObjects]): the index of the object is
+/// added to it.
 ///
 /// [WaitForMultipleObjects]: https://learn.microsoft.com/windows/win32/api/synchapi/nf-synchapi-waitformultipleobjects
 pub const WAIT_ABANDONED_0: u32 = 128;

@@ -1,14 +1,14 @@
 ghost use Rattle.std.specs.Prelude.{◌≡◌, ◌==◌, ◌<◌, ℕ, None, Some, OnOk, OnErr, true, is_some, if◌then◌else◌};
 ghost use Rattle.std.specs.Prelude.{slice_index_or, length, nat_eq};
 ghost use Rattle.std.specs.HashMap.{get};
-ghost use Rattle.ob_waits.specs.Seats.{AreApart, IsFinder, IsSpread, here, thread_at};
+ghost use Rattle.ob_waits.specs.Seats.{AreApart, IsFinder, IsSpread, thread_or, thread_at};
 
 use std::alloc::{AllocError, Global};
 use std::collections::HashMap;
 
 /// The number of a wait, and the thread that waits.
 #[derive(Clone, Copy)]
-pub struct Entry {
+pub struct Waiter {
     /// The number.
     pub number: u32,
     /// The thread.
@@ -17,15 +17,15 @@ pub struct Entry {
 
 /// The threads of waits, by the waits' numbers.
 ///
-/// A number stands at the place that its low bits give, where it is found at once. Where another one stands there,
-/// and there are at most two places for each thread up to the one that waits, the places double. Else that one goes to
-/// a hash map: the number of a wait that lasted while as many later ones were given as there are places.
+/// A number stands at the place that its low bits give, where it is found at once. Where another one stands there, and
+/// there are at most two places for each thread up to the one that waits, the places double. Else that one goes to a
+/// hash map: the number of a wait that lasted while as many later ones were given as there are places.
 #[derive(Drop)]
 pub struct Finder {
     /// The low bits: one less than there are places, once there are any.
     pub mask: usize,
     /// The places.
-    pub places: Vec<Option<Entry>>,
+    pub places: Vec<Option<Waiter>>,
     /// The threads of the numbers that stand at no place.
     pub others: HashMap<u32, u32>,
     /// Where memory comes from.
@@ -33,8 +33,8 @@ pub struct Finder {
 }
 
 /// Whether a number stands at a place.
-fn stands(places: &[Option<Entry>], at: usize, number: u32) -> bool
-    ensures value { result ≡ is_some (here number (slice_index_or places.now at None) None) }
+fn stands(places: &[Option<Waiter>], at: usize, number: u32) -> bool
+    ensures value { result ≡ is_some (thread_or number (slice_index_or places.now at None) None) }
     ensures within { result ≡ true → at < length places.now }
 {
     if at < places.len() {
@@ -55,8 +55,8 @@ fn get_other(others: &HashMap<u32, u32>, number: u32) -> Option<u32>
 }
 
 #[cold]
-fn put_other(others: &mut HashMap<u32, u32>, entry: Entry) -> Result<(), AllocError>
-    ensures ok { OnOk result ((n : ℕ) → get nat_eq others.new n ≡ here n (Some entry) (get nat_eq others.old n)) }
+fn put_other(others: &mut HashMap<u32, u32>, entry: Waiter) -> Result<(), AllocError>
+    ensures ok { OnOk result ((n : ℕ) → get nat_eq others.new n ≡ thread_or n (Some entry) (get nat_eq others.old n)) }
     ensures err { OnErr result ((n : ℕ) → get nat_eq others.new n ≡ get nat_eq others.old n) }
 {
     others.insert(entry.number, entry.thread)?;
@@ -71,12 +71,12 @@ fn remove_other(others: &mut HashMap<u32, u32>, number: u32)
 }
 
 fn put_at(
-    place: &mut Option<Entry>,
+    place: &mut Option<Waiter>,
     others: &mut HashMap<u32, u32>,
-    entry: Entry,
+    entry: Waiter,
 ) -> Result<(), AllocError>
     ensures placed { OnOk result (place.new ≡ Some entry) }
-    ensures moved { OnOk result ((n : ℕ) → get nat_eq others.new n ≡ here n place.old (get nat_eq others.old n)) }
+    ensures moved { OnOk result ((n : ℕ) → get nat_eq others.new n ≡ thread_or n place.old (get nat_eq others.old n)) }
     ensures kept { OnErr result (place.new ≡ place.old) }
     ensures same { OnErr result ((n : ℕ) → get nat_eq others.new n ≡ get nat_eq others.old n) }
 {
@@ -87,7 +87,7 @@ fn put_at(
     Ok(())
 }
 
-fn make_places(places: &mut Vec<Option<Entry>>, mask: usize) -> Result<(), AllocError>
+fn make_places(places: &mut Vec<Option<Waiter>>, mask: usize) -> Result<(), AllocError>
     ensures made { OnOk result (mask < length places.new.items) }
     ensures same { (i : ℕ) → slice_index_or places.new.items i None ≡ slice_index_or places.old.items i None }
 {
@@ -98,7 +98,7 @@ fn make_places(places: &mut Vec<Option<Entry>>, mask: usize) -> Result<(), Alloc
 }
 
 /// Puts what stands at some places at those that its numbers have under another mask.
-fn spread(from: &[Option<Entry>], mask: usize, places: &mut Vec<Option<Entry>>)
+fn spread(from: &[Option<Waiter>], mask: usize, places: &mut Vec<Option<Waiter>>)
     requires places { mask < length places.old.items }
     requires free { (i : ℕ) → slice_index_or places.old.items i None ≡ None }
     requires apart { AreApart mask from.now }
@@ -157,7 +157,7 @@ impl Finder {
     }
 
     /// Doubles the places where a number's is taken, and there are at most two for each thread up to its own.
-    fn make_way(&mut self, entry: Entry) -> Result<(), AllocError>
+    fn make_way(&mut self, entry: Waiter) -> Result<(), AllocError>
         requires { IsFinder self.old }
         ensures finder { IsFinder self.new }
         ensures same { (n : ℕ) → thread_at self.new n ≡ thread_at self.old n }
@@ -173,7 +173,7 @@ impl Finder {
     }
 
     /// Puts a new number in.
-    pub(crate) fn put(&mut self, entry: Entry) -> Result<(), AllocError>
+    pub(crate) fn put(&mut self, entry: Waiter) -> Result<(), AllocError>
         requires finder { IsFinder self.old }
         requires free { thread_at self.old entry.number ≡ None }
         ensures finder { IsFinder self.new }

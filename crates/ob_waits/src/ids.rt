@@ -44,7 +44,7 @@ impl Ids {
     /// The Ids.
     pub(crate) fn as_slice(&self) -> &[Id]
         ensures value { result.now ≡ self.now }
-        ensures few { length result.now ≤ MAXIMUM_WAIT_OBJECTS }
+        ensures at_most { length result.now ≤ MAXIMUM_WAIT_OBJECTS }
     {
         self.list.as_slice()
     }

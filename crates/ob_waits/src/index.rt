@@ -1,6 +1,6 @@
 ghost use Rattle.std.specs.Prelude.{◌≡◌, ◌<◌, ◌≤◌, ℕ, [], length, slice_index_or, OnOk};
 ghost use Rattle.ob_waits.specs.Rules.{Within};
-ghost use Rattle.ob_waits.specs.Numbers.{numbers_of, AreOrdered, Keeps, ThinsEach};
+ghost use Rattle.ob_waits.specs.Numbers.{numbers_of, AreOrdered, LosesNone, ThinsEach};
 ghost use Rattle.ob_waits.specs.Waits.{nowhere};
 
 use crate::live::Live;
@@ -46,7 +46,7 @@ impl Index {
         &[]
     }
 
-    /// Drops the numbers of a slot whose waits are not pending, of the first ones, so many.
+    /// Drops, of the first `count` numbers of a slot, those whose waits are not pending.
     pub(crate) fn thin(&mut self, live: &Live, slot: u32, count: usize)
         requires { count ≤ length (numbers_of self.old slot) }
         ensures { ThinsEach live.now self.old self.new }
@@ -58,7 +58,7 @@ impl Index {
         }
     }
 
-    /// Drops them all, where it is due.
+    /// Drops all numbers of a slot whose waits are not pending, where it is due.
     pub(crate) fn thin_if_due(&mut self, live: &Live, slot: u32)
         ensures { ThinsEach live.now self.old self.new }
     {
@@ -84,7 +84,7 @@ impl Index {
         requires room { slot < length self.old }
         requires ordered { AreOrdered number self.old }
         ensures ordered { AreOrdered number self.new }
-        ensures keeps { Keeps self.old self.new }
+        ensures keeps { LosesNone self.old self.new }
         ensures entered { OnOk result (Within number (numbers_of self.new slot)) }
     {
         let numbers = &mut self.lists[slot as usize];
@@ -94,7 +94,7 @@ impl Index {
     fn enter(&mut self, slot: u32, number: u32) -> Result<(), AllocError>
         requires ordered { AreOrdered number self.old }
         ensures ordered { AreOrdered number self.new }
-        ensures keeps { Keeps self.old self.new }
+        ensures keeps { LosesNone self.old self.new }
         ensures entered { OnOk result (Within number (numbers_of self.new slot)) }
     {
         self.make_room(slot)?;
@@ -105,7 +105,7 @@ impl Index {
     pub(crate) fn enter_all(&mut self, ids: &[Id], number: u32) -> Result<(), AllocError>
         requires ordered { AreOrdered number self.old }
         ensures ordered { AreOrdered number self.new }
-        ensures keeps { Keeps self.old self.new }
+        ensures keeps { LosesNone self.old self.new }
         ensures entered { OnOk result ((i : ℕ) → i < length ids.now
             → Within number (numbers_of self.new (slice_index_or ids.now i nowhere).slot)) }
     {
@@ -126,7 +126,7 @@ impl Index {
         }
     }
 
-    /// The same at the slot of each object.
+    /// Drops the first numbers, as far as their waits are not pending, at the slot of each object.
     #[tactic(auto, using(crate::proofs::IndexLaws::thins_each_none, crate::proofs::IndexLaws::thins_each_both))]
     pub(crate) fn thin_each(&mut self, live: &Live, ids: &[Id])
         ensures { ThinsEach live.now self.old self.new }

@@ -9,9 +9,9 @@ ghost use Rattle.ob_waits.specs.Waits.{Scene, WaitList, settled, is_pending};
 
 /// What settling keeps, whatever the objects and the waits are.
 ///
-/// A wait stays its thread's, and one that stays pending stays as it is. No handle goes. Each slot goes on
-/// counting its blocks. A body keeps its kind, an event whether it is reset by hand, a semaphore its maximum;
-/// a mutex has the owner that it had, or a thread that waits, or none. A state with nothing to settle stays.
+/// A wait stays its thread's, and one that stays pending stays as it is. No handle goes. Each slot goes on counting its
+/// blocks. A body keeps its kind, an event whether it is reset by hand, a semaphore its maximum; a mutex has the owner
+/// that it had, or a thread that waits, or none. A state with nothing to settle stays.
 pub fn law_of_settling()
     ensures settled { (scene : Scene) → IsSettled scene.objects.bodies scene.waits → settled scene ≡ scene }
     ensures threads { (scene : Scene) (n : ℕ) → thread_of (slice_index_or (settled scene).waits n None)
@@ -31,9 +31,9 @@ pub fn law_of_settling()
 
 /// When objects end: exactly where no handle and no block refers to them any more.
 ///
-/// A slot that has a body exactly where something refers to its object goes on so. And it makes no difference
-/// that an object ends where its last block leaves: the state is the one that satisfying the waits first,
-/// and ending every object to which nothing refers after that, leads to.
+/// A slot that has a body exactly where something refers to its object goes on so. And it makes no difference that an
+/// object ends where its last block leaves: the state is the one that satisfying the waits first, and ending every
+/// object to which nothing refers after that, leads to.
 pub fn law_of_ends()
     ensures bodies { (scene : Scene) → HasBodies scene.objects → HasBodies (settled scene).objects }
     ensures last { (scene : Scene) → HasBodies scene.objects → HasBlocks scene

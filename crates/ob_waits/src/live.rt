@@ -74,7 +74,7 @@ impl Live {
 
     /// The number of a thread's wait, where that is pending and its time is up at a moment.
     pub(crate) fn overdue_of(&self, thread: u32, now: u64) -> Option<u32>
-        ensures some { IfSome result (λ n. is_overdue now (slice_index_or self.now n None) ≡ true) }
+        ensures found { IfSome result (λ n. is_overdue now (slice_index_or self.now n None) ≡ true) }
         ensures none { IfNone result ((n : ℕ) → thread_of (slice_index_or self.now n None) ≡ Some thread
             → is_overdue now (slice_index_or self.now n None) ≡ false) }
     {
@@ -99,7 +99,7 @@ impl Live {
 
     /// Gives the next number to a pending wait, of a thread that has none.
     pub(crate) fn push(&mut self, wait: Wait) -> Result<(), AllocError>
-        requires few { length self.old < 4294967296 }
+        requires at_most { length self.old < 4294967296 }
         requires alone { number_of wait.thread self.old ≡ None }
         requires pending { is_pending (Some wait) ≡ true }
         ensures ok { OnOk result (self.new ≡ self.old ++ Some wait ∷ []) }
@@ -112,7 +112,7 @@ impl Live {
 
     /// Gives the next number to a wait that is answered, of a thread that has none.
     pub(crate) fn push_answered(&mut self, wait: Wait) -> Result<(), AllocError>
-        requires few { length self.old < 4294967296 }
+        requires at_most { length self.old < 4294967296 }
         requires alone { number_of wait.thread self.old ≡ None }
         requires answered { is_answered (Some wait) ≡ true }
         ensures ok { OnOk result (self.new ≡ self.old ++ Some wait ∷ []) }

@@ -35,7 +35,8 @@ pub(crate) fn lesser(first: Option<u32>, second: Option<u32>) -> Option<u32>
     }
 }
 
-/// The least number above the last one, of the numbers of an object's slot: none where it has nothing for who waits.
+/// The least number above the last one, of the numbers of an object's slot: none where nobody who waits could have the
+/// object.
 fn next_open<B: Bodies>(live: &Live, bodies: &B, roster: &Roster, id: Id, last: u32) -> Option<u32>
     requires right { IsRight live.now roster.now }
     ensures above { IfSome result (λ n. last < n) }
@@ -48,7 +49,7 @@ fn next_open<B: Bodies>(live: &Live, bodies: &B, roster: &Roster, id: Id, last: 
     next_of(roster.numbers(id.slot), last)
 }
 
-/// The same of some objects.
+/// The least such number over the slots of several objects.
 pub(crate) fn next_number<B: Bodies>(
     live: &Live,
     bodies: &B,

@@ -7,8 +7,8 @@ ghost use Rattle.ob_waits.specs.Rules.{thread_of};
 ghost use Rattle.ob_waits.specs.Waits.{answered, is_pending, number_of, skipped};
 
 use crate::answer::Answer;
-use crate::finder::{Entry, Finder};
-use crate::held::Held;
+use crate::finder::{Finder, Waiter};
+use crate::numbered_wait::NumberedWait;
 use crate::seats;
 use crate::wait::{State, Wait};
 use std::alloc::{AllocError, Global};
@@ -18,7 +18,7 @@ use std::marker::Model;
 #[derive(Drop)]
 pub(crate) struct Numbered {
     given: u32,
-    seats: Vec<Option<Held>>,
+    seats: Vec<Option<NumberedWait>>,
     finder: Finder,
 }
 
@@ -127,7 +127,7 @@ impl Numbered {
 
     /// Gives the next number to the wait of a thread that has none.
     pub(crate) fn push(&mut self, wait: Wait) -> Result<(), AllocError>
-        requires few { length self.old < 4294967296 }
+        requires at_most { length self.old < 4294967296 }
         requires alone { number_of wait.thread self.old ≡ None }
         ensures ok { OnOk result (self.new ≡ self.old ++ Some wait ∷ []) }
         ensures err { OnErr result (self.new ≡ self.old) }
@@ -135,8 +135,8 @@ impl Numbered {
         let number = self.given + 1;
         let thread = wait.thread;
         seats::make_room(&mut self.seats, thread)?;
-        self.finder.put(Entry { number, thread })?;
-        self.seats[thread as usize] = Some(Held { number, wait });
+        self.finder.put(Waiter { number, thread })?;
+        self.seats[thread as usize] = Some(NumberedWait { number, wait });
         self.given = number;
         Ok(())
     }

@@ -38,11 +38,11 @@ fn ends_with(numbers: &[u32], number: u32) -> bool
     }
 }
 
-/// Of the numbers between two places, those of pending waits move to the end. Where they begin then.
+/// Moves the numbers of pending waits to the end of a range; answers where they begin.
 fn sift(numbers: &mut Vec<u32>, live: &Live, start: usize, end: usize) -> usize
-    requires some { start ≤ end }
+    requires in_order { start ≤ end }
     requires within { end ≤ length numbers.old.items }
-    ensures long { length numbers.new.items ≡ length numbers.old.items }
+    ensures length_is { length numbers.new.items ≡ length numbers.old.items }
     ensures bound { result ≤ length numbers.old.items }
     ensures sifted { drop result numbers.new.items ≡ filter (has_pending live.now)
         (take (end - start) (drop start numbers.old.items)) ++ drop end numbers.old.items }
@@ -115,7 +115,7 @@ impl Numbers {
         }
     }
 
-    /// Drops the numbers of waits that are not pending, of the first ones, so many.
+    /// Drops, of the first `count` numbers, those of waits that are not pending.
     #[tactic(auto, using(crate::proofs::NumberLaws::thins_front))]
     pub(crate) fn thin(&mut self, live: &Live, count: usize)
         requires { count ≤ length self.old }
@@ -155,8 +155,8 @@ impl Numbers {
         self.due = self.numbers.len().saturating_mul(2).saturating_add(8);
     }
 
-    /// The same where it is due: once there are eight more than twice as many as were left the last time, so that it
-    /// costs constant time for each number, over all calls.
+    /// Drops all numbers of waits that are not pending, where it is due: once there are eight more than twice as many
+    /// as were left the last time, so that it costs constant time for each number, over all calls.
     #[inline]
     #[tactic(auto, using(crate::proofs::NumberLaws::thins_none))]
     pub(crate) fn thin_if_due(&mut self, live: &Live)

@@ -10,7 +10,7 @@ use crate::per_thread::PerThread;
 pub(crate) fn next_overdue(live: &Live, deadlines: &mut PerThread, now: u64) -> Option<u32>
     requires { AreListed live.now deadlines.old }
     ensures listed { AreListed live.now deadlines.new }
-    ensures some { IfSome result (λ wait. is_overdue now (slice_index_or live.now wait None) ≡ true) }
+    ensures found { IfSome result (λ wait. is_overdue now (slice_index_or live.now wait None) ≡ true) }
     ensures none { IfNone result ((n : ℕ) → is_overdue now (slice_index_or live.now n None) ≡ false) }
 {
     while let Some(thread) = deadlines.next(now) {

@@ -15,8 +15,8 @@ use crate::wait::State;
 use ob_body::RECURSION_MAX;
 use pin_core::Id;
 
-/// Tells of each place of a list that its block left, as where a pending wait ends by its time or with its
-/// thread. An object whose last block leaves so, and which has no handle, ends.
+/// Takes the wait block of each listed object away, as where a pending wait ends by its time or with its thread. An
+/// object whose last block leaves so, and which has no handle, ends.
 pub fn leave_all<B: Bodies>(bodies: &mut B, ids: &[Id])
     ensures objects { B.objects bodies.new ≡ without_blocks (B.objects bodies.old) ids.now }
     ensures rest { B.rest bodies.new ≡ B.rest bodies.old }
@@ -61,8 +61,8 @@ pub(crate) fn pass<B: Bodies>(live: &mut Live, bodies: &mut B, numbers: &[u32])
     }
 }
 
-/// The waits for an object in the slot take effect where they are ready, in the order of their numbers, until
-/// nobody who waits can have the object any more. How many were looked at.
+/// The waits for an object in the slot take effect where they are ready, in the order of their numbers, until nobody
+/// who waits can have the object any more. Answers how many were looked at.
 pub(crate) fn pass_slot<B: Bodies>(
     live: &mut Live,
     bodies: &mut B,
@@ -87,8 +87,8 @@ pub(crate) fn pass_slot<B: Bodies>(
     numbers.len()
 }
 
-/// The waits for an object in the slots of these take effect where they are ready, in the order of their
-/// numbers over all these slots together, until so many were looked at. Whether no more is ready.
+/// The waits for an object in the slots of these take effect where they are ready, in the order of their numbers over
+/// all these slots together, until so many were looked at. Answers whether no more is ready.
 fn pass_some<B: Bodies>(
     live: &mut Live,
     bodies: &mut B,
@@ -118,8 +118,8 @@ fn pass_some<B: Bodies>(
     false
 }
 
-/// The same of all of them. Where that would look at more numbers than there are waits, the rest settles by the
-/// waits of all slots.
+/// Settles, where only waits for objects in the slots of these can be ready. Where that would look at more numbers than
+/// there are waits, the rest settles by the waits of all slots.
 pub(crate) fn pass_each<B: Bodies>(live: &mut Live, bodies: &mut B, roster: &Roster, ids: &[Id])
     requires fits { Fits RECURSION_MAX (B.objects bodies.old).bodies live.old }
     requires right { IsRight live.old roster.now }

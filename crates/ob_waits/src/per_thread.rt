@@ -100,7 +100,7 @@ impl PerThread {
 
     /// A thread whose deadline isn't after a moment. Where there is none, that is known at once.
     pub(crate) fn next(&self, now: u64) -> Option<u32>
-        ensures some { IfSome result (λ thread. is_due now (slice_index_or self.now thread None) ≡ true) }
+        ensures found { IfSome result (λ thread. is_due now (slice_index_or self.now thread None) ≡ true) }
         ensures none { IfNone result ((t : ℕ) → is_due now (slice_index_or self.now t None) ≡ false) }
     {
         let due = self.dues.least()?;

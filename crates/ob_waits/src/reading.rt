@@ -2,10 +2,11 @@
 ghost use Rattle.std.specs.Prelude.{◌≡◌, ◌≤◌, ◌<◌, ◌∷◌, [], ◌++◌, None, Some, OnOk, map, true, false};
 ghost use Rattle.ob_codec.specs.Reading.{Gives, GivesAll, list_at};
 ghost use Rattle.ob_waits.specs.Rows.{built, come, may_come, rows_within};
-ghost use Rattle.ob_waits.specs.Spelling.{are_below, held_parts, is_within, may_list, may_stand, names_twice, row_at};
+ghost use Rattle.ob_waits.specs.Spelling.{are_below, is_within, may_list, may_stand, names_twice};
+ghost use Rattle.ob_waits.specs.Spelling.{numbered_parts, row_at};
 ghost use Rattle.ob_waits.specs.Waits.{has_slot, is_full, number_of};
 
-use crate::held::Held;
+use crate::numbered_wait::NumberedWait;
 use crate::wait::{Mode, State, Wait};
 use crate::waits::Waits;
 use ob_codec::{Cursor, ReadFault, TextFault, read_list};
@@ -13,10 +14,13 @@ use pin_core::Id;
 use std::alloc::{AllocError, Global};
 
 /// Reads waits with their numbers.
-pub(crate) fn read_rows(alloc: Global, from: &mut Cursor<'_>) -> Result<Vec<Held>, ReadFault>
-    ensures { Gives (λ rows. map held_parts rows.items) result (list_at row_at from.old) from.new }
+pub(crate) fn read_rows(
+    alloc: Global,
+    from: &mut Cursor<'_>,
+) -> Result<Vec<NumberedWait>, ReadFault>
+    ensures { Gives (λ rows. map numbered_parts rows.items) result (list_at row_at from.old) from.new }
 {
-    read_list::<Held>(alloc, from)
+    read_list::<NumberedWait>(alloc, from)
 }
 
 /// Whether the slots of some objects are below one.
@@ -36,8 +40,8 @@ fn is_within(wait: &Wait, threads: u32, slots: u32) -> bool
     }
 }
 
-/// Whether those of all are.
-pub(crate) fn rows_within(rows: &[Held], threads: u32, slots: u32) -> bool
+/// Whether the thread of each of some waits, and the slots of its objects, are below some.
+pub(crate) fn rows_within(rows: &[NumberedWait], threads: u32, slots: u32) -> bool
     ensures { result ≡ rows_within threads slots rows.now }
 {
     rows.iter()
@@ -87,9 +91,9 @@ fn may_stand(wait: &Wait, clock: u64) -> bool
 }
 
 /// Whether a wait can come next with its number, up to the last one.
-fn may_come(waits: &Waits, held: &Held, last: u32) -> bool
+fn may_come(waits: &Waits, held: &NumberedWait, last: u32) -> bool
     ensures value { result ≡ may_come last waits.now held.now }
-    ensures some { result ≡ true → 0 < held.now.number }
+    ensures above_zero { result ≡ true → 0 < held.now.number }
 {
     waits.given() < held.number
         && held.number <= last
@@ -116,7 +120,7 @@ fn put_wait(waits: &mut Waits, wait: &Wait) -> Result<(), AllocError>
 }
 
 /// Puts a wait in with its number, where it can come next.
-fn put_back(waits: &mut Waits, held: &Held, last: u32) -> Result<(), ReadFault>
+fn put_back(waits: &mut Waits, held: &NumberedWait, last: u32) -> Result<(), ReadFault>
     requires { last ≤ waits.old.limit }
     ensures { GivesAll (λ nothing. waits.new) result (come last waits.old held.now) }
 {
@@ -129,7 +133,7 @@ fn put_back(waits: &mut Waits, held: &Held, last: u32) -> Result<(), ReadFault>
 }
 
 /// Puts all in, and gives the numbers that are left, up to the last one, to nobody.
-pub(crate) fn put_all(waits: &mut Waits, rows: &[Held], last: u32) -> Result<(), ReadFault>
+pub(crate) fn put_all(waits: &mut Waits, rows: &[NumberedWait], last: u32) -> Result<(), ReadFault>
     requires none { waits.old.waits ≡ None ∷ [] }
     requires most { last ≤ waits.old.limit }
     ensures { GivesAll (λ nothing. waits.new) result (built waits.old.limit waits.old.clock last rows.now) }

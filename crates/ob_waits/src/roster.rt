@@ -85,7 +85,7 @@ impl Roster {
         self.order.forget(number);
     }
 
-    /// Drops them at a slot alone, of the first ones, so many.
+    /// Drops, of the first `count` numbers of a slot, those whose waits are not pending.
     pub(crate) fn thin_slot(&mut self, live: &Live, slot: u32, count: usize)
         requires { count ≤ length (numbers_of self.old.index slot) }
         ensures { Leaves live.now self.old self.new }
@@ -93,7 +93,7 @@ impl Roster {
         self.index.thin(live, slot, count);
     }
 
-    /// Drops them at the slots of some objects, from the front.
+    /// Drops the first numbers, as far as their waits are not pending, at the slots of some objects.
     pub(crate) fn thin_slots(&mut self, live: &Live, ids: &[Id])
         ensures { Leaves live.now self.old self.new }
     {

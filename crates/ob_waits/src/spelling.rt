@@ -1,11 +1,11 @@
 // A wait as bytes, and behind its number.
-ghost use Rattle.ob_waits.specs.Spelling.{HeldFits, IdsFit, StateFits, WaitFits, held_at, held_text, ids_at, ids_text};
-ghost use Rattle.ob_waits.specs.Spelling.{state_at, state_text, wait_at, wait_text};
-ghost use Rattle.ob_waits.specs.SpellingLaws.{held_codec, ids_codec, state_codec, wait_codec};
+ghost use Rattle.ob_waits.specs.Spelling.{IdsFit, NumberedFits, StateFits, WaitFits, ids_at, ids_text, numbered_at};
+ghost use Rattle.ob_waits.specs.Spelling.{numbered_text, state_at, state_text, wait_at, wait_text};
+ghost use Rattle.ob_waits.specs.SpellingLaws.{ids_codec, numbered_codec, state_codec, wait_codec};
 
 use crate::codes::MAXIMUM_WAIT_OBJECTS;
-use crate::held::Held;
 use crate::ids::Ids;
+use crate::numbered_wait::NumberedWait;
 use crate::wait::{Mode, State, Wait};
 use ob_codec::{Cursor, ReadFault, Spelled, TextFault, read_list, write_list};
 use pin_core::Id;
@@ -106,23 +106,23 @@ impl Spelled for Wait {
     ghost codec = { wait_codec };
 }
 
-impl Spelled for Held {
-    ghost spell = { held_text };
+impl Spelled for NumberedWait {
+    ghost spell = { numbered_text };
 
-    ghost read_at = { held_at };
+    ghost read_at = { numbered_at };
 
-    ghost Fits = { HeldFits };
+    ghost Fits = { NumberedFits };
 
     fn write(&self, out: &mut Vec<u8>) -> Result<(), AllocError> {
         self.number.write(out)?;
         self.wait.write(out)
     }
 
-    fn read(alloc: Global, from: &mut Cursor<'_>) -> Result<Held, ReadFault> {
+    fn read(alloc: Global, from: &mut Cursor<'_>) -> Result<NumberedWait, ReadFault> {
         let number = from.four()?;
         let wait = Wait::read(alloc, from)?;
-        Ok(Held { number, wait })
+        Ok(NumberedWait { number, wait })
     }
 
-    ghost codec = { held_codec };
+    ghost codec = { numbered_codec };
 }

@@ -80,7 +80,7 @@ fn take_all<B: Bodies>(bodies: &mut B, thread: u32, ids: &[Id]) -> bool
 /// Takes the first object that is signaled, if there is one, and gives the code.
 #[inline(always)]
 fn take_any<B: Bodies>(bodies: &mut B, thread: u32, ids: &[Id]) -> Option<u32>
-    requires few { length ids.now ≤ 64 }
+    requires at_most { length ids.now ≤ 64 }
     requires room { HasRoom RECURSION_MAX thread (B.objects bodies.old).bodies ids.now }
     ensures code { result ≡ code_now Mode.Any thread (B.objects bodies.old).bodies ids.now }
     ensures objects { B.objects bodies.new ≡ objects_now Mode.Any thread (B.objects bodies.old) ids.now }
@@ -115,10 +115,9 @@ fn take_each<B: Bodies>(bodies: &mut B, thread: u32, ids: &[Id]) -> Option<u32>
     Some(0)
 }
 
-/// Takes what a wait of the thread for these objects is satisfied by, where it is satisfied now, and
-/// gives its code ([Wait Functions]): for any, the least index of a signaled object, and 128 more where
-/// that is an abandoned mutex; for all, 0, or 128 where one is an abandoned mutex (*profile*). Else
-/// nothing changes.
+/// Takes what a wait of the thread for these objects is satisfied by, where it is satisfied now, and gives its code
+/// ([Wait Functions]): for any, the least index of a signaled object, and 128 more where that is an abandoned mutex;
+/// for all, 0, or 128 where one is an abandoned mutex (*profile*). Else nothing changes.
 ///
 /// [Wait Functions]: https://learn.microsoft.com/windows/win32/sync/wait-functions
 #[inline]

@@ -16,8 +16,8 @@ pub enum Mode {
 pub enum WaitState {
     /// Not satisfied yet.
     Pending,
-    /// Satisfied or expired, with the code that its thread is to get: the index of the object, or 128
-    /// and the index where that is an abandoned mutex, or 258 where it expired.
+    /// Satisfied or expired, with the code that its thread is to get: the index of the object, or 128 and the index
+    /// where that is an abandoned mutex, or 258 where it expired.
     Answered(u32),
 }
 

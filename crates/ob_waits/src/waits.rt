@@ -37,20 +37,20 @@ use std::marker::Model;
 
 /// The waits of all threads, by their numbers.
 ///
-/// Numbers rise from 1 and none is given twice; a wait that is over takes no room. A thread has one wait
-/// at a time, from [`add`](Waits::add) until its answer is taken.
+/// Numbers rise from 1 and none is given twice; a wait that is over takes no room. A thread has one wait at a time,
+/// from [`add`](Waits::add) until its answer is taken.
 ///
-/// A thread's wait, and the wait of a number, are found in constant time, as that of a hash map's look-up:
-/// [`wait_of`](Waits::wait_of), [`look`](Waits::look), [`pending`](Waits::pending), [`expire`](Waits::expire),
-/// [`drop_thread`](Waits::drop_thread) and [`take_result`](Waits::take_result) do no more.
+/// A thread's wait and the wait of a number are found in constant time. [`wait_of`](Waits::wait_of),
+/// [`look`](Waits::look) and [`pending`](Waits::pending) do no more; [`expire`](Waits::expire),
+/// [`drop_thread`](Waits::drop_thread) and [`take_result`](Waits::take_result) also keep the list of answers, which
+/// costs a logarithm of the threads where waits weren't answered in the order of their numbers.
 ///
-/// Beside these there is a list of wait numbers for each slot, and one for all. Such a list has the numbers of
-/// all pending waits for its objects, and may have others, until a settling that looks at them drops them, or an
-/// `add` that finds eight more than twice as many there as were left the last time. So `add` costs constant
-/// time for each object that it lists, amortised over all calls, beside the growth of the tables to the
-/// greatest thread number and slot that a wait had.
-/// [`settle_after`](Waits::settle_after) looks at the list of one slot up to the last wait that it satisfies, and
-/// [`blocks_of`](Waits::blocks_of) goes over all of it, [`settle`](Waits::settle) over the list for all.
+/// Beside these there is a list of wait numbers for each slot, and one for all. Such a list has the numbers of all
+/// pending waits for its objects, and may have others, until a settling that looks at them drops them, or an `add` that
+/// finds eight more than twice as many there as were left the last time. So `add` costs constant time for each object
+/// that it lists, amortised over all calls, beside the growth of the tables to the greatest thread number and slot that
+/// a wait had. [`settle_after`](Waits::settle_after) looks at the list of one slot up to the last wait that it
+/// satisfies, and [`blocks_of`](Waits::blocks_of) goes over all of it, [`settle`](Waits::settle) over the list for all.
 #[derive(Drop)]
 pub struct Waits {
     limit: u32,
@@ -107,8 +107,8 @@ impl Waits {
     /// Reads waits of which at most `waits` numbers may be given, as they are at a moment, from the front of what is
     /// left. [`TextFault::Value`] where a number is above that, or above the last one given, or doesn't rise; where a
     /// thread has two waits; and where a pending one lists no object, more than 64 or, to wait for all, one slot twice,
-    /// or its time is up. The same where a thread isn't below `threads`, or an object's slot below `slots`, so that no
-    /// more memory is asked for than these and the text account for.
+    /// or its time is up. The text is refused so too where a thread isn't below `threads`, or an object's slot below
+    /// `slots`, so that no more memory is asked for than these and the text account for.
     pub fn read(
         alloc: Global,
         waits: u32,
@@ -159,7 +159,7 @@ impl Waits {
         ensures number { result ≡ number_of thread self.now.waits }
         // Whatever the waits are: each thread has one, and each that is pending may be waited for.
         ensures kept { IsKept self.now.waits }
-        ensures few { length self.now.waits ≤ 4294967296 }
+        ensures at_most { length self.now.waits ≤ 4294967296 }
     {
         self.live.number_of(thread)
     }
@@ -187,7 +187,7 @@ impl Waits {
 
     /// The wait of a number, where that is pending.
     pub fn pending(&self, wait: u32) -> Option<Pending<'_>>
-        ensures there { is_some result ≡ is_pending (slice_index_or self.now.waits wait None) }
+        ensures is_there { is_some result ≡ is_pending (slice_index_or self.now.waits wait None) }
         ensures wait { IfSome result (λ p. slice_index_or self.now.waits wait None
             ≡ Some (new_wait p.thread p.mode p.ids.now p.deadline)) }
     {
@@ -302,7 +302,7 @@ impl Waits {
         ensures memory { IfErr result (λ fault. is_full self.old ≡ false → fault ≡ Fault.Memory) }
         // Whatever the waits are: each that is pending may be waited for, and their numbers fit in 32 bits.
         ensures kept { IsKept self.old.waits }
-        ensures few { length self.old.waits ≤ 4294967296 }
+        ensures at_most { length self.old.waits ≤ 4294967296 }
     {
         if self.live.given() >= self.limit {
             return Err(Fault::Limit);
@@ -313,9 +313,9 @@ impl Waits {
         }
     }
 
-    /// As long as a pending wait is satisfied, the one of least number takes effect (*profile*): it
-    /// acquires what satisfies it, is answered with its code, and its blocks leave. An object whose last
-    /// block leaves so, and which has no handle, ends.
+    /// As long as a pending wait is satisfied, the one of least number takes effect (*profile*): it acquires what
+    /// satisfies it, is answered with its code, and its blocks leave. An object whose last block leaves so, and which
+    /// has no handle, ends.
     pub fn settle<B: Bodies>(&mut self, bodies: &mut B)
         requires { WaitsHaveRoom RECURSION_MAX (B.objects bodies.old).bodies self.old.waits }
         ensures value { record { objects = B.objects bodies.new; waits = self.new.waits }
@@ -332,9 +332,9 @@ impl Waits {
         self.roster.thin(&self.live);
     }
 
-    /// The same as [`settle`](Waits::settle) where each wait that is satisfied is so by the slot of this object,
-    /// as after a change of its body in a settled state. It looks at the waits for this object alone, by their
-    /// numbers, until nobody who waits could have the object any more.
+    /// Settles, as [`settle`](Waits::settle) does, where only waits for this object can be ready, as after a change of
+    /// its body in a settled state. It looks at the waits for this object alone, by their numbers, until nobody who
+    /// waits could have the object any more.
     #[inline(never)]
     pub fn settle_after<B: Bodies>(&mut self, bodies: &mut B, id: Id)
         requires room { WaitsHaveRoom RECURSION_MAX (B.objects bodies.old).bodies self.old.waits }
@@ -352,13 +352,13 @@ impl Waits {
         self.roster.thin_slot(&self.live, id.slot, looked);
     }
 
-    /// The same where each wait that is satisfied is so by the slot of one of these objects, as after changes of
-    /// their bodies in a settled state. The waits take effect in the order of their numbers over all these slots
-    /// together: to settle after one object and then after the next would be another order.
+    /// Settles, as [`settle`](Waits::settle) does, where only waits for one of these objects can be ready, as after
+    /// changes of their bodies in a settled state. The waits take effect in the order of their numbers over all these
+    /// slots together: to settle after one object and then after the next would be another order.
     ///
-    /// It takes no memory. For each wait that it looks at it finds the next number among `k` slots, by halving in
-    /// the lists of those whose object somebody who waits could still have; where it has looked at a `k`th of the
-    /// list for all it goes over that one.
+    /// It takes no memory. For each wait that it looks at it finds the next number among `k` slots, by halving in the
+    /// lists of those whose object somebody who waits could still have; where it has looked at a `k`th of the list for
+    /// all it goes over that one.
     pub fn settle_after_each<B: Bodies>(&mut self, bodies: &mut B, ids: &[Id])
         requires room { WaitsHaveRoom RECURSION_MAX (B.objects bodies.old).bodies self.old.waits }
         requires ready { IsReadyAtOne ids.now (B.objects bodies.old).bodies self.old.waits }
@@ -375,9 +375,8 @@ impl Waits {
         self.roster.thin_slots(&self.live, ids);
     }
 
-    /// Ends a pending wait without satisfying it: its answer is 258, `WAIT_TIMEOUT` ([Wait Functions]). The
-    /// caller tells its blocks by [`leave_all`](crate::leave_all), of the objects that [`look`](Waits::look)
-    /// gives before.
+    /// Ends a pending wait without satisfying it: its answer is 258, `WAIT_TIMEOUT` ([Wait Functions]). The caller
+    /// tells its blocks by [`leave_all`](crate::leave_all), of the objects that [`look`](Waits::look) gives before.
     ///
     /// [Wait Functions]: https://learn.microsoft.com/windows/win32/sync/wait-functions
     pub fn expire(&mut self, wait: u32)
@@ -394,7 +393,7 @@ impl Waits {
     /// A pending wait whose deadline isn't after a moment. Where there is none, and none was answered before its time,
     /// that is known at once.
     pub fn overdue(&mut self, now: u64) -> Option<u32>
-        ensures some { IfSome result (λ wait. is_overdue now (slice_index_or self.old.waits wait None) ≡ true) }
+        ensures found { IfSome result (λ wait. is_overdue now (slice_index_or self.old.waits wait None) ≡ true) }
         ensures none { IfNone result ((n : ℕ) → is_overdue now (slice_index_or self.old.waits n None) ≡ false) }
         ensures same { self.new ≡ self.old }
     {
@@ -410,7 +409,7 @@ impl Waits {
         next_due(&self.live, &mut self.deadlines)
     }
 
-    /// It is a moment, at which no pending wait's time is up.
+    /// Sets the clock to a later moment, at which no deadline has come.
     pub fn pass_to(&mut self, now: u64)
         requires later { self.old.clock ≤ now }
         requires last { now ≤ LAST_MOMENT }
@@ -420,8 +419,8 @@ impl Waits {
         self.clock = now;
     }
 
-    /// Takes the wait of a thread away, pending or answered, if it has one. The caller tells the blocks of a
-    /// pending one as for [`expire`](Waits::expire).
+    /// Takes the wait of a thread away, pending or answered, if it has one. The caller tells the blocks of a pending
+    /// one as for [`expire`](Waits::expire).
     pub fn drop_thread(&mut self, thread: u32)
         ensures { self.new ≡ without_thread self.old thread }
     {
@@ -431,7 +430,7 @@ impl Waits {
         self.live.remove(thread, number);
     }
 
-    /// The code of a wait that is answered, which is over with it: its thread may wait again.
+    /// Takes the code of an answered wait. The wait is then over, and its thread may wait again.
     pub fn take_result(&mut self, wait: u32) -> u32
         requires { IsSome (code_at (slice_index_or self.old.waits wait None)) }
         ensures code { code_at (slice_index_or self.old.waits wait None) ≡ Some result }

@@ -1,6 +1,5 @@
 -- A list that is told place by place: the chain of its first places grows at the end, and its rest stays; or it begins
--- with what is
--- told of each item of another.
+-- with what is told of each item of another.
 use Rattle.std.proofs.Common.{◌≡◌, ◌+◌, ◌<◌, ◌≤◌, ◌∙◌, ℕ, zero, suc, List, [], ◌∷◌, ◌++◌, ap, refl, subst, sym, map, take, drop, length, get_or, arith}
 use Rattle.std.specs.Prelude.{slice_set}
 use Rattle.std.proofs.lemmas.List.{drop-set-lt, take_more_set}

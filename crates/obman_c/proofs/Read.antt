@@ -5,6 +5,7 @@ use Rattle.pin_core.specs.declared.id.Id.{Id}
 use Rattle.pin_core.specs.declared.descr.Descr.{Descr}
 use Rattle.pin_core.specs.Holds.{drop_last, same_id, tally, weight}
 use Rattle.pin_core.proofs.Counts.{count-drop_last}
+use Rattle.pin_core.proofs.Moves.{same_id-same}
 use Rattle.pin_words.specs.declared.fault.PinFault.{PinFault}
 use Rattle.pin_words.specs.Plays.{Show}
 use Rattle.pin_words.specs.Seats.{ReaderState}
@@ -65,19 +66,16 @@ pub inspected : {m : Whole} {id : Id} {old new : ReaderState} {status : ℕ} {be
     → Show id made.descr old.view.notes → IsMet m.keeper old.view id.slot new.view
     → InspectTold m id old status new before after
 inspected {made = made} held told there value noted looked =
-    inl (held, told, record { made = made; there = there; value = value; noted = noted; looked = looked })
+    inl (held, told, record { made = made; is_there = there; value = value; noted = noted; looked = looked })
 
 pub uninspected : {m : Whole} {id : Id} {old new : ReaderState} {status : ℕ} {before after : Description}
     → (IsHeld id old → ⊥) → status ≡ 6 → new ≡ old → after ≡ before → InspectTold m id old status new before after
 uninspected none told same value = inr (none, told, λ i. (same i, value i))
 
 -- the first Id of which a copy is held
-same : (id : Id) → same_id id id ≡ true
-same id = grind arith
-
 pub first_there : (held : List Id) (d : Id) → 0 < length held → 0 < tally (same_id (get_or held 0 d)) held
 first_there [] d some = absurd (let c : ⊥ = omega arith in c)
-first_there (x ∷ held) d some = let one : weight (same_id x x) ≡ 1 = ap weight (same x) in omega arith
+first_there (x ∷ held) d some = let one : weight (same_id x x) ≡ 1 = ap weight (same_id-same x) in omega arith
 
 every : (held : List Id) → tally (λ _. true) held ≡ length held
 every [] = refl

@@ -66,13 +66,6 @@ in_place xs k id there = ⊎_elim (λ (lt : k < length xs). lt)
     absurd (let bad : ⊥ = cc in bad))
     (cases_lt k (length xs))
 
--- there are at most 65,536 slots
-pub below : (w : Whole) (id : Id) → IsConsistent w → IsThere w.state.objects id → id.slot < 65536
-below w id consistent there =
-    let inside = in_place w.state.objects id.slot id there in
-    let most = w.state.limits.in_range.slots_in_range.1 in
-    omega (arith, inside, consistent.sizes.0, most)
-
 taken_back : (s t : State) (slot : ℕ) (id : Id) (outcome : Reclaim) (reply : Reply) (past : Bool)
     (object : Option Object) (body : Option Body) → past ≡ false
     → id_in object ≡ Some id → is_closing object body ≡ true

@@ -12,7 +12,7 @@ use Rattle.obman_c_base.specs.Noted.{IsNoted}
 use Rattle.obman_c_base.specs.declared.owned.OwnedManager.{OwnedManager}
 use Rattle.obman_c.specs.declared.values.Reaping.{Reaping}
 use Rattle.obman_c.specs.Reaping.{ReapsTold}
-use Rattle.obman_c.specs.Telling.{Tells, TellsAs, reaping_in, status_of}
+use Rattle.obman_c.specs.Telling.{TellsStatus, TellsValue, reaping_in, status_of}
 
 stepped : {old lent : OwnedManager} {left now : Whole} {call : Call} {reply : Reply} → lent ≡ old
     → Step lent.manager call reply left → now ≡ left → Step old.manager call reply now
@@ -22,7 +22,7 @@ stepped {lent = lent} {now = now} {call = call} {reply = reply} is step same =
 
 pub tells : {old lent new : OwnedManager} {left : Whole} {call : Call} {reply : Reply} {status : ℕ} → lent ≡ old
     → Step lent.manager call reply left → new.manager ≡ left
-    → IsNoted lent.recorder call reply new.recorder → status ≡ status_of reply → Tells old call status new
+    → IsNoted lent.recorder call reply new.recorder → status ≡ status_of reply → TellsStatus old call status new
 tells {new = new} {call = call} {reply = reply} is step same noted told = record {
   reply = reply;
   step = stepped is step same;
@@ -34,7 +34,7 @@ pub tells_as : {V : Type 0} {value_of : Reply → V
     → V} {old lent new : OwnedManager} {left : Whole} {call : Call} {reply : Reply} {status : ℕ} {before after : V}
     → lent ≡ old → Step lent.manager call reply left → new.manager ≡ left
     → IsNoted lent.recorder call reply new.recorder → status ≡ status_of reply → after ≡ value_of reply before
-    → TellsAs value_of old call status new before after
+    → TellsValue value_of old call status new before after
 tells_as {new = new} {call = call} {reply = reply} is step same noted told value = record {
   reply = reply;
   step = stepped is step same;
@@ -47,10 +47,10 @@ tells_as {new = new} {call = call} {reply = reply} is step same noted told value
 pub tells_same : {V : Type 0} {value_of : Reply → V → V} {old lent new : OwnedManager} {left : Whole}
     {call asked : Call} {reply : Reply} {status : ℕ} {before after : V} → asked ≡ call → lent ≡ old
     → Step lent.manager asked reply left → new.manager ≡ left → IsNoted lent.recorder asked reply new.recorder
-    → status ≡ status_of reply → after ≡ value_of reply before → TellsAs value_of old call status new before after
+    → status ≡ status_of reply → after ≡ value_of reply before → TellsValue value_of old call status new before after
 tells_same {value_of = value_of} {old = old} {new = new} {status = status} {before = before} {after = after} is_call is
     step same noted told value =
-    subst (λ (c : Call). TellsAs value_of old c status new before after) is_call
+    subst (λ (c : Call). TellsValue value_of old c status new before after) is_call
     (tells_as is step same noted told value)
 
 pub reaps : {slot : ℕ} {old lent new : OwnedManager} {left : Whole} {reply : Reply} {status : ℕ}

@@ -1,16 +1,13 @@
 -- What C is told of a row of the directory.
 use Rattle.std.specs.Prelude.{◌≡◌, ◌<◌, ◌≤◌, ℕ, List, ◌++◌, ◌⊎◌, Option, Some, None, drop, length}
 use Rattle.pin_core.specs.declared.id.Id.{Id}
-use Rattle.ob_name.specs.Names.{Namespace, ObjectName, Global, Session}
+use Rattle.ob_name.specs.Names.{ObjectName}
+use Rattle.ob_name.specs.Keys.{space_number}
 use Rattle.obman_c.specs.declared.reading.Row.{Row}
 use Rattle.obman_c.specs.Telling.{object_of}
 
-abbrev pub session_of : Namespace → ℕ
-session_of Global = 0
-session_of (Session session) = session
-
 abbrev pub row_of : ObjectName × Id → Row
-row_of found = record { object = object_of found.1; session = session_of found.0.space; length = length found.0.base }
+row_of found = record { object = object_of found.1; session = space_number found.0.space; length = length found.0.base }
 
 -- the name stands at the front of the bytes and 0 is told; or it doesn't fit, and 122 is told
 abbrev pub RowTells : ObjectName × Id → ℕ → Row → List ℕ → List ℕ → Type 0

@@ -64,9 +64,9 @@ standing_of (Timer signaled due) = record ended {
 standing_of Ended = ended
 
 -- at its place and 0, or 6, and the place as it was
-abbrev pub Stands : Option ObjectState → ℕ → Standing → Standing → Type 0
-Stands (Some state) status before after = (status ≡ 0) × (after ≡ standing_of state)
-Stands None status before after = (status ≡ 6) × (after ≡ before)
+abbrev pub TellsState : Option ObjectState → ℕ → Standing → Standing → Type 0
+TellsState (Some state) status before after = (status ≡ 0) × (after ≡ standing_of state)
+TellsState None status before after = (status ≡ 6) × (after ≡ before)
 
 -- a handle with what it names
 abbrev pub handle_entry : ℕ × Entry → HandleEntry

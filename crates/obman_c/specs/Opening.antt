@@ -24,8 +24,7 @@ abbrev pub new_owned : Limits → TableState → OwnedManager
 new_owned limits t = unrecorded (new_manager limits t)
 
 -- A place gets a new manager with these limits, over words of its own, and 0 is told; or it stays as it is, and 87 is
--- told where a
--- limit is out of its range, else 8, for want of memory.
+-- told where a limit is out of its range, else 8, for want of memory.
 pub data Opens (b : Bounds) (status : ℕ) (before after : Option OwnedManager) : Type 0 where
   opens : (limits : Limits) (t : TableState) → AreAs b limits → status ≡ 0
       → after ≡ Some (new_owned limits t) → Opens b status before after

@@ -27,8 +27,7 @@ abbrev pub AreOfOne : Whole → ReaderState → Type 0
 AreOfOne m r = m.keeper.table ≡ Some r.table
 
 -- A place gets a reader of the manager's pins, of the next number and with nothing held, and 0 is told; or the place
--- stays as it is,
--- and 8 is told for want of memory. Nothing else changes but that the number was given.
+-- stays as it is, and 8 is told for want of memory. Nothing else changes but that the number was given.
 pub data ReaderOpens (old : Whole) (status : ℕ) (new : Whole) (before after : Option OwnedReader) : Type 0 where
   opens : (r : ReaderState) → status ≡ 0 → after ≡ Some (record { reader = r }) → r.view ≡ given_by old.keeper
       → AreOfOne old r → new ≡ record old { keeper = with_next old.keeper } → ReaderOpens old status new before after
@@ -62,7 +61,7 @@ DescribeTold id old status new before after = WhereHeld id old status (ReaderSta
 -- the object of a held Id is there: its card, which is of the descriptor that the reader noted, if it did
 pub record IsInspected (m : Whole) (id : Id) (old new : ReaderState) (after : Description) : Type 0 where
   pub made : Card
-  pub there : card m.state id ≡ Some made
+  pub is_there : card m.state id ≡ Some made
   pub value : after ≡ description_of made
   pub noted : Show id made.descr old.view.notes
   pub looked : IsMet m.keeper old.view id.slot new.view

@@ -41,14 +41,14 @@ status_of (Ticked now) = 0
 
 -- From a state a call gives some reply and goes on as the manager does, this number is told of the reply, and where
 -- calls are recorded this one is, with the reply.
-pub record Tells (old : OwnedManager) (call : Call) (status : ℕ) (new : OwnedManager) : Type 0 where
+pub record TellsStatus (old : OwnedManager) (call : Call) (status : ℕ) (new : OwnedManager) : Type 0 where
   pub reply : Reply
   pub step : Step old.manager call reply new.manager
   pub told : status ≡ status_of reply
   pub noted : IsNoted old.recorder call reply new.recorder
 
 -- the same where a value is told too, over what stood at its place
-pub record TellsAs {V : Type 0} (value_of : Reply → V
+pub record TellsValue {V : Type 0} (value_of : Reply → V
     → V) (old : OwnedManager) (call : Call) (status : ℕ) (new : OwnedManager) (before after : V) : Type 0 where
   pub reply : Reply
   pub step : Step old.manager call reply new.manager

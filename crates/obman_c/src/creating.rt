@@ -3,7 +3,7 @@ ghost use Rattle.std.specs.Prelude.{◌≡◌};
 ghost use Rattle.ob_manager.specs.Makings.{making_of};
 ghost use Rattle.ob_manager.specs.declared.call.CallOf.TheVariants as Call;
 ghost use Rattle.obman_c.specs.Asking.{asked_for, mask_of, rights_in};
-ghost use Rattle.obman_c.specs.Telling.{TellsAs, opening_in};
+ghost use Rattle.obman_c.specs.Telling.{TellsValue, opening_in};
 
 use crate::values::{Opening, tell_opening};
 use ob_manager::{Ask, Make};
@@ -60,7 +60,7 @@ pub extern "C" fn om_create_event(
     set: bool,
     opening: &mut Opening,
 ) -> u32
-    ensures { TellsAs opening_in owner.old.value
+    ensures { TellsValue opening_in owner.old.value
         (Call.MakeEvent thread (asked_for asking.now name.now) manual set)
         result owner.new.value opening.old opening.new }
 {
@@ -89,7 +89,7 @@ pub extern "C" fn om_create_mutex(
     owned: bool,
     opening: &mut Opening,
 ) -> u32
-    ensures { TellsAs opening_in owner.old.value
+    ensures { TellsValue opening_in owner.old.value
         (Call.MakeMutex thread (asked_for asking.now name.now) owned)
         result owner.new.value opening.old opening.new }
 {
@@ -118,7 +118,7 @@ pub extern "C" fn om_create_semaphore(
     max: i32,
     opening: &mut Opening,
 ) -> u32
-    ensures { TellsAs opening_in owner.old.value
+    ensures { TellsValue opening_in owner.old.value
         (Call.MakeSemaphore thread
         (asked_for asking.now name.now) initial max) result owner.new.value opening.old opening.new }
 {
@@ -147,7 +147,7 @@ pub extern "C" fn om_create_timer(
     manual: bool,
     opening: &mut Opening,
 ) -> u32
-    ensures { TellsAs opening_in owner.old.value
+    ensures { TellsValue opening_in owner.old.value
         (Call.MakeTimer thread (asked_for asking.now name.now) manual)
         result owner.new.value opening.old opening.new }
 {
@@ -176,7 +176,7 @@ pub extern "C" fn om_open_event(
     name: &[u8],
     opening: &mut Opening,
 ) -> u32
-    ensures { TellsAs opening_in owner.old.value
+    ensures { TellsValue opening_in owner.old.value
         (Call.OpenNamed thread Kind.Event
         (mask_of access) inherit name.now) result owner.new.value opening.old opening.new }
 {
@@ -209,7 +209,7 @@ pub extern "C" fn om_open_mutex(
     name: &[u8],
     opening: &mut Opening,
 ) -> u32
-    ensures { TellsAs opening_in owner.old.value
+    ensures { TellsValue opening_in owner.old.value
         (Call.OpenNamed thread Kind.Mutex
         (mask_of access) inherit name.now) result owner.new.value opening.old opening.new }
 {
@@ -242,7 +242,7 @@ pub extern "C" fn om_open_semaphore(
     name: &[u8],
     opening: &mut Opening,
 ) -> u32
-    ensures { TellsAs opening_in owner.old.value
+    ensures { TellsValue opening_in owner.old.value
         (Call.OpenNamed thread Kind.Semaphore
         (mask_of access) inherit name.now) result owner.new.value opening.old opening.new }
 {
@@ -275,7 +275,7 @@ pub extern "C" fn om_open_timer(
     name: &[u8],
     opening: &mut Opening,
 ) -> u32
-    ensures { TellsAs opening_in owner.old.value
+    ensures { TellsValue opening_in owner.old.value
         (Call.OpenNamed thread Kind.Timer
         (mask_of access) inherit name.now) result owner.new.value opening.old opening.new }
 {

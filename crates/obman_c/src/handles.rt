@@ -4,7 +4,7 @@ ghost use Rattle.ob_manager.specs.Handles.{resolve};
 ghost use Rattle.ob_manager.specs.declared.call.CallOf.TheVariants as Call;
 ghost use Rattle.obman_c.specs.Asking.{mask_of, number_at};
 ghost use Rattle.obman_c.specs.Finding.{Finds};
-ghost use Rattle.obman_c.specs.Telling.{Tells, TellsAs, flags_in, opening_in};
+ghost use Rattle.obman_c.specs.Telling.{TellsStatus, TellsValue, flags_in, opening_in};
 
 use crate::status::told;
 use crate::values::{Object, Opening, object_of, tell_flags, tell_opening};
@@ -25,7 +25,7 @@ pub extern "C" fn om_duplicate(
     options: u32,
     opening: &mut Opening,
 ) -> u32
-    ensures { TellsAs opening_in owner.old.value
+    ensures { TellsValue opening_in owner.old.value
         (Call.Duplicate thread source handle (number_at target)
         (mask_of access) inherit options) result owner.new.value opening.old opening.new }
 {
@@ -61,7 +61,7 @@ fn number_at(number: u32) -> Option<u32>
 #[tactic(auto, using(crate::proofs::Told::tells))]
 #[unsafe(no_mangle)]
 pub extern "C" fn om_close(owner: &mut Owner, thread: u32, handle: u32) -> u32
-    ensures { Tells owner.old.value (Call.CloseHandle thread handle) result owner.new.value }
+    ensures { TellsStatus owner.old.value (Call.CloseHandle thread handle) result owner.new.value }
 {
     let held = owner.lend();
     let reply = held.manager.close(thread, handle);
@@ -78,7 +78,7 @@ pub extern "C" fn om_handle_flags(
     handle: u32,
     flags: &mut u32,
 ) -> u32
-    ensures step { TellsAs flags_in owner.old.value
+    ensures step { TellsValue flags_in owner.old.value
         (Call.GetFlags thread handle) result owner.new.value flags.old flags.new }
     ensures same { owner.new.value.manager ≡ owner.old.value.manager }
 {
@@ -98,7 +98,7 @@ pub extern "C" fn om_set_handle_flags(
     mask: u32,
     flags: u32,
 ) -> u32
-    ensures { Tells owner.old.value (Call.SetFlags thread handle mask flags) result owner.new.value }
+    ensures { TellsStatus owner.old.value (Call.SetFlags thread handle mask flags) result owner.new.value }
 {
     let held = owner.lend();
     let reply = held.manager.set_handle_flags(thread, handle, mask, flags);

@@ -8,8 +8,8 @@ ghost use Rattle.ob_store.specs.Walking.{is_object_at, is_process, is_thread_of,
 ghost use Rattle.ob_manager.specs.Handles.{entry_of};
 ghost use Rattle.ob_manager.specs.States.{state_of};
 ghost use Rattle.obman_c.specs.Asking.{number_at};
-ghost use Rattle.obman_c.specs.Looking.{FindsEntry, IdsTell, NextHandle, NextObject, SessionTold, Stands, WaitTells};
-ghost use Rattle.obman_c.specs.Looking.{handle_entry, or_zero, pending_wait, places, standing_of};
+ghost use Rattle.obman_c.specs.Looking.{FindsEntry, IdsTell, NextHandle, NextObject, SessionTold, TellsState};
+ghost use Rattle.obman_c.specs.Looking.{WaitTells, handle_entry, or_zero, pending_wait, places, standing_of};
 ghost use Rattle.obman_c.specs.Pinning.{id_at};
 ghost use Rattle.obman_c.specs.Telling.{object_of};
 
@@ -155,7 +155,7 @@ pub extern "C" fn om_state(
     generation: u32,
     state: &mut Standing,
 ) -> u32
-    ensures stands { Stands (state_of owner.old.value.manager.state
+    ensures stands { TellsState (state_of owner.old.value.manager.state
         (id_at slot generation)) result state.old state.new }
     ensures same { owner.new.value ≡ owner.old.value }
 {

@@ -31,8 +31,8 @@ pub extern "C" fn om_new(alloc: Global, bounds: &Bounds, place: &mut Place) -> u
     }
 }
 
-/// The end of a manager: its memory is given back, and C may use what it passed no more.
-/// Zeros are no manager, and nothing is done.
+/// The end of a manager: its memory is given back, and C may use what it passed no more. Zeros are no manager, and
+/// nothing is done.
 #[unsafe(no_mangle)]
 pub extern "C" fn om_free(ending: Ending) {
     if let Some(owner) = ending.owner() {

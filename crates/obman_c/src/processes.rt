@@ -1,6 +1,6 @@
 //! Processes and threads.
 ghost use Rattle.ob_manager.specs.declared.call.CallOf.TheVariants as Call;
-ghost use Rattle.obman_c.specs.Telling.{Tells, TellsAs, member_in, thread_in};
+ghost use Rattle.obman_c.specs.Telling.{TellsStatus, TellsValue, member_in, thread_in};
 
 use crate::status::told;
 use crate::values::{Member, tell_member, tell_thread};
@@ -11,7 +11,7 @@ use obman_c_base::Owner;
 #[tactic(auto, using(crate::proofs::Told::tells_as))]
 #[unsafe(no_mangle)]
 pub extern "C" fn om_spawn(owner: &mut Owner, session: u32, member: &mut Member) -> u32
-    ensures { TellsAs member_in owner.old.value
+    ensures { TellsValue member_in owner.old.value
         (Call.Spawn session) result owner.new.value member.old member.new }
 {
     let held = owner.lend();
@@ -29,7 +29,7 @@ pub extern "C" fn om_child(
     inherit: bool,
     member: &mut Member,
 ) -> u32
-    ensures { TellsAs member_in owner.old.value
+    ensures { TellsValue member_in owner.old.value
         (Call.Child thread inherit) result owner.new.value member.old member.new }
 {
     let held = owner.lend();
@@ -42,7 +42,7 @@ pub extern "C" fn om_child(
 #[tactic(auto, using(crate::proofs::Told::tells_as))]
 #[unsafe(no_mangle)]
 pub extern "C" fn om_thread(owner: &mut Owner, process: u32, thread: &mut u32) -> u32
-    ensures { TellsAs thread_in owner.old.value
+    ensures { TellsValue thread_in owner.old.value
         (Call.StartThread process) result owner.new.value thread.old thread.new }
 {
     let held = owner.lend();
@@ -55,7 +55,7 @@ pub extern "C" fn om_thread(owner: &mut Owner, process: u32, thread: &mut u32) -
 #[tactic(auto, using(crate::proofs::Told::tells))]
 #[unsafe(no_mangle)]
 pub extern "C" fn om_end_thread(owner: &mut Owner, thread: u32) -> u32
-    ensures { Tells owner.old.value (Call.EndThread thread) result owner.new.value }
+    ensures { TellsStatus owner.old.value (Call.EndThread thread) result owner.new.value }
 {
     let held = owner.lend();
     let reply = held.manager.end_thread(thread);
@@ -67,7 +67,7 @@ pub extern "C" fn om_end_thread(owner: &mut Owner, thread: u32) -> u32
 #[tactic(auto, using(crate::proofs::Told::tells))]
 #[unsafe(no_mangle)]
 pub extern "C" fn om_exit(owner: &mut Owner, process: u32) -> u32
-    ensures { Tells owner.old.value (Call.Exit process) result owner.new.value }
+    ensures { TellsStatus owner.old.value (Call.Exit process) result owner.new.value }
 {
     let held = owner.lend();
     let reply = held.manager.exit(process);

@@ -48,8 +48,8 @@ pub extern "C" fn om_reader_new(alloc: Global, owner: &mut Owner, place: &mut Re
     }
 }
 
-/// The end of a reader, which lets go what it holds. C may use what it passed no more.
-/// Zeros are no reader, and nothing is done.
+/// The end of a reader, which lets go what it holds. C may use what it passed no more. Zeros are no reader, and nothing
+/// is done.
 #[unsafe(no_mangle)]
 pub extern "C" fn om_reader_free(ending: ReaderEnding) {
     if let Some(owner) = ending.owner() {
@@ -71,7 +71,7 @@ fn let_go(reader: &mut Reader)
 /// An Id of which a copy is held.
 #[tactic(auto, using(crate::proofs::Read::first_there))]
 fn one_of(held: &[Id]) -> Option<Id>
-    ensures there { IfSome result (λ id. 0 < tally (same_id id) held.now) }
+    ensures is_there { IfSome result (λ id. 0 < tally (same_id id) held.now) }
     ensures none { IfNone result (held.now ≡ []) }
 {
     if held.is_empty() {

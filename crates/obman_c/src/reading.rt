@@ -1,8 +1,9 @@
 //! The directory of names.
 ghost use Rattle.std.specs.Prelude.{◌≡◌, length, slice_get};
+ghost use Rattle.ob_name.specs.Keys.{space_number};
 ghost use Rattle.ob_name.specs.Refs.{namespace_of, row_at};
 ghost use Rattle.ob_store.specs.Directory.{directory_of};
-ghost use Rattle.obman_c.specs.Listing.{RowTold, RowTells, session_of};
+ghost use Rattle.obman_c.specs.Listing.{RowTold, RowTells};
 
 use crate::status::NO_MORE;
 use crate::values::{Object, object_of};
@@ -71,7 +72,7 @@ fn tell_row(found: NameRef<'_>, id: Id, name: &mut [u8], row: &mut Row) -> u32
 
 /// The session of a namespace, 0 for the global one.
 fn session_of(space: Space) -> u32
-    ensures { result ≡ session_of (namespace_of space) }
+    ensures { result ≡ space_number (namespace_of space) }
 {
     match space {
         Space::Global => 0,

@@ -3,7 +3,7 @@ ghost use Rattle.std.specs.Prelude.{◌≡◌};
 ghost use Rattle.ob_manager.specs.declared.call.CallOf.TheVariants as Call;
 ghost use Rattle.obman_c.specs.Pinning.{id_at};
 ghost use Rattle.obman_c.specs.Reaping.{ReapsAll, ReapsTold};
-ghost use Rattle.obman_c.specs.Telling.{TellsAs, references_in};
+ghost use Rattle.obman_c.specs.Telling.{TellsValue, references_in};
 
 use crate::values::{Reaping, References, tell_reaping, tell_references};
 use ob_manager::Ask;
@@ -22,7 +22,7 @@ pub extern "C" fn om_reap(owner: &mut Owner, slot: u32, reaping: &mut Reaping) -
 }
 
 /// Slots of ended objects by rising number, each taken back by [`Manager::reap`], as far as there are any and places
-/// for them. How many.
+/// for them. Answers how many.
 fn take_ended(held: &mut OwnedManager, reapings: &mut [Reaping]) -> usize
     ensures { ReapsAll held.old reapings.old result held.new reapings.new }
 {
@@ -64,7 +64,7 @@ pub extern "C" fn om_counts(
     generation: u32,
     references: &mut References,
 ) -> u32
-    ensures step { TellsAs references_in owner.old.value
+    ensures step { TellsValue references_in owner.old.value
         (Call.Counts (id_at slot generation)) result owner.new.value references.old references.new }
     ensures same { owner.new.value.manager ≡ owner.old.value.manager }
 {

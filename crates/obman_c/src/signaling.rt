@@ -1,6 +1,6 @@
 //! Events, semaphores and mutexes.
 ghost use Rattle.ob_manager.specs.declared.call.CallOf.TheVariants as Call;
-ghost use Rattle.obman_c.specs.Telling.{Tells, TellsAs, count_in};
+ghost use Rattle.obman_c.specs.Telling.{TellsStatus, TellsValue, count_in};
 
 use crate::status::told;
 use crate::values::tell_count;
@@ -11,7 +11,7 @@ use obman_c_base::Owner;
 #[tactic(auto, using(crate::proofs::Told::tells))]
 #[unsafe(no_mangle)]
 pub extern "C" fn om_set_event(owner: &mut Owner, thread: u32, handle: u32) -> u32
-    ensures { Tells owner.old.value (Call.SetEvent thread handle) result owner.new.value }
+    ensures { TellsStatus owner.old.value (Call.SetEvent thread handle) result owner.new.value }
 {
     let held = owner.lend();
     let reply = held.manager.set_event(thread, handle);
@@ -23,7 +23,7 @@ pub extern "C" fn om_set_event(owner: &mut Owner, thread: u32, handle: u32) -> u
 #[tactic(auto, using(crate::proofs::Told::tells))]
 #[unsafe(no_mangle)]
 pub extern "C" fn om_reset_event(owner: &mut Owner, thread: u32, handle: u32) -> u32
-    ensures { Tells owner.old.value (Call.ResetEvent thread handle) result owner.new.value }
+    ensures { TellsStatus owner.old.value (Call.ResetEvent thread handle) result owner.new.value }
 {
     let held = owner.lend();
     let reply = held.manager.reset_event(thread, handle);
@@ -40,7 +40,7 @@ pub extern "C" fn om_release_semaphore(
     count: i32,
     previous: &mut u32,
 ) -> u32
-    ensures { TellsAs count_in owner.old.value
+    ensures { TellsValue count_in owner.old.value
         (Call.ReleaseSemaphore thread handle count) result owner.new.value previous.old previous.new }
 {
     let held = owner.lend();
@@ -60,7 +60,7 @@ pub extern "C" fn om_release_semaphore(
 #[tactic(auto, using(crate::proofs::Told::tells))]
 #[unsafe(no_mangle)]
 pub extern "C" fn om_release_mutex(owner: &mut Owner, thread: u32, handle: u32) -> u32
-    ensures { Tells owner.old.value (Call.ReleaseMutex thread handle) result owner.new.value }
+    ensures { TellsStatus owner.old.value (Call.ReleaseMutex thread handle) result owner.new.value }
 {
     let held = owner.lend();
     let reply = held.manager.release_mutex(thread, handle);

@@ -2,7 +2,7 @@
 ghost use Rattle.std.specs.Prelude.{◌≡◌};
 ghost use Rattle.ob_manager.specs.declared.call.CallOf.TheVariants as Call;
 ghost use Rattle.obman_c.specs.Looking.{NextDue};
-ghost use Rattle.obman_c.specs.Telling.{Tells};
+ghost use Rattle.obman_c.specs.Telling.{TellsStatus};
 
 use crate::status::{NO_MORE, told};
 use ob_manager::Ask;
@@ -11,7 +11,7 @@ use obman_c_base::{Owner, SUCCESS};
 /// [`Manager::set_timer`](ob_manager::Manager::set_timer): 0, 87, 170, 6 or 5.
 #[unsafe(no_mangle)]
 pub extern "C" fn om_set_timer(owner: &mut Owner, thread: u32, handle: u32, due: i64) -> u32
-    ensures { Tells owner.old.value (Call.SetTimer thread handle due) result owner.new.value }
+    ensures { TellsStatus owner.old.value (Call.SetTimer thread handle due) result owner.new.value }
 {
     let held = owner.lend();
     let reply = held.manager.set_timer(thread, handle, due);
@@ -30,7 +30,7 @@ pub extern "C" fn om_set_timer(owner: &mut Owner, thread: u32, handle: u32, due:
 #[tactic(auto, using(crate::proofs::Told::tells))]
 #[unsafe(no_mangle)]
 pub extern "C" fn om_cancel_timer(owner: &mut Owner, thread: u32, handle: u32) -> u32
-    ensures { Tells owner.old.value (Call.CancelTimer thread handle) result owner.new.value }
+    ensures { TellsStatus owner.old.value (Call.CancelTimer thread handle) result owner.new.value }
 {
     let held = owner.lend();
     let reply = held.manager.cancel_timer(thread, handle);
@@ -42,7 +42,7 @@ pub extern "C" fn om_cancel_timer(owner: &mut Owner, thread: u32, handle: u32) -
 #[tactic(auto, using(crate::proofs::Told::tells))]
 #[unsafe(no_mangle)]
 pub extern "C" fn om_tick(owner: &mut Owner, now: u64) -> u32
-    ensures { Tells owner.old.value (Call.Tick now) result owner.new.value }
+    ensures { TellsStatus owner.old.value (Call.Tick now) result owner.new.value }
 {
     let held = owner.lend();
     let reply = held.manager.tick(now);

@@ -2,7 +2,7 @@
 ghost use Rattle.std.specs.Prelude.{◌≡◌, None, slice_index_or};
 ghost use Rattle.ob_waits.specs.Waits as waits;
 ghost use Rattle.ob_manager.specs.declared.call.CallOf.TheVariants as Call;
-ghost use Rattle.obman_c.specs.Telling.{Tells, TellsAs, answer_in};
+ghost use Rattle.obman_c.specs.Telling.{TellsStatus, TellsValue, answer_in};
 ghost use Rattle.ob_manager.specs.declared.waiting.Timeout.TheVariants as Timeout;
 ghost use Rattle.obman_c.specs.Waiting.{TakesAll, mode_of};
 
@@ -41,7 +41,7 @@ pub extern "C" fn om_wait(
     handles: &[u32],
     answer: &mut u32,
 ) -> u32
-    ensures { TellsAs answer_in owner.old.value
+    ensures { TellsValue answer_in owner.old.value
         (Call.WaitFor thread (mode_of all)
         (Timeout.Millis milliseconds) handles.now) result owner.new.value answer.old answer.new }
 {
@@ -65,7 +65,7 @@ pub extern "C" fn om_wait(
 #[tactic(auto, using(crate::proofs::Told::tells_as))]
 #[unsafe(no_mangle)]
 pub extern "C" fn om_wait_result(owner: &mut Owner, wait: u32, answer: &mut u32) -> u32
-    ensures { TellsAs answer_in owner.old.value
+    ensures { TellsValue answer_in owner.old.value
         (Call.WaitResult wait) result owner.new.value answer.old answer.new }
 {
     let held = owner.lend();
@@ -75,7 +75,7 @@ pub extern "C" fn om_wait_result(owner: &mut Owner, wait: u32, answer: &mut u32)
 }
 
 /// The answers of waits by rising number, each taken by [`Manager::wait_result`], as far as there are any and places
-/// for them. How many.
+/// for them. Answers how many.
 fn take_answers(held: &mut OwnedManager, answers: &mut [Answered]) -> usize
     ensures { TakesAll held.old answers.old result held.new answers.new }
 {
@@ -108,7 +108,7 @@ pub extern "C" fn om_take_answered(
 #[tactic(auto, using(crate::proofs::Told::tells))]
 #[unsafe(no_mangle)]
 pub extern "C" fn om_expire(owner: &mut Owner, wait: u32) -> u32
-    ensures { Tells owner.old.value (Call.Expire wait) result owner.new.value }
+    ensures { TellsStatus owner.old.value (Call.Expire wait) result owner.new.value }
 {
     let held = owner.lend();
     let reply = held.manager.expire(wait);

@@ -27,7 +27,7 @@ pub struct Bounds {
     pub max_recursion: u32,
 }
 
-/// The same as limits of a manager; [`Fault::Parameter`] where one is out of its range.
+/// The limits of a manager that C gives; [`Fault::Parameter`] where one is out of its range.
 pub fn limits_of(bounds: &Bounds) -> Result<Limits, Fault>
     ensures same { IfOk result (λ limits. AreAs bounds.now limits) }
     ensures allowed { IfOk result (λ limits. AreAllowed bounds.now) }

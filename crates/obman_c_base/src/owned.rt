@@ -48,14 +48,14 @@ impl OwnedManager {
         ensures manager { self.new.manager ≡ self.old.manager }
     {
         if self.recorder.is_on() {
-            // Copies: so the call and the reply themselves stay in registers where nothing is recorded.
+            // Copies are lent, so that the call and the reply themselves stay in registers where nothing is recorded.
             let (call, reply) = (*call, *reply);
             record(&mut self.recorder, &call, &reply);
         }
     }
 }
 
-// It stands apart, so that calls have no more than the test in them.
+// It stands apart, so that a call has no more of it inlined than the test.
 #[cold]
 #[inline(never)]
 #[tactic(auto, using(crate::proofs::Noted::notes))]

@@ -11,8 +11,8 @@ use Rattle.ob_manager.specs.Savestates.{load, saved}
 use Rattle.obman_c_base.specs.Owned.{unrecorded}
 use Rattle.obman_c_base.specs.declared.owned.OwnedManager.{OwnedManager}
 
--- Where there is room for the savestate it is put there, 0 is told, and how many bytes it has; where it doesn't fit
--- 122 is told, and how many it has; or 8, for want of memory, and nothing changes.
+-- Where there is room for the savestate it is put there, 0 is told, and how many bytes it has; where it doesn't fit 122
+-- is told, and how many it has; or 8, for want of memory, and nothing changes.
 pub data Saves (w : Whole) (status : ℕ) (room after : List ℕ) (before count : ℕ) : Type 0 where
   saves : status ≡ 0 → count ≡ length (saved w) → count ≤ length room → after ≡ saved w ++ drop count room
       → Saves w status room after before count

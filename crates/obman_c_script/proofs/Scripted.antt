@@ -6,9 +6,9 @@ use Rattle.obman_c_script.specs.Scripts as scripts
 
 pub outside : {b : Bounds} {script : List ℕ} {status : ℕ} {room room' : List ℕ} {length length' : ℕ}
     → (AreAllowed b → ⊥) → status ≡ 87 → room' ≡ room → length' ≡ length
-    → scripts.Answers b script status room room' length length'
+    → scripts.ScriptAnswered b script status room room' length length'
 outside = scripts.outside
 
 pub lacks : {b : Bounds} {script : List ℕ} {status : ℕ} {room room' : List ℕ} {length length' : ℕ} → AreAllowed b
-    → status ≡ 8 → room' ≡ room → length' ≡ length → scripts.Answers b script status room room' length length'
+    → status ≡ 8 → room' ≡ room → length' ≡ length → scripts.ScriptAnswered b script status room room' length length'
 lacks = scripts.lacks

@@ -12,12 +12,12 @@ HandsOver bytes status room room' length' = (length' ≡ length bytes)
     ⊎ ((length room < length bytes) × (status ≡ 122) × (room' ≡ room)))
 
 -- The answers are what the program prints for the script, over a new manager with these limits; or nothing changes, and
--- 87 is told
--- where a limit is out of its range, else 8, for want of memory.
-pub data Answers (b : Bounds) (script : List ℕ) (status : ℕ) (room room' : List ℕ) (length length' : ℕ) : Type 0 where
+-- 87 is told where a limit is out of its range, else 8, for want of memory.
+pub data ScriptAnswered (b : Bounds) (script : List ℕ) (status : ℕ) (room room' : List ℕ)
+    (length length' : ℕ) : Type 0 where
   answers : (limits : Limits) → AreAs b limits → (output : List ℕ) → AnswersAll limits script output
-      → HandsOver output status room room' length' → Answers b script status room room' length length'
+      → HandsOver output status room room' length' → ScriptAnswered b script status room room' length length'
   outside : (AreAllowed b → ⊥) → status ≡ 87 → room' ≡ room → length' ≡ length
-      → Answers b script status room room' length length'
+      → ScriptAnswered b script status room room' length length'
   lacks : AreAllowed b → status ≡ 8 → room' ≡ room → length' ≡ length
-      → Answers b script status room room' length length'
+      → ScriptAnswered b script status room room' length length'

@@ -1,6 +1,6 @@
 //! A batch of calls, as the program reads and prints them.
 ghost use Rattle.std.specs.Prelude.{◌≡◌};
-ghost use Rattle.obman_c_script.specs.Scripts.{Answers, HandsOver};
+ghost use Rattle.obman_c_script.specs.Scripts.{ScriptAnswered, HandsOver};
 
 use ob_console::run_whole;
 use ob_output::Collected;
@@ -8,7 +8,7 @@ use ob_rights::{Fault, code_of};
 use obman_c_base::{Bounds, SUCCESS, TOO_SMALL, limits_of};
 use std::alloc::Global;
 
-/// Answers a script over a new manager, as the program does without lanes, at the front of `answers`: 0, 87 where a
+/// ScriptAnswered a script over a new manager, as the program does without lanes, at the front of `answers`: 0, 87 where a
 /// limit is out of its range, 8, or 122 where the answers don't fit. `length` says how long they are, with 0 and with
 /// 122.
 #[tactic(auto, using(crate::proofs::Scripted::outside, crate::proofs::Scripted::lacks))]
@@ -20,7 +20,7 @@ pub extern "C" fn om_script(
     answers: &mut [u8],
     length: &mut usize,
 ) -> u32
-    ensures { Answers bounds.now script.now result answers.old answers.new length.old length.new }
+    ensures { ScriptAnswered bounds.now script.now result answers.old answers.new length.old length.new }
 {
     let Ok(limits) = limits_of(bounds) else {
         return code_of(Fault::Parameter);

@@ -6,7 +6,7 @@ use Rattle.std.specs.Global.{Global}
 use Rattle.std.proofs.lemmas.Grind.{common_steps}
 use Rattle.pin_core.specs.declared.holders.Hold.{Hold}
 use Rattle.std.specs.List.{count_by}
-use Rattle.pin_core.specs.Holds.{Holding, tally, weight, sits_at, is_hold, is_copy, with_hold, drop_first}
+use Rattle.pin_core.specs.Holds.{Holding, tally, weight, is_at_slot, is_hold, is_copy, with_hold, drop_first}
 use Rattle.pin_core.specs.declared.id.Id.{Id}
 use Rattle.pin_core.specs.Grouped.{all_of, AllAt, AreGrouped}
 use Rattle.pin_core.proofs.Counts.{tally-count, count-append, drop-absent, drop-in-first, drop-in-later}
@@ -46,10 +46,10 @@ count-grouped p n (suc i) s (v ∷ vs) d e g about inside = let first =
     let ih = count-grouped p (n + 1) i s vs d (omega arith) g.1 about (omega arith) in
     let both = count-append p v.items (all_of vs) in omega arith
 
-count-all : (s : ℕ) (hs : List Hold) → AllAt s hs → tally (sits_at s) hs ≡ length hs
+count-all : (s : ℕ) (hs : List Hold) → AllAt s hs → tally (is_at_slot s) hs ≡ length hs
 count-all s [] here = refl
 count-all s (h ∷ hs) here = let ih = count-all s hs here.1 in
-    let one : weight (sits_at s h) ≡ 1 = (let e = here.0 in grind (arith, common_steps)) in omega arith
+    let one : weight (is_at_slot s h) ≡ 1 = (let e = here.0 in grind (arith, common_steps)) in omega arith
 
 pub group-at : (n i s : ℕ) (vs : List Group) (d : Group) → s ≡ n + i → AreGrouped n vs → i < length vs
     → AllAt s (get_or vs i d).items
@@ -59,10 +59,10 @@ group-at n (suc i) s (v ∷ vs) d e g inside = group-at (n + 1) i s vs d (omega 
 
 -- the pins of a slot are the length of its list
 pub length-grouped : (s : ℕ) (vs : List Group) (d : Group) → AreGrouped 0 vs → s < length vs
-    → length (get_or vs s d).items ≡ tally (sits_at s) (all_of vs)
+    → length (get_or vs s d).items ≡ tally (is_at_slot s) (all_of vs)
 length-grouped s vs d g inside = let e : s ≡ 0 + s = omega arith in
     sym (count-all s (get_or vs s d).items (group-at 0 s s vs d e g inside))
-    ∙ sym (count-grouped (sits_at s) 0 s s vs d e g (λ h x. grind (arith, common_steps)) inside)
+    ∙ sym (count-grouped (is_at_slot s) 0 s s vs d e g (λ h x. grind (arith, common_steps)) inside)
 
 pub grouped-set : (n i s : ℕ) (vs : List Group) (v : Group) → s ≡ n + i → AreGrouped n vs → AllAt s v.items
     → AreGrouped n (set vs i v)
@@ -219,9 +219,9 @@ copies-held w r id vs x is inside g at = tally-count (is_copy r id) x.items
     (λ h y. grind (arith, common_steps)) inside) ∙ ap (λ (z : Holding). tally (is_copy r id) z.all) is))
 
 pub pins-held : (w : Holding) (s : ℕ) (vs : List Group) (x : Group) → holding vs ≡ w → s < length vs → AreGrouped 0 vs
-    → x ≡ get_or vs s x → length x.items ≡ tally (sits_at s) w.all
+    → x ≡ get_or vs s x → length x.items ≡ tally (is_at_slot s) w.all
 pins-held w s vs x is inside g at = ap (λ (z : Group). length z.items) at
-    ∙ (length-grouped s vs x g inside ∙ ap (λ (z : Holding). tally (sits_at s) z.all) is)
+    ∙ (length-grouped s vs x g inside ∙ ap (λ (z : Holding). tally (is_at_slot s) z.all) is)
 
 pub holding-empty : (n : ℕ) (vs : List Group) → length vs ≡ n → AreEmpty vs
     → holding vs ≡ record { slots = n; all = [] }

@@ -7,7 +7,7 @@ use Rattle.pin_core.specs.declared.id.Id.{Id}
 use Rattle.pin_core.specs.declared.word.Phase.TheVariants.{Live}
 use Rattle.pin_core.specs.declared.holders.Hold.{Hold}
 use Rattle.pin_core.specs.declared.event.Event.TheVariants.{Pin, Release}
-use Rattle.pin_core.specs.Holds.{tally, weight, same_id, sits_at, is_copy, is_hold, hold_of, with_hold, drop_first}
+use Rattle.pin_core.specs.Holds.{tally, weight, same_id, is_at_slot, is_copy, is_hold, hold_of, with_hold, drop_first}
 use Rattle.pin_core.specs.Worlds.{WorldState, at, id_at, pins, copies, times, last_copy, next_copy}
 use Rattle.pin_core.specs.Events.{after}
 use Rattle.pin_core.specs.Safety.{may_be_held, IsSafe}
@@ -87,11 +87,11 @@ pin-safe w r s e safe inside live room = record {
         times_still ∙ (safe.numbered q id k ∙ ap (λ (n : ℕ). weight (nat_lt 0 k && nat_le k n)) (sym still))
 
     room_more : (x : ℕ) (b : Bool) → (s == x) ≡ b →
-        tally (sits_at x) (with_hold (next_copy w r s) w.holders) ≤ w.shape.max_pins
-    room_more x true e = let c = count-with_hold (sits_at x) (next_copy w r s) w.holders in
+        tally (is_at_slot x) (with_hold (next_copy w r s) w.holders) ≤ w.shape.max_pins
+    room_more x true e = let c = count-with_hold (is_at_slot x) (next_copy w r s) w.holders in
         let one : weight (s == x) ≡ 1 = ap weight e in let same : s ≡ x = eqb-true s x e in
         let lt : pins w x < w.shape.max_pins = subst (λ (z : ℕ). pins w z < w.shape.max_pins) same room in omega arith
-    room_more x false e = let c = count-with_hold (sits_at x) (next_copy w r s) w.holders in
+    room_more x false e = let c = count-with_hold (is_at_slot x) (next_copy w r s) w.holders in
         let zero : weight (s == x) ≡ 0 = ap weight e in let o = safe.room x in omega arith
 
 -- a release takes one triple: a count falls where it counts it
@@ -107,7 +107,7 @@ release-safe w r id safe have = record {
   held = λ q i some. let le = count-drop-le (is_copy q i) (is_hold (last_copy w r id)) w.holders in
       safe.held q i (omega arith);
   numbered = λ q i k. numbered_less q i k (is_copy q i (last_copy w r id)) refl;
-  room = λ x. let le = count-drop-le (sits_at x) (is_hold (last_copy w r id)) w.holders in let o = safe.room x in
+  room = λ x. let le = count-drop-le (is_at_slot x) (is_hold (last_copy w r id)) w.holders in let o = safe.room x in
       omega arith;
   slots = λ x h. let o = safe.slots x h in record {
     bounded = o.bounded;

@@ -12,7 +12,7 @@ use Rattle.pin_core.specs.declared.world.Slot.{Slot}
 use Rattle.pin_core.specs.declared.event.Event.TheVariants.{StoreDescr, Publish, CloseSlot}
 use Rattle.pin_core.specs.declared.event.Reason.{Reason}
 use Rattle.pin_core.specs.Descrs.{same_descr}
-use Rattle.pin_core.specs.Holds.{tally, weight, same_id, sits_at, is_copy}
+use Rattle.pin_core.specs.Holds.{tally, weight, same_id, is_at_slot, is_copy}
 use Rattle.pin_core.specs.Worlds.{WorldState, auto_event, opening_slot, at, id_at, pins, copies, is_of, is_with, given, given_as}
 use Rattle.pin_core.specs.Events.{is_phase, check, after, with_slot, in_phase, with_descr}
 use Rattle.pin_core.specs.Safety.{may_be_held, SlotIsSafe, IsSafe}
@@ -28,18 +28,21 @@ phase_of_test p q e = grind (arith, common_steps)
 pub same_of_test : (a b : Id) → same_id a b ≡ true → (a.slot ≡ b.slot) × (a.generation ≡ b.generation)
 same_of_test a b e = grind (arith, common_steps)
 
+pub same_id-same : (id : Id) → same_id id id ≡ true
+same_id-same id = grind (arith, common_steps)
+
 pub same_of_descr : (a b : Descr) → same_descr a b ≡ true → a ≡ b
 same_of_descr a b e = grind (arith, common_steps)
 
 pub copies-le-pins : (w : WorldState) (r : ℕ) (id : Id) → copies w r id ≤ pins w id.slot
-copies-le-pins w r id = count-le (is_copy r id) (sits_at id.slot) w.holders (λ h e. grind (arith, common_steps))
+copies-le-pins w r id = count-le (is_copy r id) (is_at_slot id.slot) w.holders (λ h e. grind (arith, common_steps))
 
 pub given_as-le : (w : WorldState) (id : Id) (d : Descr) → given_as w id d ≤ given w id
 given_as-le w id d = count-le (is_with id d) (is_of id) w.published (λ p e. grind (arith, common_steps))
 
 -- the slot s becomes x, and the published list ps
-abbrev moved : WorldState → ℕ → Slot → List (Id × Descr) → WorldState
-moved w s x ps = record { shape = w.shape; slots = set w.slots s x; published = ps; holders = w.holders }
+abbrev pub moved : WorldState → ℕ → Slot → List (Id × Descr) → WorldState
+moved w s x ps = record w { slots = set w.slots s x; published = ps }
 
 at-moved : (w : WorldState) (s : ℕ) (x : Slot) (ps : List (Id × Descr)) → s < length w.slots → at (moved w s x ps) s ≡ x
 at-moved w s x ps h = get_or-set_same w.slots s x opening_slot h
@@ -150,17 +153,11 @@ close-safe w s safe inside live = let old = safe.slots s inside in
 
 pub reclaim-safe : (w : WorldState) (s : ℕ) → IsSafe w → s < w.shape.slots → (at w s).phase ≡ Closing → pins w s ≡ 0
     → (b : Bool) → nat_lt (at w s).generation w.shape.max_gen ≡ b
-    → IsSafe (with_slot w s (cond b record {
-      generation = (at w s).generation + 1;
-      phase = Free;
-      descr = (at w s).descr;
-    } (in_phase (at w s) Retired)))
+    → IsSafe (with_slot w s (cond b (record (at w s) { generation = (at w s).generation + 1; phase = Free })
+    (in_phase (at w s) Retired)))
 reclaim-safe w s safe inside closing none true e = let lt = ltb-true (at w s).generation w.shape.max_gen e in
-    moved-safe w s record {
-      generation = (at w s).generation + 1;
-      phase = Free;
-      descr = (at w s).descr;
-    } w.published safe inside record {
+    moved-safe w s (record
+    (at w s) { generation = (at w s).generation + 1; phase = Free }) w.published safe inside record {
       later = omega arith;
       held = λ r g some. let le = copies-le-pins w r record { slot = s; generation = g } in absurd (omega arith);
       bounded = omega arith;

@@ -129,9 +129,4 @@ none-shown zero s = refl
 none-shown (suc n) s = none-shown n (suc s)
 
 pub opening-is : (k : Shape) → opened_with k (replicate k.slots opening_slot) ≡ opening_of k
-opening-is k = ap (λ (ps : List Row). record {
-  shape = k;
-  slots = replicate k.slots opening_slot;
-  published = ps;
-  holders = [];
-}) (none-shown k.slots 0)
+opening-is k = ap (λ (ps : List Row). record (opening_of k) { published = ps }) (none-shown k.slots 0)

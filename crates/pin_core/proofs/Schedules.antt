@@ -1,8 +1,9 @@
 -- Each event that is possible keeps the world safe.
-use Rattle.std.proofs.Common.{◌-◌, take, slice_get, ◌≡◌, ℕ, ◌+◌, ◌<◌, ◌≤◌, ◌==◌, ◌&&◌, nat_lt, nat_le, Bool, true, false, List, [], ◌∷◌, ◌++◌, length, get_or, replicate, zero, suc, Option, Some, None, sym, refl, ap, ◌∙◌, subst, arith}
-use Rattle.std.proofs.lemmas.Bool.{eqb-true, ltb-true}
+use Rattle.std.proofs.Common.{◌-◌, take, slice_get, ◌≡◌, ℕ, ◌+◌, ◌<◌, ◌≤◌, ◌&&◌, nat_lt, nat_le, Bool, true, false, List, [], ◌∷◌, ◌++◌, length, get_or, replicate, zero, suc, Option, Some, None, sym, refl, ap, ◌∙◌, subst, arith}
+use Rattle.std.proofs.lemmas.Bool.{eq-eqb, eqb-true, lt-ltb, ltb-true}
+use Rattle.std.proofs.lemmas.Option.{slice_get-get_or}
 use Rattle.std.proofs.lemmas.Grind.{common_steps}
-use Rattle.std.proofs.lemmas.List.{length-replicate}
+use Rattle.std.proofs.lemmas.List.{length-replicate, take_more}
 use Rattle.pin_core.specs.declared.word.Word.{Word}
 use Rattle.pin_core.specs.declared.id.Id.{Id}
 use Rattle.pin_core.specs.declared.descr.Descr.{Descr}
@@ -14,11 +15,10 @@ use Rattle.pin_core.specs.declared.event.Event.{Event}
 use Rattle.pin_core.specs.declared.event.Event.TheVariants.{Load, Pin, Release, ReadDescr, StoreDescr, Publish, CloseSlot, Reclaim}
 use Rattle.pin_core.specs.declared.event.Reason.{Reason}
 use Rattle.pin_core.specs.Descrs.{same_descr}
-use Rattle.pin_core.specs.Holds.{tally, weight, sits_at, is_copy, is_hold}
+use Rattle.pin_core.specs.Holds.{tally, weight, is_at_slot, is_copy, is_hold}
 use Rattle.pin_core.specs.Worlds.{WorldState, opening_slot, opening_of, at, pins, copies, times, word_at, given_as}
 use Rattle.pin_core.specs.Events.{is_phase, same_word, check, refusal, after, after_all, IsSchedule, IsFirstRefused}
 use Rattle.pin_core.specs.Safety.{may_be_held, IsSafe, age, reached, AreEvents, StaysGiven}
-use Rattle.std.proofs.lemmas.List.{take_more}
 use Rattle.pin_core.proofs.Counts.{count-le}
 use Rattle.pin_core.proofs.Moves.{passed, phase_of_test, same_of_descr, copies-le-pins, store-safe, close-safe, reclaim-safe, publish-safe}
 use Rattle.pin_core.proofs.Holding.{pin-safe, release-safe}
@@ -94,13 +94,13 @@ is_own_copy : (x : Hold) → is_copy x.reader x.id x ≡ true
 is_own_copy x = grind (arith, common_steps)
 
 -- what counts at a slot is some reader's copy
-pub some_hold : (s : ℕ) (hs : List Hold) → 0 < tally (sits_at s) hs
+pub some_hold : (s : ℕ) (hs : List Hold) → 0 < tally (is_at_slot s) hs
     → (h : Hold) × (h.id.slot ≡ s) × (0 < tally (is_copy h.reader h.id) hs)
 some_hold s [] some = absurd (omega arith)
-some_hold s (x ∷ xs) some = here (sits_at s x) refl some (some_hold s xs)
+some_hold s (x ∷ xs) some = here (is_at_slot s x) refl some (some_hold s xs)
   where
-    here : (b : Bool) → sits_at s x ≡ b → 0 < weight b + tally (sits_at s) xs
-        → (0 < tally (sits_at s) xs → (h : Hold) × (h.id.slot ≡ s) × (0 < tally (is_copy h.reader h.id) xs))
+    here : (b : Bool) → is_at_slot s x ≡ b → 0 < weight b + tally (is_at_slot s) xs
+        → (0 < tally (is_at_slot s) xs → (h : Hold) × (h.id.slot ≡ s) × (0 < tally (is_copy h.reader h.id) xs))
         → (h : Hold) × (h.id.slot ≡ s) × (0 < tally (is_copy h.reader h.id) (x ∷ xs))
     here true e some ih = (
       x,
@@ -135,50 +135,44 @@ may : (b : Bool) (r : Reason) (next : Option Reason) → b ≡ true → next ≡
 may true r next e n = n
 may false r next e n = cc
 
-lt_test : (a b : ℕ) → a < b → nat_lt a b ≡ true
-lt_test a b h = grind (arith, common_steps)
-
-eq_test : (a b : ℕ) → a ≡ b → (a == b) ≡ true
-eq_test a b h = grind (arith, common_steps)
-
 word_is_itself : (x : Word) → same_word x x ≡ true
 word_is_itself x = grind (arith, common_steps)
 
 pub may_pin : (w : WorldState) (r s : ℕ) → s < w.shape.slots → (at w s).phase ≡ Live → pins w s < w.shape.max_pins
     → refusal w (Pin r s (word_at w s)) ≡ None
-may_pin w r s a b c = may _ _ _ (lt_test s w.shape.slots a)
+may_pin w r s a b c = may _ _ _ (lt-ltb s w.shape.slots a)
     (may _ _ _ (word_is_itself (word_at w s)) (may _ _ _ (ap (λ (p : Phase). is_phase p Live) b)
-    (may _ _ _ (lt_test (pins w s) w.shape.max_pins c) refl)))
+    (may _ _ _ (lt-ltb (pins w s) w.shape.max_pins c) refl)))
 
 descr_is_itself : (d : Descr) → same_descr d d ≡ true
 descr_is_itself d = grind (arith, common_steps)
 
 pub may_load : (w : WorldState) (r s : ℕ) → s < w.shape.slots → refusal w (Load r s) ≡ None
-may_load w r s a = may _ _ _ (lt_test s w.shape.slots a) refl
+may_load w r s a = may _ _ _ (lt-ltb s w.shape.slots a) refl
 
 pub may_read : (w : WorldState) (r : ℕ) (id : Id) → id.slot < w.shape.slots → 0 < copies w r id
     → refusal w (ReadDescr r id (at w id.slot).descr) ≡ None
-may_read w r id a b = may _ _ _ (lt_test id.slot w.shape.slots a)
-    (may _ _ _ (lt_test 0 (copies w r id) b) (may _ _ _ (descr_is_itself (at w id.slot).descr) refl))
+may_read w r id a b = may _ _ _ (lt-ltb id.slot w.shape.slots a)
+    (may _ _ _ (lt-ltb 0 (copies w r id) b) (may _ _ _ (descr_is_itself (at w id.slot).descr) refl))
 
 pub may_release : (w : WorldState) (r : ℕ) (id : Id) → id.slot < w.shape.slots → 0 < copies w r id
     → refusal w (Release r id) ≡ None
-may_release w r id a b = may _ _ _ (lt_test id.slot w.shape.slots a) (may _ _ _ (lt_test 0 (copies w r id) b) refl)
+may_release w r id a b = may _ _ _ (lt-ltb id.slot w.shape.slots a) (may _ _ _ (lt-ltb 0 (copies w r id) b) refl)
 
 pub may_publish : (w : WorldState) (s : ℕ) → s < w.shape.slots → (at w s).phase ≡ Free → refusal w (Publish s) ≡ None
-may_publish w s a b = may _ _ _ (lt_test s w.shape.slots a) (may _ _ _ (ap (λ (p : Phase). is_phase p Free) b) refl)
+may_publish w s a b = may _ _ _ (lt-ltb s w.shape.slots a) (may _ _ _ (ap (λ (p : Phase). is_phase p Free) b) refl)
 
 pub may_close : (w : WorldState) (s : ℕ) → s < w.shape.slots → (at w s).phase ≡ Live → refusal w (CloseSlot s) ≡ None
-may_close w s a b = may _ _ _ (lt_test s w.shape.slots a) (may _ _ _ (ap (λ (p : Phase). is_phase p Live) b) refl)
+may_close w s a b = may _ _ _ (lt-ltb s w.shape.slots a) (may _ _ _ (ap (λ (p : Phase). is_phase p Live) b) refl)
 
 pub may_reclaim : (w : WorldState) (s : ℕ) → s < w.shape.slots → (at w s).phase ≡ Closing → pins w s ≡ 0
     → refusal w (Reclaim s) ≡ None
-may_reclaim w s a b c = may _ _ _ (lt_test s w.shape.slots a)
-    (may _ _ _ (ap (λ (p : Phase). is_phase p Closing) b) (may _ _ _ (eq_test (pins w s) 0 c) refl))
+may_reclaim w s a b c = may _ _ _ (lt-ltb s w.shape.slots a)
+    (may _ _ _ (ap (λ (p : Phase). is_phase p Closing) b) (may _ _ _ (eq-eqb (pins w s) 0 c) refl))
 
 pub may_store : (w : WorldState) (s : ℕ) (d : Descr) → s < w.shape.slots → (at w s).phase ≡ Free
     → refusal w (StoreDescr s d) ≡ None
-may_store w s d a b = may _ _ _ (lt_test s w.shape.slots a) (may _ _ _ (ap (λ (p : Phase). is_phase p Free) b) refl)
+may_store w s d a b = may _ _ _ (lt-ltb s w.shape.slots a) (may _ _ _ (ap (λ (p : Phase). is_phase p Free) b) refl)
 
 pub schedule-snoc : (w : WorldState) (es : List Event) (e : Event) → IsSchedule w es → refusal (after_all w es) e ≡ None
     → IsSchedule w (es ++ e ∷ [])
@@ -203,11 +197,6 @@ one-more w v v' es i d inside h can now = let e = get_or es i d in let more : ta
           ∙ (sym (after_all-snoc w (take i es) e) ∙ ap (after_all w) (sym more))),
     )
 
-there : (es : List Event) (i : ℕ) (d : Event) → i < length es → slice_get es i ≡ Some (get_or es i d)
-there [] i d h = absurd (omega arith)
-there (x ∷ xs) zero d h = refl
-there (x ∷ xs) (suc i) d h = there xs i d (omega arith)
-
 pub first-refused : (w v : WorldState) (es : List Event) (i : ℕ) (d : Event) (r : Reason) → i < length es
     → IsSchedule w (take i es) × (v ≡ after_all w (take i es)) → refusal v (get_or es i d) ≡ Some r
     → IsFirstRefused w es (i + 1) r
@@ -215,7 +204,7 @@ first-refused w v es i d r inside h no-way = let back : i ≡ i + 1 - 1 = omega 
   get_or es i d,
   omega arith,
   subst (λ (z : ℕ). IsSchedule w (take z es)) back h.0,
-  subst (λ (z : ℕ). slice_get es z ≡ Some (get_or es i d)) back (there es i d inside),
+  subst (λ (z : ℕ). slice_get es z ≡ Some (get_or es i d)) back (slice_get-get_or es i d inside),
   subst (λ (z : ℕ). refusal (after_all w (take z es)) (get_or es i d) ≡ Some r) back
       (subst (λ (z : WorldState). refusal z (get_or es i d) ≡ Some r) h.1 no-way),
 )

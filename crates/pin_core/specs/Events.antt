@@ -54,15 +54,10 @@ refusal w (Reclaim s) = check (nat_lt s w.shape.slots) NoSlot
     (check (is_phase (at w s).phase Closing) WrongPhase (check (pins w s == 0) Pinned None))
 
 abbrev pub with_slot : WorldState → ℕ → Slot → WorldState
-with_slot w s x = record {
-  shape = w.shape;
-  slots = slice_set w.slots s x;
-  published = w.published;
-  holders = w.holders;
-}
+with_slot w s x = record w { slots = slice_set w.slots s x }
 
 abbrev pub with_holders : WorldState → List Hold → WorldState
-with_holders w hs = record { shape = w.shape; slots = w.slots; published = w.published; holders = hs }
+with_holders w hs = record w { holders = hs }
 
 -- the reader holds one more copy of the slot's Id; it lets the copy of highest number go
 abbrev pub held_more : WorldState → ℕ → ℕ → WorldState
@@ -72,18 +67,15 @@ abbrev pub held_less : WorldState → ℕ → Id → WorldState
 held_less w r id = with_holders w (drop_first (is_hold (last_copy w r id)) w.holders)
 
 abbrev pub in_phase : Slot → Phase → Slot
-in_phase x p = record { generation = x.generation; phase = p; descr = x.descr }
+in_phase x p = record x { phase = p }
 
 abbrev pub with_descr : Slot → Descr → Slot
-with_descr x d = record { generation = x.generation; phase = x.phase; descr = d }
+with_descr x d = record x { descr = d }
 
 -- free at the next generation, or retired at the last
 abbrev pub reclaimed : ℕ → Slot → Slot
-reclaimed max_gen x = if nat_lt x.generation max_gen then record {
-  generation = x.generation + 1;
-  phase = Free;
-  descr = x.descr;
-} else in_phase x Retired
+reclaimed max_gen x = if nat_lt x.generation max_gen then record x { generation = x.generation + 1; phase = Free }
+    else in_phase x Retired
 
 -- the world after an event that is possible
 abbrev pub after : WorldState → Event → WorldState
@@ -92,18 +84,16 @@ after w (Pin r s e) = held_more w r s
 after w (Release r id) = held_less w r id
 after w (ReadDescr r id d) = w
 after w (StoreDescr s d) = with_slot w s (with_descr (at w s) d)
-after w (Publish s) = record {
-  shape = w.shape;
+after w (Publish s) = record w {
   slots = slice_set w.slots s (in_phase (at w s) Live);
   published = w.published ++ (id_at w s, (at w s).descr) ∷ [];
-  holders = w.holders;
 }
 after w (CloseSlot s) = with_slot w s (in_phase (at w s) Closing)
 after w (Reclaim s) = with_slot w s (reclaimed w.shape.max_gen (at w s))
 
 -- the event takes the first world to the second
-abbrev pub Can : WorldState → Event → WorldState → Type 0
-Can w e w' = (refusal w e ≡ None) × (w' ≡ after w e)
+abbrev pub Transition : WorldState → Event → WorldState → Type 0
+Transition w e w' = (refusal w e ≡ None) × (w' ≡ after w e)
 
 -- each event of the list is possible where it stands
 abbrev pub IsSchedule : WorldState → List Event → Type 0

@@ -16,8 +16,8 @@ abbrev pub same_id : Id → Id → Bool
 same_id a b = (a.slot == b.slot) && (a.generation == b.generation)
 
 -- the triple is about the slot
-abbrev pub sits_at : ℕ → Hold → Bool
-sits_at s h = h.id.slot == s
+abbrev pub is_at_slot : ℕ → Hold → Bool
+is_at_slot s h = h.id.slot == s
 
 -- the triple is a copy of the Id that the reader holds
 abbrev pub is_copy : ℕ → Id → Hold → Bool

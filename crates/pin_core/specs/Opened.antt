@@ -21,8 +21,7 @@ abbrev pub opened_with : Shape → List Slot → WorldState
 opened_with k slots = record { shape = k; slots = slots; published = shown_from 0 slots; holders = [] }
 
 -- a slot that a world may begin with: a word can have its descriptor, and its generation is within the limit, at which
--- alone it is
--- retired
+-- alone it is retired
 pub record SlotOpens (max_gen : ℕ) (x : Slot) : Type 0 where
   pub given : IsGiven x.descr
   pub bounded : x.generation ≤ max_gen

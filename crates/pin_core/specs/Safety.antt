@@ -19,16 +19,16 @@ may_be_held Live = true
 may_be_held Retired = false
 may_be_held Closing = true
 
--- its generation is within the limit, and is the last where the slot is retired; the Id of a live or closing
--- slot is published with the slot's descriptor; that of a free slot isn't yet
+-- its generation is within the limit, and is the last where the slot is retired; the Id of a live or closing slot is
+-- published with the slot's descriptor; that of a free slot isn't yet
 pub record SlotIsSafe (w : WorldState) (s : ℕ) : Type 0 where
   pub bounded : (at w s).generation ≤ w.shape.max_gen
   pub last : (at w s).phase ≡ Retired → (at w s).generation ≡ w.shape.max_gen
   pub shown : may_be_held (at w s).phase ≡ true → given_as w (id_at w s) (at w s).descr ≡ 1
   pub unshown : (at w s).phase ≡ Free → given w (id_at w s) ≡ 0
 
--- a held Id is that of its slot, which is live or closing; a reader's copies of an Id are numbered from 1 on,
--- each once; no slot has too many pins; no Id is published twice, nor ahead of its slot
+-- a held Id is that of its slot, which is live or closing; a reader's copies of an Id are numbered from 1 on, each
+-- once; no slot has too many pins; no Id is published twice, nor ahead of its slot
 pub record IsSafe (w : WorldState) : Type 0 where
   pub wide : length w.slots ≡ w.shape.slots
   pub held : (r : ℕ) (id : Id) → 0 < copies w r id

@@ -9,7 +9,7 @@ use Rattle.pin_core.specs.declared.shape.Shape.{Shape}
 use Rattle.pin_core.specs.declared.world.Slot.{Slot}
 use Rattle.pin_core.specs.declared.holders.Hold.{Hold}
 use Rattle.pin_core.specs.Descrs.{same_descr}
-use Rattle.pin_core.specs.Holds.{tally, same_id, sits_at, is_copy, is_hold, hold_of}
+use Rattle.pin_core.specs.Holds.{tally, same_id, is_at_slot, is_copy, is_hold, hold_of}
 
 -- `holders` is a set of triples (reader, Id, copy number). No count is kept
 pub record WorldState : Type 0 where
@@ -41,7 +41,7 @@ id_at w s = record { slot = s; generation = (at w s).generation }
 
 -- how many triples are about the slot
 abbrev pub pins : WorldState → ℕ → ℕ
-pins w s = tally (sits_at s) w.holders
+pins w s = tally (is_at_slot s) w.holders
 
 -- how many copies of the Id the reader holds
 abbrev pub copies : WorldState → ℕ → Id → ℕ

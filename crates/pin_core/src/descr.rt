@@ -71,8 +71,8 @@ impl Descr {
         code_of_kind(self.kind) + flag + 8 * u64::from(self.max)
     }
 
-    /// The descriptor of 64 bits. `None` for the flag on a mutex or a semaphore, a maximum other than 0 on an
-    /// event, a mutex or a timer, a semaphore with the maximum 0, and any of bits 34 to 63.
+    /// The descriptor of 64 bits. `None` for the flag on a mutex or a semaphore, a maximum other than 0 on an event, a
+    /// mutex or a timer, a semaphore with the maximum 0, and any of bits 34 to 63.
     pub fn decode(word: u64) -> Option<Descr>
         ensures { result ≡ decoded word }
     {

@@ -9,17 +9,16 @@ use thiserror::Error;
 /// One atomic step, on one word of one slot.
 #[derive(Clone, Copy, Debug, PartialEq, Eq)]
 pub enum Event {
-    /// A reader reads the word of a slot. Possible where the slot exists; changes nothing. An exchange that
-    /// fails is one of these.
+    /// A reader reads the word of a slot. Possible where the slot exists; changes nothing. An exchange that fails is
+    /// one of these.
     Load {
         /// The reader's number.
         reader: u32,
         /// The slot's number.
         slot: u32,
     },
-    /// A reader exchanges the word of a slot for one with one more pin. Possible where the word is the
-    /// expected one, the slot is live, and its pins are below the limit: the reader then holds one more copy
-    /// of the slot's Id.
+    /// A reader exchanges the word of a slot for one with one more pin. Possible where the word is the expected one,
+    /// the slot is live, and its pins are below the limit: the reader then holds one more copy of the slot's Id.
     Pin {
         /// The reader's number.
         reader: u32,
@@ -35,8 +34,8 @@ pub enum Event {
         /// The Id of which it holds a copy.
         id: Id,
     },
-    /// A reader reads the descriptor word of a slot under a pin. Possible where it holds a copy of the Id and
-    /// the slot has this descriptor; changes nothing.
+    /// A reader reads the descriptor word of a slot under a pin. Possible where it holds a copy of the Id and the slot
+    /// has this descriptor; changes nothing.
     ReadDescr {
         /// The reader's number.
         reader: u32,

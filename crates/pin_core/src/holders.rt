@@ -36,7 +36,7 @@ impl Model for Holders {
 
 impl Holders {
     ghost use Rattle.std.specs.Prelude.{◌≡◌, ◌<◌, [], IfOk, OnOk, OnErr};
-    ghost use Rattle.pin_core.specs.Holds.{tally, sits_at, is_copy, with_one, without};
+    ghost use Rattle.pin_core.specs.Holds.{tally, is_at_slot, is_copy, with_one, without};
 
     pub(crate) fn new(alloc: Global, slots: u32) -> Result<Holders, AllocError>
         ensures { IfOk result (λ h. h ≡ record { slots = slots; all = [] }) }
@@ -50,7 +50,7 @@ impl Holders {
 
     pub(crate) fn pins(&self, slot: u32) -> usize
         requires { slot < self.now.slots }
-        ensures { result ≡ tally (sits_at slot) self.now.all }
+        ensures { result ≡ tally (is_at_slot slot) self.now.all }
     {
         self.by_slot[slot as usize].len()
     }

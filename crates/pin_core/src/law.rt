@@ -50,12 +50,12 @@ pub fn law_of_worlds()
         → refusal w (ReadDescr r id d) ≡ None → given_as w id d ≡ 1 }
 {}
 
-/// What holds in each world that possible events lead to from the opening one, whoever made them and however
-/// they were interleaved.
+/// What holds in each world that possible events lead to from the opening one, whoever made them and however they were
+/// interleaved.
 ///
-/// Such a world is safe. While a hold stays in the set, its slot is neither stored to, nor published, nor
-/// reclaimed. A slot's generation and phase never go back. A slot is published only where nobody holds it. A
-/// descriptor that is read under a pin is the one that was published with the Id.
+/// Such a world is safe. While a hold stays in the set, its slot is neither stored to, nor published, nor reclaimed. A
+/// slot's generation and phase never go back. A slot is published only where nobody holds it. A descriptor that is read
+/// under a pin is the one that was published with the Id.
 pub fn law_of_schedules()
     ensures safe { (k : Shape) (es : List Event) → AreEvents k es → IsSafe (reached k es) }
     ensures kept { (k : Shape) (es : List Event) → AreEvents k es → (h : Hold)

@@ -1,9 +1,9 @@
 //! The pure core of pins: slots that are given again and again, and readers that hold them meanwhile.
 //!
-//! A slot has a generation, a phase and a descriptor. A reader that pins a slot holds one more copy of the
-//! slot's [`Id`]. [`step`] carries out one [`Event`] on a [`World`], and [`replay`] a list of them from the
-//! opening world. [`law_of_schedules`] says what holds after every list of events, so in every interleaving
-//! of any number of readers: a pinned slot is never given again, and a pin shows the object that was asked.
+//! A slot has a generation, a phase and a descriptor. A reader that pins a slot holds one more copy of the slot's
+//! [`Id`]. [`step`] carries out one [`Event`] on a [`World`], and [`replay`] a list of them from the opening world.
+//! [`law_of_schedules`] says what holds after every list of events, so in every interleaving of any number of readers:
+//! a pinned slot is never given again, and a pin shows the object that was asked.
 #![tactic(auto)]
 
 mod descr;

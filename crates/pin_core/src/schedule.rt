@@ -2,7 +2,7 @@ ghost use Rattle.std.specs.Prelude.{◌≡◌, ◌≢◌, ◌↔◌, ℕ, IsOk, 
 ghost use Rattle.pin_core.specs.declared.event.ReplayFault.TheVariants.{Memory, Refused};
 ghost use Rattle.pin_core.specs.declared.event.Reason.{Reason};
 ghost use Rattle.pin_core.specs.Worlds.{opening_of};
-ghost use Rattle.pin_core.specs.Events.{Can, refusal, IsSchedule, after_all, IsFirstRefused};
+ghost use Rattle.pin_core.specs.Events.{Transition, refusal, IsSchedule, after_all, IsFirstRefused};
 
 use crate::event::{Event, ReplayFault};
 use crate::shape::Shape;
@@ -14,7 +14,7 @@ use std::alloc::Global;
 /// [`ReplayFault::Refused`], with the event 1, exactly where it isn't possible; else
 /// [`ReplayFault::Memory`] where memory ran out. A refusal leaves the world unchanged.
 pub fn step(world: &mut World, event: &Event) -> Result<(), ReplayFault>
-    ensures done { OnOk result (Can world.old event.now world.new) }
+    ensures done { OnOk result (Transition world.old event.now world.new) }
     ensures unchanged { OnErr result (world.new ≡ world.old) }
     ensures refused { (n : ℕ) (r : Reason) → (result ≡ Err (Refused n r))
         ↔ ((n ≡ 1) × (refusal world.old event.now ≡ Some r)) }
@@ -31,8 +31,8 @@ pub fn step(world: &mut World, event: &Event) -> Result<(), ReplayFault>
 
 /// Carries out the events in turn from the opening world.
 ///
-/// Unless memory ran out before, which [`ReplayFault::Memory`] says: it succeeds exactly where each event is
-/// possible where it stands, and else [`ReplayFault::Refused`] names the first that isn't.
+/// Unless memory ran out before, which [`ReplayFault::Memory`] says: it succeeds exactly where each event is possible
+/// where it stands, and else [`ReplayFault::Refused`] names the first that isn't.
 pub fn replay(alloc: Global, shape: Shape, events: &[Event]) -> Result<World, ReplayFault>
     ensures value { IfOk result (λ w. w ≡ after_all (opening_of shape) events.now) }
     ensures possible { result ≢ Err Memory

@@ -16,8 +16,8 @@ impl Shape {
     ghost use Rattle.std.specs.Prelude.{◌≡◌, IsSome, IfSome, ◌↔◌};
     ghost use Rattle.pin_core.specs.Shapes.{shape_of, IsWithinLimits};
 
-    /// The shape, where it is within the limits (*profile*): 1 to 65,536 slots, 1 to 1,073,741,823 pins,
-    /// since the word has 30 bits for them, and a last generation of 1 or more.
+    /// The shape, where it is within the limits (*profile*): 1 to 65,536 slots, 1 to 1,073,741,823 pins, since the word
+    /// has 30 bits for them, and a last generation of 1 or more.
     pub fn checked(slots: u32, max_pins: u32, max_gen: u32) -> Option<Shape>
         ensures within { IsSome result ↔ IsWithinLimits (shape_of slots max_pins max_gen) }
         ensures value { IfSome result (λ k. k ≡ shape_of slots max_pins max_gen) }

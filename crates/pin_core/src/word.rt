@@ -1,8 +1,8 @@
 ghost use Rattle.std.specs.Prelude.{◌≡◌, ◌<◌, ◌^◌};
 ghost use Rattle.pin_core.specs.Words.{encoded, decoded, code_of, phase_of};
 
-/// Where a slot stands in its life. A generation goes from free over live to closing, and then the slot opens
-/// again, free, at the next one, or retires where it was the last.
+/// Where a slot stands in its life. A generation goes from free over live to closing, and then the slot opens again,
+/// free, at the next one, or retires where it was the last.
 ///
 /// The variants stand in the order of their codes in a word, which is another.
 #[derive(Clone, Copy, Debug, PartialEq, Eq, Hash)]
@@ -17,8 +17,8 @@ pub enum Phase {
     Closing,
 }
 
-/// The word of a slot, in 64 bits: the generation in bits 32 to 63, the phase in bits 30 and 31
-/// (free 00, live 01, retired 10, closing 11), the pins in bits 0 to 29.
+/// The word of a slot, in 64 bits: the generation in bits 32 to 63, the phase in bits 30 and 31 (free 00, live 01,
+/// retired 10, closing 11), the pins in bits 0 to 29.
 #[derive(Clone, Copy, Debug, PartialEq, Eq)]
 pub struct Word {
     /// The generation, from 1.

@@ -26,8 +26,7 @@ impl Slot {
     ghost use Rattle.pin_core.specs.Worlds.{opening_slot};
     ghost use Rattle.pin_core.specs.Events.{reclaimed};
 
-    /// The slot of the opening world: free at generation 1, with the descriptor of an event that is reset by
-    /// itself.
+    /// The slot of the opening world: free at generation 1, with the descriptor of an event that is reset by itself.
     pub fn opening() -> Slot
         ensures { result ≡ opening_slot }
     {
@@ -61,8 +60,8 @@ impl Slot {
     }
 }
 
-/// The slots, the list of what was published, and the set of holds. It keeps no counts: a slot has as many
-/// pins as holds are about it.
+/// The slots, the list of what was published, and the set of holds. It keeps no counts: a slot has as many pins as
+/// holds are about it.
 #[derive(Drop)]
 pub struct World {
     shape: Shape,
@@ -94,8 +93,8 @@ impl World {
     ghost use Rattle.pin_core.specs.Events.{held_more, held_less, after};
     ghost use Rattle.pin_core.specs.declared.event.Event.TheVariants.{Publish};
 
-    /// The opening world: each slot is free at generation 1 with the descriptor of an event that is reset by
-    /// itself, nothing is published, and nothing is held.
+    /// The opening world: each slot is free at generation 1 with the descriptor of an event that is reset by itself,
+    /// nothing is published, and nothing is held.
     pub fn new(alloc: Global, shape: Shape) -> Result<World, AllocError>
         ensures { IfOk result (λ w. w ≡ opening_of shape) }
     {
@@ -147,7 +146,8 @@ impl World {
         self.published.as_slice()
     }
 
-    /// Why the event isn't possible: the first reason, in the order 1, 5, 7, 3, 2, 6, 4.
+    /// Why the event isn't possible: the first reason, tested in this order: no slot, not held, another descriptor,
+    /// another word, wrong phase, pinned, pins full.
     pub fn refusal(&self, event: &Event) -> Option<Reason>
         ensures { result ≡ refusal self.now event.now }
     {

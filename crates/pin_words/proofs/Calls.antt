@@ -1,8 +1,8 @@
 -- What the calls of readers and of the keeper need of the steps.
-use Rattle.std.proofs.Common.{◌≡◌, ◌≢◌, ◌⊎◌, inl, inr, ⊎_elim, ℕ, ◌+◌, ◌*◌, ◌<◌, ◌≤◌, Bool, true, false, List, [], ◌∷◌, ◌++◌, length, length-set, get_or, set, zero, suc, Some, None, sym, refl, ap, ◌∙◌, subst, arith}
+use Rattle.std.proofs.Common.{◌≡◌, ◌≢◌, inl, inr, ⊎_elim, ℕ, ◌+◌, ◌*◌, ◌<◌, ◌≤◌, Bool, true, false, List, [], ◌∷◌, ◌++◌, length, length-set, get_or, set, Some, None, sym, refl, ap, ◌∙◌, subst, arith}
 use Rattle.std.proofs.lemmas.Bool.{cases_lt}
 use Rattle.std.proofs.lemmas.Grind.{common_steps}
-use Rattle.std.proofs.lemmas.List.{append_assoc}
+use Rattle.std.proofs.lemmas.List.{append_assoc, get_or_read}
 use native.Mathlib.Decide.{ℕ_discrete}
 use mathlib.Core.Logic.{dite}
 use mathlib.Core.Option.{none}
@@ -25,16 +25,16 @@ use Rattle.pin_words.specs.declared.view.KeeperView.{KeeperView}
 use Rattle.pin_words.specs.declared.view.ReaderView.{ReaderView}
 use Rattle.pin_words.specs.declared.view.View.{View}
 use Rattle.pin_words.specs.Places.{place_of, descr_place}
-use Rattle.pin_words.specs.Views.{M, Of, on, view, look, id_in, reader_with, reader_looked, reader_got, reader_released, keeper_with, keeper_stored, reader_of, keeper_of, IsReaders, IsKeepers}
+use Rattle.pin_words.specs.Views.{M, view, look, id_in, reader_with, reader_looked, reader_got, reader_released, keeper_with, keeper_stored, reader_of, keeper_of, IsReaders, IsKeepers}
 use Rattle.pin_words.specs.Shown.{Shown}
-use Rattle.pin_words.specs.Plays.{NoLater, Behind, Tells, got_view, released, noted, stored}
+use Rattle.pin_words.specs.Plays.{NoLater, Behind, TellsReader, got_view, released, noted, stored}
 use Rattle.pin_words.specs.declared.fault.Verdict.TheVariants.{Unborn, Stale, PinsFull, Go}
 use Rattle.pin_words.specs.Verdicts.{verdict_of}
-use Rattle.std.specs.Prelude.{Result, Err}
+use Rattle.std.specs.Prelude.{Err, IfSome, option_map}
 use Rattle.pin_words.specs.declared.fault.Verdict.{Verdict}
-use Rattle.pin_words.specs.declared.fault.PinFault.{PinFault}
 use Rattle.pin_words.specs.declared.fault.PinFault.TheVariants as fault
-use Rattle.pin_words.specs.Tries.{HasOnlyLooked, WasStale, Tries, Answers}
+use Rattle.pin_words.specs.Laws.{LostSeesNoEarlier, StaleStays}
+use Rattle.pin_words.specs.Tries.{HasOnlyLooked, WasStale, Tries, FollowsLook}
 use Rattle.pin_words.proofs.ReaderSteps.{notes-step}
 use Rattle.pin_words.proofs.KeeperSteps.{stores-step}
 
@@ -43,13 +43,8 @@ pub go-means : (max : ℕ) (id : Id) (w : Word) → verdict_of max id w ≡ Go
 go-means max id w e = grind (arith, common_steps)
 
 pub slot-known : (xs ys : List Slot) (i : ℕ) (y : Slot) → xs ≡ ys → i < length ys → y ≡ get_or ys i y → y ≡ slot_of xs i
-slot-known xs ys i y same inside is = is ∙ (get_or_any ys i y opening_slot inside
-    ∙ ap (λ (z : List Slot). get_or z i opening_slot) (sym same))
-  where
-    get_or_any : (ys : List Slot) (i : ℕ) (a b : Slot) → i < length ys → get_or ys i a ≡ get_or ys i b
-    get_or_any [] i a b h = absurd (omega arith)
-    get_or_any (z ∷ zs) zero a b h = refl
-    get_or_any (z ∷ zs) (suc i) a b h = get_or_any zs i a b (omega arith)
+slot-known xs ys i y same inside is = get_or_read ys i y inside is opening_slot
+    ∙ ap (λ (z : List Slot). get_or z i opening_slot) (sym same)
 
 -- what is left where a step changes one of the keeper's slots, and so does its list
 pub slot-changed : (v v' : KeeperView) (ps : List (Id × Descr)) (ls : List Look) (k : Shape) (xs : List Slot) (s : ℕ)
@@ -68,10 +63,11 @@ pub released-one : (n p : ℕ) (m m' : M) (id : Id) → p ≡ place_of id.slot �
     → IsReaders m' × (reader_of m'.0 ≡ reader_released (reader_of m.0) id)
 released-one n p m m' id at reads does have =
     let did = does id.slot at in let r = reader_of m.0 in
-    let tells : Tells r id.slot n = subst (λ (v : View). Of v.reader (λ r. Tells r id.slot n))
+    let tells : TellsReader r id.slot n = subst (λ (v : View). IfSome v.reader (λ r. TellsReader r id.slot n))
     (ap (λ (z : M). z.0) reads) did.1 in
     let now : m' ≡ (view None (Some (reader_released r (id_in id.slot n))), []) =
-    did.0 ∙ ap (λ (z : M). (view z.0.keeper (on (λ r. reader_released r (id_in id.slot n)) z.0.reader), z.1)) reads in
+    did.0 ∙ ap (λ (z : M).
+    (view z.0.keeper (option_map (λ r. reader_released r (id_in id.slot n)) z.0.reader), z.1)) reads in
     let gen = (tells.held id have refl).0 in (
       now ∙ ap (λ (z : M). (view None (Some (reader_of z.0)), [])) (sym now),
       ap (λ (z : M). reader_of z.0) now
@@ -90,18 +86,20 @@ got-one n m m' id reads did gen =
     )
 
 -- what a change of the one part of a seat leaves to its caller
-pub read-one : (f : ReaderView → ReaderView) (m m' : M) → IsReaders m → m' ≡ (view m.0.keeper (on f m.0.reader), m.1)
+pub read-one : (f : ReaderView → ReaderView) (m m' : M) → IsReaders m
+    → m' ≡ (view m.0.keeper (option_map f m.0.reader), m.1)
     → IsReaders m' × (reader_of m'.0 ≡ f (reader_of m.0))
 read-one f m m' reads did =
     let now : m' ≡ (view None (Some (f (reader_of m.0))), []) =
-    did ∙ ap (λ (z : M). (view z.0.keeper (on f z.0.reader), z.1)) reads in
+    did ∙ ap (λ (z : M). (view z.0.keeper (option_map f z.0.reader), z.1)) reads in
     (now ∙ ap (λ (z : M). (view None (Some (reader_of z.0)), [])) (sym now), ap (λ (z : M). reader_of z.0) now)
 
-pub kept-one : (f : KeeperView → KeeperView) (m m' : M) → IsKeepers m → m' ≡ (view (on f m.0.keeper) m.0.reader, m.1)
+pub kept-one : (f : KeeperView → KeeperView) (m m' : M) → IsKeepers m
+    → m' ≡ (view (option_map f m.0.keeper) m.0.reader, m.1)
     → IsKeepers m' × (keeper_of m'.0 ≡ f (keeper_of m.0))
 kept-one f m m' keeps did =
     let now : m' ≡ (view (Some (f (keeper_of m.0))) None, []) =
-    did ∙ ap (λ (z : M). (view (on f z.0.keeper) z.0.reader, z.1)) keeps in
+    did ∙ ap (λ (z : M). (view (option_map f z.0.keeper) z.0.reader, z.1)) keeps in
     (now ∙ ap (λ (z : M). (view (Some (keeper_of z.0)) None, [])) (sym now), ap (λ (z : M). keeper_of z.0) now)
 
 -- what a store leaves to its caller
@@ -163,8 +161,7 @@ stays-stale max id (l ∷ ls) n h b = ⊎_elim (λ (t : (l.slot ≡ id.slot)
     (λ (t : WasStale max id ls). stays-stale max id ls n t b.1) h
 
 -- what a try that lost its exchange found
-pub lost-onward : (r r' : ReaderView) (id : Id) (seen : Word) → Tries r id (Err (fault.Busy seen)) r'
-    → (n : ℕ) × (m : ℕ) × (r' ≡ reader_looked (reader_looked r id.slot n) id.slot m) × (seen ≡ decoded m) × NoLater n m
+pub lost-onward : LostSeesNoEarlier
 lost-onward r r' id seen t = ⊎_elim
     (λ (inside : id.slot < r.shape.slots). ⊎_elim
     (λ (room : length r.held < 16). let tried = t.tried inside room in
@@ -174,7 +171,7 @@ lost-onward r r' id seen t = ⊎_elim
     (λ (out : r.shape.slots ≤ id.slot). absurd (let e = (t.no_slot out).0 in cc))
     (cases_lt id.slot r.shape.slots)
   where
-    answer : (v : Verdict) (n : ℕ) → Answers v r id n (Err (fault.Busy seen)) r'
+    answer : (v : Verdict) (n : ℕ) → FollowsLook v r id n (Err (fault.Busy seen)) r'
         → (n : ℕ) × (m : ℕ) × (r' ≡ reader_looked (reader_looked r id.slot n) id.slot m) × (seen ≡ decoded m)
         × NoLater n m
     answer Unborn n a = absurd (let e = a.0 in cc)
@@ -196,9 +193,7 @@ looked-more a b c g h = (
 )
 
 -- what a reader found stale it never pins again
-pub stale-answers : (r r' : ReaderView) (id : Id) (res : Result (Unit {0}) PinFault) → Tries r id res r'
-    → id.slot < r.shape.slots → WasStale r.shape.max_pins id r.looks
-    → (res ≡ Err fault.Stale) ⊎ (res ≡ Err fault.HeldFull)
+pub stale-answers : StaleStays
 stale-answers r r' id res t inside was = ⊎_elim
     (λ (room : length r.held < 16). let tried = t.tried inside room in
     inl (answer (verdict_of r.shape.max_pins id (decoded tried.0))
@@ -206,7 +201,7 @@ stale-answers r r' id res t inside was = ⊎_elim
     (λ (full : 16 ≤ length r.held). inr (t.full inside full).0)
     (cases_lt (length r.held) 16)
   where
-    answer : (v : Verdict) → v ≡ Stale → (n : ℕ) → Answers v r id n res r' → res ≡ Err fault.Stale
+    answer : (v : Verdict) → v ≡ Stale → (n : ℕ) → FollowsLook v r id n res r' → res ≡ Err fault.Stale
     answer Unborn e n a = absurd (let x : Unborn ≡ Stale = e in cc)
     answer Stale e n a = a.0
     answer PinsFull e n a = absurd (let x : PinsFull ≡ Stale = e in cc)

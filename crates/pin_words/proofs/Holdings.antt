@@ -10,11 +10,11 @@ use Rattle.pin_core.specs.Holds.{tally, weight, same_id, is_copy, is_hold, hold_
 use Rattle.pin_core.specs.Worlds.{WorldState, at, id_at, pins, copies, last_copy, is_of, is_with, given_as}
 use Rattle.pin_core.specs.Safety.{IsSafe}
 use Rattle.pin_core.proofs.Counts.{count-snoc, count-drop_last, count-with_hold}
-use Rattle.pin_core.proofs.Moves.{same_of_test, same_of_descr, copies-le-pins}
+use Rattle.pin_core.proofs.Moves.{same_id-same, same_of_test, same_of_descr, copies-le-pins}
 use Rattle.pin_core.proofs.Holding.{release-count}
 use Rattle.pin_words.specs.declared.view.Note.{Note}
 use Rattle.pin_words.specs.declared.view.ReaderView.{ReaderView}
-use Rattle.pin_words.specs.Views.{sits, notes_of}
+use Rattle.pin_words.specs.Views.{is_of_slot, notes_of}
 use Rattle.pin_words.specs.Shown.{HoldsJust, AreNoted}
 
 same_turned : (a b : Id) → same_id a b ≡ same_id b a
@@ -28,9 +28,6 @@ other_copy q r id k x n = ap (λ (b : Bool). b && same_id id x) (ne_eqb r q n)
 
 same_of_id : (id x : Id) → same_id id x ≡ true → x ≡ id
 same_of_id id x e = let t = same_of_test id x e in λ k. record { slot = sym t.0 k; generation = sym t.1 k }
-
-is_itself : (x : Id) → same_id x x ≡ true
-is_itself x = grind (arith, common_steps)
 
 -- a copy more
 pub holds-more : (w : WorldState) (r : ℕ) (held : List Id) (id : Id) (k : ℕ) → HoldsJust w r held → (x : Id)
@@ -67,7 +64,7 @@ count-in : (p q : Id → Bool) (xs : List Id) → ((x : Id) → 0 < tally (same_
 count-in p q [] h = omega arith
 count-in p q (y ∷ ys) h = let ih = count-in p q ys (λ x have. h x (omega arith)) in
     let here : weight (p y) ≤ weight (q y) = step (p y) (q y) (h y (let one : weight (same_id y y) ≡ 1 =
-    ap weight (is_itself y) in omega arith)) in omega arith
+    ap weight (same_id-same y) in omega arith)) in omega arith
   where
     step : (a b : Bool) → (a ≡ true → b ≡ true) → weight a ≤ weight b
     step false true e = omega arith
@@ -80,9 +77,10 @@ is-there s g x a b = grind (arith, common_steps)
 
 -- a reader has no more copies at a slot than the slot has pins
 pub held-le-pins : (w : WorldState) (r s : ℕ) (held : List Id) → IsSafe w → HoldsJust w r held
-    → tally (sits s) held ≤ pins w s
+    → tally (is_of_slot s) held ≤ pins w s
 held-le-pins w r s held safe h =
-    let all : tally (sits s) held ≤ tally (same_id (id_at w s)) held = count-in (sits s) (same_id (id_at w s)) held
+    let all : tally (is_of_slot s) held ≤ tally (same_id (id_at w s)) held = count-in (is_of_slot s)
+    (same_id (id_at w s)) held
     (λ x have e. let there = eqb-true x.slot s e in let known = safe.held r x (let c = h x in omega arith) in
     is-there s (at w s).generation x there (ap (λ (z : ℕ). (at w z).generation) (sym there) ∙ known.1)) in
     let own = h (id_at w s) in let le = copies-le-pins w r (id_at w s) in omega arith
@@ -125,4 +123,4 @@ one-descr w id d e safe a b = cases (same_descr d e) refl
 -- a copy that was just taken is there
 pub got-held : (id : Id) (held : List Id) → 0 < tally (same_id id) (held ++ id ∷ [])
 got-held id held = let c = count-snoc (same_id id) held id in
-    let one : weight (same_id id id) ≡ 1 = ap weight (is_itself id) in omega arith
+    let one : weight (same_id id id) ≡ 1 = ap weight (same_id-same id) in omega arith

@@ -1,11 +1,11 @@
 -- The steps of the keeper keep the rule of the table.
 use Rattle.std.proofs.Common.{◌≡◌, ◌≢◌, inl, ℕ, ◌+◌, ◌<◌, ◌≤◌, nat_lt, eqb, Bool, true, false, cond, List, [], ◌∷◌, ◌++◌, length, get_or, set, get_or-set_same, get_or-set_other, Option, Some, None, sym, refl, ap, ◌∙◌, subst, arith}
-use Rattle.std.proofs.lemmas.Option.{same_Some}
+use Rattle.std.proofs.lemmas.Option.{IfSome_then, same_Some}
 use mathlib.Core.Option.{none, some}
 use native.Mathlib.Decide.{ℕ_discrete}
 use mathlib.Core.Logic.{dite}
 use lib.ListN.{get_elem?}
-use Rattle.std.specs.Prelude.{bit_or}
+use Rattle.std.specs.Prelude.{bit_or, IfSome, option_map}
 use prog.Atomic.{either}
 use Rattle.atomic_table.specs.Table.{step, Act, keeps, stepped, carried_after, Valid, Allows}
 use Rattle.atomic_table.proofs.Lists.{exchanged}
@@ -26,90 +26,74 @@ use Rattle.pin_core.specs.Events.{refusal, after, in_phase, with_descr, reclaime
 use Rattle.pin_core.specs.Safety.{IsSafe, age}
 use Rattle.pin_core.proofs.Schedules.{safe_kept, onward, may_publish, may_store, may_close, may_reclaim}
 use Rattle.pin_core.proofs.Counts.{count-snoc}
+use Rattle.pin_core.proofs.Moves.{moved}
 use Rattle.pin_words.specs.declared.view.KeeperView.{KeeperView}
 use Rattle.pin_words.specs.declared.view.ReaderView.{ReaderView}
 use Rattle.pin_words.specs.declared.view.View.{View}
-use Rattle.pin_words.specs.Places.{place_of, descr_place}
-use Rattle.pin_words.specs.Views.{M, Of, on, view, keeper_looked, keeper_stored, keeper_published, keeper_closed, keeper_reclaimed}
+use Rattle.pin_words.specs.Places.{AtSlot, place_of, descr_place}
+use Rattle.pin_words.specs.Views.{M, view, keeper_looked, keeper_stored, keeper_published, keeper_closed, keeper_reclaimed}
+use Rattle.pin_words.specs.Laws.{after_step, closing_word, next_word, word}
 use Rattle.pin_words.specs.Shown.{Table, NotAhead, OfKeeper, OfReader, IsShown, Shown}
-use Rattle.pin_words.specs.Plays.{TellsSlot, stored, PublishedAt, published, ClosedAt, closed, ReclaimedAt, reclaiming}
+use Rattle.pin_words.specs.Plays.{KeptAs, TellsKeeper, stored, published, closed, ReclaimedAt, reclaiming}
 use Rattle.pin_words.proofs.Bits.{publish-or, close-or}
-use Rattle.pin_words.proofs.Steps.{of-map, of-here, of-on, step-shown, still-shown, few-pins, found-is, past-here, in-shape, turn-keeper, turn-keeper-to, looks-stay, notes-stay, at-slot}
+use Rattle.pin_words.proofs.Steps.{keeper-at, of-on, placed, step-shown, still-shown, few-pins, found-is, past-here, in-shape, turn-keeper, turn-keeper-to, looks-stay, notes-stay, at-slot}
 use Rattle.pin_words.proofs.Bits.{descr-decoded}
 
 -- a keeper's step at the slot i, to x and to the list ps; what is left is that the words are those of the new world
 keeper-goes : (k : Shape) (s : Table) (W : WorldState) (sh : IsShown k s W) (id wi n i : ℕ) (v : View)
     (kv kv' : KeeperView) (e : Event) (x : Slot) (ps : List (Id × Descr)) → get_elem? s.views id ≡ some v
     → v.keeper ≡ Some kv
-    → refusal W e ≡ None → after W e ≡ record {
-      shape = W.shape;
-      slots = set W.slots i x;
-      published = ps;
-      holders = W.holders;
-    }
+    → refusal W e ≡ None → after W e ≡ moved W i x ps
     → ((y : Id) (d : Descr) → given_as W y d ≤ tally (is_with y d) ps)
     → ((j : ℕ) → j < k.slots → get_or (set s.words wi n) (place_of j) 0
-    ≡ encoded (word_at record { shape = W.shape; slots = set W.slots i x; published = ps; holders = W.holders } j))
+    ≡ encoded (word_at (moved W i x ps) j))
     → ((j : ℕ) → j < k.slots → get_or (set s.words wi n) (descr_place j) 0
     ≡ descr_code.encoded (get_or (set W.slots i x) j opening_slot).descr)
     → descr_code.IsGiven x.descr
     → kv'.shape ≡ kv.shape → kv'.slots ≡ set W.slots i x → kv'.published ≡ ps → kv'.next ≡ kv.next
     → NotAhead W kv'.looks
-    → IsShown k record {
-      words = set s.words wi n;
-      homes = s.homes;
-      views = set s.views id (view (Some kv') v.reader);
-    } record {
-      shape = W.shape;
-      slots = set W.slots i x;
-      published = ps;
-      holders = W.holders;
-    }
+    → IsShown k (after_step s wi n id (view (Some kv') v.reader)) (moved W i x ps)
 keeper-goes k s W sh id wi n i v kv kv' e x ps seated is can becomes more words descrs descr-given shape-is slots-are
     published-are next-is looks =
-    let w = W in
-    let w' : WorldState = record { shape = w.shape; slots = set w.slots i x; published = ps; holders = w.holders } in
-    let mine : OfKeeper w sh.keeper sh.next id kv =
-    of-here (OfKeeper w sh.keeper sh.next id) v.keeper kv is (sh.each id v seated).0 in
-    let wide : length w.slots ≡ w.shape.slots = sh.safe.wide in
-    let given-still : (j : ℕ) → j < k.slots → descr_code.IsGiven (get_or (set w.slots i x) j opening_slot).descr =
+    let w' : WorldState = moved W i x ps in
+    let mine = keeper-at k s W sh id v kv seated is in
+    let wide : length W.slots ≡ W.shape.slots = sh.safe.wide in
+    let given-still : (j : ℕ) → j < k.slots → descr_code.IsGiven (get_or (set W.slots i x) j opening_slot).descr =
     λ j h. dite (ℕ_discrete j i)
-    (λ same. let here : get_or (set w.slots i x) i opening_slot ≡ x =
-    get_or-set_same w.slots i x opening_slot (let a : w.shape.slots ≡ k.slots =
+    (λ same. let here : get_or (set W.slots i x) i opening_slot ≡ x =
+    get_or-set_same W.slots i x opening_slot (let a : W.shape.slots ≡ k.slots =
     ap (λ (z : Shape). z.slots) sh.shape in omega arith) in
-    subst (λ (z : ℕ). descr_code.IsGiven (get_or (set w.slots i x) z opening_slot).descr) (sym same)
+    subst (λ (z : ℕ). descr_code.IsGiven (get_or (set W.slots i x) z opening_slot).descr) (sym same)
     (subst (λ (z : Slot). descr_code.IsGiven z.descr) (sym here) descr-given))
-    (λ ne. subst (λ (z : Slot). descr_code.IsGiven z.descr) (sym (get_or-set_other w.slots i j x opening_slot ne))
+    (λ ne. subst (λ (z : Slot). descr_code.IsGiven z.descr) (sym (get_or-set_other W.slots i j x opening_slot ne))
     (sh.given j h)) in
-    let up : (j : ℕ) → age (at w j) ≤ age (at w' j) =
-    λ j. subst (λ (z : WorldState). age (at w j) ≤ age (at z j)) becomes (onward w e j can) in
-    let readers : (j : ℕ) (r : ReaderView) → OfReader w sh.next sh.owner j r
+    let up : (j : ℕ) → age (at W j) ≤ age (at w' j) =
+    λ j. subst (λ (z : WorldState). age (at W j) ≤ age (at z j)) becomes (onward W e j can) in
+    let readers : (j : ℕ) (r : ReaderView) → OfReader W sh.next sh.owner j r
     → OfReader w' sh.next sh.owner j r = λ j r a.
     record {
       shape = a.shape;
       born = a.born;
       mine = a.mine;
       held = a.held;
-      notes = notes-stay w w' r.notes more a.notes;
-      looks = looks-stay w w' r.looks refl up a.looks;
+      notes = notes-stay W w' r.notes more a.notes;
+      looks = looks-stay W w' r.looks refl up a.looks;
     } in
     step-shown k s W sh id wi n (view (Some kv') v.reader) w' sh.shape
-    (subst IsSafe becomes (safe_kept w e sh.safe can)) words descrs given-still (
+    (subst IsSafe becomes (safe_kept W e sh.safe can)) words descrs given-still (
       record {
         shape = shape-is ∙ mine.shape;
         mine = mine.mine;
         slots = slots-are;
         published = published-are;
         next_is = next-is ∙ mine.next_is;
-        looks = looks-stay w w' kv'.looks refl up looks;
+        looks = looks-stay W w' kv'.looks refl up looks;
       },
-      of-map (OfReader w sh.next sh.owner id) (OfReader w' sh.next sh.owner id) v.reader (readers id)
-          (sh.each id v seated).1,
+      IfSome_then v.reader (sh.each id v seated).1 (readers id),
     )
     (λ j u other a. (
-      of-map (OfKeeper w sh.keeper sh.next j) (OfKeeper w' sh.keeper sh.next j) u.keeper
-          (λ q b. absurd (other (b.mine ∙ sym mine.mine))) a.0,
-      of-map (OfReader w sh.next sh.owner j) (OfReader w' sh.next sh.owner j) u.reader (readers j) a.1,
+      IfSome_then u.keeper a.0 (λ q b. absurd (other (b.mine ∙ sym mine.mine))),
+      IfSome_then u.reader a.1 (readers j),
     ))
     sh.unborn v seated (turn-keeper-to v kv') (λ r e. inl e)
 
@@ -117,90 +101,67 @@ keeper-goes k s W sh id wi n i v kv kv' e x ps seated is can becomes more words 
 keeper-turns : (k : Shape) (s : Table) (W : WorldState) (sh : IsShown k s W) (id i n : ℕ) (v : View)
     (kv kv' : KeeperView) (e : Event) (x : Slot) (ps : List (Id × Descr)) → get_elem? s.views id ≡ some v
     → v.keeper ≡ Some kv → i < k.slots
-    → refusal W e ≡ None → after W e ≡ record {
-      shape = W.shape;
-      slots = set W.slots i x;
-      published = ps;
-      holders = W.holders;
-    }
+    → refusal W e ≡ None → after W e ≡ moved W i x ps
     → ((y : Id) (d : Descr) → given_as W y d ≤ tally (is_with y d) ps)
     → n ≡ encoded record { generation = x.generation; phase = x.phase; pins = pins W i } → x.descr ≡ (at W i).descr
     → kv'.shape ≡ kv.shape → kv'.slots ≡ set W.slots i x → kv'.published ≡ ps → kv'.next ≡ kv.next
     → NotAhead W kv'.looks
-    → IsShown k record {
-      words = set s.words (place_of i) n;
-      homes = s.homes;
-      views = set s.views id (view (Some kv') v.reader);
-    } record {
-      shape = W.shape;
-      slots = set W.slots i x;
-      published = ps;
-      holders = W.holders;
-    }
-keeper-turns k s W sh id i n v kv kv' e x ps seated is inside can becomes more word same-descr shape-is slots-are
+    → IsShown k (after_step s (place_of i) n id (view (Some kv') v.reader)) (moved W i x ps)
+keeper-turns k s W sh id i n v kv kv' e x ps seated is inside can becomes more word-is same-descr shape-is slots-are
     published-are next-is looks =
-    let w = W in
-    let wide : length w.slots ≡ w.shape.slots = sh.safe.wide in
-    let fit : i < w.shape.slots = in-shape k s W sh i inside in
-    let here : get_or (set w.slots i x) i opening_slot ≡ x = get_or-set_same w.slots i x opening_slot (omega arith) in
+    let wide : length W.slots ≡ W.shape.slots = sh.safe.wide in
+    let fit : i < W.shape.slots = in-shape k s W sh i inside in
+    let here : get_or (set W.slots i x) i opening_slot ≡ x = get_or-set_same W.slots i x opening_slot (omega arith) in
     keeper-goes k s W sh id (place_of i) n i v kv kv' e x ps seated is can becomes more
     (λ j h. dite (ℕ_discrete j i)
     (λ same. subst (λ (z : ℕ). get_or (set s.words (place_of i) n) (place_of z) 0 ≡ encoded record {
       generation =
-          (get_or (set w.slots i x) z opening_slot).generation;
-      phase = (get_or (set w.slots i x) z opening_slot).phase;
-      pins = pins w z;
+          (get_or (set W.slots i x) z opening_slot).generation;
+      phase = (get_or (set W.slots i x) z opening_slot).phase;
+      pins = pins W z;
     }) (sym same)
     (get_or-set_same s.words (place_of i) n 0 (let long = sh.wide in omega arith)
-    ∙ (word ∙ ap (λ (y : Slot). encoded record { generation = y.generation; phase = y.phase; pins = pins w i })
+    ∙ (word-is ∙ ap (λ (y : Slot). encoded record { generation = y.generation; phase = y.phase; pins = pins W i })
     (sym here))))
     (λ ne. get_or-set_other s.words (place_of i) (place_of j) n 0 (λ e. ne (omega arith))
     ∙ (sh.words j h ∙ ap (λ (y : Slot). encoded record {
       generation = y.generation;
       phase = y.phase;
-      pins = pins w j;
-    }) (sym (get_or-set_other w.slots i j x opening_slot ne)))))
+      pins = pins W j;
+    }) (sym (get_or-set_other W.slots i j x opening_slot ne)))))
     (λ j h. get_or-set_other s.words (place_of i) (descr_place j) n 0 (λ e. omega arith)
     ∙ (sh.descrs j h ∙ dite (ℕ_discrete j i)
-    (λ same. subst (λ (z : ℕ). descr_code.encoded (at w z).descr
-    ≡ descr_code.encoded (get_or (set w.slots i x) z opening_slot).descr) (sym same)
+    (λ same. subst (λ (z : ℕ). descr_code.encoded (at W z).descr
+    ≡ descr_code.encoded (get_or (set W.slots i x) z opening_slot).descr) (sym same)
     (ap descr_code.encoded (sym same-descr) ∙ ap (λ (y : Slot). descr_code.encoded y.descr) (sym here)))
-    (λ ne. ap (λ (y : Slot). descr_code.encoded y.descr) (sym (get_or-set_other w.slots i j x opening_slot ne)))))
+    (λ ne. ap (λ (y : Slot). descr_code.encoded y.descr) (sym (get_or-set_other W.slots i j x opening_slot ne)))))
     (subst descr_code.IsGiven (sym same-descr) (sh.given i inside))
     shape-is slots-are published-are next-is looks
 
 same-given : (w : WorldState) (y : Id) (d : Descr) → given_as w y d ≤ given_as w y d
 same-given w y d = omega arith
 
-pub keeper-at : (k : Shape) (s : Table) (W : WorldState) (sh : IsShown k s W) (id : ℕ) (v : View) (kv : KeeperView)
-    → get_elem? s.views id ≡ some v → v.keeper ≡ Some kv → OfKeeper W sh.keeper sh.next id kv
-keeper-at k s W sh id v kv seated is = of-here (OfKeeper W sh.keeper sh.next id) v.keeper kv is (sh.each id v seated).0
-
 word-in : (k : Shape) (s : Table) (W : WorldState) (sh : IsShown k s W) (i : ℕ) (p : Phase) → i < k.slots
-    → (at W i).phase ≡ p → get_or s.words (place_of i) 0 ≡ packed (at W i).generation (code_of p) (pins W i)
+    → (at W i).phase ≡ p → word s i ≡ packed (at W i).generation (code_of p) (pins W i)
 word-in k s W sh i p inside is = sh.words i inside
     ∙ ap (λ (q : Phase). packed (at W i).generation (code_of q) (pins W i)) is
 
 pub keeper-publishes : (k : Shape) (s : Table) (W : WorldState) (sh : IsShown k s W) (id i : ℕ) (v : View)
     (kv : KeeperView) → get_elem? s.views id ≡ some v → v.keeper ≡ Some kv → i < k.slots
     → (slot_of kv.slots i).phase ≡ Free
-    → IsShown k record {
-      words = set s.words (place_of i) (bit_or (get_or s.words (place_of i) 0) 1073741824);
-      homes = s.homes;
-      views = set s.views id (view (Some (keeper_published kv i)) v.reader);
-    } (after W (Publish i))
+    → IsShown k (after_step s (place_of i) (bit_or (word s i) 1073741824) id
+    (view (Some (keeper_published kv i)) v.reader)) (after W (Publish i))
 keeper-publishes k s W sh id i v kv seated is inside free =
     let mine = keeper-at k s W sh id v kv seated is in
-    let w = W in
-    let phase : (at w i).phase ≡ Free = ap (λ (z : List Slot). (get_or z i opening_slot).phase) (sym mine.slots) ∙ free
+    let phase : (at W i).phase ≡ Free = ap (λ (z : List Slot). (get_or z i opening_slot).phase) (sym mine.slots) ∙ free
     in
-    let n : ℕ = get_or s.words (place_of i) 0 in
-    keeper-turns k s W sh id i (bit_or n 1073741824) v kv (keeper_published kv i) (Publish i) (in_phase (at w i) Live)
-    (w.published ++ (id_at w i, (at w i).descr) ∷ []) seated is inside
-    (may_publish w i (in-shape k s W sh i inside) phase) refl
-    (λ y d. let c = count-snoc (is_with y d) w.published (id_at w i, (at w i).descr) in omega arith)
+    let n : ℕ = word s i in
+    keeper-turns k s W sh id i (bit_or n 1073741824) v kv (keeper_published kv i) (Publish i) (in_phase (at W i) Live)
+    (W.published ++ (id_at W i, (at W i).descr) ∷ []) seated is inside
+    (may_publish W i (in-shape k s W sh i inside) phase) refl
+    (λ y d. let c = count-snoc (is_with y d) W.published (id_at W i, (at W i).descr) in omega arith)
     (ap (λ (z : ℕ). bit_or z 1073741824) (word-in k s W sh i Free inside phase)
-    ∙ publish-or (at w i).generation (pins w i) (few-pins k s W sh i))
+    ∙ publish-or (at W i).generation (pins W i) (few-pins k s W sh i))
     refl refl
     (ap (λ (z : List Slot). set z i (in_phase (get_or z i opening_slot) Live)) mine.slots)
     (λ c. mine.published c ++ (
@@ -209,125 +170,94 @@ keeper-publishes k s W sh id i v kv seated is inside free =
     ) ∷ [])
     refl mine.looks
 
-publishes-at : (k : Shape) (slots id i : ℕ) (me : M) (v : KeeperView) → me.0.keeper ≡ Some v → i < k.slots
-    → (slot_of v.slots i).phase ≡ Free
-    → Allows (Shown k) slots id me (place_of i) (λ n. bit_or n 1073741824)
-    (published (step slots (place_of i) 1073741824 0 none) me)
-publishes-at k slots id i me v is inside free s (W, sh) deep seated small =
-    let n : ℕ = get_or s.words (place_of i) 0 in (
-      view (on (λ z. keeper_published z i) me.0.keeper) me.0.reader,
+-- the keeper sets a bit of the slot's word
+sets-bit : (k : Shape) (slots id i p bit : ℕ) (me : M) (v : KeeperView) (f : KeeperView → ℕ → KeeperView) (e : Event)
+    → p ≡ place_of i → me.0.keeper ≡ Some v
+    → ((s : Table) (W : WorldState) → IsShown k s W → get_elem? s.views id ≡ some me.0
+    → IsShown k (after_step s (place_of i) (bit_or (word s i) bit) id (view (Some (f v i)) me.0.reader)) (after W e))
+    → Allows (Shown k) slots id me p (λ n. bit_or n bit) (λ n m'. AtSlot p (KeptAs f me m'))
+sets-bit k slots id i p bit me v f e at is shown =
+    placed k slots id p (place_of i) bit 0 me (λ n. bit_or n bit) (λ st m n m'. AtSlot st.word (KeptAs f m m')) at
+    (λ s known deep seated small. (
+      view (option_map (λ z. f z i) me.0.keeper) me.0.reader,
       keeps,
       tt,
       (
-        after W (Publish i),
-        subst (λ (z : Option KeeperView). IsShown k record {
-          words = set s.words (place_of i) (bit_or n 1073741824);
-          homes = s.homes;
-          views = set s.views id (view (on (λ z. keeper_published z i) z) me.0.reader);
-        }
-            (after W (Publish i))) (sym is)
-            (keeper-publishes k s W sh id i me.0 v seated is inside free),
+        after known.0 e,
+        subst (λ (z : Option KeeperView). IsShown k (after_step s (place_of i) (bit_or (word s i) bit) id
+            (view (option_map (λ y. f y i) z) me.0.reader)) (after known.0 e)) (sym is)
+            (shown s known.0 known.1 seated),
       ),
-      at-slot i (PublishedAt me (view (on (λ z. keeper_published z i) me.0.keeper) me.0.reader, me.1)) refl,
-    )
+      at-slot i (KeptAs f me (view (option_map (λ z. f z i) me.0.keeper) me.0.reader, me.1)) refl,
+    ))
 
 pub publishes-step : (k : Shape) (slots id i p : ℕ) (me : M) (v : KeeperView) → p ≡ place_of i → me.0.keeper ≡ Some v
     → i < k.slots → (slot_of v.slots i).phase ≡ Free
     → Allows (Shown k) slots id me p (λ n. bit_or n 1073741824) (published (step slots p 1073741824 0 none) me)
 publishes-step k slots id i p me v at is inside free =
-    subst (λ (z : ℕ). Allows (Shown k) slots id me z (λ n. bit_or n 1073741824)
-    (published (step slots z 1073741824 0 none) me)) (sym at) (publishes-at k slots id i me v is inside free)
+    sets-bit k slots id i p 1073741824 me v keeper_published (Publish i) at is
+    (λ s W sh seated. keeper-publishes k s W sh id i me.0 v seated is inside free)
 
 pub keeper-closes : (k : Shape) (s : Table) (W : WorldState) (sh : IsShown k s W) (id i : ℕ) (v : View)
     (kv : KeeperView) → get_elem? s.views id ≡ some v → v.keeper ≡ Some kv → i < k.slots
     → (slot_of kv.slots i).phase ≡ Live
-    → IsShown k record {
-      words = set s.words (place_of i) (bit_or (get_or s.words (place_of i) 0) 2147483648);
-      homes = s.homes;
-      views = set s.views id (view (Some (keeper_closed kv i)) v.reader);
-    } (after W (CloseSlot i))
+    → IsShown k (after_step s (place_of i) (bit_or (word s i) 2147483648) id
+    (view (Some (keeper_closed kv i)) v.reader)) (after W (CloseSlot i))
 keeper-closes k s W sh id i v kv seated is inside live =
     let mine = keeper-at k s W sh id v kv seated is in
-    let w = W in
-    let phase : (at w i).phase ≡ Live = ap (λ (z : List Slot). (get_or z i opening_slot).phase) (sym mine.slots) ∙ live
+    let phase : (at W i).phase ≡ Live = ap (λ (z : List Slot). (get_or z i opening_slot).phase) (sym mine.slots) ∙ live
     in
-    let n : ℕ = get_or s.words (place_of i) 0 in
+    let n : ℕ = word s i in
     keeper-turns k s W sh id i (bit_or n 2147483648) v kv (keeper_closed kv i) (CloseSlot i)
-    (in_phase (at w i) Closing) w.published seated is inside
-    (may_close w i (in-shape k s W sh i inside) phase) refl (same-given w)
+    (in_phase (at W i) Closing) W.published seated is inside
+    (may_close W i (in-shape k s W sh i inside) phase) refl (same-given W)
     (ap (λ (z : ℕ). bit_or z 2147483648) (word-in k s W sh i Live inside phase)
-    ∙ close-or (at w i).generation (pins w i) (few-pins k s W sh i))
+    ∙ close-or (at W i).generation (pins W i) (few-pins k s W sh i))
     refl refl (ap (λ (z : List Slot). set z i (in_phase (get_or z i opening_slot) Closing)) mine.slots) mine.published
     refl mine.looks
-
-closes-at : (k : Shape) (slots id i : ℕ) (me : M) (v : KeeperView) → me.0.keeper ≡ Some v → i < k.slots
-    → (slot_of v.slots i).phase ≡ Live
-    → Allows (Shown k) slots id me (place_of i) (λ n. bit_or n 2147483648)
-    (closed (step slots (place_of i) 2147483648 0 none) me)
-closes-at k slots id i me v is inside live s (W, sh) deep seated small =
-    let n : ℕ = get_or s.words (place_of i) 0 in (
-      view (on (λ z. keeper_closed z i) me.0.keeper) me.0.reader,
-      keeps,
-      tt,
-      (
-        after W (CloseSlot i),
-        subst (λ (z : Option KeeperView). IsShown k record {
-          words = set s.words (place_of i) (bit_or n 2147483648);
-          homes = s.homes;
-          views = set s.views id (view (on (λ z. keeper_closed z i) z) me.0.reader);
-        }
-            (after W (CloseSlot i))) (sym is)
-            (keeper-closes k s W sh id i me.0 v seated is inside live),
-      ),
-      at-slot i (ClosedAt me (view (on (λ z. keeper_closed z i) me.0.keeper) me.0.reader, me.1)) refl,
-    )
 
 pub closes-step : (k : Shape) (slots id i p : ℕ) (me : M) (v : KeeperView) → p ≡ place_of i → me.0.keeper ≡ Some v
     → i < k.slots → (slot_of v.slots i).phase ≡ Live
     → Allows (Shown k) slots id me p (λ n. bit_or n 2147483648) (closed (step slots p 2147483648 0 none) me)
 closes-step k slots id i p me v at is inside live =
-    subst (λ (z : ℕ). Allows (Shown k) slots id me z (λ n. bit_or n 2147483648)
-    (closed (step slots z 2147483648 0 none) me)) (sym at) (closes-at k slots id i me v is inside live)
+    sets-bit k slots id i p 2147483648 me v keeper_closed (CloseSlot i) at is
+    (λ s W sh seated. keeper-closes k s W sh id i me.0 v seated is inside live)
 
 pub keeper-stores : (k : Shape) (s : Table) (W : WorldState) (sh : IsShown k s W) (id i : ℕ) (v : View)
     (kv : KeeperView) (d : Descr) → get_elem? s.views id ≡ some v → v.keeper ≡ Some kv → i < k.slots
     → (slot_of kv.slots i).phase ≡ Free → descr_code.IsGiven d
-    → IsShown k record {
-      words = set s.words (descr_place i) (descr_code.encoded d);
-      homes = s.homes;
-      views = set s.views id (view (Some (keeper_stored kv i d)) v.reader);
-    } (after W (StoreDescr i d))
+    → IsShown k (after_step s (descr_place i) (descr_code.encoded d) id (view (Some (keeper_stored kv i d)) v.reader))
+    (after W (StoreDescr i d))
 keeper-stores k s W sh id i v kv d seated is inside free descr-given =
     let mine = keeper-at k s W sh id v kv seated is in
-    let w = W in
     let x : ℕ = descr_code.encoded d in
-    let phase : (at w i).phase ≡ Free = ap (λ (z : List Slot). (get_or z i opening_slot).phase) (sym mine.slots) ∙ free
+    let phase : (at W i).phase ≡ Free = ap (λ (z : List Slot). (get_or z i opening_slot).phase) (sym mine.slots) ∙ free
     in
-    let y : Slot = with_descr (at w i) d in
-    let wide : length w.slots ≡ w.shape.slots = sh.safe.wide in
-    let fit : i < w.shape.slots = in-shape k s W sh i inside in
-    let here : get_or (set w.slots i y) i opening_slot ≡ y = get_or-set_same w.slots i y opening_slot (omega arith) in
-    keeper-goes k s W sh id (descr_place i) x i v kv (keeper_stored kv i d) (StoreDescr i d) y w.published seated is
-    (may_store w i d fit phase) refl (same-given w)
+    let y : Slot = with_descr (at W i) d in
+    let wide : length W.slots ≡ W.shape.slots = sh.safe.wide in
+    let fit : i < W.shape.slots = in-shape k s W sh i inside in
+    let here : get_or (set W.slots i y) i opening_slot ≡ y = get_or-set_same W.slots i y opening_slot (omega arith) in
+    keeper-goes k s W sh id (descr_place i) x i v kv (keeper_stored kv i d) (StoreDescr i d) y W.published seated is
+    (may_store W i d fit phase) refl (same-given W)
     (λ j h. get_or-set_other s.words (descr_place i) (place_of j) x 0 (λ e. omega arith)
     ∙ (sh.words j h ∙ dite (ℕ_discrete j i)
-    (λ same. subst (λ (z : ℕ). encoded (word_at w z) ≡ encoded record {
+    (λ same. subst (λ (z : ℕ). encoded (word_at W z) ≡ encoded record {
       generation =
-          (get_or (set w.slots i y) z opening_slot).generation;
-      phase = (get_or (set w.slots i y) z opening_slot).phase;
-      pins = pins w z;
+          (get_or (set W.slots i y) z opening_slot).generation;
+      phase = (get_or (set W.slots i y) z opening_slot).phase;
+      pins = pins W z;
     }) (sym same)
-    (ap (λ (q : Slot). encoded record { generation = q.generation; phase = q.phase; pins = pins w i }) (sym here)))
-    (λ ne. ap (λ (q : Slot). encoded record { generation = q.generation; phase = q.phase; pins = pins w j })
-    (sym (get_or-set_other w.slots i j y opening_slot ne)))))
+    (ap (λ (q : Slot). encoded record { generation = q.generation; phase = q.phase; pins = pins W i }) (sym here)))
+    (λ ne. ap (λ (q : Slot). encoded record { generation = q.generation; phase = q.phase; pins = pins W j })
+    (sym (get_or-set_other W.slots i j y opening_slot ne)))))
     (λ j h. dite (ℕ_discrete j i)
     (λ same. subst (λ (z : ℕ). get_or (set s.words (descr_place i) x) (descr_place z) 0
-    ≡ descr_code.encoded (get_or (set w.slots i y) z opening_slot).descr) (sym same)
+    ≡ descr_code.encoded (get_or (set W.slots i y) z opening_slot).descr) (sym same)
     (get_or-set_same s.words (descr_place i) x 0 (let long = sh.wide in omega arith)
     ∙ ap (λ (q : Slot). descr_code.encoded q.descr) (sym here)))
     (λ ne. get_or-set_other s.words (descr_place i) (descr_place j) x 0 (λ e. ne (omega arith))
     ∙ (sh.descrs j h ∙ ap (λ (q : Slot). descr_code.encoded q.descr)
-    (sym (get_or-set_other w.slots i j y opening_slot ne)))))
+    (sym (get_or-set_other W.slots i j y opening_slot ne)))))
     descr-given refl (ap (λ (z : List Slot). set z i (with_descr (get_or z i opening_slot) d)) mine.slots)
     mine.published refl mine.looks
 
@@ -346,15 +276,12 @@ stores-step k slots id i x me v d is inside free descr-given x-is s (W, sh) deep
       tt,
       (
         after W (StoreDescr i d),
-        subst (λ (z : ℕ). IsShown k record {
-          words = set s.words (descr_place i) z;
-          homes = s.homes;
-          views = set s.views id (view (Some (keeper_stored v i d)) me.0.reader);
-        } (after W (StoreDescr i d)))
+        subst (λ (z : ℕ). IsShown k (after_step s (descr_place i) z id (view (Some (keeper_stored v i d)) me.0.reader))
+            (after W (StoreDescr i d)))
             (sym x-is)
             (keeper-stores k s W sh id i me.0 v d seated is inside free descr-given),
       ),
-      λ v' i' d' is' word given' x-is'. let same = same_Some v v' (sym is ∙ is') in
+      λ v' i' d' is' word-is given' x-is'. let same = same_Some v v' (sym is ∙ is') in
           let index : i ≡ i' = omega arith in
           let one : d ≡ d' = same-decoded d d' descr-given given' (sym x-is ∙ x-is') in
           λ c. (view (Some (keeper_stored (same c) (index c) (one c))) me.0.reader, me.1),
@@ -371,32 +298,23 @@ reclaimed-descr m y = cases (nat_lt y.generation m)
     cases true = refl
     cases false = refl
 
--- the word of a slot that is closing without pins, and the word after
-abbrev pub word_closing : Slot → ℕ
-word_closing y = encoded record { generation = y.generation; phase = Closing; pins = 0 }
-
-abbrev pub word_reclaimed : ℕ → Slot → ℕ
-word_reclaimed m y = encoded record { generation = (reclaimed m y).generation; phase = (reclaimed m y).phase; pins = 0 }
-
 keeper-told : (k : Shape) (s : Table) (W : WorldState) (sh : IsShown k s W) (id i : ℕ) (v : View)
     → get_elem? s.views id ≡ some v → i < k.slots →
-    Of v.keeper (λ z. TellsSlot z.shape z.slots i (get_or s.words (place_of i) 0))
-keeper-told k s W sh id i v seated inside = of-map (OfKeeper W sh.keeper sh.next id)
-    (λ z. TellsSlot z.shape z.slots i (get_or s.words (place_of i) 0)) v.keeper
+    IfSome v.keeper (λ z. TellsKeeper z.shape z.slots i (word s i))
+keeper-told k s W sh id i v seated inside = IfSome_then v.keeper (sh.each id v seated).0
     (λ z a. let is = found-is k s W sh i inside in
     let here : at W i ≡ slot_of z.slots i = ap (λ (x : List Slot). slot_of x i) (sym a.slots) in record {
       generation = ap (λ (x : Word). x.generation) is ∙ ap (λ (x : Slot). x.generation) here;
       phase = ap (λ (x : Word). x.phase) is ∙ ap (λ (x : Slot). x.phase) here;
-      room = let le = sh.safe.room i in let count : (decoded (get_or s.words (place_of i) 0)).pins ≡ pins W i =
+      room = let le = sh.safe.room i in let count : (decoded (word s i)).pins ≡ pins W i =
           ap (λ (x : Word). x.pins) is in let max : z.shape.max_pins ≡ W.shape.max_pins =
           ap (λ (x : Shape). x.max_pins) a.shape in omega arith;
     })
-    (sh.each id v seated).0
 
 closing-word : (k : Shape) (s : Table) (W : WorldState) (sh : IsShown k s W) (id i : ℕ) (v : View) (kv : KeeperView)
     → get_elem? s.views id ≡ some v → v.keeper ≡ Some kv → i < k.slots → (slot_of kv.slots i).phase ≡ Closing
     → (slot_of kv.slots i ≡ at W i) × ((at W i).phase ≡ Closing)
-    × (get_or s.words (place_of i) 0 ≡ packed (at W i).generation 3 (pins W i))
+    × (word s i ≡ packed (at W i).generation 3 (pins W i))
 closing-word k s W sh id i v kv seated is inside closing =
     let mine = keeper-at k s W sh id v kv seated is in
     let same : slot_of kv.slots i ≡ at W i = ap (λ (z : List Slot). get_or z i opening_slot) mine.slots in
@@ -406,69 +324,61 @@ closing-word k s W sh id i v kv seated is inside closing =
 -- an exchange that failed found pins
 pub pinned-still : (k : Shape) (s : Table) (W : WorldState) (sh : IsShown k s W) (id i : ℕ) (v : View) (kv : KeeperView)
     → get_elem? s.views id ≡ some v → v.keeper ≡ Some kv → i < k.slots → (slot_of kv.slots i).phase ≡ Closing
-    → get_or s.words (place_of i) 0 ≢ word_closing (slot_of kv.slots i)
-    → 0 < (decoded (get_or s.words (place_of i) 0)).pins
+    → word s i ≢ closing_word (slot_of kv.slots i)
+    → 0 < (decoded (word s i)).pins
 pinned-still k s W sh id i v kv seated is inside closing miss =
     let c = closing-word k s W sh id i v kv seated is inside closing in
-    let count : (decoded (get_or s.words (place_of i) 0)).pins ≡ pins W i =
+    let count : (decoded (word s i)).pins ≡ pins W i =
     ap (λ (y : Word). y.pins) (found-is k s W sh i inside) in
-    let some-pin : pins W i ≢ 0 = λ e. miss (c.2 ∙ (ap (packed (at W i).generation 3) e ∙ sym (ap word_closing c.0))) in
+    let some-pin : pins W i ≢ 0 = λ e. miss (c.2 ∙ (ap (packed (at W i).generation 3) e ∙ sym (ap closing_word c.0))) in
     omega arith
 
 -- and one that won found none
 pub none-pinned : (k : Shape) (s : Table) (W : WorldState) (sh : IsShown k s W) (id i : ℕ) (v : View) (kv : KeeperView)
     → get_elem? s.views id ≡ some v → v.keeper ≡ Some kv → i < k.slots → (slot_of kv.slots i).phase ≡ Closing
-    → get_or s.words (place_of i) 0 ≡ word_closing (slot_of kv.slots i) → refusal W (Reclaim i) ≡ None
+    → word s i ≡ closing_word (slot_of kv.slots i) → refusal W (Reclaim i) ≡ None
 none-pinned k s W sh id i v kv seated is inside closing hit =
     let c = closing-word k s W sh id i v kv seated is inside closing in
     let none-left : pins W i ≡ 0 = (let a = c.2 in
-    let b : get_or s.words (place_of i) 0 ≡ packed (at W i).generation 3 0 = hit ∙ ap word_closing c.0 in
+    let b : word s i ≡ packed (at W i).generation 3 0 = hit ∙ ap closing_word c.0 in
     omega arith) in
     may_reclaim W i (in-shape k s W sh i inside) c.1 none-left
 
 pub keeper-reclaims : (k : Shape) (s : Table) (W : WorldState) (sh : IsShown k s W) (id i : ℕ) (v : View)
     (kv : KeeperView) → get_elem? s.views id ≡ some v → v.keeper ≡ Some kv → i < k.slots
     → (slot_of kv.slots i).phase ≡ Closing
-    → get_or s.words (place_of i) 0 ≡ word_closing (slot_of kv.slots i)
-    → IsShown k record {
-      words = set s.words (place_of i) (word_reclaimed k.max_gen (slot_of kv.slots i));
-      homes = s.homes;
-      views = set s.views id (view
-          (Some (keeper_reclaimed kv i (get_or s.words (place_of i) 0))) v.reader);
-    } (after W (Reclaim i))
+    → word s i ≡ closing_word (slot_of kv.slots i)
+    → IsShown k (after_step s (place_of i) (next_word k.max_gen (slot_of kv.slots i)) id (view
+    (Some (keeper_reclaimed kv i (word s i))) v.reader)) (after W (Reclaim i))
 keeper-reclaims k s W sh id i v kv seated is inside closing hit =
     let mine = keeper-at k s W sh id v kv seated is in
     let c = closing-word k s W sh id i v kv seated is inside closing in
-    let w = W in
     let most : k.max_gen ≡ W.shape.max_gen = ap (λ (z : Shape). z.max_gen) (sym sh.shape) in
     let none-left : pins W i ≡ 0 = (let a = c.2 in
-    let b : get_or s.words (place_of i) 0 ≡ packed (at W i).generation 3 0 = hit ∙ ap word_closing c.0 in
+    let b : word s i ≡ packed (at W i).generation 3 0 = hit ∙ ap closing_word c.0 in
     omega arith) in
-    let x : Slot = reclaimed w.shape.max_gen (at w i) in
-    let gen-max : kv.shape.max_gen ≡ w.shape.max_gen = ap (λ (z : Shape). z.max_gen) mine.shape in
-    let new-word : word_reclaimed k.max_gen (slot_of kv.slots i) ≡ encoded record {
+    let x : Slot = reclaimed W.shape.max_gen (at W i) in
+    let gen-max : kv.shape.max_gen ≡ W.shape.max_gen = ap (λ (z : Shape). z.max_gen) mine.shape in
+    let new-word : next_word k.max_gen (slot_of kv.slots i) ≡ encoded record {
       generation = x.generation;
       phase = x.phase;
       pins = 0;
-    } = λ j. word_reclaimed (most j) (c.0 j) in
-    keeper-turns k s W sh id i (word_reclaimed k.max_gen (slot_of kv.slots i)) v kv
-    (keeper_reclaimed kv i (get_or s.words (place_of i) 0)) (Reclaim i) x w.published seated is inside
-    (may_reclaim w i (in-shape k s W sh i inside) c.1 none-left) refl (same-given w)
+    } = λ j. next_word (most j) (c.0 j) in
+    keeper-turns k s W sh id i (next_word k.max_gen (slot_of kv.slots i)) v kv
+    (keeper_reclaimed kv i (word s i)) (Reclaim i) x W.published seated is inside
+    (may_reclaim W i (in-shape k s W sh i inside) c.1 none-left) refl (same-given W)
     (new-word ∙ ap (λ (p : ℕ). encoded record { generation = x.generation; phase = x.phase; pins = p }) (sym none-left))
-    (reclaimed-descr w.shape.max_gen (at w i)) refl
+    (reclaimed-descr W.shape.max_gen (at W i)) refl
     (λ j. set (mine.slots j) i (reclaimed (gen-max j) (get_or (mine.slots j) i opening_slot))) mine.published refl
     (past-here k s W sh i inside, mine.looks)
 
 pub keeper-looks : (k : Shape) (s : Table) (W : WorldState) (sh : IsShown k s W) (id i : ℕ) (v : View)
     → get_elem? s.views id ≡ some v → i < k.slots
-    → IsShown k record {
-      words = set s.words (place_of i) (get_or s.words (place_of i) 0);
-      homes = s.homes;
-      views = set s.views id (view (on (λ z. keeper_looked z i (get_or s.words (place_of i) 0)) v.keeper) v.reader);
-    }
+    → IsShown k (after_step s (place_of i) (word s i) id
+    (view (option_map (λ z. keeper_looked z i (word s i)) v.keeper) v.reader))
     W
-keeper-looks k s W sh id i v seated inside = let n : ℕ = get_or s.words (place_of i) 0 in
-    still-shown k s W sh id (place_of i) (view (on (λ z. keeper_looked z i n) v.keeper) v.reader) (
+keeper-looks k s W sh id i v seated inside = let n : ℕ = word s i in
+    still-shown k s W sh id (place_of i) (view (option_map (λ z. keeper_looked z i n) v.keeper) v.reader) (
       of-on (OfKeeper W sh.keeper sh.next id) (λ z. keeper_looked z i n) v.keeper (λ z a.
           record {
             shape = a.shape;
@@ -481,59 +391,39 @@ keeper-looks k s W sh id i v seated inside = let n : ℕ = get_or s.words (place
       (sh.each id v seated).1,
     ) v seated (turn-keeper v (λ z. keeper_looked z i n))
 
-reclaims-at : (k : Shape) (slots id i old new : ℕ) (me : M) (v : KeeperView) → me.0.keeper ≡ Some v → i < k.slots
-    → (slot_of v.slots i).phase ≡ Closing → old ≡ word_closing (slot_of v.slots i)
-    → new ≡ word_reclaimed k.max_gen (slot_of v.slots i)
-    → Allows (Shown k) slots id me (place_of i) (λ n. either (eqb n old) new n)
-    (reclaiming (step slots (place_of i) old new none) me)
-reclaims-at k slots id i old new me v is inside closing old-is new-is s (W, sh) deep seated small =
-    exchanged (get_or s.words (place_of i) 0) old new
+pub reclaims-step : (k : Shape) (slots id i p old new : ℕ) (me : M) (v : KeeperView) → p ≡ place_of i
+    → me.0.keeper ≡ Some v → i < k.slots → (slot_of v.slots i).phase ≡ Closing → old ≡ closing_word (slot_of v.slots i)
+    → new ≡ next_word k.max_gen (slot_of v.slots i)
+    → Allows (Shown k) slots id me p (λ n. either (eqb n old) new n) (reclaiming (step slots p old new none) me)
+reclaims-step k slots id i p old new me v at is inside closing old-is new-is =
+    placed k slots id p (place_of i) old new me (λ n. either (eqb n old) new n) reclaiming at
+    (λ s known deep seated small. let W = known.0 in let sh = known.1 in let n : ℕ = word s i in
+    let now : (KeeperView → KeeperView) → View = λ f. view (option_map f me.0.keeper) me.0.reader in
+    exchanged n old new
     (λ x. (w : View) × (a : Act (Unit {0})) × Valid s.homes me.1 a × Shown k (stepped s (place_of i) x id me.1 w a)
-    × reclaiming (step slots (place_of i) old new none) me (get_or s.words (place_of i) 0) (
-      w,
-      carried_after me.1 a,
-    ))
+    × reclaiming (step slots (place_of i) old new none) me n (w, carried_after me.1 a))
     (λ hit. (
-      view (on (λ z. keeper_reclaimed z i n) me.0.keeper) me.0.reader,
+      now (λ z. keeper_reclaimed z i n),
       keeps,
       tt,
       (
         after W (Reclaim i),
-        subst (λ (z : Option KeeperView × ℕ). IsShown k record {
-          words = set s.words (place_of i) z.1;
-          homes = s.homes;
-          views = set s.views id (view (on (λ z. keeper_reclaimed z i n) z.0) me.0.reader);
-        } (after W (Reclaim i)))
+        subst (λ (z : Option KeeperView × ℕ). IsShown k (after_step s (place_of i) z.1 id
+            (view (option_map (λ y. keeper_reclaimed y i n) z.0) me.0.reader)) (after W (Reclaim i)))
             (λ j. (sym is j, sym new-is j))
             (keeper-reclaims k s W sh id i me.0 v seated is inside closing (hit ∙ old-is)),
       ),
-      at-slot i (ReclaimedAt old me n (view (on (λ z. keeper_reclaimed z i n) me.0.keeper) me.0.reader, me.1))
+      at-slot i (ReclaimedAt old me n (now (λ z. keeper_reclaimed z i n), me.1))
           ((λ _. refl), (λ miss. absurd (miss hit)), keeper-told k s W sh id i me.0 seated inside),
     ))
     (λ miss. (
-      view (on (λ z. keeper_looked z i n) me.0.keeper) me.0.reader,
+      now (λ z. keeper_looked z i n),
       keeps,
       tt,
       (W, keeper-looks k s W sh id i me.0 seated inside),
-      at-slot i (ReclaimedAt old me n (view (on (λ z. keeper_looked z i n) me.0.keeper) me.0.reader, me.1)) (
+      at-slot i (ReclaimedAt old me n (now (λ z. keeper_looked z i n), me.1)) (
         (λ e. absurd (miss e)),
-        (λ _. (
-          refl,
-          pinned-still k s W sh id i me.0 v seated is inside closing
-              (λ e. miss (e ∙ sym old-is)),
-        )),
+        (λ _. (refl, pinned-still k s W sh id i me.0 v seated is inside closing (λ e. miss (e ∙ sym old-is)))),
         keeper-told k s W sh id i me.0 seated inside,
       ),
-    ))
-  where
-    n : ℕ
-    n = get_or s.words (place_of i) 0
-
-pub reclaims-step : (k : Shape) (slots id i p old new : ℕ) (me : M) (v : KeeperView) → p ≡ place_of i
-    → me.0.keeper ≡ Some v → i < k.slots → (slot_of v.slots i).phase ≡ Closing → old ≡ word_closing (slot_of v.slots i)
-    → new ≡ word_reclaimed k.max_gen (slot_of v.slots i)
-    → Allows (Shown k) slots id me p (λ n. either (eqb n old) new n) (reclaiming (step slots p old new none) me)
-reclaims-step k slots id i p old new me v at is inside closing old-is new-is =
-    subst (λ (z : ℕ). Allows (Shown k) slots id me z (λ n. either (eqb n old) new n)
-    (reclaiming (step slots z old new none) me)) (sym at)
-    (reclaims-at k slots id i old new me v is inside closing old-is new-is)
+    )))

@@ -1,23 +1,21 @@
 -- The law of the steps.
-use Rattle.std.proofs.Common.{nat_le, ◌≡◌, ◌≢◌, ⊎_elim, ℕ, ◌+◌, ◌-◌, ◌<◌, ◌≤◌, ◌&&◌, nat_lt, List, [], ◌∷◌, ◌++◌, get_or, set, replicate, false, Option, Some, None, sym, refl, ap, ◌∙◌, subst, arith}
+use Rattle.std.proofs.Common.{nat_le, ◌≡◌, ⊎_elim, ℕ, ◌<◌, ◌≤◌, ◌&&◌, nat_lt, List, [], ◌∷◌, replicate, false, Option, Some, None, sym, refl, ap, ◌∙◌, subst, arith}
 use Rattle.std.proofs.lemmas.Grind.{common_steps}
 use Rattle.std.proofs.lemmas.Option.{same_Some}
-use Rattle.std.specs.Prelude.{bit_or}
+use Rattle.std.specs.Prelude.{option_map}
 use Rattle.pin_core.specs.declared.word.Word.{Word}
 use Rattle.pin_core.specs.declared.id.Id.{Id}
 use Rattle.pin_core.specs.declared.descr.Descr.{Descr}
-use Rattle.pin_core.specs.declared.word.Phase.TheVariants.{Free, Live, Closing}
 use Rattle.pin_core.specs.declared.shape.Shape.{Shape}
 use Rattle.pin_core.specs.declared.world.Slot.{Slot}
 use Rattle.pin_core.specs.declared.holders.Hold.{Hold}
 use Rattle.pin_core.specs.declared.event.Event.{Event}
 use Rattle.pin_core.specs.declared.event.Event.TheVariants.{Load, Pin, Release, ReadDescr, StoreDescr, Publish, CloseSlot, Reclaim}
 use Rattle.pin_core.specs.Words.{decoded}
-use Rattle.pin_core.specs.Descrs as descr_code
 use Rattle.pin_core.specs.Holds.{tally, weight, hold_of, same_id}
 use Rattle.pin_core.specs.Worlds.{WorldState, opening_slot, slot_of, at, copies, times}
-use Rattle.pin_core.specs.Events.{refusal, Can, after}
-use Rattle.pin_core.specs.Safety.{may_be_held, IsSafe, StaysGiven}
+use Rattle.pin_core.specs.Events.{refusal, Transition, after}
+use Rattle.pin_core.specs.Safety.{may_be_held, IsSafe}
 use Rattle.pin_core.proofs.Schedules.{opening_at, times-le-copies, kept_while_held, may_load, may_read, may_release, may_publish, may_store, may_close}
 use Rattle.pin_core.proofs.Moves.{given_as-le}
 use Rattle.pin_words.specs.declared.view.Note.{Note}
@@ -25,68 +23,44 @@ use Rattle.pin_words.specs.declared.view.KeeperView.{KeeperView}
 use Rattle.pin_words.specs.declared.view.ReaderView.{ReaderView}
 use Rattle.pin_words.specs.declared.view.View.{View}
 use Rattle.pin_words.specs.Places.{place_of, descr_place}
-use Rattle.pin_words.specs.Views.{on, view, id_in, reader_looked, reader_got, reader_released, reader_noted, keeper_looked, keeper_stored, keeper_published, keeper_closed, keeper_reclaimed, keeper_gave, opening_keeper}
-use Rattle.pin_words.specs.Shown.{Table, AreNoted, HoldsJust, OfKeeper, OfReader, HasReader, IsShown}
-use Rattle.pin_words.specs.Plays.{Behind, Tells, AreListed, Show, Meets, MeetsBoth, looked_view, got_view, released_view, looked, pinned, released, noted, stored, published, closed, reclaiming, gave, reader_from, spent, or_else, joined, keeper_part, reader_part}
-use Rattle.pin_words.specs.Plays as play
+use Rattle.pin_words.specs.Views.{view, reader_looked, reader_noted, keeper_looked, keeper_gave, opening_keeper}
+use Rattle.pin_words.specs.Shown.{Table, AreNoted, HoldsJust, HasReader, IsShown}
 use Rattle.pin_words.proofs.Holdings.{has-copies}
-use Rattle.pin_words.specs.Laws.{ReaderAt, KeeperAt, StepsBy, stepped, with_views, closing_word, next_word, ArePublished, ShowsOpening}
-use Rattle.pin_words.proofs.Steps.{of-here, found-is, in-shape}
+use Rattle.pin_words.specs.Laws.{ArePublished, CloseSteps, CopiesStay, FailedReclaimSteps, GivesReader, KeeperAt, LoadSteps, NotesArePublished, PinSteps, PublishSteps, ReadSteps, ReaderAt, ReclaimSteps, ReleaseSteps, ShowsOneWorld, ShowsOpening, StoreSteps, after_step, descr_word, with_keeper, with_reader, word}
+use Rattle.pin_words.proofs.Steps.{keeper-at, reader-at, found-is, in-shape}
 use Rattle.pin_words.proofs.ReaderSteps.{looks-shown, may_pin_found, reader-pins, reader-releases, reader-notes, descr_found}
-use Rattle.pin_words.proofs.KeeperSteps.{keeper-at, keeper-publishes, keeper-closes, keeper-reclaims, keeper-looks, keeper-stores, pinned-still, none-pinned}
+use Rattle.pin_words.proofs.KeeperSteps.{keeper-publishes, keeper-closes, keeper-reclaims, keeper-looks, keeper-stores, pinned-still, none-pinned}
 use Rattle.pin_words.proofs.Reseated.{gives-shown}
 
-can-by : (w : WorldState) (e : Event) → refusal w e ≡ None → Can w e (after w e)
+can-by : (w : WorldState) (e : Event) → refusal w e ≡ None → Transition w e (after w e)
 can-by w e can = (can, refl)
 
 -- a part that is known is the one that is put back
-read-as : (k : Shape) (s : Table) (w' : WorldState) (i n j : ℕ) (v : View) (g : ReaderView
-    → ReaderView) (r : ReaderView) → v.reader ≡ Some r
-    → IsShown k record {
-      words = set s.words i n;
-      homes = s.homes;
-      views = set s.views j (view v.keeper (on g v.reader));
-    } w'
-    → IsShown k (stepped s i n j (view v.keeper (Some (g r)))) w'
-read-as k s w' i n j v g r is = subst (λ (z : Option ReaderView). IsShown k record {
-  words = set s.words i n;
-  homes = s.homes;
-  views = set s.views j (view v.keeper (on g z));
-} w') is
+read-as : (k : Shape) (s : Table) (w' : WorldState) (i n j : ℕ) (v : View) (g : ReaderView → ReaderView)
+    (r : ReaderView) → v.reader ≡ Some r
+    → IsShown k (after_step s i n j (view v.keeper (option_map g v.reader))) w'
+    → IsShown k (after_step s i n j (with_reader v (g r))) w'
+read-as k s w' i n j v g r = subst (λ (z : Option ReaderView).
+    IsShown k (after_step s i n j (view v.keeper (option_map g z))) w')
 
-kept-as : (k : Shape) (s : Table) (w' : WorldState) (i n j : ℕ) (v : View) (g : KeeperView
-    → KeeperView) (q : KeeperView) → v.keeper ≡ Some q
-    → IsShown k record {
-      words = set s.words i n;
-      homes = s.homes;
-      views = set s.views j (view (on g v.keeper) v.reader);
-    } w'
-    → IsShown k (stepped s i n j (view (Some (g q)) v.reader)) w'
-kept-as k s w' i n j v g q is = subst (λ (z : Option KeeperView). IsShown k record {
-  words = set s.words i n;
-  homes = s.homes;
-  views = set s.views j (view (on g z) v.reader);
-} w') is
+kept-as : (k : Shape) (s : Table) (w' : WorldState) (i n j : ℕ) (v : View) (g : KeeperView → KeeperView)
+    (q : KeeperView) → v.keeper ≡ Some q
+    → IsShown k (after_step s i n j (view (option_map g v.keeper) v.reader)) w'
+    → IsShown k (after_step s i n j (with_keeper v (g q))) w'
+kept-as k s w' i n j v g q = subst (λ (z : Option KeeperView).
+    IsShown k (after_step s i n j (view (option_map g z) v.reader)) w')
 
-pub law-load : (k : Shape) (s : Table) (w : WorldState) (j i : ℕ) (v : View) (r : ReaderView) → IsShown k s w
-    → ReaderAt s j v r → i < k.slots
-    → StepsBy k w (Load r.number i) (stepped s (place_of i) (get_or s.words (place_of i) 0) j
-    (view v.keeper (Some (reader_looked r i (get_or s.words (place_of i) 0)))))
+pub law-load : LoadSteps
 law-load k s w j i v r sh here inside = record {
   can = can-by w (Load r.number i) (may_load w r.number i (in-shape k s w sh i inside));
-  shown = read-as k s w (place_of i) (get_or s.words (place_of i) 0) j v
-      (λ z. reader_looked z i (get_or s.words (place_of i) 0)) r here.part
+  shown = read-as k s w (place_of i) (word s i) j v
+      (λ z. reader_looked z i (word s i)) r here.part
       (looks-shown k s w sh j i v here.seated inside);
 }
 
-pub law-pin : (k : Shape) (s : Table) (w : WorldState) (j i : ℕ) (v : View) (r : ReaderView) → IsShown k s w
-    → ReaderAt s j v r → i < k.slots → (decoded (get_or s.words (place_of i) 0)).phase ≡ Live
-    → (decoded (get_or s.words (place_of i) 0)).pins ≢ k.max_pins
-    → StepsBy k w (Pin r.number i (decoded (get_or s.words (place_of i) 0)))
-    (stepped s (place_of i) (get_or s.words (place_of i) 0 + 1) j
-    (view v.keeper (Some (reader_got r (id_in i (get_or s.words (place_of i) 0)) (get_or s.words (place_of i) 0)))))
+pub law-pin : PinSteps
 law-pin k s w j i v r sh here inside live room = record {
-  can = can-by w (Pin r.number i (decoded (get_or s.words (place_of i) 0)))
+  can = can-by w (Pin r.number i (decoded (word s i)))
       (subst (λ (z : Word). refusal w (Pin r.number i z) ≡ None) (sym (found-is k s w sh i inside))
       (may_pin_found k s w sh r.number i inside live room));
   shown = reader-pins k s w sh j i v r here.seated here.part inside live room;
@@ -95,32 +69,25 @@ law-pin k s w j i v r sh here inside live room = record {
 held-inside : (k : Shape) (s : Table) (w : WorldState) (sh : IsShown k s w) (j : ℕ) (v : View) (r : ReaderView)
     (id : Id) → ReaderAt s j v r → 0 < tally (same_id id) r.held → (id.slot < k.slots) × (0 < copies w r.number id)
 held-inside k s w sh j v r id here have = let mine =
-    of-here (OfReader w sh.next sh.owner j) v.reader r here.part (sh.each j v here.seated).1 in
+    reader-at k s w sh j v r here.seated here.part in
     let c = has-copies w r id mine.held have in
     (subst (λ (z : Shape). id.slot < z.slots) sh.shape (sh.safe.held r.number id c).0, c)
 
-pub law-release : (k : Shape) (s : Table) (w : WorldState) (j : ℕ) (v : View) (r : ReaderView) (id : Id) → IsShown k s w
-    → ReaderAt s j v r → 0 < tally (same_id id) r.held
-    → StepsBy k w (Release r.number id) (stepped s (place_of id.slot) (get_or s.words (place_of id.slot) 0 - 1) j
-    (view v.keeper (Some (reader_released r id))))
+pub law-release : ReleaseSteps
 law-release k s w j v r id sh here have = let known = held-inside k s w sh j v r id here have in record {
   can = can-by w (Release r.number id) (may_release w r.number id (in-shape k s w sh id.slot known.0) known.1);
   shown = reader-releases k s w sh j v r id here.seated here.part known.0 have;
 }
 
-pub law-read : (k : Shape) (s : Table) (w : WorldState) (j : ℕ) (v : View) (r : ReaderView) (id : Id) (d : Descr)
-    → IsShown k s w → ReaderAt s j v r → 0 < tally (same_id id) r.held
-    → descr_code.decoded (get_or s.words (descr_place id.slot) 0) ≡ Some d
-    → StepsBy k w (ReadDescr r.number id d) (stepped s (descr_place id.slot) (get_or s.words (descr_place id.slot) 0) j
-    (view v.keeper (Some (reader_noted r id d))))
+pub law-read : ReadSteps
 law-read k s w j v r id d sh here have is = let known = held-inside k s w sh j v r id here have in
     let same : (at w id.slot).descr ≡ d = same_Some (at w id.slot).descr d
-    (sym (descr_found (at w id.slot).descr (get_or s.words (descr_place id.slot) 0)
+    (sym (descr_found (at w id.slot).descr (descr_word s id.slot)
     (sh.given id.slot known.0) (sh.descrs id.slot known.0)) ∙ is) in record {
       can = can-by w (ReadDescr r.number id d) (subst (λ (z : Descr). refusal w (ReadDescr r.number id z) ≡ None) same
           (may_read w r.number id (in-shape k s w sh id.slot known.0) known.1));
-      shown = subst (λ (z : Descr). IsShown k (stepped s (descr_place id.slot)
-          (get_or s.words (descr_place id.slot) 0) j (view v.keeper (Some (reader_noted r id z)))) w) same
+      shown = subst (λ (z : Descr). IsShown k (after_step s (descr_place id.slot)
+          (descr_word s id.slot) j (view v.keeper (Some (reader_noted r id z)))) w) same
           (reader-notes k s w sh j v r id here.seated here.part known.0 have);
     }
 
@@ -129,54 +96,36 @@ phase-at : (k : Shape) (s : Table) (w : WorldState) (sh : IsShown k s w) (j i : 
 phase-at k s w sh j i v q here = let mine = keeper-at k s w sh j v q here.seated here.part in
     ap (λ (z : List Slot). (slot_of z i).phase) (sym mine.slots)
 
-pub law-publish : (k : Shape) (s : Table) (w : WorldState) (j i : ℕ) (v : View) (q : KeeperView) → IsShown k s w
-    → KeeperAt s j v q → i < k.slots → (slot_of q.slots i).phase ≡ Free
-    → StepsBy k w (Publish i) (stepped s (place_of i) (bit_or (get_or s.words (place_of i) 0) 1073741824) j
-    (view (Some (keeper_published q i)) v.reader))
+pub law-publish : PublishSteps
 law-publish k s w j i v q sh here inside free = record {
   can = can-by w (Publish i) (may_publish w i (in-shape k s w sh i inside) (phase-at k s w sh j i v q here ∙ free));
   shown = keeper-publishes k s w sh j i v q here.seated here.part inside free;
 }
 
-pub law-close : (k : Shape) (s : Table) (w : WorldState) (j i : ℕ) (v : View) (q : KeeperView) → IsShown k s w
-    → KeeperAt s j v q → i < k.slots → (slot_of q.slots i).phase ≡ Live
-    → StepsBy k w (CloseSlot i) (stepped s (place_of i) (bit_or (get_or s.words (place_of i) 0) 2147483648) j
-    (view (Some (keeper_closed q i)) v.reader))
+pub law-close : CloseSteps
 law-close k s w j i v q sh here inside live = record {
   can = can-by w (CloseSlot i) (may_close w i (in-shape k s w sh i inside) (phase-at k s w sh j i v q here ∙ live));
   shown = keeper-closes k s w sh j i v q here.seated here.part inside live;
 }
 
-pub law-reclaim : (k : Shape) (s : Table) (w : WorldState) (j i : ℕ) (v : View) (q : KeeperView) → IsShown k s w
-    → KeeperAt s j v q → i < k.slots → (slot_of q.slots i).phase ≡ Closing
-    → get_or s.words (place_of i) 0 ≡ closing_word (slot_of q.slots i)
-    → StepsBy k w (Reclaim i) (stepped s (place_of i) (next_word k.max_gen (slot_of q.slots i)) j
-    (view (Some (keeper_reclaimed q i (get_or s.words (place_of i) 0))) v.reader))
+pub law-reclaim : ReclaimSteps
 law-reclaim k s w j i v q sh here inside closing hit = record {
   can = can-by w (Reclaim i) (none-pinned k s w sh j i v q here.seated here.part inside closing hit);
   shown = keeper-reclaims k s w sh j i v q here.seated here.part inside closing hit;
 }
 
-pub law-reclaim-failed : (k : Shape) (s : Table) (w : WorldState) (j i n : ℕ) (v : View) (q : KeeperView)
-    → IsShown k s w → KeeperAt s j v q → i < k.slots → (slot_of q.slots i).phase ≡ Closing
-    → get_or s.words (place_of i) 0 ≢ closing_word (slot_of q.slots i)
-    → (0 < (decoded (get_or s.words (place_of i) 0)).pins)
-    × StepsBy k w (Load n i) (stepped s (place_of i) (get_or s.words (place_of i) 0) j
-    (view (Some (keeper_looked q i (get_or s.words (place_of i) 0))) v.reader))
+pub law-reclaim-failed : FailedReclaimSteps
 law-reclaim-failed k s w j i n v q sh here inside closing miss = (
   pinned-still k s w sh j i v q here.seated here.part inside closing miss,
   record {
     can = can-by w (Load n i) (may_load w n i (in-shape k s w sh i inside));
-    shown = kept-as k s w (place_of i) (get_or s.words (place_of i) 0) j v
-        (λ z. keeper_looked z i (get_or s.words (place_of i) 0)) q here.part
+    shown = kept-as k s w (place_of i) (word s i) j v
+        (λ z. keeper_looked z i (word s i)) q here.part
         (keeper-looks k s w sh j i v here.seated inside);
   },
 )
 
-pub law-store : (k : Shape) (s : Table) (w : WorldState) (j i : ℕ) (v : View) (q : KeeperView) (d : Descr)
-    → IsShown k s w → KeeperAt s j v q → i < k.slots → (slot_of q.slots i).phase ≡ Free → descr_code.IsGiven d
-    → StepsBy k w (StoreDescr i d) (stepped s (descr_place i) (descr_code.encoded d) j
-    (view (Some (keeper_stored q i d)) v.reader))
+pub law-store : StoreSteps
 law-store k s w j i v q d sh here inside free valid = record {
   can = can-by w (StoreDescr i d) (may_store w i d (in-shape k s w sh i inside) (phase-at k s w sh j i v q here
       ∙ free));
@@ -186,11 +135,9 @@ law-store k s w j i v q d sh here inside free valid = record {
 in_numbers : (c n : ℕ) → 1 ≤ n → n ≤ c → weight (nat_lt 0 n && nat_le n c) ≡ 1
 in_numbers c n a b = grind (arith, common_steps)
 
-pub law-held : (k : Shape) (s : Table) (w : WorldState) (j : ℕ) (v : View) (r : ReaderView) (id : Id) (n : ℕ)
-    → IsShown k s w → ReaderAt s j v r → 1 ≤ n → n ≤ tally (same_id id) r.held
-    → (times w (hold_of r.number id n) ≡ 1) × StaysGiven w id.slot
+pub law-held : CopiesStay
 law-held k s w j v r id n sh here first last = let mine =
-    of-here (OfReader w sh.next sh.owner j) v.reader r here.part (sh.each j v here.seated).1 in
+    reader-at k s w sh j v r here.seated here.part in
     let own = mine.held id in
     let once : times w (hold_of r.number id n) ≡ 1 =
     sh.safe.numbered r.number id n ∙ in_numbers (copies w r.number id) n first (omega arith) in
@@ -204,24 +151,19 @@ published-once w (x ∷ xs) safe h = (
   published-once w xs safe h.1,
 )
 
-pub law-noted : (k : Shape) (s : Table) (w : WorldState) (j : ℕ) (v : View) (r : ReaderView) → IsShown k s w
-    → ReaderAt s j v r → ArePublished w r.notes
-law-noted k s w j v r sh here = let mine = of-here (OfReader w sh.next sh.owner j) v.reader r here.part
-    (sh.each j v here.seated).1 in published-once w r.notes sh.safe mine.notes
+pub law-noted : NotesArePublished
+law-noted k s w j v r sh here = let mine = reader-at k s w sh j v r here.seated here.part in
+    published-once w r.notes sh.safe mine.notes
 
-pub law-gives : (k : Shape) (s : Table) (w : WorldState) (j : ℕ) (v : View) (q : KeeperView) → IsShown k s w
-    → KeeperAt s j v q → IsShown k (with_views s (set s.views j (gave v) ++ play.given v ∷ [])) w
+pub law-gives : GivesReader
 law-gives k s w j v q sh here = gives-shown k s w sh j v q here.seated here.part
 
 -- the views determine the world, but for the order in which it is listed
-pub one-world : (k : Shape) (s : Table) (a b : WorldState) → IsShown k s a → IsShown k s b
-    → (a.shape ≡ b.shape) × (a.slots ≡ b.slots) × (a.published ≡ b.published) × ((t : Hold) → times a t ≡ times b t)
+pub one-world : ShowsOneWorld
 one-world k s a b p q =
     let h = p.kept in
-    let x : OfKeeper a p.keeper p.next p.keeper h.1 =
-    of-here (OfKeeper a p.keeper p.next p.keeper) h.0.keeper h.1 h.3 (p.each p.keeper h.0 h.2).0 in
-    let y : OfKeeper b q.keeper q.next p.keeper h.1 =
-    of-here (OfKeeper b q.keeper q.next p.keeper) h.0.keeper h.1 h.3 (q.each p.keeper h.0 h.2).0 in (
+    let x = keeper-at k s a p p.keeper h.0 h.1 h.2 h.3 in
+    let y = keeper-at k s b q p.keeper h.0 h.1 h.2 h.3 in (
       p.shape ∙ sym q.shape,
       sym x.slots ∙ y.slots,
       sym x.published ∙ y.published,
@@ -232,10 +174,8 @@ one-world k s a b p q =
   where
     with-seat : (r j : ℕ) → HasReader s.views j r → (id : Id) → copies a r id ≡ copies b r id
     with-seat r j g id =
-        let x : OfReader a p.next p.owner j g.1 = of-here (OfReader a p.next p.owner j) g.0.reader g.1 g.3
-        (p.each j g.0 g.2).1 in
-        let y : OfReader b q.next q.owner j g.1 = of-here (OfReader b q.next q.owner j) g.0.reader g.1 g.3
-        (q.each j g.0 g.2).1 in
+        let x = reader-at k s a p j g.0 g.1 g.2 g.3 in
+        let y = reader-at k s b q j g.0 g.1 g.2 g.3 in
         subst (λ (z : ℕ). copies a z id ≡ copies b z id) g.4 (x.held id ∙ sym (y.held id))
 
     copies-same : (r : ℕ) (id : Id) → copies a r id ≡ copies b r id
@@ -262,7 +202,7 @@ opening-free w n safe is t =
 -- a keeper that knows each slot as an opening one, and published nothing, is that of the opening world
 pub shows_opening : (q : KeeperView) (k : Shape) → q ≡ keeper_gave (opening_keeper k) → ShowsOpening q
 shows_opening q k is s w j v sh here =
-    let mine : OfKeeper w sh.keeper sh.next j q = keeper-at q.shape s w sh j v q here.seated here.part in
+    let mine = keeper-at q.shape s w sh j v q here.seated here.part in
     let slots : w.slots ≡ replicate q.shape.slots opening_slot =
     sym mine.slots ∙ (ap (λ (z : KeeperView). z.slots) is
     ∙ ap (λ (z : KeeperView). replicate z.shape.slots opening_slot) (sym is)) in (

@@ -1,6 +1,7 @@
 -- The steps of a reader keep the rule of the table.
+use Rattle.std.specs.Prelude.{IfSome, option_map}
 use Rattle.std.proofs.Common.{◌≡◌, ◌≢◌, inl, inr, ℕ, ◌+◌, ◌-◌, ◌%◌, ◌^◌, ◌<◌, ◌==◌, eqb, eq-eqb, ne_eqb, true, List, [], ◌∷◌, ◌++◌, get_or, set, get_or-set_same, get_or-set_other, Option, Some, None, sym, refl, ap, ◌∙◌, subst, arith}
-use Rattle.std.proofs.lemmas.Option.{same_Some}
+use Rattle.std.proofs.lemmas.Option.{IfSome_then, same_Some}
 use mathlib.Core.Option.{none, some}
 use native.Mathlib.Decide.{ℕ_discrete}
 use mathlib.Core.Logic.{dite}
@@ -17,7 +18,7 @@ use Rattle.pin_core.specs.declared.holders.Hold.{Hold}
 use Rattle.pin_core.specs.declared.event.Event.TheVariants.{Pin, Release}
 use Rattle.pin_core.specs.Words.{encoded, decoded}
 use Rattle.pin_core.specs.Descrs as descr_code
-use Rattle.pin_core.specs.Holds.{tally, weight, sits_at, is_copy, is_hold, with_hold, drop_first, drop_last, same_id}
+use Rattle.pin_core.specs.Holds.{tally, weight, is_at_slot, is_copy, is_hold, with_hold, drop_first, drop_last, same_id}
 use Rattle.pin_core.specs.Worlds.{WorldState, at, id_at, pins, copies, last_copy, next_copy, word_at, given, given_as}
 use Rattle.pin_core.specs.Events.{refusal, after, with_holders}
 use Rattle.pin_core.specs.Safety.{IsSafe, may_be_held}
@@ -30,17 +31,18 @@ use Rattle.pin_words.specs.declared.view.Note.{Note}
 use Rattle.pin_words.specs.declared.view.ReaderView.{ReaderView}
 use Rattle.pin_words.specs.declared.view.View.{View}
 use Rattle.pin_words.specs.Places.{place_of, descr_place}
-use Rattle.pin_words.specs.Views.{M, Of, on, view, look, id_in, notes_of, reader_with, reader_looked, reader_got, reader_released, reader_noted}
-use Rattle.pin_words.specs.Shown.{Table, NotAhead, AreNoted, OfKeeper, OfReader, IsShown, Shown}
-use Rattle.pin_words.specs.Plays.{Tells, looked_view, got_view, released_view, LookedAt, looked, PinnedAt, pinned, ReleasedAt, released, noted}
+use Rattle.pin_words.specs.Views.{M, view, look, id_in, notes_of, reader_with, reader_looked, reader_got, reader_released, reader_noted}
+use Rattle.pin_words.specs.Laws.{after_step, descr_word, word}
+use Rattle.pin_words.specs.Shown.{Table, NotAhead, AreNoted, OfReader, IsShown, Shown}
+use Rattle.pin_words.specs.Plays.{TellsReader, looked_view, got_view, released_view, LookedAt, looked, PinnedAt, pinned, ReleasedAt, released, noted}
 use Rattle.pin_words.proofs.Bits.{sub_one}
 use Rattle.pin_words.proofs.Holdings.{holds-more, holds-same-more, holds-less, holds-same-less, has-copies, noted-left}
-use Rattle.pin_words.proofs.Steps.{of-map, of-here, in-list, step-shown, still-shown, found-is, in-shape, told, met, reader-looks, turn-reader, turn-to, looks-agree, looks-stay, notes-stay, keeper-stays, reader-stays, behind, at-slot}
+use Rattle.pin_words.proofs.Steps.{reader-at, placed, in-list, step-shown, still-shown, found-is, in-shape, told, met, reader-looks, turn-reader, turn-to, looks-agree, looks-stay, notes-stay, keeper-stays, reader-stays, behind, at-slot}
 use Rattle.pin_words.proofs.Bits.{descr-decoded}
 
 -- the words where the holds change at the slot i alone
 hold-words : (k : Shape) (s : Table) (W : WorldState) (sh : IsShown k s W) (i n : ℕ) (hs : List Hold) → i < k.slots
-    → n ≡ encoded (word_at (with_holders W hs) i) → ((j : ℕ) → j ≢ i → tally (sits_at j) hs ≡ pins W j)
+    → n ≡ encoded (word_at (with_holders W hs) i) → ((j : ℕ) → j ≢ i → tally (is_at_slot j) hs ≡ pins W j)
     → (j : ℕ) → j < k.slots → get_or (set s.words (place_of i) n) (place_of j) 0
     ≡ encoded (word_at (with_holders W hs) j)
 hold-words k s W sh i n hs inside is same j h = dite (ℕ_discrete j i)
@@ -57,31 +59,24 @@ hold-words k s W sh i n hs inside is same j h = dite (ℕ_discrete j i)
 -- a reader's step that changes its holds
 reader-goes : (k : Shape) (s : Table) (W : WorldState) (sh : IsShown k s W) (id i n : ℕ) (v : View) (r r' : ReaderView)
     (hs : List Hold) → get_elem? s.views id ≡ some v → v.reader ≡ Some r → i < k.slots → IsSafe (with_holders W hs)
-    → n ≡ encoded (word_at (with_holders W hs) i) → ((j : ℕ) → j ≢ i → tally (sits_at j) hs ≡ pins W j)
+    → n ≡ encoded (word_at (with_holders W hs) i) → ((j : ℕ) → j ≢ i → tally (is_at_slot j) hs ≡ pins W j)
     → ((q : ℕ) → r.number ≢ q → (x : Id) → tally (is_copy q x) hs ≡ copies W q x)
     → OfReader (with_holders W hs) sh.next sh.owner id r' → r'.number ≡ r.number
-    → IsShown k record {
-      words = set s.words (place_of i) n;
-      homes = s.homes;
-      views = set s.views id (view v.keeper (Some r'));
-    } (with_holders W hs)
-reader-goes k s W sh id i n v r r' hs seated is inside safe word pins-same parts-same new number =
+    → IsShown k (after_step s (place_of i) n id (view v.keeper (Some r'))) (with_holders W hs)
+reader-goes k s W sh id i n v r r' hs seated is inside safe word-is pins-same parts-same new number =
     let was = sh.each id v seated in
-    let mine : OfReader W sh.next sh.owner id r = of-here (OfReader W sh.next sh.owner id) v.reader r is was.1 in
+    let mine = reader-at k s W sh id v r seated is in
     step-shown k s W sh id (place_of i) n (view v.keeper (Some r')) (with_holders W hs) sh.shape safe
-    (hold-words k s W sh i n hs inside word pins-same)
+    (hold-words k s W sh i n hs inside word-is pins-same)
     (λ j h. get_or-set_other s.words (place_of i) (descr_place j) n 0 (λ e. omega arith) ∙ sh.descrs j h)
     sh.given (
-      of-map (OfKeeper W sh.keeper sh.next id) (OfKeeper (with_holders W hs) sh.keeper sh.next id) v.keeper
-          (keeper-stays W hs sh.keeper sh.next id) was.0,
+      IfSome_then v.keeper was.0 (keeper-stays W hs sh.keeper sh.next id),
       new,
     )
     (λ j u other a. (
-      of-map (OfKeeper W sh.keeper sh.next j) (OfKeeper (with_holders W hs) sh.keeper sh.next j) u.keeper
-          (keeper-stays W hs sh.keeper sh.next j) a.0,
-      of-map (OfReader W sh.next sh.owner j) (OfReader (with_holders W hs) sh.next sh.owner j) u.reader
-          (λ q b. reader-stays W hs sh.next sh.owner j q
-          (parts-same q.number (λ e. other (sym b.mine ∙ (ap sh.owner (sym e) ∙ mine.mine)))) b) a.1,
+      IfSome_then u.keeper a.0 (keeper-stays W hs sh.keeper sh.next j),
+      IfSome_then u.reader a.1 (λ q b. reader-stays W hs sh.next sh.owner j q
+          (parts-same q.number (λ e. other (sym b.mine ∙ (ap sh.owner (sym e) ∙ mine.mine)))) b),
     ))
     (λ q later x. parts-same q (λ e. let b = mine.born in omega arith) x ∙ sh.unborn q later x)
     v seated (turn-to v r r' is number)
@@ -112,12 +107,12 @@ with-holds w hs next owner id r held notes looks mine is noted behind =
     }
 
 pub may_pin_found : (k : Shape) (s : Table) (W : WorldState) (sh : IsShown k s W) (r i : ℕ) → i < k.slots
-    → (decoded (get_or s.words (place_of i) 0)).phase ≡ Live
-    → (decoded (get_or s.words (place_of i) 0)).pins ≢ k.max_pins → refusal W (Pin r i (word_at W i)) ≡ None
+    → (decoded (word s i)).phase ≡ Live
+    → (decoded (word s i)).pins ≢ k.max_pins → refusal W (Pin r i (word_at W i)) ≡ None
 may_pin_found k s W sh r i inside live room =
     let is = found-is k s W sh i inside in
     let phase : (at W i).phase ≡ Live = sym (ap (λ (y : Word). y.phase) is) ∙ live in
-    let count : (decoded (get_or s.words (place_of i) 0)).pins ≡ pins W i = ap (λ (y : Word). y.pins) is in
+    let count : (decoded (word s i)).pins ≡ pins W i = ap (λ (y : Word). y.pins) is in
     let most : W.shape.max_pins ≡ k.max_pins = ap (λ (z : Shape). z.max_pins) sh.shape in
     let few : pins W i < W.shape.max_pins = (let le = sh.safe.room i in
     let ne : pins W i ≢ W.shape.max_pins = λ e. room (count ∙ (e ∙ most)) in omega arith) in
@@ -125,32 +120,27 @@ may_pin_found k s W sh r i inside live room =
 
 pub reader-pins : (k : Shape) (s : Table) (W : WorldState) (sh : IsShown k s W) (id i : ℕ) (v : View) (r : ReaderView)
     → get_elem? s.views id ≡ some v → v.reader ≡ Some r → i < k.slots
-    → (decoded (get_or s.words (place_of i) 0)).phase ≡ Live
-    → (decoded (get_or s.words (place_of i) 0)).pins ≢ k.max_pins
-    → IsShown k record {
-      words = set s.words (place_of i) (get_or s.words (place_of i) 0 + 1);
-      homes = s.homes;
-      views = set s.views id (view v.keeper (Some
-          (reader_got r (id_in i (get_or s.words (place_of i) 0)) (get_or s.words (place_of i) 0))));
-    }
+    → (decoded (word s i)).phase ≡ Live
+    → (decoded (word s i)).pins ≢ k.max_pins
+    → IsShown k (after_step s (place_of i) (word s i + 1) id (view v.keeper (Some
+    (reader_got r (id_in i (word s i)) (word s i)))))
     (after W (Pin r.number i (word_at W i)))
 reader-pins k s W sh id i v r seated at-reader inside live room =
     let is = found-is k s W sh i inside in
-    let mine : OfReader W sh.next sh.owner id r = of-here (OfReader W sh.next sh.owner id) v.reader r at-reader
-    (sh.each id v seated).1 in
+    let mine = reader-at k s W sh id v r seated at-reader in
     let t : Hold = next_copy W r.number i in
-    let more : (j : ℕ) → tally (sits_at j) (with_hold t W.holders) ≡ pins W j + weight (i == j) =
-    λ j. count-with_hold (sits_at j) t W.holders in
-    reader-goes k s W sh id i (get_or s.words (place_of i) 0 + 1) v r
-    (reader_got r (id_in i (get_or s.words (place_of i) 0)) (get_or s.words (place_of i) 0))
+    let more : (j : ℕ) → tally (is_at_slot j) (with_hold t W.holders) ≡ pins W j + weight (i == j) =
+    λ j. count-with_hold (is_at_slot j) t W.holders in
+    reader-goes k s W sh id i (word s i + 1) v r
+    (reader_got r (id_in i (word s i)) (word s i))
     (with_hold t W.holders) seated at-reader inside
     (safe_kept W (Pin r.number i (word_at W i)) sh.safe (may_pin_found k s W sh r.number i inside live room))
     (let one = more i in let yes : weight (i == i) ≡ 1 = ap weight (eq-eqb i i refl) in
-    let old : get_or s.words (place_of i) 0 ≡ encoded (word_at W i) = sh.words i inside in omega arith)
+    let old : word s i ≡ encoded (word_at W i) = sh.words i inside in omega arith)
     (λ j ne. let m = more j in let off : weight (i == j) ≡ 0 = ap weight (ne_eqb i j (λ e. ne (sym e))) in omega arith)
     (λ q ne x. holds-same-more W q r.number (id_at W i) t.copy ne x)
     (with-holds W (with_hold t W.holders) sh.next sh.owner id r (r.held
-    ++ id_in i (get_or s.words (place_of i) 0) ∷ []) r.notes (look i (get_or s.words (place_of i) 0) ∷ r.looks) mine
+    ++ id_in i (word s i) ∷ []) r.notes (look i (word s i) ∷ r.looks) mine
     (λ x. holds-more W r.number r.held (id_at W i) t.copy mine.held x
     ∙ λ c. tally (same_id x) (r.held ++ record {
       slot = i;
@@ -159,64 +149,50 @@ reader-pins k s W sh id i v r seated at-reader inside live room =
     mine.notes (reader-looks k s W sh id i inside r mine).looks) refl
 
 tells-all : (k : Shape) (s : Table) (W : WorldState) (sh : IsShown k s W) (id i : ℕ) (v : View)
-    → get_elem? s.views id ≡ some v → i < k.slots → Of v.reader (λ r. Tells r i (get_or s.words (place_of i) 0))
-tells-all k s W sh id i v seated inside = of-map (OfReader W sh.next sh.owner id)
-    (λ r. Tells r i (get_or s.words (place_of i) 0)) v.reader (λ r o. told k s W sh id i r inside o)
-    (sh.each id v seated).1
+    → get_elem? s.views id ≡ some v → i < k.slots → IfSome v.reader (λ r. TellsReader r i (word s i))
+tells-all k s W sh id i v seated inside = IfSome_then v.reader (sh.each id v seated).1
+    (λ r o. told k s W sh id i r inside o)
 
 pub looks-shown : (k : Shape) (s : Table) (W : WorldState) (sh : IsShown k s W) (id i : ℕ) (v : View)
     → get_elem? s.views id ≡ some v → i < k.slots
-    → IsShown k record {
-      words = set s.words (place_of i) (get_or s.words (place_of i) 0);
-      homes = s.homes;
-      views = set s.views id (looked_view v i (get_or s.words (place_of i) 0));
-    } W
+    → IsShown k (after_step s (place_of i) (word s i) id (looked_view v i (word s i))) W
 looks-shown k s W sh id i v seated inside = still-shown k s W sh id (place_of i)
-    (looked_view v i (get_or s.words (place_of i) 0))
+    (looked_view v i (word s i))
     (looks-agree k s W sh id i v inside (sh.each id v seated)) v seated
-    (turn-reader v (λ r. reader_looked r i (get_or s.words (place_of i) 0)) (λ x. refl))
-
-loads-at : (k : Shape) (slots id i : ℕ) (me : M) → i < k.slots
-    → Allows (Shown k) slots id me (place_of i) (λ n. n) (looked (step slots (place_of i) 0 0 none) me)
-loads-at k slots id i me inside s (W, sh) deep seated small =
-    let mine = sh.each id me.0 seated in
-    let n : ℕ = get_or s.words (place_of i) 0 in (
-      looked_view me.0 i n,
-      keeps,
-      tt,
-      (W, looks-shown k s W sh id i me.0 seated inside),
-      at-slot i (LookedAt me n (looked_view me.0 i n, me.1)) (
-        refl,
-        of-map (OfReader W sh.next sh.owner id) (λ r. Tells r i n) me.0.reader
-            (λ r o. told k s W sh id i r inside o) mine.1,
-        met k s W sh id i me.0 inside mine,
-      ),
-    )
+    (turn-reader v (λ r. reader_looked r i (word s i)) (λ x. refl))
 
 pub loads : (k : Shape) (slots id i p : ℕ) (me : M) → p ≡ place_of i → i < k.slots
     → Allows (Shown k) slots id me p (λ n. n) (looked (step slots p 0 0 none) me)
-loads k slots id i p me at inside = subst (λ (z : ℕ). Allows (Shown k) slots id me z (λ n. n)
-    (looked (step slots z 0 0 none) me)) (sym at) (loads-at k slots id i me inside)
+loads k slots id i p me at inside = placed k slots id p (place_of i) 0 0 me (λ n. n) looked at
+    (λ s known deep seated small. let sh = known.1 in let n : ℕ = word s i in (
+      looked_view me.0 i n,
+      keeps,
+      tt,
+      (known.0, looks-shown k s known.0 sh id i me.0 seated inside),
+      at-slot i (LookedAt me n (looked_view me.0 i n, me.1)) (
+        refl,
+        tells-all k s known.0 sh id i me.0 seated inside,
+        met k s known.0 sh id i me.0 inside (sh.each id me.0 seated),
+      ),
+    ))
 
-pins-at : (k : Shape) (slots id i old new : ℕ) (me : M) (r : ReaderView) → me.0.reader ≡ Some r → i < k.slots
-    → new ≡ old + 1 → (decoded old).phase ≡ Live → (decoded old).pins ≢ k.max_pins
-    → Allows (Shown k) slots id me (place_of i) (λ n. either (eqb n old) new n)
-    (pinned (step slots (place_of i) old new none) me)
-pins-at k slots id i old new me r is inside up live room s (W, sh) deep seated small =
-    exchanged (get_or s.words (place_of i) 0) old new
+pub pins-step : (k : Shape) (slots id i p old new : ℕ) (me : M) (r : ReaderView) → p ≡ place_of i → me.0.reader ≡ Some r
+    → i < k.slots → new ≡ old + 1 → (decoded old).phase ≡ Live → (decoded old).pins ≢ k.max_pins
+    → Allows (Shown k) slots id me p (λ n. either (eqb n old) new n) (pinned (step slots p old new none) me)
+pins-step k slots id i p old new me r at is inside up live room =
+    placed k slots id p (place_of i) old new me (λ n. either (eqb n old) new n) pinned at
+    (λ s known deep seated small. let W = known.0 in let sh = known.1 in let n : ℕ = word s i in
+    exchanged n old new
     (λ x. (w : View) × (a : Act (Unit {0})) × Valid s.homes me.1 a × Shown k (stepped s (place_of i) x id me.1 w a)
-    × pinned (step slots (place_of i) old new none) me (get_or s.words (place_of i) 0) (w, carried_after me.1 a))
+    × pinned (step slots (place_of i) old new none) me n (w, carried_after me.1 a))
     (λ hit. (
       got_view me.0 i n,
       keeps,
       tt,
       (
         after W (Pin r.number i (word_at W i)),
-        subst (λ (z : Option ReaderView × ℕ). IsShown k record {
-          words = set s.words (place_of i) z.1;
-          homes = s.homes;
-          views = set s.views id (view me.0.keeper (on (λ r. reader_got r (id_in i n) n) z.0));
-        }
+        subst (λ (z : Option ReaderView × ℕ). IsShown k (after_step s (place_of i) z.1 id
+            (view me.0.keeper (option_map (λ y. reader_got y (id_in i n) n) z.0)))
             (after W (Pin r.number i (word_at W i)))) (λ c. (sym is c, (ap (λ (y : ℕ). y + 1) hit ∙ sym up) c))
             (reader-pins k s W sh id i me.0 r seated is inside (ap (λ (y : ℕ). (decoded y).phase) hit
             ∙ live) (λ e. room (ap (λ (y : ℕ). (decoded y).pins) (sym hit) ∙ e))),
@@ -237,98 +213,62 @@ pins-at k slots id i old new me r is inside up live room s (W, sh) deep seated s
         (λ _. refl),
         tells-all k s W sh id i me.0 seated inside,
       ),
-    ))
-  where
-    n : ℕ
-    n = get_or s.words (place_of i) 0
-
-pub pins-step : (k : Shape) (slots id i p old new : ℕ) (me : M) (r : ReaderView) → p ≡ place_of i → me.0.reader ≡ Some r
-    → i < k.slots → new ≡ old + 1 → (decoded old).phase ≡ Live → (decoded old).pins ≢ k.max_pins
-    → Allows (Shown k) slots id me p (λ n. either (eqb n old) new n) (pinned (step slots p old new none) me)
-pins-step k slots id i p old new me r at is inside up live room =
-    subst (λ (z : ℕ). Allows (Shown k) slots id me z (λ n. either (eqb n old) new n)
-    (pinned (step slots z old new none) me)) (sym at) (pins-at k slots id i old new me r is inside up live room)
+    )))
 
 -- a held slot has a pin
 pub has-pin : (k : Shape) (s : Table) (W : WorldState) (sh : IsShown k s W) (id : ℕ) (v : View) (r : ReaderView)
     (x : Id) → get_elem? s.views id ≡ some v → v.reader ≡ Some r → x.slot < k.slots → 0 < tally (same_id x) r.held
-    → 0 < get_or s.words (place_of x.slot) 0
+    → 0 < word s x.slot
 has-pin k s W sh id v r x seated at-reader inside have =
-    let mine : OfReader W sh.next sh.owner id r = of-here (OfReader W sh.next sh.owner id) v.reader r at-reader
-    (sh.each id v seated).1 in
+    let mine = reader-at k s W sh id v r seated at-reader in
     let owned : 0 < copies W r.number x = has-copies W r x mine.held have in let le = copies-le-pins W r.number x in
-    let old : get_or s.words (place_of x.slot) 0 ≡ encoded (word_at W x.slot) = sh.words x.slot inside in omega arith
+    let old : word s x.slot ≡ encoded (word_at W x.slot) = sh.words x.slot inside in omega arith
 
 pub reader-releases : (k : Shape) (s : Table) (W : WorldState) (sh : IsShown k s W) (id : ℕ) (v : View) (r : ReaderView)
     (x : Id) → get_elem? s.views id ≡ some v → v.reader ≡ Some r → x.slot < k.slots → 0 < tally (same_id x) r.held
-    → IsShown k record {
-      words = set s.words (place_of x.slot) (get_or s.words (place_of x.slot) 0 - 1);
-      homes = s.homes;
-      views = set s.views id (view v.keeper (Some (reader_released r x)));
-    }
+    → IsShown k (after_step s (place_of x.slot) (word s x.slot - 1) id (view v.keeper (Some (reader_released r x))))
     (after W (Release r.number x))
 reader-releases k s W sh id v r x seated at-reader inside have =
     let i = x.slot in
-    let mine : OfReader W sh.next sh.owner id r = of-here (OfReader W sh.next sh.owner id) v.reader r at-reader
-    (sh.each id v seated).1 in
+    let mine = reader-at k s W sh id v r seated at-reader in
     let owned : 0 < copies W r.number x = has-copies W r x mine.held have in
     let can = may_release W r.number x (in-shape k s W sh i inside) owned in
     let hs = drop_first (is_hold (last_copy W r.number x)) W.holders in
     let held = drop_last (same_id x) r.held in
-    let less : (j : ℕ) → tally (sits_at j) hs + weight (i == j) ≡ pins W j =
-    λ j. release-count W r.number x sh.safe owned (sits_at j) in
-    let old : get_or s.words (place_of i) 0 ≡ encoded (word_at W i) = sh.words i inside in
+    let less : (j : ℕ) → tally (is_at_slot j) hs + weight (i == j) ≡ pins W j =
+    λ j. release-count W r.number x sh.safe owned (is_at_slot j) in
+    let old : word s i ≡ encoded (word_at W i) = sh.words i inside in
     let one = less i in let yes : weight (i == i) ≡ 1 = ap weight (eq-eqb i i refl) in
-    reader-goes k s W sh id i (get_or s.words (place_of i) 0 - 1) v r (reader_released r x) hs seated at-reader inside
+    reader-goes k s W sh id i (word s i - 1) v r (reader_released r x) hs seated at-reader inside
     (safe_kept W (Release r.number x) sh.safe can)
-    (let goal : get_or s.words (place_of i) 0 - 1 ≡ encoded (word_at (with_holders W hs) i) = omega arith in goal)
+    (let goal : word s i - 1 ≡ encoded (word_at (with_holders W hs) i) = omega arith in goal)
     (λ j ne. let m = less j in let off : weight (i == j) ≡ 0 = ap weight (ne_eqb i j (λ e. ne (sym e))) in omega arith)
     (λ q ne y. holds-same-less W q r.number x sh.safe owned ne y)
     (with-holds W hs sh.next sh.owner id r held (notes_of held r.notes) r.looks mine
     (holds-less W r.number r.held x sh.safe mine.held owned) (noted-left W held r.notes mine.notes) mine.looks) refl
 
-releases-at : (k : Shape) (slots id i : ℕ) (me : M) (r : ReaderView) (y : Id) → me.0.reader ≡ Some r → i < k.slots
-    → y.slot ≡ i → 0 < tally (same_id y) r.held
-    → Allows (Shown k) slots id me (place_of i) (λ n. (n + (2 ^ 64 - 1)) % 2 ^ 64)
-    (released (step slots (place_of i) 1 0 none) me)
-releases-at k slots id i me r y is inside here have s (W, sh) deep seated small =
-    let n : ℕ = get_or s.words (place_of i) 0 in
-    let mine : OfReader W sh.next sh.owner id r = of-here (OfReader W sh.next sh.owner id) me.0.reader r is
-    (sh.each id me.0 seated).1 in
-    let tells = told k s W sh id i r inside mine in
-    let g = (tells.held y have here).0 in
-    let have' : 0 < tally (same_id (id_in i n)) r.held =
-    subst (λ (z : Id). 0 < tally (same_id z) r.held) (λ c. record { slot = here c; generation = sym g c }) have in (
-      released_view me.0 i n,
-      keeps,
-      tt,
-      (
-        after W (Release r.number (id_in i n)),
-        subst (λ (z : Option ReaderView). IsShown k record {
-          words =
-              set s.words (place_of i) ((n + (2 ^ 64 - 1)) % 2 ^ 64);
-          homes = s.homes;
-          views = set s.views id (view me.0.keeper (on (λ r. reader_released r (id_in i n)) z));
-        }
-            (after W (Release r.number (id_in i n)))) (sym is)
-            (subst (λ (m : ℕ). IsShown k record {
-              words = set s.words (place_of i) m;
-              homes = s.homes;
-              views = set s.views id (view me.0.keeper (Some (reader_released r (id_in i n))));
-            }
-            (after W (Release r.number (id_in i n))))
-            (sym (sub_one n (has-pin k s W sh id me.0 r (id_in i n) seated is inside have') small))
-            (reader-releases k s W sh id me.0 r (id_in i n) seated is inside have')),
-      ),
-      at-slot i (ReleasedAt me n (released_view me.0 i n, me.1)) (refl, tells-all k s W sh id i me.0 seated inside),
-    )
-
 pub releases-step : (k : Shape) (slots id p : ℕ) (me : M) (r : ReaderView) (y : Id) → p ≡ place_of y.slot
     → me.0.reader ≡ Some r → y.slot < k.slots → 0 < tally (same_id y) r.held
     → Allows (Shown k) slots id me p (λ n. (n + (2 ^ 64 - 1)) % 2 ^ 64) (released (step slots p 1 0 none) me)
 releases-step k slots id p me r y at is inside have =
-    subst (λ (z : ℕ). Allows (Shown k) slots id me z (λ n. (n + (2 ^ 64 - 1)) % 2 ^ 64)
-    (released (step slots z 1 0 none) me)) (sym at) (releases-at k slots id y.slot me r y is inside refl have)
+    placed k slots id p (place_of y.slot) 1 0 me (λ n. (n + (2 ^ 64 - 1)) % 2 ^ 64) released at
+    (λ s known deep seated small. let W = known.0 in let sh = known.1 in let i = y.slot in let n : ℕ = word s i in
+    let gen = ((told k s W sh id i r inside (reader-at k s W sh id me.0 r seated is)).held y have refl).0 in
+    let x : Id = id_in i n in
+    let have' : 0 < tally (same_id x) r.held =
+    subst (λ (z : Id). 0 < tally (same_id z) r.held) (λ c. record { slot = i; generation = sym gen c }) have in (
+      released_view me.0 i n,
+      keeps,
+      tt,
+      (
+        after W (Release r.number x),
+        subst (λ (z : Option ReaderView × ℕ). IsShown k (after_step s (place_of i) z.1 id
+            (view me.0.keeper (option_map (λ u. reader_released u x) z.0))) (after W (Release r.number x)))
+            (λ c. (sym is c, sym (sub_one n (has-pin k s W sh id me.0 r x seated is inside have') small) c))
+            (reader-releases k s W sh id me.0 r x seated is inside have'),
+      ),
+      at-slot i (ReleasedAt me n (released_view me.0 i n, me.1)) (refl, tells-all k s W sh id i me.0 seated inside),
+    ))
 
 -- a held Id is the one of its slot
 held-is : (w : WorldState) (next : ℕ) (owner : ℕ → ℕ) (id : ℕ) (r : ReaderView) (x : Id) → IsSafe w
@@ -342,14 +282,11 @@ descr_found d n given is = ap descr_code.decoded is ∙ descr-decoded d given
 
 pub reader-notes : (k : Shape) (s : Table) (W : WorldState) (sh : IsShown k s W) (id : ℕ) (v : View) (r : ReaderView)
     (x : Id) → get_elem? s.views id ≡ some v → v.reader ≡ Some r → x.slot < k.slots → 0 < tally (same_id x) r.held
-    → IsShown k record {
-      words = set s.words (descr_place x.slot) (get_or s.words (descr_place x.slot) 0);
-      homes = s.homes;
-      views = set s.views id (view v.keeper (Some (reader_noted r x (at W x.slot).descr)));
-    } W
+    → IsShown k (after_step s (descr_place x.slot) (descr_word s x.slot) id
+    (view v.keeper (Some (reader_noted r x (at W x.slot).descr)))) W
 reader-notes k s W sh id v r x seated is inside have =
     let was = sh.each id v seated in
-    let mine : OfReader W sh.next sh.owner id r = of-here (OfReader W sh.next sh.owner id) v.reader r is was.1 in
+    let mine = reader-at k s W sh id v r seated is in
     let known = held-is W sh.next sh.owner id r x sh.safe mine have in
     let shown : given_as W (id_at W x.slot) (at W x.slot).descr ≡ 1 =
     (sh.safe.slots x.slot (in-shape k s W sh x.slot inside)).shown known.2 in
@@ -373,9 +310,8 @@ pub notes-step : (k : Shape) (slots id i : ℕ) (me : M) (r : ReaderView) (y : I
     → i < k.slots → 0 < tally (same_id y) r.held
     → Allows (Shown k) slots id me (descr_place i) (λ n. n) (noted (step slots (descr_place i) 0 0 none) me)
 notes-step k slots id i me r y is here inside have s (W, sh) deep seated small =
-    let mine : OfReader W sh.next sh.owner id r = of-here (OfReader W sh.next sh.owner id) me.0.reader r is
-    (sh.each id me.0 seated).1 in
-    let n : ℕ = get_or s.words (descr_place i) 0 in
+    let mine = reader-at k s W sh id me.0 r seated is in
+    let n : ℕ = descr_word s i in
     let d : Descr = (at W i).descr in
     let x : Id = id_at W i in
     let known = held-is W sh.next sh.owner id r y sh.safe mine have in
@@ -385,7 +321,7 @@ notes-step k slots id i me r y is here inside have s (W, sh) deep seated small =
       keeps,
       tt,
       (W, reader-notes k s W sh id me.0 r x seated is inside have'),
-      λ r' y' is' have'' word. let same = same_Some r r' (sym is ∙ is') in
+      λ r' y' is' have'' word-is. let same = same_Some r r' (sym is ∙ is') in
           let index : i ≡ y'.slot = omega arith in
           let known' = held-is W sh.next sh.owner id r y' sh.safe mine
           (subst (λ (z : ReaderView). 0 < tally (same_id y') z.held) (sym same) have'') in (

@@ -1,11 +1,12 @@
 -- Seats that are split and joined leave the world as it is.
+use Rattle.std.specs.Prelude.{option_map}
 use Rattle.std.proofs.Common.{◌≡◌, ◌≢◌, ◌⊎◌, inl, inr, ⊎_elim, ℕ, ◌+◌, ◌*◌, ◌<◌, ◌≤◌, ◌==◌, eq-eqb, ne_eqb, Bool, cond, List, [], ◌∷◌, ◌++◌, length, replicate, set, zero, suc, Some, None, sym, refl, ap, ◌∙◌, subst, arith}
 use mathlib.Core.Option.{some, some-ne-none, some-injective}
 use native.Mathlib.Decide.{ℕ_discrete}
 use mathlib.Core.Logic.{dite}
 use lib.ListN.{get_elem?}
 use Rattle.std.proofs.lemmas.List.{length-replicate}
-use Rattle.std.proofs.lemmas.Option.{same_Some}
+use Rattle.std.proofs.lemmas.Option.{IfSome_then, same_Some}
 use Rattle.atomic_table.specs.Table.{Splits, Joins, opening}
 use Rattle.atomic_table.proofs.Lists.{at_set, set_here, set_else, set_again, at_longer, at_last}
 use Rattle.pin_core.specs.declared.shape.Shape.{Shape}
@@ -19,11 +20,12 @@ use Rattle.pin_words.specs.declared.view.KeeperView.{KeeperView}
 use Rattle.pin_words.specs.declared.view.ReaderView.{ReaderView}
 use Rattle.pin_words.specs.declared.view.View.{View}
 use Rattle.pin_words.specs.Places.{AreLaid, words_a_slot}
-use Rattle.pin_words.specs.Views.{on, view, keeper_gave, reader_given, opening_keeper, keeper_with_slots, view_with_slots}
+use Rattle.pin_words.specs.Views.{view, keeper_gave, reader_given, opening_keeper, keeper_with_slots, view_with_slots}
+use Rattle.pin_words.specs.Laws.{with_views}
 use Rattle.pin_words.specs.Shown.{Table, HoldsJust, OfKeeper, OfReader, Agrees, HasKeeper, HasReader, IsShown, Shown}
-use Rattle.pin_words.specs.Plays.{Behind, Tells, AreListed, Show, Meets, MeetsBoth, looked_view, got_view, released_view, looked, pinned, released, noted, stored, published, closed, reclaiming, gave, reader_from, spent, or_else, joined, keeper_part, reader_part}
+use Rattle.pin_words.specs.Plays.{Behind, TellsReader, AreListed, Show, Meets, MeetsBoth, looked_view, got_view, released_view, looked, pinned, released, noted, stored, published, closed, reclaiming, gave, reader_from, spent, joined, keeper_part, reader_part}
 use Rattle.pin_words.specs.Plays as play
-use Rattle.pin_words.proofs.Steps.{Turns, of-map, of-here, of-put, in-list, has-keeper, has-reader, turn-keeper}
+use Rattle.pin_words.proofs.Steps.{Turns, keeper-at, reader-at, of-put, in-list, has-keeper, has-reader, turn-keeper}
 
 at-last : {A : Type 0} (l : List A) (a b : A) (j : ℕ) → get_elem? (l ++ a ∷ []) j ≡ some b
     → (get_elem? l j ≡ some b) ⊎ ((j ≡ length l) × (a ≡ b))
@@ -92,20 +94,14 @@ fresh_opens k slots fits are = subst (Opens k) (sym are) (record {
 pub fresh_keeper : (k : Shape) (slots : List Slot) → slots ≡ replicate k.slots opening_slot
     → keeper_with_slots k slots ≡ opening_keeper k
 fresh_keeper k slots are = ap (keeper_with_slots k) are
-    ∙ ap (λ (w : WorldState). record {
-      shape = k;
-      slots = replicate k.slots opening_slot;
-      published = w.published;
-      next = 1;
-      looks = [];
-    }) (opening-is k)
+    ∙ ap (λ (w : WorldState). record (opening_keeper k) { published = w.published }) (opening-is k)
 
 -- the same world under other views
 reseated : (k : Shape) (s : Table) (W : WorldState) (sh : IsShown k s W) (next : ℕ) (owner : ℕ → ℕ) (views : List View)
     → ((j : ℕ) (u : View) → get_elem? views j ≡ some u → Agrees W sh.keeper next owner j u)
     → ((r : ℕ) → next ≤ r → HoldsJust W r [])
     → HasKeeper views sh.keeper → ((r : ℕ) → HasReader s.views (sh.owner r) r → HasReader views (owner r) r)
-    → IsShown k record { words = s.words; homes = s.homes; views = views } W
+    → IsShown k (with_views s views) W
 reseated k s W sh next owner views each unborn kept moves =
     record {
       fits = sh.fits;
@@ -147,31 +143,30 @@ longer-reader vs ws j r h = (h.0, h.1, at_longer vs ws j h.0 h.2, h.3, h.4)
 -- a reader's number is one that was given
 given-number : (k : Shape) (s : Table) (W : WorldState) (sh : IsShown k s W) (r : ℕ) → HasReader s.views (sh.owner r) r
     → r < sh.next
-given-number k s W sh r h = let b = (of-here (OfReader W sh.next sh.owner (sh.owner r)) h.0.reader h.1 h.3
-    (sh.each (sh.owner r) h.0 h.2).1).born in subst (λ (z : ℕ). z < sh.next) h.4 b
+given-number k s W sh r h = let b = (reader-at k s W sh (sh.owner r) h.0 h.1 h.2 h.3).born in
+    subst (λ (z : ℕ). z < sh.next) h.4 b
 
 -- a new reader
 pub gives-shown : (k : Shape) (s : Table) (W : WorldState) (sh : IsShown k s W) (id : ℕ) (me : View) (v : KeeperView)
     → get_elem? s.views id ≡ some me → me.keeper ≡ Some v
-    → IsShown k record { words = s.words; homes = s.homes; views = set s.views id (gave me) ++ play.given me ∷ [] } W
+    → IsShown k (with_views s (set s.views id (gave me) ++ play.given me ∷ [])) W
 gives-shown k s W sh id me v seated is =
-    let w = W in
     let was = sh.each id me seated in
-    let mine : OfKeeper w sh.keeper sh.next id v = of-here (OfKeeper w sh.keeper sh.next id) me.keeper v is was.0 in
+    let mine = keeper-at k s W sh id me v seated is in
     let last = length (set s.views id (gave me)) in
     let owner' = moved-owner sh.next last sh.owner in
     let turn : Turns me (gave me) = turn-keeper me (keeper_gave) in
-    let old-reader : (j : ℕ) (r : ReaderView) → OfReader w sh.next sh.owner j r
-    → OfReader w (sh.next + 1) owner' j r = λ j r a.
-    reader-moves w sh.next (sh.next + 1) sh.owner owner' j j r (omega arith)
+    let old-reader : (j : ℕ) (r : ReaderView) → OfReader W sh.next sh.owner j r
+    → OfReader W (sh.next + 1) owner' j r = λ j r a.
+    reader-moves W sh.next (sh.next + 1) sh.owner owner' j j r (omega arith)
     (moved-old sh.next last sh.owner r.number (λ e. let b = a.born in omega arith) ∙ a.mine) a in
     reseated k s W sh (sh.next + 1) owner' (set s.views id (gave me) ++ play.given me ∷ [])
     (λ j u e. ⊎_elim
     (λ (old : get_elem? (set s.views id (gave me)) j ≡ some u). ⊎_elim
-    (λ (t : (j ≡ id) × (gave me ≡ u)). subst (λ (z : ℕ × View). Agrees w sh.keeper (sh.next + 1) owner' z.0 z.1)
+    (λ (t : (j ≡ id) × (gave me ≡ u)). subst (λ (z : ℕ × View). Agrees W sh.keeper (sh.next + 1) owner' z.0 z.1)
     (λ c. (sym t.0 c, t.1 c)) (
-      of-put (OfKeeper w sh.keeper (sh.next + 1) id) (gave me).keeper (keeper_gave v)
-          (ap (on (keeper_gave)) is)
+      of-put (OfKeeper W sh.keeper (sh.next + 1) id) (gave me).keeper (keeper_gave v)
+          (ap (option_map (keeper_gave)) is)
           record {
             shape = mine.shape;
             mine = mine.mine;
@@ -180,23 +175,22 @@ gives-shown k s W sh id me v seated is =
             next_is = ap (λ (z : ℕ). z + 1) mine.next_is;
             looks = mine.looks;
           },
-      of-map (OfReader w sh.next sh.owner id) (OfReader w (sh.next + 1) owner' id) me.reader (old-reader id) was.1,
+      IfSome_then me.reader was.1 (old-reader id),
     ))
     (λ (t : (j ≢ id) × (get_elem? s.views j ≡ some u)). let a = sh.each j u t.1 in (
-      of-map (OfKeeper w sh.keeper sh.next j) (OfKeeper w sh.keeper (sh.next + 1) j) u.keeper
-          (λ q b. absurd (t.0 (b.mine ∙ sym mine.mine))) a.0,
-      of-map (OfReader w sh.next sh.owner j) (OfReader w (sh.next + 1) owner' j) u.reader (old-reader j) a.1,
+      IfSome_then u.keeper a.0 (λ q b. absurd (t.0 (b.mine ∙ sym mine.mine))),
+      IfSome_then u.reader a.1 (old-reader j),
     ))
     (at_set s.views id j (gave me) u old))
-    (λ (t : (j ≡ last) × (play.given me ≡ u)). subst (λ (z : ℕ × View). Agrees w sh.keeper (sh.next + 1) owner' z.0 z.1)
+    (λ (t : (j ≡ last) × (play.given me ≡ u)). subst (λ (z : ℕ × View). Agrees W sh.keeper (sh.next + 1) owner' z.0 z.1)
     (λ c. (sym t.0 c, t.1 c)) (
       tt,
-      of-put (OfReader w (sh.next + 1) owner' last) (reader_from me.keeper) (reader_given v) (ap reader_from is)
+      of-put (OfReader W (sh.next + 1) owner' last) (reader_from me.keeper) (reader_given v) (ap reader_from is)
           record {
             shape = mine.shape;
             born = (let n = mine.next_is in omega arith);
             mine = ap owner' mine.next_is ∙ moved-new sh.next last sh.owner;
-            held = λ x. ap (λ (z : ℕ). copies w z x) mine.next_is ∙ sh.unborn sh.next (omega arith) x;
+            held = λ x. ap (λ (z : ℕ). copies W z x) mine.next_is ∙ sh.unborn sh.next (omega arith) x;
             notes = tt;
             looks = tt;
           },
@@ -216,11 +210,7 @@ gives k id me v is s (W, sh) seated = (W, gives-shown k s W sh id me v seated is
 
 -- a seat that knows nothing
 pub blanks-shown : (k : Shape) (s : Table) (W : WorldState) (sh : IsShown k s W) (id : ℕ) (me : View)
-    → get_elem? s.views id ≡ some me → IsShown k record {
-      words = s.words;
-      homes = s.homes;
-      views = set s.views id me ++ spent ∷ [];
-    } W
+    → get_elem? s.views id ≡ some me → IsShown k (with_views s (set s.views id me ++ spent ∷ [])) W
 blanks-shown k s W sh id me seated =
     reseated k s W sh sh.next sh.owner (set s.views id me ++ spent ∷ [])
     (λ j u e. ⊎_elim
@@ -245,33 +235,27 @@ blanks k id me s (W, sh) seated = (W, blanks-shown k s W sh id me seated)
 pub joins-shown : (k : Shape) (s : Table) (W : WorldState) (sh : IsShown k s W) (id other : ℕ) (kv : KeeperView)
     (rv : ReaderView) → get_elem? s.views id ≡ some (view (Some kv) None) → other ≢ id
     → get_elem? (set s.views id (view (Some kv) (Some rv))) other ≡ some (view None (Some rv))
-    → IsShown k record {
-      words = s.words;
-      homes = s.homes;
-      views = set (set s.views id (view (Some kv) (Some rv))) other spent;
-    } W
+    → IsShown k (with_views s (set (set s.views id (view (Some kv) (Some rv))) other spent)) W
 joins-shown k s W sh id other kv rv seated apart seated' =
-    let w = W in
     let a = sh.each id (view (Some kv) None) seated in
     let b = sh.each other (view None (Some rv)) (sym (set_else s.views id other (view (Some kv) (Some rv)) apart)
     ∙ seated') in
     let owner' = moved-owner rv.number id sh.owner in
     reseated k s W sh sh.next owner' (set (set s.views id (view (Some kv) (Some rv))) other spent)
     (λ j u e. ⊎_elim
-    (λ (t : (j ≡ other) × (spent ≡ u)). subst (λ (z : View). Agrees w sh.keeper sh.next owner' j z) t.1 (tt, tt))
+    (λ (t : (j ≡ other) × (spent ≡ u)). subst (λ (z : View). Agrees W sh.keeper sh.next owner' j z) t.1 (tt, tt))
     (λ (t : (j ≢ other) × (get_elem? (set s.views id (view (Some kv) (Some rv))) j ≡ some u)). ⊎_elim
     (λ (q : (j ≡ id) × (view (Some kv) (Some rv) ≡ u)). subst (λ (z : ℕ
-    × View). Agrees w sh.keeper sh.next owner' z.0 z.1) (λ c. (sym q.0 c, q.1 c)) (
+    × View). Agrees W sh.keeper sh.next owner' z.0 z.1) (λ c. (sym q.0 c, q.1 c)) (
       a.0,
-      reader-moves w sh.next sh.next sh.owner owner' other id rv (omega arith)
+      reader-moves W sh.next sh.next sh.owner owner' other id rv (omega arith)
           (moved-new rv.number id sh.owner) b.1,
     ))
     (λ (q : (j ≢ id) × (get_elem? s.views j ≡ some u)). let h = sh.each j u q.1 in (
       h.0,
-      of-map (OfReader w sh.next sh.owner j) (OfReader w sh.next owner' j) u.reader
-          (λ r x. reader-moves w sh.next sh.next sh.owner owner' j j r (omega arith)
+      IfSome_then u.reader h.1 (λ r x. reader-moves W sh.next sh.next sh.owner owner' j j r (omega arith)
           (moved-old rv.number id sh.owner r.number (λ same. t.0 (sym x.mine ∙ (ap sh.owner same ∙ b.1.mine)))
-          ∙ x.mine) x) h.1,
+          ∙ x.mine) x),
     ))
     (at_set s.views id j (view (Some kv) (Some rv)) u t.1))
     (at_set (set s.views id (view (Some kv) (Some rv))) other j spent u e))
@@ -319,33 +303,27 @@ joins k id other kv rv s (W, sh) seated apart seated' = (W, joins-shown k s W sh
 -- a joined seat in two
 pub parts-shown : (k : Shape) (s : Table) (W : WorldState) (sh : IsShown k s W) (id : ℕ) (kv : KeeperView)
     (rv : ReaderView) → get_elem? s.views id ≡ some (view (Some kv) (Some rv))
-    → IsShown k record {
-      words = s.words;
-      homes = s.homes;
-      views = set s.views id (view (Some kv) None) ++ view None (Some rv) ∷ [];
-    } W
+    → IsShown k (with_views s (set s.views id (view (Some kv) None) ++ view None (Some rv) ∷ [])) W
 parts-shown k s W sh id kv rv seated =
-    let w = W in
     let a = sh.each id (view (Some kv) (Some rv)) seated in
     let last = length (set s.views id (view (Some kv) None)) in
     let owner' = moved-owner rv.number last sh.owner in
     reseated k s W sh sh.next owner' (set s.views id (view (Some kv) None) ++ view None (Some rv) ∷ [])
     (λ j u e. ⊎_elim
     (λ (old : get_elem? (set s.views id (view (Some kv) None)) j ≡ some u). ⊎_elim
-    (λ (q : (j ≡ id) × (view (Some kv) None ≡ u)). subst (λ (z : ℕ × View). Agrees w sh.keeper sh.next owner' z.0 z.1)
+    (λ (q : (j ≡ id) × (view (Some kv) None ≡ u)). subst (λ (z : ℕ × View). Agrees W sh.keeper sh.next owner' z.0 z.1)
     (λ c. (sym q.0 c, q.1 c)) (a.0, tt))
     (λ (q : (j ≢ id) × (get_elem? s.views j ≡ some u)). let h = sh.each j u q.1 in (
       h.0,
-      of-map (OfReader w sh.next sh.owner j) (OfReader w sh.next owner' j) u.reader
-          (λ r x. reader-moves w sh.next sh.next sh.owner owner' j j r (omega arith)
+      IfSome_then u.reader h.1 (λ r x. reader-moves W sh.next sh.next sh.owner owner' j j r (omega arith)
           (moved-old rv.number last sh.owner r.number (λ same. q.0 (sym x.mine ∙ (ap sh.owner same ∙ a.1.mine)))
-          ∙ x.mine) x) h.1,
+          ∙ x.mine) x),
     ))
     (at_set s.views id j (view (Some kv) None) u old))
-    (λ (t : (j ≡ last) × (view None (Some rv) ≡ u)). subst (λ (z : ℕ × View). Agrees w sh.keeper sh.next owner' z.0 z.1)
+    (λ (t : (j ≡ last) × (view None (Some rv) ≡ u)). subst (λ (z : ℕ × View). Agrees W sh.keeper sh.next owner' z.0 z.1)
     (λ c. (sym t.0 c, t.1 c)) (
       tt,
-      reader-moves w sh.next sh.next sh.owner owner' id last rv (omega arith)
+      reader-moves W sh.next sh.next sh.owner owner' id last rv (omega arith)
           (moved-new rv.number last sh.owner) a.1,
     ))
     (at-last (set s.views id (view (Some kv) None)) (view None (Some rv)) u j e))

@@ -1,11 +1,13 @@
 -- What a step of one seat owes the rule of the table.
+use Rattle.std.specs.Prelude.{IfSome, option_map}
 use Rattle.std.proofs.Common.{◌≡◌, ◌≢◌, ◌⊎◌, inl, inr, ⊎_elim, ℕ, ◌+◌, ◌*◌, ◌<◌, ◌≤◌, List, [], ◌∷◌, length, get_or, set, length-set, zero, suc, Option, Some, None, sym, refl, ap, ◌∙◌, subst, arith}
-use mathlib.Core.Option.{some, some-ne-none, some-injective}
+use mathlib.Core.Option.{none, some, some-ne-none, some-injective}
 use native.Mathlib.Decide.{ℕ_discrete}
 use mathlib.Core.Logic.{dite}
 use lib.ListN.{get_elem?}
 use lib.Seq.{set-get_or}
 use Rattle.std.proofs.lemmas.Option.{same_Some}
+use Rattle.atomic_table.specs.Table.{Allows, Step, step}
 use Rattle.atomic_table.proofs.Lists.{at_set, set_here, set_else}
 use Rattle.pin_core.specs.declared.word.Word.{Word}
 use Rattle.pin_core.specs.declared.id.Id.{Id}
@@ -27,21 +29,27 @@ use Rattle.pin_words.specs.declared.view.KeeperView.{KeeperView}
 use Rattle.pin_words.specs.declared.view.ReaderView.{ReaderView}
 use Rattle.pin_words.specs.declared.view.View.{View}
 use Rattle.pin_words.specs.Places.{place_of, descr_place, AtSlot}
-use Rattle.pin_words.specs.Views.{Of, on, view, look, reader_looked}
-use Rattle.pin_words.specs.Shown.{Table, word_age, IsPast, NotAhead, AreNoted, HoldsJust, OfKeeper, OfReader, Agrees, HasKeeper, HasReader, IsShown}
-use Rattle.pin_words.specs.Plays.{Behind, Tells, AreListed, Show, MeetsBoth, looked_view}
+use Rattle.pin_words.specs.Views.{M, view, look, reader_looked}
+use Rattle.pin_words.specs.Shown.{Table, word_age, IsPast, NotAhead, AreNoted, HoldsJust, OfKeeper, OfReader, Agrees, HasKeeper, HasReader, IsShown, Shown}
+use Rattle.pin_words.specs.Laws.{after_step, word}
+use Rattle.pin_words.specs.Plays.{Behind, TellsReader, AreListed, Show, MeetsBoth, looked_view}
 use Rattle.pin_words.proofs.Bits.{decoded-encoded}
 use Rattle.pin_words.proofs.Holdings.{held-le-pins, has-copies, one-descr}
 
-pub of-map : {A : Type 0} (P Q : A → Type 0) (x : Option A) → ((a : A) → P a → Q a) → Of x P → Of x Q
-of-map P Q None f h = tt
-of-map P Q (Some a) f h = f a h
+pub of-here : {A : Type 0} (P : A → Type 0) (x : Option A) (a : A) → x ≡ Some a → IfSome x P → P a
+of-here {A = A} P x a is h = subst (λ (z : Option A). IfSome z P) is h
 
-pub of-here : {A : Type 0} (P : A → Type 0) (x : Option A) (a : A) → x ≡ Some a → Of x P → P a
-of-here {A = A} P x a is h = subst (λ (z : Option A). Of z P) is h
+pub of-put : {A : Type 0} (P : A → Type 0) (x : Option A) (a : A) → x ≡ Some a → P a → IfSome x P
+of-put {A = A} P x a is h = subst (λ (z : Option A). IfSome z P) (sym is) h
 
-pub of-put : {A : Type 0} (P : A → Type 0) (x : Option A) (a : A) → x ≡ Some a → P a → Of x P
-of-put {A = A} P x a is h = subst (λ (z : Option A). Of z P) (sym is) h
+-- a seat's part as the world has it
+pub keeper-at : (k : Shape) (s : Table) (W : WorldState) (sh : IsShown k s W) (id : ℕ) (v : View) (kv : KeeperView)
+    → get_elem? s.views id ≡ some v → v.keeper ≡ Some kv → OfKeeper W sh.keeper sh.next id kv
+keeper-at k s W sh id v kv seated is = of-here (OfKeeper W sh.keeper sh.next id) v.keeper kv is (sh.each id v seated).0
+
+pub reader-at : (k : Shape) (s : Table) (W : WorldState) (sh : IsShown k s W) (id : ℕ) (v : View) (r : ReaderView)
+    → get_elem? s.views id ≡ some v → v.reader ≡ Some r → OfReader W sh.next sh.owner id r
+reader-at k s W sh id v r seated is = of-here (OfReader W sh.next sh.owner id) v.reader r is (sh.each id v seated).1
 
 -- the view keeps its parts, and its reader's number
 pub record Turns (v v' : View) : Type 0 where
@@ -73,6 +81,14 @@ has-reader vs id j r v v' seated turn h = dite (ℕ_discrete j id)
 pub at-slot : (i : ℕ) (P : ℕ → Type 0) → P i → AtSlot (place_of i) P
 at-slot i P have s is = let same : i ≡ s = omega arith in subst P same have
 
+-- a step at the place of a slot
+pub placed : (k : Shape) (slots id p q first second : ℕ) (me : M) (f : ℕ → ℕ)
+    (then_is : Step (Unit {0}) → M → ℕ → M → Type 0) → p ≡ q
+    → Allows (Shown k) slots id me q f (then_is (step slots q first second none) me)
+    → Allows (Shown k) slots id me p f (then_is (step slots p first second none) me)
+placed k slots id p q first second me f then_is at =
+    subst (λ (z : ℕ). Allows (Shown k) slots id me z f (then_is (step slots z first second none) me)) (sym at)
+
 -- a step of one seat, after which the world is w'
 pub step-shown : (k : Shape) (s : Table) (W : WorldState) (sh : IsShown k s W) (id i n : ℕ) (v' : View)
     (w' : WorldState) → w'.shape ≡ k → IsSafe w'
@@ -84,7 +100,7 @@ pub step-shown : (k : Shape) (s : Table) (W : WorldState) (sh : IsShown k s W) (
     → ((r : ℕ) → sh.next ≤ r → HoldsJust w' r [])
     → (v : View) → get_elem? s.views id ≡ some v → Turns v v'
     → ((r : ℕ) → HoldsJust W r [] → (HoldsJust w' r []) ⊎ HasReader (set s.views id v') (sh.owner r) r)
-    → IsShown k record { words = set s.words i n; homes = s.homes; views = set s.views id v' } w'
+    → IsShown k (after_step s i n id v') w'
 step-shown k s W sh id i n v' w' shape safe words descrs given mine others unborn v seated turn parts = record {
   fits = sh.fits;
   shape = shape;
@@ -110,7 +126,7 @@ step-shown k s W sh id i n v' w' shape safe words descrs given mine others unbor
 -- a step that leaves the world and the words
 pub still-shown : (k : Shape) (s : Table) (W : WorldState) (sh : IsShown k s W) (id i : ℕ) (v' : View)
     → Agrees W sh.keeper sh.next sh.owner id v' → (v : View) → get_elem? s.views id ≡ some v → Turns v v'
-    → IsShown k record { words = set s.words i (get_or s.words i 0); homes = s.homes; views = set s.views id v' } W
+    → IsShown k (after_step s i (get_or s.words i 0) id v') W
 still-shown k s W sh id i v' mine v seated turn = let same = set-get_or s.words i 0 in
     step-shown k s W sh id i (get_or s.words i 0) v' W sh.shape sh.safe
     (λ j h. ap (λ (ws : List ℕ). get_or ws (place_of j) 0) same ∙ sh.words j h)
@@ -123,11 +139,11 @@ few-pins k s W sh i = let room = sh.safe.room i in let max : W.shape.max_pins �
 
 -- what the word that is found says
 pub found-is : (k : Shape) (s : Table) (W : WorldState) (sh : IsShown k s W) (i : ℕ) → i < k.slots
-    → decoded (get_or s.words (place_of i) 0) ≡ word_at W i
+    → decoded (word s i) ≡ word_at W i
 found-is k s W sh i inside = ap decoded (sh.words i inside) ∙ decoded-encoded (word_at W i) (few-pins k s W sh i)
 
 pub found-age : (k : Shape) (s : Table) (W : WorldState) (sh : IsShown k s W) (i : ℕ) → i < k.slots
-    → word_age (get_or s.words (place_of i) 0) ≡ age (at W i)
+    → word_age (word s i) ≡ age (at W i)
 found-age k s W sh i inside = ap (λ (x : Word). x.generation * 4 + rank_of x.phase) (found-is k s W sh i inside)
 
 pub in-shape : (k : Shape) (s : Table) (W : WorldState) (sh : IsShown k s W) (i : ℕ) → i < k.slots → i < W.shape.slots
@@ -165,19 +181,19 @@ behind w (l ∷ ls) s n is phase bounded h = (
 )
 
 pub told : (k : Shape) (s : Table) (W : WorldState) (sh : IsShown k s W) (id i : ℕ) (r : ReaderView) → i < k.slots
-    → OfReader W sh.next sh.owner id r → Tells r i (get_or s.words (place_of i) 0)
+    → OfReader W sh.next sh.owner id r → TellsReader r i (word s i)
 told k s W sh id i r inside mine = let is = found-is k s W sh i inside in record {
   pins = let le = held-le-pins W r.number i r.held sh.safe mine.held in
-      let count : (decoded (get_or s.words (place_of i) 0)).pins ≡ pins W i = ap (λ (x : Word). x.pins) is in
+      let count : (decoded (word s i)).pins ≡ pins W i = ap (λ (x : Word). x.pins) is in
       omega arith;
-  room = let le = sh.safe.room i in let count : (decoded (get_or s.words (place_of i) 0)).pins ≡ pins W i =
+  room = let le = sh.safe.room i in let count : (decoded (word s i)).pins ≡ pins W i =
       ap (λ (x : Word). x.pins) is in let max : r.shape.max_pins ≡ W.shape.max_pins =
       ap (λ (z : Shape). z.max_pins) mine.shape in omega arith;
   held = λ x have here. let h = sh.safe.held r.number x (has-copies W r x mine.held have) in (
     ap (λ (y : Word). y.generation) is ∙ (ap (λ (z : ℕ). (at W z).generation) (sym here) ∙ h.1),
     ap (λ (y : Word). may_be_held y.phase) is ∙ (ap (λ (z : ℕ). may_be_held (at W z).phase) (sym here) ∙ h.2),
   );
-  looks = behind W r.looks i (get_or s.words (place_of i) 0) (found-age k s W sh i inside)
+  looks = behind W r.looks i (word s i) (found-age k s W sh i inside)
       (ap (λ (x : Word). x.phase) is) (sh.safe.slots i (in-shape k s W sh i inside)).bounded mine.looks;
 }
 
@@ -198,11 +214,11 @@ shows w id d (x ∷ xs) safe have h = (
 )
 
 pub met : (k : Shape) (s : Table) (W : WorldState) (sh : IsShown k s W) (id i : ℕ) (v : View) → i < k.slots
-    → Agrees W sh.keeper sh.next sh.owner id v → MeetsBoth v.keeper v.reader i (get_or s.words (place_of i) 0)
+    → Agrees W sh.keeper sh.next sh.owner id v → MeetsBoth v.keeper v.reader i (word s i)
 met k s W sh id i v inside a = cases v.keeper v.reader a.0 a.1
   where
-    cases : (x : Option KeeperView) (y : Option ReaderView) → Of x (OfKeeper W sh.keeper sh.next id)
-        → Of y (OfReader W sh.next sh.owner id) → MeetsBoth x y i (get_or s.words (place_of i) 0)
+    cases : (x : Option KeeperView) (y : Option ReaderView) → IfSome x (OfKeeper W sh.keeper sh.next id)
+        → IfSome y (OfReader W sh.next sh.owner id) → MeetsBoth x y i (word s i)
     cases None y a b = tt
     cases (Some x) None a b = tt
     cases (Some x) (Some y) a b = let is = found-is k s W sh i inside in
@@ -231,19 +247,19 @@ met k s W sh id i v inside a = cases v.keeper v.reader a.0 a.1
         }
 
 pub past-here : (k : Shape) (s : Table) (W : WorldState) (sh : IsShown k s W) (i : ℕ) → i < k.slots
-    → IsPast W (look i (get_or s.words (place_of i) 0))
+    → IsPast W (look i (word s i))
 past-here k s W sh i inside = let now = found-age k s W sh i inside in let is = found-is k s W sh i inside in (
-  (let goal : word_age (get_or s.words (place_of i) 0) ≤ age (at W i) = omega arith in goal),
+  (let goal : word_age (word s i) ≤ age (at W i) = omega arith in goal),
   λ e. let last : (at W i).generation ≡ W.shape.max_gen =
       (sh.safe.slots i (in-shape k s W sh i inside)).last (sym (ap (λ (x : Word). x.phase) is) ∙ e) in
-      let same : (decoded (get_or s.words (place_of i) 0)).generation ≡ (at W i).generation =
+      let same : (decoded (word s i)).generation ≡ (at W i).generation =
       ap (λ (x : Word). x.generation) is in
-      (let goal : W.shape.max_gen ≤ (decoded (get_or s.words (place_of i) 0)).generation = omega arith in goal),
+      (let goal : W.shape.max_gen ≤ (decoded (word s i)).generation = omega arith in goal),
 )
 
 pub reader-looks : (k : Shape) (s : Table) (W : WorldState) (sh : IsShown k s W) (id i : ℕ) → i < k.slots
     → (r : ReaderView) → OfReader W sh.next sh.owner id r
-    → OfReader W sh.next sh.owner id (reader_looked r i (get_or s.words (place_of i) 0))
+    → OfReader W sh.next sh.owner id (reader_looked r i (word s i))
 reader-looks k s W sh id i inside r mine =
     record {
       shape = mine.shape;
@@ -254,17 +270,17 @@ reader-looks k s W sh id i inside r mine =
       looks = (past-here k s W sh i inside, mine.looks);
     }
 
-pub of-on : {A : Type 0} (P : A → Type 0) (f : A → A) (x : Option A) → ((a : A) → P a → P (f a)) → Of x P
-    → Of (on f x) P
+pub of-on : {A : Type 0} (P : A → Type 0) (f : A → A) (x : Option A) → ((a : A) → P a → P (f a)) → IfSome x P
+    → IfSome (option_map f x) P
 of-on P f None go h = tt
 of-on P f (Some a) go h = go a h
 
 pub turn-reader : (v : View) (g : ReaderView → ReaderView) → ((x : ReaderView) → (g x).number ≡ x.number)
-    → Turns v (view v.keeper (on g v.reader))
-turn-reader v g same = record { keeper = λ k e. (k, e); reader = λ x e. (g x, ap (on g) e, same x) }
+    → Turns v (view v.keeper (option_map g v.reader))
+turn-reader v g same = record { keeper = λ k e. (k, e); reader = λ x e. (g x, ap (option_map g) e, same x) }
 
-pub turn-keeper : (v : View) (f : KeeperView → KeeperView) → Turns v (view (on f v.keeper) v.reader)
-turn-keeper v f = record { keeper = λ k e. (f k, ap (on f) e); reader = λ x e. (x, e, refl) }
+pub turn-keeper : (v : View) (f : KeeperView → KeeperView) → Turns v (view (option_map f v.keeper) v.reader)
+turn-keeper v f = record { keeper = λ k e. (f k, ap (option_map f) e); reader = λ x e. (x, e, refl) }
 
 pub turn-to : (v : View) (r r' : ReaderView) → v.reader ≡ Some r → r'.number ≡ r.number
     → Turns v (view v.keeper (Some r'))
@@ -278,11 +294,11 @@ turn-keeper-to v k' = record { keeper = λ k e. (k', refl); reader = λ x e. (x,
 
 pub looks-agree : (k : Shape) (s : Table) (W : WorldState) (sh : IsShown k s W) (id i : ℕ) (v : View) → i < k.slots
     → Agrees W sh.keeper sh.next sh.owner id v → Agrees W sh.keeper sh.next sh.owner id
-    (looked_view v i (get_or s.words (place_of i) 0))
+    (looked_view v i (word s i))
 looks-agree k s W sh id i v inside a = (
   a.0,
   of-on (OfReader W sh.next sh.owner id)
-      (λ r. reader_looked r i (get_or s.words (place_of i) 0)) v.reader (reader-looks k s W sh id i inside) a.1,
+      (λ r. reader_looked r i (word s i)) v.reader (reader-looks k s W sh id i inside) a.1,
 )
 
 -- looks stay behind as slots get older
@@ -328,5 +344,3 @@ reader-stays w hs next owner j v same a = record {
   notes = notes-stay w (with_holders w hs) v.notes (λ i d. omega arith) a.notes;
   looks = looks-stay w (with_holders w hs) v.looks refl (λ j. omega arith) a.looks;
 }
-
--- the words where the holds change at the slot i alone

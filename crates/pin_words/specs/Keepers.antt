@@ -20,12 +20,12 @@ use Rattle.pin_words.specs.declared.pin_keeper.Reclaim.TheVariants.{Freed, Retir
 use Rattle.pin_words.specs.declared.view.Look.{Look}
 use Rattle.pin_words.specs.Verdicts.{verdict_of}
 use Rattle.pin_words.specs.Seats.{TableState, KeeperSeat}
-use Rattle.pin_words.specs.Plays.{TellsSlot}
-use Rattle.pin_words.specs.Views.{look, sits, id_of}
+use Rattle.pin_words.specs.Plays.{TellsKeeper}
+use Rattle.pin_words.specs.Views.{look, is_of_slot, id_of}
 
--- `table` is which words it keeps, where it has some; `published` is what it published, in order; `next` is the next
--- reader's number, `looks` are the words that it found, newest first, and `held` are the copies of the one holder of a
--- keeper under a lock
+-- `table` is the identity of the words that it keeps, and none for a keeper under a lock; `published` is what it
+-- published, in order; `next` is the next reader's number, `looks` are the words that it found, newest first, and
+-- `held` are the copies of the one holder of a keeper under a lock
 pub record KeeperState : Type 0 where
   pub table : Option TableState
   pub shape : Shape
@@ -74,48 +74,16 @@ pub record IsFreshWith (k : KeeperState) (shape : Shape) (slots : List Slot) : T
   pub held_is : k.held ≡ []
 
 abbrev pub with_slots : KeeperState → List Slot → KeeperState
-with_slots k slots = record {
-  table = k.table;
-  shape = k.shape;
-  slots = slots;
-  published = k.published;
-  next = k.next;
-  looks = k.looks;
-  held = k.held;
-}
+with_slots k slots = record k { slots = slots }
 
 abbrev pub with_published : KeeperState → List (Id × Descr) → KeeperState
-with_published k ps = record {
-  table = k.table;
-  shape = k.shape;
-  slots = k.slots;
-  published = ps;
-  next = k.next;
-  looks = k.looks;
-  held = k.held;
-}
+with_published k published = record k { published = published }
 
 abbrev pub with_looks : KeeperState → List Look → KeeperState
-with_looks k looks = record {
-  table = k.table;
-  shape = k.shape;
-  slots = k.slots;
-  published = k.published;
-  next = k.next;
-  looks = looks;
-  held = k.held;
-}
+with_looks k looks = record k { looks = looks }
 
 abbrev pub with_held : KeeperState → List Id → KeeperState
-with_held k held = record {
-  table = k.table;
-  shape = k.shape;
-  slots = k.slots;
-  published = k.published;
-  next = k.next;
-  looks = k.looks;
-  held = held;
-}
+with_held k held = record k { held = held }
 
 abbrev pub stored : KeeperState → ℕ → Descr → KeeperState
 stored k s d = with_slots k (slice_set k.slots s (with_descr (slot_of k.slots s) d))
@@ -138,16 +106,18 @@ HasLooked s ls ls' = (ls' ≡ ls) ⊎ ((n : ℕ) × (ls' ≡ look s n ∷ ls))
 -- nothing there; or held. It may have looked
 abbrev pub Reclaims : KeeperState → ℕ → Reclaim → KeeperState → Type 0
 Reclaims k s Freed k' = (k' ≡ with_looks (opened_again k s) k'.looks)
-    × ((slot_of k.slots s).generation < k.shape.max_gen) × (tally (sits s) k.held ≡ 0) × HasLooked s k.looks k'.looks
+    × ((slot_of k.slots s).generation < k.shape.max_gen) × (tally (is_of_slot s) k.held ≡ 0)
+    × HasLooked s k.looks k'.looks
 Reclaims k s Retired k' = (k' ≡ with_looks (opened_again k s) k'.looks)
-    × (k.shape.max_gen ≤ (slot_of k.slots s).generation) × (tally (sits s) k.held ≡ 0) × HasLooked s k.looks k'.looks
+    × (k.shape.max_gen ≤ (slot_of k.slots s).generation) × (tally (is_of_slot s) k.held ≡ 0)
+    × HasLooked s k.looks k'.looks
 Reclaims k s (Held n) k' = (k' ≡ with_looks k k'.looks) × (0 < n) × (n ≤ k.shape.max_pins)
     × HasLooked s k.looks k'.looks
 
 -- what a reclaim over the words answers: it found the word n of the slot, and is held exactly by the pins that are in
 -- it
 abbrev pub ReclaimsFound : KeeperState → ℕ → Reclaim → KeeperState → Type 0
-ReclaimsFound k s res k' = (n : ℕ) × TellsSlot k.shape k.slots s n
+ReclaimsFound k s res k' = (n : ℕ) × TellsKeeper k.shape k.slots s n
     × ((decoded n).pins ≡ 0 → (k' ≡ with_looks (opened_again k s) (look s n ∷ k.looks))
     × (res ≡ (if nat_lt (slot_of k.slots s).generation k.shape.max_gen then Freed else Retired)))
     × (0 < (decoded n).pins → (k' ≡ with_looks k (look s n ∷ k.looks)) × (res ≡ Held (decoded n).pins))
@@ -157,29 +127,29 @@ abbrev pub word_of : KeeperState → ℕ → Word
 word_of k s = record {
   generation = (slot_of k.slots s).generation;
   phase = (slot_of k.slots s).phase;
-  pins = tally (sits s) k.held;
+  pins = tally (is_of_slot s) k.held;
 }
 
-abbrev pub Answers : Verdict → KeeperState → Id → Result (Unit {0}) PinFault → KeeperState → Type 0
-Answers Unborn k id res k' = (res ≡ Err fault.Unborn) × (k' ≡ k)
-Answers Stale k id res k' = (res ≡ Err fault.Stale) × (k' ≡ k)
-Answers PinsFull k id res k' = (res ≡ Err fault.PinsFull) × (k' ≡ k)
-Answers Go k id res k' = (res ≡ Ok tt) × (k' ≡ with_held k (k.held ++ id ∷ []))
+abbrev pub AnswersLocked : Verdict → KeeperState → Id → Result (Unit {0}) PinFault → KeeperState → Type 0
+AnswersLocked Unborn k id res k' = (res ≡ Err fault.Unborn) × (k' ≡ k)
+AnswersLocked Stale k id res k' = (res ≡ Err fault.Stale) × (k' ≡ k)
+AnswersLocked PinsFull k id res k' = (res ≡ Err fault.PinsFull) × (k' ≡ k)
+AnswersLocked Go k id res k' = (res ≡ Ok tt) × (k' ≡ with_held k (k.held ++ id ∷ []))
 
 -- the answer of one try to pin under a lock, on the slot's present word
-pub record Tries (k : KeeperState) (id : Id) (res : Result (Unit {0}) PinFault) (k' : KeeperState) : Type 0 where
+pub record TriesLocked (k : KeeperState) (id : Id) (res : Result (Unit {0}) PinFault) (k' : KeeperState) : Type 0 where
   pub no_slot : k.shape.slots ≤ id.slot → (res ≡ Err fault.NoSuchSlot) × (k' ≡ k)
   pub full : id.slot < k.shape.slots → 16 ≤ length k.held → (res ≡ Err fault.HeldFull) × (k' ≡ k)
   pub tried : id.slot < k.shape.slots → length k.held < 16
-      → Answers (verdict_of k.shape.max_pins id (word_of k id.slot)) k id res k'
+      → AnswersLocked (verdict_of k.shape.max_pins id (word_of k id.slot)) k id res k'
 
 -- the answer of a reclaim under a lock: held exactly by the copies that are there
 abbrev pub ReclaimsLocked : KeeperState → ℕ → Reclaim → KeeperState → Type 0
 ReclaimsLocked k s Freed k' = (k' ≡ opened_again k s) × ((slot_of k.slots s).generation < k.shape.max_gen)
-    × (tally (sits s) k.held ≡ 0)
+    × (tally (is_of_slot s) k.held ≡ 0)
 ReclaimsLocked k s Retired k' = (k' ≡ opened_again k s) × (k.shape.max_gen ≤ (slot_of k.slots s).generation)
-    × (tally (sits s) k.held ≡ 0)
-ReclaimsLocked k s (Held n) k' = (k' ≡ k) × (0 < n) × (n ≡ tally (sits s) k.held) × (n ≤ k.shape.max_pins)
+    × (tally (is_of_slot s) k.held ≡ 0)
+ReclaimsLocked k s (Held n) k' = (k' ≡ k) × (0 < n) × (n ≡ tally (is_of_slot s) k.held) × (n ≤ k.shape.max_pins)
 
 abbrev pub released : KeeperState → Id → KeeperState
 released k id = with_held k (drop_last (same_id id) k.held)

@@ -11,11 +11,11 @@ use Rattle.pin_core.specs.declared.world.Slot.{Slot}
 use Rattle.pin_core.specs.declared.holders.Hold.{Hold}
 use Rattle.pin_core.specs.declared.event.Event.{Event}
 use Rattle.pin_core.specs.declared.event.Event.TheVariants as event
-use Rattle.pin_core.specs.Words.{encoded, decoded}
+use Rattle.pin_core.specs.Words.{decoded}
 use Rattle.pin_core.specs.Descrs as descr_code
 use Rattle.pin_core.specs.Holds.{tally, hold_of, same_id}
 use Rattle.pin_core.specs.Worlds.{WorldState, opening_of, slot_of, times, given_as}
-use Rattle.pin_core.specs.Events.{Can, after, reclaimed}
+use Rattle.pin_core.specs.Events.{Transition, after, in_phase, reclaimed}
 use Rattle.pin_core.specs.Safety.{IsSafe, StaysGiven}
 use Rattle.pin_words.specs.declared.fault.PinFault.{PinFault}
 use Rattle.pin_words.specs.declared.fault.PinFault.TheVariants as fault
@@ -23,7 +23,7 @@ use Rattle.pin_words.specs.declared.view.Note.{Note}
 use Rattle.pin_words.specs.declared.view.KeeperView.{KeeperView}
 use Rattle.pin_words.specs.declared.view.ReaderView.{ReaderView}
 use Rattle.pin_words.specs.declared.view.View.{View}
-use Rattle.pin_words.specs.Places.{place_of, descr_place}
+use Rattle.pin_words.specs.Places.{place_of, descr_place, pin_word}
 use Rattle.pin_words.specs.Views.{view, id_in, reader_looked, reader_got, reader_released, reader_noted, keeper_looked, keeper_stored, keeper_published, keeper_closed, keeper_reclaimed}
 use Rattle.pin_words.specs.Shown.{Table, IsShown}
 use Rattle.pin_words.specs.Plays.{NoLater, gave, given, spent}
@@ -53,28 +53,24 @@ abbrev pub descr_word : Table → ℕ → ℕ
 descr_word s i = slice_index s.words (descr_place i)
 
 -- the table after the word at the place i became n, and the seat j got the view v
-abbrev pub stepped : Table → ℕ → ℕ → ℕ → View → Table
-stepped s i n j v = record { words = slice_set s.words i n; homes = s.homes; views = slice_set s.views j v }
+abbrev pub after_step : Table → ℕ → ℕ → ℕ → View → Table
+after_step s i n j v = record s { words = slice_set s.words i n; views = slice_set s.views j v }
 
 abbrev pub with_views : Table → List View → Table
-with_views s views = record { words = s.words; homes = s.homes; views = views }
+with_views s views = record s { views = views }
 
--- the step takes the world to its successor by the event: the event is possible, and the table then shows the
--- world after it
+-- the step takes the world to its successor by the event: the event is possible, and the table then shows the world
+-- after it
 pub record StepsBy (k : Shape) (w : WorldState) (e : Event) (s' : Table) : Type 0 where
-  pub can : Can w e (after w e)
+  pub can : Transition w e (after w e)
   pub shown : IsShown k s' (after w e)
 
 -- the word of a closing slot without pins, and the word that it is exchanged for
 abbrev pub closing_word : Slot → ℕ
-closing_word x = encoded record { generation = x.generation; phase = Closing; pins = 0 }
+closing_word x = pin_word (in_phase x Closing)
 
 abbrev pub next_word : ℕ → Slot → ℕ
-next_word max_gen x = encoded record {
-  generation = (reclaimed max_gen x).generation;
-  phase = (reclaimed max_gen x).phase;
-  pins = 0;
-}
+next_word max_gen x = pin_word (reclaimed max_gen x)
 
 -- each note is the descriptor that was published with its Id
 abbrev pub ArePublished : WorldState → List Note → Type 0
@@ -102,7 +98,7 @@ ShowsSafeWorld = (k : Shape) (s : Table) (w : WorldState) → IsShown k s w → 
 abbrev pub LoadSteps : Type 0
 LoadSteps = (k : Shape) (s : Table) (w : WorldState) (j i : ℕ) (v : View) (r : ReaderView) → IsShown k s w
     → ReaderAt s j v r → i < k.slots
-    → StepsBy k w (event.Load r.number i) (stepped s (place_of i) (word s i) j
+    → StepsBy k w (event.Load r.number i) (after_step s (place_of i) (word s i) j
     (with_reader v (reader_looked r i (word s i))))
 
 -- a reader's exchange of a pin word for one with one more pin, where it is the word that was expected; else it is a
@@ -112,27 +108,27 @@ PinSteps = (k : Shape) (s : Table) (w : WorldState) (j i : ℕ) (v : View) (r : 
     → ReaderAt s j v r → i < k.slots
     → (decoded (word s i)).phase ≡ Live → (decoded (word s i)).pins ≢ k.max_pins
     → StepsBy k w (event.Pin r.number i (decoded (word s i)))
-    (stepped s (place_of i) (word s i + 1) j (with_reader v (reader_got r (id_in i (word s i)) (word s i))))
+    (after_step s (place_of i) (word s i + 1) j (with_reader v (reader_got r (id_in i (word s i)) (word s i))))
 
 -- a reader's subtraction of one pin
 abbrev pub ReleaseSteps : Type 0
 ReleaseSteps = (k : Shape) (s : Table) (w : WorldState) (j : ℕ) (v : View) (r : ReaderView) (id : Id) → IsShown k s w
     → ReaderAt s j v r → 0 < tally (same_id id) r.held
-    → StepsBy k w (event.Release r.number id) (stepped s (place_of id.slot) (word s id.slot - 1) j
+    → StepsBy k w (event.Release r.number id) (after_step s (place_of id.slot) (word s id.slot - 1) j
     (with_reader v (reader_released r id)))
 
--- the keeper's or of bit 30
+-- the keeper sets bit 30 of the word by an atomic or: publish
 abbrev pub PublishSteps : Type 0
 PublishSteps = (k : Shape) (s : Table) (w : WorldState) (j i : ℕ) (v : View) (q : KeeperView) → IsShown k s w
     → KeeperAt s j v q → i < k.slots → (slot_of q.slots i).phase ≡ Free
-    → StepsBy k w (event.Publish i) (stepped s (place_of i) (bit_or (word s i) 1073741824) j
+    → StepsBy k w (event.Publish i) (after_step s (place_of i) (bit_or (word s i) 1073741824) j
     (with_keeper v (keeper_published q i)))
 
--- the keeper's or of bit 31
+-- the keeper sets bit 31 of the word by an atomic or: close
 abbrev pub CloseSteps : Type 0
 CloseSteps = (k : Shape) (s : Table) (w : WorldState) (j i : ℕ) (v : View) (q : KeeperView) → IsShown k s w
     → KeeperAt s j v q → i < k.slots → (slot_of q.slots i).phase ≡ Live
-    → StepsBy k w (event.CloseSlot i) (stepped s (place_of i) (bit_or (word s i) 2147483648) j
+    → StepsBy k w (event.CloseSlot i) (after_step s (place_of i) (bit_or (word s i) 2147483648) j
     (with_keeper v (keeper_closed q i)))
 
 -- the keeper's exchange of a closing word without pins
@@ -140,7 +136,7 @@ abbrev pub ReclaimSteps : Type 0
 ReclaimSteps = (k : Shape) (s : Table) (w : WorldState) (j i : ℕ) (v : View) (q : KeeperView) → IsShown k s w
     → KeeperAt s j v q → i < k.slots → (slot_of q.slots i).phase ≡ Closing
     → word s i ≡ closing_word (slot_of q.slots i)
-    → StepsBy k w (event.Reclaim i) (stepped s (place_of i) (next_word k.max_gen (slot_of q.slots i)) j
+    → StepsBy k w (event.Reclaim i) (after_step s (place_of i) (next_word k.max_gen (slot_of q.slots i)) j
     (with_keeper v (keeper_reclaimed q i (word s i))))
 
 -- that exchange where it fails: there are pins, and it is a load. The keeper stands in the place of a reader, of
@@ -150,13 +146,13 @@ FailedReclaimSteps = (k : Shape) (s : Table) (w : WorldState) (j i n : ℕ) (v :
     → KeeperAt s j v q → i < k.slots → (slot_of q.slots i).phase ≡ Closing
     → word s i ≢ closing_word (slot_of q.slots i)
     → (0 < (decoded (word s i)).pins) × StepsBy k w (event.Load n i)
-    (stepped s (place_of i) (word s i) j (with_keeper v (keeper_looked q i (word s i))))
+    (after_step s (place_of i) (word s i) j (with_keeper v (keeper_looked q i (word s i))))
 
 -- the keeper's store of a descriptor word
 abbrev pub StoreSteps : Type 0
 StoreSteps = (k : Shape) (s : Table) (w : WorldState) (j i : ℕ) (v : View) (q : KeeperView) (d : Descr) → IsShown k s w
     → KeeperAt s j v q → i < k.slots → (slot_of q.slots i).phase ≡ Free → descr_code.IsGiven d
-    → StepsBy k w (event.StoreDescr i d) (stepped s (descr_place i) (descr_code.encoded d) j
+    → StepsBy k w (event.StoreDescr i d) (after_step s (descr_place i) (descr_code.encoded d) j
     (with_keeper v (keeper_stored q i d)))
 
 -- a reader's load of the descriptor word of a slot that it holds
@@ -164,11 +160,11 @@ abbrev pub ReadSteps : Type 0
 ReadSteps = (k : Shape) (s : Table) (w : WorldState) (j : ℕ) (v : View) (r : ReaderView) (id : Id) (d : Descr)
     → IsShown k s w → ReaderAt s j v r → 0 < tally (same_id id) r.held
     → descr_code.decoded (descr_word s id.slot) ≡ Some d
-    → StepsBy k w (event.ReadDescr r.number id d) (stepped s (descr_place id.slot) (descr_word s id.slot) j
+    → StepsBy k w (event.ReadDescr r.number id d) (after_step s (descr_place id.slot) (descr_word s id.slot) j
     (with_reader v (reader_noted r id d)))
 
--- the keeper's seat gives a reader's; a seat gives one that knows nothing; the keeper's and a reader's are joined,
--- and parted again: the world stays
+-- the keeper makes a reader's seat from its own; a seat makes one that knows nothing; the keeper's and a reader's are
+-- joined, and parted again: the world stays
 abbrev pub GivesReader : Type 0
 GivesReader = (k : Shape) (s : Table) (w : WorldState) (j : ℕ) (v : View) (q : KeeperView) → IsShown k s w
     → KeeperAt s j v q
@@ -200,8 +196,8 @@ NotesArePublished = (k : Shape) (s : Table) (w : WorldState) (j : ℕ) (v : View
     → ReaderAt s j v r → ArePublished w r.notes
 
 -- a try that lost its exchange found two words, of which the second, which it shows, is no earlier than the first
-abbrev pub LostIsOnward : Type 0
-LostIsOnward = (r r' : ReaderView) (id : Id) (seen : Word) → Tries r id (Err (fault.Busy seen)) r'
+abbrev pub LostSeesNoEarlier : Type 0
+LostSeesNoEarlier = (r r' : ReaderView) (id : Id) (seen : Word) → Tries r id (Err (fault.Busy seen)) r'
     → (n : ℕ) × (m : ℕ) × (r' ≡ reader_looked (reader_looked r id.slot n) id.slot m) × (seen ≡ decoded m) × NoLater n m
 
 -- a try to pin an Id that an earlier look found stale is refused as stale, or since 16 copies are held

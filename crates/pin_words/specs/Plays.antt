@@ -1,5 +1,6 @@
 -- What each atomic step tells the seat that makes it.
-use Rattle.std.specs.Prelude.{◌≡◌, ◌≢◌, ℕ, ◌<◌, ◌≤◌, true, List, [], ◌∷◌, Option, Some, None}
+use Rattle.std.specs.Prelude.{◌≡◌, ◌≢◌, ℕ, ◌<◌, ◌≤◌, true, List, [], ◌∷◌, Option, Some, None, IfSome, option_map}
+use Rattle.std.specs.Option.{option_or}
 use Rattle.atomic_table.specs.Table.{Step}
 use Rattle.pin_core.specs.declared.id.Id.{Id}
 use Rattle.pin_core.specs.declared.descr.Descr.{Descr}
@@ -16,7 +17,7 @@ use Rattle.pin_words.specs.declared.view.Note.{Note}
 use Rattle.pin_words.specs.declared.view.KeeperView.{KeeperView}
 use Rattle.pin_words.specs.declared.view.ReaderView.{ReaderView}
 use Rattle.pin_words.specs.declared.view.View.{View}
-use Rattle.pin_words.specs.Views.{M, Of, on, view, sits, id_of, id_in, reader_looked, reader_got, reader_released, reader_noted, reader_given, keeper_looked, keeper_stored, keeper_published, keeper_closed, keeper_reclaimed, keeper_gave}
+use Rattle.pin_words.specs.Views.{M, view, is_of_slot, id_of, id_in, reader_looked, reader_got, reader_released, reader_noted, reader_given, keeper_looked, keeper_stored, keeper_published, keeper_closed, keeper_reclaimed, keeper_gave}
 use Rattle.pin_words.specs.Places.{AtSlot, descr_place}
 use Rattle.pin_words.specs.Shown.{word_age}
 
@@ -31,15 +32,15 @@ Behind (l ∷ ls) s n = (l.slot ≡ s → NoLater l.word n) × Behind ls s n
 
 -- what the word n of the slot s tells a reader: it has at least its own pins, what it holds there is of this
 -- generation, and live or closing, and no earlier look is ahead of it
-pub record Tells (r : ReaderView) (s n : ℕ) : Type 0 where
-  pub pins : tally (sits s) r.held ≤ (decoded n).pins
+pub record TellsReader (r : ReaderView) (s n : ℕ) : Type 0 where
+  pub pins : tally (is_of_slot s) r.held ≤ (decoded n).pins
   pub room : (decoded n).pins ≤ r.shape.max_pins
   pub held : (id : Id) → 0 < tally (same_id id) r.held → id.slot ≡ s
       → ((decoded n).generation ≡ id.generation) × (may_be_held (decoded n).phase ≡ true)
   pub looks : Behind r.looks s n
 
 -- what the word n of the slot s tells the keeper: it is the word of that slot, with no more pins than there may be
-pub record TellsSlot (shape : Shape) (slots : List Slot) (s n : ℕ) : Type 0 where
+pub record TellsKeeper (shape : Shape) (slots : List Slot) (s n : ℕ) : Type 0 where
   pub generation : (decoded n).generation ≡ (slot_of slots s).generation
   pub phase : (decoded n).phase ≡ (slot_of slots s).phase
   pub room : (decoded n).pins ≤ shape.max_pins
@@ -54,9 +55,9 @@ abbrev pub Show : Id → Descr → List Note → Type 0
 Show id d [] = Unit {0}
 Show id d (x ∷ xs) = (x.id ≡ id → x.descr ≡ d) × Show id d xs
 
--- what the word n of the slot s tells a reader that meets the keeper: it is the keeper's slot; what the reader
--- holds there is the slot's present Id, live or closing, which is published with the slot's descriptor; and notes
--- are of what was published
+-- what the word n of the slot s tells a reader that meets the keeper: it is the keeper's slot; what the reader holds
+-- there is the slot's present Id, live or closing, which is published with the slot's descriptor; and notes are of what
+-- was published
 pub record Meets (k : KeeperView) (r : ReaderView) (s n : ℕ) : Type 0 where
   pub generation : (decoded n).generation ≡ (slot_of k.slots s).generation
   pub phase : (decoded n).phase ≡ (slot_of k.slots s).phase
@@ -76,17 +77,17 @@ abbrev St : Type 0
 St = Step (Unit {0})
 
 abbrev pub looked_view : View → ℕ → ℕ → View
-looked_view v s n = view v.keeper (on (λ r. reader_looked r s n) v.reader)
+looked_view v s n = view v.keeper (option_map (λ r. reader_looked r s n) v.reader)
 
 abbrev pub got_view : View → ℕ → ℕ → View
-got_view v s n = view v.keeper (on (λ r. reader_got r (id_in s n) n) v.reader)
+got_view v s n = view v.keeper (option_map (λ r. reader_got r (id_in s n) n) v.reader)
 
 abbrev pub released_view : View → ℕ → ℕ → View
-released_view v s n = view v.keeper (on (λ r. reader_released r (id_in s n)) v.reader)
+released_view v s n = view v.keeper (option_map (λ r. reader_released r (id_in s n)) v.reader)
 
 -- a load of the word of the slot s
 abbrev pub LookedAt : M → ℕ → M → ℕ → Type 0
-LookedAt m n m' s = (m' ≡ (looked_view m.0 s n, m.1)) × Of m.0.reader (λ r. Tells r s n)
+LookedAt m n m' s = (m' ≡ (looked_view m.0 s n, m.1)) × IfSome m.0.reader (λ r. TellsReader r s n)
     × MeetsBoth m.0.keeper m.0.reader s n
 
 abbrev pub looked : St → M → ℕ → M → Type 0
@@ -95,14 +96,14 @@ looked st m n m' = AtSlot st.word (LookedAt m n m')
 -- an exchange of a slot's word for one with one more pin
 abbrev pub PinnedAt : ℕ → M → ℕ → M → ℕ → Type 0
 PinnedAt first m n m' s = (n ≡ first → m' ≡ (got_view m.0 s n, m.1)) × (n ≢ first → m' ≡ (looked_view m.0 s n, m.1))
-    × Of m.0.reader (λ r. Tells r s n)
+    × IfSome m.0.reader (λ r. TellsReader r s n)
 
 abbrev pub pinned : St → M → ℕ → M → Type 0
 pinned st m n m' = AtSlot st.word (PinnedAt st.first m n m')
 
 -- a subtraction of one pin
 abbrev pub ReleasedAt : M → ℕ → M → ℕ → Type 0
-ReleasedAt m n m' s = (m' ≡ (released_view m.0 s n, m.1)) × Of m.0.reader (λ r. Tells r s n)
+ReleasedAt m n m' s = (m' ≡ (released_view m.0 s n, m.1)) × IfSome m.0.reader (λ r. TellsReader r s n)
 
 abbrev pub released : St → M → ℕ → M → Type 0
 released st m n m' = AtSlot st.word (ReleasedAt m n m')
@@ -113,19 +114,17 @@ noted st m n m' = (r : ReaderView) (id : Id) → m.0.reader ≡ Some r → 0 < t
     → st.word ≡ descr_place id.slot
     → (d : Descr) × (descr_code.decoded n ≡ Some d) × (m' ≡ (view m.0.keeper (Some (reader_noted r id d)), m.1))
 
--- bit 30 is set: live
-abbrev pub PublishedAt : M → M → ℕ → Type 0
-PublishedAt m m' s = m' ≡ (view (on (λ k. keeper_published k s) m.0.keeper) m.0.reader, m.1)
+-- the keeper changes what it knows of the slot s
+abbrev pub KeptAs : (KeeperView → ℕ → KeeperView) → M → M → ℕ → Type 0
+KeptAs f m m' s = m' ≡ (view (option_map (λ k. f k s) m.0.keeper) m.0.reader, m.1)
 
+-- bit 30 is set: live
 abbrev pub published : St → M → ℕ → M → Type 0
-published st m n m' = AtSlot st.word (PublishedAt m m')
+published st m n m' = AtSlot st.word (KeptAs keeper_published m m')
 
 -- bit 31 is set: closing
-abbrev pub ClosedAt : M → M → ℕ → Type 0
-ClosedAt m m' s = m' ≡ (view (on (λ k. keeper_closed k s) m.0.keeper) m.0.reader, m.1)
-
 abbrev pub closed : St → M → ℕ → M → Type 0
-closed st m n m' = AtSlot st.word (ClosedAt m m')
+closed st m n m' = AtSlot st.word (KeptAs keeper_closed m m')
 
 -- a store of a descriptor word
 abbrev pub stored : St → M → ℕ → M → Type 0
@@ -135,16 +134,16 @@ stored st m n m' = (k : KeeperView) (s : ℕ) (d : Descr) → m.0.keeper ≡ Som
 
 -- an exchange of the word of a closing slot without pins for the next
 abbrev pub ReclaimedAt : ℕ → M → ℕ → M → ℕ → Type 0
-ReclaimedAt first m n m' s = (n ≡ first → m' ≡ (view (on (λ k. keeper_reclaimed k s n) m.0.keeper) m.0.reader, m.1))
-    × (n ≢ first → (m' ≡ (view (on (λ k. keeper_looked k s n) m.0.keeper) m.0.reader, m.1)) × (0 < (decoded n).pins))
-    × Of m.0.keeper (λ k. TellsSlot k.shape k.slots s n)
+ReclaimedAt first m n m' s = (n ≡ first → KeptAs (λ k s. keeper_reclaimed k s n) m m' s)
+    × (n ≢ first → KeptAs (λ k s. keeper_looked k s n) m m' s × (0 < (decoded n).pins))
+    × IfSome m.0.keeper (λ k. TellsKeeper k.shape k.slots s n)
 
 abbrev pub reclaiming : St → M → ℕ → M → Type 0
 reclaiming st m n m' = AtSlot st.word (ReclaimedAt st.first m n m')
 
--- the keeper's seat gives a reader of the next number
+-- the keeper makes the seat of a reader of the next number from its own
 abbrev pub gave : View → View
-gave v = view (on keeper_gave v.keeper) v.reader
+gave v = view (option_map keeper_gave v.keeper) v.reader
 
 abbrev pub reader_from : Option KeeperView → Option ReaderView
 reader_from (Some k) = Some (reader_given k)
@@ -156,13 +155,9 @@ given v = view None (reader_from v.keeper)
 abbrev pub spent : View
 spent = view None None
 
-abbrev pub or_else : {A : Type 0} → Option A → Option A → Option A
-or_else (Some x) y = Some x
-or_else None y = y
-
 -- two seats in one, and one in its two parts
 abbrev pub joined : View → View → View
-joined v w = view (or_else v.keeper w.keeper) (or_else v.reader w.reader)
+joined v w = view (option_or v.keeper w.keeper) (option_or v.reader w.reader)
 
 abbrev pub keeper_part : View → View
 keeper_part v = view v.keeper None

@@ -7,8 +7,7 @@ use Rattle.pin_words.specs.declared.view.KeeperView.{KeeperView}
 use Rattle.pin_words.specs.declared.view.ReaderView.{ReaderView}
 
 -- which words a seat is of: the identity that the base crate gives them, with the shape, so that a reader and a keeper
--- of one table
--- have one shape
+-- of one table have one shape
 pub record TableState : Type 0 where
   pub id : TableId
   pub shape : Shape

@@ -1,5 +1,5 @@
 -- The rule of the table: what the seats know makes a world, and the words are those of that world.
-use Rattle.std.specs.Prelude.{◌≡◌, ◌⊎◌, ℕ, ◌+◌, ◌*◌, ◌<◌, ◌≤◌, List, [], ◌∷◌, length, slice_index, Some}
+use Rattle.std.specs.Prelude.{◌≡◌, ◌⊎◌, ℕ, ◌+◌, ◌*◌, ◌<◌, ◌≤◌, List, [], ◌∷◌, length, slice_index, Some, IfSome}
 use mathlib.Core.Option.{some}
 use lib.ListN.{get_elem?}
 use Rattle.atomic_table.specs.Table.{State}
@@ -18,7 +18,6 @@ use Rattle.pin_words.specs.declared.view.KeeperView.{KeeperView}
 use Rattle.pin_words.specs.declared.view.ReaderView.{ReaderView}
 use Rattle.pin_words.specs.declared.view.View.{View}
 use Rattle.pin_words.specs.Places.{words_a_slot, place_of, descr_place}
-use Rattle.pin_words.specs.Views.{Of}
 
 -- the generation and phase of a word, in one number that never falls
 abbrev pub word_age : ℕ → ℕ
@@ -61,7 +60,8 @@ pub record OfReader (w : WorldState) (next : ℕ) (owner : ℕ → ℕ) (seat : 
   pub looks : NotAhead w r.looks
 
 abbrev pub Agrees : WorldState → ℕ → ℕ → (ℕ → ℕ) → ℕ → View → Type 0
-Agrees w keeper next owner seat v = Of v.keeper (OfKeeper w keeper next seat) × Of v.reader (OfReader w next owner seat)
+Agrees w keeper next owner seat v = IfSome v.keeper (OfKeeper w keeper next seat)
+    × IfSome v.reader (OfReader w next owner seat)
 
 -- the seat j has the keeper's part; the seat j has the part of the reader r
 abbrev pub HasKeeper : List View → ℕ → Type 0
@@ -74,12 +74,9 @@ abbrev pub Table : Type 0
 Table = State (Unit {0}) View
 
 -- each slot has a line of words, of which the first tells the slot and the second its descriptor. The world is safe,
--- and each seat agrees with it;
--- one seat has the keeper's part, and every reader that holds something has a seat of its own. For whoever knows hazard
--- pointers: the
--- pins in a word are the number of hazard pointers to its slot, published by the very exchange that checks the
--- generation, and this
--- says that the number and the holders never part
+-- and each seat agrees with it; one seat has the keeper's part, and every reader that holds something has a seat of its
+-- own. For whoever knows hazard pointers: the pins in a word are the number of hazard pointers to its slot, published
+-- by the very exchange that checks the generation, and this says that the number and the holders never part
 pub record IsShown (k : Shape) (s : Table) (world : WorldState) : Type 0 where
   pub fits : IsWithinLimits k
   pub shape : world.shape ≡ k

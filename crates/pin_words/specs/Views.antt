@@ -1,5 +1,5 @@
 -- What the seats at the table know, and how each step changes it.
-use Rattle.std.specs.Prelude.{◌≡◌, ℕ, ◌+◌, ◌==◌, nat_lt, Bool, if◌then◌else◌, List, [], ◌∷◌, ◌++◌, replicate, slice_set, Option, Some, None}
+use Rattle.std.specs.Prelude.{◌≡◌, ℕ, ◌+◌, ◌==◌, nat_lt, Bool, if◌then◌else◌, List, [], ◌∷◌, ◌++◌, replicate, slice_set, Option, Some, None, unwrap_or}
 use Rattle.atomic_table.specs.Table.{Me}
 use Rattle.pin_core.specs.declared.id.Id.{Id}
 use Rattle.pin_core.specs.declared.descr.Descr.{Descr}
@@ -17,15 +17,6 @@ use Rattle.pin_words.specs.declared.view.KeeperView.{KeeperView}
 use Rattle.pin_words.specs.declared.view.ReaderView.{ReaderView}
 use Rattle.pin_words.specs.declared.view.View.{View}
 
--- P holds of the part, where there is one
-abbrev pub Of : {A : Type 0} → Option A → (A → Type 0) → Type 0
-Of None P = Unit {0}
-Of (Some x) P = P x
-
-abbrev pub on : {A : Type 0} → (A → A) → Option A → Option A
-on f None = None
-on f (Some x) = Some (f x)
-
 abbrev pub view : Option KeeperView → Option ReaderView → View
 view k r = record { keeper = k; reader = r }
 
@@ -35,8 +26,8 @@ look s n = record { slot = s; word = n }
 abbrev pub note : Id → Descr → Note
 note id d = record { id = id; descr = d }
 
-abbrev pub sits : ℕ → Id → Bool
-sits s x = x.slot == s
+abbrev pub is_of_slot : ℕ → Id → Bool
+is_of_slot s x = x.slot == s
 
 abbrev pub id_of : List Slot → ℕ → Id
 id_of slots s = record { slot = s; generation = (slot_of slots s).generation }
@@ -51,16 +42,10 @@ notes_of held [] = []
 notes_of held (x ∷ xs) = if nat_lt 0 (tally (same_id x.id) held) then (x ∷ notes_of held xs) else notes_of held xs
 
 abbrev pub reader_with : ReaderView → List Id → List Note → List Look → ReaderView
-reader_with r held notes looks = record {
-  shape = r.shape;
-  number = r.number;
-  held = held;
-  notes = notes;
-  looks = looks;
-}
+reader_with r held notes looks = record r { held = held; notes = notes; looks = looks }
 
 abbrev pub reader_looked : ReaderView → ℕ → ℕ → ReaderView
-reader_looked r s n = reader_with r r.held r.notes (look s n ∷ r.looks)
+reader_looked r s n = record r { looks = look s n ∷ r.looks }
 
 -- a look, and a copy of the Id
 abbrev pub reader_got : ReaderView → Id → ℕ → ReaderView
@@ -72,19 +57,13 @@ reader_released r id = reader_with r (drop_last (same_id id) r.held)
     (notes_of (drop_last (same_id id) r.held) r.notes) r.looks
 
 abbrev pub reader_noted : ReaderView → Id → Descr → ReaderView
-reader_noted r id d = reader_with r r.held (note id d ∷ r.notes) r.looks
+reader_noted r id d = record r { notes = note id d ∷ r.notes }
 
 abbrev pub keeper_with : KeeperView → List Slot → List (Id × Descr) → List Look → KeeperView
-keeper_with k slots published looks = record {
-  shape = k.shape;
-  slots = slots;
-  published = published;
-  next = k.next;
-  looks = looks;
-}
+keeper_with k slots published looks = record k { slots = slots; published = published; looks = looks }
 
 abbrev pub keeper_looked : KeeperView → ℕ → ℕ → KeeperView
-keeper_looked k s n = keeper_with k k.slots k.published (look s n ∷ k.looks)
+keeper_looked k s n = record k { looks = look s n ∷ k.looks }
 
 abbrev pub keeper_stored : KeeperView → ℕ → Descr → KeeperView
 keeper_stored k s d = keeper_with k (slice_set k.slots s (with_descr (slot_of k.slots s) d)) k.published k.looks
@@ -102,7 +81,7 @@ keeper_reclaimed k s n = keeper_with k (slice_set k.slots s (reclaimed k.shape.m
 
 -- one reader more was given
 abbrev pub keeper_gave : KeeperView → KeeperView
-keeper_gave k = record { shape = k.shape; slots = k.slots; published = k.published; next = k.next + 1; looks = k.looks }
+keeper_gave k = record k { next = k.next + 1 }
 
 -- a reader of the next number, which holds nothing
 abbrev pub reader_given : KeeperView → ReaderView
@@ -121,10 +100,6 @@ view_with_slots k slots = view (Some (keeper_with_slots k slots)) None
 abbrev pub M : Type 0
 M = Me (Unit {0}) View
 
-abbrev pub unwrap : {A : Type 0} → A → Option A → A
-unwrap d None = d
-unwrap d (Some x) = x
-
 abbrev pub no_shape : Shape
 no_shape = record { slots = 0; max_pins = 0; max_gen = 0 }
 
@@ -132,10 +107,10 @@ abbrev pub no_reader : ReaderView
 no_reader = record { shape = no_shape; number = 0; held = []; notes = []; looks = [] }
 
 abbrev pub reader_of : View → ReaderView
-reader_of v = unwrap no_reader v.reader
+reader_of v = unwrap_or v.reader no_reader
 
 abbrev pub keeper_of : View → KeeperView
-keeper_of v = unwrap (opening_keeper no_shape) v.keeper
+keeper_of v = unwrap_or v.keeper (opening_keeper no_shape)
 
 -- the seat is a reader's, or the keeper's
 abbrev pub IsReaders : M → Type 0

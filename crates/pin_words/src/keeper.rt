@@ -29,13 +29,13 @@ pub struct Keeper {
     slots: Vec<Slot>,
     ghost keyed: { (arc_value words).shared.key.shape ≡ shape },
     ghost wide: { (arc_value words).shared.table_id.words ≡ shape.slots * words_a_slot },
-    ghost some: { 1 ≤ shape.slots },
+    ghost above_zero: { 1 ≤ shape.slots },
     ghost seated: { seat.table_id ≡ (arc_value words).shared.table_id },
     ghost keeps: { IsKeepers seat.me },
     ghost spares: { spare.views ≡ spent ∷ [] },
     ghost shaped: { (keeper_of seat.me.0).shape ≡ shape },
     ghost knows: { (keeper_of seat.me.0).slots ≡ slots.items },
-    ghost long: { length slots.items ≡ shape.slots },
+    ghost length_is: { length slots.items ≡ shape.slots },
 }
 
 impl Model for Keeper {
@@ -65,7 +65,7 @@ impl Keeper {
     ghost use Rattle.pin_words.specs.Views.{IsKeepers, id_of, keeper_of, keeper_stored, keeper_published};
     ghost use Rattle.pin_words.specs.Views.{keeper_closed, keeper_gave, reader_given};
     ghost use Rattle.pin_words.specs.Plays.{Show};
-    ghost use Rattle.pin_words.specs.Tries.{Reclaims, Met};
+    ghost use Rattle.pin_words.specs.Tries.{ReclaimsByLook, Met};
 
     pub(crate) fn of_parts(
         words: Arc<Words, Global>,
@@ -75,12 +75,12 @@ impl Keeper {
     ) -> Keeper
         requires keyed { (arc_value words).shared.key.shape ≡ shape }
         requires wide { (arc_value words).shared.table_id.words ≡ shape.slots * words_a_slot }
-        requires some { 1 ≤ shape.slots }
+        requires above_zero { 1 ≤ shape.slots }
         requires seated { seat.table_id ≡ (arc_value words).shared.table_id }
         requires keeps { IsKeepers seat.me }
         requires shaped { (keeper_of seat.me.0).shape ≡ shape }
         requires knows { (keeper_of seat.me.0).slots ≡ slots.items }
-        requires long { length slots.items ≡ shape.slots }
+        requires length_is { length slots.items ≡ shape.slots }
         ensures { result ≡ record { table = record { id = seat.table_id; shape = shape }; view = keeper_of seat.me.0 } }
     {
         let spare = words.shared.split_seat::<Blank>(&mut seat).into_badge();
@@ -127,7 +127,7 @@ impl Keeper {
         self.slots[slot as usize].generation
     }
 
-    /// Stores the descriptor of a free slot: one store.
+    /// Stores the descriptor of a free slot, by one store.
     pub fn store_descr(&mut self, slot: u32, descr: Descr)
         requires slot { slot < self.old.view.shape.slots }
         requires free { (slot_of self.old.view.slots slot).phase ≡ Free }
@@ -142,7 +142,7 @@ impl Keeper {
         self.slots[slot as usize] = Slot { descr, ..was };
     }
 
-    /// Publishes a free slot with its descriptor, so that it is live: one or.
+    /// Publishes a free slot with its descriptor, so that it is live, by one atomic or.
     pub fn publish(&mut self, slot: u32)
         requires slot { slot < self.old.view.shape.slots }
         requires free { (slot_of self.old.view.slots slot).phase ≡ Free }
@@ -159,7 +159,7 @@ impl Keeper {
         };
     }
 
-    /// Gives a live slot up, so that it is closing: one or, which leaves the pins.
+    /// Gives a live slot up, so that it is closing, by one atomic or, which leaves the pins.
     pub fn close_slot(&mut self, slot: u32)
         requires slot { slot < self.old.view.shape.slots }
         requires live { (slot_of self.old.view.slots slot).phase ≡ Live }
@@ -176,12 +176,12 @@ impl Keeper {
         };
     }
 
-    /// Takes a closing slot back by one exchange, which is also a look: [`Reclaim::Held`] with the number of
-    /// pins exactly where the word that it found has some.
+    /// Takes a closing slot back by one exchange, which is also a look: [`Reclaim::Held`] with the number of pins
+    /// exactly where the word that it found has some.
     pub fn reclaim(&mut self, slot: u32) -> Reclaim
         requires slot { slot < self.old.view.shape.slots }
         requires closing { (slot_of self.old.view.slots slot).phase ≡ Closing }
-        ensures reclaims { Reclaims self.old.view slot result self.new.view }
+        ensures reclaims { ReclaimsByLook self.old.view slot result self.new.view }
         ensures table { self.new.table ≡ self.old.table }
     {
         let was = self.slots[slot as usize];
@@ -214,9 +214,9 @@ impl Keeper {
         }
     }
 
-    /// One look at the slot for a reader of the same pins, whose seat is joined to the keeper's meanwhile: what
-    /// the reader holds there is the keeper's present slot, and the notes are of what was published. Beside the
-    /// look there are two more loads, by which the seats are joined and parted.
+    /// One look at the slot for a reader of the same pins, whose seat is joined to the keeper's meanwhile: what the
+    /// reader holds there is the keeper's present slot, and the notes are of what was published. Beside the look there
+    /// are two more loads, by which the seats are joined and parted.
     pub fn meet(&mut self, reader: &mut Reader, slot: u32)
         requires slot { slot < self.old.view.shape.slots }
         requires same { reader.old.table ≡ self.old.table }
@@ -255,7 +255,7 @@ impl Keeper {
         Some(self.give(words))
     }
 
-    /// So many readers in all, of which the first is there; the others are of the next numbers.
+    /// `count` readers, or one where that is 0: `first`, and new ones of the next numbers.
     ///
     /// [`Fault::Memory`] (8) where memory ran out or 2^63 readers are; then the first is gone too.
     pub fn readers(
@@ -267,7 +267,9 @@ impl Keeper {
         requires same { first.table ≡ self.old.table }
         requires free { first.view.held ≡ [] }
         ensures count { IfOk result (λ readers. 1 ≤ count → vec_len readers ≡ count) }
-        ensures each { IfOk result (λ readers. All (λ r. (r.table ≡ self.old.table) × (r.view.held ≡ [])) readers.items) }
+        ensures one { IfOk result (λ readers. count ≡ 0 → vec_len readers ≡ 1) }
+        ensures each { IfOk result (λ readers. All (λ r. (r.table ≡ self.old.table) × (r.view.held ≡ []))
+            readers.items) }
         ensures memory { IfErr result (λ fault. fault ≡ Memory) }
         ensures slots { self.new.view.slots ≡ self.old.view.slots }
         ensures published { self.new.view.published ≡ self.old.view.published }
@@ -277,6 +279,7 @@ impl Keeper {
         let mut readers = Vec::new(alloc);
         readers.push(first)?;
         for number in 1..count {
+            // It names the place in the loop, of which the invariant speaks.
             let _number = number;
             let Some(reader) = self.reader() else {
                 return Err(Fault::Memory);

@@ -3,7 +3,7 @@ ghost use Rattle.pin_core.specs.declared.id.Id.{Id};
 ghost use Rattle.pin_core.specs.Shapes.{IsWithinLimits};
 ghost use Rattle.pin_core.specs.Holds.{tally, same_id};
 ghost use Rattle.pin_core.specs.Opened.{shown_from};
-ghost use Rattle.pin_words.specs.Views.{sits};
+ghost use Rattle.pin_words.specs.Views.{is_of_slot};
 
 use crate::fault::{PinFault, Verdict, judge};
 use crate::pin_keeper::{PinKeeper, Reclaim};
@@ -23,8 +23,8 @@ pub struct LockedPins {
     published: Published,
     held: ArrayVec<Id, 16>,
     ghost within: { IsWithinLimits shape },
-    ghost long: { length slots.items ≡ shape.slots },
-    ghost room: { (s : ℕ) → tally (sits s) held.items ≤ shape.max_pins },
+    ghost length_is: { length slots.items ≡ shape.slots },
+    ghost room: { (s : ℕ) → tally (is_of_slot s) held.items ≤ shape.max_pins },
     ghost inside: { (x : Id) → 0 < tally (same_id x) held.items → x.slot < shape.slots },
 }
 
@@ -37,7 +37,7 @@ impl Model for LockedPins {
 }
 
 fn pins_at(held: &[Id], slot: u32) -> usize
-    ensures { result ≡ count_by (sits slot) held.now }
+    ensures { result ≡ count_by (is_of_slot slot) held.now }
 {
     held.iter().filter(|h| h.slot == slot).count()
 }
@@ -80,12 +80,12 @@ impl LockedPins {
     ghost use Rattle.pin_core.specs.Holds.{tally, same_id};
     ghost use Rattle.pin_core.specs.Opened.{shown_from};
     ghost use Rattle.pin_core.specs.Worlds.{opening_slot, slot_of};
-    ghost use Rattle.pin_words.specs.Views.{sits};
+    ghost use Rattle.pin_words.specs.Views.{is_of_slot};
     ghost use Rattle.pin_words.specs.Keepers.{locked, with_slots, with_published, with_held, word_of, stored};
-    ghost use Rattle.pin_words.specs.Keepers.{published, closed, released, Tries, ReclaimsLocked};
+    ghost use Rattle.pin_words.specs.Keepers.{published, closed, released, TriesLocked, ReclaimsLocked};
 
-    /// New pins: each slot is free at generation 1 with the descriptor of an event that is reset by itself, and
-    /// nothing is held. [`Fault::Memory`] (8) where memory ran out.
+    /// New pins: each slot is free at generation 1 with the descriptor of an event that is reset by itself, and nothing
+    /// is held. [`Fault::Memory`] (8) where memory ran out.
     pub fn new(alloc: Global, shape: Shape) -> Result<LockedPins, Fault>
         requires { IsWithinLimits shape }
         ensures ok { IfOk result (λ p. p ≡ locked shape (replicate shape.slots opening_slot) [] []) }
@@ -106,7 +106,7 @@ impl LockedPins {
     /// descriptor.
     pub fn with_slots(shape: Shape, slots: Vec<Slot>) -> LockedPins
         requires within { IsWithinLimits shape }
-        requires long { length slots.items ≡ shape.slots }
+        requires length_is { length slots.items ≡ shape.slots }
         ensures { result ≡ locked shape slots.items (shown_from 0 slots.items) [] }
     {
         let published = shown(slots.as_slice());
@@ -151,7 +151,7 @@ impl LockedPins {
     /// Pins the slot of an Id once more, by the slot as it is. It is refused as a reader is, and never with
     /// [`PinFault::Busy`].
     pub fn try_pin(&mut self, id: Id) -> Result<(), PinFault>
-        ensures tries { Tries self.old id result self.new }
+        ensures tries { TriesLocked self.old id result self.new }
         ensures rest { self.new ≡ with_held self.old self.new.held }
         ensures held { OnOk result (0 < tally (same_id id) self.new.held) }
     {
@@ -277,7 +277,7 @@ impl LockedPins {
         self.slots[slot as usize] = to;
     }
 
-    // What was published has one Id more, which costs nothing at run time.
+    // Enters an Id as published; in proofs alone.
     #[inline(always)]
     fn list(&mut self, id: &Id, descr: &Descr)
         ensures { self.new ≡ with_published self.old (self.old.published ++ (id.now, descr.now) ∷ []) }
@@ -294,7 +294,7 @@ impl LockedPins {
 
     // The copies that are held of the slot.
     fn pins(&self, slot: u32) -> u32
-        ensures count { result ≡ tally (sits slot) self.now.held }
+        ensures count { result ≡ tally (is_of_slot slot) self.now.held }
         ensures room { result ≤ self.now.shape.max_pins }
     {
         let pins = pins_at(self.held.as_slice(), slot);
@@ -306,7 +306,7 @@ impl LockedPins {
     fn word(&self, slot: u32) -> Word
         requires { slot < self.now.shape.slots }
         ensures word { result ≡ word_of self.now slot }
-        ensures room { tally (sits slot) self.now.held ≤ self.now.shape.max_pins }
+        ensures room { tally (is_of_slot slot) self.now.held ≤ self.now.shape.max_pins }
     {
         let was = self.slot(slot);
         Word {
@@ -318,7 +318,7 @@ impl LockedPins {
 
     fn take(&mut self, id: Id)
         requires slot { id.slot < self.old.shape.slots }
-        requires few { tally (sits id.slot) self.old.held < self.old.shape.max_pins }
+        requires at_most { tally (is_of_slot id.slot) self.old.held < self.old.shape.max_pins }
         requires room { length self.old.held < 16 }
         ensures { self.new ≡ with_held self.old (self.old.held ++ id ∷ []) }
     {

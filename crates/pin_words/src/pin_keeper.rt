@@ -23,9 +23,9 @@ pub enum Reclaim {
 
 /// Who gives slots out and takes them back. Its calls take no memory and never wait.
 ///
-/// To every caller a keeper is what `kept` says of it. Whether a reclaim answers held hangs on what the keeper
-/// counts, which a generic caller can't see. `reclaims` is what this kind of keeper answers exactly, so a caller
-/// whose contract names it can only pass the keeper's answer on.
+/// To every caller a keeper is what `kept` says of it. Whether a reclaim answers held hangs on what the keeper counts,
+/// which a generic caller can't see. `reclaims` is what this kind of keeper answers exactly, so a caller whose contract
+/// names it can only pass the keeper's answer on.
 pub trait PinKeeper {
     ghost kept: { Self → KeeperState };
 

@@ -26,7 +26,7 @@ pub struct Pins {
     shape: Shape,
     ghost keyed: { (arc_value words).shared.key.shape ≡ shape },
     ghost wide: { (arc_value words).shared.table_id.words ≡ shape.slots * words_a_slot },
-    ghost some: { 1 ≤ shape.slots },
+    ghost above_zero: { 1 ≤ shape.slots },
 }
 
 impl Model for Pins {
@@ -44,7 +44,7 @@ pub struct Reopening {
     seat: Seat<(), View>,
     ground: Ground,
     ghost opens: { seat.me ≡ (view_with_slots ground.shape ground.slots.items, []) },
-    ghost long: { length ground.slots.items ≡ ground.shape.slots },
+    ghost length_is: { length ground.slots.items ≡ ground.shape.slots },
 }
 
 impl Model for Reopening {

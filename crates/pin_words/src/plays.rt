@@ -63,7 +63,7 @@ impl Play<(), View> for Reclaiming {
     ghost then = { reclaiming };
 }
 
-// The keeper's seat gives a reader.
+// The keeper makes a reader's seat from its own.
 pub(crate) struct Gives;
 
 impl Split<View> for Gives {
@@ -72,7 +72,7 @@ impl Split<View> for Gives {
     ghost right = { given };
 }
 
-// A seat gives one that knows nothing.
+// A seat makes one that knows nothing.
 pub(crate) struct Blank;
 
 impl Split<View> for Blank {

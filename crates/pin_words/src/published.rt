@@ -7,7 +7,7 @@ ghost use Rattle.pin_core.specs.declared.descr.Descr.{Descr};
 use pin_core::{Descr, Id};
 use std::marker::Model;
 
-/// What was published, in order, of which nothing is kept.
+/// What was published, in order. At run time nothing of it is kept.
 #[derive(Drop)]
 pub(crate) struct Published {
     pub(crate) ghost list: { List (Id × Descr) },

@@ -42,7 +42,7 @@ pub(crate) fn forget(held: &mut ArrayVec<Id, 16>, id: Id)
     }
 }
 
-// The copy that is let go is mostly the last.
+// Takes out the copy at a place, which is mostly the last.
 fn take_out(held: &mut ArrayVec<Id, 16>, place: usize)
     requires { place < length held.old.items }
     ensures { held.new.items ≡ remove held.old.items place }
@@ -55,7 +55,7 @@ fn take_out(held: &mut ArrayVec<Id, 16>, place: usize)
     }
 }
 
-// This stays out of the way of whoever pins and releases.
+// Copies that go from between others are rare, so this stands apart and isn't inlined.
 #[cold]
 #[inline(never)]
 fn take_from_between(held: &mut ArrayVec<Id, 16>, place: usize)
@@ -119,7 +119,7 @@ impl Reader {
     ghost use Rattle.pin_words.specs.Verdicts.{verdict_of};
     ghost use Rattle.pin_words.specs.Places.{words_a_slot};
     ghost use Rattle.pin_words.specs.Views.{M, view, reader_looked, reader_got, reader_released, reader_noted};
-    ghost use Rattle.pin_words.specs.Plays.{Tells};
+    ghost use Rattle.pin_words.specs.Plays.{TellsReader};
     ghost use Rattle.pin_words.specs.Tries.{Tries, TriesUntilSettled, HasOnlyLooked};
 
     pub(crate) fn of_parts(words: Arc<Words, Global>, shape: Shape, seat: Seat<(), View>) -> Reader
@@ -144,7 +144,7 @@ impl Reader {
     fn look(&mut self, slot: u32) -> u64
         requires { slot < self.old.view.shape.slots }
         ensures view { self.new.view ≡ reader_looked self.old.view slot result }
-        ensures tells { Tells self.old.view slot result }
+        ensures tells { TellsReader self.old.view slot result }
         ensures table { self.new.table ≡ self.old.table }
     {
         self.words
@@ -169,7 +169,7 @@ impl Reader {
         requires room { length self.old.view.held < 16 }
         ensures won { result ≡ found → self.new.view ≡ reader_got self.old.view id found }
         ensures lost { result ≢ found → self.new.view ≡ reader_looked self.old.view id.slot result }
-        ensures tells { Tells self.old.view id.slot result }
+        ensures tells { TellsReader self.old.view id.slot result }
         ensures table { self.new.table ≡ self.old.table }
     {
         // Listed first, since what is written after the exchange delays the next atomic step.
@@ -186,9 +186,9 @@ impl Reader {
 
     /// Pins the slot of an Id once more: at most one look and one exchange.
     ///
-    /// Refused, in this order: 1 where there is no such slot; 6 where 16 copies are held; then, by the word
-    /// that the look found, 2 where the Id isn't published yet, 3 where its object is given up, which stays so,
-    /// and 5 where the slot has all its pins; 4 where the exchange found another word.
+    /// Refused, in this order: 1 where there is no such slot; 6 where 16 copies are held; then, by the word that the
+    /// look found, 2 where the Id isn't published yet, 3 where its object is given up, which stays so, and 5 where the
+    /// slot has all its pins; 4 where the exchange found another word.
     #[inline]
     pub fn try_pin(&mut self, id: Id) -> Result<(), PinFault>
         ensures tries { Tries self.old.view id result self.new.view }

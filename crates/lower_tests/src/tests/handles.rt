@@ -51,7 +51,7 @@ fn place_gives(
 /// Fills a table to its limit of `most` entries, of which each third is plain.
 fn filled(rt: &impl Abort, tables: &mut Tables, process: u32, most: u32) -> Result<(), Fail>
     requires known { process < length tables.old.tables }
-    requires few { most ≤ HANDLES_MAX }
+    requires at_most { most ≤ HANDLES_MAX }
     ensures { length tables.new.tables ≡ length tables.old.tables }
 {
     for n in 0..most {

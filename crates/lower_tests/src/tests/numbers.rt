@@ -23,7 +23,7 @@ fn fills_and_drains_all(rt: HostRuntime) -> Result<(), Fail> {
     Ok(())
 }
 
-#[tactic(auto, using(least_free::proofs::TakenLemmas::slice_get_least_free, least_free::proofs::TakenLemmas::none_taken, least_free::proofs::TakenLemmas::one_more_taken, least_free::proofs::TakenLemmas::one_fewer_taken))]
+#[tactic(auto, using(least_free::proofs::TakenLemmas::filled_and_drained))]
 fn fills_and_drains(rt: &impl Abort, free: &mut LeastFree, most: usize)
     requires { free.old ≡ replicate most false }
 {
@@ -73,7 +73,7 @@ fn scanned(frees: &Vec<bool>, from: usize, free: bool) -> Option<usize> {
 #[tactic(auto, using(least_free::proofs::TakenLemmas::found_free, least_free::proofs::TakenLemmas::found_taken))]
 fn turns(rt: &impl Abort, free: &mut LeastFree, frees: &mut Vec<bool>, times: u32, seed: u32)
     requires same { length free.old ≡ length frees.old.items }
-    requires some { 0 < length frees.old.items }
+    requires not_empty { 0 < length frees.old.items }
 {
     let len = frees.len();
     let mut random = seed;

@@ -356,7 +356,7 @@ fn pins_of(alloc: Global, shape: Shape) -> Result<(Pins, Opening), Fault>
     }
 }
 
-/// The same of pins under a lock.
+/// Pins under a lock. What was given serves a second try.
 fn locked(alloc: Global, shape: Shape) -> Result<LockedPins, Fault>
     requires { IsWithinLimits shape }
 {
@@ -478,7 +478,7 @@ fn calls_take_no_memory(rt: HostRuntime) -> Result<(), Fail> {
     Ok(())
 }
 
-/// The same of pins under a lock.
+/// One of the calls of pins under a lock, about a slot's present Id, and whether it could be made.
 fn lock_any(pins: &mut LockedPins, slot: u32, pick: usize) -> bool {
     if slot >= pins.slots() {
         return false;

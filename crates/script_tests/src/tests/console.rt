@@ -97,7 +97,7 @@ fn saved_behind<R: Abort>(
     Ok(saved?)
 }
 
-/// The same over the manager of a savestate.
+/// [`saved_behind`], over the manager of a savestate.
 fn saved_behind_loaded<R: Abort>(
     rt: &R,
     alloc: Global,

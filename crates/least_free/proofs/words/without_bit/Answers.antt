@@ -6,8 +6,8 @@ use mir.Syntax.{w64}
 use mir.Val.{bits}
 use Rattle.least_free.proofs.words.without_bit.Goals as goal
 
-pub returns-clause-here : goal.returns-clause-here
-returns-clause-here c = bit_at_clear_same w64 c.args.word c.args.k c.requires
+pub returns-clause-bit_is : goal.returns-clause-bit_is
+returns-clause-bit_is c = bit_at_clear_same w64 c.args.word c.args.k c.requires
 
 pub returns-clause-others : goal.returns-clause-others
 returns-clause-others c = λ i ne. ⊎_elim

@@ -10,7 +10,7 @@ use Rattle.ob_console.proofs.reaping.reap.Goals as goal
 
 pub returns-in-Some-clause-spares : goal.returns-in-Some-clause-spares
 returns-in-Some-clause-spares c =
-    let there = c.in-Some.ensures.there in
+    let there = c.in-Some.ensures.is_there in
     let inside : c.in-Some.id.slot < c.reap-reply.new.self.state.limits.slots =
     subst (λ (shape : Shape). c.in-Some.id.slot < shape.slots) c.same_shape.ensures
     (subst (λ (slot : ℕ). slot < c.args.reader.now.view.shape.slots) c.slot_of_held-slot.ensures.slot

@@ -30,8 +30,9 @@ returns-in-Err-clause-answers g c =
 
 pub returns-in-Err-take-clause-answers : goal.returns-in-Err-take-clause-answers
 returns-in-Err-take-clause-answers g c =
-    let run = writing_fails c.args.console.now.point c.loop-i.console c.take.new.self (g.R.Source.given c.args.reader.now)
-    (g.R.Source.given c.loop-i.reader) (g.R.Source.given c.read.new.self) (take c.in-Ok.count c.read.new.block)
+    let run = writing_fails c.args.console.now.point c.loop-i.console c.take.new.self
+    (g.R.Source.given c.args.reader.now) (g.R.Source.given c.loop-i.reader) (g.R.Source.given c.read.new.self)
+    (take c.in-Ok.count c.read.new.block)
     (g.W.Sink.taken c.args.writer.now) (g.W.Sink.taken c.loop-i.writer) (g.W.Sink.taken c.take.new.sink)
     c.loop-i.invariant.reading c.in-Ok.ensures.given c.loop-i.invariant.written
     c.in-Err-take.ensures.err in
@@ -41,7 +42,8 @@ pub returns-in-Err-Failed-clause-answers : goal.returns-in-Err-Failed-clause-ans
 returns-in-Err-Failed-clause-answers g c =
     let run = reading_fails c.args.console.now.point c.loop-i.console (g.R.Source.given c.args.reader.now)
     (g.R.Source.given c.read.new.self) (g.W.Sink.taken c.args.writer.now) (g.W.Sink.taken c.loop-i.writer)
-    (reading_same c.args.console.now.point c.loop-i.console (g.R.Source.given c.args.reader.now) (g.R.Source.given c.loop-i.reader)
+    (reading_same c.args.console.now.point c.loop-i.console (g.R.Source.given c.args.reader.now)
+    (g.R.Source.given c.loop-i.reader)
     (g.R.Source.given c.read.new.self) (g.W.Sink.taken c.args.writer.now) (g.W.Sink.taken c.loop-i.writer)
     c.loop-i.invariant.reading c.in-Err-Failed.ensures.given) in
     (run.input, run.output, run.read, run.wrote, run.answers)

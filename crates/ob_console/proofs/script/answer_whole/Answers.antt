@@ -24,7 +24,8 @@ returns-in-Ok-finish-clause-answers g c =
     let took = c.in-Ok.ensures in let ends = c.in-Ok-finish.ensures.finishes in
     let run = answered (λ (input output : List ℕ). AnswersTo console.point input output last) script before later
     (reading_ends console.point c.take.new.self [] script script before now later ends.0 last
-    (reading_whole console c.take.new.self script before now c.requires.ready took.written took.ok) (sym (append-nil script)) took.written ends.1 ends.2) in
+    (reading_whole console c.take.new.self script before now c.requires.ready took.written took.ok)
+    (sym (append-nil script)) took.written ends.1 ends.2) in
     (run.output, run.wrote, run.answers)
 
 -- a write failed at the end
@@ -36,5 +37,6 @@ returns-in-Err-finish-clause-answers g c =
     let took = c.in-Ok.ensures in let ends = c.in-Err-finish.ensures.finishes in
     let run = answered (AnswersPart console.point) script before later
     (ending_fails console.point c.take.new.self [] script script before now later ends.0 c.finish.new.self.point
-    (reading_whole console c.take.new.self script before now c.requires.ready took.written took.ok) (sym (append-nil script)) took.written ends.1 ends.2) in
+    (reading_whole console c.take.new.self script before now c.requires.ready took.written took.ok)
+    (sym (append-nil script)) took.written ends.1 ends.2) in
     (run.output, run.wrote, run.answers)

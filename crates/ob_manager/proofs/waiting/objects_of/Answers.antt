@@ -9,7 +9,7 @@ loop-handle-init g c = record {
       rw c.requires.empty (from_start c.args.store.now.state c.args.process c.args.handles.now);
 }
 
-pub returns-clause-there : goal.returns-clause-there
-returns-clause-there g c = (all_collected c.args.store.now.state c.args.process c.args.handles.now
+pub returns-clause-is_there : goal.returns-clause-is_there
+returns-clause-is_there g c = (all_collected c.args.store.now.state c.args.process c.args.handles.now
     c.loop-handle.ids.items c.loop-handle.lacks c.loop-handle.handle-index
-    (omega (arith, c.loop-handle-test.false)) c.if-lacks.false c.loop-handle.invariant.left).there
+    (omega (arith, c.loop-handle-test.false)) c.if-lacks.false c.loop-handle.invariant.left).is_there

@@ -6,14 +6,14 @@ use Rattle.ob_manager.proofs.waiting.wait_on.Goals as goal
 
 pub take_now-requires-clause-waitable : goal.take_now-requires-clause-waitable
 take_now-requires-clause-waitable g c =
-    waitable c.args.store.now.state c.args.mode c.args.ids.now c.kept.ensures.named c.requires.there c.requires.some
-    c.requires.few (sym c.is_for_one_twice.ensures ∙ c.if-is_for_one_twice.false)
+    waitable c.args.store.now.state c.args.mode c.args.ids.now c.kept.ensures.named c.requires.is_there
+    c.requires.not_empty c.requires.at_most (sym c.is_for_one_twice.ensures ∙ c.if-is_for_one_twice.false)
 
 pub add_wait-requires-clause-waitable : goal.add_wait-requires-clause-waitable
 add_wait-requires-clause-waitable g c =
-    waitable c.args.store.now.state c.args.mode c.args.ids.now c.kept.ensures.named c.requires.there c.requires.some
-    c.requires.few (sym c.is_for_one_twice.ensures ∙ c.if-is_for_one_twice.false)
+    waitable c.args.store.now.state c.args.mode c.args.ids.now c.kept.ensures.named c.requires.is_there
+    c.requires.not_empty c.requires.at_most (sym c.is_for_one_twice.ensures ∙ c.if-is_for_one_twice.false)
 
 pub add_wait-requires-clause-handled : goal.add_wait-requires-clause-handled
 add_wait-requires-clause-handled g c = λ i lt. subst (λ (w : Whole). 0
-    < handles_of w.state (get_or c.args.ids.now i nowhere)) (sym c.in_default.ensures.none) (c.requires.there i lt)
+    < handles_of w.state (get_or c.args.ids.now i nowhere)) (sym c.in_default.ensures.none) (c.requires.is_there i lt)

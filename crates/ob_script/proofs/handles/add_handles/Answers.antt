@@ -13,4 +13,4 @@ pub returns : goal.returns
 returns c = all_parts c.loop-handle.handles.items (handles_in c.args.words)
     (subst (λ (words : List (List ℕ)). c.loop-handle.handles.items
     ++ handles_in words ≡ handles_in c.args.words) c.in_default.ensures c.loop-handle.invariant.whole)
-    c.loop-handle.invariant.few
+    c.loop-handle.invariant.at_most

@@ -5,7 +5,7 @@ use Rattle.ob_script.proofs.handles.add_handles.Given as goal
 abbrev pub invariant-loop-handle : goal.invariant-loop-handle
 invariant-loop-handle l = record {
   whole : l.handles.items ++ handles_in l.words ≡ handles_in l.fn.words;
-  few : length l.handles.items ≤ 65;
+  at_most : length l.handles.items ≤ 65;
 }
 
 abbrev pub decreases-loop-handle : goal.decreases-loop-handle

@@ -7,14 +7,14 @@ pub overflow_mul-value : goal.overflow_mul-value
 overflow_mul-value c = omega (
   arith,
   within_18_digits c.loop-count.value c.loop-count.count
-      (omega arith) c.loop-count.invariant.few,
+      (omega arith) c.loop-count.invariant.at_most,
 )
 
 pub overflow_add-value : goal.overflow_add-value
 overflow_add-value c = omega (
   arith,
   within_18_digits c.loop-count.value c.loop-count.count
-      (omega arith) c.loop-count.invariant.few,
+      (omega arith) c.loop-count.invariant.at_most,
 )
 
 pub loop-count-preserved : goal.loop-count-preserved
@@ -22,5 +22,5 @@ loop-count-preserved c =
     let text = c.args.text.now in let count = c.loop-count.count in record {
       digits = digits_more text count (search rules) c.loop-count.invariant.digits (search rules);
       value = rw (value_more text count (search rules), c.loop-count.invariant.value) (search rules);
-      few = one_more_digit c.loop-count.value c.from.result count c.loop-count.invariant.few (search rules);
+      at_most = one_more_digit c.loop-count.value c.from.result count c.loop-count.invariant.at_most (search rules);
     }

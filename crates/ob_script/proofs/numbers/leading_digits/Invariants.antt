@@ -8,5 +8,5 @@ abbrev pub invariant-loop-count : goal.invariant-loop-count
 invariant-loop-count l = record {
   digits : list_all is_ascii_digit (take l.count l.text) ≡ true;
   value : value_of (take l.count l.text) ≡ l.value;
-  few : l.value < 10 ^ l.count;
+  at_most : l.value < 10 ^ l.count;
 }

@@ -6,12 +6,12 @@ pub overflow_mul-value : goal.overflow_mul-value
 overflow_mul-value c = omega (
   arith,
   within_18_digits c.loop-byte.value c.loop-byte.byte-index
-      (omega arith) c.loop-byte.invariant.few,
+      (omega arith) c.loop-byte.invariant.at_most,
 )
 
 pub overflow_add-value : goal.overflow_add-value
 overflow_add-value c = omega (
   arith,
   within_18_digits c.loop-byte.value c.loop-byte.byte-index
-      (omega arith) c.loop-byte.invariant.few,
+      (omega arith) c.loop-byte.invariant.at_most,
 )

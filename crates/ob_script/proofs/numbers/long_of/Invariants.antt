@@ -8,5 +8,5 @@ abbrev pub invariant-loop-byte : goal.invariant-loop-byte
 invariant-loop-byte l = record {
   digits : list_all is_ascii_digit (drop l.byte-index l.word) ≡ list_all is_ascii_digit l.word;
   value : value_after l.value (drop l.byte-index l.word) ≡ value_of l.word;
-  few : l.value < 10 ^ l.byte-index;
+  at_most : l.value < 10 ^ l.byte-index;
 }

@@ -6,14 +6,14 @@ pub overflow_mul-value : goal.overflow_mul-value
 overflow_mul-value c = omega (
   arith,
   within_32_bits c.loop-byte.value c.loop-byte.byte-index
-      (omega arith) c.loop-byte.invariant.few,
+      (omega arith) c.loop-byte.invariant.at_most,
 )
 
 pub overflow_add-value : goal.overflow_add-value
 overflow_add-value c = omega (
   arith,
   within_32_bits c.loop-byte.value c.loop-byte.byte-index
-      (omega arith) c.loop-byte.invariant.few,
+      (omega arith) c.loop-byte.invariant.at_most,
   c.in_ok-digit.ensures.value.1,
 )
 
@@ -21,5 +21,5 @@ pub overflow_cast-result : goal.overflow_cast-result
 overflow_cast-result c = omega (
   arith,
   within_32_bits c.loop-byte.value c.loop-byte.byte-index
-      (omega arith) c.loop-byte.invariant.few,
+      (omega arith) c.loop-byte.invariant.at_most,
 )

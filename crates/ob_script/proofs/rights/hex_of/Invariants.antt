@@ -1,12 +1,12 @@
 use Rattle.std.proofs.Common.{◌≡◌, ◌<◌, ◌^◌, drop}
 use Rattle.std.specs.List.{list_all}
 use Rattle.std.specs.Char.{is_ascii_hexdigit}
-use Rattle.ob_script.specs.Words.{hex_after}
+use Rattle.std.specs.Str.Parse.{digits_value, digits_value_after}
 use Rattle.ob_script.proofs.rights.hex_of.Given as goal
 
 abbrev pub invariant-loop-byte : goal.invariant-loop-byte
 invariant-loop-byte l = record {
   digits : list_all is_ascii_hexdigit (drop l.byte-index l.digits) ≡ list_all is_ascii_hexdigit l.digits;
-  value : hex_after l.value (drop l.byte-index l.digits) ≡ hex_after 0 l.digits;
-  few : l.value < 16 ^ l.byte-index;
+  value : digits_value_after 16 l.value (drop l.byte-index l.digits) ≡ digits_value 16 l.digits;
+  at_most : l.value < 16 ^ l.byte-index;
 }

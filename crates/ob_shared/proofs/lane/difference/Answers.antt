@@ -4,8 +4,8 @@ use Rattle.ob_shared.proofs.Parts.{differ_end, differ_next, part_found, part_oth
 use Rattle.ob_shared.proofs.lane.difference.Goals.{then-entry-number+else-not-has_at, else-entry-number}
 use Rattle.ob_shared.proofs.lane.difference.Goals as goal
 
-pub returns-then-not-has_at-clause-some : goal.returns-then-not-has_at-clause-some
-returns-then-not-has_at-clause-some c =
+pub returns-then-not-has_at-clause-found : goal.returns-then-not-has_at-clause-found
+returns-then-not-has_at-clause-found c =
     differ_next c.args.number c.args.journal.now c.args.list.now c.loop-entry.entry-index c.loop-entry.place
     c.entry-item.result (search rules) (search rules) (search rules) (search rules) (search rules) (search rules)
 
@@ -19,7 +19,7 @@ loop-entry-preserved c = elim c.if-entry-number.branch [
   | else-entry-number w ↦ (search rules, search (rules, part_other))
 ]
 
-pub returns-then-place-list-clause-some : goal.returns-then-place-list-clause-some
-returns-then-place-list-clause-some c =
+pub returns-then-place-list-clause-found : goal.returns-then-place-list-clause-found
+returns-then-place-list-clause-found c =
     differ_end c.args.number c.args.journal.now c.args.list.now c.loop-entry.entry-index c.loop-entry.place
     (search rules) (search rules) (search rules)

@@ -20,4 +20,4 @@ pub returns-in-None : goal.returns-in-None
 returns-in-None c = sym (answered_wait c.args.limit c.args.processes.now.threads c.args.objects.now
     c.args.waits.now.waits c.args.thread c.in-Some.number (sym c.in-Some.ensures.number)
     (ap is_some (sym c.process.ensures) ∙ c.is_none.ensures ∙ ap not c.if-is_none.false)
-    (sym c.in-None.ensures.there))
+    (sym c.in-None.ensures.is_there))

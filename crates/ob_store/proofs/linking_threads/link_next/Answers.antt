@@ -11,11 +11,12 @@ returns c =
     let ts = c.args.threads.now in
     let at = c.args.thread in
     let long : length (take at ts) ≤ 65536 =
-    (let a = length-take-le at ts in let b = c.requires.thread in let d = c.requires.few in omega (arith, a, b, d)) in
+    (let a = length-take-le at ts in let b = c.requires.thread in let d = c.requires.at_most in
+    omega (arith, a, b, d)) in
     on_ok_weaker c.add_place.result (λ is.
     subst (λ (l : List (Option ℕ)). AreThreadLists n l c.add_place.new.self)
     (sym (take_more ts at None c.requires.thread))
     (subst (λ (m : ThreadListsState). AreThreadLists n (take at ts ++ get_or ts at None ∷ []) m) (sym is)
-    (threads_placed n (take at ts) c.args.lists.now c.requires.so_far long (get_or ts at None) c.requires.some
+    (threads_placed n (take at ts) c.args.lists.now c.requires.so_far long (get_or ts at None) c.requires.above_zero
     c.requires.process)))
     c.add_place.ensures

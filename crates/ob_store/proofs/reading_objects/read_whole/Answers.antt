@@ -29,8 +29,8 @@ count_births-births-requires c =
       c.args.limits.in_range.slots_in_range.1,
     )
 
-pub with_slots-keeper-requires-clause-long : goal.with_slots-keeper-requires-clause-long
-with_slots-keeper-requires-clause-long c =
+pub with_slots-keeper-requires-clause-length_is : goal.with_slots-keeper-requires-clause-length_is
+with_slots-keeper-requires-clause-length_is c =
     slots_read c.args.limits.slots c.args.limits.max_gen c.clock.result c.args.from.now c.in_ok-seats.seats
     c.in_ok-seats.slots.items c.read_slots.new.from c.in_ok-seats.ensures
     ∙ sym (ap (λ (z : Shape). z.slots) c.shape.ensures.shape)

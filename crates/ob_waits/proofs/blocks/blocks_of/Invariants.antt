@@ -6,5 +6,5 @@ use Rattle.ob_waits.proofs.blocks.blocks_of.Given as goal
 abbrev pub invariant-loop-number : goal.invariant-loop-number
 invariant-loop-number l = record {
   same : l.blocks ≡ sum_by (λ (n : ℕ). blocks_in l.id (get_or l.live n None)) (take l.number-index l.numbers);
-  few : l.blocks ≤ 64 * l.number-index;
+  at_most : l.blocks ≤ 64 * l.number-index;
 }

@@ -13,7 +13,7 @@ loop-at-preserved-then-is_pending c =
     let below = c.loop-at.invariant.below in
     let within = c.loop-at.invariant.within in
     let end = c.requires.within in
-    let long = c.loop-at.invariant.sifted.long in
+    let long = c.loop-at.invariant.sifted.length_is in
     let one : c.loop-at.at ≡ j + 1 = omega (arith, test) in
     let own : c.index-number.result.now ≡ get_or ys j 0 =
     c.index-number.ensures ∙ get_or_default ys j c.index-number.result.now 0
@@ -40,7 +40,7 @@ loop-at-preserved c =
     let below = c.loop-at.invariant.below in
     let within = c.loop-at.invariant.within in
     let end = c.requires.within in
-    let long = c.loop-at.invariant.sifted.long in
+    let long = c.loop-at.invariant.sifted.length_is in
     let one : c.loop-at.at ≡ j + 1 = omega (arith, test) in
     let own : c.index-number.result.now ≡ get_or ys j 0 =
     c.index-number.ensures ∙ get_or_default ys j c.index-number.result.now 0

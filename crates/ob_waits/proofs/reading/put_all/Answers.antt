@@ -2,11 +2,11 @@ use Rattle.std.proofs.Common.{◌≡◌, ◌∷◌, ◌+◌, ◌∙◌, Bool, Li
 use Rattle.std.proofs.lemmas.List.{drop_all, drop_more}
 use Rattle.std.proofs.lemmas.Result.{err_from_is_err_and}
 use Rattle.ob_waits.specs.Rows.{built, tested}
-use Rattle.ob_waits.specs.Spelling.{can_be, held_parts, with_rest}
+use Rattle.ob_waits.specs.Spelling.{can_be, numbered_parts, with_rest}
 use Rattle.ob_waits.specs.Waits.{WaitList, skipped}
 use Rattle.ob_codec.specs.declared.fault.TextFault.{TextFault}
 use Rattle.ob_codec.specs.declared.fault.TextFault.TheVariants.{Value}
-use Rattle.ob_waits.specs.declared.held.Held.{Held}
+use Rattle.ob_waits.specs.declared.numbered_wait.NumberedWait.{NumberedWait}
 use Rattle.ob_waits.specs.declared.wait.Wait.{Wait}
 use Rattle.ob_waits.proofs.RowLaws.{ends, goes_on, left, left_none, Goes}
 use Rattle.ob_waits.proofs.reading.put_all.Goals as goal
@@ -16,11 +16,12 @@ returns-in_err-put_back c =
     let p = err_from_is_err_and c.from_residual.result c.from_residual.ensures.1 in
     let rows = c.args.rows.now in
     let i = c.loop-held.held-index in
-    let first : map held_parts (drop i rows) ≡ held_parts c.held-item.result ∷ map held_parts (drop (i + 1) rows) = ap
-    (map held_parts) (drop_more rows i c.held-item.result c.loop-held-test.true)
-    ∙ ap (λ (h : Held). held_parts h ∷ map held_parts (drop (i + 1) rows)) (sym c.held-item.is) in
+    let first : map numbered_parts (drop i rows)
+    ≡ numbered_parts c.held-item.result ∷ map numbered_parts (drop (i + 1) rows) = ap
+    (map numbered_parts) (drop_more rows i c.held-item.result c.loop-held-test.true)
+    ∙ ap (λ (h : NumberedWait). numbered_parts h ∷ map numbered_parts (drop (i + 1) rows)) (sym c.held-item.is) in
     rw (p.1, p.2) (ends c.in_err-put_back.field-0.0 c.args.last c.loop-held.waits c.held-item.result
-    (map held_parts (drop (i + 1) rows))
+    (map numbered_parts (drop (i + 1) rows))
     (built c.args.waits.now.limit c.args.waits.now.clock c.args.last rows) c.in_err-put_back.ensures
     (subst (λ (ps : List (ℕ × Wait)). Goes c.args.last c.loop-held.waits ps
     (built c.args.waits.now.limit c.args.waits.now.clock c.args.last rows)) first c.loop-held.invariant))
@@ -29,10 +30,12 @@ pub loop-held-preserved : goal.loop-held-preserved
 loop-held-preserved c =
     let rows = c.args.rows.now in
     let i = c.loop-held.held-index in
-    let first : map held_parts (drop i rows) ≡ held_parts c.held-item.result ∷ map held_parts (drop (i + 1) rows) = ap
-    (map held_parts) (drop_more rows i c.held-item.result c.loop-held-test.true)
-    ∙ ap (λ (h : Held). held_parts h ∷ map held_parts (drop (i + 1) rows)) (sym c.held-item.is) in
-    goes_on c.args.last c.loop-held.waits c.put_back.new.waits c.held-item.result (map held_parts (drop (i + 1) rows))
+    let first : map numbered_parts (drop i rows)
+    ≡ numbered_parts c.held-item.result ∷ map numbered_parts (drop (i + 1) rows) = ap
+    (map numbered_parts) (drop_more rows i c.held-item.result c.loop-held-test.true)
+    ∙ ap (λ (h : NumberedWait). numbered_parts h ∷ map numbered_parts (drop (i + 1) rows)) (sym c.held-item.is) in
+    goes_on c.args.last c.loop-held.waits c.put_back.new.waits c.held-item.result
+    (map numbered_parts (drop (i + 1) rows))
     (built c.args.waits.now.limit c.args.waits.now.clock c.args.last rows) c.in_ok-put_back.ensures
     (subst (λ (ps : List (ℕ × Wait)). Goes c.args.last c.loop-held.waits ps
     (built c.args.waits.now.limit c.args.waits.now.clock c.args.last rows)) first c.loop-held.invariant)
@@ -43,8 +46,8 @@ returns c =
     let done : tested ws.limit ws.clock (Some (skipped c.args.last ws.waits))
     ≡ built c.args.waits.now.limit c.args.waits.now.clock c.args.last c.args.rows.now =
     ap (tested ws.limit ws.clock) (sym (left_none c.args.last ws.waits))
-    ∙ subst (λ (rest : List Held). tested ws.limit ws.clock
-    (left c.args.last ws.waits (map held_parts rest))
+    ∙ subst (λ (rest : List NumberedWait). tested ws.limit ws.clock
+    (left c.args.last ws.waits (map numbered_parts rest))
     ≡ built c.args.waits.now.limit c.args.waits.now.clock c.args.last c.args.rows.now)
     (drop_all c.loop-held.held-index c.args.rows.now c.loop-held-test.false) c.loop-held.invariant.rest in
     let can : can_be ws.limit ws.clock (skipped c.args.last ws.waits) ≡ true = subst

@@ -1,9 +1,9 @@
 use Rattle.std.proofs.Common.{drop, map}
 use Rattle.ob_waits.specs.Rows.{built}
-use Rattle.ob_waits.specs.Spelling.{held_parts}
+use Rattle.ob_waits.specs.Spelling.{numbered_parts}
 use Rattle.ob_waits.proofs.RowLaws.{Goes}
 use Rattle.ob_waits.proofs.reading.put_all.Given as goal
 
 abbrev pub invariant-loop-held : goal.invariant-loop-held
-invariant-loop-held l = Goes l.last l.waits (map held_parts (drop l.held-index l.rows))
+invariant-loop-held l = Goes l.last l.waits (map numbered_parts (drop l.held-index l.rows))
     (built l.fn.waits.limit l.fn.waits.clock l.last l.rows)

@@ -4,7 +4,7 @@ use Rattle.ob_waits.proofs.RowLaws.{alone_skipped, comes, not_full}
 use Rattle.ob_waits.proofs.reading.put_back.Goals as goal
 
 pub overflow_sub-held : goal.overflow_sub-held
-overflow_sub-held c = let some = c.may_come.ensures.some c.if-not-may_come.false in omega (arith, some)
+overflow_sub-held c = let some = c.may_come.ensures.above_zero c.if-not-may_come.false in omega (arith, some)
 
 pub put_wait-requires-clause-alone : goal.put_wait-requires-clause-alone
 put_wait-requires-clause-alone c =
@@ -19,4 +19,4 @@ put_wait-requires-clause-below_limit c =
     (sym c.may_come.ensures.value ∙ c.if-not-may_come.false) in
     subst (λ (l : WaitList). is_full l ≡ false) (sym c.skip_to.ensures.value)
     (not_full c.args.last c.args.waits.now c.args.held.now
-    (c.may_come.ensures.some c.if-not-may_come.false) c.requires row)
+    (c.may_come.ensures.above_zero c.if-not-may_come.false) c.requires row)

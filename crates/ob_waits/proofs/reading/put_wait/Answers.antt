@@ -14,4 +14,4 @@ admit-requires-clause-waitable c =
     (not (is_overdue c.args.waits.now.clock (Some wait))) c.requires.stands in
     waitable c.in-Pending.mode c.as_slice.result.now
     (subst (λ (ids : List Id). state_may (Pending c.in-Pending.mode ids) ≡ true) (sym c.as_slice.ensures.value)
-    (sym (ap state_may c.in-Pending.is) ∙ may.0)) c.as_slice.ensures.few
+    (sym (ap state_may c.in-Pending.is) ∙ may.0)) c.as_slice.ensures.at_most

@@ -38,12 +38,12 @@ loop-place-preserved c =
       value = told_as _ is c.tell_reaping.ensures.value;
       next = refl;
     } in
-    let within : place < length list = omega (arith, c.loop-place-test.true, c.loop-place.invariant.long) in
+    let within : place < length list = omega (arith, c.loop-place-test.true, c.loop-place.invariant.length_is) in
     record {
       reaped = chain_set ReapsNext (0, c.args.held.now) (c.loop-place.from, old) (
         id.slot + 1,
         new,
       ) told place list within c.loop-place.invariant.reaped next;
       rest = rest_set list c.args.reapings.now told place c.loop-place.invariant.rest;
-      long = length-set list place told ∙ c.loop-place.invariant.long;
+      length_is = length-set list place told ∙ c.loop-place.invariant.length_is;
     }

@@ -7,5 +7,5 @@ abbrev pub invariant-loop-place : goal.invariant-loop-place
 invariant-loop-place l = record {
   reaped : Chain ReapsNext (0, l.fn.held) (take l.place l.reapings) (l.from, l.held);
   rest : drop l.place l.reapings ≡ drop l.place l.fn.reapings;
-  long : length l.reapings ≡ length l.fn.reapings;
+  length_is : length l.reapings ≡ length l.fn.reapings;
 }

@@ -32,9 +32,9 @@ loop-place-preserved c =
       noted = subst (λ (reply : Reply). IsNoted old.recorder (calls.WaitResult a.wait) reply new.recorder) is
           c.note.ensures.notes;
     } in
-    let within : place < length list = omega (arith, c.loop-place-test.true, c.loop-place.invariant.long) in
+    let within : place < length list = omega (arith, c.loop-place-test.true, c.loop-place.invariant.length_is) in
     record {
       taken = chain_set TakesNext c.args.held.now old new told place list within c.loop-place.invariant.taken next;
       rest = rest_set list c.args.answers.now told place c.loop-place.invariant.rest;
-      long = length-set list place told ∙ c.loop-place.invariant.long;
+      length_is = length-set list place told ∙ c.loop-place.invariant.length_is;
     }

@@ -7,5 +7,5 @@ abbrev pub invariant-loop-place : goal.invariant-loop-place
 invariant-loop-place l = record {
   taken : Chain TakesNext l.fn.held (take l.place l.answers) l.held;
   rest : drop l.place l.answers ≡ drop l.place l.fn.answers;
-  long : length l.answers ≡ length l.fn.answers;
+  length_is : length l.answers ≡ length l.fn.answers;
 }

@@ -12,7 +12,7 @@ invariant_of-self c =
     let n = c.args.n in
     let lt : n < i.len = omega (arith, ap length c.self.view_is, length-taken_in i.leaves.items i.len) in
     record {
-      few = search rules;
+      at_most = search rules;
       few_leaves = search rules;
       few_middle = search rules;
       room = search rules;
@@ -20,7 +20,7 @@ invariant_of-self c =
       none_past = λ k past. c.set.ensures.others k (omega arith) ∙ c.self.invariant.none_past k past;
       leaves_summed = sums_changed (bit i.middle.items) (bit i.middle.items) _ _
           (n / 64) c.self.invariant.leaves_summed c.set.ensures.words (λ _ _. refl)
-          (let had = c.set.ensures.had c.if-not-set.true in let some = c.set.ensures.some in
+          (let had = c.set.ensures.had c.if-not-set.true in let some = c.set.ensures.not_zero in
           let was = c.self.invariant.leaves_summed (n / 64) in omega arith);
       middle_summed = c.self.invariant.middle_summed;
     }
@@ -29,7 +29,7 @@ pub returns-then-not-set : goal.returns-then-not-set
 returns-then-not-set c =
     let i = c.self.inside in
     let lt : c.args.n < i.len = omega (arith, ap length c.self.view_is, length-taken_in i.leaves.items i.len) in
-    taken_freed _ _ i.len c.args.n lt c.set.ensures.here c.set.ensures.others
+    taken_freed _ _ i.len c.args.n lt c.set.ensures.bit_is c.set.ensures.others
     ∙ ap (λ (s : List Bool). set s c.args.n false) c.self.view_is
 
 pub invariant_of-self-2 : goal.invariant_of-self-2
@@ -38,7 +38,7 @@ invariant_of-self-2 c =
     let n = c.args.n in
     let lt : n < i.len = omega (arith, ap length c.self.view_is, length-taken_in i.leaves.items i.len) in
     record {
-      few = search rules;
+      at_most = search rules;
       few_leaves = search rules;
       few_middle = search rules;
       room = search rules;
@@ -46,7 +46,7 @@ invariant_of-self-2 c =
       none_past = λ k past. c.set.ensures.others k (omega arith) ∙ c.self.invariant.none_past k past;
       leaves_summed = sums_changed (bit i.middle.items) (bit c.raised-self-inside.new.middle.items) _ _
           (n / 64) c.self.invariant.leaves_summed c.set.ensures.words c.raised-self-inside.ensures.others
-          (let some = c.set.ensures.some in let here = c.raised-self-inside.ensures.here in omega arith);
+          (let some = c.set.ensures.not_zero in let here = c.raised-self-inside.ensures.bit_is in omega arith);
       middle_summed = c.raised-self-inside.ensures.above c.self.invariant.middle_summed;
     }
 
@@ -54,5 +54,5 @@ pub returns : goal.returns
 returns c =
     let i = c.self.inside in
     let lt : c.args.n < i.len = omega (arith, ap length c.self.view_is, length-taken_in i.leaves.items i.len) in
-    taken_freed _ _ i.len c.args.n lt c.set.ensures.here c.set.ensures.others
+    taken_freed _ _ i.len c.args.n lt c.set.ensures.bit_is c.set.ensures.others
     ∙ ap (λ (s : List Bool). set s c.args.n false) c.self.view_is

@@ -26,7 +26,7 @@ invariant_of-self-2 c =
     omega (arith, ap length ok, length-append i.leaves.items (0 ∷ [])) in
     let short : i.len < 65536 = omega (arith, ap length c.self.view_is, length-taken_in i.leaves.items i.len) in
     record {
-      few = omega arith;
+      at_most = omega arith;
       few_leaves = omega arith;
       few_middle = search rules;
       room = omega arith;

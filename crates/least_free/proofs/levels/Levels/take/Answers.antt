@@ -17,7 +17,7 @@ clear-requires-2 c =
 pub without_bit-self-inside-requires : goal.without_bit-self-inside-requires
 without_bit-self-inside-requires c =
     let free = free_bit _ _ _ _ c.self.view_is c.requires in
-    let lt : c.args.n < c.self.inside.len = free.0 in omega (arith, c.self.invariant.few)
+    let lt : c.args.n < c.self.inside.len = free.0 in omega (arith, c.self.invariant.at_most)
 
 pub invariant_of-self : goal.invariant_of-self
 invariant_of-self c =
@@ -28,7 +28,7 @@ invariant_of-self c =
     let set_above : bit i.middle.items (n / 64) ≡ 1 =
     leads_back (bit i.middle.items) i.leaves.items n c.self.invariant.leaves_summed free.1 in
     record {
-      few = search rules;
+      at_most = search rules;
       few_leaves = search rules;
       few_middle = search rules;
       room = search rules;
@@ -36,14 +36,14 @@ invariant_of-self c =
       none_past = λ k past. c.clear.ensures.others k (omega arith) ∙ c.self.invariant.none_past k past;
       leaves_summed = sums_changed (bit i.middle.items) (bit i.middle.items) _ _
           (n / 64) c.self.invariant.leaves_summed c.clear.ensures.words (λ _ _. refl)
-          (let some = c.clear.ensures.some c.if-not-clear.true in omega arith);
+          (let some = c.clear.ensures.not_zero c.if-not-clear.true in omega arith);
       middle_summed = c.self.invariant.middle_summed;
     }
 
 pub returns-then-not-clear : goal.returns-then-not-clear
 returns-then-not-clear c =
     let free = free_bit _ _ _ _ c.self.view_is c.requires in
-    taken_cleared _ _ _ c.args.n free.0 c.clear.ensures.here c.clear.ensures.others
+    taken_cleared _ _ _ c.args.n free.0 c.clear.ensures.bit_is c.clear.ensures.others
     ∙ ap (λ (s : List Bool). set s c.args.n true) c.self.view_is
 
 pub invariant_of-self-then-not-clear-2 : goal.invariant_of-self-then-not-clear-2
@@ -57,7 +57,7 @@ invariant_of-self-then-not-clear-2 c =
     let set_top : bit_at i.top (n / 64 / 64) ≡ 1 =
     leads_back (bit_at i.top) i.middle.items (n / 64) c.self.invariant.middle_summed set_above in
     record {
-      few = search rules;
+      at_most = search rules;
       few_leaves = search rules;
       few_middle = search rules;
       room = search rules;
@@ -68,13 +68,13 @@ invariant_of-self-then-not-clear-2 c =
           (let none = c.clear.ensures.empty c.if-not-clear.false in omega arith);
       middle_summed = sums_changed (bit_at i.top) (bit_at i.top) _ _
           (n / 64 / 64) c.self.invariant.middle_summed c.clear-2.ensures.words (λ _ _. refl)
-          (let some = c.clear-2.ensures.some c.if-not-clear-2.true in omega arith);
+          (let some = c.clear-2.ensures.not_zero c.if-not-clear-2.true in omega arith);
     }
 
 pub returns-then-not-clear-2 : goal.returns-then-not-clear-2
 returns-then-not-clear-2 c =
     let free = free_bit _ _ _ _ c.self.view_is c.requires in
-    taken_cleared _ _ _ c.args.n free.0 c.clear.ensures.here c.clear.ensures.others
+    taken_cleared _ _ _ c.args.n free.0 c.clear.ensures.bit_is c.clear.ensures.others
     ∙ ap (λ (s : List Bool). set s c.args.n true) c.self.view_is
 
 pub invariant_of-self-2 : goal.invariant_of-self-2
@@ -84,7 +84,7 @@ invariant_of-self-2 c =
     let free = free_bit _ _ _ _ c.self.view_is c.requires in
     let lt : n < i.len = free.0 in
     record {
-      few = search rules;
+      at_most = search rules;
       few_leaves = search rules;
       few_middle = search rules;
       room = search rules;
@@ -101,5 +101,5 @@ invariant_of-self-2 c =
 pub returns : goal.returns
 returns c =
     let free = free_bit _ _ _ _ c.self.view_is c.requires in
-    taken_cleared _ _ _ c.args.n free.0 c.clear.ensures.here c.clear.ensures.others
+    taken_cleared _ _ _ c.args.n free.0 c.clear.ensures.bit_is c.clear.ensures.others
     ∙ ap (λ (s : List Bool). set s c.args.n true) c.self.view_is

@@ -22,7 +22,7 @@ invariant_of-result c =
     λ w. ap (λ (ws : List ℕ). min 1 (slice_index ws w)) middle
     ∙ ap (λ (x : ℕ). min 1 x) (no_word c.div_ceil-2.result w) in
     record {
-      few = c.requires;
+      at_most = c.requires;
       few_leaves = omega arith;
       few_middle = omega arith;
       room = omega arith;

@@ -4,5 +4,5 @@ use Rattle.lower_tests.proofs.tests.numbers.turns.Given as goal
 abbrev pub invariant-loop : goal.invariant-loop
 invariant-loop g l = record {
   same : length l.free ≡ length l.frees.items;
-  long : l.len ≡ length l.frees.items;
+  length_is : l.len ≡ length l.frees.items;
 }

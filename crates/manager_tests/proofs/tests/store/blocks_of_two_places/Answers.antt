@@ -18,7 +18,7 @@ blocks_came-requires-clause-live g c =
     let s : ObjectsState = c.args.objects.now in
     let slot : ℕ = c.in_ok-slot.slot in
     let tied : IsTied s = c.kept.ensures in
-    let within : slot < length s.seen.bodies = omega (arith, vacant_within (vacancy (places_in s)) slot c.in_ok-slot.ensures.vacant, tied.agreed.long, tied.agreed.bodied) in
+    let within : slot < length s.seen.bodies = omega (arith, vacant_within (vacancy (places_in s)) slot c.in_ok-slot.ensures.vacant, tied.agreed.length_is, tied.agreed.bodied) in
     let there : is_some (get_or c.add-id.new.self.seen.bodies slot None) ≡ true =
     ap (λ (z : ObjectsState). is_some (get_or z.seen.bodies slot None)) c.add-id.ensures.added ∙ ap is_some (get_or-set_same s.seen.bodies slot (Some c.new_event-body.result) None within) in
     λ i lt. ap (λ (id : Id). is_some (get_or c.add-id.new.self.seen.bodies id.slot None)) (twice c.add-id.result i lt ∙ c.add-id.ensures.id) ∙ there

@@ -1,6 +1,6 @@
 use Rattle.std.proofs.Common.{ℕ, List, Option, ◌++◌, subst, sym, ap, ◌∙◌}
 use Rattle.ob_script.specs.Grammar.{act_of}
-use Rattle.ob_script.specs.Held.{act_of_held, more_held}
+use Rattle.ob_script.specs.HeldLines.{act_of_held, more_held}
 use Rattle.ob_output.specs.Printed.{line_end}
 use Rattle.ob_console.specs.Sessions.{ConsoleState, Advances}
 use Rattle.ob_output.specs.Pending.{IsWritten}

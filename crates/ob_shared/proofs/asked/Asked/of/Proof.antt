@@ -73,7 +73,8 @@ module _ {M : Type 1} {𝓤 : Ura M} (𝓛 : Logic 𝓤) (at_mem : Memory → SP
   meets 𝓣 =
       walk_Meets 𝓛 ended stayed (
         Goes-dropped 𝓛 1 (RefOf (0 ∷ []) tt
-            (plain (λ _. CallOf.the_row Making.the_row Text.the_row HandleList.the_row)) (λ _. tt)) yes (λ κs x f. refl),
+            (plain (λ _. CallOf.the_row Making.the_row Text.the_row HandleList.the_row)) (λ _. tt)) yes
+            (λ κs x f. refl),
         tt,
       ) held
       (WpFn 𝓤 H 𝓣.C 𝓣.Λ code.function) (WpFn-mono 𝓤 H 𝓛.laws 𝓣 code.function) (walks 𝓣.C 𝓣.Λ)

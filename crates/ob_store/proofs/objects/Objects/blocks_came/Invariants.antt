@@ -6,5 +6,5 @@ abbrev pub invariant-loop-id : goal.invariant-loop-id
 invariant-loop-id g l = record {
   left : with_blocks_of l.self (drop l.id-index l.ids) ≡ with_blocks_of l.fn.self l.ids;
   bodies : l.self.seen.bodies ≡ l.fn.self.seen.bodies;
-  few : (k : ℕ) → get_or l.self.seen.blocks k 0 ≤ get_or l.fn.self.seen.blocks k 0 + l.id-index;
+  at_most : (k : ℕ) → get_or l.self.seen.blocks k 0 ≤ get_or l.fn.self.seen.blocks k 0 + l.id-index;
 }

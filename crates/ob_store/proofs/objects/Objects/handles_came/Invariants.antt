@@ -6,5 +6,5 @@ abbrev pub invariant-loop-place : goal.invariant-loop-place
 invariant-loop-place g l = record {
   left : with_handles_of l.self (drop l.place-index l.places) ≡ with_handles_of l.fn.self l.places;
   bodies : l.self.seen.bodies ≡ l.fn.self.seen.bodies;
-  few : (k : ℕ) → get_or l.self.seen.handles k 0 ≤ get_or l.fn.self.seen.handles k 0 + l.place-index;
+  at_most : (k : ℕ) → get_or l.self.seen.handles k 0 ≤ get_or l.fn.self.seen.handles k 0 + l.place-index;
 }

@@ -42,6 +42,6 @@ returns-clause-carries g c = λ first s ending.
     let threads = c.args.self.now.processes.threads in
     let at_end : length threads ≤ c.loop-thread.thread =
     (let past = c.loop-thread-test.false in let next = c.next_thread-end.ensures in omega (arith, past, next)) in
-    let same : length threads ≡ length s.threads = ap (λ (x : State). length x.threads) ending.way.rest in
+    let same : length threads ≡ length s.threads = ap (λ (x : State). length x.threads) ending.under_way.rest in
     ending_unpassed first (parts_of c.loop-thread.self) s c.args.process (length threads) c.loop-thread.thread at_end
     (omega (arith, same)) (c.loop-thread.invariant.carries first s ending)

@@ -37,6 +37,6 @@ returns g c = record {
       })) (process_ended s c.args.process))
       (sym c.leave_entries.ensures.rest)
       (ending_emptied first (record p { objects = left.objects; rows = left.names.rows }) s c.args.process places
-      (ap (λ (x : State). x.tables) ending.way.rest) c.requires.table c.requires.alone taken
+      (ap (λ (x : State). x.tables) ending.under_way.rest) c.requires.table c.requires.alone taken
       c.take_entries-places.ensures.after gone));
 }

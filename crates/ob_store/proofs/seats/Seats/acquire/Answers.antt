@@ -2,10 +2,11 @@ use Rattle.std.proofs.Common.{refl, is_some, ◌∙◌, ap, set, Some}
 use Rattle.ob_waits.specs.Waits.{with_acquired}
 use Rattle.ob_store.specs.declared.seat.Seat.{Seat}
 use Rattle.ob_store.specs.Objects.{tags_in, Places, rest_of, seen_in}
-use Rattle.ob_store.proofs.SeatLaws.{rest_same, seen_acquired}
+use Rattle.ob_store.specs.Timers.{seat_due}
+use Rattle.ob_store.proofs.SeatLaws.{rest_same, seen_acquired, mapped_stays}
 use Rattle.ob_store.proofs.OwnerLaws.{owned_few}
 use Rattle.ob_waits.specs.Form.{slot_due}
-use Rattle.ob_store.proofs.TimerLaws.{due_taken, timed_stays}
+use Rattle.ob_store.proofs.TimerLaws.{due_taken}
 use Rattle.ob_store.proofs.ClosingLaws.{body_stays}
 use Rattle.ob_store.proofs.NotedLaws.{noted_moved}
 use Rattle.ob_store.proofs.seats.Seats.acquire.Goals as goal
@@ -30,7 +31,7 @@ pub invariant_of-self : goal.invariant_of-self
 invariant_of-self c = rw c.moved.ensures (noted_moved _ _ _ _ _ _ c.self.invariant c.args.id.slot c.get_mut.result.now
     c.acquire-acquired.new.self c.get_mut.ensures.value c.acquire-acquired.result.before
     c.acquire-acquired.result.after _ c.acquire-acquired.ensures.before c.acquire-acquired.ensures.after
-    (timed_stays c.self.inside.arena.bodies c.self.inside.timers c.args.id.slot c.get_mut.result.now
+    (mapped_stays seat_due c.self.inside.arena.bodies c.self.inside.timers c.args.id.slot c.get_mut.result.now
     c.acquire-acquired.new.self c.self.invariant.timed c.get_mut.ensures.value
     (ap (λ (x : Seat). slot_due x.body) c.acquire-acquired.ensures.value
     ∙ due_taken c.args.thread c.get_mut.result.now.body))

@@ -1,15 +1,13 @@
 use Rattle.std.proofs.Common.{rules, ◌≡◌, ◌∙◌, ap, sym, subst, map, length, None}
 use Rattle.std.proofs.lemmas.List.{length-replicate}
 use Rattle.ob_store.specs.Objects.{places_of, tags_in}
-use Rattle.ob_store.proofs.SeatLaws.{places_vacant}
+use Rattle.ob_store.proofs.SeatLaws.{places_vacant, map-replicate}
 use Rattle.ob_arena.specs.Slots.{Slots}
 use Rattle.ob_store.specs.declared.seat.Seat.{Seat}
 use Rattle.ob_store.specs.Owners.{IsOwned}
 use Rattle.ob_store.proofs.OwnerLaws.{owned_none}
 use Rattle.ob_store.specs.Closing.{is_open}
 use Rattle.ob_store.specs.Timers.{seat_due}
-use Rattle.ob_store.proofs.TimerLaws.{timed_none}
-use Rattle.ob_store.proofs.ClosingLaws.{opened_none}
 use Rattle.ob_store.proofs.seats.Seats.new.Goals as goal
 
 pub returns : goal.returns
@@ -26,7 +24,7 @@ invariant_of-result c = record {
   labelled = search rules ∙ sym (ap (λ (s : Slots Seat). length s.bodies) c.in_ok-new.ensures
       ∙ length-replicate c.args.slots None);
   opened = subst (λ (s : Slots Seat). c.in_ok-new-4.field-0 ≡ map is_open s.bodies) (sym c.in_ok-new.ensures)
-      (c.in_ok-new-4.ensures ∙ opened_none c.args.slots);
+      (c.in_ok-new-4.ensures ∙ sym (map-replicate is_open None c.args.slots));
   timed = subst (λ (s : Slots Seat). c.in_ok-new-3.field-0 ≡ map seat_due s.bodies) (sym c.in_ok-new.ensures)
-      (c.in_ok-new-3.ensures ∙ timed_none c.args.slots);
+      (c.in_ok-new-3.ensures ∙ sym (map-replicate seat_due None c.args.slots));
 }

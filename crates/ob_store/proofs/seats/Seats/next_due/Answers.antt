@@ -5,12 +5,12 @@ use Rattle.ob_store.specs.Ticks.{slot_is_due}
 use Rattle.ob_store.proofs.TimerLaws.{none_due_slot, some_due}
 use Rattle.ob_store.proofs.seats.Seats.next_due.Goals as goal
 
-pub returns-clause-some : goal.returns-clause-some
-returns-clause-some c =
+pub returns-clause-found : goal.returns-clause-found
+returns-clause-found c =
     subst (λ (p : Places). IfSome c.next_due.result
     (λ slot. slot_is_due c.args.now (get_or p.seen.bodies slot None) ≡ true)) c.self.view_is
     (some_due c.args.now c.self.inside.arena.bodies c.self.inside.timers c.next_due.result c.self.invariant.timed
-    c.next_due.ensures.some)
+    c.next_due.ensures.found)
 
 pub returns-clause-none : goal.returns-clause-none
 returns-clause-none c =

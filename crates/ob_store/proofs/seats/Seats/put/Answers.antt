@@ -3,9 +3,9 @@ use Rattle.std.proofs.Common.{refl, is_some, get_or, subst, None, ◌∙◌, ap,
 use Rattle.ob_waits.specs.Form.{slot_due, slot_owner}
 use Rattle.ob_store.specs.declared.seat.Seat.{Seat}
 use Rattle.ob_store.specs.Objects.{tags_in, Places, rest_of, seen_in}
-use Rattle.ob_store.proofs.SeatLaws.{seen_put, rest_same}
+use Rattle.ob_store.specs.Timers.{seat_due}
+use Rattle.ob_store.proofs.SeatLaws.{seen_put, rest_same, mapped_set}
 use Rattle.ob_store.proofs.OwnerLaws.{owned_few}
-use Rattle.ob_store.proofs.TimerLaws.{timed_set}
 use Rattle.ob_store.proofs.ClosingLaws.{bodied}
 use Rattle.ob_store.proofs.NotedLaws.{noted_moved}
 use Rattle.ob_store.proofs.seats.Seats.put.Goals as goal
@@ -34,8 +34,8 @@ invariant_of-self c =
     rw c.moved.ensures (rw c.moved-2.ensures (noted_moved _ _ _ _ _ _ c.self.invariant c.args.slot c.get_mut.result.now
     c.put-was.new.self c.get_mut.ensures.value c.put-was.result.owner c.owner-owner.result _ c.put-was.ensures.owner
     (c.owner-owner.ensures.owner ∙ ap (λ (x : Seat). slot_owner x.body) (sym c.put-was.ensures.value))
-    (timed_set c.self.inside.arena.bodies c.self.inside.timers c.args.slot (Some c.put-was.new.self) c.due-due.result
-    c.self.invariant.timed
+    (mapped_set seat_due c.self.inside.arena.bodies c.self.inside.timers c.args.slot (Some c.put-was.new.self)
+    c.due-due.result c.self.invariant.timed
     (c.due-due.ensures ∙ ap (λ (x : Seat). slot_due x.body) (sym c.put-was.ensures.value)))
     (ap (λ (x : Seat). is_some x.body) c.put-was.ensures.value
     ∙ sym (bodied c.self.inside.arena.bodies c.args.slot c.get_mut.result.now c.get_mut.ensures.value

@@ -1,7 +1,7 @@
 use Rattle.std.proofs.Common.{true, ◌≡◌, ◌∙◌, ap, refl, sym, subst, get_or, length, map, None}
 use Rattle.std.proofs.lemmas.List.{length-set}
 use Rattle.ob_store.specs.Objects.{tags_in, Places, places_of, without_seat}
-use Rattle.ob_store.proofs.SeatLaws.{seat_of, places_removed, vacant_same}
+use Rattle.ob_store.proofs.SeatLaws.{seat_of, places_removed, vacant_same, mapped_set}
 use Rattle.std.specs.Prelude.{IsSome}
 use Rattle.ob_arena.specs.Slots.{Slots}
 use Rattle.ob_store.specs.declared.seat.Seat.{Seat}
@@ -10,7 +10,7 @@ use Rattle.ob_store.proofs.OwnerLaws.{object_within, owned_removed}
 use Rattle.ob_store.specs.Closing.{is_open}
 use Rattle.ob_store.specs.Timers.{seat_due}
 use Rattle.ob_store.proofs.TimerLaws.{timed_removed}
-use Rattle.ob_store.proofs.ClosingLaws.{ended_here, opened_set}
+use Rattle.ob_store.proofs.ClosingLaws.{ended_here}
 use Rattle.ob_store.proofs.seats.Seats.remove.Goals as goal
 
 pub take-requires : goal.take-requires
@@ -43,7 +43,7 @@ invariant_of-self c =
           (object_within c.self.inside.arena (tags_in c.self.inside.labels.items c.self.inside.names.items)
           c.args.slot there));
       opened = subst (λ (s : Slots Seat). c.left.new.self ≡ map is_open s.bodies) (sym c.take.ensures.after)
-          (c.left.ensures ∙ opened_set c.self.inside.arena.bodies c.self.inside.closing c.args.slot None true
+          (c.left.ensures ∙ mapped_set is_open c.self.inside.arena.bodies c.self.inside.closing c.args.slot None true
           c.self.invariant.opened refl);
       timed = subst (λ (s : Slots Seat). c.self.inside.timers ≡ map seat_due s.bodies) (sym c.take.ensures.after)
           (timed_removed c.self.inside.arena.bodies c.self.inside.timers c.args.slot c.self.invariant.timed ended);

@@ -20,7 +20,7 @@ blocks_came-requires-clause-live g c = λ i lt.
 
 pub blocks_came-requires-clause-room : goal.blocks_came-requires-clause-room
 blocks_came-requires-clause-room g c =
-    few_blocks (parts_of c.self.inside.parts) c.self.invariant c.add.ensures.kept c.add.ensures.few
+    few_blocks (parts_of c.self.inside.parts) c.self.invariant c.add.ensures.kept c.add.ensures.at_most
 
 pub invariant_of-self : goal.invariant_of-self
 invariant_of-self g c =

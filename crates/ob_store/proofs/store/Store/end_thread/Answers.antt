@@ -1,5 +1,5 @@
 use Rattle.std.proofs.Common.{◌≡◌, ◌∙◌, ◌<◌, ap, sym, subst, length, get_or, Some, None}
-use Rattle.ob_store.specs.Ends.{left, thread_ended}
+use Rattle.ob_store.specs.Ends.{after_thread_end, thread_ended}
 use Rattle.ob_store.specs.Objects.{opened}
 use Rattle.ob_store.specs.Parts.{parts_of, state_of}
 use Rattle.ob_store.specs.State.{State, Whole, settled}
@@ -17,8 +17,8 @@ leave_process-requires g c =
     subst (λ (w : Whole). get_or w.state.threads c.args.thread None ≡ Some c.args.process)
     (sym c.self.view_is) c.requires.live in
     record {
-      sound = begun.way.sound;
-      table = subst (λ (x : State). c.args.process < length x.tables) (sym begun.way.rest)
+      sound = begun.under_way.sound;
+      table = subst (λ (x : State). c.args.process < length x.tables) (sym begun.under_way.rest)
           (thread_tabled s.limits s.processes (length s.tables.tables) c.args.thread
           (Some c.args.process) c.self.invariant.sound.processes_kept (sym live));
     }
@@ -30,7 +30,7 @@ settle-requires g c =
     let begun = c.end_one.ensures.carries s.objects.keeper before
     (ending_begins (parts_of s) c.clear.new.self c.self.invariant c.kept.ensures) in
     let ending = c.leave_process.ensures.carries s.objects.keeper (thread_ended before c.args.thread) begun in
-    record { sound = ending.way.sound; enough = ending.enough }
+    record { sound = ending.under_way.sound; enough = ending.enough }
 
 pub returns : goal.returns
 returns g c =
@@ -40,7 +40,7 @@ returns g c =
     (ending_begins (parts_of s) c.clear.new.self c.self.invariant c.kept.ensures) in
     let ending = c.leave_process.ensures.carries s.objects.keeper (thread_ended before c.args.thread) begun in
     record {
-      state = c.settle.ensures.state s.objects.keeper _ ending.way
-          ∙ ap (λ (w : Whole). settled (left w.state c.args.process c.args.thread)) c.self.view_is;
-      keeper = c.settle.ensures.keeper ∙ ending.way.keeper ∙ ap (λ (w : Whole). opened w.keeper) c.self.view_is;
+      state = c.settle.ensures.state s.objects.keeper _ ending.under_way
+          ∙ ap (λ (w : Whole). settled (after_thread_end w.state c.args.process c.args.thread)) c.self.view_is;
+      keeper = c.settle.ensures.keeper ∙ ending.under_way.keeper ∙ ap (λ (w : Whole). opened w.keeper) c.self.view_is;
     }

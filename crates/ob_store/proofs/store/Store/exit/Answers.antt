@@ -16,11 +16,15 @@ end_process-requires g c =
     (ending_begins (parts_of s) c.clear.new.self c.self.invariant c.kept.ensures) in
     let live : IsLive s.processes.processes c.args.process =
     subst (λ (w : Whole). IsLive w.state.processes c.args.process) (sym c.self.view_is) c.requires.live in
-    let same = ap (λ (x : State). length x.tables) begun.way.rest
+    let same = ap (λ (x : State). length x.tables) begun.under_way.rest
     ∙ ap (λ x. length x) (threads_tables (state_of (parts_of s)) c.args.process (length s.processes.threads)) in
     let tabled = c.self.invariant.sound.processes_kept.tabled in
     let within = live_within s.processes.processes c.args.process live in
-    record { sound = begun.way.sound; table = omega (arith, same, tabled, within); alone = c.end_all.ensures.ended }
+    record {
+      sound = begun.under_way.sound;
+      table = omega (arith, same, tabled, within);
+      alone = c.end_all.ensures.ended;
+    }
 
 pub settle-requires : goal.settle-requires
 settle-requires g c =
@@ -30,7 +34,7 @@ settle-requires g c =
     (ending_begins (parts_of s) c.clear.new.self c.self.invariant c.kept.ensures) in
     let ending = c.end_process.ensures.carries s.objects.keeper
     (threads_ended before c.args.process (length s.processes.threads)) begun in
-    record { sound = ending.way.sound; enough = ending.enough }
+    record { sound = ending.under_way.sound; enough = ending.enough }
 
 pub returns : goal.returns
 returns g c =
@@ -41,7 +45,7 @@ returns g c =
     let ending = c.end_process.ensures.carries s.objects.keeper
     (threads_ended before c.args.process (length s.processes.threads)) begun in
     record {
-      state = c.settle.ensures.state s.objects.keeper _ ending.way
+      state = c.settle.ensures.state s.objects.keeper _ ending.under_way
           ∙ ap (λ (w : Whole). settled (exited w.state c.args.process)) c.self.view_is;
-      keeper = c.settle.ensures.keeper ∙ ending.way.keeper ∙ ap (λ (w : Whole). opened w.keeper) c.self.view_is;
+      keeper = c.settle.ensures.keeper ∙ ending.under_way.keeper ∙ ap (λ (w : Whole). opened w.keeper) c.self.view_is;
     }

@@ -16,8 +16,8 @@ invariant_of-self g c =
     (subst (λ (w : Whole). IsLive w.state.threads c.args.thread) (sym c.self.view_is) c.requires.live)
     c.try_now-code.result c.try_now-code.ensures.code c.try_now-code.ensures.unready
 
-pub returns-clause-some : goal.returns-clause-some
-returns-clause-some g c =
+pub returns-clause-taken : goal.returns-clause-taken
+returns-clause-taken g c =
     let p = parts_of c.self.inside.parts in
     subst (λ (w : Whole). OnSome c.try_now-code.result
     (state_of (record p { objects = c.try_now-code.new.bodies })

@@ -15,7 +15,7 @@ loop-wait-smaller g c =
     c.expire.ensures.state ∙ ap (λ (w : Whole). settled (with_answer w.state c.in-Some.wait 258))
     c.in-Some.ensures.same in
     let fewer = fewer_step s c.args.now c.in-Some.wait c.loop-wait.invariant.kept.named
-    c.loop-wait.invariant.kept.quiet.settled c.in-Some.ensures.some in
+    c.loop-wait.invariant.kept.quiet.settled c.in-Some.ensures.found in
     let same = ap (λ (t : State). count_by (is_overdue c.args.now) t.waits) is in
     omega (arith, fewer, same)
 
@@ -30,11 +30,11 @@ loop-wait-preserved g c =
     record {
       kept = c.kept-in-Some.ensures;
       same = ap (λ (t : State). settled (timed_out c.args.now t)) is
-          ∙ time_out_step s c.args.now c.in-Some.wait named quiet c.in-Some.ensures.some ∙ c.loop-wait.invariant.same;
+          ∙ time_out_step s c.args.now c.in-Some.wait named quiet c.in-Some.ensures.found ∙ c.loop-wait.invariant.same;
       keeper = c.expire.ensures.keeper ∙ ap (λ (w : Whole). opened w.keeper) c.in-Some.ensures.same
           ∙ c.loop-wait.invariant.keeper;
       undue = λ k. ap (λ (t : State). slot_is_due c.args.now (get_or t.bodies k None)) is
-          ∙ undue_step s c.args.now c.in-Some.wait named quiet c.in-Some.ensures.some c.loop-wait.invariant.undue k;
+          ∙ undue_step s c.args.now c.in-Some.wait named quiet c.in-Some.ensures.found c.loop-wait.invariant.undue k;
       clock = ap (λ (t : State). t.clock) is ∙ c.loop-wait.invariant.clock;
     }
 

@@ -13,7 +13,7 @@ inherit_at-requires-clause-held c =
     let i = c.loop-i.i in
     let old = c.loop-i.copies.items in
     next_taken c.loop-i.free (take i old) i c.inherited_len-len.result (omega arith)
-    (length-take-le i old (omega (arith, c.loop-i.invariant.long))) c.loop-i.invariant.numbers
+    (length-take-le i old (omega (arith, c.loop-i.invariant.length_is))) c.loop-i.invariant.numbers
 
 pub loop-i-preserved : goal.loop-i-preserved
 loop-i-preserved c =
@@ -24,12 +24,12 @@ loop-i-preserved c =
     let base = take len c.args.places.now in
     let copy = inheritable (at old i) in
     let long : length base ≡ len = length-take-le len c.args.places.now (omega arith) in
-    let within : i < length old = omega (arith, c.loop-i.invariant.long) in
+    let within : i < length old = omega (arith, c.loop-i.invariant.length_is) in
     let taken : take (i + 1) new ≡ take i old ++ copy ∷ [] =
     ap (λ (n : ℕ). take n new) (add-one i) ∙ ap (take (suc i)) c.inherit_at.ensures.entry
     ∙ take-suc-set old i copy within in
     record {
-      long = ap length c.inherit_at.ensures.entry ∙ length-set old i copy ∙ c.loop-i.invariant.long;
+      length_is = ap length c.inherit_at.ensures.entry ∙ length-set old i copy ∙ c.loop-i.invariant.length_is;
       so_far = c.inherit_at.ensures.entry ∙ ap (λ (s : List (Option Entry)). set s i (inheritable (at s i)))
           c.loop-i.invariant.so_far ∙ copied_more base i (omega arith);
       numbers = one_more_place c.loop-i.free c.inherit_at.new.free (take i old) copy i len (omega arith)

@@ -1,8 +1,9 @@
 use Rattle.std.proofs.Common.{arith, ◌≡◌, ◌≤◌, ◌<◌, ◌∙◌, sym, ap, subst, ◌+◌, length, length-append, List, [], ◌∷◌, Option}
+use Rattle.std.proofs.lemmas.List.{get_or_read}
 use Rattle.ob_tables.specs.declared.entry.Entry.{Entry}
 use Rattle.ob_tables.specs.Tables.{table_of, HandleTables}
 use Rattle.ob_tables.proofs.Inheriting.{length-inherited}
-use Rattle.ob_tables.proofs.Limits.{short_pushed, table_is}
+use Rattle.ob_tables.proofs.Limits.{short_pushed}
 use Rattle.ob_tables.proofs.tables.Tables.copy_inheritable.Goals as goal
 
 pub invariant_of-self-2 : goal.invariant_of-self-2
@@ -14,7 +15,7 @@ invariant_of-self-2 c =
     subst (λ (s : HandleTables). length s.tables ≤ s.process_limit) (sym c.self.view_is) c.in_ok-number.ensures.room
     in
     let from : c.places.result.now ≡ table_of i.tables.items c.args.from =
-    c.places.ensures.places ∙ table_is i.tables.items c.args.from c.index.result.now lt c.index.ensures in
+    c.places.ensures.places ∙ get_or_read i.tables.items c.args.from c.index.result.now lt c.index.ensures [] in
     let grown : length c.push.new.self.items ≡ length i.tables.items + 1 =
     omega (arith, ap length c.in_ok-push.ensures.items, length-append i.tables.items (c.in_ok-child.child ∷ [])) in
     let short : length c.in_ok-child.child ≤ i.handles =

@@ -1,9 +1,10 @@
-use Rattle.std.proofs.Common.{arith, ◌≡◌, ◌≤◌, ◌<◌, refl, sym, ap, subst, length, length-set, Err, inl, inr}
+use Rattle.std.proofs.Common.{arith, ◌≡◌, ◌≤◌, ◌<◌, refl, sym, ap, subst, length, length-set, Err, inl, inr, []}
+use Rattle.std.proofs.lemmas.List.{get_or_read}
 use Rattle.ob_rights.specs.declared.fault.Fault.TheVariants.{Memory}
 use Rattle.ob_tables.specs.Table.{free_place}
 use Rattle.ob_tables.specs.Counts.{entries_in}
 use Rattle.ob_tables.specs.Tables.{table_of, HandleTables, IsBounded}
-use Rattle.ob_tables.proofs.Limits.{full_at, room_at, length-with_entry, short_set, table_is}
+use Rattle.ob_tables.proofs.Limits.{full_at, room_at, length-with_entry, short_set}
 use Rattle.ob_tables.proofs.tables.Tables.place.Goals as goal
 
 pub invariant_of-self : goal.invariant_of-self
@@ -13,7 +14,7 @@ invariant_of-self c =
     let lt : c.args.process < length i.tables.items =
     subst (λ (s : HandleTables). c.args.process < length s.tables) (sym c.self.view_is) c.requires in
     let here : t ≡ table_of i.tables.items c.args.process =
-    table_is i.tables.items c.args.process t lt c.index_mut.ensures.value in
+    get_or_read i.tables.items c.args.process t lt c.index_mut.ensures.value [] in
     let was : length t ≤ i.handles = omega (arith, ap length here, c.self.invariant.short c.args.process) in
     let short : length c.place.new.self ≤ i.handles =
     omega (arith, ap length c.in-Ok.ensures.ok, length-with_entry t c.args.entry i.handles was c.in-Ok.ensures.room)

@@ -1,12 +1,12 @@
 use Rattle.std.proofs.Common.{◌<◌, ℕ, get_or}
 use Rattle.ob_waits.specs.Rules.{Within}
-use Rattle.ob_waits.specs.Numbers.{numbers_of, AreOrdered, Keeps}
+use Rattle.ob_waits.specs.Numbers.{numbers_of, AreOrdered, LosesNone}
 use Rattle.ob_waits.specs.Waits.{nowhere}
 use Rattle.ob_waits.proofs.index.Index.enter_all.Given as goal
 
 abbrev pub invariant-loop-id : goal.invariant-loop-id
 invariant-loop-id l = record {
   lists : AreOrdered l.number l.self;
-  keeps : Keeps l.fn.self l.self;
+  keeps : LosesNone l.fn.self l.self;
   entered : (i : ℕ) → i < l.id-index → Within l.number (numbers_of l.self (get_or l.ids i nowhere).slot);
 }

@@ -1,7 +1,8 @@
-use Rattle.std.proofs.Common.{◌≡◌, List, ℕ, ◌<◌, length, set, subst, sym, rules}
+use Rattle.std.proofs.Common.{◌≡◌, [], List, ℕ, ◌<◌, length, set, subst, sym, rules}
+use Rattle.std.proofs.lemmas.List.{get_or_read}
 use Rattle.ob_waits.specs.Rules.{Within}
-use Rattle.ob_waits.specs.Numbers.{IsOrdered, AreOrdered, Keeps, numbers_of}
-use Rattle.ob_waits.proofs.IndexLaws.{lists_changed, keeps_changed, list_read}
+use Rattle.ob_waits.specs.Numbers.{IsOrdered, AreOrdered, LosesNone, numbers_of}
+use Rattle.ob_waits.proofs.IndexLaws.{lists_changed, keeps_changed}
 use Rattle.ob_waits.proofs.index.Index.enter_there.Goals as goal
 
 pub enter-requires : goal.enter-requires
@@ -9,7 +10,7 @@ enter-requires c =
     let lists : List (List ℕ) = c.self.inside.lists.items in
     let lt : c.args.slot < length lists = search rules in
     let read : c.index_mut-numbers.result.now ≡ numbers_of lists c.args.slot =
-    list_read lists c.args.slot c.index_mut-numbers.result.now c.index_mut-numbers.ensures.value lt in
+    get_or_read lists c.args.slot c.index_mut-numbers.result.now lt c.index_mut-numbers.ensures.value [] in
     let all : AreOrdered c.args.number lists = subst (λ (rs : List (List ℕ)). AreOrdered c.args.number rs)
     (sym c.self.view_is) c.requires.ordered in
     subst (λ (r : List ℕ). IsOrdered c.args.number r) (sym read) (all.each c.args.slot)
@@ -25,7 +26,7 @@ returns-clause-keeps c =
     let lists : List (List ℕ) = c.self.inside.lists.items in
     let lt : c.args.slot < length lists = search rules in
     let read : c.index_mut-numbers.result.now ≡ numbers_of lists c.args.slot =
-    list_read lists c.args.slot c.index_mut-numbers.result.now c.index_mut-numbers.ensures.value lt in
-    subst (λ (rs : List (List ℕ)). Keeps rs (set lists c.args.slot c.enter.new.self)) c.self.view_is
+    get_or_read lists c.args.slot c.index_mut-numbers.result.now lt c.index_mut-numbers.ensures.value [] in
+    subst (λ (rs : List (List ℕ)). LosesNone rs (set lists c.args.slot c.enter.new.self)) c.self.view_is
     (keeps_changed lists c.args.slot c.enter.new.self (subst (λ (r : List ℕ). (j : ℕ) → Within j r
     → Within j c.enter.new.self) read c.enter.ensures.keeps))

@@ -1,6 +1,6 @@
 use Rattle.std.proofs.Common.{◌≡◌, ◌+◌, ◌++◌, ◌∙◌, [], ◌∷◌, ℕ, suc, List, None, Option, Some, ap, arith, cond, eqb, get_or, length, refl, set, subst, sym}
 use Rattle.ob_waits.specs.declared.wait.Wait.{Wait}
-use Rattle.ob_waits.specs.declared.held.Held.{Held}
+use Rattle.ob_waits.specs.declared.numbered_wait.NumberedWait.{NumberedWait}
 use Rattle.ob_waits.specs.Seats.{found, thread_at}
 use Rattle.ob_waits.specs.Waits.{number_of}
 use Rattle.ob_waits.proofs.ListedLaws.{length-listed, listed_inserted}
@@ -9,7 +9,7 @@ use Rattle.ob_waits.proofs.SeatLaws.{free_seat, not_given, same_seated, same_fou
 use Rattle.ob_waits.proofs.numbered.Numbered.push.Goals as goal
 
 pub overflow_add-number : goal.overflow_add-number
-overflow_add-number c = let le = c.requires.few in
+overflow_add-number c = let le = c.requires.at_most in
     omega (
       arith,
       ap length c.self.view_is,
@@ -45,8 +45,8 @@ invariant_of-self-2 c =
     let s = c.self.inside in
     let w = c.args.wait in
     let n : ℕ = s.given + 1 in
-    let more : List (Option Held) = c.make_room.new.seats.items in
-    let held : Held = record { number = n; wait = w } in
+    let more : List (Option NumberedWait) = c.make_room.new.seats.items in
+    let held : NumberedWait = record { number = n; wait = w } in
     let old = same_seated s.given s.seats.items more (thread_at s.finder) (thread_at s.finder) c.make_room.ensures.same
     (λ q. refl) c.self.invariant.0 in
     let free : get_or more w.thread None ≡ None = c.make_room.ensures.same w.thread
@@ -63,8 +63,8 @@ returns-clause-ok c =
     let s = c.self.inside in
     let w = c.args.wait in
     let n : ℕ = s.given + 1 in
-    let more : List (Option Held) = c.make_room.new.seats.items in
-    let held : Held = record { number = n; wait = w } in
+    let more : List (Option NumberedWait) = c.make_room.new.seats.items in
+    let held : NumberedWait = record { number = n; wait = w } in
     let old = same_seated s.given s.seats.items more (thread_at s.finder) (thread_at s.finder) c.make_room.ensures.same
     (λ q. refl) c.self.invariant.0 in
     let free : get_or more w.thread None ≡ None = c.make_room.ensures.same w.thread

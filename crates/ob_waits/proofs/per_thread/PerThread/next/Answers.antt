@@ -3,8 +3,8 @@ use Rattle.ob_body.specs.Timer.{is_due}
 use Rattle.ob_waits.proofs.DeadlineLaws.{due_too}
 use Rattle.ob_waits.proofs.per_thread.PerThread.next.Goals as goal
 
-pub returns-clause-some : goal.returns-clause-some
-returns-clause-some c =
+pub returns-clause-found : goal.returns-clause-found
+returns-clause-found c =
     ap (λ (dues : List (Option ℕ)). is_due c.args.now (get_or dues c.in_ok-thread.thread None)) (sym c.self.view_is)
     ∙ due_too c.args.now c.in_ok-due.due c.self.inside.dues
     (get_or c.self.inside.dues c.in_ok-thread.thread None) c.in_ok-due.ensures

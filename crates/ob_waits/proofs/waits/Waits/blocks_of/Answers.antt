@@ -8,7 +8,7 @@ use Rattle.ob_waits.proofs.waits.Waits.blocks_of.Goals as goal
 pub blocks_of-requires : goal.blocks_of-requires
 blocks_of-requires c =
     let numbers = c.self.invariant.0.right.index_rises.each c.args.id.slot in
-    let few = c.self.invariant.0.few in
+    let few = c.self.invariant.0.at_most in
     let fits = c.self.invariant.0.limit_fits in
     let same = ap (length {A = ℕ}) c.numbers.ensures in
     omega (

@@ -3,9 +3,9 @@ use Rattle.std.proofs.lemmas.Result.{err_from_is_err_and}
 use Rattle.ob_codec.specs.declared.fault.TextFault.TheVariants.{Value}
 use Rattle.ob_codec.specs.Reading.{Fails}
 use Rattle.ob_waits.specs.Rows.{built, rows_within}
-use Rattle.ob_waits.specs.Spelling.{held_parts, waits_at}
+use Rattle.ob_waits.specs.Spelling.{numbered_parts, waits_at}
 use Rattle.ob_waits.specs.Waits.{WaitList}
-use Rattle.ob_waits.specs.declared.held.Held.{Held}
+use Rattle.ob_waits.specs.declared.numbered_wait.NumberedWait.{NumberedWait}
 use Rattle.ob_waits.proofs.ReadLaws.{behind, none_read, read_fails, read_within, rows_read}
 use Rattle.ob_waits.proofs.RowLaws.{too_many}
 use Rattle.ob_waits.proofs.waits.Waits.read.Goals as goal
@@ -18,7 +18,7 @@ returns-then-last-waits-clause-read c =
     c.in_ok-last.ensures c.in_ok-rows.ensures
     ∙ ap (behind c.read_rows.new.from)
     (none_read (rows_within a.threads a.slots rows) (built a.waits a.clock c.in_ok-last.last rows)
-    (too_many a.waits a.clock c.in_ok-last.last (map held_parts rows) c.if-last-waits.true))
+    (too_many a.waits a.clock c.in_ok-last.last (map numbered_parts rows) c.if-last-waits.true))
 
 pub returns-then-not-rows_within-clause-read : goal.returns-then-not-rows_within-clause-read
 returns-then-not-rows_within-clause-read c =
@@ -43,7 +43,7 @@ returns-in_err-put_all-clause-read c =
     ∙ ap (λ (l : WaitList). record l { clock = a.clock }) c.new-read.ensures in
     let fails : Fails fault (built a.waits a.clock last rows) = subst
     (λ (l : WaitList). Fails fault (built l.limit l.clock last rows)) begun
-    (subst (λ (rs : List Held). Fails fault (built c.pass_to.new.self.limit c.pass_to.new.self.clock last rs))
+    (subst (λ (rs : List NumberedWait). Fails fault (built c.pass_to.new.self.limit c.pass_to.new.self.clock last rs))
     c.as_slice-2.ensures.value c.in_err-put_all.ensures) in
     let total = rows_read a.waits a.clock a.threads a.slots last a.from.now c.four.new.self c.read_rows.new.from rows
     c.in_ok-last.ensures c.in_ok-rows.ensures
@@ -63,7 +63,7 @@ returns-clause-read c =
     ∙ ap (λ (l : WaitList). record l { clock = a.clock }) c.new-read.ensures in
     let is : built a.waits a.clock last rows ≡ Ok c.put_all.new.waits = subst
     (λ (l : WaitList). built l.limit l.clock last rows ≡ Ok c.put_all.new.waits) begun
-    (subst (λ (rs : List Held). built c.pass_to.new.self.limit c.pass_to.new.self.clock last rs
+    (subst (λ (rs : List NumberedWait). built c.pass_to.new.self.limit c.pass_to.new.self.clock last rs
     ≡ Ok c.put_all.new.waits) c.as_slice-2.ensures.value c.in_ok-put_all.ensures) in
     rows_read a.waits a.clock a.threads a.slots last a.from.now c.four.new.self c.read_rows.new.from rows
     c.in_ok-last.ensures c.in_ok-rows.ensures

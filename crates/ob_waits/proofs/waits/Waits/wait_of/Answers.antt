@@ -6,6 +6,6 @@ use Rattle.ob_waits.proofs.waits.Waits.wait_of.Goals as goal
 pub returns-clause-kept : goal.returns-clause-kept
 returns-clause-kept c = subst (λ (l : WaitList). IsKept l.waits) c.self.view_is c.self.invariant.0.kept
 
-pub returns-clause-few : goal.returns-clause-few
-returns-clause-few c = subst (λ (l : WaitList). length l.waits ≤ 4294967296) c.self.view_is (let few =
-    c.self.invariant.0.few in let fits = c.self.invariant.0.limit_fits in omega arith)
+pub returns-clause-at_most : goal.returns-clause-at_most
+returns-clause-at_most c = subst (λ (l : WaitList). length l.waits ≤ 4294967296) c.self.view_is (let few =
+    c.self.invariant.0.at_most in let fits = c.self.invariant.0.limit_fits in omega arith)

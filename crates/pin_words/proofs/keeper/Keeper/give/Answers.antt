@@ -8,6 +8,6 @@ pub split_seat-seat-requires : goal.split_seat-seat-requires
 split_seat-seat-requires c = (
   search rules,
   (let wide = wide_at c.deref.ensures c.self.inside.wide in
-      let some = c.self.inside.some in omega arith),
+      let some = c.self.inside.above_zero in omega arith),
   gives _ _ _ (keeper_of c.self.inside.seat.me.0) (ap (λ m. m.0.keeper) c.self.inside.keeps),
 )

@@ -16,7 +16,7 @@ join_seat-requires c = let kv = keeper_of c.self.inside.seat.me.0 in let rv = re
       search rules,
       ap (λ z. z.table_id) seat ∙ (same ∙ c.self.inside.seated ∙ sym (id_at c.deref.ensures)),
       ap (λ z. z.me.1) seat ∙ ap (λ m. m.1) c.reader.inside.reads,
-      (let wide = wide_at c.deref.ensures c.self.inside.wide in let some = c.self.inside.some in omega arith),
+      (let wide = wide_at c.deref.ensures c.self.inside.wide in let some = c.self.inside.above_zero in omega arith),
       joins-any _ _ _ _ _ kv rv (ap (λ m. m.0) c.self.inside.keeps)
           (ap (λ z. z.me.0) seat ∙ ap (λ m. m.0) c.reader.inside.reads),
     )
@@ -38,7 +38,7 @@ split_seat-parted-requires c = let kv = keeper_of c.self.inside.seat.me.0 in
     let both : c.join_seat.new.seat.me.0 ≡ view (Some kv) (Some rv) =
     ap (λ m. m.0) c.join_seat.ensures.2 ∙ λ i. joined (kept i) (read i) in (
       search rules,
-      (let wide = wide_at c.deref-3.ensures c.self.inside.wide in let some = c.self.inside.some in omega arith),
+      (let wide = wide_at c.deref-3.ensures c.self.inside.wide in let some = c.self.inside.above_zero in omega arith),
       parts-any _ _ _ kv (reader_looked rv c.args.slot c.load.result)
           (ap (λ m. m.0) (c.load.ensures.2 c.args.slot c.place_of.ensures).0
           ∙ ap (λ z. looked_view z c.args.slot c.load.result) both),

@@ -6,6 +6,6 @@ use Rattle.pin_words.proofs.keeper.Keeper.of_parts.Goals as goal
 pub split_seat-requires : goal.split_seat-requires
 split_seat-requires c = (
   search rules,
-  (let wide = wide_at c.deref.ensures c.requires.wide in let some = c.requires.some in omega arith),
+  (let wide = wide_at c.deref.ensures c.requires.wide in let some = c.requires.above_zero in omega arith),
   blanks _ _ _,
 )

@@ -23,7 +23,7 @@ invariant_of-self-inside c = let played = c.fetch_or.ensures.2 c.args.slot c.pla
     let one = kept-one (λ k. keeper_published k c.args.slot) c.self.inside.seat.me c.fetch_or.new.seat.me
     c.self.inside.keeps played in
     let changed = slot-changed (keeper_of c.self.inside.seat.me.0) _ _ _ _ _ c.args.slot c.index-was.result.now
-    (λ z. in_phase z Live) one.1 c.self.inside.shaped c.self.inside.knows c.self.inside.long (search rules)
+    (λ z. in_phase z Live) one.1 c.self.inside.shaped c.self.inside.knows c.self.inside.length_is (search rules)
     c.index-was.ensures in search rules
 
 pub returns-clause-view : goal.returns-clause-view

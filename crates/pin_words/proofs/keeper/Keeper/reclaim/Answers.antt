@@ -8,7 +8,8 @@ use Rattle.pin_core.specs.Words.{code_of, decoded, packed}
 use Rattle.pin_core.specs.Events.{reclaimed}
 use Rattle.pin_core.specs.Worlds.{slot_of}
 use Rattle.pin_words.specs.Views.{keeper_of, keeper_reclaimed}
-use Rattle.pin_words.proofs.KeeperSteps.{reclaims-step, word_closing, word_reclaimed}
+use Rattle.pin_words.specs.Laws.{closing_word, next_word}
+use Rattle.pin_words.proofs.KeeperSteps.{reclaims-step}
 use Rattle.pin_words.proofs.Calls.{kept-one, slot-known, slot-changed}
 use Rattle.pin_words.proofs.Owned.{key_at, wide_at}
 use Rattle.pin_words.proofs.keeper.Keeper.reclaim.Goals as goal
@@ -17,16 +18,16 @@ pub compare_exchange-found-requires : goal.compare_exchange-found-requires
 compare_exchange-found-requires c = let lt : c.args.slot < c.self.inside.shape.slots = search rules in
     let was : c.index-was.result.now ≡ slot_of (keeper_of c.self.inside.seat.me.0).slots c.args.slot =
     slot-known _ c.self.inside.slots.items c.args.slot c.index-was.result.now c.self.inside.knows (let long =
-    c.self.inside.long in omega arith) c.index-was.ensures in (
+    c.self.inside.length_is in omega arith) c.index-was.ensures in (
       search rules,
       (let wide = wide_at c.deref.ensures c.self.inside.wide in let at = c.place_of.ensures in omega arith),
       reclaims-step _ _ _ _ _ _ _ _ (keeper_of c.self.inside.seat.me.0) c.place_of.ensures
           (ap (λ m. m.0.keeper) c.self.inside.keeps)
           (subst (λ (k : Shape). c.args.slot < k.slots) (sym (key_at c.deref.ensures c.self.inside.keyed)) lt)
           (search rules)
-          (c.encode.ensures ∙ ap word_closing was)
+          (c.encode.ensures ∙ ap closing_word was)
           (c.encode-2.ensures ∙ (ap (λ (y : Slot). packed y.generation (code_of y.phase) 0) c.reclaimed-next.ensures
-          ∙ λ k. word_reclaimed (ap (λ (z : Shape). z.max_gen) (sym (key_at c.deref.ensures c.self.inside.keyed)) k)
+          ∙ λ k. next_word (ap (λ (z : Shape). z.max_gen) (sym (key_at c.deref.ensures c.self.inside.keyed)) k)
           (was k))),
     )
 
@@ -53,7 +54,7 @@ invariant_of-self-inside-2 c = let played = c.compare_exchange-found.ensures.2 c
     c.index-was.result.now = c.reclaimed-next.ensures ∙ ap (λ n. reclaimed n c.index-was.result.now) max in
     let changed = slot-changed (keeper_of c.self.inside.seat.me.0) _ _ _ _ _ c.args.slot c.index-was.result.now
     (reclaimed (keeper_of c.self.inside.seat.me.0).shape.max_gen) one.1 c.self.inside.shaped c.self.inside.knows
-    c.self.inside.long (search rules) c.index-was.ensures in search rules
+    c.self.inside.length_is (search rules) c.index-was.ensures in search rules
 
 pub returns-clause-reclaims : goal.returns-clause-reclaims
 returns-clause-reclaims c = let played = c.compare_exchange-found.ensures.2 c.args.slot c.place_of.ensures in

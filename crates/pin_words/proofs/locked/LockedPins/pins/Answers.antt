@@ -1,15 +1,16 @@
 use Rattle.std.proofs.Common.{◌≡◌, ◌∙◌, ap, arith}
 use Rattle.pin_core.specs.Holds.{tally}
 use Rattle.pin_core.proofs.Counts.{tally-count}
-use Rattle.pin_words.specs.Views.{sits}
+use Rattle.pin_words.specs.Views.{is_of_slot}
 use Rattle.pin_words.proofs.locked.LockedPins.pins.Goals as goal
 
 pub prove-unreachable-requires : goal.prove-unreachable-requires
-prove-unreachable-requires c = let e : c.pins_at-pins.result ≡ tally (sits c.args.slot) c.self.inside.held.items =
-    c.pins_at-pins.ensures ∙ (tally-count (sits c.args.slot) _ ∙ ap (tally (sits c.args.slot)) c.as_slice.ensures.value)
+prove-unreachable-requires c = let e : c.pins_at-pins.result ≡ tally (is_of_slot c.args.slot) c.self.inside.held.items =
+    c.pins_at-pins.ensures
+    ∙ (tally-count (is_of_slot c.args.slot) _ ∙ ap (tally (is_of_slot c.args.slot)) c.as_slice.ensures.value)
     in
     let room = c.self.inside.room c.args.slot in let over = c.if-prove.true in omega arith
 
 pub returns-clause-count : goal.returns-clause-count
-returns-clause-count c = c.pins_at-pins.ensures ∙ (tally-count (sits c.args.slot) _
-    ∙ ap (tally (sits c.args.slot)) (c.as_slice.ensures.value ∙ ap (λ w. w.held) c.self.view_is))
+returns-clause-count c = c.pins_at-pins.ensures ∙ (tally-count (is_of_slot c.args.slot) _
+    ∙ ap (tally (is_of_slot c.args.slot)) (c.as_slice.ensures.value ∙ ap (λ w. w.held) c.self.view_is))

@@ -2,14 +2,15 @@
 use Rattle.std.proofs.Common.{◌≡◌, ℕ, ◌+◌, ◌<◌, ◌≤◌, List, [], ◌∷◌, length, Option, Some, None, refl, ap, ◌∙◌, sym, arith, get_or, set, map, Bool, true, false, cond, inl, inr, eqb}
 use Rattle.std.specs.Prelude.{count_by, sum_by}
 use Rattle.std.proofs.Math.Seq.{map-set_same}
-use Rattle.std.proofs.lemmas.List.{length-map, get_or-map, get_or_past, ext_get_or}
+use Rattle.std.proofs.Math.ListN.{get_or-map}
+use Rattle.std.proofs.lemmas.List.{length-map, get_or_past, ext_get_or}
 use Rattle.std.proofs.lemmas.List.Sums.{sum_by-set, sum_by-cons}
 use Rattle.std.proofs.lemmas.Bool.{cases_lt}
 use Rattle.std.proofs.lemmas.Bool.Decides.{nat_tests}
 use Rattle.pin_core.specs.declared.id.Id.{Id}
 use Rattle.ob_body.specs.declared.body.Body.{Body}
 use Rattle.ob_waits.specs.declared.wait.Wait.{Wait}
-use Rattle.ob_waits.specs.Deadlines.{is_overdue, lapsed}
+use Rattle.ob_waits.specs.Deadlines.{is_overdue, timed_out}
 use Rattle.ob_waits.specs.Ends.{ended, slot_ended}
 use Rattle.ob_waits.specs.Objects.{Objects}
 use Rattle.ob_waits.specs.Rules.{IsSettled}
@@ -21,30 +22,22 @@ answered_idle : (now code : ℕ) (w : Option Wait) → is_overdue now (answered 
 answered_idle now code None = refl
 answered_idle now code (Some w) = refl
 
-lapsed_idle : (now : ℕ) (w : Option Wait) → is_overdue now w ≡ false → lapsed now w ≡ w
+lapsed_idle : (now : ℕ) (w : Option Wait) → is_overdue now w ≡ false → timed_out now w ≡ w
 lapsed_idle now w idle = ap (λ (b : Bool). cond b (answered w 258) w) idle
 
 -- what is answered before the others is answered as with them
 pub lapsed_twice : (now : ℕ) (ws : List (Option Wait)) (n : ℕ) → is_overdue now (get_or ws n None) ≡ true
-    → map (lapsed now) (set ws n (answered (get_or ws n None) 258)) ≡ map (lapsed now) ws
+    → map (timed_out now) (set ws n (answered (get_or ws n None) 258)) ≡ map (timed_out now) ws
 lapsed_twice now ws n over =
     let w = get_or ws n None in
-    map-set_same (lapsed now) ws n (answered w 258) None (lapsed_idle now (answered w 258) (answered_idle now 258 w)
+    map-set_same (timed_out now) ws n (answered w 258) None (lapsed_idle now (answered w 258) (answered_idle now 258 w)
     ∙ sym (ap (λ (b : Bool). cond b (answered w 258) w) over))
-
-at_lapsed : (now : ℕ) (ws : List (Option Wait)) (n : ℕ)
-    → get_or (map (lapsed now) ws) n None ≡ lapsed now (get_or ws n None)
-at_lapsed now ws n = elim (cases_lt n (length ws)) [
-  | inl lt ↦ get_or-map (lapsed now) ws n None None lt
-  | inr le ↦ get_or_past (map (lapsed now) ws) n None (omega (arith, length-map ws (lapsed now)))
-      ∙ ap (lapsed now) (sym (get_or_past ws n None le))
-]
 
 -- where no time is up nothing is answered
 pub none_lapsed : (now : ℕ) (ws : List (Option Wait)) → ((n : ℕ) → is_overdue now (get_or ws n None) ≡ false)
-    → map (lapsed now) ws ≡ ws
-none_lapsed now ws none = ext_get_or None (map (lapsed now) ws) ws (length-map ws (lapsed now))
-    (λ n lt. at_lapsed now ws n ∙ lapsed_idle now (get_or ws n None) (none n))
+    → map (timed_out now) ws ≡ ws
+none_lapsed now ws none = ext_get_or None (map (timed_out now) ws) ws (length-map ws (timed_out now))
+    (λ n lt. get_or-map (timed_out now) ws n None ∙ lapsed_idle now (get_or ws n None) (none n))
 
 -- with each that is answered one fewer is overdue
 pub fewer_overdue : (now : ℕ) (ws : List (Option Wait)) (n : ℕ) → is_overdue now (get_or ws n None) ≡ true
@@ -65,7 +58,7 @@ fewer_overdue now ws n over =
 
 -- no place of a wait is more than before
 lapsed_either : (f : Option Wait → ℕ) → ((w : Option Wait) → f (answered w 258) ≤ f w) → (now : ℕ) (w : Option Wait)
-    → f (lapsed now w) ≤ f w
+    → f (timed_out now w) ≤ f w
 lapsed_either f less now w = by (is_overdue now w)
   where
     by : (b : Bool) → f (cond b (answered w 258) w) ≤ f w
@@ -73,11 +66,11 @@ lapsed_either f less now w = by (is_overdue now w)
     by false = omega arith
 
 sum_lapsed : (f : Option Wait → ℕ) → ((w : Option Wait) → f (answered w 258) ≤ f w)
-    → (now : ℕ) (ws : List (Option Wait)) → sum_by f (map (lapsed now) ws) ≤ sum_by f ws
+    → (now : ℕ) (ws : List (Option Wait)) → sum_by f (map (timed_out now) ws) ≤ sum_by f ws
 sum_lapsed f less now [] = omega arith
 sum_lapsed f less now (w ∷ ws) = omega (
   arith,
-  sum_by-cons f (lapsed now w) (map (lapsed now) ws),
+  sum_by-cons f (timed_out now w) (map (timed_out now) ws),
   sum_by-cons f w ws,
   lapsed_either f less now w,
   sum_lapsed f less now ws,
@@ -91,18 +84,18 @@ names_answered : (id : Id) (w : Option Wait) → blocks_in id (answered w 258) �
 names_answered id None = omega arith
 names_answered id (Some w) = omega arith
 
-pub slot_lapsed : (k now : ℕ) (ws : List (Option Wait)) → slot_blocks k (map (lapsed now) ws) ≤ slot_blocks k ws
+pub slot_lapsed : (k now : ℕ) (ws : List (Option Wait)) → slot_blocks k (map (timed_out now) ws) ≤ slot_blocks k ws
 slot_lapsed k now ws = sum_lapsed (λ (w : Option Wait). slot_places k (ids_of w)) (places_answered k) now ws
 
 pub blocks_lapsed : (id : Id) (now : ℕ) (ws : List (Option Wait))
-    → blocks_among id (map (lapsed now) ws) ≤ blocks_among id ws
+    → blocks_among id (map (timed_out now) ws) ≤ blocks_among id ws
 blocks_lapsed id now ws = sum_lapsed (blocks_in id) (names_answered id) now ws
 
 -- and none becomes ready
 pub settled_lapsed : (bodies : List (Option Body)) (now : ℕ) (ws : List (Option Wait)) → IsSettled bodies ws
-    → IsSettled bodies (map (lapsed now) ws)
+    → IsSettled bodies (map (timed_out now) ws)
 settled_lapsed bodies now ws settled = record {
-  each = λ n. ap (is_ready bodies) (at_lapsed now ws n)
+  each = λ n. ap (is_ready bodies) (get_or-map (timed_out now) ws n None)
       ∙ by (get_or ws n None) (is_overdue now (get_or ws n None)) (settled.each n);
 }
   where

@@ -1,7 +1,7 @@
 use Rattle.pin_words.proofs.LawOfSteps.{one-world, law-load, law-pin, law-release, law-read, law-publish, law-close, law-reclaim, law-reclaim-failed, law-store, law-held, law-noted, law-gives}
 use Rattle.pin_words.proofs.Reseated.{blanks-shown, joins-shown, parts-shown}
 use Rattle.pin_words.proofs.Calls.{lost-onward, stale-answers}
-use Rattle.pin_words.proofs.law.law_of_steps.Goals as goal
+use Rattle.pin_words.proofs.law.law_of_atomic_steps.Goals as goal
 
 pub returns-clause-safe : goal.returns-clause-safe
 returns-clause-safe c k s w sh = sh.safe

@@ -2,7 +2,7 @@ use crate::wait::Wait;
 
 /// A wait with its number.
 #[derive(Drop)]
-pub struct Held {
+pub struct NumberedWait {
     /// The number.
     pub number: u32,
     /// The wait.
