@@ -334,10 +334,12 @@ static uint32_t pinning;
 
 static void *pin_all(void *given) {
     pinner *p = given;
+    om_reader r = p->r; /* of its own: what is given lies beside what the calling thread writes */
+    om_object object = p->object;
     uint64_t started = nanoseconds(CLOCK_THREAD_CPUTIME_ID);
     for (uint32_t i = 0; i < PINS; i++) {
-        must(om_reader_pin(&p->r, p->object.slot, p->object.generation), OM_SUCCESS);
-        must(om_reader_unpin(&p->r, p->object.slot, p->object.generation), OM_SUCCESS);
+        must(om_reader_pin(&r, object.slot, object.generation), OM_SUCCESS);
+        must(om_reader_unpin(&r, object.slot, object.generation), OM_SUCCESS);
     }
     p->taken = nanoseconds(CLOCK_THREAD_CPUTIME_ID) - started;
     __atomic_fetch_sub(&pinning, 1, __ATOMIC_SEQ_CST);
