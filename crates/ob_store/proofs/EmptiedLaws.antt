@@ -1,5 +1,5 @@
 -- The entries of a table leave one after another.
-use Rattle.std.proofs.Common.{◌≡◌, ℕ, zero, suc, add-one, ◌+◌, ◌*◌, ◌<◌, List, [], ◌∷◌, length, Option, Some, None, refl, ap, ◌∙◌, sym, subst, arith, get_or, set, set-set, false, cond, ltb}
+use Rattle.std.proofs.Common.{◌≡◌, ℕ, zero, suc, add-one, ◌+◌, ◌*◌, ◌<◌, List, [], ◌∷◌, length, Option, Some, None, refl, ap, ◌∙◌, sym, subst, arith, get_or, set, set-set, Bool, false, cond, eqb, ltb}
 use Rattle.std.proofs.Math.Nat.{mul-div_cancel_left}
 use Rattle.std.proofs.lemmas.List.{get_or-set_same, length-set, set-get_or}
 use Rattle.std.proofs.lemmas.Bool.Decides.{nat_tests}
@@ -7,21 +7,20 @@ use Rattle.ob_tables.specs.declared.entry.Entry.{Entry}
 use Rattle.ob_tables.specs.Table.{entry_at, place_of, without_entry}
 use Rattle.ob_tables.specs.Tables.{HandleTables, table_of, without_entries, without_entry_of}
 use Rattle.ob_tables.proofs.Counting.{without_found}
-use Rattle.std.specs.Prelude.{IfSome}
-use Rattle.std.specs.Option.{option_map}
+use Rattle.std.specs.Prelude.{IsSome}
 use Rattle.pin_words.specs.Keepers.{KeeperState}
 use Rattle.ob_name.specs.Listing.{Rows}
 use Rattle.ob_store.specs.Agreement.{IsTied}
 use Rattle.ob_store.specs.Ends.{process_ended}
 use Rattle.ob_store.specs.Kept.{IsSound}
 use Rattle.ob_store.specs.Moves.{rows_left}
-use Rattle.ob_store.specs.Objects.{Object, ObjectsState, without_handle_of}
+use Rattle.ob_store.specs.Objects.{ObjectsState, name_in, without_handle_of}
 use Rattle.ob_store.specs.Parts.{PartsState}
 use Rattle.ob_store.specs.State.{State}
 use Rattle.ob_store.specs.UnderWay.{AreLeft, IsEnding, IsUnderWay, tables_left, with_left, without_first}
 use Rattle.ob_store.proofs.EndingLaws.{ending_process}
 use Rattle.ob_store.proofs.EnoughLaws.{enough_left}
-use Rattle.ob_store.proofs.LeavingLaws.{bodies_left, held, sound_left, way_left}
+use Rattle.ob_store.proofs.LeavingLaws.{bodies_left, held, seated, sound_left, way_left}
 
 -- the value of a place
 place_is : (place : ℕ) → place_of (4 * (place + 1)) ≡ place
@@ -104,18 +103,21 @@ module _ (p : PartsState) (process : ℕ) (places : List (Option Entry)) (n : �
   pub left_held : 0 < get_or p.objects.seen.handles e.id.slot 0
   left_held = held before process value e sound tied found
 
-  module _ {S : Type 0} (seat : Option S) (handles_of : S → ℕ) (object_of : S → Object) (q : ObjectsState) (rows : Rows)
+  pub left_seated : (q : ObjectsState) → q ≡ without_handle_of p.objects e.id.slot
+      → IsSome (get_or q.objects e.id.slot None)
+  left_seated = seated before process value e sound tied found
+
+  module _ (was_last : Bool) (q : ObjectsState) (rows : Rows)
       (is : q ≡ without_handle_of p.objects e.id.slot)
-      (object : get_or q.objects e.id.slot None ≡ option_map object_of seat)
-      (handles : IfSome seat (λ s. get_or q.seen.handles e.id.slot 0 ≡ handles_of s))
-      (names : rows ≡ rows_left p.rows (option_map handles_of seat) (option_map object_of seat)) where
+      (last : was_last ≡ eqb (get_or p.objects.seen.handles e.id.slot 0) 1)
+      (names : rows ≡ rows_left p.rows was_last (name_in (get_or q.objects e.id.slot None))) where
     abbrev after : List (List (Option Entry)) → PartsState
     after tables = record p { tables = record p.tables { tables = tables }; objects = q; rows = rows }
 
     pub next_sound : IsSound (with_left (record p { objects = q; rows = rows }) process places (n + 1))
     next_sound = subst (λ (t : List (List (Option Entry))). IsSound (after t))
         (left_some p.tables.tables process places n within e here)
-        (sound_left before process value e sound tied found seat handles_of object_of q rows is object handles names)
+        (sound_left before process value e sound tied found was_last q rows is last names)
 
     pub next_ending : IsTied q → (first : KeeperState) (s : State) → IsEnding first (with_left p process places n) s
         → IsEnding first (with_left (record p { objects = q; rows = rows }) process places (n + 1))
@@ -123,7 +125,7 @@ module _ (p : PartsState) (process : ℕ) (places : List (Option Entry)) (n : �
     next_ending done first s ending = record {
       under_way = subst (λ (t : List (List (Option Entry))). IsUnderWay first (after t) (record s { tables = t }))
           (left_some p.tables.tables process places n within e here)
-          (way_left before process value e sound tied found seat handles_of object_of q rows is object handles names
+          (way_left before process value e sound tied found was_last q rows is last names
           done first s ending.under_way);
       enough = enough_left p.signaled p.objects.seen.bodies q.seen.bodies p.waits.waits
           (subst (λ (x : ObjectsState). AreLeft p.objects.seen.bodies x.seen.bodies) (sym is)

@@ -5,7 +5,7 @@ use Rattle.std.proofs.lemmas.List.{get_or_default}
 use Rattle.ob_name.specs.Names.{ObjectName}
 use Rattle.ob_store.specs.declared.label.Label.{Label}
 use Rattle.ob_store.specs.declared.seat.Seat.{Seat}
-use Rattle.ob_store.specs.Objects.{Object, Tag, object_at, object_of, objects_in, no_tag, tag_of, tags_in}
+use Rattle.ob_store.specs.Objects.{Object, Tag, name_in, object_at, object_of, objects_in, no_tag, tag_of, tags_in}
 
 pub object_read : (xs : List (Option Seat)) (ls : List Tag) (k : ℕ)
     → get_or (objects_in xs ls) k None ≡ object_at (get_or xs k None) (get_or ls k no_tag)
@@ -85,6 +85,21 @@ tag_read (m ∷ ls) [] k l n is named labelled within = absurd (omega (arith, wi
 tag_read (m ∷ ls) (o ∷ ns) zero l n is named labelled within = λ i. tag_of (is i) (named i)
 tag_read (m ∷ ls) (o ∷ ns) (suc k) l n is named labelled within =
     tag_read ls ns k l n is named (omega (arith, labelled)) (omega (arith, within))
+
+-- an object has the name that stands beside its label, where that says so
+pub name_here : (xs : List (Option Seat)) (ls : List Label) (ns : List (Option ObjectName)) (k : ℕ) (l : Label)
+    (n : Option ObjectName) → IsSome (get_or (objects_in xs (tags_in ls ns)) k None) → l ≡ get_or ls k l
+    → n ≡ get_or ns k n → k < length ls → k < length ns
+    → cond l.is_named n None ≡ name_in (get_or (objects_in xs (tags_in ls ns)) k None)
+name_here xs ls ns k l n there is named labelled within =
+    sym (ap name_in (object_read xs (tags_in ls ns) k)
+    ∙ by (get_or xs k None) (get_or (tags_in ls ns) k no_tag) (seat_there xs (tags_in ls ns) k there)
+    ∙ ap (λ (t : Tag). t.name) (get_or_default (tags_in ls ns) k no_tag (tag_of l n)
+    (subst (λ m. k < m) (sym (tags_length ls ns)) labelled) ∙ sym (tag_read ls ns k l n is named labelled within)))
+  where
+    by : (x : Option Seat) (t : Tag) → IsSome x → name_in (object_at x t) ≡ t.name
+    by None t there = absurd (cc there)
+    by (Some x) t there = refl
 
 -- a label comes without a name, or with one
 pub tags_plain : (ls : List Label) (ns : List (Option ObjectName)) (k : ℕ) (l : Label) → l.is_named ≡ false

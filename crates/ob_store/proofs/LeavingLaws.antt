@@ -1,8 +1,6 @@
 -- The entry of a handle leaves: what is sound stays so, and is on its way to the settled state.
-use Rattle.std.proofs.Common.{◌≡◌, ℕ, ◌<◌, List, length, Option, Some, None, refl, ap, ◌∙◌, sym, subst, arith, get_or, Bool, true, false, cond, eqb}
-use Rattle.std.proofs.lemmas.Option.{same_Some}
-use Rattle.std.specs.Prelude.{is_some, IsSome, IfSome}
-use Rattle.std.specs.Option.{option_map}
+use Rattle.std.proofs.Common.{◌≡◌, ℕ, ◌+◌, ◌<◌, List, length, Option, Some, None, refl, ap, ◌∙◌, sym, subst, arith, get_or, Bool, true, false, cond, eqb}
+use Rattle.std.specs.Prelude.{is_some, IsSome}
 use Rattle.std.proofs.lemmas.List.{length-set}
 use Rattle.std.proofs.lemmas.Bool.Decides.{nat_tests}
 use Rattle.pin_core.specs.declared.word.Phase.TheVariants as phase
@@ -15,7 +13,7 @@ use Rattle.ob_tables.specs.Table.{entry_at}
 use Rattle.ob_tables.specs.Counts.{handles_among}
 use Rattle.ob_tables.specs.Tables.{table_of, without_entry_of}
 use Rattle.ob_waits.proofs.Room.{room_changed}
-use Rattle.ob_store.specs.Objects.{Object, ObjectsState, places_in, is_last_handle, without_handle_of, opened}
+use Rattle.ob_store.specs.Objects.{Object, ObjectsState, name_in, places_in, is_last_handle, without_handle_of, opened}
 use Rattle.ob_store.specs.Agreement.{IsTied}
 use Rattle.ob_store.specs.Kept.{IsThere, IsNamed, IsListing, IsSound}
 use Rattle.ob_store.specs.Moves.{OnlyCloses, rows_left, rows_without}
@@ -58,8 +56,9 @@ module _ (p : PartsState) (process value : ℕ) (e : Entry)
   has_body : is_some (get_or p.objects.seen.bodies e.id.slot None) ≡ true
   has_body = tied.bodied.each e.id.slot ∙ grind (arith, nat_tests, held)
 
-  seated : IsSome (get_or p.objects.objects e.id.slot None)
-  seated = let x = there_some o.objects e.id there in ap is_some x.1
+  pub seated : (q : ObjectsState) → q ≡ without_handle_of p.objects e.id.slot → IsSome (get_or q.objects e.id.slot None)
+  seated q is = ap (λ (x : ObjectsState). is_some (get_or x.objects e.id.slot None)) is
+      ∙ ap is_some (there_some o.objects e.id there).1
 
   -- the slot closes, if it does, from where it is live
   only_closes : OnlyCloses p.objects.keeper (without_handle_of p.objects e.id.slot).keeper
@@ -108,14 +107,14 @@ module _ (p : PartsState) (process value : ℕ) (e : Entry)
     listing = listing;
   }
 
-  -- the handles that are left
-  handles_left : get_or (without_handle_of p.objects e.id.slot).seen.handles e.id.slot 0
-      ≡ handles_among e.id (without_entry_of p.tables.tables process value)
-  handles_left =
-      handles_at handle_left.seen (length o.objects) tables_after p.waits.waits
-      (counted_removed o.seen (length o.objects) p.tables.tables p.waits.waits sound.counted handle_left.seen.bodies
-      process value e found) e.id.slot within
-      ∙ handles_are o.objects tables_after p.waits.waits named_after e.id there
+  -- the handles that there were
+  handles_were : get_or p.objects.seen.handles e.id.slot 0
+      ≡ handles_among e.id (without_entry_of p.tables.tables process value) + 1
+  handles_were =
+      let a = handles_at o.seen (length o.objects) p.tables.tables p.waits.waits sound.counted e.id.slot within in
+      let b = one_less o.seen (length o.objects) p.tables.tables p.waits.waits sound.counted process value e found in
+      let c = handles_are o.objects tables_after p.waits.waits named_after e.id there in
+      omega (arith, a, b, c)
 
   listing_zero : (x : Object) → get_or p.objects.objects e.id.slot None ≡ Some x → x.id ≡ e.id
       → handles_among e.id (without_entry_of p.tables.tables process value) ≡ 0 → (name : Option ObjectName)
@@ -127,36 +126,31 @@ module _ (p : PartsState) (process value : ℕ) (e : Entry)
   listing_zero x at own none (Some name) is = listing_name_removed p.rows p.tables.tables o.objects o.births
       sound.listing (placed_agreed o tied.agreed) process value e x name tied.born found none at own is
 
-  -- the names that are left, by what is looked up of the object
-  module _ {S : Type 0} (seat : Option S) (handles_of : S → ℕ) (object_of : S → Object) (q : ObjectsState) (rows : Rows)
+  -- with the last handle the name of the object leaves
+  module _ (was_last : Bool) (q : ObjectsState) (rows : Rows)
       (is : q ≡ without_handle_of p.objects e.id.slot)
-      (object : get_or q.objects e.id.slot None ≡ option_map object_of seat)
-      (handles : IfSome seat (λ s. get_or q.seen.handles e.id.slot 0 ≡ handles_of s))
-      (names : rows ≡ rows_left p.rows (option_map handles_of seat) (option_map object_of seat)) where
-    listing_looked : IsListing rows (without_entry_of p.tables.tables process value) p.objects.objects p.objects.births
-    listing_looked = subst (λ (r : Rows). IsListing r tables_after o.objects o.births) (sym names)
-        (by seat (sym (ap (λ (x : ObjectsState). get_or x.objects e.id.slot None) is) ∙ object) handles)
+      (last : was_last ≡ eqb (get_or p.objects.seen.handles e.id.slot 0) 1)
+      (names : rows ≡ rows_left p.rows was_last (name_in (get_or q.objects e.id.slot None))) where
+    listing_left : IsListing rows (without_entry_of p.tables.tables process value) p.objects.objects p.objects.births
+    listing_left = subst (λ (r : Rows). IsListing r tables_after o.objects o.births) (sym names)
+        (by was_last (sym last))
       where
-        left : (n : ℕ) (x : Object) → x.id ≡ e.id → get_or p.objects.objects e.id.slot None ≡ Some x
-            → n ≡ handles_among e.id (without_entry_of p.tables.tables process value) → (b : Bool) → eqb n 0 ≡ b
-            → IsListing (cond b (rows_without p.rows x.name) p.rows)
-            (without_entry_of p.tables.tables process value) p.objects.objects p.objects.births
-        left n x own at count true zero_is = listing_zero x at own (let z : n ≡ 0 = grind (arith, nat_tests, zero_is) in
-            omega (arith, count, z)) x.name refl
-        left n x own at count false some_is = listing_removed p.rows p.tables.tables o.objects o.births sound.listing
-            process value e found (let z : 0 < n = grind (arith, nat_tests, some_is) in omega (arith, count, z))
+        its_name : name_in (get_or q.objects e.id.slot None) ≡ (there_some o.objects e.id there).0.name
+        its_name = ap (λ (x : ObjectsState). name_in (get_or x.objects e.id.slot None)) is
+            ∙ ap name_in (there_some o.objects e.id there).1
 
-        by : (seat : Option S) → get_or p.objects.objects e.id.slot None ≡ option_map object_of seat
-            → IfSome seat (λ s. get_or q.seen.handles e.id.slot 0 ≡ handles_of s)
-            → IsListing (rows_left p.rows (option_map handles_of seat) (option_map object_of seat))
+        by : (b : Bool) → eqb (get_or p.objects.seen.handles e.id.slot 0) 1 ≡ b
+            → IsListing (cond b (rows_without p.rows (name_in (get_or q.objects e.id.slot None))) p.rows)
             (without_entry_of p.tables.tables process value) p.objects.objects p.objects.births
-        by None at count = absurd (let none = ap is_some at in let some = seated in cc (none, some))
-        by (Some s) at count =
+        by true one =
             let x = there_some o.objects e.id there in
-            let same : x.0 ≡ object_of s = same_Some _ _ (sym x.1 ∙ at) in
-            left (handles_of s) (object_of s) (ap (λ (z : Object). z.id) (sym same) ∙ x.2) at (sym count
-            ∙ ap (λ (z : ObjectsState). get_or z.seen.handles e.id.slot 0) is
-            ∙ handles_left) (eqb (handles_of s) 0) refl
+            subst (λ (n : Option ObjectName). IsListing (rows_without p.rows n) tables_after o.objects o.births)
+            (sym its_name) (listing_zero x.0 x.1 x.2
+            (let h : get_or p.objects.seen.handles e.id.slot 0 ≡ 1 = grind (arith, nat_tests, one) in
+            let were = handles_were in omega (arith, h, were)) x.0.name refl)
+        by false more = listing_removed p.rows p.tables.tables o.objects o.births sound.listing process value e found
+            (let h : 1 < get_or p.objects.seen.handles e.id.slot 0 = grind (arith, nat_tests, more, held) in
+            let were = handles_were in omega (arith, h, were))
 
     abbrev pub removed : PartsState
     removed = record p {
@@ -170,7 +164,7 @@ module _ (p : PartsState) (process value : ℕ) (e : Entry)
       tables = record p.tables { tables = tables_after };
       objects = x;
       rows = rows;
-    })) (sym is) (sound_removed rows listing_looked)
+    })) (sym is) (sound_removed rows listing_left)
 
     pub way_left : IsTied q → (first : KeeperState) (s : State) → IsUnderWay first p s
         → IsUnderWay first removed (record s { tables = without_entry_of p.tables.tables process value })

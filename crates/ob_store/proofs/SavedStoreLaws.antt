@@ -36,7 +36,7 @@ use Rattle.ob_store.specs.SavedLimitLaws.{limits_codec}
 use Rattle.ob_store.specs.SavedObjects.{begun_over, objects_at, objects_text, slots_saved}
 use Rattle.ob_store.specs.SavedProcesses.{ListsFit, processes_at, processes_text}
 use Rattle.ob_store.specs.SavedSlots.{SlotFits, keeper_slot, object_text, slot_text}
-use Rattle.ob_store.specs.SavedStore.{are_tabled, is_moment, moment_at, parts_at, begun_again, slot_bytes, store_at, store_text, tables_for, whole_with}
+use Rattle.ob_store.specs.SavedStore.{are_tabled, is_moment, lists_at, moment_at, parts_at, begun_again, slot_bytes, store_at, store_text, tables_for, behind_lists, whole_with}
 use Rattle.ob_store.specs.State.{Whole, generation_of, shape_of}
 use Rattle.ob_store.proofs.NamedLaws.{place_counted, there_within}
 use Rattle.ob_store.proofs.PlacedLaws.{live_within}
@@ -286,6 +286,30 @@ tables_were limits p bytes t rest are e =
     subst (λ (z : HandleTables × List ℕ). Takes bytes (tables_text z.0.tables) z.1) g.1
     (tables_take limits.processes limits.handles bytes a.0.0 a.0.1 are a.1).0
 
+-- and so was what stands before the objects
+lists_were : (limits : Limits) (clock : ℕ) (bytes : List ℕ) (l : (ProcessesState × (HandleTables × WaitList)) × List ℕ)
+    → AreBytes bytes → lists_at limits clock bytes ≡ Ok l
+    → (bytes ≡ processes_text l.0.0 ++ (tables_text l.0.1.0.tables ++ (waits_text l.0.1.1.waits ++ l.1)))
+    × (AreBytes l.1 × (l.0.1.1.clock ≡ clock))
+lists_were limits clock bytes l are e =
+    let c = bind_ok (processes_at limits.processes limits.threads bytes) _ l e in
+    let p = c.0.0 in
+    let lc = ((processes_codec limits.processes limits.threads).takes bytes p c.0.1 are c.1).0 in
+    let d = bind_ok (tables_for limits p c.0.1) _ l c.2 in
+    let t = d.0.0 in
+    let ld = tables_were limits p c.0.1 t d.0.1 lc.rest_fits d.1 in
+    let f = bind_ok (waits_at limits.waits clock (length p.threads) limits.slots d.0.1) _ l d.2 in
+    let list = f.0.0 in
+    let lf = (waits_take limits.waits clock (length p.threads) limits.slots d.0.1 list f.0.1 ld.rest_fits f.1).0 in
+    let texts : bytes ≡ processes_text p ++ (tables_text t.tables ++ (waits_text list.waits ++ f.0.1)) =
+    lc.parts ∙ ap (λ (z : List ℕ). processes_text p ++ z)
+    (ld.parts ∙ ap (λ (z : List ℕ). tables_text t.tables ++ z) lf.parts) in
+    let moment = waits_moment limits.waits clock (length p.threads) limits.slots d.0.1 list f.0.1 f.1 in
+    subst (λ (l : (ProcessesState × (HandleTables × WaitList)) × List ℕ).
+    (bytes ≡ processes_text l.0.0 ++ (tables_text l.0.1.0.tables ++ (waits_text l.0.1.1.waits ++ l.1)))
+    × (AreBytes l.1 × (l.0.1.1.clock ≡ clock))) (ok_is ((p, (t, list)), f.0.1) l f.2)
+    (texts, (lf.rest_fits, moment))
+
 pub store_takes : (bytes : List ℕ) (w : Whole) (rest : List ℕ) → AreBytes bytes → store_at bytes ≡ Ok (w, rest)
     → Takes bytes (store_text w) rest
 store_takes bytes w rest are e =
@@ -295,31 +319,26 @@ store_takes bytes w rest are e =
     let b = bind_ok (moment_at a.0.1) _ (w, rest) a.2 in
     let lb = (moment_codec.takes a.0.1 b.0.0 b.0.1 la.rest_fits b.1).0 in
     let h = bind_ok (has_at (limits.slots * slot_bytes) b.0.1) _ (w, rest) b.2 in
-    let c = bind_ok (processes_at limits.processes limits.threads b.0.1) _ (w, rest) h.2 in
-    let p = c.0.0 in
-    let lc = ((processes_codec limits.processes limits.threads).takes b.0.1 p c.0.1 lb.rest_fits c.1).0 in
-    let d = bind_ok (tables_for limits p c.0.1) _ (w, rest) c.2 in
-    let t = d.0.0 in
-    let ld = tables_were limits p c.0.1 t d.0.1 lc.rest_fits d.1 in
-    let f = bind_ok (waits_at limits.waits b.0.0 (length p.threads) limits.slots d.0.1) _ (w, rest) d.2 in
-    let list = f.0.0 in
-    let lf = (waits_take limits.waits b.0.0 (length p.threads) limits.slots d.0.1 list f.0.1 ld.rest_fits f.1).0 in
-    let g = bind_ok (objects_at limits p.threads t.tables list f.0.1) _ (w, rest) f.2 in
+    let l = bind_ok (lists_at limits b.0.0 b.0.1) (behind_lists limits) (w, rest) h.2 in
+    let ll = lists_were limits b.0.0 b.0.1 l.0 lb.rest_fits l.1 in
+    let p = l.0.0.0 in
+    let t = l.0.0.1.0 in
+    let list = l.0.0.1.1 in
+    let g = bind_ok (objects_at limits p.threads t.tables list l.0.1) _ (w, rest) l.2 in
     let o = g.0.0.0 in
-    let lg = objects_take limits p.threads t.tables list f.0.1 o g.0.0.1 g.0.1 lf.rest_fits g.1 in
+    let lg = objects_take limits p.threads t.tables list l.0.1 o g.0.0.1 g.0.1 ll.1.0 g.1 in
     let q : (whole_with limits p t list o, g.0.1) ≡ (w, rest) =
     ok_is (whole_with limits p t list o, g.0.1) (w, rest) g.2
     in
-    let moment = waits_moment limits.waits b.0.0 (length p.threads) limits.slots d.0.1 list f.0.1 f.1 in
     let texts : bytes ≡ limits_text limits ++ (to_le_bytes w64 b.0.0 ++ (processes_text p ++ (tables_text t.tables
     ++ (waits_text list.waits ++ (objects_text o ++ g.0.1))))) =
     la.parts ∙ ap (λ (z : List ℕ). limits_text limits ++ z) (lb.parts ∙ ap (λ (z : List ℕ). to_le_bytes w64 b.0.0 ++ z)
-    (lc.parts ∙ ap (λ (z : List ℕ). processes_text p ++ z) (ld.parts ∙ ap (λ (z : List ℕ). tables_text t.tables ++ z)
-    (lf.parts ∙ ap (λ (z : List ℕ). waits_text list.waits ++ z) lg.parts)))) in
+    (ll.0 ∙ ap (λ (z : List ℕ). processes_text p ++ (tables_text t.tables ++ (waits_text list.waits ++ z)))
+    lg.parts)) in
     subst (λ (z : Whole × List ℕ). Takes bytes (store_text z.0) z.1) q (record {
       parts =
           subst (λ (n : ℕ). bytes ≡ limits_text limits ++ (to_le_bytes w64 n ++ (processes_text p
-          ++ (tables_text t.tables ++ (waits_text list.waits ++ (objects_text o ++ g.0.1)))))) (sym moment) texts
+          ++ (tables_text t.tables ++ (waits_text list.waits ++ (objects_text o ++ g.0.1)))))) (sym ll.1.1) texts
           ∙ sym (behind_six (limits_text limits) (to_le_bytes w64 list.clock) (processes_text p)
           (tables_text t.tables) (waits_text list.waits) (objects_text o) g.0.1);
       rest_fits = lg.rest_fits;

@@ -1,11 +1,11 @@
 -- What a change of the store says of the keeper.
-use Rattle.std.specs.Prelude.{◌≡◌, ℕ, ◌==◌, Option, Some, None, if◌then◌else◌}
+use Rattle.std.specs.Prelude.{◌≡◌, ℕ, Bool, Option, Some, None, if◌then◌else◌}
 use Rattle.pin_words.specs.Keepers.{KeeperState}
 use Rattle.pin_words.specs.declared.pin_keeper.Reclaim.{Reclaim}
 use Rattle.pin_words.specs.declared.pin_keeper.Reclaim.TheVariants as outcome
 use Rattle.ob_name.specs.Names.{ObjectName}
 use Rattle.ob_name.specs.Listing.{Rows, without_name}
-use Rattle.ob_store.specs.Objects.{Object, opened}
+use Rattle.ob_store.specs.Objects.{opened}
 use Rattle.ob_store.specs.State.{State, freed, given_up}
 
 -- nothing of the keeper changed but that slots close: which, the state says, where objects have no body any more
@@ -23,7 +23,5 @@ abbrev pub rows_without : Rows → Option ObjectName → Rows
 rows_without rows None = rows
 rows_without rows (Some name) = without_name name rows
 
-abbrev pub rows_left : Rows → Option ℕ → Option Object → Rows
-rows_left rows None x = rows
-rows_left rows (Some handles) None = rows
-rows_left rows (Some handles) (Some o) = if handles == 0 then rows_without rows o.name else rows
+abbrev pub rows_left : Rows → Bool → Option ObjectName → Rows
+rows_left rows was_last name = if was_last then rows_without rows name else rows

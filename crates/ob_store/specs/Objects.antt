@@ -77,6 +77,11 @@ no_tag = tag_of no_label None
 abbrev pub object_of : Seat → Tag → Object
 object_of seat tag = record { id = seat.id; birth = tag.birth; descr = tag.descr; grant = seat.grant; name = tag.name }
 
+-- the name of an object, if there is one
+abbrev pub name_in : Option Object → Option ObjectName
+name_in None = None
+name_in (Some object) = object.name
+
 abbrev pub object_at : Option Seat → Tag → Option Object
 object_at None tag = None
 object_at (Some seat) tag = Some (object_of seat tag)

@@ -66,6 +66,20 @@ whole_with limits p t w o = record {
 abbrev pub tables_for : Limits → ProcessesState → List ℕ → Read HandleTables
 tables_for limits p = where_at (are_tabled p) (tables_at limits.processes limits.handles)
 
+-- processes and threads, handle tables and waits, one behind the other
+abbrev pub lists_at : Limits → ℕ → List ℕ → Read (ProcessesState × (HandleTables × WaitList))
+lists_at limits clock bytes = do
+  p ← processes_at limits.processes limits.threads bytes
+  t ← tables_for limits p.0 p.1
+  w ← waits_at limits.waits clock (length p.0.threads) limits.slots t.1
+  Ok ((p.0, (t.0, w.0)), w.1)
+
+-- the whole state, once these are read and slots with their objects stand behind them
+abbrev pub behind_lists : Limits → (ProcessesState × (HandleTables × WaitList)) × List ℕ → Read Whole
+behind_lists limits l = do
+  o ← objects_at limits l.0.0.threads l.0.1.0.tables l.0.1.1 l.1
+  Ok (whole_with limits l.0.0 l.0.1.0 l.0.1.1 o.0.0, o.1)
+
 -- how many bytes a slot has at least: its generation, and two flags
 abbrev pub slot_bytes : ℕ
 slot_bytes = 6
@@ -75,11 +89,8 @@ slot_bytes = 6
 abbrev pub parts_at : Limits → ℕ → List ℕ → Read Whole
 parts_at limits clock bytes = do
   there ← has_at (limits.slots * slot_bytes) bytes
-  p ← processes_at limits.processes limits.threads bytes
-  t ← tables_for limits p.0 p.1
-  w ← waits_at limits.waits clock (length p.0.threads) limits.slots t.1
-  o ← objects_at limits p.0.threads t.0.tables w.0 w.1
-  Ok (whole_with limits p.0 t.0 w.0 o.0.0, o.1)
+  l ← lists_at limits clock bytes
+  behind_lists limits l
 
 abbrev pub store_at : List ℕ → Read Whole
 store_at bytes = do

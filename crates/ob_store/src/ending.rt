@@ -143,9 +143,10 @@ impl<K: PinKeeper> Parts<K> {
         let Some(entry) = places[place] else {
             return;
         };
-        self.objects.handle_left(entry.id.slot);
+        let slot = entry.id.slot;
+        let was_last = self.objects.handle_left(slot);
         self.objects.kept();
-        leave_directory(&mut self.names, self.objects.look(entry.id.slot));
+        leave_directory(&mut self.names, &self.objects, slot, was_last);
     }
 
     /// Removes the entries that were taken out of the table of a process, by rising value.

@@ -1,14 +1,13 @@
-ghost use Rattle.std.specs.Prelude.{◌≡◌, ◌<◌, ◌↔◌, ◌⊎◌, Err, IfErr, IfOk, IsSome, OnErr, OnOk, Some, length, true};
+ghost use Rattle.std.specs.Prelude.{◌≡◌, ◌<◌, ◌↔◌, ◌⊎◌, Err, IfErr, IfOk, IsSome, None, OnErr, OnOk, Some, length, slice_index_or, true};
 ghost use Rattle.ob_rights.specs.declared.fault.Fault.TheVariants.{Limit, Memory};
 ghost use Rattle.ob_tables.specs.Counts.{entries_in, handles_among};
 ghost use Rattle.ob_tables.specs.Table.{entry_at, free_place, is_packed, value_of};
 ghost use Rattle.ob_tables.specs.Tables.{table_of};
 ghost use Rattle.ob_store.specs.State.{settled, with_entry, with_flags, without_entry};
-ghost use Rattle.std.specs.Option.{option_map};
-ghost use Rattle.ob_store.specs.Objects.{object_of, tag_of};
+ghost use Rattle.ob_store.specs.Objects.{name_in};
 ghost use Rattle.ob_store.specs.Moves.{OnlyCloses, rows_left};
 
-use crate::found::Found;
+use crate::objects::Objects;
 use crate::store::Store;
 use ob_name::Directory;
 use ob_rights::{Fault, HandleFlags};
@@ -56,12 +55,10 @@ impl<K: PinKeeper> Store<K> {
     {
         self.parts.objects.kept();
         let _ = self.parts.tables.remove(process, handle);
-        self.parts.objects.handle_left(entry.id.slot);
+        let slot = entry.id.slot;
+        let was_last = self.parts.objects.handle_left(slot);
         self.parts.objects.kept();
-        leave_directory(
-            &mut self.parts.names,
-            self.parts.objects.look(entry.id.slot),
-        );
+        leave_directory(&mut self.parts.names, &self.parts.objects, slot, was_last);
     }
 
     /// Sets the flags of a handle's entry.
@@ -74,22 +71,22 @@ impl<K: PinKeeper> Store<K> {
     }
 }
 
-/// Removes the name of an object from the directory, where the object has no handle left.
+/// Removes the name of the object in a slot from the directory, where the handle that left was its last one.
 #[inline(always)]
-pub(crate) fn leave_directory(names: &mut Directory, found: Option<Found<'_>>)
-    ensures { names.new.rows ≡ rows_left names.old.rows (option_map (λ f. f.seat.now.handles) found.entry)
-        (option_map (λ f. object_of f.seat.now (tag_of f.label.now f.name.now)) found.entry) }
+pub(crate) fn leave_directory<K: PinKeeper>(
+    names: &mut Directory,
+    objects: &Objects<K>,
+    slot: u32,
+    was_last: bool,
+)
+    requires { IsSome (slice_index_or objects.now.objects slot None) }
+    ensures { names.new.rows ≡ rows_left names.old.rows was_last
+        (name_in (slice_index_or objects.now.objects slot None)) }
 {
-    let Some(found) = found else {
-        return;
-    };
-    if found.seat.handles > 0 {
+    if !was_last {
         return;
     }
-    if !found.label.is_named {
-        return;
-    }
-    let Some(name) = found.name else {
+    let Some(name) = objects.name(slot) else {
         return;
     };
     let _ = names.remove(&name.borrowed());

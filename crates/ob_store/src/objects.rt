@@ -1,4 +1,4 @@
-ghost use Rattle.std.specs.Prelude.{◌≡◌, ℕ, ◌+◌, ◌<◌, ◌≤◌, false, true, IfNone, IfOk, IfErr, IfSome, IsSome, IsTrue};
+ghost use Rattle.std.specs.Prelude.{◌≡◌, ℕ, ◌+◌, ◌<◌, ◌≤◌, ◌==◌, false, true, IfNone, IfOk, IfErr, IfSome, IsSome, IsTrue};
 ghost use Rattle.std.specs.Prelude.{None, Some, is_some, length, slice_index_or};
 ghost use Rattle.std.specs.Option.{option_map};
 ghost use Rattle.pin_words.specs.Keepers.{IsFresh};
@@ -9,7 +9,7 @@ ghost use Rattle.ob_arena.specs.Slots.{is_vacant_at, least_vacant};
 ghost use Rattle.ob_waits.specs.Waits.{nowhere};
 ghost use Rattle.ob_store.specs.Closing.{is_closing_in};
 ghost use Rattle.ob_store.specs.Owners.{owns_at};
-ghost use Rattle.ob_store.specs.Objects.{changed_at, kept_rest, object_of, tag_of, places_in, with_keeper};
+ghost use Rattle.ob_store.specs.Objects.{changed_at, kept_rest, name_in, object_of, tag_of, places_in, with_keeper};
 ghost use Rattle.ob_store.specs.Objects.{vacant_places, vacancy, with_object, with_handle_of, with_handle_at};
 ghost use Rattle.ob_store.specs.Objects.{with_handles_of, without_handle_of, with_block_of, with_blocks_of};
 ghost use Rattle.ob_store.specs.Agreement.{IsTied, Reclaimed};
@@ -109,6 +109,14 @@ impl<K: PinKeeper> Objects<K> {
         self.seats.look(slot)
     }
 
+    /// The name of the object in a slot, if it has one.
+    pub fn name(&self, slot: u32) -> Option<&Name>
+        requires { IsSome (slice_index_or self.now.objects slot None) }
+        ensures { option_map (λ name. name.now) result ≡ name_in (slice_index_or self.now.objects slot None) }
+    {
+        self.seats.name(slot)
+    }
+
     /// How many places of pending waits name the object of a slot, which has a body.
     pub fn blocks(&self, slot: u32) -> u64
         requires { IsSome (slice_index_or self.now.seen.bodies slot None) }
@@ -188,15 +196,19 @@ impl<K: PinKeeper> Objects<K> {
         }
     }
 
-    /// Counts one handle fewer. The object ends where that was the last reference to it.
+    /// Counts one handle fewer, and answers whether it was the last one. The object ends where that was the last
+    /// reference to it.
     #[inline]
-    pub fn handle_left(&mut self, slot: u32)
+    pub fn handle_left(&mut self, slot: u32) -> bool
         requires handled { 0 < slice_index_or self.old.seen.handles slot 0 }
-        ensures { self.new ≡ without_handle_of self.old slot }
+        ensures value { self.new ≡ without_handle_of self.old slot }
+        ensures last { result ≡ slice_index_or self.old.seen.handles slot 0 == 1 }
     {
-        if self.seats.handle_left(slot) {
+        let left = self.seats.handle_left(slot);
+        if left.has_ended {
             self.keeper.close_slot(slot);
         }
+        left.was_last
     }
 
     /// Counts a further place of a pending wait that names the object, which has a body.

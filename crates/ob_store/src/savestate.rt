@@ -1,8 +1,9 @@
-ghost use Rattle.std.specs.Prelude.{◌≡◌, ◌≤◌, ◌++◌, ℕ, List, IfOk, Ok, OnOk};
+ghost use Rattle.std.specs.Prelude.{◌≡◌, ◌≤◌, ◌++◌, ℕ, List, IfOk, Ok, OnOk, length, true};
 ghost use Rattle.ob_codec.specs.Reading.{Gives};
-ghost use Rattle.ob_store.specs.Kept.{IsKept};
+ghost use Rattle.ob_store.specs.Kept.{IsKept, ProcessesKept};
+ghost use Rattle.ob_waits.specs.Spelling.{are_within};
 ghost use Rattle.ob_store.specs.Parts.{parts_of, whole_of};
-ghost use Rattle.ob_store.specs.SavedStore.{moment_at, parts_at, begun_again, store_at, store_text, tables_for};
+ghost use Rattle.ob_store.specs.SavedStore.{moment_at, lists_at, parts_at, begun_again, store_at, store_text, tables_for};
 
 use crate::limits::Limits;
 use crate::objects::Objects;
@@ -47,6 +48,48 @@ fn read_tables(
     Ok(tables)
 }
 
+/// What a savestate has before its objects.
+#[derive(Drop)]
+struct Lists {
+    processes: Processes,
+    tables: Tables,
+    waits: Waits,
+}
+
+/// Reads processes and threads, handle tables, and waits.
+fn read_lists(
+    alloc: Global,
+    limits: Limits,
+    clock: u64,
+    from: &mut Cursor<'_>,
+) -> Result<Lists, ReadFault>
+    requires { clock ≤ LAST_MOMENT }
+    ensures read { Gives (λ lists. (lists.processes, (lists.tables, lists.waits))) result
+        (lists_at limits clock from.old) from.new }
+    ensures kept { IfOk result (λ lists. ProcessesKept limits lists.processes (length lists.tables.tables)) }
+    ensures process_limit { IfOk result (λ lists. lists.tables.process_limit ≡ limits.processes) }
+    ensures handle_limit { IfOk result (λ lists. lists.tables.handle_limit ≡ limits.handles) }
+    ensures wait_limit { IfOk result (λ lists. lists.waits.limit ≡ limits.waits) }
+    ensures within { IfOk result (λ lists. are_within (length lists.processes.threads) limits.slots
+        lists.waits.waits ≡ true) }
+{
+    let processes = Processes::read(alloc, limits.processes, limits.threads, from)?;
+    let tables = read_tables(alloc, limits, &processes, from)?;
+    let waits = Waits::read(
+        alloc,
+        limits.waits,
+        clock,
+        processes.next_thread(),
+        limits.slots,
+        from,
+    )?;
+    Ok(Lists {
+        processes,
+        tables,
+        waits,
+    })
+}
+
 /// Reads what stands behind the limits and the moment.
 fn read_parts(
     alloc: Global,
@@ -59,24 +102,22 @@ fn read_parts(
     ensures kept { IfOk result (λ parts. IsKept (parts_of parts)) }
 {
     from.has(limits.slots as usize * SLOT_BYTES)?;
-    let processes = Processes::read(alloc, limits.processes, limits.threads, from)?;
-    let tables = read_tables(alloc, limits, &processes, from)?;
-    let waits = Waits::read(
+    let signaled = SignaledSlots::new(alloc, limits.slots)?;
+    let lists = read_lists(alloc, limits, clock, from)?;
+    let (objects, names) = Objects::read(
         alloc,
-        limits.waits,
-        clock,
-        processes.next_thread(),
-        limits.slots,
+        limits,
+        &lists.processes,
+        &lists.tables,
+        &lists.waits,
         from,
     )?;
-    let (objects, names) = Objects::read(alloc, limits, &processes, &tables, &waits, from)?;
-    let signaled = SignaledSlots::new(alloc, limits.slots)?;
     Ok(Parts {
         limits,
-        processes,
-        tables,
+        processes: lists.processes,
+        tables: lists.tables,
         objects,
-        waits,
+        waits: lists.waits,
         names,
         signaled,
     })

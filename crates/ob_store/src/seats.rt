@@ -1,4 +1,4 @@
-ghost use Rattle.std.specs.Prelude.{◌≡◌, ◌<◌, ◌≤◌, ◌&&◌, ℕ, false, true, IfNone, IfOk, IfSome, IsSome, IsTrue, None};
+ghost use Rattle.std.specs.Prelude.{◌≡◌, ◌<◌, ◌≤◌, ◌==◌, ◌&&◌, ℕ, false, true, IfNone, IfOk, IfSome, IsSome, IsTrue, None};
 ghost use Rattle.std.specs.Prelude.{Err, Ok, Some, is_some, length, slice_index_or, slice_set};
 ghost use Rattle.std.specs.Option.{option_map};
 ghost use Rattle.least_free.specs.From.{IsLeastFrom};
@@ -9,7 +9,7 @@ ghost use Rattle.ob_waits.specs.Waits.{is_abandoned, is_signaled, with_acquired}
 ghost use Rattle.ob_store.specs.Closing.{is_closing_in};
 ghost use Rattle.ob_store.specs.Owners.{owns_at};
 ghost use Rattle.ob_store.specs.Ticks.{slot_is_due};
-ghost use Rattle.ob_store.specs.Objects.{object_of, tag_of, tags_in, rest_of, vacant_places, vacancy};
+ghost use Rattle.ob_store.specs.Objects.{name_in, object_of, tag_of, tags_in, rest_of, vacant_places, vacancy};
 ghost use Rattle.ob_store.specs.Objects.{with_handle, without_handle, is_last_handle, with_block, is_last_block};
 ghost use Rattle.ob_store.specs.Objects.{without_seat, with_retired, with_seated};
 ghost use Rattle.ob_store.specs.Counting.{counting_one, may_count};
@@ -57,6 +57,14 @@ impl Model for Seats {
     // Hidden from the value: how many mutexes each thread owns, when the timer in each slot is due, and in which slots
     // an object ended.
     ghost invariant = { λ s. AreNoted s.arena.bodies s.owners s.timers s.closing s.labels.items s.names.items };
+}
+
+/// What the leave of a handle is to its object: whether that was the last handle, and whether nothing refers to the
+/// object any more.
+#[derive(Clone, Copy)]
+pub(crate) struct HandleLeft {
+    pub(crate) was_last: bool,
+    pub(crate) has_ended: bool,
 }
 
 /// The thread that owns a mutex; none for other objects and where nobody does.
@@ -211,6 +219,19 @@ impl Seats {
         })
     }
 
+    /// The name of the object in a slot, if it has one.
+    pub(crate) fn name(&self, slot: u32) -> Option<&Name>
+        requires { IsSome (slice_index_or self.now.objects slot None) }
+        ensures { option_map (λ name. name.now) result ≡ name_in (slice_index_or self.now.objects slot None) }
+    {
+        let name = &self.names[slot as usize];
+        if self.labels[slot as usize].is_named {
+            name.as_ref()
+        } else {
+            None
+        }
+    }
+
     /// How many places of pending waits name the object in a slot.
     pub(crate) fn blocks(&self, slot: u32) -> u64
         requires { IsSome (slice_index_or self.now.objects slot None) }
@@ -314,20 +335,26 @@ impl Seats {
         true
     }
 
-    /// Counts one handle fewer, and answers whether the object ended.
+    /// Counts one handle fewer, and answers whether it was the last one, and whether the object ended.
     #[inline]
-    pub(crate) fn handle_left(&mut self, slot: u32) -> bool
+    pub(crate) fn handle_left(&mut self, slot: u32) -> HandleLeft
         requires object { IsSome (slice_index_or self.old.objects slot None) }
         requires handled { 0 < slice_index_or self.old.seen.handles slot 0 }
         ensures value { self.new ≡ without_handle self.old slot }
-        ensures ended { result ≡ is_some (slice_index_or self.old.seen.bodies slot None)
+        ensures last { result.was_last ≡ slice_index_or self.old.seen.handles slot 0 == 1 }
+        ensures ended { result.has_ended ≡ is_some (slice_index_or self.old.seen.bodies slot None)
             && is_last_handle self.old slot }
     {
-        let gone = self.arena.get_mut(slot).handle_left();
+        let seat = self.arena.get_mut(slot);
+        let was_last = seat.handles == 1;
+        let gone = seat.handle_left();
         self.owners.left(slot, owner_of(gone));
         self.timers.left(slot, due_of(gone));
         self.closing.came(slot, gone.is_some());
-        gone.is_some()
+        HandleLeft {
+            was_last,
+            has_ended: gone.is_some(),
+        }
     }
 
     /// Counts a further place of a pending wait that names the object.

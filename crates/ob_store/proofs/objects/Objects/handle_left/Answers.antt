@@ -10,7 +10,7 @@ invariant_of-self g c =
     let s : ObjectsState = with_keeper c.self.inside.seats c.self.inside.births
     (g.K.PinKeeper.kept c.self.inside.keeper) in
     subst (λ (z : Places × KeeperState). IsTied (with_keeper z.0 s.births z.1))
-    (λ i. (sym c.handle_left.ensures.value i, sym c.close_slot.ensures i))
+    (λ i. (sym c.handle_left-left.ensures.value i, sym c.close_slot.ensures i))
     (tied_handle_left s c.args.slot (subst (λ (z : ObjectsState). 0 < get_or z.seen.handles c.args.slot 0)
     (sym c.self.view_is) c.requires.handled)
-    (sym c.handle_left.ensures.ended ∙ c.if-handle_left.true) c.self.invariant)
+    (sym c.handle_left-left.ensures.ended ∙ c.if-left.true) c.self.invariant)
