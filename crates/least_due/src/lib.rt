@@ -4,7 +4,8 @@
 //! time, and a moment is written in a time that grows with the logarithm of the list's length. Only a new place takes
 //! memory.
 //!
-//! ```text
+//! ```rust
+//! # use least_due::Dues;
 //! let mut dues = Dues::new(alloc);
 //! dues.push()?;                 // place 0
 //! dues.push()?;                 // place 1

@@ -3,7 +3,8 @@
 //! Every number at or past the set's length is free, so a new set takes no memory. Finding the least free number,
 //! taking it and giving it back are a few word operations at any length up to 65,536.
 //!
-//! ```text
+//! ```rust
+//! # use least_free::LeastFree;
 //! let mut free = LeastFree::new(alloc);
 //! free.grow()?;                 // takes 0
 //! free.grow()?;                 // takes 1

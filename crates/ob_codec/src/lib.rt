@@ -4,13 +4,18 @@
 //! as functions on lists, with one law that ties them. Numbers go lowest byte first, an option is a flag and its value,
 //! a list is its length in four bytes and its values. A sealed text has its SHA-256 digest behind it.
 //!
-//! ```text
+//! ```rust
+//! # use ob_codec::{Cursor, read_list, seal, unseal, write_list};
+//! # let owners = vec![in alloc; None, Some(7u32)]?;
 //! let mut out = Vec::new(alloc);
 //! write_list(&mut out, owners.as_slice())?;               // of [None, Some(7)]: 2 0 0 0, 0, 1 7 0 0 0
+//! # assert!(rt; out.as_slice() == [2, 0, 0, 0, 0, 1, 7, 0, 0, 0].as_slice());
 //! seal(&mut out)?;                                        // and 32 bytes of digest
+//! # assert!(rt; out.len() == 10 + 32);
 //! let mut from = Cursor::new(unseal(out.as_slice())?);    // refused where the digest is another one
 //! let owners = read_list::<Option<u32>>(alloc, &mut from)?;
 //! from.end()?;                                            // refused where bytes are left
+//! # assert!(rt; owners.as_slice() == [None, Some(7)].as_slice());
 //! ```
 #![tactic(auto)]
 

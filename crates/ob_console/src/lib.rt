@@ -4,11 +4,13 @@
 //! whose bytes its contract names, and [`run_whole`] over a script in memory; [`Wired`] makes a reader or a writer of
 //! std one. [`read_options`] reads the program's command line.
 //!
-//! ```text
+//! ```rust
+//! # use ob_console::{Wired, read_options, run};
+//! # let args = Vec::new(alloc);
 //! let options = read_options(rt.alloc(), args)?;
 //! let mut source = Wired::new(rt.stdin());
 //! let mut sink = Wired::new(rt.stdout());
-//! run(rt.alloc(), options.limits, &mut source, &mut sink)
+//! run(rt.alloc(), options.limits, &mut source, &mut sink)?;
 //! ```
 #![tactic(auto)]
 

@@ -4,8 +4,13 @@
 //! keeper of the slots is told. Each call has a definition with a line for each refusal, in the order of the tests
 //! (`specs/Creating.antt` and its neighbours), and a body of the same lines.
 //!
-//! ```text
-//! let mut manager = Manager::new(alloc, Limits::default(), keeper)?;
+//! ```rust
+//! # use ob_manager::Reply::{Made, Spawned};
+//! # use ob_manager::{Limits, Make, Manager};
+//! # use {ob_rights::Fault, pin_core::Id, pin_words::LockedPins};
+//! # let keeper = LockedPins::new(alloc, Limits::default().shape())?;
+//! # let make = Make { name: None, inherit: false, access: None, grant: None };
+//! let mut manager = Manager::new(alloc, Limits::default(), keeper).map_err(|_| Fault::Memory)?;
 //! manager.spawn(1);                                  // Spawned { process: 1, thread: 1 }
 //! manager.create_event(1, &make, false, false);      // Made { handle: 4, id: Id { slot: 0, generation: 1 } }
 //! ```

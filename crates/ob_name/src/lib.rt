@@ -1,6 +1,8 @@
 //! The names of objects: which text names what, and which object has a name.
 //!
-//! ```text
+//! ```rust
+//! # use ob_name::{Directory, Name, parse};
+//! # let id = pin_core::Id { slot: 0, generation: 1 };
 //! let name = parse(b"Global\\A", 1)?;               // "A" in the global namespace
 //! let same = parse(b"A", 0)?;                       // the same name: session 0 is the global namespace
 //! let mut directory = Directory::new(alloc);
@@ -9,6 +11,7 @@
 //! directory.enter(copy, id);                        // can't fail
 //! directory.find(&same);                            // Some(id)
 //! directory.remove(&kept.borrowed());               // Some(id), and the name is gone
+//! # assert!(rt; directory.len() == 0);
 //! ```
 #![tactic(auto)]
 

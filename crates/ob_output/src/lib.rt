@@ -4,7 +4,10 @@
 //! writer of std one. An [`Output`] prints each [`Answer`] as one line into a block of fixed size, and writes the
 //! block.
 //!
-//! ```text
+//! ```rust
+//! # use ob_manager::Reply;
+//! # use ob_output::{Answer, Output, Wired};
+//! # let reply = Reply::Spawned { process: 1, thread: 1 };
 //! let mut sink = Wired::new(rt.stdout());
 //! let mut output = Output::new(rt.alloc(), 1000)?;      // at most so many writes
 //! output.put(&mut sink, &Answer::Replied(reply))?;

@@ -1,9 +1,10 @@
 //! What every layer of the object manager speaks of: access masks, handle flags, the kinds of objects, and why a call
 //! is refused.
 //!
-//! ```text
-//! within(Rights::SYNCHRONIZE, all_access(Kind::Event))   // true: an event may be waited for
-//! code_of(Fault::Access)                                 // 5, ERROR_ACCESS_DENIED
+//! ```rust
+//! # use ob_rights::{Fault, Kind, Rights, all_access, code_of, within};
+//! within(Rights::SYNCHRONIZE, all_access(Kind::Event));  // true: an event may be waited for
+//! code_of(Fault::Access);                                // 5, ERROR_ACCESS_DENIED
 //! ```
 #![tactic(auto)]
 

@@ -2,13 +2,16 @@
 //!
 //! A line takes no memory: names stay as they stand in it, and so do the handles of a wait, until they are asked for.
 //!
-//! ```text
+//! ```rust
+//! # use ob_script::{Act, Ask, ScriptLine, act_of};
+//! # use pin_core::Id;
 //! // 0 is the number of who reads: it changes nothing.
-//! let (line, rest) = ScriptLine::first_of(b"close t1 h4\npin s0.1\n")?;
+//! let (line, rest) = ScriptLine::first_of(b"close t1 h4\npin s0.1\n").unwrap();
 //! act_of::<0>(&line);                                     // Act::Ask(Ask::CloseHandle { thread: 1, handle: 4 })
 //! act_of::<0>(&ScriptLine::of(b"pin s0.1"));              // Act::Pin(Id { slot: 0, generation: 1 })
 //! act_of::<0>(&ScriptLine::of(b"# a comment"));           // Act::Nothing
 //! act_of::<0>(&ScriptLine::of(b"close t1"));              // Act::Bad
+//! # assert!(rt; rest == b"pin s0.1\n".as_slice());
 //! ```
 #![tactic(auto)]
 

@@ -5,14 +5,20 @@
 //! says. It counts what refers to each object, finds objects by name, and keeps both right at each of its changes, of
 //! which the calls of a manager are made.
 //!
-//! ```text
-//! let mut store = Store::new(alloc, limits, keeper)?;
+//! ```rust
+//! # use {ob_body::Body, ob_rights::*, pin_core::Descr, pin_words::*};
+//! # use ob_store::{Creation, Limits, Store};
+//! # let (limits, grant, rights) = (Limits::default(), all_access(Kind::Event), Rights::SYNCHRONIZE);
+//! # let keeper = LockedPins::new(alloc, limits.shape())?;
+//! # let (descr, body) = (Descr { kind: Kind::Event, manual: false, max: 0 }, Body::new_event(false, false));
+//! # let event = Creation { descr, body, grant, rights, flags: HandleFlags(0) };
+//! let mut store = Store::new(alloc, limits, keeper).map_err(|_| Fault::Memory)?;
 //! store.add_process(1)?;                              // process 1 of session 1, thread 1
-//! let slot = store.vacant()?;                         // 0
+//! let slot = store.vacant().unwrap();                 // 0
 //! let handle = store.add_nameless(1, slot, event)?;   // 4
-//! let entry = store.look(1, handle)?;                 // of the object s0.1
+//! let entry = store.look(1, handle).unwrap();         // of the object s0.1
 //! store.remove_entry(1, handle, entry);               // the object has ended
-//! store.reclaim(slot);                                // Freed
+//! store.reclaim(slot);                                // Reclaim::Freed
 //! ```
 #![tactic(auto)]
 

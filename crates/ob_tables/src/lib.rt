@@ -3,7 +3,12 @@
 //! A handle is a number that names an object in one process: its value says the place of an entry in the table of that
 //! process, and the entry says the object, the rights that the handle grants, and its flags ([Handles and objects]).
 //!
-//! ```text
+//! ```rust
+//! # use ob_rights::{HandleFlags, Rights};
+//! # use ob_tables::{Entry, Tables};
+//! # let id = pin_core::Id { slot: 0, generation: 1 };
+//! # let entry = Entry { id, rights: Rights::SYNCHRONIZE, flags: HandleFlags::INHERIT };
+//! # let mut tables = Tables::new(alloc, 64, 1024)?;
 //! let parent = tables.add_process()?;                  // 1
 //! let handle = tables.place(parent, entry)?;           // 4
 //! tables.look(parent, handle);                         // Some(entry)

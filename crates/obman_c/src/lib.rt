@@ -6,7 +6,8 @@
 //! to the state after, and the same answer, told by a number (0, or a Win32 error code) and by what is written where C
 //! asks for it.
 //!
-//! ```text
+//! ```c
+//! # om_member member;
 //! om_manager m;
 //! om_limits limits = OM_LIMITS_DEFAULT;
 //! om_new(&limits, &m);                     // 0
