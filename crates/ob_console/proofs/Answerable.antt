@@ -41,6 +41,7 @@ use Rattle.ob_manager.specs.Counting.{counts, object_of}
 use Rattle.ob_manager.specs.Reaping.{if_ended, reap}
 use Rattle.ob_manager.specs.Steps.{Step, does, lacks, outcome_of, takes_memory, final, KeeperAfter}
 use Rattle.ob_console.specs.Runs.{Spares}
+use Rattle.ob_console.proofs.Sparing.{reaped_as}
 
 -- an answer to a call, by which no slot is taken back where something is held
 pub record CanAnswer (w : Whole) (call : Call) : Type 0 where
@@ -96,10 +97,6 @@ refused w call (Err fault) spares takes is = record {
 }
 
 -- a slot that is reaped may be pinned
-abbrev reaped_as : State → ℕ → Reclaim → Result (Unit {0}) Fault → Result Id Fault → Result Outcome Fault
-reaped_as s slot outcome there ended = there >>= (λ _. ended >>=
-    (λ id. Ok (record { reply = Reaped id outcome; state = settled (after_reclaim s slot outcome) })))
-
 held_back : (w : Whole) (slot : ℕ) (there : Result (Unit {0}) Fault) (ended : Result Id Fault)
     → 0 < w.keeper.shape.max_pins → ((outcome : Reclaim)
     → reap w.state slot outcome ≡ reaped_as w.state slot outcome there ended) → CanAnswer w (calls.Reap slot)

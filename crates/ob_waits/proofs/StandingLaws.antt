@@ -2,7 +2,7 @@
 use Rattle.std.proofs.Common.{◌≡◌, ℕ, zero, suc, ◌+◌, ◌<◌, ◌≤◌, ◌&&◌, ◌||◌, not, Bool, true, false, leb, ltb, List, [], ◌∷◌, length, Option, Some, None, refl, ap, ◌∙◌, sym, arith, get_or}
 use Rattle.std.specs.List.{list_all, list_any}
 use Rattle.std.specs.Prelude.{is_some, ◌==◌}
-use Rattle.std.proofs.lemmas.Bool.{and_from, and_parts, false_from_ne_true, le-leb, lt-leb, lt-ltb, ltb-true}
+use Rattle.std.proofs.lemmas.Bool.{and_from, and_parts, false_from_ne_true, le-leb, lt-leb, lt-ltb, ltb-true, or_parts}
 use Rattle.std.proofs.lemmas.Bool.Decides.{nat_tests}
 use Rattle.std.proofs.lemmas.List.Folds.{list_any_at}
 use Rattle.ob_body.specs.Timer.{is_due}
@@ -21,23 +21,19 @@ use Rattle.ob_waits.specs.declared.wait.Wait.{Wait}
 use Rattle.ob_waits.proofs.AddedLaws.{any_at}
 use Rattle.ob_waits.proofs.TrackedLaws.{waits_thread}
 
-or-false : (a b : Bool) → (a || b) ≡ false → (a ≡ false) × (b ≡ false)
-or-false true b e = absurd cc
-or-false false b e = (refl, e)
-
 -- lists in which no slot is named twice
 pub distinct-test : (ids : List Id) → names_twice ids ≡ false → (i j : ℕ) → i < j → j < length ids
     → (get_or ids i nowhere).slot ≡ (get_or ids j nowhere).slot → ⊥
 distinct-test [] none i j lt in' same = omega (arith, in')
 distinct-test (id ∷ ids) none i zero lt in' same = omega (arith, lt)
 distinct-test (id ∷ ids) none zero (suc j) lt in' same =
-    let first : has_slot ids id.slot ≡ false = (or-false (has_slot ids id.slot) (names_twice ids) none).0 in
+    let first : has_slot ids id.slot ≡ false = (or_parts (has_slot ids id.slot) (names_twice ids) none).0 in
     let here : ((get_or ids j nowhere).slot == id.slot) ≡ true = grind (arith, nat_tests, same) in
     let has : has_slot ids id.slot ≡ true = list_any_at (λ (x : Id). x.slot == id.slot) ids j nowhere
     (omega (arith, in')) here in
     cc (first, has)
 distinct-test (id ∷ ids) none (suc i) (suc j) lt in' same =
-    distinct-test ids (or-false (has_slot ids id.slot) (names_twice ids) none).1 i j (omega (arith, lt))
+    distinct-test ids (or_parts (has_slot ids id.slot) (names_twice ids) none).1 i j (omega (arith, lt))
     (omega (arith, in')) same
 
 test-distinct : (ids : List Id)
