@@ -3,7 +3,8 @@ ghost use Rattle.ob_codec.specs.Reading.{Gives};
 ghost use Rattle.ob_store.specs.Kept.{IsKept, ProcessesKept};
 ghost use Rattle.ob_waits.specs.Spelling.{are_within};
 ghost use Rattle.ob_store.specs.Parts.{parts_of, whole_of};
-ghost use Rattle.ob_store.specs.SavedStore.{moment_at, lists_at, parts_at, begun_again, store_at, store_text, tables_for};
+ghost use Rattle.ob_store.specs.SavedStore.{begun_again, lists_at, moment_at, parts_at};
+ghost use Rattle.ob_store.specs.SavedStore.{store_at, store_text, tables_for};
 
 use crate::limits::Limits;
 use crate::objects::Objects;

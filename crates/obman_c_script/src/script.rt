@@ -8,7 +8,7 @@ use ob_rights::{Fault, code_of};
 use obman_c_base::{Bounds, SUCCESS, TOO_SMALL, limits_of};
 use std::alloc::Global;
 
-/// ScriptAnswered a script over a new manager, as the program does without lanes, at the front of `answers`: 0, 87 where a
+/// Answers a script over a new manager, as the program does without lanes, at the front of `answers`: 0, 87 where a
 /// limit is out of its range, 8, or 122 where the answers don't fit. `length` says how long they are, with 0 and with
 /// 122.
 #[tactic(auto, using(crate::proofs::Scripted::outside, crate::proofs::Scripted::lacks))]

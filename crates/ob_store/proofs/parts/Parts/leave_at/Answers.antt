@@ -32,7 +32,8 @@ pub leave_directory-requires : goal.leave_directory-requires
 leave_directory-requires g c =
     let here : get_or c.args.places.now c.args.place None ≡ Some c.in-Some.entry = search rules in
     left_seated (parts_of c.args.self.now) c.args.process c.args.places.now c.args.place c.in-Some.entry
-    c.requires.sound c.kept.ensures c.requires.table here c.handle_left-was_last.new.self c.handle_left-was_last.ensures.value
+    c.requires.sound c.kept.ensures c.requires.table here c.handle_left-was_last.new.self
+    c.handle_left-was_last.ensures.value
 
 pub returns-clause-carries : goal.returns-clause-carries
 returns-clause-carries g c =

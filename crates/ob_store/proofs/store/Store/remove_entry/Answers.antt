@@ -43,7 +43,8 @@ invariant_of-self g c =
           c.handle_left-was_last.ensures.value c.handle_left-was_last.ensures.last c.leave_directory.ensures;
       settled = settled_less s.objects.seen.bodies c.handle_left-was_last.new.self.seen.bodies s.waits.waits
           (less_gone s.objects.seen.bodies c.handle_left-was_last.new.self.seen.bodies
-          (subst (λ (o : ObjectsState). AreLeft s.objects.seen.bodies o.seen.bodies) (sym c.handle_left-was_last.ensures.value)
+          (subst (λ (o : ObjectsState). AreLeft s.objects.seen.bodies o.seen.bodies)
+          (sym c.handle_left-was_last.ensures.value)
           (bodies_left (parts_of s) c.args.process c.args.handle c.args.entry c.self.invariant.sound c.kept.ensures
           found))) c.self.invariant.settled;
     })
