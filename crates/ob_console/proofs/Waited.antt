@@ -2,7 +2,7 @@
 use Rattle.std.proofs.Common.{◌≡◌, ℕ, ◌<◌, List, Bool, true, false, Err, refl, ap, sym, ◌∙◌, arith, length, take, ltb}
 use Rattle.std.proofs.lemmas.Bool.Decides.{nat_tests}
 use Rattle.std.proofs.lemmas.List.{length-take-le, take_all}
-use Rattle.std.specs.Prelude.{is_ok}
+use Rattle.std.specs.Prelude.{is_ok, Result, Unit}
 use Rattle.ob_rights.specs.declared.fault.Fault.TheVariants as fault
 use Rattle.ob_waits.specs.declared.wait.Mode.{Mode}
 use Rattle.ob_store.specs.State.{State, Whole}
@@ -13,6 +13,10 @@ use Rattle.ob_manager.specs.Outcomes.{◌>>=◌, refuse_if}
 use Rattle.ob_manager.specs.Checks.{caller}
 use Rattle.ob_manager.specs.Waiting.{becomes_pending, is_misshapen, objects_of, wait, wait_on}
 use Rattle.ob_manager.specs.Steps.{Step, does, closes, lacks, final}
+use Rattle.ob_output.specs.declared.output.NotWritten.{NotWritten}
+use Rattle.ob_script.specs.Acts.{Act, Asks, Nothing, shortened}
+use Rattle.ob_console.specs.Runs.{Point, Prints}
+use Rattle.ob_console.specs.Sessions.{Enacts, Evaluation}
 
 misshapen : (handles : List ℕ) → 64 < length handles → is_misshapen handles ≡ true
 misshapen handles long = grind (arith, nat_tests, long)
@@ -36,7 +40,7 @@ beginning_waits s thread mode timeout handles = by (ltb 64 (length handles)) ref
         refused s thread mode timeout (take 65 handles) part ∙ sym (refused s thread mode timeout handles long)
     by false is = ap (wait s thread mode timeout) (take_all 65 handles (grind (arith, nat_tests, is)))
 
-pub step_of_beginning : (w : Whole) (thread : ℕ) (mode : Mode) (timeout : Timeout) (handles : List ℕ) (reply : Reply)
+step_of_beginning : (w : Whole) (thread : ℕ) (mode : Mode) (timeout : Timeout) (handles : List ℕ) (reply : Reply)
     (v : Whole) →
     Step w (calls.WaitFor thread mode timeout (take 65 handles)) reply v
     → Step w (calls.WaitFor thread mode timeout handles) reply v
@@ -47,3 +51,18 @@ step_of_beginning w thread mode timeout handles reply v (closes is comes keeps) 
 step_of_beginning w thread mode timeout handles reply v (lacks takes there lack same) =
     let is = beginning_waits w.state thread mode timeout handles in
     lacks (ap becomes_pending (sym is) ∙ takes) (ap is_ok (sym is) ∙ there) lack same
+
+prints_whole : (p : Point) (number : ℕ) (act : Act) (output : List ℕ) (q : Point)
+    → Prints p number (shortened act) output q → Prints p number act output q
+prints_whole p number (Asks (calls.WaitFor thread mode timeout handles)) output q (reply, step, prints) =
+    (reply, step_of_beginning p.whole thread mode timeout handles reply q.whole step, prints)
+prints_whole p number Nothing output q prints = prints
+prints_whole p number act output q prints = prints
+
+-- what is answered where the first 65 handles of a wait were read is what the line is answered
+pub enacts_whole : (old : Evaluation) (number : ℕ) (act : Act) (result : Result (Unit {0}) NotWritten)
+    (taken_before taken : List ℕ) (new : Evaluation)
+    → Enacts old number (shortened act) result taken_before taken new
+    → Enacts old number act result taken_before taken new
+enacts_whole old number act result taken_before taken new (printed, prints, written) =
+    (printed, prints_whole old.point number act printed new.point prints, written)

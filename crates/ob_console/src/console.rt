@@ -6,6 +6,7 @@ ghost use Rattle.ob_output.specs.Printed.{line_end};
 ghost use Rattle.ob_console.specs.Sessions.{Advances, Finishes, IsFed, IsCutShort};
 
 use crate::evaluator::Evaluator;
+use arrayvec::ArrayVec;
 use ob_manager::Manager;
 use ob_output::{NotWritten, Output, Sink};
 use ob_script::{HeldLine, ScriptLine};
@@ -18,6 +19,8 @@ use std::marker::Model;
 pub struct Console {
     evaluator: Evaluator,
     held: HeldLine,
+    /// Where the handles of a wait are read to. A new list for each line would have to be cleared first.
+    handles: ArrayVec<u32, 65>,
 }
 
 impl Model for Console {
@@ -47,6 +50,7 @@ impl Console {
         Console {
             evaluator: Evaluator::new(manager, reader, output),
             held: HeldLine::new(),
+            handles: ArrayVec::new(),
         }
     }
 
@@ -62,10 +66,12 @@ impl Console {
         ensures sink { UsesSink W.calls W.faults result sink.old sink.new self.old.pending self.new.pending }
     {
         if self.held.is_empty() {
-            return self.evaluator.answer(sink, end);
+            return self.evaluator.answer(sink, end, &mut self.handles);
         }
         self.held.extend(end.bytes());
-        let answered = self.evaluator.answer_held(sink, &self.held);
+        let answered = self
+            .evaluator
+            .answer_held(sink, &self.held, &mut self.handles);
         self.held.clear();
         answered
     }
@@ -116,7 +122,8 @@ impl Console {
         if self.held.is_empty() {
             return Ok(());
         }
-        self.evaluator.answer_held(sink, &self.held)
+        self.evaluator
+            .answer_held(sink, &self.held, &mut self.handles)
     }
 
     /// The input ends: answers a last line without a line feed, and writes what is printed.

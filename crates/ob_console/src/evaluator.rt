@@ -25,8 +25,6 @@ pub struct Evaluator {
     manager: Manager<Keeper>,
     reader: Reader,
     output: Output,
-    /// Where the handles of a wait are read to. A new list for each wait would have to be cleared first.
-    handles: ArrayVec<u32, 65>,
     lines: u128,
 }
 
@@ -56,13 +54,19 @@ impl Evaluator {
             manager,
             reader,
             output,
-            handles: ArrayVec::new(),
             lines: 0,
         }
     }
 
-    /// Does what a line asks, and prints its answer.
-    pub fn answer<W: Sink>(&mut self, sink: &mut W, line: &ScriptLine<'_>) -> Result<(), NotWritten>
+    /// Does what a line asks, and prints its answer. The handles of a wait are read into `handles`, in place of those
+    /// that stood there.
+    #[tactic(auto, using(crate::proofs::Waited::enacts_whole))]
+    pub fn answer<W: Sink>(
+        &mut self,
+        sink: &mut W,
+        line: &ScriptLine<'_>,
+        handles: &mut ArrayVec<u32, 65>,
+    ) -> Result<(), NotWritten>
         requires { self.old.lines < 2 ^ 127 }
         ensures prints { Enacts self.old (self.old.lines + 1) (act_of line.now) result (W.taken sink.old)
             (W.taken sink.new) self.new }
@@ -70,11 +74,17 @@ impl Evaluator {
         ensures sink { UsesSink W.calls W.faults result sink.old sink.new self.old.pending self.new.pending }
     {
         self.lines += 1;
-        self.enact(sink, &act_of::<0>(line))
+        let act = act_of::<0>(line, handles);
+        self.enact(sink, &act, handles.as_slice())
     }
 
     /// Does what a held line asks, as [`Evaluator::answer`] does; one that is too long is bad.
-    pub fn answer_held<W: Sink>(&mut self, sink: &mut W, held: &HeldLine) -> Result<(), NotWritten>
+    pub fn answer_held<W: Sink>(
+        &mut self,
+        sink: &mut W,
+        held: &HeldLine,
+        handles: &mut ArrayVec<u32, 65>,
+    ) -> Result<(), NotWritten>
         requires { self.old.lines < 2 ^ 127 }
         ensures prints { Enacts self.old (self.old.lines + 1) (act_of_held held.now) result (W.taken sink.old)
             (W.taken sink.new) self.new }
@@ -82,7 +92,7 @@ impl Evaluator {
         ensures sink { UsesSink W.calls W.faults result sink.old sink.new self.old.pending self.new.pending }
     {
         match held.line() {
-            Some(line) => self.answer(sink, &ScriptLine::of(line)),
+            Some(line) => self.answer(sink, &ScriptLine::of(line), handles),
             None => {
                 self.lines += 1;
                 self.refuse(sink)
@@ -90,12 +100,17 @@ impl Evaluator {
         }
     }
 
-    /// Does the act of the last line, and prints its answer.
+    /// Does the act of the last line, where `handles` are those of a wait, and prints its answer.
     //
     // It is called in one place, so it stands there when it runs, and the act is nowhere else. What seldom comes has
     // functions of its own that don't: room for what they print would be made on each line.
-    fn enact<W: Sink>(&mut self, sink: &mut W, act: &Act<'_>) -> Result<(), NotWritten>
-        ensures prints { Enacts self.old self.old.lines (act_in act.now) result (W.taken sink.old)
+    fn enact<W: Sink>(
+        &mut self,
+        sink: &mut W,
+        act: &Act<'_>,
+        handles: &[u32],
+    ) -> Result<(), NotWritten>
+        ensures prints { Enacts self.old self.old.lines (act_in handles.now act.now) result (W.taken sink.old)
             (W.taken sink.new) self.new }
         ensures lines { self.new.lines ≡ self.old.lines }
         ensures sink { UsesSink W.calls W.faults result sink.old sink.new self.old.pending self.new.pending }
@@ -104,7 +119,7 @@ impl Evaluator {
             Act::Nothing => Ok(()),
             Act::Ask(ask) => self.output.put_reply(
                 sink,
-                &reply_to(&mut self.manager, &mut self.reader, &mut self.handles, ask),
+                &reply_to(&mut self.manager, &mut self.reader, handles, ask),
             ),
             Act::Bad => self.refuse(sink),
             Act::ListNames => list(&self.manager, &mut self.output, sink),

@@ -3,7 +3,7 @@ use Rattle.std.specs.Prelude.{◌≤◌, ℕ, ◌==◌, ◌&&◌, not, nat_le, n
 use Rattle.std.specs.List.{before_first, after_first}
 use Rattle.std.specs.Str.{bytes_eq}
 use Rattle.memchr.specs.Find.{is_byte}
-use Rattle.ob_script.specs.Acts.{Act as Read}
+use Rattle.ob_script.specs.Acts.{Act as Read, shortened}
 use Rattle.ob_script.specs.Acts as read
 use Rattle.ob_script.specs.Grammar.{act_of, text_of}
 use Rattle.ob_script.specs.Words.{labelled, ◌>>=◌}
@@ -47,7 +47,7 @@ in_prefixed number act = in_lane number act
 
 abbrev pub behind_prefix : ℕ → List ℕ → Line
 behind_prefix number line = if bytes_eq (text_of line) (codes "block") then Acts number Block else in_prefixed number
-    (act_of line)
+    (shortened (act_of line))
 
 -- a line that begins with an @: the prefix ends at the first space
 abbrev pub prefixed : Option ℕ → List ℕ → Line
@@ -62,18 +62,19 @@ abbrev pub is_marked : List ℕ → Bool
 is_marked line = nat_le 1 (length line) && (slice_index line 0 == 64)
 
 -- a line of a script with so many lanes beside the prologue, and whether the prologue goes on; a text of more than
--- 4,096 bytes is bad
+-- 4,096 bytes is bad. Of a wait's handles the first 65 are kept: in nothing else does a line of a lane ask otherwise
+-- than one without lanes
 abbrev pub line_of : ℕ → Bool → List ℕ → Line
 line_of lanes is_prologue line =
     if nat_lt 4096 (length (text_of line)) then Bad
     else (if is_marked line then with_prefix lanes line
-    else without_prefix is_prologue (act_of line))
+    else without_prefix is_prologue (shortened (act_of line)))
 
--- a line as the code has it
-abbrev pub line_in : Given → Line
-line_in given.Nothing = Nothing
-line_in given.Bad = Bad
-line_in (given.Acts number request) = Acts number (request_in request)
+-- a line as the code has it, with the handles that stand beside it
+abbrev pub line_in : List ℕ → Given → Line
+line_in handles given.Nothing = Nothing
+line_in handles given.Bad = Bad
+line_in handles (given.Acts number request) = Acts number (request_in handles request)
 
 -- the lane is the prologue's or one of so many
 abbrev pub IsOfLane : ℕ → Given → Type 0

@@ -1,7 +1,6 @@
 -- What the members of the prologue and of the lanes are to do.
 use Rattle.std.specs.Prelude.{ℕ, ◌+◌, ◌&&◌, not, Bool, true, false, List, [], ◌∷◌, ◌++◌, slice_index_or, slice_set, replicate}
 use Rattle.ob_shared.specs.declared.act.Act.{Act}
-use Rattle.ob_lanes.specs.Calls.{shortened_act}
 use Rattle.ob_lanes.specs.Lines.{Line, Nothing, Bad, Acts, is_marked, line_of}
 
 pub record ScriptsState : Type 0 where
@@ -21,7 +20,7 @@ with_act number act scripts = slice_set scripts number (slice_index_or scripts n
 abbrev pub with_acts : Line → List (List Act) → List (List Act)
 with_acts Nothing scripts = scripts
 with_acts Bad scripts = scripts
-with_acts (Acts number act) scripts = with_act number (shortened_act act) scripts
+with_acts (Acts number act) scripts = with_act number act scripts
 
 abbrev pub without_prologue : ScriptsState → ScriptsState
 without_prologue s = record s { is_prologue = false }

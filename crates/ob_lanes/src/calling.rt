@@ -1,21 +1,20 @@
-ghost use Rattle.std.specs.Prelude.{◌≡◌, IfOk, take};
+ghost use Rattle.std.specs.Prelude.{◌≡◌, IfOk};
 ghost use Rattle.ob_script.specs.Acts.{call_in};
-ghost use Rattle.ob_script.specs.Words.{handles_in};
-ghost use Rattle.ob_script.specs.WordsLeft.{words_left};
-ghost use Rattle.ob_lanes.specs.Calls.{request_in, shortened, shortened_act};
+ghost use Rattle.ob_lanes.specs.Calls.{request_in};
 
 use crate::line::Request;
 use ob_manager::{Call, HandleList};
-use ob_script::{Ask, handles_of};
+use ob_script::Ask;
 use ob_shared::Act;
 use std::alloc::{AllocError, Global};
 
-/// What a member is to do, with names and handles of its own. The refusal is want of memory.
-pub fn act_of(alloc: Global, request: Request<'_>) -> Result<Act, AllocError>
-    ensures { IfOk result (λ act. act ≡ shortened_act (request_in request.entry)) }
+/// What a member is to do, with a name of its own, and with handles of its own where it is a wait for these. The
+/// refusal is want of memory.
+pub fn act_of(alloc: Global, request: Request<'_>, handles: &[u32]) -> Result<Act, AllocError>
+    ensures { IfOk result (λ act. act ≡ request_in handles.now request.entry) }
 {
     match request {
-        Request::Ask(ask) => Ok(Act::Ask(call_of(alloc, ask)?)),
+        Request::Ask(ask) => Ok(Act::Ask(call_of(alloc, ask, handles)?)),
         Request::Pin(id) => Ok(Act::Pin(id)),
         Request::Unpin(id) => Ok(Act::Unpin(id)),
         Request::ShowCard(id) => Ok(Act::ShowCard(id)),
@@ -23,31 +22,22 @@ pub fn act_of(alloc: Global, request: Request<'_>) -> Result<Act, AllocError>
     }
 }
 
-/// The call that a line asks for, with names and handles of its own; of the handles of a wait the first 65, since a
-/// wait for more than 64 is refused, whichever they are. The refusal is want of memory.
-fn call_of(alloc: Global, ask: Ask<'_>) -> Result<Call, AllocError>
-    ensures { IfOk result (λ call. call ≡ shortened (call_in ask.entry)) }
+/// The call that a line asks for, with a name and handles of its own. The refusal is want of memory.
+fn call_of(alloc: Global, ask: Ask<'_>, handles: &[u32]) -> Result<Call, AllocError>
+    ensures { IfOk result (λ call. call ≡ call_in handles.now ask.entry) }
 {
     match ask {
         Ask::WaitFor {
             thread,
             mode,
             timeout,
-            handles: rest,
+            handles: (),
         } => Ok(Call::WaitFor {
             thread,
             mode,
             timeout,
-            handles: handles_in(alloc, rest)?,
+            handles: HandleList::new(alloc, handles)?,
         }),
         _ => ask.named(alloc),
     }
-}
-
-/// The first 65 handles of a wait.
-fn handles_in(alloc: Global, rest: Option<&[u8]>) -> Result<HandleList, AllocError>
-    ensures { IfOk result (λ handles. handles ≡ take 65 (handles_in (words_left rest.entry))) }
-{
-    let handles = handles_of(rest);
-    HandleList::new(alloc, handles.as_slice())
 }

@@ -1,12 +1,14 @@
-ghost use Rattle.std.specs.Prelude.{◌≡◌, ◌≤◌, IfSome};
+ghost use Rattle.std.specs.Prelude.{◌≡◌, ◌≤◌, IfSome, List, ℕ};
 ghost use Rattle.ob_lanes.specs.Lines.{IsOfLane, behind_prefix, in_lane, in_prefixed, is_marked, lane_of, line_in};
 ghost use Rattle.ob_lanes.specs.Lines.{line_of, with_prefix, without_prefix};
 ghost use Rattle.ob_script.specs.Acts.{act_in};
 
+use arrayvec::ArrayVec;
 use ob_script::{Act, Ask, ScriptLine, act_of, cut_far, is_too_long, labelled, text_of};
 use pin_core::Id;
 
-/// What a line asks of the member of a lane, with names and handles as they stand in the line.
+/// What a line asks of the member of a lane, with names as they stand in the line. The handles of a wait stand beside
+/// it.
 #[derive(Clone, Copy)]
 pub enum Request<'a> {
     /// A call.
@@ -33,18 +35,24 @@ pub enum Line<'a> {
 }
 
 /// What a line is, without its line feed, in a script with so many lanes beside the prologue. Without a prefix it
-/// belongs to the prologue, as long as that goes on.
-pub fn line_of(lanes: u32, is_prologue: bool, line: &[u8]) -> Line<'_>
-    ensures value { line_in result ≡ line_of lanes is_prologue line.now }
+/// belongs to the prologue, as long as that goes on. The handles of a wait are read into `handles`, as by
+/// [`act_of`](ob_script::act_of).
+pub fn line_of<'a>(
+    lanes: u32,
+    is_prologue: bool,
+    line: &'a [u8],
+    handles: &mut ArrayVec<u32, 65>,
+) -> Line<'a>
+    ensures value { line_in handles.new.items result ≡ line_of lanes is_prologue line.now }
     ensures lane { IsOfLane lanes result }
 {
     if is_too_long(text_of(line)) {
         return Line::Bad;
     }
     if is_marked(line) {
-        return with_prefix(lanes, line);
+        return with_prefix(lanes, line, handles);
     }
-    without_prefix(is_prologue, act_of::<1>(&ScriptLine::of(line)))
+    without_prefix(is_prologue, act_of::<1>(&ScriptLine::of(line), handles))
 }
 
 /// Whether a line begins with an @.
@@ -56,7 +64,7 @@ pub fn is_marked(line: &[u8]) -> bool
 
 /// What an act of a line is in a lane.
 fn in_lane(number: u32, act: Act<'_>) -> Line<'_>
-    ensures value { line_in result ≡ in_lane number (act_in act.entry) }
+    ensures value { (handles : List ℕ) → line_in handles result ≡ in_lane number (act_in handles act.entry) }
     ensures lane { IsOfLane number result }
 {
     match act {
@@ -71,7 +79,8 @@ fn in_lane(number: u32, act: Act<'_>) -> Line<'_>
 
 /// What the act of a line without a prefix is.
 fn without_prefix(is_prologue: bool, act: Act<'_>) -> Line<'_>
-    ensures value { line_in result ≡ without_prefix is_prologue (act_in act.entry) }
+    ensures value { (handles : List ℕ) → line_in handles result
+        ≡ without_prefix is_prologue (act_in handles act.entry) }
     ensures lane { IsOfLane 0 result }
 {
     if is_prologue {
@@ -85,15 +94,15 @@ fn without_prefix(is_prologue: bool, act: Act<'_>) -> Line<'_>
 
 /// What a line is that begins with an @.
 #[tactic(auto, using(crate::proofs::Prefixes::nothing_behind))]
-fn with_prefix(lanes: u32, line: &[u8]) -> Line<'_>
-    ensures value { line_in result ≡ with_prefix lanes line.now }
+fn with_prefix<'a>(lanes: u32, line: &'a [u8], handles: &mut ArrayVec<u32, 65>) -> Line<'a>
+    ensures value { line_in handles.new.items result ≡ with_prefix lanes line.now }
     ensures lane { IsOfLane lanes result }
 {
     let Some((word, rest)) = cut_far(b' ', line) else {
         return Line::Bad;
     };
     match lane_of(lanes, word) {
-        Some(number) => behind_prefix(number, rest),
+        Some(number) => behind_prefix(number, rest, handles),
         None => Line::Bad,
     }
 }
@@ -111,14 +120,14 @@ fn lane_of(lanes: u32, word: &[u8]) -> Option<u32>
 }
 
 /// What a line behind its prefix is.
-fn behind_prefix(number: u32, line: &[u8]) -> Line<'_>
-    ensures value { line_in result ≡ behind_prefix number line.now }
+fn behind_prefix<'a>(number: u32, line: &'a [u8], handles: &mut ArrayVec<u32, 65>) -> Line<'a>
+    ensures value { line_in handles.new.items result ≡ behind_prefix number line.now }
     ensures lane { IsOfLane number result }
 {
     if text_of(line) == b"block".as_slice() {
         return Line::Acts(number, Request::Block);
     }
-    match act_of::<1>(&ScriptLine::of(line)) {
+    match act_of::<1>(&ScriptLine::of(line), handles) {
         Act::Nothing => Line::Bad,
         act => in_lane(number, act),
     }

@@ -3,6 +3,7 @@ ghost use Rattle.ob_lanes.specs.Scripts.{is_good, opening_scripts, with_act, wit
 
 use crate::calling::act_of;
 use crate::line::{Line, is_marked, line_of};
+use arrayvec::ArrayVec;
 use ob_shared::Act;
 use std::alloc::{AllocError, Global};
 use std::marker::Model;
@@ -54,6 +55,8 @@ pub struct Scripts {
     scripts: Vec<Script>,
     lanes: u32,
     is_prologue: bool,
+    /// Where the handles of a wait are read to. A new list for each line would have to be cleared first.
+    handles: ArrayVec<u32, 65>,
     alloc: Global,
 }
 
@@ -87,6 +90,7 @@ impl Scripts {
             scripts,
             lanes,
             is_prologue: true,
+            handles: ArrayVec::new(),
             alloc,
         })
     }
@@ -98,11 +102,11 @@ impl Scripts {
         ensures taken { OnOk result (self.new ≡ with_line self.old line.now) }
         ensures memory { OnErr result (self.new ≡ self.old) }
     {
-        let is_good = match line_of(self.lanes, self.is_prologue, line) {
+        let is_good = match line_of(self.lanes, self.is_prologue, line, &mut self.handles) {
             Line::Nothing => true,
             Line::Bad => false,
             Line::Acts(number, request) => {
-                let act = act_of(self.alloc, request)?;
+                let act = act_of(self.alloc, request, self.handles.as_slice())?;
                 add(self.scripts.as_mut_slice(), number as usize, act)?;
                 true
             }

@@ -1,10 +1,11 @@
--- The beginning of a list that is kept, or all of it.
+-- A list of which the beginning is kept.
 use Rattle.std.proofs.Common.{◌≡◌, ℕ, ◌≤◌, List, ◌++◌, [], ap, sym, ◌∙◌, length, take}
 use Rattle.std.proofs.lemmas.List.{append-nil, take_all, take_at}
 
--- handles that are so many as are kept, or all
-pub first_part : (items rest all : List ℕ) → items ++ rest ≡ all → length items ≡ 65 → items ≡ take 65 all
-first_part items rest all whole is = sym (ap (take 65) (sym whole) ∙ take_at items rest 65 is)
+-- where so many stand as are kept, it is no matter what comes behind them
+pub full_part : (items rest others : List ℕ) → length items ≡ 65 → take 65 (items ++ rest) ≡ take 65 (items ++ others)
+full_part items rest others is = take_at items rest 65 is ∙ sym (take_at items others 65 is)
 
-pub all_parts : (items all : List ℕ) → items ++ [] ≡ all → length items ≤ 65 → items ≡ take 65 all
-all_parts items all whole few = sym (ap (take 65) (sym whole ∙ append-nil items) ∙ take_all 65 items few)
+-- where nothing comes behind them, they are what is kept
+pub all_parts : (items kept : List ℕ) → take 65 (items ++ []) ≡ kept → length items ≤ 65 → items ≡ kept
+all_parts items kept is few = sym (take_all 65 items few) ∙ sym (ap (take 65) (append-nil items)) ∙ is

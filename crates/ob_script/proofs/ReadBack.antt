@@ -1,5 +1,5 @@
 -- The grammar reads the line of a call as that call.
-use Rattle.std.proofs.Common.{◌≡◌, ℕ, ◌+◌, ◌-◌, ◌≤◌, arith, refl, ap, sym, ◌∙◌, List, [], ◌∷◌, ◌++◌, length, Bool, true, false, not, ◌&&◌, ◌==◌, Option, Some, None, IfSome, decimal, map, codes, nat_lt, if◌then◌else◌, take, ℤ, length-append, eq-eqb, true≢false}
+use Rattle.std.proofs.Common.{◌≡◌, ℕ, ◌-◌, ◌≤◌, arith, refl, ap, sym, ◌∙◌, List, [], ◌∷◌, ◌++◌, length, Bool, true, false, not, ◌&&◌, ◌==◌, Option, Some, None, IfSome, decimal, map, codes, nat_lt, if◌then◌else◌, take, ℤ, length-append, eq-eqb, true≢false}
 use Rattle.std.specs.Prelude.{slice_index}
 use Rattle.std.specs.Fmt.{signed_decimal}
 use Rattle.std.specs.Str.{bytes_eq}

@@ -20,6 +20,6 @@ pub enum Act<'a> {
     ShowCard(Id),
 }
 
-/// A call with names and handles as they stand in the line: the handles of a wait are the words behind, and there are
-/// none where there is no rest.
-pub type Ask<'a> = CallOf<Make<'a>, &'a [u8], Option<&'a [u8]>>;
+/// A call with names as they stand in the line. The handles of a wait stand beside it, in the list that
+/// [`act_of`](crate::act_of) reads them to.
+pub type Ask<'a> = CallOf<Make<'a>, &'a [u8], ()>;

@@ -1,7 +1,7 @@
-ghost use Rattle.std.specs.Prelude.{◌≡◌, ◌≤◌, IfSome, length, nat_lt};
+ghost use Rattle.std.specs.Prelude.{◌≡◌, ◌≤◌, IfSome, length, nat_lt, take, true};
 ghost use Rattle.ob_manager.specs.declared.call.CallOf.TheVariants as calls;
-ghost use Rattle.ob_script.specs.Words.{are_handles, id_of, labelled, moment_of, number_of, words_of};
-ghost use Rattle.ob_script.specs.Acts.{Pin, ShowCard, Unpin, act_in};
+ghost use Rattle.ob_script.specs.Words.{are_handles, handles_in, id_of, labelled, moment_of, number_of, words_of};
+ghost use Rattle.ob_script.specs.Acts.{IsRead, Pin, ShowCard, Unpin, act_in, shortened};
 ghost use Rattle.ob_script.specs.Grammar.{access_of, act_of, asked, child_of, closing_of, dup_of, event_of, handle_of};
 ghost use Rattle.ob_script.specs.Grammar.{handled, lone_of, mode_of, mutex_of, object_of, on_object, open_of};
 ghost use Rattle.ob_script.specs.Grammar.{release_of, semaphore_of, setflags_of, settimer_of, target_of, text_of};
@@ -13,6 +13,7 @@ use crate::naming::{make_of, name_of};
 use crate::numbers::{due_of, either_of, id_of, labelled, moment_of, number_of, signed_of};
 use crate::rights::{kind_of, mask_of};
 use crate::words::{Words, is};
+use arrayvec::ArrayVec;
 use ob_manager::{Mode, Timeout};
 use ob_rights::Rights;
 use pin_core::Id;
@@ -37,16 +38,20 @@ pub fn is_too_long(text: &[u8]) -> bool
     text.len() > TEXT_MOST
 }
 
-/// What a line is. `READER` changes nothing of that: each crate that reads lines gives a number of its own (the console
-/// 0, lanes 1), and so has a compiled copy of its own.
+/// What a line is. The handles of a wait are read into `handles`, in place of those that stood there: of more than 65
+/// the first 65, since a wait for more than 64 is refused, whichever they are. `READER` changes nothing of that: each
+/// crate that reads lines gives a number of its own (the console 0, lanes 1), and so has a compiled copy of its own.
 //
 // What a line of each verb is stands in this one function when it runs: a function of its own would have a copy of the
 // words that are left, and each of these would be cleared for every line. Each verb makes its act in one step, with no
 // option between: that would be taken apart and put together for every line. Each reader of lines has a copy of its
 // own: where it is called in one place alone, it stands there, and no act is made where its parts are enough.
 #[tactic(auto, using(crate::proofs::Verbs::lone_is_bad))]
-pub fn act_of<'a, const READER: u8>(line: &ScriptLine<'a>) -> Act<'a>
-    ensures { act_in result ≡ act_of line.now }
+pub fn act_of<'a, const READER: u8>(
+    line: &ScriptLine<'a>,
+    handles: &mut ArrayVec<u32, 65>,
+) -> Act<'a>
+    ensures { act_in handles.new.items result ≡ shortened (act_of line.now) }
 {
     let text = text_of(line.bytes());
     if is_too_long(text) {
@@ -66,7 +71,7 @@ pub fn act_of<'a, const READER: u8>(line: &ScriptLine<'a>) -> Act<'a>
         return set_of(words);
     }
     if is(verb, b"wait") {
-        return wait_of(words);
+        return wait_of(words, handles);
     }
     if is(verb, b"count") {
         return count_of(words);
@@ -161,7 +166,7 @@ pub fn text_of(line: &[u8]) -> &[u8]
 
 #[inline(always)]
 fn spawn_of(mut words: Words<'_>) -> Act<'_>
-    ensures { act_in result ≡ asked (lone_of number_of calls.Spawn words.entry) }
+    ensures { IsRead result (asked (lone_of number_of calls.Spawn words.entry)) }
 {
     let session = wanted!(words.next());
     wanted!(words.end());
@@ -171,7 +176,7 @@ fn spawn_of(mut words: Words<'_>) -> Act<'_>
 
 #[inline(always)]
 fn child_of(mut words: Words<'_>) -> Act<'_>
-    ensures { act_in result ≡ asked (child_of words.entry) }
+    ensures { IsRead result (asked (child_of words.entry)) }
 {
     let thread = wanted!(words.labelled(b't'));
     let inherit = wanted!(words.next());
@@ -183,7 +188,7 @@ fn child_of(mut words: Words<'_>) -> Act<'_>
 
 #[inline(always)]
 fn thread_of(mut words: Words<'_>) -> Act<'_>
-    ensures { act_in result ≡ asked (lone_of (labelled 112) calls.StartThread words.entry) }
+    ensures { IsRead result (asked (lone_of (labelled 112) calls.StartThread words.entry)) }
 {
     let process = wanted!(words.labelled(b'p'));
     wanted!(words.end());
@@ -193,7 +198,7 @@ fn thread_of(mut words: Words<'_>) -> Act<'_>
 
 #[inline(always)]
 fn event_of(mut words: Words<'_>) -> Act<'_>
-    ensures { act_in result ≡ asked (event_of words.entry) }
+    ensures { IsRead result (asked (event_of words.entry)) }
 {
     let thread = wanted!(words.labelled(b't'));
     let reset = wanted!(words.next());
@@ -212,7 +217,7 @@ fn event_of(mut words: Words<'_>) -> Act<'_>
 
 #[inline(always)]
 fn mutex_of(mut words: Words<'_>) -> Act<'_>
-    ensures { act_in result ≡ asked (mutex_of words.entry) }
+    ensures { IsRead result (asked (mutex_of words.entry)) }
 {
     let thread = wanted!(words.labelled(b't'));
     let state = wanted!(words.next());
@@ -228,7 +233,7 @@ fn mutex_of(mut words: Words<'_>) -> Act<'_>
 
 #[inline(always)]
 fn semaphore_of(mut words: Words<'_>) -> Act<'_>
-    ensures { act_in result ≡ asked (semaphore_of words.entry) }
+    ensures { IsRead result (asked (semaphore_of words.entry)) }
 {
     let thread = wanted!(words.labelled(b't'));
     let initial = wanted!(words.next());
@@ -247,7 +252,7 @@ fn semaphore_of(mut words: Words<'_>) -> Act<'_>
 
 #[inline(always)]
 fn timer_of(mut words: Words<'_>) -> Act<'_>
-    ensures { act_in result ≡ asked (timer_of words.entry) }
+    ensures { IsRead result (asked (timer_of words.entry)) }
 {
     let thread = wanted!(words.labelled(b't'));
     let reset = wanted!(words.next());
@@ -263,7 +268,7 @@ fn timer_of(mut words: Words<'_>) -> Act<'_>
 
 #[inline(always)]
 fn open_of(mut words: Words<'_>) -> Act<'_>
-    ensures { act_in result ≡ asked (open_of words.entry) }
+    ensures { IsRead result (asked (open_of words.entry)) }
 {
     let thread = wanted!(words.labelled(b't'));
     let kind = wanted!(words.next());
@@ -284,7 +289,7 @@ fn open_of(mut words: Words<'_>) -> Act<'_>
 
 #[inline(always)]
 fn dup_of(mut words: Words<'_>) -> Act<'_>
-    ensures { act_in result ≡ asked (dup_of words.entry) }
+    ensures { IsRead result (asked (dup_of words.entry)) }
 {
     let thread = wanted!(words.labelled(b't'));
     let source = wanted!(words.labelled(b'p'));
@@ -362,7 +367,7 @@ fn handle_of(mut words: Words<'_>) -> Option<(u32, u32)>
 
 #[inline(always)]
 fn close_of(words: Words<'_>) -> Act<'_>
-    ensures { act_in result ≡ asked (handled calls.CloseHandle words.entry) }
+    ensures { IsRead result (asked (handled calls.CloseHandle words.entry)) }
 {
     let (thread, handle) = wanted!(handle_of(words));
     Act::Ask(Ask::CloseHandle { thread, handle })
@@ -370,7 +375,7 @@ fn close_of(words: Words<'_>) -> Act<'_>
 
 #[inline(always)]
 fn flags_of(words: Words<'_>) -> Act<'_>
-    ensures { act_in result ≡ asked (handled calls.GetFlags words.entry) }
+    ensures { IsRead result (asked (handled calls.GetFlags words.entry)) }
 {
     let (thread, handle) = wanted!(handle_of(words));
     Act::Ask(Ask::GetFlags { thread, handle })
@@ -378,7 +383,7 @@ fn flags_of(words: Words<'_>) -> Act<'_>
 
 #[inline(always)]
 fn setflags_of(mut words: Words<'_>) -> Act<'_>
-    ensures { act_in result ≡ asked (setflags_of words.entry) }
+    ensures { IsRead result (asked (setflags_of words.entry)) }
 {
     let thread = wanted!(words.labelled(b't'));
     let handle = wanted!(words.labelled(b'h'));
@@ -399,7 +404,7 @@ fn setflags_of(mut words: Words<'_>) -> Act<'_>
 
 #[inline(always)]
 fn set_of(words: Words<'_>) -> Act<'_>
-    ensures { act_in result ≡ asked (handled calls.SetEvent words.entry) }
+    ensures { IsRead result (asked (handled calls.SetEvent words.entry)) }
 {
     let (thread, handle) = wanted!(handle_of(words));
     Act::Ask(Ask::SetEvent { thread, handle })
@@ -407,7 +412,7 @@ fn set_of(words: Words<'_>) -> Act<'_>
 
 #[inline(always)]
 fn reset_of(words: Words<'_>) -> Act<'_>
-    ensures { act_in result ≡ asked (handled calls.ResetEvent words.entry) }
+    ensures { IsRead result (asked (handled calls.ResetEvent words.entry)) }
 {
     let (thread, handle) = wanted!(handle_of(words));
     Act::Ask(Ask::ResetEvent { thread, handle })
@@ -415,7 +420,7 @@ fn reset_of(words: Words<'_>) -> Act<'_>
 
 #[inline(always)]
 fn unlock_of(words: Words<'_>) -> Act<'_>
-    ensures { act_in result ≡ asked (handled calls.ReleaseMutex words.entry) }
+    ensures { IsRead result (asked (handled calls.ReleaseMutex words.entry)) }
 {
     let (thread, handle) = wanted!(handle_of(words));
     Act::Ask(Ask::ReleaseMutex { thread, handle })
@@ -423,7 +428,7 @@ fn unlock_of(words: Words<'_>) -> Act<'_>
 
 #[inline(always)]
 fn cancel_of(words: Words<'_>) -> Act<'_>
-    ensures { act_in result ≡ asked (handled calls.CancelTimer words.entry) }
+    ensures { IsRead result (asked (handled calls.CancelTimer words.entry)) }
 {
     let (thread, handle) = wanted!(handle_of(words));
     Act::Ask(Ask::CancelTimer { thread, handle })
@@ -431,7 +436,7 @@ fn cancel_of(words: Words<'_>) -> Act<'_>
 
 #[inline(always)]
 fn settimer_of(mut words: Words<'_>) -> Act<'_>
-    ensures { act_in result ≡ asked (settimer_of words.entry) }
+    ensures { IsRead result (asked (settimer_of words.entry)) }
 {
     let thread = wanted!(words.labelled(b't'));
     let handle = wanted!(words.labelled(b'h'));
@@ -449,7 +454,7 @@ fn settimer_of(mut words: Words<'_>) -> Act<'_>
 
 #[inline(always)]
 fn tick_of(mut words: Words<'_>) -> Act<'_>
-    ensures { act_in result ≡ asked (lone_of moment_of calls.Tick words.entry) }
+    ensures { IsRead result (asked (lone_of moment_of calls.Tick words.entry)) }
 {
     let moment = wanted!(words.next());
     wanted!(words.end());
@@ -459,7 +464,7 @@ fn tick_of(mut words: Words<'_>) -> Act<'_>
 
 #[inline(always)]
 fn release_of(mut words: Words<'_>) -> Act<'_>
-    ensures { act_in result ≡ asked (release_of words.entry) }
+    ensures { IsRead result (asked (release_of words.entry)) }
 {
     let thread = wanted!(words.labelled(b't'));
     let handle = wanted!(words.labelled(b'h'));
@@ -476,8 +481,8 @@ fn release_of(mut words: Words<'_>) -> Act<'_>
 }
 
 #[inline(always)]
-fn wait_of(mut words: Words<'_>) -> Act<'_>
-    ensures { act_in result ≡ asked (wait_of words.entry) }
+fn wait_of<'a>(mut words: Words<'a>, handles: &mut ArrayVec<u32, 65>) -> Act<'a>
+    ensures { act_in handles.new.items result ≡ shortened (asked (wait_of words.entry)) }
 {
     let thread = wanted!(words.labelled(b't'));
     let mode = wanted!(words.next());
@@ -485,15 +490,14 @@ fn wait_of(mut words: Words<'_>) -> Act<'_>
     let thread = wanted!(thread);
     let mode = wanted!(mode_of(mode));
     let timeout = wanted!(timeout_of(timeout));
-    let handles = words.rest();
-    if !are_handles(words) {
+    if !read_handles(words, handles) {
         return Act::Bad;
     }
     Act::Ask(Ask::WaitFor {
         thread,
         mode,
         timeout,
-        handles,
+        handles: (),
     })
 }
 
@@ -519,14 +523,21 @@ fn timeout_of(word: &[u8]) -> Option<Timeout>
     Some(Timeout::Millis(millis))
 }
 
-/// Whether each word is a handle. A wait's handles are read again when it is made ([`crate::read_handles`]): an act
-/// with a list of them would be cleared for every line.
-fn are_handles(mut words: Words<'_>) -> bool
-    ensures { result ≡ are_handles words.entry }
+/// Reads words as handles into a list, in place of those that stood there, and answers whether each word is one. Of
+/// more than 65 the first 65 are kept.
+#[tactic(auto, using(crate::proofs::Beginnings::full_part, crate::proofs::Beginnings::all_parts))]
+fn read_handles(mut words: Words<'_>, handles: &mut ArrayVec<u32, 65>) -> bool
+    ensures value { result ≡ are_handles words.entry }
+    ensures handles { result ≡ true → handles.new.items ≡ take 65 (handles_in words.entry) }
 {
+    handles.clear();
     while let Some(handle) = words.labelled(b'h') {
-        if handle.is_none() {
+        let Some(handle) = handle else {
             return false;
+        };
+        match handles.try_push(handle) {
+            Ok(()) => {}
+            Err(_) => {}
         }
     }
     true
@@ -534,7 +545,7 @@ fn are_handles(mut words: Words<'_>) -> bool
 
 #[inline(always)]
 fn result_of(mut words: Words<'_>) -> Act<'_>
-    ensures { act_in result ≡ asked (lone_of (labelled 119) calls.WaitResult words.entry) }
+    ensures { IsRead result (asked (lone_of (labelled 119) calls.WaitResult words.entry)) }
 {
     let wait = wanted!(words.labelled(b'w'));
     wanted!(words.end());
@@ -544,7 +555,7 @@ fn result_of(mut words: Words<'_>) -> Act<'_>
 
 #[inline(always)]
 fn expire_of(mut words: Words<'_>) -> Act<'_>
-    ensures { act_in result ≡ asked (lone_of (labelled 119) calls.Expire words.entry) }
+    ensures { IsRead result (asked (lone_of (labelled 119) calls.Expire words.entry)) }
 {
     let wait = wanted!(words.labelled(b'w'));
     wanted!(words.end());
@@ -554,7 +565,7 @@ fn expire_of(mut words: Words<'_>) -> Act<'_>
 
 #[inline(always)]
 fn endthread_of(mut words: Words<'_>) -> Act<'_>
-    ensures { act_in result ≡ asked (lone_of (labelled 116) calls.EndThread words.entry) }
+    ensures { IsRead result (asked (lone_of (labelled 116) calls.EndThread words.entry)) }
 {
     let thread = wanted!(words.labelled(b't'));
     wanted!(words.end());
@@ -564,7 +575,7 @@ fn endthread_of(mut words: Words<'_>) -> Act<'_>
 
 #[inline(always)]
 fn exit_of(mut words: Words<'_>) -> Act<'_>
-    ensures { act_in result ≡ asked (lone_of (labelled 112) calls.Exit words.entry) }
+    ensures { IsRead result (asked (lone_of (labelled 112) calls.Exit words.entry)) }
 {
     let process = wanted!(words.labelled(b'p'));
     wanted!(words.end());
@@ -574,7 +585,7 @@ fn exit_of(mut words: Words<'_>) -> Act<'_>
 
 #[inline(always)]
 fn reap_of(mut words: Words<'_>) -> Act<'_>
-    ensures { act_in result ≡ asked (lone_of (labelled 115) calls.Reap words.entry) }
+    ensures { IsRead result (asked (lone_of (labelled 115) calls.Reap words.entry)) }
 {
     let slot = wanted!(words.labelled(b's'));
     wanted!(words.end());
@@ -584,7 +595,7 @@ fn reap_of(mut words: Words<'_>) -> Act<'_>
 
 #[inline(always)]
 fn count_of(mut words: Words<'_>) -> Act<'_>
-    ensures { act_in result ≡ asked (lone_of id_of calls.Counts words.entry) }
+    ensures { IsRead result (asked (lone_of id_of calls.Counts words.entry)) }
 {
     let object = wanted!(words.next());
     wanted!(words.end());
@@ -596,7 +607,7 @@ fn count_of(mut words: Words<'_>) -> Act<'_>
 
 #[inline(always)]
 fn pin_of(words: Words<'_>) -> Act<'_>
-    ensures { act_in result ≡ on_object Pin (object_of words.entry) }
+    ensures { IsRead result (on_object Pin (object_of words.entry)) }
 {
     let id = wanted!(object_of(words));
     Act::Pin(id)
@@ -604,7 +615,7 @@ fn pin_of(words: Words<'_>) -> Act<'_>
 
 #[inline(always)]
 fn unpin_of(words: Words<'_>) -> Act<'_>
-    ensures { act_in result ≡ on_object Unpin (object_of words.entry) }
+    ensures { IsRead result (on_object Unpin (object_of words.entry)) }
 {
     let id = wanted!(object_of(words));
     Act::Unpin(id)
@@ -612,7 +623,7 @@ fn unpin_of(words: Words<'_>) -> Act<'_>
 
 #[inline(always)]
 fn card_of(words: Words<'_>) -> Act<'_>
-    ensures { act_in result ≡ on_object ShowCard (object_of words.entry) }
+    ensures { IsRead result (on_object ShowCard (object_of words.entry)) }
 {
     let id = wanted!(object_of(words));
     Act::ShowCard(id)

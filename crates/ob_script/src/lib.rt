@@ -1,17 +1,20 @@
 //! A script, line by line: what each line asks for, by a grammar (`specs/Grammar.antt`).
 //!
-//! A line takes no memory: names stay as they stand in it, and so do the handles of a wait, until they are asked for.
+//! A line takes no memory: names stay as they stand in it, and the handles of a wait are read into a list that is lent.
 //!
 //! ```rust
+//! # use arrayvec::ArrayVec;
 //! # use ob_script::{Act, Ask, ScriptLine, act_of};
 //! # use pin_core::Id;
+//! let mut handles = ArrayVec::new();
 //! // 0 is the number of who reads: it changes nothing.
 //! let (line, rest) = ScriptLine::first_of(b"close t1 h4\npin s0.1\n").unwrap();
-//! act_of::<0>(&line);                                     // Act::Ask(Ask::CloseHandle { thread: 1, handle: 4 })
-//! act_of::<0>(&ScriptLine::of(b"pin s0.1"));              // Act::Pin(Id { slot: 0, generation: 1 })
-//! act_of::<0>(&ScriptLine::of(b"# a comment"));           // Act::Nothing
-//! act_of::<0>(&ScriptLine::of(b"close t1"));              // Act::Bad
-//! # assert!(rt; rest == b"pin s0.1\n".as_slice());
+//! act_of::<0>(&line, &mut handles);                           // Act::Ask(Ask::CloseHandle { thread: 1, handle: 4 })
+//! act_of::<0>(&ScriptLine::of(b"pin s0.1"), &mut handles);    // Act::Pin(Id { slot: 0, generation: 1 })
+//! act_of::<0>(&ScriptLine::of(b"wait t1 all 5 h8 h4"), &mut handles);
+//! handles.len();                                              // 2
+//! act_of::<0>(&ScriptLine::of(b"close t1"), &mut handles);    // Act::Bad
+//! # assert!(rt; rest == b"pin s0.1\n".as_slice() && handles.as_slice() == [8, 4].as_slice());
 //! ```
 #![tactic(auto)]
 
@@ -19,7 +22,6 @@ mod act;
 mod ends;
 mod fitting;
 mod grammar;
-mod handles;
 mod held;
 mod law;
 mod line;
@@ -31,7 +33,6 @@ mod writing;
 
 pub use act::{Act, Ask};
 pub use grammar::{act_of, is_too_long, text_of};
-pub use handles::{handles_of, read_handles};
 pub use held::HeldLine;
 pub use law::law_of_lines;
 pub use line::ScriptLine;

@@ -33,20 +33,6 @@ impl<'a> Words<'a> {
         Words { rest: Some(text) }
     }
 
-    /// The words of what another has left.
-    pub fn of_rest(rest: Option<&'a [u8]>) -> Words<'a>
-        ensures { result ≡ words_left rest.entry }
-    {
-        Words { rest }
-    }
-
-    /// What is left.
-    pub fn rest(&self) -> Option<&'a [u8]>
-        ensures { words_left result ≡ self.now }
-    {
-        self.rest
-    }
-
     /// The next word.
     pub fn next(&mut self) -> Option<&'a [u8]>
         ensures { MatchOption result (self.old ≡ []) (λ word. self.old ≡ word.now ∷ self.new) }

@@ -14,10 +14,10 @@ returns-in-Ask-clause-prints g c =
     let q : Point = point c.reply_to.new.manager c.reply_to.new.reader.view.held in
     let new : Evaluation = record { point = q; pending = c.put_reply.new.self; lines = c.self.inside.lines } in
     let printed : List ℕ = answered c.reply_to.result in
-    subst (λ (old : Evaluation). Enacts old old.lines (act_in c.args.act.now) c.put_reply.result
+    subst (λ (old : Evaluation). Enacts old old.lines (act_in c.args.handles.now c.args.act.now) c.put_reply.result
     (g.W.Sink.taken c.args.sink.now) (g.W.Sink.taken c.put_reply.new.sink) new) c.self.view_is (
       printed,
-      subst (λ (act : Act). Prints p c.self.inside.lines (act_in act) printed q) (sym c.in-Ask.is)
+      subst (λ (act : Act). Prints p c.self.inside.lines (act_in c.args.handles.now act) printed q) (sym c.in-Ask.is)
           (c.reply_to.result, c.reply_to.ensures.step, c.reply_to.ensures.spares, c.reply_to.ensures.held, refl),
       put_written c.put_reply.result (g.W.Sink.taken c.args.sink.now) (g.W.Sink.taken c.put_reply.new.sink)
           (c.self.inside.output.bytes ++ printed) c.put_reply.new.self.bytes c.put_reply.ensures.ok
@@ -30,9 +30,9 @@ returns-in-ListNames-clause-prints g c =
     let p : Point = point inside.manager inside.reader.view.held in
     let new : Evaluation = record { point = p; pending = c.list.new.output; lines = inside.lines } in
     let names : List ℕ = printed_names (directory_of inside.manager.state) in
-    subst (λ (old : Evaluation). Enacts old old.lines (act_in c.args.act.now) c.list.result
+    subst (λ (old : Evaluation). Enacts old old.lines (act_in c.args.handles.now c.args.act.now) c.list.result
     (g.W.Sink.taken c.args.sink.now) (g.W.Sink.taken c.list.new.sink) new) c.self-in-ListNames.view_is (
       names,
-      subst (λ (act : Act). Prints p inside.lines (act_in act) names p) (sym c.in-ListNames.is) (refl, refl),
+      subst (λ (act : Act). Prints p inside.lines (act_in c.args.handles.now act) names p) (sym c.in-ListNames.is) (refl, refl),
       c.list.ensures.written,
     )
