@@ -2,7 +2,7 @@
 use Rattle.std.proofs.Common.{◌≡◌, ℕ, ◌<◌, List, Bool, true, false, Err, refl, ap, sym, ◌∙◌, arith, length, take, ltb}
 use Rattle.std.proofs.lemmas.Bool.Decides.{nat_tests}
 use Rattle.std.proofs.lemmas.List.{length-take-le, take_all}
-use Rattle.std.specs.Prelude.{is_ok, Result, Unit}
+use Rattle.std.specs.Prelude.{is_ok, Result}
 use Rattle.ob_rights.specs.declared.fault.Fault.TheVariants as fault
 use Rattle.ob_waits.specs.declared.wait.Mode.{Mode}
 use Rattle.ob_store.specs.State.{State, Whole}
@@ -54,8 +54,8 @@ step_of_beginning w thread mode timeout handles reply v (lacks takes there lack 
 
 prints_whole : (p : Point) (number : ℕ) (act : Act) (output : List ℕ) (q : Point)
     → Prints p number (shortened act) output q → Prints p number act output q
-prints_whole p number (Asks (calls.WaitFor thread mode timeout handles)) output q (reply, step, prints) =
-    (reply, step_of_beginning p.whole thread mode timeout handles reply q.whole step, prints)
+prints_whole p number (Asks (calls.WaitFor thread mode timeout handles)) output q (reply, step, spares, held, is) =
+    (reply, step_of_beginning p.whole thread mode timeout handles reply q.whole step, spares, held, is)
 prints_whole p number Nothing output q prints = prints
 prints_whole p number act output q prints = prints
 

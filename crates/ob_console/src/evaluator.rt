@@ -60,7 +60,6 @@ impl Evaluator {
 
     /// Does what a line asks, and prints its answer. The handles of a wait are read into `handles`, in place of those
     /// that stood there.
-    #[tactic(auto, using(crate::proofs::Waited::enacts_whole))]
     pub fn answer<W: Sink>(
         &mut self,
         sink: &mut W,

@@ -1,0 +1,25 @@
+use Rattle.std.proofs.Common.{◌+◌, ◌∙◌, List, ℕ, ap, subst}
+use Rattle.ob_script.specs.Acts.{Act, act_in}
+use Rattle.ob_script.specs.Grammar.{act_of}
+use Rattle.ob_console.specs.Runs.{point}
+use Rattle.ob_console.specs.Sessions.{Enacts, Evaluation}
+use Rattle.ob_console.proofs.Waited.{enacts_whole}
+use Rattle.ob_console.proofs.evaluator.Evaluator.answer.Goals as goal
+
+pub returns-clause-prints : goal.returns-clause-prints
+returns-clause-prints g c =
+    let inside = c.self.inside in
+    let old : Evaluation = record {
+      point = point inside.manager inside.reader.view.held;
+      pending = inside.output;
+      lines = inside.lines;
+    } in
+    let before : List ℕ = g.W.Sink.taken c.args.sink.now in
+    let after : List ℕ = g.W.Sink.taken c.enact.new.sink in
+    let act : Act = act_of c.args.line.now in
+    subst (λ (first : Evaluation). Enacts first (first.lines + 1) act c.enact.result before after c.enact.new.self)
+    c.self.view_is
+    (enacts_whole old (inside.lines + 1) act c.enact.result before after c.enact.new.self
+    (subst (λ (read : Act). Enacts old (inside.lines + 1) read c.enact.result before after c.enact.new.self)
+    (ap (λ (handles : List ℕ). act_in handles c.act_of-act.result) c.as_slice.ensures.value ∙ c.act_of-act.ensures)
+    c.enact.ensures.prints))
