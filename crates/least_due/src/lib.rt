@@ -15,7 +15,7 @@
 //! ```
 #![tactic(auto)]
 
-ghost use Rattle.std.specs.Prelude.{◌≡◌, ◌<◌, ◌≤◌, length, List, [], ◌∷◌, ◌++◌, None, is_some, replicate, slice_set};
+ghost use Rattle.std.specs.Prelude.{◌≡◌, ◌<◌, ◌≤◌, length, List, [], ◌∷◌, ◌++◌, None, replicate, slice_set};
 ghost use Rattle.std.specs.Prelude.{IfOk, IfSome, IfNone, IsSome, OnOk, OnErr};
 ghost use Rattle.least_due.specs.Dues.{due_at, IsLeast, IsLeastSince};
 

@@ -13,6 +13,7 @@ use Rattle.ob_body.specs.MutexState as mutex
 use Rattle.ob_body.specs.SemaphoreState.{SemaphoreState}
 use Rattle.ob_body.specs.SemaphoreState as semaphore
 
+-- a number of four bytes
 abbrev pub is_four : ℕ → Type 0
 is_four n = n < 2 ^ 32
 

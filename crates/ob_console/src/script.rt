@@ -1,4 +1,4 @@
-ghost use Rattle.std.specs.Prelude.{◌≡◌, ◌+◌, ◌<◌, ◌≤◌, ◌++◌, [], List, ℕ, IfErr, IfOk, IfSome, OnOk, IsErrOf};
+ghost use Rattle.std.specs.Prelude.{◌≡◌, ◌+◌, ◌<◌, ◌≤◌, ◌++◌, List, ℕ, IfErr, IfOk, IfSome, OnOk, IsErrOf};
 ghost use Rattle.std.specs.Prelude.{Some, length};
 ghost use Rattle.ob_store.specs.State.{shape_of};
 ghost use Rattle.ob_output.specs.Devices.{FailedOrSpent};

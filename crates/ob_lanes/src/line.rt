@@ -1,5 +1,5 @@
 ghost use Rattle.std.specs.Prelude.{◌≡◌, ◌≤◌, IfSome, List, ℕ};
-ghost use Rattle.ob_lanes.specs.Lines.{IsOfLane, behind_prefix, in_lane, in_prefixed, is_marked, lane_of, line_in};
+ghost use Rattle.ob_lanes.specs.Lines.{IsOfLane, behind_prefix, in_lane, is_marked, lane_of, line_in};
 ghost use Rattle.ob_lanes.specs.Lines.{line_of, with_prefix, without_prefix};
 ghost use Rattle.ob_script.specs.Acts.{act_in};
 

@@ -1,4 +1,4 @@
-ghost use Rattle.std.specs.Prelude.{◌≡◌, ◌<◌, None, Some, IfOk, IfSome, length, slice_index_or};
+ghost use Rattle.std.specs.Prelude.{◌≡◌, ◌<◌, None, Some, IfOk, length, slice_index_or};
 ghost use Rattle.ob_body.specs.Body as spec;
 ghost use Rattle.ob_tables.specs.Table.{entry_at};
 ghost use Rattle.ob_tables.specs.Tables.{table_of};

@@ -1,4 +1,3 @@
-ghost use Rattle.std.specs.Prelude.{◌≡◌};
 ghost use Rattle.ob_manager.specs.Processes.{child};
 ghost use Rattle.ob_manager.specs.Steps.{GivesOrLacks};
 

@@ -1,4 +1,3 @@
-ghost use Rattle.std.specs.Prelude.{◌≡◌};
 ghost use Rattle.ob_manager.specs.Ending.{end_thread, exit};
 ghost use Rattle.ob_manager.specs.Steps.{Gives};
 

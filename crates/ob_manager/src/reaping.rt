@@ -1,4 +1,3 @@
-ghost use Rattle.std.specs.Prelude.{◌≡◌};
 ghost use Rattle.ob_manager.specs.Reaping.{IfReaped, reap};
 ghost use Rattle.ob_manager.specs.Steps.{Gives, reclaim_in, reply_of};
 

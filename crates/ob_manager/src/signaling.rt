@@ -1,4 +1,3 @@
-ghost use Rattle.std.specs.Prelude.{◌≡◌};
 ghost use Rattle.ob_manager.specs.Signaling.{release_mutex, release_semaphore, reset_event, set_event};
 ghost use Rattle.ob_manager.specs.Steps.{Gives};
 

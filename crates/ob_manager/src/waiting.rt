@@ -1,4 +1,4 @@
-ghost use Rattle.std.specs.Prelude.{[], ◌∷◌, ℕ, ◌≡◌, ◌≢◌, ◌==◌, ◌<◌, ◌≤◌, ◌↔◌, Err, IfErr, IfOk, IsSome, IsTrue, None};
+ghost use Rattle.std.specs.Prelude.{[], ◌∷◌, ℕ, ◌≡◌, ◌≢◌, ◌==◌, ◌<◌, ◌≤◌, Err, IfErr, IfOk, IsSome, None};
 ghost use Rattle.std.specs.Prelude.{Ok, OnOk, Some, length, slice_index_or, true};
 ghost use Rattle.std.specs.Cmp.Lexicographic.{pointwise};
 ghost use Rattle.std.specs.Cmp.Rules.{comparing};

@@ -1,6 +1,6 @@
 ghost use Rattle.std.specs.Prelude.{◌≡◌, ◌≤◌, IfSome, length, nat_lt, take, true};
 ghost use Rattle.ob_manager.specs.declared.call.CallOf.TheVariants as calls;
-ghost use Rattle.ob_script.specs.Words.{are_handles, handles_in, id_of, labelled, moment_of, number_of, words_of};
+ghost use Rattle.ob_script.specs.Words.{are_handles, handles_in, id_of, labelled, moment_of, number_of};
 ghost use Rattle.ob_script.specs.Acts.{IsRead, Pin, ShowCard, Unpin, act_in, shortened};
 ghost use Rattle.ob_script.specs.Grammar.{access_of, act_of, asked, child_of, closing_of, dup_of, event_of, handle_of};
 ghost use Rattle.ob_script.specs.Grammar.{handled, lone_of, mode_of, mutex_of, object_of, on_object, open_of};

@@ -10,7 +10,7 @@ ghost use Rattle.ob_script.specs.Fitting.{Fits};
 ghost use Rattle.ob_script.specs.Writing.{access_word, behind_spaces, can_be_said, either_word, ended, handle_words};
 ghost use Rattle.ob_script.specs.Writing.{id_word, is_line, kind_word};
 ghost use Rattle.ob_script.specs.Writing.{label, line_of, make_words, mask_word, mask_words, mode_word, name_words};
-ghost use Rattle.ob_script.specs.Writing.{said, target_word, text_for, text_words, timeout_word, word_if, words_for};
+ghost use Rattle.ob_script.specs.Writing.{said, target_word, text_words, timeout_word, word_if, words_for};
 
 use crate::fitting::fits;
 use crate::grammar::is_too_long;

@@ -74,3 +74,6 @@ run_whole may told script i xs s t ends passed tells go = inl (record {
   goes = subst (λ (acts : List Act). Goes acts xs s t) (rw ends (take-length script)) go;
   tells = tells;
 })
+
+-- what a run of acts needs, at each act and at its end
+pub ruleset run_laws = (goes_on, run_stopped, run_whole, told_none)

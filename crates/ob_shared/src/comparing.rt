@@ -1,6 +1,6 @@
 //! Compares lanes with a journal: many in one pass over it where their numbers follow one another, and otherwise one
 //! lane after another.
-ghost use Rattle.std.specs.Prelude.{◌≡◌, ◌+◌, ◌<◌, ◌≤◌, ℕ, All, IfNone, IfSome, IsTrue, length, slice_index_or, true};
+ghost use Rattle.std.specs.Prelude.{◌≡◌, ◌<◌, ◌≤◌, ℕ, All, IfNone, IfSome, length, slice_index_or, true};
 ghost use Rattle.ob_shared.specs.Closing.{FirstDiffers, IsPart};
 ghost use Rattle.ob_shared.specs.Comparing.{AreFrom, HaveRead};
 ghost use Rattle.ob_shared.specs.Lanes.{LaneState};

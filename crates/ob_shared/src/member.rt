@@ -114,7 +114,7 @@ fn passes<R: Wait, G: Passage>(rt: &R, gate: &G, lane: u32, place: usize) -> boo
 }
 
 /// Does a member's acts, as long as the gate lets it pass.
-#[tactic(auto, using(crate::proofs::Going::goes_on, crate::proofs::Going::run_stopped, crate::proofs::Going::run_whole, crate::proofs::Going::told_none))]
+#[tactic(auto, using(crate::proofs::Going::run_laws))]
 pub(crate) fn run<R: Wait, G: Passage>(rt: &R, shared: &Shared, gate: &G, member: &mut Member)
     requires { IsReady member.old }
     ensures { IsDriven (G.may_answer gate.now) (G.is_told gate.now) member.old member.new }

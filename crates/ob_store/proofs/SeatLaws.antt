@@ -232,10 +232,6 @@ places_removed s ls k = λ i. record {
   retired = s.retired;
 }
 
-pub none_of : {A : Type 0} (x : Option A) → is_some x ≡ false → x ≡ None
-none_of None h = refl
-none_of (Some x) h = cc
-
 -- a slot without a seat has nothing to lose
 pub seen_absent : (xs : List (Option Seat)) (id : Id) → get_or xs id.slot None ≡ None
     → seen_in xs ≡ without_block (seen_in xs) id
@@ -253,10 +249,6 @@ seen_absent xs id none =
       handles = map seat_handles xs;
       blocks = (sym (set-get_or (map seat_blocks xs) id.slot 0) ∙ ap (set (map seat_blocks xs) id.slot) less) i;
     }
-
-pub map-replicate : {A B : Type 0} (f : A → B) (x : A) (n : ℕ) → map f (replicate n x) ≡ replicate n (f x)
-map-replicate f x zero = refl
-map-replicate f x (suc n) = ap (λ t. f x ∷ t) (map-replicate f x n)
 
 pub places_vacant : (n : ℕ) (ls : List Tag) → places_of (record {
   bodies = replicate n None;

@@ -1,4 +1,4 @@
-ghost use Rattle.std.specs.Prelude.{◌≡◌, ◌≤◌, ℕ, IfOk, Some, false, if◌then◌else◌, length, replicate, slice_get};
+ghost use Rattle.std.specs.Prelude.{◌≡◌, ◌≤◌, IfOk, Some, false, if◌then◌else◌, length, replicate, slice_get};
 ghost use Rattle.std.specs.Prelude.{slice_set, true};
 ghost use Rattle.least_free.specs.From.{IsLeastFrom};
 ghost use Rattle.least_free.specs.Taken.{is_free_within};

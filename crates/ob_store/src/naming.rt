@@ -1,4 +1,3 @@
-ghost use Rattle.std.specs.Prelude.{◌≡◌};
 ghost use Rattle.ob_codec.specs.Reading.{GivesAll};
 ghost use Rattle.ob_store.specs.SavedNames.{names_in, slot_row, with_name, with_row};
 

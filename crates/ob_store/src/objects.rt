@@ -1,20 +1,18 @@
 ghost use Rattle.std.specs.Prelude.{◌≡◌, ℕ, ◌+◌, ◌<◌, ◌≤◌, ◌==◌, false, true, IfOk, IfErr, IfSome, IsSome, IsTrue};
-ghost use Rattle.std.specs.Prelude.{None, Some, is_some, length, slice_index_or};
+ghost use Rattle.std.specs.Prelude.{None, Some, length, slice_index_or};
 ghost use Rattle.std.specs.Option.{option_map};
 ghost use Rattle.pin_words.specs.Keepers.{IsFresh};
 ghost use Rattle.pin_words.specs.Views.{id_of};
 ghost use Rattle.pin_core.specs.Descrs.{IsGiven};
-ghost use Rattle.least_free.specs.From.{IsLeastFrom};
 ghost use Rattle.ob_arena.specs.Slots.{is_vacant_at, least_vacant};
 ghost use Rattle.ob_waits.specs.Waits.{nowhere};
-ghost use Rattle.ob_store.specs.Closing.{is_closing_in};
 ghost use Rattle.ob_store.specs.Owners.{owns_at};
 ghost use Rattle.ob_store.specs.Objects.{changed_at, kept_rest, name_in, object_of, tag_of, places_in, with_keeper};
 ghost use Rattle.ob_store.specs.Objects.{vacant_places, vacancy, with_object, with_handle_of, with_handle_at};
 ghost use Rattle.ob_store.specs.Objects.{with_handles_of, without_handle_of, with_block_of, with_blocks_of};
 ghost use Rattle.ob_store.specs.Agreement.{IsTied, Reclaimed};
 ghost use Rattle.ob_store.specs.Ends.{slot_left_by};
-ghost use Rattle.ob_store.specs.Ticks.{slot_fired, slot_is_due};
+ghost use Rattle.ob_store.specs.Ticks.{slot_fired};
 
 use crate::found::Found;
 use crate::seats::Seats;

@@ -1,5 +1,4 @@
 ghost use Rattle.std.specs.Prelude.{◌≡◌, None, Some};
-ghost use Rattle.ob_rights.specs.Rights.{within};
 ghost use Rattle.ob_tables.specs.Inheritance.{inheritable};
 
 use bitflags::Flags;

@@ -8,6 +8,7 @@ use Rattle.ob_codec.specs.Sparse.{SparseFits, sparse, sparse_at}
 use Rattle.ob_codec.specs.Spelling.{BothFit, ListFits, OptionFits, both, list, option}
 use Rattle.pin_core.specs.Spelling.{IdFits, id_at, id_text}
 use Rattle.pin_core.specs.declared.id.Id.{Id}
+use Rattle.ob_body.specs.Spelling.{is_four}
 use Rattle.ob_waits.specs.Deadlines.{is_overdue}
 use Rattle.ob_waits.specs.Waits.{WaitList, has_slot, is_waits_of, state_ids}
 use Rattle.ob_waits.specs.declared.numbered_wait.NumberedWait.{NumberedWait}
@@ -16,9 +17,6 @@ use Rattle.ob_waits.specs.declared.wait.Mode.TheVariants.{Any, All}
 use Rattle.ob_waits.specs.declared.wait.State.{State}
 use Rattle.ob_waits.specs.declared.wait.State.TheVariants.{Pending, Answered}
 use Rattle.ob_waits.specs.declared.wait.Wait.{Wait}
-
-abbrev pub is_four : ℕ → Type 0
-is_four n = n < 2 ^ 32
 
 -- the objects of a wait, at most 64
 abbrev pub are_few : List Id → Bool

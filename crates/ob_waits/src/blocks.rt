@@ -1,4 +1,4 @@
-ghost use Rattle.std.specs.Prelude.{[], ◌∷◌, ◌≡◌, ◌≤◌, ℕ, None, length, slice_index_or, count_by, sum_by};
+ghost use Rattle.std.specs.Prelude.{◌≡◌, ◌≤◌, None, length, slice_index_or, count_by, sum_by};
 ghost use Rattle.pin_core.specs.Holds.{same_id};
 ghost use Rattle.ob_waits.specs.Waits.{blocks_in};
 

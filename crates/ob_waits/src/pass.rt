@@ -1,4 +1,4 @@
-ghost use Rattle.std.specs.Prelude.{[], ◌∷◌, ◌≡◌, ◌<◌, ◌≤◌, true, false, None, Some, length, slice_index_or, slice_set};
+ghost use Rattle.std.specs.Prelude.{[], ◌∷◌, ◌≡◌, ◌<◌, ◌≤◌, true, false, None, Some, length, slice_index_or};
 ghost use Rattle.ob_waits.specs.Objects.{without_blocks};
 ghost use Rattle.ob_waits.specs.Numbers.{numbers_of};
 ghost use Rattle.ob_waits.specs.Roster.{IsRight};

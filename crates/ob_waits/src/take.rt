@@ -1,9 +1,8 @@
-ghost use Rattle.std.specs.Prelude.{[], ◌∷◌, ◌≡◌, ◌<◌, ◌≤◌, true, None, Some, length, slice_index_or};
+ghost use Rattle.std.specs.Prelude.{◌≡◌, ◌<◌, ◌≤◌, true, None, Some, length};
 ghost use Rattle.std.specs.List.{list_any, list_all};
 ghost use Rattle.std.specs.Option.{IfNone};
-ghost use Rattle.ob_waits.specs.Objects.{slot_room};
-ghost use Rattle.ob_waits.specs.Waits.{nowhere, is_signaled, is_abandoned, first_signaled, list_ready, with_acquired};
-ghost use Rattle.ob_waits.specs.Waits.{with_all_acquired, bodies_after, code_of, code_now, objects_now};
+ghost use Rattle.ob_waits.specs.Waits.{is_signaled, is_abandoned, first_signaled, list_ready};
+ghost use Rattle.ob_waits.specs.Waits.{with_all_acquired, code_now, objects_now};
 ghost use Rattle.ob_waits.specs.Rules.{HasRoom, IsDistinct, IsWaitable};
 
 use crate::bodies::Bodies;

@@ -1,8 +1,8 @@
-ghost use Rattle.std.specs.Prelude.{[], ◌∷◌, ◌++◌, ◌≡◌, false, Err, IfNone, ◌≢◌, ◌+◌, ◌<◌, ◌≤◌, ◌↔◌, ℕ, true, None};
+ghost use Rattle.std.specs.Prelude.{[], ◌∷◌, ◌++◌, ◌≡◌, false, Err, IfNone, ◌+◌, ◌<◌, ◌≤◌, ◌↔◌, ℕ, true, None};
 ghost use Rattle.std.specs.Prelude.{Some, length, map, slice_index_or, OnOk, OnErr, IfOk, IfErr, IfSome, IsSome};
 ghost use Rattle.std.specs.Prelude.{is_some};
 ghost use Rattle.std.specs.Option.{option_map};
-ghost use Rattle.ob_waits.specs.Waits.{settled, passed, blocks_among, number_of, with_wait, with_answer};
+ghost use Rattle.ob_waits.specs.Waits.{settled, blocks_among, number_of, with_wait, with_answer};
 ghost use Rattle.ob_waits.specs.Waits.{without_wait, without_thread, is_pending, code_at, state_at, ids_of, is_full};
 ghost use Rattle.ob_codec.specs.Reading.{Gives};
 ghost use Rattle.ob_waits.specs.Spelling.{WaitsFit, are_within, can_be, waits_at, waits_text};

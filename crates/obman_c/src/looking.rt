@@ -1,10 +1,9 @@
 //! What there is, and what state it is in, for debuggers and monitors and for whoever runs the guests. Nothing is
 //! changed.
-ghost use Rattle.std.specs.Prelude.{◌≡◌, ◌+◌, ◌++◌, ◌≤◌, IfSome, None, drop, length, map, slice_index_or};
-ghost use Rattle.std.specs.Option.{option_map};
+ghost use Rattle.std.specs.Prelude.{◌≡◌, ◌+◌, ◌++◌, ◌≤◌, None, drop, length, map, slice_index_or};
 ghost use Rattle.least_free.specs.From.{IsLeastFrom};
 ghost use Rattle.ob_waits.specs.Waits.{number_of};
-ghost use Rattle.ob_store.specs.Walking.{is_object_at, is_process, is_thread_of, is_value_of};
+ghost use Rattle.ob_store.specs.Walking.{is_process, is_thread_of};
 ghost use Rattle.ob_manager.specs.Handles.{entry_of};
 ghost use Rattle.ob_manager.specs.States.{state_of};
 ghost use Rattle.obman_c.specs.Asking.{number_at};

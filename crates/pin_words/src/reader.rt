@@ -1,4 +1,4 @@
-ghost use Rattle.std.specs.Prelude.{◌≡◌, ◌*◌, ◌<◌, ◌≤◌, ◌↔◌, false, length, is_some, IfSome, IsTrue};
+ghost use Rattle.std.specs.Prelude.{◌≡◌, ◌*◌, ◌<◌, ◌↔◌, false, length, is_some, IfSome, IsTrue};
 ghost use Rattle.std.specs.List.{remove};
 ghost use Rattle.std.specs.Arc.{arc_value};
 ghost use Rattle.pin_core.specs.declared.id.Id.{Id};
@@ -105,7 +105,7 @@ impl Model for Reader {
 }
 
 impl Reader {
-    ghost use Rattle.std.specs.Prelude.{◌≡◌, ◌≢◌, ◌*◌, ◌<◌, ◌≤◌, ◌↔◌, false, [], length, is_some, IfSome, IsTrue};
+    ghost use Rattle.std.specs.Prelude.{◌≡◌, ◌≢◌, ◌*◌, ◌<◌, ◌↔◌, false, [], length, is_some, IfSome, IsTrue};
     ghost use Rattle.std.specs.Prelude.{OnOk, Err};
     ghost use Rattle.std.specs.List.{remove};
     ghost use Rattle.std.specs.Arc.{arc_value};
@@ -118,7 +118,7 @@ impl Reader {
     ghost use Rattle.pin_words.specs.declared.fault.PinFault.TheVariants as fault;
     ghost use Rattle.pin_words.specs.Verdicts.{verdict_of};
     ghost use Rattle.pin_words.specs.Places.{words_a_slot};
-    ghost use Rattle.pin_words.specs.Views.{M, view, reader_looked, reader_got, reader_released, reader_noted};
+    ghost use Rattle.pin_words.specs.Views.{view, reader_looked, reader_got, reader_released, reader_noted};
     ghost use Rattle.pin_words.specs.Plays.{TellsReader};
     ghost use Rattle.pin_words.specs.Tries.{Tries, TriesUntilSettled, HasOnlyLooked};
 

@@ -1,4 +1,4 @@
-ghost use Rattle.std.specs.Prelude.{◌≡◌, All, IsTrue};
+ghost use Rattle.std.specs.Prelude.{All, IsTrue};
 ghost use Rattle.ob_shared.specs.Members.{IsNew};
 
 use super::calling::{CALLS, set};

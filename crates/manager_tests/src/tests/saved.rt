@@ -1,5 +1,5 @@
 //! Savestates: a manager that is saved and loaded goes on as it was, and bytes that are none are refused.
-ghost use Rattle.std.specs.Prelude.{◌≡◌, IfOk};
+ghost use Rattle.std.specs.Prelude.{IfOk};
 ghost use Rattle.pin_words.specs.Keepers.{IsFreshWith, state_of};
 ghost use Rattle.ob_store.specs.State.{shape_of};
 

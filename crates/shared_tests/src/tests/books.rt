@@ -1,6 +1,6 @@
 //! A book alone: a call that is entered with ample memory, and a history that goes on from a savestate. Each function
 //! owns one thing at most, and lends it.
-ghost use Rattle.std.specs.Prelude.{◌≡◌, IfOk, IfSome, Ok};
+ghost use Rattle.std.specs.Prelude.{Ok};
 ghost use Rattle.ob_manager.specs.Savestates.{load};
 
 use super::{holds, same};

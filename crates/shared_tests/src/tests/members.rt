@@ -1,5 +1,5 @@
 //! Members that are driven, and what they show.
-ghost use Rattle.std.specs.Prelude.{◌≡◌, All, IsTrue};
+ghost use Rattle.std.specs.Prelude.{All, IsTrue};
 ghost use Rattle.ob_shared.specs.Members.{IsNew};
 
 use super::playing::{answers, room_for};

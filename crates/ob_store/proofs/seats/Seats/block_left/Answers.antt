@@ -2,7 +2,8 @@ use Rattle.std.proofs.Common.{refl, ◌∙◌, ap, sym, set, get_or, Some, None}
 use Rattle.ob_waits.specs.Objects.{without_block}
 use Rattle.ob_store.specs.declared.seat.Seat.{Seat}
 use Rattle.ob_store.specs.Objects.{tags_in, Places, rest_of, seen_in}
-use Rattle.ob_store.proofs.SeatLaws.{seen_block_left, seen_absent, rest_same, none_of}
+use Rattle.ob_tables.proofs.Inheriting.{none_of}
+use Rattle.ob_store.proofs.SeatLaws.{seen_block_left, seen_absent, rest_same}
 use Rattle.ob_store.proofs.ClosingLaws.{gone_was_there}
 use Rattle.ob_store.proofs.NotedLaws.{noted_left}
 use Rattle.ob_store.proofs.seats.Seats.block_left.Goals as goal

@@ -2,7 +2,8 @@ use Rattle.std.proofs.Common.{◌≡◌, ◌∙◌, ap, refl, get_or, subst, sym
 use Rattle.ob_store.specs.Objects.{tags_in, Places}
 use Rattle.ob_store.specs.SavedWaits.{object_blocks, with_blocks_at}
 use Rattle.ob_store.proofs.SavedWaitLaws.{blocks_seated, blocks_vacant}
-use Rattle.ob_store.proofs.SeatLaws.{none_of, places_blocks}
+use Rattle.ob_tables.proofs.Inheriting.{none_of}
+use Rattle.ob_store.proofs.SeatLaws.{places_blocks}
 use Rattle.ob_store.proofs.NotedLaws.{noted_counts}
 use Rattle.ob_store.proofs.seats.Seats.count_blocks.Goals as goal
 

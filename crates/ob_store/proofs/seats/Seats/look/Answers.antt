@@ -3,7 +3,7 @@ use Rattle.ob_tables.proofs.Counting.{some_within}
 use Rattle.ob_store.specs.declared.seat.Seat.{Seat}
 use Rattle.ob_store.specs.Objects.{tag_of, tags_in, Places, no_tag, object_at}
 use Rattle.ob_store.proofs.LabelLaws.{object_here, object_read, tag_read, tags_length}
-use Rattle.ob_store.proofs.SeatLaws.{none_of}
+use Rattle.ob_tables.proofs.Inheriting.{none_of}
 use Rattle.ob_store.proofs.seats.Seats.look.Goals as goal
 
 pub returns-then-not-is_occupied-clause-object : goal.returns-then-not-is_occupied-clause-object

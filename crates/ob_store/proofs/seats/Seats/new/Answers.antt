@@ -1,7 +1,8 @@
 use Rattle.std.proofs.Common.{rules, ◌≡◌, ◌∙◌, ap, sym, subst, map, length, None}
 use Rattle.std.proofs.lemmas.List.{length-replicate}
 use Rattle.ob_store.specs.Objects.{places_of, tags_in}
-use Rattle.ob_store.proofs.SeatLaws.{places_vacant, map-replicate}
+use Rattle.ob_arena.proofs.Phasing.{map-replicate}
+use Rattle.ob_store.proofs.SeatLaws.{places_vacant}
 use Rattle.ob_arena.specs.Slots.{Slots}
 use Rattle.ob_store.specs.declared.seat.Seat.{Seat}
 use Rattle.ob_store.specs.Owners.{IsOwned}
