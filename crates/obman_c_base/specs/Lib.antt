@@ -3,5 +3,3 @@ pub mod Noted
 pub mod Owned
 pub mod Owning
 pub mod Lending
-pub mod ReaderOwning
-pub mod ReaderLending

@@ -12,5 +12,6 @@ mod status;
 pub use limits::{Bounds, limits_of};
 pub use owned::{OwnedManager, OwnedReader};
 pub use owner::{Ending, Owner, Place};
+pub use parts::Parts;
 pub use reader_owner::{ReaderEnding, ReaderOwner, ReaderPlace};
 pub use status::{INVALID_DATA, SUCCESS, TOO_SMALL};

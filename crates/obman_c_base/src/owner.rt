@@ -2,10 +2,11 @@
 //! no type that leads to memory of Rust's. In proofs each has the manager as its value.
 ghost use Rattle.std.specs.Prelude.{◌≡◌, Option, Some};
 ghost use Rattle.std.specs.Borrow.{sem};
+ghost use Rattle.std.specs.Coded.{coded_option};
 ghost use Rattle.std.specs.Option.{option_map};
 ghost use Rattle.obman_c_base.specs.contracts.owned.OwnedManager.{the_row};
 ghost use Rattle.obman_c_base.specs.declared.owned.OwnedManager.{OwnedManager};
-ghost use Rattle.obman_c_base.specs.Owning.{manager_coded, owner_owns, owns_or_null, place_coded, place_owns};
+ghost use Rattle.obman_c_base.specs.Owning.{owner_owns, owns_or_null, place_owns};
 
 use crate::owned::OwnedManager;
 use crate::parts::Parts;
@@ -14,15 +15,14 @@ use std::marker::Model;
 
 /// A manager that C owns (`om_manager`).
 #[repr(C)]
-#[derive(Drop)]
 pub struct Owner {
     at: *mut u8,
     alloc: Global,
-    pub ghost value: { OwnedManager } by { manager_coded },
+    pub ghost value: { OwnedManager } by { the_row.coded },
 }
 
 impl Model for Owner {
-    ghost also_owns = { λ owner. owner_owns owner.alloc owner.at owner.value };
+    ghost also_owns = { λ owner. owner_owns the_row owner.alloc owner.at owner.value };
 }
 
 /// Where C wants a manager to be: the same bytes, which own a manager once it is there, and what C had there before is
@@ -32,20 +32,19 @@ impl Model for Owner {
 pub struct Place {
     at: *mut u8,
     alloc: Global,
-    pub ghost value: { Option OwnedManager } by { place_coded },
+    pub ghost value: { Option OwnedManager } by { coded_option the_row.coded },
 }
 
 impl Model for Place {
-    ghost also_owns = { λ place. place_owns place.alloc place.at place.value };
+    ghost also_owns = { λ place. place_owns the_row place.alloc place.at place.value };
 }
 
 /// What C ends: the same bytes, a manager, or nothing where they are zeros.
 #[repr(C)]
-#[derive(Drop)]
 pub struct Ending {
     at: *mut u8,
     alloc: Global,
-    pub ghost value: { Option OwnedManager } by { place_coded },
+    pub ghost value: { Option OwnedManager } by { coded_option the_row.coded },
 }
 
 impl Model for Ending {
@@ -66,23 +65,6 @@ impl Owner {
         ensures value { result.now ≡ self.old.value }
     {
         unsafe { &mut *(self.at as *mut OwnedManager) }
-    }
-
-    /// The manager in its box.
-    pub fn into_box(self) -> Box<OwnedManager>
-        ensures { result.value ≡ self.value }
-    {
-        self.into_parts().into_box()
-    }
-
-    fn into_parts(self) -> Parts<OwnedManager, Global>
-        ensures { result.value ≡ self.value }
-    {
-        let Owner { at, alloc } = self;
-        Parts {
-            at: at as *mut OwnedManager,
-            alloc,
-        }
     }
 }
 
@@ -106,15 +88,18 @@ impl Place {
 }
 
 impl Ending {
-    /// The owner of the manager, where there is one.
-    pub fn owner(self) -> Option<Owner>
+    /// What owns the manager, where there is one.
+    pub fn owner(self) -> Option<Parts<OwnedManager, Global>>
         ensures { option_map (λ owner. owner.value) result ≡ self.value }
     {
         let Ending { at, alloc } = self;
         if at.is_null() {
             None
         } else {
-            Some(Owner { at, alloc })
+            Some(Parts {
+                at: at as *mut OwnedManager,
+                alloc,
+            })
         }
     }
 }

@@ -1,12 +1,13 @@
 //! What C holds: a pointer to a reader on the heap, which is hidden behind a pointer to bytes, since C may be passed no
-//! type that leads to memory of Rust's. In proofs each has the reader as its value.
+//! type that leads to memory of Rust's. In proofs each has the reader as its value. These are the types of `owner` once
+//! more, since an exported function takes no type with type parameters.
 ghost use Rattle.std.specs.Prelude.{◌≡◌, Option, Some};
 ghost use Rattle.std.specs.Borrow.{sem};
+ghost use Rattle.std.specs.Coded.{coded_option};
 ghost use Rattle.std.specs.Option.{option_map};
 ghost use Rattle.obman_c_base.specs.contracts.owned.OwnedReader.{the_row};
 ghost use Rattle.obman_c_base.specs.declared.owned.OwnedReader.{OwnedReader};
-ghost use Rattle.obman_c_base.specs.Owning.{owns_or_null};
-ghost use Rattle.obman_c_base.specs.ReaderOwning.{reader_coded, reader_owns, reader_place_coded, reader_place_owns};
+ghost use Rattle.obman_c_base.specs.Owning.{owner_owns, owns_or_null, place_owns};
 
 use crate::owned::OwnedReader;
 use crate::parts::Parts;
@@ -15,15 +16,14 @@ use std::marker::Model;
 
 /// A reader that C owns (`om_reader`).
 #[repr(C)]
-#[derive(Drop)]
 pub struct ReaderOwner {
     at: *mut u8,
     alloc: Global,
-    pub ghost value: { OwnedReader } by { reader_coded },
+    pub ghost value: { OwnedReader } by { the_row.coded },
 }
 
 impl Model for ReaderOwner {
-    ghost also_owns = { λ owner. reader_owns owner.alloc owner.at owner.value };
+    ghost also_owns = { λ owner. owner_owns the_row owner.alloc owner.at owner.value };
 }
 
 /// Where C wants a reader to be: the same bytes, which own a reader once it is there, and what C had there before is
@@ -33,20 +33,19 @@ impl Model for ReaderOwner {
 pub struct ReaderPlace {
     at: *mut u8,
     alloc: Global,
-    pub ghost value: { Option OwnedReader } by { reader_place_coded },
+    pub ghost value: { Option OwnedReader } by { coded_option the_row.coded },
 }
 
 impl Model for ReaderPlace {
-    ghost also_owns = { λ place. reader_place_owns place.alloc place.at place.value };
+    ghost also_owns = { λ place. place_owns the_row place.alloc place.at place.value };
 }
 
 /// What C ends: the same bytes, a reader, or nothing where they are zeros.
 #[repr(C)]
-#[derive(Drop)]
 pub struct ReaderEnding {
     at: *mut u8,
     alloc: Global,
-    pub ghost value: { Option OwnedReader } by { reader_place_coded },
+    pub ghost value: { Option OwnedReader } by { coded_option the_row.coded },
 }
 
 impl Model for ReaderEnding {
@@ -59,7 +58,7 @@ unsafe impl Send for ReaderOwner {}
 unsafe impl Send for ReaderEnding {}
 
 impl ReaderOwner {
-    ghost use Rattle.obman_c_base.specs.ReaderLending.{LendsReader};
+    ghost use Rattle.obman_c_base.specs.Lending.{LendsReader};
 
     /// The reader, lent.
     pub fn lend(&mut self) -> &mut OwnedReader
@@ -67,23 +66,6 @@ impl ReaderOwner {
         ensures value { result.now ≡ self.old.value }
     {
         unsafe { &mut *(self.at as *mut OwnedReader) }
-    }
-
-    /// The reader in its box.
-    pub fn into_box(self) -> Box<OwnedReader>
-        ensures { result.value ≡ self.value }
-    {
-        self.into_parts().into_box()
-    }
-
-    fn into_parts(self) -> Parts<OwnedReader, Global>
-        ensures { result.value ≡ self.value }
-    {
-        let ReaderOwner { at, alloc } = self;
-        Parts {
-            at: at as *mut OwnedReader,
-            alloc,
-        }
     }
 }
 
@@ -107,15 +89,18 @@ impl ReaderPlace {
 }
 
 impl ReaderEnding {
-    /// The owner of the reader, where there is one.
-    pub fn owner(self) -> Option<ReaderOwner>
+    /// What owns the reader, where there is one.
+    pub fn owner(self) -> Option<Parts<OwnedReader, Global>>
         ensures { option_map (λ owner. owner.value) result ≡ self.value }
     {
         let ReaderEnding { at, alloc } = self;
         if at.is_null() {
             None
         } else {
-            Some(ReaderOwner { at, alloc })
+            Some(Parts {
+                at: at as *mut OwnedReader,
+                alloc,
+            })
         }
     }
 }

@@ -1,21 +1,10 @@
 -- A manager that C owns may go from thread to thread, as its box may.
-use mir.Raw.{raw}
-use denote.Memory.{lone}
-use denote.Param.Send.{IsSend, AllSend, owning_send, struct_send, sendable}
-use denote.Struct.Owning.{shape, fields, to}
-use denote.Struct.Struct.{exits_of}
-use Rattle.std.proofs.Crossing.{frees}
-use Rattle.std.proofs.alloc.Global.TheSendSync as heap
-use Rattle.obman_c_base.specs.contracts.owned.OwnedManager as OwnedManager
+use denote.Param.Send.{IsSend}
+use Rattle.obman_c_base.specs.contracts.owned.OwnedManager as manager
 use Rattle.obman_c_base.proofs.owned.OwnedManager.TheSendSync.{the_send}
-use Rattle.obman_c_base.proofs.Sending.{leads, leaving}
-use Rattle.obman_c_base.specs.contracts.owner.Owner.{the_row, the_type}
+use Rattle.obman_c_base.proofs.Sending.{owned, both, crosses, heap_code}
+use Rattle.obman_c_base.specs.contracts.owner.Owner.{the_row, struct, the_codes, the_heap}
 
 pub send : IsSend the_row
-send =
-    let each : AllSend (fields the_type) = (search sendable, (heap.the_field_send, tt)) in
-    owning_send the_type each (λ owner. (
-      leads OwnedManager.the_row the_send owner.at owner.value,
-      frees.frees owner.alloc (raw (lone OwnedManager.the_row.mir)) owner.at,
-    ))
-    (λ k. leaving (to the_type) (exits_of k (fields the_type)) ((struct_send (shape the_type) each).leaving k))
+send = crosses struct (the_codes heap_code) the_heap both
+    (λ owner. owned manager.the_row the_send owner.alloc owner.at owner.value)

@@ -1,11 +1,11 @@
 -- The pointer is read through the `&mut`, and what it leads to is lent on: the owner ends as its last value says.
-use Rattle.obman_c_base.proofs.Walks.{◌≡◌, ℕ, refl, [], ◌∷◌, List, Val, vptr, ent, sep, emp, id⊢, GName, Fml, full_share, owns, block_ptr, plain, named, mut_ref_to, no, nothing, opens, Stays, stay_dropped, walk_of, Goes-spent_ref, tables, bare, alloc_all, pass_all, free_all, look_at, get, through, sets, sets_last, env, ‵, raw, ◌⊛◌, some, later, at_ret, ◌$◌, ◌∵◌, !, qed, move, keep, drop, use1, join, split, group, pick, rewrite, suffices, frame, fsplit, fsplit3, fjoin, fpack, await, done, whole, sub, look_in, stop, fld, load, addr, of_opd, first, blocks, exec, returns, enter, after, proved, ends_at, says, ftrue, flft, fsep, Logic, sem, token, D, B, τ, handle, word, box_out, box_in, of_reader}
-use seplogic.Ra.Ura.{Ura}
-use denote.Memory.{part_at, mem, cell_at, part_of}
+use Rattle.obman_c_base.proofs.Walks.{refl, [], ◌∷◌, List, Val, vptr, emp, id⊢, GName, full_share, owns, plain, named, mut_ref_to, no, nothing, opens, Stays, stay_dropped, walk_of, Goes-spent_ref, tables, alloc_all, pass_all, free_all, look_at, get, through, sets, sets_last, env, ‵, raw, ◌⊛◌, some, later, at_ret, ◌$◌, ◌∵◌, !, qed, move, keep, drop, use1, join, split, group, pick, rewrite, suffices, frame, fsplit, fsplit3, fjoin, await, done, whole, sub, look_in, stop, fld, load, addr, of_opd, first, blocks, exec, returns, enter, after, proved, ends_at, says, ftrue, flft, sem, D, B, box_out, of_reader}
+use denote.Memory.{cell_at}
 use denote.Ref.{MutRef, mut_vals, mut_Tells}
 use denote.Follow.{follows, Part, lends_Part}
-use Rattle.obman_c_base.specs.ReaderLending.{with_value}
-use Rattle.obman_c_base.specs.contracts.owned.OwnedReader.{the_row as Manager}
+use Rattle.obman_c_base.proofs.Lent.{rest, gives_back}
+use Rattle.obman_c_base.specs.Lending.{with_reader}
+use Rattle.obman_c_base.specs.contracts.owned.OwnedReader.{the_row as Held}
 use Rattle.obman_c_base.specs.contracts.reader_owner.ReaderOwner.{the_row as Owner}
 use Rattle.obman_c_base.specs.contracts.reader_owner.ReaderOwner.lend as F
 use Rattle.obman_c_base.specs.contracts.reader_owner.ReaderOwner.lend.Key.{name as #self}
@@ -18,27 +18,6 @@ stayed = (stay_dropped (mut_ref_to (0 ∷ []) tt (plain (λ _. Owner))) no, tt)
 -- the box that an owner hides
 abbrev hidden : Owner.Denot → D of_reader
 hidden owner = record { ptr = owner.at; alloc = owner.alloc; value = owner.value }
-
-module _ {M : Type 1} {𝓤 : Ura M} (𝓛 : Logic 𝓤) (rb ro : ℕ) (owner : Owner.Denot) (b o : ℕ) (h : Val) where
-  -- all of the owner but the manager: the right to free its block, the allocator, and the owner's own word
-  abbrev rest : Fml
-  rest = fsep (fsep (token of_reader.al owner.alloc (bare (τ of_reader)) (block_ptr b o))
-      (handle of_reader owner.alloc h)) (cell_at full_share Owner.mir (word of_reader h b o ∷ []) rb ro)
-
-  -- with any manager in the block it is an owner of that one
-  gives_back : owner.at ≡ block_ptr b o → (manager : Manager.Denot)
-      → ent 𝓤 (sep 𝓤 (sem 𝓛 ((mem Manager).own_at manager b o)) (sem 𝓛 rest))
-      (sem 𝓛 ((mem Owner).own_at (with_value owner manager) rb ro))
-  unfolding part_of
-  gives_back at_b manager =
-      let after_it = with_value owner manager in
-      qed 𝓛 (‵ (part_at Manager full_share manager b o) ∷ ‵ rest ∷ []) ∵ move ! (1 ∷ []) $ fsplit ! $ fsplit ! $ move !
-      (3 ∷ []) $
-      box_in of_reader ! (hidden after_it) b o manager at_b refl $
-      use1 𝓛 (‵ (Owner.own_val after_it (word of_reader h b o ∷ []))) (id⊢ 𝓤 _) $
-      move ! (1 ∷ 0 ∷ []) $ fjoin ! $ fpack ! (List Val)
-      (λ words. fsep (cell_at full_share Owner.mir words rb ro) (Owner.own_val after_it words))
-      (word of_reader h b o ∷ []) $ done !
 
 pub lend_spec : {M : Type 1} → statement M
 lend_spec 𝓤 𝓛 𝓜 𝓡 wired =
@@ -69,16 +48,17 @@ lend_spec 𝓤 𝓛 𝓜 𝓡 wired =
     sets_last ! (addr ! (through ! refl (stop !))) refl (tt, tt) $
     exec ! 𝓣.C 𝓣.Λ (en l) (after 1 code.function.body) (at_ret (en l) (W.post y)) $
     sets ! (of_opd ! (get ! refl)) refl (tt, tt) $
-    -- the manager goes out, and comes back when the borrow ends
+    -- what is lent goes out, and comes back when the borrow ends
     move ! (1 ∷ 2 ∷ []) $ fjoin ! $ move ! (2 ∷ 3 ∷ 4 ∷ 1 ∷ 0 ∷ []) $ group ! 5 $
-    let back = gives_back 𝓛 rb ro owner b o h at_b in let kept = sem 𝓛 (rest 𝓛 rb ro owner b o h) in
-    use1 𝓛 (later (some (λ (γ' : GName). raw (Part 𝓛 Owner Manager (with_value owner)
+    let back = gives_back of_reader Owner (hidden owner) rb ro b o h 𝓛 (with_reader owner) (λ x vs. id⊢ 𝓤 _) at_b in
+    let kept = sem 𝓛 (rest of_reader Owner (hidden owner) rb ro b o h) in
+    use1 𝓛 (later (some (λ (γ' : GName). raw (Part 𝓛 Owner Held (with_reader owner)
     (named 0) κ q rb ro b o γ kept back owner.value γ'))))
-    (lends_Part 𝓛 Owner Manager (with_value owner) (named 0) κ q rb ro b o γ kept back (Owner.coded.code owner)
+    (lends_Part 𝓛 Owner Held (with_reader owner) (named 0) κ q rb ro b o γ kept back (Owner.coded.code owner)
     (Owner.coded.code owner) owner.value) $ await ! tt $ pick ! (λ γ'.
     returns ! (look_at ! 0 refl) $ free_all ! refl $ keep ! (0 ∷ []) $
-    use1 𝓛 (‵ ((MutRef (named 0) κ Manager).own_val (record { ref_ptr = (b, o); ghost_name = γ'; now = owner.value })
-    (vptr b o ∷ [])) ⊛ (‵ (flft κ q) ⊛ ‵ (follows Owner Manager γ γ' (with_value owner)))) (id⊢ 𝓤 _) $ split ! $
+    use1 𝓛 (‵ ((MutRef (named 0) κ Held).own_val (record { ref_ptr = (b, o); ghost_name = γ'; now = owner.value })
+    (vptr b o ∷ [])) ⊛ (‵ (flft κ q) ⊛ ‵ (follows Owner Held γ γ' (with_reader owner)))) (id⊢ 𝓤 _) $ split ! $
     move ! (1 ∷ []) $ split ! $ move ! (2 ∷ 0 ∷ 1 ∷ []) $
     suffices ! _ (ends_at 𝓛 F.ended stayed c y (vptr b o) (record {
       ref_ptr = (b, o);
