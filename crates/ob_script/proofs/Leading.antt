@@ -1,21 +1,21 @@
 -- The digits with which a text begins, and the word that they are.
-use Rattle.std.proofs.Common.{◌≡◌, ◌≢◌, ℕ, suc, ◌+◌, ◌-◌, ◌*◌, ◌<◌, ◌≤◌, List, ◌++◌, ◌&&◌, [], ◌∷◌, Option, Some, None, true, false, length, take, drop, get_or, arith, refl, ap, sym, subst, ◌∙◌}
-use Rattle.std.specs.Prelude.{IfSome}
+use Rattle.std.proofs.Common.{◌≡◌, ◌≢◌, ℕ, suc, ◌+◌, ◌-◌, ◌*◌, ◌<◌, ◌≤◌, List, ◌++◌, ◌&&◌, [], ◌∷◌, Option, Some, None, Bool, true, false, length, take, drop, get_or, arith, refl, ap, sym, subst, ◌∙◌, zero, inl, inr, cond}
+use Rattle.std.specs.Prelude.{IfSome, not}
 use Rattle.std.specs.Borrow.{Bor}
 use Rattle.std.specs.List.{list_all, onto_first, position_or_len}
 use Rattle.std.specs.Char.{is_ascii_digit}
 use Rattle.std.proofs.Math.Seq.{take-suc}
-use Rattle.std.proofs.lemmas.Bool.{ne_eqb}
+use Rattle.std.proofs.lemmas.Bool.{cases_lt, ne_eqb}
 use Rattle.std.proofs.lemmas.Bool.Decides.{nat_tests}
 use Rattle.std.proofs.lemmas.List.{get_or-take, length-take, take_all, take_rest}
 use Rattle.std.proofs.lemmas.List.Elements.{All-get_or}
-use Rattle.std.proofs.lemmas.List.Folds.{list_all_more}
+use Rattle.std.proofs.lemmas.List.Folds.{list_all_at, list_all_more}
 use Rattle.std.proofs.lemmas.List.Splits.{slice_split-cons_no}
-use Rattle.std.proofs.lemmas.List.Sums.{AllPass-from_list_all, position_or_len_is}
+use Rattle.std.proofs.lemmas.List.Sums.{AllPass-from_list_all, passes_at_first, position_or_len_is, prefix_len-le-length}
 use Rattle.memchr.specs.Find.{is_byte}
 use Rattle.ob_script.specs.WordsLeft.{words_left}
 use Rattle.ob_script.specs.Words.{labelled, number_of, value_after, value_of, words_of}
-use Rattle.ob_script.proofs.Cuts.{words_first, words_last}
+use Rattle.ob_script.proofs.Cuts.{words_first, words_last, words_some}
 
 -- one digit more
 value_after-append : (value : ℕ) (digits : List ℕ) (digit : ℕ)
@@ -99,3 +99,129 @@ behind_letter letter (first ∷ more) digits (Some found) dark some is (word, nu
   slice_split-cons_no (is_byte 32) first more (ap (is_byte 32) is ∙ ne_eqb letter 32 dark)
       ∙ ap (onto_first first) (sym (ap words_of rest) ∙ words) ∙ ap (λ byte. (byte ∷ word) ∷ words_left found.1) is,
 )
+
+-- the first word of a text ends at the first blank
+first_word_is : (text word : List ℕ) (more : List (List ℕ)) → words_of text ≡ word ∷ more
+    → word ≡ take (position_or_len (is_byte 32) text) text
+first_word_is text word more words = elim (cases_lt (position_or_len (is_byte 32) text) (length text)) [
+  | inl within ↦ ap (λ (ws : List (List ℕ)). get_or ws 0 []) (sym words ∙ words_first text within)
+  | inr past ↦
+      let most = prefix_len-le-length (λ byte. not (is_byte 32 byte)) text in
+      ap (λ (ws : List (List ℕ)). get_or ws 0 []) (sym words ∙ words_last text (omega (arith, past, most)))
+      ∙ sym (take_all (position_or_len (is_byte 32) text) text past)
+]
+
+is_both : (b : Bool) → b ≡ true → b ≡ false → ⊥
+is_both true is other = cc
+is_both false is other = cc
+
+-- the digits with which a text begins are of the first word
+digits_within : (text : List ℕ) (n : ℕ) → list_all is_ascii_digit (take n text) ≡ true → n ≤ length text
+    → n ≤ position_or_len (is_byte 32) text
+digits_within text n digits within = elim (cases_lt (position_or_len (is_byte 32) text) n) [
+  | inl before ↦
+      absurd (is_both (is_byte 32 (get_or text (position_or_len (is_byte 32) text) 0))
+      (passes_at_first (is_byte 32) text 0 (omega (arith, before, within)))
+      (among_digits text n (position_or_len (is_byte 32) text) digits within before))
+  | inr past ↦ past
+]
+
+none_long : (word : List ℕ) → 10 < length word → number_of word ≡ None
+none_long word long = grind (arith, nat_tests)
+
+none_empty : (word : List ℕ) → length word < 1 → number_of word ≡ None
+none_empty word short = grind (arith, nat_tests)
+
+none_great : (word : List ℕ) → 4294967295 < value_of word → number_of word ≡ None
+none_great word great = grind (arith, nat_tests)
+
+none_other : (word : List ℕ) → list_all is_ascii_digit word ≡ false → number_of word ≡ None
+none_other word other = grind (arith, nat_tests)
+
+blank_is : (byte : ℕ) → is_byte 32 byte ≡ true → byte ≡ 32
+blank_is byte is = grind (arith, nat_tests)
+
+-- a word whose digits are none, too many or too great, or that has something else behind them, is no number
+pub no_number : (text : List ℕ) (n value : ℕ) → list_all is_ascii_digit (take n text) ≡ true
+    → value_of (take n text) ≡ value → n ≤ length text
+    → (n ≤ 10 → n < length text → is_ascii_digit (get_or text n 0) ≡ false)
+    → (n ≢ 0 → n ≤ 10 → value ≤ 4294967295 → (n < length text) × (get_or text n 0 ≢ 32))
+    → (word : List ℕ) (more : List (List ℕ)) → words_of text ≡ word ∷ more → number_of word ≡ None
+no_number text n value digits is within stop fails word more words =
+    subst (λ (w : List ℕ). number_of w ≡ None) (sym (first_word_is text word more words)) cut
+  where
+    p : ℕ
+    p = position_or_len (is_byte 32) text
+
+    least : n ≤ p
+    least = digits_within text n digits within
+
+    most : p ≤ length text
+    most = prefix_len-le-length (λ byte. not (is_byte 32 byte)) text
+
+    many : length (take p text) ≡ p
+    many = grind (arith, length-take p text, most)
+
+    ends : p ≡ n → n ≤ 10 → number_of (take p text) ≡ None
+    ends at few = elim (cases_lt 4294967295 value) [
+      | inl great ↦
+          none_great (take p text) (omega (arith, great, is, ap (λ (m : ℕ). value_of (take m text)) at))
+      | inr small ↦ elim (cases_lt 0 n) [
+        | inl some ↦
+            let behind = fails (omega (arith, some)) few small in
+            absurd (behind.1 (blank_is (get_or text n 0) (ap (λ (m : ℕ). is_byte 32 (get_or text m 0)) (sym at)
+            ∙ passes_at_first (is_byte 32) text 0 (omega (arith, at, behind.0)))))
+        | inr none ↦ none_empty (take p text) (omega (arith, many, at, none))
+      ]
+    ]
+
+    cut : number_of (take p text) ≡ None
+    cut = elim (cases_lt 10 n) [
+      | inl long ↦ none_long (take p text) (omega (arith, many, least, long))
+      | inr few ↦ elim (cases_lt n p) [
+        | inl before ↦
+            none_other (take p text)
+            (list_all_at is_ascii_digit (take p text) n 0 (omega (arith, many, before))
+            (ap is_ascii_digit (get_or-take p text n 0 before) ∙ stop few (omega (arith, before, most))))
+        | inr past ↦ ends (omega (arith, past, least)) few
+      ]
+    ]
+
+pub ruleset number_laws = (number_last, number_first, no_number)
+
+labelled_none : (letter : ℕ) (word : List ℕ) → number_of word ≡ None → labelled letter (letter ∷ word) ≡ None
+labelled_none letter word none = grind (arith, nat_tests)
+
+behind_none : (letter : ℕ) (words : List (List ℕ)) (word : List ℕ) (more : List (List ℕ)) → (words ≡ [] → ⊥)
+    → ((w : List ℕ) (ws : List (List ℕ)) → words ≡ w ∷ ws → number_of w ≡ None)
+    → onto_first letter words ≡ word ∷ more → labelled letter word ≡ None
+behind_none letter [] word more some none is = absurd (some refl)
+behind_none letter (w ∷ ws) word more some none is =
+    subst (λ (first : List ℕ). labelled letter first ≡ None) (ap (λ (l : List (List ℕ)). get_or l 0 []) is)
+    (labelled_none letter w (none w ws refl))
+
+-- behind the letter is no number
+pub none_behind : (letter : ℕ) (text digits : List ℕ) → letter ≢ 32 → 1 ≤ length text → get_or text 0 0 ≡ letter
+    → digits ≡ drop 1 text
+    → ((w : List ℕ) (ws : List (List ℕ)) → words_of digits ≡ w ∷ ws → number_of w ≡ None)
+    → (word : List ℕ) (more : List (List ℕ)) → words_of text ≡ word ∷ more → labelled letter word ≡ None
+none_behind letter [] digits dark some is rest none word more words = absurd (omega (arith, some))
+none_behind letter (first ∷ text) digits dark some is rest none word more words =
+    behind_none letter (words_of text) word more (words_some text)
+    (λ w ws now. none w ws (ap words_of rest ∙ now))
+    (sym (slice_split-cons_no (is_byte 32) first text (ap (is_byte 32) is ∙ ne_eqb letter 32 dark)
+    ∙ ap (λ (byte : ℕ). onto_first byte (words_of text)) is) ∙ words)
+
+other_letter : (letter p : ℕ) (text : List ℕ) → (1 ≤ length text → get_or text 0 0 ≢ letter)
+    → labelled letter (take p text) ≡ None
+other_letter letter zero text other = refl
+other_letter letter (suc p) [] other = refl
+other_letter letter (suc p) (first ∷ text) other =
+    ap (λ (b : Bool). cond b (number_of (take p text)) None) (ne_eqb first letter (other (omega arith)))
+
+-- the letter isn't there
+pub none_led : (letter : ℕ) (text : List ℕ) → (1 ≤ length text → get_or text 0 0 ≢ letter)
+    → (word : List ℕ) (more : List (List ℕ)) → words_of text ≡ word ∷ more → labelled letter word ≡ None
+none_led letter text other word more words =
+    subst (λ (w : List ℕ). labelled letter w ≡ None) (sym (first_word_is text word more words))
+    (other_letter letter (position_or_len (is_byte 32) text) text other)

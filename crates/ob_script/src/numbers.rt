@@ -1,4 +1,5 @@
-ghost use Rattle.std.specs.Prelude.{◌≡◌, ◌≢◌, ◌≤◌, ◌∷◌, ℕ, List, IfSome, Some, codes, length, take, true};
+ghost use Rattle.std.specs.Prelude.{◌≡◌, ◌≢◌, ◌<◌, ◌≤◌, ◌∷◌, ℕ, List, IfNone, IfSome, None, Some, codes, false, length};
+ghost use Rattle.std.specs.Prelude.{slice_index, take, true};
 ghost use Rattle.std.specs.List.{list_all};
 ghost use Rattle.std.specs.Char.{is_ascii_digit};
 ghost use Rattle.ob_script.specs.Words.{down_to, due_of, either_of, id_of, labelled, long_of, moment_of, number_of};
@@ -56,6 +57,8 @@ fn to_i32(number: u32) -> Option<i32>
 #[inline(never)]
 fn leading_digits(text: &[u8]) -> (u64, usize)
     ensures within { result.1 ≤ length text.now }
+    ensures stop { result.1 ≤ 10 → result.1 < length text.now
+        → is_ascii_digit (slice_index text.now result.1) ≡ false }
     ensures digits { list_all is_ascii_digit (take result.1 text.now) ≡ true }
     ensures value { value_of (take result.1 text.now) ≡ result.0 }
 {
@@ -69,13 +72,14 @@ fn leading_digits(text: &[u8]) -> (u64, usize)
     (value, text.len())
 }
 
-/// The number that the first word of a text is, and what stands behind that word. `None` says nothing of the word:
-/// [`number_of`] then has to read it.
+/// The number that the first word of a text is, and what stands behind that word; none where it isn't one.
 #[inline(always)]
-#[tactic(auto, using(crate::proofs::Leading::number_last, crate::proofs::Leading::number_first))]
+#[tactic(auto, using(crate::proofs::Leading::number_laws))]
 fn leading_number(text: &[u8]) -> Option<(u32, Option<&[u8]>)>
-    ensures { IfSome result (λ found. (word : List ℕ) × (number_of word ≡ Some found.0)
+    ensures some { IfSome result (λ found. (word : List ℕ) × (number_of word ≡ Some found.0)
         × (words_of text.now ≡ word ∷ words_left found.1)) }
+    ensures none { IfNone result ((word : List ℕ) (more : List (List ℕ)) → words_of text.now ≡ word ∷ more
+        → number_of word ≡ None) }
 {
     let (value, count) = leading_digits(text);
     if count == 0 || count > 10 || value > 4_294_967_295 {
@@ -94,8 +98,10 @@ fn leading_number(text: &[u8]) -> Option<(u32, Option<&[u8]>)>
 #[inline(always)]
 pub fn leading_labelled(letter: u8, text: &[u8]) -> Option<(u32, Option<&[u8]>)>
     requires { letter ≢ 32 }
-    ensures { IfSome result (λ found. (word : List ℕ) × (labelled letter word ≡ Some found.0)
+    ensures some { IfSome result (λ found. (word : List ℕ) × (labelled letter word ≡ Some found.0)
         × (words_of text.now ≡ word ∷ words_left found.1)) }
+    ensures none { IfNone result ((word : List ℕ) (more : List (List ℕ)) → words_of text.now ≡ word ∷ more
+        → labelled letter word ≡ None) }
 {
     match text {
         [first, digits @ ..] if *first == letter => leading_number(digits),

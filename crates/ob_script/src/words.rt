@@ -6,7 +6,7 @@ ghost use Rattle.memchr.specs.Find.{IsFirstByte, is_byte};
 ghost use Rattle.ob_script.specs.Words.{begins_with, behind, joined, labelled, words_of};
 ghost use Rattle.ob_script.specs.WordsLeft.{words_left};
 
-use crate::numbers::{labelled, leading_labelled};
+use crate::numbers::leading_labelled;
 use memchr::memchr;
 use std::marker::Model;
 
@@ -75,8 +75,8 @@ impl<'a> Words<'a> {
                 Some(Some(number))
             }
             None => {
-                let word = self.take(rest, seldom_place_of(b' ', rest));
-                Some(labelled(letter, word))
+                let _ = self.take(rest, seldom_place_of(b' ', rest));
+                Some(None)
             }
         }
     }
