@@ -1,6 +1,6 @@
 -- The state before any call is kept.
 use Rattle.std.proofs.Common.{◌≡◌, ℕ, zero, suc, ◌≤◌, length, false, List, [], ◌∷◌, Option, None, refl, ap, ◌∙◌, sym, subst, arith, get_or, map}
-use Rattle.ob_store.proofs.SeatLaws.{map-replicate}
+use Rattle.ob_arena.proofs.Phasing.{map-replicate}
 use Rattle.ob_store.proofs.ByPlace.{replicate_at}
 use Rattle.std.specs.Prelude.{replicate, sum_by}
 use Rattle.std.proofs.lemmas.List.{length-replicate}

@@ -8,6 +8,7 @@ use Rattle.std.proofs.lemmas.Bool.{cases_lt}
 use Rattle.pin_core.specs.declared.id.Id.{Id}
 use Rattle.ob_body.specs.declared.body.Body.{Body}
 use Rattle.ob_arena.specs.Slots.{Slots, is_vacant_at, least_vacant}
+use Rattle.ob_arena.proofs.Phasing.{map-replicate}
 use Rattle.ob_arena.proofs.SlotLemmas.{vacant_least}
 use Rattle.ob_waits.specs.Objects.{slot_acquired, without_block}
 use Rattle.ob_store.specs.declared.seat.Seat.{Seat}
