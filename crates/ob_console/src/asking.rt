@@ -22,14 +22,17 @@ pub fn reply_to(
     ensures held { reader.new.view.held ≡ reader.old.view.held }
     ensures table { reader.new.table ≡ reader.old.table }
 {
-    match ask {
-        Ask::WaitFor {
-            thread,
-            mode,
-            timeout,
-            handles: (),
-        } => manager.wait(*thread, *mode, *timeout, handles),
-        Ask::Reap { slot } => reap(manager, reader, *slot),
-        _ => manager.ask(ask),
+    if let Ask::Reap { slot } = ask {
+        return reap(manager, reader, *slot);
     }
+    if let Ask::WaitFor {
+        thread,
+        mode,
+        timeout,
+        handles: (),
+    } = ask
+    {
+        return manager.wait(*thread, *mode, *timeout, handles);
+    }
+    manager.ask(ask)
 }
