@@ -1,4 +1,5 @@
--- Of a list of handles that is too long the beginning is refused as the whole is.
+-- A wait for the first 65 of its handles is answered as the whole: one for more than 64 is refused, and any other
+-- keeps all.
 use Rattle.std.proofs.Common.{◌≡◌, ℕ, ◌<◌, List, Bool, true, false, Err, refl, ap, sym, ◌∙◌, arith, length, take, ltb}
 use Rattle.std.proofs.lemmas.Bool.Decides.{nat_tests}
 use Rattle.std.proofs.lemmas.List.{length-take-le, take_all}

@@ -6,10 +6,9 @@ ghost use Rattle.ob_output.specs.Printed.{line_end};
 ghost use Rattle.ob_console.specs.Sessions.{Advances, Finishes, IsFed, IsCutShort};
 
 use crate::evaluator::Evaluator;
-use arrayvec::ArrayVec;
 use ob_manager::Manager;
 use ob_output::{NotWritten, Output, Sink};
-use ob_script::{HeldLine, ScriptLine};
+use ob_script::{Handles, HeldLine, ScriptLine};
 use pin_words::{Keeper, Reader};
 use std::marker::Model;
 
@@ -19,8 +18,7 @@ use std::marker::Model;
 pub struct Console {
     evaluator: Evaluator,
     held: HeldLine,
-    /// Where the handles of a wait are read to. A new list for each line would have to be cleared first.
-    handles: ArrayVec<u32, 65>,
+    handles: Handles,
 }
 
 impl Model for Console {
@@ -50,7 +48,7 @@ impl Console {
         Console {
             evaluator: Evaluator::new(manager, reader, output),
             held: HeldLine::new(),
-            handles: ArrayVec::new(),
+            handles: Handles::new(),
         }
     }
 

@@ -11,10 +11,9 @@ ghost use Rattle.ob_output.specs.Devices.{Begins};
 
 use crate::asking::reply_to;
 use crate::pinning::{card, pin, unpin};
-use arrayvec::ArrayVec;
 use ob_manager::Manager;
 use ob_output::{Answer, NotWritten, Output, Sink};
-use ob_script::{Act, HeldLine, ScriptLine, act_of};
+use ob_script::{Act, Handles, HeldLine, ScriptLine, act_of};
 use pin_core::Id;
 use pin_words::{Keeper, Reader};
 use std::marker::Model;
@@ -64,7 +63,7 @@ impl Evaluator {
         &mut self,
         sink: &mut W,
         line: &ScriptLine<'_>,
-        handles: &mut ArrayVec<u32, 65>,
+        handles: &mut Handles,
     ) -> Result<(), NotWritten>
         requires { self.old.lines < 2 ^ 127 }
         ensures prints { Enacts self.old (self.old.lines + 1) (act_of line.now) result (W.taken sink.old)
@@ -82,7 +81,7 @@ impl Evaluator {
         &mut self,
         sink: &mut W,
         held: &HeldLine,
-        handles: &mut ArrayVec<u32, 65>,
+        handles: &mut Handles,
     ) -> Result<(), NotWritten>
         requires { self.old.lines < 2 ^ 127 }
         ensures prints { Enacts self.old (self.old.lines + 1) (act_of_held held.now) result (W.taken sink.old)

@@ -3,8 +3,7 @@ ghost use Rattle.ob_lanes.specs.Lines.{IsOfLane, behind_prefix, in_lane, is_mark
 ghost use Rattle.ob_lanes.specs.Lines.{line_of, with_prefix, without_prefix};
 ghost use Rattle.ob_script.specs.Acts.{act_in};
 
-use arrayvec::ArrayVec;
-use ob_script::{Act, Ask, ScriptLine, act_of, cut_far, is_too_long, labelled, text_of};
+use ob_script::{Act, Ask, Handles, ScriptLine, act_of, cut_far, is_too_long, labelled, text_of};
 use pin_core::Id;
 
 /// What a line asks of the member of a lane, with names as they stand in the line. The handles of a wait stand beside
@@ -37,12 +36,7 @@ pub enum Line<'a> {
 /// What a line is, without its line feed, in a script with so many lanes beside the prologue. Without a prefix it
 /// belongs to the prologue, as long as that goes on. The handles of a wait are read into `handles`, as by
 /// [`act_of`](ob_script::act_of).
-pub fn line_of<'a>(
-    lanes: u32,
-    is_prologue: bool,
-    line: &'a [u8],
-    handles: &mut ArrayVec<u32, 65>,
-) -> Line<'a>
+pub fn line_of<'a>(lanes: u32, is_prologue: bool, line: &'a [u8], handles: &mut Handles) -> Line<'a>
     ensures value { line_in handles.new.items result ≡ line_of lanes is_prologue line.now }
     ensures lane { IsOfLane lanes result }
 {
@@ -94,7 +88,7 @@ fn without_prefix(is_prologue: bool, act: Act<'_>) -> Line<'_>
 
 /// What a line is that begins with an @.
 #[tactic(auto, using(crate::proofs::Prefixes::nothing_behind))]
-fn with_prefix<'a>(lanes: u32, line: &'a [u8], handles: &mut ArrayVec<u32, 65>) -> Line<'a>
+fn with_prefix<'a>(lanes: u32, line: &'a [u8], handles: &mut Handles) -> Line<'a>
     ensures value { line_in handles.new.items result ≡ with_prefix lanes line.now }
     ensures lane { IsOfLane lanes result }
 {
@@ -120,7 +114,7 @@ fn lane_of(lanes: u32, word: &[u8]) -> Option<u32>
 }
 
 /// What a line behind its prefix is.
-fn behind_prefix<'a>(number: u32, line: &'a [u8], handles: &mut ArrayVec<u32, 65>) -> Line<'a>
+fn behind_prefix<'a>(number: u32, line: &'a [u8], handles: &mut Handles) -> Line<'a>
     ensures value { line_in handles.new.items result ≡ behind_prefix number line.now }
     ensures lane { IsOfLane number result }
 {

@@ -3,7 +3,7 @@ ghost use Rattle.ob_lanes.specs.Scripts.{is_good, opening_scripts, with_act, wit
 
 use crate::calling::act_of;
 use crate::line::{Line, is_marked, line_of};
-use arrayvec::ArrayVec;
+use ob_script::Handles;
 use ob_shared::Act;
 use std::alloc::{AllocError, Global};
 use std::marker::Model;
@@ -55,8 +55,7 @@ pub struct Scripts {
     scripts: Vec<Script>,
     lanes: u32,
     is_prologue: bool,
-    /// Where the handles of a wait are read to. A new list for each line would have to be cleared first.
-    handles: ArrayVec<u32, 65>,
+    handles: Handles,
     alloc: Global,
 }
 
@@ -90,7 +89,7 @@ impl Scripts {
             scripts,
             lanes,
             is_prologue: true,
-            handles: ArrayVec::new(),
+            handles: Handles::new(),
             alloc,
         })
     }

@@ -2,7 +2,6 @@
 use Rattle.std.proofs.Common.{◌≡◌, ℕ, zero, suc, ◌-◌, ◌/◌, ◌%◌, ◌^◌, ◌<◌, ◌≤◌, Bool, true, false, List, [], ◌∷◌, ◌++◌, cond, eqb, refl, ap, sym, subst, ◌∙◌, arith}
 use Rattle.std.proofs.Math.Nat.{pow-suc}
 use Rattle.std.proofs.lemmas.Bool.{eqb-false, ne_eqb}
-use Rattle.std.proofs.lemmas.Fmt.{hex_one_digit}
 use Rattle.std.proofs.lemmas.List.{append_assoc}
 use Rattle.std.specs.Fmt.{digit_glyph, digits, digits_onto}
 
@@ -67,9 +66,6 @@ onto_step k n large = ap (λ (b : Bool). cond b (digit_glyph false (n % 16) ∷ 
 digits_are : (n : ℕ) → digits_onto 64 16 false n [] ≡ digits 16 false n
 unfolding digits
 digits_are n = refl
-
-pub one_digit : (n : ℕ) → n < 16 → digits 16 false n ≡ digit_glyph false n ∷ []
-one_digit n small = hex_one_digit false n small
 
 pub step : (n : ℕ) → 16 ≤ n → n < 2 ^ 32 → digits 16 false n ≡ digits 16 false (n / 16)
     ++ digit_glyph false (n % 16) ∷ []

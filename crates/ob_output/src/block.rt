@@ -241,7 +241,7 @@ impl Block {
         self.digit((number % 10) as u8);
     }
 
-    #[tactic(auto, using(crate::proofs::Printing::one_digit))]
+    #[tactic(auto, using(std::proofs::lemmas::Fmt::decimal_digit))]
     fn digit(&mut self, digit: u8)
         requires digit { digit < 10 }
         requires room { length self.old < BLOCK }
@@ -395,7 +395,7 @@ impl Block {
     }
 
     // A number in lower-case hexadecimal, which has at most so many digits.
-    #[tactic(auto, using(crate::proofs::Hexadecimal::one_digit, crate::proofs::Hexadecimal::fits))]
+    #[tactic(auto, using(std::proofs::lemmas::Fmt::hex_one_digit, crate::proofs::Hexadecimal::fits))]
     fn hexadecimal(&mut self, number: u32, most: u32)
         requires fits { number < 16 ^ most }
         requires above_zero { 0 < most }

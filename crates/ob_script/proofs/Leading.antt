@@ -5,9 +5,9 @@ use Rattle.std.specs.Borrow.{Bor}
 use Rattle.std.specs.List.{list_all, onto_first, position_or_len}
 use Rattle.std.specs.Char.{is_ascii_digit}
 use Rattle.std.proofs.Math.Seq.{take-suc}
-use Rattle.std.proofs.lemmas.Bool.{cases_lt, ne_eqb}
+use Rattle.std.proofs.lemmas.Bool.{cases_lt, ne_eqb, true≢false}
 use Rattle.std.proofs.lemmas.Bool.Decides.{nat_tests}
-use Rattle.std.proofs.lemmas.List.{get_or-take, length-take, take_all, take_rest}
+use Rattle.std.proofs.lemmas.List.{get_or-take, length-take, take_all, take_rest, take-take}
 use Rattle.std.proofs.lemmas.List.Elements.{All-get_or}
 use Rattle.std.proofs.lemmas.List.Folds.{list_all_at, list_all_more}
 use Rattle.std.proofs.lemmas.List.Splits.{slice_split-cons_no}
@@ -34,24 +34,37 @@ pub digits_more : (text : List ℕ) (i : ℕ) → i < length text → list_all i
 digits_more text i within before digit = list_all_more is_ascii_digit text i 0 within
     ∙ ap (λ b. b && is_ascii_digit (get_or text i 0)) before ∙ digit
 
--- digits are no blanks
-not_blank : (byte : ℕ) → is_ascii_digit byte ≡ true → is_byte 32 byte ≡ false
-not_blank byte digit = grind (arith, nat_tests)
+-- digits are other bytes than one that is none
+pub other_byte : (stop byte : ℕ) → is_ascii_digit stop ≡ false → is_ascii_digit byte ≡ true → is_byte stop byte ≡ false
+other_byte stop byte other digit = ne_eqb byte stop
+    (λ is. true≢false (sym digit ∙ ap is_ascii_digit is ∙ other))
 
-among_digits : (text : List ℕ) (n k : ℕ) → list_all is_ascii_digit (take n text) ≡ true → n ≤ length text → k < n
-    → is_byte 32 (get_or text k 0) ≡ false
-among_digits text n k digits within before =
-    not_blank (get_or text k 0) (sym (ap is_ascii_digit (get_or-take n text k 0 before))
+among_digits : (stop : ℕ) (text : List ℕ) (n k : ℕ) → is_ascii_digit stop ≡ false
+    → list_all is_ascii_digit (take n text) ≡ true → n ≤ length text → k < n → is_byte stop (get_or text k 0) ≡ false
+among_digits stop text n k other digits within before =
+    other_byte stop (get_or text k 0) other (sym (ap is_ascii_digit (get_or-take n text k 0 before))
     ∙ All-get_or (λ byte. is_ascii_digit byte ≡ true) (take n text) k 0 (grind (arith, length-take n text))
     (AllPass-from_list_all is_ascii_digit (take n text) digits))
 
-first_blank : (text : List ℕ) (n : ℕ) → list_all is_ascii_digit (take n text) ≡ true → n ≤ length text
-    → (n < length text → is_byte 32 (get_or text n 0) ≡ true) → position_or_len (is_byte 32) text ≡ n
-first_blank text n digits within blank = position_or_len_is (is_byte 32) text n 0 within
-    (λ k before. among_digits text n k digits within before) blank
+-- where such a byte is first
+pub first_stop : (stop : ℕ) (text : List ℕ) (n : ℕ) → is_ascii_digit stop ≡ false
+    → list_all is_ascii_digit (take n text) ≡ true → n ≤ length text
+    → (n < length text → is_byte stop (get_or text n 0) ≡ true) → position_or_len (is_byte stop) text ≡ n
+first_stop stop text n other digits within is = position_or_len_is (is_byte stop) text n 0 within
+    (λ k before. among_digits stop text n k other digits within before) is
 
-number_is : (word : List ℕ) (value : ℕ) → list_all is_ascii_digit word ≡ true → value_of word ≡ value → 1 ≤ length word
-    → length word ≤ 10 → value ≤ 4294967295 → number_of word ≡ Some value
+-- the digits with which a text begins stand before it
+pub digits_before : (stop : ℕ) (text : List ℕ) (n : ℕ) → is_ascii_digit stop ≡ false
+    → list_all is_ascii_digit (take n text) ≡ true → n ≤ length text → n ≤ position_or_len (is_byte stop) text
+digits_before stop text n other digits within = elim (cases_lt (position_or_len (is_byte stop) text) n) [
+  | inl before ↦
+      absurd (true≢false (sym (passes_at_first (is_byte stop) text 0 (omega (arith, before, within)))
+      ∙ among_digits stop text n (position_or_len (is_byte stop) text) other digits within before))
+  | inr past ↦ past
+]
+
+pub number_is : (word : List ℕ) (value : ℕ) → list_all is_ascii_digit word ≡ true → value_of word ≡ value
+    → 1 ≤ length word → length word ≤ 10 → value ≤ 4294967295 → number_of word ≡ Some value
 number_is word value digits is some few small = grind (arith, nat_tests)
 
 -- a number is the last word, or the first
@@ -63,7 +76,7 @@ number_last text n value digits is last some few small =
       text,
       number_is text value (sym (ap (list_all is_ascii_digit) whole) ∙ digits) (sym (ap value_of whole)
           ∙ is) (omega arith) (omega arith) small,
-      words_last text (first_blank text n digits (omega arith) (λ within. absurd (omega arith)) ∙ last),
+      words_last text (first_stop 32 text n refl digits (omega arith) (λ within. absurd (omega arith)) ∙ last),
     )
 
 pub number_first : (text : List ℕ) (n value : ℕ) → list_all is_ascii_digit (take n text) ≡ true
@@ -72,7 +85,7 @@ pub number_first : (text : List ℕ) (n value : ℕ) → list_all is_ascii_digit
     × (words_of text ≡ word ∷ words_of (take (length text - (n + 1)) (drop (n + 1) text)))
 number_first text n value digits is within blank some few small =
     let at : position_or_len (is_byte 32) text ≡ n =
-    first_blank text n digits (omega arith) (λ _. ap (is_byte 32) blank) in (
+    first_stop 32 text n refl digits (omega arith) (λ _. ap (is_byte 32) blank) in (
       take n text,
       number_is (take n text) value digits is (grind (arith, length-take n text))
           (grind (arith, length-take n text)) small,
@@ -101,7 +114,7 @@ behind_letter letter (first ∷ more) digits (Some found) dark some is (word, nu
 )
 
 -- the first word of a text ends at the first blank
-first_word_is : (text word : List ℕ) (more : List (List ℕ)) → words_of text ≡ word ∷ more
+pub first_word_is : (text word : List ℕ) (more : List (List ℕ)) → words_of text ≡ word ∷ more
     → word ≡ take (position_or_len (is_byte 32) text) text
 first_word_is text word more words = elim (cases_lt (position_or_len (is_byte 32) text) (length text)) [
   | inl within ↦ ap (λ (ws : List (List ℕ)). get_or ws 0 []) (sym words ∙ words_first text within)
@@ -109,21 +122,6 @@ first_word_is text word more words = elim (cases_lt (position_or_len (is_byte 32
       let most = prefix_len-le-length (λ byte. not (is_byte 32 byte)) text in
       ap (λ (ws : List (List ℕ)). get_or ws 0 []) (sym words ∙ words_last text (omega (arith, past, most)))
       ∙ sym (take_all (position_or_len (is_byte 32) text) text past)
-]
-
-is_both : (b : Bool) → b ≡ true → b ≡ false → ⊥
-is_both true is other = cc
-is_both false is other = cc
-
--- the digits with which a text begins are of the first word
-digits_within : (text : List ℕ) (n : ℕ) → list_all is_ascii_digit (take n text) ≡ true → n ≤ length text
-    → n ≤ position_or_len (is_byte 32) text
-digits_within text n digits within = elim (cases_lt (position_or_len (is_byte 32) text) n) [
-  | inl before ↦
-      absurd (is_both (is_byte 32 (get_or text (position_or_len (is_byte 32) text) 0))
-      (passes_at_first (is_byte 32) text 0 (omega (arith, before, within)))
-      (among_digits text n (position_or_len (is_byte 32) text) digits within before))
-  | inr past ↦ past
 ]
 
 none_long : (word : List ℕ) → 10 < length word → number_of word ≡ None
@@ -138,54 +136,75 @@ none_great word great = grind (arith, nat_tests)
 none_other : (word : List ℕ) → list_all is_ascii_digit word ≡ false → number_of word ≡ None
 none_other word other = grind (arith, nat_tests)
 
-blank_is : (byte : ℕ) → is_byte 32 byte ≡ true → byte ≡ 32
-blank_is byte is = grind (arith, nat_tests)
+-- a word whose digits are none, too many or too great, or that goes on with something else, is no number
+pub no_digits : (word : List ℕ) (n value : ℕ) → list_all is_ascii_digit (take n word) ≡ true
+    → value_of (take n word) ≡ value → n ≤ length word
+    → (n ≤ 10 → n < length word → is_ascii_digit (get_or word n 0) ≡ false)
+    → (n ≢ 0 → n ≤ 10 → value ≤ 4294967295 → n < length word) → number_of word ≡ None
+no_digits word n value digits is within stop fails = elim (cases_lt 10 n) [
+  | inl long ↦ none_long word (omega (arith, within, long))
+  | inr few ↦ elim (cases_lt n (length word)) [
+    | inl before ↦ none_other word (list_all_at is_ascii_digit word n 0 before (stop few before))
+    | inr past ↦ ends (omega (arith, past, within)) few
+  ]
+]
+  where
+    ends : n ≡ length word → n ≤ 10 → number_of word ≡ None
+    ends at few = elim (cases_lt 4294967295 value) [
+      | inl great ↦ none_great word (omega (arith, great, is, ap value_of (take_all n word (omega (arith, at)))))
+      | inr small ↦ elim (cases_lt 0 n) [
+        | inl some ↦ absurd (omega (arith, at, fails (omega (arith, some)) few small))
+        | inr none ↦ none_empty word (omega (arith, at, none))
+      ]
+    ]
 
--- a word whose digits are none, too many or too great, or that has something else behind them, is no number
+-- the part of a text before its first such byte: the digits with which the text begins are those of the part
+pub no_digits_before : (stop : ℕ) (text : List ℕ) (n value : ℕ) → is_ascii_digit stop ≡ false
+    → list_all is_ascii_digit (take n text) ≡ true → value_of (take n text) ≡ value → n ≤ length text
+    → (n ≤ 10 → n < length text → is_ascii_digit (get_or text n 0) ≡ false)
+    → (n ≢ 0 → n ≤ 10 → value ≤ 4294967295 → (n < length text) × (is_byte stop (get_or text n 0) ≡ false))
+    → number_of (take (position_or_len (is_byte stop) text) text) ≡ None
+no_digits_before stop text n value other digits is within ends fails =
+    no_digits (take p text) n value (ap (list_all is_ascii_digit) same ∙ digits) (ap value_of same ∙ is)
+    (omega (arith, many, least))
+    (λ few before. ap is_ascii_digit (get_or-take p text n 0 (omega (arith, before, many)))
+    ∙ ends few (omega (arith, before, many, most)))
+    further
+  where
+    p : ℕ
+    p = position_or_len (is_byte stop) text
+
+    least : n ≤ p
+    least = digits_before stop text n other digits within
+
+    most : p ≤ length text
+    most = prefix_len-le-length (λ byte. not (is_byte stop byte)) text
+
+    many : length (take p text) ≡ p
+    many = grind (arith, length-take p text, most)
+
+    same : take n (take p text) ≡ take n text
+    same = take-take n p text least
+
+    further : n ≢ 0 → n ≤ 10 → value ≤ 4294967295 → n < length (take p text)
+    further some few small = elim (cases_lt n p) [
+      | inl before ↦ omega (arith, before, many)
+      | inr past ↦
+          let behind = fails some few small in
+          let at : p ≡ n = omega (arith, past, least) in
+          absurd (true≢false (sym (passes_at_first (is_byte stop) text 0 (omega (arith, at, behind.0)))
+          ∙ ap (λ (m : ℕ). is_byte stop (get_or text m 0)) at ∙ behind.1))
+    ]
+
 pub no_number : (text : List ℕ) (n value : ℕ) → list_all is_ascii_digit (take n text) ≡ true
     → value_of (take n text) ≡ value → n ≤ length text
     → (n ≤ 10 → n < length text → is_ascii_digit (get_or text n 0) ≡ false)
     → (n ≢ 0 → n ≤ 10 → value ≤ 4294967295 → (n < length text) × (get_or text n 0 ≢ 32))
     → (word : List ℕ) (more : List (List ℕ)) → words_of text ≡ word ∷ more → number_of word ≡ None
 no_number text n value digits is within stop fails word more words =
-    subst (λ (w : List ℕ). number_of w ≡ None) (sym (first_word_is text word more words)) cut
-  where
-    p : ℕ
-    p = position_or_len (is_byte 32) text
-
-    least : n ≤ p
-    least = digits_within text n digits within
-
-    most : p ≤ length text
-    most = prefix_len-le-length (λ byte. not (is_byte 32 byte)) text
-
-    many : length (take p text) ≡ p
-    many = grind (arith, length-take p text, most)
-
-    ends : p ≡ n → n ≤ 10 → number_of (take p text) ≡ None
-    ends at few = elim (cases_lt 4294967295 value) [
-      | inl great ↦
-          none_great (take p text) (omega (arith, great, is, ap (λ (m : ℕ). value_of (take m text)) at))
-      | inr small ↦ elim (cases_lt 0 n) [
-        | inl some ↦
-            let behind = fails (omega (arith, some)) few small in
-            absurd (behind.1 (blank_is (get_or text n 0) (ap (λ (m : ℕ). is_byte 32 (get_or text m 0)) (sym at)
-            ∙ passes_at_first (is_byte 32) text 0 (omega (arith, at, behind.0)))))
-        | inr none ↦ none_empty (take p text) (omega (arith, many, at, none))
-      ]
-    ]
-
-    cut : number_of (take p text) ≡ None
-    cut = elim (cases_lt 10 n) [
-      | inl long ↦ none_long (take p text) (omega (arith, many, least, long))
-      | inr few ↦ elim (cases_lt n p) [
-        | inl before ↦
-            none_other (take p text)
-            (list_all_at is_ascii_digit (take p text) n 0 (omega (arith, many, before))
-            (ap is_ascii_digit (get_or-take p text n 0 before) ∙ stop few (omega (arith, before, most))))
-        | inr past ↦ ends (omega (arith, past, least)) few
-      ]
-    ]
+    subst (λ (w : List ℕ). number_of w ≡ None) (sym (first_word_is text word more words))
+    (no_digits_before 32 text n value refl digits is within stop (λ some few small.
+    let behind = fails some few small in (behind.0, ne_eqb (get_or text n 0) 32 behind.1)))
 
 pub ruleset number_laws = (number_last, number_first, no_number)
 
@@ -212,7 +231,7 @@ none_behind letter (first ∷ text) digits dark some is rest none word more word
     (sym (slice_split-cons_no (is_byte 32) first text (ap (is_byte 32) is ∙ ne_eqb letter 32 dark)
     ∙ ap (λ (byte : ℕ). onto_first byte (words_of text)) is) ∙ words)
 
-other_letter : (letter p : ℕ) (text : List ℕ) → (1 ≤ length text → get_or text 0 0 ≢ letter)
+pub other_letter : (letter p : ℕ) (text : List ℕ) → (1 ≤ length text → get_or text 0 0 ≢ letter)
     → labelled letter (take p text) ≡ None
 other_letter letter zero text other = refl
 other_letter letter (suc p) [] other = refl

@@ -1,6 +1,7 @@
 pub mod Cuts
 pub mod Digits
 pub mod Leading
+pub mod Objects
 pub mod Hex
 pub mod Beginnings
 pub mod Texts

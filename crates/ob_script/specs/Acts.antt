@@ -41,6 +41,6 @@ abbrev pub shortened : Act → Act
 shortened (Asks call) = Asks (shortened_call call)
 shortened act = act
 
--- this act was read, which is none that has handles
+-- what was read is this act, whichever handles stand beside it: for verbs that have none
 abbrev pub IsRead : Read → Act → Type 0
 IsRead read act = (handles : List ℕ) → act_in handles read ≡ shortened act

@@ -1,3 +1,4 @@
+use arrayvec::ArrayVec;
 use ob_manager::{CallOf, Make};
 use pin_core::Id;
 
@@ -20,6 +21,9 @@ pub enum Act<'a> {
     ShowCard(Id),
 }
 
-/// A call with names as they stand in the line. The handles of a wait stand beside it, in the list that
-/// [`act_of`](crate::act_of) reads them to.
+/// A call with names as they stand in the line. The handles of a wait stand beside it, in a list ([`Handles`]).
 pub type Ask<'a> = CallOf<Make<'a>, &'a [u8], ()>;
+
+/// The handles of a wait; of more than 65 the first 65, since a wait for more than 64 is refused, whichever they are.
+/// One list is lent for all lines: a new one for each would have to be cleared first.
+pub type Handles = ArrayVec<u32, 65>;

@@ -7,13 +7,12 @@ ghost use Rattle.ob_script.specs.Grammar.{handled, lone_of, mode_of, mutex_of, o
 ghost use Rattle.ob_script.specs.Grammar.{release_of, semaphore_of, setflags_of, settimer_of, target_of, text_of};
 ghost use Rattle.ob_script.specs.Grammar.{timeout_of, timer_of, wait_of};
 
-use crate::act::{Act, Ask};
+use crate::act::{Act, Ask, Handles};
 use crate::line::ScriptLine;
 use crate::naming::{make_of, name_of};
-use crate::numbers::{due_of, either_of, id_of, labelled, moment_of, number_of, signed_of};
+use crate::numbers::{due_of, either_of, labelled, moment_of, number_of, signed_of};
 use crate::rights::{kind_of, mask_of};
 use crate::words::{Words, is};
-use arrayvec::ArrayVec;
 use ob_manager::{Mode, Timeout};
 use ob_rights::Rights;
 use pin_core::Id;
@@ -38,19 +37,16 @@ pub fn is_too_long(text: &[u8]) -> bool
     text.len() > TEXT_MOST
 }
 
-/// What a line is. The handles of a wait are read into `handles`, in place of those that stood there: of more than 65
-/// the first 65, since a wait for more than 64 is refused, whichever they are. `READER` changes nothing of that: each
-/// crate that reads lines gives a number of its own (the console 0, lanes 1), and so has a compiled copy of its own.
+/// What a line is. The handles of a wait are read into `handles`, in place of those that stood there. `READER` changes
+/// nothing of that: each crate that reads lines gives a number of its own (the console 0, lanes 1), and so has a
+/// compiled copy of its own.
 //
 // What a line of each verb is stands in this one function when it runs: a function of its own would have a copy of the
 // words that are left, and each of these would be cleared for every line. Each verb makes its act in one step, with no
 // option between: that would be taken apart and put together for every line. Each reader of lines has a copy of its
 // own: where it is called in one place alone, it stands there, and no act is made where its parts are enough.
 #[tactic(auto, using(crate::proofs::Verbs::lone_is_bad))]
-pub fn act_of<'a, const READER: u8>(
-    line: &ScriptLine<'a>,
-    handles: &mut ArrayVec<u32, 65>,
-) -> Act<'a>
+pub fn act_of<'a, const READER: u8>(line: &ScriptLine<'a>, handles: &mut Handles) -> Act<'a>
     ensures { act_in handles.new.items result ≡ shortened (act_of line.now) }
 {
     let text = text_of(line.bytes());
@@ -481,7 +477,7 @@ fn release_of(mut words: Words<'_>) -> Act<'_>
 }
 
 #[inline(always)]
-fn wait_of<'a>(mut words: Words<'a>, handles: &mut ArrayVec<u32, 65>) -> Act<'a>
+fn wait_of<'a>(mut words: Words<'a>, handles: &mut Handles) -> Act<'a>
     ensures { act_in handles.new.items result ≡ shortened (asked (wait_of words.entry)) }
 {
     let thread = wanted!(words.labelled(b't'));
@@ -523,10 +519,9 @@ fn timeout_of(word: &[u8]) -> Option<Timeout>
     Some(Timeout::Millis(millis))
 }
 
-/// Reads words as handles into a list, in place of those that stood there, and answers whether each word is one. Of
-/// more than 65 the first 65 are kept.
+/// Reads words as handles into a list, in place of those that stood there, and answers whether each word is one.
 #[tactic(auto, using(crate::proofs::Beginnings::full_part, crate::proofs::Beginnings::all_parts))]
-fn read_handles(mut words: Words<'_>, handles: &mut ArrayVec<u32, 65>) -> bool
+fn read_handles(mut words: Words<'_>, handles: &mut Handles) -> bool
     ensures value { result ≡ are_handles words.entry }
     ensures handles { result ≡ true → handles.new.items ≡ take 65 (handles_in words.entry) }
 {
@@ -537,6 +532,7 @@ fn read_handles(mut words: Words<'_>, handles: &mut ArrayVec<u32, 65>) -> bool
         };
         match handles.try_push(handle) {
             Ok(()) => {}
+            // (the list has its 65)
             Err(_) => {}
         }
     }
@@ -597,10 +593,10 @@ fn reap_of(mut words: Words<'_>) -> Act<'_>
 fn count_of(mut words: Words<'_>) -> Act<'_>
     ensures { IsRead result (asked (lone_of id_of calls.Counts words.entry)) }
 {
-    let object = wanted!(words.next());
+    let object = wanted!(words.object());
     wanted!(words.end());
-    // (by its parts: eight bytes at once would wait for both that were written)
-    let Id { slot, generation } = wanted!(id_of(object));
+    // (by its parts: eight bytes at once would keep the act in memory, and wait there)
+    let Id { slot, generation } = wanted!(object);
     let id = Id { slot, generation };
     Act::Ask(Ask::Counts { id })
 }
@@ -630,10 +626,13 @@ fn card_of(words: Words<'_>) -> Act<'_>
 }
 
 /// An object, behind which nothing stands.
+//
+// What the reader is asked is seldom, so it isn't copied to each of its verbs.
+#[inline(never)]
 fn object_of(mut words: Words<'_>) -> Option<Id>
     ensures { result ≡ object_of words.entry }
 {
-    let object = words.next()?;
+    let object = words.object()?;
     words.end()?;
-    id_of(object)
+    object
 }

@@ -3,10 +3,9 @@
 //! A line takes no memory: names stay as they stand in it, and the handles of a wait are read into a list that is lent.
 //!
 //! ```rust
-//! # use arrayvec::ArrayVec;
-//! # use ob_script::{Act, Ask, ScriptLine, act_of};
+//! # use ob_script::{Act, Ask, Handles, ScriptLine, act_of};
 //! # use pin_core::Id;
-//! let mut handles = ArrayVec::new();
+//! let mut handles = Handles::new();
 //! // 0 is the number of who reads: it changes nothing.
 //! let (line, rest) = ScriptLine::first_of(b"close t1 h4\npin s0.1\n").unwrap();
 //! act_of::<0>(&line, &mut handles);                           // Act::Ask(Ask::CloseHandle { thread: 1, handle: 4 })
@@ -31,7 +30,7 @@ mod rights;
 mod words;
 mod writing;
 
-pub use act::{Act, Ask};
+pub use act::{Act, Ask, Handles};
 pub use grammar::{act_of, is_too_long, text_of};
 pub use held::HeldLine;
 pub use law::law_of_lines;

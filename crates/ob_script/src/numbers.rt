@@ -6,7 +6,7 @@ ghost use Rattle.ob_script.specs.Words.{down_to, due_of, either_of, id_of, label
 ghost use Rattle.ob_script.specs.Words.{signed_of, up_to, value_of, words_of};
 ghost use Rattle.ob_script.specs.WordsLeft.{words_left};
 
-use crate::words::{cut, is};
+use crate::words::is;
 use pin_core::Id;
 
 /// A number: 1 to 10 decimal digits, leading zeros allowed, at most 4,294,967,295.
@@ -109,6 +109,33 @@ pub fn leading_labelled(letter: u8, text: &[u8]) -> Option<(u32, Option<&[u8]>)>
     }
 }
 
+/// The object that the first word of a text is (`s`, its slot, a full stop, its generation), and what stands behind
+/// that word; none where it isn't one.
+#[inline(always)]
+#[tactic(auto, using(crate::proofs::Objects::object_laws))]
+pub fn leading_id(text: &[u8]) -> Option<(Id, Option<&[u8]>)>
+    ensures some { IfSome result (λ found. (word : List ℕ) × (id_of word ≡ Some found.0)
+        × (words_of text.now ≡ word ∷ words_left found.1)) }
+    ensures none { IfNone result ((word : List ℕ) (more : List (List ℕ)) → words_of text.now ≡ word ∷ more
+        → id_of word ≡ None) }
+{
+    let [b's', rest @ ..] = text else {
+        return None;
+    };
+    let (slot, count) = leading_digits(rest);
+    if count == 0 || count > 10 || slot > 4_294_967_295 {
+        return None;
+    }
+    if count == rest.len() || rest[count] != b'.' {
+        return None;
+    }
+    let Some((generation, behind)) = leading_number(&rest[count + 1..]) else {
+        return None;
+    };
+    let slot = slot as u32;
+    Some((Id { slot, generation }, behind))
+}
+
 /// A number of 1 to 19 decimal digits, leading zeros allowed.
 #[tactic(auto, using(crate::proofs::Digits::one_more_digit))]
 fn long_of(word: &[u8]) -> Option<u64>
@@ -180,16 +207,6 @@ pub fn labelled(letter: u8, word: &[u8]) -> Option<u32>
         [first, digits @ ..] if *first == letter => number_of(digits),
         _ => None,
     }
-}
-
-/// An object: `s`, its slot, a full stop, its generation.
-pub fn id_of(word: &[u8]) -> Option<Id>
-    ensures { result ≡ id_of word.now }
-{
-    let (slot, generation) = cut(b'.', word)?;
-    let slot = labelled(b's', slot)?;
-    let generation = number_of(generation)?;
-    Some(Id { slot, generation })
 }
 
 /// One of two keywords: `false` for the first, `true` for the second.

@@ -3,11 +3,12 @@ ghost use Rattle.std.specs.Prelude.{MatchOption};
 ghost use Rattle.std.specs.Str.{bytes_eq};
 ghost use Rattle.std.specs.List.{after_first, before_first, position_or_len};
 ghost use Rattle.memchr.specs.Find.{IsFirstByte, is_byte};
-ghost use Rattle.ob_script.specs.Words.{begins_with, behind, joined, labelled, words_of};
+ghost use Rattle.ob_script.specs.Words.{begins_with, behind, id_of, joined, labelled, words_of};
 ghost use Rattle.ob_script.specs.WordsLeft.{words_left};
 
-use crate::numbers::leading_labelled;
+use crate::numbers::{leading_id, leading_labelled};
 use memchr::memchr;
+use pin_core::Id;
 use std::marker::Model;
 
 /// The words of a text that are left: what stands between single spaces. A clause sees them as a list.
@@ -73,6 +74,25 @@ impl<'a> Words<'a> {
             Some((number, behind)) => {
                 self.rest = behind;
                 Some(Some(number))
+            }
+            None => {
+                let _ = self.take(rest, seldom_place_of(b' ', rest));
+                Some(None)
+            }
+        }
+    }
+
+    /// The next word, as an object: `None` where no word is left, and `Some(None)` where the word isn't one.
+    #[inline(always)]
+    pub fn object(&mut self) -> Option<Option<Id>>
+        ensures { MatchOption result (self.old ≡ []) (λ object. (word : List ℕ) × (self.old ≡ word ∷ self.new)
+            × (object ≡ id_of word)) }
+    {
+        let rest = self.rest?;
+        match leading_id(rest) {
+            Some((id, behind)) => {
+                self.rest = behind;
+                Some(Some(id))
             }
             None => {
                 let _ = self.take(rest, seldom_place_of(b' ', rest));
@@ -156,20 +176,6 @@ fn seldom_place_of(byte: u8, text: &[u8]) -> Option<usize>
     ensures { IsFirstByte (is_byte byte) text.now result }
 {
     place_of(byte, text)
-}
-
-/// What stands before and behind the first such byte of a text. It looks at one byte after another, so it is meant for
-/// a byte that is near.
-#[tactic(auto, using(crate::proofs::Cuts::first_place, crate::proofs::Cuts::no_place))]
-pub fn cut(byte: u8, text: &[u8]) -> Option<(&[u8], &[u8])>
-    ensures within { IfSome result (λ _. position_or_len (is_byte byte) text.now < length text.now) }
-    ensures before { IfSome result (λ parts. parts.0.now ≡ before_first (is_byte byte) text.now) }
-    ensures behind { IfSome result (λ parts. parts.1.now ≡ after_first (is_byte byte) text.now) }
-    ensures none { IfNone result (position_or_len (is_byte byte) text.now ≡ length text.now) }
-{
-    let at = place_of(byte, text)?;
-    let (before, rest) = text.split_at(at);
-    Some((before, &rest[1..]))
 }
 
 /// What stands before and behind the first such byte of a text, found by [`memchr`], since it may be far.

@@ -33,6 +33,7 @@ returns-in-ListNames-clause-prints g c =
     subst (λ (old : Evaluation). Enacts old old.lines (act_in c.args.handles.now c.args.act.now) c.list.result
     (g.W.Sink.taken c.args.sink.now) (g.W.Sink.taken c.list.new.sink) new) c.self-in-ListNames.view_is (
       names,
-      subst (λ (act : Act). Prints p inside.lines (act_in c.args.handles.now act) names p) (sym c.in-ListNames.is) (refl, refl),
+      subst (λ (act : Act). Prints p inside.lines (act_in c.args.handles.now act) names p) (sym c.in-ListNames.is)
+          (refl, refl),
       c.list.ensures.written,
     )
