@@ -1,11 +1,13 @@
 ghost use Rattle.std.specs.Prelude.{◌≡◌, Some};
 ghost use Rattle.ob_manager.specs.Steps.{Step};
+ghost use Rattle.ob_manager.specs.declared.call.CallOf.TheVariants as Call;
 ghost use Rattle.ob_script.specs.Acts.{call_in};
 ghost use Rattle.ob_console.specs.Runs.{Spares};
 
 use crate::reaping::reap;
 use ob_manager::{Manager, Reply};
 use ob_script::Ask;
+use pin_core::Id;
 use pin_words::{Keeper, Reader};
 
 /// Makes a call; `handles` are those of a wait. Where a slot is reaped of which the reader holds something, the two
@@ -34,5 +36,29 @@ pub fn reply_to(
     {
         return manager.wait(*thread, *mode, *timeout, handles);
     }
+    if let Ask::Counts { id } = ask {
+        return counts(manager, *id);
+    }
     manager.ask(ask)
+}
+
+/// What refers to an object.
+// It names the parts of the reply, so that these are handed over one by one, and not as bytes that were just written in
+// parts.
+#[inline(always)]
+fn counts(manager: &Manager<Keeper>, id: Id) -> Reply
+    ensures { Step manager.now (Call.Counts id) result manager.now }
+{
+    match manager.counts(id) {
+        Reply::CountsAre {
+            handles,
+            waits,
+            hold,
+        } => Reply::CountsAre {
+            handles,
+            waits,
+            hold,
+        },
+        reply => reply,
+    }
 }
