@@ -134,6 +134,7 @@ pub fn run_over<R: Source, W: Sink>(
     ensures writes { W.calls writer.new ≤ W.calls writer.old + CALLS_MOST }
 {
     let Ok(mut block) = zeros(alloc, READ_MOST) else {
+        drop(manager);
         return Err(RunFault::Memory);
     };
     let Some(mut console) = reopened(alloc, manager, CALLS_MOST) else {
@@ -210,9 +211,11 @@ fn reopened(alloc: Global, manager: Manager<LockedPins>, writes: u64) -> Option<
     ensures writes { IfSome result (λ console. console.pending.writes_left ≡ writes) }
 {
     let Ok(output) = Output::new(alloc, writes) else {
+        drop(manager);
         return None;
     };
     let Ok((keeper, reader)) = manager.words(alloc) else {
+        drop(manager);
         return None;
     };
     Some(Console::new(manager.over(keeper), reader, output))

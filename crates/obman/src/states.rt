@@ -27,17 +27,34 @@ pub fn run_states<I: Source, O: Sink>(
     reader: &mut I,
     writer: &mut O,
 ) -> Result<(), StateFault> {
-    let manager = match &options.load {
-        Some(path) => loaded(rt, path.as_str())?,
-        None => made(rt.alloc(), options.limits)?,
-    };
-    let after = match run_over(rt.alloc(), manager, reader, writer) {
-        Ok(after) => after,
-        Err(fault) => return Err(StateFault::Run(fault)),
-    };
-    match &options.save {
+    let manager = begun(rt, options)?;
+    let after = answered(rt.alloc(), manager, reader, writer)?;
+    let saved = match &options.save {
         Some(path) => save(rt, path.as_str(), &after),
         None => Ok(()),
+    };
+    drop(after);
+    saved
+}
+
+/// The manager that the script begins with.
+fn begun(rt: &HostRuntime, options: &Options) -> Result<Manager<LockedPins>, StateFault> {
+    match &options.load {
+        Some(path) => loaded(rt, path.as_str()),
+        None => made(rt.alloc(), options.limits),
+    }
+}
+
+/// The manager as the script leaves it.
+fn answered<I: Source, O: Sink>(
+    alloc: Global,
+    manager: Manager<LockedPins>,
+    reader: &mut I,
+    writer: &mut O,
+) -> Result<Manager<Keeper>, StateFault> {
+    match run_over(alloc, manager, reader, writer) {
+        Ok(after) => Ok(after),
+        Err(fault) => Err(StateFault::Run(fault)),
     }
 }
 
