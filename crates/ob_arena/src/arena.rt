@@ -8,7 +8,7 @@ ghost use Rattle.ob_arena.specs.Slots.{without_body};
 
 use crate::phase::Phase;
 use crate::storage::{Front, Storage, Title, allocate, deallocate, fits};
-use least_free::LeastFree;
+use least_free::Levels;
 use std::alloc::{AllocError, Global};
 use std::marker::Model;
 
@@ -23,12 +23,12 @@ pub struct Arena<B> {
     storage: Storage<B>,
     title: Title<B, Global>,
     phases: Vec<Phase>,
-    free: LeastFree,
+    free: Levels,
     alloc: Global,
 }
 
 /// The least slot that is occupied, from one on.
-fn next_body(free: &LeastFree, phases: &Vec<Phase>, from: usize) -> Option<usize>
+fn next_body(free: &Levels, phases: &Vec<Phase>, from: usize) -> Option<usize>
     requires { free.now ≡ map is_in_use phases.now.items }
     ensures { IsLeastFrom from (λ k. is_occupied (slice_index_or phases.now.items k Phase.Vacant)) result }
 {
@@ -69,7 +69,7 @@ impl<B> Arena<B> {
             return Err(AllocError);
         }
         let phases = Vec::from_elem(alloc, Phase::Vacant, len)?;
-        let free = LeastFree::with_free(alloc, len)?;
+        let free = Levels::with_free(alloc, len)?;
         let (front, storage, title) = allocate(&alloc, len)?;
         Ok(Arena {
             front,

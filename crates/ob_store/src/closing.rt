@@ -3,7 +3,7 @@ ghost use Rattle.std.specs.Prelude.{slice_set, true};
 ghost use Rattle.least_free.specs.From.{IsLeastFrom};
 ghost use Rattle.least_free.specs.Taken.{is_free_within};
 
-use least_free::LeastFree;
+use least_free::Levels;
 use std::alloc::{AllocError, Global};
 use std::marker::Model;
 
@@ -11,7 +11,7 @@ use std::marker::Model;
 // A number of the set is free where the object of its slot ended.
 #[derive(Drop)]
 pub(crate) struct ClosingSlots {
-    slots: LeastFree,
+    slots: Levels,
 }
 
 impl Model for ClosingSlots {
@@ -31,16 +31,8 @@ impl ClosingSlots {
         ensures { IfOk result (λ closing. closing ≡ replicate slots true) }
     {
         Ok(ClosingSlots {
-            slots: LeastFree::with_taken(alloc, slots as usize)?,
+            slots: Levels::with_taken(alloc, slots as usize)?,
         })
-    }
-
-    #[inline(never)]
-    fn add(&mut self, slot: u32)
-        requires { slice_get self.old slot ≡ Some true }
-        ensures { self.new ≡ slice_set self.old slot false }
-    {
-        self.slots.give_back(slot as usize);
     }
 
     /// Adds a slot to which an object comes, if that has ended.
@@ -50,7 +42,7 @@ impl ClosingSlots {
         ensures { self.new ≡ if ended then slice_set self.old slot false else self.old }
     {
         if ended {
-            self.add(slot);
+            self.slots.give_back(slot as usize);
         }
     }
 

@@ -1,42 +1,42 @@
 ghost use Rattle.std.specs.Prelude.{◌≡◌, ◌<◌, ◌≤◌, length, [], true, false, replicate, IfOk};
 
 use crate::tests::{holds, next, same};
-use least_free::{LeastFree, NUMBERS_MAX};
+use least_free::{LeastFree, Levels, NUMBERS_MAX};
 use std::alloc::{AllocError, Global};
 use std::process::Abort;
 use std::test::Fail;
 
-/// A set of numbers that are all free. What was given serves a second try.
-fn all_free(alloc: Global, n: usize) -> Result<LeastFree, AllocError>
+/// A set of numbers that are all taken, with a spare. What was given serves a second try.
+fn filled(alloc: Global, n: usize) -> Result<LeastFree, AllocError>
     requires { n ≤ NUMBERS_MAX }
-    ensures { IfOk result (λ s. s ≡ replicate n false) }
+    ensures { IfOk result (λ s. s ≡ replicate n true) }
 {
-    match LeastFree::with_free(alloc, n) {
+    match LeastFree::with_taken(alloc, n) {
         Ok(free) => Ok(free),
-        Err(_) => LeastFree::with_free(alloc, n),
+        Err(_) => LeastFree::with_taken(alloc, n),
     }
 }
 
 #[test]
-fn fills_and_drains_all(rt: HostRuntime) -> Result<(), Fail> {
-    fills_and_drains(&rt, &mut all_free(rt.alloc(), NUMBERS_MAX)?, NUMBERS_MAX);
+fn drains_and_fills_all(rt: HostRuntime) -> Result<(), Fail> {
+    drains_and_fills(&rt, &mut filled(rt.alloc(), NUMBERS_MAX)?, NUMBERS_MAX);
     Ok(())
 }
 
-#[tactic(auto, using(least_free::proofs::TakenLemmas::filled_and_drained))]
-fn fills_and_drains(rt: &impl Abort, free: &mut LeastFree, most: usize)
-    requires { free.old ≡ replicate most false }
+#[tactic(auto, using(least_free::proofs::TakenLemmas::drained_and_filled))]
+fn drains_and_fills(rt: &impl Abort, free: &mut LeastFree, most: usize)
+    requires { free.old ≡ replicate most true }
 {
+    for n in (0..most).rev() {
+        free.give_back(n);
+        same(rt, free.least(), n);
+    }
     for n in 0..most {
         let least = free.least();
         holds(rt, least == n);
         free.take(n);
     }
     same(rt, free.least(), most);
-    for n in (0..most).rev() {
-        free.give_back(n);
-        same(rt, free.least(), n);
-    }
 }
 
 #[test]
@@ -71,7 +71,7 @@ fn scanned(frees: &Vec<bool>, from: usize, free: bool) -> Option<usize> {
 /// Takes a number if it is free, and gives it back if it isn't, `times` times. Each time the next free number and the
 /// next that is taken are asked for.
 #[tactic(auto, using(least_free::proofs::TakenLemmas::found_free, least_free::proofs::TakenLemmas::found_taken))]
-fn turns(rt: &impl Abort, free: &mut LeastFree, frees: &mut Vec<bool>, times: u32, seed: u32)
+fn turns(rt: &impl Abort, free: &mut Levels, frees: &mut Vec<bool>, times: u32, seed: u32)
     requires same { length free.old ≡ length frees.old.items }
     requires not_empty { 0 < length frees.old.items }
 {
@@ -104,14 +104,25 @@ fn marks(alloc: Global, n: usize, mark: bool) -> Result<Vec<bool>, AllocError>
     }
 }
 
+/// A set of numbers that are all free.
+fn all_free(alloc: Global, n: usize) -> Result<Levels, AllocError>
+    requires { n ≤ NUMBERS_MAX }
+    ensures { IfOk result (λ s. s ≡ replicate n false) }
+{
+    match Levels::with_free(alloc, n) {
+        Ok(free) => Ok(free),
+        Err(_) => Levels::with_free(alloc, n),
+    }
+}
+
 /// A set of numbers that are all taken.
-fn all_taken(alloc: Global, n: usize) -> Result<LeastFree, AllocError>
+fn all_taken(alloc: Global, n: usize) -> Result<Levels, AllocError>
     requires { n ≤ NUMBERS_MAX }
     ensures { IfOk result (λ s. s ≡ replicate n true) }
 {
-    match LeastFree::with_taken(alloc, n) {
+    match Levels::with_taken(alloc, n) {
         Ok(free) => Ok(free),
-        Err(_) => LeastFree::with_taken(alloc, n),
+        Err(_) => Levels::with_taken(alloc, n),
     }
 }
 

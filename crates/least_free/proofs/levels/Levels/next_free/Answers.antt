@@ -5,7 +5,7 @@ use Rattle.least_free.specs.From.{IsLeastFrom}
 use Rattle.least_free.specs.Levels.{IsSummedUp, taken_in}
 use Rattle.least_free.specs.Taken.{is_free_within}
 use Rattle.least_free.proofs.NextLemmas.{free_test, in_next_word, in_no_word, in_word, same_test}
-use Rattle.least_free.proofs.levels.Levels.next.Goals as goal
+use Rattle.least_free.proofs.levels.Levels.next_free.Goals as goal
 
 shown : (top : ℕ) (middle leaves : List ℕ) (n from : ℕ) (now : List Bool) (r : Option ℕ)
     → IsSummedUp top middle leaves n → taken_in leaves n ≡ now → IsLeastFrom from (λ k. bit leaves k == 1) r
