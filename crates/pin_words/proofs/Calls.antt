@@ -1,5 +1,5 @@
 -- What the calls of readers and of the keeper need of the steps.
-use Rattle.std.proofs.Common.{◌≡◌, ◌≢◌, inl, inr, ⊎_elim, ℕ, ◌+◌, ◌*◌, ◌<◌, ◌≤◌, Bool, true, false, List, [], ◌∷◌, ◌++◌, length, length-set, get_or, set, Some, None, sym, refl, ap, ◌∙◌, subst, arith}
+use Rattle.std.proofs.Common.{◌≡◌, ◌≢◌, inl, inr, ⊎_elim, ℕ, ◌+◌, ◌*◌, ◌<◌, ◌≤◌, Bool, true, false, cond, ltb, List, [], ◌∷◌, ◌++◌, length, length-set, get_or, set, Some, None, sym, refl, ap, ◌∙◌, subst, arith}
 use Rattle.std.proofs.lemmas.Bool.{cases_lt}
 use Rattle.std.proofs.lemmas.Grind.{common_steps}
 use Rattle.std.proofs.lemmas.List.{append_assoc, get_or_read}
@@ -18,6 +18,7 @@ use Rattle.pin_core.specs.Words.{decoded}
 use Rattle.pin_core.specs.Descrs as descr_code
 use Rattle.pin_core.specs.Holds.{tally, weight, drop_last, same_id}
 use Rattle.pin_core.specs.Worlds.{opening_slot, slot_of}
+use Rattle.pin_core.specs.Events.{reclaimed}
 use Rattle.pin_core.specs.Safety.{rank_of}
 use Rattle.pin_core.proofs.Counts.{count-snoc, count-drop_last-le}
 use Rattle.pin_words.specs.declared.view.Look.{Look}
@@ -57,6 +58,19 @@ slot-changed v v' ps ls k xs s was f now shape knows long inside is = (
       ∙ (λ i. set (knows i) s (f (sym (slot-known v.slots xs s was knows (omega arith) is) i))),
   length-set xs s (f was) ∙ long,
 )
+
+-- a slot that is reclaimed keeps its descriptor
+pub reclaimed-kept : (max : ℕ) (was kept : Slot) → kept ≡ was
+    → record { generation = (reclaimed max was).generation; phase = (reclaimed max was).phase; descr = kept.descr }
+    ≡ reclaimed max was
+reclaimed-kept max was kept same = by (ltb was.generation max)
+  where
+    next : Bool → Slot
+    next b = cond b (record was { generation = was.generation + 1; phase = Free }) (record was { phase = Retired })
+
+    by : (b : Bool) → record { generation = (next b).generation; phase = (next b).phase; descr = kept.descr } ≡ next b
+    by true = λ i. record { generation = was.generation + 1; phase = Free; descr = (same i).descr }
+    by false = λ i. record { generation = was.generation; phase = Retired; descr = (same i).descr }
 
 pub released-one : (n p : ℕ) (m m' : M) (id : Id) → p ≡ place_of id.slot → IsReaders m
     → released (step 0 p 1 0 none) m n m' → 0 < tally (same_id id) (reader_of m.0).held

@@ -138,8 +138,7 @@ impl Keeper {
         self.words
             .shared
             .store::<Storing>(&mut self.seat, descr_place(slot), descr.encode());
-        let was = self.slots[slot as usize];
-        self.slots[slot as usize] = Slot { descr, ..was };
+        self.slots[slot as usize].descr = descr;
     }
 
     /// Publishes a free slot with its descriptor, so that it is live, by one atomic or.
@@ -152,11 +151,7 @@ impl Keeper {
         self.words
             .shared
             .fetch_or::<Publishing>(&mut self.seat, place_of(slot), LIVE_BIT);
-        let was = self.slots[slot as usize];
-        self.slots[slot as usize] = Slot {
-            phase: Phase::Live,
-            ..was
-        };
+        self.slots[slot as usize].phase = Phase::Live;
     }
 
     /// Gives a live slot up, so that it is closing, by one atomic or, which leaves the pins.
@@ -169,11 +164,7 @@ impl Keeper {
         self.words
             .shared
             .fetch_or::<Closes>(&mut self.seat, place_of(slot), CLOSING_BIT);
-        let was = self.slots[slot as usize];
-        self.slots[slot as usize] = Slot {
-            phase: Phase::Closing,
-            ..was
-        };
+        self.slots[slot as usize].phase = Phase::Closing;
     }
 
     /// Takes a closing slot back by one exchange, which is also a look: [`Reclaim::Held`] with the number of pins
@@ -206,7 +197,10 @@ impl Keeper {
         if pins > 0 {
             return Reclaim::Held { pins };
         }
-        self.slots[slot as usize] = next;
+        // (its descriptor stays)
+        let kept = &mut self.slots[slot as usize];
+        kept.generation = next.generation;
+        kept.phase = next.phase;
         if was.generation < self.shape.max_gen {
             Reclaim::Freed
         } else {

@@ -22,9 +22,9 @@ pub invariant_of-self-inside : goal.invariant_of-self-inside
 invariant_of-self-inside c = let played = c.fetch_or.ensures.2 c.args.slot c.place_of.ensures in
     let one = kept-one (λ k. keeper_closed k c.args.slot) c.self.inside.seat.me c.fetch_or.new.seat.me
     c.self.inside.keeps played in
-    let changed = slot-changed (keeper_of c.self.inside.seat.me.0) _ _ _ _ _ c.args.slot c.index-was.result.now
+    let changed = slot-changed (keeper_of c.self.inside.seat.me.0) _ _ _ _ _ c.args.slot c.index_mut.result.now
     (λ z. in_phase z Closing) one.1 c.self.inside.shaped c.self.inside.knows c.self.inside.length_is (search rules)
-    c.index-was.ensures in search rules
+    c.index_mut.ensures.value in search rules
 
 pub returns-clause-view : goal.returns-clause-view
 returns-clause-view c = let played = c.fetch_or.ensures.2 c.args.slot c.place_of.ensures in search rules

@@ -1,4 +1,4 @@
-use Rattle.std.proofs.Common.{rules, sym, ap, subst, ◌<◌, ◌≡◌, ◌∙◌, arith}
+use Rattle.std.proofs.Common.{rules, sym, ap, subst, ◌<◌, ◌≡◌, ◌∙◌, List, length, set, arith}
 use Rattle.pin_core.specs.declared.shape.Shape.{Shape}
 use Rattle.pin_core.specs.declared.world.Slot.{Slot}
 use native.Mathlib.Decide.{ℕ_discrete}
@@ -10,7 +10,7 @@ use Rattle.pin_core.specs.Worlds.{slot_of}
 use Rattle.pin_words.specs.Views.{keeper_of, keeper_reclaimed}
 use Rattle.pin_words.specs.Laws.{closing_word, next_word}
 use Rattle.pin_words.proofs.KeeperSteps.{reclaims-step}
-use Rattle.pin_words.proofs.Calls.{kept-one, slot-known, slot-changed}
+use Rattle.pin_words.proofs.Calls.{kept-one, reclaimed-kept, slot-known, slot-changed}
 use Rattle.pin_words.proofs.Owned.{key_at, wide_at}
 use Rattle.pin_words.proofs.keeper.Keeper.reclaim.Goals as goal
 
@@ -54,7 +54,31 @@ invariant_of-self-inside-2 c = let played = c.compare_exchange-found.ensures.2 c
     c.index-was.result.now = c.reclaimed-next.ensures ∙ ap (λ n. reclaimed n c.index-was.result.now) max in
     let changed = slot-changed (keeper_of c.self.inside.seat.me.0) _ _ _ _ _ c.args.slot c.index-was.result.now
     (reclaimed (keeper_of c.self.inside.seat.me.0).shape.max_gen) one.1 c.self.inside.shaped c.self.inside.knows
-    c.self.inside.length_is (search rules) c.index-was.ensures in search rules
+    c.self.inside.length_is (search rules) c.index-was.ensures in
+    let inside : c.args.slot < length c.self.inside.slots.items = let long = c.self.inside.length_is in
+    let lt : c.args.slot < c.self.inside.shape.slots = search rules in omega arith in
+    let same : c.index_mut-kept.result.now ≡ c.index-was.result.now =
+    slot-known _ c.self.inside.slots.items c.args.slot c.index_mut-kept.result.now c.self.inside.knows inside
+    c.index_mut-kept.ensures.value
+    ∙ sym (slot-known _ c.self.inside.slots.items c.args.slot c.index-was.result.now c.self.inside.knows inside
+    c.index-was.ensures) in
+    let written : set c.self.inside.slots.items c.args.slot (record {
+      generation = c.reclaimed-next.result.generation;
+      phase = c.reclaimed-next.result.phase;
+      descr = c.index_mut-kept.result.now.descr;
+    }) ≡ set c.self.inside.slots.items c.args.slot
+    (reclaimed (keeper_of c.self.inside.seat.me.0).shape.max_gen c.index-was.result.now) =
+    ap (λ (y : Slot). set c.self.inside.slots.items c.args.slot (record {
+      generation = y.generation;
+      phase = y.phase;
+      descr = c.index_mut-kept.result.now.descr;
+    })) next
+    ∙ ap (λ (y : Slot). set c.self.inside.slots.items c.args.slot y)
+    (reclaimed-kept (keeper_of c.self.inside.seat.me.0).shape.max_gen c.index-was.result.now
+    c.index_mut-kept.result.now same) in
+    let kept = subst (λ (xs : List Slot). ((keeper_of c.compare_exchange-found.new.seat.me.0).shape
+    ≡ c.self.inside.shape) × ((keeper_of c.compare_exchange-found.new.seat.me.0).slots ≡ xs)
+    × (length xs ≡ c.self.inside.shape.slots)) (sym written) changed in search rules
 
 pub returns-clause-reclaims : goal.returns-clause-reclaims
 returns-clause-reclaims c = let played = c.compare_exchange-found.ensures.2 c.args.slot c.place_of.ensures in

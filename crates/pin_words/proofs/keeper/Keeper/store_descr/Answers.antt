@@ -20,7 +20,7 @@ pub invariant_of-self-inside : goal.invariant_of-self-inside
 invariant_of-self-inside c = let did = c.store.ensures in
     let one = stored-one _ c.self.inside.seat.me c.store.new.seat.me c.args.slot c.descr_place.result c.args.descr
     c.self.inside.keeps did.2 c.descr_place.ensures c.requires.given c.encode.ensures in
-    let changed = slot-changed (keeper_of c.self.inside.seat.me.0) _ _ _ _ _ c.args.slot c.index-was.result.now
+    let changed = slot-changed (keeper_of c.self.inside.seat.me.0) _ _ _ _ _ c.args.slot c.index_mut.result.now
     (λ z. with_descr z c.args.descr) one.1 c.self.inside.shaped c.self.inside.knows c.self.inside.length_is
     (search rules)
-    c.index-was.ensures in search rules
+    c.index_mut.ensures.value in search rules
