@@ -4,7 +4,7 @@ use Rattle.std.specs.Prelude.{is_none, is_some, find, not, ◌&&◌, IfSome, IsS
 use Rattle.std.specs.List.{range_with_len}
 use Rattle.std.proofs.Math.Seq.{map-set_same}
 use Rattle.std.proofs.lemmas.List.{length-map, get_or-map, get_or_past, get_or-set_same, map-set, set-get_or}
-use Rattle.std.proofs.lemmas.Bool.{cases_lt}
+use Rattle.std.proofs.lemmas.Bool.{cases_lt, ne_eqb}
 use Rattle.pin_core.specs.declared.id.Id.{Id}
 use Rattle.ob_body.specs.declared.body.Body.{Body}
 use Rattle.ob_arena.specs.Slots.{Slots, is_vacant_at, least_vacant}
@@ -165,6 +165,13 @@ module _ (xs : List (Option Seat)) (k : ℕ) (x : Seat) (is : get_or xs k None �
       };
       retired = retired;
     }
+
+    pub places_handle_fewer : 1 < get_or (map seat_handles xs) k 0 → after (record x { handles = x.handles - 1 })
+        ≡ without_handle before k
+    places_handle_fewer more =
+        let there : eqb ((x.handles - 1) + x.blocks) 0 ≡ false = ne_eqb ((x.handles - 1) + x.blocks) 0
+        (omega (arith, handles_at, more)) in
+        ap after (λ i. record x { handles = x.handles - 1; body = cond (sym there i) None x.body }) ∙ places_handle_left
 
     -- what waits leave as it is
     pub rest_same : (y z : Seat) → y ≡ z → ((l : Tag) → object_of z l ≡ object_of x l) → z.handles ≡ x.handles

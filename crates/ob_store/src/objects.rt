@@ -196,17 +196,29 @@ impl<K: PinKeeper> Objects<K> {
 
     /// Counts one handle fewer, and answers whether it was the last one. The object ends where that was the last
     /// reference to it.
-    #[inline]
+    #[inline(always)]
     pub fn handle_left(&mut self, slot: u32) -> bool
         requires handled { 0 < slice_index_or self.old.seen.handles slot 0 }
         ensures value { self.new ≡ without_handle_of self.old slot }
         ensures last { result ≡ slice_index_or self.old.seen.handles slot 0 == 1 }
     {
-        let left = self.seats.handle_left(slot);
-        if left.has_ended {
+        if self.seats.handles(slot) > 1 {
+            self.seats.drop_handle(slot);
+            return false;
+        }
+        self.last_handle_left(slot);
+        true
+    }
+
+    // Most handles aren't the last of their objects, so what ends an object stands apart.
+    #[inline(never)]
+    fn last_handle_left(&mut self, slot: u32)
+        requires { slice_index_or self.old.seen.handles slot 0 ≡ 1 }
+        ensures { self.new ≡ without_handle_of self.old slot }
+    {
+        if self.seats.last_handle_left(slot) {
             self.keeper.close_slot(slot);
         }
-        left.was_last
     }
 
     /// Counts a further place of a pending wait that names the object, which has a body.

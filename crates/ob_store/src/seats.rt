@@ -59,14 +59,6 @@ impl Model for Seats {
     ghost invariant = { λ s. AreNoted s.arena.bodies s.owners s.timers s.closing s.labels.items s.names.items };
 }
 
-/// What the leave of a handle is to its object: whether that was the last handle, and whether nothing refers to the
-/// object any more.
-#[derive(Clone, Copy)]
-pub(crate) struct HandleLeft {
-    pub(crate) was_last: bool,
-    pub(crate) has_ended: bool,
-}
-
 /// The thread that owns a mutex; none for other objects and where nobody does.
 pub(crate) fn owner_of(body: Option<Body>) -> Option<u32>
     ensures { result ≡ slot_owner body }
@@ -335,26 +327,37 @@ impl Seats {
         true
     }
 
-    /// Counts one handle fewer, and answers whether it was the last one, and whether the object ended.
+    /// How many handles name the object in a slot.
+    pub(crate) fn handles(&self, slot: u32) -> u32
+        requires { IsSome (slice_index_or self.now.objects slot None) }
+        ensures { result ≡ slice_index_or self.now.seen.handles slot 0 }
+    {
+        self.arena.get(slot).handles
+    }
+
+    /// Counts one handle fewer, where there are more.
+    pub(crate) fn drop_handle(&mut self, slot: u32)
+        requires object { IsSome (slice_index_or self.old.objects slot None) }
+        requires more { 1 < slice_index_or self.old.seen.handles slot 0 }
+        ensures { self.new ≡ without_handle self.old slot }
+    {
+        self.arena.get_mut(slot).handles -= 1;
+    }
+
+    /// Counts the last handle no longer, and answers whether the object ended.
     #[inline]
-    pub(crate) fn handle_left(&mut self, slot: u32) -> HandleLeft
+    pub(crate) fn last_handle_left(&mut self, slot: u32) -> bool
         requires object { IsSome (slice_index_or self.old.objects slot None) }
         requires handled { 0 < slice_index_or self.old.seen.handles slot 0 }
         ensures value { self.new ≡ without_handle self.old slot }
-        ensures last { result.was_last ≡ slice_index_or self.old.seen.handles slot 0 == 1 }
-        ensures ended { result.has_ended ≡ is_some (slice_index_or self.old.seen.bodies slot None)
+        ensures ended { result ≡ is_some (slice_index_or self.old.seen.bodies slot None)
             && is_last_handle self.old slot }
     {
-        let seat = self.arena.get_mut(slot);
-        let was_last = seat.handles == 1;
-        let gone = seat.handle_left();
+        let gone = self.arena.get_mut(slot).handle_left();
         self.owners.left(slot, owner_of(gone));
         self.timers.left(slot, due_of(gone));
         self.closing.came(slot, gone.is_some());
-        HandleLeft {
-            was_last,
-            has_ended: gone.is_some(),
-        }
+        gone.is_some()
     }
 
     /// Counts a further place of a pending wait that names the object.

@@ -4,7 +4,7 @@ use Rattle.ob_store.specs.Objects.{tags_in, Places, places_of, without_handle}
 use Rattle.ob_store.proofs.SeatLaws.{places_handle_left}
 use Rattle.ob_store.proofs.ClosingLaws.{gone_was_there}
 use Rattle.ob_store.proofs.NotedLaws.{noted_left}
-use Rattle.ob_store.proofs.seats.Seats.handle_left.Goals as goal
+use Rattle.ob_store.proofs.seats.Seats.last_handle_left.Goals as goal
 
 pub returns-clause-value : goal.returns-clause-value
 returns-clause-value c =
@@ -13,19 +13,19 @@ returns-clause-value c =
       retired = c.self.inside.arena.retired;
     }) (tags_in c.self.inside.labels.items c.self.inside.names.items))
     c.handle_left-gone.ensures.value
-    ∙ places_handle_left c.self.inside.arena.bodies c.args.slot c.get_mut-seat.result.now c.get_mut-seat.ensures.value
+    ∙ places_handle_left c.self.inside.arena.bodies c.args.slot c.get_mut.result.now c.get_mut.ensures.value
     c.self.inside.arena.retired (tags_in c.self.inside.labels.items c.self.inside.names.items)
     ∙ ap (λ (p : Places). without_handle p c.args.slot) c.self.view_is
 
 pub invariant_of-self : goal.invariant_of-self
 invariant_of-self c = rw c.left.ensures (rw c.owner_of.ensures (rw c.left-2.ensures (rw c.due_of.ensures
     (rw c.came.ensures (rw c.is_some.ensures
-    (noted_left _ _ _ _ _ _ c.self.invariant c.args.slot c.get_mut-seat.result.now
-    c.handle_left-gone.new.self c.get_mut-seat.ensures.value _ c.handle_left-gone.result c.handle_left-gone.ensures.gone
+    (noted_left _ _ _ _ _ _ c.self.invariant c.args.slot c.get_mut.result.now
+    c.handle_left-gone.new.self c.get_mut.ensures.value _ c.handle_left-gone.result c.handle_left-gone.ensures.gone
     (ap (λ (x : Seat). x.body) c.handle_left-gone.ensures.value)))))))
 
 pub came-requires : goal.came-requires
 came-requires c = λ some. gone_was_there c.self.inside.arena.bodies c.self.inside.closing c.args.slot
-    c.get_mut-seat.result.now _ c.handle_left-gone.result c.self.invariant.opened c.get_mut-seat.ensures.value
+    c.get_mut.result.now _ c.handle_left-gone.result c.self.invariant.opened c.get_mut.ensures.value
     c.handle_left-gone.ensures.gone
     (sym c.is_some.ensures ∙ some)
