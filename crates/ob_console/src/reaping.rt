@@ -1,35 +1,34 @@
 ghost use Rattle.std.specs.Prelude.{◌≡◌, ◌<◌, IfNone, IfSome, Some, position};
 ghost use Rattle.pin_core.specs.Holds.{tally, same_id};
-ghost use Rattle.pin_words.specs.Keepers.{ReclaimsFound};
 ghost use Rattle.pin_words.specs.Views.{is_of_slot};
 ghost use Rattle.ob_manager.specs.Reaping.{IfReaped};
 ghost use Rattle.ob_manager.specs.Steps.{Step};
+ghost use Rattle.ob_manager.specs.declared.reply.Reply.{Reply};
+ghost use Rattle.ob_store.specs.State.{Whole};
 ghost use Rattle.ob_manager.specs.declared.call.CallOf.TheVariants as Call;
 ghost use Rattle.ob_console.specs.Pinning.{SparesHeld};
 
-use ob_manager::{Manager, Reply};
+use ob_manager::Manager;
 use pin_core::Id;
 use pin_words::{Keeper, Reader};
 
-/// [`Manager::reap`], and a meeting where the reader holds something at the slot: that slot isn't taken back.
-#[tactic(auto, using(ob_manager::proofs::TableLaws::step_table, crate::proofs::Sparing::spares_none))]
-pub fn reap(manager: &mut Manager<Keeper>, reader: &mut Reader, slot: u32) -> Reply
+/// Has the reader meet the manager's keeper at a slot of which it holds something: a reap that was made there hasn't
+/// taken the slot back.
+#[tactic(auto, using(crate::proofs::Sparing::spares_none))]
+pub fn meet_at(manager: &mut Manager<Keeper>, reader: &mut Reader, slot: u32)
     requires { manager.old.keeper.table ≡ Some reader.old.table }
-    ensures step { Step manager.old (Call.Reap slot) result manager.new }
-    ensures spares { IfReaped result (SparesHeld reader.old.view.held slot) }
-    ensures exact { IfReaped result (λ outcome. ReclaimsFound manager.old.keeper slot outcome manager.new.keeper) }
+    ensures spares { (before : Whole) (reply : Reply) → Step before (Call.Reap slot) reply manager.old
+        → IfReaped reply (SparesHeld reader.old.view.held slot) }
     ensures held { reader.new.view.held ≡ reader.old.view.held }
-    ensures same { manager.new.keeper.table ≡ Some reader.new.table }
+    ensures same { manager.new ≡ manager.old }
     ensures table { reader.new.table ≡ reader.old.table }
 {
-    let reply = manager.reap(slot);
     if let Some(id) = held_at(reader.held(), slot) {
         let slot = reader.slot_of_held(id);
         manager.same_shape(reader);
         manager.kept();
         manager.meet(reader, slot);
     }
-    reply
 }
 
 /// An Id of this slot of which there is a copy.

@@ -133,6 +133,7 @@ pub fn run_over<R: Source, W: Sink>(
     ensures reads { R.calls reader.new ≤ R.calls reader.old + CALLS_MOST }
     ensures writes { W.calls writer.new ≤ W.calls writer.old + CALLS_MOST }
 {
+    // What owns much is dropped by a call, since a scope that ends with it lets it go on each way out.
     let Ok(mut block) = zeros(alloc, READ_MOST) else {
         drop(manager);
         return Err(RunFault::Memory);
@@ -210,6 +211,7 @@ fn reopened(alloc: Global, manager: Manager<LockedPins>, writes: u64) -> Option<
     ensures ready { IfSome result (λ console. IsReady console) }
     ensures writes { IfSome result (λ console. console.pending.writes_left ≡ writes) }
 {
+    // (dropped by a call, as in `run_over`)
     let Ok(output) = Output::new(alloc, writes) else {
         drop(manager);
         return None;

@@ -1,9 +1,9 @@
-ghost use Rattle.std.specs.Prelude.{◌≡◌, ◌<◌, ◌&&◌, ℕ, false, true, IfErr, IfOk, OnErr, OnOk, Some, length};
+ghost use Rattle.std.specs.Prelude.{◌≡◌, ◌<◌, ◌&&◌, ℕ, true, IfErr, IfOk, OnErr, OnOk, Some};
 ghost use Rattle.ob_rights.specs.declared.fault.Fault.TheVariants.{Memory};
 ghost use Rattle.ob_tables.specs.Table.{entry_at};
 ghost use Rattle.ob_tables.specs.Tables.{table_of};
-ghost use Rattle.ob_store.specs.State.{handles_of, is_full};
-ghost use Rattle.ob_manager.specs.Copying.{admitted, closes, copied, copied_to, copy_rights, duplicate, is_copy};
+ghost use Rattle.ob_store.specs.State.{handles_of};
+ghost use Rattle.ob_manager.specs.Copying.{closes, copied, copied_to, copy_rights, duplicate, is_copy};
 ghost use Rattle.ob_manager.specs.Copying.{is_stuck, is_wrong, keeps_rights, leaves};
 ghost use Rattle.ob_manager.specs.Creating.{takes_place};
 ghost use Rattle.ob_manager.specs.Steps.{Copies, Duplicates};
@@ -80,28 +80,6 @@ fn copy_rights<K: PinKeeper>(
     Err(Fault::Access)
 }
 
-/// The rights of a copy in a target process, or why there is no copy.
-fn admitted<K: PinKeeper>(
-    store: &Store<K>,
-    entry: Entry,
-    target: u32,
-    mask: Rights,
-    options: u32,
-) -> Result<Rights, Fault>
-    ensures value { result ≡ admitted store.now.state entry target mask options }
-    ensures table { OnOk result (target < length store.now.state.tables) }
-    ensures room { OnOk result (is_full store.now.state target ≡ false) }
-{
-    if store.session(target).is_none() {
-        return Err(Fault::Parameter);
-    }
-    let rights = copy_rights(store, entry, mask, options)?;
-    if store.is_full(target) {
-        return Err(Fault::Limit);
-    }
-    Ok(rights)
-}
-
 /// Makes a copy of an entry in a target process. The outer error is want of memory.
 fn copied<K: PinKeeper>(
     store: &mut Store<K>,
@@ -121,7 +99,10 @@ fn copied<K: PinKeeper>(
         → entry_at (table_of store.old.state.tables source) handle ≡ Some other
         → entry_at (table_of store.new.state.tables source) handle ≡ Some other }
 {
-    let rights = match admitted(store, entry, target, mask, options) {
+    if store.session(target).is_none() {
+        return Ok(Err(Fault::Parameter));
+    }
+    let rights = match copy_rights(store, entry, mask, options) {
         Ok(rights) => rights,
         Err(fault) => return Ok(Err(fault)),
     };
@@ -129,7 +110,8 @@ fn copied<K: PinKeeper>(
     let flags = flags_of(inherit);
     match store.place_entry(target, Entry { id, rights, flags }) {
         Ok(handle) => return Ok(Ok(Reply::Duplicated { handle, id })),
-        Err(_) => return Err(AllocError),
+        Err(Fault::Memory) => return Err(AllocError),
+        Err(fault) => return Ok(Err(fault)),
     }
 }
 

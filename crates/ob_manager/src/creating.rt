@@ -255,9 +255,6 @@ fn new_handle<K: PinKeeper>(
     if !is_allowed(rights, found.seat.grant) {
         return Err(Fault::Access);
     }
-    if store.is_full(process) {
-        return Err(Fault::Limit);
-    }
     let entry = Entry {
         id,
         rights,

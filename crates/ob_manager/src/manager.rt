@@ -9,7 +9,7 @@ ghost use Rattle.ob_store.specs.Objects.{object_of, tag_of};
 ghost use Rattle.ob_store.specs.State.{blocks_of, handles_of, hold_of, opening, shape_of};
 ghost use Rattle.ob_store.specs.Stored.{MatchesState, hold_in};
 ghost use Rattle.ob_manager.specs.declared.call.CallOf.TheVariants as calls;
-ghost use Rattle.ob_manager.specs.Calls.{is_wait, with_parts};
+ghost use Rattle.ob_manager.specs.Calls.{with_parts};
 ghost use Rattle.ob_manager.specs.Makings.{making_of};
 ghost use Rattle.ob_manager.specs.Counting.{card};
 ghost use Rattle.ob_manager.specs.Handles.{resolve};
@@ -529,22 +529,17 @@ impl<K: PinKeeper> Manager<K> {
         ensures exact { IfReap call.now (λ slot. IfReaped result
             (λ outcome. K.reclaims self.old.keeper slot outcome self.new.keeper)) }
     {
-        match call {
-            Call::WaitFor {
-                thread,
-                mode,
-                timeout,
-                handles,
-            } => self.wait(*thread, *mode, *timeout, handles.as_slice()),
-            _ => self.ask(call),
-        }
+        self.ask(call, call.handles())
     }
 
-    /// Makes a call that is no wait, whose name may be borrowed.
+    /// Makes a call whose name may be borrowed; `handles` are those of a wait.
     #[inline(always)]
-    pub fn ask<M: AsMake, T: AsSlice<u8>, H>(&mut self, call: &CallOf<M, T, H>) -> Reply
-        requires { is_wait call.now ≡ false }
-        ensures step { (h : H → List ℕ) → Step self.old (with_parts M.making T.items h call.now) result self.new }
+    pub fn ask<M: AsMake, T: AsSlice<u8>, H>(
+        &mut self,
+        call: &CallOf<M, T, H>,
+        handles: &[u32],
+    ) -> Reply
+        ensures step { Step self.old (with_parts M.making T.items (λ _. handles.now) call.now) result self.new }
         ensures exact { IfReap call.now (λ slot. IfReaped result
             (λ outcome. K.reclaims self.old.keeper slot outcome self.new.keeper)) }
     {
@@ -615,7 +610,12 @@ impl<K: PinKeeper> Manager<K> {
             } => self.set_timer(*thread, *handle, *due),
             CallOf::CancelTimer { thread, handle } => self.cancel_timer(*thread, *handle),
             CallOf::Tick { now } => self.tick(*now),
-            CallOf::WaitFor { .. } => unreachable!(),
+            CallOf::WaitFor {
+                thread,
+                mode,
+                timeout,
+                handles: _,
+            } => self.wait(*thread, *mode, *timeout, handles),
             CallOf::WaitResult { wait } => self.wait_result(*wait),
             CallOf::Expire { wait } => self.expire(*wait),
             CallOf::EndThread { thread } => self.end_thread(*thread),
@@ -628,7 +628,7 @@ impl<K: PinKeeper> Manager<K> {
 
 /// The reply that a call's function comes to.
 // It names the parts of most replies, so that these are handed over one by one, and not as bytes that were just written
-// in parts. `Flags`, `Reaped` and `CountsAre` are handed over whole.
+// in parts. `Flags` and `Reaped` are handed over whole.
 #[inline(always)]
 pub(crate) fn reply_of(answer: Result<Reply, Fault>) -> Reply
     ensures { result ≡ reply_of answer }
@@ -649,6 +649,17 @@ pub(crate) fn reply_of(answer: Result<Reply, Fault>) -> Reply
         Ok(Reply::Ticked { now }) => Reply::Ticked { now },
         Ok(Reply::Ended { thread }) => Reply::Ended { thread },
         Ok(Reply::Exited { process }) => Reply::Exited { process },
+        Ok(
+            Reply::CountsAre {
+                handles,
+                waits,
+                hold,
+            },
+        ) => Reply::CountsAre {
+            handles,
+            waits,
+            hold,
+        },
         Ok(reply) => reply,
         Err(fault) => Reply::Refused(fault),
     }

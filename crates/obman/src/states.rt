@@ -27,6 +27,7 @@ pub fn run_states<I: Source, O: Sink>(
     reader: &mut I,
     writer: &mut O,
 ) -> Result<(), StateFault> {
+    // What owns much is made by functions that hand it out, and dropped by a call: then one way out lets it go.
     let manager = begun(rt, options)?;
     let after = answered(rt.alloc(), manager, reader, writer)?;
     let saved = match &options.save {
