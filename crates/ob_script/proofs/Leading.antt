@@ -63,6 +63,7 @@ digits_before stop text n other digits within = elim (cases_lt (position_or_len 
   | inr past ↦ past
 ]
 
+-- one to ten digits are a number, unless their value is too great
 pub number_is : (word : List ℕ) (value : ℕ) → list_all is_ascii_digit word ≡ true → value_of word ≡ value
     → 1 ≤ length word → length word ≤ 10 → value ≤ 4294967295 → number_of word ≡ Some value
 number_is word value digits is some few small = grind (arith, nat_tests)
@@ -137,7 +138,7 @@ none_other : (word : List ℕ) → list_all is_ascii_digit word ≡ false → nu
 none_other word other = grind (arith, nat_tests)
 
 -- a word whose digits are none, too many or too great, or that goes on with something else, is no number
-pub no_digits : (word : List ℕ) (n value : ℕ) → list_all is_ascii_digit (take n word) ≡ true
+no_digits : (word : List ℕ) (n value : ℕ) → list_all is_ascii_digit (take n word) ≡ true
     → value_of (take n word) ≡ value → n ≤ length word
     → (n ≤ 10 → n < length word → is_ascii_digit (get_or word n 0) ≡ false)
     → (n ≢ 0 → n ≤ 10 → value ≤ 4294967295 → n < length word) → number_of word ≡ None

@@ -11,6 +11,24 @@ use memchr::memchr;
 use pin_core::Id;
 use std::marker::Model;
 
+/// Reads the next word by a function that gives what it is with what stands behind it, or nothing: `None` where no
+/// word is left, and `Some(None)` where the function gives nothing.
+macro_rules! next_read {
+    ($words:ident, $rest:ident, $leading:expr) => {{
+        let $rest = $words.rest?;
+        match $leading {
+            Some((value, behind)) => {
+                $words.rest = behind;
+                Some(Some(value))
+            }
+            None => {
+                let _ = $words.take($rest, seldom_place_of(b' ', $rest));
+                Some(None)
+            }
+        }
+    }};
+}
+
 /// The words of a text that are left: what stands between single spaces. A clause sees them as a list.
 #[derive(Drop)]
 pub struct Words<'a> {
@@ -69,17 +87,7 @@ impl<'a> Words<'a> {
         ensures { MatchOption result (self.old ≡ []) (λ number. (word : List ℕ) × (self.old ≡ word ∷ self.new)
             × (number ≡ labelled letter word)) }
     {
-        let rest = self.rest?;
-        match leading_labelled(letter, rest) {
-            Some((number, behind)) => {
-                self.rest = behind;
-                Some(Some(number))
-            }
-            None => {
-                let _ = self.take(rest, seldom_place_of(b' ', rest));
-                Some(None)
-            }
-        }
+        next_read!(self, rest, leading_labelled(letter, rest))
     }
 
     /// The next word, as an object: `None` where no word is left, and `Some(None)` where the word isn't one.
@@ -88,17 +96,7 @@ impl<'a> Words<'a> {
         ensures { MatchOption result (self.old ≡ []) (λ object. (word : List ℕ) × (self.old ≡ word ∷ self.new)
             × (object ≡ id_of word)) }
     {
-        let rest = self.rest?;
-        match leading_id(rest) {
-            Some((id, behind)) => {
-                self.rest = behind;
-                Some(Some(id))
-            }
-            None => {
-                let _ = self.take(rest, seldom_place_of(b' ', rest));
-                Some(None)
-            }
-        }
+        next_read!(self, rest, leading_id(rest))
     }
 
     /// Whether a keyword comes next. If it does, it is passed.
