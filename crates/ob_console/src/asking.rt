@@ -5,7 +5,7 @@ ghost use Rattle.ob_console.specs.Runs.{Spares};
 
 use crate::reaping::meet_at;
 use ob_manager::{Manager, Reply};
-use ob_script::Ask;
+use ob_script::LineCall;
 use pin_words::{Keeper, Reader};
 
 /// Makes a call; `handles` are those of a wait. Where a slot is reaped of which the reader holds something, the two
@@ -14,7 +14,7 @@ pub fn reply_to(
     manager: &mut Manager<Keeper>,
     reader: &mut Reader,
     handles: &[u32],
-    ask: &Ask<'_>,
+    ask: &LineCall<'_>,
 ) -> Reply
     requires { manager.old.keeper.table ≡ Some reader.old.table }
     ensures step { Step manager.old (call_in handles.now ask.now) result manager.new }
@@ -23,7 +23,7 @@ pub fn reply_to(
     ensures table { reader.new.table ≡ reader.old.table }
 {
     let reply = manager.ask(ask, handles);
-    if let Ask::Reap { slot } = ask {
+    if let LineCall::Reap { slot } = ask {
         meet_at(manager, reader, *slot);
     }
     reply

@@ -4,7 +4,7 @@ ghost use Rattle.ob_lanes.specs.Calls.{request_in};
 
 use crate::line::Request;
 use ob_manager::{Call, HandleList};
-use ob_script::Ask;
+use ob_script::LineCall;
 use ob_shared::Act;
 use std::alloc::{AllocError, Global};
 
@@ -23,11 +23,11 @@ pub fn act_of(alloc: Global, request: Request<'_>, handles: &[u32]) -> Result<Ac
 }
 
 /// The call that a line asks for, with a name and handles of its own. The refusal is want of memory.
-fn call_of(alloc: Global, ask: Ask<'_>, handles: &[u32]) -> Result<Call, AllocError>
+fn call_of(alloc: Global, ask: LineCall<'_>, handles: &[u32]) -> Result<Call, AllocError>
     ensures { IfOk result (λ call. call ≡ call_in handles.now ask.entry) }
 {
     match ask {
-        Ask::WaitFor {
+        LineCall::WaitFor {
             thread,
             mode,
             timeout,

@@ -3,7 +3,9 @@ ghost use Rattle.ob_lanes.specs.Lines.{IsOfLane, behind_prefix, in_lane, is_mark
 ghost use Rattle.ob_lanes.specs.Lines.{line_of, with_prefix, without_prefix};
 ghost use Rattle.ob_script.specs.Acts.{act_in};
 
-use ob_script::{Act, Ask, Handles, ScriptLine, act_of, cut_far, is_too_long, labelled, text_of};
+use ob_script::{
+    Act, Handles, LineCall, ScriptLine, act_of, cut_far, is_too_long, labelled, text_of,
+};
 use pin_core::Id;
 
 /// What a line asks of the member of a lane, with names as they stand in the line. The handles of a wait stand beside
@@ -11,7 +13,7 @@ use pin_core::Id;
 #[derive(Clone, Copy)]
 pub enum Request<'a> {
     /// A call.
-    Ask(Ask<'a>),
+    Ask(LineCall<'a>),
     /// The reader is to hold one copy more of an Id.
     Pin(Id),
     /// The reader is to let one copy of an Id go.

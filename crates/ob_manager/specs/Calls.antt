@@ -22,9 +22,9 @@ is_wait (calls.WaitFor thread mode timeout handles) = true
 is_wait call = false
 
 -- the handles of a wait, none of another call
-abbrev pub handles_of : Call → List ℕ
-handles_of (calls.WaitFor thread mode timeout handles) = handles
-handles_of call = []
+abbrev pub wait_handles : Call → List ℕ
+wait_handles (calls.WaitFor thread mode timeout handles) = handles
+wait_handles call = []
 
 -- what a create asks for, a name and a list of handles are these of those that the call had
 abbrev pub with_parts : {M T H N U G : Type 0} → (M → N) → (T → U) → (H → G) → CallOf M T H → CallOf N U G

@@ -1,5 +1,5 @@
 ghost use Rattle.std.specs.Prelude.{◌≡◌, ◌↔◌, ℕ, List, IfErr, IfOk, IsTrue, false, true};
-ghost use Rattle.ob_manager.specs.Calls.{handles_of, is_plain, is_wait, with_parts};
+ghost use Rattle.ob_manager.specs.Calls.{wait_handles, is_plain, is_wait, with_parts};
 
 use crate::making::{AsMake, Make, Making, Text};
 use crate::waiting::{HandleList, Timeout};
@@ -436,7 +436,7 @@ impl Call {
 
     /// The handles of a wait; none of another call.
     pub fn handles(&self) -> &[u32]
-        ensures { result.now ≡ handles_of self.now }
+        ensures { result.now ≡ wait_handles self.now }
     {
         match self {
             Call::WaitFor { handles, .. } => handles.as_slice(),

@@ -12,7 +12,7 @@ pub enum Act<'a> {
     /// The names of objects are asked for.
     ListNames,
     /// A call.
-    Ask(Ask<'a>),
+    Ask(LineCall<'a>),
     /// The reader is to hold one copy more of an Id.
     Pin(Id),
     /// The reader is to let one copy of an Id go.
@@ -22,7 +22,7 @@ pub enum Act<'a> {
 }
 
 /// A call with names as they stand in the line. The handles of a wait stand beside it, in a list ([`Handles`]).
-pub type Ask<'a> = CallOf<Make<'a>, &'a [u8], ()>;
+pub type LineCall<'a> = CallOf<Make<'a>, &'a [u8], ()>;
 
 /// The handles of a wait; of more than 65 the first 65, since a wait for more than 64 is refused, whichever they are.
 /// One list is lent for all lines: a new one for each would have to be cleared first.

@@ -7,7 +7,7 @@ ghost use Rattle.ob_script.specs.Grammar.{handled, lone_of, mode_of, mutex_of, o
 ghost use Rattle.ob_script.specs.Grammar.{release_of, semaphore_of, setflags_of, settimer_of, target_of, text_of};
 ghost use Rattle.ob_script.specs.Grammar.{timeout_of, timer_of, wait_of};
 
-use crate::act::{Act, Ask, Handles};
+use crate::act::{Act, Handles, LineCall};
 use crate::line::ScriptLine;
 use crate::naming::{make_of, name_of};
 use crate::numbers::{due_of, either_of, labelled, moment_of, number_of, signed_of};
@@ -167,7 +167,7 @@ fn spawn_of(mut words: Words<'_>) -> Act<'_>
     let session = wanted!(words.next());
     wanted!(words.end());
     let session = wanted!(number_of(session));
-    Act::Ask(Ask::Spawn { session })
+    Act::Ask(LineCall::Spawn { session })
 }
 
 #[inline(always)]
@@ -179,7 +179,7 @@ fn child_of(mut words: Words<'_>) -> Act<'_>
     wanted!(words.end());
     let thread = wanted!(thread);
     let inherit = wanted!(either_of(b"plain", b"inherit", inherit));
-    Act::Ask(Ask::Child { thread, inherit })
+    Act::Ask(LineCall::Child { thread, inherit })
 }
 
 #[inline(always)]
@@ -189,7 +189,7 @@ fn thread_of(mut words: Words<'_>) -> Act<'_>
     let process = wanted!(words.labelled(b'p'));
     wanted!(words.end());
     let process = wanted!(process);
-    Act::Ask(Ask::StartThread { process })
+    Act::Ask(LineCall::StartThread { process })
 }
 
 #[inline(always)]
@@ -203,7 +203,7 @@ fn event_of(mut words: Words<'_>) -> Act<'_>
     let manual = wanted!(either_of(b"auto", b"manual", reset));
     let set = wanted!(either_of(b"clear", b"set", state));
     let make = wanted!(make_of(words));
-    Act::Ask(Ask::MakeEvent {
+    Act::Ask(LineCall::MakeEvent {
         thread,
         make,
         manual,
@@ -220,7 +220,7 @@ fn mutex_of(mut words: Words<'_>) -> Act<'_>
     let thread = wanted!(thread);
     let owned = wanted!(either_of(b"free", b"owned", state));
     let make = wanted!(make_of(words));
-    Act::Ask(Ask::MakeMutex {
+    Act::Ask(LineCall::MakeMutex {
         thread,
         make,
         owned,
@@ -238,7 +238,7 @@ fn semaphore_of(mut words: Words<'_>) -> Act<'_>
     let initial = wanted!(signed_of(initial));
     let max = wanted!(signed_of(max));
     let make = wanted!(make_of(words));
-    Act::Ask(Ask::MakeSemaphore {
+    Act::Ask(LineCall::MakeSemaphore {
         thread,
         make,
         initial,
@@ -255,7 +255,7 @@ fn timer_of(mut words: Words<'_>) -> Act<'_>
     let thread = wanted!(thread);
     let manual = wanted!(either_of(b"auto", b"manual", reset));
     let make = wanted!(make_of(words));
-    Act::Ask(Ask::MakeTimer {
+    Act::Ask(LineCall::MakeTimer {
         thread,
         make,
         manual,
@@ -274,7 +274,7 @@ fn open_of(mut words: Words<'_>) -> Act<'_>
     let mask = wanted!(mask_of(mask));
     let inherit = words.skip(b"inherit");
     let text = wanted!(name_of(words));
-    Act::Ask(Ask::OpenNamed {
+    Act::Ask(LineCall::OpenNamed {
         thread,
         kind,
         mask,
@@ -299,7 +299,7 @@ fn dup_of(mut words: Words<'_>) -> Act<'_>
     let (mask, sameness) = wanted!(access_of(access));
     let inherit = words.skip(b"inherit");
     let closing = wanted!(closing_of(words));
-    Act::Ask(Ask::Duplicate {
+    Act::Ask(LineCall::Duplicate {
         thread,
         source,
         handle,
@@ -366,7 +366,7 @@ fn close_of(words: Words<'_>) -> Act<'_>
     ensures { IsRead result (asked (handled calls.CloseHandle words.entry)) }
 {
     let (thread, handle) = wanted!(handle_of(words));
-    Act::Ask(Ask::CloseHandle { thread, handle })
+    Act::Ask(LineCall::CloseHandle { thread, handle })
 }
 
 #[inline(always)]
@@ -374,7 +374,7 @@ fn flags_of(words: Words<'_>) -> Act<'_>
     ensures { IsRead result (asked (handled calls.GetFlags words.entry)) }
 {
     let (thread, handle) = wanted!(handle_of(words));
-    Act::Ask(Ask::GetFlags { thread, handle })
+    Act::Ask(LineCall::GetFlags { thread, handle })
 }
 
 #[inline(always)]
@@ -390,7 +390,7 @@ fn setflags_of(mut words: Words<'_>) -> Act<'_>
     let handle = wanted!(handle);
     let mask = wanted!(number_of(mask));
     let flags = wanted!(number_of(flags));
-    Act::Ask(Ask::SetFlags {
+    Act::Ask(LineCall::SetFlags {
         thread,
         handle,
         mask,
@@ -403,7 +403,7 @@ fn set_of(words: Words<'_>) -> Act<'_>
     ensures { IsRead result (asked (handled calls.SetEvent words.entry)) }
 {
     let (thread, handle) = wanted!(handle_of(words));
-    Act::Ask(Ask::SetEvent { thread, handle })
+    Act::Ask(LineCall::SetEvent { thread, handle })
 }
 
 #[inline(always)]
@@ -411,7 +411,7 @@ fn reset_of(words: Words<'_>) -> Act<'_>
     ensures { IsRead result (asked (handled calls.ResetEvent words.entry)) }
 {
     let (thread, handle) = wanted!(handle_of(words));
-    Act::Ask(Ask::ResetEvent { thread, handle })
+    Act::Ask(LineCall::ResetEvent { thread, handle })
 }
 
 #[inline(always)]
@@ -419,7 +419,7 @@ fn unlock_of(words: Words<'_>) -> Act<'_>
     ensures { IsRead result (asked (handled calls.ReleaseMutex words.entry)) }
 {
     let (thread, handle) = wanted!(handle_of(words));
-    Act::Ask(Ask::ReleaseMutex { thread, handle })
+    Act::Ask(LineCall::ReleaseMutex { thread, handle })
 }
 
 #[inline(always)]
@@ -427,7 +427,7 @@ fn cancel_of(words: Words<'_>) -> Act<'_>
     ensures { IsRead result (asked (handled calls.CancelTimer words.entry)) }
 {
     let (thread, handle) = wanted!(handle_of(words));
-    Act::Ask(Ask::CancelTimer { thread, handle })
+    Act::Ask(LineCall::CancelTimer { thread, handle })
 }
 
 #[inline(always)]
@@ -441,7 +441,7 @@ fn settimer_of(mut words: Words<'_>) -> Act<'_>
     let thread = wanted!(thread);
     let handle = wanted!(handle);
     let due = wanted!(due_of(due));
-    Act::Ask(Ask::SetTimer {
+    Act::Ask(LineCall::SetTimer {
         thread,
         handle,
         due,
@@ -455,7 +455,7 @@ fn tick_of(mut words: Words<'_>) -> Act<'_>
     let moment = wanted!(words.next());
     wanted!(words.end());
     let now = wanted!(moment_of(moment));
-    Act::Ask(Ask::Tick { now })
+    Act::Ask(LineCall::Tick { now })
 }
 
 #[inline(always)]
@@ -469,7 +469,7 @@ fn release_of(mut words: Words<'_>) -> Act<'_>
     let thread = wanted!(thread);
     let handle = wanted!(handle);
     let count = wanted!(signed_of(count));
-    Act::Ask(Ask::ReleaseSemaphore {
+    Act::Ask(LineCall::ReleaseSemaphore {
         thread,
         handle,
         count,
@@ -489,7 +489,7 @@ fn wait_of<'a>(mut words: Words<'a>, handles: &mut Handles) -> Act<'a>
     if !read_handles(words, handles) {
         return Act::Bad;
     }
-    Act::Ask(Ask::WaitFor {
+    Act::Ask(LineCall::WaitFor {
         thread,
         mode,
         timeout,
@@ -546,7 +546,7 @@ fn result_of(mut words: Words<'_>) -> Act<'_>
     let wait = wanted!(words.labelled(b'w'));
     wanted!(words.end());
     let wait = wanted!(wait);
-    Act::Ask(Ask::WaitResult { wait })
+    Act::Ask(LineCall::WaitResult { wait })
 }
 
 #[inline(always)]
@@ -556,7 +556,7 @@ fn expire_of(mut words: Words<'_>) -> Act<'_>
     let wait = wanted!(words.labelled(b'w'));
     wanted!(words.end());
     let wait = wanted!(wait);
-    Act::Ask(Ask::Expire { wait })
+    Act::Ask(LineCall::Expire { wait })
 }
 
 #[inline(always)]
@@ -566,7 +566,7 @@ fn endthread_of(mut words: Words<'_>) -> Act<'_>
     let thread = wanted!(words.labelled(b't'));
     wanted!(words.end());
     let thread = wanted!(thread);
-    Act::Ask(Ask::EndThread { thread })
+    Act::Ask(LineCall::EndThread { thread })
 }
 
 #[inline(always)]
@@ -576,7 +576,7 @@ fn exit_of(mut words: Words<'_>) -> Act<'_>
     let process = wanted!(words.labelled(b'p'));
     wanted!(words.end());
     let process = wanted!(process);
-    Act::Ask(Ask::Exit { process })
+    Act::Ask(LineCall::Exit { process })
 }
 
 #[inline(always)]
@@ -586,7 +586,7 @@ fn reap_of(mut words: Words<'_>) -> Act<'_>
     let slot = wanted!(words.labelled(b's'));
     wanted!(words.end());
     let slot = wanted!(slot);
-    Act::Ask(Ask::Reap { slot })
+    Act::Ask(LineCall::Reap { slot })
 }
 
 #[inline(always)]
@@ -598,7 +598,7 @@ fn count_of(mut words: Words<'_>) -> Act<'_>
     // (by its parts: eight bytes at once would keep the act in memory, and wait there)
     let Id { slot, generation } = wanted!(object);
     let id = Id { slot, generation };
-    Act::Ask(Ask::Counts { id })
+    Act::Ask(LineCall::Counts { id })
 }
 
 #[inline(always)]

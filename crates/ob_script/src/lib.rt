@@ -3,12 +3,12 @@
 //! A line takes no memory: names stay as they stand in it, and the handles of a wait are read into a list that is lent.
 //!
 //! ```rust
-//! # use ob_script::{Act, Ask, Handles, ScriptLine, act_of};
+//! # use ob_script::{Act, Handles, LineCall, ScriptLine, act_of};
 //! # use pin_core::Id;
 //! let mut handles = Handles::new();
 //! // 0 is the number of who reads: it changes nothing.
 //! let (line, rest) = ScriptLine::first_of(b"close t1 h4\npin s0.1\n").unwrap();
-//! act_of::<0>(&line, &mut handles);                           // Act::Ask(Ask::CloseHandle { thread: 1, handle: 4 })
+//! act_of::<0>(&line, &mut handles);                           // Act::Ask(LineCall::CloseHandle { thread: 1, handle: 4 })
 //! act_of::<0>(&ScriptLine::of(b"pin s0.1"), &mut handles);    // Act::Pin(Id { slot: 0, generation: 1 })
 //! act_of::<0>(&ScriptLine::of(b"wait t1 all 5 h8 h4"), &mut handles);
 //! handles.len();                                              // 2
@@ -30,7 +30,7 @@ mod rights;
 mod words;
 mod writing;
 
-pub use act::{Act, Ask, Handles};
+pub use act::{Act, Handles, LineCall};
 pub use grammar::{act_of, is_too_long, text_of};
 pub use held::HeldLine;
 pub use law::law_of_lines;

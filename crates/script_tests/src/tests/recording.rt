@@ -1,15 +1,13 @@
 //! Calls with their answers, as lines of a script.
 use crate::tests::holds_at;
 use ob_manager::CallOf::{MakeEvent, Reap, Spawn, Tick, WaitFor};
-use ob_manager::{CallOf, Make, Mode, Reply, Timeout};
+use ob_manager::{Ask, Make, Mode, Reply, Timeout};
 use ob_record::{Record, Recorder};
 use ob_rights::Fault;
 use pin_core::Id;
 use pin_words::Reclaim;
 use std::alloc::{AllocError, Global};
 use std::test::Fail;
-
-type Asked = CallOf<Make<'static>, &'static [u8], &'static [u32]>;
 
 const NAMED: Make<'static> = Make {
     name: Some(b"a\nb"),
@@ -25,7 +23,7 @@ const OBJECT: Id = Id {
 
 /// Each a call, its answer, and the lines of both.
 #[rattlefmt::skip]
-const ROWS: &[(Asked, Reply, &[u8])] = &[
+const ROWS: &[(Ask<'static>, Reply, &[u8])] = &[
     (Spawn { session: 7 }, Reply::Spawned { process: 1, thread: 1 }, b"spawn 7\n# p1 t1\n"),
     (Spawn { session: 7 }, Reply::Refused(Fault::Limit), b"spawn 7\n# error 1450\n"),
     (Spawn { session: 7 }, Reply::Refused(Fault::Memory), b"# spawn 7\n# error 8\n"),
@@ -42,7 +40,7 @@ const ROWS: &[(Asked, Reply, &[u8])] = &[
 ];
 
 /// Adds a call with its answer; once more where memory was wanting.
-fn add(record: &mut Record, call: &Asked, reply: &Reply) -> Result<(), AllocError> {
+fn add(record: &mut Record, call: &Ask<'_>, reply: &Reply) -> Result<(), AllocError> {
     if record.add(call, reply).is_ok() {
         return Ok(());
     }
@@ -50,7 +48,7 @@ fn add(record: &mut Record, call: &Asked, reply: &Reply) -> Result<(), AllocErro
 }
 
 /// Whether a record tells these lines alone of a call and its answer.
-fn is_told(alloc: Global, call: &Asked, reply: &Reply, lines: &[u8]) -> Result<bool, AllocError> {
+fn is_told(alloc: Global, call: &Ask<'_>, reply: &Reply, lines: &[u8]) -> Result<bool, AllocError> {
     let mut record = Record::new(alloc)?;
     add(&mut record, call, reply)?;
     Ok(record.as_slice() == lines)
@@ -69,7 +67,7 @@ fn each_entry_has_its_lines(rt: HostRuntime) -> Result<(), Fail> {
 /// the line is.
 fn first_line(alloc: Global, handles: &mut Vec<u32>, count: usize) -> Result<usize, AllocError> {
     handles.resize(count, 4)?;
-    let call: CallOf<Make<'_>, &[u8], &[u32]> = WaitFor {
+    let call: Ask<'_> = WaitFor {
         thread: 1,
         mode: Mode::Any,
         timeout: Timeout::Infinite,
