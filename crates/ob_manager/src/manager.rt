@@ -532,6 +532,40 @@ impl<K: PinKeeper> Manager<K> {
         self.ask(call, call.handles())
     }
 
+    /// [`Manager::create_event`] by the parts of a call.
+    // Here and in the next three: what is made to be lent has a place that is cleared where its function begins. In
+    // `ask`, of which these are parts, four such places would be cleared at each call, and not at a create alone.
+    #[inline(always)]
+    fn ask_event<M: AsMake>(&mut self, thread: u32, make: &M, manual: bool, set: bool) -> Reply
+        ensures { Step self.old (calls.MakeEvent thread (M.making make.now) manual set) result self.new }
+    {
+        self.create_event(thread, &make.as_make(), manual, set)
+    }
+
+    /// [`Manager::create_mutex`] by the parts of a call.
+    #[inline(always)]
+    fn ask_mutex<M: AsMake>(&mut self, thread: u32, make: &M, owned: bool) -> Reply
+        ensures { Step self.old (calls.MakeMutex thread (M.making make.now) owned) result self.new }
+    {
+        self.create_mutex(thread, &make.as_make(), owned)
+    }
+
+    /// [`Manager::create_semaphore`] by the parts of a call.
+    #[inline(always)]
+    fn ask_semaphore<M: AsMake>(&mut self, thread: u32, make: &M, initial: i32, max: i32) -> Reply
+        ensures { Step self.old (calls.MakeSemaphore thread (M.making make.now) initial max) result self.new }
+    {
+        self.create_semaphore(thread, &make.as_make(), initial, max)
+    }
+
+    /// [`Manager::create_timer`] by the parts of a call.
+    #[inline(always)]
+    fn ask_timer<M: AsMake>(&mut self, thread: u32, make: &M, manual: bool) -> Reply
+        ensures { Step self.old (calls.MakeTimer thread (M.making make.now) manual) result self.new }
+    {
+        self.create_timer(thread, &make.as_make(), manual)
+    }
+
     /// Makes a call whose name may be borrowed; `handles` are those of a wait.
     #[inline(always)]
     pub fn ask<M: AsMake, T: AsSlice<u8>, H>(
@@ -552,23 +586,23 @@ impl<K: PinKeeper> Manager<K> {
                 make,
                 manual,
                 set,
-            } => self.create_event(*thread, &make.as_make(), *manual, *set),
+            } => self.ask_event(*thread, make, *manual, *set),
             CallOf::MakeMutex {
                 thread,
                 make,
                 owned,
-            } => self.create_mutex(*thread, &make.as_make(), *owned),
+            } => self.ask_mutex(*thread, make, *owned),
             CallOf::MakeSemaphore {
                 thread,
                 make,
                 initial,
                 max,
-            } => self.create_semaphore(*thread, &make.as_make(), *initial, *max),
+            } => self.ask_semaphore(*thread, make, *initial, *max),
             CallOf::MakeTimer {
                 thread,
                 make,
                 manual,
-            } => self.create_timer(*thread, &make.as_make(), *manual),
+            } => self.ask_timer(*thread, make, *manual),
             CallOf::OpenNamed {
                 thread,
                 kind,
