@@ -112,7 +112,8 @@ impl Levels {
         })
     }
 
-    /// A set of length `n` in which every number is free. Taking these takes no memory.
+    /// A set of length `n` in which every number is free. Taking these takes no memory. It takes a time that grows with
+    /// `n`.
     pub fn with_free(alloc: Global, n: usize) -> Result<Levels, AllocError>
         requires { n ≤ NUMBERS_MAX }
         ensures { IfOk result (λ s. s ≡ replicate n false) }
@@ -138,7 +139,7 @@ impl Levels {
         lowest_in(&self.leaves, w)
     }
 
-    /// The least free number from `from` on, of those below the length: one that was given back.
+    /// The least free number from `from` on, of those below the length, found in a few word operations.
     pub fn next_free(&self, from: usize) -> Option<usize>
         ensures { IsLeastFrom from (is_free_within self.now) result }
     {

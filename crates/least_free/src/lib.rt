@@ -1,8 +1,9 @@
 //! The least free number of a set that grows with use.
 //!
 //! Every number at or past the set's length is free, so a new set takes no memory. Finding the least free number,
-//! taking it and giving it back are a few word operations at any length up to 65,536. [`LeastFree`] is for sets of
-//! which mostly one number is free, that is given back and taken again; [`Levels`] for all others.
+//! taking it and giving it back are a few word operations at any length up to 65,536. [`LeastFree`] keeps a number that
+//! was given back apart, at one test a call: fewest words change where one number goes and comes, again and again.
+//! [`Levels`] has no such number.
 //!
 //! ```rust
 //! # use least_free::LeastFree;

@@ -566,7 +566,8 @@ impl<K: PinKeeper> Manager<K> {
         self.create_timer(thread, &make.as_make(), manual)
     }
 
-    /// Makes a call whose name may be borrowed; `handles` are those of a wait.
+    /// Makes a call whose name may be borrowed. The handles of a wait are `handles`, whatever stands in their place in
+    /// the call; for another call they aren't read.
     #[inline(always)]
     pub fn ask<M: AsMake, T: AsSlice<u8>, H>(
         &mut self,
