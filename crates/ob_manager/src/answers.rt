@@ -29,8 +29,10 @@ impl<K: PinKeeper> Manager<K> {
         self.store.next_answered(after)
     }
 
-    /// The least of all moments at which a timer is due or the time of a pending wait is up, in units of 100 ns, as
-    /// [`tick`](Manager::tick) takes them; none where there is no such moment. It is after the present moment.
+    /// The least of all moments that a tick can reach at which a timer is due or the time of a pending wait is up, in
+    /// units of 100 ns, as [`tick`](Manager::tick) takes them; none where there is no such moment. It is after the
+    /// present moment, and not after the last one, 9,223,372,036,854,775,807: a timer that is set to a later moment, by
+    /// a relative time, or a deadline behind it never comes, as its moment never does.
     ///
     /// A tick to a moment before it answers no wait and signals no timer. It takes no memory and is known at once,
     /// except that the deadline of a wait that was answered before it came is dropped by the first call behind it,

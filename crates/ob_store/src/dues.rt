@@ -1,13 +1,24 @@
 ghost use Rattle.std.specs.Prelude.{◌≡◌, map};
 ghost use Rattle.least_due.specs.Dues.{IsLeast};
 ghost use Rattle.ob_waits.specs.Form.{slot_due};
-ghost use Rattle.ob_store.specs.Dues.{dues_of};
+ghost use Rattle.ob_store.specs.Dues.{dues_of, reached};
 
 use crate::seats::Seats;
 use crate::store::Store;
 use crate::timers::Timers;
 use least_due::sooner;
+use ob_waits::LAST_MOMENT;
 use pin_words::PinKeeper;
+
+/// A moment that a tick can reach, or none.
+fn reached(moment: Option<u64>) -> Option<u64>
+    ensures { result ≡ reached moment }
+{
+    match moment {
+        Some(moment) if moment <= LAST_MOMENT => Some(moment),
+        _ => None,
+    }
+}
 
 impl Timers {
     fn least(&self) -> Option<u64>
@@ -26,15 +37,15 @@ impl Seats {
 }
 
 impl<K: PinKeeper> Store<K> {
-    /// The least moment at which a timer or a pending wait's deadline is due, or none where there is neither. It is
-    /// known at once, except that the deadlines of waits that were answered before they came are dropped here, each
-    /// once.
+    /// The least moment that a tick can reach at which a timer or a pending wait's deadline is due, or none where there
+    /// is no such moment. It is known at once, except that the deadlines of waits that were answered before they came
+    /// are dropped here, each once.
     pub fn next_due(&mut self) -> Option<u64>
         ensures least { IsLeast (dues_of self.old.state) result }
         ensures same { self.new ≡ self.old }
     {
         let timers = self.parts.objects.seats.least_due();
         let waits = self.parts.waits.next_due();
-        sooner(timers, waits)
+        reached(sooner(timers, waits))
     }
 }

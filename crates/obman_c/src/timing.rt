@@ -50,7 +50,7 @@ pub extern "C" fn om_tick(owner: &mut Owner, now: u64) -> u32
     told(reply)
 }
 
-/// [`Manager::next_due`](ob_manager::Manager::next_due): 0, or 259 where nothing is due.
+/// [`Manager::next_due`](ob_manager::Manager::next_due): 0, or 259 where nothing is due that a tick can reach.
 #[tactic(auto, using(crate::proofs::Looked::due_next))]
 #[unsafe(no_mangle)]
 pub extern "C" fn om_next_due(owner: &mut Owner, moment: &mut u64) -> u32

@@ -43,6 +43,17 @@ const TWO_WAITERS: &[Line<'static>] = &[
     (WaitFor { thread: 3, mode: ANY, timeout: Millis(2), handles: &[8] }, Pending { wait: 2 }),
 ];
 
+/// The last moment.
+const LAST: u64 = 9_223_372_036_854_775_807;
+
+/// A timer and a wait's time that no tick comes to.
+#[rattlefmt::skip]
+const PAST_THE_LAST_MOMENT: &[Line<'static>] = &[
+    (SetTimer { thread: 1, handle: 8, due: i64::MIN }, Done),
+    (Tick { now: LAST - 1 }, Ticked { now: LAST - 1 }),
+    (WaitFor { thread: 2, mode: ANY, timeout: Millis(1), handles: &[4] }, Pending { wait: 3 }),
+];
+
 #[rattlefmt::skip]
 const TOLD: &[Told<'static>] = &[
     (TWO_WAITERS, &[], Some(20_000)),
@@ -51,6 +62,8 @@ const TOLD: &[Told<'static>] = &[
     (&[(SetEvent { thread: 1, handle: 4 }, Done)], &[SECOND_OF_THREE, THIRD_OF_THREE], None),
     (&[(WaitResult { wait: 1 }, Code { code: 0 })], &[THIRD_OF_THREE], None),
     (&[(WaitResult { wait: 2 }, Code { code: 0 })], &[], None),
+    (PAST_THE_LAST_MOMENT, &[], None),
+    (&[(SetTimer { thread: 1, handle: 8, due: i64::MAX }, Done)], &[], Some(LAST)),
 ];
 
 /// Asserts that these answers are told, one after another, and no more.

@@ -1,16 +1,56 @@
-use Rattle.std.proofs.Common.{◌++◌, map, subst}
-use Rattle.least_due.specs.Dues.{IsLeast}
+use Rattle.std.proofs.Common.{◌≡◌, ◌∙◌, sym, subst, ap, refl, arith, Bool, true, false, cond, leb, leb-true, ℕ, ◌≤◌, List, ◌++◌, Option, Some, None, map}
+use Rattle.std.specs.Prelude.{IfSome}
+use Rattle.std.proofs.Math.ListN.{get_or-map}
+use Rattle.std.proofs.lemmas.Bool.{le-leb}
+use Rattle.least_due.specs.Dues.{IsLeast, NotAfter, due_at}
 use Rattle.least_due.proofs.BestLemmas.{least_joined}
 use Rattle.ob_waits.specs.Deadlines.{deadline_of}
 use Rattle.ob_waits.specs.Form.{slot_due}
-use Rattle.ob_store.specs.Dues.{dues_of}
+use Rattle.ob_store.specs.Dues.{dues_of, reached}
 use Rattle.ob_store.specs.State.{Whole}
+use Rattle.ob_store.specs.Ticks.{last_moment}
 use Rattle.ob_store.proofs.store.Store.next_due.Goals as goal
+
+-- the least of all moments is the least of those that a tick can reach, or there is none of these
+least_reached : (dues : List (Option ℕ)) (least : Option ℕ) → IsLeast dues least → IsLeast (map reached dues) (reached least)
+least_reached dues least is = record {
+  stands = stands least is.stands;
+  first = λ place moment at.
+      first (due_at dues place) moment (is.first place) (sym (get_or-map reached dues place None) ∙ at);
+}
+  where
+    stands : (x : Option ℕ) → IfSome x (λ m. (place : ℕ) × (due_at dues place ≡ Some m))
+        → IfSome (reached x) (λ m. (place : ℕ) × (due_at (map reached dues) place ≡ Some m))
+    stands None h = tt
+    stands (Some m) h = by (leb m last_moment) refl
+      where
+        by : (b : Bool) → leb m last_moment ≡ b
+            → IfSome (cond b (Some m) None) (λ n. (place : ℕ) × (due_at (map reached dues) place ≡ Some n))
+        by true le = (
+          h.0,
+          get_or-map reached dues h.0 None ∙ ap reached h.1 ∙ ap (λ (c : Bool). cond c (Some m) None) le,
+        )
+        by false le = tt
+
+    before : (x : Option ℕ) (m : ℕ) → NotAfter x m → m ≤ last_moment → NotAfter (reached x) m
+    before None m h le = absurd h
+    before (Some l) m h le = rw (le-leb l last_moment (omega (arith, h, le))) h
+
+    first : (x : Option ℕ) (m : ℕ) → ((n : ℕ) → x ≡ Some n → NotAfter least n) → reached x ≡ Some m
+        → NotAfter (reached least) m
+    first None m every at = cc
+    first (Some n) m every at = by (leb n last_moment) refl at
+      where
+        by : (b : Bool) → leb n last_moment ≡ b → cond b (Some n) None ≡ Some m → NotAfter (reached least) m
+        by true le is = subst (λ (x : Option ℕ). IfSome x (λ k. NotAfter (reached least) k)) is
+            (before least n (every n refl) (leb-true n last_moment le))
+        by false le is = cc
 
 pub returns-clause-least : goal.returns-clause-least
 returns-clause-least g c =
-    subst (λ (w : Whole). IsLeast (dues_of w.state) c.sooner.result) c.self.view_is
-    (subst (λ s. IsLeast (map slot_due s.parts.objects.seen.bodies ++ map deadline_of s.parts.waits.waits)
-    c.sooner.result) c.self-inside.view_is
+    subst (λ (w : Whole). IsLeast (dues_of w.state) c.reached.result) c.self.view_is
+    (subst (λ s. IsLeast (map reached (map slot_due s.parts.objects.seen.bodies ++ map deadline_of s.parts.waits.waits))
+    c.reached.result) c.self-inside.view_is
+    (rw c.reached.ensures
     (rw c.sooner.ensures
-    (least_joined _ _ _ _ c.least_due-timers.ensures c.next_due-waits.ensures.least)))
+    (least_reached _ _ (least_joined _ _ _ _ c.least_due-timers.ensures c.next_due-waits.ensures.least)))))
