@@ -65,8 +65,8 @@
 extern "C" {
 #endif
 
-/* Which release this header is of, 1.1.0: two decimal digits each for the second number and the third. */
-#define OM_VERSION 10100u
+/* Which release this header is of, 1.2.0: two decimal digits each for the second number and the third. */
+#define OM_VERSION 10200u
 
 /* What a call answers: the numbers of the Win32 system error codes. */
 #define OM_SUCCESS 0u
@@ -431,9 +431,10 @@ uint32_t om_cancel_timer(om_manager *m, uint32_t thread, uint32_t handle);
  * OM_ERROR_INVALID_PARAMETER for a moment before that of the last tick, or above 9,223,372,036,854,775,807. */
 uint32_t om_tick(om_manager *m, uint64_t now);
 
-/* The next moment at which something is due: the least of those of all set timers and of the deadlines of all pending waits, which is
- * after now; however many there are, it is known at once. A tick to an earlier moment wakes nobody.
- * OM_ERROR_NO_MORE_ITEMS where nothing is due. */
+/* The next moment at which something is due: the least of those of all set timers and of the deadlines of all pending waits that a tick
+ * can reach, which is after now; however many there are, it is known at once. A tick to an earlier moment wakes nobody. What is due
+ * behind the last moment (a timer that was set for so many units from now, a deadline) never comes.
+ * OM_ERROR_NO_MORE_ITEMS where nothing is due that a tick can reach. */
 uint32_t om_next_due(om_manager *m, uint64_t *moment);
 
 /* ---- Waits ---- */
@@ -516,8 +517,8 @@ uint32_t om_take_ended(om_manager *m, om_reaping *reapings, size_t capacity, siz
  * time, but for the first call behind the removal of a name, which takes a time that grows with the number of names. */
 uint32_t om_directory_at(om_manager *m, size_t at, char *name, size_t capacity, om_row *row);
 
-/* Records each call from now on, or no more: what changes something or may be refused, and each wait and slot that om_take_answered and
- * om_take_ended take; not what only looks. A manager begins with it off. Where memory is wanting for a line the recording stops behind
+/* Records each call from now on that a line of a script can make (docs/FORMATS.md), or no more: all that changes something, om_counts
+ * and om_handle_flags, and each wait and slot that om_take_answered and om_take_ended take. A manager begins with it off. Where memory is wanting for a line the recording stops behind
  * the line "# recording stopped: no memory", and the call answers as ever. What was recorded stays until it is taken.
  * OM_ERROR_NOT_ENOUGH_MEMORY, where `on`: then it is as it was. */
 uint32_t om_record(om_manager *m, bool on);
@@ -589,6 +590,9 @@ bool om_is_pending(om_manager *m, uint32_t wait);
 
 /* The moment of the last tick, in units of 100 ns. */
 uint64_t om_now(om_manager *m);
+
+/* The limits of a manager: those that om_new was given, or those of the manager that was saved. */
+void om_limits_of(om_manager *m, om_limits *limits);
 
 /* The next live process, and the next live thread of a process, by rising number: begin with 0. 0 behind the last. */
 uint32_t om_next_process(om_manager *m, uint32_t after);

@@ -23,8 +23,8 @@ import pathlib
 from collections import namedtuple
 from ctypes import POINTER, Structure, c_bool, c_char, c_int32, c_int64, c_size_t, c_uint32, c_uint64, c_void_p
 
-# Which release this module is of, 1.1.0: two decimal digits each for the second number and the third.
-VERSION = 10100
+# Which release this module is of, 1.2.0: two decimal digits each for the second number and the third.
+VERSION = 10200
 
 MODIFY_STATE = 0x2
 DELETE = 0x10000
@@ -199,6 +199,7 @@ FUNCTIONS = {
     "om_reader_holds": (_B, [_R, _U, _U]),
     "om_is_pending": (_B, [_M, _U]),
     "om_now": (c_uint64, [_M]),
+    "om_limits_of": (None, [_M, POINTER(Limits)]),
     "om_next_process": (_U, [_M, _U]),
     "om_next_thread": (_U, [_M, _U, _U]),
     "om_process_of": (_U, [_M, _U]),
@@ -450,8 +451,14 @@ class Manager(_Owner):
         """The moment of the last tick."""
         return _c.om_now(self._at)
 
+    def limits(self):
+        """Those with which it was made, or those of the manager that was saved."""
+        limits = Limits()
+        _c.om_limits_of(self._at, limits)
+        return limits
+
     def next_due(self):
-        """The next moment at which a timer or a wait is due, or None."""
+        """The next moment that a tick can reach at which a timer or a wait is due, or None."""
         moment = c_uint64()
         return moment.value if _c.om_next_due(self._at, moment) == SUCCESS else None
 

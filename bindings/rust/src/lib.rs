@@ -65,8 +65,8 @@ pub const DUPLICATE_SAME_ACCESS: u32 = 2;
 pub const INFINITE: u32 = u32::MAX;
 /// The most bytes of a recorded line, with its line feed.
 pub const LINE_MOST: u32 = 4098;
-/// Which release this binding is of, 1.1.0: two decimal digits each for the second number and the third.
-pub const VERSION: u32 = 10100;
+/// Which release this binding is of, 1.2.0: two decimal digits each for the second number and the third.
+pub const VERSION: u32 = 10200;
 
 /// Which release the library is of, as [`VERSION`] says it of this binding.
 pub fn version() -> u32 {
@@ -189,6 +189,11 @@ impl Limits {
     fn raw(&self) -> sys::om_limits {
         let Limits { slots, processes, threads, handles, waits, max_pins, max_gen, max_recursion } = *self;
         sys::om_limits { slots, processes, threads, handles, waits, max_pins, max_gen, max_recursion }
+    }
+
+    fn of(raw: sys::om_limits) -> Limits {
+        let sys::om_limits { slots, processes, threads, handles, waits, max_pins, max_gen, max_recursion } = raw;
+        Self { slots, processes, threads, handles, waits, max_pins, max_gen, max_recursion }
     }
 }
 
@@ -666,7 +671,14 @@ impl Manager {
         unsafe { sys::om_now(&mut self.m) }
     }
 
-    /// The next moment at which a timer or a wait is due.
+    /// Those with which it was made, or those of the manager that was saved.
+    pub fn limits(&mut self) -> Limits {
+        let mut limits = Limits::default().raw();
+        unsafe { sys::om_limits_of(&mut self.m, &mut limits) };
+        Limits::of(limits)
+    }
+
+    /// The next moment that a tick can reach at which a timer or a wait is due.
     pub fn next_due(&mut self) -> Option<u64> {
         told(|moment| unsafe { sys::om_next_due(&mut self.m, moment) }).ok()
     }

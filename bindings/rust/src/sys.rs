@@ -242,6 +242,7 @@ extern "C" {
     pub fn om_reader_holds(r: *mut om_reader, slot: u32, generation: u32) -> bool;
     pub fn om_is_pending(m: *mut om_manager, wait: u32) -> bool;
     pub fn om_now(m: *mut om_manager) -> u64;
+    pub fn om_limits_of(m: *mut om_manager, limits: *mut om_limits);
     pub fn om_next_process(m: *mut om_manager, after: u32) -> u32;
     pub fn om_next_thread(m: *mut om_manager, process: u32, after: u32) -> u32;
     pub fn om_process_of(m: *mut om_manager, thread: u32) -> u32;

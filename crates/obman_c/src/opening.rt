@@ -2,12 +2,13 @@
 ghost use Rattle.std.specs.Prelude.{◌≡◌, IfErr, IfOk};
 ghost use Rattle.pin_core.specs.Shapes.{IsWithinLimits};
 ghost use Rattle.pin_words.specs.Seats.{TableState};
+ghost use Rattle.obman_c_base.specs.Allowed.{AreAs};
 ghost use Rattle.obman_c_base.specs.declared.owned.OwnedManager.{OwnedManager};
 ghost use Rattle.obman_c.specs.Opening.{Opens, new_keeper, new_owned};
 
 use ob_manager::{Limits, Manager};
 use ob_rights::{Fault, code_of};
-use obman_c_base::{Bounds, Ending, OwnedManager, Place, SUCCESS, limits_of};
+use obman_c_base::{Bounds, Ending, OwnedManager, Owner, Place, SUCCESS, limits_of};
 use pin_core::Shape;
 use pin_words::{Keeper, Pins};
 use std::alloc::Global;
@@ -28,6 +29,25 @@ pub extern "C" fn om_new(alloc: Global, bounds: &Bounds, place: &mut Place) -> u
         }
         Err(fault) => code_of(fault),
     }
+}
+
+/// [`Manager::limits`](ob_manager::Manager::limits): those of `om_new`, or of the manager that was saved.
+#[unsafe(no_mangle)]
+pub extern "C" fn om_limits_of(owner: &mut Owner, bounds: &mut Bounds)
+    ensures limits { AreAs bounds.new owner.old.value.manager.state.limits }
+    ensures same { owner.new.value ≡ owner.old.value }
+{
+    let limits = owner.lend().manager.limits();
+    *bounds = Bounds {
+        slots: limits.slots,
+        processes: limits.processes,
+        threads: limits.threads,
+        handles: limits.handles,
+        waits: limits.waits,
+        max_pins: limits.max_pins,
+        max_gen: limits.max_gen,
+        max_recursion: limits.max_recursion,
+    };
 }
 
 /// The end of a manager: its memory is given back, and C may use what it passed no more. Zeros are no manager, and
