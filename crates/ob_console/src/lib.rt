@@ -23,5 +23,5 @@ mod reaping;
 mod script;
 
 pub use ob_output::{Account, CALLS_MOST, Sink, Source, Trouble, Wired};
-pub use options::{Options, OptionsFault, read_options};
+pub use options::{NumberOption, Options, OptionsFault, read_options, without_its_number};
 pub use script::{RunFault, run, run_bounded, run_over, run_whole};

@@ -1,7 +1,7 @@
-ghost use Rattle.std.specs.Prelude.{◌≤◌, IfOk};
+ghost use Rattle.std.specs.Prelude.{◌≤◌, IfOk, IfSome};
 
 use clap::error::ErrorKind;
-use clap::{Arg, ArgAction, ArgMatches, Command, Error, value_parser};
+use clap::{Arg, ArgAction, ArgMatches, Command, Error};
 use ob_manager::Limits;
 use std::alloc::{AllocError, Global};
 use thiserror::Error;
@@ -19,8 +19,108 @@ pub struct Options {
     pub save: Option<String>,
 }
 
-/// How many lanes the option gives at most.
-const LANES_MOST: u32 = 64;
+/// An option that takes a number: its name, its least and its greatest, and what the help says of it.
+#[derive(Clone, Copy, Debug)]
+pub struct NumberOption {
+    /// The name, without what stands before it.
+    pub name: &'static str,
+    /// The least number that it takes.
+    pub least: u32,
+    /// The greatest number that it takes.
+    pub most: u32,
+    help: &'static str,
+}
+
+const SLOTS: NumberOption = NumberOption {
+    name: "slots",
+    least: 1,
+    most: 65_536,
+    help: "Slots for objects: 1 to 65536, default 64. A creation that finds none free answers 1450",
+};
+
+const PROCESSES: NumberOption = NumberOption {
+    name: "processes",
+    least: 1,
+    most: 65_536,
+    help: "Process numbers ever given: 1 to 65536, default 64. A start of one more answers 1450",
+};
+
+const THREADS: NumberOption = NumberOption {
+    name: "threads",
+    least: 1,
+    most: 65_536,
+    help: "Thread numbers ever given: 1 to 65536, default 256. A start of one more answers 1450",
+};
+
+const HANDLES: NumberOption = NumberOption {
+    name: "handles",
+    least: 1,
+    most: 16_384,
+    help: "Handles of one process: 1 to 16384, default 1024. A call that would give one more answers 1450",
+};
+
+const WAITS: NumberOption = NumberOption {
+    name: "waits",
+    least: 1,
+    most: 4_294_967_295,
+    help: "Wait numbers ever given: 1 to 4294967295, default 1000000. A wait that would need one more answers 1450",
+};
+
+const MAX_PINS: NumberOption = NumberOption {
+    name: "max-pins",
+    least: 1,
+    most: 1_073_741_823,
+    help: "Pins of one slot: 1 to 1073741823, the default. One more is refused",
+};
+
+const MAX_GEN: NumberOption = NumberOption {
+    name: "max-gen",
+    least: 1,
+    most: 4_294_967_295,
+    help: "Generations of one slot: 1 to 4294967295, the default. After the last the slot is retired",
+};
+
+const MAX_RECURSION: NumberOption = NumberOption {
+    name: "max-recursion",
+    least: 1,
+    most: 2_147_483_647,
+    help: "Recursion of a mutex: 1 to 2147483647, the default. A wait of its owner at it answers 1450",
+};
+
+const LANES: NumberOption = NumberOption {
+    name: "lanes",
+    least: 0,
+    most: 64,
+    help: "Lanes of the script, each on a thread: 0 to 64, default 0. A line `@2 ..` is lane 2's, lines before \
+           the first of these come before all lanes, and answers are printed lane by lane",
+};
+
+/// The limits.
+const LIMITS: [NumberOption; 8] = [
+    SLOTS,
+    PROCESSES,
+    THREADS,
+    HANDLES,
+    WAITS,
+    MAX_PINS,
+    MAX_GEN,
+    MAX_RECURSION,
+];
+
+impl NumberOption {
+    /// The number that a text is, in decimal digits, where the option takes it.
+    fn number(self, text: &str) -> Option<u32>
+        ensures { IfSome result (λ n. (self.least ≤ n) × (n ≤ self.most)) }
+    {
+        if text.starts_with('+') {
+            return None;
+        }
+        match text.parse::<u32>() {
+            Ok(number) if self.least <= number && number <= self.most => Some(number),
+            _ => None,
+        }
+    }
+}
 
 /// Why a command line gives no options.
 #[derive(Debug, Drop, Error)]
@@ -32,7 +132,7 @@ pub enum OptionsFault {
     /// Memory was wanting.
     #[error("no memory")]
     Memory,
-    /// The help was asked for, which is this text.
+    /// The help or the version was asked for, which is this text.
     #[error("{text}")]
     Help { text: String },
 }
@@ -44,16 +144,16 @@ impl From<AllocError> for OptionsFault {
 }
 
 /// Reads the arguments after the program's name, by the habits of `clap`: `--slots 4` or `--slots=4`, in any order,
-/// each option at most once, and `--help` or `-h`. The options are the *profile*'s: one for each limit of [`Limits`],
-/// `--lanes`, `--load` and `--save`. A savestate has limits of its own, and lanes go over new managers alone: beside
-/// `--load` stands no limit, and beside `--load` and `--save` no `--lanes`.
+/// each option at most once, `--help` or `-h`, and `--version` or `-V`. The options are the *profile*'s: one for each
+/// limit of [`Limits`], `--lanes`, `--load` and `--save`. A savestate has limits of its own, and lanes go over new
+/// managers alone: beside `--load` stands no limit, and beside `--load` and `--save` no `--lanes`.
 pub fn read_options(alloc: Global, args: Vec<String>) -> Result<Options, OptionsFault>
-    ensures lanes { IfOk result (λ options. options.lanes ≤ LANES_MOST) }
+    ensures lanes { IfOk result (λ options. options.lanes ≤ 64) }
 {
     match command(alloc)?.try_get_matches_from(args.as_slice()) {
         Ok(matches) => Ok(Options {
             limits: limits_of(&matches)?,
-            lanes: lanes_of(&matches)?,
+            lanes: given(&matches, LANES, 0)?,
             load: path_of(alloc, &matches, "load")?,
             save: path_of(alloc, &matches, "save")?,
         }),
@@ -61,19 +161,61 @@ pub fn read_options(alloc: Global, args: Vec<String>) -> Result<Options, Options
     }
 }
 
+/// The first option among the arguments of a bad command line that takes a number, and has none that it takes behind
+/// it.
+pub fn without_its_number(args: &[String]) -> Option<NumberOption> {
+    for (at, word) in args.iter().enumerate() {
+        if let Some(option) = option_of(word.as_str())
+            && option.number(value_of(args, at)).is_none()
+        {
+            return Some(option);
+        }
+    }
+    None
+}
+
+/// The option that takes a number and that an argument names.
+fn option_of(word: &str) -> Option<NumberOption> {
+    let named = word.strip_prefix("--")?;
+    let name = match named.split_once('=') {
+        Some((name, _)) => name,
+        None => named,
+    };
+    if name == LANES.name {
+        return Some(LANES);
+    }
+    for option in LIMITS {
+        if name == option.name {
+            return Some(option);
+        }
+    }
+    None
+}
+
+/// The value of the option at a place, in the same argument or in the next one; nothing where it has none.
+fn value_of(args: &[String], at: usize) -> &str {
+    match args[at].as_str().split_once('=') {
+        Some((_, value)) => value,
+        None => match args.get(at + 1) {
+            Some(next) => next.as_str(),
+            None => "",
+        },
+    }
+}
+
 /// The command, with an option for each limit, one for lanes and two for savestates.
 fn command<'a>(alloc: Global) -> Result<Command<'a>, AllocError> {
-    let command = Command::new(alloc, "obman").no_binary_name(true).about(
-        "Reads a script of object manager calls from standard input and prints their answers.",
-    );
-    with_limits(alloc, command)?
-        .arg(number(
-            alloc,
-            "lanes",
-            "Lanes of the script, each on a thread: 0 to 64, default 0. A line `@2 ..` is lane 2's, lines before \
-             the first of these come before all lanes, and answers are printed lane by lane",
-        )?
-        .conflicts_with("save")?)?
+    let mut command = Command::new(alloc, "obman")
+        .no_binary_name(true)
+        .version("1.2.0")
+        .about(
+            "Reads a script of object manager calls from standard input and prints their answers.",
+        );
+    for option in LIMITS {
+        command = command.arg(number(alloc, option)?)?;
+    }
+    command
+        .arg(number(alloc, LANES)?.conflicts_with("save")?)?
         .arg(path(
             alloc,
             "load",
@@ -87,59 +229,13 @@ fn command<'a>(alloc: Global) -> Result<Command<'a>, AllocError> {
         ))
 }
 
-/// A command, with an option for each limit.
-fn with_limits<'a>(alloc: Global, command: Command<'a>) -> Result<Command<'a>, AllocError> {
-    command
-        .arg(number(
-            alloc,
-            "slots",
-            "Slots for objects: 1 to 65536, default 64. A creation that finds none free answers 1450",
-        )?)?
-        .arg(number(
-            alloc,
-            "processes",
-            "Process numbers ever given: 1 to 65536, default 64. A start of one more answers 1450",
-        )?)?
-        .arg(number(
-            alloc,
-            "threads",
-            "Thread numbers ever given: 1 to 65536, default 256. A start of one more answers 1450",
-        )?)?
-        .arg(number(
-            alloc,
-            "handles",
-            "Handles of one process: 1 to 16384, default 1024. A call that would give one more answers 1450",
-        )?)?
-        .arg(number(
-            alloc,
-            "waits",
-            "Wait numbers ever given: 1 to 4294967295, default 1000000. A wait that would need one more answers 1450",
-        )?)?
-        .arg(number(
-            alloc,
-            "max-pins",
-            "Pins of one slot: 1 to 1073741823, the default. One more is refused",
-        )?)?
-        .arg(number(
-            alloc,
-            "max-gen",
-            "Generations of one slot: 1 to 4294967295, the default. After the last the slot is retired",
-        )?)?
-        .arg(number(
-            alloc,
-            "max-recursion",
-            "Recursion of a mutex: 1 to 2147483647, the default. A wait of its owner at it answers 1450",
-        )?)
-}
-
-/// The option of one number, which doesn't stand beside `--load`. Its range is tested where it is used.
-fn number<'a>(alloc: Global, name: &'a str, help: &'a str) -> Result<Arg<'a>, AllocError> {
-    Arg::new(alloc, name)
-        .long(name)
+/// The option of one number, which doesn't stand beside `--load`. The number is read where it is used.
+fn number<'a>(alloc: Global, option: NumberOption) -> Result<Arg<'a>, AllocError> {
+    Arg::new(alloc, option.name)
+        .long(option.name)
         .value_name("NUMBER")
-        .help(help)
+        .help(option.help)
         .action(ArgAction::Set)
-        .value_parser(value_parser!(u32))
         .conflicts_with("load")
 }
 
@@ -156,32 +252,27 @@ fn path<'a>(alloc: Global, name: &'a str, help: &'a str) -> Arg<'a> {
 fn limits_of(matches: &ArgMatches<'_>) -> Result<Limits, OptionsFault> {
     let usual = Limits::default();
     let limits = Limits::checked(
-        given(matches, "slots", usual.slots),
-        given(matches, "processes", usual.processes),
-        given(matches, "threads", usual.threads),
-        given(matches, "handles", usual.handles),
-        given(matches, "waits", usual.waits),
-        given(matches, "max-pins", usual.max_pins),
-        given(matches, "max-gen", usual.max_gen),
-        given(matches, "max-recursion", usual.max_recursion),
+        given(matches, SLOTS, usual.slots)?,
+        given(matches, PROCESSES, usual.processes)?,
+        given(matches, THREADS, usual.threads)?,
+        given(matches, HANDLES, usual.handles)?,
+        given(matches, WAITS, usual.waits)?,
+        given(matches, MAX_PINS, usual.max_pins)?,
+        given(matches, MAX_GEN, usual.max_gen)?,
+        given(matches, MAX_RECURSION, usual.max_recursion)?,
     );
     limits.map_err(|_| OptionsFault::BadLine)
 }
 
-/// The lanes that were given, by default none.
-fn lanes_of(matches: &ArgMatches<'_>) -> Result<u32, OptionsFault>
-    ensures { IfOk result (λ lanes. lanes ≤ LANES_MOST) }
-{
-    let lanes = given(matches, "lanes", 0);
-    if lanes > LANES_MOST {
-        return Err(OptionsFault::BadLine);
-    }
-    Ok(lanes)
-}
-
 /// The number that was given for an option, or else the usual one.
-fn given(matches: &ArgMatches<'_>, name: &str, usual: u32) -> u32 {
-    matches.get_one::<u32>(name).unwrap_or(usual)
+fn given(matches: &ArgMatches<'_>, option: NumberOption, usual: u32) -> Result<u32, OptionsFault>
+    requires { usual ≤ option.most }
+    ensures { IfOk result (λ n. n ≤ option.most) }
+{
+    match matches.get_str(option.name) {
+        Some(text) => option.number(text).ok_or(OptionsFault::BadLine),
+        None => Ok(usual),
+    }
 }
 
 /// The path that was given for an option, if one was.
@@ -200,7 +291,7 @@ fn path_of(
 fn fault_of(alloc: Global, error: &Error) -> OptionsFault {
     match error.kind() {
         ErrorKind::OutOfMemory => OptionsFault::Memory,
-        ErrorKind::DisplayHelp => match format!(in alloc; "{error}") {
+        ErrorKind::DisplayHelp | ErrorKind::DisplayVersion => match format!(in alloc; "{error}") {
             Ok(text) => OptionsFault::Help { text },
             Err(_) => OptionsFault::Memory,
         },

@@ -7,7 +7,7 @@ ghost use Rattle.std.specs.Prelude.{◌≤◌, IfOk};
 mod states;
 
 use crate::states::run_states;
-use ob_console::{Options, OptionsFault, RunFault, read_options, run};
+use ob_console::{Options, OptionsFault, RunFault, read_options, run, without_its_number};
 use ob_lanes::run_lanes;
 use ob_output::Wired;
 use std::env;
@@ -15,13 +15,13 @@ use std::fmt::Display;
 use std::io::{self, ErrorKind};
 use std::process::ExitCode;
 
-/// Ends with 0 at the end of the input, or where the help was asked for; with 1 after a fault; with 2 where the command
+/// Ends with 0 at the end of the input, or where the help or the version was asked for; with 1 after a fault; with 2 where the command
 /// line is bad.
 fn main(rt: HostRuntime) -> ExitCode {
     let options = match options_of(&rt) {
         Ok(options) => options,
         Err(OptionsFault::Help { text }) => return helped(&rt, text.as_str()),
-        Err(OptionsFault::BadLine) => return ended(&rt, OptionsFault::BadLine, 2),
+        Err(OptionsFault::BadLine) => return badly_asked(&rt),
         Err(fault) => return ended(&rt, fault, 1),
     };
     let mut source = Wired::new(rt.stdin());
@@ -50,10 +50,27 @@ fn ended_by<E: Display + Drop>(rt: &HostRuntime, answered: Result<(), E>) -> Exi
 fn options_of(rt: &HostRuntime) -> Result<Options, OptionsFault>
     ensures { IfOk result (λ options. options.lanes ≤ 64) }
 {
-    let mut words = env::args(rt).map_err(|error| fault_of(&error))?;
-    let _program = words.next();
-    let args: Vec<String> = words.collect(rt.alloc())?;
+    let args = args_of(rt).map_err(|error| fault_of(&error))?;
     read_options(rt.alloc(), args)
+}
+
+/// The arguments behind the program's name.
+fn args_of(rt: &HostRuntime) -> io::Result<Vec<String>> {
+    let mut words = env::args(rt)?;
+    let _program = words.next();
+    Ok(words.collect(rt.alloc())?)
+}
+
+/// Says that the command line is bad, and of which option the number.
+fn badly_asked(rt: &HostRuntime) -> ExitCode {
+    let status = ended(rt, OptionsFault::BadLine, 2);
+    if let Ok(args) = args_of(rt)
+        && let Some(option) = without_its_number(args.as_slice())
+    {
+        let (name, least, most) = (option.name, option.least, option.most);
+        let _ = eprintln!(rt; "obman: --{name} takes a number from {least} to {most}");
+    }
+    status
 }
 
 /// Why the arguments can't be had.
@@ -64,7 +81,7 @@ fn fault_of(error: &io::Error) -> OptionsFault {
     }
 }
 
-/// Prints the help.
+/// Prints the help, or the version.
 fn helped(rt: &HostRuntime, text: &str) -> ExitCode {
     match print!(rt; "{text}") {
         Ok(()) => ExitCode::SUCCESS,

@@ -4,8 +4,9 @@ use ob_manager::{Limits, Manager};
 use ob_output::{Sink, Source};
 use pin_words::{Keeper, LockedPins};
 use std::alloc::Global;
-use std::fs;
-use std::io::{self, ErrorKind};
+use std::fs::{self, File, Permissions};
+use std::io::{self, ErrorKind, Write};
+use std::process;
 use thiserror::Error;
 
 /// Why a script that begins with a savestate, or ends with one, wasn't answered to its end, or its state not saved.
@@ -80,12 +81,54 @@ fn made(alloc: Global, limits: Limits) -> Result<Manager<LockedPins>, StateFault
     }
 }
 
-/// Writes what a manager is saved as. What stood in the file is gone, also where it can't be written to its end.
+/// Writes what a manager is saved as.
 fn save(rt: &HostRuntime, path: &str, manager: &Manager<Keeper>) -> Result<(), StateFault> {
     let Ok(bytes) = manager.save(rt.alloc()) else {
         return Err(StateFault::Run(RunFault::Memory));
     };
-    fs::write(rt, path, bytes.as_slice()).map_err(|error| fault_of(&error))
+    put(rt, path, bytes.as_slice()).map_err(|error| fault_of(&error))
+}
+
+/// Writes a file, or what a symbolic link leads to, whole or not at all. What is no file, as a device or a pipe is none,
+/// is written to as it is.
+fn put(rt: &HostRuntime, path: &str, bytes: &[u8]) -> io::Result<()> {
+    match fs::metadata(rt, path) {
+        Ok(old) if old.is_file() => {
+            let file = fs::canonicalize(rt, path)?;
+            replace(rt, file.as_str(), Some(old.permissions()), bytes)
+        }
+        Ok(_) => fs::write(rt, path, bytes),
+        Err(error) if error.kind() == ErrorKind::NotFound => replace(rt, path, None, bytes),
+        Err(error) => Err(error),
+    }
+}
+
+/// Writes to a new file beside the one that a path names, and gives it its name once all is on the disk.
+fn replace(
+    rt: &HostRuntime,
+    path: &str,
+    permissions: Option<Permissions>,
+    bytes: &[u8],
+) -> io::Result<()> {
+    let new = format!(in rt.alloc(); "{path}.{}", process::id(rt.process()))?;
+    let file = File::create_new(rt, new.as_str())?;
+    let moved = match fill(file, permissions, bytes) {
+        Ok(()) => fs::rename(rt, new.as_str(), path),
+        Err(error) => Err(error),
+    };
+    if moved.is_err() {
+        let _ = fs::remove_file(rt, new.as_str());
+    }
+    moved
+}
+
+/// Fills a new file.
+fn fill(mut file: File, permissions: Option<Permissions>, bytes: &[u8]) -> io::Result<()> {
+    if let Some(permissions) = permissions {
+        file.set_permissions(permissions)?;
+    }
+    file.write_all(bytes)?;
+    file.sync_all()
 }
 
 /// Why a file can't be read or written.

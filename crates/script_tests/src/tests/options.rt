@@ -1,5 +1,5 @@
 use crate::tests::{holds, holds_at, same};
-use ob_console::{Options, OptionsFault, read_options};
+use ob_console::{Options, OptionsFault, read_options, without_its_number};
 use ob_manager::Limits;
 use std::alloc::{AllocError, Global};
 use std::process::Abort;
@@ -232,13 +232,15 @@ fn what_is_loaded_stands_beside_no_limit_and_no_lanes(rt: HostRuntime) -> Result
     Ok(())
 }
 
-const NO_NUMBERS: [&[&str]; 7] = [
+const NO_NUMBERS: [&[&str]; 9] = [
     &["--slots"],
     &["--slots="],
     &["--slots", ""],
     &["--slots", "4x"],
     &["--slots", "0x4"],
     &["--slots=-1"],
+    &["--slots", "+1"],
+    &["--lanes=+1"],
     &["--slots", "18446744073709551617"],
 ];
 
@@ -248,14 +250,13 @@ fn what_is_no_number_is_refused(rt: HostRuntime) -> Result<(), Fail> {
     Ok(())
 }
 
-const NO_OPTIONS: [&[&str]; 9] = [
+const NO_OPTIONS: [&[&str]; 8] = [
     &["x"],
     &[""],
     &["--nonsense"],
     &["--max_pins=4"],
     &["--slot=4"],
     &["-s", "4"],
-    &["--version"],
     &["--", "--slots=4"],
     &["--slots=4", "5"],
 ];
@@ -275,6 +276,47 @@ fn an_option_is_given_once_at_most(rt: HostRuntime) -> Result<(), Fail> {
     )?;
     let expected = [4, 64, 256, 2, 1_000_000, 1_073_741_823, 3, 2_147_483_647];
     same(&rt, all_of_it, Some(expected));
+    Ok(())
+}
+
+/// What is said of the number of a bad command line.
+fn said_of(alloc: Global, words: &[&str]) -> Result<Option<(&'static str, u32, u32)>, AllocError> {
+    let mut args = Vec::new(alloc);
+    for word in words {
+        args.push(String::from_str(alloc, word)?)?;
+    }
+    match without_its_number(args.as_slice()) {
+        Some(option) => Ok(Some((option.name, option.least, option.most))),
+        None => Ok(None),
+    }
+}
+
+#[test]
+fn the_option_without_its_number_is_told_with_its_range(rt: HostRuntime) -> Result<(), Fail> {
+    let alloc = rt.alloc();
+    for at in 0..8 {
+        let (option, most) = LIMITS[at];
+        let said = said_of(alloc, &["--lanes=64", option, "0"])?;
+        same(&rt, said, Some((option.trim_start_matches('-'), 1, most)));
+    }
+    let lanes = Some(("lanes", 0, 64));
+    same(&rt, said_of(alloc, &["--slots=4", "--lanes=65"])?, lanes);
+    same(&rt, said_of(alloc, &["--lanes"])?, lanes);
+    same(&rt, said_of(alloc, &["--lanes=", "--slots=0"])?, lanes);
+    same(
+        &rt,
+        said_of(alloc, &["--slots=4", "--slots", "4", "--load", "x", "y"])?,
+        None,
+    );
+    Ok(())
+}
+
+#[test]
+fn the_version_is_told(rt: HostRuntime) -> Result<(), Fail> {
+    for word in ["--version", "-V"] {
+        let text = help_read(rt.alloc(), &[word])?;
+        same(&rt, text.as_deref(), Some("obman 1.2.0\n"));
+    }
     Ok(())
 }
 
