@@ -26,7 +26,6 @@ MINGW ?= x86_64-w64-mingw32-gcc
 
 KIT = $(dir $(shell rt doc))
 PROVED = $(foreach part,obman_c obman_c_savestates obman_c_script,crates/$(part)/out/lib$(part).a)
-SOURCES = $(shell find crates.txt crates/*/src crates/*/specs crates/*/proofs -type f)
 PROGRAM = crates/obman/out/obman
 # A program that was linked with a shared library runs with each later one of the same first number.
 NUMBER := $(shell sed -n 's/^\#define OM_VERSION \([0-9]*\)u$$/\1/p' include/obman.h)
@@ -38,13 +37,15 @@ HEADERS = $(shell realpath -ms --relative-to=$(LIBDIR) $(INCLUDEDIR))
 
 GUESTS = $(patsubst examples/windows/guests/%.c,build/windows/%.exe,$(wildcard examples/windows/guests/*.c))
 
-.PHONY: all install install-strip dist examples windows clean
+.PHONY: all proved install install-strip dist examples windows clean
 
 all: build/libobman.a build/libobman.so
 
-$(PROVED): $(SOURCES)
-	cd $(dir $(@D)) && rt lib >&2
-	touch $@
+# What has changed since it was proved is known by contents (checks/prove); where nothing has, no file is touched.
+proved:
+	checks/prove obman_c obman_c_savestates obman_c_script >&2
+
+$(PROVED): proved ;
 
 # The proved code, with the kit's calls of malloc, realloc and free.
 build/libobman.a: $(PROVED)
@@ -82,7 +83,7 @@ install: all
 		> $(DESTDIR)$(LIBDIR)/cmake/obman/obman-config-version.cmake
 	mkdir -p $(DESTDIR)$(DATADIR)/docs $(DESTDIR)$(DATADIR)/bindings/rust $(DESTDIR)$(DATADIR)/bindings/python
 	cp -R examples $(DESTDIR)$(DATADIR)/
-	cp docs/C.md docs/EMBEDDING.md docs/FORMATS.md docs/SAVESTATES.md docs/WINDOWS.md $(DESTDIR)$(DATADIR)/docs/
+	cp docs/BEHAVIOUR.md docs/C.md docs/DEPARTURES.md docs/EMBEDDING.md docs/FORMATS.md docs/MEASUREMENTS.md docs/SAVESTATES.md docs/WINDOWS.md $(DESTDIR)$(DATADIR)/docs/
 	cp bindings/python/*.py $(DESTDIR)$(DATADIR)/bindings/python/
 	cp -R bindings/rust/Cargo.toml bindings/rust/build.rs bindings/rust/src bindings/rust/examples bindings/rust/tests $(DESTDIR)$(DATADIR)/bindings/rust/
 	if [ -x $(PROGRAM) ]; then mkdir -p $(DESTDIR)$(BINDIR) && cp $(PROGRAM) $(DESTDIR)$(BINDIR)/; fi

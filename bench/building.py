@@ -1,5 +1,5 @@
-"""What a benchmark builds and runs: the proved program, unless `./check` or an earlier run left one that is newer than every source;
-a program through the header; and those in plain Rust."""
+"""What a benchmark builds and runs: the proved program, unless `./check` or an earlier run left it; a program through the header; and
+those in plain Rust."""
 
 import argparse
 import math
@@ -17,20 +17,10 @@ LINE = re.compile(r"^(.+): (\d+) in (\d+)$")
 NO_TIME = 2**128 - 1
 
 
-def sources():
-    yield ROOT / "crates.txt"
-    for part in ("src", "specs", "proofs"):
-        yield from (file for file in (ROOT / "crates").glob(f"*/{part}/**/*") if file.is_file())
-
-
 def proved(name):
     """The program of a crate, proved."""
-    crate = ROOT / "crates" / name
-    program = crate / "out" / name
-    if not program.exists() or program.stat().st_mtime < max(file.stat().st_mtime for file in sources()):
-        subprocess.run(["rt", "run"], cwd=crate, check=True, stdin=subprocess.DEVNULL, stdout=sys.stderr)
-        program.touch()
-    return program
+    subprocess.run([ROOT / "checks" / "prove", name], check=True, stdout=subprocess.DEVNULL)
+    return ROOT / "crates" / name / "out" / name
 
 
 def through_header(name):
