@@ -26,10 +26,13 @@ typedef struct asked {
 
 /* What a create asks for. An empty name is none. */
 static asked asked_by(const call *c, uint64_t attributes, uint64_t at) {
-    asked a = {.making.inherit = inherits(c, attributes)};
-    if (at != 0) {
-        a.length = name(c, at, a.name, sizeof a.name);
-        a.making.named = a.length > 0;
+    asked a = {0};
+    if (inherits(c, attributes)) {
+        a.making = om_inherited();
+    }
+    a.length = at == 0 ? 0 : name(c, at, a.name, sizeof a.name);
+    if (a.length > 0) {
+        a.making = om_both(a.making, om_named());
     }
     return a;
 }
@@ -343,12 +346,16 @@ void duplicate_handle(call *c) {
     uint32_t source = process_by(c, argument(c, 0)), target = process_by(c, argument(c, 2)), handle = handle_of(guest);
     uint32_t options = (uint32_t)argument(c, 6);
     om_opening made = {0};
+    bool is_own = guest == THIS_PROCESS || guest == THIS_THREAD;
     put(c, argument(c, 3), 0, 8);
     if (source == 0 || (target == 0 && argument(c, 2) != 0)) {
+        if (source != 0 && !is_own && (options & OM_DUPLICATE_CLOSE_SOURCE) != 0) { /* which is done whatever comes of the duplicate */
+            om_duplicate(&om, c->by->number, source, handle, 0, 0, false, OM_DUPLICATE_CLOSE_SOURCE, &made);
+        }
         done(c, OM_ERROR_INVALID_HANDLE);
         return;
     }
-    if (guest == THIS_PROCESS || guest == THIS_THREAD) {
+    if (is_own) {
         const standin *s = guest == THIS_PROCESS ? standin_numbered(A_PROCESS, source) : standin_numbered(A_THREAD, c->by->number);
         handle = s == NULL ? 0 : s->handle;
         source = machine.host.process;

@@ -34,6 +34,15 @@ standin *standin_numbered(stands is_for, uint32_t number) {
     return NULL;
 }
 
+/* The host's own handle to what stands for a thread or process that lives, or a standard file. */
+static uint32_t own_handle(stands is_for, uint32_t number) {
+    const standin *s = standin_numbered(is_for, number);
+    if (s == NULL) {
+        stop("nothing stands for a thread, process or file");
+    }
+    return s->handle;
+}
+
 /* An object that has ended stands for nothing. */
 void forget(om_object object) {
     for (standin *s = machine.standins; s < machine.standins + STANDINS; s++) {
@@ -46,7 +55,7 @@ void forget(om_object object) {
 /* An event of the host's, for all that guests may do with it. */
 static om_opening new_event(void) {
     om_opening made;
-    om_making waited_for = {.has_grant = true, .grant = OM_SYNCHRONIZE};
+    om_making waited_for = om_with_grant(OM_SYNCHRONIZE);
     must(om_create_event(&om, machine.host.thread, &waited_for, "", 0, true, false, &made), "an event of the host's");
     return made;
 }
@@ -74,8 +83,8 @@ static uint32_t give(const process *to, uint32_t handle, bool inherit) {
 
 /* A thread or process has ended: who waits for it is answered, and its code is kept as long as there is a handle to it. */
 static void over(stands is_for, uint32_t number, uint32_t code) {
+    uint32_t handle = own_handle(is_for, number);
     standin *s = standin_numbered(is_for, number);
-    uint32_t handle = s->handle;
     s->code = code;
     s->handle = 0;
     must(om_set_event(&om, machine.host.thread, handle), "the end of a thread or process");
@@ -97,7 +106,7 @@ void begin_host(void) {
 static void furnish(process *of, uint32_t thread, const char *command, size_t length) {
     uint8_t *narrow = guest_at(of, COMMAND, PAGE), *wide = guest_at(of, WIDE_COMMAND, 2 * PAGE);
     for (uint32_t file = INPUT; file <= ERRORS; file++) {
-        of->standard[file - INPUT] = give(of, standin_numbered((stands)file, 0)->handle, false);
+        of->standard[file - INPUT] = give(of, own_handle((stands)file, 0), false);
     }
     of->never = give(of, machine.never, false);
     uint32_t protected = OM_HANDLE_FLAG_PROTECT_FROM_CLOSE;
@@ -148,6 +157,8 @@ void begin_first(const char *name, const char *command) {
 
 void create_thread(call *c) {
     uint32_t number;
+    uint64_t told = argument(c, 5);
+    bool is_inherited = inherits(c, argument(c, 0));
     if ((uint32_t)argument(c, 4) & CREATE_SUSPENDED) {
         stop("%s of a thread that is suspended isn't served", c->name);
     }
@@ -158,8 +169,8 @@ void create_thread(call *c) {
     }
     done(c, status);
     if (status == OM_SUCCESS) {
-        c->result = give(c->of, stand_in(A_THREAD, number), inherits(c, argument(c, 0)));
-        put(c, argument(c, 5), 4 * (uint64_t)number, 4);
+        c->result = give(c->of, stand_in(A_THREAD, number), is_inherited);
+        put(c, told, 4 * (uint64_t)number, 4);
     }
 }
 
@@ -193,13 +204,14 @@ void create_process(call *c) {
     char command[1024] = "";
     uint64_t entry, told = argument(c, 9);
     size_t length = argument(c, 1) == 0 ? 0 : text(c, argument(c, 1), command, sizeof command);
+    bool inherit = (uint32_t)argument(c, 4) != 0, is_process = inherits(c, argument(c, 2)), is_thread = inherits(c, argument(c, 3));
     process *made = free_process();
     om_member member;
     check_served(c);
     program_of(c, command, made->name, sizeof made->name);
     uint32_t status = load_image(made, &entry);
     if (status == OM_SUCCESS) {
-        status = om_child(&om, c->by->number, (uint32_t)argument(c, 4) != 0, &member);
+        status = om_child(&om, c->by->number, inherit, &member);
         if (status != OM_SUCCESS) {
             end_memory(made);
         }
@@ -209,8 +221,8 @@ void create_process(call *c) {
         return;
     }
     begin_process(made, member, entry, length == 0 ? made->name : command, length == 0 ? strlen(made->name) : length);
-    put(c, told, give(c->of, standin_numbered(A_PROCESS, member.process)->handle, inherits(c, argument(c, 2))), 8);
-    put(c, told + 8, give(c->of, standin_numbered(A_THREAD, member.thread)->handle, inherits(c, argument(c, 3))), 8);
+    put(c, told, give(c->of, own_handle(A_PROCESS, member.process), is_process), 8);
+    put(c, told + 8, give(c->of, own_handle(A_THREAD, member.thread), is_thread), 8);
     put(c, told + 16, 4 * (uint64_t)member.process, 4);
     put(c, told + 20, 4 * (uint64_t)member.thread, 4);
 }
