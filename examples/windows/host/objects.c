@@ -170,19 +170,22 @@ static void stop_period(om_object timer) {
     }
 }
 
-/* A timer comes again, so much behind its first moment: the host needs a handle of its own for that. */
-static void begin_period(const call *c, uint32_t handle, uint64_t next, uint64_t length) {
+/* A timer comes again, so much behind its first moment: the host needs a place and a handle of its own for that. */
+static uint32_t begin_period(const call *c, uint32_t handle, uint64_t next, uint64_t length) {
     om_opening own;
     period *p = machine.periods;
     while (p < machine.periods + PERIODS && p->handle != 0) {
         p++;
     }
     if (p == machine.periods + PERIODS) {
-        stop("%s: too many timers have periods", c->name);
+        return OM_ERROR_NO_SYSTEM_RESOURCES;
     }
     uint32_t host = machine.host.process;
-    must(om_duplicate(&om, machine.host.thread, c->of->number, handle, host, OM_MODIFY_STATE, false, 0, &own), "a period");
-    *p = (period){.object = own.object, .handle = own.handle, .next = next, .length = length};
+    uint32_t status = om_duplicate(&om, machine.host.thread, c->of->number, handle, host, OM_MODIFY_STATE, false, 0, &own);
+    if (status == OM_SUCCESS) {
+        *p = (period){.object = own.object, .handle = own.handle, .next = next, .length = length};
+    }
+    return status;
 }
 
 /* A timer that nobody has but the host comes no more again. */
@@ -236,8 +239,8 @@ void set_timer(call *c) {
     if (status == OM_SUCCESS && om_resolve(&om, c->of->number, handle, &timer) == OM_SUCCESS) {
         first = due < 0 ? om_now(&om) - (uint64_t)due : (uint64_t)due < om_now(&om) ? om_now(&om) : (uint64_t)due;
         stop_period(timer);
-        if (length > 0) {
-            begin_period(c, handle, first + length, length);
+        if (length > 0 && (status = begin_period(c, handle, first + length, length)) != OM_SUCCESS) {
+            om_cancel_timer(&om, c->by->number, handle);
         }
     }
     done(c, status);
