@@ -155,6 +155,26 @@ static void names() {
     must(obman::manager::script(m.default_limits, "spawn 1\n", answers).value() == 6, "a script");
 }
 
+// What is refused, where exceptions are thrown.
+static void refusals() {
+#ifdef __cpp_exceptions
+    obman::manager m;
+    std::uint32_t refused = 0;
+    try {
+        m.thread(1).value();
+    } catch (const obman::error &e) {
+        refused = e.status();
+    }
+    must(refused == OM_ERROR_INVALID_PARAMETER, "a refusal that isn't thrown");
+    try {
+        obman::manager::load(std::vector<unsigned char>());
+    } catch (const obman::error &e) {
+        refused = e.status();
+    }
+    must(refused == OM_ERROR_INVALID_DATA, "no savestate");
+#endif
+}
+
 int main() {
     om_manager raw;
     const om_limits limits = limits_of(1);
@@ -168,6 +188,7 @@ int main() {
     waits();
     looks();
     names();
+    refusals();
     std::puts("all held");
     return 0;
 }

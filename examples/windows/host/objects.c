@@ -344,6 +344,16 @@ static uint32_t rights_to(uint32_t source, uint32_t handle, uint32_t access) {
     return as.grant == OM_SYNCHRONIZE ? OM_SYNCHRONIZE : rights_of(access, all[as.kind]);
 }
 
+/* Closes the source of a duplicate of which nothing else comes. */
+static void close_source(const call *c, uint32_t source, uint32_t handle) {
+    om_opening none;
+    if (source == c->of->number) {
+        om_close(&om, c->by->number, handle);
+    } else {
+        om_duplicate(&om, c->by->number, source, handle, 0, 0, false, OM_DUPLICATE_CLOSE_SOURCE, &none);
+    }
+}
+
 void duplicate_handle(call *c) {
     uint64_t guest = argument(c, 1);
     uint32_t source = process_by(c, argument(c, 0)), target = process_by(c, argument(c, 2)), handle = handle_of(guest);
@@ -352,8 +362,8 @@ void duplicate_handle(call *c) {
     bool is_own = guest == THIS_PROCESS || guest == THIS_THREAD;
     put(c, argument(c, 3), 0, 8);
     if (source == 0 || (target == 0 && argument(c, 2) != 0)) {
-        if (source != 0 && !is_own && (options & OM_DUPLICATE_CLOSE_SOURCE) != 0) { /* which is done whatever comes of the duplicate */
-            om_duplicate(&om, c->by->number, source, handle, 0, 0, false, OM_DUPLICATE_CLOSE_SOURCE, &made);
+        if (source != 0 && !is_own && (options & OM_DUPLICATE_CLOSE_SOURCE) != 0) {
+            close_source(c, source, handle);
         }
         done(c, OM_ERROR_INVALID_HANDLE);
         return;
