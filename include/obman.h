@@ -205,7 +205,9 @@ typedef struct om_opening {
     om_object object;
 } om_opening;
 
-/* What a create asks for. All zeros ask for no name, a handle that isn't inherited, and all rights. */
+/* What a create asks for. All zeros ask for no name, a handle that isn't inherited, and all rights. A name without `named`, and rights
+ * without `has_access` or `has_grant`, count for nothing, and no call says so: om_named and the four below it set what belongs together.
+ * Who fills it by hand begins with = {0}, since a bool that is neither 0 nor 1 is undefined. */
 typedef struct om_making {
     uint32_t access;  /* the rights of the handle, with has_access */
     uint32_t grant;   /* the rights that opens of a new object may get, with has_grant */
@@ -214,6 +216,43 @@ typedef struct om_making {
     bool has_access;  /* else the handle has all rights of the kind */
     bool has_grant;   /* else opens may get all rights of the kind */
 } om_making;
+
+/* A create of a name: the bytes that come with it. */
+static inline om_making om_named(void) {
+    om_making made = {0, 0, true, false, false, false};
+    return made;
+}
+
+/* A create whose handle children inherit. */
+static inline om_making om_inherited(void) {
+    om_making made = {0, 0, false, true, false, false};
+    return made;
+}
+
+/* A create whose handle has these rights. */
+static inline om_making om_with_access(uint32_t access) {
+    om_making made = {0, 0, false, false, true, false};
+    made.access = access;
+    return made;
+}
+
+/* A create of an object whose opens may get these rights, and no others. */
+static inline om_making om_with_grant(uint32_t grant) {
+    om_making made = {0, 0, false, false, false, true};
+    made.grant = grant;
+    return made;
+}
+
+/* What both ask for: om_both(om_named(), om_with_access(OM_SYNCHRONIZE)). Where both have rights it is those of both. */
+static inline om_making om_both(om_making one, om_making other) {
+    one.access |= other.access;
+    one.grant |= other.grant;
+    one.named = one.named || other.named;
+    one.inherit = one.inherit || other.inherit;
+    one.has_access = one.has_access || other.has_access;
+    one.has_grant = one.has_grant || other.has_grant;
+    return one;
+}
 
 /* What an object was created as. */
 typedef struct om_description {

@@ -71,6 +71,17 @@ class Calls(unittest.TestCase):
             self.assertEqual([end.outcome for end in m.ended()], [obman.FREED])
             self.assertEqual(list(m.objects()), [])
 
+    def test_what_ended_is_told_once_however_many_are_pinned(self):
+        with obman.Manager(obman.default_limits(slots=200)) as m:
+            thread, readers = m.spawn(1).thread, [m.reader() for _ in range(7)]
+            made = [m.create_event(thread) for _ in range(200)]
+            for at in range(100):
+                readers[at // 16].pin(made[2 * at].object)
+            for one in made:
+                m.close(thread, one.handle)
+            self.assertEqual([(end.object.slot, end.outcome) for end in m.ended()], [(at, obman.FREED if at % 2 else obman.HELD) for at in range(200)])
+            self.assertEqual([end.object.slot for end in m.ended()], list(range(0, 200, 2)))
+
     def test_a_script(self):
         self.assertEqual(obman.script("spawn 1\nevent t1 auto set\n"), b"p1 t1\nh4 new s0.1\n")
 

@@ -167,23 +167,22 @@ static void start(calls *c) {
 /* The optional words of a create. */
 static om_making making(calls *c, const char **text) {
     om_making making = {0, 0, false, false, false, false};
-    making.inherit = once_in(c, 2);
-    making.has_access = once_in(c, 4);
-    making.has_grant = once_in(c, 5);
-    making.named = !once_in(c, 3);
+    bool inherit = once_in(c, 2), has_access = once_in(c, 4), has_grant = once_in(c, 5), named = !once_in(c, 3);
     *text = "";
-    if (making.inherit) {
+    if (inherit) {
+        making = om_both(making, om_inherited());
         fputs(" inherit", c->script);
     }
-    if (making.has_access) {
-        making.access = mask(c);
+    if (has_access) {
+        making = om_both(making, om_with_access(mask(c)));
         fprintf(c->script, " access 0x%x", making.access);
     }
-    if (making.has_grant) {
-        making.grant = mask(c);
+    if (has_grant) {
+        making = om_both(making, om_with_grant(mask(c)));
         fprintf(c->script, " grant 0x%x", making.grant);
     }
-    if (making.named) {
+    if (named) {
+        making = om_both(om_named(), making);
         *text = name(c);
         fprintf(c->script, " name %s", *text);
     }

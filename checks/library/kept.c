@@ -15,7 +15,7 @@ static void must(bool so, const char *what) {
 int main(int count, char **words) {
     static unsigned char kept[4096], again[sizeof kept];
     static const char name[] = "go";
-    om_making making = {0, 0, true, false, false, false};
+    om_making making = om_named();
     om_opening opening;
     om_member member;
     om_manager m;

@@ -4,7 +4,7 @@
 #include <stdio.h>
 #include <stdlib.h>
 
-enum { GUESTS = 7, ITEMS = 4, PLACES = 2, MILLISECOND = 10000 };
+enum { GUESTS = 7, ITEMS = 4, PLACES = 2, SLOTS = 64, MILLISECOND = 10000 };
 
 typedef struct guest {
     void (*step)(struct guest *g);
@@ -111,10 +111,11 @@ static void heir(guest *g) {
     end(g);
 }
 
-/* What came of the last call: who was answered may run again, and the slots of what ended are free again. */
+/* What came of the last call: who was answered may run again, and the slots of what ended are free again. With a place for each slot one
+ * call tells of all that ended, however many a reader pins. */
 static void look_round(void) {
     om_answer answers[4];
-    om_reaping ended[4];
+    om_reaping ended[SLOTS];
     size_t count;
     do {
         om_take_answered(&m, answers, 4, &count);
@@ -127,9 +128,7 @@ static void look_round(void) {
             }
         }
     } while (count == 4);
-    do {
-        om_take_ended(&m, ended, 4, &count);
-    } while (count == 4);
+    om_take_ended(&m, ended, SLOTS, &count);
 }
 
 /* One turn: a step of each guest that can run; or else the time goes on. Whether there is more to do. */
@@ -153,9 +152,10 @@ static bool turn(void) {
 int main(void) {
     static void (*const steps[GUESTS])(guest *) = {producer, producer, consumer, consumer, ticker, careless, heir};
     om_limits limits = OM_LIMITS_DEFAULT;
-    om_making inherited = {.inherit = true};
+    om_making inherited = om_inherited();
     om_member host, member;
 
+    limits.slots = SLOTS;
     must(om_new(&limits, &m) == OM_SUCCESS && om_spawn(&m, 1, &host) == OM_SUCCESS, "no manager");
     must(om_create_semaphore(&m, host.thread, &inherited, "", 0, PLACES, PLACES, &vacant) == OM_SUCCESS, "no semaphore");
     must(om_create_semaphore(&m, host.thread, &inherited, "", 0, 0, PLACES, &filled) == OM_SUCCESS, "no semaphore");

@@ -16,8 +16,8 @@ static void see(const char *what, uint32_t answer, uint32_t due) {
 
 int main(void) {
     om_limits limits = OM_LIMITS_DEFAULT;
-    om_making named = {.named = true, .inherit = true};
-    om_making unnamed = {.inherit = true};
+    om_making named = om_both(om_named(), om_inherited());
+    om_making unnamed = om_inherited();
     const char *ready = "Local\\ready";
     om_manager m;
     om_member parent, child;

@@ -104,7 +104,7 @@ static void *monitor(void *of) {
 
 int main(void) {
     om_limits limits = OM_LIMITS_DEFAULT;
-    om_making inherited = {.inherit = true};
+    om_making inherited = om_inherited();
     om_member host, members[GUESTS];
     om_reader reader;
     pthread_t threads[GUESTS], watching;

@@ -1,4 +1,4 @@
-// A host in C++17: one guest sets a timer and hands out work when it fires, another works. The time is virtual.
+// A host in C++11: one guest sets a timer and hands out work when it fires, another works. The time is virtual.
 #include <cstdio>
 #include <obman.hpp>
 #include <vector>
@@ -6,8 +6,8 @@
 struct guest {
     om_member self;
     void (*step)(guest &);
-    int rounds = 0;
-    bool has_waited = false, is_asleep = false, is_over = false;
+    int rounds;
+    bool has_waited, is_asleep, is_over;
 };
 
 static obman::manager m;
@@ -58,10 +58,11 @@ static void look_round() {
 
 int main() {
     om_member host = m.spawn(1).value();
-    om_making inherited = {0, 0, false, true, false, false};
-    timer = m.create_timer(host.thread, inherited, "", false).value();
-    work = m.create_semaphore(host.thread, inherited, "", 0, 4).value();
-    guests = {{m.child(host.thread, true).value(), foreman}, {m.child(host.thread, true).value(), worker}};
+    timer = m.create_timer(host.thread, om_inherited(), "", false).value();
+    work = m.create_semaphore(host.thread, om_inherited(), "", 0, 4).value();
+    for (auto step : {foreman, worker}) {
+        guests.push_back({m.child(host.thread, true).value(), step, 0, false, false, false});
+    }
     m.exit(host.process).value();
     for (bool goes_on = true; goes_on; look_round()) {
         auto moment = m.next_due();

@@ -726,6 +726,7 @@ impl Manager {
             ended.retain(|r: &Reaped| !matches!(r.slot, Slot::Held(_)));
             ended.extend(all[..count].iter().copied().map(reaped));
             if count < all.len() {
+                ended.sort_by_key(|r| r.object.slot);
                 return ended;
             }
             all.resize(32 + 2 * held, sys::om_reaping::default());

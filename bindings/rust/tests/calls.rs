@@ -122,6 +122,28 @@ fn a_reader_holds_a_slot_behind_its_managers_back() -> Result<(), Error> {
 }
 
 #[test]
+fn what_ended_is_told_once_however_many_are_pinned() -> Result<(), Error> {
+    let mut m = Manager::new(&Limits { slots: 200, ..Limits::default() })?;
+    let member = m.spawn(1)?;
+    let mut readers = (0..7).map(|_| m.reader()).collect::<Result<Vec<_>, _>>()?;
+    let mut made = Vec::new();
+    for at in 0..200 {
+        made.push(m.create_event(member.thread, &Create::default(), false, false)?.opening());
+        if at % 2 == 0 {
+            readers[at / 32].pin(made[at].object)?;
+        }
+    }
+    for one in made {
+        m.close(member.thread, one.handle)?;
+    }
+    let told: Vec<_> = m.ended().iter().map(|ended| (ended.object.slot, ended.slot)).collect();
+    let due: Vec<_> = (0..200).map(|slot| (slot, if slot % 2 == 0 { Slot::Held(1) } else { Slot::Freed })).collect();
+    assert_eq!(told, due);
+    assert_eq!(m.ended().len(), 100);
+    Ok(())
+}
+
+#[test]
 fn limits_out_of_range_are_refused_and_errors_have_names() {
     assert_eq!(Manager::new(&Limits { slots: 0, ..Limits::default() }).err(), Some(Error::InvalidParameter));
     assert_eq!(Error::Busy.to_string(), "ERROR_BUSY (170)");

@@ -1,5 +1,5 @@
-/* Duplicates of handles: with fewer rights; into a child, which takes its parent's handle away by closing the source; and of a
- * handle that is protected from closing. */
+/* Duplicates of handles: with fewer rights; into a child, which takes its parent's handle away by closing the source; of a handle that is
+ * protected from closing; and for what is no process, which closes the source too. */
 #include "child.h"
 
 /* The child has its parent's process as a handle, and the value that an event's handle has there. */
@@ -54,6 +54,15 @@ static void protected_from_closing(void) {
     say("close of what is closed: error %u", (unsigned)GetLastError());
 }
 
+static void for_nobody(HANDLE self) {
+    HANDLE event = CreateEventA(NULL, TRUE, FALSE, NULL), made;
+    BOOL done = DuplicateHandle(self, event, event, &made, 0, FALSE, DUPLICATE_SAME_ACCESS | DUPLICATE_CLOSE_SOURCE);
+    must(event && !done, "an event is no process");
+    say("a duplicate for an event: error %u", (unsigned)GetLastError());
+    must(!SetEvent(event), "its source is closed all the same");
+    say("set by its source: error %u", (unsigned)GetLastError());
+}
+
 void start(void) {
     unsigned long long parent, there;
     if (is_child(&parent, &there)) {
@@ -62,5 +71,6 @@ void start(void) {
     fewer_rights(GetCurrentProcess());
     taken_away(GetCurrentProcess());
     protected_from_closing();
+    for_nobody(GetCurrentProcess());
     ExitProcess(0);
 }

@@ -10,7 +10,7 @@
  * save.c       all of it in a file
  *
  * All that the host knows is `machine`, `memories`, and the manager `om`. The first is what a savestate has of it as it stands: no
- * pointer is in it, and between its parts no gap. */
+ * pointer is in it, and between its parts no gap. Nothing that the host trusts is where a guest can write. */
 #ifndef HOST_H
 #define HOST_H
 
@@ -23,9 +23,11 @@ enum {
     PLACES = 64,    /* for threads of one process */
     REGIONS = 32 + 2 * PLACES,
     IMPORTS = 256,
-    STANDINS = 1024,
+    SLOTS = 1024, /* objects at a time */
+    STANDINS = SLOTS,
     PERIODS = 64,
     PAGE = 0x1000,
+    MEMORY_MOST = 64 << 20, /* of a process */
     STACK = 0x40000,
     NAME_MOST = 64, /* of an import, with its library */
     HOST_FAILED = 125,
@@ -33,14 +35,20 @@ enum {
 };
 
 /* The numbers of processes, threads and waits are given once: a host that runs for long takes the greatest limits. */
-#define LIMITS {1024u, 65536u, 65536u, 16384u, 4294967295u, 1073741823u, 4294967295u, 2147483647u}
+#define LIMITS {SLOTS, 65536u, 65536u, 16384u, 4294967295u, 1073741823u, 4294967295u, 2147483647u}
 
 /* The guests' time 0 as they see it, in units of 100 ns since 1601: the first of January 2026. */
 #define BEGAN 134116992000000000u
 
+/* Where nothing is due until then the guests wait for ever: 14,000 years. */
+#define LAST_MOMENT (UINT64_MAX / 4)
+
+/* With which a process ends that does what it may not. */
+#define ACCESS_VIOLATION 0xC0000005u
+#define ILLEGAL_INSTRUCTION 0xC000001Du
+
 /* Where a process has what the host puts into its memory. */
 #define STUBS 0x70000000u       /* an address for each import, 16 bytes apart, that a guest jumps to and never runs */
-#define NAMES 0x70010000u       /* the imports' names */
 #define ENVIRONMENT 0x70020000u /* its block, its name and its command line */
 #define COMMAND (ENVIRONMENT + 0x1000u)
 #define WIDE_COMMAND (ENVIRONMENT + 0x2000u)
@@ -130,6 +138,7 @@ typedef struct served served;
 typedef struct memory {
     uc_engine *engine;
     uint8_t *bytes[REGIONS];
+    char names[IMPORTS][NAME_MOST];
     const served *serves[IMPORTS];
     block blocks[1024];
 } memory;
@@ -146,9 +155,10 @@ void must(uint32_t status, const char *what);
 /* memory.c */
 memory *memory_of(const process *of);
 void *guest_at(const process *of, uint64_t address, uint64_t size);
+void *guest_with(const process *of, uint64_t address, uint64_t size, uint32_t rights);
 void *map(process *of, uint64_t address, uint64_t size, uint32_t rights);
 void begin_memory(process *of);
-void map_again(process *of);
+bool map_again(process *of);
 void end_memory(process *of);
 
 /* image.c */
@@ -179,7 +189,6 @@ typedef struct call {
 void bind_served(process *of);
 void serve(thread *by, uint64_t stub);
 uint64_t argument(const call *c, int at);
-void *pointer(const call *c, uint64_t address, uint64_t size);
 uint64_t fetch(const call *c, uint64_t address, int size);
 void put(const call *c, uint64_t address, uint64_t value, int size);
 size_t text(const call *c, uint64_t address, char *bytes, size_t capacity);

@@ -63,7 +63,7 @@ static bool bind(process *of, const char *library, const char *name, uint64_t sl
         return false;
     }
     memcpy(bound, &stub, sizeof stub);
-    snprintf(guest_at(of, NAMES + NAME_MOST * of->imports, NAME_MOST), NAME_MOST, "%s!%s", library, name);
+    snprintf(memory_of(of)->names[of->imports], NAME_MOST, "%s!%s", library, name);
     of->imports++;
     return true;
 }
@@ -92,7 +92,7 @@ static bool bind_library(process *of, uint64_t base, uint64_t description) {
 }
 
 static bool bind_imports(process *of, uint64_t base, uint64_t table) {
-    snprintf(guest_at(of, NAMES, NAME_MOST), NAME_MOST, "KERNEL32.dll!ExitThread"); /* where a thread's routine returns to */
+    snprintf(memory_of(of)->names[0], NAME_MOST, "KERNEL32.dll!ExitThread"); /* where a thread's routine returns to */
     of->imports = 1;
     for (uint64_t at = base + table; table != 0 && image_number(of, at + 12, 4) != 0; at += 20) {
         if (!bind_library(of, base, at)) {
@@ -114,7 +114,7 @@ uint32_t load_image(process *of, uint64_t *entry) {
     }
     begin_memory(of);
     uint8_t *stubs = map(of, STUBS, 16 * IMPORTS, UC_PROT_READ | UC_PROT_EXEC), *first = map(of, base, headers, UC_PROT_READ);
-    bool is_good = stubs != NULL && first != NULL && headers <= length && map(of, NAMES, NAME_MOST * IMPORTS, UC_PROT_READ) != NULL &&
+    bool is_good = stubs != NULL && first != NULL && headers <= length &&
                    map(of, ENVIRONMENT, 4 * PAGE, UC_PROT_READ | UC_PROT_WRITE) != NULL;
     if (is_good) {
         memcpy(first, file, headers);

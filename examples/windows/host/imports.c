@@ -1,6 +1,7 @@
 /* Which calls of kernel32 are served, and how a call's arguments are read and its answer is given, as 64-bit Windows has them. */
 #include "host.h"
 
+#include <setjmp.h>
 #include <stdio.h>
 #include <string.h>
 #include <strings.h>
@@ -19,25 +20,31 @@ uint64_t argument(const call *c, int at) {
     return at < 4 ? c->by->now.whole[in[at]] : fetch(c, c->by->now.whole[RSP] + 8 + 8 * (uint64_t)at, 8);
 }
 
-/* What a guest's pointer leads to; without that the guest ends. */
-void *pointer(const call *c, uint64_t address, uint64_t size) {
-    void *bytes = guest_at(c->of, address, size);
+static jmp_buf astray; /* where `serve` goes on */
+
+/* What a guest's pointer leads to, where the guest itself may read or write that; else its process ends, and the call with it. So a call
+ * reads what it is passed before it begins what it couldn't leave half done. */
+static void *pointer(const call *c, uint64_t address, uint64_t size, uint32_t rights) {
+    void *bytes = guest_with(c->of, address, size, rights);
     if (bytes == NULL) {
-        stop("%s is passed %llx, where no memory is", c->name, (unsigned long long)address);
+        unsigned long long at = address;
+        const char *what = rights == UC_PROT_WRITE ? "written" : "read";
+        fprintf(stderr, "host: process %u ends: %s is passed %llx, which can't be %s\n", c->of->number, c->name, at, what);
+        longjmp(astray, 1);
     }
     return bytes;
 }
 
 uint64_t fetch(const call *c, uint64_t address, int size) {
     uint64_t value = 0;
-    memcpy(&value, pointer(c, address, (uint64_t)size), (size_t)size);
+    memcpy(&value, pointer(c, address, (uint64_t)size, UC_PROT_READ), (size_t)size);
     return value;
 }
 
 /* Writes a number where the guest wants one. */
 void put(const call *c, uint64_t address, uint64_t value, int size) {
     if (address != 0) {
-        memcpy(pointer(c, address, (uint64_t)size), &value, (size_t)size);
+        memcpy(pointer(c, address, (uint64_t)size, UC_PROT_WRITE), &value, (size_t)size);
     }
 }
 
@@ -161,7 +168,7 @@ static void write_file(call *c) {
         done(c, OM_ERROR_INVALID_HANDLE);
         return;
     }
-    fwrite(pointer(c, argument(c, 1), size), 1, size, to->is_for == OUTPUT ? stdout : stderr);
+    fwrite(pointer(c, argument(c, 1), size, UC_PROT_READ), 1, size, to->is_for == OUTPUT ? stdout : stderr);
     put(c, argument(c, 3), size, 4);
     done(c, OM_SUCCESS);
 }
@@ -231,23 +238,22 @@ static const served *served_by(const char *import) {
     return NULL;
 }
 
-/* Finds what serves the imports of a process, by their names in its memory. */
+/* Finds what serves the imports of a process, by their names. */
 void bind_served(process *of) {
     for (uint32_t i = 0; i < of->imports; i++) {
-        memory_of(of)->serves[i] = served_by(guest_at(of, NAMES + NAME_MOST * i, NAME_MOST));
+        memory_of(of)->serves[i] = served_by(memory_of(of)->names[i]);
     }
 }
 
-/* Serves the import to whose stub a thread has jumped, and has it go on behind its call. */
-void serve(thread *by, uint64_t stub) {
-    process *of = &machine.processes[by->process];
-    uint64_t at = (stub - STUBS) / 16;
-    const char *import = guest_at(of, NAMES + NAME_MOST * at, NAME_MOST);
-    if (at >= of->imports || memory_of(of)->serves[at] == NULL) {
-        stop("process %u calls %s, which isn't served", of->number, at < of->imports ? import : "an import that it doesn't have");
+static void serve_import(thread *by, process *of, uint64_t at) {
+    if (at >= of->imports) {
+        fprintf(stderr, "host: process %u ends: it calls an import that it doesn't have\n", of->number);
+        longjmp(astray, 1);
     }
-    char name[NAME_MOST];
-    snprintf(name, sizeof name, "%s", import + strlen("kernel32.dll!"));
+    const char *import = memory_of(of)->names[at], *name = import + strlen("kernel32.dll!");
+    if (memory_of(of)->serves[at] == NULL) {
+        stop("process %u calls %s, which isn't served", of->number, import);
+    }
     call c = {.name = name, .by = by, .of = of, .is_wide = memory_of(of)->serves[at]->has_text && ends_in_w(name)};
     uint64_t back = at == 0 ? 0 : fetch(&c, by->now.whole[RSP], 8);
     if (at == 0) {
@@ -263,5 +269,15 @@ void serve(thread *by, uint64_t stub) {
     by->now.whole[RAX] = c.result;
     if (c.ends_turn) {
         machine.left = 0;
+    }
+}
+
+/* Serves the import to whose stub a thread has jumped, and has it go on behind its call. */
+void serve(thread *by, uint64_t stub) {
+    process *of = &machine.processes[by->process];
+    if (setjmp(astray) == 0) {
+        serve_import(by, of, (stub - STUBS) / 16);
+    } else {
+        end_process(of, ACCESS_VIOLATION);
     }
 }

@@ -11,15 +11,20 @@ memory *memory_of(const process *of) {
     return &memories[of - machine.processes];
 }
 
-/* The bytes at an address of a process, or NULL where not all of them are there. */
-void *guest_at(const process *of, uint64_t address, uint64_t size) {
+/* The bytes at an address of a process where it has these rights, or NULL where not all of them are there. */
+void *guest_with(const process *of, uint64_t address, uint64_t size, uint32_t rights) {
     for (uint32_t i = 0; i < of->regions_count; i++) {
         const region *r = &of->regions[i];
         if (r->address <= address && address - r->address <= r->size && size <= r->size - (address - r->address)) {
-            return memory_of(of)->bytes[i] + (address - r->address);
+            return (r->rights & rights) == rights ? memory_of(of)->bytes[i] + (address - r->address) : NULL;
         }
     }
     return NULL;
+}
+
+/* The same for the host, which has all rights. */
+void *guest_at(const process *of, uint64_t address, uint64_t size) {
+    return guest_with(of, address, size, 0);
 }
 
 static void give(process *of, uint32_t i) {
@@ -36,19 +41,33 @@ static void give(process *of, uint32_t i) {
     }
 }
 
+/* Whether a region can be beside those before it: of whole pages, where none of them is, and all of them no more than a process may
+ * have. */
+static bool has_room(const process *of, uint32_t i) {
+    const region *r = &of->regions[i];
+    uint64_t all = r->size;
+    if (r->address % PAGE != 0 || r->size % PAGE != 0 || r->size == 0 || r->size > MEMORY_MOST || r->address > UINT64_MAX - r->size) {
+        return false;
+    }
+    for (const region *k = of->regions; k < r; k++) {
+        all += k->size;
+        if (r->address < k->address + k->size && k->address < r->address + r->size) {
+            return false;
+        }
+    }
+    return all <= MEMORY_MOST && (r->rights & ~(uint32_t)UC_PROT_ALL) == 0;
+}
+
 /* Memory of a process from now on, of zeros, or NULL where some of it was there before or there is no room for it. */
 void *map(process *of, uint64_t address, uint64_t size, uint32_t rights) {
     uint32_t i = of->regions_count;
-    if (i == REGIONS || address % PAGE != 0 || size == 0 || size > UINT32_MAX || address > UINT64_MAX - size) {
+    if (i == REGIONS) {
         return NULL;
     }
-    size = (size + PAGE - 1) / PAGE * PAGE;
-    for (uint32_t k = 0; k < i; k++) {
-        if (address < of->regions[k].address + of->regions[k].size && of->regions[k].address < address + size) {
-            return NULL;
-        }
+    of->regions[i] = (region){.address = address, .size = (size + PAGE - 1) / PAGE * PAGE, .rights = rights};
+    if (!has_room(of, i)) {
+        return NULL;
     }
-    of->regions[i] = (region){.address = address, .size = size, .rights = rights};
     of->regions_count++;
     give(of, i);
     return memory_of(of)->bytes[i];
@@ -65,12 +84,16 @@ void begin_memory(process *of) {
     }
 }
 
-/* The same for a process whose regions are known. */
-void map_again(process *of) {
+/* The same for a process whose regions are told. Whether they can be. */
+bool map_again(process *of) {
     begin_memory(of);
     for (uint32_t i = 0; i < of->regions_count; i++) {
+        if (!has_room(of, i)) {
+            return false;
+        }
         give(of, i);
     }
+    return true;
 }
 
 void end_memory(process *of) {

@@ -26,10 +26,13 @@ typedef struct asked {
 
 /* What a create asks for. An empty name is none. */
 static asked asked_by(const call *c, uint64_t attributes, uint64_t at) {
-    asked a = {.making.inherit = inherits(c, attributes)};
-    if (at != 0) {
-        a.length = name(c, at, a.name, sizeof a.name);
-        a.making.named = a.length > 0;
+    asked a = {0};
+    if (inherits(c, attributes)) {
+        a.making = om_inherited();
+    }
+    a.length = at == 0 ? 0 : name(c, at, a.name, sizeof a.name);
+    if (a.length > 0) {
+        a.making = om_both(a.making, om_named());
     }
     return a;
 }
@@ -167,19 +170,22 @@ static void stop_period(om_object timer) {
     }
 }
 
-/* A timer comes again, so much behind its first moment: the host needs a handle of its own for that. */
-static void begin_period(const call *c, uint32_t handle, uint64_t next, uint64_t length) {
+/* A timer comes again, so much behind its first moment: the host needs a place and a handle of its own for that. */
+static uint32_t begin_period(const call *c, uint32_t handle, uint64_t next, uint64_t length) {
     om_opening own;
     period *p = machine.periods;
     while (p < machine.periods + PERIODS && p->handle != 0) {
         p++;
     }
     if (p == machine.periods + PERIODS) {
-        stop("%s: too many timers have periods", c->name);
+        return OM_ERROR_NO_SYSTEM_RESOURCES;
     }
     uint32_t host = machine.host.process;
-    must(om_duplicate(&om, machine.host.thread, c->of->number, handle, host, OM_MODIFY_STATE, false, 0, &own), "a period");
-    *p = (period){.object = own.object, .handle = own.handle, .next = next, .length = length};
+    uint32_t status = om_duplicate(&om, machine.host.thread, c->of->number, handle, host, OM_MODIFY_STATE, false, 0, &own);
+    if (status == OM_SUCCESS) {
+        *p = (period){.object = own.object, .handle = own.handle, .next = next, .length = length};
+    }
+    return status;
 }
 
 /* A timer that nobody has but the host comes no more again. */
@@ -233,8 +239,8 @@ void set_timer(call *c) {
     if (status == OM_SUCCESS && om_resolve(&om, c->of->number, handle, &timer) == OM_SUCCESS) {
         first = due < 0 ? om_now(&om) - (uint64_t)due : (uint64_t)due < om_now(&om) ? om_now(&om) : (uint64_t)due;
         stop_period(timer);
-        if (length > 0) {
-            begin_period(c, handle, first + length, length);
+        if (length > 0 && (status = begin_period(c, handle, first + length, length)) != OM_SUCCESS) {
+            om_cancel_timer(&om, c->by->number, handle);
         }
     }
     done(c, status);
@@ -338,17 +344,31 @@ static uint32_t rights_to(uint32_t source, uint32_t handle, uint32_t access) {
     return as.grant == OM_SYNCHRONIZE ? OM_SYNCHRONIZE : rights_of(access, all[as.kind]);
 }
 
+/* Closes the source of a duplicate of which nothing else comes. */
+static void close_source(const call *c, uint32_t source, uint32_t handle) {
+    om_opening none;
+    if (source == c->of->number) {
+        om_close(&om, c->by->number, handle);
+    } else {
+        om_duplicate(&om, c->by->number, source, handle, 0, 0, false, OM_DUPLICATE_CLOSE_SOURCE, &none);
+    }
+}
+
 void duplicate_handle(call *c) {
     uint64_t guest = argument(c, 1);
     uint32_t source = process_by(c, argument(c, 0)), target = process_by(c, argument(c, 2)), handle = handle_of(guest);
     uint32_t options = (uint32_t)argument(c, 6);
     om_opening made = {0};
+    bool is_own = guest == THIS_PROCESS || guest == THIS_THREAD;
     put(c, argument(c, 3), 0, 8);
     if (source == 0 || (target == 0 && argument(c, 2) != 0)) {
+        if (source != 0 && !is_own && (options & OM_DUPLICATE_CLOSE_SOURCE) != 0) {
+            close_source(c, source, handle);
+        }
         done(c, OM_ERROR_INVALID_HANDLE);
         return;
     }
-    if (guest == THIS_PROCESS || guest == THIS_THREAD) {
+    if (is_own) {
         const standin *s = guest == THIS_PROCESS ? standin_numbered(A_PROCESS, source) : standin_numbered(A_THREAD, c->by->number);
         handle = s == NULL ? 0 : s->handle;
         source = machine.host.process;

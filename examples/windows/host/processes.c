@@ -44,37 +44,48 @@ void forget(om_object object) {
 }
 
 /* An event of the host's, for all that guests may do with it. */
-static om_opening new_event(void) {
-    om_opening made;
-    om_making waited_for = {.has_grant = true, .grant = OM_SYNCHRONIZE};
-    must(om_create_event(&om, machine.host.thread, &waited_for, "", 0, true, false, &made), "an event of the host's");
-    return made;
+static uint32_t new_event(om_opening *made) {
+    om_making waited_for = om_with_grant(OM_SYNCHRONIZE);
+    return om_create_event(&om, machine.host.thread, &waited_for, "", 0, true, false, made);
 }
 
 static uint32_t stand_in(stands is_for, uint32_t number) {
+    om_opening event;
     standin *s = machine.standins;
-    om_opening event = new_event();
+    uint32_t status = new_event(&event);
     while (s < machine.standins + STANDINS && s->is_for != NOTHING) {
         s++;
     }
-    if (s == machine.standins + STANDINS) {
-        stop("too many handles to threads and processes");
+    if (status == OM_SUCCESS && s == machine.standins + STANDINS) {
+        stop("more objects than slots");
     }
-    *s = (standin){.object = event.object, .is_for = is_for, .number = number, .handle = event.handle};
-    return event.handle;
+    if (status == OM_SUCCESS) {
+        *s = (standin){.object = event.object, .is_for = is_for, .number = number, .handle = event.handle};
+    }
+    return status;
 }
 
 /* Gives a process a handle to an event of the host's. */
-static uint32_t give(const process *to, uint32_t handle, bool inherit) {
-    om_opening given;
+static uint32_t give(const process *to, uint32_t handle, bool inherit, uint32_t *given) {
+    om_opening made = {0};
     uint32_t host = machine.host.process;
-    must(om_duplicate(&om, machine.host.thread, host, handle, to->number, OM_SYNCHRONIZE, inherit, 0, &given), "a handle for a guest");
-    return given.handle;
+    uint32_t status = om_duplicate(&om, machine.host.thread, host, handle, to->number, OM_SYNCHRONIZE, inherit, 0, &made);
+    *given = made.handle;
+    return status;
+}
+
+/* The same of what stands for a thread, a process or a file. */
+static uint32_t give_standin(const process *to, stands is_for, uint32_t number, bool inherit, uint32_t *given) {
+    const standin *s = standin_numbered(is_for, number);
+    return give(to, s == NULL ? 0 : s->handle, inherit, given);
 }
 
 /* A thread or process has ended: who waits for it is answered, and its code is kept as long as there is a handle to it. */
 static void over(stands is_for, uint32_t number, uint32_t code) {
     standin *s = standin_numbered(is_for, number);
+    if (s == NULL) {
+        return; /* there was no room for it */
+    }
     uint32_t handle = s->handle;
     s->code = code;
     s->handle = 0;
@@ -84,30 +95,35 @@ static void over(stands is_for, uint32_t number, uint32_t code) {
 
 /* The host is a process of its own, which has the events of the standard files and one that nobody sets. */
 void begin_host(void) {
+    om_opening never;
     must(om_spawn(&om, 1, &machine.host), "a process for the host");
-    machine.never = new_event().handle;
+    must(new_event(&never), "an event of the host's");
+    machine.never = never.handle;
     for (uint32_t file = INPUT; file <= ERRORS; file++) {
-        stand_in((stands)file, 0);
+        must(stand_in((stands)file, 0), "an event of the host's");
     }
 }
 
 /* ---- Beginnings ---- */
 
 /* What a process has from its beginning. */
-static void furnish(process *of, uint32_t thread, const char *command, size_t length) {
+static uint32_t furnish(process *of, uint32_t thread, const char *command, size_t length) {
     uint8_t *narrow = guest_at(of, COMMAND, PAGE), *wide = guest_at(of, WIDE_COMMAND, 2 * PAGE);
-    for (uint32_t file = INPUT; file <= ERRORS; file++) {
-        of->standard[file - INPUT] = give(of, standin_numbered((stands)file, 0)->handle, false);
+    uint32_t status = OM_SUCCESS, protected = OM_HANDLE_FLAG_PROTECT_FROM_CLOSE;
+    for (uint32_t file = INPUT; file <= ERRORS && status == OM_SUCCESS; file++) {
+        status = give_standin(of, (stands)file, 0, false, &of->standard[file - INPUT]);
     }
-    of->never = give(of, machine.never, false);
-    uint32_t protected = OM_HANDLE_FLAG_PROTECT_FROM_CLOSE;
-    must(om_set_handle_flags(&om, thread, of->never, protected, protected), "a protected handle");
+    if (status == OM_SUCCESS) {
+        status = give(of, machine.never, false, &of->never);
+    }
     for (size_t i = 0; i < length; i++) {
         narrow[i] = (uint8_t)command[i];
         wide[2 * i] = (uint8_t)command[i];
     }
+    return status == OM_SUCCESS ? om_set_handle_flags(&om, thread, of->never, protected, protected) : status;
 }
 
+/* A place for a process, or NULL. */
 static process *free_process(void) {
     for (process *p = machine.processes; p < machine.processes + PROCESSES; p++) {
         if (p->number == 0) {
@@ -115,19 +131,24 @@ static process *free_process(void) {
             return p;
         }
     }
-    stop("too many processes");
+    return NULL;
 }
 
-/* A process whose image is loaded gets what the library made for it. */
-static void begin_process(process *of, om_member member, uint64_t entry, const char *command, size_t length) {
+/* A process whose image is loaded gets what the library made for it. Where there is no room for all of it the process ends. */
+static uint32_t begin_process(process *of, om_member member, uint64_t entry, const char *command, size_t length) {
     of->number = member.process;
-    stand_in(A_PROCESS, member.process);
-    stand_in(A_THREAD, member.thread);
-    if (begin_thread(of, member.thread, entry, ENVIRONMENT) == NULL) {
-        stop("no memory for a thread of %s", of->name);
-    }
-    furnish(of, member.thread, command, length);
     bind_served(of);
+    uint32_t status = begin_thread(of, member.thread, entry, ENVIRONMENT) == NULL ? NOT_ENOUGH_MEMORY : stand_in(A_PROCESS, member.process);
+    if (status == OM_SUCCESS) {
+        status = stand_in(A_THREAD, member.thread);
+    }
+    if (status == OM_SUCCESS) {
+        status = furnish(of, member.thread, command, length);
+    }
+    if (status != OM_SUCCESS) {
+        end_process(of, 0);
+    }
+    return status;
 }
 
 /* The program that the host is started for, with its command line. */
@@ -142,24 +163,33 @@ void begin_first(const char *name, const char *command) {
     }
     must(om_spawn(&om, 1, &member), "a process");
     machine.first = member.process;
-    begin_process(of, member, entry, command, strlen(command));
+    must(begin_process(of, member, entry, command, strlen(command)), "a process");
     look_round();
 }
 
 void create_thread(call *c) {
-    uint32_t number;
+    uint32_t number, handle = 0;
+    uint64_t told = argument(c, 5);
+    bool is_inherited = inherits(c, argument(c, 0));
     if ((uint32_t)argument(c, 4) & CREATE_SUSPENDED) {
         stop("%s of a thread that is suspended isn't served", c->name);
     }
     uint32_t status = om_thread(&om, c->of->number, &number);
-    if (status == OM_SUCCESS && begin_thread(c->of, number, argument(c, 2), argument(c, 3)) == NULL) {
+    thread *made = status == OM_SUCCESS ? begin_thread(c->of, number, argument(c, 2), argument(c, 3)) : NULL;
+    if (status == OM_SUCCESS && made == NULL) {
         must(om_end_thread(&om, number), "the end of a thread");
         status = NOT_ENOUGH_MEMORY;
+    } else if (status == OM_SUCCESS) {
+        status = stand_in(A_THREAD, number);
+        status = status == OM_SUCCESS ? give_standin(c->of, A_THREAD, number, is_inherited, &handle) : status;
+        if (status != OM_SUCCESS) {
+            end_thread(made, 0);
+        }
     }
     done(c, status);
     if (status == OM_SUCCESS) {
-        c->result = give(c->of, stand_in(A_THREAD, number), inherits(c, argument(c, 0)));
-        put(c, argument(c, 5), 4 * (uint64_t)number, 4);
+        c->result = handle;
+        put(c, told, 4 * (uint64_t)number, 4);
     }
 }
 
@@ -193,24 +223,38 @@ void create_process(call *c) {
     char command[1024] = "";
     uint64_t entry, told = argument(c, 9);
     size_t length = argument(c, 1) == 0 ? 0 : text(c, argument(c, 1), command, sizeof command);
+    bool inherit = (uint32_t)argument(c, 4) != 0, is_process = inherits(c, argument(c, 2)), is_thread = inherits(c, argument(c, 3));
     process *made = free_process();
     om_member member;
+    uint32_t status = OM_ERROR_NO_SYSTEM_RESOURCES, handles[2] = {0};
     check_served(c);
-    program_of(c, command, made->name, sizeof made->name);
-    uint32_t status = load_image(made, &entry);
+    if (made != NULL) {
+        program_of(c, command, made->name, sizeof made->name);
+        status = load_image(made, &entry);
+    }
     if (status == OM_SUCCESS) {
-        status = om_child(&om, c->by->number, (uint32_t)argument(c, 4) != 0, &member);
+        status = om_child(&om, c->by->number, inherit, &member);
         if (status != OM_SUCCESS) {
             end_memory(made);
+        }
+    }
+    if (status == OM_SUCCESS) {
+        status = begin_process(made, member, entry, length == 0 ? made->name : command, length == 0 ? strlen(made->name) : length);
+    }
+    if (status == OM_SUCCESS) {
+        status = give_standin(c->of, A_PROCESS, member.process, is_process, &handles[0]);
+        status = status == OM_SUCCESS ? give_standin(c->of, A_THREAD, member.thread, is_thread, &handles[1]) : status;
+        if (status != OM_SUCCESS) {
+            om_close(&om, c->by->number, handles[0]);
+            end_process(made, 0);
         }
     }
     done(c, status);
     if (status != OM_SUCCESS) {
         return;
     }
-    begin_process(made, member, entry, length == 0 ? made->name : command, length == 0 ? strlen(made->name) : length);
-    put(c, told, give(c->of, standin_numbered(A_PROCESS, member.process)->handle, inherits(c, argument(c, 2))), 8);
-    put(c, told + 8, give(c->of, standin_numbered(A_THREAD, member.thread)->handle, inherits(c, argument(c, 3))), 8);
+    put(c, told, handles[0], 8);
+    put(c, told + 8, handles[1], 8);
     put(c, told + 16, 4 * (uint64_t)member.process, 4);
     put(c, told + 20, 4 * (uint64_t)member.thread, 4);
 }

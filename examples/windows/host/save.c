@@ -1,5 +1,6 @@
-/* All that there is in a file, and a run that goes on from there: the machine, what of the guests' memory isn't zeros, the library's
- * savestate, and a digest of it all, which finds what was cut or changed by accident. A file is for the build of the host that wrote it. */
+/* All that there is in a file, and a run that goes on from there: the machine, the names of imports, what of the guests' memory isn't
+ * zeros, the library's savestate, and a digest of it all, which finds what was cut or changed by accident. A file is for the build of the
+ * host that wrote it. Of one that was changed on purpose, with its digest, each count and each place is tested, and no more. */
 #include "host.h"
 
 #include <stdio.h>
@@ -11,9 +12,10 @@ static struct {
     FILE *at;
     bool is_written, is_good;
     uint64_t digest;
+    long size; /* of one that is read */
 } file;
 
-static const char mark[24] = "host of guests, state 1";
+static const char mark[24] = "host of guests, state 2";
 
 static void part(void *bytes, size_t size) {
     size_t moved = file.is_written ? fwrite(bytes, 1, size, file.at) : fread(bytes, 1, size, file.at);
@@ -46,13 +48,18 @@ static void pages(process *of) {
 }
 
 static void memory_of_all(void) {
-    for (process *p = machine.processes; p < machine.processes + PROCESSES; p++) {
-        if (p->number != 0) {
-            if (!file.is_written) {
-                map_again(p);
+    for (process *p = machine.processes; p < machine.processes + PROCESSES && file.is_good; p++) {
+        if (p->number != 0 && (file.is_written || map_again(p))) {
+            for (uint32_t i = 0; i < p->imports; i++) {
+                part(memory_of(p)->names[i], NAME_MOST);
+                file.is_good = file.is_good && memory_of(p)->names[i][NAME_MOST - 1] == 0;
             }
             pages(p);
-            bind_served(p);
+            if (file.is_good) {
+                bind_served(p);
+            }
+        } else {
+            file.is_good = p->number == 0;
         }
     }
 }
@@ -84,13 +91,28 @@ static void save_objects(void) {
 static void load_objects(void) {
     size_t size = 0;
     part(&size, sizeof size);
-    void *bytes = malloc(size);
-    if (bytes == NULL) {
-        stop("no memory for a savestate");
+    void *bytes = size < (size_t)file.size ? malloc(size) : NULL;
+    file.is_good = file.is_good && bytes != NULL;
+    if (file.is_good) {
+        part(bytes, size);
+        file.is_good = om_load(bytes, size, &om) == OM_SUCCESS;
     }
-    part(bytes, size);
-    must(om_load(bytes, size, &om), "a savestate");
     free(bytes);
+}
+
+/* Whether each count and each place in the machine is one. What the regions of a process may be `map_again` sees. */
+static bool is_in_bounds(void) {
+    bool is_good = machine.current < THREADS && memchr(machine.folder, 0, sizeof machine.folder) != NULL;
+    for (const process *p = machine.processes; p < machine.processes + PROCESSES; p++) {
+        is_good = is_good && p->regions_count <= REGIONS && p->imports <= IMPORTS && memchr(p->name, 0, sizeof p->name) != NULL;
+    }
+    for (const thread *t = machine.threads; t < machine.threads + THREADS && is_good; t++) {
+        is_good = t->number == 0 || (t->process < PROCESSES && machine.processes[t->process].number != 0 && t->place < PLACES);
+    }
+    for (const period *p = machine.periods; p < machine.periods + PERIODS; p++) {
+        is_good = is_good && (p->handle == 0 || p->length > 0);
+    }
+    return is_good;
 }
 
 void save(const char *path) {
@@ -123,6 +145,7 @@ static bool is_whole(const char *path) {
     digest = file.digest;
     part(&told, sizeof told);
     bool is_good = file.is_good && told == digest;
+    file.size = ftell(file.at);
     rewind(file.at);
     head();
     is_good = is_good && file.is_good;
@@ -139,8 +162,11 @@ void load(const char *path) {
     }
     head();
     part(&machine, sizeof machine);
+    file.is_good = file.is_good && is_in_bounds();
     memory_of_all();
-    load_objects();
+    if (file.is_good) {
+        load_objects();
+    }
     fclose(file.at);
     if (!file.is_good) {
         stop("%s is no savestate of this host", path);

@@ -84,23 +84,24 @@ static void write_trace(void) {
 /* Behind each call: whose waits were answered can go on, and what has ended stands for nothing any more. */
 void look_round(void) {
     om_answer answers[16];
-    om_reaping ended[16];
+    om_reaping ended[SLOTS]; /* a place for each that there can be, so that one call tells all */
     size_t count;
     do {
         om_take_answered(&om, answers, 16, &count);
         for (size_t i = 0; i < count; i++) {
             thread *of = thread_numbered(answers[i].thread);
+            if (of == NULL) {
+                stop("an answer for no thread");
+            }
             of->waits = false;
             of->now.whole[RAX] = answers[i].code;
         }
     } while (count == 16);
     end_periods();
-    do {
-        om_take_ended(&om, ended, 16, &count);
-        for (size_t i = 0; i < count; i++) {
-            forget(ended[i].object);
-        }
-    } while (count == 16);
+    om_take_ended(&om, ended, SLOTS, &count);
+    for (size_t i = 0; i < count; i++) {
+        forget(ended[i].object);
+    }
     write_trace();
 }
 
@@ -229,10 +230,14 @@ static uint32_t length_of(uc_engine *engine, memory *m, uint64_t address) {
     return b->count;
 }
 
+static bool is_stub(uint64_t address) {
+    return STUBS <= address && address < STUBS + 16 * IMPORTS;
+}
+
 /* Before each block: an import is served outside of here, and a turn that is over ends. */
 void on_block(uc_engine *engine, uint64_t address, uint32_t size, void *of) {
     (void)size;
-    if (machine.left == 0 || machine.instructions >= save_at || (STUBS <= address && address < NAMES)) {
+    if (machine.left == 0 || machine.instructions >= save_at || is_stub(address)) {
         stopped_at = address;
         uc_emu_stop(engine);
         return;
@@ -242,20 +247,30 @@ void on_block(uc_engine *engine, uint64_t address, uint32_t size, void *of) {
     machine.left -= count < machine.left ? count : machine.left;
 }
 
+/* A process ends whose thread has done what it can't. */
+static void fail(const thread *t, uc_err error) {
+    process *of = &machine.processes[t->process];
+    bool is_illegal = error == UC_ERR_OK || error == UC_ERR_INSN_INVALID || error == UC_ERR_EXCEPTION;
+    const char *why = error == UC_ERR_OK ? "it halts" : uc_strerror(error);
+    fprintf(stderr, "host: process %u ends: thread %u at %llx: %s\n", of->number, t->number, (unsigned long long)t->now.whole[RIP], why);
+    end_process(of, is_illegal ? ILLEGAL_INSTRUCTION : ACCESS_VIOLATION);
+}
+
 /* Runs the thread whose turn it is, until the turn is over or it calls an import. */
 static void run_current(void) {
     thread *t = &machine.threads[machine.current];
     uc_engine *engine = memories[t->process].engine;
     move_registers(engine, &t->now, put_register);
     stopped_at = 0;
-    uc_err error = uc_emu_start(engine, t->now.whole[RIP], UINT64_MAX, 0, 0);
+    uc_err error = uc_emu_start(engine, t->now.whole[RIP], STUBS + 16 * IMPORTS - 1, 0, 0); /* the end is never reached */
     move_registers(engine, &t->now, uc_reg_read);
     if (error != UC_ERR_OK || stopped_at == 0) {
-        unsigned long long at = t->now.whole[RIP];
-        stop("thread %u at %llx: %s", t->number, at, error != UC_ERR_OK ? uc_strerror(error) : "it halts");
+        fail(t, error);
+        look_round();
+        return;
     }
     t->now.whole[RIP] = stopped_at; /* the processor's own is that of an earlier block */
-    if (STUBS <= stopped_at && stopped_at < NAMES) {
+    if (is_stub(stopped_at)) {
         serve(t, stopped_at);
         look_round();
     }
@@ -299,7 +314,7 @@ static bool next_turn(void) {
         return false;
     }
     if (!choose()) {
-        if (next_moment() == UINT64_MAX) {
+        if (next_moment() > LAST_MOMENT) {
             stop_stuck();
         }
         machine.idle += next_moment() - now();
