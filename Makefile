@@ -104,6 +104,8 @@ examples: all
 	build/guests
 	$(CC) -std=c99 -Iinclude -o build/emulator examples/c/emulator.c build/libobman.a
 	build/emulator
+	$(CC) -std=c99 -Iinclude -o build/flight examples/c/flight.c build/libobman.a
+	build/flight build/flight.state build/flight.script
 	$(CC) -std=c11 -pthread -Iinclude -o build/threads examples/c/threads.c build/libobman.a
 	build/threads
 	$(CXX) -std=c++17 -Iinclude -o build/host examples/cpp/host.cc build/libobman.a

@@ -15,7 +15,7 @@
  * - A reader (om_reader_new) pins objects on any thread without that lock, beside calls for the manager and for other readers. It is
  *   given to one call at a time, and passed from thread to thread by a lock or a join; om_inspect takes it with the manager that it
  *   was made from. om_reader_free ends it, before the manager's end or after.
- * - No pointer is null, not even for a name or a list of length 0 ("" will do). What a call writes to doesn't overlap with
+ * - A bool that is passed is 0 or 1, in a struct too. No pointer is null, not even for a name or a list of length 0 ("" will do). What a call writes to doesn't overlap with
  *   anything else that it is given. Nothing that is passed is kept: it is yours again once the call has returned.
  * - Each call but om_free, om_reader_free and the questions that have always an answer answers with 0 (OM_SUCCESS) or the number that the Win32 function leaves
  *   for GetLastError. What it writes is written with 0, and else only where its text says so. A refused call changes nothing, but
@@ -334,6 +334,9 @@ uint32_t om_new(const om_limits *limits, om_manager *m);
 /* Ends a manager and gives its memory back. Of all zeros, as in om_manager m = {0}, there is nothing to end. */
 void om_free(om_manager m);
 
+/* The limits of a manager: those that om_new was given, also where it was saved and loaded since. It answers always 0. */
+uint32_t om_limits_of(om_manager *m, om_limits *limits);
+
 /* ---- Processes and threads ---- */
 
 /* A guest's process begins in a session, with its first thread (CreateProcess, by nobody's process). A session is any number: 1 will
@@ -629,9 +632,6 @@ bool om_is_pending(om_manager *m, uint32_t wait);
 
 /* The moment of the last tick, in units of 100 ns. */
 uint64_t om_now(om_manager *m);
-
-/* The limits of a manager: those that om_new was given, or those of the manager that was saved. */
-void om_limits_of(om_manager *m, om_limits *limits);
 
 /* The next live process, and the next live thread of a process, by rising number: begin with 0. 0 behind the last. */
 uint32_t om_next_process(om_manager *m, uint32_t after);

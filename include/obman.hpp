@@ -412,6 +412,7 @@ public:
     reaped ended() noexcept { return reaped(m_); }
     result<std::uint64_t> next_due() const noexcept { return with<std::uint64_t>(om_next_due); }
     std::uint64_t now() const noexcept { return om_now(&m_); }
+    om_limits limits() const noexcept { return *with<om_limits>(om_limits_of); }
 
     // What there is, for debuggers and monitors. The walks go by rising number, handle or slot, and names in the order of the directory.
     walk<std::uint32_t, steps::process> processes() const noexcept { return walk<std::uint32_t, steps::process>(m_); }

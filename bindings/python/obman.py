@@ -144,6 +144,7 @@ _OPENS = [_M, _U, _U, _B, ctypes.c_char_p, _Z, POINTER(Opening)]
 FUNCTIONS = {
     "om_new": (_U, [POINTER(Limits), _M]),
     "om_free": (None, [_Manager]),
+    "om_limits_of": (_U, [_M, POINTER(Limits)]),
     "om_spawn": (_U, [_M, _U, POINTER(Member)]),
     "om_child": (_U, [_M, _U, _B, POINTER(Member)]),
     "om_thread": (_U, [_M, _U, POINTER(_U)]),
@@ -199,7 +200,6 @@ FUNCTIONS = {
     "om_reader_holds": (_B, [_R, _U, _U]),
     "om_is_pending": (_B, [_M, _U]),
     "om_now": (c_uint64, [_M]),
-    "om_limits_of": (None, [_M, POINTER(Limits)]),
     "om_next_process": (_U, [_M, _U]),
     "om_next_thread": (_U, [_M, _U, _U]),
     "om_process_of": (_U, [_M, _U]),
@@ -453,9 +453,7 @@ class Manager(_Owner):
 
     def limits(self):
         """Those with which it was made, or those of the manager that was saved."""
-        limits = Limits()
-        _c.om_limits_of(self._at, limits)
-        return limits
+        return _told(Limits, _c.om_limits_of, self._at)
 
     def next_due(self):
         """The next moment that a tick can reach at which a timer or a wait is due, or None."""

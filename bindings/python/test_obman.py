@@ -35,6 +35,7 @@ class Calls(unittest.TestCase):
             member = m.spawn(1)
             event = m.create_event(member.thread)
             self.assertIsNone(m.next_due())
+            self.assertEqual((m.limits().slots, m.limits().threads), (64, 256))
             m.wait(member.thread, [event.handle], milliseconds=2)
             m.tick(m.next_due())
             self.assertEqual((m.now(), [answer.code for answer in m.answers()]), (20_000, [obman.WAIT_TIMEOUT]))

@@ -55,6 +55,7 @@ void *__wrap_realloc(void *block, size_t size) {
     CALL(uint32_t, om_take_ended, (om_manager *m, om_reaping *r, size_t c, size_t *n), (m, r, c, n), *n > 0)                        \
     CALL(uint32_t, om_take_record, (om_manager *m, char *l, size_t c, size_t *n), (m, l, c, n), *n > 0)                             \
     CALL(uint32_t, om_next_due, (om_manager *m, uint64_t *n), (m, n), status == OM_SUCCESS)                                         \
+    CALL(uint32_t, om_limits_of, (om_manager *m, om_limits *l), (m, l), status == OM_SUCCESS)                                       \
     CALL(uint32_t, om_state, (om_manager *m, uint32_t s, uint32_t g, om_object_state *o), (m, s, g, o), status == OM_SUCCESS)       \
     CALL(uint32_t, om_handle, (om_manager *m, uint32_t p, uint32_t h, om_entry *e), (m, p, h, e), status == OM_SUCCESS)             \
     CALL(uint32_t, om_next_object, (om_manager *m, uint32_t f, om_object *o), (m, f, o), status == OM_SUCCESS)                      \
@@ -138,6 +139,7 @@ static void ask(calls *c) {
     om_pending pending;
     om_entry entry;
     uint64_t moment;
+    om_limits limits;
     om_member member;
     char lines[OM_LINE_MOST];
     uint32_t session, process = om_next_process(&c->m, below(c, 2));
@@ -147,6 +149,7 @@ static void ask(calls *c) {
         om_take_ended(&c->m, ended, 2, &count);
     }
     om_next_due(&c->m, &moment);
+    om_limits_of(&c->m, &limits);
     if (om_next_object(&c->m, below(c, 4), &object) == OM_SUCCESS) {
         om_state(&c->m, object.slot, object.generation, &state);
     }

@@ -19,6 +19,7 @@ int main(int count, char **words) {
     om_opening opening;
     om_member member;
     om_manager m;
+    om_limits limits;
     size_t length, written;
     uint32_t code = 0, handle = 4;
     must(count == 2, "FILE");
@@ -29,6 +30,8 @@ int main(int count, char **words) {
     must(om_load(kept, length, &m) == OM_SUCCESS, "it isn't loaded");
     must(om_save(&m, again, sizeof again, &written) == OM_SUCCESS && written == length && memcmp(kept, again, length) == 0, "other bytes");
     must(om_now(&m) == 5 && om_next_process(&m, 0) == 1 && om_next_thread(&m, 1, 0) == 1, "another moment, process or thread");
+    must(om_limits_of(&m, &limits) == OM_SUCCESS && limits.slots == 2 && limits.processes == 2 && limits.threads == 2 && limits.handles == 4, "other limits");
+    must(limits.waits == 8 && limits.max_pins == 16 && limits.max_gen == 32 && limits.max_recursion == 64, "other limits");
     must(om_close(&m, 1, handle) == OM_ERROR_BUSY && om_wait_result(&m, 1, &code) == OM_ERROR_IO_PENDING, "its thread doesn't wait");
     must(om_tick(&m, 10004) == OM_SUCCESS && om_wait_result(&m, 1, &code) == OM_ERROR_IO_PENDING, "its time is up too early");
     must(om_tick(&m, 10005) == OM_SUCCESS && om_wait_result(&m, 1, &code) == OM_SUCCESS && code == OM_WAIT_TIMEOUT, "its time isn't up");

@@ -124,6 +124,7 @@ static void looks() {
     must(c.card(mutex.object)->grant == OM_SYNCHRONIZE && c.inspect(pins, mutex.object)->kind == OM_MUTEX, "a card");
     must(pins.holds(mutex.object) && pins.describe(mutex.object)->kind == OM_MUTEX && !pins.holds(event.object), "a pin");
     must(c.state(mutex.object)->owner == a.thread && c.resolve(a.process, none.handle)->slot == none.object.slot, "a state");
+    must(c.limits().slots == 64 && c.limits().max_recursion == 2147483647, "limits");
     must(c.now() == 0 && c.next_due().value() == 50000 && c.is_pending(wait) && c.wait_of(second) == wait, "a wait");
     must(c.objects_waited_for(wait)->size() == 1 && c.process_of(second) == a.process && c.session_of(b.process).value() == 3, "a wait's object");
     std::vector<unsigned char> bytes(*c.save(std::vector<unsigned char>()));

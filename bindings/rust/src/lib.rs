@@ -674,7 +674,7 @@ impl Manager {
     /// Those with which it was made, or those of the manager that was saved.
     pub fn limits(&mut self) -> Limits {
         let mut limits = Limits::default().raw();
-        unsafe { sys::om_limits_of(&mut self.m, &mut limits) };
+        done(unsafe { sys::om_limits_of(&mut self.m, &mut limits) }).expect("limits are always told");
         Limits::of(limits)
     }
 

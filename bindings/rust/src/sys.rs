@@ -51,6 +51,7 @@ structs! {
 extern "C" {
     pub fn om_new(limits: *const om_limits, m: *mut om_manager) -> u32;
     pub fn om_free(m: om_manager);
+    pub fn om_limits_of(m: *mut om_manager, limits: *mut om_limits) -> u32;
     pub fn om_spawn(m: *mut om_manager, session: u32, member: *mut om_member) -> u32;
     pub fn om_child(m: *mut om_manager, thread: u32, inherit: bool, member: *mut om_member) -> u32;
     pub fn om_thread(m: *mut om_manager, process: u32, thread: *mut u32) -> u32;
@@ -242,7 +243,6 @@ extern "C" {
     pub fn om_reader_holds(r: *mut om_reader, slot: u32, generation: u32) -> bool;
     pub fn om_is_pending(m: *mut om_manager, wait: u32) -> bool;
     pub fn om_now(m: *mut om_manager) -> u64;
-    pub fn om_limits_of(m: *mut om_manager, limits: *mut om_limits);
     pub fn om_next_process(m: *mut om_manager, after: u32) -> u32;
     pub fn om_next_thread(m: *mut om_manager, process: u32, after: u32) -> u32;
     pub fn om_process_of(m: *mut om_manager, thread: u32) -> u32;

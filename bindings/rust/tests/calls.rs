@@ -70,7 +70,7 @@ fn a_timer_fires_and_a_wait_runs_out_of_time() -> Result<(), Error> {
     let (first, second) = (m.spawn(1)?, m.spawn(1)?);
     let timer = m.create_timer(first.thread, &Create::default(), true)?.opening();
     let over = m.create_event(second.thread, &Create::default(), true, false)?.opening();
-    assert_eq!(m.next_due(), None);
+    assert_eq!((m.next_due(), m.limits()), (None, Limits::default()));
     m.set_timer(first.thread, timer.handle, -10_000)?;
     pending(m.wait(first.thread, false, INFINITE, &[timer.handle])?);
     pending(m.wait(second.thread, false, 2, &[over.handle])?);

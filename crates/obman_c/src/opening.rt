@@ -31,9 +31,19 @@ pub extern "C" fn om_new(alloc: Global, bounds: &Bounds, place: &mut Place) -> u
     }
 }
 
-/// [`Manager::limits`](ob_manager::Manager::limits): those of `om_new`, or of the manager that was saved.
+/// The end of a manager: its memory is given back, and C may use what it passed no more. Zeros are no manager, and
+/// nothing is done.
 #[unsafe(no_mangle)]
-pub extern "C" fn om_limits_of(owner: &mut Owner, bounds: &mut Bounds)
+pub extern "C" fn om_free(ending: Ending) {
+    if let Some(owner) = ending.owner() {
+        drop(owner.into_box());
+    }
+}
+
+/// [`Manager::limits`](ob_manager::Manager::limits): 0.
+#[unsafe(no_mangle)]
+pub extern "C" fn om_limits_of(owner: &mut Owner, bounds: &mut Bounds) -> u32
+    ensures answer { result ≡ 0 }
     ensures limits { AreAs bounds.new owner.old.value.manager.state.limits }
     ensures same { owner.new.value ≡ owner.old.value }
 {
@@ -48,15 +58,7 @@ pub extern "C" fn om_limits_of(owner: &mut Owner, bounds: &mut Bounds)
         max_gen: limits.max_gen,
         max_recursion: limits.max_recursion,
     };
-}
-
-/// The end of a manager: its memory is given back, and C may use what it passed no more. Zeros are no manager, and
-/// nothing is done.
-#[unsafe(no_mangle)]
-pub extern "C" fn om_free(ending: Ending) {
-    if let Some(owner) = ending.owner() {
-        drop(owner.into_box());
-    }
+    SUCCESS
 }
 
 /// A new manager in a box of its own.
