@@ -166,7 +166,9 @@ pub fn read_options(alloc: Global, args: Vec<String>) -> Result<Options, Options
 pub fn without_its_number(args: &[String]) -> Option<NumberOption> {
     for (at, word) in args.iter().enumerate() {
         if let Some(option) = option_of(word.as_str())
-            && option.number(value_of(args, at)).is_none()
+            && option
+                .number(value_of(word.as_str(), args.get(at.saturating_add(1))))
+                .is_none()
         {
             return Some(option);
         }
@@ -192,11 +194,11 @@ fn option_of(word: &str) -> Option<NumberOption> {
     None
 }
 
-/// The value of the option at a place, in the same argument or in the next one; nothing where it has none.
-fn value_of(args: &[String], at: usize) -> &str {
-    match args[at].as_str().split_once('=') {
+/// The value of an option, in its argument or the next one; nothing where it has none.
+fn value_of<'a>(word: &'a str, next: Option<&'a String>) -> &'a str {
+    match word.split_once('=') {
         Some((_, value)) => value,
-        None => match args.get(at + 1) {
+        None => match next {
             Some(next) => next.as_str(),
             None => "",
         },

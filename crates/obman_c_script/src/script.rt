@@ -9,7 +9,7 @@ use std::alloc::Global;
 
 /// Answers a script over a new manager, as the program does without lanes, at the front of `answers`: 0, 87 where a
 /// limit is out of its range, 8, or 122 where the answers don't fit. `length` says how long they are, with 0 and with
-/// 122.
+/// 122. Answers that don't fit are counted, and take no memory.
 #[tactic(auto, using(crate::proofs::Scripted::outside, crate::proofs::Scripted::lacks))]
 #[unsafe(no_mangle)]
 pub extern "C" fn om_script(
@@ -24,21 +24,22 @@ pub extern "C" fn om_script(
     let Ok(limits) = limits_of(bounds) else {
         return code_of(Fault::Parameter);
     };
-    let mut sink = Collected::new(alloc);
+    let mut sink = Collected::new(alloc, answers.len());
     match run_whole(alloc, limits, script, &mut sink) {
-        Ok(()) => hand_over(sink.as_slice(), answers, length),
+        Ok(()) => hand_over(&sink, answers, length),
         Err(_) => code_of(Fault::Memory),
     }
 }
 
-/// Puts bytes at the front of others, where they fit, and says how many they are.
-fn hand_over(bytes: &[u8], room: &mut [u8], length: &mut usize) -> u32
-    ensures { HandsOver bytes.now result room.old room.new length.new }
+/// Puts what was collected at the front of a room, where it fits, and says how long it is.
+fn hand_over(collected: &Collected, room: &mut [u8], length: &mut usize) -> u32
+    requires { collected.most ≡ length room.old }
+    ensures { HandsOver collected.account.bytes result room.old room.new length.new }
 {
-    *length = bytes.len();
-    if bytes.len() > room.len() {
+    *length = collected.len();
+    let Some(bytes) = collected.whole() else {
         return TOO_SMALL;
-    }
+    };
     room[..bytes.len()].copy_from_slice(bytes);
     SUCCESS
 }

@@ -47,9 +47,12 @@ fn is_replayed(alloc: Global, limits: Limits, journal: &[Entry]) -> bool {
     let Ok(script) = script_of(alloc, journal) else {
         return false;
     };
-    let mut sink = Collected::new(alloc);
+    let mut sink = Collected::new(alloc, usize::MAX);
     let is_run = run_whole(alloc, limits, script.as_slice(), &mut sink).is_ok();
-    is_run && are_told(script.as_slice(), sink.as_slice(), journal.len())
+    is_run
+        && sink
+            .whole()
+            .is_some_and(|printed| are_told(script.as_slice(), printed, journal.len()))
 }
 
 /// A journal is replayed; once more where memory was wanting.
