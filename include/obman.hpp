@@ -253,6 +253,10 @@ public:
         }
         std::sort(data(), data() + count_, [](const om_reaping &a, const om_reaping &b) { return a.object.slot < b.object.slot; });
     }
+    reaped(reaped &&other) noexcept : many_(std::move(other.many_)), count_(other.count_) {
+        std::copy(other.few_, other.few_ + (many_ ? 0 : count_), few_);
+        other.count_ = 0;
+    }
     const om_reaping *begin() const noexcept { return many_ ? many_.get() : few_; }
     const om_reaping *end() const noexcept { return begin() + count_; }
     std::size_t size() const noexcept { return count_; }
@@ -407,7 +411,7 @@ public:
     status_only expire(std::uint32_t wait) noexcept { return status_only(om_expire(&m_, wait)); }
     bool is_pending(std::uint32_t wait) const noexcept { return om_is_pending(&m_, wait); }
 
-    // What a host is told: who was answered, what ended, and when something is due next.
+    // What a host is told: who was answered, each taken as the walk comes to it, what ended, and when something is due next.
     walk<om_answer, steps::answer> answers() noexcept { return walk<om_answer, steps::answer>(m_); }
     reaped ended() noexcept { return reaped(m_); }
     result<std::uint64_t> next_due() const noexcept { return with<std::uint64_t>(om_next_due); }

@@ -43,7 +43,9 @@ static void ends(std::uint32_t count, std::uint32_t one_in) {
         m.close(a.thread, o.handle).value();
     }
     std::uint32_t next = 0;
-    for (const om_reaping &r : m.ended()) {
+    obman::reaped told = m.ended(), all = std::move(told);
+    must(told.begin() == told.end(), "what was moved away");
+    for (const om_reaping &r : all) {
         must(r.object.slot == next && r.object.generation == 1, "an end twice, or none, or out of order");
         must(r.outcome == (next % one_in == 0 ? OM_HELD : OM_FREED), "another outcome");
         next++;
